@@ -1,0 +1,6 @@
+mod BoolLemmas
+mod ResultLemmas
+mod ViewLemmas
+mod WordLemmas
+mod PieceLemmas
+mod TargetLemmas

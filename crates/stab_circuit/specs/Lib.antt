@@ -1,0 +1,9 @@
+pub mod Results
+pub mod Lines
+pub mod Words
+pub mod Names
+pub mod Lookbacks
+pub mod Targets
+pub mod Meanings
+pub mod Items
+pub mod Views
