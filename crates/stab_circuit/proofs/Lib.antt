@@ -1,6 +1,10 @@
 mod BoolLemmas
 mod ResultLemmas
+mod ItemLemmas
 mod ViewLemmas
+mod ReaderLemmas
+mod FaultLemmas
+mod ReadingLemmas
 mod WordLemmas
 mod PieceLemmas
 mod TargetLemmas

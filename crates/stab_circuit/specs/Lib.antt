@@ -4,6 +4,8 @@ pub mod Words
 pub mod Names
 pub mod Lookbacks
 pub mod Targets
-pub mod Meanings
 pub mod Items
+pub mod Meanings
+pub mod Circuits
 pub mod Views
+pub mod Readers

@@ -7,6 +7,7 @@ mod line;
 mod meaning;
 mod name;
 mod range;
+mod reader;
 mod sequence;
 mod target;
 mod word;
