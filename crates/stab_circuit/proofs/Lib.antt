@@ -3,8 +3,12 @@ mod ResultLemmas
 mod ItemLemmas
 mod ViewLemmas
 mod ReaderLemmas
+mod StepLemmas
 mod FaultLemmas
 mod ReadingLemmas
+mod RefusalLemmas
+mod OneItemLemmas
+mod TextLemmas
 mod WordLemmas
 mod PieceLemmas
 mod TargetLemmas

@@ -22,15 +22,15 @@ use Rattle.stab_circuit.proofs.BoolLemmas.{chosen, passed}
 abbrev Follows : State → Meaning → State → Type 0
 Follows s m t = (is_whole t ≡ ends_item (length s.frames) m) × (length t.frames ≡ depth_after (length s.frames) m)
 
-some_joined : (xs : Items) (ys : Items) → is_some_items ys ≡ true → is_some_items (join xs ys) ≡ true
+pub some_joined : (xs : Items) (ys : Items) → is_some_items ys ≡ true → is_some_items (join xs ys) ≡ true
 some_joined done ys e = e
 some_joined (next op rest) ys e = refl
 some_joined (block c t body rest) ys e = refl
 
-not_one : (n : ℕ) → false ≡ (suc (suc n) == 1)
+pub not_one : (n : ℕ) → false ≡ (suc (suc n) == 1)
 not_one n = grind arith
 
-not_none : (n : ℕ) → false ≡ (suc n == 0)
+pub not_none : (n : ℕ) → false ≡ (suc n == 0)
 not_none n = grind arith
 
 opened : (n : ℕ) (fs : List Frame) (now : Items) (c : ℕ) (tag : List ℕ) (t : State) (b : Bool)
@@ -65,9 +65,9 @@ abbrev after_step : ℕ → List Meaning → Result State Refusal → Result Ite
 after_step n ms r = elim r [ Ok t ↦ read_on (n + 1) t ms | Err x ↦ Err (at_line n x) ]
 
 -- after a whole item only a blank line is taken, and changes nothing
-whole_kept : (n : ℕ) (fs : List Frame) (now : Items) (t : State) (b d : Bool) → is_whole (record { frames = fs; now = now }) ≡ true
-    → stepped n (if b then Ok Blank else if d then Ok Close else Err BadLine) (record { frames = fs; now = now }) ≡ Ok t → is_whole t ≡ true
-whole_kept n fs now t true d w e = let same : record { frames = fs; now = now } ≡ t = cc in subst (λ u. is_whole u ≡ true) same w
+pub whole_kept : (n : ℕ) (fs : List Frame) (now : Items) (t : State) (b d : Bool) → is_whole (record { frames = fs; now = now }) ≡ true
+    → stepped n (if b then Ok Blank else if d then Ok Close else Err BadLine) (record { frames = fs; now = now }) ≡ Ok t → record { frames = fs; now = now } ≡ t
+whole_kept n fs now t true d w e = cc
 whole_kept n [] now t false true w e = cc
 whole_kept n (f ∷ fs) now t false true w e = cc
 whole_kept n fs now t false false w e = cc
@@ -76,7 +76,7 @@ whole_kept n fs now t false false w e = cc
 one_taken : (n : ℕ) (s t : State) (c : List ℕ) (cs : List (List ℕ)) (b : Bool) → is_whole s ≡ b → stepped n (if b then meaning_after c else meaning_of c) s ≡ Ok t
     → read_on n s (if b then map meaning_after (c ∷ cs) else one_item (length s.frames) (c ∷ cs)) ≡ read_on (n + 1) t (pending true t cs)
 one_taken n s t c cs true w e =
-    let kept = whole_kept n s.frames s.now t (length c == 0) (is_close c) w e in
+    let kept : is_whole t ≡ true = sym (ap is_whole (whole_kept n s.frames s.now t (length c == 0) (is_close c) w e)) ∙ w in
     ap (after_step n (map meaning_after cs)) e ∙ ap (read_on (n + 1) t) (sym (chosen (is_whole t) _ _ kept))
 one_taken n s t c cs false w e =
     let f = follows n s.frames s.now (meaning_of c) t w e in
@@ -107,7 +107,7 @@ pub lines_taken : (single : Bool) (n : ℕ) (s t : State) (rest bytes after : Li
 lines_taken single n s t rest bytes after p e =
     ap (λ l. read_on n s (pending single s (map content_of l))) p ∙ pending_taken single n s t (content_of bytes) (contents after) e
 
-nothing_pending : (single : Bool) (n : ℕ) (t : State) → read_on n t (pending single t []) ≡ finished t
+pub nothing_pending : (single : Bool) (n : ℕ) (t : State) → read_on n t (pending single t []) ≡ finished t
 nothing_pending false n t = refl
 nothing_pending true n t = nothing_one (is_whole t)
   where

@@ -75,11 +75,11 @@ pub record Reaches (n : ℕ) (fs : List Frame) (now : Items) (all : List Meaning
   pub read : read_on n (state fs now) all ≡ read_on at (state fs cur) more
   pub fault : fault_from n (lines_of fs) all ≡ fault_from at (lines_of fs) more
 
-choice_none : (b : Bool) (x : Option Fault) (f : Fault) → (if b then x else Some f) ≡ None → b ≡ true
+pub choice_none : (b : Bool) (x : Option Fault) (f : Fault) → (if b then x else Some f) ≡ None → b ≡ true
 choice_none true x f e = refl
 choice_none false x f e = cc
 
-fault_opens : (n : ℕ) (opened : List ℕ) (c : ℕ) (t : List ℕ) (ms : List Meaning)
+pub fault_opens : (n : ℕ) (opened : List ℕ) (c : ℕ) (t : List ℕ) (ms : List Meaning)
     → fault_from n opened (Ok (Open c t) ∷ ms) ≡ (if nat_lt (length opened) 16 then fault_from (n + 1) (n ∷ opened) ms else Some (at_line n TooDeep))
 fault_opens n [] c t ms = refl
 fault_opens n (at ∷ outer) c t ms = refl

@@ -6,6 +6,10 @@ pub mod Lookbacks
 pub mod Targets
 pub mod Items
 pub mod Meanings
+pub mod Inputs
 pub mod Circuits
+pub mod Steps
 pub mod Views
+pub mod Readings
 pub mod Readers
+pub mod Summaries

@@ -6,6 +6,7 @@ use Rattle.stab_circuit.specs.declared.item.Node.{Node}
 use Rattle.stab_circuit.specs.declared.item.Node.TheOpen.{Node-F, Item-F}
 use Rattle.stab_circuit.specs.declared.item.Node.TheOpen as layer
 use Rattle.stab_circuit.specs.declared.item.Node.TheFolds.{fold-Item}
+use Rattle.stab_circuit.specs.declared.circuit.Circuit.{Circuit}
 use Rattle.stab_circuit.specs.declared.line.Shape.{Shape as Parts}
 use Rattle.stab_circuit.specs.Lines.{Shape}
 use Rattle.stab_circuit.specs.Items.{OneItem, operation, repeat, listed, Items, done, next, block, join}
@@ -22,6 +23,14 @@ item_of = fold-Item OneItem OneItem node_step item_step
 
 abbrev pub items_of : List Item → Items
 items_of xs = listed (map item_of xs)
+
+-- the items of a circuit, one by one
+abbrev pub entries : Circuit → List OneItem
+entries c = map item_of c.items.items
+
+-- the items of a circuit
+abbrev pub circuit_items : Circuit → Items
+circuit_items c = listed (entries c)
 
 -- the shape that the parts of a content show
 abbrev pub shape_shown : Parts → Shape

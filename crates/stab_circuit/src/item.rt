@@ -38,12 +38,12 @@ pub struct Operation {
 #[cycle(item)]
 #[derive(Drop)]
 pub struct Item {
-    node: Node,
+    pub(crate) node: Node,
 }
 
 #[cycle(item)]
 #[derive(Drop)]
-enum Node {
+pub(crate) enum Node {
     Operation(Operation),
     Repeat {
         count: Count,

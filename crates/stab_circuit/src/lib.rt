@@ -2,6 +2,8 @@
 #![tactic(auto)]
 
 mod argument;
+mod circuit;
+mod input;
 mod item;
 mod line;
 mod meaning;
@@ -9,7 +11,9 @@ mod name;
 mod range;
 mod reader;
 mod sequence;
+mod summary;
 mod target;
 mod word;
 
+pub use circuit::{Circuit, read_circuit, read_item};
 pub use item::Item;
