@@ -17,3 +17,6 @@ mod word;
 
 pub use circuit::{Circuit, read_circuit, read_item};
 pub use item::Item;
+
+#[cfg(test)]
+mod tests;
