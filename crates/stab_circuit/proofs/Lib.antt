@@ -3,6 +3,8 @@ mod ResultLemmas
 mod ItemLemmas
 mod ViewLemmas
 mod ReaderLemmas
+mod OutputLemmas
+mod PrintLemmas
 mod StepLemmas
 mod SummaryLemmas
 mod FaultLemmas

@@ -13,3 +13,5 @@ pub mod Views
 pub mod Readings
 pub mod Readers
 pub mod Summaries
+pub mod Prints
+pub mod Outputs

@@ -8,6 +8,7 @@ mod item;
 mod line;
 mod meaning;
 mod name;
+mod print;
 mod range;
 mod reader;
 mod sequence;
