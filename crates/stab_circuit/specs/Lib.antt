@@ -14,4 +14,5 @@ pub mod Readings
 pub mod Readers
 pub mod Summaries
 pub mod Prints
+pub mod Margins
 pub mod Outputs

@@ -1,5 +1,5 @@
 -- Prints: the one text of a list of items.
-use Rattle.std.specs.Prelude.{ℕ, ◌+◌, ◌*◌, Bool, true, false, List, [], ◌∷◌, ◌++◌, replicate, codes}
+use Rattle.std.specs.Prelude.{ℕ, ◌*◌, suc, Bool, true, false, List, [], ◌∷◌, ◌++◌, replicate, codes}
 use Rattle.std.specs.Fmt.{decimal}
 use Rattle.stab_tableau.specs.declared.gate.Gate.{Gate}
 use Rattle.stab_tableau.specs.declared.gate.Gate.TheVariants as one
@@ -129,7 +129,7 @@ pub record Written : Type 0 where
 abbrev pub written : ℕ → Items → List Written
 written d done = []
 written d (next op rest) = record { depth = d; content = operation_text op } ∷ written d rest
-written d (block count tag body rest) = record { depth = d; content = open_text count tag } ∷ (written (d + 1) body ++ record { depth = d; content = codes "}" } ∷ written d rest)
+written d (block count tag body rest) = record { depth = d; content = open_text count tag } ∷ (written (suc d) body ++ record { depth = d; content = codes "}" } ∷ written d rest)
 
 -- a line, with four spaces for each block
 abbrev pub line_text : Written → List ℕ
@@ -140,6 +140,10 @@ abbrev pub text_of : List Written → List ℕ
 text_of [] = []
 text_of (w ∷ ws) = line_text w ++ text_of ws
 
+-- the text of items that stand in so many blocks
+abbrev pub printed_in : ℕ → Items → List ℕ
+printed_in d items = text_of (written d items)
+
 -- the text of items
 abbrev pub printed : Items → List ℕ
-printed items = text_of (written 0 items)
+printed items = printed_in 0 items

@@ -18,6 +18,7 @@ mod word;
 
 pub use circuit::{Circuit, read_circuit, read_item};
 pub use item::Item;
+pub use print::write_circuit;
 
 #[cfg(test)]
 mod tests;

@@ -10,4 +10,3 @@ returns-in_err-write_bytes g c =
 
 pub returns : goal.returns
 returns g c = record { sent = sent_then c.in_ok-write_bytes.ensures.sent c.write_tag.ensures.sent }
-

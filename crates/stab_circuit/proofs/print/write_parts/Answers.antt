@@ -15,4 +15,3 @@ returns-in_err-write_bytes-2 g c =
 
 pub returns : goal.returns
 returns g c = record { sent = sent_then c.in_ok-write_bytes.ensures.sent (sent_then c.in_ok-write_bytes-2.ensures.sent c.write_bytes-3.ensures.sent) }
-
