@@ -15,3 +15,5 @@ mod TextLemmas
 mod WordLemmas
 mod PieceLemmas
 mod TargetLemmas
+mod FreeLemmas
+mod SureLemmas
