@@ -17,3 +17,5 @@ mod PieceLemmas
 mod TargetLemmas
 mod FreeLemmas
 mod SureLemmas
+mod AgainLemmas
+mod NeatLemmas
