@@ -19,3 +19,7 @@ mod FreeLemmas
 mod SureLemmas
 mod AgainLemmas
 mod NeatLemmas
+mod ShapeLemmas
+mod ContentLemmas
+mod PrintedLemmas
+mod MeaningLemmas
