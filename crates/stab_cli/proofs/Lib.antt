@@ -1,0 +1,10 @@
+pub mod Folds
+pub mod Values
+pub mod Pieces
+pub mod LineLaws
+pub mod FaultLaws
+pub mod ReadingLaws
+pub mod TextLaws
+pub mod BitLaws
+pub mod RunLaws
+pub mod SampleLaws

@@ -1,0 +1,30 @@
+//! The commands of stabsim, from bytes to bytes.
+//!
+//! - `line`: what is left of a line, and its shape.
+//! - `text`: the steps that a circuit's text stands for.
+//! - `step`: qubits and steps.
+//! - `run`: what the steps record.
+//! - `input`: reading an input whole.
+//! - `sample`: the command `sample`.
+//! - `job`: the words of a command line, and running what they ask for.
+//! - `laws`: what is proved of texts alone.
+//!
+//! Proved on `run_sample`: what is written is what the group rules give for what was read, whatever
+//! the coins; each refusal is the text's own, a failing device's or memory's. `run_job` carries the
+//! same for a job, with its status and the line that tells its fault.
+#![tactic(auto)]
+
+mod input;
+mod job;
+pub mod laws;
+mod line;
+mod run;
+mod sample;
+mod step;
+mod text;
+
+pub use job::{Job, Usage, parse_words, run_job, write_fault};
+pub use sample::run_sample;
+
+#[cfg(test)]
+mod tests;
