@@ -1,5 +1,5 @@
 -- Laws of bits: a state of bits and signs, and what the gates I and X and a measurement of Z make of its stabilisers.
-use Rattle.std.proofs.Common.{◌≡◌, refl, sym, ap, ◌∙◌, ℕ, zero, suc, ◌<◌, ◌≤◌, Bool, true, false, not, ◌&&◌, ◌||◌, List, [], ◌∷◌, length, replicate, set, get_or, arith}
+use Rattle.std.proofs.Common.{◌≡◌, refl, sym, ap, ◌∙◌, ℕ, zero, suc, ◌<◌, Bool, true, false, not, ◌&&◌, ◌||◌, List, [], ◌∷◌, length, replicate, set, get_or, arith}
 use Rattle.std.proofs.Math.ListN.{length-set}
 use Rattle.stab_pauli.specs.declared.letter.Letter.{Letter}
 use Rattle.stab_pauli.specs.declared.letter.Letter.TheVariants.{I, X, Y, Z}
@@ -289,5 +289,6 @@ zeros_stand n p = zeros p.negative (diagonal p.letters) (parity (replicate n fal
     parity-zeros (suc m) (X ∷ r) = parity-zeros m r
     parity-zeros (suc m) (Y ∷ r) = parity-zeros m r
     parity-zeros (suc m) (Z ∷ r) = parity-zeros m r
+
     zeros : (negative d c : Bool) → c ≡ false → (d && not (negative ⊕ c)) ≡ (not negative && d)
     zeros negative d c e = grind arith

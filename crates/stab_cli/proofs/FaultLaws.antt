@@ -3,7 +3,6 @@ use Rattle.std.proofs.Common.{◌≡◌, ◌<◌, ℕ, refl, ◌⊎◌, inl, inr
 use Rattle.stab_pauli.specs.declared.refusal.Refusal.{Refusal}
 use Rattle.stab_pauli.specs.declared.refusal.Refusal.TheVariants.{UnsupportedName, BadArguments, BadTarget, BadPairing, BadBlock, QubitOutOfRange, ObservableOutOfRange, LookbackTooFar, TooManySteps, TooDeep, BadLine, PlaceOutOfRange, BadCommand, TooLong, ReadFault, WriteFault, OutOfMemory}
 use Rattle.stab_pauli.specs.declared.refusal.Fault.{Fault}
-use Rattle.stab_pauli.specs.Refusals.{whole}
 use Rattle.stab_cli.specs.Results.{IsOfText}
 use Rattle.stab_cli.specs.Reading.{fault_on_line, IsTextFault}
 

@@ -8,3 +8,4 @@ pub mod TextLaws
 pub mod BitLaws
 pub mod RunLaws
 pub mod SampleLaws
+pub mod FaultLineLaws

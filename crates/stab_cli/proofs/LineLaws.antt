@@ -7,7 +7,7 @@ use Rattle.stab_pauli.specs.declared.refusal.Fault.{Fault}
 use Rattle.stab_cli.specs.declared.step.Step.{Step}
 use Rattle.stab_cli.specs.Results.{behind, ◌>>=◌}
 use Rattle.stab_cli.specs.Lines.{content_of, is_byte}
-use Rattle.stab_cli.specs.Texts.{meaning_of, lines_of}
+use Rattle.stab_cli.specs.Texts.{meaning_of}
 use Rattle.stab_cli.specs.Reading.{at_line, lines_steps}
 use Rattle.stab_cli.proofs.Folds.{behind_more, bind_err}
 use Rattle.stab_cli.proofs.Pieces.{slice_split_more, slice_split_last, le-cases}

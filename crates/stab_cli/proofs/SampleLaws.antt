@@ -1,5 +1,5 @@
 -- Laws of samples: what the parts of `sample` hand on makes its end.
-use Rattle.std.proofs.Common.{◌≡◌, refl, sym, subst, ap, ◌∙◌, ℕ, ◌<◌, ◌≤◌, Bool, true, false, List, [], ◌∷◌, ◌++◌, length, map, Result, Ok, Err, ◌⊎◌, inl, inr, IsTrue, IfErr, OnOk, OnErr, IsErrOf, MatchResult, arith}
+use Rattle.std.proofs.Common.{◌≡◌, refl, sym, subst, ap, ◌∙◌, ℕ, ◌<◌, Bool, true, false, List, [], ◌++◌, length, Result, Ok, Err, ◌⊎◌, inl, inr, IsTrue, OnOk, OnErr, IsErrOf, MatchResult, arith}
 use Rattle.std.specs.Global.{Vec}
 use Rattle.stab_pauli.specs.Devices.{Failed, WritesPrefix}
 use Rattle.stab_pauli.specs.declared.refusal.Refusal.{Refusal}
@@ -10,7 +10,7 @@ use Rattle.stab_cli.specs.declared.step.Step.{Step}
 use Rattle.stab_cli.specs.Results.{is_of_line}
 use Rattle.stab_cli.specs.Texts.{Reads, IsRefused, too_long, most_bytes}
 use Rattle.stab_cli.specs.Bits.{records_of}
-use Rattle.stab_cli.specs.Outputs.{IsSample, Samples, SamplesPrefix, Refuses, EndsSample, InputInCall, OutputInCall, IsSampleFault, is_of_whole, format_01}
+use Rattle.stab_cli.specs.Outputs.{IsSample, EndsSample, InputInCall, OutputInCall, IsSampleFault, is_of_whole, format_01}
 use Rattle.stab_cli.specs.Inputs.{IsReadRefusal}
 use Rattle.stab_cli.specs.Reading.{IsTextFault}
 use Rattle.stab_cli.specs.Sampling.{GivesSample}

@@ -1,6 +1,5 @@
 -- Laws of texts: what the reader finds is what a text stands for or its fault, of which there is exactly one.
-use Rattle.std.proofs.Common.{◌≡◌, refl, sym, subst, ap, ◌∙◌, ℕ, ◌<◌, ◌≤◌, List, [], ◌∷◌, ◌++◌, length, Result, Ok, Err, ◌⊎◌, inl, inr, arith}
-use Rattle.stab_pauli.specs.declared.refusal.Refusal.{Refusal}
+use Rattle.std.proofs.Common.{◌≡◌, refl, sym, subst, ap, ◌∙◌, ℕ, ◌<◌, ◌≤◌, List, [], ◌++◌, length, Result, Ok, Err, ◌⊎◌, inl, inr, arith}
 use Rattle.stab_pauli.specs.declared.refusal.Refusal.TheVariants.{TooLong, TooManySteps}
 use Rattle.stab_pauli.specs.declared.refusal.Fault.{Fault}
 use Rattle.stab_pauli.specs.Refusals.{whole}
@@ -9,7 +8,7 @@ use Rattle.stab_cli.specs.Results.{behind}
 use Rattle.stab_cli.specs.Texts.{StandFor, HaveFault, Reads, IsRefused, too_long, refused_line, too_many_steps, meanings, lines_of, most_bytes, most_steps}
 use Rattle.stab_cli.specs.Reading.{lines_steps}
 use Rattle.stab_cli.specs.Laws.{EachTextHasAMeaning, TextsStandForOneList, TextsHaveOneFault, ReadTextsHaveNoFault}
-use Rattle.stab_cli.proofs.ReadingLaws.{steps_of, lines_steps-map, Stands, stands-steps_of, steps_of-stands, steps_of-fault}
+use Rattle.stab_cli.proofs.ReadingLaws.{lines_steps-map, Stands, stands-steps_of, steps_of-stands, steps_of-fault}
 
 -- what was put behind nothing
 pub behind_nothing : {X E : Type 0} (old : List X) (given : Result (List X) E) (new : List X) → old ≡ [] → behind old given ≡ Ok new → given ≡ Ok new

@@ -1,17 +1,27 @@
 -- Jobs: the status of a program's run, and the line that tells a fault.
-use Rattle.std.specs.Prelude.{◌≡◌, ℕ, Bool, IsTrue, List, ◌++◌, ◌⊎◌, codes, decimal, Result, Ok, Err, ◌==◌, if◌then◌else◌, MatchResult}
+use Rattle.std.specs.Prelude.{◌≡◌, ℕ, IsTrue, List, [], ◌∷◌, ◌++◌, ◌⊎◌, codes, decimal, Result, Ok, Err, ◌==◌, if◌then◌else◌}
 use Rattle.stab_pauli.specs.Devices.{Failed, WritesPrefix}
+use Rattle.stab_pauli.specs.declared.refusal.Refusal.{Refusal}
 use Rattle.stab_pauli.specs.declared.refusal.Fault.{Fault}
 use Rattle.stab_pauli.specs.Refusals.{number_of, name_of}
 use Rattle.stab_cli.specs.Outputs.{InputInCall, OutputInCall, EndsSample}
 
+-- texts one after another
+abbrev pub joined : List (List ℕ) → List ℕ
+joined [] = []
+joined (t ∷ ts) = t ++ joined ts
+
 -- where the fault is, as its line says it
 abbrev pub place_text : ℕ → List ℕ
-place_text line = if line == 0 then codes "" else codes "line " ++ decimal line ++ codes ": "
+place_text line = if line == 0 then [] else codes "line " ++ (decimal line ++ codes ": ")
+
+-- which refusal it is, as its line says it
+abbrev pub refused_text : Refusal → List ℕ
+refused_text r = codes "refused " ++ (decimal (number_of r) ++ (codes " " ++ (name_of r ++ codes "\n")))
 
 -- the line that tells a fault
 abbrev pub fault_line : Fault → List ℕ
-fault_line f = codes "stabsim: " ++ place_text f.line ++ codes "refused " ++ decimal (number_of f.refusal) ++ codes " " ++ name_of f.refusal ++ codes "\n"
+fault_line f = codes "stabsim: " ++ (place_text f.line ++ refused_text f.refusal)
 
 -- the status of a run: 0 without a fault, 1 with one
 abbrev pub status_of : {T : Type 0} → Result T Fault → ℕ

@@ -1,5 +1,5 @@
 -- Outputs: what `sample` writes for a text, and how a call of it ends.
-use Rattle.std.specs.Prelude.{◌≡◌, ℕ, ◌<◌, Bool, true, false, ◌⊎◌, IsTrue, List, [], ◌∷◌, ◌++◌, map, Result, OnOk, OnErr, IfErr}
+use Rattle.std.specs.Prelude.{◌≡◌, ℕ, ◌<◌, Bool, true, false, ◌⊎◌, IsTrue, List, [], ◌∷◌, ◌++◌, map, Result, OnOk, IfErr}
 use Rattle.stab_pauli.specs.Devices.{Failed, WritesPrefix}
 use Rattle.stab_pauli.specs.declared.refusal.Refusal.{Refusal}
 use Rattle.stab_pauli.specs.declared.refusal.Refusal.TheVariants.{TooManySteps, TooLong, ReadFault, WriteFault, OutOfMemory}

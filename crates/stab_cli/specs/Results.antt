@@ -44,7 +44,6 @@ is_of_line r = false
 abbrev pub IsOfText : Refusal → Type 0
 IsOfText r = IsTrue (is_of_line r || is_memory r)
 
-
 -- the call failed as the definition does, or for want of memory
 abbrev pub Fails : {Y : Type 0} → Refusal → Result Y Refusal → Type 0
 Fails r given = (r ≡ OutOfMemory) ⊎ (given ≡ Err r)

@@ -1,9 +1,9 @@
 -- Texts: what the content of a line means, which lists of steps a text stands for, and the one fault of every other text.
-use Rattle.std.specs.Prelude.{◌≡◌, ℕ, ◌+◌, ◌*◌, ◌-◌, ◌<◌, ◌≤◌, Bool, true, false, ◌&&◌, ◌||◌, not, nat_lt, ◌==◌, List, [], ◌∷◌, ◌++◌, length, drop, map, if◌then◌else◌, Result, Ok, Err, codes}
+use Rattle.std.specs.Prelude.{ℕ, ◌+◌, ◌*◌, ◌-◌, ◌<◌, ◌≤◌, Bool, true, false, ◌&&◌, ◌||◌, not, nat_lt, ◌==◌, List, [], ◌∷◌, ◌++◌, length, drop, map, if◌then◌else◌, Result, Ok, Err, codes}
 use Rattle.std.specs.List.{list_all, slice_split}
 use Rattle.std.specs.Str.{str_eq_ignore_ascii_case}
 use Rattle.stab_cli.specs.Results.{◌>>=◌, each_of}
-use Rattle.stab_cli.specs.Lines.{Shape, content_of, shape_of, is_byte, starts_with_byte, is_spacing, is_digit}
+use Rattle.stab_cli.specs.Lines.{content_of, shape_of, is_byte, starts_with_byte, is_spacing, is_digit}
 use Rattle.stab_pauli.specs.declared.refusal.Refusal.{Refusal}
 use Rattle.stab_pauli.specs.declared.refusal.Fault.{Fault}
 use Rattle.stab_pauli.specs.declared.refusal.Refusal.TheVariants.{UnsupportedName, BadArguments, BadTarget, BadBlock, QubitOutOfRange, TooManySteps, TooLong}

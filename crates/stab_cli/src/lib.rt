@@ -6,6 +6,7 @@
 //! - `run`: what the steps record.
 //! - `input`: reading an input whole.
 //! - `sample`: the command `sample`.
+//! - `fault_line`: the line that tells a fault.
 //! - `job`: the words of a command line, and running what they ask for.
 //! - `laws`: what is proved of texts alone.
 //!
@@ -14,6 +15,7 @@
 //! same for a job, with its status and the line that tells its fault.
 #![tactic(auto)]
 
+mod fault_line;
 mod input;
 mod job;
 pub mod laws;
@@ -23,7 +25,8 @@ mod sample;
 mod step;
 mod text;
 
-pub use job::{Job, Usage, parse_words, run_job, write_fault};
+pub use fault_line::write_fault;
+pub use job::{Job, Usage, parse_words, run_job};
 pub use sample::run_sample;
 
 #[cfg(test)]

@@ -1,4 +1,4 @@
-use Rattle.std.proofs.Common.{◌≡◌, ◌∙◌, ap, sym, refl, subst, Err}
+use Rattle.std.proofs.Common.{◌∙◌, ap, sym, refl, subst, Err}
 use Rattle.std.proofs.lemmas.Result.{err_from_is_err_and}
 use Rattle.stab_pauli.specs.Refusals.{whole}
 use Rattle.stab_cli.specs.Outputs.{IsSample}

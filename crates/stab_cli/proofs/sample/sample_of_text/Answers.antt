@@ -1,4 +1,4 @@
-use Rattle.std.proofs.Common.{◌≡◌, ◌∙◌, ap, sym}
+use Rattle.std.proofs.Common.{◌≡◌, ◌∙◌, ap}
 use Rattle.stab_cli.specs.Bits.{records_of}
 use Rattle.stab_cli.proofs.SampleLaws.{sample_made}
 use Rattle.stab_cli.proofs.sample.sample_of_text.Goals as goal

@@ -2,7 +2,7 @@ use Rattle.std.proofs.Common.{◌≡◌, ◌<◌, length, arith, ◌∙◌, sym,
 use Rattle.std.specs.List.{position_or_len}
 use Rattle.stab_cli.specs.Lines.{is_byte, content_of}
 use Rattle.stab_cli.specs.Results.{behind}
-use Rattle.stab_cli.specs.Texts.{meaning_of, lines_of}
+use Rattle.stab_cli.specs.Texts.{meaning_of}
 use Rattle.stab_cli.specs.Reading.{fault_on_line}
 use Rattle.stab_cli.proofs.FaultLaws.{fault_on_line-cases, fault_on_line-only}
 use Rattle.stab_cli.proofs.Folds.{behind_err}
@@ -17,9 +17,9 @@ returns-in-Err-clause-gives c =
     elim c.in-Err.ensures.gives [
       | inl memory ↦ inl (c.fault_at.ensures.value ∙ ap (λ r. fault_on_line r c.lines.line) memory)
       | inr e ↦ elim (fault_on_line-cases c.in-Err.refusal c.lines.line) [
-          | inl memory ↦ inl (c.fault_at.ensures.value ∙ ap (λ r. fault_on_line r c.lines.line) memory)
-          | inr same ↦ inr (behind_err c.args.steps.now.items _ _ (sym c.lines.invariant.same ∙ lines_err c.lines.line rest c.lines.steps.items _ (ap meaning_of (sym first) ∙ e)) ∙ ap Err (sym same ∙ sym c.fault_at.ensures.value))
-        ]
+        | inl memory ↦ inl (c.fault_at.ensures.value ∙ ap (λ r. fault_on_line r c.lines.line) memory)
+        | inr same ↦ inr (behind_err c.args.steps.now.items _ _ (sym c.lines.invariant.same ∙ lines_err c.lines.line rest c.lines.steps.items _ (ap meaning_of (sym first) ∙ e)) ∙ ap Err (sym same ∙ sym c.fault_at.ensures.value))
+      ]
     ]
 
 pub returns-in-Err-clause-only : goal.returns-in-Err-clause-only

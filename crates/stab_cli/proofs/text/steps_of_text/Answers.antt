@@ -1,4 +1,4 @@
-use Rattle.std.proofs.Common.{◌≡◌, ◌<◌, ◌≤◌, inl, inr, arith, length}
+use Rattle.std.proofs.Common.{◌<◌, ◌≤◌, inl, inr, arith, length}
 use Rattle.std.proofs.lemmas.Result.{err_from_is_err_and}
 use Rattle.stab_cli.specs.Texts.{lines_of, most_steps}
 use Rattle.stab_cli.specs.Reading.{lines_steps}
