@@ -28,6 +28,3 @@ mod text;
 pub use fault_line::write_fault;
 pub use job::{Job, Usage, parse_words, run_job};
 pub use sample::run_sample;
-
-#[cfg(test)]
-mod tests;
