@@ -4,6 +4,7 @@ pub mod Texts
 pub mod Runs
 pub mod Outputs
 pub mod Jobs
+pub mod Words
 pub mod Laws
 pub mod Inputs
 pub mod Reading
