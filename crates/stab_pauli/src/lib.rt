@@ -4,6 +4,7 @@
 //! - `device`: the traits `Input` and `Output`, and `Device` round any reader or writer of std.
 //! - `memory`: inputs and outputs in memory, whole, cut into pieces or without end.
 //! - `turn`, `letter`: powers of i and the letters of Pauli strings.
+//! - `pauli`: signed Pauli strings, their products, which of them commute, and their printed form.
 //!
 //! Proved: each device counts its failures and keeps to its bytes; those in memory are known
 //! exactly, with their room, pieces and failing calls.
@@ -12,12 +13,14 @@
 mod device;
 mod letter;
 mod memory;
+mod pauli;
 mod refusal;
 mod turn;
 
 pub use device::{Device, DeviceFault, Input, Output, write_all};
 pub use letter::Letter;
 pub use memory::{CutInput, EndlessInput, MemoryInput, MemoryOutput};
+pub use pauli::Pauli;
 pub use refusal::{Fault, Refusal};
 pub use turn::Turn;
 
