@@ -218,3 +218,6 @@ impl Pauli {
             .times(turn)
     }
 }
+
+#[cfg(test)]
+mod tests;

@@ -13,14 +13,14 @@ use crate::refusal::Refusal;
 const LETTERS_A_WRITE: usize = 64;
 
 /// The character of a sign, true for -.
-pub fn sign(negative: bool) -> &'static [u8]
+pub(super) fn sign(negative: bool) -> &'static [u8]
     ensures value { result.now ≡ sign_text negative }
 {
     if negative { b"-" } else { b"+" }
 }
 
 /// Writes the characters of the letters over the bytes.
-pub fn spell(letters: &[Letter], bytes: &mut [u8])
+pub(super) fn spell(letters: &[Letter], bytes: &mut [u8])
     requires same_length { length letters.now ≡ length bytes.old }
     ensures text { bytes.new ≡ letters_text letters.now }
 {
@@ -32,7 +32,7 @@ pub fn spell(letters: &[Letter], bytes: &mut [u8])
 /// Writes the characters of the letters, in as few writes as a small buffer allows.
 ///
 /// Refusal `WriteFault` where a write failed; what was written is then a prefix of the text.
-pub fn write_letters<O: Output>(out: &mut O, letters: &[Letter]) -> Result<(), Refusal>
+pub(super) fn write_letters<O: Output>(out: &mut O, letters: &[Letter]) -> Result<(), Refusal>
     ensures only { OnErr result (IsErrOf result WriteFault) }
     ensures kept { OnOk result (O.failures out.new ≡ O.failures out.old) }
     ensures failed { OnErr result (Failed (O.failures out.old) (O.failures out.new)) }
