@@ -212,10 +212,9 @@ impl Pauli {
         ensures letters { self.new ≡ record self.old { letters = string_product self.old.letters other.now.letters } }
         ensures turn { result ≡ product_turn self.old other.now }
     {
+        let signs = Turn::of_sign(self.negative).times(Turn::of_sign(other.negative));
         let turn = strings::multiply(self.letters.as_mut_slice(), other.letters.as_slice());
-        Turn::of_sign(self.negative)
-            .times(Turn::of_sign(other.negative))
-            .times(turn)
+        signs.times(turn)
     }
 }
 

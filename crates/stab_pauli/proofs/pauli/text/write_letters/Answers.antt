@@ -1,4 +1,4 @@
-use Rattle.std.proofs.Common.{◌≡◌, ◌∙◌, ap, sym, subst, take_at, Bool, IsTrue, List, ℕ, ◌++◌, length, take, drop}
+use Rattle.std.proofs.Common.{◌≡◌, ◌∙◌, ap, sym, subst, take_at, IsTrue, List, ℕ, ◌++◌, length, take, drop}
 use Rattle.std.proofs.lemmas.List.{take-append-drop}
 use Rattle.stab_pauli.specs.declared.letter.Letter.{Letter}
 use Rattle.stab_pauli.specs.Texts.{letters_text}
