@@ -1,0 +1,3 @@
+pub mod GateTables
+pub mod PlaceLemmas
+pub mod SymmetryLemmas
