@@ -1,5 +1,5 @@
 -- What happens next depends on members alone: two tests of strings that agree on n letters agree after each happening.
-use Rattle.std.proofs.Common.{◌≡◌, ℕ, ◌<◌, Bool, false, true, not, ◌&&◌, ◌||◌, List, [], ◌∷◌, ◌++◌, length}
+use Rattle.std.proofs.Common.{◌≡◌, ℕ, ◌<◌, refl, sym, ◌∙◌, Bool, false, true, not, ◌&&◌, ◌||◌, List, [], ◌∷◌, ◌++◌, length}
 use Rattle.std.specs.Prelude.{◌≢◌, if◌then◌else◌}
 use Rattle.stab_pauli.specs.Paulis.{Signed, minus, with_sign, commute, product}
 use Rattle.stab_pauli.proofs.SignedLemmas.{length-product}
@@ -14,7 +14,7 @@ use Rattle.stab_tableau.proofs.SymmetryLemmas.{IsSymmetry-image, IsSymmetry-pair
 abbrev pub Agree : ℕ → (Signed → Bool) → (Signed → Bool) → Type 0
 Agree n u v = (p : Signed) → length p.letters ≡ n → u p ≡ v p
 
--- the test after a happening, from the test before it; `member (h ∷ rest)` is `test_after h (member rest)`
+-- the test after a happening, from the test before it
 abbrev pub test_after : Happening → (Signed → Bool) → Signed → Bool
 test_after (applied g q) u p = u (back g q p)
 test_after (applied_pair g a b) u p = u (back_pair g a b p)
@@ -43,6 +43,16 @@ pub Agree-after : (n : ℕ) (u v : Signed → Bool) (h : Happening) → Fits n (
 Agree-after n u v (applied g q) f same = Agree-applied n u v g q f.0 same
 Agree-after n u v (applied_pair g a b) f same = Agree-applied_pair n u v g a b f.0.0 f.0.1 f.0.2 same
 Agree-after n u v (projected q b) f same = Agree-projected n u v q b f.0 same
+
+-- membership in a longer trace is the test after its newest happening
+pub member-after : (h : Happening) (rest : List Happening) (p : Signed) → member (h ∷ rest) p ≡ test_after h (member rest) p
+member-after (applied g q) rest p = refl
+member-after (applied_pair g a b) rest p = refl
+member-after (projected q b) rest p = refl
+
+-- a test that answers as a trace, after one happening
+pub Agree-member : (n : ℕ) (u : Signed → Bool) (h : Happening) (rest : List Happening) → Fits n (h ∷ []) → Agree n u (member rest) → Agree n (test_after h u) (member (h ∷ rest))
+Agree-member n u h rest f same = λ p l. Agree-after n u (member rest) h f same p l ∙ sym (member-after h rest p)
 
 -- the same outcomes, and the same of them are free
 pub outcome-agree : (n : ℕ) (u v : Signed → Bool) (p : Signed) → length p.letters ≡ n → Agree n u v → (coin : Bool) → outcome_of u p coin ≡ outcome_of v p coin
