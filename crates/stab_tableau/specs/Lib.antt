@@ -1,2 +1,4 @@
 pub mod Gates
 pub mod Traces
+pub mod GateLaws
+pub mod Laws
