@@ -1,4 +1,4 @@
-use Rattle.std.proofs.Common.{◌∙◌, map, subst}
+use Rattle.std.proofs.Common.{refl, ◌∙◌, map, subst}
 use Rattle.std.proofs.lemmas.Result.{err_from_is_err_and}
 use Rattle.stab_pauli.specs.Devices.{WritesUpTo}
 use Rattle.stab_pauli.proofs.DeviceLemmas.{WritesUpTo-part, WritesPrefix-part}
@@ -14,7 +14,7 @@ loop-text-preserved g c = record {
   bytes = λ h.
       let all = joined (map (λ t. t.now) c.args.texts.now) in
       let before = subst (λ rest. WritesUpTo (g.O.Output.written c.args.out.now) (g.O.Output.written c.loop-text.out) all rest) (joined-drop (λ t. t.now) c.args.texts.now c.loop-text.text-index _ c.loop-text-test.true) (c.loop-text.invariant.bytes h) in
-      WritesUpTo-part _ _ _ all _ _ before (c.in_ok-write_all.ensures.whole (rw c.loop-text.invariant.as_honest h));
+      WritesUpTo-part _ _ _ all _ _ _ refl before (c.in_ok-write_all.ensures.whole (rw c.loop-text.invariant.as_honest h));
 }
 
 pub returns-in_err-write_all-clause-prefix : goal.returns-in_err-write_all-clause-prefix
@@ -23,4 +23,4 @@ returns-in_err-write_all-clause-prefix g c =
     rw p.1 (λ h.
     let all = joined (map (λ t. t.now) c.args.texts.now) in
     let before = subst (λ rest. WritesUpTo (g.O.Output.written c.args.out.now) (g.O.Output.written c.loop-text.out) all rest) (joined-drop (λ t. t.now) c.args.texts.now c.loop-text.text-index _ c.loop-text-test.true) (c.loop-text.invariant.bytes h) in
-    WritesPrefix-part _ _ _ all _ _ before (c.in_err-write_all.ensures.prefix (rw c.loop-text.invariant.as_honest h)))
+    WritesPrefix-part _ _ _ all _ _ _ refl before (c.in_err-write_all.ensures.prefix (rw c.loop-text.invariant.as_honest h)))
