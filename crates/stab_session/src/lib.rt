@@ -1,0 +1,14 @@
+//! Runs of circuits.
+//!
+//! - `coins`: the bits that decide outcomes which nothing else decides.
+//!
+//! Proved: coins are one fixed sequence of bits by number, which no call changes, and a seed gives
+//! the bits of ChaCha8 that `specs/Coins.antt` names.
+#![tactic(auto)]
+
+mod coins;
+
+pub use coins::{Coins, ListCoins, SeedCoins};
+
+#[cfg(test)]
+mod tests;
