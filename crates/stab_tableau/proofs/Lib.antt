@@ -1,0 +1,3 @@
+pub mod HomomorphismLemmas
+pub mod PlaceLemmas
+pub mod PreimageLemmas

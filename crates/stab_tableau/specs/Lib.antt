@@ -1,2 +1,3 @@
 pub mod Gates
 pub mod Traces
+pub mod Preimages
