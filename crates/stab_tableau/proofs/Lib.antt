@@ -1,3 +1,5 @@
 pub mod HomomorphismLemmas
 pub mod PlaceLemmas
 pub mod PreimageLemmas
+pub mod LetterTests
+pub mod LetterMapLemmas
