@@ -3,3 +3,4 @@ pub mod PlaceLemmas
 pub mod PreimageLemmas
 pub mod LetterTests
 pub mod LetterMapLemmas
+pub mod GateLemmas
