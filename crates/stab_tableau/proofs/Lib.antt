@@ -4,3 +4,4 @@ pub mod PreimageLemmas
 pub mod LetterTests
 pub mod LetterMapLemmas
 pub mod GateLemmas
+pub mod TableGateLemmas

@@ -3,8 +3,12 @@ use Rattle.std.specs.Prelude.{◌≡◌, ℕ, ◌<◌, false, List, [], ◌∷�
 use Rattle.stab_pauli.specs.declared.letter.Letter.{Letter}
 use Rattle.stab_pauli.specs.declared.letter.Letter.TheVariants.{I, X, Y, Z}
 use Rattle.stab_pauli.specs.declared.turn.Turn.TheVariants.{Quarter}
+use Rattle.stab_pauli.specs.Turns.{sign_turn}
 use Rattle.stab_pauli.specs.Paulis.{Signed, identity, string_product, string_turn}
 use Rattle.stab_pauli.specs.Phaseds.{Phased, plain, phased, turned, phased_product}
+use Rattle.stab_tableau.specs.declared.gate.Gate.{Gate}
+use Rattle.stab_tableau.specs.declared.gate.PairGate.{PairGate}
+use Rattle.stab_tableau.specs.Gates.{SignedLetter, letter_image, inverse, letter_at, pair_letters}
 
 -- the preimages of X and Z on one qubit
 pub record Preimages : Type 0 where
@@ -57,3 +61,27 @@ pub record IsTable (n : ℕ) (rows : List Preimages) : Type 0 where
   pub count : length rows ≡ n
   pub sizes : (q : ℕ) → q < n → IsOver n (row_at rows q)
   pub keeps : IsHomomorphism n n (string_preimage n rows)
+
+-- each string is the preimage of some string
+abbrev pub IsOnto : ℕ → List Preimages → Type 0
+IsOnto n rows = (p : List Letter) → length p ≡ n → (q : Phased) × (length q.letters ≡ n) × (extend (string_preimage n rows) q ≡ plain p)
+
+-- the preimage of a letter with a sign
+abbrev pub signed_preimage : ℕ → Preimages → SignedLetter → Phased
+signed_preimage n r l = turned (sign_turn l.negative) (letter_preimage n r l.letter)
+
+-- a qubit's rows after a gate on it: the preimages of what was X and Z before the gate
+pub record GateRow (n : ℕ) (g : Gate) (old new : Preimages) : Type 0 where
+  pub x : phased new.x ≡ signed_preimage n old (letter_image (inverse g) X)
+  pub z : phased new.z ≡ signed_preimage n old (letter_image (inverse g) Z)
+
+-- the preimage of two letters with a power of i, the first on one qubit and the second on another
+abbrev pub pair_preimage : ℕ → Preimages → Preimages → Phased → Phased
+pair_preimage n r s w = turned w.turn (phased_product (letter_preimage n r (letter_at w.letters 0)) (letter_preimage n s (letter_at w.letters 1)))
+
+-- the rows of two qubits after a gate on them
+pub record PairRows (n : ℕ) (g : PairGate) (first second new_first new_second : Preimages) : Type 0 where
+  pub first_x : phased new_first.x ≡ pair_preimage n first second (pair_letters g X I)
+  pub first_z : phased new_first.z ≡ pair_preimage n first second (pair_letters g Z I)
+  pub second_x : phased new_second.x ≡ pair_preimage n first second (pair_letters g I X)
+  pub second_z : phased new_second.z ≡ pair_preimage n first second (pair_letters g I Z)
