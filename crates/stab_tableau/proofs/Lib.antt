@@ -1,7 +1,13 @@
-pub mod HomomorphismLemmas
+pub mod GateTables
 pub mod PlaceLemmas
+pub mod SymmetryLemmas
+pub mod GroupLemmas
+pub mod DiagonalLemmas
+pub mod TraceLemmas
+pub mod FreeLemmas
+pub mod MemberLemmas
+pub mod HomomorphismLemmas
+pub mod OneLetterLemmas
 pub mod PreimageLemmas
-pub mod LetterTests
-pub mod LetterMapLemmas
-pub mod GateLemmas
+pub mod SymmetryMapLemmas
 pub mod TableGateLemmas

@@ -1,3 +1,5 @@
 pub mod Gates
 pub mod Traces
+pub mod GateLaws
+pub mod Laws
 pub mod Preimages
