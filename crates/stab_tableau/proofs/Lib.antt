@@ -11,3 +11,4 @@ pub mod OneLetterLemmas
 pub mod PreimageLemmas
 pub mod SymmetryMapLemmas
 pub mod TableGateLemmas
+pub mod CollapseLemmas

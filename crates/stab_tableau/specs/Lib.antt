@@ -3,3 +3,4 @@ pub mod Traces
 pub mod GateLaws
 pub mod Laws
 pub mod Preimages
+pub mod Collapses
