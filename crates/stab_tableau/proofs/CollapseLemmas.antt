@@ -18,7 +18,7 @@ use Rattle.stab_tableau.specs.Collapses.{collapsed_by}
 abbrev pub collapsed : Phased → Phased → Phased → Phased
 collapsed w j t = collapsed_by (strings_anticommute t.letters w.letters) (strings_anticommute t.letters j.letters) j t
 
-anticommuting : (p q : Phased) → strings_anticommute p.letters q.letters ≡ true → phased_product p q ≡ turned Half (phased_product q p)
+pub anticommuting : (p q : Phased) → strings_anticommute p.letters q.letters ≡ true → phased_product p q ≡ turned Half (phased_product q p)
 anticommuting p q e = phased_product-swap p q ∙ ap (λ s. turned (sign_turn s) (phased_product q p)) e
 
 -- w and j stand over n places, anticommute, and are each their own inverse

@@ -12,3 +12,6 @@ pub mod PreimageLemmas
 pub mod SymmetryMapLemmas
 pub mod TableGateLemmas
 pub mod CollapseLemmas
+pub mod StabiliseLemmas
+pub mod CollapseRuleLemmas
+pub mod TableCollapseLemmas

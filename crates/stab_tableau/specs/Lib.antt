@@ -4,3 +4,4 @@ pub mod GateLaws
 pub mod Laws
 pub mod Preimages
 pub mod Collapses
+pub mod Tableaus
