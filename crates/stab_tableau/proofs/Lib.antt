@@ -15,3 +15,4 @@ pub mod CollapseLemmas
 pub mod StabiliseLemmas
 pub mod CollapseRuleLemmas
 pub mod TableCollapseLemmas
+pub mod PairRowLemmas

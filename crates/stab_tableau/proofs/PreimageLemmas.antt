@@ -10,7 +10,8 @@ use Rattle.stab_pauli.specs.Paulis.{string_product, string_turn, strings_anticom
 use Rattle.stab_pauli.specs.Phaseds.{Phased, plain, phased, turned, phased_product}
 use Rattle.stab_pauli.proofs.StringLemmas.{string_product-blank, string_turn-blank}
 use Rattle.stab_pauli.proofs.PhasedLemmas.{phased_path, turned-turned, phased_product-unit_left, phased_product-unit_right, length-phased_product}
-use Rattle.stab_tableau.specs.Preimages.{Preimages, blank, one_letter, row_at, letter_preimage, string_preimage, extend, IsHomomorphism, IsOver, IsTable}
+use Rattle.stab_tableau.specs.declared.preimages.Preimages.{Preimages}
+use Rattle.stab_tableau.specs.Preimages.{blank, one_letter, row_at, letter_preimage, string_preimage, extend, IsHomomorphism, IsOver, IsTable}
 use Rattle.stab_tableau.proofs.HomomorphismLemmas.{same-homomorphism}
 use Rattle.stab_tableau.proofs.OneLetterLemmas.{length-one_letter}
 

@@ -11,7 +11,8 @@ use Rattle.stab_pauli.proofs.StringLemmas.{length-string_product, strings_antico
 use Rattle.stab_pauli.proofs.PhasedLemmas.{turned-turned, turned-plain, phased_product-self}
 use Rattle.stab_pauli.proofs.SignedLemmas.{phased-product, product-self}
 use Rattle.stab_tableau.specs.Gates.{letter_at}
-use Rattle.stab_tableau.specs.Preimages.{Preimages, blank, one_letter, row_at, string_preimage, letter_preimage, extend, IsHomomorphism, IsTable, IsOnto}
+use Rattle.stab_tableau.specs.declared.preimages.Preimages.{Preimages}
+use Rattle.stab_tableau.specs.Preimages.{blank, one_letter, row_at, string_preimage, letter_preimage, extend, IsHomomorphism, IsTable, IsOnto}
 use Rattle.stab_tableau.specs.Collapses.{collapsed_by, CollapsedRow}
 use Rattle.stab_tableau.specs.Tableaus.{stabilises_zeros}
 use Rattle.stab_tableau.proofs.HomomorphismLemmas.{extend-turned, extend-product, after-homomorphism, kept-anticommute}

@@ -13,7 +13,8 @@ use Rattle.stab_pauli.proofs.PhasedLemmas.{turned-turned, turned-plain}
 use Rattle.stab_tableau.specs.declared.gate.Gate.{Gate}
 use Rattle.stab_tableau.specs.declared.gate.PairGate.{PairGate}
 use Rattle.stab_tableau.specs.Gates.{SignedLetter, plus, two, letter_image, inverse, letter_at, pair_letters, put_letter, put_letters, image, image_pair, back, back_pair}
-use Rattle.stab_tableau.specs.Preimages.{Preimages, blank, one_letter, row_at, letter_preimage, string_preimage, extend, IsHomomorphism, IsTable, IsOnto, signed_preimage, GateRow, pair_preimage, PairRows}
+use Rattle.stab_tableau.specs.declared.preimages.Preimages.{Preimages}
+use Rattle.stab_tableau.specs.Preimages.{blank, one_letter, row_at, letter_preimage, string_preimage, extend, IsHomomorphism, IsTable, IsOnto, signed_preimage, GateRow, pair_preimage, PairRows}
 use Rattle.stab_tableau.proofs.GateTables.{letter_image-I, inverse-inverse, pair_letters-I, pair_letters-even}
 use Rattle.stab_tableau.proofs.SymmetryLemmas.{IsSymmetry, IsSymmetry-image, back-image, IsSymmetry-pair, pair-undone}
 use Rattle.stab_tableau.proofs.HomomorphismLemmas.{extend-turned, after-homomorphism}

@@ -7,7 +7,7 @@ use Rattle.stab_pauli.specs.Letters.{letters_anticommute}
 use Rattle.stab_pauli.specs.Paulis.{Signed, anticommute}
 use Rattle.stab_pauli.specs.Phaseds.{Phased, phased, turned, phased_product}
 use Rattle.stab_tableau.specs.Gates.{letter_at}
-use Rattle.stab_tableau.specs.Preimages.{Preimages}
+use Rattle.stab_tableau.specs.declared.preimages.Preimages.{Preimages}
 
 -- a preimage t after a measurement. Let r be the preimage of what was measured, and w a string that anticommutes with it;
 -- j is i times w times r. The first bit says whether t anticommutes with w, the second whether it does with j; it

@@ -1,19 +1,15 @@
 -- Preimages: the strings that all that happened made into X and Z on each qubit, and into any string by way of them.
-use Rattle.std.specs.Prelude.{◌≡◌, ℕ, ◌<◌, false, List, [], ◌∷◌, length, replicate, slice_index_or, slice_set}
+use Rattle.std.specs.Prelude.{◌≡◌, ℕ, ◌<◌, true, false, List, [], ◌∷◌, length, replicate, slice_index_or, slice_set}
 use Rattle.stab_pauli.specs.declared.letter.Letter.{Letter}
 use Rattle.stab_pauli.specs.declared.letter.Letter.TheVariants.{I, X, Y, Z}
 use Rattle.stab_pauli.specs.declared.turn.Turn.TheVariants.{Quarter}
 use Rattle.stab_pauli.specs.Turns.{sign_turn}
-use Rattle.stab_pauli.specs.Paulis.{Signed, identity, string_product, string_turn}
+use Rattle.stab_pauli.specs.Paulis.{identity, anticommute}
 use Rattle.stab_pauli.specs.Phaseds.{Phased, plain, phased, turned, phased_product}
 use Rattle.stab_tableau.specs.declared.gate.Gate.{Gate}
+use Rattle.stab_tableau.specs.declared.preimages.Preimages.{Preimages}
 use Rattle.stab_tableau.specs.declared.gate.PairGate.{PairGate}
 use Rattle.stab_tableau.specs.Gates.{SignedLetter, letter_image, inverse, letter_at, pair_letters}
-
--- the preimages of X and Z on one qubit
-pub record Preimages : Type 0 where
-  pub x : Signed
-  pub z : Signed
 
 -- n letters I
 abbrev pub blank : ℕ → List Letter
@@ -55,6 +51,20 @@ pub record IsHomomorphism (n m : ℕ) (h : List Letter → Phased) : Type 0 wher
 pub record IsOver (n : ℕ) (r : Preimages) : Type 0 where
   pub x : length r.x.letters ≡ n
   pub z : length r.z.letters ≡ n
+
+-- the rows of a table for one qubit: over n places, and they anticommute
+pub record IsRow (n : ℕ) (r : Preimages) : Type 0 where
+  pub over : IsOver n r
+  pub opposed : anticommute r.x r.z ≡ true
+
+-- the rows of a table for two qubits: those of one commute with those of the other
+pub record AreRows (n : ℕ) (r s : Preimages) : Type 0 where
+  pub first : IsRow n r
+  pub second : IsRow n s
+  pub xx : anticommute r.x s.x ≡ false
+  pub xz : anticommute r.x s.z ≡ false
+  pub zx : anticommute r.z s.x ≡ false
+  pub zz : anticommute r.z s.z ≡ false
 
 -- n rows over n places by which preimages keep products
 pub record IsTable (n : ℕ) (rows : List Preimages) : Type 0 where

@@ -5,7 +5,8 @@ use Rattle.stab_pauli.specs.declared.turn.Turn.TheVariants.{Zero, Quarter, Half,
 use Rattle.stab_pauli.specs.Paulis.{Signed, minus, with_sign, commute, product}
 use Rattle.stab_pauli.specs.Phaseds.{Phased, phased}
 use Rattle.stab_tableau.specs.Traces.{diagonal}
-use Rattle.stab_tableau.specs.Preimages.{Preimages, string_preimage, extend, IsOver, IsTable, IsOnto}
+use Rattle.stab_tableau.specs.declared.preimages.Preimages.{Preimages}
+use Rattle.stab_tableau.specs.Preimages.{string_preimage, extend, IsOver, IsTable, IsOnto}
 
 -- the number of qubits, and the preimages of X and Z on each
 pub record TableauState : Type 0 where

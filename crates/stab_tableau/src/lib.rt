@@ -10,5 +10,6 @@
 mod gate;
 pub mod gate_laws;
 pub mod laws;
+mod preimages;
 
 pub use gate::{Gate, PairGate};
