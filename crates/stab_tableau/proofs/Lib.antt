@@ -16,3 +16,5 @@ pub mod StabiliseLemmas
 pub mod CollapseRuleLemmas
 pub mod TableCollapseLemmas
 pub mod PairRowLemmas
+pub mod TableRowLemmas
+pub mod TableauGateLemmas

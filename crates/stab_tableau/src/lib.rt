@@ -11,5 +11,7 @@ mod gate;
 pub mod gate_laws;
 pub mod laws;
 mod preimages;
+mod tableau;
 
 pub use gate::{Gate, PairGate};
+pub use tableau::Tableau;

@@ -1,5 +1,6 @@
 use super::gate::{Gate, PairGate};
-use stab_pauli::{Letter, Pauli};
+use stab_pauli::{Pauli, Refusal};
+use std::alloc::Global;
 use std::mem;
 
 /// What was made into X and what into Z on one qubit by all that happened: their preimages.
@@ -10,11 +11,22 @@ pub struct Preimages {
 }
 
 impl Preimages {
-    ghost use Rattle.std.specs.Prelude.{◌≡◌, ◌<◌, true, false, length};
+    ghost use Rattle.std.specs.Prelude.{◌≡◌, ◌<◌, true, false, length, IfOk, IfErr};
+    ghost use Rattle.stab_pauli.specs.declared.refusal.Refusal.TheVariants.{OutOfMemory};
     ghost use Rattle.stab_pauli.specs.Paulis.{anticommute};
     ghost use Rattle.stab_pauli.specs.Phaseds.{phased, phased_product};
     ghost use Rattle.stab_tableau.specs.Preimages.{letter_preimage, IsRow, AreRows, GateRow, PairRows};
     ghost use Rattle.stab_tableau.specs.Collapses.{CollapsedRow};
+
+    /// The same rows in memory of their own.
+    pub fn copy(&self, alloc: Global) -> Result<Preimages, Refusal>
+        ensures ok { IfOk result (λ r. r ≡ self.now) }
+        ensures err { IfErr result (λ r. r ≡ OutOfMemory) }
+    {
+        let x = self.x.copy(alloc)?;
+        let z = self.z.copy(alloc)?;
+        Ok(Preimages { x, z })
+    }
 
     /// The preimages after a gate on the qubit.
     pub fn apply(&mut self, gate: Gate)

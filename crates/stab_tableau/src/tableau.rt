@@ -1,0 +1,108 @@
+use super::gate::{Gate, PairGate};
+use super::preimages::Preimages;
+use stab_pauli::{Letter, Pauli, Refusal};
+use std::alloc::Global;
+use std::marker::Model;
+use std::mem;
+
+/// A stabiliser state on some qubits, at most 1,024.
+///
+/// Contracts see how many qubits there are, and which signed Pauli strings stabilise the state.
+#[derive(Drop)]
+pub struct Tableau {
+    rows: Vec<Preimages>,
+    // Rows of the same size, to work with: so no gate and no measurement takes memory.
+    scratch: Preimages,
+}
+
+impl Model for Tableau {
+    ghost use Rattle.std.specs.Prelude.{length};
+    ghost use Rattle.stab_tableau.specs.Tableaus.{TableauState, IsTableau};
+
+    ghost Value = { TableauState };
+
+    ghost view = { λ t. record { qubits = length t.rows.items; rows = t.rows.items } };
+
+    ghost invariant = { λ t. IsTableau (length t.rows.items) t.rows.items t.scratch };
+}
+
+impl Tableau {
+    ghost use Rattle.std.specs.Prelude.{◌≡◌, ◌≢◌, ◌<◌, ◌≤◌, [], length, IfOk, IfErr};
+    ghost use Rattle.stab_pauli.specs.Paulis.{Signed};
+    ghost use Rattle.stab_pauli.specs.declared.refusal.Refusal.TheVariants.{OutOfMemory};
+    ghost use Rattle.stab_tableau.specs.Gates.{back, back_pair};
+    ghost use Rattle.stab_tableau.specs.Traces.{member};
+    ghost use Rattle.stab_tableau.specs.Tableaus.{stabilises};
+
+    /// The state of n qubits, all zero.
+    ///
+    /// Refusal `OutOfMemory` alone.
+    pub fn new(alloc: Global, n: usize) -> Result<Tableau, Refusal>
+        requires in_range { n ≤ 1024 }
+        ensures qubits { IfOk result (λ t. t.qubits ≡ n) }
+        ensures members { IfOk result (λ t. (p : Signed) → length p.letters ≡ n → stabilises t p ≡ member [] p) }
+        ensures err { IfErr result (λ r. r ≡ OutOfMemory) }
+    {
+        let mut rows = Vec::with_capacity(alloc, n)?;
+        for qubit in 0..n {
+            let x = Pauli::single(alloc, n, qubit, Letter::X)?;
+            let z = Pauli::single(alloc, n, qubit, Letter::Z)?;
+            rows.push(Preimages { x, z })?;
+        }
+        let x = Pauli::identity(alloc, n)?;
+        let z = Pauli::identity(alloc, n)?;
+        Ok(Tableau {
+            rows,
+            scratch: Preimages { x, z },
+        })
+    }
+
+    /// The same state in memory of its own.
+    ///
+    /// Refusal `OutOfMemory` alone.
+    pub fn copy(&self, alloc: Global) -> Result<Tableau, Refusal>
+        ensures ok { IfOk result (λ t. t ≡ self.now) }
+        ensures err { IfErr result (λ r. r ≡ OutOfMemory) }
+    {
+        let mut rows = Vec::with_capacity(alloc, self.rows.len())?;
+        for row in &self.rows {
+            rows.push(row.copy(alloc)?)?;
+        }
+        let scratch = self.scratch.copy(alloc)?;
+        Ok(Tableau { rows, scratch })
+    }
+
+    /// The number of qubits.
+    pub fn len(&self) -> usize
+        ensures value { result ≡ self.now.qubits }
+    {
+        self.rows.len()
+    }
+
+    /// Applies a gate to a qubit.
+    ///
+    /// A string stabilises the new state where what the gate makes into it stabilised the old one.
+    pub fn apply(&mut self, gate: Gate, qubit: usize)
+        requires in_range { qubit < self.old.qubits }
+        ensures qubits { self.new.qubits ≡ self.old.qubits }
+        ensures members { (p : Signed) → length p.letters ≡ self.old.qubits → stabilises self.new p ≡ stabilises self.old (back gate qubit p) }
+    {
+        self.rows[qubit].apply(gate);
+    }
+
+    /// Applies a gate to two qubits; of a controlled gate the first is the control.
+    ///
+    /// A string stabilises the new state where what the gate makes into it stabilised the old one.
+    pub fn apply_pair(&mut self, gate: PairGate, first: usize, second: usize)
+        requires first_in_range { first < self.old.qubits }
+        requires second_in_range { second < self.old.qubits }
+        requires apart { second ≢ first }
+        ensures qubits { self.new.qubits ≡ self.old.qubits }
+        ensures members { (p : Signed) → length p.letters ≡ self.old.qubits → stabilises self.new p ≡ stabilises self.old (back_pair gate first second p) }
+    {
+        // One qubit's rows change places with the scratch rows, so that both can be written.
+        mem::swap(&mut self.rows[second], &mut self.scratch);
+        self.rows[first].apply_pair(&mut self.scratch, gate);
+        mem::swap(&mut self.rows[second], &mut self.scratch);
+    }
+}
