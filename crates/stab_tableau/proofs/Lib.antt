@@ -18,3 +18,4 @@ pub mod TableCollapseLemmas
 pub mod PairRowLemmas
 pub mod TableRowLemmas
 pub mod TableauGateLemmas
+pub mod TableauStartLemmas
