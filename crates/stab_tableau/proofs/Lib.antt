@@ -19,3 +19,4 @@ pub mod PairRowLemmas
 pub mod TableRowLemmas
 pub mod TableauGateLemmas
 pub mod TableauStartLemmas
+pub mod WalkLemmas

@@ -32,15 +32,18 @@ module _ (n : ℕ) (rows : List Preimages) (is : IsTable n rows) where
     opposed = kept-letters q q X Z lt lt ∙ ap (letters_anticommute X) (here_one_letter n q Z lt);
   }
 
+  -- preimages of letters on two qubits commute
+  pub letters-apart : (a b : ℕ) (l m : Letter) → a < n → b < n → b ≢ a
+      → strings_anticommute (letter_preimage n (row_at rows a) l).letters (letter_preimage n (row_at rows b) m).letters ≡ false
+  letters-apart a b l m la lb ne =
+      kept-letters a b l m la lb ∙ ap (letters_anticommute l) (off_one_letter n b a m (λ e. ne (sym e))) ∙ letters_anticommute-I l
+
   pub table-rows : (a b : ℕ) → a < n → b < n → b ≢ a → AreRows n (row_at rows a) (row_at rows b)
   table-rows a b la lb ne = record {
     first = table-row a la;
     second = table-row b lb;
-    xx = apart X X;
-    xz = apart X Z;
-    zx = apart Z X;
-    zz = apart Z Z;
+    xx = letters-apart a b X X la lb ne;
+    xz = letters-apart a b X Z la lb ne;
+    zx = letters-apart a b Z X la lb ne;
+    zz = letters-apart a b Z Z la lb ne;
   }
-    where
-      apart : (l m : Letter) → strings_anticommute (letter_preimage n (row_at rows a) l).letters (letter_preimage n (row_at rows b) m).letters ≡ false
-      apart l m = kept-letters a b l m la lb ∙ ap (letters_anticommute l) (off_one_letter n b a m (λ e. ne (sym e))) ∙ letters_anticommute-I l

@@ -11,6 +11,7 @@ mod gate;
 pub mod gate_laws;
 pub mod laws;
 mod preimages;
+mod rows;
 mod tableau;
 
 pub use gate::{Gate, PairGate};

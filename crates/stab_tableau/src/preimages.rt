@@ -1,5 +1,13 @@
+ghost use Rattle.std.specs.Prelude.{◌≡◌, ◌<◌, length};
+ghost use Rattle.stab_pauli.specs.Letters.{letters_anticommute};
+ghost use Rattle.stab_pauli.specs.Paulis.{anticommute};
+ghost use Rattle.stab_pauli.specs.Phaseds.{phased};
+ghost use Rattle.stab_pauli.specs.declared.letter.Letter.TheVariants.{Z};
+ghost use Rattle.stab_tableau.specs.Gates.{letter_at};
+ghost use Rattle.stab_tableau.specs.Collapses.{collapsed_by};
+
 use super::gate::{Gate, PairGate};
-use stab_pauli::{Pauli, Refusal};
+use stab_pauli::{Letter, Pauli, Refusal};
 use std::alloc::Global;
 use std::mem;
 
@@ -15,7 +23,7 @@ impl Preimages {
     ghost use Rattle.stab_pauli.specs.declared.refusal.Refusal.TheVariants.{OutOfMemory};
     ghost use Rattle.stab_pauli.specs.Paulis.{anticommute};
     ghost use Rattle.stab_pauli.specs.Phaseds.{phased, phased_product};
-    ghost use Rattle.stab_tableau.specs.Preimages.{letter_preimage, IsRow, AreRows, GateRow, PairRows};
+    ghost use Rattle.stab_tableau.specs.Preimages.{letter_preimage, IsOver, IsRow, AreRows, GateRow, PairRows};
     ghost use Rattle.stab_tableau.specs.Collapses.{CollapsedRow};
 
     /// The same rows in memory of their own.
@@ -73,4 +81,66 @@ impl Preimages {
             PairGate::Swap => mem::swap(self, other),
         }
     }
+
+    /// Multiplies a string by the preimage of a letter on the qubit, with which it commutes.
+    pub fn multiply_into(&self, letter: Letter, out: &mut Pauli)
+        requires row { IsRow (length out.old.letters) self.now }
+        requires apart_x { anticommute out.old self.now.x ≡ false }
+        requires apart_z { anticommute out.old self.now.z ≡ false }
+        ensures value { phased out.new ≡ phased_product (phased out.old) (letter_preimage (length out.old.letters) self.now letter) }
+    {
+        match letter {
+            Letter::I => {}
+            Letter::X => out.multiply(&self.x),
+            Letter::Y => {
+                out.multiply(&self.x);
+                out.multiply_turned(&self.z);
+            }
+            Letter::Z => out.multiply(&self.z),
+        }
+    }
+
+    /// Makes a string the preimage of a letter on the qubit.
+    pub fn copy_into(&self, letter: Letter, out: &mut Pauli)
+        requires row { IsRow (length out.old.letters) self.now }
+        ensures value { phased out.new ≡ letter_preimage (length out.old.letters) self.now letter }
+    {
+        match letter {
+            Letter::I => out.clear(),
+            Letter::X => out.copy_from(&self.x),
+            Letter::Y => {
+                out.copy_from(&self.x);
+                out.multiply_turned(&self.z);
+            }
+            Letter::Z => out.copy_from(&self.z),
+        }
+    }
+
+    /// The preimages after a measurement; see `collapse_string`.
+    pub fn collapse(&mut self, place: usize, turning: &Pauli)
+        requires over { IsOver (length turning.now.letters) self.old }
+        requires in_range { place < length turning.now.letters }
+        ensures row { CollapsedRow place turning.now self.old self.new }
+    {
+        collapse_string(&mut self.x, place, turning);
+        collapse_string(&mut self.z, place, turning);
+    }
+}
+
+// A preimage after a measurement of a string whose preimage r, with the sign of the outcome, has X or Y at the place.
+// The letter Z there is w, and `turning` is i times w times r. What the measurement makes of preimages exchanges w and
+// r: a string that commutes with both stays, and one that anticommutes with both is negated; one that anticommutes with
+// r alone is multiplied by w and then r, and one with w alone by r and then w. Both products are i times that with
+// `turning`, up to sign. So one product does in place of two, and whether a string anticommutes with w is one letter.
+fn collapse_string(string: &mut Pauli, place: usize, turning: &Pauli)
+    requires same_length { length string.old.letters ≡ length turning.now.letters }
+    requires in_range { place < length string.old.letters }
+    ensures value { phased string.new ≡ collapsed_by (letters_anticommute Z (letter_at string.old.letters place)) (anticommute string.old turning.now) (phased turning.now) (phased string.old) }
+{
+    let with_w = Letter::Z.anticommutes(string.letter(place));
+    let turns = !string.commutes(turning);
+    if turns {
+        string.multiply_turned(turning);
+    }
+    string.negate_if(with_w != turns);
 }
