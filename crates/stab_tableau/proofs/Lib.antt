@@ -20,3 +20,4 @@ pub mod TableRowLemmas
 pub mod TableauGateLemmas
 pub mod TableauStartLemmas
 pub mod WalkLemmas
+pub mod ColumnLemmas

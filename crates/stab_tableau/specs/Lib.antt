@@ -5,3 +5,4 @@ pub mod Laws
 pub mod Preimages
 pub mod Collapses
 pub mod Tableaus
+pub mod Columns
