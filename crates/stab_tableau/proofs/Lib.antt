@@ -21,3 +21,4 @@ pub mod TableauGateLemmas
 pub mod TableauStartLemmas
 pub mod WalkLemmas
 pub mod ColumnLemmas
+pub mod GeneratedLemmas
