@@ -82,3 +82,6 @@ impl Letter {
         }
     }
 }
+
+#[cfg(test)]
+mod tests;

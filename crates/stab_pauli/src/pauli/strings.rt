@@ -10,7 +10,7 @@ use crate::letter::Letter;
 use crate::turn::Turn;
 
 /// Whether two strings anticommute.
-pub fn anticommute(first: &[Letter], second: &[Letter]) -> bool
+pub(super) fn anticommute(first: &[Letter], second: &[Letter]) -> bool
     requires same_length { length first.now ≡ length second.now }
     ensures value { result ≡ strings_anticommute first.now second.now }
 {
@@ -22,7 +22,7 @@ pub fn anticommute(first: &[Letter], second: &[Letter]) -> bool
 }
 
 /// Makes the first string the letters of the product of both.
-pub fn multiply_letters(first: &mut [Letter], second: &[Letter])
+pub(super) fn multiply_letters(first: &mut [Letter], second: &[Letter])
     requires same_length { length first.old ≡ length second.now }
     ensures letters { first.new ≡ string_product first.old second.now }
 {
@@ -32,7 +32,7 @@ pub fn multiply_letters(first: &mut [Letter], second: &[Letter])
 }
 
 /// Makes the first string the letters of the product of both, and gives its power of i.
-pub fn multiply(first: &mut [Letter], second: &[Letter]) -> Turn
+pub(super) fn multiply(first: &mut [Letter], second: &[Letter]) -> Turn
     requires same_length { length first.old ≡ length second.now }
     ensures letters { first.new ≡ string_product first.old second.now }
     ensures turn { result ≡ string_turn first.old second.now }
@@ -54,7 +54,7 @@ pub fn multiply(first: &mut [Letter], second: &[Letter]) -> Turn
 }
 
 /// The place of the first letter that flips a bit.
-pub fn first_flip(letters: &[Letter]) -> Option<usize>
+pub(super) fn first_flip(letters: &[Letter]) -> Option<usize>
     ensures none { IfNone result (list_any flips letters.now ≡ false) }
     ensures in_range { IfSome result (λ k. k < length letters.now) }
     ensures flips { IfSome result (λ k. flips (slice_index_or letters.now k I) ≡ true) }
