@@ -22,3 +22,4 @@ pub mod TableauStartLemmas
 pub mod WalkLemmas
 pub mod ColumnLemmas
 pub mod GeneratedLemmas
+pub mod MeasureLemmas

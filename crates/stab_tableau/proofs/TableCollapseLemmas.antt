@@ -23,7 +23,7 @@ use Rattle.stab_tableau.proofs.CollapseRuleLemmas.{collapsed-rule}
 use Rattle.stab_tableau.proofs.StabiliseLemmas.{zeros-from, diagonal-one_letter}
 
 -- a signed string is its own inverse
-signed-twice : (n : ℕ) (p : Signed) → length p.letters ≡ n → phased_product (phased p) (phased p) ≡ plain (blank n)
+pub signed-twice : (n : ℕ) (p : Signed) → length p.letters ≡ n → phased_product (phased p) (phased p) ≡ plain (blank n)
 signed-twice n p lp =
     sym (phased-product p p (strings_anticommute-self p.letters)) ∙ ap phased (product-self p) ∙ ap (λ m. plain (blank m)) lp
 

@@ -45,3 +45,12 @@ pub record IsTableau (n : ℕ) (rows : List Preimages) (scratch : Preimages) : T
   pub table : IsTable n rows
   pub onto : IsOnto n rows
   pub size : IsOver n scratch
+
+-- what a measurement of p with a coin makes of rows, and what it answers
+pub record IsMeasured (n : ℕ) (rows : List Preimages) (p : Signed) (coin : Bool) (outcome free : Bool) (new : List Preimages) (scratch : Preimages) : Type 0 where
+  pub tableau : IsTableau n new scratch
+  pub outcome_is : outcome ≡ outcome_by (stabilises (record { qubits = n; rows = rows })) p coin
+  pub free_is : free ≡ is_free_by (stabilises (record { qubits = n; rows = rows })) p
+  pub members : (q : Signed) → length q.letters ≡ n
+      → stabilises (record { qubits = n; rows = new }) q ≡ projected_by (stabilises (record { qubits = n; rows = rows })) p outcome q
+  pub kept : free ≡ false → new ≡ rows
