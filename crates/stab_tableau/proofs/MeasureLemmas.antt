@@ -61,6 +61,36 @@ twice_or : (b : Bool) → b ≡ (b || b)
 twice_or false = refl
 twice_or true = refl
 
+-- the letter Z at a place where a preimage flips, and i times it times that preimage
+
+module _ (n : ℕ) (x : Signed) (size : length x.letters ≡ n) (k : ℕ) (lt : k < length x.letters) (flip : flips (letter_at x.letters k) ≡ true) (coin : Bool) where
+  pub place-in : k < n
+  place-in = omega arith
+
+  pub z_at : letters_anticommute Z (letter_at x.letters k) ≡ true
+  z_at = flips-Z (letter_at x.letters k) flip
+
+  -- the letter Z at the place anticommutes with the preimage
+  pub place-opposed : (w : Signed) (m : ℕ) → m ≡ n → w ≡ record { negative = false; letters = one_letter m k Z }
+      → anticommute w (with_sign coin x) ≡ true
+  place-opposed w m e w_is =
+      ap (λ (a : Signed). strings_anticommute a.letters x.letters) w_is
+      ∙ ap (λ m. strings_anticommute (one_letter m k Z) x.letters) e
+      ∙ one_letter-anticommute n k Z x.letters size place-in
+      ∙ z_at
+
+  module _ (w j : Signed) (m : ℕ) (lm : m ≡ n) (w_is : w ≡ record { negative = false; letters = one_letter m k Z })
+      (j_of : phased j ≡ turned Quarter (phased_product (phased w) (phased (with_sign coin x)))) where
+    pub turning-is : phased j ≡ turned Quarter (phased_product (plain (one_letter n k Z)) (phased (with_sign coin x)))
+    turning-is =
+        j_of ∙ ap (λ a. turned Quarter (phased_product a (phased (with_sign coin x)))) (ap phased w_is ∙ ap (λ m. plain (one_letter m k Z)) lm)
+
+    pair : IsTurningPair n (plain (one_letter n k Z)) (phased j)
+    pair = turning_pair n k place-in (with_sign coin x) j size z_at turning-is
+
+    pub turning-length : length j.letters ≡ n
+    turning-length = pair.j_size
+
 module _ (n : ℕ) (rows : List Preimages) (scratch : Preimages) (is : IsTableau n rows scratch) (p : Signed) (lp : length p.letters ≡ n)
     (sent : phased scratch.x ≡ extend (string_preimage n rows) (phased p)) where
   -- which sign of the string stabilises
@@ -152,16 +182,11 @@ module _ (n : ℕ) (rows : List Preimages) (scratch : Preimages) (is : IsTableau
   -- an outcome that the coin decides
 
   module _ (k : ℕ) (lt : k < length scratch.x.letters) (flip : flips (letter_at scratch.x.letters k) ≡ true) (coin : Bool) where
-    pub place-in : k < n
-    place-in = let s = is.size.x in omega arith
-
-    z_at : letters_anticommute Z (letter_at scratch.x.letters k) ≡ true
-    z_at = flips-Z (letter_at scratch.x.letters k) flip
-
     not_diagonal : (a : Phased) → a.letters ≡ scratch.x.letters → stabilises_zeros a ≡ false
     not_diagonal a e =
         not-true (stabilises_zeros a)
-        (λ s. clash _ z_at (ap (λ l. letters_anticommute Z (letter_at l k)) (sym e) ∙ diagonal-at a.letters k (zeros-letters a s)))
+        (λ s. clash _ (z_at n scratch.x is.size.x k lt flip coin)
+        (ap (λ l. letters_anticommute Z (letter_at l k)) (sym e) ∙ diagonal-at a.letters k (zeros-letters a s)))
 
     free_plus : st p ≡ false
     free_plus = st_plus ∙ not_diagonal (phased scratch.x) refl
@@ -169,40 +194,32 @@ module _ (n : ℕ) (rows : List Preimages) (scratch : Preimages) (is : IsTableau
     free_minus : st (minus p) ≡ false
     free_minus = st_minus ∙ not_diagonal (turned Half (phased scratch.x)) refl
 
-    -- the letter Z at the place anticommutes with the preimage
-    pub place-opposed : (w : Signed) (m : ℕ) → m ≡ n → w ≡ record { negative = false; letters = one_letter m k Z }
-        → anticommute w (with_sign coin scratch.x) ≡ true
-    place-opposed w m e w_is =
-        ap (λ (a : Signed). strings_anticommute a.letters scratch.x.letters) w_is
-        ∙ ap (λ m. strings_anticommute (one_letter m k Z) scratch.x.letters) e
-        ∙ one_letter-anticommute n k Z scratch.x.letters is.size.x place-in
-        ∙ z_at
+    pub measured-free : (w j : Signed) (m : ℕ) → m ≡ n → w ≡ record { negative = false; letters = one_letter m k Z }
+        → phased j ≡ turned Quarter (phased_product (phased w) (phased (with_sign coin scratch.x)))
+        → (new : List Preimages) → length new ≡ n
+        → ((q : ℕ) → q < n → CollapsedRow k j (row_at rows q) (row_at new q))
+        → IsMeasured n rows p coin coin true new (record { x = with_sign coin scratch.x; z = j })
+    unfolding st
+    measured-free w j m lm w_is j_of new same made = record {
+      tableau = record {
+        table = IsTable-collapsed n k inside r j is.size.x at j_is rows is.table new same made;
+        onto = IsOnto-collapsed n k inside r j is.size.x at j_is rows is.table new same made is.onto;
+        size = record { x = is.size.x; z = turning-length n scratch.x is.size.x k lt flip coin w j m lm w_is j_of };
+      };
+      outcome_is = λ i. if sym free_plus i then false else (if sym free_minus i then true else coin);
+      free_is = λ i. not (sym free_plus i) && not (sym free_minus i);
+      members = zeros-collapsed n k inside r j is.size.x at j_is rows is.table new same made p lp coin (sent_with coin);
+      kept = λ e. absurd (clash true refl e);
+    }
+      where
+        r : Signed
+        r = with_sign coin scratch.x
 
-    module _ (w j : Signed) (m : ℕ) (lm : m ≡ n) (w_is : w ≡ record { negative = false; letters = one_letter m k Z })
-        (j_of : phased j ≡ turned Quarter (phased_product (phased w) (phased (with_sign coin scratch.x)))) where
-      j_is : phased j ≡ turned Quarter (phased_product (plain (one_letter n k Z)) (phased (with_sign coin scratch.x)))
-      j_is =
-          j_of
-          ∙ ap (λ a. turned Quarter (phased_product a (phased (with_sign coin scratch.x)))) (ap phased w_is ∙ ap (λ m. plain (one_letter m k Z)) lm)
+        inside : k < n
+        inside = place-in n scratch.x is.size.x k lt flip coin
 
-      pair : IsTurningPair n (plain (one_letter n k Z)) (phased j)
-      pair = turning_pair n k place-in (with_sign coin scratch.x) j is.size.x z_at j_is
+        at : letters_anticommute Z (letter_at scratch.x.letters k) ≡ true
+        at = z_at n scratch.x is.size.x k lt flip coin
 
-      pub turning-length : length j.letters ≡ n
-      turning-length = pair.j_size
-
-      pub measured-free : (new : List Preimages) → length new ≡ n
-          → ((q : ℕ) → q < n → CollapsedRow k j (row_at rows q) (row_at new q))
-          → IsMeasured n rows p coin coin true new (record { x = with_sign coin scratch.x; z = j })
-      unfolding st
-      measured-free new same made = record {
-        tableau = record {
-          table = IsTable-collapsed n k place-in (with_sign coin scratch.x) j is.size.x z_at j_is rows is.table new same made;
-          onto = IsOnto-collapsed n k place-in (with_sign coin scratch.x) j is.size.x z_at j_is rows is.table new same made is.onto;
-          size = record { x = is.size.x; z = pair.j_size };
-        };
-        outcome_is = λ i. if sym free_plus i then false else (if sym free_minus i then true else coin);
-        free_is = λ i. not (sym free_plus i) && not (sym free_minus i);
-        members = zeros-collapsed n k place-in (with_sign coin scratch.x) j is.size.x z_at j_is rows is.table new same made p lp coin (sent_with coin);
-        kept = λ e. absurd (clash true refl e);
-      }
+        j_is : phased j ≡ turned Quarter (phased_product (plain (one_letter n k Z)) (phased (with_sign coin scratch.x)))
+        j_is = turning-is n scratch.x is.size.x k lt flip coin w j m lm w_is j_of
