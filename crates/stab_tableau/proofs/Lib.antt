@@ -23,3 +23,4 @@ pub mod WalkLemmas
 pub mod ColumnLemmas
 pub mod GeneratedLemmas
 pub mod MeasureLemmas
+pub mod TableauMeasureLemmas

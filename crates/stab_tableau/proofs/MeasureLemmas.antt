@@ -6,7 +6,7 @@ use Rattle.stab_pauli.specs.declared.letter.Letter.{Letter}
 use Rattle.stab_pauli.specs.declared.letter.Letter.TheVariants.{I, X, Y, Z}
 use Rattle.stab_pauli.specs.declared.turn.Turn.TheVariants.{Quarter, Half}
 use Rattle.stab_pauli.specs.Turns.{turn_add, sign_turn}
-use Rattle.stab_pauli.specs.Letters.{letters_anticommute}
+use Rattle.stab_pauli.specs.Letters.{◌⊕◌, letters_anticommute}
 use Rattle.stab_pauli.specs.Flips.{flips}
 use Rattle.stab_pauli.specs.Paulis.{Signed, minus, with_sign, anticommute, commute, product, strings_anticommute}
 use Rattle.stab_pauli.specs.Phaseds.{Phased, plain, phased, turned, phased_product}
@@ -179,6 +179,14 @@ module _ (n : ℕ) (rows : List Preimages) (scratch : Preimages) (is : IsTableau
       kept = λ _. refl;
     }
 
+    -- which sign stabilises
+    pub fixed-sign : (b : Bool) → stabilises_zeros (extend (string_preimage n rows) (phased (with_sign b p))) ≡ not (b ⊕ scratch.x.negative)
+    fixed-sign b = ap stabilises_zeros (sym (sent_with b)) ∙ plus-zeros (b ⊕ scratch.x.negative) (diagonal scratch.x.letters) diagonal_x
+
+    pub fixed-not_free : is_free_by (stabilises (record { qubits = n; rows = rows })) p ≡ false
+    unfolding st
+    fixed-not_free = (λ i. not (fixed_plus i) && not (fixed_minus i)) ∙ sym (fixed_free scratch.x.negative)
+
   -- an outcome that the coin decides
 
   module _ (k : ℕ) (lt : k < length scratch.x.letters) (flip : flips (letter_at scratch.x.letters k) ≡ true) (coin : Bool) where
@@ -193,6 +201,14 @@ module _ (n : ℕ) (rows : List Preimages) (scratch : Preimages) (is : IsTableau
 
     free_minus : st (minus p) ≡ false
     free_minus = st_minus ∙ not_diagonal (turned Half (phased scratch.x)) refl
+
+    -- no sign stabilises
+    pub free-sign : (b : Bool) → stabilises_zeros (extend (string_preimage n rows) (phased (with_sign b p))) ≡ false
+    free-sign b = ap stabilises_zeros (sym (sent_with b)) ∙ not_diagonal (phased (with_sign b scratch.x)) refl
+
+    pub is-free : is_free_by (stabilises (record { qubits = n; rows = rows })) p ≡ true
+    unfolding st
+    is-free = λ i. not (free_plus i) && not (free_minus i)
 
     pub measured-free : (w j : Signed) (m : ℕ) → m ≡ n → w ≡ record { negative = false; letters = one_letter m k Z }
         → phased j ≡ turned Quarter (phased_product (phased w) (phased (with_sign coin scratch.x)))

@@ -1,5 +1,7 @@
+use super::collapse::{Collapse, measure};
 use super::gate::{Gate, PairGate};
 use super::preimages::Preimages;
+use super::rows;
 use stab_pauli::{Letter, Pauli, Refusal};
 use std::alloc::Global;
 use std::marker::Model;
@@ -27,12 +29,12 @@ impl Model for Tableau {
 }
 
 impl Tableau {
-    ghost use Rattle.std.specs.Prelude.{◌≡◌, ◌≢◌, ◌<◌, ◌≤◌, [], length, IfOk, IfErr};
-    ghost use Rattle.stab_pauli.specs.Paulis.{Signed};
+    ghost use Rattle.std.specs.Prelude.{◌≡◌, ◌≢◌, ◌<◌, ◌≤◌, ◌↔◌, Bool, true, false, [], length, IfOk, IfErr};
+    ghost use Rattle.stab_pauli.specs.Paulis.{Signed, single, with_sign};
     ghost use Rattle.stab_pauli.specs.declared.refusal.Refusal.TheVariants.{OutOfMemory};
     ghost use Rattle.stab_tableau.specs.Gates.{back, back_pair};
     ghost use Rattle.stab_tableau.specs.Traces.{member};
-    ghost use Rattle.stab_tableau.specs.Tableaus.{stabilises};
+    ghost use Rattle.stab_tableau.specs.Tableaus.{stabilises, outcome_by, is_free_by, projected_by};
 
     /// The state of n qubits, all zero.
     ///
@@ -104,5 +106,49 @@ impl Tableau {
         mem::swap(&mut self.rows[second], &mut self.scratch);
         self.rows[first].apply_pair(&mut self.scratch, gate);
         mem::swap(&mut self.rows[second], &mut self.scratch);
+    }
+
+    /// The sign with which a string stabilises the state, true for -, or `None` where neither sign does.
+    ///
+    /// The string's own sign counts: the answer for -P is the other one than that for P.
+    pub fn sign_of(&mut self, pauli: &Pauli) -> Option<bool>
+        requires same_length { length pauli.now.letters ≡ self.old.qubits }
+        ensures unchanged { self.new ≡ self.old }
+        ensures some { (b : Bool) → (result ≡ Some b) ↔ (stabilises self.old (with_sign b pauli.now) ≡ true) }
+        ensures none { (result ≡ None) ↔ (is_free_by (stabilises self.old) pauli.now ≡ true) }
+    {
+        rows::write_preimage(self.rows.as_slice(), pauli, &mut self.scratch.x);
+        match self.scratch.x.first_flip() {
+            Some(_) => None,
+            None => Some(self.scratch.x.is_negative()),
+        }
+    }
+
+    /// Measures a string, with the outcome of the coin where neither of its signs stabilises the state.
+    ///
+    /// The outcome b projects on (-1)^b times the string.
+    pub fn collapse(&mut self, pauli: &Pauli, coin: bool) -> Collapse
+        requires same_length { length pauli.now.letters ≡ self.old.qubits }
+        ensures qubits { self.new.qubits ≡ self.old.qubits }
+        ensures outcome { result.outcome ≡ outcome_by (stabilises self.old) pauli.now coin }
+        ensures free { result.free ≡ is_free_by (stabilises self.old) pauli.now }
+        ensures members { (p : Signed) → length p.letters ≡ self.old.qubits → stabilises self.new p ≡ projected_by (stabilises self.old) pauli.now result.outcome p }
+        ensures unchanged { result.free ≡ false → self.new ≡ self.old }
+    {
+        rows::write_preimage(self.rows.as_slice(), pauli, &mut self.scratch.x);
+        measure(self.rows.as_mut_slice(), &mut self.scratch, coin)
+    }
+
+    /// Measures one letter on a qubit: `collapse` of the string with that letter alone, which isn't built.
+    pub fn collapse_letter(&mut self, letter: Letter, qubit: usize, coin: bool) -> Collapse
+        requires in_range { qubit < self.old.qubits }
+        ensures qubits { self.new.qubits ≡ self.old.qubits }
+        ensures outcome { result.outcome ≡ outcome_by (stabilises self.old) (single self.old.qubits qubit letter) coin }
+        ensures free { result.free ≡ is_free_by (stabilises self.old) (single self.old.qubits qubit letter) }
+        ensures members { (p : Signed) → length p.letters ≡ self.old.qubits → stabilises self.new p ≡ projected_by (stabilises self.old) (single self.old.qubits qubit letter) result.outcome p }
+        ensures unchanged { result.free ≡ false → self.new ≡ self.old }
+    {
+        self.rows[qubit].copy_into(letter, &mut self.scratch.x);
+        measure(self.rows.as_mut_slice(), &mut self.scratch, coin)
     }
 }
