@@ -24,3 +24,4 @@ pub mod ColumnLemmas
 pub mod GeneratedLemmas
 pub mod MeasureLemmas
 pub mod TableauMeasureLemmas
+pub mod TableauColumnLemmas

@@ -25,6 +25,7 @@ impl Preimages {
     ghost use Rattle.stab_pauli.specs.Phaseds.{phased, phased_product};
     ghost use Rattle.stab_tableau.specs.Preimages.{letter_preimage, IsOver, IsRow, AreRows, GateRow, PairRows};
     ghost use Rattle.stab_tableau.specs.Collapses.{CollapsedRow};
+    ghost use Rattle.stab_tableau.specs.Columns.{letter_by};
 
     /// The same rows in memory of their own.
     pub fn copy(&self, alloc: Global) -> Result<Preimages, Refusal>
@@ -113,6 +114,22 @@ impl Preimages {
                 out.multiply_turned(&self.z);
             }
             Letter::Z => out.copy_from(&self.z),
+        }
+    }
+
+    /// The letter on the qubit of the string whose preimage has the given letter at a place and I elsewhere.
+    pub fn column_letter(&self, letter: Letter, place: usize) -> Letter
+        requires x_in_range { place < length self.now.x.letters }
+        requires z_in_range { place < length self.now.z.letters }
+        ensures value { result ≡ letter_by (letters_anticommute letter (letter_at self.now.x.letters place)) (letters_anticommute letter (letter_at self.now.z.letters place)) }
+    {
+        let with_x = letter.anticommutes(self.x.letter(place));
+        let with_z = letter.anticommutes(self.z.letter(place));
+        match (with_x, with_z) {
+            (false, false) => Letter::I,
+            (false, true) => Letter::X,
+            (true, true) => Letter::Y,
+            (true, false) => Letter::Z,
         }
     }
 

@@ -29,12 +29,13 @@ impl Model for Tableau {
 }
 
 impl Tableau {
-    ghost use Rattle.std.specs.Prelude.{◌≡◌, ◌≢◌, ◌<◌, ◌≤◌, ◌↔◌, Bool, true, false, [], length, IfOk, IfErr};
+    ghost use Rattle.std.specs.Prelude.{◌≡◌, ◌≢◌, ℕ, ◌<◌, ◌≤◌, ◌↔◌, Bool, true, false, [], length, IfOk, IfErr};
     ghost use Rattle.stab_pauli.specs.Paulis.{Signed, single, with_sign};
     ghost use Rattle.stab_pauli.specs.declared.refusal.Refusal.TheVariants.{OutOfMemory};
     ghost use Rattle.stab_tableau.specs.Gates.{back, back_pair};
     ghost use Rattle.stab_tableau.specs.Traces.{member};
     ghost use Rattle.stab_tableau.specs.Tableaus.{stabilises, outcome_by, is_free_by, projected_by};
+    ghost use Rattle.stab_tableau.specs.Columns.{stabiliser_of, destabiliser_of, AreDual, CommutesWithAll, IsGenerated};
 
     /// The state of n qubits, all zero.
     ///
@@ -150,5 +151,54 @@ impl Tableau {
     {
         self.rows[qubit].copy_into(letter, &mut self.scratch.x);
         measure(self.rows.as_mut_slice(), &mut self.scratch, coin)
+    }
+
+    /// Stabiliser k of the n stabilisers that stand in the columns of the tableau, k below n.
+    ///
+    /// They commute and are independent, so the strings that stabilise the state are their products. Refusal
+    /// `OutOfMemory` alone.
+    pub fn stabiliser(&mut self, alloc: Global, k: usize) -> Result<Pauli, Refusal>
+        requires in_range { k < self.old.qubits }
+        ensures unchanged { self.new ≡ self.old }
+        ensures value { IfOk result (λ p. p ≡ stabiliser_of self.old k) }
+        ensures length { IfOk result (λ p. length p.letters ≡ self.old.qubits) }
+        ensures member { IfOk result (λ p. stabilises self.old p ≡ true) }
+        ensures err { IfErr result (λ r. r ≡ OutOfMemory) }
+    {
+        let mut stabiliser = Pauli::identity(alloc, self.rows.len())?;
+        rows::write_column(self.rows.as_slice(), Letter::Z, k, &mut stabiliser);
+        rows::write_preimage(self.rows.as_slice(), &stabiliser, &mut self.scratch.x);
+        stabiliser.negate_if(self.scratch.x.is_negative());
+        Ok(stabiliser)
+    }
+
+    /// Destabiliser k, k below n, which anticommutes with stabiliser k and with no other; its sign says nothing and is +.
+    ///
+    /// Refusal `OutOfMemory` alone.
+    pub fn destabiliser(&self, alloc: Global, k: usize) -> Result<Pauli, Refusal>
+        requires in_range { k < self.now.qubits }
+        ensures value { IfOk result (λ p. p ≡ destabiliser_of self.now k) }
+        ensures length { IfOk result (λ p. length p.letters ≡ self.now.qubits) }
+        ensures err { IfErr result (λ r. r ≡ OutOfMemory) }
+    {
+        let mut destabiliser = Pauli::identity(alloc, self.rows.len())?;
+        rows::write_column(self.rows.as_slice(), Letter::X, k, &mut destabiliser);
+        Ok(destabiliser)
+    }
+
+    /// A law, and no work: stabilisers commute, destabilisers commute, and a stabiliser and a destabiliser anticommute
+    /// where they have one number.
+    pub fn stabilisers_are_dual(&self)
+        ensures law { (j k : ℕ) → j < self.now.qubits → k < self.now.qubits → AreDual self.now j k }
+    {
+        let _ = &self.rows;
+    }
+
+    /// A law, and no work: a string that commutes with every string that stabilises the state is, up to sign, the
+    /// product of the stabilisers whose destabilisers anticommute with it, and that product stabilises the state.
+    pub fn stabilisers_generate(&self)
+        ensures law { (p : Signed) → length p.letters ≡ self.now.qubits → CommutesWithAll self.now p → IsGenerated self.now p }
+    {
+        let _ = &self.rows;
     }
 }
