@@ -1,5 +1,5 @@
 -- Measurements: a preimage of letters I and Z alone has a fixed outcome, and any other lets the coin decide.
-use Rattle.std.proofs.Common.{◌≡◌, ℕ, ◌<◌, Bool, true, false, not, ◌&&◌, ◌||◌, refl, sym, ◌∙◌, ap, subst, List, [], ◌∷◌, length, get_or, arith}
+use Rattle.std.proofs.Common.{◌≡◌, ℕ, ◌<◌, Bool, true, false, not, ◌&&◌, ◌||◌, refl, sym, ◌∙◌, ap, List, [], ◌∷◌, length, arith}
 use Rattle.std.specs.Prelude.{if◌then◌else◌}
 use Rattle.std.specs.List.{list_any}
 use Rattle.stab_pauli.specs.declared.letter.Letter.{Letter}
@@ -8,19 +8,19 @@ use Rattle.stab_pauli.specs.declared.turn.Turn.TheVariants.{Quarter, Half}
 use Rattle.stab_pauli.specs.Turns.{turn_add, sign_turn}
 use Rattle.stab_pauli.specs.Letters.{◌⊕◌, letters_anticommute}
 use Rattle.stab_pauli.specs.Flips.{flips}
-use Rattle.stab_pauli.specs.Paulis.{Signed, minus, with_sign, anticommute, commute, product, strings_anticommute}
+use Rattle.stab_pauli.specs.Paulis.{Signed, minus, with_sign, anticommute, product, strings_anticommute}
 use Rattle.stab_pauli.specs.Phaseds.{Phased, plain, phased, turned, phased_product}
 use Rattle.stab_pauli.proofs.StringLemmas.{strings_anticommute-comm}
 use Rattle.stab_pauli.proofs.PhasedLemmas.{phased_product-comm}
-use Rattle.stab_pauli.proofs.SignedLemmas.{phased-minus, phased-with_sign, phased-product, length-product}
+use Rattle.stab_pauli.proofs.SignedLemmas.{phased-minus, phased-with_sign, phased-product}
 use Rattle.stab_tableau.specs.declared.preimages.Preimages.{Preimages}
 use Rattle.stab_tableau.specs.Gates.{letter_at}
 use Rattle.stab_tableau.specs.Traces.{diagonal}
-use Rattle.stab_tableau.specs.Preimages.{blank, one_letter, row_at, string_preimage, extend, IsTable}
+use Rattle.stab_tableau.specs.Preimages.{blank, one_letter, row_at, string_preimage, extend}
 use Rattle.stab_tableau.specs.Collapses.{CollapsedRow}
-use Rattle.stab_tableau.specs.Tableaus.{is_one, stabilises_zeros, stabilises, outcome_by, is_free_by, projected_by, IsTableau, IsMeasured}
-use Rattle.stab_tableau.proofs.HomomorphismLemmas.{extend-turned, extend-product, kept-anticommute, homomorphism-twice}
-use Rattle.stab_tableau.proofs.OneLetterLemmas.{length-one_letter, one_letter-anticommute}
+use Rattle.stab_tableau.specs.Tableaus.{is_one, stabilises_zeros, stabilises, is_free_by, IsTableau, IsMeasured}
+use Rattle.stab_tableau.proofs.HomomorphismLemmas.{extend-turned, extend-product, kept-anticommute}
+use Rattle.stab_tableau.proofs.OneLetterLemmas.{one_letter-anticommute}
 use Rattle.stab_tableau.proofs.CollapseLemmas.{IsTurningPair}
 use Rattle.stab_tableau.proofs.TableCollapseLemmas.{signed-twice, turning_pair, IsTable-collapsed, IsOnto-collapsed, zeros-collapsed}
 use Rattle.stab_tableau.proofs.StabiliseLemmas.{not-true, zeros-letters, zeros-times, zeros-anticommuting, diagonal-at}

@@ -1,5 +1,5 @@
 -- Measurements of a tableau: from what the program makes of its rows to what the tableau keeps, stabilises and answers.
-use Rattle.std.proofs.Common.{◌≡◌, ℕ, ◌<◌, Bool, true, false, not, ◌↔◌, Some, None, refl, sym, ◌∙◌, ap, subst, List, length, take, drop, ◌++◌, get_or, arith}
+use Rattle.std.proofs.Common.{◌≡◌, ℕ, ◌<◌, Bool, true, false, not, ◌↔◌, Some, None, sym, ◌∙◌, ap, subst, List, length, take, drop, ◌++◌, get_or, arith}
 use Rattle.std.proofs.lemmas.List.{append-nil}
 use Rattle.std.proofs.Math.Seq.{take-length, drop-length}
 use Rattle.std.specs.List.{list_any}

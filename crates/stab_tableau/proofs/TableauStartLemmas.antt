@@ -1,16 +1,16 @@
 -- The first tableau: each string is its own preimage.
-use Rattle.std.proofs.Common.{◌≡◌, ℕ, ◌+◌, ◌<◌, ◌≤◌, refl, sym, ◌∙◌, ap, subst, List, [], ◌∷◌, ◌++◌, length, get_or, arith, below_more}
+use Rattle.std.proofs.Common.{◌≡◌, ℕ, ◌+◌, ◌<◌, refl, sym, ◌∙◌, ap, List, [], ◌∷◌, ◌++◌, length, arith, below_more}
 use Rattle.std.proofs.lemmas.List.{length-append, length-replicate, get_or_append_left}
 use Rattle.std.proofs.Math.Seq.{get_or-append_seam}
 use Rattle.stab_pauli.specs.declared.letter.Letter.{Letter}
 use Rattle.stab_pauli.specs.declared.letter.Letter.TheVariants.{I, X, Z}
 use Rattle.stab_pauli.specs.Turns.{sign_turn}
 use Rattle.stab_pauli.specs.Paulis.{Signed, identity, single}
-use Rattle.stab_pauli.specs.Phaseds.{Phased, phased, plain, turned}
+use Rattle.stab_pauli.specs.Phaseds.{phased, plain, turned}
 use Rattle.stab_pauli.proofs.PhasedLemmas.{turned-plain}
 use Rattle.stab_tableau.specs.declared.preimages.Preimages.{Preimages}
 use Rattle.stab_tableau.specs.Traces.{member}
-use Rattle.stab_tableau.specs.Preimages.{row_at, string_preimage, extend, IsTable, IsOnto}
+use Rattle.stab_tableau.specs.Preimages.{row_at, string_preimage, extend}
 use Rattle.stab_tableau.specs.Tableaus.{stabilises_zeros, stabilises, IsTableau}
 use Rattle.stab_tableau.proofs.HomomorphismLemmas.{plain-homomorphism}
 use Rattle.stab_tableau.proofs.PreimageLemmas.{HasRow, preimage-by_rows, IsTable-by_rows}

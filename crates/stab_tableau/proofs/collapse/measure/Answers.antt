@@ -1,10 +1,7 @@
 use Rattle.std.proofs.Common.{◌≡◌, ◌<◌, false, ◌∙◌, sym, ap, subst, ℕ, length, slice_set}
 use Rattle.stab_pauli.specs.declared.letter.Letter.TheVariants.{Z}
-use Rattle.stab_pauli.specs.declared.turn.Turn.TheVariants.{Quarter}
-use Rattle.stab_pauli.specs.Paulis.{Signed, with_sign}
-use Rattle.stab_pauli.specs.Phaseds.{phased, turned, phased_product}
+use Rattle.stab_pauli.specs.Paulis.{Signed}
 use Rattle.stab_tableau.specs.Preimages.{one_letter, row_at, IsOver}
-use Rattle.stab_tableau.specs.Tableaus.{IsMeasured}
 use Rattle.stab_tableau.proofs.MeasureLemmas.{place-in, place-opposed, turning-length, measured-fixed, measured-free}
 use Rattle.stab_tableau.proofs.collapse.measure.Goals as goal
 

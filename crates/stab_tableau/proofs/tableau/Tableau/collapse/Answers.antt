@@ -2,7 +2,7 @@ use Rattle.std.proofs.Common.{◌≡◌, ◌++◌, ◌∙◌, sym, ap, length, t
 use Rattle.stab_pauli.specs.Phaseds.{phased}
 use Rattle.stab_tableau.specs.Preimages.{string_preimage, extend}
 use Rattle.stab_tableau.specs.Tableaus.{TableauState, IsMeasured}
-use Rattle.stab_tableau.proofs.TableauMeasureLemmas.{written-all, measure-tableau, measured-tableau, measured-outcome, measured-free, measured-members, measured-unchanged}
+use Rattle.stab_tableau.proofs.TableauMeasureLemmas.{written-all, measure-tableau, measured-members}
 use Rattle.stab_tableau.proofs.tableau.Tableau.collapse.Goals as goal
 
 pub measure-requires : goal.measure-requires
