@@ -7,8 +7,14 @@
 //! `specs/` says by the stabiliser rules which signed Pauli strings stabilise a state.
 #![tactic(auto)]
 
+mod collapse;
 mod gate;
 pub mod gate_laws;
 pub mod laws;
+mod preimages;
+mod rows;
+mod tableau;
 
+pub use collapse::Collapse;
 pub use gate::{Gate, PairGate};
+pub use tableau::Tableau;
