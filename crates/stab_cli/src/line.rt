@@ -5,12 +5,14 @@ ghost use Rattle.stab_cli.specs.Lines.{is_spacing as spacing, is_letter as lette
 
 use stab_pauli::Refusal;
 
+/// Whether a byte is a space, a tab or a carriage return.
 pub fn is_spacing(byte: u8) -> bool
     ensures value { result ≡ spacing byte }
 {
     byte == b' ' || byte == b'\t' || byte == b'\r'
 }
 
+/// Whether a byte is a decimal digit.
 pub fn is_digit(byte: u8) -> bool
     ensures value { result ≡ digit byte }
 {
@@ -77,6 +79,7 @@ fn without_comment(line: &[u8]) -> &[u8]
     &line[..position_of(line, b'#')]
 }
 
+/// The place of the first such byte, or the number of bytes.
 pub fn position_of(bytes: &[u8], byte: u8) -> usize
     ensures value { result ≡ position_or_len (is_byte byte) bytes.now }
     ensures within { result ≤ length bytes.now }
@@ -109,6 +112,7 @@ fn bracketed_in_front(bytes: &[u8], opening: u8, closing: u8) -> Result<(&[u8], 
     Ok((inside.split_at(end).0, inside.split_at(end + 1).1))
 }
 
+/// Whether this byte stands first.
 pub fn starts_with(bytes: &[u8], byte: u8) -> bool
     ensures value { result ≡ starts_with_byte bytes.now byte }
     ensures some { IsTrue result → 0 < length bytes.now }
