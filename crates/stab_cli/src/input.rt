@@ -10,6 +10,7 @@ const MOST_BYTES: usize = 16_777_216;
 /// Reads all of the input.
 pub fn read_text<I: Input>(alloc: Global, input: &mut I) -> Result<Vec<u8>, Refusal>
     ensures only { IfErr result IsReadRefusal }
+    ensures as_honest { I.honest input.new ≡ I.honest input.old }
     ensures small { IfOk result (λ v. vec_len v ≤ 16777216) }
     ensures kept { OnOk result (I.failures input.new ≡ I.failures input.old) }
     ensures fault { IsErrOf result Refusal.ReadFault → Failed (I.failures input.old) (I.failures input.new) }

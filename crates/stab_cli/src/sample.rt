@@ -52,6 +52,7 @@ pub fn run_sample<I: Input, O: Output>(
     input: &mut I,
     out: &mut O,
 ) -> Result<(), Fault>
+    ensures as_honest { (I.honest input.new ≡ I.honest input.old) × (O.honest out.new ≡ O.honest out.old) }
     ensures ends { EndsSample
         (record { honest = I.honest input.old; unread = I.unread input.old; left = I.unread input.new; failures = I.failures input.old; failures_after = I.failures input.new })
         (record { honest = O.honest out.old; old = O.written out.old; new = O.written out.new; failures = O.failures out.old; failures_after = O.failures out.new; failed_flushes = O.failed_flushes out.old; failed_flushes_after = O.failed_flushes out.new })
