@@ -5,9 +5,9 @@ ghost use Rattle.stab_cli.specs.Outputs.{EndsSample};
 ghost use Rattle.stab_cli.specs.Sampling.{GivesSample};
 ghost use Rattle.stab_cli.specs.Reading.{IsTextFault};
 
-use crate::input::read_text;
 use crate::run::{records, text_of_records};
 use crate::text::steps_of_text;
+use stab_circuit::read_text;
 use stab_pauli::{DeviceFault, Fault, Input, Output, Refusal, write_all};
 use std::alloc::Global;
 
