@@ -1,6 +1,6 @@
 use Rattle.std.proofs.Common.{arith, drop, length-drop}
 use Rattle.stab_results.proofs.NumberLemmas.{number_small}
-use Rattle.stab_results.proofs.dense.number.Goals as goal
+use Rattle.stab_results.proofs.formats.number.Goals as goal
 
 pub overflow_mul-value : goal.overflow_mul-value
 overflow_mul-value c =
