@@ -16,7 +16,7 @@ fn send_shot<O: Output>(
     kinds: Kinds,
     bits: &[bool],
 ) -> Result<(), Refusal>
-    ensures puts { Puts O.failures O.honest O.written out.old out.new [] [] (shot_bytes format kinds bits.now) result }
+    ensures puts { Puts O.failures O.failed_flushes O.honest O.written out.old out.new [] [] (shot_bytes format kinds bits.now) result }
 {
     let mut gathered = Gathered::new();
     gathered.put_shot(out, format, kinds, bits)?;
@@ -41,6 +41,7 @@ pub fn write_shot<O: Output>(
     ensures only { OnErr result (IsErrOf result (whole WriteFault)) }
     ensures kept { OnOk result (O.failures out.new ≡ O.failures out.old) }
     ensures failed { OnErr result (Failed (O.failures out.old) (O.failures out.new)) }
+    ensures no_flush { O.failed_flushes out.new ≡ O.failed_flushes out.old }
     ensures as_honest { O.honest out.new ≡ O.honest out.old }
     ensures whole { IsTrue (O.honest out.old) → OnOk result (O.written out.new ≡ O.written out.old ++ shot_bytes format kinds bits.now) }
     ensures prefix { IsTrue (O.honest out.old) → OnErr result (WritesPrefix (O.written out.old) (O.written out.new) (shot_bytes format kinds bits.now)) }

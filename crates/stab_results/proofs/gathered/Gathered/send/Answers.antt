@@ -11,6 +11,7 @@ returns-in_err-write_all-clause-puts g c =
       only = ap Err p.2 ∙ c.in_err-write_all.ensures.only;
       kept = tt;
       failed = c.in_err-write_all.ensures.failed;
+      no_flush = c.write_all.ensures.no_flush;
       as_honest = c.in_err-write_all.ensures.as_honest;
       whole = λ h. tt;
       prefix = λ h. rw (← all) (c.in_err-write_all.ensures.prefix h);
