@@ -4,6 +4,7 @@ mod ItemLemmas
 mod ViewLemmas
 mod ReaderLemmas
 mod StepLemmas
+mod SummaryLemmas
 mod FaultLemmas
 mod ReadingLemmas
 mod RefusalLemmas

@@ -19,3 +19,6 @@ pub use circuit::{Circuit, read_circuit, read_item};
 pub use input::read_text;
 pub use item::Item;
 pub use range::{MeasureTarget, Qubit};
+
+#[cfg(test)]
+mod tests;
