@@ -5,6 +5,7 @@ mod matrices;
 use crate::{Collapse, Gate, PairGate, Tableau};
 use stab_pauli::{Letter, MemoryOutput, Pauli, Refusal};
 use std::alloc::Global;
+use std::test::Fail;
 
 // A call that a test was not allowed to make.
 const MISUSED: &str = "the call asks for more";
@@ -103,6 +104,29 @@ pub fn collapse_letter(
         return Err(MISUSED);
     }
     Ok(tableau.collapse_letter(letter, qubit, coin))
+}
+
+// The sign of the Pauli that a text such as `-_XZ` stands for.
+pub fn sign_at(tableau: &mut Tableau, alloc: Global, text: &str) -> Result<Option<bool>, Fail> {
+    let pauli = read(alloc, text)?;
+    Ok(sign(tableau, &pauli)?)
+}
+
+// The sign of the Pauli that has the first letter of a text on qubit 0, and the second on the last qubit.
+pub fn sign_across(tableau: &mut Tableau, alloc: Global, text: &str) -> Result<Option<bool>, Fail> {
+    let pauli = spread(alloc, tableau.len(), text)?;
+    Ok(sign(tableau, &pauli)?)
+}
+
+// What the measurement of that Pauli answers.
+pub fn collapse_across(
+    tableau: &mut Tableau,
+    alloc: Global,
+    text: &str,
+    coin: bool,
+) -> Result<Collapse, Fail> {
+    let pauli = spread(alloc, tableau.len(), text)?;
+    Ok(collapse(tableau, &pauli, coin)?)
 }
 
 // A Bell pair of qubit 0 and the last of n.
