@@ -9,13 +9,13 @@ use std::time::{CpuClock, Duration};
 const ROUND: &[u8] = b"CX 0 1 2 3\nTICK\nCX 2 1 4 3\nTICK\nMR 1 3\nSHIFT_COORDS(0, 1)\n\
 DETECTOR(1, 0) rec[-2] rec[-4]\nDETECTOR(3, 0) rec[-1] rec[-3]\n";
 
-/// How many rounds are written: eight steps and 112 bytes each.
+/// How many rounds are written: eight steps and 120 bytes each.
 const ROUNDS: u32 = 100_000;
 
 /// The best of so many readings counts, since other programs disturb the rest.
 const READINGS: u32 = 5;
 
-/// A long circuit text, of eleven megabytes and 800,004 steps.
+/// A long circuit text, of twelve megabytes and 800,004 steps.
 fn long_text(alloc: Global) -> Result<Vec<u8>, AllocError> {
     let mut text = Vec::from_slice(alloc, b"M 0 0 0 0\n")?;
     for _ in 0..ROUNDS {
