@@ -1,4 +1,19 @@
-//! Circuits as text.
+//! Circuits: reading their text, and what they come to once their blocks are written out.
+//!
+//! - `line`: what is left of a line, and its shape.
+//! - `word`: words between spacing, parts between commas, decimal numbers.
+//! - `sequence`, `range`: lists, and numbers with their ranges.
+//! - `name`, `target`, `argument`: the parts of an instruction.
+//! - `item`: instructions and blocks.
+//! - `meaning`: what a line means, or why it is refused.
+//! - `reader`: the items of a text's lines, with the blocks that are open.
+//! - `input`: reading an input whole.
+//! - `summary`: the numbers of a list of items, for which no block's rounds are walked.
+//! - `circuit`: circuits, and reading one.
+//!
+//! Proved: a text is read as exactly the items that it stands for, or refused with exactly its one
+//! fault; qubits, observables, steps, records and what refuses a whole circuit are those of its
+//! unrolled steps.
 #![tactic(auto)]
 
 mod argument;
