@@ -19,3 +19,6 @@ mod tableau;
 pub use collapse::Collapse;
 pub use gate::{Gate, PairGate};
 pub use tableau::Tableau;
+
+#[cfg(test)]
+mod tests;

@@ -68,7 +68,7 @@ impl Tableau {
         ensures ok { IfOk result (λ t. t ≡ self.now) }
         ensures err { IfErr result (λ r. r ≡ OutOfMemory) }
     {
-        let mut rows = Vec::with_capacity(alloc, self.rows.len())?;
+        let mut rows = Vec::with_capacity(alloc, self.len())?;
         for row in &self.rows {
             rows.push(row.copy(alloc)?)?;
         }
@@ -119,7 +119,8 @@ impl Tableau {
         ensures some { (b : Bool) → (result ≡ Some b) ↔ (stabilises self.old (with_sign b pauli.now) ≡ true) }
         ensures none { (result ≡ None) ↔ (is_free_by (stabilises self.old) pauli.now ≡ true) }
     {
-        rows::write_preimage(self.rows.as_slice(), pauli, &mut self.scratch.x);
+        let preimage = &mut self.scratch.x;
+        rows::write_preimage(self.rows.as_slice(), pauli, preimage);
         match self.scratch.x.first_flip() {
             Some(_) => None,
             None => Some(self.scratch.x.is_negative()),
@@ -170,7 +171,7 @@ impl Tableau {
         ensures member { IfOk result (λ p. stabilises self.old p ≡ true) }
         ensures err { IfErr result (λ r. r ≡ OutOfMemory) }
     {
-        let mut stabiliser = Pauli::identity(alloc, self.rows.len())?;
+        let mut stabiliser = Pauli::identity(alloc, self.len())?;
         rows::write_column(self.rows.as_slice(), Letter::Z, k, &mut stabiliser);
         rows::write_preimage(self.rows.as_slice(), &stabiliser, &mut self.scratch.x);
         stabiliser.negate_if(self.scratch.x.is_negative());
@@ -186,7 +187,7 @@ impl Tableau {
         ensures length { IfOk result (λ p. length p.letters ≡ self.now.qubits) }
         ensures err { IfErr result (λ r. r ≡ OutOfMemory) }
     {
-        let mut destabiliser = Pauli::identity(alloc, self.rows.len())?;
+        let mut destabiliser = Pauli::identity(alloc, self.len())?;
         rows::write_column(self.rows.as_slice(), Letter::X, k, &mut destabiliser);
         Ok(destabiliser)
     }
