@@ -11,14 +11,20 @@ pub struct BytePair {
 
 impl BytePair {
     /// Two lines of n bytes.
-    pub fn new(alloc: Global, n: usize) -> Result<BytePair, AllocError> {
+    pub fn new(alloc: Global, n: usize) -> Result<BytePair, AllocError>
+        ensures target { IfOk result (λ p. vec_len p.target ≡ n) }
+        ensures source { IfOk result (λ p. vec_len p.source ≡ n) }
+    {
         let target = vec![in alloc; 1; n]?;
         let source = vec![in alloc; 2; n]?;
         Ok(BytePair { target, source })
     }
 
     /// XORs each byte of the second line into the first.
-    pub fn xor(&mut self) {
+    pub fn xor(&mut self)
+        ensures target { vec_len self.new.target ≡ vec_len self.old.target }
+        ensures source { self.new.source.items ≡ self.old.source.items }
+    {
         xor_bytes(self.target.as_mut_slice(), self.source.as_slice());
     }
 }

@@ -8,7 +8,7 @@ use stab_tableau::PairGate;
 use std::time::CpuClock;
 
 /// Prints a table of the times at n qubits, and of their ratios to the plain loop and to a gate CX.
-pub fn print_table<R: CpuClock + AllocGlobal + Print>(rt: &R, n: usize) -> Result<(), Failure>
+pub(super) fn print_table<R: CpuClock + AllocGlobal + Print>(rt: &R, n: usize) -> Result<(), Failure>
     requires several { 1 < n }
     requires in_range { n ≤ 1024 }
 {
@@ -21,6 +21,6 @@ pub fn print_table<R: CpuClock + AllocGlobal + Print>(rt: &R, n: usize) -> Resul
         let (to_xor, to_cx) = (time / xor, time / cx);
         println!(rt; "{time:>12.1} {to_xor:>10.2} {to_cx:>8.2}  {work}")?;
     }
-    println!(rt; "bits that were 1: {}", subject.ones())?;
+    println!(rt; "outcomes that were free: {}", subject.free_outcomes())?;
     Ok(())
 }

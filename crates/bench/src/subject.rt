@@ -16,8 +16,7 @@ pub struct Subject {
     tableau: Tableau,
     observable: Pauli,
     pairs: Vec<BytePair>,
-    // Bits that the works gave, so that no work is without a use.
-    ones: u64,
+    free_outcomes: u64,
     ghost zeros_fit: { zeros.qubits ≡ tableau.qubits },
     ghost scrambled_fits: { scrambled.qubits ≡ tableau.qubits },
     ghost in_range: { tableau.qubits ≤ 1024 },
@@ -44,7 +43,7 @@ impl Subject {
             tableau,
             observable,
             pairs,
-            ones: 0,
+            free_outcomes: 0,
         })
     }
 
@@ -70,9 +69,11 @@ impl Subject {
         Ok(())
     }
 
-    /// How many of the bits that the works gave are 1.
-    pub fn ones(&self) -> u64 {
-        self.ones
+    /// How many outcomes were free so far.
+    pub fn free_outcomes(&self) -> u64
+        ensures value { result ≡ self.now.free_outcomes }
+    {
+        self.free_outcomes
     }
 
     /// Does a work once on each of some qubits.
@@ -108,12 +109,10 @@ impl Subject {
                 self.measure(qubit);
             }
             Work::Sign => {
-                let sign = self.tableau.sign_of(&self.observable);
-                self.count(sign == Some(true));
+                let _ = self.tableau.sign_of(&self.observable);
             }
             Work::Copy => {
-                let copy = self.tableau.copy(alloc)?;
-                self.count(copy.len() == 1);
+                let _ = self.tableau.copy(alloc)?;
             }
         }
         Ok(())
@@ -124,12 +123,6 @@ impl Subject {
         ensures qubits { self.new.tableau.qubits ≡ self.old.tableau.qubits }
     {
         let collapse = self.tableau.collapse_letter(Letter::Z, qubit, true);
-        self.count(collapse.outcome);
-    }
-
-    fn count(&mut self, bit: bool)
-        ensures tableau { self.new.tableau ≡ self.old.tableau }
-    {
-        self.ones = self.ones.wrapping_add(u64::from(bit));
+        self.free_outcomes = self.free_outcomes.wrapping_add(u64::from(collapse.free));
     }
 }

@@ -23,6 +23,9 @@ pub enum Work {
 }
 
 impl Work {
+    ghost use Rattle.std.specs.Prelude.{◌≡◌, ◌↔◌, ◌⊎◌, IsTrue};
+    ghost use Rattle.bench.specs.declared.work.Work.TheVariants.{Fixed, FreeApart};
+
     /// All works, in the order of the table.
     pub const ALL: [Work; 12] = [
         Work::Xor,
@@ -40,7 +43,9 @@ impl Work {
     ];
 
     /// Whether the work starts from the zero state, and not from a scrambled one.
-    pub fn starts_from_zeros(self) -> bool {
+    pub fn starts_from_zeros(self) -> bool
+        ensures value { IsTrue result ↔ ((self ≡ Fixed) ⊎ (self ≡ FreeApart)) }
+    {
         matches!(self, Work::Fixed | Work::FreeApart)
     }
 }

@@ -1,9 +1,10 @@
 ghost use Rattle.std.specs.Prelude.{◌≡◌, length};
-ghost use Rattle.stab_pauli.specs.Paulis.{Signed};
 ghost use Rattle.stab_pauli.specs.Phaseds.{phased};
 ghost use Rattle.stab_tableau.specs.Preimages.{string_preimage, extend};
+ghost use Rattle.stab_tableau.specs.Observables.{observed};
 ghost use Rattle.stab_tableau.specs.Tableaus.{IsTableau, IsMeasured};
 
+use super::observable::Observable;
 use super::preimages::Preimages;
 use super::rows;
 use stab_pauli::Letter;
@@ -17,10 +18,17 @@ pub struct Collapse {
     pub free: bool,
 }
 
-/// Measures the string whose preimage lies in the scratch rows as x.
-pub fn measure(rows: &mut [Preimages], scratch: &mut Preimages, coin: bool) -> Collapse
+/// Measures a string whose preimage lies in the scratch rows as x.
+pub fn measure(
+    rows: &mut [Preimages],
+    scratch: &mut Preimages,
+    observable: &Observable,
+    coin: bool,
+) -> Collapse
     requires tableau { IsTableau (length rows.old) rows.old scratch.old }
-    ensures measured { (p : Signed) → length p.letters ≡ length rows.old → phased scratch.old.x ≡ extend (string_preimage (length rows.old) rows.old) (phased p) → IsMeasured (length rows.old) rows.old p coin result.outcome result.free rows.new scratch.new }
+    requires same_length { length (observed (length rows.old) observable.now).letters ≡ length rows.old }
+    requires preimage { phased scratch.old.x ≡ extend (string_preimage (length rows.old) rows.old) (phased (observed (length rows.old) observable.now)) }
+    ensures measured { IsMeasured (length rows.old) rows.old (observed (length rows.old) observable.now) coin result.outcome result.free rows.new scratch.new }
 {
     match scratch.x.first_flip() {
         None => Collapse {
@@ -33,7 +41,7 @@ pub fn measure(rows: &mut [Preimages], scratch: &mut Preimages, coin: bool) -> C
             scratch.z.clear();
             scratch.z.set(place, Letter::Z);
             scratch.z.multiply_turned(&scratch.x);
-            rows::collapse_rows(rows, place, &scratch.z);
+            rows::collapse_rows(rows, observable, place, &scratch.z);
             Collapse {
                 outcome: coin,
                 free: true,

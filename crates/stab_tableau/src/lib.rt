@@ -19,6 +19,7 @@ mod collapse;
 mod gate;
 pub mod gate_laws;
 pub mod laws;
+mod observable;
 mod preimages;
 mod rows;
 mod tableau;

@@ -1,5 +1,6 @@
 use super::collapse::{Collapse, measure};
 use super::gate::{Gate, PairGate};
+use super::observable::Observable;
 use super::preimages::Preimages;
 use super::rows;
 use stab_pauli::{Letter, Pauli, Refusal};
@@ -138,7 +139,9 @@ impl Tableau {
         ensures unchanged { result.free ≡ false → self.new ≡ self.old }
     {
         rows::write_preimage(self.rows.as_slice(), pauli, &mut self.scratch.x);
-        measure(self.rows.as_mut_slice(), &mut self.scratch, coin)
+        let observable = &Observable::String(pauli);
+        let rows = self.rows.as_mut_slice();
+        measure(rows, &mut self.scratch, observable, coin)
     }
 
     /// Measures one letter on a qubit: `collapse` of the string with that letter alone, which isn't built.
@@ -151,7 +154,9 @@ impl Tableau {
         ensures unchanged { result.free ≡ false → self.new ≡ self.old }
     {
         self.rows[qubit].copy_into(letter, &mut self.scratch.x);
-        measure(self.rows.as_mut_slice(), &mut self.scratch, coin)
+        let observable = &Observable::Single(letter, qubit);
+        let rows = self.rows.as_mut_slice();
+        measure(rows, &mut self.scratch, observable, coin)
     }
 
     /// Stabiliser k of the n stabilisers that stand in the columns of the tableau, k below n.
