@@ -8,7 +8,10 @@ use stab_tableau::PairGate;
 use std::time::CpuClock;
 
 /// Prints a table of the times at n qubits, and of their ratios to the plain loop and to a gate CX.
-pub(super) fn print_table<R: CpuClock + AllocGlobal + Print>(rt: &R, n: usize) -> Result<(), Failure>
+pub(super) fn print_table<R: CpuClock + AllocGlobal + Print>(
+    rt: &R,
+    n: usize,
+) -> Result<(), Failure>
     requires several { 1 < n }
     requires in_range { n ≤ 1024 }
 {
