@@ -24,4 +24,5 @@ pub mod ColumnLemmas
 pub mod GeneratedLemmas
 pub mod MeasureLemmas
 pub mod TableauMeasureLemmas
+pub mod FixedLemmas
 pub mod TableauColumnLemmas

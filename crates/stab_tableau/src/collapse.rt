@@ -1,12 +1,15 @@
-ghost use Rattle.std.specs.Prelude.{◌≡◌, length};
+ghost use Rattle.std.specs.Prelude.{◌≡◌, ℕ, ◌<◌, true, false, length, IfSome, IfNone};
+ghost use Rattle.std.specs.List.{list_any};
+ghost use Rattle.stab_pauli.specs.Flips.{flips};
 ghost use Rattle.stab_pauli.specs.Paulis.{Signed};
 ghost use Rattle.stab_pauli.specs.Phaseds.{phased};
+ghost use Rattle.stab_tableau.specs.Gates.{letter_at};
 ghost use Rattle.stab_tableau.specs.Preimages.{string_preimage, extend};
 ghost use Rattle.stab_tableau.specs.Tableaus.{IsTableau, IsMeasured};
 
 use super::preimages::Preimages;
 use super::rows;
-use stab_pauli::Letter;
+use stab_pauli::{Letter, Pauli};
 
 /// What a measurement answers.
 #[derive(Clone, Copy, Debug, PartialEq, Eq)]
@@ -15,6 +18,17 @@ pub struct Collapse {
     pub outcome: bool,
     /// Whether the outcome was free: neither sign of the observable stabilised the state, so the coin decided.
     pub free: bool,
+}
+
+/// The sign of a preimage of letters I and Z alone, which is the outcome of a measurement, or `None` where it has others.
+pub fn fixed_sign(preimage: &Pauli) -> Option<bool>
+    ensures some { IfSome result (λ b. (b ≡ preimage.now.negative) × (list_any flips preimage.now.letters ≡ false)) }
+    ensures none { IfNone result ((k : ℕ) × (k < length preimage.now.letters) × (flips (letter_at preimage.now.letters k) ≡ true)) }
+{
+    match preimage.first_flip() {
+        Some(_) => None,
+        None => Some(preimage.is_negative()),
+    }
 }
 
 /// Measures the string whose preimage lies in the scratch rows as x.
