@@ -3,6 +3,7 @@
 
 mod argument;
 mod circuit;
+mod cursor;
 mod input;
 mod item;
 mod line;
@@ -11,9 +12,13 @@ mod name;
 mod range;
 mod reader;
 mod sequence;
+mod step;
 mod summary;
 mod target;
+mod unrolled;
 mod word;
 
 pub use circuit::{Circuit, read_circuit, read_item};
+pub use cursor::Cursor;
 pub use item::Item;
+pub use step::Step;
