@@ -5,6 +5,7 @@ mod ViewLemmas
 mod ReaderLemmas
 mod StepLemmas
 mod CursorLemmas
+mod SummaryLemmas
 mod FaultLemmas
 mod ReadingLemmas
 mod RefusalLemmas

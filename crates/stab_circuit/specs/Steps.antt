@@ -1,10 +1,12 @@
 -- Steps: the unrolled circuit, and what has to hold of it.
-use Rattle.std.specs.Prelude.{ℕ, ◌+◌, zero, suc, max, Bool, true, false, ◌||◌, nat_lt, List, [], ◌∷◌, ◌++◌, length, map, if◌then◌else◌, Option, Some, None}
+use Rattle.std.specs.Prelude.{◌≡◌, ℕ, ◌+◌, zero, suc, max, Bool, true, false, ◌||◌, nat_lt, List, [], ◌∷◌, ◌++◌, length, map, if◌then◌else◌, Option, Some, None, Result, Ok, Err}
 use Rattle.std.specs.List.{list_any}
 use Rattle.stab_pauli.specs.declared.letter.Letter.{Letter}
 use Rattle.stab_pauli.specs.declared.letter.Letter.TheVariants as letter
 use Rattle.stab_pauli.specs.declared.refusal.Refusal.{Refusal}
 use Rattle.stab_pauli.specs.declared.refusal.Refusal.TheVariants.{QubitOutOfRange, LookbackTooFar, TooManySteps}
+use Rattle.stab_pauli.specs.declared.refusal.Fault.{Fault}
+use Rattle.stab_pauli.specs.Refusals.{whole}
 use Rattle.stab_tableau.specs.declared.gate.Gate.{Gate}
 use Rattle.stab_tableau.specs.declared.gate.PairGate.{PairGate}
 use Rattle.stab_circuit.specs.declared.range.MeasureTarget.{MeasureTarget}
@@ -31,7 +33,7 @@ measured measure.Mr t = collapse letter.Z t.qubit true t.inverted true
 -- the steps of one instruction
 abbrev pub steps_of : Kind → List Step
 steps_of (kind.Gate g qubits) = map (one g) qubits
-steps_of (kind.PairGate g pairs) = map (λ (a, b). two g a b) pairs
+steps_of (kind.PairGate g pairs) = map (λ pair. two g pair.0 pair.1) pairs
 steps_of (kind.Measure m targets) = map (measured m) targets
 steps_of (kind.Reset qubits) = map (λ q. collapse letter.Z q false false true) qubits
 steps_of (kind.Detector coordinates ks) = detector ks ∷ []
@@ -78,6 +80,58 @@ abbrev pub looks_too_far : ℕ → List Step → Bool
 looks_too_far m [] = false
 looks_too_far m (s ∷ ss) = list_any (nat_lt m) (lookbacks s) || looks_too_far (m + makes s) ss
 
+-- the qubits of pairs
+abbrev pub pair_qubits : List (ℕ × ℕ) → List ℕ
+pair_qubits [] = []
+pair_qubits (pair ∷ pairs) = pair.0 ∷ pair.1 ∷ pair_qubits pairs
+
+-- the qubits of measured targets
+abbrev pub target_qubits : List MeasureTarget → List ℕ
+target_qubits targets = map (λ t. t.qubit) targets
+
+-- the qubits that an instruction names
+abbrev pub named_qubits : Kind → List ℕ
+named_qubits (kind.Gate g qubits) = qubits
+named_qubits (kind.PairGate g pairs) = pair_qubits pairs
+named_qubits (kind.Measure m targets) = target_qubits targets
+named_qubits (kind.Reset qubits) = qubits
+named_qubits (kind.QubitCoords coordinates qubits) = qubits
+named_qubits (kind.Detector coordinates ks) = []
+named_qubits (kind.ObservableInclude j ks) = []
+named_qubits kind.Tick = []
+named_qubits (kind.ShiftCoords coordinates) = []
+
+-- the observables that an instruction names
+abbrev pub named_observables : Kind → List ℕ
+named_observables (kind.ObservableInclude j ks) = j ∷ []
+named_observables (kind.Gate g qubits) = []
+named_observables (kind.PairGate g pairs) = []
+named_observables (kind.Measure m targets) = []
+named_observables (kind.Reset qubits) = []
+named_observables (kind.Detector coordinates ks) = []
+named_observables kind.Tick = []
+named_observables (kind.QubitCoords coordinates qubits) = []
+named_observables (kind.ShiftCoords coordinates) = []
+
+-- one more than the greatest of the numbers, or 0
+abbrev pub past : List ℕ → ℕ
+past [] = 0
+past (n ∷ ns) = max (n + 1) (past ns)
+
+-- one more than the greatest number that any instruction names, or 0
+abbrev pub past_named : (Kind → List ℕ) → Items → ℕ
+past_named named done = 0
+past_named named (next op rest) = max (past (named op.kind)) (past_named named rest)
+past_named named (block count tag body rest) = max (past_named named body) (past_named named rest)
+
+-- how many qubits the items have
+abbrev pub qubits_of : Items → ℕ
+qubits_of items = past_named named_qubits items
+
+-- how many observables the items have
+abbrev pub observables_of : Items → ℕ
+observables_of items = past_named named_observables items
+
 -- the most steps of a circuit
 abbrev pub most_steps : ℕ
 most_steps = 1048576
@@ -88,3 +142,12 @@ check_of items =
     if looks_too_far 0 (unroll items) then Some LookbackTooFar
     else if nat_lt most_steps (length (unroll items)) then Some TooManySteps
     else None
+
+-- what refuses a whole circuit on n qubits: a qubit, or else as without n
+abbrev pub check_within : ℕ → Items → Option Refusal
+check_within n items = if nat_lt n (qubits_of items) then Some QubitOutOfRange else check_of items
+
+-- the call found nothing that refuses the whole circuit, or this
+abbrev pub Checks : {A : Type 0} → Result A Fault → Option Refusal → Type 0
+Checks (Ok x) given = given ≡ None
+Checks (Err fault) given = (given ≡ Some fault.refusal) × (fault ≡ whole fault.refusal)

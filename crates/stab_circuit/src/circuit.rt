@@ -1,7 +1,7 @@
-ghost use Rattle.std.specs.Prelude.{◌≡◌, ◌≤◌, ◌⊎◌, length, [], None, Some, IsTrue, IfOk, IfErr, OnOk, MatchResult};
+ghost use Rattle.std.specs.Prelude.{◌≡◌, ◌≤◌, ◌⊎◌, length, [], None, IsTrue, IfOk, IfErr, OnOk};
 ghost use Rattle.stab_pauli.specs.Devices.{Failed};
 ghost use Rattle.stab_pauli.specs.Refusals.{whole};
-ghost use Rattle.stab_circuit.specs.Steps.{check_of, unroll};
+ghost use Rattle.stab_circuit.specs.Steps.{check_of, Checks};
 ghost use Rattle.stab_circuit.specs.Views.{circuit_items, items_of};
 ghost use Rattle.stab_circuit.specs.Readings.{IsCircuit, IsFaultOf, ReadsCircuit, ReadsItem, IsPlaced, is_of_circuit, is_of_item};
 
@@ -19,8 +19,10 @@ pub struct Circuit {
 }
 
 impl Circuit {
-    ghost use Rattle.std.specs.Prelude.{◌≡◌, [], map};
-    ghost use Rattle.stab_circuit.specs.Views.{item_of, entries};
+    ghost use Rattle.std.specs.Prelude.{◌≡◌, [], map, min, length};
+    ghost use Rattle.stab_circuit.specs.Steps.{unroll, records_of, qubits_of, observables_of, check_within, Checks};
+    ghost use Rattle.stab_circuit.specs.Summaries.{summary_of};
+    ghost use Rattle.stab_circuit.specs.Views.{item_of, entries, circuit_items};
 
     /// The empty circuit, which takes no memory.
     pub fn new(alloc: Global) -> Circuit
@@ -37,20 +39,66 @@ impl Circuit {
     {
         self.items.as_slice()
     }
+
+    fn summary(&self) -> Summary
+        ensures value { result ≡ summary_of (circuit_items self.now) }
+    {
+        items_summary(self.items.as_slice())
+    }
+
+    /// One more than the greatest qubit named anywhere, by QUBIT_COORDS too, or 0.
+    pub fn qubits(&self) -> usize
+        ensures value { result ≡ qubits_of (circuit_items self.now) }
+    {
+        self.summary().qubits as usize
+    }
+
+    /// One more than the greatest observable named anywhere, or 0.
+    pub fn observables(&self) -> usize
+        ensures value { result ≡ observables_of (circuit_items self.now) }
+    {
+        self.summary().observables as usize
+    }
+
+    /// The number of unrolled steps, or 1,048,577 where there are more.
+    pub fn steps(&self) -> usize
+        ensures value { result ≡ min (length (unroll (circuit_items self.now))) 1048577 }
+    {
+        self.summary().steps as usize
+    }
+
+    /// The number of records, or 1,048,577 where there are more.
+    pub fn records(&self) -> usize
+        ensures value { result ≡ min (records_of (unroll (circuit_items self.now))) 1048577 }
+    {
+        self.summary().records.min(1_048_577) as usize
+    }
+
+    /// Whether nothing refuses the circuit on n qubits: a qubit that isn't below n, then a
+    /// lookback past the first record, then too many steps. The fault's line is 0.
+    #[tactic(auto, using(crate::proofs::SummaryLemmas::check_judged))]
+    pub fn check(&self, n: usize) -> Result<(), Fault>
+        ensures value { Checks result (check_within n (circuit_items self.now)) }
+    {
+        let summary = self.summary();
+        if summary.qubits as usize > n {
+            return Err(Fault::whole(Refusal::QubitOutOfRange));
+        }
+        match summary.refusal() {
+            Some(refusal) => Err(Fault::whole(refusal)),
+            None => Ok(()),
+        }
+    }
 }
 
-/// Whether nothing refuses these as a whole circuit: 8, then 9.
-#[tactic(auto, unfolding(crate::specs::Steps::check_of), using(crate::proofs::StepLemmas::looks_too_far_reach))]
+/// Whether nothing refuses a whole circuit of these items.
+#[tactic(auto, using(crate::proofs::SummaryLemmas::check_judged))]
 fn check_items(items: &[Item]) -> Result<(), Fault>
-    ensures value { MatchResult result (λ _. check_of (items_of items.now) ≡ None) (λ f. (check_of (items_of items.now) ≡ Some f.refusal) × (f ≡ whole f.refusal)) }
+    ensures value { Checks result (check_of (items_of items.now)) }
 {
-    let summary = items_summary(items);
-    if summary.reach > 0 {
-        Err(Fault::whole(Refusal::LookbackTooFar))
-    } else if summary.steps > 1_048_576 {
-        Err(Fault::whole(Refusal::TooManySteps))
-    } else {
-        Ok(())
+    match items_summary(items).refusal() {
+        Some(refusal) => Err(Fault::whole(refusal)),
+        None => Ok(()),
     }
 }
 

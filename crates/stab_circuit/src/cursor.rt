@@ -1,6 +1,5 @@
 use crate::circuit::Circuit;
 use crate::step::Step;
-use crate::summary::items_summary;
 use crate::unrolled::push_items;
 use stab_pauli::Refusal;
 use std::alloc::Global;
@@ -45,9 +44,8 @@ impl<'a> Cursor<'a> {
         ensures apart { IfOk result (λ c. All IsApart c) }
         ensures err { IfErr result (λ r. r ≡ OutOfMemory) }
     {
-        let items = circuit.items();
-        let mut steps = Vec::with_capacity(alloc, items_summary(items).steps as usize)?;
-        push_items(&mut steps, items)?;
+        let mut steps = Vec::with_capacity(alloc, circuit.steps())?;
+        push_items(&mut steps, circuit.items())?;
         Ok(Cursor { steps, place: step })
     }
 

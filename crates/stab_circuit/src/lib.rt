@@ -22,3 +22,6 @@ pub use circuit::{Circuit, read_circuit, read_item};
 pub use cursor::Cursor;
 pub use item::Item;
 pub use step::Step;
+
+#[cfg(test)]
+mod tests;

@@ -1,36 +1,55 @@
-ghost use Rattle.std.specs.Prelude.{◌≡◌, ◌≤◌, min, length, ◌+◌, ◌*◌};
+ghost use Rattle.std.specs.Prelude.{◌≡◌, ◌≤◌, ◌*◌, min, length};
 ghost use Rattle.stab_circuit.specs.Items.{before, done};
 ghost use Rattle.stab_circuit.specs.Views.{item_of, items_of};
-ghost use Rattle.stab_circuit.specs.Steps.{unroll, steps_of};
-ghost use Rattle.stab_circuit.specs.Summaries.{greatest as greatest_of, summary_of, IsSummary};
+ghost use Rattle.stab_circuit.specs.Steps.{past as past_of, pair_qubits, target_qubits};
+ghost use Rattle.stab_circuit.specs.Summaries.{greatest as greatest_of, kind_summary_of, summary_of, IsSummary};
 
 use crate::item::{Item, Kind, Node};
-use crate::range::Lookbacks;
+use crate::range::{Lookbacks, MeasureTarget, Pair, Qubit};
+use stab_pauli::Refusal;
 
-/// What steps do to the checks: how many they are, up to 1,048,577, how many records they make,
-/// up to 16,777,215, and how many have to stand before them.
+/// What checks need to know of items: how many steps they make, up to 1,048,577, how many
+/// records, up to 16,777,215, how many records have to stand before them, and how many qubits
+/// and observables they name.
 #[derive(Clone, Copy, Debug, PartialEq, Eq)]
 pub struct Summary {
-    pub steps: u64,
-    pub records: u64,
-    pub reach: u64,
+    pub steps: u32,
+    pub records: u32,
+    pub reach: u32,
+    pub qubits: u32,
+    pub observables: u32,
 }
 
-const MOST_STEPS: u64 = 1_048_577;
+const MOST_STEPS: u32 = 1_048_577;
 
-const MOST_RECORDS: u64 = 16_777_215;
+const MOST_RECORDS: u32 = 16_777_215;
 
 impl Summary {
-    ghost use Rattle.std.specs.Prelude.{◌≡◌, ◌≤◌, ◌+◌, ◌*◌, ◌-◌, min, max};
-    ghost use Rattle.stab_circuit.specs.Summaries.{after, repeated as repeated_of, IsSummary};
+    ghost use Rattle.std.specs.Prelude.{◌≡◌};
+    ghost use Rattle.stab_circuit.specs.Summaries.{judged, after, repeated as repeated_of, IsSummary};
 
     const NONE: Summary = Summary {
         steps: 0,
         records: 0,
         reach: 0,
+        qubits: 0,
+        observables: 0,
     };
 
-    /// The summary of these steps with others after them.
+    /// What refuses a whole circuit of this summary: a lookback, or else the number of steps.
+    pub fn refusal(self) -> Option<Refusal>
+        ensures value { result ≡ judged self }
+    {
+        if self.reach > 0 {
+            Some(Refusal::LookbackTooFar)
+        } else if self.steps > 1_048_576 {
+            Some(Refusal::TooManySteps)
+        } else {
+            None
+        }
+    }
+
+    /// The summary of these items with others after them.
     fn then(self, next: Summary) -> Summary
         requires first { IsSummary self }
         requires second { IsSummary next }
@@ -41,10 +60,12 @@ impl Summary {
             steps: (self.steps + next.steps).min(MOST_STEPS),
             records: (self.records + next.records).min(MOST_RECORDS),
             reach: self.reach.max(next.reach.saturating_sub(self.records)),
+            qubits: self.qubits.max(next.qubits),
+            observables: self.observables.max(next.observables),
         }
     }
 
-    /// The summary of so many rounds of these steps.
+    /// The summary of so many rounds of these items.
     fn repeated(self, count: u64) -> Summary
         requires once { IsSummary self }
         ensures value { result ≡ repeated_of count self }
@@ -53,27 +74,27 @@ impl Summary {
         Summary {
             steps: capped_product(count, self.steps, MOST_STEPS),
             records: capped_product(count, self.records, MOST_RECORDS),
-            reach: self.reach,
+            ..self
         }
     }
 }
 
-fn capped_product(count: u64, number: u64, cap: u64) -> u64
+fn capped_product(count: u64, number: u32, cap: u32) -> u32
     ensures value { result ≡ min (count * number) cap }
 {
-    match count.checked_mul(number) {
-        Some(product) => product.min(cap),
+    match count.checked_mul(u64::from(number)) {
+        Some(product) => product.min(u64::from(cap)) as u32,
         None => cap,
     }
 }
 
-fn capped(number: usize, cap: u64) -> u64
+fn capped(number: usize, cap: u32) -> u32
     ensures value { result ≡ min number cap }
 {
-    (number as u64).min(cap)
+    number.min(cap as usize) as u32
 }
 
-#[tactic(auto, using(crate::proofs::StepLemmas::greatest_dropped))]
+#[tactic(auto, using(crate::proofs::SummaryLemmas::greatest_dropped))]
 fn greatest(numbers: &[u32]) -> u32
     ensures value { result ≡ greatest_of numbers.now }
 {
@@ -84,58 +105,101 @@ fn greatest(numbers: &[u32]) -> u32
     greatest
 }
 
-/// The summary of one step that looks back.
-#[tactic(auto, using(crate::proofs::StepLemmas::greatest_small))]
-fn look(records: &Lookbacks) -> Summary
-    ensures value { result ≡ record { steps = 1; records = 0; reach = greatest_of records.now } }
-    ensures small { IsSummary result }
+/// How many qubits are named, up to the greatest.
+#[tactic(auto, using(crate::proofs::SummaryLemmas::past_dropped))]
+fn past(qubits: &[Qubit]) -> u32
+    ensures value { result ≡ past_of qubits.now }
 {
-    Summary {
-        steps: 1,
-        records: 0,
-        reach: u64::from(greatest(records.as_slice())),
+    let mut past = 0;
+    for qubit in qubits {
+        past = past.max(qubit.number() as u32 + 1);
     }
+    past
 }
 
-/// The summary of so many steps that make no records.
-fn plain(steps: usize) -> Summary
-    ensures value { result ≡ record { steps = min steps 1048577; records = 0; reach = 0 } }
+#[tactic(auto, using(crate::proofs::SummaryLemmas::past_pairs_dropped))]
+fn past_pairs(pairs: &[Pair]) -> u32
+    ensures value { result ≡ past_of (pair_qubits pairs.now) }
+{
+    let mut past = 0;
+    for pair in pairs {
+        let first = pair.first().number() as u32 + 1;
+        past = past.max(first).max(pair.second().number() as u32 + 1);
+    }
+    past
+}
+
+#[tactic(auto, using(crate::proofs::SummaryLemmas::past_targets_dropped))]
+fn past_targets(targets: &[MeasureTarget]) -> u32
+    ensures value { result ≡ past_of (target_qubits targets.now) }
+{
+    let mut past = 0;
+    for target in targets {
+        past = past.max(target.qubit.number() as u32 + 1);
+    }
+    past
+}
+
+/// The summary of so many steps on so many qubits that make no records.
+fn plain(steps: usize, qubits: u32) -> Summary
+    ensures value { result ≡ record { steps = min steps 1048577; records = 0; reach = 0; qubits = qubits; observables = 0 } }
     ensures small { IsSummary result }
 {
     Summary {
         steps: capped(steps, MOST_STEPS),
+        qubits,
         ..Summary::NONE
     }
 }
 
-#[tactic(auto, using(crate::proofs::StepLemmas::gate_summary, crate::proofs::StepLemmas::pair_summary, crate::proofs::StepLemmas::measure_summary, crate::proofs::StepLemmas::reset_summary, crate::proofs::StepLemmas::detector_summary, crate::proofs::StepLemmas::observable_summary))]
-fn kind_summary(kind: &Kind) -> Summary
-    ensures value { result ≡ summary_of (steps_of kind.now) }
+/// The summary of one step that looks back.
+#[tactic(auto, using(crate::proofs::SummaryLemmas::greatest_small))]
+fn look(records: &Lookbacks, observables: u32) -> Summary
+    ensures value { result ≡ record { steps = 1; records = 0; reach = greatest_of records.now; qubits = 0; observables = observables } }
     ensures small { IsSummary result }
 {
-    match kind {
-        Kind::Gate(_, qubits) => plain(qubits.as_slice().len()),
-        Kind::PairGate(_, pairs) => plain(pairs.as_slice().len()),
-        Kind::Measure(_, targets) => {
-            let number = targets.as_slice().len();
-            Summary {
-                steps: capped(number, MOST_STEPS),
-                records: capped(number, MOST_RECORDS),
-                reach: 0,
-            }
-        }
-        Kind::Reset(qubits) => plain(qubits.as_slice().len()),
-        Kind::Detector(_, records) => look(records),
-        Kind::ObservableInclude(_, records) => look(records),
-        Kind::Tick | Kind::QubitCoords(_, _) | Kind::ShiftCoords(_) => Summary::NONE,
+    Summary {
+        steps: 1,
+        reach: greatest(records.as_slice()),
+        observables,
+        ..Summary::NONE
     }
 }
 
-/// The summary of an item's steps.
+fn measurement(targets: &[MeasureTarget]) -> Summary
+    ensures value { result ≡ record { steps = min (length targets.now) 1048577; records = min (length targets.now) 16777215; reach = 0; qubits = past_of (target_qubits targets.now); observables = 0 } }
+    ensures small { IsSummary result }
+{
+    Summary {
+        steps: capped(targets.len(), MOST_STEPS),
+        records: capped(targets.len(), MOST_RECORDS),
+        qubits: past_targets(targets),
+        ..Summary::NONE
+    }
+}
+
+#[tactic(auto, using(crate::proofs::SummaryLemmas::gate_summary, crate::proofs::SummaryLemmas::pair_summary, crate::proofs::SummaryLemmas::measure_summary, crate::proofs::SummaryLemmas::reset_summary, crate::proofs::SummaryLemmas::detector_summary, crate::proofs::SummaryLemmas::observable_summary))]
+fn kind_summary(kind: &Kind) -> Summary
+    ensures value { result ≡ kind_summary_of kind.now }
+    ensures small { IsSummary result }
+{
+    match kind {
+        Kind::Gate(_, qubits) => plain(qubits.as_slice().len(), past(qubits.as_slice())),
+        Kind::PairGate(_, pairs) => plain(pairs.as_slice().len(), past_pairs(pairs.as_slice())),
+        Kind::Measure(_, targets) => measurement(targets.as_slice()),
+        Kind::Reset(qubits) => plain(qubits.as_slice().len(), past(qubits.as_slice())),
+        Kind::Detector(_, records) => look(records, 0),
+        Kind::ObservableInclude(observable, records) => look(records, observable.number() + 1),
+        Kind::QubitCoords(_, qubits) => plain(0, past(qubits.as_slice())),
+        Kind::Tick | Kind::ShiftCoords(_) => Summary::NONE,
+    }
+}
+
+/// The summary of an item.
 #[cycle(summaries)]
-#[tactic(auto, using(crate::proofs::StepLemmas::operation_summary, crate::proofs::StepLemmas::repeat_summary))]
+#[tactic(auto, using(crate::proofs::SummaryLemmas::operation_summary, crate::proofs::SummaryLemmas::repeat_summary))]
 pub fn item_summary(item: &Item) -> Summary
-    ensures value { result ≡ summary_of (unroll (before (item_of item.now) done)) }
+    ensures value { result ≡ summary_of (before (item_of item.now) done) }
     ensures small { IsSummary result }
 {
     match &item.node {
@@ -144,11 +208,11 @@ pub fn item_summary(item: &Item) -> Summary
     }
 }
 
-/// The summary of the items' steps.
+/// The summary of the items.
 #[cycle(summaries)]
-#[tactic(auto, using(crate::proofs::StepLemmas::summary_taken))]
+#[tactic(auto, using(crate::proofs::SummaryLemmas::summary_taken))]
 pub fn items_summary(items: &[Item]) -> Summary
-    ensures value { result ≡ summary_of (unroll (items_of items.now)) }
+    ensures value { result ≡ summary_of (items_of items.now) }
     ensures small { IsSummary result }
 {
     let mut all = Summary::NONE;
