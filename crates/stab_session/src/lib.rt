@@ -6,9 +6,15 @@
 //! the bits of ChaCha8 that `specs/Coins.antt` names.
 #![tactic(auto)]
 
+mod apply;
 mod coins;
+pub mod laws;
+mod outputs;
+mod records;
+mod run;
 
 pub use coins::{Coins, ListCoins, SeedCoins};
+pub use run::{Shot, run_once};
 
 #[cfg(test)]
 mod tests;
