@@ -85,55 +85,6 @@ one-run n coins x a b p s group flags output = record {
   output = output ∙ ap (joined a.output) (sym (joined-nothing (given n coins x p)));
 }
 
-pub run-one : (n : ℕ) (coins : ℕ → Bool) (x : Step) (g : Gate) (q : ℕ) → x ≡ one g q → q < n → (a b : Sight)
-    → ((r : Signed) → length r.letters ≡ n → b.stabilised r ≡ a.stabilised (back g q r)) → b.output ≡ a.output → IsRun n coins (x ∷ []) a b
-run-one n coins x g q is lt a b members same =
-    subst (λ x. IsRun n coins (x ∷ []) a b) (sym is)
-    (λ p s. one-run n coins (one g q) a b p s
-    (λ r lr. members r lr ∙ Agree-member n a.stabilised (applied g q) p.trace (lt, tt) s.group r lr)
-    refl (same ∙ sym (joined-nothing a.output)))
-
-pub run-two : (n : ℕ) (coins : ℕ → Bool) (x : Step) (g : PairGate) (q r : ℕ) → x ≡ two g q r → q < n → r < n → r ≢ q → (a b : Sight)
-    → ((w : Signed) → length w.letters ≡ n → b.stabilised w ≡ a.stabilised (back_pair g q r w)) → b.output ≡ a.output → IsRun n coins (x ∷ []) a b
-run-two n coins x g q r is lq lr apart a b members same =
-    subst (λ x. IsRun n coins (x ∷ []) a b) (sym is)
-    (λ p s. one-run n coins (two g q r) a b p s
-    (λ w lw. members w lw ∙ Agree-member n a.stabilised (applied_pair g q r) p.trace ((lq, lr, apart), tt) s.group w lw)
-    refl (same ∙ sym (joined-nothing a.output)))
-
-joined-detector : (a : Output) (bit : Bool) → joined a (record nothing { detectors = bit ∷ [] }) ≡ record a { detectors = a.detectors ++ bit ∷ [] }
-joined-detector a bit = λ i. record {
-  records = append-nil a.records i;
-  free = append-nil a.free i;
-  detectors = a.detectors ++ bit ∷ [];
-  additions = append-nil a.additions i;
-}
-
-pub run-detector : (n : ℕ) (coins : ℕ → Bool) (x : Step) (ks : List ℕ) → x ≡ detector ks → (a b : Sight)
-    → b.stabilised ≡ a.stabilised → b.output ≡ record a.output { detectors = a.output.detectors ++ parity a.output.records ks ∷ [] } → IsRun n coins (x ∷ []) a b
-run-detector n coins x ks is a b same output =
-    subst (λ x. IsRun n coins (x ∷ []) a b) (sym is)
-    (λ p s. one-run n coins (detector ks) a b p s (λ q lq. ap (λ (f : Signed → Bool). f q) same ∙ s.group q lq) refl
-    (output ∙ ap (λ r. record a.output { detectors = a.output.detectors ++ parity r ks ∷ [] }) s.records ∙ sym (joined-detector a.output (parity p.records ks))))
-
-joined-addition : (a : Output) (addition : Addition) → joined a (record nothing { additions = addition ∷ [] }) ≡ record a { additions = a.additions ++ addition ∷ [] }
-joined-addition a addition = λ i. record {
-  records = append-nil a.records i;
-  free = append-nil a.free i;
-  detectors = append-nil a.detectors i;
-  additions = a.additions ++ addition ∷ [];
-}
-
-pub run-observable : (n : ℕ) (coins : ℕ → Bool) (x : Step) (j : ℕ) (ks : List ℕ) → x ≡ observable j ks → (a b : Sight)
-    → b.stabilised ≡ a.stabilised
-    → b.output ≡ record a.output { additions = a.output.additions ++ record { observable = j; bit = parity a.output.records ks } ∷ [] } → IsRun n coins (x ∷ []) a b
-run-observable n coins x j ks is a b same output =
-    subst (λ x. IsRun n coins (x ∷ []) a b) (sym is)
-    (λ p s. one-run n coins (observable j ks) a b p s (λ q lq. ap (λ (f : Signed → Bool). f q) same ∙ s.group q lq) refl
-    (output
-    ∙ ap (λ r. record a.output { additions = a.output.additions ++ record { observable = j; bit = parity r ks } ∷ [] }) s.records
-    ∙ sym (joined-addition a.output (record { observable = j; bit = parity p.records ks }))))
-
 -- what the program does at a collapse with some outcome: it measures, flips, and gathers the flag and the record
 pub record IsCollapse (n : ℕ) (l : Letter) (q : ℕ) (recorded inverted resets : Bool) (bit : Bool) (a b : Sight) : Type 0 where
   pub measured : Signed → Bool
@@ -198,9 +149,6 @@ run-collapse n coins x l q recorded inverted resets is lt a b bit bit_is h =
         ∙ sym (joined-collapse a.output (when recorded (inverted ⊕ outcome_of n coins l q p.trace p.coin)) (is_free p.trace (single n q l) ∷ []))
 
 -- the first of the steps that are left, and the others
-
-pub fits-first : (n : ℕ) (xs : List Step) (x : Step) (rest : List Step) → xs ≡ x ∷ rest → All (Fits n) xs → Fits n x
-fits-first n xs x rest e fits = let all : All (Fits n) (x ∷ rest) = subst (All (Fits n)) e fits in All-head (Fits n) x rest all
 
 pub fits-rest : (n m : ℕ) (xs : List Step) (x : Step) (rest : List Step) → xs ≡ x ∷ rest → m ≡ n → All (Fits n) xs → All (Fits m) rest
 fits-rest n m xs x rest e same fits =

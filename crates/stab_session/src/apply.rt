@@ -15,7 +15,13 @@ use stab_tableau::{Collapse, Gate, Tableau};
 use std::alloc::AllocError;
 
 /// Measures a letter on a qubit, and asks for the coin with this number only where it decides.
-fn measure<C: Coins>(tableau: &mut Tableau, coins: &mut C, coin: u64, letter: Letter, qubit: usize) -> Collapse
+fn measure<C: Coins>(
+    tableau: &mut Tableau,
+    coins: &mut C,
+    coin: u64,
+    letter: Letter,
+    qubit: usize,
+) -> Collapse
     requires in_range { qubit < tableau.old.qubits }
     ensures qubits { tableau.new.qubits ≡ tableau.old.qubits }
     ensures same_coins { C.sequence coins.new ≡ C.sequence coins.old }
@@ -55,7 +61,13 @@ fn push_when(bits: &mut Vec<bool>, test: bool, bit: bool) -> Result<(), AllocErr
 }
 
 /// Carries out one step on a tableau, gathers what it gives, and counts it.
-pub fn apply_step<C: Coins>(tableau: &mut Tableau, coins: &mut C, outputs: &mut Outputs, step: Step, applied: &mut u64) -> Result<(), AllocError>
+pub fn apply_step<C: Coins>(
+    tableau: &mut Tableau,
+    coins: &mut C,
+    outputs: &mut Outputs,
+    step: Step,
+    applied: &mut u64,
+) -> Result<(), AllocError>
     requires fits { Fits tableau.old.qubits (step_shown step) }
     requires few { applied.old < 2 ^ 63 }
     ensures counted { applied.new ≡ applied.old + 1 }

@@ -39,7 +39,11 @@ impl Outputs {
 }
 
 /// So many observables with additions made, all 0 before.
-pub fn observables(alloc: Global, count: usize, additions: &[Addition]) -> Result<Vec<bool>, AllocError>
+pub fn observables(
+    alloc: Global,
+    count: usize,
+    additions: &[Addition],
+) -> Result<Vec<bool>, AllocError>
     ensures value { IfOk result (λ v. v.items ≡ with_additions additions.now (replicate count false)) }
 {
     let mut observables = vec![in alloc; false; count]?;

@@ -29,7 +29,13 @@ pub struct Shot {
 }
 
 /// Carries out the steps that a cursor has left, and counts them.
-pub fn run_steps<C: Coins>(tableau: &mut Tableau, coins: &mut C, outputs: &mut Outputs, cursor: &mut Cursor, applied: &mut u64) -> Result<(), AllocError>
+pub fn run_steps<C: Coins>(
+    tableau: &mut Tableau,
+    coins: &mut C,
+    outputs: &mut Outputs,
+    cursor: &mut Cursor,
+    applied: &mut u64,
+) -> Result<(), AllocError>
     requires fits { All (Fits tableau.old.qubits) cursor.old }
     requires few { applied.old + length cursor.old < 2 ^ 63 }
     ensures counted { OnOk result (applied.new ≡ applied.old + length cursor.old) }
@@ -45,7 +51,12 @@ pub fn run_steps<C: Coins>(tableau: &mut Tableau, coins: &mut C, outputs: &mut O
 }
 
 /// One run of a circuit that nothing refuses on n qubits.
-fn run_checked<C: Coins>(alloc: Global, circuit: &Circuit, n: usize, coins: &mut C) -> Result<Shot, Refusal>
+fn run_checked<C: Coins>(
+    alloc: Global,
+    circuit: &Circuit,
+    n: usize,
+    coins: &mut C,
+) -> Result<Shot, Refusal>
     requires in_range { n ≤ 1024 }
     requires checked { check_within n (circuit_items circuit.now) ≡ None }
     ensures same_coins { C.sequence coins.new ≡ C.sequence coins.old }
@@ -79,7 +90,12 @@ fn run_checked<C: Coins>(alloc: Global, circuit: &Circuit, n: usize, coins: &mut
 /// with that number is the outcome where neither sign of what is measured stabilises the state;
 /// any other outcome does not depend on it. A coin is asked for only where it decides. Refused as
 /// `Circuit::check` refuses, else `OutOfMemory`, always with line 0.
-pub fn run_once<C: Coins>(alloc: Global, circuit: &Circuit, n: usize, coins: &mut C) -> Result<Shot, Fault>
+pub fn run_once<C: Coins>(
+    alloc: Global,
+    circuit: &Circuit,
+    n: usize,
+    coins: &mut C,
+) -> Result<Shot, Fault>
     requires in_range { n ≤ 1024 }
     ensures records { IfOk result (λ s. s.records.items ≡ (run_of n (C.sequence coins.old) (circuit_items circuit.now)).records) }
     ensures free { IfOk result (λ s. s.free.items ≡ (run_of n (C.sequence coins.old) (circuit_items circuit.now)).free) }
@@ -96,3 +112,6 @@ pub fn run_once<C: Coins>(alloc: Global, circuit: &Circuit, n: usize, coins: &mu
         Err(refusal) => Err(Fault::whole(refusal)),
     }
 }
+
+#[cfg(test)]
+mod tests;

@@ -20,8 +20,8 @@ loop-step-preserved g c =
       same_coins = done.same_coins ∙ inv.same_coins;
       asks = omega (arith, ap all_coins_of more, done.asks, inv.asks);
       run = λ new rest. inv.run new
-      (run-rest c.args.tableau.now.qubits c.loop-step.tableau.qubits (g.C.Coins.sequence c.args.coins.now) (g.C.Coins.sequence c.loop-step.coins)
-      c.loop-step.cursor x c.next.new.self before behind new more inv.qubits inv.same_coins done.run rest);
+          (run-rest c.args.tableau.now.qubits c.loop-step.tableau.qubits (g.C.Coins.sequence c.args.coins.now) (g.C.Coins.sequence c.loop-step.coins)
+          c.loop-step.cursor x c.next.new.self before behind new more inv.qubits inv.same_coins done.run rest);
     }
 
 pub returns-clause-run : goal.returns-clause-run

@@ -11,8 +11,8 @@ invariant-loop-step g l = record {
   same_coins : g.C.Coins.sequence l.coins ≡ g.C.Coins.sequence l.initial.coins;
   asks : g.C.Coins.asks l.coins + all_coins_of l.cursor ≤ g.C.Coins.asks l.initial.coins + all_coins_of l.initial.cursor;
   run : (new : Sight)
-  → IsRun l.initial.tableau.qubits (g.C.Coins.sequence l.initial.coins) l.cursor (sight l.tableau (output_of l.outputs)) new
-  → IsRun l.initial.tableau.qubits (g.C.Coins.sequence l.initial.coins) l.initial.cursor (sight l.initial.tableau (output_of l.initial.outputs)) new;
+      → IsRun l.initial.tableau.qubits (g.C.Coins.sequence l.initial.coins) l.cursor (sight l.tableau (output_of l.outputs)) new
+      → IsRun l.initial.tableau.qubits (g.C.Coins.sequence l.initial.coins) l.initial.cursor (sight l.initial.tableau (output_of l.initial.outputs)) new;
 }
 
 abbrev pub decreases-loop-step : goal.decreases-loop-step
