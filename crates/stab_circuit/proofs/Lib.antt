@@ -4,6 +4,7 @@ mod ItemLemmas
 mod ViewLemmas
 mod ReaderLemmas
 mod StepLemmas
+mod CursorLemmas
 mod SummaryLemmas
 mod FaultLemmas
 mod ReadingLemmas

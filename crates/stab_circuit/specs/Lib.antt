@@ -13,3 +13,4 @@ pub mod Views
 pub mod Readings
 pub mod Readers
 pub mod Summaries
+pub mod Cursors

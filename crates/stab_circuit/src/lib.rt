@@ -10,6 +10,7 @@
 //! - `input`: reading an input whole.
 //! - `summary`: the numbers of a list of items, for which no block's rounds are walked.
 //! - `circuit`: circuits, and reading one.
+//! - `step`, `unrolled`, `cursor`: the unrolled steps of a circuit, from any place on.
 //!
 //! Proved: a text is read as exactly the items that it stands for, or refused with exactly its one
 //! fault; qubits, observables, steps, records and what refuses a whole circuit are those of its
@@ -18,6 +19,7 @@
 
 mod argument;
 mod circuit;
+mod cursor;
 mod input;
 mod item;
 pub mod line;
@@ -26,14 +28,18 @@ mod name;
 mod range;
 mod reader;
 mod sequence;
+mod step;
 mod summary;
 pub mod target;
+mod unrolled;
 pub mod word;
 
 pub use circuit::{Circuit, read_circuit, read_item};
+pub use cursor::Cursor;
 pub use input::read_text;
 pub use item::Item;
 pub use range::{MeasureTarget, Qubit};
+pub use step::Step;
 
 #[cfg(test)]
 mod tests;
