@@ -25,6 +25,7 @@ mod item;
 pub mod line;
 mod meaning;
 mod name;
+mod print;
 mod range;
 mod reader;
 mod sequence;
@@ -38,6 +39,7 @@ pub use circuit::{Circuit, read_circuit, read_item};
 pub use cursor::Cursor;
 pub use input::read_text;
 pub use item::Item;
+pub use print::write_circuit;
 pub use range::{MeasureTarget, Qubit};
 pub use step::Step;
 
