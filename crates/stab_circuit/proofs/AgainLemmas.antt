@@ -95,15 +95,15 @@ count_again n p =
     ∙ passed (nat_lt 18 (length (decimal n)) || (value (decimal n) == 0)) _ _ (in_range (length (decimal n)) (value (decimal n)) few (subst (λ x. 0 < x) (sym v) p.0))
     ∙ ap (λ x. Ok (Some x)) v
   where
-  in_range : (l x : ℕ) → l ≤ 18 → 0 < x → (nat_lt 18 l || (x == 0)) ≡ false
-  in_range l x a b = grind (arith, nat_tests)
+    in_range : (l x : ℕ) → l ≤ 18 → 0 < x → (nat_lt 18 l || (x == 0)) ≡ false
+    in_range l x a b = grind (arith, nat_tests)
 
 pub pairs_again : (ps : List (ℕ × ℕ)) → Each IsPair ps → pairs_of (pair_qubits ps) ≡ Ok ps
 pairs_again [] p = refl
 pairs_again (a ∷ ps) p = passed (a.0 == a.1) _ _ (unequal a.0 a.1 p.0.2) ∙ ap (λ r. r >>= λ more. Ok (a ∷ more)) (pairs_again ps p.1)
   where
-  unequal : (x y : ℕ) → x ≢ y → (x == y) ≡ false
-  unequal x y ne = grind (arith, nat_tests)
+    unequal : (x y : ℕ) → x ≢ y → (x == y) ≡ false
+    unequal x y ne = grind (arith, nat_tests)
 
 pub coordinate_again : (c : List ℕ) → IsCoordinate c → coordinate_of c ≡ Ok c
 unfolding coordinate_of
@@ -199,11 +199,11 @@ coordinate_spacing b e = grind (arith, nat_tests)
 coordinate_no : (b : ℕ) (other : ℕ) → is_coordinate_byte b ≡ true → is_coordinate_byte other ≡ false → (b == other) ≡ false
 coordinate_no b other e f = different_of (b == other) refl
   where
-  different_of : (t : Bool) → (b == other) ≡ t → (b == other) ≡ false
-  different_of false h = h
-  different_of true h =
-      let same : b ≡ other = grind (arith, nat_tests) in
-      let q : true ≡ false = sym e ∙ ap is_coordinate_byte same ∙ f in cc
+    different_of : (t : Bool) → (b == other) ≡ t → (b == other) ≡ false
+    different_of false h = h
+    different_of true h =
+        let same : b ≡ other = grind (arith, nat_tests) in
+        let q : true ≡ false = sym e ∙ ap is_coordinate_byte same ∙ f in cc
 
 pub coordinate_free : (p : ℕ → Bool) (c : List ℕ) → ((b : ℕ) → is_coordinate_byte b ≡ true → p b ≡ false) → list_all is_coordinate_byte c ≡ true → Free p c
 coordinate_free p [] f h = tt

@@ -6,6 +6,7 @@ mod ReaderLemmas
 mod OutputLemmas
 mod PrintLemmas
 mod StepLemmas
+mod CursorLemmas
 mod SummaryLemmas
 mod FaultLemmas
 mod ReadingLemmas

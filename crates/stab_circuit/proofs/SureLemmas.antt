@@ -89,9 +89,9 @@ measure_sure word =
 lookback_sure : (word : List ℕ) → IsSure IsLookback (lookback_of word)
 lookback_sure word = sure_case (lookback_of word) (lookback_in_range word)
   where
-  sure_case : (r : Result ℕ Refusal) → ((k : ℕ) → r ≡ Ok k → IsLookback k) → IsSure IsLookback r
-  sure_case (Ok k) h = sure_ok IsLookback k (h k refl)
-  sure_case (Err r) h = sure_err IsLookback r
+    sure_case : (r : Result ℕ Refusal) → ((k : ℕ) → r ≡ Ok k → IsLookback k) → IsSure IsLookback r
+    sure_case (Ok k) h = sure_ok IsLookback k (h k refl)
+    sure_case (Err r) h = sure_err IsLookback r
 
 abbrev pub IsCount : ℕ → Type 0
 IsCount n = (0 < n) × (n < 10 ^ 18)
@@ -107,13 +107,13 @@ count_sure word =
     (λ e. sure_if IsSomeCount (nat_lt 18 (length word) || (value word == 0)) _ _ (λ h. sure_ok IsSomeCount None tt)
     (λ h. sure_ok IsSomeCount (Some (value word)) (count_range (is_number word) (nat_lt 18 (length word)) (value word == 0) refl refl refl e h)))
   where
-  count_range : (a b d : Bool) → is_number word ≡ a → nat_lt 18 (length word) ≡ b → (value word == 0) ≡ d → not a ≡ false → (b || d) ≡ false → IsCount (value word)
-  count_range true false false n l z e h =
-      let few : length word ≤ 18 = grind (arith, nat_tests) in
-      (grind (arith, nat_tests), eighteen_digits word n few)
-  count_range false b d n l z e h = cc
-  count_range true true d n l z e h = cc
-  count_range true false true n l z e h = cc
+    count_range : (a b d : Bool) → is_number word ≡ a → nat_lt 18 (length word) ≡ b → (value word == 0) ≡ d → not a ≡ false → (b || d) ≡ false → IsCount (value word)
+    count_range true false false n l z e h =
+        let few : length word ≤ 18 = grind (arith, nat_tests) in
+        (grind (arith, nat_tests), eighteen_digits word n few)
+    count_range false b d n l z e h = cc
+    count_range true true d n l z e h = cc
+    count_range true false true n l z e h = cc
 
 abbrev pub IsPair : ℕ × ℕ → Type 0
 IsPair p = (p.0 < 1024) × (p.1 < 1024) × (p.0 ≢ p.1)

@@ -13,6 +13,7 @@ pub mod Views
 pub mod Readings
 pub mod Readers
 pub mod Summaries
+pub mod Cursors
 pub mod Prints
 pub mod Margins
 pub mod Outputs

@@ -1,0 +1,11 @@
+pub mod Folds
+pub mod TargetLaws
+pub mod Pieces
+pub mod LineLaws
+pub mod FaultLaws
+pub mod ReadingLaws
+pub mod TextLaws
+pub mod BitLaws
+pub mod RunLaws
+pub mod SampleLaws
+pub mod FaultLineLaws

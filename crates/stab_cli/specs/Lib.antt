@@ -1,0 +1,10 @@
+pub mod Results
+pub mod Texts
+pub mod Runs
+pub mod Outputs
+pub mod Jobs
+pub mod Words
+pub mod Laws
+pub mod Reading
+pub mod Bits
+pub mod Sampling

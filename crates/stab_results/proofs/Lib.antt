@@ -1,0 +1,6 @@
+pub mod PutsLemmas
+pub mod PieceLemmas
+pub mod NumberLemmas
+pub mod GroupLemmas
+pub mod OneLemmas
+pub mod HitLemmas

@@ -1,0 +1,82 @@
+-- Result formats: the bytes of one shot, over the places of its 1 bits or over groups of eight bits.
+use Rattle.std.specs.Prelude.{ℕ, ◌+◌, ◌*◌, ◌-◌, ◌/◌, ◌%◌, nat_lt, if◌then◌else◌, Bool, true, false, List, [], ◌∷◌, ◌++◌, map, replicate, codes}
+use Rattle.std.specs.List.{flat_map, join_with_byte}
+use Rattle.std.specs.Fmt.{decimal}
+use Rattle.stab_results.specs.declared.format.Format.{Format}
+use Rattle.stab_results.specs.declared.format.Format.TheVariants.{F01, B8, R8, Hits, Dets}
+use Rattle.stab_results.specs.declared.format.Kinds.{Kinds}
+use Rattle.stab_results.specs.declared.format.Kinds.TheVariants.{Measurements, Detectors}
+
+-- the places of the 1 bits, ascending, where the first bit has the given place
+abbrev pub ones_from : ℕ → List Bool → List ℕ
+ones_from place [] = []
+ones_from place (false ∷ bits) = ones_from (place + 1) bits
+ones_from place (true ∷ bits) = place ∷ ones_from (place + 1) bits
+
+-- the places of the 1 bits, counted from 0
+abbrev pub ones : List Bool → List ℕ
+ones bits = ones_from 0 bits
+
+-- the character of a bit
+abbrev pub digit : Bool → List ℕ
+digit false = codes "0"
+digit true = codes "1"
+
+-- 01: one character for each bit, then a line end
+abbrev pub f01_bytes : List Bool → List ℕ
+f01_bytes bits = flat_map digit bits ++ codes "\n"
+
+-- the number with these binary digits, the least significant first
+abbrev pub number : List Bool → ℕ
+number [] = 0
+number (false ∷ bits) = 2 * number bits
+number (true ∷ bits) = 2 * number bits + 1
+
+-- b8: one byte for each eight bits, and one for the rest, if there are any
+abbrev pub b8_bytes : List Bool → List ℕ
+b8_bytes [] = []
+b8_bytes (a ∷ b ∷ c ∷ d ∷ e ∷ f ∷ g ∷ h ∷ bits) = number (a ∷ b ∷ c ∷ d ∷ e ∷ f ∷ g ∷ h ∷ []) ∷ b8_bytes bits
+b8_bytes bits = number bits ∷ []
+
+-- how many zeros stand before each 1 bit, from a place on, where these are the places of the 1 bits
+abbrev pub gaps_from : ℕ → List ℕ → List ℕ
+gaps_from place [] = []
+gaps_from place (one ∷ more) = (one - place) ∷ gaps_from (one + 1) more
+
+-- zeros and the 1 behind them: FF for each full 255 zeros, then the number of the rest
+abbrev pub run_bytes : ℕ → List ℕ
+run_bytes zeros = replicate (zeros / 255) 0xff ++ (zeros % 255) ∷ []
+
+-- r8: one 1 is appended, and each 1 has the bytes of its run
+abbrev pub r8_bytes : List Bool → List ℕ
+r8_bytes bits = flat_map run_bytes (gaps_from 0 (ones (bits ++ true ∷ [])))
+
+-- the byte of a comma
+abbrev pub comma : ℕ
+comma = 44
+
+-- hits: the places of the 1 bits in decimal, joined by commas, then a line end
+abbrev pub hits_bytes : List Bool → List ℕ
+hits_bytes bits = join_with_byte comma (map decimal (ones bits)) ++ codes "\n"
+
+-- the entry of a 1 bit: a space, the prefix of its kind, and its number within its kind
+abbrev pub entry : Kinds → ℕ → List ℕ
+entry Measurements place = codes " M" ++ decimal place
+entry (Detectors count) place = if nat_lt place count then codes " D" ++ decimal place else codes " L" ++ decimal (place - count)
+
+-- dets: `shot`, then the entry of each 1 bit, then a line end
+abbrev pub dets_bytes : Kinds → List Bool → List ℕ
+dets_bytes kinds bits = codes "shot" ++ flat_map (entry kinds) (ones bits) ++ codes "\n"
+
+-- the bytes of a shot
+abbrev pub shot_bytes : Format → Kinds → List Bool → List ℕ
+shot_bytes F01 kinds bits = f01_bytes bits
+shot_bytes B8 kinds bits = b8_bytes bits
+shot_bytes R8 kinds bits = r8_bytes bits
+shot_bytes Hits kinds bits = hits_bytes bits
+shot_bytes Dets kinds bits = dets_bytes kinds bits
+
+-- how many of a shot's bits are detectors
+abbrev pub detectors_of : Kinds → ℕ
+detectors_of Measurements = 0
+detectors_of (Detectors count) = count

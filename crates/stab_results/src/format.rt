@@ -1,0 +1,23 @@
+/// A format of results, as Stim names it.
+#[derive(Clone, Copy, Debug, PartialEq, Eq)]
+pub enum Format {
+    /// `01`: one character for each bit, then a line end.
+    F01,
+    /// `b8`: eight bits a byte, the least significant first.
+    B8,
+    /// `r8`: one byte for each run of zeros, more where a run is long.
+    R8,
+    /// `hits`: the places of the 1 bits in decimal, with commas, then a line end.
+    Hits,
+    /// `dets`: `shot`, then the names of the 1 bits, then a line end.
+    Dets,
+}
+
+/// What the bits of a shot are; only `dets` shows it.
+#[derive(Clone, Copy, Debug, PartialEq, Eq)]
+pub enum Kinds {
+    /// All bits are measurements.
+    Measurements,
+    /// So many bits are detectors, and the rest are observables.
+    Detectors(usize),
+}

@@ -1,0 +1,230 @@
+use super::collapse::{Collapse, fixed_sign, measure};
+use super::gate::{Gate, PairGate};
+use super::observable::Observable;
+use super::preimages::Preimages;
+use super::rows;
+use stab_pauli::{Letter, Pauli, Refusal};
+use std::alloc::Global;
+use std::marker::Model;
+use std::mem;
+
+/// A stabiliser state on some qubits, at most 1,024.
+///
+/// Contracts see how many qubits there are, and which signed Pauli strings stabilise the state.
+#[derive(Drop)]
+pub struct Tableau {
+    rows: Vec<Preimages>,
+    // Rows of the same size, to work with: so no gate and no measurement takes memory.
+    scratch: Preimages,
+}
+
+impl Model for Tableau {
+    ghost use Rattle.std.specs.Prelude.{length};
+    ghost use Rattle.stab_tableau.specs.Tableaus.{TableauState, IsTableau};
+
+    ghost Value = { TableauState };
+
+    ghost view = { λ t. record { qubits = length t.rows.items; rows = t.rows.items } };
+
+    ghost invariant = { λ t. IsTableau (length t.rows.items) t.rows.items t.scratch };
+}
+
+impl Tableau {
+    ghost use Rattle.std.specs.Prelude.{◌≡◌, ◌≢◌, ℕ, ◌<◌, ◌≤◌, ◌↔◌, Bool, true, false, [], length, IfOk, IfErr, IfSome};
+    ghost use Rattle.stab_pauli.specs.Paulis.{Signed, single, with_sign};
+    ghost use Rattle.stab_pauli.specs.declared.refusal.Refusal.TheVariants.{OutOfMemory};
+    ghost use Rattle.stab_tableau.specs.Gates.{back, back_pair};
+    ghost use Rattle.stab_tableau.specs.Traces.{member};
+    ghost use Rattle.stab_tableau.specs.Tableaus.{stabilises, outcome_by, is_free_by, projected_by};
+    ghost use Rattle.stab_tableau.specs.Columns.{stabiliser_of, destabiliser_of, AreDual, CommutesWithAll, IsGenerated};
+
+    /// The state of n qubits, all zero.
+    ///
+    /// Refusal `OutOfMemory` alone.
+    pub fn new(alloc: Global, n: usize) -> Result<Tableau, Refusal>
+        requires in_range { n ≤ 1024 }
+        ensures qubits { IfOk result (λ t. t.qubits ≡ n) }
+        ensures members { IfOk result (λ t. (p : Signed) → length p.letters ≡ n → stabilises t p ≡ member [] p) }
+        ensures err { IfErr result (λ r. r ≡ OutOfMemory) }
+    {
+        let mut rows = Vec::with_capacity(alloc, n)?;
+        for qubit in 0..n {
+            let x = Pauli::single(alloc, n, qubit, Letter::X)?;
+            let z = Pauli::single(alloc, n, qubit, Letter::Z)?;
+            rows.push(Preimages { x, z })?;
+        }
+        let x = Pauli::identity(alloc, n)?;
+        let z = Pauli::identity(alloc, n)?;
+        Ok(Tableau {
+            rows,
+            scratch: Preimages { x, z },
+        })
+    }
+
+    /// The same state in memory of its own.
+    ///
+    /// Refusal `OutOfMemory` alone.
+    pub fn copy(&self, alloc: Global) -> Result<Tableau, Refusal>
+        ensures ok { IfOk result (λ t. t ≡ self.now) }
+        ensures err { IfErr result (λ r. r ≡ OutOfMemory) }
+    {
+        let mut rows = Vec::with_capacity(alloc, self.len())?;
+        for row in &self.rows {
+            rows.push(row.copy(alloc)?)?;
+        }
+        let scratch = self.scratch.copy(alloc)?;
+        Ok(Tableau { rows, scratch })
+    }
+
+    /// The number of qubits.
+    pub fn len(&self) -> usize
+        ensures value { result ≡ self.now.qubits }
+    {
+        self.rows.len()
+    }
+
+    /// Applies a gate to a qubit.
+    ///
+    /// A string stabilises the new state where what the gate makes into it stabilised the old one.
+    pub fn apply(&mut self, gate: Gate, qubit: usize)
+        requires in_range { qubit < self.old.qubits }
+        ensures qubits { self.new.qubits ≡ self.old.qubits }
+        ensures members { (p : Signed) → length p.letters ≡ self.old.qubits → stabilises self.new p ≡ stabilises self.old (back gate qubit p) }
+    {
+        self.rows[qubit].apply(gate);
+    }
+
+    /// Applies a gate to two qubits; of a controlled gate the first is the control.
+    ///
+    /// A string stabilises the new state where what the gate makes into it stabilised the old one.
+    pub fn apply_pair(&mut self, gate: PairGate, first: usize, second: usize)
+        requires first_in_range { first < self.old.qubits }
+        requires second_in_range { second < self.old.qubits }
+        requires apart { second ≢ first }
+        ensures qubits { self.new.qubits ≡ self.old.qubits }
+        ensures members { (p : Signed) → length p.letters ≡ self.old.qubits → stabilises self.new p ≡ stabilises self.old (back_pair gate first second p) }
+    {
+        // One qubit's rows change places with the scratch rows, so that both can be written.
+        mem::swap(&mut self.rows[second], &mut self.scratch);
+        self.rows[first].apply_pair(&mut self.scratch, gate);
+        mem::swap(&mut self.rows[second], &mut self.scratch);
+    }
+
+    /// The sign with which a string stabilises the state, true for -, or `None` where neither sign does.
+    ///
+    /// The string's own sign counts: the answer for -P is the other one than that for P.
+    pub fn sign_of(&mut self, pauli: &Pauli) -> Option<bool>
+        requires same_length { length pauli.now.letters ≡ self.old.qubits }
+        ensures unchanged { self.new ≡ self.old }
+        ensures some { (b : Bool) → (result ≡ Some b) ↔ (stabilises self.old (with_sign b pauli.now) ≡ true) }
+        ensures none { (result ≡ None) ↔ (is_free_by (stabilises self.old) pauli.now ≡ true) }
+    {
+        let preimage = &mut self.scratch.x;
+        rows::write_preimage(self.rows.as_slice(), pauli, preimage);
+        match self.scratch.x.first_flip() {
+            Some(_) => None,
+            None => Some(self.scratch.x.is_negative()),
+        }
+    }
+
+    /// Measures a string, with the outcome of the coin where neither of its signs stabilises the state.
+    ///
+    /// The outcome b projects on (-1)^b times the string.
+    pub fn collapse(&mut self, pauli: &Pauli, coin: bool) -> Collapse
+        requires same_length { length pauli.now.letters ≡ self.old.qubits }
+        ensures qubits { self.new.qubits ≡ self.old.qubits }
+        ensures outcome { result.outcome ≡ outcome_by (stabilises self.old) pauli.now coin }
+        ensures free { result.free ≡ is_free_by (stabilises self.old) pauli.now }
+        ensures members { (p : Signed) → length p.letters ≡ self.old.qubits → stabilises self.new p ≡ projected_by (stabilises self.old) pauli.now result.outcome p }
+        ensures unchanged { result.free ≡ false → self.new ≡ self.old }
+    {
+        rows::write_preimage(self.rows.as_slice(), pauli, &mut self.scratch.x);
+        let observable = &Observable::String(pauli);
+        let rows = self.rows.as_mut_slice();
+        measure(rows, &mut self.scratch, observable, coin)
+    }
+
+    /// Measures one letter on a qubit: `collapse` of the string with that letter alone, which isn't built.
+    pub fn collapse_letter(&mut self, letter: Letter, qubit: usize, coin: bool) -> Collapse
+        requires in_range { qubit < self.old.qubits }
+        ensures qubits { self.new.qubits ≡ self.old.qubits }
+        ensures outcome { result.outcome ≡ outcome_by (stabilises self.old) (single self.old.qubits qubit letter) coin }
+        ensures free { result.free ≡ is_free_by (stabilises self.old) (single self.old.qubits qubit letter) }
+        ensures members { (p : Signed) → length p.letters ≡ self.old.qubits → stabilises self.new p ≡ projected_by (stabilises self.old) (single self.old.qubits qubit letter) result.outcome p }
+        ensures unchanged { result.free ≡ false → self.new ≡ self.old }
+    {
+        self.rows[qubit].copy_into(letter, &mut self.scratch.x);
+        let observable = &Observable::Single(letter, qubit);
+        let rows = self.rows.as_mut_slice();
+        measure(rows, &mut self.scratch, observable, coin)
+    }
+
+    /// The outcome of a measurement of one letter on a qubit where it is fixed, or `None` where a coin would decide.
+    ///
+    /// A measurement with a fixed outcome leaves the state as it is, so after `Some` there is nothing to collapse.
+    pub fn fixed_letter(&mut self, letter: Letter, qubit: usize) -> Option<bool>
+        requires in_range { qubit < self.old.qubits }
+        ensures unchanged { self.new ≡ self.old }
+        ensures none { (result ≡ None) ↔ (is_free_by (stabilises self.old) (single self.old.qubits qubit letter) ≡ true) }
+        ensures outcome { IfSome result (λ b. (coin : Bool) → outcome_by (stabilises self.old) (single self.old.qubits qubit letter) coin ≡ b) }
+        ensures members { IfSome result (λ b. (p : Signed) → length p.letters ≡ self.old.qubits → stabilises self.old p ≡ projected_by (stabilises self.old) (single self.old.qubits qubit letter) b p) }
+    {
+        match letter {
+            Letter::X => fixed_sign(&self.rows[qubit].x),
+            Letter::Z => fixed_sign(&self.rows[qubit].z),
+            Letter::I | Letter::Y => {
+                self.rows[qubit].copy_into(letter, &mut self.scratch.x);
+                fixed_sign(&self.scratch.x)
+            }
+        }
+    }
+
+    /// Stabiliser k of the n stabilisers that stand in the columns of the tableau, k below n.
+    ///
+    /// They commute and are independent, so the strings that stabilise the state are their products. Refusal
+    /// `OutOfMemory` alone.
+    pub fn stabiliser(&mut self, alloc: Global, k: usize) -> Result<Pauli, Refusal>
+        requires in_range { k < self.old.qubits }
+        ensures unchanged { self.new ≡ self.old }
+        ensures value { IfOk result (λ p. p ≡ stabiliser_of self.old k) }
+        ensures length { IfOk result (λ p. length p.letters ≡ self.old.qubits) }
+        ensures member { IfOk result (λ p. stabilises self.old p ≡ true) }
+        ensures err { IfErr result (λ r. r ≡ OutOfMemory) }
+    {
+        let mut stabiliser = Pauli::identity(alloc, self.len())?;
+        rows::write_column(self.rows.as_slice(), Letter::Z, k, &mut stabiliser);
+        rows::write_preimage(self.rows.as_slice(), &stabiliser, &mut self.scratch.x);
+        stabiliser.negate_if(self.scratch.x.is_negative());
+        Ok(stabiliser)
+    }
+
+    /// Destabiliser k, k below n, which anticommutes with stabiliser k and with no other; its sign says nothing and is +.
+    ///
+    /// Refusal `OutOfMemory` alone.
+    pub fn destabiliser(&self, alloc: Global, k: usize) -> Result<Pauli, Refusal>
+        requires in_range { k < self.now.qubits }
+        ensures value { IfOk result (λ p. p ≡ destabiliser_of self.now k) }
+        ensures length { IfOk result (λ p. length p.letters ≡ self.now.qubits) }
+        ensures err { IfErr result (λ r. r ≡ OutOfMemory) }
+    {
+        let mut destabiliser = Pauli::identity(alloc, self.len())?;
+        rows::write_column(self.rows.as_slice(), Letter::X, k, &mut destabiliser);
+        Ok(destabiliser)
+    }
+
+    /// A law, and no work: stabilisers commute, destabilisers commute, and a stabiliser and a destabiliser anticommute
+    /// where they have one number.
+    pub fn stabilisers_are_dual(&self)
+        ensures law { (j k : ℕ) → j < self.now.qubits → k < self.now.qubits → AreDual self.now j k }
+    {
+        let _ = &self.rows;
+    }
+
+    /// A law, and no work: a string that commutes with every string that stabilises the state is, up to sign, the
+    /// product of the stabilisers whose destabilisers anticommute with it, and that product stabilises the state.
+    pub fn stabilisers_generate(&self)
+        ensures law { (p : Signed) → length p.letters ≡ self.now.qubits → CommutesWithAll self.now p → IsGenerated self.now p }
+    {
+        let _ = &self.rows;
+    }
+}
