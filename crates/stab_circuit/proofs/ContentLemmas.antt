@@ -1,5 +1,5 @@
 -- What a printed content is made of: its name, its arguments and its targets.
-use Rattle.std.proofs.Common.{◌≡◌, ◌<◌, ◌^◌, refl, ap, sym, ◌∙◌, subst, ℕ, ◌==◌, List, [], ◌∷◌, ◌++◌, Bool, true, false, append-nil, arith, codes, ◌⊎◌, inl, inr}
+use Rattle.std.proofs.Common.{◌≡◌, ◌<◌, ◌^◌, refl, sym, subst, ℕ, List, [], ◌∷◌, ◌++◌, Bool, true, false, append-nil, arith, codes, ◌⊎◌, inl, inr}
 use Rattle.std.specs.List.{list_all}
 use Rattle.std.specs.Fmt.{decimal}
 use Rattle.std.proofs.lemmas.Bool.Decides.{nat_tests}
@@ -12,17 +12,17 @@ use Rattle.stab_circuit.specs.declared.item.Measurement.{Measurement}
 use Rattle.stab_circuit.specs.declared.item.Measurement.TheVariants as measure
 use Rattle.stab_circuit.specs.declared.item.Kind.{Kind}
 use Rattle.stab_circuit.specs.declared.item.Kind.TheVariants as kind
-use Rattle.stab_circuit.specs.Lines.{is_byte, is_digit, is_spacing, is_letter, is_name_byte}
+use Rattle.stab_circuit.specs.Lines.{is_digit}
 use Rattle.stab_circuit.specs.Lookbacks.{IsLookback}
 use Rattle.stab_circuit.specs.Targets.{is_coordinate_byte}
 use Rattle.stab_circuit.specs.Steps.{pair_qubits}
-use Rattle.stab_circuit.specs.Prints.{gate_name, pair_gate_name, measurement_name, kind_name, tag_text, arguments_text, kind_arguments, pair_text, mark_text, target_text, lookback_text, spaced, targets_text, head_text, operation_text, open_text}
+use Rattle.stab_circuit.specs.Prints.{gate_name, pair_gate_name, measurement_name, kind_name, kind_arguments, mark_text, target_text, lookback_text, spaced, targets_text}
 use Rattle.stab_circuit.proofs.BoolLemmas.{both, and_left, and_right}
 use Rattle.stab_circuit.proofs.FreeLemmas.{Each, Free, free-append, each_weaker, digits_free}
-use Rattle.stab_circuit.proofs.SureLemmas.{IsQubit, IsMeasured, IsCount, IsPair, IsCoordinate, IsObservable, IsGoodKind, IsTag}
-use Rattle.stab_circuit.proofs.NeatLemmas.{Ends, IsSolid, IsNeat, ends-append, ends_one, solid_word}
-use Rattle.stab_circuit.proofs.AgainLemmas.{IsWord, AreWords, decimal_digits, decimal_some, decimal_word, target_word, lookback_word, qubits_words, pairs_spaced, pair_qubits_good, further}
-use Rattle.stab_circuit.proofs.ShapeLemmas.{IsName, IsApart, name_is, inner_of, free_inner}
+use Rattle.stab_circuit.proofs.SureLemmas.{IsQubit, IsMeasured, IsCoordinate, IsGoodKind}
+use Rattle.stab_circuit.proofs.NeatLemmas.{Ends, ends-append, solid_word}
+use Rattle.stab_circuit.proofs.AgainLemmas.{IsWord, AreWords, decimal_digits, decimal_some, target_word, lookback_word, qubits_words, pairs_spaced, pair_qubits_good}
+use Rattle.stab_circuit.proofs.ShapeLemmas.{IsName, IsApart, name_is}
 
 -- names
 gate_is : (g : Gate) → IsName (gate_name g)
@@ -149,8 +149,8 @@ digits_coordinate [] h = refl
 digits_coordinate (d ∷ ds) h =
     both (is_coordinate_byte d) (list_all is_coordinate_byte ds) (digit_coordinate d (and_left (is_digit d) (list_all is_digit ds) h)) (digits_coordinate ds (and_right (is_digit d) (list_all is_digit ds) h))
   where
-  digit_coordinate : (b : ℕ) → is_digit b ≡ true → is_coordinate_byte b ≡ true
-  digit_coordinate b e = grind (arith, nat_tests)
+    digit_coordinate : (b : ℕ) → is_digit b ≡ true → is_coordinate_byte b ≡ true
+    digit_coordinate b e = grind (arith, nat_tests)
 
 decimal_coordinate : (n : ℕ) → n < 2 ^ 64 → IsCoordinate (decimal n)
 decimal_coordinate n wide = (decimal_some n wide, digits_coordinate (decimal n) (decimal_digits n wide))

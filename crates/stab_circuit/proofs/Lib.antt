@@ -24,3 +24,5 @@ mod ShapeLemmas
 mod ContentLemmas
 mod PrintedLemmas
 mod MeaningLemmas
+mod BlankLemmas
+mod RoundLemmas

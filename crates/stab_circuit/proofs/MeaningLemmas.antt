@@ -1,11 +1,8 @@
 -- Printed contents mean what they were printed of.
-use Rattle.std.proofs.Common.{◌≡◌, ◌<◌, ◌^◌, refl, ap, sym, ◌∙◌, subst, ℕ, ◌==◌, ◌&&◌, List, [], ◌∷◌, ◌++◌, Bool, true, false, not, length, filter, map, append_assoc, append-nil, arith, codes, if◌then◌else◌, Option, Some, None, Result, Ok, Err}
-use Rattle.std.specs.List.{slice_split, list_any, list_all}
+use Rattle.std.proofs.Common.{◌≡◌, ◌<◌, ◌^◌, refl, ap, sym, ◌∙◌, ℕ, ◌==◌, ◌&&◌, List, [], ◌∷◌, ◌++◌, Bool, true, false, length, filter, map, append_assoc, arith, codes, if◌then◌else◌, Ok}
 use Rattle.std.specs.Fmt.{decimal}
 use Rattle.std.proofs.lemmas.List.Splits.{slice_split-cons_yes}
 use Rattle.std.proofs.lemmas.Bool.Decides.{nat_tests}
-use Rattle.stab_pauli.specs.declared.refusal.Refusal.{Refusal}
-use Rattle.stab_pauli.specs.declared.refusal.Refusal.TheVariants.{BadArguments}
 use Rattle.stab_tableau.specs.declared.gate.Gate.{Gate}
 use Rattle.stab_tableau.specs.declared.gate.Gate.TheVariants as one
 use Rattle.stab_tableau.specs.declared.gate.PairGate.{PairGate}
@@ -14,25 +11,23 @@ use Rattle.stab_circuit.specs.declared.item.Measurement.{Measurement}
 use Rattle.stab_circuit.specs.declared.item.Measurement.TheVariants as measure
 use Rattle.stab_circuit.specs.declared.name.Instruction.{Instruction}
 use Rattle.stab_circuit.specs.declared.name.Instruction.TheVariants as instruction
-use Rattle.stab_circuit.specs.declared.name.Name.{Name}
 use Rattle.stab_circuit.specs.declared.name.Name.TheVariants as name
 use Rattle.stab_circuit.specs.declared.item.Kind.{Kind}
 use Rattle.stab_circuit.specs.declared.item.Kind.TheVariants as kind
 use Rattle.stab_circuit.specs.declared.item.Operation.{Operation}
-use Rattle.stab_circuit.specs.declared.meaning.Line.{Line}
 use Rattle.stab_circuit.specs.declared.meaning.Line.TheVariants.{Open, Close}
 use Rattle.stab_circuit.specs.declared.meaning.Line.TheVariants as line
 use Rattle.stab_circuit.specs.Results.{◌>>=◌, each}
-use Rattle.stab_circuit.specs.Lines.{Shape, is_spacing, is_byte, is_digit, is_letter, is_brace, shape_of, starts_with_byte}
+use Rattle.stab_circuit.specs.Lines.{Shape, is_spacing, is_digit, is_letter, is_brace, shape_of}
 use Rattle.stab_circuit.specs.Words.{words, is_some_word, is_number, arguments_of}
-use Rattle.stab_circuit.specs.Names.{gate_named, pair_gate_named, other_named, first_named, instruction_named, name_of}
+use Rattle.stab_circuit.specs.Names.{gate_named, pair_gate_named, other_named, instruction_named, name_of}
 use Rattle.stab_circuit.specs.Steps.{pair_qubits}
-use Rattle.stab_circuit.specs.Targets.{qubit_of, measure_target_of, lookback_of, count_of, pairs_of, coordinate_of, number_of, observable_of}
+use Rattle.stab_circuit.specs.Targets.{qubit_of, lookback_of, count_of, pairs_of, coordinate_of, number_of, observable_of}
 use Rattle.stab_circuit.specs.Meanings.{kind_of, observable_include_of, without_open, only_count, opened, block_of, named_line, shape_meaning, is_close, meaning_of}
-use Rattle.stab_circuit.specs.Prints.{gate_name, pair_gate_name, measurement_name, kind_name, tag_text, kind_arguments, pair_text, target_text, lookback_text, spaced, targets_text, head_text, operation_text, open_text}
+use Rattle.stab_circuit.specs.Prints.{gate_name, pair_gate_name, measurement_name, kind_name, tag_text, kind_arguments, lookback_text, spaced, targets_text, head_text, operation_text, open_text}
 use Rattle.stab_circuit.proofs.BoolLemmas.{chosen, passed}
-use Rattle.stab_circuit.proofs.FreeLemmas.{Each, Free, free-append, each_weaker, digits_free, split_free}
-use Rattle.stab_circuit.proofs.SureLemmas.{IsQubit, IsPair, IsCount, IsCoordinate, IsGoodKind, IsTag}
+use Rattle.stab_circuit.proofs.FreeLemmas.{Each, Free, free-append, digits_free, split_free}
+use Rattle.stab_circuit.proofs.SureLemmas.{IsCount, IsCoordinate, IsGoodKind, IsTag}
 use Rattle.stab_circuit.proofs.AgainLemmas.{decimal_digits, decimal_number, decimal_some, decimal_word, arguments_again, qubits_again, targets_again, lookbacks_again, pairs_again, pairs_spaced, pair_qubits_good, coordinate_again, count_again, observable_again, each_again}
 use Rattle.stab_circuit.proofs.ShapeLemmas.{IsName, inner_of, shape_again, open_shape_again}
 use Rattle.stab_circuit.proofs.ContentLemmas.{IsClear, kind_is, repeat_is, kind_targets, kind_coordinates}
@@ -140,17 +135,17 @@ letter_means : (c : ℕ) (rest : List ℕ) → is_letter c ≡ true → meaning_
 unfolding meaning_of
 letter_means c rest e = passed (length (c ∷ rest) == 0) _ _ (some_bytes c rest) ∙ passed (is_close (c ∷ rest)) _ _ (no_close c rest e)
   where
-  some_bytes : (x : ℕ) (xs : List ℕ) → (length (x ∷ xs) == 0) ≡ false
-  some_bytes x xs = grind arith
+    some_bytes : (x : ℕ) (xs : List ℕ) → (length (x ∷ xs) == 0) ≡ false
+    some_bytes x xs = grind arith
 
-  no_close : (x : ℕ) (xs : List ℕ) → is_letter x ≡ true → is_close (x ∷ xs) ≡ false
-  no_close x xs e =
-      let other : (x == 125) ≡ false = grind (arith, nat_tests) in
-      ap (λ b. (length (x ∷ xs) == 1) && b) other ∙ never (length (x ∷ xs) == 1)
-    where
-    never : (b : Bool) → (b && false) ≡ false
-    never true = refl
-    never false = refl
+    no_close : (x : ℕ) (xs : List ℕ) → is_letter x ≡ true → is_close (x ∷ xs) ≡ false
+    no_close x xs e =
+        let other : (x == 125) ≡ false = grind (arith, nat_tests) in
+        ap (λ b. (length (x ∷ xs) == 1) && b) other ∙ never (length (x ∷ xs) == 1)
+      where
+        never : (b : Bool) → (b && false) ≡ false
+        never true = refl
+        never false = refl
 
 headed_means : (name tag rest : List ℕ) → IsName name → meaning_of (head_text name tag ++ rest) ≡ (shape_of (head_text name tag ++ rest) >>= shape_meaning)
 headed_means name tag rest n =
@@ -160,8 +155,8 @@ headed_means name tag rest n =
 no_braces : IsClear is_brace
 no_braces = record { digits = digit_no; marks = (refl, (refl, (refl, (refl, (refl, (refl, (refl, tt))))))); space = refl }
   where
-  digit_no : (b : ℕ) → is_digit b ≡ true → is_brace b ≡ false
-  digit_no b e = grind (arith, nat_tests)
+    digit_no : (b : ℕ) → is_digit b ≡ true → is_brace b ≡ false
+    digit_no b e = grind (arith, nat_tests)
 
 pub operation_again : (op : Operation) → IsGoodKind op.kind → IsTag op.tag → meaning_of (operation_text op) ≡ Ok (line.Operation op)
 unfolding named_line
@@ -178,8 +173,8 @@ operation_again op g t =
 count_word : (n : ℕ) → n < 2 ^ 64 → words (codes " " ++ (decimal n ++ codes " ")) ≡ decimal n ∷ []
 count_word n wide =
     ap (filter is_some_word)
-      (slice_split-cons_yes is_spacing 32 (decimal n ++ codes " ") refl
-          ∙ ap (λ l. [] ∷ l) (split_free is_spacing (decimal n) 32 [] (decimal_word n wide).0 refl))
+    (slice_split-cons_yes is_spacing 32 (decimal n ++ codes " ") refl
+    ∙ ap (λ l. [] ∷ l) (split_free is_spacing (decimal n) 32 [] (decimal_word n wide).0 refl))
     ∙ ap (λ b. if b then decimal n ∷ [] else []) (decimal_some n wide)
 
 pub open_again : (n : ℕ) (tag : List ℕ) → IsCount n → IsTag tag → meaning_of (open_text n tag) ≡ Ok (Open n tag)

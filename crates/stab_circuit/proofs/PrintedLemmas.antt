@@ -1,5 +1,5 @@
 -- Printed contents hold no line end and no comment, and begin and end without spacing.
-use Rattle.std.proofs.Common.{◌≡◌, ◌<◌, ◌^◌, refl, ap, sym, ◌∙◌, subst, ℕ, ◌==◌, not, List, [], ◌∷◌, ◌++◌, Bool, true, false, length, arith, codes, inl, inr}
+use Rattle.std.proofs.Common.{◌≡◌, refl, ap, ◌∙◌, ℕ, ◌==◌, List, [], ◌∷◌, ◌++◌, Bool, true, false, arith, codes, inl, inr}
 use Rattle.std.specs.Fmt.{decimal}
 use Rattle.std.proofs.lemmas.Bool.Decides.{nat_tests}
 use Rattle.stab_circuit.specs.declared.item.Operation.{Operation}
@@ -12,7 +12,7 @@ use Rattle.stab_circuit.proofs.SureLemmas.{IsCount, IsCoordinate, IsGoodKind, Is
 use Rattle.stab_circuit.proofs.NeatLemmas.{Ends, IsSolid, IsNeat, ends-append, ends_one, solid_word}
 use Rattle.stab_circuit.proofs.AgainLemmas.{decimal_digits, coordinate_free, further}
 use Rattle.stab_circuit.proofs.ShapeLemmas.{IsName, free_further}
-use Rattle.stab_circuit.proofs.ContentLemmas.{IsClear, EndsWell, AreTargets, ends_well, well_well, kind_is, repeat_is, kind_targets, kind_coordinates}
+use Rattle.stab_circuit.proofs.ContentLemmas.{IsClear, EndsWell, ends_well, well_well, kind_is, repeat_is, kind_targets, kind_coordinates}
 
 -- a test that fails on all bytes that are printed, but perhaps on those of tags
 record IsOuter (p : ℕ → Bool) : Type 0 where
@@ -39,14 +39,14 @@ line_ends_outer = record {
   brace = refl;
 }
   where
-  name_no : (b : ℕ) → is_name_byte b ≡ true → (b == 10) ≡ false
-  name_no b e = grind (arith, nat_tests)
+    name_no : (b : ℕ) → is_name_byte b ≡ true → (b == 10) ≡ false
+    name_no b e = grind (arith, nat_tests)
 
-  coordinate_no : (b : ℕ) → is_coordinate_byte b ≡ true → (b == 10) ≡ false
-  coordinate_no b e = grind (arith, nat_tests)
+    coordinate_no : (b : ℕ) → is_coordinate_byte b ≡ true → (b == 10) ≡ false
+    coordinate_no b e = grind (arith, nat_tests)
 
-  digit_no : (b : ℕ) → is_digit b ≡ true → (b == 10) ≡ false
-  digit_no b e = grind (arith, nat_tests)
+    digit_no : (b : ℕ) → is_digit b ≡ true → (b == 10) ≡ false
+    digit_no b e = grind (arith, nat_tests)
 
 comments_outer : IsOuter (is_byte 35)
 comments_outer = record {
@@ -61,14 +61,14 @@ comments_outer = record {
   brace = refl;
 }
   where
-  name_no : (b : ℕ) → is_name_byte b ≡ true → (b == 35) ≡ false
-  name_no b e = grind (arith, nat_tests)
+    name_no : (b : ℕ) → is_name_byte b ≡ true → (b == 35) ≡ false
+    name_no b e = grind (arith, nat_tests)
 
-  coordinate_no : (b : ℕ) → is_coordinate_byte b ≡ true → (b == 35) ≡ false
-  coordinate_no b e = grind (arith, nat_tests)
+    coordinate_no : (b : ℕ) → is_coordinate_byte b ≡ true → (b == 35) ≡ false
+    coordinate_no b e = grind (arith, nat_tests)
 
-  digit_no : (b : ℕ) → is_digit b ≡ true → (b == 35) ≡ false
-  digit_no b e = grind (arith, nat_tests)
+    digit_no : (b : ℕ) → is_digit b ≡ true → (b == 35) ≡ false
+    digit_no b e = grind (arith, nat_tests)
 
 tag_free : (p : ℕ → Bool) → IsOuter p → (tag : List ℕ) → Free p tag → Free p (tag_text tag)
 tag_free p o [] f = tt
@@ -100,11 +100,11 @@ name_solid : (name : List ℕ) → IsName name → IsSolid name
 name_solid name n =
     solid_word name (each_weaker (λ b. is_name_byte b ≡ true) (λ b. is_spacing b ≡ false) name (λ b e. no_spacing b e) n.bytes) (ap is_some_word n.front ∙ some_first n.first n.rest)
   where
-  no_spacing : (b : ℕ) → is_name_byte b ≡ true → is_spacing b ≡ false
-  no_spacing b e = grind (arith, nat_tests)
+    no_spacing : (b : ℕ) → is_name_byte b ≡ true → is_spacing b ≡ false
+    no_spacing b e = grind (arith, nat_tests)
 
-  some_first : (x : ℕ) (xs : List ℕ) → is_some_word (x ∷ xs) ≡ true
-  some_first x xs = grind arith
+    some_first : (x : ℕ) (xs : List ℕ) → is_some_word (x ∷ xs) ≡ true
+    some_first x xs = grind arith
 
 tag_ends : (tag : List ℕ) → EndsWell (tag_text tag)
 tag_ends [] = inl refl
@@ -121,8 +121,8 @@ headed_solid : (name tag rest : List ℕ) → IsName name → Ends (head_text na
 headed_solid name tag rest n e =
     record { first = n.first; rest = (n.rest ++ tag_text tag) ++ rest; front = ap (λ l. (l ++ tag_text tag) ++ rest) n.front; solid = no_spacing n.first n.letter; ends = e }
   where
-  no_spacing : (b : ℕ) → is_letter b ≡ true → is_spacing b ≡ false
-  no_spacing b e = grind (arith, nat_tests)
+    no_spacing : (b : ℕ) → is_letter b ≡ true → is_spacing b ≡ false
+    no_spacing b e = grind (arith, nat_tests)
 
 operation_solid : (op : Operation) → IsGoodKind op.kind → IsSolid (operation_text op)
 operation_solid op g =

@@ -1,16 +1,15 @@
 -- The shape of a printed content is read again.
-use Rattle.std.proofs.Common.{◌≡◌, ◌<◌, ◌≤◌, refl, ap, sym, ◌∙◌, subst, ℕ, ◌+◌, ◌-◌, ◌==◌, ◌&&◌, ◌||◌, nat_lt, zero, suc, List, [], ◌∷◌, ◌++◌, Bool, true, false, not, length, take, drop, append_assoc, arith, if◌then◌else◌, Result, Ok, Err, codes}
+use Rattle.std.proofs.Common.{◌≡◌, refl, ap, sym, ◌∙◌, ℕ, ◌-◌, ◌==◌, ◌&&◌, ◌||◌, List, [], ◌∷◌, ◌++◌, Bool, true, false, not, length, take, drop, append_assoc, arith, if◌then◌else◌, Ok, Err}
 use Rattle.std.specs.List.{prefix_len, before_first, after_first, list_any, list_all, take_while}
 use Rattle.std.proofs.lemmas.List.{length-append}
 use Rattle.std.proofs.lemmas.Bool.Decides.{nat_tests}
-use Rattle.stab_pauli.specs.declared.refusal.Refusal.{Refusal}
 use Rattle.stab_pauli.specs.declared.refusal.Refusal.TheVariants.{BadLine}
 use Rattle.stab_circuit.specs.Results.{◌>>=◌}
-use Rattle.stab_circuit.specs.Lines.{Shape, is_spacing, is_byte, is_letter, is_name_byte, is_brace, is_apart, bracketed, has_byte, starts_with_byte, ends_with_byte, without_open, shaped, behind_tag, shape_of}
+use Rattle.stab_circuit.specs.Lines.{is_spacing, is_byte, is_letter, is_name_byte, is_brace, is_apart, bracketed, has_byte, starts_with_byte, ends_with_byte, without_open, shaped, behind_tag, shape_of}
 use Rattle.stab_circuit.specs.Targets.{is_coordinate_byte}
 use Rattle.stab_circuit.specs.Prints.{tag_text, arguments_text, head_text}
 use Rattle.stab_circuit.proofs.BoolLemmas.{chosen, passed, both, and_left, and_right}
-use Rattle.stab_circuit.proofs.FreeLemmas.{Each, Free, Stops, free-append, prefix_front, take_front, drop_front, before_front, after_front, has_front, any_free, starts_free, ends_free, ends_with_last, each_weaker}
+use Rattle.stab_circuit.proofs.FreeLemmas.{Each, Free, Stops, free-append, prefix_front, take_front, drop_front, before_front, after_front, has_front, any_free, ends_free, ends_with_last, each_weaker}
 use Rattle.stab_circuit.proofs.SureLemmas.{IsCoordinate}
 use Rattle.stab_circuit.proofs.AgainLemmas.{further, coordinate_free}
 
@@ -52,10 +51,10 @@ apart_again (b ∷ bs) a =
     let spaced : is_spacing b ≡ true = ap is_spacing a in
     either (length (b ∷ bs) == 0) (is_spacing b) (list_any is_spacing (take 0 bs)) ((length (b ∷ bs) == 1) && ends_with_byte (b ∷ bs) 123) spaced
   where
-  either : (p q r s : Bool) → q ≡ true → (p || (q || r) || s) ≡ true
-  either true q r s e = refl
-  either false true r s e = refl
-  either false false r s e = cc
+    either : (p q r s : Bool) → q ≡ true → (p || (q || r) || s) ≡ true
+    either true q r s e = refl
+    either false true r s e = refl
+    either false false r s e = cc
 
 -- what stands in brackets is read again
 brackets_again : (opening closing : ℕ) (all inner rest : List ℕ) → (opening == opening) ≡ true → (closing == closing) ≡ true → Free (is_byte closing) inner → all ≡ inner ++ closing ∷ rest
@@ -68,9 +67,9 @@ brackets_again opening closing all inner rest e f free same =
     ∙ ap (λ l. Ok (l, after_first (is_byte closing) (inner ++ closing ∷ rest))) (before_front (is_byte closing) inner closing rest free f)
     ∙ ap (λ l. Ok (inner, l)) (after_front (is_byte closing) inner closing rest free f)
   where
-  drop_none : (xs : List ℕ) → drop 0 xs ≡ xs
-  drop_none [] = refl
-  drop_none (x ∷ xs) = refl
+    drop_none : (xs : List ℕ) → drop 0 xs ≡ xs
+    drop_none [] = refl
+    drop_none (x ∷ xs) = refl
 
 no_brackets : (opening closing : ℕ) (rest : List ℕ) → Stops (is_byte opening) rest → bracketed opening closing rest ≡ Ok ([], rest)
 unfolding bracketed
@@ -162,8 +161,8 @@ shaped_again content name tag inner tail targets open' l n a f g same o =
 brace_free : (xs : List ℕ) → Free is_brace xs → Free (is_byte 123) xs
 brace_free xs f = each_weaker (λ b. is_brace b ≡ false) (λ b. is_byte 123 b ≡ false) xs (λ b e. no_open b e) f
   where
-  no_open : (b : ℕ) → is_brace b ≡ false → (b == 123) ≡ false
-  no_open b e = grind (arith, nat_tests)
+    no_open : (b : ℕ) → is_brace b ≡ false → (b == 123) ≡ false
+    no_open b e = grind (arith, nat_tests)
 
 -- the shape of a printed instruction
 pub shape_again : (name tag : List ℕ) (arguments : List (List ℕ)) (tail : List ℕ) → IsName name → Free (is_byte 93) tag → Each IsCoordinate arguments → IsApart tail → Free is_brace tail
@@ -172,8 +171,8 @@ shape_again name tag arguments tail n t c a f =
     let closed : ends_with_byte tail 123 ≡ false = ends_free 123 tail (brace_free tail f) in
     cut_again name tag arguments tail n t c a
     ∙ shaped_again (content_text name tag arguments tail) name tag (inner_of arguments) tail tail false (letter_again name tag arguments tail n) (name_again name tag arguments tail n a)
-      (apart_again tail a)
-      (free_inner is_brace no_brace refl refl arguments c) f (passed (ends_with_byte tail 123) _ _ closed) closed
+    (apart_again tail a)
+    (free_inner is_brace no_brace refl refl arguments c) f (passed (ends_with_byte tail 123) _ _ closed) closed
 
 -- the shape of the printed opening of a block
 pub open_shape_again : (name tag front : List ℕ) → IsName name → Free (is_byte 93) tag → IsApart (front ++ 123 ∷ []) → Free is_brace front
