@@ -1,3 +1,4 @@
+use crate::summary::item_summary;
 use crate::{Circuit, read_circuit, read_item, write_circuit};
 use stab_pauli::{CutInput, EndlessInput, Fault, MemoryInput, MemoryOutput, Refusal};
 use std::alloc::Global;
@@ -160,21 +161,25 @@ fn a_circuit_has_its_numbers(rt: HostRuntime) -> Result<(), Fail> {
 
 #[test]
 fn an_item_is_read_alone(rt: HostRuntime) -> Result<(), Fail> {
-    for (text, number, line) in [
-        ("CX 0 1 2 3", 0, 0),
-        ("\nREPEAT 3 {\nX 0\n\nM 0\n}\n# note\n", 0, 0),
-        ("DETECTOR rec[-7]", 0, 0),
-        ("H 0\nH 1", 11, 2),
-        ("H 0\nNOPE", 11, 2),
-        ("REPEAT 3 {\n}\n\nX 0", 11, 4),
-        ("H 0\n}", 5, 2),
-        ("NOPE", 1, 1),
-        ("REPEAT 2 {\nX 0", 5, 1),
-        ("", 11, 0),
-        (" \n# note", 11, 0),
+    for (text, number, line, steps) in [
+        ("CX 0 1 2 3", 0, 0, 2),
+        ("\nREPEAT 3 {\nX 0\n\nM 0\n}\n# note\n", 0, 0, 6),
+        ("DETECTOR rec[-7]", 0, 0, 1),
+        ("REPEAT 9 {\nTICK\n}", 0, 0, 0),
+        ("H 0\nH 1", 11, 2, 0),
+        ("H 0\nNOPE", 11, 2, 0),
+        ("REPEAT 3 {\n}\n\nX 0", 11, 4, 0),
+        ("H 0\n}", 5, 2, 0),
+        ("NOPE", 1, 1, 0),
+        ("REPEAT 2 {\nX 0", 5, 1, 0),
+        ("", 11, 0, 0),
+        (" \n# note", 11, 0, 0),
     ] {
-        let found = fault_of(read_item(rt.alloc(), text.as_bytes()));
-        assert_eq!(rt; found, (number, line), "at {text}");
+        let found = match read_item(rt.alloc(), text.as_bytes()) {
+            Ok(item) => (0, 0, item_summary(&item).steps),
+            Err(fault) => (fault.refusal.number(), fault.line, 0),
+        };
+        assert_eq!(rt; found, (number, line, steps), "at {text}");
     }
     Ok(())
 }
