@@ -1,6 +1,7 @@
 //! The program `bench`: times what a tableau does, and a plain loop over as many bytes.
 //!
-//! Without words it prints one fixed line. With the word `measure` it prints a table for each size.
+//! Without words it prints one fixed line. With the word `measure` it prints a table for each size,
+//! and the time to read a long circuit text.
 //!
 //! - `work`: what is timed.
 //! - `state`: the states and the string that the works take.
@@ -8,24 +9,27 @@
 //! - `subject`: does each work.
 //! - `timing`: the best of several rounds.
 //! - `report`: the tables.
+//! - `reading`: a long circuit text, and the time to read it.
 //!
 //! It is proved safe, and nothing is claimed of the times.
 #![tactic(auto)]
 
 mod bytes;
+mod failure;
+mod reading;
 mod report;
 mod state;
 mod subject;
 mod timing;
 mod work;
 
-use anyhow::{Result, bail};
+use failure::Failure;
 use std::env;
 
 /// The numbers of qubits that are measured.
 const SIZES: [usize; 3] = [64, 256, 1024];
 
-fn main(rt: HostRuntime) -> Result<()> {
+fn main(rt: HostRuntime) -> Result<(), Failure> {
     let words: Vec<String> = env::args(&rt)?.skip(1).collect(rt.alloc())?;
     match words.as_slice() {
         [] => println!(rt; "bench: the word measure times what a tableau does")?,
@@ -33,8 +37,9 @@ fn main(rt: HostRuntime) -> Result<()> {
             for qubits in SIZES {
                 report::print_table(&rt, qubits)?;
             }
+            reading::print_time(&rt)?;
         }
-        _ => bail!("the only word is measure"),
+        _ => return Err(Failure::Words),
     }
     Ok(())
 }

@@ -1,14 +1,17 @@
 ghost use Rattle.std.specs.Prelude.{◌≡◌, ◌<◌, ◌≤◌};
 
+use super::failure::Failure;
 use super::subject::Subject;
 use super::work::Work;
 use super::{state, timing};
-use anyhow::Result;
 use stab_tableau::PairGate;
 use std::time::CpuClock;
 
 /// Prints a table of the times at n qubits, and of their ratios to the plain loop and to a gate CX.
-pub(super) fn print_table<R: CpuClock + AllocGlobal + Print>(rt: &R, n: usize) -> Result<()>
+pub(super) fn print_table<R: CpuClock + AllocGlobal + Print>(
+    rt: &R,
+    n: usize,
+) -> Result<(), Failure>
     requires several { 1 < n }
     requires in_range { n ≤ 1024 }
 {

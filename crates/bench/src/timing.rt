@@ -1,8 +1,8 @@
 ghost use Rattle.std.specs.Prelude.{◌≡◌, ◌<◌, ◌≤◌};
 
+use super::failure::Failure;
 use super::subject::Subject;
 use super::work::Work;
-use anyhow::Result;
 use std::time::{CpuClock, Duration};
 
 /// The best of so many rounds counts, since other programs disturb the rest.
@@ -38,7 +38,7 @@ pub fn nanoseconds<R: CpuClock + AllocGlobal>(
     rt: &R,
     subject: &mut Subject,
     work: Work,
-) -> Result<f64>
+) -> Result<f64, Failure>
     ensures qubits { subject.new.tableau.qubits ≡ subject.old.tableau.qubits }
 {
     let round = round_of(work, subject.len() as u32);
@@ -56,7 +56,7 @@ fn time_of<R: CpuClock + AllocGlobal>(
     subject: &mut Subject,
     work: Work,
     round: Round,
-) -> Result<Duration>
+) -> Result<Duration, Failure>
     requires in_range { round.calls ≤ subject.old.tableau.qubits }
     ensures qubits { subject.new.tableau.qubits ≡ subject.old.tableau.qubits }
 {

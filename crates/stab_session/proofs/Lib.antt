@@ -1,0 +1,5 @@
+mod RunLemmas
+mod StateLemmas
+mod FutureLemmas
+mod FitLemmas
+mod ShotLemmas

@@ -1,14 +1,27 @@
 //! Runs of circuits.
 //!
 //! - `coins`: the bits that decide outcomes which nothing else decides.
+//! - `records`: the records that `rec[-k]` names, and their parity.
+//! - `outputs`: what steps have given so far.
+//! - `apply`: one step on a tableau.
+//! - `run`: one run of a circuit, and what it gives.
+//! - `laws`: what a run depends on.
 //!
 //! Proved: coins are one fixed sequence of bits by number, which no call changes, and a seed gives
-//! the bits of ChaCha8 that `specs/Coins.antt` names.
+//! the bits of ChaCha8 that `specs/Coins.antt` names. A run gives the records, flags, detectors and
+//! observables that the group rules of `specs/Runs.antt` give for the circuit's unrolled steps, and
+//! depends on no coin but those that decide.
 #![tactic(auto)]
 
+mod apply;
 mod coins;
+pub mod laws;
+mod outputs;
+mod records;
+mod run;
 
 pub use coins::{Coins, ListCoins, SeedCoins};
+pub use run::{Shot, run_once};
 
 #[cfg(test)]
 mod tests;

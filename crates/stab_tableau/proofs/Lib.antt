@@ -25,4 +25,5 @@ pub mod GeneratedLemmas
 pub mod ObservableLemmas
 pub mod MeasureLemmas
 pub mod TableauMeasureLemmas
+pub mod FixedLemmas
 pub mod TableauColumnLemmas

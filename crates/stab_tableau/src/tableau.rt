@@ -1,4 +1,4 @@
-use super::collapse::{Collapse, measure};
+use super::collapse::{Collapse, fixed_sign, measure};
 use super::gate::{Gate, PairGate};
 use super::observable::Observable;
 use super::preimages::Preimages;
@@ -30,7 +30,7 @@ impl Model for Tableau {
 }
 
 impl Tableau {
-    ghost use Rattle.std.specs.Prelude.{◌≡◌, ◌≢◌, ℕ, ◌<◌, ◌≤◌, ◌↔◌, Bool, true, false, [], length, IfOk, IfErr};
+    ghost use Rattle.std.specs.Prelude.{◌≡◌, ◌≢◌, ℕ, ◌<◌, ◌≤◌, ◌↔◌, Bool, true, false, [], length, IfOk, IfErr, IfSome};
     ghost use Rattle.stab_pauli.specs.Paulis.{Signed, single, with_sign};
     ghost use Rattle.stab_pauli.specs.declared.refusal.Refusal.TheVariants.{OutOfMemory};
     ghost use Rattle.stab_tableau.specs.Gates.{back, back_pair};
@@ -157,6 +157,26 @@ impl Tableau {
         let observable = &Observable::Single(letter, qubit);
         let rows = self.rows.as_mut_slice();
         measure(rows, &mut self.scratch, observable, coin)
+    }
+
+    /// The outcome of a measurement of one letter on a qubit where it is fixed, or `None` where a coin would decide.
+    ///
+    /// A measurement with a fixed outcome leaves the state as it is, so after `Some` there is nothing to collapse.
+    pub fn fixed_letter(&mut self, letter: Letter, qubit: usize) -> Option<bool>
+        requires in_range { qubit < self.old.qubits }
+        ensures unchanged { self.new ≡ self.old }
+        ensures none { (result ≡ None) ↔ (is_free_by (stabilises self.old) (single self.old.qubits qubit letter) ≡ true) }
+        ensures outcome { IfSome result (λ b. (coin : Bool) → outcome_by (stabilises self.old) (single self.old.qubits qubit letter) coin ≡ b) }
+        ensures members { IfSome result (λ b. (p : Signed) → length p.letters ≡ self.old.qubits → stabilises self.old p ≡ projected_by (stabilises self.old) (single self.old.qubits qubit letter) b p) }
+    {
+        match letter {
+            Letter::X => fixed_sign(&self.rows[qubit].x),
+            Letter::Z => fixed_sign(&self.rows[qubit].z),
+            Letter::I | Letter::Y => {
+                self.rows[qubit].copy_into(letter, &mut self.scratch.x);
+                fixed_sign(&self.scratch.x)
+            }
+        }
     }
 
     /// Stabiliser k of the n stabilisers that stand in the columns of the tableau, k below n.

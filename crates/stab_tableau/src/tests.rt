@@ -11,7 +11,7 @@ use std::test::Fail;
 const MISUSED: &str = "the call asks for more";
 
 // The Pauli that a text such as `-_XZ` stands for.
-pub fn read(alloc: Global, text: &str) -> Result<Pauli, Refusal> {
+fn read(alloc: Global, text: &str) -> Result<Pauli, Refusal> {
     let mut pauli = Pauli::identity(alloc, text.len().saturating_sub(1))?;
     for (place, byte) in text.as_bytes().iter().enumerate() {
         match *byte {
@@ -33,7 +33,7 @@ fn put(pauli: &mut Pauli, place: usize, letter: Letter) {
 }
 
 // The Pauli that has the first letter of a text such as `-XZ` on qubit 0 among n, and the second on the last qubit.
-pub fn spread(alloc: Global, n: usize, text: &str) -> Result<Pauli, Refusal> {
+fn spread(alloc: Global, n: usize, text: &str) -> Result<Pauli, Refusal> {
     let pair = read(alloc, text)?;
     let mut pauli = Pauli::identity(alloc, n)?;
     if n > 1 && pair.len() == 2 && pauli.len() == n {
@@ -45,17 +45,17 @@ pub fn spread(alloc: Global, n: usize, text: &str) -> Result<Pauli, Refusal> {
 }
 
 // Whether the Pauli is printed as the text.
-pub fn prints(alloc: Global, pauli: &Pauli, text: &str) -> Result<bool, Refusal> {
+fn prints(alloc: Global, pauli: &Pauli, text: &str) -> Result<bool, Refusal> {
     let mut out = MemoryOutput::new(alloc, 256)?;
     pauli.write_text(&mut out)?;
     Ok(out.bytes() == text.as_bytes())
 }
 
-pub fn zeros(alloc: Global, n: usize) -> Result<Tableau, Refusal> {
+fn zeros(alloc: Global, n: usize) -> Result<Tableau, Refusal> {
     Tableau::new(alloc, n.min(1024))
 }
 
-pub fn apply(tableau: &mut Tableau, gate: Gate, qubit: usize) -> Result<(), &'static str> {
+fn apply(tableau: &mut Tableau, gate: Gate, qubit: usize) -> Result<(), &'static str> {
     if qubit >= tableau.len() {
         return Err(MISUSED);
     }
@@ -63,7 +63,7 @@ pub fn apply(tableau: &mut Tableau, gate: Gate, qubit: usize) -> Result<(), &'st
     Ok(())
 }
 
-pub fn apply_pair(
+fn apply_pair(
     tableau: &mut Tableau,
     gate: PairGate,
     first: usize,
@@ -76,25 +76,21 @@ pub fn apply_pair(
     Ok(())
 }
 
-pub fn sign(tableau: &mut Tableau, pauli: &Pauli) -> Result<Option<bool>, &'static str> {
+fn sign(tableau: &mut Tableau, pauli: &Pauli) -> Result<Option<bool>, &'static str> {
     if pauli.len() != tableau.len() {
         return Err(MISUSED);
     }
     Ok(tableau.sign_of(pauli))
 }
 
-pub fn collapse(
-    tableau: &mut Tableau,
-    pauli: &Pauli,
-    coin: bool,
-) -> Result<Collapse, &'static str> {
+fn collapse(tableau: &mut Tableau, pauli: &Pauli, coin: bool) -> Result<Collapse, &'static str> {
     if pauli.len() != tableau.len() {
         return Err(MISUSED);
     }
     Ok(tableau.collapse(pauli, coin))
 }
 
-pub fn collapse_letter(
+fn collapse_letter(
     tableau: &mut Tableau,
     letter: Letter,
     qubit: usize,
@@ -107,19 +103,19 @@ pub fn collapse_letter(
 }
 
 // The sign of the Pauli that a text such as `-_XZ` stands for.
-pub fn sign_at(tableau: &mut Tableau, alloc: Global, text: &str) -> Result<Option<bool>, Fail> {
+fn sign_at(tableau: &mut Tableau, alloc: Global, text: &str) -> Result<Option<bool>, Fail> {
     let pauli = read(alloc, text)?;
     Ok(sign(tableau, &pauli)?)
 }
 
 // The sign of the Pauli that has the first letter of a text on qubit 0, and the second on the last qubit.
-pub fn sign_across(tableau: &mut Tableau, alloc: Global, text: &str) -> Result<Option<bool>, Fail> {
+fn sign_across(tableau: &mut Tableau, alloc: Global, text: &str) -> Result<Option<bool>, Fail> {
     let pauli = spread(alloc, tableau.len(), text)?;
     Ok(sign(tableau, &pauli)?)
 }
 
 // What the measurement of that Pauli answers.
-pub fn collapse_across(
+fn collapse_across(
     tableau: &mut Tableau,
     alloc: Global,
     text: &str,
@@ -130,7 +126,7 @@ pub fn collapse_across(
 }
 
 // A Bell pair of qubit 0 and the last of n.
-pub fn bell(alloc: Global, n: usize) -> Result<Tableau, Refusal> {
+fn bell(alloc: Global, n: usize) -> Result<Tableau, Refusal> {
     let mut tableau = zeros(alloc, n)?;
     if n > 1 && n - 1 < tableau.len() {
         tableau.apply(Gate::H, 0);

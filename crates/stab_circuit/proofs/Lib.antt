@@ -1,0 +1,16 @@
+mod BoolLemmas
+mod ResultLemmas
+mod ItemLemmas
+mod ViewLemmas
+mod ReaderLemmas
+mod StepLemmas
+mod CursorLemmas
+mod SummaryLemmas
+mod FaultLemmas
+mod ReadingLemmas
+mod RefusalLemmas
+mod OneItemLemmas
+mod TextLemmas
+mod WordLemmas
+mod PieceLemmas
+mod TargetLemmas

@@ -1,0 +1,163 @@
+-- The summaries of items.
+use Rattle.std.proofs.Common.{◌≡◌, ◌≤◌, ◌<◌, refl, ap, sym, ◌∙◌, ℕ, ◌+◌, ◌*◌, ◌-◌, zero, suc, max, min, true, false, List, [], ◌∷◌, ◌++◌, length, map, take, drop, get_or, All, arith, drop-cons, append-nil, nat_lt, Option, Some, None, if◌then◌else◌}
+use Rattle.std.proofs.lemmas.List.{length-append, length-map, take_more}
+use Rattle.std.proofs.lemmas.List.Elements.{All-head, All-tail}
+use Rattle.std.specs.Global.{Vec}
+use Rattle.stab_pauli.specs.declared.refusal.Refusal.TheVariants.{LookbackTooFar, TooManySteps}
+use Rattle.stab_pauli.specs.declared.letter.Letter.TheVariants as letter
+use Rattle.stab_tableau.specs.declared.gate.Gate.{Gate}
+use Rattle.stab_tableau.specs.declared.gate.PairGate.{PairGate}
+use Rattle.stab_circuit.specs.declared.range.MeasureTarget.{MeasureTarget}
+use Rattle.stab_circuit.specs.declared.item.Measurement.{Measurement}
+use Rattle.stab_circuit.specs.declared.item.Measurement.TheVariants as measure
+use Rattle.stab_circuit.specs.declared.item.Kind.{Kind}
+use Rattle.stab_circuit.specs.declared.item.Kind.TheVariants as kind
+use Rattle.stab_circuit.specs.declared.item.Operation.{Operation}
+use Rattle.stab_circuit.specs.declared.item.Item.{Item}
+use Rattle.stab_circuit.specs.declared.item.Node.TheVariants as node
+use Rattle.stab_circuit.specs.declared.summary.Summary.{Summary}
+use Rattle.stab_circuit.specs.Lookbacks.{IsLookback}
+use Rattle.stab_circuit.specs.Items.{Items, done, next, block, join, before}
+use Rattle.stab_circuit.specs.Views.{item_of, items_of}
+use Rattle.stab_circuit.specs.Steps.{Step, one, two, collapse, detector, observable, measured, steps_of, rounds, unroll, makes, records_of, lookbacks, pair_qubits, target_qubits, past, past_named, qubits_of, observables_of, named_qubits, named_observables, check_of, looks_too_far}
+use Rattle.stab_circuit.specs.Summaries.{greatest, reach, summed, kind_summary_of, summary_of, after, repeated, judged}
+use Rattle.stab_circuit.proofs.ViewLemmas.{item_of_operation, item_of_repeat, items_of_pushed}
+use Rattle.stab_circuit.proofs.StepLemmas.{length-rounds, records_of-append, records_of-rounds, reach-append, reach-rounds, unroll-join, capped_sum, capped_left, capped_times, looks_too_far_reach}
+
+pub greatest_small : (ks : List ℕ) → All IsLookback ks → greatest ks ≤ 16777215
+greatest_small [] a = omega arith
+greatest_small (k ∷ ks) a = omega (arith, (All-head IsLookback k ks a).1, greatest_small ks (All-tail IsLookback k ks a))
+
+-- loops over numbers, from the back
+from_place : {A : Type 0} (f : List A → ℕ) (g : A → ℕ) (xs : List A) (i : ℕ) (d : A) → i < length xs → ((x : A) (more : List A) → f (x ∷ more) ≡ max (g x) (f more))
+    → f (drop i xs) ≡ max (g (get_or xs i d)) (f (drop (i + 1) xs))
+from_place f g xs i d h e =
+    let next' : suc i ≡ i + 1 = omega arith in
+    ap f (drop-cons xs i d h) ∙ e (get_or xs i d) (drop (suc i) xs) ∙ ap (λ n. max (g (get_or xs i d)) (f (drop n xs))) next'
+
+pub greatest_dropped : (ks : List ℕ) (i : ℕ) → i < length ks → greatest (drop i ks) ≡ max (get_or ks i 0) (greatest (drop (i + 1) ks))
+greatest_dropped ks i h = from_place greatest (λ k. k) ks i 0 h (λ k more. refl)
+
+pub past_dropped : (qs : List ℕ) (i d : ℕ) → i < length qs → past (drop i qs) ≡ max (get_or qs i d + 1) (past (drop (i + 1) qs))
+past_dropped qs i d h = from_place past (λ q. q + 1) qs i d h (λ q more. refl)
+
+pub past_pairs_dropped : (ps : List (ℕ × ℕ)) (i : ℕ) (d : ℕ × ℕ) → i < length ps
+    → past (pair_qubits (drop i ps)) ≡ max (max ((get_or ps i d).0 + 1) ((get_or ps i d).1 + 1)) (past (pair_qubits (drop (i + 1) ps)))
+past_pairs_dropped ps i d h = from_place (λ l. past (pair_qubits l)) (λ p. max (p.0 + 1) (p.1 + 1)) ps i d h (λ p more. omega arith)
+
+pub past_targets_dropped : (ts : List MeasureTarget) (i : ℕ) (d : MeasureTarget) → i < length ts
+    → past (target_qubits (drop i ts)) ≡ max ((get_or ts i d).qubit + 1) (past (target_qubits (drop (i + 1) ts)))
+past_targets_dropped ts i d h = from_place (λ l. past (target_qubits l)) (λ t. t.qubit + 1) ts i d h (λ t more. refl)
+
+abbrev summary : ℕ → ℕ → ℕ → ℕ → ℕ → Summary
+summary a b c q o = record { steps = a; records = b; reach = c; qubits = q; observables = o }
+
+same_summary : (a b c d e f q o r p : ℕ) → a ≡ d → b ≡ e → c ≡ f → q ≡ r → o ≡ p → summary a b c q o ≡ summary d e f r p
+same_summary a b c d e f q o r p h k l m n =
+    ap (λ x. summary x b c q o) h ∙ ap (λ x. summary d x c q o) k ∙ ap (λ x. summary d e x q o) l ∙ ap (λ x. summary d e f x o) m ∙ ap (λ x. summary d e f r x) n
+
+-- steps that make no records and don't look back
+abbrev IsPlain : Step → Type 0
+IsPlain s = (makes s ≡ 0) × (lookbacks s ≡ [])
+
+plain_steps : {A : Type 0} (f : A → Step) (xs : List A) → ((x : A) → IsPlain (f x)) → (records_of (map f xs) ≡ 0) × (reach (map f xs) ≡ 0)
+plain_steps f [] p = (refl, refl)
+plain_steps f (x ∷ xs) p =
+    let rest = plain_steps f xs p in
+    (omega (arith, (p x).0, rest.0), omega (arith, ap greatest (p x).1, rest.1))
+
+plain_summary : {A : Type 0} (f : A → Step) (xs : List A) (q : ℕ) → ((x : A) → IsPlain (f x)) → summed (map f xs) q 0 ≡ summary (min (length xs) 1048577) 0 0 q 0
+plain_summary f xs q p =
+    let r = plain_steps f xs p in
+    same_summary _ _ _ _ _ _ q 0 q 0 (ap (λ n. min n 1048577) (length-map xs f)) (omega (arith, r.0)) r.1 refl refl
+
+pub gate_summary : (g : Gate) (qubits : List ℕ) → kind_summary_of (kind.Gate g qubits) ≡ record { steps = min (length qubits) 1048577; records = 0; reach = 0; qubits = past qubits; observables = 0 }
+gate_summary g qubits = plain_summary (one g) qubits (past qubits) (λ q. (refl, refl))
+
+pub pair_summary : (g : PairGate) (pairs : List (ℕ × ℕ)) → kind_summary_of (kind.PairGate g pairs) ≡ record { steps = min (length pairs) 1048577; records = 0; reach = 0; qubits = past (pair_qubits pairs); observables = 0 }
+pair_summary g pairs = plain_summary (λ pair. two g pair.0 pair.1) pairs (past (pair_qubits pairs)) (λ p. (refl, refl))
+
+pub reset_summary : (qubits : List ℕ) → kind_summary_of (kind.Reset qubits) ≡ record { steps = min (length qubits) 1048577; records = 0; reach = 0; qubits = past qubits; observables = 0 }
+reset_summary qubits = plain_summary (λ q. collapse letter.Z q false false true) qubits (past qubits) (λ q. (refl, refl))
+
+measured_makes : (m : Measurement) (t : MeasureTarget) → (makes (measured m t) ≡ 1) × (lookbacks (measured m t) ≡ [])
+measured_makes measure.M t = (refl, refl)
+measured_makes measure.Mx t = (refl, refl)
+measured_makes measure.Mr t = (refl, refl)
+
+measured_records : (m : Measurement) (ts : List MeasureTarget) → (records_of (map (measured m) ts) ≡ length ts) × (reach (map (measured m) ts) ≡ 0)
+measured_records m [] = (refl, refl)
+measured_records m (t ∷ ts) =
+    let rest = measured_records m ts in
+    let here = measured_makes m t in
+    (omega (arith, here.0, rest.0), omega (arith, ap greatest here.1, rest.1))
+
+pub measure_summary : (m : Measurement) (ts : List MeasureTarget)
+    → kind_summary_of (kind.Measure m ts) ≡ record { steps = min (length ts) 1048577; records = min (length ts) 16777215; reach = 0; qubits = past (target_qubits ts); observables = 0 }
+measure_summary m ts =
+    let q = measured_records m ts in
+    let past' = past (target_qubits ts) in
+    same_summary _ _ _ _ _ _ past' 0 past' 0 (ap (λ n. min n 1048577) (length-map ts (measured m))) (ap (λ n. min n 16777215) q.0) q.1 refl refl
+
+pub detector_summary : (coordinates : List (List ℕ)) (ks : List ℕ) → kind_summary_of (kind.Detector coordinates ks) ≡ record { steps = 1; records = 0; reach = greatest ks; qubits = 0; observables = 0 }
+detector_summary coordinates ks = same_summary _ _ _ _ _ _ _ _ _ _ refl refl (omega arith) refl refl
+
+pub observable_summary : (j : ℕ) (ks : List ℕ) → kind_summary_of (kind.ObservableInclude j ks) ≡ record { steps = 1; records = 0; reach = greatest ks; qubits = 0; observables = j + 1 }
+observable_summary j ks = same_summary _ _ _ _ _ _ _ _ _ _ refl refl (omega arith) refl (omega arith)
+
+-- one list of items after another
+past_named-join : (named : Kind → List ℕ) (xs ys : Items) → past_named named (join xs ys) ≡ max (past_named named xs) (past_named named ys)
+past_named-join named done ys = omega arith
+past_named-join named (next op rest) ys = omega (arith, past_named-join named rest ys)
+past_named-join named (block c t body rest) ys = omega (arith, past_named-join named rest ys)
+
+summary-join : (xs ys : Items) → reach (unroll ys) ≤ 16777215 → summary_of (join xs ys) ≡ after (summary_of xs) (summary_of ys)
+summary-join xs ys h =
+    same_summary _ _ _ _ _ _ _ _ _ _
+    (ap (λ l. min (length l) 1048577) (unroll-join xs ys) ∙ ap (λ n. min n 1048577) (length-append (unroll xs) (unroll ys)) ∙ sym (capped_sum (length (unroll xs)) (length (unroll ys)) 1048577))
+    (ap (λ l. min (records_of l) 16777215) (unroll-join xs ys) ∙ ap (λ n. min n 16777215) (records_of-append (unroll xs) (unroll ys)) ∙ sym (capped_sum (records_of (unroll xs)) (records_of (unroll ys)) 16777215))
+    (ap reach (unroll-join xs ys) ∙ reach-append (unroll xs) (unroll ys) ∙ ap (max (reach (unroll xs))) (sym (capped_left (reach (unroll ys)) (records_of (unroll xs)) 16777215 h)))
+    (past_named-join named_qubits xs ys)
+    (past_named-join named_observables xs ys)
+
+pub operation_summary : (i : Item) (o : Operation) → i.node ≡ node.Operation o → summary_of (before (item_of i) done) ≡ kind_summary_of o.kind
+operation_summary i o e =
+    ap (λ n. summary_of (before (item_of (record { node = n })) done)) e
+    ∙ ap (λ x. summary_of (before x done)) (item_of_operation o)
+    ∙ ap (λ l. summed l (max (past (named_qubits o.kind)) 0) (max (past (named_observables o.kind)) 0)) (append-nil (steps_of o.kind))
+    ∙ same_summary _ _ _ _ _ _ _ _ _ _ refl refl refl (omega arith) (omega arith)
+
+block_summary : (count : ℕ) (xs : Items) → 0 < count → summed (rounds count (unroll xs) ++ []) (max (qubits_of xs) 0) (max (observables_of xs) 0) ≡ repeated count (summary_of xs)
+block_summary count xs h =
+    ap (λ l. summed l (max (qubits_of xs) 0) (max (observables_of xs) 0)) (append-nil (rounds count (unroll xs)))
+    ∙ same_summary _ _ _ _ _ _ _ _ _ _
+    (ap (λ k. min k 1048577) (length-rounds count (unroll xs)) ∙ sym (capped_times count (length (unroll xs)) 1048577))
+    (ap (λ k. min k 16777215) (records_of-rounds count (unroll xs)) ∙ sym (capped_times count (records_of (unroll xs)) 16777215))
+    (reach-rounds count (unroll xs) h)
+    (omega arith)
+    (omega arith)
+
+pub repeat_summary : (i : Item) (count : ℕ) (tag : List ℕ) (body : Vec Item) → i.node ≡ node.Repeat count tag body → 0 < count
+    → summary_of (before (item_of i) done) ≡ repeated count (summary_of (items_of body.items))
+repeat_summary i count tag body e h =
+    ap (λ n. summary_of (before (item_of (record { node = n })) done)) e
+    ∙ ap (λ x. summary_of (before x done)) (item_of_repeat count tag body)
+    ∙ block_summary count (items_of body.items) h
+
+pub summary_taken : (xs : List Item) (n : ℕ) (d : Item) → n < length xs → reach (unroll (before (item_of (get_or xs n d)) done)) ≤ 16777215
+    → summary_of (items_of (take (n + 1) xs)) ≡ after (summary_of (items_of (take n xs))) (summary_of (before (item_of (get_or xs n d)) done))
+summary_taken xs n d h small =
+    let x = get_or xs n d in
+    ap (λ l. summary_of (items_of l)) (take_more xs n d h)
+    ∙ ap summary_of (items_of_pushed (take n xs) x)
+    ∙ summary-join (items_of (take n xs)) (before (item_of x) done) small
+
+still_more : (n : ℕ) → nat_lt 1048576 n ≡ nat_lt 1048576 (min n 1048577)
+still_more n = grind arith
+
+-- a summary tells what refuses a whole circuit
+pub check_judged : (items : Items) → check_of items ≡ judged (summary_of items)
+unfolding check_of
+check_judged items =
+    ap (λ b. if b then Some LookbackTooFar else if nat_lt 1048576 (length (unroll items)) then Some TooManySteps else None) (looks_too_far_reach 0 (unroll items))
+    ∙ ap (λ b. if nat_lt 0 (reach (unroll items)) then Some LookbackTooFar else if b then Some TooManySteps else None) (still_more (length (unroll items)))

@@ -1,0 +1,6 @@
+use Rattle.std.proofs.Common.{◌≡◌, max, drop}
+use Rattle.stab_circuit.specs.Steps.{past, pair_qubits, target_qubits}
+use Rattle.stab_circuit.proofs.summary.past.Given as goal
+
+abbrev pub invariant-loop-qubit : goal.invariant-loop-qubit
+invariant-loop-qubit l = max l.past (past (drop l.qubit-index l.qubits)) ≡ past l.qubits

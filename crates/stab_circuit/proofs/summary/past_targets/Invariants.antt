@@ -1,0 +1,6 @@
+use Rattle.std.proofs.Common.{◌≡◌, max, drop}
+use Rattle.stab_circuit.specs.Steps.{past, pair_qubits, target_qubits}
+use Rattle.stab_circuit.proofs.summary.past_targets.Given as goal
+
+abbrev pub invariant-loop-target : goal.invariant-loop-target
+invariant-loop-target l = max l.past (past (target_qubits (drop l.target-index l.targets))) ≡ past (target_qubits l.targets)

@@ -1,0 +1,8 @@
+use Rattle.std.proofs.Common.{map, take, true, false}
+use Rattle.stab_circuit.specs.Steps.{collapse}
+use Rattle.stab_pauli.specs.declared.letter.Letter.TheVariants as letter
+use Rattle.stab_circuit.specs.Cursors.{Appends}
+use Rattle.stab_circuit.proofs.unrolled.push_resets.Given as goal
+
+abbrev pub invariant-loop-qubit : goal.invariant-loop-qubit
+invariant-loop-qubit l = Appends (map (λ q. collapse letter.Z q false false true) (take l.qubit-index l.qubits)) l.initial.steps.items l.steps.items

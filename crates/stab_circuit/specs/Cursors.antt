@@ -1,0 +1,30 @@
+-- Cursors: which steps the values of the code stand for.
+use Rattle.std.specs.Prelude.{◌≢◌, List, ◌++◌, map, All, ◌≡◌}
+use Rattle.stab_circuit.specs.declared.step.Step.{Step as StepValue}
+use Rattle.stab_circuit.specs.declared.step.Step.TheVariants.{One, Two, Collapse, Detector, Observable}
+use Rattle.stab_circuit.specs.Steps.{Step, one, two, collapse, detector, observable}
+
+-- the step that a value stands for
+abbrev pub step_shown : StepValue → Step
+step_shown (One g q) = one g q
+step_shown (Two g a b) = two g a b
+step_shown (Collapse l q recorded inverted resets) = collapse l q recorded inverted resets
+step_shown (Detector ks) = detector ks.now
+step_shown (Observable j ks) = observable j ks.now
+
+-- the steps that values stand for
+abbrev pub steps_shown : List StepValue → List Step
+steps_shown steps = map step_shown steps
+
+-- a gate on two qubits has two different ones
+abbrev pub IsApart : Step → Type 0
+IsApart (one g q) = Unit {0}
+IsApart (two g a b) = b ≢ a
+IsApart (collapse l q recorded inverted resets) = Unit {0}
+IsApart (detector ks) = Unit {0}
+IsApart (observable j ks) = Unit {0}
+
+-- these steps were put behind others
+pub record Appends (steps : List Step) (old new : List StepValue) : Type 0 where
+  pub appended : steps_shown new ≡ steps_shown old ++ steps
+  pub apart : All IsApart steps

@@ -1,0 +1,30 @@
+-- Items without pointers.
+use Rattle.std.specs.Prelude.{ℕ, List, [], ◌∷◌}
+use Rattle.stab_circuit.specs.declared.item.Operation.{Operation}
+
+-- a list of items
+pub data Items : Type 0 where
+  done : Items
+  next : Operation → Items → Items
+  block : (count : ℕ) → (tag : List ℕ) → (body rest : Items) → Items
+
+-- one item
+pub data OneItem : Type 0 where
+  operation : Operation → OneItem
+  repeat : (count : ℕ) → (tag : List ℕ) → (body : Items) → OneItem
+
+-- an item before others
+abbrev pub before : OneItem → Items → Items
+before (operation op) rest = next op rest
+before (repeat count tag body) rest = block count tag body rest
+
+-- the items of a list
+abbrev pub listed : List OneItem → Items
+listed [] = done
+listed (x ∷ xs) = before x (listed xs)
+
+-- one list of items after another
+abbrev pub join : Items → Items → Items
+join done after = after
+join (next op rest) after = next op (join rest after)
+join (block count tag body rest) after = block count tag body (join rest after)

@@ -1,0 +1,16 @@
+pub mod Results
+pub mod Lines
+pub mod Words
+pub mod Names
+pub mod Lookbacks
+pub mod Targets
+pub mod Items
+pub mod Meanings
+pub mod Inputs
+pub mod Circuits
+pub mod Steps
+pub mod Views
+pub mod Readings
+pub mod Readers
+pub mod Summaries
+pub mod Cursors

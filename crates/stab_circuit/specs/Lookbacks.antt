@@ -1,0 +1,6 @@
+-- Lookbacks: how far back a record may be looked for.
+use Rattle.std.specs.Prelude.{ℕ, ◌<◌}
+
+-- a k of rec[-k]
+abbrev pub IsLookback : ℕ → Type 0
+IsLookback k = (0 < k) × (k < 16777216)

@@ -1,0 +1,67 @@
+-- Readings: how the calls that read a text answer it.
+use Rattle.std.specs.Prelude.{◌≡◌, ◌<◌, Bool, true, false, ◌||◌, IsTrue, Option, Some, None, Result, Ok, Err, List, ℕ, ◌⊎◌}
+use Rattle.stab_pauli.specs.declared.refusal.Refusal.{Refusal}
+use Rattle.stab_pauli.specs.declared.refusal.Refusal.TheVariants.{UnsupportedName, BadArguments, BadTarget, BadPairing, BadBlock, QubitOutOfRange, ObservableOutOfRange, LookbackTooFar, TooManySteps, TooDeep, BadLine, TooLong, ReadFault, OutOfMemory}
+use Rattle.stab_pauli.specs.declared.refusal.Fault.{Fault}
+use Rattle.stab_pauli.specs.Refusals.{whole}
+use Rattle.stab_circuit.specs.declared.item.Item.{Item}
+use Rattle.stab_circuit.specs.declared.circuit.Circuit.{Circuit}
+use Rattle.stab_circuit.specs.Items.{Items}
+use Rattle.stab_circuit.specs.Circuits.{text_fault, item_fault, StandsFor, StandsForOne}
+use Rattle.stab_circuit.specs.Steps.{check_of}
+use Rattle.stab_circuit.specs.Views.{item_of, circuit_items}
+
+-- the text stands for the items, and nothing refuses these as a whole circuit
+abbrev pub IsCircuit : List ℕ → Items → Type 0
+IsCircuit text items = StandsFor text items × (check_of items ≡ None)
+
+-- the text stands for items that are refused as a whole circuit
+abbrev pub IsRefused : List ℕ → Fault → Type 0
+IsRefused text fault = (items : Items) × (refusal : Refusal) × StandsFor text items × (check_of items ≡ Some refusal) × (fault ≡ whole refusal)
+
+-- the fault is that of the text's lines, or of the circuit that it stands for
+abbrev pub IsFaultOf : List ℕ → Fault → Type 0
+IsFaultOf text fault = (text_fault text ≡ Some fault) ⊎ IsRefused text fault
+
+-- the call gave the circuit that the text stands for, or the text's fault, or memory was refused
+abbrev pub ReadsCircuit : List ℕ → Result Circuit Fault → Type 0
+ReadsCircuit text (Ok circuit) = IsCircuit text (circuit_items circuit)
+ReadsCircuit text (Err fault) = (fault ≡ whole OutOfMemory) ⊎ IsFaultOf text fault
+
+-- the call gave the one item that the text stands for, or the text's fault, or memory was refused
+abbrev pub ReadsItem : List ℕ → Result Item Fault → Type 0
+ReadsItem text (Ok item) = StandsForOne text (item_of item)
+ReadsItem text (Err fault) = (fault ≡ whole OutOfMemory) ⊎ (item_fault text ≡ Some fault)
+
+-- whether a line can be refused like this: 1 to 7, 10 and 11
+abbrev pub is_of_line : Refusal → Bool
+is_of_line UnsupportedName = true
+is_of_line BadArguments = true
+is_of_line BadTarget = true
+is_of_line BadPairing = true
+is_of_line BadBlock = true
+is_of_line QubitOutOfRange = true
+is_of_line ObservableOutOfRange = true
+is_of_line TooDeep = true
+is_of_line BadLine = true
+is_of_line r = false
+
+-- whether a whole circuit text can be refused like this: 8, 9, 14, 15 and 20
+abbrev pub is_of_circuit : Refusal → Bool
+is_of_circuit LookbackTooFar = true
+is_of_circuit TooManySteps = true
+is_of_circuit TooLong = true
+is_of_circuit ReadFault = true
+is_of_circuit OutOfMemory = true
+is_of_circuit r = false
+
+-- whether one item's whole text can be refused like this: 11, 14 and 20
+abbrev pub is_of_item : Refusal → Bool
+is_of_item BadLine = true
+is_of_item TooLong = true
+is_of_item OutOfMemory = true
+is_of_item r = false
+
+-- the fault has a line, as a refused line has, or is one of those that have none
+abbrev pub IsPlaced : (Refusal → Bool) → Fault → Type 0
+IsPlaced is_whole fault = (IsTrue (is_of_line fault.refusal) × (0 < fault.line)) ⊎ (IsTrue (is_whole fault.refusal) × (fault.line ≡ 0))

@@ -1,0 +1,153 @@
+-- Steps: the unrolled circuit, and what has to hold of it.
+use Rattle.std.specs.Prelude.{◌≡◌, ℕ, ◌+◌, zero, suc, max, Bool, true, false, ◌||◌, nat_lt, List, [], ◌∷◌, ◌++◌, length, map, if◌then◌else◌, Option, Some, None, Result, Ok, Err}
+use Rattle.std.specs.List.{list_any}
+use Rattle.stab_pauli.specs.declared.letter.Letter.{Letter}
+use Rattle.stab_pauli.specs.declared.letter.Letter.TheVariants as letter
+use Rattle.stab_pauli.specs.declared.refusal.Refusal.{Refusal}
+use Rattle.stab_pauli.specs.declared.refusal.Refusal.TheVariants.{QubitOutOfRange, LookbackTooFar, TooManySteps}
+use Rattle.stab_pauli.specs.declared.refusal.Fault.{Fault}
+use Rattle.stab_pauli.specs.Refusals.{whole}
+use Rattle.stab_tableau.specs.declared.gate.Gate.{Gate}
+use Rattle.stab_tableau.specs.declared.gate.PairGate.{PairGate}
+use Rattle.stab_circuit.specs.declared.range.MeasureTarget.{MeasureTarget}
+use Rattle.stab_circuit.specs.declared.item.Measurement.{Measurement}
+use Rattle.stab_circuit.specs.declared.item.Measurement.TheVariants as measure
+use Rattle.stab_circuit.specs.declared.item.Kind.{Kind}
+use Rattle.stab_circuit.specs.declared.item.Kind.TheVariants as kind
+use Rattle.stab_circuit.specs.Items.{Items, done, next, block}
+
+-- a step of an unrolled circuit
+pub data Step : Type 0 where
+  one : Gate → (qubit : ℕ) → Step
+  two : PairGate → (first second : ℕ) → Step
+  collapse : Letter → (qubit : ℕ) → (recorded inverted resets : Bool) → Step
+  detector : (lookbacks : List ℕ) → Step
+  observable : (number : ℕ) → (lookbacks : List ℕ) → Step
+
+-- the step of a measured target
+abbrev pub measured : Measurement → MeasureTarget → Step
+measured measure.M t = collapse letter.Z t.qubit true t.inverted false
+measured measure.Mx t = collapse letter.X t.qubit true t.inverted false
+measured measure.Mr t = collapse letter.Z t.qubit true t.inverted true
+
+-- the steps of one instruction
+abbrev pub steps_of : Kind → List Step
+steps_of (kind.Gate g qubits) = map (one g) qubits
+steps_of (kind.PairGate g pairs) = map (λ pair. two g pair.0 pair.1) pairs
+steps_of (kind.Measure m targets) = map (measured m) targets
+steps_of (kind.Reset qubits) = map (λ q. collapse letter.Z q false false true) qubits
+steps_of (kind.Detector coordinates ks) = detector ks ∷ []
+steps_of (kind.ObservableInclude j ks) = observable j ks ∷ []
+steps_of kind.Tick = []
+steps_of (kind.QubitCoords coordinates qubits) = []
+steps_of (kind.ShiftCoords coordinates) = []
+
+-- so many rounds of steps
+abbrev pub rounds : ℕ → List Step → List Step
+rounds zero steps = []
+rounds (suc n) steps = steps ++ rounds n steps
+
+-- the steps of the items, each block's as often as it counts
+abbrev pub unroll : Items → List Step
+unroll done = []
+unroll (next op rest) = steps_of op.kind ++ unroll rest
+unroll (block count tag body rest) = rounds count (unroll body) ++ unroll rest
+
+-- how many records a step makes
+abbrev pub makes : Step → ℕ
+makes (collapse l q true inverted resets) = 1
+makes (collapse l q false inverted resets) = 0
+makes (one g q) = 0
+makes (two g a b) = 0
+makes (detector ks) = 0
+makes (observable j ks) = 0
+
+-- how many records the steps make
+abbrev pub records_of : List Step → ℕ
+records_of [] = 0
+records_of (s ∷ ss) = makes s + records_of ss
+
+-- how far back a step looks: the numbers k of its rec[-k]
+abbrev pub lookbacks : Step → List ℕ
+lookbacks (detector ks) = ks
+lookbacks (observable j ks) = ks
+lookbacks (one g q) = []
+lookbacks (two g a b) = []
+lookbacks (collapse l q recorded inverted resets) = []
+
+-- whether some step looks further back than there are records, of which m are there before
+abbrev pub looks_too_far : ℕ → List Step → Bool
+looks_too_far m [] = false
+looks_too_far m (s ∷ ss) = list_any (nat_lt m) (lookbacks s) || looks_too_far (m + makes s) ss
+
+-- the qubits of pairs
+abbrev pub pair_qubits : List (ℕ × ℕ) → List ℕ
+pair_qubits [] = []
+pair_qubits (pair ∷ pairs) = pair.0 ∷ pair.1 ∷ pair_qubits pairs
+
+-- the qubits of measured targets
+abbrev pub target_qubits : List MeasureTarget → List ℕ
+target_qubits targets = map (λ t. t.qubit) targets
+
+-- the qubits that an instruction names
+abbrev pub named_qubits : Kind → List ℕ
+named_qubits (kind.Gate g qubits) = qubits
+named_qubits (kind.PairGate g pairs) = pair_qubits pairs
+named_qubits (kind.Measure m targets) = target_qubits targets
+named_qubits (kind.Reset qubits) = qubits
+named_qubits (kind.QubitCoords coordinates qubits) = qubits
+named_qubits (kind.Detector coordinates ks) = []
+named_qubits (kind.ObservableInclude j ks) = []
+named_qubits kind.Tick = []
+named_qubits (kind.ShiftCoords coordinates) = []
+
+-- the observables that an instruction names
+abbrev pub named_observables : Kind → List ℕ
+named_observables (kind.ObservableInclude j ks) = j ∷ []
+named_observables (kind.Gate g qubits) = []
+named_observables (kind.PairGate g pairs) = []
+named_observables (kind.Measure m targets) = []
+named_observables (kind.Reset qubits) = []
+named_observables (kind.Detector coordinates ks) = []
+named_observables kind.Tick = []
+named_observables (kind.QubitCoords coordinates qubits) = []
+named_observables (kind.ShiftCoords coordinates) = []
+
+-- one more than the greatest of the numbers, or 0
+abbrev pub past : List ℕ → ℕ
+past [] = 0
+past (n ∷ ns) = max (n + 1) (past ns)
+
+-- one more than the greatest number that any instruction names, or 0
+abbrev pub past_named : (Kind → List ℕ) → Items → ℕ
+past_named named done = 0
+past_named named (next op rest) = max (past (named op.kind)) (past_named named rest)
+past_named named (block count tag body rest) = max (past_named named body) (past_named named rest)
+
+-- how many qubits the items have
+abbrev pub qubits_of : Items → ℕ
+qubits_of items = past_named named_qubits items
+
+-- how many observables the items have
+abbrev pub observables_of : Items → ℕ
+observables_of items = past_named named_observables items
+
+-- the most steps of a circuit
+abbrev pub most_steps : ℕ
+most_steps = 1048576
+
+-- what refuses a whole circuit: a lookback, or else the number of steps
+unfoldable pub check_of : Items → Option Refusal
+check_of items =
+    if looks_too_far 0 (unroll items) then Some LookbackTooFar
+    else if nat_lt most_steps (length (unroll items)) then Some TooManySteps
+    else None
+
+-- what refuses a whole circuit on n qubits: a qubit, or else as without n
+abbrev pub check_within : ℕ → Items → Option Refusal
+check_within n items = if nat_lt n (qubits_of items) then Some QubitOutOfRange else check_of items
+
+-- the call found nothing that refuses the whole circuit, or this
+abbrev pub Checks : {A : Type 0} → Result A Fault → Option Refusal → Type 0
+Checks (Ok x) given = given ≡ None
+Checks (Err fault) given = (given ≡ Some fault.refusal) × (fault ≡ whole fault.refusal)

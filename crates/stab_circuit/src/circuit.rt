@@ -1,0 +1,147 @@
+ghost use Rattle.std.specs.Prelude.{◌≡◌, ◌≤◌, ◌⊎◌, length, [], None, IsTrue, IfOk, IfErr, OnOk};
+ghost use Rattle.stab_pauli.specs.Devices.{Failed};
+ghost use Rattle.stab_pauli.specs.Refusals.{whole};
+ghost use Rattle.stab_circuit.specs.Steps.{check_of, Checks};
+ghost use Rattle.stab_circuit.specs.Views.{circuit_items, items_of};
+ghost use Rattle.stab_circuit.specs.Readings.{IsCircuit, IsFaultOf, ReadsCircuit, ReadsItem, IsPlaced, is_of_circuit, is_of_item};
+
+use crate::input::read_text;
+use crate::item::Item;
+use crate::reader::read_lines;
+use crate::summary::{Summary, items_summary};
+use stab_pauli::{Fault, Input, Refusal};
+use std::alloc::Global;
+
+/// A list of items.
+#[derive(Drop)]
+pub struct Circuit {
+    items: Vec<Item>,
+}
+
+impl Circuit {
+    ghost use Rattle.std.specs.Prelude.{◌≡◌, [], map, min, length};
+    ghost use Rattle.stab_circuit.specs.Steps.{unroll, records_of, qubits_of, observables_of, check_within, Checks};
+    ghost use Rattle.stab_circuit.specs.Summaries.{summary_of};
+    ghost use Rattle.stab_circuit.specs.Views.{item_of, entries, circuit_items};
+
+    /// The empty circuit, which takes no memory.
+    pub fn new(alloc: Global) -> Circuit
+        ensures empty { entries result ≡ [] }
+    {
+        Circuit {
+            items: Vec::new(alloc),
+        }
+    }
+
+    /// The items.
+    pub fn items(&self) -> &[Item]
+        ensures value { map item_of result.now ≡ entries self.now }
+    {
+        self.items.as_slice()
+    }
+
+    fn summary(&self) -> Summary
+        ensures value { result ≡ summary_of (circuit_items self.now) }
+    {
+        items_summary(self.items())
+    }
+
+    /// One more than the greatest qubit named anywhere, by QUBIT_COORDS too, or 0.
+    pub fn qubits(&self) -> usize
+        ensures value { result ≡ qubits_of (circuit_items self.now) }
+    {
+        self.summary().qubits as usize
+    }
+
+    /// One more than the greatest observable named anywhere, or 0.
+    pub fn observables(&self) -> usize
+        ensures value { result ≡ observables_of (circuit_items self.now) }
+    {
+        self.summary().observables as usize
+    }
+
+    /// The number of unrolled steps, or 1,048,577 where there are more.
+    pub fn steps(&self) -> usize
+        ensures value { result ≡ min (length (unroll (circuit_items self.now))) 1048577 }
+    {
+        self.summary().steps as usize
+    }
+
+    /// The number of records, or 1,048,577 where there are more.
+    pub fn records(&self) -> usize
+        ensures value { result ≡ min (records_of (unroll (circuit_items self.now))) 1048577 }
+    {
+        self.summary().records.min(1_048_577) as usize
+    }
+
+    /// Whether nothing refuses the circuit on n qubits: a qubit that isn't below n, then a
+    /// lookback past the first record, then too many steps. The fault's line is 0.
+    #[tactic(auto, using(crate::proofs::SummaryLemmas::check_judged))]
+    pub fn check(&self, n: usize) -> Result<(), Fault>
+        ensures value { Checks result (check_within n (circuit_items self.now)) }
+    {
+        let summary = self.summary();
+        if summary.qubits as usize > n {
+            return Err(Fault::whole(Refusal::QubitOutOfRange));
+        }
+        match summary.refusal() {
+            Some(refusal) => Err(Fault::whole(refusal)),
+            None => Ok(()),
+        }
+    }
+}
+
+/// Whether nothing refuses a whole circuit of these items.
+#[tactic(auto, using(crate::proofs::SummaryLemmas::check_judged))]
+fn check_items(items: &[Item]) -> Result<(), Fault>
+    ensures value { Checks result (check_of (items_of items.now)) }
+{
+    match items_summary(items).refusal() {
+        Some(refusal) => Err(Fault::whole(refusal)),
+        None => Ok(()),
+    }
+}
+
+/// The circuit that a text stands for.
+fn circuit_of_text(alloc: Global, text: &[u8]) -> Result<Circuit, Fault>
+    requires small { length text.now ≤ 16777216 }
+    ensures gives { ReadsCircuit text.now result }
+    ensures only { IfErr result (IsPlaced is_of_circuit) }
+{
+    let items = read_lines(alloc, false, text)?;
+    check_items(items.as_slice())?;
+    Ok(Circuit { items })
+}
+
+/// Reads the circuit that the input's text stands for.
+pub fn read_circuit<I: Input>(alloc: Global, input: &mut I) -> Result<Circuit, Fault>
+    ensures only { IfErr result (IsPlaced is_of_circuit) }
+    ensures as_honest { I.honest input.new ≡ I.honest input.old }
+    ensures kept { OnOk result (I.failures input.new ≡ I.failures input.old) }
+    ensures failed { IfErr result (λ f. f.refusal ≡ Refusal.ReadFault → Failed (I.failures input.old) (I.failures input.new)) }
+    ensures unfailed { IfErr result (λ f. (f.refusal ≡ Refusal.ReadFault → ⊥) → I.failures input.new ≡ I.failures input.old) }
+    ensures all { IsTrue (I.honest input.old) → OnOk result (I.unread input.new ≡ []) }
+    ensures items { IsTrue (I.honest input.old) → IfOk result (λ c. IsCircuit (I.unread input.old) (circuit_items c)) }
+    ensures fault { IsTrue (I.honest input.old) → IfErr result (λ f. (f ≡ whole Refusal.OutOfMemory) ⊎ (f ≡ whole Refusal.ReadFault) ⊎ IsFaultOf (I.unread input.old) f) }
+    ensures checked { IfOk result (λ c. check_of (circuit_items c) ≡ None) }
+{
+    match read_text(alloc, input) {
+        Ok(text) => circuit_of_text(alloc, text.as_slice()),
+        Err(refusal) => Err(Fault::whole(refusal)),
+    }
+}
+
+/// The item that a text stands for.
+pub fn read_item(alloc: Global, text: &[u8]) -> Result<Item, Fault>
+    ensures gives { ReadsItem text.now result }
+    ensures only { IfErr result (IsPlaced is_of_item) }
+{
+    if text.len() > 16_777_216 {
+        return Err(Fault::whole(Refusal::TooLong));
+    }
+    let mut items = read_lines(alloc, true, text)?;
+    match items.pop() {
+        Some(item) => Ok(item),
+        None => Err(Fault::whole(Refusal::BadLine)),
+    }
+}

@@ -1,0 +1,69 @@
+use crate::circuit::Circuit;
+use crate::step::Step;
+use crate::unrolled::push_items;
+use stab_pauli::Refusal;
+use std::alloc::Global;
+use std::marker::Model;
+
+/// The steps of an unrolled circuit from some place on. Contracts see the list of the steps that
+/// are left.
+#[derive(Drop)]
+pub struct Cursor<'a> {
+    // All steps, of which those from the place on are left.
+    steps: Vec<Step<'a>>,
+    place: usize,
+}
+
+impl<'a> Model for Cursor<'a> {
+    ghost use Rattle.std.specs.Prelude.{List, drop, All};
+    ghost use Rattle.stab_circuit.specs.Steps.{Step};
+    ghost use Rattle.stab_circuit.specs.Cursors.{steps_shown, IsApart};
+
+    ghost Value = { List Step };
+
+    ghost view = { λ c. drop c.place (steps_shown c.steps.items) };
+
+    ghost invariant = { λ c. All IsApart (steps_shown c.steps.items) };
+}
+
+impl<'a> Cursor<'a> {
+    ghost use Rattle.std.specs.Prelude.{◌≡◌, ◌≤◌, None, [], ◌∷◌, length, drop, All, IfOk, IfErr, IfSome, IfNone};
+    ghost use Rattle.stab_pauli.specs.declared.refusal.Refusal.TheVariants.{OutOfMemory};
+    ghost use Rattle.stab_circuit.specs.Steps.{check_of, unroll};
+    ghost use Rattle.stab_circuit.specs.Views.{circuit_items};
+    ghost use Rattle.stab_circuit.specs.Cursors.{step_shown, IsApart};
+
+    /// The steps of a circuit from this one on, counted from 0.
+    ///
+    /// Asks that no lookback of the circuit goes too far and that it has no more steps than a
+    /// circuit may have. Refusal `OutOfMemory` alone.
+    pub fn at(alloc: Global, circuit: &'a Circuit, step: usize) -> Result<Cursor<'a>, Refusal>
+        requires checked { check_of (circuit_items circuit.now) ≡ None }
+        requires in_range { step ≤ length (unroll (circuit_items circuit.now)) }
+        ensures steps { IfOk result (λ c. c ≡ drop step (unroll (circuit_items circuit.now))) }
+        ensures apart { IfOk result (λ c. All IsApart c) }
+        ensures err { IfErr result (λ r. r ≡ OutOfMemory) }
+    {
+        let mut steps = Vec::with_capacity(alloc, circuit.steps())?;
+        push_items(&mut steps, circuit.items())?;
+        Ok(Cursor { steps, place: step })
+    }
+
+    /// The next step, or `None` where none is left, and then for ever. It takes no memory.
+    pub fn next(&mut self) -> Option<Step<'a>>
+        ensures some { IfSome result (λ s. self.old ≡ step_shown s ∷ self.new) }
+        ensures apart { IfSome result (λ s. IsApart (step_shown s)) }
+        ensures none { IfNone result ((self.old ≡ []) × (self.new ≡ [])) }
+    {
+        match self.steps.get(self.place) {
+            Some(step) => {
+                self.place += 1;
+                Some(*step)
+            }
+            None => None,
+        }
+    }
+}
+
+#[cfg(test)]
+mod tests;

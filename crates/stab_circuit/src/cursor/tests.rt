@@ -1,0 +1,68 @@
+use crate::{Cursor, read_circuit};
+use stab_pauli::{MemoryInput, Refusal};
+use std::alloc::Global;
+use std::test::Fail;
+
+/// The steps of a circuit from a place on, a line each.
+fn shown(alloc: Global, cursor: &mut Cursor, lines: usize) -> Result<String, Refusal> {
+    let mut text = String::new(alloc);
+    for _ in 0..lines {
+        let line = format!(in alloc; "{:?}\n", cursor.next())?;
+        text.push_str(line.as_str())?;
+    }
+    Ok(text)
+}
+
+#[test]
+fn a_cursor_gives_the_unrolled_steps_from_a_place(rt: HostRuntime) -> Result<(), Fail> {
+    let cases: [(&str, usize, &str); 6] = [
+        (
+            "REPEAT 2 {\nX 0\nM 0 1\n}",
+            3,
+            "Some(One(X, 0))
+Some(Collapse { letter: Z, qubit: 0, recorded: true, inverted: false, reset: false })
+Some(Collapse { letter: Z, qubit: 1, recorded: true, inverted: false, reset: false })
+",
+        ),
+        (
+            "CX 0 1\nTICK\nSWAP 2 0\nR 0\nMX !1\nMR 2\nQUBIT_COORDS(1) 5
+DETECTOR rec[-1] rec[-2]\nOBSERVABLE_INCLUDE(7) rec[-1]",
+            0,
+            "Some(Two(Cx, 0, 1))
+Some(Two(Swap, 2, 0))
+Some(Collapse { letter: Z, qubit: 0, recorded: false, inverted: false, reset: true })
+Some(Collapse { letter: X, qubit: 1, recorded: true, inverted: true, reset: false })
+Some(Collapse { letter: Z, qubit: 2, recorded: true, inverted: false, reset: true })
+Some(Detector([1, 2]))
+Some(Observable(7, [1]))
+",
+        ),
+        (
+            "REPEAT 2 {\nREPEAT 2 {\nS 0\n}\nH 1\n}",
+            1,
+            "Some(One(S, 0))
+Some(One(H, 1))
+Some(One(S, 0))
+Some(One(S, 0))
+Some(One(H, 1))
+",
+        ),
+        (
+            "REPEAT 999999999999999999 {\nREPEAT 999999999999999999 {\nTICK\n}\n}\nH 1",
+            0,
+            "Some(One(H, 1))\n",
+        ),
+        ("X 0", 1, ""),
+        ("", 0, ""),
+    ];
+    for (text, step, steps) in cases {
+        let circuit = read_circuit(rt.alloc(), &mut MemoryInput::new(text.as_bytes()))?;
+        assert!(rt; step <= circuit.steps());
+        let mut cursor = Cursor::at(rt.alloc(), &circuit, step)?;
+        let left = shown(rt.alloc(), &mut cursor, circuit.steps() - step)?;
+        assert_eq!(rt; left.as_str(), steps);
+        assert!(rt; cursor.next().is_none());
+        assert!(rt; cursor.next().is_none());
+    }
+    Ok(())
+}

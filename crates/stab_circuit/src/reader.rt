@@ -1,0 +1,186 @@
+ghost use Rattle.std.specs.Prelude.{◌≡◌, ◌≤◌, length};
+ghost use Rattle.stab_circuit.specs.Circuits.{meaning_after as meaning_after_of};
+ghost use Rattle.stab_circuit.specs.Readers.{Reads, reading, line_fault};
+
+use crate::item::Item;
+use crate::line::content;
+use crate::meaning::{Line, is_close, meaning};
+use crate::range::Count;
+use crate::sequence::Sequence;
+use crate::word::first_piece;
+use stab_pauli::{Fault, Refusal};
+use std::alloc::Global;
+
+/// A block that is open: its line, count and tag, and the items before it.
+#[derive(Drop)]
+pub struct Frame {
+    line: u64,
+    count: Count,
+    tag: Sequence<u8>,
+    before: Vec<Item>,
+}
+
+/// The open blocks, the innermost last, and the items read in that.
+#[derive(Drop)]
+pub struct Reader {
+    alloc: Global,
+    frames: Vec<Frame>,
+    items: Vec<Item>,
+}
+
+impl Reader {
+    ghost use Rattle.std.specs.Prelude.{◌≡◌, [], List, ◌∷◌};
+    ghost use Rattle.stab_circuit.specs.Results.{Gives};
+    ghost use Rattle.stab_circuit.specs.Readers.{state_of, start, stepped, opening, closing, finished, is_whole as whole_of, meaning_at, Steps, Reads};
+
+    fn new(alloc: Global) -> Reader
+        ensures value { state_of result ≡ start }
+    {
+        Reader {
+            alloc,
+            frames: Vec::new(alloc),
+            items: Vec::new(alloc),
+        }
+    }
+
+    /// The items, where no block is open.
+    #[tactic(auto, using(crate::proofs::ViewLemmas::frames_pushed))]
+    fn finish(self) -> Result<Vec<Item>, Fault>
+        ensures gives { Reads result (finished (state_of self)) }
+    {
+        let Reader {
+            alloc: _,
+            mut frames,
+            items,
+        } = self;
+        match frames.pop() {
+            Some(frame) => Err(Fault {
+                refusal: Refusal::BadBlock,
+                line: frame.line,
+            }),
+            None => Ok(items),
+        }
+    }
+
+    /// Whether a whole item was read.
+    #[tactic(auto, using(crate::proofs::ReaderLemmas::is_whole_held))]
+    fn is_whole(&self) -> bool
+        ensures value { result ≡ whole_of (state_of self.now) }
+    {
+        self.frames.is_empty() && !self.items.is_empty()
+    }
+
+    /// What a content means here, perhaps in one item's text.
+    fn found(&self, single: bool, content: &[u8]) -> Result<Line, Refusal>
+        ensures gives { Gives result (meaning_at single (state_of self.now) content.now) }
+    {
+        if single && self.is_whole() {
+            meaning_after(content)
+        } else {
+            meaning(self.alloc, content)
+        }
+    }
+
+    fn take_content(&mut self, single: bool, line: u64, content: &[u8]) -> Result<(), Refusal>
+        ensures gives { Steps (state_of self.new) result (stepped line (meaning_at single (state_of self.old) content.now) (state_of self.old)) }
+    {
+        let found = self.found(single, content)?;
+        self.take(line, found)
+    }
+
+    #[tactic(auto, using(crate::proofs::ViewLemmas::items_of_pushed))]
+    fn take(&mut self, line: u64, found: Line) -> Result<(), Refusal>
+        ensures gives { Steps (state_of self.new) result (stepped line (Ok found) (state_of self.old)) }
+    {
+        match found {
+            Line::Blank => Ok(()),
+            Line::Operation(operation) => {
+                self.items.push(Item::operation(operation))?;
+                Ok(())
+            }
+            Line::Open { count, tag } => self.open(line, count, tag),
+            Line::Close => self.close(),
+        }
+    }
+
+    fn open(&mut self, line: u64, count: Count, tag: Sequence<u8>) -> Result<(), Refusal>
+        ensures gives { Steps (state_of self.new) result (opening line count tag (state_of self.old)) }
+    {
+        if self.frames.len() >= 16 {
+            return Err(Refusal::TooDeep);
+        }
+        let before = std::mem::replace(&mut self.items, Vec::new(self.alloc));
+        self.frames.push(Frame {
+            line,
+            count,
+            tag,
+            before,
+        })?;
+        Ok(())
+    }
+
+    #[tactic(auto, using(crate::proofs::ViewLemmas::items_of_pushed, crate::proofs::ViewLemmas::frames_pushed))]
+    fn close(&mut self) -> Result<(), Refusal>
+        ensures gives { Steps (state_of self.new) result (closing (state_of self.old)) }
+    {
+        match self.frames.pop() {
+            None => Err(Refusal::BadBlock),
+            Some(frame) => {
+                let Frame {
+                    line: _,
+                    count,
+                    tag,
+                    before,
+                } = frame;
+                let body = std::mem::replace(&mut self.items, before);
+                self.items.push(Item::repeat(count, tag, body))?;
+                Ok(())
+            }
+        }
+    }
+}
+
+/// What a content means after a whole item.
+fn meaning_after(content: &[u8]) -> Result<Line, Refusal>
+    ensures value { result ≡ meaning_after_of content.now }
+{
+    if content.is_empty() {
+        Ok(Line::Blank)
+    } else if is_close(content) {
+        Ok(Line::Close)
+    } else {
+        Err(Refusal::BadLine)
+    }
+}
+
+/// The fault of a refusal at a line; want of memory has no line.
+fn fault_at(refusal: Refusal, line: u64) -> Fault
+    ensures value { result ≡ line_fault line refusal }
+{
+    match refusal {
+        Refusal::OutOfMemory => Fault::whole(refusal),
+        _ => Fault { refusal, line },
+    }
+}
+
+/// The items that a text stands for, perhaps as one item's text.
+#[tactic(auto, using(crate::proofs::ReaderLemmas::lines_taken, crate::proofs::ReaderLemmas::lines_ended))]
+pub fn read_lines(alloc: Global, single: bool, text: &[u8]) -> Result<Vec<Item>, Fault>
+    requires small { length text.now ≤ 16777216 }
+    ensures gives { Reads result (reading single text.now) }
+{
+    let mut reader = Reader::new(alloc);
+    let mut rest = text;
+    let mut line = 1;
+    'lines: loop {
+        let (bytes, after) = first_piece(rest, b'\n');
+        if let Err(refusal) = reader.take_content(single, line, content(bytes)) {
+            return Err(fault_at(refusal, line));
+        }
+        match after {
+            None => return reader.finish(),
+            Some(next) => rest = next,
+        }
+        line += 1;
+    }
+}

@@ -1,0 +1,223 @@
+ghost use Rattle.std.specs.Prelude.{◌≡◌, ◌≤◌, ◌*◌, min, length};
+ghost use Rattle.stab_circuit.specs.Items.{before, done};
+ghost use Rattle.stab_circuit.specs.Views.{item_of, items_of};
+ghost use Rattle.stab_circuit.specs.Steps.{past as past_of, pair_qubits, target_qubits};
+ghost use Rattle.stab_circuit.specs.Summaries.{greatest as greatest_of, kind_summary_of, summary_of, IsSummary};
+
+use crate::item::{Item, Kind, Node};
+use crate::range::{Lookbacks, MeasureTarget, Pair, Qubit};
+use stab_pauli::Refusal;
+
+/// What checks need to know of items: how many steps they make, up to 1,048,577, how many
+/// records, up to 16,777,215, how many records have to stand before them, and how many qubits
+/// and observables they name.
+#[derive(Clone, Copy, Debug, PartialEq, Eq)]
+pub struct Summary {
+    pub steps: u32,
+    pub records: u32,
+    pub reach: u32,
+    pub qubits: u32,
+    pub observables: u32,
+}
+
+const MOST_STEPS: u32 = 1_048_577;
+
+const MOST_RECORDS: u32 = 16_777_215;
+
+impl Summary {
+    ghost use Rattle.std.specs.Prelude.{◌≡◌};
+    ghost use Rattle.stab_circuit.specs.Summaries.{judged, after, repeated as repeated_of, IsSummary};
+
+    const NONE: Summary = Summary {
+        steps: 0,
+        records: 0,
+        reach: 0,
+        qubits: 0,
+        observables: 0,
+    };
+
+    /// What refuses a whole circuit of this summary: a lookback, or else the number of steps.
+    pub fn refusal(self) -> Option<Refusal>
+        ensures value { result ≡ judged self }
+    {
+        if self.reach > 0 {
+            Some(Refusal::LookbackTooFar)
+        } else if self.steps > 1_048_576 {
+            Some(Refusal::TooManySteps)
+        } else {
+            None
+        }
+    }
+
+    /// The summary of these items with others after them.
+    fn then(self, next: Summary) -> Summary
+        requires first { IsSummary self }
+        requires second { IsSummary next }
+        ensures value { result ≡ after self next }
+        ensures small { IsSummary result }
+    {
+        Summary {
+            steps: (self.steps + next.steps).min(MOST_STEPS),
+            records: (self.records + next.records).min(MOST_RECORDS),
+            reach: self.reach.max(next.reach.saturating_sub(self.records)),
+            qubits: self.qubits.max(next.qubits),
+            observables: self.observables.max(next.observables),
+        }
+    }
+
+    /// The summary of so many rounds of these items.
+    fn repeated(self, count: u64) -> Summary
+        requires once { IsSummary self }
+        ensures value { result ≡ repeated_of count self }
+        ensures small { IsSummary result }
+    {
+        Summary {
+            steps: capped_product(count, self.steps, MOST_STEPS),
+            records: capped_product(count, self.records, MOST_RECORDS),
+            ..self
+        }
+    }
+}
+
+fn capped_product(count: u64, number: u32, cap: u32) -> u32
+    ensures value { result ≡ min (count * number) cap }
+{
+    match count.checked_mul(u64::from(number)) {
+        Some(product) => product.min(u64::from(cap)) as u32,
+        None => cap,
+    }
+}
+
+fn capped(number: usize, cap: u32) -> u32
+    ensures value { result ≡ min number cap }
+{
+    number.min(cap as usize) as u32
+}
+
+#[tactic(auto, using(crate::proofs::SummaryLemmas::greatest_dropped))]
+fn greatest(numbers: &[u32]) -> u32
+    ensures value { result ≡ greatest_of numbers.now }
+{
+    let mut greatest = 0;
+    for number in numbers {
+        greatest = greatest.max(*number);
+    }
+    greatest
+}
+
+/// How many qubits are named, up to the greatest.
+#[tactic(auto, using(crate::proofs::SummaryLemmas::past_dropped))]
+fn past(qubits: &[Qubit]) -> u32
+    ensures value { result ≡ past_of qubits.now }
+{
+    let mut past = 0;
+    for qubit in qubits {
+        past = past.max(qubit.number() as u32 + 1);
+    }
+    past
+}
+
+#[tactic(auto, using(crate::proofs::SummaryLemmas::past_pairs_dropped))]
+fn past_pairs(pairs: &[Pair]) -> u32
+    ensures value { result ≡ past_of (pair_qubits pairs.now) }
+{
+    let mut past = 0;
+    for pair in pairs {
+        let first = pair.first().number() as u32 + 1;
+        past = past.max(first).max(pair.second().number() as u32 + 1);
+    }
+    past
+}
+
+#[tactic(auto, using(crate::proofs::SummaryLemmas::past_targets_dropped))]
+fn past_targets(targets: &[MeasureTarget]) -> u32
+    ensures value { result ≡ past_of (target_qubits targets.now) }
+{
+    let mut past = 0;
+    for target in targets {
+        past = past.max(target.qubit.number() as u32 + 1);
+    }
+    past
+}
+
+/// The summary of so many steps on so many qubits that make no records.
+fn plain(steps: usize, qubits: u32) -> Summary
+    ensures value { result ≡ record { steps = min steps 1048577; records = 0; reach = 0; qubits = qubits; observables = 0 } }
+    ensures small { IsSummary result }
+{
+    Summary {
+        steps: capped(steps, MOST_STEPS),
+        qubits,
+        ..Summary::NONE
+    }
+}
+
+/// The summary of one step that looks back.
+#[tactic(auto, using(crate::proofs::SummaryLemmas::greatest_small))]
+fn look(records: &Lookbacks, observables: u32) -> Summary
+    ensures value { result ≡ record { steps = 1; records = 0; reach = greatest_of records.now; qubits = 0; observables = observables } }
+    ensures small { IsSummary result }
+{
+    Summary {
+        steps: 1,
+        reach: greatest(records.as_slice()),
+        observables,
+        ..Summary::NONE
+    }
+}
+
+fn measurement(targets: &[MeasureTarget]) -> Summary
+    ensures value { result ≡ record { steps = min (length targets.now) 1048577; records = min (length targets.now) 16777215; reach = 0; qubits = past_of (target_qubits targets.now); observables = 0 } }
+    ensures small { IsSummary result }
+{
+    Summary {
+        steps: capped(targets.len(), MOST_STEPS),
+        records: capped(targets.len(), MOST_RECORDS),
+        qubits: past_targets(targets),
+        ..Summary::NONE
+    }
+}
+
+#[tactic(auto, using(crate::proofs::SummaryLemmas::gate_summary, crate::proofs::SummaryLemmas::pair_summary, crate::proofs::SummaryLemmas::measure_summary, crate::proofs::SummaryLemmas::reset_summary, crate::proofs::SummaryLemmas::detector_summary, crate::proofs::SummaryLemmas::observable_summary))]
+fn kind_summary(kind: &Kind) -> Summary
+    ensures value { result ≡ kind_summary_of kind.now }
+    ensures small { IsSummary result }
+{
+    match kind {
+        Kind::Gate(_, qubits) => plain(qubits.as_slice().len(), past(qubits.as_slice())),
+        Kind::PairGate(_, pairs) => plain(pairs.as_slice().len(), past_pairs(pairs.as_slice())),
+        Kind::Measure(_, targets) => measurement(targets.as_slice()),
+        Kind::Reset(qubits) => plain(qubits.as_slice().len(), past(qubits.as_slice())),
+        Kind::Detector(_, records) => look(records, 0),
+        Kind::ObservableInclude(observable, records) => look(records, observable.number() + 1),
+        Kind::QubitCoords(_, qubits) => plain(0, past(qubits.as_slice())),
+        Kind::Tick | Kind::ShiftCoords(_) => Summary::NONE,
+    }
+}
+
+/// The summary of an item.
+#[cycle(summaries)]
+#[tactic(auto, using(crate::proofs::SummaryLemmas::operation_summary, crate::proofs::SummaryLemmas::repeat_summary))]
+pub fn item_summary(item: &Item) -> Summary
+    ensures value { result ≡ summary_of (before (item_of item.now) done) }
+    ensures small { IsSummary result }
+{
+    match &item.node {
+        Node::Operation(operation) => kind_summary(&operation.kind),
+        Node::Repeat { count, body, .. } => items_summary(body.as_slice()).repeated(count.number()),
+    }
+}
+
+/// The summary of the items.
+#[cycle(summaries)]
+#[tactic(auto, using(crate::proofs::SummaryLemmas::summary_taken))]
+pub fn items_summary(items: &[Item]) -> Summary
+    ensures value { result ≡ summary_of (items_of items.now) }
+    ensures small { IsSummary result }
+{
+    let mut all = Summary::NONE;
+    for item in items {
+        all = all.then(item_summary(item));
+    }
+    all
+}

@@ -1,0 +1,191 @@
+use crate::{Circuit, read_circuit, read_item};
+use stab_pauli::{CutInput, EndlessInput, Fault, MemoryInput};
+use std::alloc::Global;
+use std::test::Fail;
+
+/// A code's circuit, as Stim prints it: five qubits, two rounds in a block.
+const CODE: &str = "R 0 1 2 3 4
+TICK
+CX 0 1 2 3
+TICK
+CX 2 1 4 3
+TICK
+MR 1 3
+DETECTOR(1, 0) rec[-2]
+DETECTOR(3, 0) rec[-1]
+REPEAT 2 {
+    TICK
+    CX 0 1 2 3
+    TICK
+    CX 2 1 4 3
+    TICK
+    MR 1 3
+    SHIFT_COORDS(0, 1)
+    DETECTOR(1, 0) rec[-2] rec[-4]
+    DETECTOR(3, 0) rec[-1] rec[-3]
+}
+M 0 2 4
+DETECTOR(1, 1) rec[-2] rec[-3] rec[-5]
+DETECTOR(3, 1) rec[-1] rec[-2] rec[-4]
+OBSERVABLE_INCLUDE(0) rec[-1]
+";
+
+fn read(alloc: Global, text: &[u8]) -> Result<Circuit, Fault> {
+    read_circuit(alloc, &mut MemoryInput::new(text))
+}
+
+/// The refusal's number and line, or zeros.
+fn fault_of<T: Drop>(answer: Result<T, Fault>) -> (u8, u64) {
+    match answer {
+        Ok(_) => (0, 0),
+        Err(fault) => (fault.refusal.number(), fault.line),
+    }
+}
+
+#[test]
+fn a_faulty_text_is_refused_with_its_number_and_line(rt: HostRuntime) -> Result<(), Fail> {
+    for (text, number, line) in [
+        ("REPEAT 2 {\nDETECTOR rec[-1]\nM 0\n}", 8, 0),
+        ("REPEAT 16777214 {\nM 0\n}\nDETECTOR rec[-16777215]", 8, 0),
+        ("REPEAT 16777215 {\nM 0\n}\nDETECTOR rec[-16777215]", 9, 0),
+        (
+            "REPEAT 999999999999999999 {\nM 0\n}\nDETECTOR rec[-16777215]",
+            9,
+            0,
+        ),
+        ("REPEAT 100000000000000000 {\nTICK\n}", 0, 0),
+        ("REPEAT 2000000 {\nX 0\n}", 9, 0),
+        ("REPEAT 1048576 {\nX 0\n}", 0, 0),
+        ("REPEAT 1048577 {\nX 0\n}", 9, 0),
+        ("X 1024 y", 6, 1),
+        ("X y 1024", 3, 1),
+        ("CX 0 1024 0", 6, 1),
+        ("NOPE(1) {", 1, 1),
+        ("CX 0 0", 4, 1),
+        ("CX 0 1 2", 4, 1),
+        ("CX 1 01", 4, 1),
+        ("M(0.1) 0", 2, 1),
+        ("X_ERROR 0", 1, 1),
+        ("CX 0 {", 4, 1),
+        ("TICK 0 {", 3, 1),
+        ("OBSERVABLE_INCLUDE(4096) {", 5, 1),
+        ("REPEAT 0 x {", 3, 1),
+        ("REPEAT(1) x", 2, 1),
+        ("OBSERVABLE_INCLUDE(4096)", 7, 1),
+        ("OBSERVABLE_INCLUDE", 2, 1),
+        ("OBSERVABLE_INCLUDE(0,1)", 2, 1),
+        ("DETECTOR(,)", 2, 1),
+        ("X(1) 0", 2, 1),
+        ("X( ) 0", 0, 0),
+        ("M 0\nDETECTOR rec[-0]", 3, 2),
+        ("DETECTOR rec[-16777216]", 3, 1),
+        ("DETECTOR rec[1]", 3, 1),
+        ("M !!0", 3, 1),
+        ("R !0", 3, 1),
+        ("TICK 0", 3, 1),
+        ("REPEAT 2 {\nX 0", 5, 1),
+        ("REPEAT 2 {\nREPEAT 3 {\n}\nREPEAT 4 {\n", 5, 4),
+        ("X 0\n}", 5, 2),
+        ("REPEAT 2", 5, 1),
+        ("REPEAT {", 5, 1),
+        ("REPEAT 2 3 {", 5, 1),
+        ("REPEAT 0 {", 5, 1),
+        ("X 0 {", 5, 1),
+        ("REPEAT x {", 3, 1),
+        ("REPEAT 000000000000000002{\n}", 0, 0),
+        ("REPEAT 0000000000000000002 {\n}", 5, 1),
+        ("TICK[a#b]\n", 11, 1),
+        ("TICK[a]0", 11, 1),
+        ("X 0 } 1", 11, 1),
+        ("\n  # note\r\n x 0 # y\r\n?", 11, 4),
+    ] {
+        let found = fault_of(read(rt.alloc(), text.as_bytes()));
+        assert_eq!(rt; found, (number, line), "at {text}");
+    }
+    Ok(())
+}
+
+#[test]
+fn seventeen_blocks_are_too_deep(rt: HostRuntime) -> Result<(), Fail> {
+    let mut text = Vec::new(rt.alloc());
+    for depth in 1u64..=17 {
+        text.extend_from_slice(b"REPEAT 1 {\n")?;
+        let mut closed = text.clone()?;
+        for _ in 0..depth {
+            closed.extend_from_slice(b"}\n")?;
+        }
+        let found = fault_of(read(rt.alloc(), closed.as_slice()));
+        assert_eq!(rt; found, if depth < 17 { (0, 0) } else { (10, 17) });
+    }
+    Ok(())
+}
+
+#[test]
+fn each_one_byte_text_has_its_answer(rt: HostRuntime) -> Result<(), Fail> {
+    for byte in 0..=255u8 {
+        let number = match byte {
+            b' ' | b'\t' | b'\r' | b'\n' | b'#' => 0,
+            b'}' => 5,
+            _ => match byte.to_ascii_uppercase() {
+                b'I' | b'X' | b'Y' | b'Z' | b'H' | b'S' | b'M' | b'R' => 0,
+                b'A'..=b'Z' => 1,
+                _ => 11,
+            },
+        };
+        let found = fault_of(read(rt.alloc(), &[byte]));
+        assert_eq!(rt; found.0, number, "at {byte}");
+    }
+    Ok(())
+}
+
+#[test]
+fn a_circuit_has_its_numbers(rt: HostRuntime) -> Result<(), Fail> {
+    let empty = Circuit::new(rt.alloc());
+    assert!(rt; empty.items().is_empty() && empty.steps() == 0 && empty.qubits() == 0);
+    let code = read(rt.alloc(), CODE.as_bytes())?;
+    assert_eq!(rt; code.items().len(), 14);
+    assert_eq!(rt; (code.steps(), code.records()), (35, 9));
+    assert_eq!(rt; (code.qubits(), code.observables()), (5, 1));
+    assert_eq!(rt; fault_of(code.check(4)), (6, 0));
+    assert!(rt; code.check(5).is_ok());
+    let many = read(rt.alloc(), b"REPEAT 1048576 {\nm 5\n}\nQUBIT_COORDS 1023")?;
+    assert_eq!(rt; (many.steps(), many.records()), (1_048_576, 1_048_576));
+    assert_eq!(rt; (many.qubits(), many.observables()), (1024, 0));
+    for cut in 0..CODE.len() {
+        let found = fault_of(read(rt.alloc(), CODE.as_bytes().split_at(cut).0));
+        assert!(rt; found.0 <= 11);
+    }
+    Ok(())
+}
+
+#[test]
+fn an_item_is_read_alone(rt: HostRuntime) -> Result<(), Fail> {
+    for (text, number, line) in [
+        ("CX 0 1 2 3", 0, 0),
+        ("\nREPEAT 3 {\nX 0\n\nM 0\n}\n# note\n", 0, 0),
+        ("DETECTOR rec[-7]", 0, 0),
+        ("H 0\nH 1", 11, 2),
+        ("H 0\nNOPE", 11, 2),
+        ("REPEAT 3 {\n}\n\nX 0", 11, 4),
+        ("H 0\n}", 5, 2),
+        ("NOPE", 1, 1),
+        ("REPEAT 2 {\nX 0", 5, 1),
+        ("", 11, 0),
+        (" \n# note", 11, 0),
+    ] {
+        let found = fault_of(read_item(rt.alloc(), text.as_bytes()));
+        assert_eq!(rt; found, (number, line), "at {text}");
+    }
+    Ok(())
+}
+
+#[test]
+fn an_input_that_fails_or_never_ends_is_refused(rt: HostRuntime) -> Result<(), Fail> {
+    let mut failing = CutInput::new(b"M 0", 1, 2);
+    assert_eq!(rt; fault_of(read_circuit(rt.alloc(), &mut failing)), (15, 0));
+    let mut cut = CutInput::new(b"M 0", 1, 0);
+    assert!(rt; read_circuit(rt.alloc(), &mut cut).is_ok());
+    let mut endless = EndlessInput::new(b' ');
+    assert_eq!(rt; fault_of(read_circuit(rt.alloc(), &mut endless)), (14, 0));
+    Ok(())
+}

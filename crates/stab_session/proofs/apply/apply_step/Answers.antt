@@ -1,0 +1,19 @@
+use Rattle.std.proofs.Common.{rules, ap, subst, sym, ◌∙◌}
+use Rattle.stab_tableau.specs.Tableaus.{stabilises}
+use Rattle.stab_circuit.specs.Cursors.{step_shown}
+use Rattle.stab_session.specs.Sights.{Fits, sight, output_of}
+use Rattle.stab_session.proofs.RunLemmas.{run-collapse}
+use Rattle.stab_session.proofs.apply.apply_step.Goals as goal
+
+pub returns-in_ok-push_when-in-Collapse-clause-run : goal.returns-in_ok-push_when-in-Collapse-clause-run
+returns-in_ok-push_when-in-Collapse-clause-run g c =
+    run-collapse c.args.tableau.now.qubits (g.C.Coins.sequence c.args.coins.now) (step_shown c.args.step)
+    c.in-Collapse.letter c.in-Collapse.qubit c.in-Collapse.recorded c.in-Collapse.inverted c.in-Collapse.reset (ap step_shown c.in-Collapse.is)
+    (subst (Fits c.args.tableau.now.qubits) (ap step_shown c.in-Collapse.is) c.requires.fits)
+    (sight c.args.tableau.now (output_of c.args.outputs.now)) _ c.measure-measured.result.outcome (search rules)
+    (record {
+      measured = stabilises c.measure-measured.new.tableau;
+      projects = c.measure-measured.ensures.members;
+      flips = λ r lr. c.reset_if.ensures.members r (lr ∙ sym c.measure-measured.ensures.qubits);
+      output = search rules;
+    })

@@ -1,0 +1,19 @@
+use Rattle.std.proofs.Common.{◌≡◌, ◌+◌, ◌≤◌, All, length}
+use Rattle.stab_session.specs.Points.{all_coins_of}
+use Rattle.stab_session.specs.Sights.{Sight, Fits, IsRun, sight, output_of}
+use Rattle.stab_session.proofs.run.run_steps.Given as goal
+
+abbrev pub invariant-loop-step : goal.invariant-loop-step
+invariant-loop-step g l = record {
+  fits : All (Fits l.tableau.qubits) l.cursor;
+  counted : l.applied + length l.cursor ≡ l.initial.applied + length l.initial.cursor;
+  qubits : l.tableau.qubits ≡ l.initial.tableau.qubits;
+  same_coins : g.C.Coins.sequence l.coins ≡ g.C.Coins.sequence l.initial.coins;
+  asks : g.C.Coins.asks l.coins + all_coins_of l.cursor ≤ g.C.Coins.asks l.initial.coins + all_coins_of l.initial.cursor;
+  run : (new : Sight)
+      → IsRun l.initial.tableau.qubits (g.C.Coins.sequence l.initial.coins) l.cursor (sight l.tableau (output_of l.outputs)) new
+      → IsRun l.initial.tableau.qubits (g.C.Coins.sequence l.initial.coins) l.initial.cursor (sight l.initial.tableau (output_of l.initial.outputs)) new;
+}
+
+abbrev pub decreases-loop-step : goal.decreases-loop-step
+decreases-loop-step g l = length l.cursor

@@ -1,0 +1,48 @@
+-- Laws of runs: a state is a point with what was given so far; a coin that does not decide makes no difference; and the
+-- future depends on the group, the number of the next coin and the records alone.
+use Rattle.std.specs.Prelude.{◌≡◌, ℕ, Bool, true, false, List, All, slice_index_or}
+use Rattle.stab_pauli.specs.Paulis.{Signed}
+use Rattle.stab_tableau.specs.Traces.{Happening, outcome, is_free}
+use Rattle.stab_tableau.specs.Laws.{SameMembers}
+use Rattle.stab_circuit.specs.Items.{Items}
+use Rattle.stab_circuit.specs.Steps.{Step}
+use Rattle.stab_session.specs.Runs.{State, run, run_of}
+use Rattle.stab_session.specs.Points.{Point, after, outputs, point_of, state_at}
+use Rattle.stab_session.specs.Sights.{Fits}
+
+-- a run ends at the point where its steps lead, with what they give put behind what there was
+abbrev pub RunsArePointsWithOutputs : Type 0
+RunsArePointsWithOutputs =
+    (n : ℕ) (coins : ℕ → Bool) (xs : List Step) (s : State) →
+    run n coins xs s ≡ state_at (after n coins xs (point_of s)) (outputs n coins xs (point_of s)) s
+
+-- a free outcome is the coin, and any other does not depend on it
+abbrev pub CoinsDecideFreeOutcomes : Type 0
+CoinsDecideFreeOutcomes =
+    (trace : List Happening) (p : Signed) →
+    (is_free trace p ≡ true → (coin : Bool) → outcome trace p coin ≡ coin)
+    × (is_free trace p ≡ false → (coin other : Bool) → outcome trace p coin ≡ outcome trace p other)
+
+-- two sequences of coins have the same coins where the flags are 1
+abbrev pub AgreeWhere : List Bool → (ℕ → Bool) → (ℕ → Bool) → Type 0
+AgreeWhere flags coins others = (t : ℕ) → slice_index_or flags t false ≡ true → coins t ≡ others t
+
+-- other coins that are the same where the flags are 1 make the same run
+abbrev pub DependsOnCoinsAt : List Bool → ℕ → (ℕ → Bool) → Items → Type 0
+DependsOnCoinsAt flags n coins items = (others : ℕ → Bool) → AgreeWhere flags coins others → run_of n others items ≡ run_of n coins items
+
+-- a run depends on the coins that its own flags name
+abbrev pub RunsDependOnFreeCoins : Type 0
+RunsDependOnFreeCoins = (n : ℕ) (coins : ℕ → Bool) (items : Items) → DependsOnCoinsAt (run_of n coins items).free n coins items
+
+-- two points have the same members on n qubits, number of the next coin and records
+pub record AgreeAt (n : ℕ) (a b : Point) : Type 0 where
+  pub group : SameMembers n a.trace b.trace
+  pub coin : a.coin ≡ b.coin
+  pub records : a.records ≡ b.records
+
+-- such points give the same by all steps, and lead to such points again
+abbrev pub SameFuture : Type 0
+SameFuture =
+    (n : ℕ) (coins : ℕ → Bool) (xs : List Step) (a b : Point) → All (Fits n) xs → AgreeAt n a b →
+    (outputs n coins xs a ≡ outputs n coins xs b) × AgreeAt n (after n coins xs a) (after n coins xs b)

@@ -1,0 +1,104 @@
+-- Points: what decides the future of a run, and what its steps give. A state is a point with what was given so far.
+use Rattle.std.specs.Prelude.{ℕ, ◌+◌, Bool, List, [], ◌∷◌, ◌++◌}
+use Rattle.stab_pauli.specs.Letters.{◌⊕◌}
+use Rattle.stab_pauli.specs.Paulis.{single}
+use Rattle.stab_tableau.specs.Traces.{Happening, applied, applied_pair, is_free}
+use Rattle.stab_circuit.specs.Steps.{Step, one, two, collapse, detector, observable}
+use Rattle.stab_session.specs.declared.outputs.Addition.{Addition}
+use Rattle.stab_session.specs.Records.{parity}
+use Rattle.stab_session.specs.Runs.{State, when, outcome_of, collapsed, added}
+
+-- what decides all that follows: what happened, the number of the next coin, and the records
+pub record Point : Type 0 where
+  pub trace : List Happening
+  pub coin : ℕ
+  pub records : List Bool
+
+-- the point before the first step
+abbrev pub origin : Point
+origin = record { trace = []; coin = 0; records = [] }
+
+-- what steps give: records, flags of coin numbers, detectors, and what is added to observables
+pub record Output : Type 0 where
+  pub records : List Bool
+  pub free : List Bool
+  pub detectors : List Bool
+  pub additions : List Addition
+
+abbrev pub nothing : Output
+nothing = record { records = []; free = []; detectors = []; additions = [] }
+
+-- one output after another
+abbrev pub joined : Output → Output → Output
+joined a b = record {
+  records = a.records ++ b.records;
+  free = a.free ++ b.free;
+  detectors = a.detectors ++ b.detectors;
+  additions = a.additions ++ b.additions;
+}
+
+-- what a step gives
+abbrev pub given : ℕ → (ℕ → Bool) → Step → Point → Output
+given n coins (one g q) p = nothing
+given n coins (two g a b) p = nothing
+given n coins (collapse l q recorded inverted resets) p = record nothing {
+  records = when recorded (inverted ⊕ outcome_of n coins l q p.trace p.coin);
+  free = is_free p.trace (single n q l) ∷ [];
+}
+given n coins (detector ks) p = record nothing { detectors = parity p.records ks ∷ [] }
+given n coins (observable j ks) p = record nothing { additions = record { observable = j; bit = parity p.records ks } ∷ [] }
+
+-- what has happened after a step
+abbrev pub trace_after : ℕ → (ℕ → Bool) → Step → Point → List Happening
+trace_after n coins (one g q) p = applied g q ∷ p.trace
+trace_after n coins (two g a b) p = applied_pair g a b ∷ p.trace
+trace_after n coins (collapse l q recorded inverted resets) p = collapsed n l q resets (outcome_of n coins l q p.trace p.coin) p.trace
+trace_after n coins (detector ks) p = p.trace
+trace_after n coins (observable j ks) p = p.trace
+
+-- how many coin numbers a step uses up: each collapse one, whether or not the coin decides
+abbrev pub coins_of : Step → ℕ
+coins_of (one g q) = 0
+coins_of (two g a b) = 0
+coins_of (collapse l q recorded inverted resets) = 1
+coins_of (detector ks) = 0
+coins_of (observable j ks) = 0
+
+-- how many coin numbers steps use up
+abbrev pub all_coins_of : List Step → ℕ
+all_coins_of [] = 0
+all_coins_of (x ∷ xs) = coins_of x + all_coins_of xs
+
+-- where a step leads
+abbrev pub next : ℕ → (ℕ → Bool) → Step → Point → Point
+next n coins x p = record { trace = trace_after n coins x p; coin = p.coin + coins_of x; records = p.records ++ (given n coins x p).records }
+
+-- where steps lead
+abbrev pub after : ℕ → (ℕ → Bool) → List Step → Point → Point
+after n coins [] p = p
+after n coins (x ∷ xs) p = after n coins xs (next n coins x p)
+
+-- what steps give
+abbrev pub outputs : ℕ → (ℕ → Bool) → List Step → Point → Output
+outputs n coins [] p = nothing
+outputs n coins (x ∷ xs) p = joined (given n coins x p) (outputs n coins xs (next n coins x p))
+
+-- observables with additions made
+abbrev pub with_additions : List Addition → List Bool → List Bool
+with_additions [] bits = bits
+with_additions (a ∷ more) bits = with_additions more (added a.observable a.bit bits)
+
+-- the point of a state
+abbrev pub point_of : State → Point
+point_of s = record { trace = s.trace; coin = s.coin; records = s.records }
+
+-- the state at a point, before which a state's lists were added to
+abbrev pub state_at : Point → Output → State → State
+state_at p o s = record {
+  trace = p.trace;
+  coin = p.coin;
+  records = p.records;
+  free = s.free ++ o.free;
+  detectors = s.detectors ++ o.detectors;
+  observables = with_additions o.additions s.observables;
+}

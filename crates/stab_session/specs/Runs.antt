@@ -1,0 +1,86 @@
+-- Runs: what the steps of a circuit make of its qubits, records, detectors and observables, for a sequence of coins.
+use Rattle.std.specs.Prelude.{◌≡◌, ℕ, ◌+◌, Bool, true, false, ◌&&◌, List, [], ◌∷◌, ◌++◌, replicate, slice_index_or, slice_set, Option, Some, None, Result, Ok, Err}
+use Rattle.stab_pauli.specs.declared.refusal.Refusal.{Refusal}
+use Rattle.stab_pauli.specs.declared.refusal.Refusal.TheVariants.{OutOfMemory}
+use Rattle.stab_pauli.specs.declared.refusal.Fault.{Fault}
+use Rattle.stab_pauli.specs.Refusals.{whole}
+use Rattle.stab_pauli.specs.declared.letter.Letter.{Letter}
+use Rattle.stab_pauli.specs.Letters.{◌⊕◌}
+use Rattle.stab_pauli.specs.Paulis.{single}
+use Rattle.stab_tableau.specs.declared.gate.Gate.TheVariants as on
+use Rattle.stab_tableau.specs.Traces.{Happening, applied, applied_pair, projected, outcome, is_free}
+use Rattle.stab_circuit.specs.Items.{Items}
+use Rattle.stab_circuit.specs.Steps.{Step, one, two, collapse, detector, observable, unroll, observables_of}
+use Rattle.stab_session.specs.declared.run.Shot.{Shot}
+use Rattle.stab_session.specs.Records.{parity}
+
+-- a run so far: what happened to the qubits, newest first; the number of the next coin; the records; for each coin number
+-- whether the coin decided; and the bits of detectors and observables
+pub record State : Type 0 where
+  pub trace : List Happening
+  pub coin : ℕ
+  pub records : List Bool
+  pub free : List Bool
+  pub detectors : List Bool
+  pub observables : List Bool
+
+-- no qubit, coin or record yet, and so many observables, all 0
+abbrev pub start : ℕ → State
+start observables = record { trace = []; coin = 0; records = []; free = []; detectors = []; observables = replicate observables false }
+
+-- the bit, where there is one
+abbrev pub when : Bool → Bool → List Bool
+when true bit = bit ∷ []
+when false bit = []
+
+-- the gate X on the qubit, where it is flipped
+abbrev pub flipped : Bool → ℕ → List Happening → List Happening
+flipped true q trace = applied on.X q ∷ trace
+flipped false q trace = trace
+
+-- the outcome of measuring a letter on one of n qubits, with the next coin
+abbrev pub outcome_of : ℕ → (ℕ → Bool) → Letter → ℕ → List Happening → ℕ → Bool
+outcome_of n coins l q trace coin = outcome trace (single n q l) (coins coin)
+
+-- a projection on an outcome, and a flip where it resets an outcome 1
+abbrev pub collapsed : ℕ → Letter → ℕ → Bool → Bool → List Happening → List Happening
+collapsed n l q resets bit trace = flipped (resets && bit) q (projected (single n q l) bit ∷ trace)
+
+-- a bit added to an observable
+abbrev pub added : ℕ → Bool → List Bool → List Bool
+added j bit observables = slice_set observables j (bit ⊕ slice_index_or observables j false)
+
+-- what a step makes of a run on n qubits
+abbrev pub effect : ℕ → (ℕ → Bool) → Step → State → State
+effect n coins (one g q) s = record s { trace = applied g q ∷ s.trace }
+effect n coins (two g a b) s = record s { trace = applied_pair g a b ∷ s.trace }
+effect n coins (collapse l q recorded inverted resets) s = record s {
+  trace = collapsed n l q resets (outcome_of n coins l q s.trace s.coin) s.trace;
+  coin = s.coin + 1;
+  records = s.records ++ when recorded (inverted ⊕ outcome_of n coins l q s.trace s.coin);
+  free = s.free ++ is_free s.trace (single n q l) ∷ [];
+}
+effect n coins (detector ks) s = record s { detectors = s.detectors ++ parity s.records ks ∷ [] }
+effect n coins (observable j ks) s = record s { observables = added j (parity s.records ks) s.observables }
+
+-- what steps make of a run, one after another
+abbrev pub run : ℕ → (ℕ → Bool) → List Step → State → State
+run n coins [] s = s
+run n coins (x ∷ xs) s = run n coins xs (effect n coins x s)
+
+-- the run of the items on n qubits from the first step on, all qubits zero
+unfoldable pub run_of : ℕ → (ℕ → Bool) → Items → State
+run_of n coins items = run n coins (unroll items) (start (observables_of items))
+
+-- the call refused a whole circuit as the definition does; where that does not, it wanted memory
+abbrev pub Refuses : {A : Type 0} → Result A Fault → Option Refusal → Type 0
+Refuses (Ok x) given = given ≡ None
+Refuses (Err fault) (Some refusal) = fault ≡ whole refusal
+Refuses (Err fault) None = fault ≡ whole OutOfMemory
+
+-- a shot has the lists of the run
+pub record IsShot (shot : Shot) (s : State) : Type 0 where
+  pub records : shot.records.items ≡ s.records
+  pub free : shot.free.items ≡ s.free
+  pub detectors : shot.detectors.items ≡ s.detectors
+  pub observables : shot.observables.items ≡ s.observables

@@ -1,0 +1,51 @@
+-- Sights: what a running program holds, and how it follows a run.
+use Rattle.std.specs.Prelude.{◌≡◌, ◌≢◌, ℕ, ◌<◌, Bool, true, false, List, [], length}
+use Rattle.stab_pauli.specs.Paulis.{Signed}
+use Rattle.stab_tableau.specs.declared.gate.Gate.TheVariants as on
+use Rattle.stab_tableau.specs.Gates.{back}
+use Rattle.stab_tableau.specs.Traces.{member}
+use Rattle.stab_tableau.specs.Tableaus.{TableauState, stabilises}
+use Rattle.stab_circuit.specs.Steps.{Step, one, two, collapse, detector, observable}
+use Rattle.stab_session.specs.declared.outputs.Outputs.{Outputs}
+use Rattle.stab_session.specs.Points.{Point, Output, joined, after, outputs}
+
+-- the qubits of a step are below n, and those of a pair differ
+abbrev pub Fits : ℕ → Step → Type 0
+Fits n (one g q) = q < n
+Fits n (two g a b) = (a < n) × (b < n) × (b ≢ a)
+Fits n (collapse l q recorded inverted resets) = q < n
+Fits n (detector ks) = Unit {0}
+Fits n (observable j ks) = Unit {0}
+
+-- what the program has gathered, as an output
+abbrev pub output_of : Outputs → Output
+output_of o = record { records = o.records.items; free = o.free.items; detectors = o.detectors.items; additions = o.additions.items }
+
+-- the strings that stabilise, by those before, where the gate X was applied to the qubit if it is flipped
+abbrev pub flipped_by : Bool → ℕ → (Signed → Bool) → Signed → Bool
+flipped_by true q stabilised p = stabilised (back on.X q p)
+flipped_by false q stabilised p = stabilised p
+
+-- which strings the program's tableau stabilises, and what it has gathered
+pub record Sight : Type 0 where
+  pub stabilised : Signed → Bool
+  pub output : Output
+
+-- the sight of a tableau and an output
+abbrev pub sight : TableauState → Output → Sight
+sight tableau output = record { stabilised = stabilises tableau; output = output }
+
+-- the program is at the point: the same strings of n letters, number of the next coin and records
+pub record Shows (n : ℕ) (s : Sight) (p : Point) : Type 0 where
+  pub group : (q : Signed) → length q.letters ≡ n → s.stabilised q ≡ member p.trace q
+  pub coin : length s.output.free ≡ p.coin
+  pub records : s.output.records ≡ p.records
+
+-- from the point the program went where the steps lead, and gathered what they give
+pub record Leads (n : ℕ) (coins : ℕ → Bool) (xs : List Step) (old new : Sight) (p : Point) : Type 0 where
+  pub shows : Shows n new (after n coins xs p)
+  pub output : new.output ≡ joined old.output (outputs n coins xs p)
+
+-- the program went through the steps, from whatever point it was at
+abbrev pub IsRun : ℕ → (ℕ → Bool) → List Step → Sight → Sight → Type 0
+IsRun n coins xs old new = (p : Point) → Shows n old p → Leads n coins xs old new p

@@ -1,0 +1,106 @@
+ghost use Rattle.std.specs.Prelude.{◌≡◌, ℕ, ◌+◌, ◌<◌, ◌≤◌, ◌^◌, ◌∷◌, [], ◌++◌, ◌&&◌, length, OnOk};
+ghost use Rattle.stab_pauli.specs.Paulis.{Signed, single};
+ghost use Rattle.stab_tableau.specs.Tableaus.{stabilises, outcome_by, is_free_by, projected_by};
+ghost use Rattle.stab_circuit.specs.Cursors.{step_shown};
+ghost use Rattle.stab_session.specs.Runs.{when};
+ghost use Rattle.stab_session.specs.Points.{coins_of};
+ghost use Rattle.stab_session.specs.Sights.{Fits, IsRun, sight, output_of, flipped_by};
+
+use crate::coins::Coins;
+use crate::outputs::{Addition, Outputs};
+use crate::records::parity;
+use stab_circuit::Step;
+use stab_pauli::Letter;
+use stab_tableau::{Collapse, Gate, Tableau};
+use std::alloc::AllocError;
+
+/// Measures a letter on a qubit, and asks for the coin with this number only where it decides.
+fn measure<C: Coins>(
+    tableau: &mut Tableau,
+    coins: &mut C,
+    coin: u64,
+    letter: Letter,
+    qubit: usize,
+) -> Collapse
+    requires in_range { qubit < tableau.old.qubits }
+    ensures qubits { tableau.new.qubits ≡ tableau.old.qubits }
+    ensures same_coins { C.sequence coins.new ≡ C.sequence coins.old }
+    ensures asks { C.asks coins.new ≤ C.asks coins.old + 1 }
+    ensures outcome { result.outcome ≡ outcome_by (stabilises tableau.old) (single tableau.old.qubits qubit letter) (C.sequence coins.old coin) }
+    ensures free { result.free ≡ is_free_by (stabilises tableau.old) (single tableau.old.qubits qubit letter) }
+    ensures members { (p : Signed) → length p.letters ≡ tableau.old.qubits → stabilises tableau.new p ≡ projected_by (stabilises tableau.old) (single tableau.old.qubits qubit letter) result.outcome p }
+{
+    match tableau.fixed_letter(letter, qubit) {
+        Some(outcome) => Collapse {
+            outcome,
+            free: false,
+        },
+        None => tableau.collapse_letter(letter, qubit, coins.coin(coin)),
+    }
+}
+
+/// Flips a qubit where it resets an outcome 1.
+fn reset_if(tableau: &mut Tableau, qubit: usize, resets: bool, outcome: bool)
+    requires in_range { qubit < tableau.old.qubits }
+    ensures qubits { tableau.new.qubits ≡ tableau.old.qubits }
+    ensures members { (p : Signed) → length p.letters ≡ tableau.old.qubits → stabilises tableau.new p ≡ flipped_by (resets && outcome) qubit (stabilises tableau.old) p }
+{
+    if resets && outcome {
+        tableau.apply(Gate::X, qubit);
+    }
+}
+
+/// Appends a bit, where there is one.
+fn push_when(bits: &mut Vec<bool>, test: bool, bit: bool) -> Result<(), AllocError>
+    ensures value { OnOk result (bits.new.items ≡ bits.old.items ++ when test bit) }
+{
+    if test {
+        bits.push(bit)?;
+    }
+    Ok(())
+}
+
+/// Carries out one step on a tableau, gathers what it gives, and counts it.
+pub fn apply_step<C: Coins>(
+    tableau: &mut Tableau,
+    coins: &mut C,
+    outputs: &mut Outputs,
+    step: Step,
+    applied: &mut u64,
+) -> Result<(), AllocError>
+    requires fits { Fits tableau.old.qubits (step_shown step) }
+    requires few { applied.old < 2 ^ 63 }
+    ensures counted { applied.new ≡ applied.old + 1 }
+    ensures qubits { tableau.new.qubits ≡ tableau.old.qubits }
+    ensures same_coins { C.sequence coins.new ≡ C.sequence coins.old }
+    ensures asks { C.asks coins.new ≤ C.asks coins.old + coins_of (step_shown step.entry) }
+    ensures run { OnOk result (IsRun tableau.old.qubits (C.sequence coins.old) (step_shown step.entry ∷ []) (sight tableau.old (output_of outputs.old)) (sight tableau.new (output_of outputs.new))) }
+{
+    *applied += 1;
+    match step {
+        Step::One(gate, qubit) => tableau.apply(gate, qubit),
+        Step::Two(gate, first, second) => tableau.apply_pair(gate, first, second),
+        Step::Collapse {
+            letter,
+            qubit,
+            recorded,
+            inverted,
+            reset,
+        } => {
+            let coin = outputs.free.len() as u64;
+            let measured = measure(tableau, coins, coin, letter, qubit);
+            reset_if(tableau, qubit, reset, measured.outcome);
+            outputs.free.push(measured.free)?;
+            push_when(&mut outputs.records, recorded, inverted ^ measured.outcome)?;
+        }
+        Step::Detector(lookbacks) => {
+            let bit = parity(outputs.records.as_slice(), lookbacks);
+            outputs.detectors.push(bit)?;
+        }
+        Step::Observable(observable, lookbacks) => {
+            let bit = parity(outputs.records.as_slice(), lookbacks);
+            outputs.additions.push(Addition { observable, bit })?;
+        }
+    }
+    Ok(())
+}

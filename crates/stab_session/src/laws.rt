@@ -1,0 +1,25 @@
+//! Laws of runs. Each function does nothing: its contract is the law, and the check proves it.
+
+ghost use Rattle.stab_session.specs.Laws.{RunsArePointsWithOutputs, CoinsDecideFreeOutcomes, RunsDependOnFreeCoins, SameFuture};
+
+/// A run ends at the point where its steps lead, with what the steps give put behind what there
+/// was; so prefixes and tails of runs are prefixes and tails of lists.
+pub fn runs_are_points_with_outputs()
+    ensures law { RunsArePointsWithOutputs }
+{}
+
+/// An outcome that is free is the coin, and any other does not depend on the coin.
+pub fn coins_decide_free_outcomes()
+    ensures law { CoinsDecideFreeOutcomes }
+{}
+
+/// A run does not depend on the coins whose outcomes were not free.
+pub fn runs_depend_on_free_coins()
+    ensures law { RunsDependOnFreeCoins }
+{}
+
+/// Two points with the same stabilised strings, number of the next coin and records have the same
+/// future, though they came about in different ways.
+pub fn same_future()
+    ensures law { SameFuture }
+{}

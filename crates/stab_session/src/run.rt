@@ -1,0 +1,117 @@
+ghost use Rattle.std.specs.Prelude.{◌≡◌, ℕ, ◌+◌, ◌<◌, ◌≤◌, ◌^◌, Bool, All, None, [], length, OnOk, IfOk, IfErr};
+ghost use Rattle.stab_pauli.specs.declared.refusal.Refusal.TheVariants.{OutOfMemory};
+ghost use Rattle.stab_circuit.specs.Steps.{unroll, check_within};
+ghost use Rattle.stab_circuit.specs.Views.{circuit_items};
+ghost use Rattle.stab_session.specs.Runs.{run_of, Refuses, IsShot};
+ghost use Rattle.stab_session.specs.Points.{all_coins_of};
+ghost use Rattle.stab_session.specs.Laws.{DependsOnCoinsAt};
+ghost use Rattle.stab_session.specs.Sights.{Fits, IsRun, sight, output_of};
+
+use crate::apply::apply_step;
+use crate::coins::Coins;
+use crate::outputs::{Outputs, observables};
+use stab_circuit::{Circuit, Cursor};
+use stab_pauli::{Fault, Refusal};
+use stab_tableau::Tableau;
+use std::alloc::{AllocError, Global};
+
+/// What one run of a circuit gives; true stands for 1.
+#[derive(Drop)]
+pub struct Shot {
+    /// The records, one for each measured target that has one.
+    pub records: Vec<bool>,
+    /// For each coin number, whether the coin decided the outcome.
+    pub free: Vec<bool>,
+    /// The parity of each detector's records.
+    pub detectors: Vec<bool>,
+    /// The parity of each observable's records, in the order of their numbers.
+    pub observables: Vec<bool>,
+}
+
+/// Carries out the steps that a cursor has left, and counts them.
+pub fn run_steps<C: Coins>(
+    tableau: &mut Tableau,
+    coins: &mut C,
+    outputs: &mut Outputs,
+    cursor: &mut Cursor,
+    applied: &mut u64,
+) -> Result<(), AllocError>
+    requires fits { All (Fits tableau.old.qubits) cursor.old }
+    requires few { applied.old + length cursor.old < 2 ^ 63 }
+    ensures counted { OnOk result (applied.new ≡ applied.old + length cursor.old) }
+    ensures qubits { tableau.new.qubits ≡ tableau.old.qubits }
+    ensures same_coins { C.sequence coins.new ≡ C.sequence coins.old }
+    ensures asks { C.asks coins.new ≤ C.asks coins.old + all_coins_of cursor.old }
+    ensures run { OnOk result (IsRun tableau.old.qubits (C.sequence coins.old) cursor.old (sight tableau.old (output_of outputs.old)) (sight tableau.new (output_of outputs.new))) }
+{
+    while let Some(step) = cursor.next() {
+        apply_step(tableau, coins, outputs, step, applied)?;
+    }
+    Ok(())
+}
+
+/// One run of a circuit that nothing refuses on n qubits.
+fn run_checked<C: Coins>(
+    alloc: Global,
+    circuit: &Circuit,
+    n: usize,
+    coins: &mut C,
+) -> Result<Shot, Refusal>
+    requires in_range { n ≤ 1024 }
+    requires checked { check_within n (circuit_items circuit.now) ≡ None }
+    ensures same_coins { C.sequence coins.new ≡ C.sequence coins.old }
+    ensures asks { C.asks coins.new ≤ C.asks coins.old + all_coins_of (unroll (circuit_items circuit.now)) }
+    ensures ok { IfOk result (λ s. IsShot s (run_of n (C.sequence coins.old) (circuit_items circuit.now))) }
+    ensures err { IfErr result (λ r. r ≡ OutOfMemory) }
+{
+    let mut tableau = Tableau::new(alloc, n)?;
+    let mut cursor = Cursor::at(alloc, circuit, 0)?;
+    let mut outputs = Outputs::new(alloc);
+    let mut applied = 0;
+    run_steps(&mut tableau, coins, &mut outputs, &mut cursor, &mut applied)?;
+    let Outputs {
+        records,
+        free,
+        detectors,
+        additions,
+    } = outputs;
+    let observables = observables(alloc, circuit.observables(), additions.as_slice())?;
+    Ok(Shot {
+        records,
+        free,
+        detectors,
+        observables,
+    })
+}
+
+/// Runs a circuit once on n qubits, at most 1,024, that begin as zeros.
+///
+/// Each measured target, resets included, uses up the next coin number, counted from 0. The coin
+/// with that number is the outcome where neither sign of what is measured stabilises the state;
+/// any other outcome does not depend on it. A coin is asked for only where it decides. Refused as
+/// `Circuit::check` refuses, else `OutOfMemory`, always with line 0.
+pub fn run_once<C: Coins>(
+    alloc: Global,
+    circuit: &Circuit,
+    n: usize,
+    coins: &mut C,
+) -> Result<Shot, Fault>
+    requires in_range { n ≤ 1024 }
+    ensures records { IfOk result (λ s. s.records.items ≡ (run_of n (C.sequence coins.old) (circuit_items circuit.now)).records) }
+    ensures free { IfOk result (λ s. s.free.items ≡ (run_of n (C.sequence coins.old) (circuit_items circuit.now)).free) }
+    ensures detectors { IfOk result (λ s. s.detectors.items ≡ (run_of n (C.sequence coins.old) (circuit_items circuit.now)).detectors) }
+    ensures observables { IfOk result (λ s. s.observables.items ≡ (run_of n (C.sequence coins.old) (circuit_items circuit.now)).observables) }
+    ensures decided { IfOk result (λ s. DependsOnCoinsAt s.free.items n (C.sequence coins.old) (circuit_items circuit.now)) }
+    ensures refused { Refuses result (check_within n (circuit_items circuit.now)) }
+    ensures same_coins { C.sequence coins.new ≡ C.sequence coins.old }
+    ensures asks { C.asks coins.new ≤ C.asks coins.old + all_coins_of (unroll (circuit_items circuit.now)) }
+{
+    circuit.check(n)?;
+    match run_checked(alloc, circuit, n, coins) {
+        Ok(shot) => Ok(shot),
+        Err(refusal) => Err(Fault::whole(refusal)),
+    }
+}
+
+#[cfg(test)]
+mod tests;
