@@ -57,6 +57,7 @@ impl Item {
     ghost use Rattle.stab_circuit.specs.Items.{operation as single, repeat as repeated};
     ghost use Rattle.stab_circuit.specs.Views.{item_of, items_of};
 
+    /// The item that is one instruction.
     #[tactic(auto, using(crate::proofs::ViewLemmas::item_of_operation))]
     pub fn operation(operation: Operation) -> Item
         ensures value { item_of result ≡ single operation }
@@ -66,6 +67,7 @@ impl Item {
         }
     }
 
+    /// The item that is a block: its count of rounds, its tag, the items of one round.
     #[tactic(auto, using(crate::proofs::ViewLemmas::item_of_repeat))]
     pub fn repeat(count: Count, tag: Sequence<u8>, body: Vec<Item>) -> Item
         ensures value { item_of result ≡ repeated count tag (items_of body.items) }

@@ -16,6 +16,7 @@ impl<T> Model for Sequence<T> {
 }
 
 impl<T> Sequence<T> {
+    /// The empty sequence, which takes no memory.
     pub fn new(alloc: Global) -> Sequence<T>
         ensures value { result ≡ [] }
     {
@@ -24,6 +25,7 @@ impl<T> Sequence<T> {
         }
     }
 
+    /// The elements, in order.
     pub fn as_slice(&self) -> &[T]
         ensures value { result.now ≡ self.now }
     {
@@ -45,6 +47,7 @@ impl Sequence<u8> {
 }
 
 impl<T: Drop> Sequence<T> {
+    /// Adds an element at the end; where memory is refused the sequence stays as it was.
     pub fn push(&mut self, element: T) -> Result<(), AllocError>
         ensures ok { OnOk result (self.new ≡ self.old ++ element ∷ []) }
         ensures err { OnErr result (self.new ≡ self.old) }
