@@ -95,3 +95,19 @@ fn sample_reads_texts_up_to_the_limit(rt: HostRuntime) -> Result<(), Fail> {
     assert!(rt; longer.out.bytes().is_empty());
     Ok(())
 }
+
+#[test]
+fn sample_makes_steps_up_to_the_limit(rt: HostRuntime) -> Result<(), Fail> {
+    let mut text = Vec::new(rt.alloc());
+    text.push(b'X')?;
+    for _ in 0..1_048_576 {
+        text.extend_from_slice(b" 0")?;
+    }
+    let most = run_program(rt.alloc(), &["stabsim", "sample"], text.as_slice())?;
+    assert!(rt; most.out.bytes() == b"\n".as_slice());
+    text.extend_from_slice(b" 0")?;
+    let more = run_program(rt.alloc(), &["stabsim", "sample"], text.as_slice())?;
+    assert!(rt; more.err.bytes() == b"stabsim: refused 9 TooManySteps\n".as_slice());
+    assert!(rt; more.out.bytes().is_empty());
+    Ok(())
+}

@@ -13,7 +13,7 @@ join_assoc done ys zs = refl
 join_assoc (next op rest) ys zs = ap (λ r. next op r) (join_assoc rest ys zs)
 join_assoc (block c t body rest) ys zs = ap (λ r. block c t body r) (join_assoc rest ys zs)
 
-before-join : (x : OneItem) (xs ys : Items) → before x (join xs ys) ≡ join (before x xs) ys
+pub before-join : (x : OneItem) (xs ys : Items) → before x (join xs ys) ≡ join (before x xs) ys
 before-join (operation op) xs ys = refl
 before-join (repeat c t body) xs ys = refl
 

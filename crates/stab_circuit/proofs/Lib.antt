@@ -3,6 +3,8 @@ mod ResultLemmas
 mod ItemLemmas
 mod ViewLemmas
 mod ReaderLemmas
+mod OutputLemmas
+mod PrintLemmas
 mod StepLemmas
 mod CursorLemmas
 mod SummaryLemmas
@@ -14,3 +16,7 @@ mod TextLemmas
 mod WordLemmas
 mod PieceLemmas
 mod TargetLemmas
+mod FreeLemmas
+mod SureLemmas
+mod AgainLemmas
+mod NeatLemmas

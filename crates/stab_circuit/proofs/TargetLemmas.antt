@@ -24,7 +24,7 @@ lookback_small v k true false d' c d e = cc
 lookback_small v k false c' d' c d e = cc
 
 -- what is read as a record is in range
-lookback_in_range : (word : List ℕ) (k : ℕ) → lookback_of word ≡ Ok k → IsLookback k
+pub lookback_in_range : (word : List ℕ) (k : ℕ) → lookback_of word ≡ Ok k → IsLookback k
 unfolding lookback_of
 lookback_in_range word k e = lookback_small (value (lookback_digits word)) k (is_lookback word) _ _ refl refl e
 

@@ -14,3 +14,6 @@ pub mod Readings
 pub mod Readers
 pub mod Summaries
 pub mod Cursors
+pub mod Prints
+pub mod Margins
+pub mod Outputs

@@ -43,7 +43,7 @@ impl Circuit {
     fn summary(&self) -> Summary
         ensures value { result ≡ summary_of (circuit_items self.now) }
     {
-        items_summary(self.items.as_slice())
+        items_summary(self.items())
     }
 
     /// One more than the greatest qubit named anywhere, by QUBIT_COORDS too, or 0.

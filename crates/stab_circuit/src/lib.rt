@@ -1,4 +1,20 @@
-//! Circuits as text.
+//! Circuits: reading their text, and what they come to once their blocks are written out.
+//!
+//! - `line`: what is left of a line, and its shape.
+//! - `word`: words between spacing, parts between commas, decimal numbers.
+//! - `sequence`, `range`: lists, and numbers with their ranges.
+//! - `name`, `target`, `argument`: the parts of an instruction.
+//! - `item`: instructions and blocks.
+//! - `meaning`: what a line means, or why it is refused.
+//! - `reader`: the items of a text's lines, with the blocks that are open.
+//! - `input`: reading an input whole.
+//! - `summary`: the numbers of a list of items, for which no block's rounds are walked.
+//! - `circuit`: circuits, and reading one.
+//! - `step`, `unrolled`, `cursor`: the unrolled steps of a circuit, from any place on.
+//!
+//! Proved: a text is read as exactly the items that it stands for, or refused with exactly its one
+//! fault; qubits, observables, steps, records and what refuses a whole circuit are those of its
+//! unrolled steps.
 #![tactic(auto)]
 
 mod argument;
@@ -6,21 +22,25 @@ mod circuit;
 mod cursor;
 mod input;
 mod item;
-mod line;
+pub mod line;
 mod meaning;
 mod name;
+mod print;
 mod range;
 mod reader;
 mod sequence;
 mod step;
 mod summary;
-mod target;
+pub mod target;
 mod unrolled;
-mod word;
+pub mod word;
 
 pub use circuit::{Circuit, read_circuit, read_item};
 pub use cursor::Cursor;
+pub use input::read_text;
 pub use item::Item;
+pub use print::write_circuit;
+pub use range::{MeasureTarget, Qubit};
 pub use step::Step;
 
 #[cfg(test)]

@@ -1,5 +1,6 @@
-ghost use Rattle.std.specs.Prelude.{◌≡◌, ◌≤◌, ◌<◌, IsTrue, ◌==◌, length, take, map, Option, None, Some, MatchOption, List, ◌∷◌, []};
+ghost use Rattle.std.specs.Prelude.{IfErr, ◌≡◌, ◌≤◌, ◌<◌, IsTrue, ◌==◌, length, take, map, Option, None, Some, MatchOption, List, ◌∷◌, []};
 ghost use Rattle.std.specs.List.{position_or_len, prefix_len, list_all, list_any, before_first, slice_split};
+ghost use Rattle.stab_pauli.specs.declared.refusal.Refusal.TheVariants.{BadLine};
 ghost use Rattle.stab_circuit.specs.Results.{GivesBy};
 ghost use Rattle.stab_circuit.specs.Lines.{is_spacing as spacing, is_letter as letter, is_digit as digit, is_name_byte as name_byte, is_brace as brace, trimmed_front, trimmed_end, trimmed, content_of, bracketed, is_byte, starts_with_byte, ends_with_byte, is_apart as apart};
 
@@ -107,6 +108,7 @@ pub fn content(line: &[u8]) -> &[u8]
 #[tactic(auto, unfolding(crate::specs::Lines::bracketed))]
 fn bracketed_in_front(bytes: &[u8], opening: u8, closing: u8) -> Result<(&[u8], &[u8]), Refusal>
     ensures gives { GivesBy (λ p. (p.0.now, p.1.now)) result (bracketed opening closing bytes.now) }
+    ensures only { IfErr result (λ r. r ≡ BadLine) }
 {
     if !starts_with(bytes, opening) {
         return Ok((&[], bytes));
@@ -163,7 +165,8 @@ fn is_apart(bytes: &[u8]) -> bool
 }
 
 impl<'a> Shape<'a> {
-    ghost use Rattle.std.specs.Prelude.{◌≡◌};
+    ghost use Rattle.std.specs.Prelude.{◌≡◌, IfErr};
+    ghost use Rattle.stab_pauli.specs.declared.refusal.Refusal.TheVariants.{BadLine};
     ghost use Rattle.stab_circuit.specs.Results.{GivesBy};
     ghost use Rattle.stab_circuit.specs.Lines.{shape_of};
     ghost use Rattle.stab_circuit.specs.Views.{shape_shown};
@@ -172,6 +175,7 @@ impl<'a> Shape<'a> {
     #[tactic(auto, unfolding(crate::specs::Lines::shape_of))]
     pub fn of(content: &'a [u8]) -> Result<Shape<'a>, Refusal>
         ensures gives { GivesBy shape_shown result (shape_of content.entry.now) }
+        ensures only { IfErr result (λ r. r ≡ BadLine) }
     {
         let (name, rest) = content.split_at(name_len(content));
         let (tag, rest) = bracketed_in_front(rest, b'[', b']')?;

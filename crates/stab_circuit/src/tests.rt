@@ -1,5 +1,5 @@
-use crate::{Circuit, read_circuit, read_item};
-use stab_pauli::{CutInput, EndlessInput, Fault, MemoryInput};
+use crate::{Circuit, read_circuit, read_item, write_circuit};
+use stab_pauli::{CutInput, EndlessInput, Fault, MemoryInput, MemoryOutput, Refusal};
 use std::alloc::Global;
 use std::test::Fail;
 
@@ -187,5 +187,63 @@ fn an_input_that_fails_or_never_ends_is_refused(rt: HostRuntime) -> Result<(), F
     assert!(rt; read_circuit(rt.alloc(), &mut cut).is_ok());
     let mut endless = EndlessInput::new(b' ');
     assert_eq!(rt; fault_of(read_circuit(rt.alloc(), &mut endless)), (14, 0));
+    Ok(())
+}
+
+#[test]
+fn a_circuit_is_printed_as_its_one_text(rt: HostRuntime) -> Result<(), Fail> {
+    for (text, printed) in [
+        ("", ""),
+        ("h 0 # note\r\ncnot 0 1", "H 0\nCX 0 1\n"),
+        (
+            "TICK[100ns]\nDETECTOR[a](1,2.5)\nQUBIT_COORDS( 0 , -1 ) 0",
+            "TICK[100ns]\nDETECTOR[a](1, 2.5)\nQUBIT_COORDS(0, -1) 0\n",
+        ),
+        (
+            "REPEAT[a] 2{\nS_DAG[b]  00\n}",
+            "REPEAT[a] 2 {\n    S_DAG[b] 0\n}\n",
+        ),
+        (
+            "repeat 01 {\nrepeat 2 {\nM !007 8\n}\n}",
+            "REPEAT 1 {\n    REPEAT 2 {\n        M !7 8\n    }\n}\n",
+        ),
+        ("i 0\nX 0\ny 0\nZ 0", "I 0\nX 0\nY 0\nZ 0\n"),
+        ("h 0\nH_xz 0\ns 0\nsqrt_Z 0", "H 0\nH 0\nS 0\nS 0\n"),
+        ("s_dag 0\nSQRT_Z_dag 0", "S_DAG 0\nS_DAG 0\n"),
+        (
+            "cx 0 1\nCnot 1 2\nzcx 2 3 4 5",
+            "CX 0 1\nCX 1 2\nCX 2 3 4 5\n",
+        ),
+        ("cy 0 1\nZcy 1 2", "CY 0 1\nCY 1 2\n"),
+        ("cz 0 1\nzCZ 1 2\nswap 0 1", "CZ 0 1\nCZ 1 2\nSWAP 0 1\n"),
+        ("m 0\nMz 0\nmx 0", "M 0\nM 0\nMX 0\n"),
+        ("mr !0\nmrZ 0\nr 0\nRz 0", "MR !0\nMR 0\nR 0\nR 0\n"),
+        (
+            "M 0\ndetector rec[-01]\nobservable_include(007) rec[-1]",
+            "M 0\nDETECTOR rec[-1]\nOBSERVABLE_INCLUDE(7) rec[-1]\n",
+        ),
+        (
+            "tick\nqubit_coords 3\nShift_Coords(1e5)",
+            "TICK\nQUBIT_COORDS 3\nSHIFT_COORDS(1e5)\n",
+        ),
+        (CODE, CODE),
+    ] {
+        let circuit = read(rt.alloc(), text.as_bytes())?;
+        let mut out = MemoryOutput::new(rt.alloc(), 1000)?;
+        assert!(rt; write_circuit(&mut out, &circuit).is_ok());
+        assert!(rt; out.bytes() == printed.as_bytes(), "at {text}");
+    }
+    Ok(())
+}
+
+#[test]
+fn a_failed_write_leaves_a_prefix(rt: HostRuntime) -> Result<(), Fail> {
+    let circuit = read(rt.alloc(), CODE.as_bytes())?;
+    for room in 0..CODE.len() {
+        let mut out = MemoryOutput::new(rt.alloc(), room)?;
+        let failed = write_circuit(&mut out, &circuit);
+        assert_eq!(rt; failed, Err(Fault::whole(Refusal::WriteFault)));
+        assert!(rt; out.bytes() == CODE.as_bytes().split_at(room).0);
+    }
     Ok(())
 }

@@ -1,6 +1,7 @@
 -- Laws of steps that follow one another.
 use Rattle.std.proofs.Common.{◌≡◌, List, [], ◌∷◌, ◌++◌, Result, Ok, Err, refl, sym, ap, ◌∙◌, append_assoc, append-nil}
-use Rattle.stab_cli.specs.Results.{◌>>=◌, behind, each_of}
+use Rattle.stab_circuit.specs.Results.{◌>>=◌}
+use Rattle.stab_cli.specs.Results.{behind, each_of}
 
 -- what was put behind old, and then more
 pub behind_more : {X E : Type 0} (old mid : List X) (first more : Result (List X) E) → behind old first ≡ Ok mid → behind mid more ≡ behind old (first >>= λ a. more >>= λ b. Ok (a ++ b))

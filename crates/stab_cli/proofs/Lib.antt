@@ -1,5 +1,5 @@
 pub mod Folds
-pub mod Values
+pub mod TargetLaws
 pub mod Pieces
 pub mod LineLaws
 pub mod FaultLaws

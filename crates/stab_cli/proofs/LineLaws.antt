@@ -5,8 +5,9 @@ use Rattle.std.proofs.lemmas.List.Sums.{prefix_len-le-length}
 use Rattle.stab_pauli.specs.declared.refusal.Refusal.{Refusal}
 use Rattle.stab_pauli.specs.declared.refusal.Fault.{Fault}
 use Rattle.stab_cli.specs.declared.step.Step.{Step}
-use Rattle.stab_cli.specs.Results.{behind, ◌>>=◌}
-use Rattle.stab_cli.specs.Lines.{content_of, is_byte}
+use Rattle.stab_circuit.specs.Results.{◌>>=◌}
+use Rattle.stab_cli.specs.Results.{behind}
+use Rattle.stab_circuit.specs.Lines.{content_of, is_byte}
 use Rattle.stab_cli.specs.Texts.{meaning_of}
 use Rattle.stab_cli.specs.Reading.{at_line, lines_steps}
 use Rattle.stab_cli.proofs.Folds.{behind_more, bind_err}

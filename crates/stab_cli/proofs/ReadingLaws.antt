@@ -3,8 +3,8 @@ use Rattle.std.proofs.Common.{◌≡◌, refl, ap, ℕ, ◌+◌, List, [], ◌�
 use Rattle.stab_pauli.specs.declared.refusal.Refusal.{Refusal}
 use Rattle.stab_pauli.specs.declared.refusal.Fault.{Fault}
 use Rattle.stab_cli.specs.declared.step.Step.{Step}
-use Rattle.stab_cli.specs.Results.{◌>>=◌}
-use Rattle.stab_cli.specs.Lines.{content_of}
+use Rattle.stab_circuit.specs.Results.{◌>>=◌}
+use Rattle.stab_circuit.specs.Lines.{content_of}
 use Rattle.stab_cli.specs.Texts.{meaning_of, StandFor, no_lines, one_line, HaveFault, this_line, later_line}
 use Rattle.stab_cli.specs.Reading.{at_line, lines_steps}
 

@@ -11,7 +11,7 @@ use Rattle.stab_cli.specs.Results.{is_of_line}
 use Rattle.stab_cli.specs.Texts.{Reads, IsRefused, too_long, most_bytes}
 use Rattle.stab_cli.specs.Bits.{records_of}
 use Rattle.stab_cli.specs.Outputs.{IsSample, EndsSample, InputInCall, OutputInCall, IsSampleFault, is_of_whole, format_01}
-use Rattle.stab_cli.specs.Inputs.{IsReadRefusal}
+use Rattle.stab_circuit.specs.Inputs.{IsReadRefusal}
 use Rattle.stab_cli.specs.Reading.{IsTextFault}
 use Rattle.stab_cli.specs.Sampling.{GivesSample}
 use Rattle.stab_cli.proofs.RunLaws.{run_records}

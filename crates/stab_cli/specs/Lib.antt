@@ -1,13 +1,10 @@
 pub mod Results
-pub mod Lines
 pub mod Texts
 pub mod Runs
 pub mod Outputs
 pub mod Jobs
 pub mod Words
 pub mod Laws
-pub mod Inputs
 pub mod Reading
 pub mod Bits
 pub mod Sampling
-pub mod Views

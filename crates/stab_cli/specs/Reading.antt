@@ -6,8 +6,9 @@ use Rattle.stab_pauli.specs.declared.refusal.Refusal.TheVariants.{OutOfMemory, T
 use Rattle.stab_pauli.specs.declared.refusal.Fault.{Fault}
 use Rattle.stab_pauli.specs.Refusals.{whole}
 use Rattle.stab_cli.specs.declared.step.Step.{Step}
-use Rattle.stab_cli.specs.Results.{◌>>=◌, is_of_line}
-use Rattle.stab_cli.specs.Lines.{content_of}
+use Rattle.stab_circuit.specs.Results.{◌>>=◌}
+use Rattle.stab_cli.specs.Results.{is_of_line}
+use Rattle.stab_circuit.specs.Lines.{content_of}
 use Rattle.stab_cli.specs.Texts.{meaning_of, Reads, IsRefused}
 
 -- what a line gives, its refusal with the line's number

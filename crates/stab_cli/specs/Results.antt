@@ -1,20 +1,10 @@
--- Results that follow one another, any of which may be a refusal, and how a call's answer meets one.
+-- Results: lists that follow one another, any of which may be refused, and how a call's answer meets them.
 use Rattle.std.specs.Prelude.{◌≡◌, Bool, true, false, ◌||◌, IsTrue, List, [], ◌∷◌, ◌++◌, Result, Ok, Err, ◌⊎◌}
 use Rattle.stab_pauli.specs.declared.refusal.Refusal.{Refusal}
 use Rattle.stab_pauli.specs.declared.refusal.Fault.{Fault}
 use Rattle.stab_pauli.specs.declared.refusal.Refusal.TheVariants.{UnsupportedName, BadArguments, BadTarget, BadBlock, QubitOutOfRange, BadLine, OutOfMemory}
 use Rattle.stab_pauli.specs.Refusals.{whole}
-
-infixl 10 ◌>>=◌
--- the second result, made of the first, or the first one's refusal
-abbrev pub ◌>>=◌ : {E A B : Type 0} → Result A E → (A → Result B E) → Result B E
-(Ok x) >>= f = f x
-(Err e) >>= f = Err e
-
--- what a function returned, seen by view, is what the definition gives
-abbrev pub Gives : {X Y E : Type 0} → (X → Y) → Result X E → Result Y E → Type 0
-Gives view (Ok x) given = given ≡ Ok (view x)
-Gives view (Err e) given = given ≡ Err e
+use Rattle.stab_circuit.specs.Results.{◌>>=◌}
 
 -- the lists that f makes of the elements, one after another, or its first refusal
 abbrev pub each_of : {A X E : Type 0} → (A → Result (List X) E) → List A → Result (List X) E

@@ -1,12 +1,15 @@
 -- Texts: what the content of a line means, which lists of steps a text stands for, and the one fault of every other text.
-use Rattle.std.specs.Prelude.{ℕ, ◌+◌, ◌*◌, ◌-◌, ◌<◌, ◌≤◌, Bool, true, false, ◌&&◌, ◌||◌, not, nat_lt, ◌==◌, List, [], ◌∷◌, ◌++◌, length, drop, map, if◌then◌else◌, Result, Ok, Err, codes}
-use Rattle.std.specs.List.{list_all, slice_split}
+use Rattle.std.specs.Prelude.{ℕ, ◌+◌, ◌<◌, ◌≤◌, ◌&&◌, ◌==◌, List, [], ◌∷◌, ◌++◌, length, map, if◌then◌else◌, Result, Ok, Err, codes}
+use Rattle.std.specs.List.{slice_split}
 use Rattle.std.specs.Str.{str_eq_ignore_ascii_case}
-use Rattle.stab_cli.specs.Results.{◌>>=◌, each_of}
-use Rattle.stab_cli.specs.Lines.{content_of, shape_of, is_byte, starts_with_byte, is_spacing, is_digit}
+use Rattle.stab_circuit.specs.Results.{◌>>=◌}
+use Rattle.stab_cli.specs.Results.{each_of}
+use Rattle.stab_circuit.specs.Lines.{content_of, shape_of, is_byte, starts_with_byte, is_spacing}
+use Rattle.stab_circuit.specs.Words.{is_blank}
+use Rattle.stab_circuit.specs.Targets.{qubit_of, measure_target_of}
 use Rattle.stab_pauli.specs.declared.refusal.Refusal.{Refusal}
 use Rattle.stab_pauli.specs.declared.refusal.Fault.{Fault}
-use Rattle.stab_pauli.specs.declared.refusal.Refusal.TheVariants.{UnsupportedName, BadArguments, BadTarget, BadBlock, QubitOutOfRange, TooManySteps, TooLong}
+use Rattle.stab_pauli.specs.declared.refusal.Refusal.TheVariants.{UnsupportedName, BadArguments, BadBlock, TooManySteps, TooLong}
 use Rattle.stab_pauli.specs.Refusals.{whole}
 use Rattle.stab_cli.specs.declared.step.Step.{Step}
 use Rattle.stab_cli.specs.declared.step.Step.TheVariants.{Idle, Flip, Measure}
@@ -22,39 +25,11 @@ instruction_named name =
     else if str_eq_ignore_ascii_case name (codes "MZ") then Ok instruction.Measure
     else Err UnsupportedName
 
--- the number that decimal digits stand for, behind the digits of n
-abbrev pub value_from : ℕ → List ℕ → ℕ
-value_from n [] = n
-value_from n (d ∷ ds) = value_from (n * 10 + (d - 48)) ds
-
--- the number of qubits that a circuit can name
-abbrev pub most_qubits : ℕ
-most_qubits = 1024
-
--- a qubit: digits whose number is in range
-unfoldable pub qubit_of : List ℕ → Result ℕ Refusal
-qubit_of digits =
-    if (length digits == 0) || not (list_all is_digit digits) then Err BadTarget
-    else if nat_lt (value_from 0 digits) most_qubits then Ok (value_from 0 digits)
-    else Err QubitOutOfRange
-
--- an instruction's step on a qubit
-abbrev pub step_at : Instruction → ℕ → Step
-step_at instruction.Idle q = Idle q
-step_at instruction.Flip q = Flip q
-step_at instruction.Measure q = Measure q false
-
--- whether an instruction measures
-abbrev pub measures : Instruction → Bool
-measures instruction.Measure = true
-measures instruction.Idle = false
-measures instruction.Flip = false
-
--- the step of a target, which of a measurement alone may be inverted by '!'
+-- an instruction's step on a target's qubit, which of a measurement alone may be inverted
 unfoldable pub step_of : Instruction → List ℕ → Result Step Refusal
-step_of i target =
-    if measures i && starts_with_byte target 33 then (qubit_of (drop 1 target) >>= λ q. Ok (Measure q true))
-    else (qubit_of target >>= λ q. Ok (step_at i q))
+step_of instruction.Idle target = qubit_of target >>= λ q. Ok (Idle q)
+step_of instruction.Flip target = qubit_of target >>= λ q. Ok (Flip q)
+step_of instruction.Measure target = measure_target_of target >>= λ t. Ok (Measure t.qubit t.inverted)
 
 -- the step of a word; between two bytes of spacing there is none
 unfoldable pub word_steps : Instruction → List ℕ → Result (List Step) Refusal
@@ -63,10 +38,6 @@ word_steps i word = if length word == 0 then Ok [] else (step_of i word >>= λ s
 -- the steps of the targets, from left to right
 abbrev pub targets_steps : Instruction → List ℕ → Result (List Step) Refusal
 targets_steps i targets = each_of (word_steps i) (slice_split is_spacing targets)
-
--- whether there is nothing but spacing
-abbrev pub is_blank : List ℕ → Bool
-is_blank bs = list_all is_spacing bs
 
 -- the steps of a line with a name: its shape, its name, its arguments, its targets and its brace, in this order
 unfoldable pub named_steps : List ℕ → Result (List Step) Refusal

@@ -1,10 +1,8 @@
 //! The commands of stabsim, from bytes to bytes.
 //!
-//! - `line`: what is left of a line, and its shape.
 //! - `text`: the steps that a circuit's text stands for.
 //! - `step`: qubits and steps.
 //! - `run`: what the steps record.
-//! - `input`: reading an input whole.
 //! - `sample`: the command `sample`.
 //! - `fault_line`: the line that tells a fault.
 //! - `job`: the words of a command line, and running what they ask for.
@@ -16,10 +14,8 @@
 #![tactic(auto)]
 
 mod fault_line;
-mod input;
 mod job;
 pub mod laws;
-mod line;
 mod run;
 mod sample;
 mod step;

@@ -5,9 +5,9 @@ ghost use Rattle.stab_cli.specs.Outputs.{EndsSample};
 ghost use Rattle.stab_cli.specs.Sampling.{GivesSample};
 ghost use Rattle.stab_cli.specs.Reading.{IsTextFault};
 
-use crate::input::read_text;
 use crate::run::{records, text_of_records};
 use crate::text::steps_of_text;
+use stab_circuit::read_text;
 use stab_pauli::{DeviceFault, Fault, Input, Output, Refusal, write_all};
 use std::alloc::Global;
 
@@ -52,6 +52,7 @@ pub fn run_sample<I: Input, O: Output>(
     input: &mut I,
     out: &mut O,
 ) -> Result<(), Fault>
+    ensures as_honest { (I.honest input.new ≡ I.honest input.old) × (O.honest out.new ≡ O.honest out.old) }
     ensures ends { EndsSample
         (record { honest = I.honest input.old; unread = I.unread input.old; left = I.unread input.new; failures = I.failures input.old; failures_after = I.failures input.new })
         (record { honest = O.honest out.old; old = O.written out.old; new = O.written out.new; failures = O.failures out.old; failures_after = O.failures out.new; failed_flushes = O.failed_flushes out.old; failed_flushes_after = O.failed_flushes out.new })

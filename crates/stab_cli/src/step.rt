@@ -1,42 +1,4 @@
-use std::marker::Model;
-
-/// A qubit's number, below 1,024.
-#[derive(Clone, Copy, Debug, PartialEq, Eq)]
-pub struct Qubit {
-    number: usize,
-}
-
-impl Model for Qubit {
-    ghost use Rattle.std.specs.Prelude.{ℕ, ◌<◌};
-
-    ghost Value = { ℕ };
-
-    ghost view = { λ q. q.number };
-
-    ghost invariant = { λ q. q.number < 1024 };
-
-    ghost inverse = { λ n. record { number = n } };
-}
-
-impl Qubit {
-    ghost use Rattle.std.specs.Prelude.{◌≡◌, ◌<◌};
-
-    /// The qubit of this number.
-    pub fn new(number: usize) -> Qubit
-        requires in_range { number < 1024 }
-        ensures value { result ≡ number }
-    {
-        Qubit { number }
-    }
-
-    /// The qubit's number.
-    pub fn number(self) -> usize
-        ensures value { result ≡ self }
-        ensures in_range { result < 1024 }
-    {
-        self.number
-    }
-}
+use stab_circuit::Qubit;
 
 /// An instruction, whose targets are qubits.
 #[derive(Clone, Copy, Debug, PartialEq, Eq)]

@@ -1,13 +1,16 @@
-ghost use Rattle.std.specs.Prelude.{IfErr, ◌≡◌, ◌≤◌, ◌^◌, min, length, Ok, Err};
-ghost use Rattle.std.specs.List.{list_all};
+ghost use Rattle.std.specs.Prelude.{IfErr, ◌≡◌, ◌≤◌, length, Ok, Err};
+ghost use Rattle.std.specs.List.{position_or_len};
 ghost use Rattle.std.specs.Str.{str_eq_ignore_ascii_case};
 ghost use Rattle.stab_cli.specs.Results.{IsOfText, Adds, AddsLines};
-ghost use Rattle.stab_cli.specs.Lines.{is_digit as digit};
-ghost use Rattle.stab_cli.specs.Texts.{is_blank as blank, instruction_named as instruction_of_name, value_from, qubit_of, step_of, word_steps, targets_steps, named_steps, meaning_of, lines_of};
+ghost use Rattle.stab_circuit.specs.Lines.{is_spacing as spacing};
+ghost use Rattle.stab_cli.specs.Texts.{instruction_named as instruction_of_name, step_of, word_steps, targets_steps, named_steps, meaning_of, lines_of};
 ghost use Rattle.stab_cli.specs.Reading.{lines_steps, fault_on_line, IsTextFault, ReadsSteps};
 
-use crate::line::{Shape, content, is_digit, is_spacing, position_of, starts_with, word_len};
-use crate::step::{Instruction, Qubit, Step};
+use crate::step::{Instruction, Step};
+use stab_circuit::MeasureTarget;
+use stab_circuit::line::{Shape, content, is_spacing, position_of, starts_with};
+use stab_circuit::target::{MeasureTargets, Qubits, Target};
+use stab_circuit::word::is_blank;
 use stab_pauli::{Fault, Refusal};
 use std::alloc::Global;
 
@@ -36,65 +39,19 @@ fn instruction_named(name: &[u8]) -> Result<Instruction, Refusal>
     }
 }
 
-/// The number that digits stand for, or the cap where it is not below that.
-#[tactic(auto, using(crate::proofs::Values::le_value_from, crate::proofs::Values::value_from_drop))]
-fn capped_value(digits: &[u8], cap: usize) -> usize
-    requires room { cap ≤ 2 ^ 32 }
-    ensures value { result ≡ min (value_from 0 digits.now) cap }
-{
-    let mut value = 0;
-    for digit in digits {
-        if value < cap {
-            value = value * 10 + (*digit as usize).saturating_sub(48);
-        }
-    }
-    value.min(cap)
-}
-
-fn are_digits(bytes: &[u8]) -> bool
-    ensures value { result ≡ list_all digit bytes.now }
-{
-    bytes.iter().all(|b| is_digit(*b))
-}
-
-/// The qubit of these digits.
-#[tactic(auto, unfolding(crate::specs::Texts::qubit_of))]
-fn qubit(digits: &[u8]) -> Result<Qubit, Refusal>
-    ensures gives { result ≡ qubit_of digits.now }
-    ensures only { IfErr result IsOfText }
-{
-    if digits.is_empty() || !are_digits(digits) {
-        return Err(Refusal::BadTarget);
-    }
-    let value = capped_value(digits, 1024);
-    if value < 1024 {
-        Ok(Qubit::new(value))
-    } else {
-        Err(Refusal::QubitOutOfRange)
-    }
-}
-
 /// The step of a target.
-#[tactic(auto, unfolding(crate::specs::Texts::step_of))]
+#[tactic(auto, unfolding(crate::specs::Texts::step_of), using(crate::proofs::TargetLaws::qubit_refusal, crate::proofs::TargetLaws::measure_refusal))]
 fn step(instruction: Instruction, target: &[u8]) -> Result<Step, Refusal>
     ensures gives { result ≡ step_of instruction target.now }
     ensures only { IfErr result IsOfText }
 {
-    if instruction == Instruction::Measure && starts_with(target, b'!') {
-        let qubit = qubit(target.split_at(1).1)?;
-        return Ok(Step::Measure {
-            qubit,
-            inverted: true,
-        });
-    }
-    let qubit = qubit(target)?;
     match instruction {
-        Instruction::Idle => Ok(Step::Idle(qubit)),
-        Instruction::Flip => Ok(Step::Flip(qubit)),
-        Instruction::Measure => Ok(Step::Measure {
-            qubit,
-            inverted: false,
-        }),
+        Instruction::Idle => Ok(Step::Idle(Qubits::of(target)?)),
+        Instruction::Flip => Ok(Step::Flip(Qubits::of(target)?)),
+        Instruction::Measure => {
+            let MeasureTarget { qubit, inverted } = MeasureTargets::of(target)?;
+            Ok(Step::Measure { qubit, inverted })
+        }
     }
 }
 
@@ -108,6 +65,14 @@ fn add_word(steps: &mut Vec<Step>, instruction: Instruction, word: &[u8]) -> Res
         steps.push(step(instruction, word)?)?;
     }
     Ok(())
+}
+
+/// The length of the word in front.
+fn word_len(bytes: &[u8]) -> usize
+    ensures value { result ≡ position_or_len spacing bytes.now }
+    ensures within { result ≤ length bytes.now }
+{
+    bytes.iter().take_while(|b| !is_spacing(**b)).count()
 }
 
 /// Adds the steps of the targets, from left to right.
@@ -128,12 +93,6 @@ fn add_targets(
         }
         rest = rest.split_at(end + 1).1;
     }
-}
-
-fn is_blank(bytes: &[u8]) -> bool
-    ensures value { result ≡ blank bytes.now }
-{
-    bytes.iter().all(|b| is_spacing(*b))
 }
 
 /// Adds the steps of a line with a name.

@@ -1,4 +1,4 @@
-pub mod PrefixLemmas
+pub mod PutsLemmas
 pub mod PieceLemmas
 pub mod NumberLemmas
 pub mod GroupLemmas

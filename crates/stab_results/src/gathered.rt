@@ -1,7 +1,6 @@
-ghost use Rattle.std.specs.Prelude.{◌≡◌, ◌≤◌, List, ℕ, [], ◌∷◌, ◌++◌, take, IsTrue, OnOk, OnErr, IsErrOf};
+ghost use Rattle.std.specs.Prelude.{◌≡◌, ◌≤◌, List, ℕ, [], ◌∷◌, take, OnOk};
 ghost use Rattle.std.specs.Fmt.{decimal};
-ghost use Rattle.stab_pauli.specs.Devices.{Failed, WritesUpTo, WritesPrefix};
-ghost use Rattle.stab_pauli.specs.declared.refusal.Refusal.TheVariants.{WriteFault};
+ghost use Rattle.stab_results.specs.Gathered.{Puts};
 
 use itoa::Buffer;
 use stab_pauli::{Output, Refusal, write_all};
@@ -12,7 +11,7 @@ const ROOM: usize = 1024;
 
 /// Bytes that are gathered on their way to an output. Contracts see those that it holds.
 ///
-/// Nothing goes out by itself: `send` at the end.
+/// What is held goes out where there is no room for more, and by `send` at the end.
 #[derive(Drop)]
 pub(crate) struct Gathered {
     bytes: [u8; ROOM],
@@ -40,28 +39,17 @@ impl Gathered {
 
     /// Sends all that is held.
     pub(crate) fn send<O: Output>(&mut self, out: &mut O) -> Result<(), Refusal>
-        ensures only { OnErr result (IsErrOf result WriteFault) }
-        ensures kept { OnOk result (O.failures out.new ≡ O.failures out.old) }
-        ensures failed { OnErr result (Failed (O.failures out.old) (O.failures out.new)) }
-        ensures as_honest { O.honest out.new ≡ O.honest out.old }
+        ensures puts { Puts O.failures O.failed_flushes O.honest O.written out.old out.new self.old self.new [] result }
         ensures empty { OnOk result (self.new ≡ []) }
-        ensures whole { IsTrue (O.honest out.old) → OnOk result (O.written out.new ≡ O.written out.old ++ self.old) }
-        ensures prefix { IsTrue (O.honest out.old) → OnErr result (WritesPrefix (O.written out.old) (O.written out.new) self.old) }
     {
         write_all(out, self.bytes.split_at(self.held).0)?;
         self.held = 0;
         Ok(())
     }
 
-    /// Holds one byte more; what is held goes out first where there is no room.
-    #[tactic(auto, using(crate::proofs::PrefixLemmas::prefix_more))]
+    /// Puts one byte; what is held goes out first where there is no room.
     pub(crate) fn push<O: Output>(&mut self, out: &mut O, byte: u8) -> Result<(), Refusal>
-        ensures only { OnErr result (IsErrOf result WriteFault) }
-        ensures kept { OnOk result (O.failures out.new ≡ O.failures out.old) }
-        ensures failed { OnErr result (Failed (O.failures out.old) (O.failures out.new)) }
-        ensures as_honest { O.honest out.new ≡ O.honest out.old }
-        ensures whole { IsTrue (O.honest out.old) → OnOk result (WritesUpTo (O.written out.old) (O.written out.new) (self.old ++ byte ∷ []) self.new) }
-        ensures prefix { IsTrue (O.honest out.old) → OnErr result (WritesPrefix (O.written out.old) (O.written out.new) (self.old ++ byte ∷ [])) }
+        ensures puts { Puts O.failures O.failed_flushes O.honest O.written out.old out.new self.old self.new (byte ∷ []) result }
     {
         if self.held == ROOM {
             self.send(out)?;
@@ -71,14 +59,9 @@ impl Gathered {
         Ok(())
     }
 
-    /// Holds the bytes, one after another.
+    /// Puts the bytes, one after another.
     pub(crate) fn put<O: Output>(&mut self, out: &mut O, bytes: &[u8]) -> Result<(), Refusal>
-        ensures only { OnErr result (IsErrOf result WriteFault) }
-        ensures kept { OnOk result (O.failures out.new ≡ O.failures out.old) }
-        ensures failed { OnErr result (Failed (O.failures out.old) (O.failures out.new)) }
-        ensures as_honest { O.honest out.new ≡ O.honest out.old }
-        ensures whole { IsTrue (O.honest out.old) → OnOk result (WritesUpTo (O.written out.old) (O.written out.new) (self.old ++ bytes.now) self.new) }
-        ensures prefix { IsTrue (O.honest out.old) → OnErr result (WritesPrefix (O.written out.old) (O.written out.new) (self.old ++ bytes.now)) }
+        ensures puts { Puts O.failures O.failed_flushes O.honest O.written out.old out.new self.old self.new bytes.now result }
     {
         for byte in bytes {
             self.push(out, *byte)?;
@@ -86,18 +69,13 @@ impl Gathered {
         Ok(())
     }
 
-    /// Holds a number in decimal.
+    /// Puts a number in decimal.
     pub(crate) fn put_decimal<O: Output>(
         &mut self,
         out: &mut O,
         number: usize,
     ) -> Result<(), Refusal>
-        ensures only { OnErr result (IsErrOf result WriteFault) }
-        ensures kept { OnOk result (O.failures out.new ≡ O.failures out.old) }
-        ensures failed { OnErr result (Failed (O.failures out.old) (O.failures out.new)) }
-        ensures as_honest { O.honest out.new ≡ O.honest out.old }
-        ensures whole { IsTrue (O.honest out.old) → OnOk result (WritesUpTo (O.written out.old) (O.written out.new) (self.old ++ decimal number) self.new) }
-        ensures prefix { IsTrue (O.honest out.old) → OnErr result (WritesPrefix (O.written out.old) (O.written out.new) (self.old ++ decimal number)) }
+        ensures puts { Puts O.failures O.failed_flushes O.honest O.written out.old out.new self.old self.new (decimal number) result }
     {
         let mut digits = Buffer::new();
         self.put(out, digits.format(number).as_bytes())

@@ -3,20 +3,18 @@
 //! - `format`: the five formats, and what kinds of bits a shot has.
 //! - `gathered`: bytes gathered on their way to an output, which then gets many at a time.
 //! - `ones`: the places of the 1 bits, one after another.
-//! - `dense`: 01 and b8, which have each bit.
-//! - `sparse`: r8, hits and dets, which have the places of the 1 bits.
+//! - `formats`: a shot in each of the formats.
 //! - `shot`: `write_shot`, which the other crates call.
 //!
 //! Proved: `write_shot` writes exactly the bytes of `specs/Formats.antt`, or a prefix of them where
 //! the output failed.
 #![tactic(auto)]
 
-mod dense;
 mod format;
+mod formats;
 mod gathered;
 mod ones;
 mod shot;
-mod sparse;
 
 pub use format::{Format, Kinds};
 pub use shot::write_shot;

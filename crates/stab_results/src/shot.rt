@@ -1,55 +1,25 @@
-ghost use Rattle.std.specs.Prelude.{◌≡◌, ◌≤◌, ◌++◌, length, IsTrue, OnOk, OnErr, IsErrOf};
-ghost use Rattle.stab_pauli.specs.Devices.{Failed, WritesUpTo, WritesPrefix};
+ghost use Rattle.std.specs.Prelude.{◌≡◌, ◌≤◌, [], ◌++◌, length, IsTrue, OnOk, OnErr, IsErrOf};
+ghost use Rattle.stab_pauli.specs.Devices.{Failed, WritesPrefix};
 ghost use Rattle.stab_pauli.specs.Refusals.{whole};
 ghost use Rattle.stab_pauli.specs.declared.refusal.Refusal.TheVariants.{WriteFault};
 ghost use Rattle.stab_results.specs.Formats.{shot_bytes, detectors_of};
+ghost use Rattle.stab_results.specs.Gathered.{Puts};
 
-use crate::dense::{put_b8, put_f01};
 use crate::format::{Format, Kinds};
 use crate::gathered::Gathered;
-use crate::sparse::{put_dets, put_hits, put_r8};
 use stab_pauli::{Fault, Output, Refusal};
 
-/// Puts a shot.
-fn put_shot<O: Output>(
-    out: &mut O,
-    gathered: &mut Gathered,
-    format: Format,
-    kinds: Kinds,
-    bits: &[bool],
-) -> Result<(), Refusal>
-    ensures only { OnErr result (IsErrOf result WriteFault) }
-    ensures kept { OnOk result (O.failures out.new ≡ O.failures out.old) }
-    ensures failed { OnErr result (Failed (O.failures out.old) (O.failures out.new)) }
-    ensures as_honest { O.honest out.new ≡ O.honest out.old }
-    ensures whole { IsTrue (O.honest out.old) → OnOk result (WritesUpTo (O.written out.old) (O.written out.new) (gathered.old ++ shot_bytes format kinds bits.now) gathered.new) }
-    ensures prefix { IsTrue (O.honest out.old) → OnErr result (WritesPrefix (O.written out.old) (O.written out.new) (gathered.old ++ shot_bytes format kinds bits.now)) }
-{
-    match format {
-        Format::F01 => put_f01(out, gathered, bits),
-        Format::B8 => put_b8(out, gathered, bits),
-        Format::R8 => put_r8(out, gathered, bits),
-        Format::Hits => put_hits(out, gathered, bits),
-        Format::Dets => put_dets(out, gathered, kinds, bits),
-    }
-}
-
-/// Sends a shot.
+/// Gathers a shot, and sends it.
 fn send_shot<O: Output>(
     out: &mut O,
     format: Format,
     kinds: Kinds,
     bits: &[bool],
 ) -> Result<(), Refusal>
-    ensures only { OnErr result (IsErrOf result WriteFault) }
-    ensures kept { OnOk result (O.failures out.new ≡ O.failures out.old) }
-    ensures failed { OnErr result (Failed (O.failures out.old) (O.failures out.new)) }
-    ensures as_honest { O.honest out.new ≡ O.honest out.old }
-    ensures whole { IsTrue (O.honest out.old) → OnOk result (O.written out.new ≡ O.written out.old ++ shot_bytes format kinds bits.now) }
-    ensures prefix { IsTrue (O.honest out.old) → OnErr result (WritesPrefix (O.written out.old) (O.written out.new) (shot_bytes format kinds bits.now)) }
+    ensures puts { Puts O.failures O.failed_flushes O.honest O.written out.old out.new [] [] (shot_bytes format kinds bits.now) result }
 {
     let mut gathered = Gathered::new();
-    put_shot(out, &mut gathered, format, kinds, bits)?;
+    gathered.put_shot(out, format, kinds, bits)?;
     gathered.send(out)
 }
 
@@ -71,6 +41,7 @@ pub fn write_shot<O: Output>(
     ensures only { OnErr result (IsErrOf result (whole WriteFault)) }
     ensures kept { OnOk result (O.failures out.new ≡ O.failures out.old) }
     ensures failed { OnErr result (Failed (O.failures out.old) (O.failures out.new)) }
+    ensures no_flush { O.failed_flushes out.new ≡ O.failed_flushes out.old }
     ensures as_honest { O.honest out.new ≡ O.honest out.old }
     ensures whole { IsTrue (O.honest out.old) → OnOk result (O.written out.new ≡ O.written out.old ++ shot_bytes format kinds bits.now) }
     ensures prefix { IsTrue (O.honest out.old) → OnErr result (WritesPrefix (O.written out.old) (O.written out.new) (shot_bytes format kinds bits.now)) }

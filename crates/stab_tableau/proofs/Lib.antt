@@ -22,6 +22,7 @@ pub mod TableauStartLemmas
 pub mod WalkLemmas
 pub mod ColumnLemmas
 pub mod GeneratedLemmas
+pub mod ObservableLemmas
 pub mod MeasureLemmas
 pub mod TableauMeasureLemmas
 pub mod FixedLemmas

@@ -4,5 +4,6 @@ pub mod GateLaws
 pub mod Laws
 pub mod Preimages
 pub mod Collapses
+pub mod Observables
 pub mod Tableaus
 pub mod Columns

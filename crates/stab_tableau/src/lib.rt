@@ -1,16 +1,25 @@
-//! Stabiliser states: gates, and what a list of gates and measurements makes of a state.
+//! Stabiliser states: gates, measurements, and what both make of a state.
 //!
 //! - `gate`: the gates on one and on two qubits.
+//! - `tableau`: a state, its gates, the sign of any Pauli, measurements, stabilisers and destabilisers.
+//! - `collapse`: what a measurement answers, and what it does to the rows of a state.
+//! - `preimages`: the two rows that a state keeps for a qubit, and how gates and measurements change them.
+//! - `rows`: the rows of all qubits: preimages of strings, columns, and a pass over all of them.
 //! - `gate_laws`: a gate is undone by its way back, and keeps products and commuting.
 //! - `laws`: the members of a sound trace are a group, outcomes keep it sound, and what is free.
 //!
 //! `specs/` says by the stabiliser rules which signed Pauli strings stabilise a state.
+//!
+//! Proved: after each call a tableau is stabilised by the strings that the rules say, and no others; the sign and the
+//! outcome of any Pauli are exact; and what commutes with all stabilisers is, up to sign, the product of those whose
+//! destabilisers anticommute with it.
 #![tactic(auto)]
 
 mod collapse;
 mod gate;
 pub mod gate_laws;
 pub mod laws;
+mod observable;
 mod preimages;
 mod rows;
 mod tableau;
@@ -18,3 +27,6 @@ mod tableau;
 pub use collapse::Collapse;
 pub use gate::{Gate, PairGate};
 pub use tableau::Tableau;
+
+#[cfg(test)]
+mod tests;

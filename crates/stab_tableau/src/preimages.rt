@@ -1,5 +1,5 @@
 ghost use Rattle.std.specs.Prelude.{◌≡◌, ◌<◌, length};
-ghost use Rattle.stab_pauli.specs.Letters.{letters_anticommute};
+ghost use Rattle.stab_pauli.specs.Letters.{◌⊕◌, letters_anticommute};
 ghost use Rattle.stab_pauli.specs.Paulis.{anticommute};
 ghost use Rattle.stab_pauli.specs.Phaseds.{phased};
 ghost use Rattle.stab_pauli.specs.declared.letter.Letter.TheVariants.{Z};
@@ -24,7 +24,7 @@ impl Preimages {
     ghost use Rattle.stab_pauli.specs.Paulis.{anticommute};
     ghost use Rattle.stab_pauli.specs.Phaseds.{phased, phased_product};
     ghost use Rattle.stab_tableau.specs.Preimages.{letter_preimage, IsOver, IsRow, AreRows, GateRow, PairRows};
-    ghost use Rattle.stab_tableau.specs.Collapses.{CollapsedRow};
+    ghost use Rattle.stab_tableau.specs.Collapses.{CollapsedRow, IsTold};
     ghost use Rattle.stab_tableau.specs.Columns.{letter_by};
 
     /// The same rows in memory of their own.
@@ -133,14 +133,15 @@ impl Preimages {
         }
     }
 
-    /// The preimages after a measurement; see `collapse_string`.
-    pub fn collapse(&mut self, place: usize, turning: &Pauli)
+    /// The preimages after a measurement, by the measured letter on this qubit; see `collapse_string`.
+    pub fn collapse(&mut self, letter: Letter, place: usize, turning: &Pauli)
         requires over { IsOver (length turning.now.letters) self.old }
         requires in_range { place < length turning.now.letters }
+        requires told { IsTold place turning.now letter self.old }
         ensures row { CollapsedRow place turning.now self.old self.new }
     {
-        collapse_string(&mut self.x, place, turning);
-        collapse_string(&mut self.z, place, turning);
+        collapse_string(&mut self.x, Letter::X.anticommutes(letter), place, turning);
+        collapse_string(&mut self.z, Letter::Z.anticommutes(letter), place, turning);
     }
 }
 
@@ -148,16 +149,17 @@ impl Preimages {
 // The letter Z there is w, and `turning` is i times w times r. What the measurement makes of preimages exchanges w and
 // r: a string that commutes with both stays, and one that anticommutes with both is negated; one that anticommutes with
 // r alone is multiplied by w and then r, and one with w alone by r and then w. Both products are i times that with
-// `turning`, up to sign. So one product does in place of two, and whether a string anticommutes with w is one letter.
-fn collapse_string(string: &mut Pauli, place: usize, turning: &Pauli)
+// `turning`, up to sign. So one product does in place of two. No test reads the whole string: with w it is one letter,
+// and a preimage commutes with r where what it is the preimage of commutes with the measured string.
+fn collapse_string(string: &mut Pauli, with_r: bool, place: usize, turning: &Pauli)
     requires same_length { length string.old.letters ≡ length turning.now.letters }
     requires in_range { place < length string.old.letters }
+    requires told { anticommute string.old turning.now ≡ letters_anticommute Z (letter_at string.old.letters place) ⊕ with_r }
     ensures value { phased string.new ≡ collapsed_by (letters_anticommute Z (letter_at string.old.letters place)) (anticommute string.old turning.now) (phased turning.now) (phased string.old) }
 {
     let with_w = Letter::Z.anticommutes(string.letter(place));
-    let turns = !string.commutes(turning);
-    if turns {
+    if with_w != with_r {
         string.multiply_turned(turning);
     }
-    string.negate_if(with_w != turns);
+    string.negate_if(with_r);
 }

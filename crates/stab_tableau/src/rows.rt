@@ -1,9 +1,12 @@
 ghost use Rattle.std.specs.Prelude.{◌≡◌, ℕ, ◌<◌, length};
 ghost use Rattle.stab_pauli.specs.Phaseds.{phased};
 ghost use Rattle.stab_tableau.specs.Preimages.{row_at, string_preimage, extend, IsOver, IsTable};
-ghost use Rattle.stab_tableau.specs.Collapses.{CollapsedRow};
+ghost use Rattle.stab_tableau.specs.Gates.{letter_at};
+ghost use Rattle.stab_tableau.specs.Collapses.{CollapsedRow, IsTold};
+ghost use Rattle.stab_tableau.specs.Observables.{observed, HasLetter};
 ghost use Rattle.stab_tableau.specs.Columns.{column};
 
+use super::observable::Observable;
 use super::preimages::Preimages;
 use stab_pauli::{Letter, Pauli};
 
@@ -34,12 +37,14 @@ pub fn write_column(rows: &[Preimages], letter: Letter, place: usize, out: &mut 
 }
 
 /// All preimages after a measurement; see `preimages`.
-pub fn collapse_rows(rows: &mut [Preimages], place: usize, turning: &Pauli)
+pub fn collapse_rows(rows: &mut [Preimages], observable: &Observable, place: usize, turning: &Pauli)
     requires over { (q : ℕ) → q < length rows.old → IsOver (length turning.now.letters) (row_at rows.old q) }
     requires in_range { place < length turning.now.letters }
+    requires has_letters { (q : ℕ) → q < length rows.old → HasLetter observable.now q }
+    requires told { (q : ℕ) → q < length rows.old → IsTold place turning.now (letter_at (observed (length rows.old) observable.now).letters q) (row_at rows.old q) }
     ensures rows { (q : ℕ) → q < length rows.old → CollapsedRow place turning.now (row_at rows.old q) (row_at rows.new q) }
 {
-    for row in rows.iter_mut() {
-        row.collapse(place, turning);
+    for qubit in 0..rows.len() {
+        rows[qubit].collapse(observable.letter(qubit), place, turning);
     }
 }

@@ -1,5 +1,6 @@
 use super::collapse::{Collapse, fixed_sign, measure};
 use super::gate::{Gate, PairGate};
+use super::observable::Observable;
 use super::preimages::Preimages;
 use super::rows;
 use stab_pauli::{Letter, Pauli, Refusal};
@@ -67,7 +68,7 @@ impl Tableau {
         ensures ok { IfOk result (λ t. t ≡ self.now) }
         ensures err { IfErr result (λ r. r ≡ OutOfMemory) }
     {
-        let mut rows = Vec::with_capacity(alloc, self.rows.len())?;
+        let mut rows = Vec::with_capacity(alloc, self.len())?;
         for row in &self.rows {
             rows.push(row.copy(alloc)?)?;
         }
@@ -118,7 +119,8 @@ impl Tableau {
         ensures some { (b : Bool) → (result ≡ Some b) ↔ (stabilises self.old (with_sign b pauli.now) ≡ true) }
         ensures none { (result ≡ None) ↔ (is_free_by (stabilises self.old) pauli.now ≡ true) }
     {
-        rows::write_preimage(self.rows.as_slice(), pauli, &mut self.scratch.x);
+        let preimage = &mut self.scratch.x;
+        rows::write_preimage(self.rows.as_slice(), pauli, preimage);
         match self.scratch.x.first_flip() {
             Some(_) => None,
             None => Some(self.scratch.x.is_negative()),
@@ -137,7 +139,9 @@ impl Tableau {
         ensures unchanged { result.free ≡ false → self.new ≡ self.old }
     {
         rows::write_preimage(self.rows.as_slice(), pauli, &mut self.scratch.x);
-        measure(self.rows.as_mut_slice(), &mut self.scratch, coin)
+        let observable = &Observable::String(pauli);
+        let rows = self.rows.as_mut_slice();
+        measure(rows, &mut self.scratch, observable, coin)
     }
 
     /// Measures one letter on a qubit: `collapse` of the string with that letter alone, which isn't built.
@@ -150,7 +154,9 @@ impl Tableau {
         ensures unchanged { result.free ≡ false → self.new ≡ self.old }
     {
         self.rows[qubit].copy_into(letter, &mut self.scratch.x);
-        measure(self.rows.as_mut_slice(), &mut self.scratch, coin)
+        let observable = &Observable::Single(letter, qubit);
+        let rows = self.rows.as_mut_slice();
+        measure(rows, &mut self.scratch, observable, coin)
     }
 
     /// The outcome of a measurement of one letter on a qubit where it is fixed, or `None` where a coin would decide.
@@ -185,7 +191,7 @@ impl Tableau {
         ensures member { IfOk result (λ p. stabilises self.old p ≡ true) }
         ensures err { IfErr result (λ r. r ≡ OutOfMemory) }
     {
-        let mut stabiliser = Pauli::identity(alloc, self.rows.len())?;
+        let mut stabiliser = Pauli::identity(alloc, self.len())?;
         rows::write_column(self.rows.as_slice(), Letter::Z, k, &mut stabiliser);
         rows::write_preimage(self.rows.as_slice(), &stabiliser, &mut self.scratch.x);
         stabiliser.negate_if(self.scratch.x.is_negative());
@@ -201,7 +207,7 @@ impl Tableau {
         ensures length { IfOk result (λ p. length p.letters ≡ self.now.qubits) }
         ensures err { IfErr result (λ r. r ≡ OutOfMemory) }
     {
-        let mut destabiliser = Pauli::identity(alloc, self.rows.len())?;
+        let mut destabiliser = Pauli::identity(alloc, self.len())?;
         rows::write_column(self.rows.as_slice(), Letter::X, k, &mut destabiliser);
         Ok(destabiliser)
     }

@@ -1,6 +1,6 @@
 use Rattle.std.proofs.Common.{◌≡◌, ◌<◌, length, arith, ◌∙◌, sym, take, ap, inl, inr, Err}
 use Rattle.std.specs.List.{position_or_len}
-use Rattle.stab_cli.specs.Lines.{is_byte, content_of}
+use Rattle.stab_circuit.specs.Lines.{is_byte, content_of}
 use Rattle.stab_cli.specs.Results.{behind}
 use Rattle.stab_cli.specs.Texts.{meaning_of}
 use Rattle.stab_cli.specs.Reading.{fault_on_line}

@@ -1,6 +1,6 @@
 use Rattle.std.proofs.Common.{◌≡◌, ◌≤◌, ◌<◌, ◌+◌, length}
 use Rattle.std.specs.List.{slice_split}
-use Rattle.stab_cli.specs.Lines.{is_byte}
+use Rattle.stab_circuit.specs.Lines.{is_byte}
 use Rattle.stab_cli.specs.Results.{behind}
 use Rattle.stab_cli.specs.Reading.{lines_steps}
 use Rattle.stab_cli.proofs.text.add_lines.Given as goal

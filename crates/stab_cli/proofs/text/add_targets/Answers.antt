@@ -1,7 +1,7 @@
 use Rattle.std.proofs.Common.{◌≡◌, ◌<◌, length, arith, ◌∙◌, sym, take, ap, inl, inr}
 use Rattle.std.specs.List.{position_or_len}
 use Rattle.std.proofs.lemmas.Result.{err_from_is_err_and}
-use Rattle.stab_cli.specs.Lines.{is_spacing}
+use Rattle.stab_circuit.specs.Lines.{is_spacing}
 use Rattle.stab_cli.specs.Results.{behind}
 use Rattle.stab_cli.specs.Texts.{word_steps, targets_steps}
 use Rattle.stab_cli.proofs.Folds.{behind_err}

@@ -1,10 +1,17 @@
-use Rattle.std.proofs.Common.{[], IsTrue, refl}
-use Rattle.std.proofs.lemmas.Result.{on_err_weaker}
-use Rattle.stab_results.proofs.PrefixLemmas.{end_cut}
+use Rattle.std.proofs.Common.{[], refl, sym}
+use Rattle.std.proofs.lemmas.List.{append-nil}
+use Rattle.stab_results.specs.Formats.{shot_bytes}
+use Rattle.stab_results.proofs.PutsLemmas.{begins, goes_on, breaks_off, ends, emptied}
 use Rattle.stab_results.proofs.shot.send_shot.Goals as goal
 
-pub returns-clause-prefix : goal.returns-clause-prefix
-returns-clause-prefix g c = λ h.
-    let honest : IsTrue (g.O.Output.honest c.put_shot.new.out) = rw c.in_ok-put_shot.ensures.as_honest h in
-    let held = rw c.new-gathered.ensures.empty at (c.in_ok-put_shot.ensures.whole h) in
-    on_err_weaker c.send.result (λ p. end_cut _ _ _ _ [] _ c.put_shot.new.gathered refl held p) (c.send.ensures.prefix honest)
+pub returns-in_err-put_shot : goal.returns-in_err-put_shot
+returns-in_err-put_shot g c =
+    let puts = rw c.new-gathered.ensures.empty at c.in_err-put_shot.ensures.puts in record {
+      puts = breaks_off c.from_residual.result [] (begins c.args.out.now [] (shot_bytes c.args.format c.args.kinds c.args.bits.now)) puts (sym (append-nil _)) c.from_residual.ensures.1;
+    }
+
+pub returns : goal.returns
+returns g c =
+    let puts = rw c.new-gathered.ensures.empty at c.in_ok-put_shot.ensures.puts in record {
+      puts = emptied c.send.result (ends {left = []} c.send.result (goes_on (begins c.args.out.now [] (shot_bytes c.args.format c.args.kinds c.args.bits.now)) puts (sym (append-nil _))) c.send.ensures.puts refl) c.send.ensures.empty;
+    }

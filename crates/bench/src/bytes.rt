@@ -1,0 +1,49 @@
+ghost use Rattle.std.specs.Prelude.{◌≡◌, IfOk, vec_len};
+
+use std::alloc::{AllocError, Global};
+
+/// Two lines of bytes, as the plain loop takes them.
+#[derive(Drop)]
+pub struct BytePair {
+    target: Vec<u8>,
+    source: Vec<u8>,
+}
+
+impl BytePair {
+    /// Two lines of n bytes.
+    pub fn new(alloc: Global, n: usize) -> Result<BytePair, AllocError>
+        ensures target { IfOk result (λ p. vec_len p.target ≡ n) }
+        ensures source { IfOk result (λ p. vec_len p.source ≡ n) }
+    {
+        let target = vec![in alloc; 1; n]?;
+        let source = vec![in alloc; 2; n]?;
+        Ok(BytePair { target, source })
+    }
+
+    /// XORs each byte of the second line into the first.
+    pub fn xor(&mut self)
+        ensures target { vec_len self.new.target ≡ vec_len self.old.target }
+        ensures source { self.new.source.items ≡ self.old.source.items }
+    {
+        xor_bytes(self.target.as_mut_slice(), self.source.as_slice());
+    }
+}
+
+/// n pairs of lines of n bytes.
+pub fn pairs(alloc: Global, n: usize) -> Result<Vec<BytePair>, AllocError>
+    ensures length { IfOk result (λ v. vec_len v ≡ n) }
+{
+    let mut pairs = Vec::with_capacity(alloc, n)?;
+    for _ in 0..n {
+        pairs.push(BytePair::new(alloc, n)?)?;
+    }
+    Ok(pairs)
+}
+
+// Not inlined, so that two passes cannot become none.
+#[inline(never)]
+fn xor_bytes(target: &mut [u8], source: &[u8]) {
+    for (mine, theirs) in target.iter_mut().zip(source) {
+        *mine ^= *theirs;
+    }
+}

@@ -1,0 +1,45 @@
+//! The program `bench`: times what a tableau does, and a plain loop over as many bytes.
+//!
+//! Without words it prints one fixed line. With the word `measure` it prints a table for each size,
+//! and the time to read a long circuit text.
+//!
+//! - `work`: what is timed.
+//! - `state`: the states and the string that the works take.
+//! - `bytes`: the plain loop.
+//! - `subject`: does each work.
+//! - `timing`: the best of several rounds.
+//! - `report`: the tables.
+//! - `reading`: a long circuit text, and the time to read it.
+//!
+//! It is proved safe, and nothing is claimed of the times.
+#![tactic(auto)]
+
+mod bytes;
+mod failure;
+mod reading;
+mod report;
+mod state;
+mod subject;
+mod timing;
+mod work;
+
+use failure::Failure;
+use std::env;
+
+/// The numbers of qubits that are measured.
+const SIZES: [usize; 3] = [64, 256, 1024];
+
+fn main(rt: HostRuntime) -> Result<(), Failure> {
+    let words: Vec<String> = env::args(&rt)?.skip(1).collect(rt.alloc())?;
+    match words.as_slice() {
+        [] => println!(rt; "bench: the word measure times what a tableau does")?,
+        [word] if word.as_str() == "measure" => {
+            for qubits in SIZES {
+                report::print_table(&rt, qubits)?;
+            }
+            reading::print_time(&rt)?;
+        }
+        _ => return Err(Failure::Words),
+    }
+    Ok(())
+}

@@ -1,0 +1,47 @@
+use super::failure::Failure;
+use stab_circuit::read_circuit;
+use stab_pauli::MemoryInput;
+use std::alloc::{AllocError, Global};
+use std::num::nearest_usize_to_f64;
+use std::time::{CpuClock, Duration};
+
+/// The lines of a round of a repetition code, written out.
+const ROUND: &[u8] = b"CX 0 1 2 3\nTICK\nCX 2 1 4 3\nTICK\nMR 1 3\nSHIFT_COORDS(0, 1)\n\
+DETECTOR(1, 0) rec[-2] rec[-4]\nDETECTOR(3, 0) rec[-1] rec[-3]\n";
+
+/// How many rounds are written: eight steps and 120 bytes each.
+const ROUNDS: u32 = 100_000;
+
+/// The best of so many readings counts, since other programs disturb the rest.
+const READINGS: u32 = 5;
+
+/// A long circuit text, of twelve megabytes and 800,004 steps.
+fn long_text(alloc: Global) -> Result<Vec<u8>, AllocError> {
+    let mut text = Vec::from_slice(alloc, b"M 0 0 0 0\n")?;
+    for _ in 0..ROUNDS {
+        text.extend_from_slice(ROUND)?;
+    }
+    Ok(text)
+}
+
+/// Prints how long it takes to read a long circuit text, and the time for each byte of it.
+pub fn print_time<R: CpuClock + AllocGlobal + Print>(rt: &R) -> Result<(), Failure> {
+    let text = long_text(rt.alloc())?;
+    let mut least = Duration::MAX;
+    for _ in 0..READINGS {
+        least = least.min(time_of_reading(rt, text.as_slice())?);
+    }
+    let (bytes, seconds) = (text.len(), least.as_secs_f64());
+    let each = seconds * 1e9 / nearest_usize_to_f64(bytes);
+    println!(rt; "reading {bytes} bytes of circuit text: {seconds:.3} s, {each:.1} ns a byte")?;
+    Ok(())
+}
+
+/// The processor time of reading a circuit text once.
+fn time_of_reading<R: CpuClock + AllocGlobal>(rt: &R, text: &[u8]) -> Result<Duration, Failure> {
+    let start = rt.thread_cpu_time()?;
+    match read_circuit(rt.alloc(), &mut MemoryInput::new(text)) {
+        Ok(_circuit) => Ok(rt.thread_cpu_time()?.saturating_sub(start)),
+        Err(fault) => Err(Failure::Circuit(fault)),
+    }
+}

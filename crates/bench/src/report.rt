@@ -1,0 +1,29 @@
+ghost use Rattle.std.specs.Prelude.{◌≡◌, ◌<◌, ◌≤◌};
+
+use super::failure::Failure;
+use super::subject::Subject;
+use super::work::Work;
+use super::{state, timing};
+use stab_tableau::PairGate;
+use std::time::CpuClock;
+
+/// Prints a table of the times at n qubits, and of their ratios to the plain loop and to a gate CX.
+pub(super) fn print_table<R: CpuClock + AllocGlobal + Print>(
+    rt: &R,
+    n: usize,
+) -> Result<(), Failure>
+    requires several { 1 < n }
+    requires in_range { n ≤ 1024 }
+{
+    let mut subject = Subject::new(rt.alloc(), n)?;
+    let xor = timing::nanoseconds(rt, &mut subject, Work::Xor)?;
+    let cx = timing::nanoseconds(rt, &mut subject, Work::PairGate(PairGate::Cx))?;
+    println!(rt; "n = {n}: nanoseconds a call, times n bytes XORed, times a gate Cx")?;
+    for work in Work::ALL {
+        let time = timing::nanoseconds(rt, &mut subject, work)?;
+        let (to_xor, to_cx) = (time / xor, time / cx);
+        println!(rt; "{time:>12.1} {to_xor:>10.2} {to_cx:>8.2}  {work}")?;
+    }
+    println!(rt; "outcomes that were free: {}", subject.free_outcomes())?;
+    Ok(())
+}

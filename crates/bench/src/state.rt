@@ -1,0 +1,67 @@
+ghost use Rattle.std.specs.Prelude.{◌≡◌, ◌≢◌, ◌<◌, ◌≤◌, IfOk, length};
+
+use stab_pauli::{Letter, Pauli, Refusal};
+use stab_tableau::{Gate, PairGate, Tableau};
+use std::alloc::Global;
+
+/// A state of n qubits in which gates have joined each qubit with all others.
+pub fn scrambled(alloc: Global, n: usize) -> Result<Tableau, Refusal>
+    requires in_range { n ≤ 1024 }
+    ensures qubits { IfOk result (λ t. t.qubits ≡ n) }
+{
+    let mut tableau = Tableau::new(alloc, n)?;
+    let mut stride = 1;
+    while stride < n {
+        join_with_stride(&mut tableau, stride);
+        stride *= 2;
+    }
+    Ok(tableau)
+}
+
+/// Applies gates to each qubit and the one that is a stride after it.
+fn join_with_stride(tableau: &mut Tableau, stride: usize)
+    requires above_zero { 0 < stride }
+    requires in_range { stride < tableau.old.qubits }
+    ensures qubits { tableau.new.qubits ≡ tableau.old.qubits }
+{
+    for qubit in 0..tableau.len() {
+        let other = after(qubit, stride, tableau.len());
+        tableau.apply(Gate::H, qubit);
+        tableau.apply(Gate::S, other);
+        tableau.apply_pair(PairGate::Cx, qubit, other);
+    }
+}
+
+/// The qubit that is a stride after another, where the last of n is followed by the first.
+pub fn after(qubit: usize, stride: usize, n: usize) -> usize
+    requires qubit_in_range { qubit < n }
+    requires stride_in_range { stride < n }
+    ensures in_range { result < n }
+    ensures apart { 0 < stride → result ≢ qubit }
+{
+    let left = n - qubit;
+    if stride < left {
+        qubit + stride
+    } else {
+        stride - left
+    }
+}
+
+/// The string of n letters X, Y, Z, X, Y, Z and so on.
+pub fn observable(alloc: Global, n: usize) -> Result<Pauli, Refusal>
+    ensures length { IfOk result (λ p. length p.letters ≡ n) }
+{
+    let mut pauli = Pauli::identity(alloc, n)?;
+    for qubit in 0..n {
+        pauli.set(qubit, letter_in_turn(qubit));
+    }
+    Ok(pauli)
+}
+
+fn letter_in_turn(qubit: usize) -> Letter {
+    match qubit % 3 {
+        0 => Letter::X,
+        1 => Letter::Y,
+        _ => Letter::Z,
+    }
+}

@@ -1,0 +1,116 @@
+-- Printed texts, part by part.
+use Rattle.std.proofs.Common.{◌≡◌, ◌<◌, ◌≤◌, ℕ, ◌+◌, suc, List, [], ◌∷◌, ◌++◌, length, take, drop, get_or, refl, ap, sym, ◌∙◌, append_assoc, append-nil, arith, codes, drop-cons, replicate, ◌*◌, map}
+use Rattle.std.proofs.lemmas.List.{take-append-drop, take_more, map-append, replicate-append-replicate}
+use Rattle.std.specs.Global.{Vec}
+use Rattle.stab_circuit.specs.declared.item.Operation.{Operation}
+use Rattle.stab_circuit.specs.declared.item.Item.{Item}
+use Rattle.stab_circuit.specs.declared.item.Node.TheVariants as node
+use Rattle.stab_circuit.specs.Items.{Items, done, next, block, join, before, listed}
+use Rattle.stab_circuit.specs.Views.{item_of, items_of}
+use Rattle.stab_circuit.proofs.ItemLemmas.{before-join, listed-append}
+use Rattle.stab_circuit.proofs.ViewLemmas.{item_of_operation, item_of_repeat, items_of_pushed}
+use Rattle.stab_circuit.specs.Prints.{each_after, tag_text, Written, operation_text, open_text, written, line_text, text_of, printed_in}
+
+pub tag_some : (tag : List ℕ) → 0 < length tag → tag_text tag ≡ codes "[" ++ (tag ++ codes "]")
+tag_some [] h = absurd (omega arith)
+tag_some (b ∷ bs) h = refl
+
+pub each_after-append : {A : Type 0} (s : List ℕ) (t : A → List ℕ) (xs ys : List A) → each_after s t (xs ++ ys) ≡ each_after s t xs ++ each_after s t ys
+each_after-append s t [] ys = refl
+each_after-append s t (x ∷ xs) ys =
+    ap (λ l. s ++ (t x ++ l)) (each_after-append s t xs ys)
+    ∙ ap (λ l. s ++ l) (sym (append_assoc (t x) (each_after s t xs) (each_after s t ys)))
+    ∙ sym (append_assoc s (t x ++ each_after s t xs) (each_after s t ys))
+
+-- what stands before a place, the text there, and what follows
+pub each_after_place : {A : Type 0} (s : List ℕ) (t : A → List ℕ) (xs : List A) (i : ℕ) (x : A) → i < length xs → x ≡ get_or xs i x
+    → each_after s t (take i xs) ++ (s ++ (t x ++ each_after s t (drop (i + 1) xs))) ≡ each_after s t xs
+each_after_place s t xs i x h e =
+    let next' : i + 1 ≡ suc i = omega arith in
+    ap (λ n. each_after s t (take i xs) ++ (s ++ (t x ++ each_after s t (drop n xs)))) next'
+    ∙ ap (λ y. each_after s t (take i xs) ++ (s ++ (t y ++ each_after s t (drop (suc i) xs)))) e
+    ∙ ap (λ l. each_after s t (take i xs) ++ each_after s t l) (sym (drop-cons xs i x h))
+    ∙ sym (each_after-append s t (take i xs) (drop i xs))
+    ∙ ap (each_after s t) (take-append-drop i xs)
+
+pub each_after_more : {A : Type 0} (s : List ℕ) (t : A → List ℕ) (xs : List A) (i : ℕ) (x : A) → i < length xs → x ≡ get_or xs i x
+    → each_after s t (take i xs) ++ (s ++ t x) ≡ each_after s t (take (i + 1) xs)
+each_after_more s t xs i x h e =
+    ap (λ l. each_after s t (take i xs) ++ (s ++ l)) (sym (append-nil (t x)))
+    ∙ ap (λ y. each_after s t (take i xs) ++ (s ++ (t y ++ []))) e
+    ∙ sym (each_after-append s t (take i xs) (get_or xs i x ∷ []))
+    ∙ ap (each_after s t) (sym (take_more xs i x h))
+
+pub margin_none : replicate {A = ℕ} (4 * 0) 32 ≡ []
+margin_none = refl
+
+pub margin_inside : (n : ℕ) → replicate (4 * n) 32 ++ codes "    " ≡ replicate (4 * suc n) 32
+margin_inside n =
+    let four : 4 * n + 4 ≡ 4 * suc n = omega arith in
+    replicate-append-replicate (4 * n) 4 32 ∙ ap (λ k. replicate {A = ℕ} k 32) four
+
+text_of-append : (vs ws : List Written) → text_of (vs ++ ws) ≡ text_of vs ++ text_of ws
+text_of-append [] ws = refl
+text_of-append (v ∷ vs) ws = ap (λ l. line_text v ++ l) (text_of-append vs ws) ∙ sym (append_assoc (line_text v) (text_of vs) (text_of ws))
+
+written-join : (d : ℕ) (xs ys : Items) → written d (join xs ys) ≡ written d xs ++ written d ys
+written-join d done ys = refl
+written-join d (next op rest) ys = ap (λ l. record { depth = d; content = operation_text op } ∷ l) (written-join d rest ys)
+written-join d (block c t body rest) ys =
+    let close : Written = record { depth = d; content = codes "}" } in
+    ap (λ l. record { depth = d; content = open_text c t } ∷ (written (suc d) body ++ close ∷ l)) (written-join d rest ys)
+    ∙ ap (λ l. record { depth = d; content = open_text c t } ∷ l) (sym (append_assoc (written (suc d) body) (close ∷ written d rest) (written d ys)))
+
+pub printed_in-join : (d : ℕ) (xs ys : Items) → printed_in d (join xs ys) ≡ printed_in d xs ++ printed_in d ys
+printed_in-join d xs ys = ap text_of (written-join d xs ys) ∙ text_of-append (written d xs) (written d ys)
+
+-- one instruction, and one block, on their lines
+pub printed_operation : (d : ℕ) (op : Operation) → printed_in d (next op done) ≡ line_text (record { depth = d; content = operation_text op })
+printed_operation d op = append-nil (line_text (record { depth = d; content = operation_text op }))
+
+pub printed_block : (d count : ℕ) (tag : List ℕ) (body : Items)
+    → printed_in d (block count tag body done) ≡ line_text (record { depth = d; content = open_text count tag }) ++ (printed_in (suc d) body ++ line_text (record { depth = d; content = codes "}" }))
+printed_block d count tag body =
+    let close : Written = record { depth = d; content = codes "}" } in
+    ap (λ l. line_text (record { depth = d; content = open_text count tag }) ++ l)
+    (text_of-append (written (suc d) body) (close ∷ []) ∙ ap (λ l. printed_in (suc d) body ++ l) (append-nil (line_text close)))
+
+-- what stands before a place, the item there, and what follows
+items_at : (xs : List Item) (i : ℕ) (x : Item) → i < length xs → x ≡ get_or xs i x
+    → join (items_of (take i xs)) (join (before (item_of x) done) (items_of (drop (i + 1) xs))) ≡ items_of xs
+items_at xs i x h e =
+    let next' : i + 1 ≡ suc i = omega arith in
+    ap (λ n. join (items_of (take i xs)) (join (before (item_of x) done) (items_of (drop n xs)))) next'
+    ∙ ap (λ y. join (items_of (take i xs)) (join (before (item_of y) done) (items_of (drop (suc i) xs)))) e
+    ∙ ap (join (items_of (take i xs))) (sym (before-join (item_of (get_or xs i x)) done (items_of (drop (suc i) xs))))
+    ∙ ap (λ l. join (items_of (take i xs)) (items_of l)) (sym (drop-cons xs i x h))
+    ∙ sym (listed-append (map item_of (take i xs)) (map item_of (drop i xs)))
+    ∙ ap listed (sym (map-append item_of (take i xs) (drop i xs)))
+    ∙ ap items_of (take-append-drop i xs)
+
+pub printed_place : (d : ℕ) (xs : List Item) (i : ℕ) (x : Item) → i < length xs → x ≡ get_or xs i x
+    → printed_in d (items_of (take i xs)) ++ (printed_in d (before (item_of x) done) ++ printed_in d (items_of (drop (i + 1) xs))) ≡ printed_in d (items_of xs)
+printed_place d xs i x h e =
+    ap (λ l. printed_in d (items_of (take i xs)) ++ l) (sym (printed_in-join d (before (item_of x) done) (items_of (drop (i + 1) xs))))
+    ∙ sym (printed_in-join d (items_of (take i xs)) (join (before (item_of x) done) (items_of (drop (i + 1) xs))))
+    ∙ ap (printed_in d) (items_at xs i x h e)
+
+pub printed_more : (d : ℕ) (xs : List Item) (i : ℕ) (x : Item) → i < length xs → x ≡ get_or xs i x
+    → printed_in d (items_of (take i xs)) ++ printed_in d (before (item_of x) done) ≡ printed_in d (items_of (take (i + 1) xs))
+printed_more d xs i x h e =
+    sym (printed_in-join d (items_of (take i xs)) (before (item_of x) done))
+    ∙ ap (λ y. printed_in d (join (items_of (take i xs)) (before (item_of y) done))) e
+    ∙ ap (printed_in d) (sym (items_of_pushed (take i xs) (get_or xs i x)))
+    ∙ ap (λ l. printed_in d (items_of l)) (sym (take_more xs i x h))
+
+-- the lines of one item
+pub operation_lines : (d : ℕ) (i : Item) (o : Operation) → i.node ≡ node.Operation o → line_text (record { depth = d; content = operation_text o }) ≡ printed_in d (before (item_of i) done)
+operation_lines d i o e =
+    sym (ap (λ n. printed_in d (before (item_of (record { node = n })) done)) e ∙ ap (λ x. printed_in d (before x done)) (item_of_operation o) ∙ printed_operation d o)
+
+pub block_lines : (d : ℕ) (i : Item) (count : ℕ) (tag : List ℕ) (body : Vec Item) → i.node ≡ node.Repeat count tag body
+    → line_text (record { depth = d; content = open_text count tag }) ++ (printed_in (suc d) (items_of body.items) ++ line_text (record { depth = d; content = codes "}" })) ≡ printed_in d (before (item_of i) done)
+block_lines d i count tag body e =
+    sym (ap (λ n. printed_in d (before (item_of (record { node = n })) done)) e
+    ∙ ap (λ x. printed_in d (before x done)) (item_of_repeat count tag body)
+    ∙ printed_block d count tag (items_of body.items))

@@ -1,0 +1,140 @@
+ghost use Rattle.std.specs.Prelude.{◌≡◌, ◌≤◌, ◌∷◌, [], ◌++◌, length};
+ghost use Rattle.std.specs.Fmt.{decimal};
+ghost use Rattle.stab_results.specs.Formats.{digit, f01_bytes, number, b8_bytes, run_bytes, r8_bytes, hits_bytes, entry, dets_bytes, shot_bytes};
+
+use crate::format::{Format, Kinds};
+use crate::gathered::Gathered;
+use crate::ones::Ones;
+use stab_pauli::{Output, Refusal};
+
+/// The character of a bit.
+fn digit(bit: bool) -> u8
+    ensures value { digit bit ≡ result ∷ [] }
+{
+    if bit { b'1' } else { b'0' }
+}
+
+/// The number with these binary digits, the least significant first.
+fn number(bits: &[bool]) -> u8
+    requires { length bits.now ≤ 8 }
+    ensures value { result ≡ number bits.now }
+{
+    let mut value = 0;
+    for place in (0..bits.len()).rev() {
+        value = 2 * value + u8::from(bits[place]);
+    }
+    value
+}
+
+/// The entry of a 1 bit in dets: a space with the prefix of its kind, and its number.
+fn entry(kinds: Kinds, place: usize) -> (&'static [u8], usize)
+    ensures value { entry kinds place ≡ result.0.now ++ decimal result.1 }
+{
+    match kinds {
+        Kinds::Measurements => (b" M", place),
+        Kinds::Detectors(count) if place < count => (b" D", place),
+        Kinds::Detectors(count) => (b" L", place - count),
+    }
+}
+
+impl Gathered {
+    ghost use Rattle.stab_results.specs.Gathered.{Puts};
+
+    /// Puts a shot in a format.
+    pub(crate) fn put_shot<O: Output>(
+        &mut self,
+        out: &mut O,
+        format: Format,
+        kinds: Kinds,
+        bits: &[bool],
+    ) -> Result<(), Refusal>
+        ensures puts { Puts O.failures O.failed_flushes O.honest O.written out.old out.new self.old self.new (shot_bytes format kinds bits.now) result }
+    {
+        match format {
+            Format::F01 => self.put_f01(out, bits),
+            Format::B8 => self.put_b8(out, bits),
+            Format::R8 => self.put_r8(out, bits),
+            Format::Hits => self.put_hits(out, bits),
+            Format::Dets => self.put_dets(out, kinds, bits),
+        }
+    }
+
+    fn put_f01<O: Output>(&mut self, out: &mut O, bits: &[bool]) -> Result<(), Refusal>
+        ensures puts { Puts O.failures O.failed_flushes O.honest O.written out.old out.new self.old self.new (f01_bytes bits.now) result }
+    {
+        for bit in bits {
+            self.push(out, digit(*bit))?;
+        }
+        self.push(out, b'\n')
+    }
+
+    fn put_b8<O: Output>(&mut self, out: &mut O, bits: &[bool]) -> Result<(), Refusal>
+        ensures puts { Puts O.failures O.failed_flushes O.honest O.written out.old out.new self.old self.new (b8_bytes bits.now) result }
+    {
+        for group in bits.chunks(8) {
+            self.push(out, number(group))?;
+        }
+        Ok(())
+    }
+
+    fn put_r8<O: Output>(&mut self, out: &mut O, bits: &[bool]) -> Result<(), Refusal>
+        ensures puts { Puts O.failures O.failed_flushes O.honest O.written out.old out.new self.old self.new (r8_bytes bits.now) result }
+    {
+        let mut start = 0;
+        for place in Ones::new(bits) {
+            self.put_run(out, place - start)?;
+            start = place + 1;
+        }
+        self.put_run(out, bits.len() - start)
+    }
+
+    /// Puts so many zeros and the 1 behind them, in r8.
+    fn put_run<O: Output>(&mut self, out: &mut O, zeros: usize) -> Result<(), Refusal>
+        ensures puts { Puts O.failures O.failed_flushes O.honest O.written out.old out.new self.old self.new (run_bytes zeros) result }
+    {
+        for _ in 0..zeros / 255 {
+            self.push(out, 0xff)?;
+        }
+        self.push(out, (zeros % 255) as u8)
+    }
+
+    fn put_hits<O: Output>(&mut self, out: &mut O, bits: &[bool]) -> Result<(), Refusal>
+        ensures puts { Puts O.failures O.failed_flushes O.honest O.written out.old out.new self.old self.new (hits_bytes bits.now) result }
+    {
+        let mut separator: &[u8] = b"";
+        for place in Ones::new(bits) {
+            self.put_item(out, separator, place)?;
+            separator = b",";
+        }
+        self.push(out, b'\n')
+    }
+
+    fn put_dets<O: Output>(
+        &mut self,
+        out: &mut O,
+        kinds: Kinds,
+        bits: &[bool],
+    ) -> Result<(), Refusal>
+        ensures puts { Puts O.failures O.failed_flushes O.honest O.written out.old out.new self.old self.new (dets_bytes kinds bits.now) result }
+    {
+        self.put(out, b"shot")?;
+        for place in Ones::new(bits) {
+            let (prefix, number) = entry(kinds, place);
+            self.put_item(out, prefix, number)?;
+        }
+        self.push(out, b'\n')
+    }
+
+    /// Puts a prefix and a number.
+    fn put_item<O: Output>(
+        &mut self,
+        out: &mut O,
+        prefix: &[u8],
+        number: usize,
+    ) -> Result<(), Refusal>
+        ensures puts { Puts O.failures O.failed_flushes O.honest O.written out.old out.new self.old self.new (prefix.now ++ decimal number) result }
+    {
+        self.put(out, prefix)?;
+        self.put_decimal(out, number)
+    }
+}
