@@ -1,23 +1,23 @@
 -- Printed targets and arguments are read again as what they were printed of.
-use Rattle.std.proofs.Common.{◌≡◌, ◌≢◌, ◌<◌, ◌≤◌, ◌^◌, refl, ap, sym, ◌∙◌, subst, ℕ, ◌+◌, ◌-◌, ◌==◌, ◌&&◌, ◌||◌, nat_lt, nat_eq, suc, List, [], ◌∷◌, ◌++◌, Bool, true, false, not, length, take, drop, filter, map, append_assoc, append-nil, arith, codes, if◌then◌else◌, Option, Some, None, Result, Ok, Err}
-use Rattle.std.specs.List.{slice_split, list_any, list_all, starts_with, prefix_len, suffix_len, position_or_len}
+use Rattle.std.proofs.Common.{◌≡◌, ◌≢◌, ◌<◌, ◌≤◌, ◌^◌, refl, ap, sym, ◌∙◌, subst, ℕ, ◌-◌, ◌==◌, ◌&&◌, ◌||◌, nat_lt, nat_eq, List, [], ◌∷◌, ◌++◌, Bool, true, false, not, length, take, filter, map, append_assoc, append-nil, arith, codes, if◌then◌else◌, Some, Result, Ok}
+use Rattle.std.specs.List.{slice_split, list_all, starts_with}
 use Rattle.std.specs.Fmt.{decimal}
-use Rattle.std.proofs.lemmas.List.{length-append, reverse-append}
-use Rattle.std.proofs.lemmas.List.Splits.{slice_split-cons_yes, slice_split-cons_no}
+use Rattle.std.proofs.lemmas.List.{length-append}
+use Rattle.std.proofs.lemmas.List.Splits.{slice_split-cons_yes}
 use Rattle.std.proofs.lemmas.Fmt.{digits_decimal, digits_value-decimal, decimal_nonempty, length-decimal-le}
 use Rattle.std.proofs.lemmas.Bool.Decides.{nat_tests}
 use Rattle.stab_pauli.specs.declared.refusal.Refusal.{Refusal}
 use Rattle.stab_circuit.specs.declared.range.MeasureTarget.{MeasureTarget}
 use Rattle.stab_circuit.specs.Results.{◌>>=◌, each}
-use Rattle.stab_circuit.specs.Lines.{is_byte, is_digit, is_spacing, trimmed, trimmed_front, trimmed_end, starts_with_byte, ends_with_byte}
+use Rattle.stab_circuit.specs.Lines.{is_byte, is_digit, is_spacing, trimmed, starts_with_byte, ends_with_byte}
 use Rattle.stab_circuit.specs.Words.{words, is_some_word, is_blank, arguments_of, is_number, value}
 use Rattle.stab_circuit.specs.Lookbacks.{IsLookback}
 use Rattle.stab_circuit.specs.Steps.{pair_qubits}
-use Rattle.stab_circuit.specs.Targets.{qubit_of, measure_target_of, lookback_of, lookback_digits, is_lookback, count_of, pairs_of, is_coordinate_byte, coordinate_of, one_argument, number_of, observable_of}
-use Rattle.stab_circuit.specs.Prints.{each_after, spaced, pair_text, mark_text, target_text, lookback_text, arguments_text}
+use Rattle.stab_circuit.specs.Targets.{qubit_of, measure_target_of, lookback_of, lookback_digits, is_lookback, count_of, pairs_of, is_coordinate_byte, coordinate_of, observable_of}
+use Rattle.stab_circuit.specs.Prints.{each_after, spaced, pair_text, mark_text, target_text, lookback_text}
 use Rattle.stab_circuit.proofs.BoolLemmas.{chosen, passed, both, and_left, and_right}
 use Rattle.stab_circuit.proofs.WordLemmas.{decimal_model}
-use Rattle.stab_circuit.proofs.FreeLemmas.{Each, Free, each_weaker, free-append, split_free, split_last, prefix_no, digits_free, ends_with_last, take_front, starts_free}
+use Rattle.stab_circuit.proofs.FreeLemmas.{Each, Free, each_weaker, free-append, split_free, split_last, digits_free, ends_with_last, take_front, starts_free}
 use Rattle.stab_circuit.proofs.NeatLemmas.{IsSolid, solid_word, trimmed_again}
 use Rattle.stab_circuit.proofs.SureLemmas.{IsQubit, IsMeasured, IsCount, IsPair, IsCoordinate, IsObservable}
 

@@ -1,15 +1,12 @@
 -- The reader's fault is the text's, and what it reads is what the lines stand for.
-use Rattle.std.proofs.Common.{◌≡◌, refl, ap, sym, ◌∙◌, subst, ℕ, ◌+◌, suc, List, [], ◌∷◌, ◌++◌, Bool, true, false, nat_lt, length, Option, None, Some, Result, Ok, Err, append_assoc, append-nil, if◌then◌else◌}
+use Rattle.std.proofs.Common.{◌≡◌, refl, ap, sym, ◌∙◌, ℕ, ◌+◌, suc, List, [], ◌∷◌, Bool, true, false, nat_lt, length, Option, None, Some, Result, Ok, Err, if◌then◌else◌}
 use Rattle.stab_pauli.specs.declared.refusal.Refusal.TheVariants.{TooDeep}
 use Rattle.stab_pauli.specs.declared.refusal.Fault.{Fault}
-use Rattle.stab_circuit.specs.declared.item.Operation.{Operation}
 use Rattle.stab_circuit.specs.declared.meaning.Line.TheVariants.{Blank, Close, Open}
 use Rattle.stab_circuit.specs.declared.meaning.Line.TheVariants as line
-use Rattle.stab_circuit.specs.Items.{Items, done, next, block, join}
-use Rattle.stab_circuit.specs.Circuits.{Meaning, Joins, nothing, blank_line, operation_line, block_lines, at_line, fault_from}
-use Rattle.stab_circuit.specs.Readers.{Frame, State, start, closed, read_on}
-use Rattle.stab_circuit.proofs.ItemLemmas.{join_done, join_assoc}
-use Rattle.stab_circuit.proofs.BoolLemmas.{chosen}
+use Rattle.stab_circuit.specs.Items.{Items, done, next, join}
+use Rattle.stab_circuit.specs.Circuits.{Meaning, at_line, fault_from}
+use Rattle.stab_circuit.specs.Readers.{Frame, State, closed, read_on}
 
 -- the lines of the open blocks
 abbrev pub lines_of : List Frame → List ℕ

@@ -1,6 +1,5 @@
 -- Lists of items.
-use Rattle.std.proofs.Common.{◌≡◌, refl, ap, sym, ◌∙◌, List, [], ◌∷◌, ◌++◌}
-use Rattle.stab_circuit.specs.declared.item.Operation.{Operation}
+use Rattle.std.proofs.Common.{◌≡◌, refl, ap, ◌∙◌, List, [], ◌∷◌, ◌++◌}
 use Rattle.stab_circuit.specs.Items.{Items, OneItem, operation, repeat, done, next, block, before, listed, join}
 
 pub join_done : (xs : Items) → join xs done ≡ xs

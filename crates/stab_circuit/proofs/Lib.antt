@@ -20,3 +20,9 @@ mod FreeLemmas
 mod SureLemmas
 mod AgainLemmas
 mod NeatLemmas
+mod ShapeLemmas
+mod ContentLemmas
+mod PrintedLemmas
+mod MeaningLemmas
+mod BlankLemmas
+mod RoundLemmas

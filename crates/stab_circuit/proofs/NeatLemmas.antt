@@ -1,6 +1,6 @@
 -- Contents that begin and end without spacing.
-use Rattle.std.proofs.Common.{◌≡◌, ◌<◌, ◌≤◌, refl, ap, sym, ◌∙◌, subst, ℕ, ◌+◌, ◌-◌, ◌==◌, zero, suc, List, [], ◌∷◌, ◌++◌, Bool, true, false, not, length, take, drop, take_all, reverse, replicate, append_assoc, append-nil, arith}
-use Rattle.std.specs.List.{prefix_len, suffix_len, before_first}
+use Rattle.std.proofs.Common.{◌≡◌, refl, ap, sym, ◌∙◌, ℕ, ◌+◌, ◌-◌, zero, suc, List, [], ◌∷◌, ◌++◌, Bool, true, false, not, length, take, drop, take_all, reverse, replicate, append_assoc, arith}
+use Rattle.std.specs.List.{prefix_len, suffix_len}
 use Rattle.std.proofs.lemmas.List.{reverse-append}
 use Rattle.stab_circuit.specs.Lines.{is_byte, is_spacing, trimmed, trimmed_front, trimmed_end, content_of}
 use Rattle.stab_circuit.specs.Words.{is_some_word}

@@ -1,10 +1,10 @@
 -- The pieces of a text: words between spacing, and parts between bytes.
-use Rattle.std.proofs.Common.{◌≡◌, ◌≤◌, ◌<◌, ℕ, ◌+◌, zero, suc, Bool, true, false, not, List, [], ◌∷◌, length, take, drop, get_or, filter, refl, sym, ap, ◌∙◌, subst, arith, add-one, drop-cons, length-take, length-drop, if◌then◌else◌, ◌⊎◌, inl, inr, take_all, Option, Some, None}
+use Rattle.std.proofs.Common.{◌≡◌, ◌≤◌, ◌<◌, ℕ, ◌+◌, suc, Bool, true, false, not, List, [], ◌∷◌, length, take, drop, get_or, filter, refl, sym, ap, ◌∙◌, subst, arith, drop-cons, length-take, length-drop, if◌then◌else◌, ◌⊎◌, inl, inr, take_all, Option, Some, None}
 use Rattle.std.proofs.lemmas.List.{drop_all}
 use Rattle.std.specs.List.{slice_split, prefix_len, position_or_len}
 use Rattle.std.proofs.lemmas.List.Splits.{slice_split-cons_yes, slice_split_first, slice_split_none}
 use Rattle.std.proofs.lemmas.List.Sums.{prefix_len_stops, prefix_len-le-length, fails_before_first}
-use Rattle.stab_circuit.specs.Lines.{is_byte, is_spacing, trimmed_front}
+use Rattle.stab_circuit.specs.Lines.{is_spacing, trimmed_front}
 use Rattle.stab_circuit.specs.Words.{words, is_some_word}
 
 -- spacing in front makes no word

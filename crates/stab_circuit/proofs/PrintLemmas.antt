@@ -1,5 +1,5 @@
 -- Printed texts, part by part.
-use Rattle.std.proofs.Common.{◌≡◌, ◌<◌, ◌≤◌, ℕ, ◌+◌, suc, List, [], ◌∷◌, ◌++◌, length, take, drop, get_or, refl, ap, sym, ◌∙◌, append_assoc, append-nil, arith, codes, drop-cons, replicate, ◌*◌, map}
+use Rattle.std.proofs.Common.{◌≡◌, ◌<◌, ℕ, ◌+◌, suc, List, [], ◌∷◌, ◌++◌, length, take, drop, get_or, refl, ap, sym, ◌∙◌, append_assoc, append-nil, arith, codes, drop-cons, replicate, ◌*◌, map}
 use Rattle.std.proofs.lemmas.List.{take-append-drop, take_more, map-append, replicate-append-replicate}
 use Rattle.std.specs.Global.{Vec}
 use Rattle.stab_circuit.specs.declared.item.Operation.{Operation}

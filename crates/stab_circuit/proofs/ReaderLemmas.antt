@@ -1,9 +1,9 @@
 -- The reader's way over the lines.
-use Rattle.std.proofs.Common.{◌≡◌, ◌≢◌, ◌≤◌, ◌<◌, refl, ap, sym, ◌∙◌, subst, ℕ, ◌+◌, ◌-◌, suc, zero, List, [], ◌∷◌, Bool, true, false, nat_lt, ◌==◌, length, map, reverse, ◌&&◌, not, ◌⊎◌, inl, inr, Result, Ok, Err, if◌then◌else◌, arith}
+use Rattle.std.proofs.Common.{◌≡◌, refl, ap, sym, ◌∙◌, subst, ℕ, ◌+◌, suc, List, [], ◌∷◌, Bool, true, false, nat_lt, ◌==◌, length, map, reverse, ◌&&◌, not, ◌⊎◌, inl, inr, Result, Ok, Err, if◌then◌else◌, arith}
 use Rattle.std.specs.List.{slice_split}
 use Rattle.std.proofs.lemmas.List.{length-reverse, length-map}
 use Rattle.stab_pauli.specs.declared.refusal.Refusal.{Refusal}
-use Rattle.stab_pauli.specs.declared.refusal.Refusal.TheVariants.{BadBlock, TooDeep, BadLine, OutOfMemory}
+use Rattle.stab_pauli.specs.declared.refusal.Refusal.TheVariants.{TooDeep, BadLine, OutOfMemory}
 use Rattle.stab_pauli.specs.Refusals.{whole}
 use Rattle.stab_circuit.specs.declared.item.Item.{Item}
 use Rattle.stab_circuit.specs.declared.reader.Frame.{Frame as Held}
@@ -15,8 +15,8 @@ use Rattle.stab_circuit.specs.Lines.{is_byte, content_of}
 use Rattle.stab_circuit.specs.Items.{Items, OneItem, operation, repeat, before, done, next, block, join}
 use Rattle.stab_circuit.specs.Meanings.{meaning_of, is_close}
 use Rattle.stab_circuit.specs.Circuits.{Meaning, at_line, meaning_after, one_item, contents, depth_after, ends_item}
-use Rattle.stab_circuit.specs.Readers.{Frame, State, closed, closing, opening, stepped, finished, read_on, is_some_items, is_whole, meaning_at, pending, line_fault, frame_of}
-use Rattle.stab_circuit.proofs.BoolLemmas.{chosen, passed}
+use Rattle.stab_circuit.specs.Readers.{Frame, State, closed, stepped, finished, read_on, is_some_items, is_whole, meaning_at, pending, line_fault, frame_of}
+use Rattle.stab_circuit.proofs.BoolLemmas.{chosen}
 
 -- after a line of one item's text, what follows is seen as it is by the state
 abbrev Follows : State → Meaning → State → Type 0

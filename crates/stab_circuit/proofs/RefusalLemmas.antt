@@ -1,5 +1,5 @@
 -- Which refusals a line can have.
-use Rattle.std.proofs.Common.{◌≡◌, ◌<◌, refl, ap, sym, ◌∙◌, subst, ℕ, ◌+◌, List, [], ◌∷◌, Bool, true, false, not, nat_lt, ◌==◌, ◌&&◌, ◌||◌, length, map, drop, Option, None, Some, Result, Ok, Err, if◌then◌else◌, arith, ◌⊎◌, inl, inr}
+use Rattle.std.proofs.Common.{◌≡◌, ◌<◌, refl, subst, ℕ, ◌+◌, List, [], ◌∷◌, Bool, true, false, nat_lt, length, map, drop, Option, None, Some, Result, Ok, Err, if◌then◌else◌, arith}
 use Rattle.stab_pauli.specs.declared.refusal.Refusal.{Refusal}
 use Rattle.stab_pauli.specs.declared.refusal.Refusal.TheVariants.{BadBlock, TooDeep}
 use Rattle.stab_pauli.specs.declared.refusal.Fault.{Fault}
@@ -12,7 +12,7 @@ use Rattle.stab_circuit.specs.declared.name.Name.TheVariants as name
 use Rattle.stab_circuit.specs.declared.meaning.Line.TheVariants.{Blank, Close, Open}
 use Rattle.stab_circuit.specs.declared.meaning.Line.TheVariants as line
 use Rattle.stab_circuit.specs.Results.{◌>>=◌, each}
-use Rattle.stab_circuit.specs.Lines.{Shape, bracketed, behind_tag, shaped, shape_of, starts_with_byte, has_byte, is_apart, without_open as without_brace}
+use Rattle.stab_circuit.specs.Lines.{Shape, bracketed, behind_tag, shaped, shape_of}
 use Rattle.stab_circuit.specs.Words.{words, arguments_of}
 use Rattle.stab_circuit.specs.Names.{first_named, instruction_named, name_of, gate_named, pair_gate_named, other_named}
 use Rattle.stab_circuit.specs.Targets.{qubit_of, measure_target_of, lookback_of, count_of, pairs_of, coordinate_of, one_argument, number_of, observable_of}

@@ -1,25 +1,12 @@
 -- Numbers over the unrolled steps.
-use Rattle.std.proofs.Common.{◌≡◌, ◌≤◌, ◌<◌, refl, ap, sym, ◌∙◌, ℕ, ◌+◌, ◌*◌, ◌-◌, zero, suc, max, min, List, [], ◌∷◌, ◌++◌, Bool, true, false, ◌||◌, nat_lt, length, map, take, get_or, All, arith, rules, add-one, drop, drop-cons, append_assoc, append-nil}
-use Rattle.std.proofs.lemmas.List.{length-append, length-map, take_more}
+use Rattle.std.proofs.Common.{◌≡◌, ◌≤◌, ◌<◌, refl, ap, sym, ◌∙◌, ℕ, ◌+◌, ◌*◌, ◌-◌, zero, suc, max, min, List, [], ◌∷◌, ◌++◌, ◌||◌, nat_lt, length, All, arith, append_assoc}
+use Rattle.std.proofs.lemmas.List.{length-append}
 use Rattle.std.proofs.lemmas.List.Elements.{All-head, All-tail}
 use Rattle.std.specs.List.{list_any}
-use Rattle.std.specs.Global.{Vec}
-use Rattle.stab_pauli.specs.declared.letter.Letter.TheVariants as letter
-use Rattle.stab_tableau.specs.declared.gate.Gate.{Gate}
-use Rattle.stab_tableau.specs.declared.gate.PairGate.{PairGate}
-use Rattle.stab_circuit.specs.declared.range.MeasureTarget.{MeasureTarget}
-use Rattle.stab_circuit.specs.declared.item.Measurement.{Measurement}
-use Rattle.stab_circuit.specs.declared.item.Measurement.TheVariants as measure
-use Rattle.stab_circuit.specs.declared.item.Operation.{Operation}
-use Rattle.stab_circuit.specs.declared.item.Item.{Item}
-use Rattle.stab_circuit.specs.declared.item.Node.TheVariants as node
-use Rattle.stab_circuit.specs.declared.summary.Summary.{Summary}
 use Rattle.stab_circuit.specs.Lookbacks.{IsLookback}
-use Rattle.stab_circuit.specs.Items.{Items, done, next, block, join, before}
-use Rattle.stab_circuit.specs.Views.{item_of, items_of}
-use Rattle.stab_circuit.specs.Steps.{Step, one, two, collapse, detector, observable, measured, steps_of, rounds, unroll, makes, records_of, lookbacks, looks_too_far}
-use Rattle.stab_circuit.proofs.ViewLemmas.{item_of_operation, item_of_repeat, items_of_pushed}
-use Rattle.stab_circuit.specs.Summaries.{greatest, reach, summary_of, after, repeated, IsSummary}
+use Rattle.stab_circuit.specs.Items.{Items, done, next, block, join}
+use Rattle.stab_circuit.specs.Steps.{Step, steps_of, rounds, unroll, makes, records_of, lookbacks, looks_too_far}
+use Rattle.stab_circuit.specs.Summaries.{greatest, reach}
 
 pub greatest_small : (ks : List ℕ) → All IsLookback ks → greatest ks ≤ 16777215
 greatest_small [] a = omega arith

@@ -1,5 +1,5 @@
 -- The summaries of items.
-use Rattle.std.proofs.Common.{◌≡◌, ◌≤◌, ◌<◌, refl, ap, sym, ◌∙◌, ℕ, ◌+◌, ◌*◌, ◌-◌, zero, suc, max, min, true, false, List, [], ◌∷◌, ◌++◌, length, map, take, drop, get_or, All, arith, drop-cons, append-nil, nat_lt, Option, Some, None, if◌then◌else◌}
+use Rattle.std.proofs.Common.{◌≡◌, ◌≤◌, ◌<◌, refl, ap, sym, ◌∙◌, ℕ, ◌+◌, suc, max, min, true, false, List, [], ◌∷◌, ◌++◌, length, map, take, drop, get_or, All, arith, drop-cons, append-nil, nat_lt, Some, None, if◌then◌else◌}
 use Rattle.std.proofs.lemmas.List.{length-append, length-map, take_more}
 use Rattle.std.proofs.lemmas.List.Elements.{All-head, All-tail}
 use Rattle.std.specs.Global.{Vec}
@@ -19,7 +19,7 @@ use Rattle.stab_circuit.specs.declared.summary.Summary.{Summary}
 use Rattle.stab_circuit.specs.Lookbacks.{IsLookback}
 use Rattle.stab_circuit.specs.Items.{Items, done, next, block, join, before}
 use Rattle.stab_circuit.specs.Views.{item_of, items_of}
-use Rattle.stab_circuit.specs.Steps.{Step, one, two, collapse, detector, observable, measured, steps_of, rounds, unroll, makes, records_of, lookbacks, pair_qubits, target_qubits, past, past_named, qubits_of, observables_of, named_qubits, named_observables, check_of, looks_too_far}
+use Rattle.stab_circuit.specs.Steps.{Step, one, two, collapse, measured, steps_of, rounds, unroll, makes, records_of, lookbacks, pair_qubits, target_qubits, past, past_named, qubits_of, observables_of, named_qubits, named_observables, check_of}
 use Rattle.stab_circuit.specs.Summaries.{greatest, reach, summed, kind_summary_of, summary_of, after, repeated, judged}
 use Rattle.stab_circuit.proofs.ViewLemmas.{item_of_operation, item_of_repeat, items_of_pushed}
 use Rattle.stab_circuit.proofs.StepLemmas.{length-rounds, records_of-append, records_of-rounds, reach-append, reach-rounds, unroll-join, capped_sum, capped_left, capped_times, looks_too_far_reach}

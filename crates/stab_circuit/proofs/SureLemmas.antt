@@ -1,6 +1,6 @@
 -- What is known of all that a line is read as.
-use Rattle.std.proofs.Common.{◌≡◌, ◌≢◌, ◌<◌, ◌≤◌, ◌^◌, refl, ap, sym, ◌∙◌, subst, ℕ, ◌+◌, List, [], ◌∷◌, Bool, true, false, not, nat_lt, ◌==◌, ◌&&◌, ◌||◌, length, map, drop, take, Option, None, Some, Result, Ok, Err, if◌then◌else◌, arith, All}
-use Rattle.std.specs.List.{list_all, list_any, prefix_len, position_or_len, take_while}
+use Rattle.std.proofs.Common.{◌≡◌, ◌≢◌, ◌<◌, ◌≤◌, ◌^◌, refl, subst, ℕ, List, [], ◌∷◌, Bool, true, false, not, nat_lt, ◌==◌, ◌&&◌, ◌||◌, length, drop, take, Option, None, Some, Result, Ok, Err, if◌then◌else◌, arith}
+use Rattle.std.specs.List.{list_all, list_any, prefix_len, take_while}
 use Rattle.std.proofs.lemmas.Bool.Decides.{nat_tests}
 use Rattle.stab_pauli.specs.declared.refusal.Refusal.{Refusal}
 use Rattle.stab_pauli.specs.declared.refusal.Refusal.TheVariants.{BadArguments, BadTarget, BadLine}

@@ -1,5 +1,5 @@
 -- What is read of a text is what it stands for, and what refuses it is its fault.
-use Rattle.std.proofs.Common.{◌≡◌, ◌≤◌, ◌<◌, refl, ap, sym, ◌∙◌, subst, ℕ, ◌+◌, suc, List, [], ◌∷◌, ◌++◌, Bool, true, false, nat_lt, length, length-append, map, Option, None, Some, Result, Ok, Err, if◌then◌else◌, arith, ◌⊎◌, inl, inr, IsTrue, IfErr}
+use Rattle.std.proofs.Common.{◌≡◌, ◌≤◌, ◌<◌, refl, ap, sym, ◌∙◌, subst, ℕ, List, [], ◌∷◌, ◌++◌, Bool, true, false, nat_lt, length, length-append, map, Option, None, Some, Result, Ok, Err, if◌then◌else◌, arith, ◌⊎◌, inl, inr, IfErr}
 use Rattle.std.specs.List.{list_all}
 use Rattle.std.proofs.lemmas.List.{length-map}
 use Rattle.std.proofs.lemmas.Bool.Decides.{nat_tests}
@@ -9,12 +9,12 @@ use Rattle.stab_pauli.specs.declared.refusal.Fault.{Fault}
 use Rattle.stab_pauli.specs.Refusals.{whole}
 use Rattle.stab_circuit.specs.declared.item.Item.{Item}
 use Rattle.stab_circuit.specs.declared.circuit.Circuit.{Circuit}
-use Rattle.stab_circuit.specs.Items.{Items, OneItem, before, done, listed}
-use Rattle.stab_circuit.specs.Circuits.{Meaning, Joins, fault_from, contents, meanings, limited, text_fault, item_fault, StandsFor, StandsForOne, one_item, is_empty}
+use Rattle.stab_circuit.specs.Items.{Items, OneItem, before, done}
+use Rattle.stab_circuit.specs.Circuits.{Joins, contents, meanings, limited, text_fault, item_fault, StandsFor, StandsForOne, one_item, is_empty}
 use Rattle.stab_circuit.specs.Steps.{check_of, unroll, looks_too_far, most_steps}
 use Rattle.stab_circuit.specs.Views.{item_of, items_of}
 use Rattle.stab_circuit.specs.Readers.{start, read_on, reading}
-use Rattle.stab_circuit.specs.Readings.{ReadsCircuit, IsCircuit, IsRefused, IsFaultOf, IsPlaced, is_of_line, is_of_circuit, is_of_item}
+use Rattle.stab_circuit.specs.Readings.{ReadsCircuit, IsCircuit, IsFaultOf, IsPlaced, is_of_line, is_of_circuit, is_of_item}
 use Rattle.stab_circuit.proofs.BoolLemmas.{chosen, passed}
 use Rattle.stab_circuit.proofs.ReadingLemmas.{joined_read, fault_read}
 use Rattle.stab_circuit.proofs.OneItemLemmas.{blank_read, read_blank, read_one, same_meanings, size, size-listed}

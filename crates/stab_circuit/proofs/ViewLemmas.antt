@@ -1,4 +1,4 @@
-use Rattle.std.proofs.Common.{◌≡◌, refl, ap, sym, ◌∙◌, List, [], ◌∷◌, ◌++◌, map, rules, ℕ, reverse}
+use Rattle.std.proofs.Common.{◌≡◌, ap, sym, ◌∙◌, List, [], ◌∷◌, ◌++◌, map, ℕ, reverse}
 use Rattle.std.proofs.lemmas.List.{map-append, reverse-append}
 use Rattle.std.specs.Global.{Vec}
 use Rattle.stab_circuit.specs.declared.item.Operation.{Operation}
@@ -6,8 +6,8 @@ use Rattle.stab_circuit.specs.declared.item.Item.{Item}
 use Rattle.stab_circuit.specs.declared.item.Node.TheVariants as node
 use Rattle.stab_circuit.specs.declared.item.Node.TheVariants.{rolls-Operation, rolls-Repeat}
 use Rattle.stab_circuit.specs.declared.item.Node.TheOpen as layer
-use Rattle.stab_circuit.specs.declared.item.Node.TheFolds.{fold-Node, fold-Item, fold-roll-Node, fold-roll-Item}
-use Rattle.stab_circuit.specs.Items.{before, OneItem, operation, repeat, listed, Items, done, next, block, join}
+use Rattle.stab_circuit.specs.declared.item.Node.TheFolds.{fold-Node, fold-roll-Node, fold-roll-Item}
+use Rattle.stab_circuit.specs.Items.{before, OneItem, operation, repeat, listed, done, join}
 use Rattle.stab_circuit.specs.Views.{node_step, item_step, item_of, items_of}
 use Rattle.stab_circuit.specs.declared.reader.Frame.{Frame as Held}
 use Rattle.stab_circuit.specs.Readers.{frame_of}

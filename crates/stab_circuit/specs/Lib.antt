@@ -17,3 +17,4 @@ pub mod Cursors
 pub mod Prints
 pub mod Margins
 pub mod Outputs
+pub mod Laws

@@ -8,7 +8,6 @@ use Rattle.stab_tableau.specs.declared.gate.Gate.{Gate}
 use Rattle.stab_tableau.specs.declared.gate.Gate.TheVariants as one
 use Rattle.stab_tableau.specs.declared.gate.PairGate.{PairGate}
 use Rattle.stab_tableau.specs.declared.gate.PairGate.TheVariants as two
-use Rattle.stab_circuit.specs.declared.item.Measurement.{Measurement}
 use Rattle.stab_circuit.specs.declared.item.Measurement.TheVariants as measure
 use Rattle.stab_circuit.specs.declared.name.Instruction.{Instruction}
 use Rattle.stab_circuit.specs.declared.name.Instruction.TheVariants as instruction

@@ -6,7 +6,6 @@ use Rattle.stab_pauli.specs.declared.refusal.Refusal.TheVariants.{BadBlock, TooD
 use Rattle.stab_pauli.specs.declared.refusal.Fault.{Fault}
 use Rattle.stab_pauli.specs.Refusals.{whole}
 use Rattle.stab_circuit.specs.declared.item.Item.{Item}
-use Rattle.stab_circuit.specs.declared.meaning.Line.{Line}
 use Rattle.stab_circuit.specs.declared.meaning.Line.TheVariants.{Blank, Close, Open}
 use Rattle.stab_circuit.specs.declared.meaning.Line.TheVariants as line
 use Rattle.stab_circuit.specs.declared.reader.Frame.{Frame as Held}

@@ -1,11 +1,11 @@
 -- Targets: what a word means as a target of each kind.
-use Rattle.std.specs.Prelude.{ℕ, ◌-◌, ◌^◌, Bool, true, false, ◌&&◌, ◌||◌, not, nat_le, nat_lt, nat_eq, ◌==◌, ◌<◌, List, [], ◌∷◌, length, drop, take, if◌then◌else◌, Option, Some, None, Result, Ok, Err, codes}
+use Rattle.std.specs.Prelude.{ℕ, ◌-◌, Bool, true, false, ◌&&◌, ◌||◌, not, nat_lt, nat_eq, ◌==◌, List, [], ◌∷◌, length, drop, take, if◌then◌else◌, Option, Some, None, Result, Ok, Err, codes}
 use Rattle.std.specs.List.{list_all, starts_with}
 use Rattle.stab_pauli.specs.declared.refusal.Refusal.{Refusal}
 use Rattle.stab_pauli.specs.declared.refusal.Refusal.TheVariants.{BadArguments, BadTarget, BadPairing, QubitOutOfRange, ObservableOutOfRange}
 use Rattle.stab_circuit.specs.declared.range.MeasureTarget.{MeasureTarget}
 use Rattle.stab_circuit.specs.Results.{◌>>=◌}
-use Rattle.stab_circuit.specs.Lines.{is_digit, is_between, starts_with_byte, ends_with_byte}
+use Rattle.stab_circuit.specs.Lines.{is_digit, starts_with_byte, ends_with_byte}
 use Rattle.stab_circuit.specs.Words.{is_some_word, is_number, value}
 
 -- a qubit: a number below 1,024

@@ -1,15 +1,13 @@
 -- What the values of the code stand for.
-use Rattle.std.specs.Prelude.{ℕ, List, [], ◌∷◌, map}
-use Rattle.stab_circuit.specs.declared.item.Operation.{Operation}
+use Rattle.std.specs.Prelude.{List, map}
 use Rattle.stab_circuit.specs.declared.item.Item.{Item}
-use Rattle.stab_circuit.specs.declared.item.Node.{Node}
 use Rattle.stab_circuit.specs.declared.item.Node.TheOpen.{Node-F, Item-F}
 use Rattle.stab_circuit.specs.declared.item.Node.TheOpen as layer
 use Rattle.stab_circuit.specs.declared.item.Node.TheFolds.{fold-Item}
 use Rattle.stab_circuit.specs.declared.circuit.Circuit.{Circuit}
 use Rattle.stab_circuit.specs.declared.line.Shape.{Shape as Parts}
 use Rattle.stab_circuit.specs.Lines.{Shape}
-use Rattle.stab_circuit.specs.Items.{OneItem, operation, repeat, listed, Items, done, next, block, join}
+use Rattle.stab_circuit.specs.Items.{OneItem, operation, repeat, listed, Items}
 
 abbrev pub node_step : Node-F OneItem OneItem → OneItem
 node_step (layer.Operation o) = operation o

@@ -10,11 +10,14 @@
 //! - `input`: reading an input whole.
 //! - `summary`: the numbers of a list of items, for which no block's rounds are walked.
 //! - `circuit`: circuits, and reading one.
+//! - `print`: the one text of a circuit.
 //! - `step`, `unrolled`, `cursor`: the unrolled steps of a circuit, from any place on.
+//! - `laws`: what holds between all texts and all items.
 //!
 //! Proved: a text is read as exactly the items that it stands for, or refused with exactly its one
 //! fault; qubits, observables, steps, records and what refuses a whole circuit are those of its
-//! unrolled steps.
+//! unrolled steps; what is printed of the items that a text stands for, stands for these items and
+//! no others.
 #![tactic(auto)]
 
 mod argument;
@@ -22,6 +25,7 @@ mod circuit;
 mod cursor;
 mod input;
 mod item;
+pub mod laws;
 pub mod line;
 mod meaning;
 mod name;

@@ -1,7 +1,6 @@
 use Rattle.std.proofs.Common.{◌++◌, ◌+◌, suc, codes, drop}
 use Rattle.std.proofs.lemmas.Result.{err_from_is_err_and}
-use Rattle.stab_circuit.specs.Items.{before, done}
-use Rattle.stab_circuit.specs.Views.{item_of, items_of}
+use Rattle.stab_circuit.specs.Views.{items_of}
 use Rattle.stab_circuit.specs.Margins.{depth_of}
 use Rattle.stab_circuit.specs.Prints.{line_text, printed_in}
 use Rattle.stab_circuit.proofs.OutputLemmas.{sent_failed, sent_then, sent_as}

@@ -1,4 +1,4 @@
-use Rattle.std.proofs.Common.{◌≡◌, ℕ, ◌*◌, ◌∙◌, sym, ap, codes, replicate}
+use Rattle.std.proofs.Common.{ℕ, ◌*◌, ◌∙◌, sym, ap, codes, replicate}
 use Rattle.std.proofs.lemmas.Result.{err_from_is_err_and}
 use Rattle.stab_circuit.specs.Margins.{depth_of}
 use Rattle.stab_circuit.proofs.OutputLemmas.{sent_failed, sent_then, sent_as}

@@ -1,5 +1,5 @@
 use Rattle.std.proofs.Common.{◌≡◌, max, drop}
-use Rattle.stab_circuit.specs.Steps.{past, pair_qubits, target_qubits}
+use Rattle.stab_circuit.specs.Steps.{past, target_qubits}
 use Rattle.stab_circuit.proofs.summary.past_targets.Given as goal
 
 abbrev pub invariant-loop-target : goal.invariant-loop-target

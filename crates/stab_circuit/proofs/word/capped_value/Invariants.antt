@@ -1,4 +1,4 @@
-use Rattle.std.proofs.Common.{◌≡◌, ◌≤◌, ◌<◌, ◌^◌}
+use Rattle.std.proofs.Common.{◌≡◌, ◌≤◌, ◌<◌}
 use Rattle.std.proofs.Math.ListN.{drop}
 use Rattle.stab_circuit.specs.Words.{value_from}
 use Rattle.stab_circuit.proofs.word.capped_value.Given as goal
