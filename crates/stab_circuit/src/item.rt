@@ -41,6 +41,7 @@ pub struct Item {
     pub(crate) node: Node,
 }
 
+/// What an item is.
 #[cycle(item)]
 #[derive(Drop)]
 pub(crate) enum Node {
