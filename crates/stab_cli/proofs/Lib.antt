@@ -9,3 +9,6 @@ pub mod BitLaws
 pub mod RunLaws
 pub mod SampleLaws
 pub mod FaultLineLaws
+pub mod OptionLaws
+pub mod CommandLaws
+pub mod EndingLaws

@@ -5,6 +5,8 @@ pub mod Runs
 pub mod Outputs
 pub mod Jobs
 pub mod Words
+pub mod Options
+pub mod Asked
 pub mod Laws
 pub mod Inputs
 pub mod Reading

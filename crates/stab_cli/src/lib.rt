@@ -8,6 +8,7 @@
 //! - `sample`: the command `sample`.
 //! - `fault_line`: the line that tells a fault.
 //! - `job`: the words of a command line, and running what they ask for.
+//! - `words`: the words with the options of `sample` and `detect`; `job` doesn't read them yet.
 //! - `laws`: what is proved of texts alone.
 //!
 //! Proved on `run_sample`: what is written is what the group rules give for what was read, whatever
@@ -24,6 +25,7 @@ mod run;
 mod sample;
 mod step;
 mod text;
+mod words;
 
 pub use fault_line::write_fault;
 pub use job::{Job, Usage, parse_words, run_job};
