@@ -7,8 +7,8 @@
     python3 tools/circuits.py dense --qubits 1024 --steps 100000 --seed 1
 
 - surface_code: the rotated surface code keeps a logical qubit in the state 0 and measures it in Z.
-  Data qubits lie at odd coordinates and measured ones at even coordinates, each round measures all
-  checks, and the text has the layout and the order in which `stim gen` prints it.
+  Data qubits lie at odd coordinates and measured ones at even coordinates, and each round measures
+  all checks. The text is written after the layout of `stim gen`; it was not compared with Stim's.
 - repetition_code: the same for the repetition code, with data qubits 0, 2, 4 .. on a line.
 - dense: layers of random Clifford gates on all qubits, each followed by some random measurements
   and resets, and by detectors over random earlier records.
