@@ -1,4 +1,5 @@
-ghost use Rattle.std.specs.Prelude.{◌≡◌, IfOk, vec_len};
+ghost use Rattle.std.specs.Prelude.{◌≡◌, ℕ, ◌<◌, length, slice_index, IfOk, vec_len};
+ghost use Rattle.std.specs.Int.Bits.{bit_xor};
 
 use std::alloc::{AllocError, Global};
 
@@ -7,6 +8,7 @@ use std::alloc::{AllocError, Global};
 pub struct BytePair {
     target: Vec<u8>,
     source: Vec<u8>,
+    ghost same_length: { length source.items ≡ length target.items },
 }
 
 impl BytePair {
@@ -22,7 +24,7 @@ impl BytePair {
 
     /// XORs each byte of the second line into the first.
     pub fn xor(&mut self)
-        ensures target { vec_len self.new.target ≡ vec_len self.old.target }
+        ensures target { (k : ℕ) → k < length self.old.target.items → slice_index self.new.target.items k ≡ bit_xor (slice_index self.old.target.items k) (slice_index self.old.source.items k) }
         ensures source { self.new.source.items ≡ self.old.source.items }
     {
         xor_bytes(self.target.as_mut_slice(), self.source.as_slice());
@@ -42,8 +44,11 @@ pub fn pairs(alloc: Global, n: usize) -> Result<Vec<BytePair>, AllocError>
 
 // Not inlined, so that two passes cannot become none.
 #[inline(never)]
-fn xor_bytes(target: &mut [u8], source: &[u8]) {
-    for (mine, theirs) in target.iter_mut().zip(source) {
-        *mine ^= *theirs;
+fn xor_bytes(target: &mut [u8], source: &[u8])
+    requires same_length { length source.now ≡ length target.old }
+    ensures bytes { (k : ℕ) → k < length target.old → slice_index target.new k ≡ bit_xor (slice_index target.old k) (slice_index source.now k) }
+{
+    for place in 0..source.len() {
+        target[place] ^= source[place];
     }
 }

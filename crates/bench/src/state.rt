@@ -1,4 +1,5 @@
-ghost use Rattle.std.specs.Prelude.{◌≡◌, ◌≢◌, ◌<◌, ◌≤◌, IfOk, length};
+ghost use Rattle.std.specs.Prelude.{◌≡◌, ◌≢◌, ◌<◌, ◌≤◌, length, IfOk, IfErr};
+ghost use Rattle.stab_pauli.specs.declared.refusal.Refusal.TheVariants.{OutOfMemory};
 
 use stab_pauli::{Letter, Pauli, Refusal};
 use stab_tableau::{Gate, PairGate, Tableau};
@@ -8,6 +9,7 @@ use std::alloc::Global;
 pub fn scrambled(alloc: Global, n: usize) -> Result<Tableau, Refusal>
     requires in_range { n ≤ 1024 }
     ensures qubits { IfOk result (λ t. t.qubits ≡ n) }
+    ensures err { IfErr result (λ r. r ≡ OutOfMemory) }
 {
     let mut tableau = Tableau::new(alloc, n)?;
     let mut stride = 1;
@@ -50,6 +52,7 @@ pub fn after(qubit: usize, stride: usize, n: usize) -> usize
 /// The string of n letters X, Y, Z, X, Y, Z and so on.
 pub fn observable(alloc: Global, n: usize) -> Result<Pauli, Refusal>
     ensures length { IfOk result (λ p. length p.letters ≡ n) }
+    ensures err { IfErr result (λ r. r ≡ OutOfMemory) }
 {
     let mut pauli = Pauli::identity(alloc, n)?;
     for qubit in 0..n {

@@ -1,4 +1,6 @@
-ghost use Rattle.std.specs.Prelude.{◌≡◌, ◌<◌, ◌≤◌, IfOk, length};
+ghost use Rattle.std.specs.Prelude.{◌≡◌, ◌<◌, ◌≤◌, length, IfOk, IfErr, OnOk, if◌then◌else◌};
+ghost use Rattle.stab_pauli.specs.declared.refusal.Refusal.TheVariants.{OutOfMemory};
+ghost use Rattle.bench.specs.Works.{starts_from_zeros};
 
 use super::bytes::{self, BytePair};
 use super::state;
@@ -31,6 +33,7 @@ impl Subject {
         requires several { 1 < n }
         requires in_range { n ≤ 1024 }
         ensures qubits { IfOk result (λ s. s.tableau.qubits ≡ n) }
+        ensures err { IfErr result (λ r. r ≡ OutOfMemory) }
     {
         let zeros = Tableau::new(alloc, n)?;
         let scrambled = state::scrambled(alloc, n)?;
@@ -59,6 +62,8 @@ impl Subject {
     /// Makes the tableau the state that the work starts from.
     pub fn restart(&mut self, alloc: Global, work: Work) -> Result<(), Refusal>
         ensures qubits { self.new.tableau.qubits ≡ self.old.tableau.qubits }
+        ensures start { OnOk result (self.new.tableau ≡ (if starts_from_zeros work then self.old.zeros else self.old.scrambled)) }
+        ensures err { IfErr result (λ r. r ≡ OutOfMemory) }
     {
         let start = if work.starts_from_zeros() {
             self.zeros.copy(alloc)?
@@ -85,6 +90,7 @@ impl Subject {
     ) -> Result<(), Refusal>
         requires in_range { calls ≤ self.old.tableau.qubits }
         ensures qubits { self.new.tableau.qubits ≡ self.old.tableau.qubits }
+        ensures err { IfErr result (λ r. r ≡ OutOfMemory) }
     {
         for qubit in 0..calls {
             self.perform(alloc, work, qubit)?;
@@ -95,6 +101,7 @@ impl Subject {
     fn perform(&mut self, alloc: Global, work: Work, qubit: usize) -> Result<(), Refusal>
         requires in_range { qubit < self.old.tableau.qubits }
         ensures qubits { self.new.tableau.qubits ≡ self.old.tableau.qubits }
+        ensures err { IfErr result (λ r. r ≡ OutOfMemory) }
     {
         match work {
             Work::Xor => self.pairs[qubit].xor(),

@@ -19,6 +19,9 @@ struct Round {
 /// alone, since a second would find fixed outcomes.
 fn round_of(work: Work, n: u32) -> Round
     requires above_zero { 0 < n }
+    requires in_range { n ≤ 1024 }
+    ensures passes { 0 < result.passes }
+    ensures calls { 0 < result.calls }
     ensures in_range { result.calls ≤ n }
 {
     let (passes, calls) = match work {

@@ -23,8 +23,8 @@ pub enum Work {
 }
 
 impl Work {
-    ghost use Rattle.std.specs.Prelude.{◌≡◌, ◌↔◌, ◌⊎◌, IsTrue};
-    ghost use Rattle.bench.specs.declared.work.Work.TheVariants.{Fixed, FreeApart};
+    ghost use Rattle.std.specs.Prelude.{◌≡◌};
+    ghost use Rattle.bench.specs.Works.{starts_from_zeros};
 
     /// All works, in the order of the table.
     pub const ALL: [Work; 12] = [
@@ -44,7 +44,7 @@ impl Work {
 
     /// Whether the work starts from the zero state, and not from a scrambled one.
     pub fn starts_from_zeros(self) -> bool
-        ensures value { IsTrue result ↔ ((self ≡ Fixed) ⊎ (self ≡ FreeApart)) }
+        ensures value { result ≡ starts_from_zeros self }
     {
         matches!(self, Work::Fixed | Work::FreeApart)
     }

@@ -58,7 +58,7 @@ impl Item {
     ghost use Rattle.stab_circuit.specs.Items.{operation as single, repeat as repeated};
     ghost use Rattle.stab_circuit.specs.Views.{item_of, items_of};
 
-    /// An item of one instruction.
+    /// The item that is one instruction.
     #[tactic(auto, using(crate::proofs::ViewLemmas::item_of_operation))]
     pub fn operation(operation: Operation) -> Item
         ensures value { item_of result ≡ single operation }
@@ -68,7 +68,7 @@ impl Item {
         }
     }
 
-    /// A block, which runs its body so many times.
+    /// The item that is a block: its count of rounds, its tag, the items of one round.
     #[tactic(auto, using(crate::proofs::ViewLemmas::item_of_repeat))]
     pub fn repeat(count: Count, tag: Sequence<u8>, body: Vec<Item>) -> Item
         ensures value { item_of result ≡ repeated count tag (items_of body.items) }

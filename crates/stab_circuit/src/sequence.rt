@@ -25,7 +25,7 @@ impl<T> Sequence<T> {
         }
     }
 
-    /// The elements.
+    /// The elements, in order.
     pub fn as_slice(&self) -> &[T]
         ensures value { result.now ≡ self.now }
     {
@@ -47,7 +47,7 @@ impl Sequence<u8> {
 }
 
 impl<T: Drop> Sequence<T> {
-    /// Puts an element behind the others. Where memory is refused nothing changes.
+    /// Adds an element at the end; where memory is refused the sequence stays as it was.
     pub fn push(&mut self, element: T) -> Result<(), AllocError>
         ensures ok { OnOk result (self.new ≡ self.old ++ element ∷ []) }
         ensures err { OnErr result (self.new ≡ self.old) }

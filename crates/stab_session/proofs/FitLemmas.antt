@@ -1,10 +1,9 @@
 -- Fits: the steps of a circuit that is not refused on n qubits are on these qubits.
-use Rattle.std.proofs.Common.{◌≡◌, ℕ, zero, suc, ◌+◌, ◌<◌, ◌≤◌, max, refl, sym, ◌∙◌, ap, subst, Bool, true, false, nat_lt, List, [], ◌∷◌, ◌++◌, length, map, All, get_or, arith}
+use Rattle.std.proofs.Common.{◌≡◌, ℕ, zero, suc, ◌<◌, ◌≤◌, max, refl, sym, subst, Bool, true, false, nat_lt, List, [], ◌∷◌, length, map, All, get_or, arith}
 use Rattle.std.specs.Prelude.{Option, Some, None, if◌then◌else◌}
-use Rattle.std.proofs.lemmas.List.Elements.{All-nil, All-cons, All-append, All-head, All-tail}
+use Rattle.std.proofs.lemmas.List.Elements.{All-nil, All-cons, All-append}
 use Rattle.stab_pauli.specs.declared.letter.Letter.TheVariants as letter
 use Rattle.stab_pauli.specs.declared.refusal.Refusal.{Refusal}
-use Rattle.stab_tableau.specs.declared.gate.Gate.{Gate}
 use Rattle.stab_tableau.specs.declared.gate.PairGate.{PairGate}
 use Rattle.stab_circuit.specs.declared.range.MeasureTarget.{MeasureTarget}
 use Rattle.stab_circuit.specs.declared.item.Measurement.{Measurement}
@@ -12,7 +11,7 @@ use Rattle.stab_circuit.specs.declared.item.Measurement.TheVariants as measure
 use Rattle.stab_circuit.specs.declared.item.Kind.{Kind}
 use Rattle.stab_circuit.specs.declared.item.Kind.TheVariants as kind
 use Rattle.stab_circuit.specs.Items.{Items, done, next, block}
-use Rattle.stab_circuit.specs.Steps.{Step, one, two, collapse, detector, observable, measured, steps_of, rounds, unroll, past, pair_qubits, target_qubits, named_qubits, past_named, qubits_of, most_steps, check_of, check_within}
+use Rattle.stab_circuit.specs.Steps.{Step, one, two, collapse, detector, observable, measured, steps_of, rounds, unroll, past, pair_qubits, target_qubits, named_qubits, qubits_of, most_steps, check_of, check_within}
 use Rattle.stab_circuit.specs.Cursors.{IsApart}
 use Rattle.stab_session.specs.Sights.{Fits}
 

@@ -1,18 +1,18 @@
 -- Futures: points with the same members, number of the next coin and records give the same by every step.
-use Rattle.std.proofs.Common.{◌≡◌, ℕ, ◌+◌, ◌<◌, refl, sym, ◌∙◌, ap, subst, Bool, true, false, ◌&&◌, List, [], ◌∷◌, ◌++◌, All}
+use Rattle.std.proofs.Common.{◌≡◌, ℕ, ◌+◌, ◌<◌, refl, ◌∙◌, ap, subst, Bool, true, false, ◌&&◌, List, [], ◌∷◌, ◌++◌}
 use Rattle.std.proofs.lemmas.List.Elements.{All-head, All-tail}
 use Rattle.stab_pauli.specs.declared.letter.Letter.{Letter}
 use Rattle.stab_pauli.specs.Letters.{◌⊕◌}
-use Rattle.stab_pauli.specs.Paulis.{Signed, single}
+use Rattle.stab_pauli.specs.Paulis.{single}
 use Rattle.stab_tableau.specs.declared.gate.Gate.TheVariants as on
-use Rattle.stab_tableau.specs.Traces.{Happening, applied, applied_pair, projected, member, outcome, is_free}
+use Rattle.stab_tableau.specs.Traces.{Happening, applied, applied_pair, projected, member}
 use Rattle.stab_tableau.specs.Laws.{SameMembers}
 use Rattle.stab_tableau.proofs.OneLetterLemmas.{length-one_letter}
 use Rattle.stab_tableau.proofs.MemberLemmas.{SameMembers-more, outcome-agree, is_free-agree}
 use Rattle.stab_circuit.specs.Steps.{Step, one, two, collapse, detector, observable}
 use Rattle.stab_session.specs.Records.{parity}
 use Rattle.stab_session.specs.Runs.{when, flipped, collapsed, outcome_of}
-use Rattle.stab_session.specs.Points.{Point, Output, nothing, joined, given, trace_after, coins_of, next, after, outputs}
+use Rattle.stab_session.specs.Points.{Point, nothing, joined, given, trace_after, coins_of, next}
 use Rattle.stab_session.specs.Sights.{Fits}
 use Rattle.stab_session.specs.Laws.{AgreeAt, SameFuture}
 

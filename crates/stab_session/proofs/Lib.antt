@@ -1,3 +1,4 @@
+mod RecordLemmas
 mod RunLemmas
 mod StateLemmas
 mod FutureLemmas

@@ -1,22 +1,16 @@
 -- Runs: steps one after another, and how the program follows each.
 use Rattle.std.proofs.Common.{◌≡◌, ℕ, ◌+◌, ◌<◌, refl, sym, ◌∙◌, ap, subst, Bool, true, false, ◌&&◌, List, [], ◌∷◌, ◌++◌, append_assoc, append-nil, All, length}
-use Rattle.std.specs.Prelude.{◌≢◌}
-use Rattle.std.proofs.lemmas.List.Elements.{All-head, All-tail}
+use Rattle.std.proofs.lemmas.List.Elements.{All-tail}
 use Rattle.std.proofs.lemmas.List.{length-append}
 use Rattle.stab_pauli.specs.declared.letter.Letter.{Letter}
 use Rattle.stab_pauli.specs.Letters.{◌⊕◌}
 use Rattle.stab_pauli.specs.Paulis.{Signed, single}
-use Rattle.stab_tableau.specs.declared.gate.Gate.{Gate}
 use Rattle.stab_tableau.specs.declared.gate.Gate.TheVariants as on
-use Rattle.stab_tableau.specs.declared.gate.PairGate.{PairGate}
-use Rattle.stab_tableau.specs.Gates.{back, back_pair}
-use Rattle.stab_tableau.specs.Traces.{Happening, applied, applied_pair, projected, member, outcome, is_free}
+use Rattle.stab_tableau.specs.Traces.{Happening, applied, projected, member, is_free}
 use Rattle.stab_tableau.specs.Tableaus.{outcome_by, is_free_by, projected_by}
 use Rattle.stab_tableau.proofs.OneLetterLemmas.{length-one_letter}
 use Rattle.stab_tableau.proofs.MemberLemmas.{Agree, Agree-applied, Agree-member, outcome-agree, is_free-agree}
-use Rattle.stab_circuit.specs.Steps.{Step, one, two, collapse, detector, observable}
-use Rattle.stab_session.specs.declared.outputs.Addition.{Addition}
-use Rattle.stab_session.specs.Records.{parity}
+use Rattle.stab_circuit.specs.Steps.{Step, collapse}
 use Rattle.stab_session.specs.Runs.{when, flipped, collapsed, outcome_of}
 use Rattle.stab_session.specs.Points.{Point, Output, nothing, joined, given, trace_after, coins_of, next, after, outputs}
 use Rattle.stab_session.specs.Sights.{Fits, Sight, Shows, Leads, IsRun, flipped_by}

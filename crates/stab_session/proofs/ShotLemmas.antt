@@ -1,11 +1,11 @@
 -- Shots: a program that went through all steps from the first on holds the lists of the run.
-use Rattle.std.proofs.Common.{◌≡◌, ℕ, refl, sym, ◌∙◌, ap, Bool, false, List, [], ◌++◌, length, replicate}
+use Rattle.std.proofs.Common.{◌≡◌, ℕ, sym, ◌∙◌, ap, Bool, false, [], length, replicate}
 use Rattle.stab_pauli.specs.Paulis.{Signed}
 use Rattle.stab_tableau.specs.Traces.{member}
 use Rattle.stab_circuit.specs.Items.{Items}
-use Rattle.stab_circuit.specs.Steps.{Step, unroll, observables_of}
-use Rattle.stab_session.specs.Runs.{State, start, run, run_of}
-use Rattle.stab_session.specs.Points.{Output, nothing, joined, origin, after, outputs, with_additions, point_of, state_at}
+use Rattle.stab_circuit.specs.Steps.{unroll, observables_of}
+use Rattle.stab_session.specs.Runs.{State, start, run_of}
+use Rattle.stab_session.specs.Points.{Output, nothing, joined, origin, after, outputs, with_additions, state_at}
 use Rattle.stab_session.specs.Sights.{Sight, Shows, Leads, IsRun}
 use Rattle.stab_session.proofs.StateLemmas.{run-state}
 

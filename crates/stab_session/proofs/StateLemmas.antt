@@ -1,16 +1,15 @@
 -- States: a run is the point where it leads with what it gives, and free coins alone decide it.
-use Rattle.std.proofs.Common.{◌≡◌, ℕ, ◌+◌, ◌<◌, ◌≤◌, refl, sym, ◌∙◌, ap, subst, Bool, true, false, not, ◌&&◌, List, [], ◌∷◌, ◌++◌, append_assoc, append-nil, add-zero, length, get_or, arith, replicate}
+use Rattle.std.proofs.Common.{◌≡◌, ℕ, ◌+◌, refl, sym, ◌∙◌, ap, Bool, true, false, not, ◌&&◌, List, [], ◌∷◌, ◌++◌, append_assoc, append-nil, add-zero, length, get_or}
 use Rattle.std.specs.Prelude.{if◌then◌else◌, slice_index_or}
 use Rattle.std.proofs.lemmas.List.{length-append}
-use Rattle.stab_pauli.specs.declared.letter.Letter.{Letter}
 use Rattle.stab_pauli.specs.Letters.{◌⊕◌}
 use Rattle.stab_pauli.specs.Paulis.{Signed, minus, single}
 use Rattle.stab_tableau.specs.Traces.{Happening, applied, applied_pair, member, outcome, is_free}
 use Rattle.stab_circuit.specs.Items.{Items}
 use Rattle.stab_circuit.specs.Steps.{Step, one, two, collapse, detector, observable, unroll, observables_of}
 use Rattle.stab_session.specs.Records.{parity}
-use Rattle.stab_session.specs.Runs.{State, start, when, collapsed, outcome_of, added, effect, run, run_of}
-use Rattle.stab_session.specs.Points.{Point, Output, nothing, joined, given, next, after, outputs, with_additions, point_of, state_at}
+use Rattle.stab_session.specs.Runs.{State, start, when, collapsed, effect, run, run_of}
+use Rattle.stab_session.specs.Points.{Point, Output, joined, given, next, after, outputs, point_of, state_at}
 use Rattle.stab_session.specs.Laws.{AgreeWhere, DependsOnCoinsAt}
 
 -- a point and its outputs

@@ -1,5 +1,5 @@
--- Records: which one rec[-k] is, and their parity.
-use Rattle.std.specs.Prelude.{ℕ, ◌-◌, Bool, false, List, [], ◌∷◌, length, slice_index_or}
+-- Records: which one rec[-k] is, and the parity and the number of ones of bits.
+use Rattle.std.specs.Prelude.{ℕ, ◌+◌, ◌-◌, Bool, true, false, List, [], ◌∷◌, length, slice_index_or}
 use Rattle.stab_pauli.specs.Letters.{◌⊕◌}
 
 -- the record rec[-k]: after m records it is record m - k
@@ -10,3 +10,9 @@ looked_up records k = slice_index_or records (length records - k) false
 abbrev pub parity : List Bool → List ℕ → Bool
 parity records [] = false
 parity records (k ∷ ks) = looked_up records k ⊕ parity records ks
+
+-- how many bits are 1
+abbrev pub ones : List Bool → ℕ
+ones [] = 0
+ones (true ∷ bits) = 1 + ones bits
+ones (false ∷ bits) = ones bits

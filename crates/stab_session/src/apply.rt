@@ -2,6 +2,7 @@ ghost use Rattle.std.specs.Prelude.{◌≡◌, ℕ, ◌+◌, ◌<◌, ◌≤◌,
 ghost use Rattle.stab_pauli.specs.Paulis.{Signed, single};
 ghost use Rattle.stab_tableau.specs.Tableaus.{stabilises, outcome_by, is_free_by, projected_by};
 ghost use Rattle.stab_circuit.specs.Cursors.{step_shown};
+ghost use Rattle.stab_session.specs.Records.{ones};
 ghost use Rattle.stab_session.specs.Runs.{when};
 ghost use Rattle.stab_session.specs.Points.{coins_of};
 ghost use Rattle.stab_session.specs.Sights.{Fits, IsRun, sight, output_of, flipped_by};
@@ -25,7 +26,7 @@ fn measure<C: Coins>(
     requires in_range { qubit < tableau.old.qubits }
     ensures qubits { tableau.new.qubits ≡ tableau.old.qubits }
     ensures same_coins { C.sequence coins.new ≡ C.sequence coins.old }
-    ensures asks { C.asks coins.new ≤ C.asks coins.old + 1 }
+    ensures asks { C.asks coins.new ≤ C.asks coins.old + ones (result.free ∷ []) }
     ensures outcome { result.outcome ≡ outcome_by (stabilises tableau.old) (single tableau.old.qubits qubit letter) (C.sequence coins.old coin) }
     ensures free { result.free ≡ is_free_by (stabilises tableau.old) (single tableau.old.qubits qubit letter) }
     ensures members { (p : Signed) → length p.letters ≡ tableau.old.qubits → stabilises tableau.new p ≡ projected_by (stabilises tableau.old) (single tableau.old.qubits qubit letter) result.outcome p }
@@ -74,6 +75,7 @@ pub fn apply_step<C: Coins>(
     ensures qubits { tableau.new.qubits ≡ tableau.old.qubits }
     ensures same_coins { C.sequence coins.new ≡ C.sequence coins.old }
     ensures asks { C.asks coins.new ≤ C.asks coins.old + coins_of (step_shown step.entry) }
+    ensures asks_free { OnOk result (C.asks coins.new + ones outputs.old.free.items ≤ C.asks coins.old + ones outputs.new.free.items) }
     ensures run { OnOk result (IsRun tableau.old.qubits (C.sequence coins.old) (step_shown step.entry ∷ []) (sight tableau.old (output_of outputs.old)) (sight tableau.new (output_of outputs.new))) }
 {
     *applied += 1;

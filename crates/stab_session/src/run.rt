@@ -2,6 +2,7 @@ ghost use Rattle.std.specs.Prelude.{◌≡◌, ℕ, ◌+◌, ◌<◌, ◌≤◌,
 ghost use Rattle.stab_pauli.specs.declared.refusal.Refusal.TheVariants.{OutOfMemory};
 ghost use Rattle.stab_circuit.specs.Steps.{unroll, check_within};
 ghost use Rattle.stab_circuit.specs.Views.{circuit_items};
+ghost use Rattle.stab_session.specs.Records.{ones};
 ghost use Rattle.stab_session.specs.Runs.{run_of, Refuses, IsShot};
 ghost use Rattle.stab_session.specs.Points.{all_coins_of};
 ghost use Rattle.stab_session.specs.Laws.{DependsOnCoinsAt};
@@ -42,6 +43,7 @@ pub fn run_steps<C: Coins>(
     ensures qubits { tableau.new.qubits ≡ tableau.old.qubits }
     ensures same_coins { C.sequence coins.new ≡ C.sequence coins.old }
     ensures asks { C.asks coins.new ≤ C.asks coins.old + all_coins_of cursor.old }
+    ensures asks_free { OnOk result (C.asks coins.new + ones outputs.old.free.items ≤ C.asks coins.old + ones outputs.new.free.items) }
     ensures run { OnOk result (IsRun tableau.old.qubits (C.sequence coins.old) cursor.old (sight tableau.old (output_of outputs.old)) (sight tableau.new (output_of outputs.new))) }
 {
     while let Some(step) = cursor.next() {
@@ -61,6 +63,7 @@ fn run_checked<C: Coins>(
     requires checked { check_within n (circuit_items circuit.now) ≡ None }
     ensures same_coins { C.sequence coins.new ≡ C.sequence coins.old }
     ensures asks { C.asks coins.new ≤ C.asks coins.old + all_coins_of (unroll (circuit_items circuit.now)) }
+    ensures asks_free { IfOk result (λ s. C.asks coins.new ≤ C.asks coins.old + ones s.free.items) }
     ensures ok { IfOk result (λ s. IsShot s (run_of n (C.sequence coins.old) (circuit_items circuit.now))) }
     ensures err { IfErr result (λ r. r ≡ OutOfMemory) }
 {
@@ -105,6 +108,7 @@ pub fn run_once<C: Coins>(
     ensures refused { Refuses result (check_within n (circuit_items circuit.now)) }
     ensures same_coins { C.sequence coins.new ≡ C.sequence coins.old }
     ensures asks { C.asks coins.new ≤ C.asks coins.old + all_coins_of (unroll (circuit_items circuit.now)) }
+    ensures asks_free { IfOk result (λ s. C.asks coins.new ≤ C.asks coins.old + ones s.free.items) }
 {
     circuit.check(n)?;
     match run_checked(alloc, circuit, n, coins) {

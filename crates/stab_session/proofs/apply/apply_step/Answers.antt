@@ -1,7 +1,9 @@
-use Rattle.std.proofs.Common.{rules, ap, subst, sym, ◌∙◌}
+use Rattle.std.proofs.Common.{arith, rules, ap, subst, sym, ◌∙◌}
 use Rattle.stab_tableau.specs.Tableaus.{stabilises}
 use Rattle.stab_circuit.specs.Cursors.{step_shown}
 use Rattle.stab_session.specs.Sights.{Fits, sight, output_of}
+use Rattle.stab_session.specs.Records.{ones}
+use Rattle.stab_session.proofs.RecordLemmas.{ones_more}
 use Rattle.stab_session.proofs.RunLemmas.{run-collapse}
 use Rattle.stab_session.proofs.apply.apply_step.Goals as goal
 
@@ -17,3 +19,7 @@ returns-in_ok-push_when-in-Collapse-clause-run g c =
       flips = λ r lr. c.reset_if.ensures.members r (lr ∙ sym c.measure-measured.ensures.qubits);
       output = search rules;
     })
+
+pub returns-in_ok-push_when-in-Collapse-clause-asks_free : goal.returns-in_ok-push_when-in-Collapse-clause-asks_free
+returns-in_ok-push_when-in-Collapse-clause-asks_free g c =
+    omega (arith, ap ones c.in_ok-push-in-Collapse.ensures.items, ones_more c.args.outputs.now.free.items c.measure-measured.result.free, c.measure-measured.ensures.asks)

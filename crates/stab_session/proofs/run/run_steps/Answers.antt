@@ -19,6 +19,7 @@ loop-step-preserved g c =
       qubits = done.qubits ∙ inv.qubits;
       same_coins = done.same_coins ∙ inv.same_coins;
       asks = omega (arith, ap all_coins_of more, done.asks, inv.asks);
+      asks_free = omega (arith, done.asks_free, inv.asks_free);
       run = λ new rest. inv.run new
           (run-rest c.args.tableau.now.qubits c.loop-step.tableau.qubits (g.C.Coins.sequence c.args.coins.now) (g.C.Coins.sequence c.loop-step.coins)
           c.loop-step.cursor x c.next.new.self before behind new more inv.qubits inv.same_coins done.run rest);

@@ -1,4 +1,5 @@
 use Rattle.std.proofs.Common.{◌≡◌, ◌+◌, ◌≤◌, All, length}
+use Rattle.stab_session.specs.Records.{ones}
 use Rattle.stab_session.specs.Points.{all_coins_of}
 use Rattle.stab_session.specs.Sights.{Sight, Fits, IsRun, sight, output_of}
 use Rattle.stab_session.proofs.run.run_steps.Given as goal
@@ -10,6 +11,7 @@ invariant-loop-step g l = record {
   qubits : l.tableau.qubits ≡ l.initial.tableau.qubits;
   same_coins : g.C.Coins.sequence l.coins ≡ g.C.Coins.sequence l.initial.coins;
   asks : g.C.Coins.asks l.coins + all_coins_of l.cursor ≤ g.C.Coins.asks l.initial.coins + all_coins_of l.initial.cursor;
+  asks_free : g.C.Coins.asks l.coins + ones l.initial.outputs.free.items ≤ g.C.Coins.asks l.initial.coins + ones l.outputs.free.items;
   run : (new : Sight)
       → IsRun l.initial.tableau.qubits (g.C.Coins.sequence l.initial.coins) l.cursor (sight l.tableau (output_of l.outputs)) new
       → IsRun l.initial.tableau.qubits (g.C.Coins.sequence l.initial.coins) l.initial.cursor (sight l.initial.tableau (output_of l.initial.outputs)) new;

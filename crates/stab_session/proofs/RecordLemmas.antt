@@ -1,0 +1,8 @@
+-- Records: the number of ones.
+use Rattle.std.proofs.Common.{◌≡◌, ◌+◌, Bool, true, false, List, [], ◌∷◌, ◌++◌, arith}
+use Rattle.stab_session.specs.Records.{ones}
+
+pub ones_more : (bits : List Bool) (bit : Bool) → ones (bits ++ bit ∷ []) ≡ ones bits + ones (bit ∷ [])
+ones_more [] bit = omega arith
+ones_more (true ∷ bits) bit = omega (arith, ones_more bits bit)
+ones_more (false ∷ bits) bit = ones_more bits bit
