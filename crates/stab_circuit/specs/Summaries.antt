@@ -34,6 +34,7 @@ pub record IsSummary (s : Summary) : Type 0 where
   pub steps : s.steps ≤ 1048577
   pub records : s.records ≤ 16777215
   pub reach : s.reach ≤ 16777215
+  pub qubits : s.qubits ≤ 1024
 
 -- the summary of items with others after them
 abbrev pub after : Summary → Summary → Summary

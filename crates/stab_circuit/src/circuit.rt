@@ -19,9 +19,9 @@ pub struct Circuit {
 }
 
 impl Circuit {
-    ghost use Rattle.std.specs.Prelude.{◌≡◌, [], map, min, length};
+    ghost use Rattle.std.specs.Prelude.{◌≡◌, ◌≤◌, [], map, min, length};
     ghost use Rattle.stab_circuit.specs.Steps.{unroll, records_of, qubits_of, observables_of, check_within, Checks};
-    ghost use Rattle.stab_circuit.specs.Summaries.{summary_of};
+    ghost use Rattle.stab_circuit.specs.Summaries.{summary_of, IsSummary};
     ghost use Rattle.stab_circuit.specs.Views.{item_of, entries, circuit_items};
 
     /// The empty circuit, which takes no memory.
@@ -42,13 +42,16 @@ impl Circuit {
 
     fn summary(&self) -> Summary
         ensures value { result ≡ summary_of (circuit_items self.now) }
+        ensures small { IsSummary result }
     {
         items_summary(self.items())
     }
 
-    /// One more than the greatest qubit named anywhere, by QUBIT_COORDS too, or 0.
+    /// One more than the greatest qubit named anywhere, by QUBIT_COORDS too, or 0. It is at most
+    /// 1,024.
     pub fn qubits(&self) -> usize
         ensures value { result ≡ qubits_of (circuit_items self.now) }
+        ensures in_range { result ≤ 1024 }
     {
         self.summary().qubits as usize
     }

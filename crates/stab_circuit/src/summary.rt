@@ -109,6 +109,7 @@ fn greatest(numbers: &[u32]) -> u32
 #[tactic(auto, using(crate::proofs::SummaryLemmas::past_dropped))]
 fn past(qubits: &[Qubit]) -> u32
     ensures value { result ≡ past_of qubits.now }
+    ensures small { result ≤ 1024 }
 {
     let mut past = 0;
     for qubit in qubits {
@@ -120,6 +121,7 @@ fn past(qubits: &[Qubit]) -> u32
 #[tactic(auto, using(crate::proofs::SummaryLemmas::past_pairs_dropped))]
 fn past_pairs(pairs: &[Pair]) -> u32
     ensures value { result ≡ past_of (pair_qubits pairs.now) }
+    ensures small { result ≤ 1024 }
 {
     let mut past = 0;
     for pair in pairs {
@@ -132,6 +134,7 @@ fn past_pairs(pairs: &[Pair]) -> u32
 #[tactic(auto, using(crate::proofs::SummaryLemmas::past_targets_dropped))]
 fn past_targets(targets: &[MeasureTarget]) -> u32
     ensures value { result ≡ past_of (target_qubits targets.now) }
+    ensures small { result ≤ 1024 }
 {
     let mut past = 0;
     for target in targets {
@@ -142,6 +145,7 @@ fn past_targets(targets: &[MeasureTarget]) -> u32
 
 /// The summary of so many steps on so many qubits that make no records.
 fn plain(steps: usize, qubits: u32) -> Summary
+    requires few { qubits ≤ 1024 }
     ensures value { result ≡ record { steps = min steps 1048577; records = 0; reach = 0; qubits = qubits; observables = 0 } }
     ensures small { IsSummary result }
 {

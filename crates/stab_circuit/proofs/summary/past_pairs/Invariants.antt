@@ -1,6 +1,9 @@
-use Rattle.std.proofs.Common.{◌≡◌, max, drop}
+use Rattle.std.proofs.Common.{◌≡◌, ◌≤◌, max, drop}
 use Rattle.stab_circuit.specs.Steps.{past, pair_qubits}
 use Rattle.stab_circuit.proofs.summary.past_pairs.Given as goal
 
 abbrev pub invariant-loop-pair : goal.invariant-loop-pair
-invariant-loop-pair l = max l.past (past (pair_qubits (drop l.pair-index l.pairs))) ≡ past (pair_qubits l.pairs)
+invariant-loop-pair l = record {
+  small : l.past ≤ 1024;
+  same : max l.past (past (pair_qubits (drop l.pair-index l.pairs))) ≡ past (pair_qubits l.pairs);
+}

@@ -1,0 +1,105 @@
+-- Asked: the job that the words of a command line ask for, and when they ask for none.
+use Rattle.std.specs.Prelude.{◌≡◌, ◌≢◌, ◌⊎◌, ⊤, ℕ, Bool, true, false, if◌then◌else◌, List, [], map, Option, Some, None, IfSome, option_map, Result, Ok, Err, codes, string_bytes}
+use Rattle.std.specs.Str.Parse.{digits_value, without_leading_plus}
+use Rattle.stab_results.specs.declared.format.Format.{Format}
+use Rattle.stab_results.specs.declared.format.Format.TheVariants.{F01, B8, R8, Hits, Dets}
+use Rattle.clap.specs.Words.{App, IsAmong, IsUnsignedIn, Row, Text, first_of, one_of, subcommand_of}
+use Rattle.clap.specs.Walk.{texts}
+use Rattle.clap.specs.Faults.{fault_of}
+use Rattle.clap.specs.declared.error.kind.ErrorKind.{ErrorKind}
+use Rattle.clap.specs.declared.error.kind.ErrorKind.TheVariants.{DisplayHelp, DisplayVersion}
+use Rattle.stab_cli.specs.Options.{Kept, format_names, most_seed, most_shots, stabsim}
+use Rattle.stab_cli.specs.declared.words.Usage.{Usage}
+use Rattle.stab_cli.specs.declared.words.Usage.TheVariants.{Help, Fault, Memory}
+use Rattle.stab_cli.specs.declared.words.job.Job.{Job}
+use Rattle.stab_cli.specs.declared.words.job.Command.{Command}
+use Rattle.stab_cli.specs.declared.words.job.Command.TheVariants.{Sample, Detect}
+use Rattle.stab_cli.specs.declared.words.job.Source.{Source}
+use Rattle.stab_cli.specs.declared.words.job.Source.TheVariants.{Seed, List as Listed}
+
+-- the name of a format
+abbrev pub format_name : Format → Text
+format_name F01 = codes "01"
+format_name B8 = codes "b8"
+format_name R8 = codes "r8"
+format_name Hits = codes "hits"
+format_name Dets = codes "dets"
+
+-- a format is the one that its option names
+abbrev pub IsNamed : Option Text → Format → Type 0
+IsNamed text format = IfSome text (λ t. (f : Format) → t ≡ format_name f → format ≡ f)
+
+-- a number is the one that its option writes, where the text is that of a number up to the limit
+abbrev pub IsWritten : ℕ → Option Text → ℕ → Type 0
+IsWritten most text number = IfSome text (λ t. IsUnsignedIn 0 most t → number ≡ digits_value 10 (without_leading_plus t))
+
+-- a flag is set where its text says so
+abbrev pub IsSet : Option Text → Bool → Type 0
+IsSet text set = (text ≡ Some (codes "true") → set ≡ true) × (text ≡ Some (codes "false") → set ≡ false)
+
+-- the character of a coin: 0 or 1
+abbrev pub coin_character : Bool → ℕ
+coin_character coin = if coin then 49 else 48
+
+-- the characters of coins, coin 0 first
+abbrev pub coin_text : List Bool → Text
+coin_text = map coin_character
+
+-- the source of coins: the coins that are written, or, where none are given, the seed
+abbrev pub IsSource : Option Text → Option Text → Source → Type 0
+IsSource (Some coins) seed (Listed list) = coins ≡ coin_text list.items
+IsSource None seed (Seed number) = IsWritten most_seed seed number
+IsSource coins seed source = ⊥
+
+-- the format and the number of shots are what their options say
+abbrev pub HasShots : List Row → Format → ℕ → Type 0
+HasShots options format shots = IsNamed (first_of (codes "out_format") options) format × IsWritten most_shots (one_of (codes "shots") options) shots
+
+-- the command of a name, with what its options say
+abbrev pub IsCommand : Text → List Row → Command → Type 0
+IsCommand name options (Sample format shots) = (name ≢ codes "detect") × HasShots options format shots
+IsCommand name options (Detect format shots append) = (name ≢ codes "sample") × HasShots options format shots × IsSet (one_of (codes "append_observables") options) append
+
+-- a job is what a command's name and options say
+pub record IsJob (name : Text) (options : List Row) (job : Job) : Type 0 where
+  pub command : IsCommand name options job.command
+  pub source : IsSource (first_of (codes "coins") options) (one_of (codes "seed") options) job.source
+  pub in_path : option_map string_bytes job.in_path ≡ first_of (codes "in") options
+  pub out_path : option_map string_bytes job.out_path ≡ first_of (codes "out") options
+
+-- the line that tells coins which are no coins
+abbrev pub coin_fault : Text
+coin_fault = codes "stabsim: coins are 0 and 1\n"
+
+-- coins are refused for want of memory, or where their text is not that of coins
+abbrev pub RefusesCoins : Option Text → Usage → Type 0
+RefusesCoins coins Memory = ⊤
+RefusesCoins (Some coins) (Fault line) = (string_bytes line ≡ coin_fault) × ((list : List Bool) → coins ≡ coin_text list → ⊥)
+RefusesCoins coins usage = ⊥
+
+-- an error that is no answer to a question for help
+abbrev pub IsMistake : ErrorKind → Type 0
+IsMistake kind = (kind ≢ DisplayHelp) × (kind ≢ DisplayVersion)
+
+-- the reader's own errors are told as faults, and its help as help, unless memory was refused
+abbrev pub IsTold : ErrorKind → Usage → Type 0
+IsTold kind Memory = ⊤
+IsTold kind (Help text) = IsMistake kind → ⊥
+IsTold kind (Fault text) = IsMistake kind
+
+-- the command that the words name, with its options, where the reader takes them
+abbrev pub Takes : App → List Text → Text × List Row → Type 0
+Takes app words command = (fault_of app words ≡ []) × (subcommand_of app words ≡ Some command)
+
+-- How reading the words of a command line ends, by the reader's own account of its commands.
+abbrev pub EndsBy : App → List Text → Result Job Usage → Type 0
+EndsBy app words (Ok job) = (command : Text × List Row) × Takes app words command × IsJob command.0 command.1 job
+EndsBy app words (Err usage) = (usage ≡ Memory)
+    ⊎ (((kind : ErrorKind) × IsAmong kind (fault_of app words) × IsTold kind usage)
+    ⊎ ((command : Text × List Row) × Takes app words command × RefusesCoins (first_of (codes "coins") command.1) usage))
+
+-- How reading the words of a command line ends, wherever the names of the formats are kept.
+pub record EndsReading (words : List Text) (result : Result Job Usage) : Type 0 where
+  pub formats : Kept
+  pub names : texts formats.now ≡ format_names
+  pub ends : EndsBy (stabsim formats) words result

@@ -1,0 +1,76 @@
+-- Options: the commands of the program and their options, as the command line reader sees them.
+use Rattle.std.specs.Prelude.{◌≡◌, true, false, ℕ, List, [], ◌∷◌, ◌++◌, Some, codes}
+use Rattle.std.specs.Borrow.{Bor}
+use Rattle.clap.specs.Words.{App, Rule, Shape, Text, app_of, new_app, new_rule, rule_of, with_subcommand}
+use Rattle.clap.specs.Simple.{new_shape, on_top}
+use Rattle.clap.specs.declared.builder.arg.Arg.{Arg}
+use Rattle.clap.specs.declared.builder.command.Command.{Command}
+use Rattle.clap.specs.declared.builder.command.Command.TheViews.{out-Command}
+use Rattle.clap.specs.declared.builder.action.ArgAction.TheVariants.{SetTrue}
+use Rattle.clap.specs.declared.builder.value_parser.ValueParser.TheVariants.{Names, Unsigned}
+
+-- names where the reader keeps them
+abbrev pub Kept : Type 0
+Kept = Bor (List (Bor Text))
+
+-- the names of the formats
+abbrev pub format_names : List Text
+format_names = codes "01" ∷ codes "b8" ∷ codes "r8" ∷ codes "hits" ∷ codes "dets" ∷ []
+
+-- an option `--id` with a value
+abbrev pub valued : Text → Rule
+valued id = record (new_rule id) { long = Some id; value_names = 1 }
+
+-- an option whose value is a number from 0 up to a limit, with its default
+abbrev pub numbered : Text → ℕ → Text → Rule
+numbered id most default = record (valued id) { parser = Some (Unsigned 0 most); defaults = default ∷ [] }
+
+-- an option whose value is one of these names, with its default
+abbrev pub named : Text → Kept → Text → Rule
+named id names default = record (valued id) { parser = Some (Names names); defaults = default ∷ [] }
+
+-- an option `--id` without a value
+abbrev pub flag : Text → Rule
+flag id = record (new_rule id) { long = Some id; action = Some SetTrue }
+
+-- the greatest number of shots
+abbrev pub most_shots : ℕ
+most_shots = 1000000
+
+-- the greatest seed
+abbrev pub most_seed : ℕ
+most_seed = 18446744073709551615
+
+-- the options of a command that takes shots, in the order of the help
+abbrev pub shot_options : Kept → List Rule
+shot_options formats =
+    numbered (codes "shots") most_shots (codes "1") ∷ named (codes "out_format") formats (codes "01")
+    ∷ numbered (codes "seed") most_seed (codes "0") ∷ valued (codes "coins") ∷ valued (codes "in") ∷ valued (codes "out") ∷ []
+
+-- a command that takes shots
+abbrev pub shot_command : Text → Kept → Shape
+shot_command name formats = record (new_shape name) { rules = shot_options formats }
+
+-- a command without commands of its own
+abbrev pub alone : Shape → App
+alone command = record { top = command; subs = [] }
+
+-- the command `sample`
+abbrev pub sample : Kept → Shape
+sample = shot_command (codes "sample")
+
+-- the command `detect`, which has one option more
+abbrev pub detect : Kept → Shape
+detect formats = let run = shot_command (codes "detect") formats in record run { rules = run.rules ++ flag (codes "append_observables") ∷ [] }
+
+-- the program, of which some command is wanted
+abbrev pub stabsim : Kept → App
+stabsim formats = with_subcommand (with_subcommand (on_top (λ s. record s { subcommand_required = true }) (new_app (codes "stabsim"))) (sample formats)) (detect formats)
+
+-- an argument is this option of one command
+abbrev pub IsOption : Rule → Arg → Type 0
+IsOption option arg = (rule_of arg ≡ option) × (arg.global ≡ false)
+
+-- a command is this one, and no option of it is shared with its commands
+abbrev pub IsApp : App → Command → Type 0
+IsApp app command = (app_of command ≡ app) × ((out-Command command).has_globals ≡ false)

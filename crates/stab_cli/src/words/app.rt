@@ -1,0 +1,132 @@
+//! The commands of the program and their options, as the command line reader is told of them.
+ghost use Rattle.std.specs.Prelude.{IfOk};
+ghost use Rattle.stab_cli.specs.Options.{IsApp, IsOption, alone, flag, named, numbered, shot_command, stabsim, valued};
+
+use crate::words::job::Shots;
+use clap::builder::ValueParser;
+use clap::{Arg, ArgAction, Command};
+use std::alloc::{AllocError, Global};
+
+/// The names of the result formats.
+pub(crate) static FORMATS: [&str; 5] = ["01", "b8", "r8", "hits", "dets"];
+
+const ABOUT: &str = "Simulates Clifford circuits by the stabiliser rules";
+
+const ABOUT_SAMPLE: &str = "Writes the records of each shot of a circuit";
+
+const ABOUT_DETECT: &str = "Writes the detectors of each shot of a circuit";
+
+const AFTER: &str = "\
+Example, at the top of the repository:
+  ./stabsim sample --shots 3 --in examples/bell.stim
+
+Detectors and observables are raw parities of records: no reference sample is subtracted.
+Refusals, by number and name, are explained in docs/refusals.md.
+";
+
+const AFTER_SAMPLE: &str = "\
+Example, at the top of the repository:
+  ./stabsim sample --shots 3 --seed 5 --in examples/bell.stim
+
+Records, and the parities that `detect` makes of them, are raw: no reference sample is subtracted.
+Refusals, by number and name, are explained in docs/refusals.md.
+";
+
+const AFTER_DETECT: &str = "\
+Example, at the top of the repository:
+  ./stabsim detect --append_observables --out_format dets --in examples/repetition_code.stim
+
+Detectors and observables are raw parities of records: no reference sample is subtracted.
+Refusals, by number and name, are explained in docs/refusals.md.
+";
+
+const HELP_SHOTS: &str = "How many shots, from 0 to 1000000";
+
+const HELP_FORMAT: &str = "The result format";
+
+const HELP_SEED: &str = "The seed of the coins that decide free outcomes";
+
+const HELP_COINS: &str = "The coins of each shot in place of a seed, as characters 0 and 1";
+
+const HELP_IN: &str = "Reads the circuit from a file in place of standard input";
+
+const HELP_OUT: &str = "Writes to a file in place of standard output";
+
+const HELP_APPEND: &str = "Writes the observables behind the detectors";
+
+/// An option `--id` with a value.
+fn valued<'a>(alloc: Global, id: &'a str, value: &'a str, help: &'a str) -> Arg<'a>
+    ensures rule { IsOption (valued id.entry.now) result }
+{
+    Arg::new(alloc, id).long(id).value_name(value).help(help)
+}
+
+/// An option `--id` with a number from 0 up to a limit.
+fn numbered<'a>(alloc: Global, id: &'a str, most: u64, default: &'a str, help: &'a str) -> Arg<'a>
+    ensures rule { IsOption (numbered id.entry.now most default.entry.now) result }
+{
+    valued(alloc, id, "NUMBER", help)
+        .value_parser(ValueParser::unsigned(0, most))
+        .default_value(default)
+}
+
+/// An option `--id` with one of these names.
+fn named<'a>(
+    alloc: Global,
+    id: &'a str,
+    names: &'a [&'a str],
+    default: &'a str,
+    help: &'a str,
+) -> Arg<'a>
+    ensures rule { IsOption (named id.entry.now names.entry default.entry.now) result }
+{
+    valued(alloc, id, "NAME", help)
+        .value_parser(names)
+        .default_value(default)
+}
+
+/// An option `--id` without a value.
+fn flag<'a>(alloc: Global, id: &'a str, help: &'a str) -> Arg<'a>
+    ensures rule { IsOption (flag id.entry.now) result }
+{
+    Arg::new(alloc, id)
+        .long(id)
+        .action(ArgAction::SetTrue)
+        .help(help)
+}
+
+/// A command that takes shots, with the options of all such commands.
+fn shot_command<'a>(
+    alloc: Global,
+    name: &'a str,
+    about: &'a str,
+    after_help: &'a str,
+    formats: &'a [&'a str],
+) -> Result<Command<'a>, AllocError>
+    ensures app { IfOk result (IsApp (alone (shot_command name.entry.now formats.entry))) }
+{
+    Command::new(alloc, name)
+        .about(about)
+        .after_help(after_help)
+        .arg(numbered(alloc, "shots", Shots::MOST, "1", HELP_SHOTS))?
+        .arg(named(alloc, "out_format", formats, "01", HELP_FORMAT))?
+        .arg(numbered(alloc, "seed", u64::MAX, "0", HELP_SEED))?
+        .arg(valued(alloc, "coins", "TEXT", HELP_COINS))?
+        .arg(valued(alloc, "in", "FILE", HELP_IN))?
+        .arg(valued(alloc, "out", "FILE", HELP_OUT))
+}
+
+/// The program with its commands.
+pub(crate) fn app<'a>(alloc: Global, formats: &'a [&'a str]) -> Result<Command<'a>, AllocError>
+    ensures app { IfOk result (IsApp (stabsim formats.entry)) }
+{
+    let sample = shot_command(alloc, "sample", ABOUT_SAMPLE, AFTER_SAMPLE, formats)?;
+    let append = flag(alloc, "append_observables", HELP_APPEND);
+    let detect = shot_command(alloc, "detect", ABOUT_DETECT, AFTER_DETECT, formats)?.arg(append)?;
+    Command::new(alloc, "stabsim")
+        .about(ABOUT)
+        .after_help(AFTER)
+        .subcommand_required(true)
+        .subcommand(sample)?
+        .subcommand(detect)
+}

@@ -1,0 +1,82 @@
+//! What the words of a command line ask for.
+use stab_results::Format;
+use std::marker::Model;
+
+/// How many shots a command takes, at most 1,000,000.
+#[derive(Clone, Copy, Debug, PartialEq, Eq)]
+pub struct Shots {
+    number: u64,
+}
+
+impl Model for Shots {
+    ghost use Rattle.std.specs.Prelude.{ℕ, ◌≤◌};
+
+    ghost Value = { ℕ };
+
+    ghost view = { λ s. s.number };
+
+    ghost invariant = { λ s. s.number ≤ 1000000 };
+
+    ghost inverse = { λ n. record { number = n } };
+}
+
+impl Shots {
+    ghost use Rattle.std.specs.Prelude.{◌≡◌, ◌≤◌};
+
+    /// The most shots that a command takes.
+    pub const MOST: u64 = 1_000_000;
+
+    /// So many shots.
+    pub fn new(number: u64) -> Shots
+        requires in_range { number ≤ 1000000 }
+        ensures value { result ≡ number }
+    {
+        Shots { number }
+    }
+
+    /// How many shots.
+    pub fn number(self) -> u64
+        ensures value { result ≡ self }
+        ensures in_range { result ≤ 1000000 }
+    {
+        self.number
+    }
+}
+
+/// Where coins come from: the outcomes of measurements that no stabiliser decides.
+#[derive(Debug, Drop, PartialEq, Eq)]
+pub enum Source {
+    /// Each shot has its own coins of this seed.
+    Seed(u64),
+    /// Each shot has these coins, and 0 past their end.
+    List(Vec<bool>),
+}
+
+/// A command, with the options that are its own.
+#[derive(Clone, Copy, Debug, PartialEq, Eq)]
+pub enum Command {
+    /// Writes the records of each shot.
+    Sample {
+        format: Format,
+        shots: Shots,
+    },
+    /// Writes the detectors of each shot and, where `append` says so, the observables behind them.
+    Detect {
+        format: Format,
+        shots: Shots,
+        append: bool,
+    },
+}
+
+/// What the words of a command line ask for: a command, and what every command has.
+#[derive(Debug, Drop, PartialEq, Eq)]
+pub struct Job {
+    /// The command with its own options.
+    pub command: Command,
+    /// Where its coins come from.
+    pub source: Source,
+    /// The file that is read in place of standard input.
+    pub in_path: Option<String>,
+    /// The file that is written in place of standard output.
+    pub out_path: Option<String>,
+}

@@ -1,0 +1,140 @@
+//! What the words say to each option.
+ghost use Rattle.std.specs.Prelude.{◌≡◌, ℕ, Bool, true, List, Option, Some, None, IfOk, IfErr, IfSome, IfNone, option_map, codes, string_bytes};
+ghost use Rattle.clap.specs.Words.{IsUnsignedIn, first_of, found_of, has_subcommand, one_of, rows_of, subcommand_rows_of};
+ghost use Rattle.stab_cli.specs.Asked.{IsCommand, IsJob, IsNamed, IsSet, IsSource, IsWritten, RefusesCoins, coin_character, coin_text};
+ghost use Rattle.stab_cli.specs.Options.{most_seed, most_shots};
+ghost use Rattle.stab_cli.specs.declared.words.Usage.{Usage};
+
+use crate::words::Usage;
+use crate::words::job::{Command, Job, Shots, Source};
+use clap::ArgMatches;
+use stab_results::Format;
+use std::alloc::{AllocError, Global};
+
+// What is told of coins that are no coins.
+const NO_COINS: &str = "stabsim: coins are 0 and 1\n";
+
+/// What the words say to an option, or its default.
+fn text<'a>(options: &ArgMatches<'a>, id: &str) -> Option<&'a str>
+    ensures text { option_map (λ t. t.now) result ≡ first_of id.now (rows_of (found_of options.now)) }
+{
+    options.get_str(id)
+}
+
+/// The number that the words give to an option, or its default.
+fn number(options: &ArgMatches, id: &str) -> Option<u64>
+    ensures number { IfSome result (λ n. IsWritten most_seed (one_of id.now (rows_of (found_of options.now))) n) }
+    ensures none { IfNone result (IfSome (one_of id.now (rows_of (found_of options.now))) (λ t. IsUnsignedIn 0 most_seed t → ⊥)) }
+{
+    options.get_one(id)
+}
+
+/// Whether the words set a flag.
+fn flag(options: &ArgMatches, id: &str) -> bool
+    ensures set { IsSet (one_of id.now (rows_of (found_of options.now))) result }
+{
+    options.get_flag(id)
+}
+
+/// The format that `--out_format` names. The command line reader takes no other name.
+fn format(options: &ArgMatches) -> Format
+    ensures named { IsNamed (first_of (codes "out_format") (rows_of (found_of options.now))) result }
+{
+    match text(options, "out_format") {
+        Some("b8") => Format::B8,
+        Some("r8") => Format::R8,
+        Some("hits") => Format::Hits,
+        Some("dets") => Format::Dets,
+        _ => Format::F01,
+    }
+}
+
+/// The number of `--shots`. The command line reader takes no other number.
+fn shots(options: &ArgMatches) -> Shots
+    ensures written { IsWritten most_shots (one_of (codes "shots") (rows_of (found_of options.now))) result }
+{
+    match number(options, "shots") {
+        Some(number) if number <= Shots::MOST => Shots::new(number),
+        _ => Shots::new(1),
+    }
+}
+
+/// The coin that a character writes.
+fn coin(character: u8) -> Option<bool>
+    ensures some { IfSome result (λ coin. character ≡ coin_character coin) }
+    ensures none { IfNone result ((coin : Bool) → character ≡ coin_character coin → ⊥) }
+{
+    match character {
+        b'0' => Some(false),
+        b'1' => Some(true),
+        _ => None,
+    }
+}
+
+/// The coins that a text writes, or `None` where one of its characters is neither 0 nor 1.
+fn coins(alloc: Global, text: &str) -> Result<Option<Vec<bool>>, AllocError>
+    ensures some { IfOk result (λ r. IfSome r (λ list. text.now ≡ coin_text list.items)) }
+    ensures none { IfOk result (λ r. IfNone r ((list : List Bool) → text.now ≡ coin_text list → ⊥)) }
+{
+    let mut coins = Vec::with_capacity(alloc, text.len())?;
+    for byte in text.as_bytes() {
+        let Some(coin) = coin(*byte) else {
+            return Ok(None);
+        };
+        coins.push(coin)?;
+    }
+    Ok(Some(coins))
+}
+
+/// The source of coins: what `--coins` writes or, where it isn't there, `--seed`.
+fn source(alloc: Global, options: &ArgMatches) -> Result<Source, Usage>
+    ensures source { IfOk result (IsSource (first_of (codes "coins") (rows_of (found_of options.now))) (one_of (codes "seed") (rows_of (found_of options.now)))) }
+    ensures refused { IfErr result (RefusesCoins (first_of (codes "coins") (rows_of (found_of options.now)))) }
+{
+    let Some(text) = text(options, "coins") else {
+        return Ok(Source::Seed(number(options, "seed").unwrap_or(0)));
+    };
+    match coins(alloc, text)? {
+        Some(list) => Ok(Source::List(list)),
+        None => Err(Usage::Fault(String::from_str(alloc, NO_COINS)?)),
+    }
+}
+
+/// The path that an option gives.
+fn path(alloc: Global, options: &ArgMatches, id: &str) -> Result<Option<String>, AllocError>
+    ensures path { IfOk result (λ p. option_map string_bytes p ≡ first_of id.now (rows_of (found_of options.now))) }
+{
+    match text(options, id) {
+        Some(text) => Ok(Some(String::from_str(alloc, text)?)),
+        None => Ok(None),
+    }
+}
+
+/// The command of a name, with its own options. The command line reader takes no other name.
+fn command(name: &str, options: &ArgMatches) -> Command
+    ensures command { IsCommand name.now (rows_of (found_of options.now)) result }
+{
+    let format = format(options);
+    let shots = shots(options);
+    match name {
+        "sample" => Command::Sample { format, shots },
+        _ => Command::Detect {
+            format,
+            shots,
+            append: flag(options, "append_observables"),
+        },
+    }
+}
+
+/// The job of a command with these options.
+pub(crate) fn job(alloc: Global, name: &str, options: &ArgMatches) -> Result<Job, Usage>
+    ensures job { IfOk result (IsJob name.now (rows_of (found_of options.now))) }
+    ensures refused { IfErr result (RefusesCoins (first_of (codes "coins") (rows_of (found_of options.now)))) }
+{
+    Ok(Job {
+        command: command(name, options),
+        source: source(alloc, options)?,
+        in_path: path(alloc, options, "in")?,
+        out_path: path(alloc, options, "out")?,
+    })
+}
