@@ -26,3 +26,4 @@ mod PrintedLemmas
 mod MeaningLemmas
 mod BlankLemmas
 mod RoundLemmas
+mod CircuitFaultLemmas
