@@ -26,7 +26,7 @@ mod cursor;
 mod input;
 mod item;
 pub mod laws;
-pub mod line;
+mod line;
 mod meaning;
 mod name;
 mod print;
@@ -35,16 +35,14 @@ mod reader;
 mod sequence;
 mod step;
 mod summary;
-pub mod target;
+mod target;
 mod unrolled;
-pub mod word;
+mod word;
 
 pub use circuit::{Circuit, read_circuit, read_item};
 pub use cursor::Cursor;
-pub use input::read_text;
 pub use item::Item;
 pub use print::write_circuit;
-pub use range::{MeasureTarget, Qubit};
 pub use step::Step;
 
 #[cfg(test)]
