@@ -24,6 +24,11 @@ IsApart (collapse l q recorded inverted resets) = Unit {0}
 IsApart (detector ks) = Unit {0}
 IsApart (observable j ks) = Unit {0}
 
+-- what contracts see of a cursor: all steps of its circuit, and those that are left
+pub record CursorState : Type 0 where
+  pub all : List Step
+  pub left : List Step
+
 -- these steps were put behind others
 pub record Appends (steps : List Step) (old new : List StepValue) : Type 0 where
   pub appended : steps_shown new ≡ steps_shown old ++ steps

@@ -5,8 +5,8 @@ use stab_pauli::Refusal;
 use std::alloc::Global;
 use std::marker::Model;
 
-/// The steps of an unrolled circuit from some place on. Contracts see the list of the steps that
-/// are left.
+/// The steps of an unrolled circuit from some place on. Contracts see the list of all its steps, and
+/// that of the steps that are left.
 #[derive(Drop)]
 pub struct Cursor<'a> {
     // All steps, of which those from the place on are left.
@@ -15,13 +15,12 @@ pub struct Cursor<'a> {
 }
 
 impl<'a> Model for Cursor<'a> {
-    ghost use Rattle.std.specs.Prelude.{List, drop, All};
-    ghost use Rattle.stab_circuit.specs.Steps.{Step};
-    ghost use Rattle.stab_circuit.specs.Cursors.{steps_shown, IsApart};
+    ghost use Rattle.std.specs.Prelude.{drop, All};
+    ghost use Rattle.stab_circuit.specs.Cursors.{CursorState, steps_shown, IsApart};
 
-    ghost Value = { List Step };
+    ghost Value = { CursorState };
 
-    ghost view = { λ c. drop c.place (steps_shown c.steps.items) };
+    ghost view = { λ c. record { all = steps_shown c.steps.items; left = drop c.place (steps_shown c.steps.items) } };
 
     ghost invariant = { λ c. All IsApart (steps_shown c.steps.items) };
 }
@@ -40,8 +39,9 @@ impl<'a> Cursor<'a> {
     pub fn at(alloc: Global, circuit: &'a Circuit, step: usize) -> Result<Cursor<'a>, Refusal>
         requires checked { check_of (circuit_items circuit.now) ≡ None }
         requires in_range { step ≤ length (unroll (circuit_items circuit.now)) }
-        ensures steps { IfOk result (λ c. c ≡ drop step (unroll (circuit_items circuit.now))) }
-        ensures apart { IfOk result (λ c. All IsApart c) }
+        ensures all { IfOk result (λ c. c.all ≡ unroll (circuit_items circuit.now)) }
+        ensures steps { IfOk result (λ c. c.left ≡ drop step (unroll (circuit_items circuit.now))) }
+        ensures apart { IfOk result (λ c. All IsApart c.all) }
         ensures err { IfErr result (λ r. r ≡ OutOfMemory) }
     {
         let mut steps = Vec::with_capacity(alloc, circuit.steps())?;
@@ -51,9 +51,10 @@ impl<'a> Cursor<'a> {
 
     /// The next step, or `None` where none is left, and then for ever. It takes no memory.
     pub fn next(&mut self) -> Option<Step<'a>>
-        ensures some { IfSome result (λ s. self.old ≡ step_shown s ∷ self.new) }
+        ensures all { self.new.all ≡ self.old.all }
+        ensures some { IfSome result (λ s. self.old.left ≡ step_shown s ∷ self.new.left) }
         ensures apart { IfSome result (λ s. IsApart (step_shown s)) }
-        ensures none { IfNone result ((self.old ≡ []) × (self.new ≡ [])) }
+        ensures none { IfNone result ((self.old.left ≡ []) × (self.new.left ≡ [])) }
     {
         match self.steps.get(self.place) {
             Some(step) => {
@@ -62,6 +63,14 @@ impl<'a> Cursor<'a> {
             }
             None => None,
         }
+    }
+
+    /// Back to the circuit's first step. It takes no memory.
+    pub fn restart(&mut self)
+        ensures all { self.new.all ≡ self.old.all }
+        ensures left { self.new.left ≡ self.old.all }
+    {
+        self.place = 0;
     }
 }
 

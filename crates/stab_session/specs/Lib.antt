@@ -4,3 +4,5 @@ pub mod Runs
 pub mod Points
 pub mod Sights
 pub mod Laws
+pub mod StoredItems
+pub mod Samplers

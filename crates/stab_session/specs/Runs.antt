@@ -11,7 +11,6 @@ use Rattle.stab_tableau.specs.declared.gate.Gate.TheVariants as on
 use Rattle.stab_tableau.specs.Traces.{Happening, applied, applied_pair, projected, outcome, is_free}
 use Rattle.stab_circuit.specs.Items.{Items}
 use Rattle.stab_circuit.specs.Steps.{Step, one, two, collapse, detector, observable, unroll, observables_of}
-use Rattle.stab_session.specs.declared.run.Shot.{Shot}
 use Rattle.stab_session.specs.Records.{parity}
 
 -- a run so far: what happened to the qubits, newest first; the number of the next coin; the records; for each coin number
@@ -77,10 +76,3 @@ abbrev pub Refuses : {A : Type 0} → Result A Fault → Option Refusal → Type
 Refuses (Ok x) given = given ≡ None
 Refuses (Err fault) (Some refusal) = fault ≡ whole refusal
 Refuses (Err fault) None = fault ≡ whole OutOfMemory
-
--- a shot has the lists of the run
-pub record IsShot (shot : Shot) (s : State) : Type 0 where
-  pub records : shot.records.items ≡ s.records
-  pub free : shot.free.items ≡ s.free
-  pub detectors : shot.detectors.items ≡ s.detectors
-  pub observables : shot.observables.items ≡ s.observables

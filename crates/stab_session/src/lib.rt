@@ -5,12 +5,14 @@
 //! - `outputs`: what steps have given so far.
 //! - `apply`: one step on a tableau.
 //! - `run`: one run of a circuit, and what it gives.
+//! - `sampler`: many runs of one circuit.
 //! - `laws`: what a run depends on.
 //!
 //! Proved: coins are one fixed sequence of bits by number, which no call changes, and a seed gives
 //! the bits of ChaCha8 that `specs/Coins.antt` names. A run gives the records, flags, detectors and
 //! observables that the group rules of `specs/Runs.antt` give for the circuit's unrolled steps, and
-//! depends on no coin but those that decide.
+//! depends on no coin but those that decide. Each shot of a sampler is such a run, whatever became of
+//! the shots before it.
 #![tactic(auto)]
 
 mod apply;
@@ -19,9 +21,11 @@ pub mod laws;
 mod outputs;
 mod records;
 mod run;
+mod sampler;
 
 pub use coins::{Coins, ListCoins, SeedCoins};
 pub use run::{Shot, run_once};
+pub use sampler::Sampler;
 
 #[cfg(test)]
 mod tests;

@@ -21,20 +21,20 @@ pub struct Outputs {
 }
 
 impl Outputs {
-    ghost use Rattle.std.specs.Prelude.{◌≡◌};
+    ghost use Rattle.std.specs.Prelude.{◌≡◌, IfOk};
     ghost use Rattle.stab_session.specs.Points.{nothing};
     ghost use Rattle.stab_session.specs.Sights.{output_of};
 
-    /// Nothing yet, which takes no memory.
-    pub fn new(alloc: Global) -> Outputs
-        ensures value { output_of result ≡ nothing }
+    /// Nothing yet, with room for so many records and as many flags.
+    pub fn with_capacity(alloc: Global, records: usize) -> Result<Outputs, AllocError>
+        ensures value { IfOk result (λ o. output_of o ≡ nothing) }
     {
-        Outputs {
-            records: Vec::new(alloc),
-            free: Vec::new(alloc),
+        Ok(Outputs {
+            records: Vec::with_capacity(alloc, records)?,
+            free: Vec::with_capacity(alloc, records)?,
             detectors: Vec::new(alloc),
             additions: Vec::new(alloc),
-        }
+        })
     }
 }
 

@@ -1,18 +1,18 @@
-ghost use Rattle.std.specs.Prelude.{◌≡◌, ℕ, ◌+◌, ◌<◌, ◌≤◌, ◌^◌, Bool, All, None, [], length, OnOk, IfOk, IfErr};
-ghost use Rattle.stab_pauli.specs.declared.refusal.Refusal.TheVariants.{OutOfMemory};
+ghost use Rattle.std.specs.Prelude.{◌≡◌, ℕ, ◌+◌, ◌<◌, ◌≤◌, ◌^◌, Bool, All, length, OnOk, IfOk};
 ghost use Rattle.stab_circuit.specs.Steps.{unroll, check_within};
 ghost use Rattle.stab_circuit.specs.Views.{circuit_items};
 ghost use Rattle.stab_session.specs.Records.{ones};
-ghost use Rattle.stab_session.specs.Runs.{run_of, Refuses, IsShot};
+ghost use Rattle.stab_session.specs.Runs.{run_of, Refuses};
 ghost use Rattle.stab_session.specs.Points.{all_coins_of};
 ghost use Rattle.stab_session.specs.Laws.{DependsOnCoinsAt};
 ghost use Rattle.stab_session.specs.Sights.{Fits, IsRun, sight, output_of};
 
 use crate::apply::apply_step;
 use crate::coins::Coins;
-use crate::outputs::{Outputs, observables};
+use crate::outputs::Outputs;
+use crate::sampler::Sampler;
 use stab_circuit::{Circuit, Cursor};
-use stab_pauli::{Fault, Refusal};
+use stab_pauli::Fault;
 use stab_tableau::Tableau;
 use std::alloc::{AllocError, Global};
 
@@ -37,54 +37,20 @@ pub fn run_steps<C: Coins>(
     cursor: &mut Cursor,
     applied: &mut u64,
 ) -> Result<(), AllocError>
-    requires fits { All (Fits tableau.old.qubits) cursor.old }
-    requires few { applied.old + length cursor.old < 2 ^ 63 }
-    ensures counted { OnOk result (applied.new ≡ applied.old + length cursor.old) }
+    requires fits { All (Fits tableau.old.qubits) cursor.old.left }
+    requires few { applied.old + length cursor.old.left < 2 ^ 63 }
+    ensures counted { OnOk result (applied.new ≡ applied.old + length cursor.old.left) }
+    ensures all { cursor.new.all ≡ cursor.old.all }
     ensures qubits { tableau.new.qubits ≡ tableau.old.qubits }
     ensures same_coins { C.sequence coins.new ≡ C.sequence coins.old }
-    ensures asks { C.asks coins.new ≤ C.asks coins.old + all_coins_of cursor.old }
+    ensures asks { C.asks coins.new ≤ C.asks coins.old + all_coins_of cursor.old.left }
     ensures asks_free { OnOk result (C.asks coins.new + ones outputs.old.free.items ≤ C.asks coins.old + ones outputs.new.free.items) }
-    ensures run { OnOk result (IsRun tableau.old.qubits (C.sequence coins.old) cursor.old (sight tableau.old (output_of outputs.old)) (sight tableau.new (output_of outputs.new))) }
+    ensures run { OnOk result (IsRun tableau.old.qubits (C.sequence coins.old) cursor.old.left (sight tableau.old (output_of outputs.old)) (sight tableau.new (output_of outputs.new))) }
 {
     while let Some(step) = cursor.next() {
         apply_step(tableau, coins, outputs, step, applied)?;
     }
     Ok(())
-}
-
-/// One run of a circuit that nothing refuses on n qubits.
-fn run_checked<C: Coins>(
-    alloc: Global,
-    circuit: &Circuit,
-    n: usize,
-    coins: &mut C,
-) -> Result<Shot, Refusal>
-    requires in_range { n ≤ 1024 }
-    requires checked { check_within n (circuit_items circuit.now) ≡ None }
-    ensures same_coins { C.sequence coins.new ≡ C.sequence coins.old }
-    ensures asks { C.asks coins.new ≤ C.asks coins.old + all_coins_of (unroll (circuit_items circuit.now)) }
-    ensures asks_free { IfOk result (λ s. C.asks coins.new ≤ C.asks coins.old + ones s.free.items) }
-    ensures ok { IfOk result (λ s. IsShot s (run_of n (C.sequence coins.old) (circuit_items circuit.now))) }
-    ensures err { IfErr result (λ r. r ≡ OutOfMemory) }
-{
-    let mut tableau = Tableau::new(alloc, n)?;
-    let mut cursor = Cursor::at(alloc, circuit, 0)?;
-    let mut outputs = Outputs::new(alloc);
-    let mut applied = 0;
-    run_steps(&mut tableau, coins, &mut outputs, &mut cursor, &mut applied)?;
-    let Outputs {
-        records,
-        free,
-        detectors,
-        additions,
-    } = outputs;
-    let observables = observables(alloc, circuit.observables(), additions.as_slice())?;
-    Ok(Shot {
-        records,
-        free,
-        detectors,
-        observables,
-    })
 }
 
 /// Runs a circuit once on n qubits, at most 1,024, that begin as zeros.
@@ -110,8 +76,8 @@ pub fn run_once<C: Coins>(
     ensures asks { C.asks coins.new ≤ C.asks coins.old + all_coins_of (unroll (circuit_items circuit.now)) }
     ensures asks_free { IfOk result (λ s. C.asks coins.new ≤ C.asks coins.old + ones s.free.items) }
 {
-    circuit.check(n)?;
-    match run_checked(alloc, circuit, n, coins) {
+    let mut sampler = Sampler::new(alloc, circuit, n)?;
+    match sampler.shot(alloc, coins) {
         Ok(shot) => Ok(shot),
         Err(refusal) => Err(Fault::whole(refusal)),
     }

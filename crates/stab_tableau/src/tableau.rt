@@ -76,6 +76,14 @@ impl Tableau {
         Ok(Tableau { rows, scratch })
     }
 
+    /// Makes the state all zeros again, in the memory that the tableau has.
+    pub fn reset(&mut self)
+        ensures qubits { self.new.qubits ≡ self.old.qubits }
+        ensures members { (p : Signed) → length p.letters ≡ self.old.qubits → stabilises self.new p ≡ member [] p }
+    {
+        rows::reset_rows(self.rows.as_mut_slice());
+    }
+
     /// The number of qubits.
     pub fn len(&self) -> usize
         ensures value { result ≡ self.now.qubits }

@@ -66,3 +66,23 @@ Some(One(H, 1))
     }
     Ok(())
 }
+
+#[test]
+fn a_cursor_goes_back_to_the_first_step(rt: HostRuntime) -> Result<(), Fail> {
+    let all = "Some(One(S, 0))
+Some(One(S, 0))
+Some(One(H, 1))
+";
+    let text = "REPEAT 2 {\nS 0\n}\nH 1";
+    let circuit = read_circuit(rt.alloc(), &mut MemoryInput::new(text.as_bytes()))?;
+    for step in 0..4 {
+        assert!(rt; step <= circuit.steps());
+        let mut cursor = Cursor::at(rt.alloc(), &circuit, step)?;
+        for _shot in 0..2 {
+            cursor.restart();
+            assert_eq!(rt; shown(rt.alloc(), &mut cursor, 3)?.as_str(), all);
+            assert!(rt; cursor.next().is_none());
+        }
+    }
+    Ok(())
+}

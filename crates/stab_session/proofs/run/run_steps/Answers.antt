@@ -14,15 +14,16 @@ loop-step-preserved g c =
     let before = sight c.loop-step.tableau (output_of c.loop-step.outputs) in
     let behind = sight c.apply_step.new.tableau (output_of c.apply_step.new.outputs) in
     record {
-      fits = fits-rest c.loop-step.tableau.qubits c.apply_step.new.tableau.qubits c.loop-step.cursor x c.next.new.self more done.qubits inv.fits;
+      fits = fits-rest c.loop-step.tableau.qubits c.apply_step.new.tableau.qubits c.loop-step.cursor.left x c.next.new.self.left more done.qubits inv.fits;
       counted = omega (arith, ap length more, done.counted, inv.counted);
+      all = c.next.ensures.all ∙ inv.all;
       qubits = done.qubits ∙ inv.qubits;
       same_coins = done.same_coins ∙ inv.same_coins;
       asks = omega (arith, ap all_coins_of more, done.asks, inv.asks);
       asks_free = omega (arith, done.asks_free, inv.asks_free);
       run = λ new rest. inv.run new
           (run-rest c.args.tableau.now.qubits c.loop-step.tableau.qubits (g.C.Coins.sequence c.args.coins.now) (g.C.Coins.sequence c.loop-step.coins)
-          c.loop-step.cursor x c.next.new.self before behind new more inv.qubits inv.same_coins done.run rest);
+          c.loop-step.cursor.left x c.next.new.self.left before behind new more inv.qubits inv.same_coins done.run rest);
     }
 
 pub returns-clause-run : goal.returns-clause-run

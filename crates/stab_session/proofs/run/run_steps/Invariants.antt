@@ -6,16 +6,17 @@ use Rattle.stab_session.proofs.run.run_steps.Given as goal
 
 abbrev pub invariant-loop-step : goal.invariant-loop-step
 invariant-loop-step g l = record {
-  fits : All (Fits l.tableau.qubits) l.cursor;
-  counted : l.applied + length l.cursor ≡ l.initial.applied + length l.initial.cursor;
+  fits : All (Fits l.tableau.qubits) l.cursor.left;
+  counted : l.applied + length l.cursor.left ≡ l.initial.applied + length l.initial.cursor.left;
+  all : l.cursor.all ≡ l.initial.cursor.all;
   qubits : l.tableau.qubits ≡ l.initial.tableau.qubits;
   same_coins : g.C.Coins.sequence l.coins ≡ g.C.Coins.sequence l.initial.coins;
-  asks : g.C.Coins.asks l.coins + all_coins_of l.cursor ≤ g.C.Coins.asks l.initial.coins + all_coins_of l.initial.cursor;
+  asks : g.C.Coins.asks l.coins + all_coins_of l.cursor.left ≤ g.C.Coins.asks l.initial.coins + all_coins_of l.initial.cursor.left;
   asks_free : g.C.Coins.asks l.coins + ones l.initial.outputs.free.items ≤ g.C.Coins.asks l.initial.coins + ones l.outputs.free.items;
   run : (new : Sight)
-      → IsRun l.initial.tableau.qubits (g.C.Coins.sequence l.initial.coins) l.cursor (sight l.tableau (output_of l.outputs)) new
-      → IsRun l.initial.tableau.qubits (g.C.Coins.sequence l.initial.coins) l.initial.cursor (sight l.initial.tableau (output_of l.initial.outputs)) new;
+      → IsRun l.initial.tableau.qubits (g.C.Coins.sequence l.initial.coins) l.cursor.left (sight l.tableau (output_of l.outputs)) new
+      → IsRun l.initial.tableau.qubits (g.C.Coins.sequence l.initial.coins) l.initial.cursor.left (sight l.initial.tableau (output_of l.initial.outputs)) new;
 }
 
 abbrev pub decreases-loop-step : goal.decreases-loop-step
-decreases-loop-step g l = length l.cursor
+decreases-loop-step g l = length l.cursor.left

@@ -1,0 +1,23 @@
+-- Samplers: what contracts see of one, and what it keeps from shot to shot.
+use Rattle.std.specs.Prelude.{◌≡◌, ℕ, List, All, None, refl}
+use Rattle.std.specs.Coded.{Coded, code_by, coded×, coded_ℕ}
+use Rattle.stab_circuit.specs.Items.{Items}
+use Rattle.stab_circuit.specs.Steps.{Step, unroll, observables_of, check_within}
+use Rattle.stab_circuit.specs.Cursors.{IsApart}
+use Rattle.stab_session.specs.StoredItems.{items_code}
+
+-- the number of qubits, and the items of the circuit
+pub record SamplerState : Type 0 where
+  pub qubits : ℕ
+  pub items : Items
+
+-- it is stored as the pair of its fields
+abbrev pub sampler_code : Coded SamplerState
+sampler_code = code_by (ℕ × Items) (coded× coded_ℕ items_code) (λ s. (s.qubits, s.items)) (λ p. record { qubits = p.0; items = p.1 }) (λ _. refl)
+
+-- nothing refuses the items on the qubits, the steps are all of theirs, and so many observables are named
+pub record IsReady (n : ℕ) (items : Items) (steps : List Step) (observables : ℕ) : Type 0 where
+  pub checked : check_within n items ≡ None
+  pub unrolled : steps ≡ unroll items
+  pub apart : All IsApart steps
+  pub observables_are : observables ≡ observables_of items

@@ -1,0 +1,111 @@
+use crate::coins::Coins;
+use crate::outputs::{Outputs, observables};
+use crate::run::{Shot, run_steps};
+use stab_circuit::{Circuit, Cursor};
+use stab_pauli::{Fault, Refusal};
+use stab_tableau::Tableau;
+use std::alloc::Global;
+use std::marker::Model;
+
+/// A circuit that is ready for many shots: checked and unrolled once, on one tableau.
+///
+/// Contracts see how many qubits there are, and the circuit's items. No shot changes either, nor
+/// does it leave anything to the next one.
+#[derive(Drop)]
+pub struct Sampler<'a> {
+    circuit: &'a Circuit,
+    tableau: Tableau,
+    cursor: Cursor<'a>,
+    // How many of each the circuit has, which the items are walked for once.
+    records: usize,
+    observables: usize,
+}
+
+impl<'a> Model for Sampler<'a> {
+    ghost use Rattle.stab_circuit.specs.Views.{circuit_items};
+    ghost use Rattle.stab_session.specs.Samplers.{SamplerState, IsReady, sampler_code};
+
+    ghost Value = { SamplerState };
+
+    ghost coded = { sampler_code };
+
+    ghost view = { λ s. record { qubits = s.tableau.qubits; items = circuit_items s.circuit.now } };
+
+    ghost invariant = { λ s. IsReady s.tableau.qubits (circuit_items s.circuit.now) s.cursor.all s.observables };
+}
+
+impl<'a> Sampler<'a> {
+    ghost use Rattle.std.specs.Prelude.{◌≡◌, ◌+◌, ◌≤◌, IfOk, IfErr};
+    ghost use Rattle.stab_pauli.specs.declared.refusal.Refusal.TheVariants.{OutOfMemory};
+    ghost use Rattle.stab_circuit.specs.Steps.{unroll, check_within};
+    ghost use Rattle.stab_circuit.specs.Views.{circuit_items};
+    ghost use Rattle.stab_session.specs.Records.{ones};
+    ghost use Rattle.stab_session.specs.Runs.{run_of, Refuses};
+    ghost use Rattle.stab_session.specs.Points.{all_coins_of};
+    ghost use Rattle.stab_session.specs.Laws.{DependsOnCoinsAt};
+
+    /// Makes a circuit ready for shots on n qubits, at most 1,024.
+    ///
+    /// Refused as `Circuit::check` refuses, else `OutOfMemory`, always with line 0.
+    pub fn new(alloc: Global, circuit: &'a Circuit, n: usize) -> Result<Sampler<'a>, Fault>
+        requires in_range { n ≤ 1024 }
+        ensures state { IfOk result (λ s. s ≡ record { qubits = n; items = circuit_items circuit.now }) }
+        ensures refused { Refuses result (check_within n (circuit_items circuit.now)) }
+    {
+        circuit.check(n)?;
+        let tableau = Tableau::new(alloc, n).map_err(Fault::whole)?;
+        let cursor = Cursor::at(alloc, circuit, 0).map_err(Fault::whole)?;
+        Ok(Sampler {
+            circuit,
+            tableau,
+            cursor,
+            records: circuit.records(),
+            observables: circuit.observables(),
+        })
+    }
+
+    /// Runs the circuit once, with all qubits 0 at first, whatever became of earlier shots.
+    ///
+    /// Coins are numbered and asked for as by `run_once`. The memory that a shot takes is that of
+    /// its lists. Refusal `OutOfMemory` alone.
+    pub fn shot<C: Coins>(&mut self, alloc: Global, coins: &mut C) -> Result<Shot, Refusal>
+        ensures kept { self.new ≡ self.old }
+        ensures records { IfOk result (λ s. s.records.items ≡ (run_of self.old.qubits (C.sequence coins.old) self.old.items).records) }
+        ensures free { IfOk result (λ s. s.free.items ≡ (run_of self.old.qubits (C.sequence coins.old) self.old.items).free) }
+        ensures detectors { IfOk result (λ s. s.detectors.items ≡ (run_of self.old.qubits (C.sequence coins.old) self.old.items).detectors) }
+        ensures observables { IfOk result (λ s. s.observables.items ≡ (run_of self.old.qubits (C.sequence coins.old) self.old.items).observables) }
+        ensures decided { IfOk result (λ s. DependsOnCoinsAt s.free.items self.old.qubits (C.sequence coins.old) self.old.items) }
+        ensures same_coins { C.sequence coins.new ≡ C.sequence coins.old }
+        ensures asks { C.asks coins.new ≤ C.asks coins.old + all_coins_of (unroll self.old.items) }
+        ensures asks_free { IfOk result (λ s. C.asks coins.new ≤ C.asks coins.old + ones s.free.items) }
+        ensures err { IfErr result (λ r. r ≡ OutOfMemory) }
+    {
+        self.tableau.reset();
+        self.cursor.restart();
+        let mut outputs = Outputs::with_capacity(alloc, self.records)?;
+        let mut applied = 0;
+        run_steps(
+            &mut self.tableau,
+            coins,
+            &mut outputs,
+            &mut self.cursor,
+            &mut applied,
+        )?;
+        let Outputs {
+            records,
+            free,
+            detectors,
+            additions,
+        } = outputs;
+        let observables = observables(alloc, self.observables, additions.as_slice())?;
+        Ok(Shot {
+            records,
+            free,
+            detectors,
+            observables,
+        })
+    }
+}
+
+#[cfg(test)]
+mod tests;
