@@ -1,11 +1,6 @@
-pub mod Folds
-pub mod TargetLaws
-pub mod Pieces
-pub mod LineLaws
-pub mod FaultLaws
-pub mod ReadingLaws
-pub mod TextLaws
-pub mod BitLaws
-pub mod RunLaws
-pub mod SampleLaws
 pub mod FaultLineLaws
+pub mod OptionLaws
+pub mod CommandLaws
+pub mod EndingLaws
+pub mod SendingLaws
+pub mod RunLaws

@@ -4,7 +4,8 @@ use Rattle.stab_pauli.specs.Devices.{Failed, WritesPrefix}
 use Rattle.stab_pauli.specs.declared.refusal.Refusal.{Refusal}
 use Rattle.stab_pauli.specs.declared.refusal.Fault.{Fault}
 use Rattle.stab_pauli.specs.Refusals.{number_of, name_of}
-use Rattle.stab_cli.specs.Outputs.{InputInCall, OutputInCall, EndsSample}
+use Rattle.stab_circuit.specs.Items.{Items}
+use Rattle.stab_cli.specs.Outputs.{InputInCall, OutputInCall, EndsRun}
 
 -- texts one after another
 abbrev pub joined : List (List ℕ) → List ℕ
@@ -33,9 +34,10 @@ abbrev pub Tells : {T : Type 0} → Result T Fault → OutputInCall → Type 0
 Tells (Ok x) e = (e.new ≡ e.old) × (e.failures_after ≡ e.failures)
 Tells (Err f) e = (e.new ≡ e.old ++ fault_line f) ⊎ (Failed e.failures e.failures_after × WritesPrefix e.old e.new (fault_line f))
 
--- How a run of a job ends: as the call of its command ends, with that call's status, its fault told where the error output is honest.
-pub record EndsJob (i : InputInCall) (o : OutputInCall) (e : OutputInCall) (status : ℕ) : Type 0 where
+-- How a run of a job ends whose command writes this output: as the call of the command ends, with that call's status, its fault told where the
+-- error output is honest.
+pub record EndsJob (output : Items → List ℕ) (i : InputInCall) (o : OutputInCall) (e : OutputInCall) (status : ℕ) : Type 0 where
   pub answer : Result (Unit {0}) Fault
-  pub sample : EndsSample i o answer
+  pub ends : EndsRun output i o answer
   pub status_is : status ≡ status_of answer
   pub told : IsTrue e.honest → Tells answer e

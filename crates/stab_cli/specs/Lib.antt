@@ -1,10 +1,5 @@
-pub mod Results
-pub mod Texts
-pub mod Runs
 pub mod Outputs
+pub mod Sending
 pub mod Jobs
-pub mod Words
-pub mod Laws
-pub mod Reading
-pub mod Bits
-pub mod Sampling
+pub mod Options
+pub mod Asked

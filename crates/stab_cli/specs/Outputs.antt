@@ -1,59 +1,95 @@
--- Outputs: what `sample` writes for a text, and how a call of it ends.
-use Rattle.std.specs.Prelude.{◌≡◌, ℕ, ◌<◌, Bool, true, false, ◌⊎◌, IsTrue, List, [], ◌∷◌, ◌++◌, map, Result, OnOk, IfErr}
+-- Outputs: what the commands write for the items of a circuit, and how a call of one ends.
+use Rattle.std.specs.Prelude.{◌≡◌, ℕ, zero, suc, ◌<◌, Bool, true, false, ◌⊎◌, IsTrue, List, [], ◌++◌, length, Result, OnOk, IfErr}
 use Rattle.stab_pauli.specs.Devices.{Failed, WritesPrefix}
 use Rattle.stab_pauli.specs.declared.refusal.Refusal.{Refusal}
-use Rattle.stab_pauli.specs.declared.refusal.Refusal.TheVariants.{TooManySteps, TooLong, ReadFault, WriteFault, OutOfMemory}
+use Rattle.stab_pauli.specs.declared.refusal.Refusal.TheVariants.{LookbackTooFar, TooManySteps, TooLong, ReadFault, WriteFault, OutOfMemory}
 use Rattle.stab_pauli.specs.declared.refusal.Fault.{Fault}
 use Rattle.stab_pauli.specs.Refusals.{whole}
-use Rattle.stab_cli.specs.declared.step.Step.{Step}
-use Rattle.stab_cli.specs.Results.{is_of_line}
-use Rattle.stab_cli.specs.Texts.{Reads, IsRefused}
-use Rattle.stab_cli.specs.Runs.{run, start, qubits}
+use Rattle.stab_circuit.specs.Items.{Items}
+use Rattle.stab_circuit.specs.Steps.{qubits_of}
+use Rattle.stab_circuit.specs.Readings.{IsCircuit, IsFaultOf, IsPlaced}
+use Rattle.stab_session.specs.Coins.{list_coin, seed_coin}
+use Rattle.stab_session.specs.Runs.{State, run_of}
+use Rattle.stab_results.specs.declared.format.Format.{Format}
+use Rattle.stab_results.specs.declared.format.Kinds.TheVariants.{Measurements, Detectors as detectors}
+use Rattle.stab_results.specs.Formats.{shot_bytes}
+use Rattle.stab_cli.specs.declared.words.job.Source.{Source}
+use Rattle.stab_cli.specs.declared.words.job.Source.TheVariants.{Seed, List as Listed}
+use Rattle.stab_cli.specs.declared.words.job.Command.{Command}
+use Rattle.stab_cli.specs.declared.words.job.Command.TheVariants.{Sample, Detect}
+use Rattle.stab_cli.specs.declared.words.job.Job.{Job}
+use Rattle.stab_cli.specs.declared.shots.Shown.{Shown}
+use Rattle.stab_cli.specs.declared.shots.Shown.TheVariants.{Records, Detectors, DetectorsAndObservables}
 
--- the character of a bit
-abbrev pub digit : Bool → ℕ
-digit true = 49
-digit false = 48
+-- the coins of a shot: those of the shot's own stream under the seed, or the whole list anew
+abbrev pub coins_of_shot : Source → ℕ → ℕ → Bool
+coins_of_shot (Seed seed) shot = seed_coin seed shot
+coins_of_shot (Listed list) shot = list_coin list.items
 
--- format 01: one character for each bit, and a line feed
-abbrev pub format_01 : List Bool → List ℕ
-format_01 bits = map digit bits ++ 10 ∷ []
+-- the run of a shot, on as many qubits as the items name
+abbrev pub run_of_shot : Source → Items → ℕ → State
+run_of_shot source items shot = run_of (qubits_of items) (coins_of_shot source shot) items
 
--- the records of a run of the steps, in format 01
-abbrev pub sample_of : (ℕ → Bool) → List Step → List ℕ
-sample_of coins steps = format_01 (run (qubits steps) coins start steps).records
+-- the bytes of what is shown of a run
+abbrev pub shown_bytes : Format → Shown → State → List ℕ
+shown_bytes format Records run = shot_bytes format Measurements run.records
+shown_bytes format Detectors run = shot_bytes format (detectors (length run.detectors)) run.detectors
+shown_bytes format DetectorsAndObservables run = shot_bytes format (detectors (length run.detectors)) (run.detectors ++ run.observables)
 
--- The text stands for steps, and these bytes are the sample of them.
-abbrev pub IsSample : (ℕ → Bool) → List ℕ → List ℕ → Type 0
-IsSample coins text bytes = (steps : List Step) × Reads text steps × (bytes ≡ sample_of coins steps)
+-- the bytes of so many shots, one after another from shot 0 on
+abbrev pub of_shots : (ℕ → List ℕ) → ℕ → List ℕ
+of_shots bytes_of zero = []
+of_shots bytes_of (suc n) = of_shots bytes_of n ++ bytes_of n
 
--- The text's sample was written after what stood there.
-abbrev pub Samples : (ℕ → Bool) → List ℕ → List ℕ → List ℕ → Type 0
-Samples coins text old new = (bytes : List ℕ) × IsSample coins text bytes × (new ≡ old ++ bytes)
+-- what is shown of so many shots of the items
+abbrev pub shots_of : Format → Shown → ℕ → Source → Items → List ℕ
+shots_of format shown shots source items = of_shots (λ shot. shown_bytes format shown (run_of_shot source items shot)) shots
 
--- Some first bytes of the text's sample were written after what stood there.
-abbrev pub SamplesPrefix : (ℕ → Bool) → List ℕ → List ℕ → List ℕ → Type 0
-SamplesPrefix coins text old new = (bytes : List ℕ) × IsSample coins text bytes × WritesPrefix old new bytes
+-- what `sample` writes: the records of each shot
+abbrev pub sample_of : Format → ℕ → Source → Items → List ℕ
+sample_of format shots source items = shots_of format Records shots source items
 
--- Nothing was written, and the fault is the text's own, or the input failed, or memory was refused; or the output failed
--- after some first bytes of the sample.
-abbrev pub Refuses : (ℕ → Bool) → List ℕ → List ℕ → List ℕ → Fault → Type 0
-Refuses coins text old new fault =
-    ((new ≡ old) × (IsRefused text fault ⊎ (fault ≡ whole ReadFault) ⊎ (fault ≡ whole OutOfMemory)))
-    ⊎ ((fault ≡ whole WriteFault) × SamplesPrefix coins text old new)
+-- what `detect` writes: the detectors of each shot, and behind them the observables where they are appended
+abbrev pub detect_of : Format → (append : Bool) → ℕ → Source → Items → List ℕ
+detect_of format false shots source items = shots_of format Detectors shots source items
+detect_of format true shots source items = shots_of format DetectorsAndObservables shots source items
 
--- the refusal can come of a whole call, and its fault has no line
-abbrev pub is_of_whole : Refusal → Bool
-is_of_whole TooManySteps = true
-is_of_whole TooLong = true
-is_of_whole ReadFault = true
-is_of_whole WriteFault = true
-is_of_whole OutOfMemory = true
-is_of_whole r = false
+-- what a job's command writes
+abbrev pub written_by : Command → Source → Items → List ℕ
+written_by (Sample format shots) source items = sample_of format shots source items
+written_by (Detect format shots append) source items = detect_of format append shots source items
 
--- The fault is one that `sample` can have.
-abbrev pub IsSampleFault : Fault → Type 0
-IsSampleFault f = (IsTrue (is_of_line f.refusal) × (0 < f.line)) ⊎ (IsTrue (is_of_whole f.refusal) × (f.line ≡ 0))
+abbrev pub output_of : Job → Items → List ℕ
+output_of job items = written_by job.command job.source items
+
+-- The text stands for a circuit, and these bytes are the output of it.
+abbrev pub IsOutput : (Items → List ℕ) → List ℕ → List ℕ → Type 0
+IsOutput output text bytes = (items : Items) × IsCircuit text items × (bytes ≡ output items)
+
+-- The text's output was written after what stood there.
+abbrev pub WritesOutput : (Items → List ℕ) → List ℕ → List ℕ → List ℕ → Type 0
+WritesOutput output text old new = (bytes : List ℕ) × IsOutput output text bytes × (new ≡ old ++ bytes)
+
+-- Some first bytes of the text's output were written after what stood there.
+abbrev pub WritesOutputPrefix : (Items → List ℕ) → List ℕ → List ℕ → List ℕ → Type 0
+WritesOutputPrefix output text old new = (bytes : List ℕ) × IsOutput output text bytes × WritesPrefix old new bytes
+
+-- Nothing was written, and the fault is the text's own, or the input failed, or memory was refused; or the output failed or
+-- memory was refused after some first bytes of the text's output.
+abbrev pub Refuses : (Items → List ℕ) → List ℕ → List ℕ → List ℕ → Fault → Type 0
+Refuses output text old new fault =
+    ((new ≡ old) × (IsFaultOf text fault ⊎ (fault ≡ whole ReadFault) ⊎ (fault ≡ whole OutOfMemory)))
+    ⊎ (((fault ≡ whole WriteFault) ⊎ (fault ≡ whole OutOfMemory)) × WritesOutputPrefix output text old new)
+
+-- whether a whole call can be refused like this: 8, 9, 14, 15, 16 and 20
+abbrev pub is_of_call : Refusal → Bool
+is_of_call LookbackTooFar = true
+is_of_call TooManySteps = true
+is_of_call TooLong = true
+is_of_call ReadFault = true
+is_of_call WriteFault = true
+is_of_call OutOfMemory = true
+is_of_call r = false
 
 -- an input in a call: its honesty, and its unread bytes and count of failures before and after
 pub record InputInCall : Type 0 where
@@ -73,19 +109,19 @@ pub record OutputInCall : Type 0 where
   pub failed_flushes : ℕ
   pub failed_flushes_after : ℕ
 
--- How a call of `sample` ends, over an input and an output, whatever the coins.
-pub record EndsSample {T : Type 0} (i : InputInCall) (o : OutputInCall) (r : Result T Fault) : Type 0 where
+-- How a call of a command ends, over an input and an output, where the command writes this output for the items of a circuit.
+pub record EndsRun {T : Type 0} (output : Items → List ℕ) (i : InputInCall) (o : OutputInCall) (r : Result T Fault) : Type 0 where
   -- Ok says that neither device failed
   pub unfailed : OnOk r ((i.failures_after ≡ i.failures) × (o.failures_after ≡ o.failures))
   -- a refusal is one of those that there are, with or without a line
-  pub only : IfErr r IsSampleFault
+  pub only : IfErr r (IsPlaced is_of_call)
   -- the input is blamed only where it failed
   pub read_fault : IfErr r (λ f. f.refusal ≡ ReadFault → Failed i.failures i.failures_after)
   -- the output is blamed only where it failed
   pub write_fault : IfErr r (λ f. f.refusal ≡ WriteFault → Failed o.failures o.failures_after)
-  -- between honest devices, Ok says that all was read, and that its sample was written and nothing else
-  pub sample : IsTrue i.honest → IsTrue o.honest → (coins : ℕ → Bool) → OnOk r ((i.left ≡ []) × Samples coins i.unread o.old o.new)
+  -- between honest devices, Ok says that all was read, and that its output was written and nothing else
+  pub output_written : IsTrue i.honest → IsTrue o.honest → OnOk r ((i.left ≡ []) × WritesOutput output i.unread o.old o.new)
   -- between honest devices, a refusal is the text's own with nothing written, or a device's or memory's
-  pub refusal : IsTrue i.honest → IsTrue o.honest → (coins : ℕ → Bool) → IfErr r (Refuses coins i.unread o.old o.new)
-  -- between honest devices, a flush fails only after the whole sample was written
-  pub flush : IsTrue i.honest → IsTrue o.honest → (coins : ℕ → Bool) → o.failed_flushes < o.failed_flushes_after → Samples coins i.unread o.old o.new
+  pub refusal : IsTrue i.honest → IsTrue o.honest → IfErr r (Refuses output i.unread o.old o.new)
+  -- between honest devices, a flush fails only after the whole output was written
+  pub flush : IsTrue i.honest → IsTrue o.honest → o.failed_flushes < o.failed_flushes_after → WritesOutput output i.unread o.old o.new

@@ -1,26 +1,25 @@
 //! The commands of stabsim, from bytes to bytes.
 //!
-//! - `text`: the steps that a circuit's text stands for.
-//! - `step`: qubits and steps.
-//! - `run`: what the steps record.
-//! - `sample`: the command `sample`.
+//! - `words`: what the words of a command line ask for.
+//! - `shots`: the shots of a circuit, written one after another.
+//! - `run`: the commands that run a circuit.
+//! - `job`: running what the words ask for.
 //! - `fault_line`: the line that tells a fault.
-//! - `job`: the words of a command line, and running what they ask for.
-//! - `laws`: what is proved of texts alone.
 //!
-//! Proved on `run_sample`: what is written is what the group rules give for what was read, whatever
-//! the coins; each refusal is the text's own, a failing device's or memory's. `run_job` carries the
-//! same for a job, with its status and the line that tells its fault.
+//! Proved on `run_sample` and `run_detect`: what is written is what the group rules give for the
+//! circuit that was read and for the coins of each shot, in the format asked for, and nothing else;
+//! each refusal is the text's own, a failing device's or memory's. `run_job` carries the same for a
+//! job, with its status and the line that tells its fault; `parse_words` gives the job that the
+//! words ask for.
 #![tactic(auto)]
 
 mod fault_line;
 mod job;
-pub mod laws;
 mod run;
-mod sample;
-mod step;
-mod text;
+mod shots;
+mod words;
 
 pub use fault_line::write_fault;
-pub use job::{Job, Usage, parse_words, run_job};
-pub use sample::run_sample;
+pub use job::run_job;
+pub use run::{run_detect, run_sample};
+pub use words::{Command, Job, Shots, Source, Usage, parse_words};

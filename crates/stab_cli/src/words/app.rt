@@ -108,7 +108,7 @@ fn shot_command<'a>(
     Command::new(alloc, name)
         .about(about)
         .after_help(after_help)
-        .arg(numbered(alloc, "shots", Shots::MOST, "1", HELP_SHOTS))?
+        .arg(numbered(alloc, "shots", Shots::MOST as u64, "1", HELP_SHOTS))?
         .arg(named(alloc, "out_format", formats, "01", HELP_FORMAT))?
         .arg(numbered(alloc, "seed", u64::MAX, "0", HELP_SEED))?
         .arg(valued(alloc, "coins", "TEXT", HELP_COINS))?

@@ -5,7 +5,7 @@ use std::marker::Model;
 /// How many shots a command takes, at most 1,000,000.
 #[derive(Clone, Copy, Debug, PartialEq, Eq)]
 pub struct Shots {
-    number: u64,
+    number: usize,
 }
 
 impl Model for Shots {
@@ -24,10 +24,10 @@ impl Shots {
     ghost use Rattle.std.specs.Prelude.{◌≡◌, ◌≤◌};
 
     /// The most shots that a command takes.
-    pub const MOST: u64 = 1_000_000;
+    pub const MOST: usize = 1_000_000;
 
     /// So many shots.
-    pub fn new(number: u64) -> Shots
+    pub fn new(number: usize) -> Shots
         requires in_range { number ≤ 1000000 }
         ensures value { result ≡ number }
     {
@@ -35,7 +35,7 @@ impl Shots {
     }
 
     /// How many shots.
-    pub fn number(self) -> u64
+    pub fn number(self) -> usize
         ensures value { result ≡ self }
         ensures in_range { result ≤ 1000000 }
     {

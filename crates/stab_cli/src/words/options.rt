@@ -54,7 +54,7 @@ fn shots(options: &ArgMatches) -> Shots
     ensures written { IsWritten most_shots (one_of (codes "shots") (rows_of (found_of options.now))) result }
 {
     match number(options, "shots") {
-        Some(number) if number <= Shots::MOST => Shots::new(number),
+        Some(number) if number <= Shots::MOST as u64 => Shots::new(number as usize),
         _ => Shots::new(1),
     }
 }
