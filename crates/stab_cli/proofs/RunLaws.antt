@@ -1,5 +1,5 @@
 -- Laws of runs: what the parts of a command hand on makes its end.
-use Rattle.std.proofs.Common.{◌≡◌, refl, ap, subst, sym, ◌∙◌, ℕ, ◌<◌, ◌≤◌, ◌-◌, ◌^◌, Bool, true, false, List, [], ◌++◌, Result, Ok, Err, None, nat_lt, ◌⊎◌, inl, inr, IsTrue, arith, if◌then◌else◌}
+use Rattle.std.proofs.Common.{◌≡◌, refl, ap, subst, sym, ◌∙◌, ℕ, Bool, true, false, List, [], ◌++◌, Result, Ok, Err, None, nat_lt, inl, inr, IsTrue, arith}
 use Rattle.std.proofs.lemmas.List.{append-nil}
 use Rattle.std.specs.Result.{IsErrAnd}
 use Rattle.stab_pauli.specs.Devices.{WritesPrefix, one_more}

@@ -1,5 +1,5 @@
 -- Laws of sending: bytes that calls write one after another.
-use Rattle.std.proofs.Common.{◌≡◌, refl, sym, ap, subst, ◌∙◌, ℕ, ◌+◌, ◌<◌, zero, suc, Bool, true, false, List, [], ◌++◌, append_assoc, Result, Ok, Err, ◌⊎◌, inl, inr, IsTrue, OnOk, OnErr, IfErr, IsErrOf, arith, add-one}
+use Rattle.std.proofs.Common.{◌≡◌, refl, sym, ap, subst, ◌∙◌, ℕ, ◌+◌, ◌<◌, zero, suc, Bool, true, false, List, [], ◌++◌, append_assoc, Result, Ok, Err, ◌⊎◌, inl, inr, IsTrue, OnOk, OnErr, IsErrOf, arith, add-one}
 use Rattle.std.proofs.lemmas.List.{append-nil}
 use Rattle.std.specs.Result.{IsErrAnd}
 use Rattle.stab_pauli.specs.Devices.{Failed, WritesPrefix}

@@ -1,4 +1,3 @@
-use Rattle.std.proofs.Common.{◌∙◌, ap}
 use Rattle.stab_circuit.specs.Views.{circuit_items}
 use Rattle.stab_cli.specs.Outputs.{shots_of}
 use Rattle.stab_cli.proofs.RunLaws.{ends_broken_off, ends_unflushed}

@@ -1,6 +1,6 @@
 use Rattle.stab_session.specs.Runs.{run_of}
 use Rattle.stab_cli.specs.Outputs.{coins_of_shot, shown_bytes}
-use Rattle.stab_cli.proofs.SendingLaws.{sent_no_shot, sent_shot, shots_break_off}
+use Rattle.stab_cli.proofs.SendingLaws.{sent_shot, shots_break_off}
 use Rattle.stab_cli.proofs.shots.send_shots.Goals as goal
 
 pub loop-shot-preserved : goal.loop-shot-preserved

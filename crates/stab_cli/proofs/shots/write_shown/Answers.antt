@@ -1,4 +1,4 @@
-use Rattle.std.proofs.Common.{◌≡◌, ◌∙◌, ◌++◌, ap, ap₂, sym, length}
+use Rattle.std.proofs.Common.{◌∙◌, ◌++◌, ap, ap₂, sym, length}
 use Rattle.stab_results.specs.declared.format.Kinds.TheVariants.{Measurements, Detectors}
 use Rattle.stab_results.specs.Formats.{shot_bytes}
 use Rattle.stab_cli.specs.Outputs.{shown_bytes}
