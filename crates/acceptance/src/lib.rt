@@ -2,10 +2,26 @@
 #![tactic(auto)]
 
 #[cfg(test)]
+mod coins;
+#[cfg(test)]
+mod detect;
+#[cfg(test)]
 mod devices;
+#[cfg(test)]
+mod faults;
+#[cfg(test)]
+mod formats;
+#[cfg(test)]
+mod help;
+#[cfg(test)]
+mod limits;
 #[cfg(test)]
 mod runs;
 #[cfg(test)]
 mod sample;
+#[cfg(test)]
+mod seeds;
+#[cfg(test)]
+mod shots;
 #[cfg(test)]
 mod words;

@@ -1,6 +1,8 @@
-use stab_cli::{parse_words, run_job};
+//! Runs of the program over devices in memory.
+use stab_cli::{Job, parse_words, run_job};
 use stab_pauli::{MemoryInput, MemoryOutput};
-use std::alloc::Global;
+use std::alloc::{AllocError, Global};
+use std::process::Abort;
 use std::test::Fail;
 
 /// What a run of the program wrote and answered.
@@ -11,11 +13,25 @@ pub struct Ended {
     pub status: u8,
 }
 
-/// Runs the program with these words over this input.
-pub fn run_program(alloc: Global, words: &[&str], input: &[u8]) -> Result<Ended, Fail> {
-    let job = parse_words(alloc, words)?;
-    let mut out = MemoryOutput::new(alloc, 4096)?;
-    let mut err = MemoryOutput::new(alloc, 4096)?;
+/// The words of a line.
+pub fn words_of(alloc: Global, line: &str) -> Result<Vec<&str>, AllocError> {
+    line.split_whitespace().collect(alloc)
+}
+
+/// The job that these words ask for.
+pub fn job_of(alloc: Global, words: &[&str]) -> Result<Job, Fail> {
+    match parse_words(alloc, words) {
+        Ok(job) => Ok(job),
+        Err(usage) => Err(Fail::new(format_args!("{words:?} gives {usage:?}"))),
+    }
+}
+
+/// Runs the program with the words of this line over this input.
+pub fn run_program(alloc: Global, line: &str, input: &[u8]) -> Result<Ended, Fail> {
+    let words = words_of(alloc, line)?;
+    let job = job_of(alloc, words.as_slice())?;
+    let mut out = MemoryOutput::new(alloc, 8192)?;
+    let mut err = MemoryOutput::new(alloc, 8192)?;
     let status = run_job(
         alloc,
         &job,
@@ -25,4 +41,60 @@ pub fn run_program(alloc: Global, words: &[&str], input: &[u8]) -> Result<Ended,
         &mut err,
     );
     Ok(Ended { out, err, status })
+}
+
+/// Asserts that a run over this text writes these bytes and tells no fault.
+pub fn assert_writes(
+    rt: &(impl Abort + AllocGlobal),
+    line: &str,
+    text: &str,
+    bytes: &[u8],
+) -> Result<(), Fail> {
+    let run = run_program(rt.alloc(), line, text.as_bytes())?;
+    assert!(rt;
+        run.err.bytes().is_empty(),
+        "{line:?} on {text:?} tells {:?}",
+        str::from_utf8(run.err.bytes())
+    );
+    assert!(rt;
+        run.out.bytes() == bytes,
+        "{line:?} on {text:?} writes {:?}",
+        run.out.bytes()
+    );
+    assert_eq!(rt; run.status, 0, "status of {line:?} on {text:?}");
+    Ok(())
+}
+
+/// Asserts that runs over these texts write what stands beside them.
+pub fn assert_each_writes(
+    rt: &(impl Abort + AllocGlobal),
+    line: &str,
+    rows: &[(&str, &str)],
+) -> Result<(), Fail> {
+    for (text, written) in rows {
+        assert_writes(rt, line, text, written.as_bytes())?;
+    }
+    Ok(())
+}
+
+/// Asserts that a run over this text tells this fault and writes nothing.
+pub fn assert_refuses(
+    rt: &(impl Abort + AllocGlobal),
+    line: &str,
+    text: &str,
+    fault: &str,
+) -> Result<(), Fail> {
+    let run = run_program(rt.alloc(), line, text.as_bytes())?;
+    assert!(rt;
+        run.out.bytes().is_empty(),
+        "{line:?} on {text:?} writes {:?}",
+        run.out.bytes()
+    );
+    assert!(rt;
+        run.err.bytes() == fault.as_bytes(),
+        "{line:?} on {text:?} tells {:?}",
+        str::from_utf8(run.err.bytes())
+    );
+    assert_eq!(rt; run.status, 1, "status of {line:?} on {text:?}");
+    Ok(())
 }

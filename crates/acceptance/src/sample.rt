@@ -1,113 +1,140 @@
-use crate::runs::run_program;
+//! The records that `sample` writes where no coin decides.
+use crate::runs::assert_each_writes;
 use std::test::Fail;
 
-// Each circuit's text and the records that `sample` writes for it.
-const RECORDS: [(&str, &str); 9] = [
-    ("X 0\nM 0 1\n", "10\n"),
-    ("", "\n"),
-    ("x 0 # a\r\nMZ[t] !0 1", "00\n"),
-    ("M 1023", "0\n"),
-    ("M 000000000000000000000000000000000001", "0\n"),
-    ("X 3\nX 3\nM 3 !3", "01\n"),
-    ("I 0\nX 2 0 2\nM 0 1 2", "100\n"),
-    ("\t\r\n  # nothing\n\nM !5\n", "1\n"),
-    ("X[a(b)]() 1\nm( \t) 1 1", "11\n"),
-];
-
-// Each circuit's text and the line that its fault is told with.
-const FAULTS: [(&str, &str); 17] = [
-    ("M 1024", "stabsim: line 1: refused 6 QubitOutOfRange\n"),
-    ("M(0.1) 0", "stabsim: line 1: refused 2 BadArguments\n"),
-    ("X_ERROR 0", "stabsim: line 1: refused 1 UnsupportedName\n"),
-    ("REPEAT 2 {", "stabsim: line 1: refused 1 UnsupportedName\n"),
-    ("X[a]0", "stabsim: line 1: refused 11 BadLine\n"),
-    ("X!", "stabsim: line 1: refused 11 BadLine\n"),
-    ("X(1", "stabsim: line 1: refused 11 BadLine\n"),
-    ("X[a", "stabsim: line 1: refused 11 BadLine\n"),
-    ("X 0}", "stabsim: line 1: refused 11 BadLine\n"),
-    ("X 0\n\n}", "stabsim: line 3: refused 5 BadBlock\n"),
-    ("X 0 {", "stabsim: line 1: refused 5 BadBlock\n"),
-    ("X !0", "stabsim: line 1: refused 3 BadTarget\n"),
-    ("M !!0", "stabsim: line 1: refused 3 BadTarget\n"),
-    ("X y 1024", "stabsim: line 1: refused 3 BadTarget\n"),
-    ("X 1024 y {", "stabsim: line 1: refused 6 QubitOutOfRange\n"),
-    (
-        "NOPE(1) x {",
-        "stabsim: line 1: refused 1 UnsupportedName\n",
-    ),
-    ("X(1) x {", "stabsim: line 1: refused 2 BadArguments\n"),
-];
-
 #[test]
-fn sample_writes_the_records(rt: HostRuntime) -> Result<(), Fail> {
-    for (text, records) in RECORDS {
-        let run = run_program(rt.alloc(), &["stabsim", "sample"], text.as_bytes())?;
-        assert!(rt;
-            run.out.bytes() == records.as_bytes(),
-            "records of {text:?}"
-        );
-        assert!(rt; run.err.bytes().is_empty(), "error output of {text:?}");
-        assert_eq!(rt; run.status, 0, "status of {text:?}");
-    }
-    Ok(())
+fn measurements_record_the_outcome_or_its_inverse(rt: HostRuntime) -> Result<(), Fail> {
+    let rows = [
+        ("", "\n"),
+        ("X 0\nM 0 1\n", "10\n"),
+        ("x 0 # a\r\nMZ[t] !0 1", "00\n"),
+        ("X 3\nX 3\nM 3 !3", "01\n"),
+        ("I 0\nX 2 0 2\nM 0 1 2", "100\n"),
+        ("X 0\nM 1 0 !1 !0 0", "01101\n"),
+        ("H 0\nMX 0 !0\nMX 0", "010\n"),
+        ("X 1\nH 1\nMX 1 !1", "10\n"),
+        ("X 0\nMR 0 0", "10\n"),
+        ("X 0\nMR !0\nM 0", "00\n"),
+        ("MR !0\nM 0", "10\n"),
+        ("X 0 1\nR 0\nM 0 1", "01\n"),
+        ("R 0\nM 0", "0\n"),
+    ];
+    assert_each_writes(&rt, "stabsim sample", rows.as_slice())
 }
 
 #[test]
-fn sample_tells_a_fault_and_writes_nothing(rt: HostRuntime) -> Result<(), Fail> {
-    for (text, line) in FAULTS {
-        let run = run_program(rt.alloc(), &["stabsim", "sample"], text.as_bytes())?;
-        assert!(rt; run.out.bytes().is_empty(), "output of {text:?}");
-        assert!(rt;
-            run.err.bytes() == line.as_bytes(),
-            "error output of {text:?}"
-        );
-        assert_eq!(rt; run.status, 1, "status of {text:?}");
-    }
-    Ok(())
+fn gates_act_as_the_gate_tables_say(rt: HostRuntime) -> Result<(), Fail> {
+    let rows = [
+        // What each gate makes of Z, then of X, then of Y.
+        ("I 0\nM 0", "0\n"),
+        ("H 0\nI 0\nMX 0", "0\n"),
+        ("X 0\nM 0", "1\n"),
+        ("H 0\nX 0\nMX 0", "0\n"),
+        ("H 0\nS 0\nX 0\nS_DAG 0\nMX 0", "1\n"),
+        ("Y 0\nM 0", "1\n"),
+        ("H 0\nY 0\nMX 0", "1\n"),
+        ("H 0\nS 0\nY 0\nS_DAG 0\nMX 0", "0\n"),
+        ("Z 0\nM 0", "0\n"),
+        ("H 0\nZ 0\nMX 0", "1\n"),
+        ("H 0\nS 0\nZ 0\nS_DAG 0\nMX 0", "1\n"),
+        ("H 0\nMX 0", "0\n"),
+        ("H 0\nH 0\nM 0", "0\n"),
+        ("H 0\nS 0\nH 0\nS_DAG 0\nMX 0", "1\n"),
+        ("S 0\nM 0", "0\n"),
+        ("H 0\nS 0\nS 0\nMX 0", "1\n"),
+        ("S_DAG 0\nM 0", "0\n"),
+        ("H 0\nS_DAG 0\nS 0\nMX 0", "0\n"),
+        ("H 0\nS_DAG 0\nS_DAG 0\nMX 0", "1\n"),
+        ("H 0\nS 0\nS 0\nH 0\nM 0", "1\n"),
+    ];
+    assert_each_writes(&rt, "stabsim sample", rows.as_slice())
 }
 
 #[test]
-fn sample_reads_each_text_of_one_byte(rt: HostRuntime) -> Result<(), Fail> {
-    for byte in 0..=255u8 {
-        let run = run_program(rt.alloc(), &["stabsim", "sample"], &[byte])?;
-        let line: &[u8] = match byte {
-            b'I' | b'X' | b'M' | b'i' | b'x' | b'm' => b"",
-            b' ' | b'\t' | b'\r' | b'\n' | b'#' => b"",
-            b'A'..=b'Z' | b'a'..=b'z' => b"stabsim: line 1: refused 1 UnsupportedName\n",
-            b'}' => b"stabsim: line 1: refused 5 BadBlock\n",
-            _ => b"stabsim: line 1: refused 11 BadLine\n",
-        };
-        assert!(rt; run.err.bytes() == line, "error output of byte {byte}");
-        let records: &[u8] = if line.is_empty() { b"\n" } else { b"" };
-        assert!(rt; run.out.bytes() == records, "records of byte {byte}");
-    }
-    Ok(())
+fn pair_gates_act_as_the_gate_tables_say(rt: HostRuntime) -> Result<(), Fail> {
+    let rows = [
+        ("CX 0 1\nM 0 1", "00\n"),
+        ("X 0\nCX 0 1\nM 0 1", "11\n"),
+        ("X 1\nCX 0 1\nM 0 1", "01\n"),
+        ("X 0\nCX 0 1 1 2\nM 0 1 2", "111\n"),
+        ("H 0 1\nZ 1\nCX 0 1\nMX 0 1", "11\n"),
+        ("X 0\nCY 0 1\nM 0 1", "11\n"),
+        ("H 0 1\nCY 0 1\nS_DAG 1\nCX 0 1\nS_DAG 1\nMX 0 1", "01\n"),
+        ("H 0\nCY 0 1\nS_DAG 1\nCX 0 1\nMX 0\nM 1", "00\n"),
+        ("H 0\nCY 0 1\nS 1\nCX 0 1\nMX 0\nM 1", "10\n"),
+        ("X 0\nH 1\nCZ 0 1\nM 0\nMX 1", "11\n"),
+        ("H 0\nX 1\nCZ 0 1\nMX 0\nM 1", "11\n"),
+        ("H 0 1\nCZ 0 1\nH 1\nCX 0 1\nMX 0\nM 1", "00\n"),
+        ("X 0\nSWAP 0 1\nM 0 1", "01\n"),
+        ("X 0\nSWAP 0 1 1 2\nM 0 1 2", "001\n"),
+        ("H 0\nZ 0\nSWAP 0 1\nM 0\nMX 1", "01\n"),
+    ];
+    assert_each_writes(&rt, "stabsim sample", rows.as_slice())
 }
 
 #[test]
-fn sample_reads_texts_up_to_the_limit(rt: HostRuntime) -> Result<(), Fail> {
-    let mut text = vec![in rt.alloc(); b'\n'; 16_777_216]?;
-    let longest = run_program(rt.alloc(), &["stabsim", "sample"], text.as_slice())?;
-    assert!(rt; longest.out.bytes() == b"\n".as_slice());
-    text.push(b'\n')?;
-    let longer = run_program(rt.alloc(), &["stabsim", "sample"], text.as_slice())?;
-    assert!(rt; longer.err.bytes() == b"stabsim: refused 14 TooLong\n".as_slice());
-    assert!(rt; longer.out.bytes().is_empty());
-    Ok(())
+fn an_instruction_has_its_other_names(rt: HostRuntime) -> Result<(), Fail> {
+    let rows = [
+        ("H_XZ 0\nMX 0", "0\n"),
+        ("H 0\nSQRT_Z 0\nS_DAG 0\nMX 0", "0\n"),
+        ("H 0\nSQRT_Z 0\nS 0\nMX 0", "1\n"),
+        ("H 0\nSQRT_Z_DAG 0\nS 0\nMX 0", "0\n"),
+        ("H 0\nSQRT_Z_DAG 0\nS_DAG 0\nMX 0", "1\n"),
+        ("X 0\nCNOT 0 1\nM 0 1", "11\n"),
+        ("X 0\nZCX 0 1\nM 0 1", "11\n"),
+        ("X 0\nZCY 0 1\nM 0 1", "11\n"),
+        ("X 0\nH 1\nZCZ 0 1\nM 0\nMX 1", "11\n"),
+        ("X 0\nMZ 0", "1\n"),
+        ("X 0\nMRZ 0\nM 0", "10\n"),
+        ("X 0\nRZ 0\nM 0", "0\n"),
+        ("x 0\ncnot 0 1\nsWaP 1 2\nm 0 1 2", "101\n"),
+        ("h_xz 0\nsqrt_z_dag 0\ns_dag 0\nmx 0", "1\n"),
+    ];
+    assert_each_writes(&rt, "stabsim sample", rows.as_slice())
 }
 
 #[test]
-fn sample_makes_steps_up_to_the_limit(rt: HostRuntime) -> Result<(), Fail> {
-    let mut text = Vec::new(rt.alloc());
-    text.push(b'X')?;
-    for _ in 0..1_048_576 {
-        text.extend_from_slice(b" 0")?;
-    }
-    let most = run_program(rt.alloc(), &["stabsim", "sample"], text.as_slice())?;
-    assert!(rt; most.out.bytes() == b"\n".as_slice());
-    text.extend_from_slice(b" 0")?;
-    let more = run_program(rt.alloc(), &["stabsim", "sample"], text.as_slice())?;
-    assert!(rt; more.err.bytes() == b"stabsim: refused 9 TooManySteps\n".as_slice());
-    assert!(rt; more.out.bytes().is_empty());
-    Ok(())
+fn blocks_repeat_their_bodies(rt: HostRuntime) -> Result<(), Fail> {
+    let rows = [
+        ("REPEAT 3 {\nX 0\nM 0\n}", "101\n"),
+        ("repeat 2{\nM 0\n}\nX 0\nM 0", "001\n"),
+        ("REPEAT 2 {\n}\nM 0", "0\n"),
+        (
+            "REPEAT 2 {\n    REPEAT 3 {\n        X 0\n        M 0\n    }\n    MR 1\n}\n",
+            "10100100\n",
+        ),
+        (
+            "REPEAT[a{b}c] 2 { # two rounds\n\tX 0\r\n\n M 0\n } \n",
+            "10\n",
+        ),
+        ("REPEAT 000000000000000001 {\nM 0\n}", "0\n"),
+        (
+            "X 0\nREPEAT 2 {\nMR 0\nREPEAT 2 {\nX 0\n}\n}\nM !0",
+            "101\n",
+        ),
+    ];
+    assert_each_writes(&rt, "stabsim sample", rows.as_slice())
+}
+
+#[test]
+fn lines_are_read_as_the_format_says(rt: HostRuntime) -> Result<(), Fail> {
+    let rows = [
+        ("\t\r\n  # nothing\n\nM !5\n", "1\n"),
+        ("X[a(b)]() 1\nm( \t) 1 1", "11\n"),
+        ("X[{}()] 0\nM[\u{e9}] 0", "1\n"),
+        ("X[] 0\nM 0#1", "1\n"),
+        ("M 000000000000000000000000000000000001", "0\n"),
+        ("\t X\t0\t 1 \r\n  M 0\t1  ", "11\n"),
+        (
+            "X\nM\nCX\nR\nMX\nSWAP\nTICK\nQUBIT_COORDS\nSHIFT_COORDS",
+            "\n",
+        ),
+        (
+            "QUBIT_COORDS(0, -1.5e+3) 0\nSHIFT_COORDS(.,+)\nTICK[100ns]\nX 0\nM 0",
+            "1\n",
+        ),
+        ("QUBIT_COORDS 1023\nX 0\nM 0\nDETECTOR(1,2) rec[-1]", "1\n"),
+        ("X 0\nM 0\nOBSERVABLE_INCLUDE( 0007\t) rec[-01]", "1\n"),
+    ];
+    assert_each_writes(&rt, "stabsim sample", rows.as_slice())
 }

@@ -1,0 +1,162 @@
+//! What the coins of `--coins` decide, and what they don't.
+use crate::runs::assert_writes;
+use std::test::Fail;
+
+const BELL: &str = "H 0\nCX 0 1\nM 0 1";
+
+const TURNED_BELL: &str = "H 0\nCX 0 1\nS_DAG 0 1\nMX 0 1";
+
+const RESET_BELL: &str = "H 0\nCX 0 1\nR 0\nM 0 1";
+
+const CLUSTER: &str = "H 0 1\nCZ 0 1\nZ 0\nMX 0 0";
+
+const GHZ: &str = "H 0\nCX 0 1 1 2\nMX 0 1 2";
+
+#[test]
+fn a_coin_decides_a_free_outcome(rt: HostRuntime) -> Result<(), Fail> {
+    let rows = [
+        ("stabsim sample --coins 0", "H 0\nM 0", "0\n"),
+        ("stabsim sample --coins 1", "H 0\nM 0", "1\n"),
+        ("stabsim sample --coins 1", "H 0\nM !0\nM 0", "01\n"),
+        ("stabsim sample --coins 1", "MX 0\nMX !0", "10\n"),
+        ("stabsim sample --coins 1", "H 0\nMR 0\nM 0", "10\n"),
+        ("stabsim sample --coins 1", "H 0\nMR !0\nM 0", "00\n"),
+        ("stabsim sample --coins 0", "H 0\nMR !0\nM 0", "10\n"),
+        ("stabsim sample --coins 1", "H 0\nR 0\nM 0", "0\n"),
+        ("stabsim sample --coins 10", BELL, "11\n"),
+        ("stabsim sample --coins 01", BELL, "00\n"),
+        ("stabsim sample --coins 0", TURNED_BELL, "01\n"),
+        ("stabsim sample --coins 1", TURNED_BELL, "10\n"),
+        ("stabsim sample --coins 1", RESET_BELL, "01\n"),
+        ("stabsim sample --coins 0", RESET_BELL, "00\n"),
+        ("stabsim sample --coins 0", CLUSTER, "00\n"),
+        ("stabsim sample --coins 1", CLUSTER, "11\n"),
+        ("stabsim sample --coins 1", "H 0\nCY 0 1\nM 0 1", "11\n"),
+        ("stabsim sample --coins 110", GHZ, "110\n"),
+        ("stabsim sample --coins 100", GHZ, "101\n"),
+        (
+            "stabsim sample --coins 101",
+            "REPEAT 3 {\nH 0\nM 0\n}",
+            "101\n",
+        ),
+        (
+            "stabsim detect --coins 1",
+            "H 0\nM 0\nDETECTOR rec[-1]",
+            "1\n",
+        ),
+        (
+            "stabsim detect --coins 0",
+            "H 0\nM 0\nDETECTOR rec[-1]",
+            "0\n",
+        ),
+        (
+            "stabsim detect --coins 01 --append_observables",
+            "H 0 1\nM 0 1\nDETECTOR rec[-2]\nOBSERVABLE_INCLUDE(0) rec[-1]",
+            "01\n",
+        ),
+    ];
+    for (line, text, written) in rows {
+        assert_writes(&rt, line, text, written.as_bytes())?;
+    }
+    Ok(())
+}
+
+#[test]
+fn each_measured_target_has_the_next_coin(rt: HostRuntime) -> Result<(), Fail> {
+    let rows = [
+        ("stabsim sample --coins 01", "H 0\nM 0", "0\n"),
+        ("stabsim sample --coins 01", "R 1\nH 0\nM 0", "1\n"),
+        ("stabsim sample --coins 10", "R 1\nH 0\nM 0", "0\n"),
+        ("stabsim sample --coins 01", "M 1\nH 0\nM 0", "01\n"),
+        ("stabsim sample --coins 10", "MX 0\nH 1\nM 1", "10\n"),
+        ("stabsim sample --coins 01", "X 0\nMR 0\nH 0\nM 0", "11\n"),
+        ("stabsim sample --coins 10", "X 0\nMR 0\nH 0\nM 0", "10\n"),
+        (
+            "stabsim sample --coins 0001",
+            "REPEAT 3 {\nR 1\n}\nMX 0",
+            "1\n",
+        ),
+        ("stabsim sample --coins 01", "H 0 1\nM 1 0", "01\n"),
+        ("stabsim sample --coins 01", "H 0\nSWAP 0 1\nM 0 1", "01\n"),
+        ("stabsim sample --coins 10", "H 0\nSWAP 0 1\nM 0 1", "00\n"),
+        (
+            "stabsim sample --coins 1",
+            "TICK\nQUBIT_COORDS(1) 0\nSHIFT_COORDS(1)\nDETECTOR\nOBSERVABLE_INCLUDE(0)\nI 0\nMX 0",
+            "1\n",
+        ),
+    ];
+    for (line, text, written) in rows {
+        assert_writes(&rt, line, text, written.as_bytes())?;
+    }
+    Ok(())
+}
+
+#[test]
+fn no_coin_decides_a_fixed_outcome(rt: HostRuntime) -> Result<(), Fail> {
+    let rows = [
+        ("stabsim sample --coins 1", "M 0", "0\n"),
+        ("stabsim sample --coins 0", "X 0\nM 0", "1\n"),
+        ("stabsim sample --coins 10", "H 0\nM 0 0", "11\n"),
+        ("stabsim sample --coins 11", "R 0\nM 0", "0\n"),
+        (
+            "stabsim sample --coins 01",
+            "H 0\nCX 0 1\nS 0 1\nMX 0 1",
+            "01\n",
+        ),
+        ("stabsim sample --coins 11", "MX 0\nR 0\nM 0", "10\n"),
+    ];
+    for (line, text, written) in rows {
+        assert_writes(&rt, line, text, written.as_bytes())?;
+    }
+    Ok(())
+}
+
+#[test]
+fn zeros_follow_the_last_coin(rt: HostRuntime) -> Result<(), Fail> {
+    let rows = [
+        ("stabsim sample --coins 1", "H 0 1\nM 0 1", "10\n"),
+        ("stabsim sample --coins=", "H 0 1\nM 0 1", "00\n"),
+        (
+            "stabsim sample --coins 11",
+            "H 0 1 2 3\nM 0 1 2 3",
+            "1100\n",
+        ),
+    ];
+    for (line, text, written) in rows {
+        assert_writes(&rt, line, text, written.as_bytes())?;
+    }
+    Ok(())
+}
+
+#[test]
+fn each_shot_has_the_list_anew(rt: HostRuntime) -> Result<(), Fail> {
+    let rows = [
+        ("stabsim sample --shots 2 --coins 10", "H 0\nM 0", "1\n1\n"),
+        (
+            "stabsim sample --shots 3 --coins 01",
+            "H 0 1\nM 0 1",
+            "01\n01\n01\n",
+        ),
+        (
+            "stabsim detect --shots 2 --coins 1",
+            "H 0\nM 0\nDETECTOR rec[-1]",
+            "1\n1\n",
+        ),
+    ];
+    for (line, text, written) in rows {
+        assert_writes(&rt, line, text, written.as_bytes())?;
+    }
+    Ok(())
+}
+
+#[test]
+fn a_list_stands_in_place_of_a_seed(rt: HostRuntime) -> Result<(), Fail> {
+    for seed in ["0", "1", "7"] {
+        for coins in ["00", "01", "10", "11"] {
+            let line = format!(in rt.alloc(); "stabsim sample --seed {seed} --coins {coins}")?;
+            let written = format!(in rt.alloc(); "{coins}\n")?;
+            assert_writes(&rt, line.as_str(), "H 0 1\nM 0 1", written.as_bytes())?;
+        }
+    }
+    Ok(())
+}

@@ -1,0 +1,110 @@
+//! Several shots, and none.
+use crate::runs::assert_writes;
+use std::test::Fail;
+
+#[test]
+fn shots_stand_one_after_another(rt: HostRuntime) -> Result<(), Fail> {
+    let rows: [(&str, &str, &[u8]); 13] = [
+        ("stabsim sample --shots 1", "M 0 !0", b"01\n"),
+        ("stabsim sample --shots 3", "M 0 !0", b"01\n01\n01\n"),
+        (
+            "stabsim sample --shots 3 --out_format b8",
+            "M 0 !0",
+            b"\x02\x02\x02",
+        ),
+        (
+            "stabsim sample --shots 2 --out_format b8",
+            "REPEAT 9 {\nM !0\n}",
+            b"\xff\x01\xff\x01",
+        ),
+        (
+            "stabsim sample --shots 3 --out_format r8",
+            "M 0 !0",
+            b"\x01\x00\x01\x00\x01\x00",
+        ),
+        (
+            "stabsim sample --shots 3 --out_format hits",
+            "M 0 !0",
+            b"1\n1\n1\n",
+        ),
+        (
+            "stabsim sample --shots 3 --out_format dets",
+            "M 0 !0",
+            b"shot M1\nshot M1\nshot M1\n",
+        ),
+        ("stabsim sample --shots 3", "", b"\n\n\n"),
+        ("stabsim sample --shots 3 --out_format b8", "", b""),
+        (
+            "stabsim sample --shots 3 --out_format r8",
+            "",
+            b"\x00\x00\x00",
+        ),
+        (
+            "stabsim detect --shots 2",
+            "M !0\nDETECTOR rec[-1]\nDETECTOR",
+            b"10\n10\n",
+        ),
+        (
+            "stabsim detect --shots 2 --out_format dets --append_observables",
+            "M !0\nDETECTOR rec[-1]\nOBSERVABLE_INCLUDE(1) rec[-1]",
+            b"shot D0 L1\nshot D0 L1\n",
+        ),
+        (
+            "stabsim detect --shots 2 --out_format r8",
+            "M !0\nDETECTOR\nDETECTOR",
+            b"\x02\x02",
+        ),
+    ];
+    for (line, text, written) in rows {
+        assert_writes(&rt, line, text, written)?;
+    }
+    Ok(())
+}
+
+#[test]
+fn each_shot_begins_with_zeros(rt: HostRuntime) -> Result<(), Fail> {
+    let rows = [
+        ("stabsim sample --shots 3", "M 0\nX 0", "0\n0\n0\n"),
+        (
+            "stabsim sample --shots 3 --coins 0001",
+            "M 0 1\nH 0\nCX 0 1\nMX 0",
+            "000\n000\n000\n",
+        ),
+        (
+            "stabsim sample --shots 2 --coins 001",
+            "M 0 1\nMX 0\nCX 0 1",
+            "001\n001\n",
+        ),
+        (
+            "stabsim detect --shots 3 --append_observables",
+            "X 0\nM 0\nDETECTOR rec[-1]\nOBSERVABLE_INCLUDE(0) rec[-1]",
+            "11\n11\n11\n",
+        ),
+    ];
+    for (line, text, written) in rows {
+        assert_writes(&rt, line, text, written.as_bytes())?;
+    }
+    Ok(())
+}
+
+#[test]
+fn no_shots_give_no_byte(rt: HostRuntime) -> Result<(), Fail> {
+    for command in ["sample", "detect", "detect --append_observables"] {
+        for format in ["01", "b8", "r8", "hits", "dets"] {
+            let line = format!(in rt.alloc(); "stabsim {command} --shots 0 --out_format {format}")?;
+            assert_writes(&rt, line.as_str(), "", b"")?;
+            assert_writes(&rt, line.as_str(), "M !0\nDETECTOR rec[-1]", b"")?;
+        }
+    }
+    Ok(())
+}
+
+#[test]
+fn a_million_shots_are_written(rt: HostRuntime) -> Result<(), Fail> {
+    assert_writes(
+        &rt,
+        "stabsim sample --shots 1000000 --out_format b8",
+        "",
+        b"",
+    )
+}
