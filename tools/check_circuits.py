@@ -6,8 +6,8 @@
 
 Of a memory experiment it checks that each detector and the observable is 0 whatever the outcomes
 that are free, that there are as many detectors as there should be, that each bit flip of a data
-qubit is seen by one or two detectors, and that bit flips from side to side are seen by the
-observable alone. Of each circuit it checks that no lookback goes too far and that the first line
+qubit is seen by one or two detectors of the next round, and that bit flips from side to side are
+seen by the observable alone. Of each circuit it checks that no lookback goes too far and that the first line
 tells the right numbers. It is small and slow, and meant for small distances. Stim was not at hand,
 so nothing was compared with what Stim prints or computes.
 
@@ -240,10 +240,15 @@ def is_quiet(outcomes):
     return all(outcome == (0, 0) for outcome in outcomes)
 
 
+def told_of(text):
+    """The numbers of steps and of records that the first line tells."""
+    told = re.match(r"# .*: (\d+) steps, (\d+) records\n", text)
+    return int(told[1]), int(told[2])
+
+
 def counts_are_told(text, ran):
     """The first line tells the steps and the records that there are."""
-    told = re.match(r"# .*: (\d+) steps, (\d+) records\n", text)
-    return (int(told[1]), int(told[2])) == (ran.steps, len(ran.records)) and ran.steps <= circuits.MOST_STEPS
+    return told_of(text) == (ran.steps, len(ran.records)) and ran.steps <= circuits.MOST_STEPS
 
 
 def check_simulator():
@@ -258,7 +263,7 @@ def check_simulator():
     return right
 
 
-def check_generator():
+def check_memories():
     right = True
     for distance, rounds in [(2, 2), (3, 1), (3, 4), (4, 3), (5, 2), (7, 3)]:
         # The checks of Z speak at the start and at the end too; they are half of all, rounded down.
@@ -273,6 +278,17 @@ def check_generator():
         right &= check_errors(circuits.surface_code(distance), code.numbers(code.data), side)
         data = list(range(0, 2 * distance, 2))
         right &= check_errors(circuits.repetition_code(distance), data, data)
+    surface_codes = [circuits.surface_code(distance) for distance in (3, circuits.MOST_DISTANCE)]
+    for memory in surface_codes + [circuits.repetition_code(3)]:
+        right &= check_deepest(memory)
+    # An error of a measured qubit halfway through its check spreads to the last two qubits that it
+    # meets. They lie side by side across the logical operator of their kind.
+    across = circuits.X_ORDER[2][1] == circuits.X_ORDER[3][1] and circuits.Z_ORDER[2][0] == circuits.Z_ORDER[3][0]
+    return right & say("errors of measured qubits spread across the surface code", across)
+
+
+def check_dense():
+    right = True
     for qubits, steps, seed in [(2, 100, 0), (5, 301, 1), (16, 1000, 2)]:
         text = circuits.dense(qubits, steps, seed)
         ran = run(text)
@@ -288,18 +304,32 @@ def check_memory(text, detectors):
 
 
 def check_errors(memory, data, side):
-    """One or two detectors see a bit flip of any data qubit, and the observable alone sees flips of a whole side."""
+    """Bit flips between the first two rounds.
+
+    One of any data qubit is seen by one or two detectors of the second round, and by nothing else; those of a whole
+    side are seen by the observable alone.
+    """
     lines = memory.text(3).split("\n")
     place = lines.index("REPEAT 2 {")
+    first, each = (sum(line.startswith("DETECTOR") for line in part.lines) for part in (memory.head, memory.body))
 
     def flipped(qubits):
-        """How many detectors are 1, and how many observables."""
+        """The detectors that are 1, and how many observables are."""
         ran = run("\n".join(lines[:place] + [circuits.words("X", qubits)] + lines[place:]))
-        assert all(parity[1] == 0 for parity in ran.detectors + list(ran.observables.values()))
-        return sum(parity[0] for parity in ran.detectors), sum(parity[0] for parity in ran.observables.values())
+        assert all(unknowns == 0 for _, unknowns in ran.detectors + list(ran.observables.values()))
+        detectors = [i for i, (known, _) in enumerate(ran.detectors) if known]
+        return detectors, sum(known for known, _ in ran.observables.values())
 
-    seen = all(flipped([qubit])[0] in (1, 2) for qubit in data)
-    return say(f"errors of {memory.title}", seen and flipped(side) == (0, 1))
+    singles = [flipped([qubit])[0] for qubit in data]
+    seen = all(1 <= len(found) <= 2 and first <= found[0] and found[-1] < first + each for found in singles)
+    return say(f"errors of {memory.title}", seen and flipped(side) == ([], 1))
+
+
+def check_deepest(memory):
+    """The deepest circuit fits, and with one round more it would not."""
+    rounds = memory.deepest()
+    fits = told_of(memory.text(rounds))[0] <= circuits.MOST_STEPS < told_of(memory.text(rounds + 1))[0]
+    return say(f"deepest: {memory.title}, {rounds} rounds", fits)
 
 
 def check_file(name):
@@ -315,7 +345,7 @@ def check_file(name):
 def main():
     names = sys.argv[1:]
     # Each check is made, also after one that failed.
-    results = [check_file(name) for name in names] if names else [check_simulator(), check_generator()]
+    results = [check_file(name) for name in names] if names else [check_simulator(), check_memories(), check_dense()]
     sys.exit(0 if all(results) else 1)
 
 
