@@ -6,14 +6,16 @@ use thiserror::Error;
 /// Why nothing was measured.
 #[derive(Debug, Drop, Error)]
 pub enum Failure {
-    #[error("the only word is measure")]
+    #[error("the words are measure, or run and the paths of circuits")]
     Words,
     #[error("the system gave no time or took no text")]
     System(#[from] io::Error),
+    #[error("{0} was not read")]
+    File(String),
     #[error(transparent)]
     Refused(#[from] Refusal),
     #[error("memory was refused")]
     Memory(#[from(alloc)] AllocError),
-    #[error("the circuit was refused")]
+    #[error("the circuit was refused, at line {}: {}", .0.line, .0.refusal)]
     Circuit(Fault),
 }

@@ -1,7 +1,8 @@
-//! The program `bench`: times what a tableau does, and a plain loop over as many bytes.
+//! The program `bench`: times what a tableau does, a plain loop over as many bytes, and whole runs.
 //!
 //! Without words it prints one fixed line. With the word `measure` it prints a table for each size,
-//! and the time to read a long circuit text.
+//! and the time to read a long circuit text. With the word `run` and paths it prints, for the circuit
+//! in each of these files, the times to read it and to run it once.
 //!
 //! - `work`: what is timed.
 //! - `state`: the states and the string that the works take.
@@ -10,6 +11,7 @@
 //! - `timing`: the best of several rounds.
 //! - `report`: the tables.
 //! - `reading`: a long circuit text, and the time to read it.
+//! - `running`: circuits in files, and the times to read and to run them.
 //!
 //! It is proved safe, and nothing is claimed of the times.
 #![tactic(auto)]
@@ -18,6 +20,7 @@ mod bytes;
 mod failure;
 mod reading;
 mod report;
+mod running;
 mod state;
 mod subject;
 mod timing;
@@ -38,6 +41,9 @@ fn main(rt: HostRuntime) -> Result<(), Failure> {
                 report::print_table(&rt, qubits)?;
             }
             reading::print_time(&rt)?;
+        }
+        [word, paths @ ..] if word.as_str() == "run" && !paths.is_empty() => {
+            running::print_table(&rt, paths)?;
         }
         _ => return Err(Failure::Words),
     }

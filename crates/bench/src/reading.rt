@@ -27,14 +27,20 @@ fn long_text(alloc: Global) -> Result<Vec<u8>, AllocError> {
 /// Prints how long it takes to read a long circuit text, and the time for each byte of it.
 pub fn print_time<R: CpuClock + AllocGlobal + Print>(rt: &R) -> Result<(), Failure> {
     let text = long_text(rt.alloc())?;
-    let mut least = Duration::MAX;
-    for _ in 0..READINGS {
-        least = least.min(time_of_reading(rt, text.as_slice())?);
-    }
+    let least = best_time(rt, text.as_slice())?;
     let (bytes, seconds) = (text.len(), least.as_secs_f64());
     let each = seconds * 1e9 / nearest_usize_to_f64(bytes);
     println!(rt; "reading {bytes} bytes of circuit text: {seconds:.3} s, {each:.1} ns a byte")?;
     Ok(())
+}
+
+/// The processor time of reading a circuit text, by the best of several readings.
+pub fn best_time<R: CpuClock + AllocGlobal>(rt: &R, text: &[u8]) -> Result<Duration, Failure> {
+    let mut least = Duration::MAX;
+    for _ in 0..READINGS {
+        least = least.min(time_of_reading(rt, text)?);
+    }
+    Ok(least)
 }
 
 /// The processor time of reading a circuit text once.

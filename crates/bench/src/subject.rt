@@ -111,6 +111,7 @@ impl Subject {
                 self.tableau.apply_pair(gate, qubit, other);
             }
             Work::Fixed | Work::FreeScrambled => self.measure(qubit),
+            Work::FixedLetter => self.look(qubit),
             Work::FreeApart => {
                 self.tableau.apply(Gate::H, qubit);
                 self.measure(qubit);
@@ -123,6 +124,16 @@ impl Subject {
             }
         }
         Ok(())
+    }
+
+    fn look(&mut self, qubit: usize)
+        requires in_range { qubit < self.old.tableau.qubits }
+        ensures qubits { self.new.tableau.qubits ≡ self.old.tableau.qubits }
+    {
+        let outcome = self.tableau.fixed_letter(Letter::Z, qubit);
+        self.free_outcomes = self
+            .free_outcomes
+            .wrapping_add(u64::from(outcome.is_none()));
     }
 
     fn measure(&mut self, qubit: usize)

@@ -12,6 +12,8 @@ pub enum Work {
     PairGate(PairGate),
     /// The measurement of Z on a qubit where the outcome is fixed.
     Fixed,
+    /// Whether the outcome of Z on a qubit is fixed, and which it is, where it is fixed.
+    FixedLetter,
     /// The gate H and then the measurement of Z, which it makes free, on a qubit apart from all others.
     FreeApart,
     /// The measurement of Z on a qubit of a scrambled state, where it is free.
@@ -27,7 +29,7 @@ impl Work {
     ghost use Rattle.bench.specs.Works.{starts_from_zeros};
 
     /// All works, in the order of the table.
-    pub const ALL: [Work; 12] = [
+    pub const ALL: [Work; 13] = [
         Work::Xor,
         Work::Gate(Gate::H),
         Work::Gate(Gate::S),
@@ -36,6 +38,7 @@ impl Work {
         Work::PairGate(PairGate::Cz),
         Work::PairGate(PairGate::Swap),
         Work::Fixed,
+        Work::FixedLetter,
         Work::FreeApart,
         Work::FreeScrambled,
         Work::Sign,
@@ -46,7 +49,7 @@ impl Work {
     pub fn starts_from_zeros(self) -> bool
         ensures value { result ≡ starts_from_zeros self }
     {
-        matches!(self, Work::Fixed | Work::FreeApart)
+        matches!(self, Work::Fixed | Work::FixedLetter | Work::FreeApart)
     }
 }
 
@@ -57,6 +60,7 @@ impl fmt::Display for Work {
             Work::Gate(gate) => write!(f, "gate {gate:?}"),
             Work::PairGate(gate) => write!(f, "gate {gate:?}"),
             Work::Fixed => write!(f, "fixed collapse"),
+            Work::FixedLetter => write!(f, "fixed letter"),
             Work::FreeApart => write!(f, "H, free collapse"),
             Work::FreeScrambled => write!(f, "free collapse, scrambled"),
             Work::Sign => write!(f, "sign of n letters"),

@@ -1,0 +1,33 @@
+#!/bin/sh
+# Times the tableau, reading, and whole runs of circuits that tools/circuits.py makes in a temporary
+# folder, by the program of crates/bench, which is proved and built first, for this processor.
+# docs/benchmarks.md says what is printed. It takes about a minute on a machine that does nothing else.
+set -eu
+tools=$(CDPATH='' cd -- "$(dirname -- "$0")" && pwd)
+bench=$tools/../crates/bench
+
+folder=$(mktemp -d)
+trap 'rm -rf "$folder"' EXIT
+trap 'exit 1' HUP INT TERM
+
+cpu=
+if grep -q -w avx2 /proc/cpuinfo 2>/dev/null; then
+    cpu=--cpu=x86-64-v3
+fi
+# shellcheck disable=SC2086 # without AVX2 there is no word at all
+if ! (cd "$bench" && rt run $cpu) </dev/null >"$folder/log" 2>&1; then
+    cat "$folder/log" >&2
+    echo "bench.sh: the program was not built" >&2
+    exit 1
+fi
+
+for distance in 3 7 13 21; do
+    python3 "$tools/circuits.py" surface_code --distance "$distance" --deepest \
+        >"$folder/surface_code_$distance.stim"
+done
+python3 "$tools/circuits.py" dense --qubits 1024 --steps 1048576 --seed 1 >"$folder/dense_1024.stim"
+
+"$bench/out/bench" measure
+cd "$folder"
+"$bench/out/bench" run surface_code_3.stim surface_code_7.stim surface_code_13.stim \
+    surface_code_21.stim dense_1024.stim
