@@ -12,50 +12,52 @@ const CLUSTER: &str = "H 0 1\nCZ 0 1\nZ 0\nMX 0 0";
 
 const GHZ: &str = "H 0\nCX 0 1 1 2\nMX 0 1 2";
 
+// Command lines and circuits whose free outcomes are the coins, and what is written.
+const DECIDED: [(&str, &str, &str); 23] = [
+    ("stabsim sample --coins 0", "H 0\nM 0", "0\n"),
+    ("stabsim sample --coins 1", "H 0\nM 0", "1\n"),
+    ("stabsim sample --coins 1", "H 0\nM !0\nM 0", "01\n"),
+    ("stabsim sample --coins 1", "MX 0\nMX !0", "10\n"),
+    ("stabsim sample --coins 1", "H 0\nMR 0\nM 0", "10\n"),
+    ("stabsim sample --coins 1", "H 0\nMR !0\nM 0", "00\n"),
+    ("stabsim sample --coins 0", "H 0\nMR !0\nM 0", "10\n"),
+    ("stabsim sample --coins 1", "H 0\nR 0\nM 0", "0\n"),
+    ("stabsim sample --coins 10", BELL, "11\n"),
+    ("stabsim sample --coins 01", BELL, "00\n"),
+    ("stabsim sample --coins 0", TURNED_BELL, "01\n"),
+    ("stabsim sample --coins 1", TURNED_BELL, "10\n"),
+    ("stabsim sample --coins 1", RESET_BELL, "01\n"),
+    ("stabsim sample --coins 0", RESET_BELL, "00\n"),
+    ("stabsim sample --coins 0", CLUSTER, "00\n"),
+    ("stabsim sample --coins 1", CLUSTER, "11\n"),
+    ("stabsim sample --coins 1", "H 0\nCY 0 1\nM 0 1", "11\n"),
+    ("stabsim sample --coins 110", GHZ, "110\n"),
+    ("stabsim sample --coins 100", GHZ, "101\n"),
+    (
+        "stabsim sample --coins 101",
+        "REPEAT 3 {\nH 0\nM 0\n}",
+        "101\n",
+    ),
+    (
+        "stabsim detect --coins 1",
+        "H 0\nM 0\nDETECTOR rec[-1]",
+        "1\n",
+    ),
+    (
+        "stabsim detect --coins 0",
+        "H 0\nM 0\nDETECTOR rec[-1]",
+        "0\n",
+    ),
+    (
+        "stabsim detect --coins 01 --append_observables",
+        "H 0 1\nM 0 1\nDETECTOR rec[-2]\nOBSERVABLE_INCLUDE(0) rec[-1]",
+        "01\n",
+    ),
+];
+
 #[test]
 fn a_coin_decides_a_free_outcome(rt: HostRuntime) -> Result<(), Fail> {
-    let rows = [
-        ("stabsim sample --coins 0", "H 0\nM 0", "0\n"),
-        ("stabsim sample --coins 1", "H 0\nM 0", "1\n"),
-        ("stabsim sample --coins 1", "H 0\nM !0\nM 0", "01\n"),
-        ("stabsim sample --coins 1", "MX 0\nMX !0", "10\n"),
-        ("stabsim sample --coins 1", "H 0\nMR 0\nM 0", "10\n"),
-        ("stabsim sample --coins 1", "H 0\nMR !0\nM 0", "00\n"),
-        ("stabsim sample --coins 0", "H 0\nMR !0\nM 0", "10\n"),
-        ("stabsim sample --coins 1", "H 0\nR 0\nM 0", "0\n"),
-        ("stabsim sample --coins 10", BELL, "11\n"),
-        ("stabsim sample --coins 01", BELL, "00\n"),
-        ("stabsim sample --coins 0", TURNED_BELL, "01\n"),
-        ("stabsim sample --coins 1", TURNED_BELL, "10\n"),
-        ("stabsim sample --coins 1", RESET_BELL, "01\n"),
-        ("stabsim sample --coins 0", RESET_BELL, "00\n"),
-        ("stabsim sample --coins 0", CLUSTER, "00\n"),
-        ("stabsim sample --coins 1", CLUSTER, "11\n"),
-        ("stabsim sample --coins 1", "H 0\nCY 0 1\nM 0 1", "11\n"),
-        ("stabsim sample --coins 110", GHZ, "110\n"),
-        ("stabsim sample --coins 100", GHZ, "101\n"),
-        (
-            "stabsim sample --coins 101",
-            "REPEAT 3 {\nH 0\nM 0\n}",
-            "101\n",
-        ),
-        (
-            "stabsim detect --coins 1",
-            "H 0\nM 0\nDETECTOR rec[-1]",
-            "1\n",
-        ),
-        (
-            "stabsim detect --coins 0",
-            "H 0\nM 0\nDETECTOR rec[-1]",
-            "0\n",
-        ),
-        (
-            "stabsim detect --coins 01 --append_observables",
-            "H 0 1\nM 0 1\nDETECTOR rec[-2]\nOBSERVABLE_INCLUDE(0) rec[-1]",
-            "01\n",
-        ),
-    ];
-    for (line, text, written) in rows {
+    for (line, text, written) in DECIDED {
         assert_writes(&rt, line, text, written.as_bytes())?;
     }
     Ok(())

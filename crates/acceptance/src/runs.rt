@@ -7,19 +7,19 @@ use std::test::Fail;
 
 /// What a run of the program wrote and answered.
 #[derive(Drop)]
-pub struct Ended {
+pub(crate) struct Ended {
     pub out: MemoryOutput,
     pub err: MemoryOutput,
     pub status: u8,
 }
 
 /// The words of a line.
-pub fn words_of(alloc: Global, line: &str) -> Result<Vec<&str>, AllocError> {
+pub(crate) fn words_of(alloc: Global, line: &str) -> Result<Vec<&str>, AllocError> {
     line.split_whitespace().collect(alloc)
 }
 
 /// The job that these words ask for.
-pub fn job_of(alloc: Global, words: &[&str]) -> Result<Job, Fail> {
+pub(crate) fn job_of(alloc: Global, words: &[&str]) -> Result<Job, Fail> {
     match parse_words(alloc, words) {
         Ok(job) => Ok(job),
         Err(usage) => Err(Fail::new(format_args!("{words:?} gives {usage:?}"))),
@@ -27,7 +27,7 @@ pub fn job_of(alloc: Global, words: &[&str]) -> Result<Job, Fail> {
 }
 
 /// Runs the program with the words of this line over this input.
-pub fn run_program(alloc: Global, line: &str, input: &[u8]) -> Result<Ended, Fail> {
+pub(crate) fn run_program(alloc: Global, line: &str, input: &[u8]) -> Result<Ended, Fail> {
     let words = words_of(alloc, line)?;
     let job = job_of(alloc, words.as_slice())?;
     let mut out = MemoryOutput::new(alloc, 8192)?;
@@ -44,7 +44,7 @@ pub fn run_program(alloc: Global, line: &str, input: &[u8]) -> Result<Ended, Fai
 }
 
 /// Asserts that a run over this text writes these bytes and tells no fault.
-pub fn assert_writes(
+pub(crate) fn assert_writes(
     rt: &(impl Abort + AllocGlobal),
     line: &str,
     text: &str,
@@ -66,7 +66,7 @@ pub fn assert_writes(
 }
 
 /// Asserts that runs over these texts write what stands beside them.
-pub fn assert_each_writes(
+pub(crate) fn assert_each_writes(
     rt: &(impl Abort + AllocGlobal),
     line: &str,
     rows: &[(&str, &str)],
@@ -78,7 +78,7 @@ pub fn assert_each_writes(
 }
 
 /// Asserts that a run over this text tells this fault and writes nothing.
-pub fn assert_refuses(
+pub(crate) fn assert_refuses(
     rt: &(impl Abort + AllocGlobal),
     line: &str,
     text: &str,

@@ -2,60 +2,62 @@
 use crate::runs::assert_writes;
 use std::test::Fail;
 
+// Command lines with several shots, their circuits, and what is written.
+const SHOTS: [(&str, &str, &[u8]); 13] = [
+    ("stabsim sample --shots 1", "M 0 !0", b"01\n"),
+    ("stabsim sample --shots 3", "M 0 !0", b"01\n01\n01\n"),
+    (
+        "stabsim sample --shots 3 --out_format b8",
+        "M 0 !0",
+        b"\x02\x02\x02",
+    ),
+    (
+        "stabsim sample --shots 2 --out_format b8",
+        "REPEAT 9 {\nM !0\n}",
+        b"\xff\x01\xff\x01",
+    ),
+    (
+        "stabsim sample --shots 3 --out_format r8",
+        "M 0 !0",
+        b"\x01\x00\x01\x00\x01\x00",
+    ),
+    (
+        "stabsim sample --shots 3 --out_format hits",
+        "M 0 !0",
+        b"1\n1\n1\n",
+    ),
+    (
+        "stabsim sample --shots 3 --out_format dets",
+        "M 0 !0",
+        b"shot M1\nshot M1\nshot M1\n",
+    ),
+    ("stabsim sample --shots 3", "", b"\n\n\n"),
+    ("stabsim sample --shots 3 --out_format b8", "", b""),
+    (
+        "stabsim sample --shots 3 --out_format r8",
+        "",
+        b"\x00\x00\x00",
+    ),
+    (
+        "stabsim detect --shots 2",
+        "M !0\nDETECTOR rec[-1]\nDETECTOR",
+        b"10\n10\n",
+    ),
+    (
+        "stabsim detect --shots 2 --out_format dets --append_observables",
+        "M !0\nDETECTOR rec[-1]\nOBSERVABLE_INCLUDE(1) rec[-1]",
+        b"shot D0 L1\nshot D0 L1\n",
+    ),
+    (
+        "stabsim detect --shots 2 --out_format r8",
+        "M !0\nDETECTOR\nDETECTOR",
+        b"\x02\x02",
+    ),
+];
+
 #[test]
 fn shots_stand_one_after_another(rt: HostRuntime) -> Result<(), Fail> {
-    let rows: [(&str, &str, &[u8]); 13] = [
-        ("stabsim sample --shots 1", "M 0 !0", b"01\n"),
-        ("stabsim sample --shots 3", "M 0 !0", b"01\n01\n01\n"),
-        (
-            "stabsim sample --shots 3 --out_format b8",
-            "M 0 !0",
-            b"\x02\x02\x02",
-        ),
-        (
-            "stabsim sample --shots 2 --out_format b8",
-            "REPEAT 9 {\nM !0\n}",
-            b"\xff\x01\xff\x01",
-        ),
-        (
-            "stabsim sample --shots 3 --out_format r8",
-            "M 0 !0",
-            b"\x01\x00\x01\x00\x01\x00",
-        ),
-        (
-            "stabsim sample --shots 3 --out_format hits",
-            "M 0 !0",
-            b"1\n1\n1\n",
-        ),
-        (
-            "stabsim sample --shots 3 --out_format dets",
-            "M 0 !0",
-            b"shot M1\nshot M1\nshot M1\n",
-        ),
-        ("stabsim sample --shots 3", "", b"\n\n\n"),
-        ("stabsim sample --shots 3 --out_format b8", "", b""),
-        (
-            "stabsim sample --shots 3 --out_format r8",
-            "",
-            b"\x00\x00\x00",
-        ),
-        (
-            "stabsim detect --shots 2",
-            "M !0\nDETECTOR rec[-1]\nDETECTOR",
-            b"10\n10\n",
-        ),
-        (
-            "stabsim detect --shots 2 --out_format dets --append_observables",
-            "M !0\nDETECTOR rec[-1]\nOBSERVABLE_INCLUDE(1) rec[-1]",
-            b"shot D0 L1\nshot D0 L1\n",
-        ),
-        (
-            "stabsim detect --shots 2 --out_format r8",
-            "M !0\nDETECTOR\nDETECTOR",
-            b"\x02\x02",
-        ),
-    ];
-    for (line, text, written) in rows {
+    for (line, text, written) in SHOTS {
         assert_writes(&rt, line, text, written)?;
     }
     Ok(())
