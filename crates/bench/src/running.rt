@@ -12,9 +12,6 @@ use std::num::nearest_usize_to_f64;
 use std::rt::Files;
 use std::time::{CpuClock, Duration};
 
-/// The most qubits that a circuit can run on.
-const MOST_QUBITS: usize = 1024;
-
 /// The best of so many runs counts, since other programs disturb the rest.
 const RUNS: u32 = 5;
 
@@ -86,10 +83,9 @@ fn best_run<R: CpuClock + AllocGlobal>(rt: &R, circuit: &Circuit) -> Result<Time
 fn timed_run<R: CpuClock + AllocGlobal>(rt: &R, circuit: &Circuit) -> Result<Timed, Failure>
     ensures records { IfOk result (λ t. t.records ≡ length (records_of_run (circuit_items circuit.now))) }
 {
-    let qubits = circuit.qubits().min(MOST_QUBITS);
     let mut coins = SeedCoins::new(0, 0);
     let start = rt.thread_cpu_time()?;
-    match run_once(rt.alloc(), circuit, qubits, &mut coins) {
+    match run_once(rt.alloc(), circuit, circuit.qubits(), &mut coins) {
         Ok(shot) => Ok(Timed {
             time: rt.thread_cpu_time()?.saturating_sub(start),
             records: shot.records.len(),
