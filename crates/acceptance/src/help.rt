@@ -54,7 +54,7 @@ fn help_names_each_option(rt: HostRuntime) -> Result<(), Fail> {
         "--out ",
         "01, b8, r8, hits, dets",
     ];
-    for command in ["sample", "detect"] {
+    for (command, appends) in [("sample", false), ("detect", true)] {
         let text = help_of(parse_words(rt.alloc(), &["stabsim", command, "--help"])).ok_or(
             command,
         )?;
@@ -64,8 +64,8 @@ fn help_names_each_option(rt: HostRuntime) -> Result<(), Fail> {
                 "{command} does not show {option}"
             );
         }
-        let appends = text.as_str().contains("--append_observables");
-        assert_eq!(rt; appends, command == "detect", "{command}");
+        let named = text.as_str().contains("--append_observables");
+        assert_eq!(rt; named, appends, "{command}");
     }
     Ok(())
 }

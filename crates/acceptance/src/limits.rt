@@ -1,5 +1,6 @@
 //! Circuits at their limits, and one past them.
 use crate::runs::{assert_refuses, assert_writes, run_program};
+use std::alloc::Global;
 use std::test::Fail;
 
 #[test]
@@ -83,21 +84,20 @@ fn steps_of_blocks_are_counted_round_by_round(rt: HostRuntime) -> Result<(), Fai
     Ok(())
 }
 
+/// A measurement in so many blocks, each within the one before.
+fn nested(alloc: Global, depth: usize) -> Result<String, Fail> {
+    let opened = "REPEAT 1 {\n".repeat(alloc, depth)?;
+    let closed = "}\n".repeat(alloc, depth)?;
+    Ok(format!(in alloc; "{opened}M 0\n{closed}")?)
+}
+
 #[test]
 fn blocks_are_nested_16_deep(rt: HostRuntime) -> Result<(), Fail> {
-    for (depth, ended) in [(16, "0\n"), (17, "stabsim: line 17: refused 10 TooDeep\n")] {
-        let opened = "REPEAT 1 {\n".repeat(rt.alloc(), depth)?;
-        let closed = "}\n".repeat(rt.alloc(), depth)?;
-        let text = format!(in rt.alloc(); "{opened}M 0\n{closed}")?;
-        let run = run_program(rt.alloc(), "stabsim sample", text.as_str().as_bytes())?;
-        let told = if depth == 16 {
-            run.out.bytes()
-        } else {
-            run.err.bytes()
-        };
-        assert!(rt; told == ended.as_bytes(), "{depth} blocks");
-    }
-    Ok(())
+    let most = nested(rt.alloc(), 16)?;
+    assert_writes(&rt, "stabsim sample", most.as_str(), b"0\n")?;
+    let more = nested(rt.alloc(), 17)?;
+    let fault = "stabsim: line 17: refused 10 TooDeep\n";
+    assert_refuses(&rt, "stabsim sample", more.as_str(), fault)
 }
 
 #[test]
