@@ -31,7 +31,7 @@ impl<'a> Model for Sampler<'a> {
 
     ghost view = { λ s. record { qubits = s.tableau.qubits; items = circuit_items s.circuit.now } };
 
-    ghost invariant = { λ s. IsReady s.tableau.qubits (circuit_items s.circuit.now) s.cursor.all s.observables };
+    ghost invariant = { λ s. IsReady s.tableau.qubits (circuit_items s.circuit.now) s.cursor.all s.records s.observables };
 }
 
 impl<'a> Sampler<'a> {
