@@ -54,6 +54,7 @@ module _ {O : Type 0} {failures flushes : O → ℕ} {honest : O → Bool} {writ
     only = tt;
     kept = kept;
     failed = tt;
+    unfailed = tt;
     no_flush = no_flush;
     as_honest = as_honest;
     whole_written = λ h. all h ∙ ap (λ l. written old ++ l) same;
@@ -63,6 +64,7 @@ module _ {O : Type 0} {failures flushes : O → ℕ} {honest : O → Bool} {writ
     only = inl (err_is only);
     kept = tt;
     failed = λ e. failed;
+    unfailed = λ no. absurd (no (ap (λ g. g.refusal) (err_is only)));
     no_flush = no_flush;
     as_honest = as_honest;
     whole_written = λ h. tt;
@@ -79,6 +81,7 @@ module _ {O : Type 0} {failures flushes : O → ℕ} {honest : O → Bool} {writ
     only = inr is;
     kept = tt;
     failed = λ e. absurd (memory_is_no_write f is e);
+    unfailed = λ no. refl;
     no_flush = refl;
     as_honest = refl;
     whole_written = λ h. tt;
@@ -91,6 +94,7 @@ module _ {O : Type 0} {failures flushes : O → ℕ} {honest : O → Bool} {writ
     only = tt;
     kept = refl;
     failed = tt;
+    unfailed = tt;
     no_flush = refl;
     as_honest = refl;
     whole_written = λ h. sym (append-nil (written old));
@@ -104,6 +108,7 @@ module _ {O : Type 0} {failures flushes : O → ℕ} {honest : O → Bool} {writ
     only = tt;
     kept = call.kept ∙ before.kept;
     failed = tt;
+    unfailed = tt;
     no_flush = call.no_flush ∙ before.no_flush;
     as_honest = call.as_honest ∙ before.as_honest;
     whole_written = λ h. rw add-one (call.whole_written (before.as_honest ∙ h) ∙ ap (λ l. l ++ bytes_of shot) (before.whole_written h) ∙ append_assoc (written old) (of_shots bytes_of shot) (bytes_of shot));
@@ -118,6 +123,7 @@ module _ {O : Type 0} {failures flushes : O → ℕ} {honest : O → Bool} {writ
     only = subst IsSendingFault (sym is) call.only;
     kept = tt;
     failed = λ e. subst (λ n. Failed n (failures new)) before.kept (call.failed (ap (λ g. g.refusal) (sym is) ∙ e));
+    unfailed = λ no. call.unfailed (λ e. no (ap (λ g. g.refusal) is ∙ e)) ∙ before.kept;
     no_flush = call.no_flush ∙ before.no_flush;
     as_honest = call.as_honest ∙ before.as_honest;
     whole_written = λ h. tt;

@@ -1,5 +1,6 @@
 -- Outputs: what the commands write for the items of a circuit, and how a call of one ends.
-use Rattle.std.specs.Prelude.{◌≡◌, ℕ, zero, suc, ◌<◌, Bool, true, false, ◌⊎◌, IsTrue, List, [], ◌++◌, length, Result, OnOk, IfErr}
+use Rattle.std.specs.Prelude.{◌≡◌, ℕ, zero, suc, ◌+◌, ◌<◌, ◌≤◌, Bool, true, false, ◌⊎◌, IsTrue, List, [], ◌++◌, length, Result, OnOk, IfErr}
+use Rattle.std.specs.Result.{IsErrAnd}
 use Rattle.stab_pauli.specs.Devices.{Failed, WritesPrefix}
 use Rattle.stab_pauli.specs.declared.refusal.Refusal.{Refusal}
 use Rattle.stab_pauli.specs.declared.refusal.Refusal.TheVariants.{LookbackTooFar, TooManySteps, TooLong, ReadFault, WriteFault, OutOfMemory}
@@ -11,15 +12,13 @@ use Rattle.stab_circuit.specs.Readings.{IsCircuit, IsFaultOf, IsPlaced}
 use Rattle.stab_session.specs.Coins.{list_coin, seed_coin}
 use Rattle.stab_session.specs.Runs.{State, run_of}
 use Rattle.stab_results.specs.declared.format.Format.{Format}
-use Rattle.stab_results.specs.declared.format.Kinds.TheVariants.{Measurements, Detectors as detectors}
+use Rattle.stab_results.specs.declared.format.Kinds.TheVariants.{Measurements, Detectors}
 use Rattle.stab_results.specs.Formats.{shot_bytes}
 use Rattle.stab_cli.specs.declared.words.job.Source.{Source}
 use Rattle.stab_cli.specs.declared.words.job.Source.TheVariants.{Seed, List as Listed}
 use Rattle.stab_cli.specs.declared.words.job.Command.{Command}
 use Rattle.stab_cli.specs.declared.words.job.Command.TheVariants.{Sample, Detect}
 use Rattle.stab_cli.specs.declared.words.job.Job.{Job}
-use Rattle.stab_cli.specs.declared.shots.Shown.{Shown}
-use Rattle.stab_cli.specs.declared.shots.Shown.TheVariants.{Records, Detectors, DetectorsAndObservables}
 
 -- the coins of a shot: those of the shot's own stream under the seed, or the whole list anew
 abbrev pub coins_of_shot : Source → ℕ → ℕ → Bool
@@ -30,35 +29,30 @@ coins_of_shot (Listed list) shot = list_coin list.items
 abbrev pub run_of_shot : Source → Items → ℕ → State
 run_of_shot source items shot = run_of (qubits_of items) (coins_of_shot source shot) items
 
--- the bytes of what is shown of a run
-abbrev pub shown_bytes : Format → Shown → State → List ℕ
-shown_bytes format Records run = shot_bytes format Measurements run.records
-shown_bytes format Detectors run = shot_bytes format (detectors (length run.detectors)) run.detectors
-shown_bytes format DetectorsAndObservables run = shot_bytes format (detectors (length run.detectors)) (run.detectors ++ run.observables)
-
 -- the bytes of so many shots, one after another from shot 0 on
 abbrev pub of_shots : (ℕ → List ℕ) → ℕ → List ℕ
 of_shots bytes_of zero = []
 of_shots bytes_of (suc n) = of_shots bytes_of n ++ bytes_of n
 
--- what is shown of so many shots of the items
-abbrev pub shots_of : Format → Shown → ℕ → Source → Items → List ℕ
-shots_of format shown shots source items = of_shots (λ shot. shown_bytes format shown (run_of_shot source items shot)) shots
-
--- what `sample` writes: the records of each shot
+-- what `sample` writes for the items: the records of each shot
 abbrev pub sample_of : Format → ℕ → Source → Items → List ℕ
-sample_of format shots source items = shots_of format Records shots source items
+sample_of format shots source items = of_shots (λ shot. shot_bytes format Measurements (run_of_shot source items shot).records) shots
 
--- what `detect` writes: the detectors of each shot, and behind them the observables where they are appended
+-- a run's detectors, and behind them its observables where they are appended
+abbrev pub detected : Format → (append : Bool) → State → List ℕ
+detected format false run = shot_bytes format (Detectors (length run.detectors)) run.detectors
+detected format true run = shot_bytes format (Detectors (length run.detectors)) (run.detectors ++ run.observables)
+
+-- what `detect` writes for the items
 abbrev pub detect_of : Format → (append : Bool) → ℕ → Source → Items → List ℕ
-detect_of format false shots source items = shots_of format Detectors shots source items
-detect_of format true shots source items = shots_of format DetectorsAndObservables shots source items
+detect_of format append shots source items = of_shots (λ shot. detected format append (run_of_shot source items shot)) shots
 
--- what a job's command writes
+-- what a command writes for the items, with coins from the source
 abbrev pub written_by : Command → Source → Items → List ℕ
 written_by (Sample format shots) source items = sample_of format shots source items
 written_by (Detect format shots append) source items = detect_of format append shots source items
 
+-- what a job writes for the items
 abbrev pub output_of : Job → Items → List ℕ
 output_of job items = written_by job.command job.source items
 
@@ -115,10 +109,17 @@ pub record EndsRun {T : Type 0} (output : Items → List ℕ) (i : InputInCall) 
   pub unfailed : OnOk r ((i.failures_after ≡ i.failures) × (o.failures_after ≡ o.failures))
   -- a refusal is one of those that there are, with or without a line
   pub only : IfErr r (IsPlaced is_of_call)
-  -- the input is blamed only where it failed
+  -- the input is blamed only where it failed, and where it failed
   pub read_fault : IfErr r (λ f. f.refusal ≡ ReadFault → Failed i.failures i.failures_after)
-  -- the output is blamed only where it failed
+  pub no_read_fault : IfErr r (λ f. (f.refusal ≡ ReadFault → ⊥) → i.failures_after ≡ i.failures)
+  -- the output is blamed only where it failed, and where it failed
   pub write_fault : IfErr r (λ f. f.refusal ≡ WriteFault → Failed o.failures o.failures_after)
+  pub no_write_fault : IfErr r (λ f. (f.refusal ≡ WriteFault → ⊥) → o.failures_after ≡ o.failures)
+  -- a flush that failed is the one fault, and at most one failed
+  pub flush_fault : o.failed_flushes < o.failed_flushes_after → IsErrAnd r (λ f. f ≡ whole WriteFault)
+  pub one_flush : o.failed_flushes_after ≤ o.failed_flushes + 1
+  -- an honest output is untouched by every refusal but 16 and 20
+  pub untouched : IsTrue o.honest → IfErr r (λ f. (f.refusal ≡ WriteFault → ⊥) → (f.refusal ≡ OutOfMemory → ⊥) → o.new ≡ o.old)
   -- between honest devices, Ok says that all was read, and that its output was written and nothing else
   pub output_written : IsTrue i.honest → IsTrue o.honest → OnOk r ((i.left ≡ []) × WritesOutput output i.unread o.old o.new)
   -- between honest devices, a refusal is the text's own with nothing written, or a device's or memory's

@@ -3,8 +3,8 @@ ghost use Rattle.std.specs.Prelude.{◌≡◌, ◌≤◌, None};
 ghost use Rattle.stab_circuit.specs.Items.{Items};
 ghost use Rattle.stab_circuit.specs.Steps.{check_of};
 ghost use Rattle.stab_circuit.specs.Views.{circuit_items};
-ghost use Rattle.stab_cli.specs.Outputs.{EndsRun, shots_of, sample_of, detect_of};
-ghost use Rattle.stab_cli.specs.Sending.{Sends};
+ghost use Rattle.stab_cli.specs.Outputs.{EndsRun, sample_of, detect_of};
+ghost use Rattle.stab_cli.specs.Sending.{Sends, shots_of};
 
 use crate::shots::{Shown, send_shots};
 use crate::words::Source;
@@ -61,8 +61,8 @@ fn run_circuit<I: Input, O: Output>(
 /// The circuit's text is read whole before anything is written, and the output is flushed once at
 /// the end. Shot s has the coins of its own stream under the seed, or the whole list of coins anew.
 /// Faults: those of the text, with their lines; 8 and 9 for the whole circuit and 14 for a text of
-/// more than 16,777,216 bytes; 15 where the input failed; 16 where the output failed, and 20 where
-/// memory was refused, both after a prefix of what is to be written.
+/// more than 16,777,216 bytes; 15 where the input failed, with nothing written; 16 where the output
+/// failed, and 20 where memory was refused, both after a prefix of what is to be written.
 pub fn run_sample<I: Input, O: Output>(
     alloc: Global,
     input: &mut I,
@@ -102,10 +102,10 @@ pub fn run_detect<I: Input, O: Output>(
         (record { honest = O.honest out.old; old = O.written out.old; new = O.written out.new; failures = O.failures out.old; failures_after = O.failures out.new; failed_flushes = O.failed_flushes out.old; failed_flushes_after = O.failed_flushes out.new })
         result }
 {
-    let shown = if append {
-        Shown::DetectorsAndObservables
+    if append {
+        let shown = Shown::DetectorsAndObservables;
+        run_circuit(alloc, input, out, format, shown, shots, source)
     } else {
-        Shown::Detectors
-    };
-    run_circuit(alloc, input, out, format, shown, shots, source)
+        run_circuit(alloc, input, out, format, Shown::Detectors, shots, source)
+    }
 }

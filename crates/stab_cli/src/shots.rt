@@ -2,8 +2,8 @@
 ghost use Rattle.std.specs.Prelude.{◌≡◌, ◌⊎◌, ◌≤◌, IfOk, IfErr};
 ghost use Rattle.stab_pauli.specs.declared.refusal.Refusal.TheVariants.{OutOfMemory};
 ghost use Rattle.stab_session.specs.Runs.{State, run_of};
-ghost use Rattle.stab_cli.specs.Outputs.{coins_of_shot, shown_bytes, of_shots};
-ghost use Rattle.stab_cli.specs.Sending.{IsShot, Sends};
+ghost use Rattle.stab_cli.specs.Outputs.{coins_of_shot, of_shots};
+ghost use Rattle.stab_cli.specs.Sending.{IsShot, Sends, shown_bytes};
 
 use crate::words::Source;
 use stab_pauli::{Fault, Output, Refusal};

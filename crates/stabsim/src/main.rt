@@ -5,8 +5,8 @@
 //! meet.
 #![tactic(auto)]
 
-use stab_cli::{Job, Usage, parse_words, run_job, write_fault};
-use stab_pauli::{Device, Fault, Input, MemoryInput, Output, Refusal, write_all};
+use stab_cli::{Job, Usage, parse_words, run_job, write_fault, write_usage};
+use stab_pauli::{Device, Fault, Input, MemoryInput, Output, Refusal};
 use std::alloc::Global;
 use std::io::{BufWriter, Read, Write};
 use std::process::ExitCode;
@@ -19,7 +19,7 @@ fn main(rt: HostRuntime) -> ExitCode {
     let mut err = Device::new(rt.stderr());
     let status = match job(&rt) {
         Ok(job) => run_opened(&rt, &job, &mut err),
-        Err(usage) => tell(&usage, &mut Device::new(rt.stdout()), &mut err),
+        Err(usage) => write_usage(&usage, &mut Device::new(rt.stdout()), &mut err),
     };
     ExitCode::from(status)
 }
@@ -86,22 +86,6 @@ fn run_buffered<I: Input, W: Write + Drop, E: Output>(
             err,
         ),
         Err(_) => tell_fault(Refusal::OutOfMemory, err),
-    }
-}
-
-/// Writes why there is no job, and answers the status: 0 for help, 2 for wrong words, and 1 where
-/// memory or the output failed.
-fn tell<O: Output, E: Output>(usage: &Usage, out: &mut O, err: &mut E) -> u8 {
-    match usage {
-        Usage::Help(text) => match write_all(out, text.as_str().as_bytes()) {
-            Ok(()) => 0,
-            Err(refusal) => tell_fault(refusal, err),
-        },
-        Usage::Fault(text) => {
-            let _ = write_all(err, text.as_str().as_bytes());
-            2
-        }
-        Usage::Memory => tell_fault(Refusal::OutOfMemory, err),
     }
 }
 

@@ -21,7 +21,7 @@ Example, at the top of the repository:
   ./stabsim sample --shots 3 --in examples/bell.stim
 
 Detectors and observables are raw parities of records: no reference sample is subtracted.
-Refusals, by number and name, are explained in docs/refusals.md.
+Refusals, by number and name, are explained in docs/refusals.md, and coins in docs/coins.md.
 ";
 
 const AFTER_SAMPLE: &str = "\
@@ -29,7 +29,7 @@ Example, at the top of the repository:
   ./stabsim sample --shots 3 --seed 5 --in examples/bell.stim
 
 Records, and the parities that `detect` makes of them, are raw: no reference sample is subtracted.
-Refusals, by number and name, are explained in docs/refusals.md.
+Refusals, by number and name, are explained in docs/refusals.md, and coins in docs/coins.md.
 ";
 
 const AFTER_DETECT: &str = "\
@@ -37,7 +37,7 @@ Example, at the top of the repository:
   ./stabsim detect --append_observables --out_format dets --in examples/repetition_code.stim
 
 Detectors and observables are raw parities of records: no reference sample is subtracted.
-Refusals, by number and name, are explained in docs/refusals.md.
+Refusals, by number and name, are explained in docs/refusals.md, and coins in docs/coins.md.
 ";
 
 const HELP_SHOTS: &str = "How many shots, from 0 to 1000000";
@@ -52,7 +52,7 @@ const HELP_IN: &str = "Reads the circuit from a file in place of standard input"
 
 const HELP_OUT: &str = "Writes to a file in place of standard output";
 
-const HELP_APPEND: &str = "Writes the observables behind the detectors";
+const HELP_APPEND: &str = "Appends the observables to the detectors";
 
 /// An option `--id` with a value.
 fn valued<'a>(alloc: Global, id: &'a str, value: &'a str, help: &'a str) -> Arg<'a>

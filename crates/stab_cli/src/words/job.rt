@@ -26,7 +26,7 @@ impl Shots {
     /// The most shots that a command takes.
     pub const MOST: usize = 1_000_000;
 
-    /// So many shots.
+    /// So many shots, at most 1,000,000.
     pub fn new(number: usize) -> Shots
         requires in_range { number ≤ 1000000 }
         ensures value { result ≡ number }

@@ -1,5 +1,6 @@
 use Rattle.stab_session.specs.Runs.{run_of}
-use Rattle.stab_cli.specs.Outputs.{coins_of_shot, shown_bytes}
+use Rattle.stab_cli.specs.Outputs.{coins_of_shot}
+use Rattle.stab_cli.specs.Sending.{shown_bytes}
 use Rattle.stab_cli.proofs.SendingLaws.{sent_shot, shots_break_off}
 use Rattle.stab_cli.proofs.shots.send_shots.Goals as goal
 

@@ -1,7 +1,7 @@
 use Rattle.std.proofs.Common.{◌≡◌, Ok}
 use Rattle.stab_session.specs.Runs.{run_of}
-use Rattle.stab_cli.specs.Outputs.{coins_of_shot, shown_bytes, of_shots}
-use Rattle.stab_cli.specs.Sending.{Sends}
+use Rattle.stab_cli.specs.Outputs.{coins_of_shot, of_shots}
+use Rattle.stab_cli.specs.Sending.{Sends, shown_bytes}
 use Rattle.stab_cli.proofs.shots.send_shots.Given as goal
 
 abbrev pub invariant-loop-shot : goal.invariant-loop-shot

@@ -1,7 +1,7 @@
 use Rattle.std.proofs.Common.{◌∙◌, ◌++◌, ap, ap₂, sym, length}
 use Rattle.stab_results.specs.declared.format.Kinds.TheVariants.{Measurements, Detectors}
 use Rattle.stab_results.specs.Formats.{shot_bytes}
-use Rattle.stab_cli.specs.Outputs.{shown_bytes}
+use Rattle.stab_cli.specs.Sending.{shown_bytes}
 use Rattle.stab_cli.proofs.SendingLaws.{sends_text, sends_none}
 use Rattle.stab_cli.proofs.shots.write_shown.Goals as goal
 
