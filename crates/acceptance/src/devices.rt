@@ -4,6 +4,7 @@ use stab_cli::{Source, run_detect, run_job, run_sample};
 use stab_pauli::{CutInput, EndlessInput, Fault, Input, MemoryInput, MemoryOutput, Refusal};
 use stab_results::Format;
 use std::alloc::Global;
+use std::process::Abort;
 use std::test::Fail;
 
 const TEXT: &[u8] =
@@ -40,23 +41,34 @@ const TWO_SHOTS: [(bool, Format, &[u8]); 10] = [
     (true, Format::Dets, b"shot D0 L0\nshot D0 L0\n"),
 ];
 
+/// Asserts that an output with less room than is needed gets as much as it has room for.
+fn assert_prefixes(
+    rt: &(impl Abort + AllocGlobal),
+    detect: bool,
+    format: Format,
+    whole: &[u8],
+) -> Result<(), Fail> {
+    for room in 0..whole.len() {
+        let mut out = MemoryOutput::new(rt.alloc(), room)?;
+        let mut input = MemoryInput::new(TEXT);
+        let ended = run_two_shots(rt.alloc(), detect, format, &mut input, &mut out);
+        assert_eq!(rt;
+            ended,
+            Err(Fault::whole(Refusal::WriteFault)),
+            "{format:?}, detect {detect}, room {room}"
+        );
+        assert!(rt;
+            out.bytes() == whole.split_at(room).0,
+            "{format:?}, detect {detect}, room {room}"
+        );
+    }
+    Ok(())
+}
+
 #[test]
 fn a_failing_output_has_a_prefix(rt: HostRuntime) -> Result<(), Fail> {
     for (detect, format, whole) in TWO_SHOTS {
-        for room in 0..whole.len() {
-            let mut out = MemoryOutput::new(rt.alloc(), room)?;
-            let mut input = MemoryInput::new(TEXT);
-            let ended = run_two_shots(rt.alloc(), detect, format, &mut input, &mut out);
-            assert_eq!(rt;
-                ended,
-                Err(Fault::whole(Refusal::WriteFault)),
-                "{format:?}, detect {detect}, room {room}"
-            );
-            assert!(rt;
-                out.bytes() == whole.split_at(room).0,
-                "{format:?}, detect {detect}, room {room}"
-            );
-        }
+        assert_prefixes(&rt, detect, format, whole)?;
     }
     Ok(())
 }
@@ -143,24 +155,28 @@ fn no_shots_are_flushed_too(rt: HostRuntime) -> Result<(), Fail> {
     Ok(())
 }
 
-#[test]
-fn a_failing_input_leaves_the_output_empty(rt: HostRuntime) -> Result<(), Fail> {
+/// Asserts that nothing is written where any one read fails.
+fn assert_each_read_is_needed(rt: &(impl Abort + AllocGlobal), detect: bool) -> Result<(), Fail> {
     // Each read gives one byte, and one more finds the end of the text.
     let reads = TEXT.len() as u64 + 1;
-    for detect in [false, true] {
-        for fail_at in 1..=reads {
-            let mut out = MemoryOutput::new(rt.alloc(), 99)?;
-            let mut input = CutInput::new(TEXT, 1, fail_at);
-            let ended = run_two_shots(rt.alloc(), detect, Format::Hits, &mut input, &mut out);
-            assert_eq!(rt;
-                ended,
-                Err(Fault::whole(Refusal::ReadFault)),
-                "read {fail_at}, detect {detect}"
-            );
-            assert!(rt; out.bytes().is_empty(), "read {fail_at}, detect {detect}");
-        }
+    for fail_at in 1..=reads {
+        let mut out = MemoryOutput::new(rt.alloc(), 99)?;
+        let mut input = CutInput::new(TEXT, 1, fail_at);
+        let ended = run_two_shots(rt.alloc(), detect, Format::Hits, &mut input, &mut out);
+        assert_eq!(rt;
+            ended,
+            Err(Fault::whole(Refusal::ReadFault)),
+            "read {fail_at}, detect {detect}"
+        );
+        assert!(rt; out.bytes().is_empty(), "read {fail_at}, detect {detect}");
     }
     Ok(())
+}
+
+#[test]
+fn a_failing_input_leaves_the_output_empty(rt: HostRuntime) -> Result<(), Fail> {
+    assert_each_read_is_needed(&rt, false)?;
+    assert_each_read_is_needed(&rt, true)
 }
 
 #[test]
@@ -180,18 +196,16 @@ fn an_input_may_come_in_pieces(rt: HostRuntime) -> Result<(), Fail> {
 
 #[test]
 fn an_endless_input_is_too_long(rt: HostRuntime) -> Result<(), Fail> {
-    for byte in [b'#', b'\n', b'}'] {
-        for detect in [false, true] {
-            let mut out = MemoryOutput::new(rt.alloc(), 9)?;
-            let mut input = EndlessInput::new(byte);
-            let ended = run_two_shots(rt.alloc(), detect, Format::F01, &mut input, &mut out);
-            assert_eq!(rt;
-                ended,
-                Err(Fault::whole(Refusal::TooLong)),
-                "byte {byte}, detect {detect}"
-            );
-            assert!(rt; out.bytes().is_empty(), "byte {byte}, detect {detect}");
-        }
+    for (byte, detect) in [(b'#', false), (b'#', true), (b'\n', false), (b'}', true)] {
+        let mut out = MemoryOutput::new(rt.alloc(), 9)?;
+        let mut input = EndlessInput::new(byte);
+        let ended = run_two_shots(rt.alloc(), detect, Format::F01, &mut input, &mut out);
+        assert_eq!(rt;
+            ended,
+            Err(Fault::whole(Refusal::TooLong)),
+            "byte {byte}, detect {detect}"
+        );
+        assert!(rt; out.bytes().is_empty(), "byte {byte}, detect {detect}");
     }
     Ok(())
 }
@@ -231,33 +245,37 @@ fn a_failing_device_is_told_on_the_error_output(rt: HostRuntime) -> Result<(), F
     Ok(())
 }
 
-#[test]
-fn a_failing_error_output_changes_no_status(rt: HostRuntime) -> Result<(), Fail> {
+/// Asserts that the status tells a fault, however little of its line is written.
+fn assert_status_stays(rt: &(impl Abort + AllocGlobal), command: &str) -> Result<(), Fail> {
     let line: &[u8] = b"stabsim: line 1: refused 11 BadLine\n";
-    for command in ["sample", "detect"] {
-        let job = job_of(rt.alloc(), &["stabsim", command])?;
-        for room in 0..line.len() {
-            let mut out = MemoryOutput::new(rt.alloc(), 9)?;
-            let mut err = MemoryOutput::new(rt.alloc(), room)?;
-            err.fail_flush();
-            let mut script = MemoryInput::new(&[]);
-            let mut input = MemoryInput::new(b"X!");
-            let status = run_job(
-                rt.alloc(),
-                &job,
-                &mut input,
-                &mut script,
-                &mut out,
-                &mut err,
-            );
-            assert_eq!(rt; status, 1, "{command}, room {room}");
-            assert!(rt;
-                err.bytes() == line.split_at(room).0,
-                "{command}, room {room}"
-            );
-        }
+    let job = job_of(rt.alloc(), &["stabsim", command])?;
+    for room in 0..line.len() {
+        let mut out = MemoryOutput::new(rt.alloc(), 9)?;
+        let mut err = MemoryOutput::new(rt.alloc(), room)?;
+        err.fail_flush();
+        let mut script = MemoryInput::new(&[]);
+        let mut input = MemoryInput::new(b"X!");
+        let status = run_job(
+            rt.alloc(),
+            &job,
+            &mut input,
+            &mut script,
+            &mut out,
+            &mut err,
+        );
+        assert_eq!(rt; status, 1, "{command}, room {room}");
+        assert!(rt;
+            err.bytes() == line.split_at(room).0,
+            "{command}, room {room}"
+        );
     }
     Ok(())
+}
+
+#[test]
+fn a_failing_error_output_changes_no_status(rt: HostRuntime) -> Result<(), Fail> {
+    assert_status_stays(&rt, "sample")?;
+    assert_status_stays(&rt, "detect")
 }
 
 #[test]

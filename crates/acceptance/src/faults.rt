@@ -277,27 +277,21 @@ fn the_first_faulty_line_is_told(rt: HostRuntime) -> Result<(), Fail> {
 
 #[test]
 fn a_text_is_refused_whatever_is_asked_for(rt: HostRuntime) -> Result<(), Fail> {
-    for format in ["01", "b8", "r8", "hits", "dets"] {
-        for shots in ["0", "1", "3"] {
-            let sample = format!(in rt.alloc();
-                "stabsim sample --shots {shots} --out_format {format}"
-            )?;
-            assert_refuses(
-                &rt,
-                sample.as_str(),
-                "M 0\nDETECTOR rec[-2]",
-                "stabsim: refused 8 LookbackTooFar\n",
-            )?;
-            let detect = format!(in rt.alloc();
-                "stabsim detect --append_observables --coins 1 --shots {shots} --out_format {format}"
-            )?;
-            assert_refuses(
-                &rt,
-                detect.as_str(),
-                "M 0\nM 1024",
-                "stabsim: line 2: refused 6 QubitOutOfRange\n",
-            )?;
-        }
+    let lookback = "stabsim: refused 8 LookbackTooFar\n";
+    let qubit = "stabsim: line 2: refused 6 QubitOutOfRange\n";
+    let lines = [
+        "stabsim sample --shots 0",
+        "stabsim sample --shots 0 --out_format b8",
+        "stabsim sample --shots 3 --out_format r8 --seed 7",
+        "stabsim sample --out_format hits --coins 1",
+        "stabsim sample --out_format dets",
+        "stabsim detect --shots 0 --append_observables",
+        "stabsim detect --shots 0 --out_format r8",
+        "stabsim detect --shots 1000000 --out_format b8 --append_observables",
+    ];
+    for line in lines {
+        assert_refuses(&rt, line, "M 0\nDETECTOR rec[-2]", lookback)?;
+        assert_refuses(&rt, line, "M 0\nM 1024", qubit)?;
     }
     Ok(())
 }

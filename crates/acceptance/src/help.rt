@@ -1,5 +1,6 @@
 //! The help that the program gives.
 use stab_cli::{Job, Usage, parse_words};
+use std::process::Abort;
 use std::test::Fail;
 
 /// The text of help, or none where the words are a job or a fault.
@@ -10,9 +11,25 @@ fn help_of(outcome: Result<Job, Usage>) -> Option<String> {
     }
 }
 
+/// Asserts that these words give help which shows each of these parts.
+fn assert_shows(
+    rt: &(impl Abort + AllocGlobal),
+    words: &[&str],
+    parts: &[&str],
+) -> Result<(), Fail> {
+    let text = help_of(parse_words(rt.alloc(), words)).ok_or(words)?;
+    for part in parts {
+        assert!(rt;
+            text.as_str().contains(*part),
+            "{words:?} shows no {part:?}"
+        );
+    }
+    Ok(())
+}
+
 #[test]
 fn help_shows_an_example_and_where_to_read_on(rt: HostRuntime) -> Result<(), Fail> {
-    let words: [(&[&str], &str); 9] = [
+    let rows: [(&[&str], &str); 9] = [
         (&["stabsim", "--help"], "stabsim sample --"),
         (&["stabsim", "-h"], "stabsim sample --"),
         (&["stabsim", "help"], "stabsim sample --"),
@@ -29,16 +46,14 @@ fn help_shows_an_example_and_where_to_read_on(rt: HostRuntime) -> Result<(), Fai
         ),
         (&["stabsim", "help", "detect"], "stabsim detect --"),
     ];
-    for (words, example) in words {
-        let text = help_of(parse_words(rt.alloc(), words)).ok_or(words)?;
-        for part in [
+    for (words, example) in rows {
+        let parts = [
             "Example",
             example,
             "no reference sample",
             "docs/refusals.md",
-        ] {
-            assert!(rt; text.as_str().contains(part), "{words:?} shows no {part:?}");
-        }
+        ];
+        assert_shows(&rt, words, &parts)?;
     }
     Ok(())
 }
@@ -46,26 +61,28 @@ fn help_shows_an_example_and_where_to_read_on(rt: HostRuntime) -> Result<(), Fai
 #[test]
 fn help_names_each_option(rt: HostRuntime) -> Result<(), Fail> {
     let options = [
-        "--shots",
-        "--out_format",
-        "--seed",
-        "--coins",
+        "--shots ",
+        "--out_format ",
+        "--seed ",
+        "--coins ",
         "--in ",
         "--out ",
         "01, b8, r8, hits, dets",
     ];
+    assert_shows(&rt, &["stabsim", "sample", "--help"], &options)?;
+    assert_shows(&rt, &["stabsim", "detect", "--help"], &options)
+}
+
+#[test]
+fn detect_alone_appends_observables(rt: HostRuntime) -> Result<(), Fail> {
     for (command, appends) in [("sample", false), ("detect", true)] {
-        let text = help_of(parse_words(rt.alloc(), &["stabsim", command, "--help"])).ok_or(
-            command,
-        )?;
-        for option in options {
-            assert!(rt;
-                text.as_str().contains(option),
-                "{command} does not show {option}"
-            );
-        }
-        let named = text.as_str().contains("--append_observables");
-        assert_eq!(rt; named, appends, "{command}");
+        let words = ["stabsim", command, "--help"];
+        let text = help_of(parse_words(rt.alloc(), &words)).ok_or(command)?;
+        assert_eq!(rt;
+            text.as_str().contains("--append_observables"),
+            appends,
+            "{command}"
+        );
     }
     Ok(())
 }

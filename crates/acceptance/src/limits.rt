@@ -1,5 +1,5 @@
 //! Circuits at their limits, and one past them.
-use crate::runs::{assert_refuses, assert_writes, run_program};
+use crate::runs::{assert_each_writes, assert_refuses, assert_writes, run_program};
 use std::alloc::Global;
 use std::test::Fail;
 
@@ -61,9 +61,11 @@ fn steps_of_blocks_are_counted_round_by_round(rt: HostRuntime) -> Result<(), Fai
         ("REPEAT 1048576 {\nX 0\n}", "\n"),
         ("REPEAT 1024 {\nREPEAT 1023 {\nX 0\n}\nDETECTOR\n}", "\n"),
     ];
-    for (text, records) in rows {
-        assert_writes(&rt, "stabsim sample", text, records.as_bytes())?;
-    }
+    assert_each_writes(&rt, "stabsim sample", rows.as_slice())
+}
+
+#[test]
+fn too_many_steps_are_refused_by_their_number(rt: HostRuntime) -> Result<(), Fail> {
     let texts = [
         "REPEAT 2000000 {\nX 0\n}",
         "REPEAT 1048577 {\nX 0\n}",

@@ -3,7 +3,7 @@ use crate::runs::assert_writes;
 use stab_circuit::read_circuit;
 use stab_pauli::MemoryInput;
 use stab_session::{SeedCoins, run_once};
-use std::alloc::Global;
+use std::alloc::{AllocError, Global};
 use std::test::Fail;
 
 // Each of its 64 records is the coin of the same number.
@@ -12,16 +12,22 @@ const HALVES: &str = "REPEAT 64 {\nH 0\nM 0\n}";
 // Its records are the coins with odd numbers, since each `R 1` uses up a number.
 const EVERY_OTHER: &str = "REPEAT 32 {\nR 1\nH 0\nM 0\n}";
 
-/// The records of three runs of `HALVES` with the coins of a seed, each with a line feed.
+/// Puts bits behind a text in format 01.
+fn push_bits(text: &mut Vec<u8>, bits: &[bool]) -> Result<(), AllocError> {
+    for bit in bits {
+        text.push(if *bit { b'1' } else { b'0' })?;
+    }
+    text.push(b'\n')?;
+    Ok(())
+}
+
+/// The records of three runs of `HALVES` with the coins of a seed, in format 01.
 fn three_shots(alloc: Global, seed: u64) -> Result<Vec<u8>, Fail> {
     let circuit = read_circuit(alloc, &mut MemoryInput::new(HALVES.as_bytes()))?;
     let mut text = Vec::new(alloc);
     for shot in 0..3 {
         let run = run_once(alloc, &circuit, 1, &mut SeedCoins::new(seed, shot))?;
-        for record in run.records.as_slice() {
-            text.push(if *record { b'1' } else { b'0' })?;
-        }
-        text.push(b'\n')?;
+        push_bits(&mut text, run.records.as_slice())?;
     }
     Ok(text)
 }

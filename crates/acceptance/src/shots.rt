@@ -1,5 +1,6 @@
 //! Several shots, and none.
 use crate::runs::assert_writes;
+use std::process::Abort;
 use std::test::Fail;
 
 // Command lines with several shots, their circuits, and what is written.
@@ -89,16 +90,21 @@ fn each_shot_begins_with_zeros(rt: HostRuntime) -> Result<(), Fail> {
     Ok(())
 }
 
-#[test]
-fn no_shots_give_no_byte(rt: HostRuntime) -> Result<(), Fail> {
-    for command in ["sample", "detect", "detect --append_observables"] {
-        for format in ["01", "b8", "r8", "hits", "dets"] {
-            let line = format!(in rt.alloc(); "stabsim {command} --shots 0 --out_format {format}")?;
-            assert_writes(&rt, line.as_str(), "", b"")?;
-            assert_writes(&rt, line.as_str(), "M !0\nDETECTOR rec[-1]", b"")?;
-        }
+/// Asserts that no shots of a command give no byte in any format.
+fn assert_no_byte(rt: &(impl Abort + AllocGlobal), command: &str) -> Result<(), Fail> {
+    for format in ["01", "b8", "r8", "hits", "dets"] {
+        let line = format!(in rt.alloc(); "{command} --shots 0 --out_format {format}")?;
+        assert_writes(rt, line.as_str(), "", b"")?;
+        assert_writes(rt, line.as_str(), "M !0\nDETECTOR rec[-1]", b"")?;
     }
     Ok(())
+}
+
+#[test]
+fn no_shots_give_no_byte(rt: HostRuntime) -> Result<(), Fail> {
+    assert_no_byte(&rt, "stabsim sample")?;
+    assert_no_byte(&rt, "stabsim detect")?;
+    assert_no_byte(&rt, "stabsim detect --append_observables")
 }
 
 #[test]
