@@ -52,29 +52,36 @@ fn a_line_without_the_shape_of_a_line_is_refused(rt: HostRuntime) -> Result<(), 
     )
 }
 
+// Instructions whose names are not read, most of them Stim's.
+const OTHER_NAMES: [&str; 21] = [
+    "X_ERROR 0",
+    "DEPOLARIZE1(0.1) 0",
+    "MPAD 0",
+    "MXX 0 1",
+    "MPP X0",
+    "MY 0",
+    "RX 0",
+    "ISWAP 0 1",
+    "SQRT_XX 0 1",
+    "SPP X0",
+    "XCX 0 1",
+    "H_XY 0",
+    "SQRT_X 0",
+    "C_XYZ 0",
+    "XX 0",
+    "M_ 0",
+    "H0 1",
+    "REPEATS 2 {",
+    "NOPE(1) x {",
+    "NOPE\n}",
+    "nope",
+];
+
 #[test]
 fn a_name_outside_the_table_is_refused(rt: HostRuntime) -> Result<(), Fail> {
-    let texts = [
-        "X_ERROR 0",
-        "DEPOLARIZE1(0.1) 0",
-        "MPAD 0",
-        "MXX 0 1",
-        "ISWAP 0 1",
-        "SQRT_XX 0 1",
-        "SPP X0",
-        "XCX 0 1",
-        "H_XY 0",
-        "XX 0",
-        "M_ 0",
-        "H0 1",
-        "REPEATS 2 {",
-        "NOPE(1) x {",
-        "NOPE\n}",
-        "nope",
-    ];
     assert_each_refused(
         &rt,
-        texts.as_slice(),
+        OTHER_NAMES.as_slice(),
         "stabsim: line 1: refused 1 UnsupportedName\n",
     )
 }
@@ -109,44 +116,48 @@ fn wrong_arguments_are_refused(rt: HostRuntime) -> Result<(), Fail> {
     )
 }
 
+// Instructions of which a target is not what the name takes.
+const WRONG_TARGETS: [&str; 33] = [
+    "X !0",
+    "X -1",
+    "X a",
+    "X 0,1",
+    "X [a] 0",
+    "X rec[-1]",
+    "X y 1024",
+    "M !!0",
+    "M 0 !",
+    "M 0*1",
+    "R !0",
+    "CX !0 1",
+    "CX sweep[0] 0",
+    "CX rec[-1] 0",
+    "CZ 0 rec[-1]",
+    "CX 0 0 a",
+    "TICK 0",
+    "SHIFT_COORDS(1) 0",
+    "QUBIT_COORDS(0) !1",
+    "DETECTOR 0",
+    "DETECTOR rec[-0]",
+    "DETECTOR rec[-16777216]",
+    "DETECTOR rec[1]",
+    "DETECTOR rec[-]",
+    "DETECTOR rec[-1",
+    "DETECTOR REC[-1]",
+    "DETECTOR rec[-1]x",
+    "OBSERVABLE_INCLUDE(0) 1",
+    "OBSERVABLE_INCLUDE(4096) rec[0]",
+    "REPEAT x {",
+    "REPEAT -1 {",
+    "REPEAT 2 x {",
+    "REPEAT 2.5 {",
+];
+
 #[test]
 fn a_wrong_target_is_refused(rt: HostRuntime) -> Result<(), Fail> {
-    let texts = [
-        "X !0",
-        "X -1",
-        "X a",
-        "X 0,1",
-        "X [a] 0",
-        "X rec[-1]",
-        "X y 1024",
-        "M !!0",
-        "M 0 !",
-        "M 0*1",
-        "R !0",
-        "CX !0 1",
-        "CX sweep[0] 0",
-        "CX 0 0 a",
-        "TICK 0",
-        "SHIFT_COORDS(1) 0",
-        "QUBIT_COORDS(0) !1",
-        "DETECTOR 0",
-        "DETECTOR rec[-0]",
-        "DETECTOR rec[-16777216]",
-        "DETECTOR rec[1]",
-        "DETECTOR rec[-]",
-        "DETECTOR rec[-1",
-        "DETECTOR REC[-1]",
-        "DETECTOR rec[-1]x",
-        "OBSERVABLE_INCLUDE(0) 1",
-        "OBSERVABLE_INCLUDE(4096) rec[0]",
-        "REPEAT x {",
-        "REPEAT -1 {",
-        "REPEAT 2 x {",
-        "REPEAT 2.5 {",
-    ];
     assert_each_refused(
         &rt,
-        texts.as_slice(),
+        WRONG_TARGETS.as_slice(),
         "stabsim: line 1: refused 3 BadTarget\n",
     )
 }

@@ -8,6 +8,10 @@ const NINE: &str = "X 0\nM 0\nX 0\nREPEAT 7 {\nM 0\n}\nX 0\nM 0";
 const MIXED: &str = "X 0\nM 0\nDETECTOR rec[-1]\nOBSERVABLE_INCLUDE(0)\nDETECTOR\n\
 OBSERVABLE_INCLUDE(1) rec[-1]";
 
+// Two detectors, 1 and 0, and two observables, both 1.
+const BOTH: &str = "X 0\nM 0\nDETECTOR rec[-1]\nDETECTOR\nOBSERVABLE_INCLUDE(0) rec[-1]\n\
+OBSERVABLE_INCLUDE(1) rec[-1]";
+
 const ROUNDS: &str = "REPEAT 3 {\nX 0\nM 0\nDETECTOR rec[-1]\nOBSERVABLE_INCLUDE(0) rec[-1]\n}";
 
 #[test]
@@ -61,7 +65,7 @@ fn detect_writes_each_format(rt: HostRuntime) -> Result<(), Fail> {
 
 #[test]
 fn detectors_and_observables_are_one_list_in_each_format(rt: HostRuntime) -> Result<(), Fail> {
-    let rows: [(&str, &str, &[u8]); 12] = [
+    let rows: [(&str, &str, &[u8]); 13] = [
         ("01", MIXED, b"1001\n"),
         ("b8", MIXED, b"\x09"),
         ("r8", MIXED, b"\x00\x02\x00"),
@@ -72,6 +76,7 @@ fn detectors_and_observables_are_one_list_in_each_format(rt: HostRuntime) -> Res
         ("r8", ROUNDS, b"\x00\x01\x01"),
         ("hits", ROUNDS, b"0,2\n"),
         ("dets", ROUNDS, b"shot D0 D2\n"),
+        ("dets", BOTH, b"shot D0 L0 L1\n"),
         (
             "dets",
             "X 0\nM 0\nOBSERVABLE_INCLUDE(12) rec[-1]",

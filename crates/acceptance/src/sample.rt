@@ -1,6 +1,17 @@
 //! The records that `sample` writes where no coin decides.
 use crate::runs::assert_each_writes;
+use std::process::Abort;
 use std::test::Fail;
+
+/// Asserts that these records are written whatever the coins: with zeros, and with ones for more
+/// measurements than any of the texts has.
+fn assert_each_is_fixed(
+    rt: &(impl Abort + AllocGlobal),
+    rows: &[(&str, &str)],
+) -> Result<(), Fail> {
+    assert_each_writes(rt, "stabsim sample --coins 0", rows)?;
+    assert_each_writes(rt, "stabsim sample --coins 1111111111111111", rows)
+}
 
 #[test]
 fn measurements_record_the_outcome_or_its_inverse(rt: HostRuntime) -> Result<(), Fail> {
@@ -19,7 +30,7 @@ fn measurements_record_the_outcome_or_its_inverse(rt: HostRuntime) -> Result<(),
         ("X 0 1\nR 0\nM 0 1", "01\n"),
         ("R 0\nM 0", "0\n"),
     ];
-    assert_each_writes(&rt, "stabsim sample", rows.as_slice())
+    assert_each_is_fixed(&rt, rows.as_slice())
 }
 
 #[test]
@@ -47,7 +58,7 @@ fn gates_act_as_the_gate_tables_say(rt: HostRuntime) -> Result<(), Fail> {
         ("H 0\nS_DAG 0\nS_DAG 0\nMX 0", "1\n"),
         ("H 0\nS 0\nS 0\nH 0\nM 0", "1\n"),
     ];
-    assert_each_writes(&rt, "stabsim sample", rows.as_slice())
+    assert_each_is_fixed(&rt, rows.as_slice())
 }
 
 #[test]
@@ -69,7 +80,7 @@ fn pair_gates_act_as_the_gate_tables_say(rt: HostRuntime) -> Result<(), Fail> {
         ("X 0\nSWAP 0 1 1 2\nM 0 1 2", "001\n"),
         ("H 0\nZ 0\nSWAP 0 1\nM 0\nMX 1", "01\n"),
     ];
-    assert_each_writes(&rt, "stabsim sample", rows.as_slice())
+    assert_each_is_fixed(&rt, rows.as_slice())
 }
 
 #[test]
@@ -81,16 +92,21 @@ fn an_instruction_has_its_other_names(rt: HostRuntime) -> Result<(), Fail> {
         ("H 0\nSQRT_Z_DAG 0\nS 0\nMX 0", "0\n"),
         ("H 0\nSQRT_Z_DAG 0\nS_DAG 0\nMX 0", "1\n"),
         ("X 0\nCNOT 0 1\nM 0 1", "11\n"),
+        ("H 0 1\nZ 1\nCNOT 0 1\nMX 0 1", "11\n"),
         ("X 0\nZCX 0 1\nM 0 1", "11\n"),
+        ("H 0 1\nZ 1\nZCX 0 1\nMX 0 1", "11\n"),
         ("X 0\nZCY 0 1\nM 0 1", "11\n"),
+        ("H 0\nZCY 0 1\nS_DAG 1\nCX 0 1\nMX 0\nM 1", "00\n"),
         ("X 0\nH 1\nZCZ 0 1\nM 0\nMX 1", "11\n"),
-        ("X 0\nMZ 0", "1\n"),
+        ("H 0\nX 1\nZCZ 0 1\nMX 0\nM 1", "11\n"),
+        ("H 0\nZCZ 0 1\nMX 0", "0\n"),
+        ("X 0\nMZ 0 0", "11\n"),
         ("X 0\nMRZ 0\nM 0", "10\n"),
-        ("X 0\nRZ 0\nM 0", "0\n"),
+        ("X 0\nRZ 0 1\nM 0 1", "00\n"),
         ("x 0\ncnot 0 1\nsWaP 1 2\nm 0 1 2", "101\n"),
         ("h_xz 0\nsqrt_z_dag 0\ns_dag 0\nmx 0", "1\n"),
     ];
-    assert_each_writes(&rt, "stabsim sample", rows.as_slice())
+    assert_each_is_fixed(&rt, rows.as_slice())
 }
 
 #[test]
@@ -113,7 +129,7 @@ fn blocks_repeat_their_bodies(rt: HostRuntime) -> Result<(), Fail> {
             "101\n",
         ),
     ];
-    assert_each_writes(&rt, "stabsim sample", rows.as_slice())
+    assert_each_is_fixed(&rt, rows.as_slice())
 }
 
 #[test]
@@ -136,5 +152,5 @@ fn lines_are_read_as_the_format_says(rt: HostRuntime) -> Result<(), Fail> {
         ("QUBIT_COORDS 1023\nX 0\nM 0\nDETECTOR(1,2) rec[-1]", "1\n"),
         ("X 0\nM 0\nOBSERVABLE_INCLUDE( 0007\t) rec[-01]", "1\n"),
     ];
-    assert_each_writes(&rt, "stabsim sample", rows.as_slice())
+    assert_each_is_fixed(&rt, rows.as_slice())
 }

@@ -1,5 +1,7 @@
 //! Several shots, and none.
-use crate::runs::assert_writes;
+use crate::runs::{assert_writes, job_of};
+use stab_cli::run_job;
+use stab_pauli::{MemoryInput, MemoryOutput};
 use std::process::Abort;
 use std::test::Fail;
 
@@ -69,12 +71,12 @@ fn each_shot_begins_with_zeros(rt: HostRuntime) -> Result<(), Fail> {
     let rows = [
         ("stabsim sample --shots 3", "M 0\nX 0", "0\n0\n0\n"),
         (
-            "stabsim sample --shots 3 --coins 0001",
+            "stabsim sample --shots 3 --coins 110",
             "M 0 1\nH 0\nCX 0 1\nMX 0",
             "000\n000\n000\n",
         ),
         (
-            "stabsim sample --shots 2 --coins 001",
+            "stabsim sample --shots 2 --coins 111",
             "M 0 1\nMX 0\nCX 0 1",
             "001\n001\n",
         ),
@@ -109,10 +111,20 @@ fn no_shots_give_no_byte(rt: HostRuntime) -> Result<(), Fail> {
 
 #[test]
 fn a_million_shots_are_written(rt: HostRuntime) -> Result<(), Fail> {
-    assert_writes(
-        &rt,
-        "stabsim sample --shots 1000000 --out_format b8",
-        "",
-        b"",
-    )
+    let job = job_of(rt.alloc(), &["stabsim", "sample", "--shots", "1000000"])?;
+    let mut out = MemoryOutput::new(rt.alloc(), 1_000_000)?;
+    let mut err = MemoryOutput::new(rt.alloc(), 99)?;
+    let status = run_job(
+        rt.alloc(),
+        &job,
+        &mut MemoryInput::new(&[]),
+        &mut MemoryInput::new(&[]),
+        &mut out,
+        &mut err,
+    );
+    assert_eq!(rt; status, 0);
+    let lines = vec![in rt.alloc(); b'\n'; 1_000_000]?;
+    assert_eq!(rt; out.bytes().len(), lines.len());
+    assert!(rt; out.bytes() == lines.as_slice());
+    Ok(())
 }

@@ -15,9 +15,9 @@
 //! - `laws`: what holds between all texts and all items.
 //!
 //! Proved: every text is that of one circuit or has one fault, and never both; it is read as exactly
-//! the items that it stands for, or refused with exactly its fault; qubits, observables, steps, records and what refuses a whole circuit are those of its
-//! unrolled steps; what is printed of the items that a text stands for, stands for these items and
-//! no others.
+//! the items that it stands for, or refused with exactly its fault; qubits, observables, steps,
+//! records and what refuses a whole circuit are those of its unrolled steps; what is printed of the
+//! items that a text stands for, stands for these items and no others.
 #![tactic(auto)]
 
 mod argument;

@@ -13,22 +13,21 @@ fn shown(alloc: Global, cursor: &mut Cursor, lines: usize) -> Result<String, Ref
     Ok(text)
 }
 
-#[test]
-fn a_cursor_gives_the_unrolled_steps_from_a_place(rt: HostRuntime) -> Result<(), Fail> {
-    let cases: [(&str, usize, &str); 6] = [
-        (
-            "REPEAT 2 {\nX 0\nM 0 1\n}",
-            3,
-            "Some(One(X, 0))
+// Texts, places among their unrolled steps, and the steps from there on.
+const CASES: [(&str, usize, &str); 6] = [
+    (
+        "REPEAT 2 {\nX 0\nM 0 1\n}",
+        3,
+        "Some(One(X, 0))
 Some(Collapse { letter: Z, qubit: 0, recorded: true, inverted: false, reset: false })
 Some(Collapse { letter: Z, qubit: 1, recorded: true, inverted: false, reset: false })
 ",
-        ),
-        (
-            "CX 0 1\nTICK\nSWAP 2 0\nR 0\nMX !1\nMR 2\nQUBIT_COORDS(1) 5
+    ),
+    (
+        "CX 0 1\nTICK\nSWAP 2 0\nR 0\nMX !1\nMR 2\nQUBIT_COORDS(1) 5
 DETECTOR rec[-1] rec[-2]\nOBSERVABLE_INCLUDE(7) rec[-1]",
-            0,
-            "Some(Two(Cx, 0, 1))
+        0,
+        "Some(Two(Cx, 0, 1))
 Some(Two(Swap, 2, 0))
 Some(Collapse { letter: Z, qubit: 0, recorded: false, inverted: false, reset: true })
 Some(Collapse { letter: X, qubit: 1, recorded: true, inverted: true, reset: false })
@@ -36,33 +35,36 @@ Some(Collapse { letter: Z, qubit: 2, recorded: true, inverted: false, reset: tru
 Some(Detector([1, 2]))
 Some(Observable(7, [1]))
 ",
-        ),
-        (
-            "REPEAT 2 {\nREPEAT 2 {\nS 0\n}\nH 1\n}",
-            1,
-            "Some(One(S, 0))
+    ),
+    (
+        "REPEAT 2 {\nREPEAT 2 {\nS 0\n}\nH 1\n}",
+        1,
+        "Some(One(S, 0))
 Some(One(H, 1))
 Some(One(S, 0))
 Some(One(S, 0))
 Some(One(H, 1))
 ",
-        ),
-        (
-            "REPEAT 999999999999999999 {\nREPEAT 999999999999999999 {\nTICK\n}\n}\nH 1",
-            0,
-            "Some(One(H, 1))\n",
-        ),
-        ("X 0", 1, ""),
-        ("", 0, ""),
-    ];
-    for (text, step, steps) in cases {
+    ),
+    (
+        "REPEAT 999999999999999999 {\nREPEAT 999999999999999999 {\nTICK\n}\n}\nH 1",
+        0,
+        "Some(One(H, 1))\n",
+    ),
+    ("X 0", 1, ""),
+    ("", 0, ""),
+];
+
+#[test]
+fn a_cursor_gives_the_unrolled_steps_from_a_place(rt: HostRuntime) -> Result<(), Fail> {
+    for (text, step, steps) in CASES {
         let circuit = read_circuit(rt.alloc(), &mut MemoryInput::new(text.as_bytes()))?;
         assert!(rt; step <= circuit.steps());
         let mut cursor = Cursor::at(rt.alloc(), &circuit, step)?;
         let left = shown(rt.alloc(), &mut cursor, circuit.steps() - step)?;
-        assert_eq!(rt; left.as_str(), steps);
-        assert!(rt; cursor.next().is_none());
-        assert!(rt; cursor.next().is_none());
+        assert_eq!(rt; left.as_str(), steps, "{text:?} from step {step}");
+        assert!(rt; cursor.next().is_none(), "{text:?} from step {step}");
+        assert!(rt; cursor.next().is_none(), "{text:?} from step {step}");
     }
     Ok(())
 }
