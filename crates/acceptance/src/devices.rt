@@ -212,11 +212,9 @@ impl Output for FlushCounter {
 }
 
 /// Asserts that a run without a fault flushes once, after its last byte.
-fn assert_one_flush(
-    rt: &(impl Abort + AllocGlobal),
-    detect: bool,
-    shots: usize,
-) -> Result<(), Fail> {
+fn assert_one_flush(rt: &(impl Abort + AllocGlobal), detect: bool, shots: usize) -> Result<(), Fail>
+    requires few { shots ≤ 1000000 }
+{
     let mut out = FlushCounter::new();
     let mut input = MemoryInput::new(TEXT);
     let ended = run_shots(rt.alloc(), detect, Format::F01, shots, &mut input, &mut out);
@@ -228,11 +226,12 @@ fn assert_one_flush(
 
 #[test]
 fn an_output_is_flushed_once_at_its_end(rt: HostRuntime) -> Result<(), Fail> {
-    for shots in [0, 1, 3] {
-        assert_one_flush(&rt, false, shots)?;
-        assert_one_flush(&rt, true, shots)?;
-    }
-    Ok(())
+    assert_one_flush(&rt, false, 0)?;
+    assert_one_flush(&rt, true, 0)?;
+    assert_one_flush(&rt, false, 1)?;
+    assert_one_flush(&rt, true, 1)?;
+    assert_one_flush(&rt, false, 3)?;
+    assert_one_flush(&rt, true, 3)
 }
 
 /// Asserts that a run over this text ends with this fault and flushes nothing.
