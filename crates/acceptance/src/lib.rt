@@ -24,4 +24,6 @@ mod seeds;
 #[cfg(test)]
 mod shots;
 #[cfg(test)]
+mod usage;
+#[cfg(test)]
 mod words;
