@@ -3,12 +3,12 @@ use Rattle.std.proofs.Common.{◌≡◌, refl, ap, sym, ◌∙◌, subst, ℕ, �
 use Rattle.stab_pauli.specs.declared.refusal.Refusal.{Refusal}
 use Rattle.stab_pauli.specs.declared.refusal.Refusal.TheVariants.{TooDeep}
 use Rattle.stab_pauli.specs.declared.refusal.Fault.{Fault}
-use Rattle.stab_circuit.specs.declared.item.Operation.{Operation}
-use Rattle.stab_circuit.specs.declared.meaning.Line.TheVariants.{Blank, Close, Open}
-use Rattle.stab_circuit.specs.declared.meaning.Line.TheVariants as line
+use Rattle.stab_lines.specs.declared.operation.Operation.{Operation}
+use Rattle.stab_lines.specs.declared.meanings.Line.TheVariants.{Blank, Close, Open}
+use Rattle.stab_lines.specs.declared.meanings.Line.TheVariants as line
 use Rattle.stab_circuit.specs.Items.{Items, done, next, block}
 use Rattle.stab_circuit.specs.Circuits.{Meaning, Joins, nothing, blank_line, operation_line, block_lines, at_line, fault_from}
-use Rattle.stab_circuit.proofs.FreeLemmas.{Each}
+use Rattle.stab_lines.proofs.FreeLemmas.{Each}
 use Rattle.stab_circuit.proofs.ReadingLemmas.{fault_opens}
 
 -- the lines of items, none of them blank

@@ -5,7 +5,7 @@ use Rattle.std.specs.Prelude.{slice_range}
 use Rattle.std.proofs.Math.Seq.{take-append_seam, take-length, drop-length, drop-append_seam}
 use Rattle.std.proofs.lemmas.List.{map-append, take_more, drop-append-le, length-drop, length-map, get_or-map}
 use Rattle.std.proofs.lemmas.List.Elements.{All-nil, All-append}
-use Rattle.stab_circuit.specs.declared.item.Operation.{Operation}
+use Rattle.stab_lines.specs.declared.operation.Operation.{Operation}
 use Rattle.stab_circuit.specs.declared.item.Item.{Item}
 use Rattle.stab_circuit.specs.declared.item.Node.TheVariants as node
 use Rattle.stab_circuit.specs.declared.step.Step.{Step as StepValue}

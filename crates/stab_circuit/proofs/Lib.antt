@@ -1,9 +1,6 @@
-mod BoolLemmas
-mod ResultLemmas
 mod ItemLemmas
 mod ViewLemmas
 mod ReaderLemmas
-mod OutputLemmas
 mod PrintLemmas
 mod StepLemmas
 mod CursorLemmas
@@ -13,17 +10,6 @@ mod ReadingLemmas
 mod RefusalLemmas
 mod OneItemLemmas
 mod TextLemmas
-mod WordLemmas
-mod PieceLemmas
-mod TargetLemmas
-mod FreeLemmas
-mod SureLemmas
-mod AgainLemmas
-mod NeatLemmas
-mod ShapeLemmas
-mod ContentLemmas
-mod PrintedLemmas
-mod MeaningLemmas
 mod BlankLemmas
 mod RoundLemmas
 mod CircuitFaultLemmas

@@ -3,20 +3,20 @@ use Rattle.std.proofs.Common.{◌≡◌, ◌≤◌, refl, ap, sym, ◌∙◌, su
 use Rattle.std.specs.List.{list_all}
 use Rattle.stab_pauli.specs.declared.refusal.Refusal.{Refusal}
 use Rattle.stab_pauli.specs.declared.refusal.Refusal.TheVariants.{BadLine, BadBlock, TooDeep}
-use Rattle.stab_circuit.specs.declared.meaning.Line.TheVariants.{Blank, Close, Open}
-use Rattle.stab_circuit.specs.declared.meaning.Line.TheVariants as line
+use Rattle.stab_lines.specs.declared.meanings.Line.TheVariants.{Blank, Close, Open}
+use Rattle.stab_lines.specs.declared.meanings.Line.TheVariants as line
 use Rattle.stab_circuit.specs.Items.{Items, OneItem, operation, repeat, listed, done, next, block, join}
-use Rattle.stab_circuit.specs.declared.name.Name.{Name}
-use Rattle.stab_circuit.specs.declared.name.Name.TheVariants as name
-use Rattle.stab_circuit.specs.declared.item.Kind.{Kind}
-use Rattle.stab_circuit.specs.Names.{name_of}
-use Rattle.stab_circuit.specs.Targets.{count_of}
-use Rattle.stab_circuit.specs.Meanings.{meaning_of, is_close, shape_meaning, named_line, block_of, kind_of, targets_alone, opened, only_count}
-use Rattle.stab_circuit.specs.Lines.{Shape, shape_of}
-use Rattle.stab_circuit.specs.Results.{◌>>=◌}
+use Rattle.stab_lines.specs.declared.name.Name.{Name}
+use Rattle.stab_lines.specs.declared.name.Name.TheVariants as name
+use Rattle.stab_lines.specs.declared.operation.Kind.{Kind}
+use Rattle.stab_lines.specs.Names.{name_of}
+use Rattle.stab_lines.specs.Targets.{count_of}
+use Rattle.stab_lines.specs.Meanings.{meaning_of, is_close, shape_meaning, named_line, block_of, kind_of, targets_alone, opened, only_count}
+use Rattle.stab_lines.specs.Lines.{Shape, shape_of}
+use Rattle.stab_lines.specs.Results.{◌>>=◌}
 use Rattle.stab_circuit.specs.Circuits.{Meaning, Joins, nothing, blank_line, operation_line, block_lines, at_line, fault_from, meaning_after, depth_after, ends_item, one_item, is_empty}
 use Rattle.stab_circuit.specs.Readers.{Frame, State, start, closed, stepped, finished, read_on, is_whole, meaning_at, pending}
-use Rattle.stab_circuit.proofs.BoolLemmas.{chosen, passed, and_left, and_right, both}
+use Rattle.stab_lines.proofs.BoolLemmas.{chosen, passed, and_left, and_right, both}
 use Rattle.stab_circuit.proofs.FaultLemmas.{state, frame}
 use Rattle.stab_circuit.proofs.ReadingLemmas.{joined_read, choice_none, fault_opens}
 use Rattle.stab_circuit.proofs.ReaderLemmas.{pending_taken, pending_refused, not_one, not_none, whole_kept, some_joined, nothing_pending}

@@ -9,14 +9,14 @@ use Rattle.stab_circuit.specs.declared.item.Item.{Item}
 use Rattle.stab_circuit.specs.declared.reader.Frame.{Frame as Held}
 use Rattle.stab_circuit.specs.Views.{item_of, items_of}
 use Rattle.stab_pauli.specs.declared.refusal.Fault.{Fault}
-use Rattle.stab_circuit.specs.declared.meaning.Line.TheVariants.{Blank, Close, Open}
-use Rattle.stab_circuit.specs.declared.meaning.Line.TheVariants as line
-use Rattle.stab_circuit.specs.Lines.{is_byte, content_of}
+use Rattle.stab_lines.specs.declared.meanings.Line.TheVariants.{Blank, Close, Open}
+use Rattle.stab_lines.specs.declared.meanings.Line.TheVariants as line
+use Rattle.stab_lines.specs.Lines.{is_byte, content_of}
 use Rattle.stab_circuit.specs.Items.{Items, OneItem, operation, repeat, before, done, next, block, join}
-use Rattle.stab_circuit.specs.Meanings.{meaning_of, is_close}
+use Rattle.stab_lines.specs.Meanings.{meaning_of, is_close}
 use Rattle.stab_circuit.specs.Circuits.{Meaning, at_line, meaning_after, one_item, contents, depth_after, ends_item}
 use Rattle.stab_circuit.specs.Readers.{Frame, State, closed, stepped, finished, read_on, is_some_items, is_whole, meaning_at, pending, line_fault, frame_of}
-use Rattle.stab_circuit.proofs.BoolLemmas.{chosen}
+use Rattle.stab_lines.proofs.BoolLemmas.{chosen}
 
 -- after a line of one item's text, what follows is seen as it is by the state
 abbrev Follows : State → Meaning → State → Type 0

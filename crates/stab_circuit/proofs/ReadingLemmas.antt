@@ -2,14 +2,14 @@
 use Rattle.std.proofs.Common.{◌≡◌, refl, ap, sym, ◌∙◌, subst, ℕ, ◌+◌, List, [], ◌∷◌, ◌++◌, Bool, true, false, nat_lt, length, Option, None, Some, Result, Ok, Err, append_assoc, append-nil, if◌then◌else◌}
 use Rattle.stab_pauli.specs.declared.refusal.Refusal.TheVariants.{TooDeep}
 use Rattle.stab_pauli.specs.declared.refusal.Fault.{Fault}
-use Rattle.stab_circuit.specs.declared.item.Operation.{Operation}
-use Rattle.stab_circuit.specs.declared.meaning.Line.TheVariants.{Blank, Close, Open}
-use Rattle.stab_circuit.specs.declared.meaning.Line.TheVariants as line
+use Rattle.stab_lines.specs.declared.operation.Operation.{Operation}
+use Rattle.stab_lines.specs.declared.meanings.Line.TheVariants.{Blank, Close, Open}
+use Rattle.stab_lines.specs.declared.meanings.Line.TheVariants as line
 use Rattle.stab_circuit.specs.Items.{Items, done, next, block, join}
 use Rattle.stab_circuit.specs.Circuits.{Meaning, Joins, nothing, blank_line, operation_line, block_lines, at_line, fault_from}
 use Rattle.stab_circuit.specs.Readers.{Frame, start, closed, read_on}
 use Rattle.stab_circuit.proofs.ItemLemmas.{join_done, join_assoc}
-use Rattle.stab_circuit.proofs.BoolLemmas.{chosen}
+use Rattle.stab_lines.proofs.BoolLemmas.{chosen}
 use Rattle.stab_circuit.proofs.FaultLemmas.{lines_of, fault_of, state, frame, length-lines_of, fault_agrees}
 
 -- what is left to come so that the items are xs

@@ -7,19 +7,19 @@ use Rattle.std.proofs.lemmas.Bool.Decides.{nat_tests}
 use Rattle.stab_pauli.specs.declared.refusal.Refusal.TheVariants.{TooLong}
 use Rattle.stab_pauli.specs.declared.refusal.Fault.{Fault}
 use Rattle.stab_pauli.specs.Refusals.{whole}
-use Rattle.stab_circuit.specs.declared.meaning.Line.TheVariants.{Blank, Close, Open}
-use Rattle.stab_circuit.specs.declared.meaning.Line.TheVariants as line
+use Rattle.stab_lines.specs.declared.meanings.Line.TheVariants.{Blank, Close, Open}
+use Rattle.stab_lines.specs.declared.meanings.Line.TheVariants as line
 use Rattle.stab_circuit.specs.Items.{Items, done, next, block}
-use Rattle.stab_circuit.specs.Lines.{is_byte, is_spacing, trimmed, trimmed_front, content_of}
-use Rattle.stab_circuit.specs.Meanings.{meaning_of}
+use Rattle.stab_lines.specs.Lines.{is_byte, is_spacing, trimmed, trimmed_front, content_of}
+use Rattle.stab_lines.specs.Meanings.{meaning_of}
 use Rattle.stab_circuit.specs.Circuits.{Meaning, Joins, meanings, fault_from, text_fault, most_bytes, StandsFor}
 use Rattle.stab_circuit.specs.Prints.{Written, written, text_of, printed}
-use Rattle.stab_circuit.proofs.BoolLemmas.{passed}
-use Rattle.stab_circuit.proofs.FreeLemmas.{Each, Free, each-append, free-append, free_take, free_drop, free_before, free_spaces, split_free}
-use Rattle.stab_circuit.proofs.SureLemmas.{IsSure, IsGoodLine, sure_of, meaning_sure}
-use Rattle.stab_circuit.proofs.NeatLemmas.{IsNeat, content_again}
-use Rattle.stab_circuit.proofs.PrintedLemmas.{operation_neat, open_neat, close_neat}
-use Rattle.stab_circuit.proofs.MeaningLemmas.{operation_again, open_again, close_again}
+use Rattle.stab_lines.proofs.BoolLemmas.{passed}
+use Rattle.stab_lines.proofs.FreeLemmas.{Each, Free, each-append, free-append, free_take, free_drop, free_before, free_spaces, split_free}
+use Rattle.stab_lines.proofs.SureLemmas.{IsSure, IsGoodLine, sure_of, meaning_sure}
+use Rattle.stab_lines.proofs.NeatLemmas.{IsNeat, content_again}
+use Rattle.stab_lines.proofs.PrintedLemmas.{operation_neat, open_neat, close_neat}
+use Rattle.stab_lines.proofs.MeaningLemmas.{operation_again, open_again, close_again}
 use Rattle.stab_circuit.proofs.BlankLemmas.{lines_of, lines_join, joins_end, unblank_joined, unblank_each, same_faultless}
 use Rattle.stab_circuit.proofs.ReadingLemmas.{one_list, some_list}
 

@@ -3,7 +3,7 @@ use Rattle.std.proofs.Common.{◌≡◌, ◌≤◌, ◌<◌, refl, ap, sym, ◌�
 use Rattle.std.proofs.lemmas.List.{length-append}
 use Rattle.std.proofs.lemmas.List.Elements.{All-head, All-tail}
 use Rattle.std.specs.List.{list_any}
-use Rattle.stab_circuit.specs.Lookbacks.{IsLookback}
+use Rattle.stab_lines.specs.Lookbacks.{IsLookback}
 use Rattle.stab_circuit.specs.Items.{Items, done, next, block, join}
 use Rattle.stab_circuit.specs.Steps.{Step, steps_of, rounds, unroll, makes, records_of, lookbacks, looks_too_far}
 use Rattle.stab_circuit.specs.Summaries.{greatest, reach}

@@ -7,19 +7,20 @@ use Rattle.stab_pauli.specs.declared.refusal.Refusal.TheVariants.{LookbackTooFar
 use Rattle.stab_pauli.specs.declared.letter.Letter.TheVariants as letter
 use Rattle.stab_tableau.specs.declared.gate.Gate.{Gate}
 use Rattle.stab_tableau.specs.declared.gate.PairGate.{PairGate}
-use Rattle.stab_circuit.specs.declared.range.MeasureTarget.{MeasureTarget}
-use Rattle.stab_circuit.specs.declared.item.Measurement.{Measurement}
-use Rattle.stab_circuit.specs.declared.item.Measurement.TheVariants as measure
-use Rattle.stab_circuit.specs.declared.item.Kind.{Kind}
-use Rattle.stab_circuit.specs.declared.item.Kind.TheVariants as kind
-use Rattle.stab_circuit.specs.declared.item.Operation.{Operation}
+use Rattle.stab_lines.specs.declared.range.MeasureTarget.{MeasureTarget}
+use Rattle.stab_lines.specs.declared.operation.Measurement.{Measurement}
+use Rattle.stab_lines.specs.declared.operation.Measurement.TheVariants as measure
+use Rattle.stab_lines.specs.declared.operation.Kind.{Kind}
+use Rattle.stab_lines.specs.declared.operation.Kind.TheVariants as kind
+use Rattle.stab_lines.specs.declared.operation.Operation.{Operation}
 use Rattle.stab_circuit.specs.declared.item.Item.{Item}
 use Rattle.stab_circuit.specs.declared.item.Node.TheVariants as node
 use Rattle.stab_circuit.specs.declared.summary.Summary.{Summary}
-use Rattle.stab_circuit.specs.Lookbacks.{IsLookback}
+use Rattle.stab_lines.specs.Lookbacks.{IsLookback}
 use Rattle.stab_circuit.specs.Items.{Items, done, next, block, join, before}
 use Rattle.stab_circuit.specs.Views.{item_of, items_of}
-use Rattle.stab_circuit.specs.Steps.{Step, one, two, collapse, measured, steps_of, rounds, unroll, makes, records_of, lookbacks, pair_qubits, target_qubits, past, past_named, qubits_of, observables_of, named_qubits, named_observables, check_of}
+use Rattle.stab_lines.specs.Targets.{pair_qubits}
+use Rattle.stab_circuit.specs.Steps.{Step, one, two, collapse, measured, steps_of, rounds, unroll, makes, records_of, lookbacks, target_qubits, past, past_named, qubits_of, observables_of, named_qubits, named_observables, check_of}
 use Rattle.stab_circuit.specs.Summaries.{greatest, reach, summed, kind_summary_of, summary_of, after, repeated, judged}
 use Rattle.stab_circuit.proofs.ViewLemmas.{item_of_operation, item_of_repeat, items_of_pushed}
 use Rattle.stab_circuit.proofs.StepLemmas.{length-rounds, records_of-append, records_of-rounds, reach-append, reach-rounds, unroll-join, capped_sum, capped_left, capped_times, looks_too_far_reach}

@@ -14,8 +14,9 @@ use Rattle.stab_circuit.specs.Circuits.{Joins, contents, meanings, limited, text
 use Rattle.stab_circuit.specs.Steps.{check_of, unroll, looks_too_far, most_steps}
 use Rattle.stab_circuit.specs.Views.{item_of, items_of}
 use Rattle.stab_circuit.specs.Readers.{start, read_on, reading}
-use Rattle.stab_circuit.specs.Readings.{ReadsCircuit, IsCircuit, IsFaultOf, IsPlaced, is_of_line, is_of_circuit, is_of_item}
-use Rattle.stab_circuit.proofs.BoolLemmas.{chosen, passed}
+use Rattle.stab_lines.specs.Meanings.{is_of_line}
+use Rattle.stab_circuit.specs.Readings.{ReadsCircuit, IsCircuit, IsFaultOf, IsPlaced, is_of_circuit, is_of_item}
+use Rattle.stab_lines.proofs.BoolLemmas.{chosen, passed}
 use Rattle.stab_circuit.proofs.ReadingLemmas.{joined_read, fault_read}
 use Rattle.stab_circuit.proofs.OneItemLemmas.{blank_read, read_blank, read_one, same_meanings, size, size-listed}
 use Rattle.stab_circuit.proofs.RefusalLemmas.{IsLineFault, line_fault_found, meanings_lines, one_item_lines}

@@ -1,7 +1,7 @@
 use Rattle.std.proofs.Common.{◌≡◌, ap, sym, ◌∙◌, List, [], ◌∷◌, ◌++◌, map, ℕ, reverse}
 use Rattle.std.proofs.lemmas.List.{map-append, reverse-append}
 use Rattle.std.specs.Global.{Vec}
-use Rattle.stab_circuit.specs.declared.item.Operation.{Operation}
+use Rattle.stab_lines.specs.declared.operation.Operation.{Operation}
 use Rattle.stab_circuit.specs.declared.item.Item.{Item}
 use Rattle.stab_circuit.specs.declared.item.Node.TheVariants as node
 use Rattle.stab_circuit.specs.declared.item.Node.TheVariants.{rolls-Operation, rolls-Repeat}

@@ -5,13 +5,13 @@ use Rattle.stab_pauli.specs.declared.refusal.Refusal.{Refusal}
 use Rattle.stab_pauli.specs.declared.refusal.Refusal.TheVariants.{BadBlock, TooDeep, BadLine, TooLong}
 use Rattle.stab_pauli.specs.declared.refusal.Fault.{Fault}
 use Rattle.stab_pauli.specs.Refusals.{whole}
-use Rattle.stab_circuit.specs.declared.item.Operation.{Operation}
-use Rattle.stab_circuit.specs.declared.meaning.Line.{Line}
-use Rattle.stab_circuit.specs.declared.meaning.Line.TheVariants.{Blank, Close, Open}
-use Rattle.stab_circuit.specs.declared.meaning.Line.TheVariants as line
-use Rattle.stab_circuit.specs.Lines.{is_byte, content_of}
+use Rattle.stab_lines.specs.declared.operation.Operation.{Operation}
+use Rattle.stab_lines.specs.declared.meanings.Line.{Line}
+use Rattle.stab_lines.specs.declared.meanings.Line.TheVariants.{Blank, Close, Open}
+use Rattle.stab_lines.specs.declared.meanings.Line.TheVariants as line
+use Rattle.stab_lines.specs.Lines.{is_byte, content_of}
 use Rattle.stab_circuit.specs.Items.{Items, OneItem, done, next, block, before}
-use Rattle.stab_circuit.specs.Meanings.{is_close, meaning_of}
+use Rattle.stab_lines.specs.Meanings.{is_close, meaning_of}
 
 -- what a line means, or why it is refused
 abbrev pub Meaning : Type 0

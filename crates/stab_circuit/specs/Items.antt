@@ -1,6 +1,6 @@
 -- Items without pointers.
 use Rattle.std.specs.Prelude.{ℕ, List, [], ◌∷◌}
-use Rattle.stab_circuit.specs.declared.item.Operation.{Operation}
+use Rattle.stab_lines.specs.declared.operation.Operation.{Operation}
 
 -- a list of items
 pub data Items : Type 0 where

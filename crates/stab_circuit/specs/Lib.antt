@@ -1,11 +1,4 @@
-pub mod Results
-pub mod Lines
-pub mod Words
-pub mod Names
-pub mod Lookbacks
-pub mod Targets
 pub mod Items
-pub mod Meanings
 pub mod Inputs
 pub mod Circuits
 pub mod Steps
@@ -16,5 +9,4 @@ pub mod Summaries
 pub mod Cursors
 pub mod Prints
 pub mod Margins
-pub mod Outputs
 pub mod Laws

@@ -6,12 +6,12 @@ use Rattle.stab_pauli.specs.declared.refusal.Refusal.TheVariants.{BadBlock, TooD
 use Rattle.stab_pauli.specs.declared.refusal.Fault.{Fault}
 use Rattle.stab_pauli.specs.Refusals.{whole}
 use Rattle.stab_circuit.specs.declared.item.Item.{Item}
-use Rattle.stab_circuit.specs.declared.meaning.Line.TheVariants.{Blank, Close, Open}
-use Rattle.stab_circuit.specs.declared.meaning.Line.TheVariants as line
+use Rattle.stab_lines.specs.declared.meanings.Line.TheVariants.{Blank, Close, Open}
+use Rattle.stab_lines.specs.declared.meanings.Line.TheVariants as line
 use Rattle.stab_circuit.specs.declared.reader.Frame.{Frame as Held}
 use Rattle.stab_circuit.specs.declared.reader.Reader.{Reader}
 use Rattle.stab_circuit.specs.Items.{Items, done, next, block, join}
-use Rattle.stab_circuit.specs.Meanings.{meaning_of}
+use Rattle.stab_lines.specs.Meanings.{meaning_of}
 use Rattle.stab_circuit.specs.Circuits.{Meaning, at_line, meaning_after, one_item, contents}
 use Rattle.stab_circuit.specs.Views.{items_of}
 

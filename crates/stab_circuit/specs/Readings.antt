@@ -1,11 +1,12 @@
 -- Readings: how the calls that read a text answer it.
 use Rattle.std.specs.Prelude.{◌≡◌, ◌<◌, Bool, true, false, IsTrue, Some, None, Result, Ok, Err, List, ℕ, ◌⊎◌}
 use Rattle.stab_pauli.specs.declared.refusal.Refusal.{Refusal}
-use Rattle.stab_pauli.specs.declared.refusal.Refusal.TheVariants.{UnsupportedName, BadArguments, BadTarget, BadPairing, BadBlock, QubitOutOfRange, ObservableOutOfRange, LookbackTooFar, TooManySteps, TooDeep, BadLine, TooLong, ReadFault, OutOfMemory}
+use Rattle.stab_pauli.specs.declared.refusal.Refusal.TheVariants.{LookbackTooFar, TooManySteps, BadLine, TooLong, ReadFault, OutOfMemory}
 use Rattle.stab_pauli.specs.declared.refusal.Fault.{Fault}
 use Rattle.stab_pauli.specs.Refusals.{whole}
 use Rattle.stab_circuit.specs.declared.item.Item.{Item}
 use Rattle.stab_circuit.specs.declared.circuit.Circuit.{Circuit}
+use Rattle.stab_lines.specs.Meanings.{is_of_line}
 use Rattle.stab_circuit.specs.Items.{Items}
 use Rattle.stab_circuit.specs.Circuits.{text_fault, item_fault, StandsFor, StandsForOne}
 use Rattle.stab_circuit.specs.Steps.{check_of}
@@ -32,19 +33,6 @@ ReadsCircuit text (Err fault) = (fault ≡ whole OutOfMemory) ⊎ IsFaultOf text
 abbrev pub ReadsItem : List ℕ → Result Item Fault → Type 0
 ReadsItem text (Ok item) = StandsForOne text (item_of item)
 ReadsItem text (Err fault) = (fault ≡ whole OutOfMemory) ⊎ (item_fault text ≡ Some fault)
-
--- whether a line can be refused like this: 1 to 7, 10 and 11
-abbrev pub is_of_line : Refusal → Bool
-is_of_line UnsupportedName = true
-is_of_line BadArguments = true
-is_of_line BadTarget = true
-is_of_line BadPairing = true
-is_of_line BadBlock = true
-is_of_line QubitOutOfRange = true
-is_of_line ObservableOutOfRange = true
-is_of_line TooDeep = true
-is_of_line BadLine = true
-is_of_line r = false
 
 -- whether a whole circuit text can be refused like this: 8, 9, 14, 15 and 20
 abbrev pub is_of_circuit : Refusal → Bool

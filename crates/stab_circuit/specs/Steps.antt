@@ -9,11 +9,12 @@ use Rattle.stab_pauli.specs.declared.refusal.Fault.{Fault}
 use Rattle.stab_pauli.specs.Refusals.{whole}
 use Rattle.stab_tableau.specs.declared.gate.Gate.{Gate}
 use Rattle.stab_tableau.specs.declared.gate.PairGate.{PairGate}
-use Rattle.stab_circuit.specs.declared.range.MeasureTarget.{MeasureTarget}
-use Rattle.stab_circuit.specs.declared.item.Measurement.{Measurement}
-use Rattle.stab_circuit.specs.declared.item.Measurement.TheVariants as measure
-use Rattle.stab_circuit.specs.declared.item.Kind.{Kind}
-use Rattle.stab_circuit.specs.declared.item.Kind.TheVariants as kind
+use Rattle.stab_lines.specs.declared.range.MeasureTarget.{MeasureTarget}
+use Rattle.stab_lines.specs.declared.operation.Measurement.{Measurement}
+use Rattle.stab_lines.specs.declared.operation.Measurement.TheVariants as measure
+use Rattle.stab_lines.specs.declared.operation.Kind.{Kind}
+use Rattle.stab_lines.specs.declared.operation.Kind.TheVariants as kind
+use Rattle.stab_lines.specs.Targets.{pair_qubits}
 use Rattle.stab_circuit.specs.Items.{Items, done, next, block}
 
 -- a step of an unrolled circuit
@@ -79,11 +80,6 @@ lookbacks (collapse l q recorded inverted resets) = []
 abbrev pub looks_too_far : ℕ → List Step → Bool
 looks_too_far m [] = false
 looks_too_far m (s ∷ ss) = list_any (nat_lt m) (lookbacks s) || looks_too_far (m + makes s) ss
-
--- the qubits of pairs
-abbrev pub pair_qubits : List (ℕ × ℕ) → List ℕ
-pair_qubits [] = []
-pair_qubits (pair ∷ pairs) = pair.0 ∷ pair.1 ∷ pair_qubits pairs
 
 -- the qubits of measured targets
 abbrev pub target_qubits : List MeasureTarget → List ℕ

@@ -3,7 +3,7 @@ use Rattle.std.specs.Prelude.{ℕ, ◌+◌, ◌*◌, ◌-◌, ◌≤◌, max, mi
 use Rattle.stab_pauli.specs.declared.refusal.Refusal.{Refusal}
 use Rattle.stab_pauli.specs.declared.refusal.Refusal.TheVariants.{LookbackTooFar, TooManySteps}
 use Rattle.stab_circuit.specs.declared.summary.Summary.{Summary}
-use Rattle.stab_circuit.specs.declared.item.Kind.{Kind}
+use Rattle.stab_lines.specs.declared.operation.Kind.{Kind}
 use Rattle.stab_circuit.specs.Items.{Items}
 use Rattle.stab_circuit.specs.Steps.{Step, makes, records_of, lookbacks, steps_of, unroll, past, named_qubits, named_observables, qubits_of, observables_of}
 

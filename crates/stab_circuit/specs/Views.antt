@@ -5,8 +5,6 @@ use Rattle.stab_circuit.specs.declared.item.Node.TheOpen.{Node-F, Item-F}
 use Rattle.stab_circuit.specs.declared.item.Node.TheOpen as layer
 use Rattle.stab_circuit.specs.declared.item.Node.TheFolds.{fold-Item}
 use Rattle.stab_circuit.specs.declared.circuit.Circuit.{Circuit}
-use Rattle.stab_circuit.specs.declared.line.Shape.{Shape as Parts}
-use Rattle.stab_circuit.specs.Lines.{Shape}
 use Rattle.stab_circuit.specs.Items.{OneItem, operation, repeat, listed, Items}
 
 abbrev pub node_step : Node-F OneItem OneItem → OneItem
@@ -29,7 +27,3 @@ entries c = map item_of c.items.items
 -- the items of a circuit
 abbrev pub circuit_items : Circuit → Items
 circuit_items c = listed (entries c)
-
--- the shape that the parts of a content show
-abbrev pub shape_shown : Parts → Shape
-shape_shown s = record { name = s.name.now; tag = s.tag.now; arguments = s.arguments.now; targets = s.targets.now; opens = s.opens }

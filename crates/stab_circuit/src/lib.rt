@@ -1,11 +1,6 @@
 //! Circuits: reading their text, and what they come to once their blocks are written out.
 //!
-//! - `line`: what is left of a line, and its shape.
-//! - `word`: words between spacing, parts between commas, decimal numbers.
-//! - `sequence`, `range`: lists, and numbers with their ranges.
-//! - `name`, `target`, `argument`: the parts of an instruction.
 //! - `item`: instructions and blocks.
-//! - `meaning`: what a line means, or why it is refused.
 //! - `reader`: the items of a text's lines, with the blocks that are open.
 //! - `input`: reading an input whole.
 //! - `summary`: the numbers of a list of items, for which no block's rounds are walked.
@@ -20,24 +15,16 @@
 //! items that a text stands for, stands for these items and no others.
 #![tactic(auto)]
 
-mod argument;
 mod circuit;
 mod cursor;
 mod input;
 mod item;
 pub mod laws;
-mod line;
-mod meaning;
-mod name;
 mod print;
-mod range;
 mod reader;
-mod sequence;
 mod step;
 mod summary;
-mod target;
 mod unrolled;
-mod word;
 
 pub use circuit::{Circuit, read_circuit, read_item};
 pub use cursor::Cursor;

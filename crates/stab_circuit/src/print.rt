@@ -1,263 +1,23 @@
-ghost use Rattle.std.specs.Prelude.{◌≡◌, ◌+◌, ◌*◌, ◌++◌, List, ℕ, Bool, [], ◌∷◌, replicate, codes, IsTrue, IfErr, OnOk, OnErr};
-ghost use Rattle.std.specs.Fmt.{decimal};
+ghost use Rattle.std.specs.Prelude.{◌≡◌, ◌+◌, ◌*◌, ◌++◌, replicate, codes, IsTrue, IfErr, OnOk, OnErr};
 ghost use Rattle.stab_pauli.specs.Devices.{Failed, WritesPrefix};
 ghost use Rattle.stab_pauli.specs.Refusals.{whole};
 ghost use Rattle.stab_pauli.specs.declared.refusal.Refusal.TheVariants.{WriteFault};
 ghost use Rattle.stab_circuit.specs.Items.{before, done};
 ghost use Rattle.stab_circuit.specs.Views.{item_of, items_of, circuit_items};
-ghost use Rattle.stab_circuit.specs.Outputs.{Sent};
+ghost use Rattle.stab_lines.specs.Outputs.{Sent};
 ghost use Rattle.stab_circuit.specs.Margins.{depth_of};
-ghost use Rattle.stab_circuit.specs.Prints.{gate_name as gate_name_of, pair_gate_name as pair_gate_name_of, measurement_name as measurement_name_of, kind_name as kind_name_of, tag_text, each_after, head_text, arguments_text, kind_arguments, pair_text, target_text, lookback_text, targets_text, operation_text, open_text, line_text, printed_in, printed};
+ghost use Rattle.stab_lines.specs.Prints.{operation_text, open_text};
+ghost use Rattle.stab_circuit.specs.Prints.{line_text, printed_in, printed};
 
 use crate::circuit::Circuit;
-use crate::item::{Item, Kind, Measurement, Node, Operation};
-use crate::range::{Count, MeasureTarget, Pair, Qubit};
-use crate::sequence::Sequence;
-use itoa::Buffer;
+use crate::item::{Item, Node};
+use stab_lines::{Count, Operation, write_opening, write_operation};
 use stab_pauli::{Fault, Output, Refusal, write_all};
-use stab_tableau::{Gate, PairGate};
-
-fn gate_name(gate: Gate) -> &'static [u8]
-    ensures value { result.now ≡ gate_name_of gate }
-{
-    match gate {
-        Gate::I => b"I",
-        Gate::X => b"X",
-        Gate::Y => b"Y",
-        Gate::Z => b"Z",
-        Gate::H => b"H",
-        Gate::S => b"S",
-        Gate::SDag => b"S_DAG",
-    }
-}
-
-fn pair_gate_name(gate: PairGate) -> &'static [u8]
-    ensures value { result.now ≡ pair_gate_name_of gate }
-{
-    match gate {
-        PairGate::Cx => b"CX",
-        PairGate::Cy => b"CY",
-        PairGate::Cz => b"CZ",
-        PairGate::Swap => b"SWAP",
-    }
-}
-
-fn measurement_name(measurement: Measurement) -> &'static [u8]
-    ensures value { result.now ≡ measurement_name_of measurement }
-{
-    match measurement {
-        Measurement::M => b"M",
-        Measurement::Mx => b"MX",
-        Measurement::Mr => b"MR",
-    }
-}
-
-fn kind_name(kind: &Kind) -> &'static [u8]
-    ensures value { result.now ≡ kind_name_of kind.now }
-{
-    match kind {
-        Kind::Gate(gate, _) => gate_name(*gate),
-        Kind::PairGate(gate, _) => pair_gate_name(*gate),
-        Kind::Measure(measurement, _) => measurement_name(*measurement),
-        Kind::Reset(_) => b"R",
-        Kind::Detector(_, _) => b"DETECTOR",
-        Kind::ObservableInclude(_, _) => b"OBSERVABLE_INCLUDE",
-        Kind::Tick => b"TICK",
-        Kind::QubitCoords(_, _) => b"QUBIT_COORDS",
-        Kind::ShiftCoords(_) => b"SHIFT_COORDS",
-    }
-}
 
 fn write_bytes<O: Output>(out: &mut O, bytes: &[u8]) -> Result<(), Refusal>
     ensures sent { Sent O.failures O.honest O.written out.old out.new result bytes.now }
 {
     write_all(out, bytes)
-}
-
-/// Writes three parts, one after another.
-fn write_parts<O: Output>(
-    out: &mut O,
-    first: &[u8],
-    second: &[u8],
-    third: &[u8],
-) -> Result<(), Refusal>
-    ensures sent { Sent O.failures O.honest O.written out.old out.new result (first.now ++ (second.now ++ third.now)) }
-{
-    write_bytes(out, first)?;
-    write_bytes(out, second)?;
-    write_bytes(out, third)
-}
-
-/// Writes a number between two texts.
-fn write_number<O: Output>(
-    out: &mut O,
-    before: &[u8],
-    number: u64,
-    after: &[u8],
-) -> Result<(), Refusal>
-    ensures sent { Sent O.failures O.honest O.written out.old out.new result (before.now ++ (decimal number ++ after.now)) }
-{
-    let mut digits = Buffer::new();
-    write_parts(out, before, digits.format(number).as_bytes(), after)
-}
-
-/// What is printed after a separator.
-trait Word {
-    // Its text.
-    ghost text: { Self → List ℕ };
-
-    fn write<O: Output>(&self, out: &mut O) -> Result<(), Refusal>
-        ensures sent { Sent O.failures O.honest O.written out.old out.new result (text self.now) };
-}
-
-impl Word for Qubit {
-    ghost text = { decimal };
-
-    fn write<O: Output>(&self, out: &mut O) -> Result<(), Refusal> {
-        let mut digits = Buffer::new();
-        write_bytes(out, digits.format(self.number() as u64).as_bytes())
-    }
-}
-
-impl Word for Pair {
-    ghost text = { pair_text };
-
-    fn write<O: Output>(&self, out: &mut O) -> Result<(), Refusal> {
-        self.first().write(out)?;
-        write_bytes(out, b" ")?;
-        self.second().write(out)
-    }
-}
-
-impl Word for MeasureTarget {
-    ghost text = { target_text };
-
-    fn write<O: Output>(&self, out: &mut O) -> Result<(), Refusal> {
-        let mark = if self.inverted { b"!".as_slice() } else { b"" };
-        let mut digits = Buffer::new();
-        write_parts(
-            out,
-            b"",
-            mark,
-            digits.format(self.qubit.number() as u64).as_bytes(),
-        )
-    }
-}
-
-impl Word for u32 {
-    ghost text = { lookback_text };
-
-    fn write<O: Output>(&self, out: &mut O) -> Result<(), Refusal> {
-        write_number(out, b"rec[-", u64::from(*self), b"]")
-    }
-}
-
-impl Word for Sequence<u8> {
-    ghost text = { λ bytes. bytes };
-
-    fn write<O: Output>(&self, out: &mut O) -> Result<(), Refusal> {
-        write_bytes(out, self.as_slice())
-    }
-}
-
-fn write_each<O: Output, W: Word>(out: &mut O, separator: &[u8], words: &[W]) -> Result<(), Refusal>
-    ensures sent { Sent O.failures O.honest O.written out.old out.new result (each_after separator.now W.text words.now) }
-{
-    for word in words {
-        write_bytes(out, separator)?;
-        word.write(out)?;
-    }
-    Ok(())
-}
-
-#[tactic(auto, using(crate::proofs::PrintLemmas::tag_some))]
-fn write_tag<O: Output>(out: &mut O, tag: &[u8]) -> Result<(), Refusal>
-    ensures sent { Sent O.failures O.honest O.written out.old out.new result (tag_text tag.now) }
-{
-    if tag.is_empty() {
-        return Ok(());
-    }
-    write_parts(out, b"[", tag, b"]")
-}
-
-/// Writes a name and its tag.
-fn write_head<O: Output>(out: &mut O, name: &[u8], tag: &[u8]) -> Result<(), Refusal>
-    ensures sent { Sent O.failures O.honest O.written out.old out.new result (head_text name.now tag.now) }
-{
-    write_bytes(out, name)?;
-    write_tag(out, tag)
-}
-
-/// Writes coordinates, at least one, in their brackets.
-fn write_bracketed<O: Output>(
-    out: &mut O,
-    first: &Sequence<u8>,
-    more: &[Sequence<u8>],
-) -> Result<(), Refusal>
-    ensures sent { Sent O.failures O.honest O.written out.old out.new result (arguments_text (first.now ∷ more.now)) }
-{
-    write_parts(out, b"", b"(", first.as_slice())?;
-    write_each(out, b", ", more)?;
-    write_bytes(out, b")")
-}
-
-fn write_coordinates<O: Output>(out: &mut O, coordinates: &[Sequence<u8>]) -> Result<(), Refusal>
-    ensures sent { Sent O.failures O.honest O.written out.old out.new result (arguments_text coordinates.now) }
-{
-    match coordinates.split_first() {
-        None => Ok(()),
-        Some((first, more)) => write_bracketed(out, first, more),
-    }
-}
-
-fn write_arguments<O: Output>(out: &mut O, kind: &Kind) -> Result<(), Refusal>
-    ensures sent { Sent O.failures O.honest O.written out.old out.new result (arguments_text (kind_arguments kind.now)) }
-{
-    match kind {
-        Kind::Detector(coordinates, _) => write_coordinates(out, coordinates.as_slice()),
-        Kind::ObservableInclude(observable, _) => write_number(
-            out,
-            b"(",
-            u64::from(observable.number()),
-            b")",
-        ),
-        Kind::QubitCoords(coordinates, _) => write_coordinates(out, coordinates.as_slice()),
-        Kind::ShiftCoords(coordinates) => write_coordinates(out, coordinates.as_slice()),
-        Kind::Gate(_, _)
-        | Kind::PairGate(_, _)
-        | Kind::Measure(_, _)
-        | Kind::Reset(_)
-        | Kind::Tick => Ok(()),
-    }
-}
-
-fn write_targets<O: Output>(out: &mut O, kind: &Kind) -> Result<(), Refusal>
-    ensures sent { Sent O.failures O.honest O.written out.old out.new result (targets_text kind.now) }
-{
-    match kind {
-        Kind::Gate(_, qubits) => write_each(out, b" ", qubits.as_slice()),
-        Kind::PairGate(_, pairs) => write_each(out, b" ", pairs.as_slice()),
-        Kind::Measure(_, targets) => write_each(out, b" ", targets.as_slice()),
-        Kind::Reset(qubits) => write_each(out, b" ", qubits.as_slice()),
-        Kind::Detector(_, records) => write_each(out, b" ", records.as_slice()),
-        Kind::ObservableInclude(_, records) => write_each(out, b" ", records.as_slice()),
-        Kind::QubitCoords(_, qubits) => write_each(out, b" ", qubits.as_slice()),
-        Kind::Tick | Kind::ShiftCoords(_) => Ok(()),
-    }
-}
-
-fn write_name<O: Output>(out: &mut O, operation: &Operation) -> Result<(), Refusal>
-    ensures sent { Sent O.failures O.honest O.written out.old out.new result (head_text (kind_name_of operation.now.kind) operation.now.tag) }
-{
-    write_head(out, kind_name(&operation.kind), operation.tag.as_slice())
-}
-
-fn write_operation<O: Output>(out: &mut O, operation: &Operation) -> Result<(), Refusal>
-    ensures sent { Sent O.failures O.honest O.written out.old out.new result (operation_text operation.now) }
-{
-    write_name(out, operation)?;
-    write_arguments(out, &operation.kind)?;
-    write_targets(out, &operation.kind)
 }
 
 /// The blocks round a line, from the innermost outwards.
@@ -290,13 +50,6 @@ fn write_operation_line<O: Output>(
     write_margin(out, margin)?;
     write_operation(out, operation)?;
     write_bytes(out, b"\n")
-}
-
-fn write_opening<O: Output>(out: &mut O, count: Count, tag: &[u8]) -> Result<(), Refusal>
-    ensures sent { Sent O.failures O.honest O.written out.old out.new result (open_text count tag.now) }
-{
-    write_head(out, b"REPEAT", tag)?;
-    write_number(out, b" ", count.number(), b" {")
 }
 
 fn write_open_line<O: Output>(

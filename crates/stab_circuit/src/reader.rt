@@ -3,11 +3,7 @@ ghost use Rattle.stab_circuit.specs.Circuits.{meaning_after as meaning_after_of}
 ghost use Rattle.stab_circuit.specs.Readers.{Reads, reading, line_fault};
 
 use crate::item::Item;
-use crate::line::content;
-use crate::meaning::{Line, is_close, meaning};
-use crate::range::Count;
-use crate::sequence::Sequence;
-use crate::word::first_piece;
+use stab_lines::{Count, Line, Sequence, content, first_piece, is_close, meaning};
 use stab_pauli::{Fault, Refusal};
 use std::alloc::Global;
 
@@ -30,7 +26,7 @@ pub struct Reader {
 
 impl Reader {
     ghost use Rattle.std.specs.Prelude.{◌≡◌, [], List, ◌∷◌};
-    ghost use Rattle.stab_circuit.specs.Results.{Gives};
+    ghost use Rattle.stab_lines.specs.Results.{Gives};
     ghost use Rattle.stab_circuit.specs.Readers.{state_of, start, stepped, opening, closing, finished, is_whole as whole_of, meaning_at, Steps, Reads};
 
     fn new(alloc: Global) -> Reader

@@ -1,11 +1,12 @@
 ghost use Rattle.std.specs.Prelude.{◌≡◌, ◌≤◌, ◌*◌, min, length};
 ghost use Rattle.stab_circuit.specs.Items.{before, done};
 ghost use Rattle.stab_circuit.specs.Views.{item_of, items_of};
-ghost use Rattle.stab_circuit.specs.Steps.{past as past_of, pair_qubits, target_qubits};
+ghost use Rattle.stab_lines.specs.Targets.{pair_qubits};
+ghost use Rattle.stab_circuit.specs.Steps.{past as past_of, target_qubits};
 ghost use Rattle.stab_circuit.specs.Summaries.{greatest as greatest_of, kind_summary_of, summary_of, IsSummary};
 
-use crate::item::{Item, Kind, Node};
-use crate::range::{Lookbacks, MeasureTarget, Pair, Qubit};
+use crate::item::{Item, Node};
+use stab_lines::{Kind, Lookbacks, MeasureTarget, Pair, Qubit};
 use stab_pauli::Refusal;
 
 /// What checks need to know of items: how many steps they make, up to 1,048,577, how many

@@ -5,9 +5,9 @@ ghost use Rattle.stab_circuit.specs.Steps.{one, two, collapse, measured as measu
 ghost use Rattle.stab_circuit.specs.Views.{item_of, items_of};
 ghost use Rattle.stab_circuit.specs.Cursors.{step_shown, steps_shown, Appends};
 
-use crate::item::{Item, Kind, Measurement, Node};
-use crate::range::{MeasureTarget, Pair, Qubit};
+use crate::item::{Item, Node};
 use crate::step::Step;
+use stab_lines::{Kind, MeasureTarget, Measurement, Pair, Qubit};
 use stab_pauli::Letter;
 use stab_tableau::{Gate, PairGate};
 use std::alloc::AllocError;

@@ -5,13 +5,14 @@ use Rattle.std.proofs.lemmas.List.Elements.{All-nil, All-cons, All-append}
 use Rattle.stab_pauli.specs.declared.letter.Letter.TheVariants as letter
 use Rattle.stab_pauli.specs.declared.refusal.Refusal.{Refusal}
 use Rattle.stab_tableau.specs.declared.gate.PairGate.{PairGate}
-use Rattle.stab_circuit.specs.declared.range.MeasureTarget.{MeasureTarget}
-use Rattle.stab_circuit.specs.declared.item.Measurement.{Measurement}
-use Rattle.stab_circuit.specs.declared.item.Measurement.TheVariants as measure
-use Rattle.stab_circuit.specs.declared.item.Kind.{Kind}
-use Rattle.stab_circuit.specs.declared.item.Kind.TheVariants as kind
+use Rattle.stab_lines.specs.declared.range.MeasureTarget.{MeasureTarget}
+use Rattle.stab_lines.specs.declared.operation.Measurement.{Measurement}
+use Rattle.stab_lines.specs.declared.operation.Measurement.TheVariants as measure
+use Rattle.stab_lines.specs.declared.operation.Kind.{Kind}
+use Rattle.stab_lines.specs.declared.operation.Kind.TheVariants as kind
 use Rattle.stab_circuit.specs.Items.{Items, done, next, block}
-use Rattle.stab_circuit.specs.Steps.{Step, one, two, collapse, detector, observable, measured, steps_of, rounds, unroll, past, pair_qubits, target_qubits, named_qubits, qubits_of, most_steps, check_of, check_within}
+use Rattle.stab_lines.specs.Targets.{pair_qubits}
+use Rattle.stab_circuit.specs.Steps.{Step, one, two, collapse, detector, observable, measured, steps_of, rounds, unroll, past, target_qubits, named_qubits, qubits_of, most_steps, check_of, check_within}
 use Rattle.stab_circuit.specs.Cursors.{IsApart}
 use Rattle.stab_session.specs.Sights.{Fits}
 

@@ -3,7 +3,7 @@ use Rattle.std.proofs.Common.{◌≡◌, ℕ, ◌-◌, List, refl, sym, ap}
 use Rattle.std.specs.Coded.{Coded, coded_ℕ, coded_list, coded×}
 use base.Stored.{Gv, gnil, gnum, gcons, num}
 use native.Mathlib.Nat.{suc-ne-zero}
-use Rattle.stab_circuit.specs.contracts.item.Operation.{the_row}
+use Rattle.stab_lines.specs.contracts.operation.Operation.{the_row}
 use Rattle.stab_circuit.specs.Items.{Items, done, next, block}
 
 -- the first and the second branch of a tree, or an empty tree

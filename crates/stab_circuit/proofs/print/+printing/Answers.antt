@@ -3,7 +3,7 @@ use Rattle.std.proofs.lemmas.Result.{err_from_is_err_and}
 use Rattle.stab_circuit.specs.Views.{items_of}
 use Rattle.stab_circuit.specs.Margins.{depth_of}
 use Rattle.stab_circuit.specs.Prints.{line_text, printed_in}
-use Rattle.stab_circuit.proofs.OutputLemmas.{sent_failed, sent_then, sent_as}
+use Rattle.stab_lines.proofs.OutputLemmas.{sent_failed, sent_then, sent_as}
 use Rattle.stab_circuit.proofs.PrintLemmas.{block_lines, printed_place, printed_more}
 use Rattle.stab_circuit.proofs.print.+printing.Goals as goal
 

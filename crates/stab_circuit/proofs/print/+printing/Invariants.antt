@@ -1,6 +1,6 @@
 use Rattle.std.proofs.Common.{take, Ok}
 use Rattle.stab_circuit.specs.Views.{items_of}
-use Rattle.stab_circuit.specs.Outputs.{Sent}
+use Rattle.stab_lines.specs.Outputs.{Sent}
 use Rattle.stab_circuit.specs.Margins.{depth_of}
 use Rattle.stab_circuit.specs.Prints.{printed_in}
 use Rattle.stab_circuit.proofs.print.+printing.Given as goal

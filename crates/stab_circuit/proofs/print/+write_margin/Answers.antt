@@ -1,7 +1,7 @@
 use Rattle.std.proofs.Common.{ℕ, ◌*◌, ◌∙◌, sym, ap, codes, replicate}
 use Rattle.std.proofs.lemmas.Result.{err_from_is_err_and}
 use Rattle.stab_circuit.specs.Margins.{depth_of}
-use Rattle.stab_circuit.proofs.OutputLemmas.{sent_failed, sent_then, sent_as}
+use Rattle.stab_lines.proofs.OutputLemmas.{sent_failed, sent_then, sent_as}
 use Rattle.stab_circuit.proofs.PrintLemmas.{margin_inside}
 use Rattle.stab_circuit.proofs.print.+write_margin.Goals as goal
 

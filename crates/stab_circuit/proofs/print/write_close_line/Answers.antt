@@ -1,6 +1,6 @@
 use Rattle.std.proofs.Common.{codes}
 use Rattle.std.proofs.lemmas.Result.{err_from_is_err_and}
-use Rattle.stab_circuit.proofs.OutputLemmas.{sent_failed, sent_then}
+use Rattle.stab_lines.proofs.OutputLemmas.{sent_failed, sent_then}
 use Rattle.stab_circuit.proofs.print.write_close_line.Goals as goal
 
 pub returns-in_err-write_margin : goal.returns-in_err-write_margin

@@ -1,7 +1,7 @@
 use Rattle.std.proofs.Common.{◌++◌, codes}
-use Rattle.stab_circuit.specs.Prints.{operation_text}
+use Rattle.stab_lines.specs.Prints.{operation_text}
 use Rattle.std.proofs.lemmas.Result.{err_from_is_err_and}
-use Rattle.stab_circuit.proofs.OutputLemmas.{sent_failed, sent_then}
+use Rattle.stab_lines.proofs.OutputLemmas.{sent_failed, sent_then}
 use Rattle.stab_circuit.proofs.print.write_operation_line.Goals as goal
 
 pub returns-in_err-write_margin : goal.returns-in_err-write_margin

@@ -1,5 +1,6 @@
 use Rattle.std.proofs.Common.{◌≡◌, ◌≤◌, max, drop}
-use Rattle.stab_circuit.specs.Steps.{past, pair_qubits}
+use Rattle.stab_lines.specs.Targets.{pair_qubits}
+use Rattle.stab_circuit.specs.Steps.{past}
 use Rattle.stab_circuit.proofs.summary.past_pairs.Given as goal
 
 abbrev pub invariant-loop-pair : goal.invariant-loop-pair

@@ -1,0 +1,167 @@
+-- What a printed content is made of: its name, its arguments and its targets.
+use Rattle.std.proofs.Common.{◌≡◌, ◌<◌, ◌^◌, refl, sym, subst, ℕ, List, [], ◌∷◌, ◌++◌, Bool, true, false, append-nil, arith, codes, ◌⊎◌, inl, inr}
+use Rattle.std.specs.List.{list_all}
+use Rattle.std.specs.Fmt.{decimal}
+use Rattle.std.proofs.lemmas.Bool.Decides.{nat_tests}
+use Rattle.stab_tableau.specs.declared.gate.Gate.{Gate}
+use Rattle.stab_tableau.specs.declared.gate.Gate.TheVariants as one
+use Rattle.stab_tableau.specs.declared.gate.PairGate.{PairGate}
+use Rattle.stab_tableau.specs.declared.gate.PairGate.TheVariants as two
+use Rattle.stab_lines.specs.declared.range.MeasureTarget.{MeasureTarget}
+use Rattle.stab_lines.specs.declared.operation.Measurement.{Measurement}
+use Rattle.stab_lines.specs.declared.operation.Measurement.TheVariants as measure
+use Rattle.stab_lines.specs.declared.operation.Kind.{Kind}
+use Rattle.stab_lines.specs.declared.operation.Kind.TheVariants as kind
+use Rattle.stab_lines.specs.Lines.{is_digit}
+use Rattle.stab_lines.specs.Lookbacks.{IsLookback}
+use Rattle.stab_lines.specs.Targets.{is_coordinate_byte}
+use Rattle.stab_lines.specs.Targets.{pair_qubits}
+use Rattle.stab_lines.specs.Prints.{gate_name, pair_gate_name, measurement_name, kind_name, kind_arguments, mark_text, target_text, lookback_text, spaced, targets_text}
+use Rattle.stab_lines.proofs.BoolLemmas.{both, and_left, and_right}
+use Rattle.stab_lines.proofs.FreeLemmas.{Each, Free, free-append, each_weaker, digits_free}
+use Rattle.stab_lines.proofs.SureLemmas.{IsQubit, IsMeasured, IsCoordinate, IsGoodKind}
+use Rattle.stab_lines.proofs.NeatLemmas.{Ends, ends-append, solid_word}
+use Rattle.stab_lines.proofs.AgainLemmas.{IsWord, AreWords, decimal_digits, decimal_some, target_word, lookback_word, qubits_words, pairs_spaced, pair_qubits_good}
+use Rattle.stab_lines.proofs.ShapeLemmas.{IsName, IsApart, name_is}
+
+-- names
+gate_is : (g : Gate) → IsName (gate_name g)
+gate_is one.I = name_is _ _ refl refl
+gate_is one.X = name_is _ _ refl refl
+gate_is one.Y = name_is _ _ refl refl
+gate_is one.Z = name_is _ _ refl refl
+gate_is one.H = name_is _ _ refl refl
+gate_is one.S = name_is _ _ refl refl
+gate_is one.SDag = name_is _ _ refl refl
+
+pair_gate_is : (g : PairGate) → IsName (pair_gate_name g)
+pair_gate_is two.Cx = name_is _ _ refl refl
+pair_gate_is two.Cy = name_is _ _ refl refl
+pair_gate_is two.Cz = name_is _ _ refl refl
+pair_gate_is two.Swap = name_is _ _ refl refl
+
+measurement_is : (m : Measurement) → IsName (measurement_name m)
+measurement_is measure.M = name_is _ _ refl refl
+measurement_is measure.Mx = name_is _ _ refl refl
+measurement_is measure.Mr = name_is _ _ refl refl
+
+pub kind_is : (k : Kind) → IsName (kind_name k)
+kind_is (kind.Gate g qubits) = gate_is g
+kind_is (kind.PairGate g pairs) = pair_gate_is g
+kind_is (kind.Measure m targets) = measurement_is m
+kind_is (kind.Reset qubits) = name_is _ _ refl refl
+kind_is (kind.Detector coordinates ks) = name_is _ _ refl refl
+kind_is (kind.ObservableInclude j ks) = name_is _ _ refl refl
+kind_is kind.Tick = name_is _ _ refl refl
+kind_is (kind.QubitCoords coordinates qubits) = name_is _ _ refl refl
+kind_is (kind.ShiftCoords coordinates) = name_is _ _ refl refl
+
+pub repeat_is : IsName (codes "REPEAT")
+repeat_is = name_is _ _ refl refl
+
+-- a test that fails on all that targets are made of
+pub record IsClear (p : ℕ → Bool) : Type 0 where
+  pub digits : (d : ℕ) → is_digit d ≡ true → p d ≡ false
+  pub marks : Free p (codes "!rec[-]")
+  pub space : p 32 ≡ false
+
+-- nothing, or something that ends without spacing
+abbrev pub EndsWell : List ℕ → Type 0
+EndsWell bs = (bs ≡ []) ⊎ Ends bs
+
+pub ends_well : (xs ys : List ℕ) → Ends xs → EndsWell ys → Ends (xs ++ ys)
+ends_well xs ys e (inl n) = subst (λ l. Ends (xs ++ l)) (sym n) (subst Ends (sym (append-nil xs)) e)
+ends_well xs ys e (inr f) = ends-append xs ys f
+
+pub well_well : (xs ys : List ℕ) → EndsWell xs → EndsWell ys → EndsWell (xs ++ ys)
+well_well xs ys (inl n) f = subst (λ l. EndsWell (l ++ ys)) (sym n) f
+well_well xs ys (inr e) f = inr (ends_well xs ys e f)
+
+-- targets as they are printed
+pub record AreTargets (text : List ℕ) : Type 0 where
+  pub apart : IsApart text
+  pub ends : EndsWell text
+  pub free : (p : ℕ → Bool) → IsClear p → Free p text
+
+-- each of these is printed with such bytes alone
+abbrev AreClear : {X : Type 0} → (X → List ℕ) → List X → Type 0
+AreClear text xs = Each (λ x. (p : ℕ → Bool) → IsClear p → Free p (text x)) xs
+
+spaced_apart : {X : Type 0} (text : X → List ℕ) (xs : List X) → IsApart (spaced text xs)
+spaced_apart text [] = tt
+spaced_apart text (x ∷ xs) = refl
+
+spaced_ends : {X : Type 0} (text : X → List ℕ) (xs : List X) → AreWords text xs → EndsWell (spaced text xs)
+spaced_ends text [] w = inl refl
+spaced_ends text (x ∷ xs) w = inr (ends-append (codes " ") (text x ++ spaced text xs) (ends_well (text x) (spaced text xs) (solid_word (text x) w.0.0 w.0.1).ends (spaced_ends text xs w.1)))
+
+spaced_free : {X : Type 0} (text : X → List ℕ) (xs : List X) (p : ℕ → Bool) → IsClear p → AreClear text xs → Free p (spaced text xs)
+spaced_free text [] p c f = tt
+spaced_free text (x ∷ xs) p c f = (c.space, free-append p (text x) (spaced text xs) (f.0 p c) (spaced_free text xs p c f.1))
+
+spaced_targets : {X : Type 0} (text : X → List ℕ) (xs : List X) → AreWords text xs → AreClear text xs → AreTargets (spaced text xs)
+spaced_targets text xs w f = record { apart = spaced_apart text xs; ends = spaced_ends text xs w; free = λ p c. spaced_free text xs p c f }
+
+no_targets : AreTargets []
+no_targets = record { apart = tt; ends = inl refl; free = λ p c. tt }
+
+decimal_clear : (n : ℕ) → n < 2 ^ 64 → (p : ℕ → Bool) → IsClear p → Free p (decimal n)
+decimal_clear n wide p c = digits_free p (decimal n) c.digits (decimal_digits n wide)
+
+mark_clear : (b : Bool) (p : ℕ → Bool) → IsClear p → Free p (mark_text b)
+mark_clear true p c = (c.marks.0, tt)
+mark_clear false p c = tt
+
+target_clear : (t : MeasureTarget) → IsMeasured t → (p : ℕ → Bool) → IsClear p → Free p (target_text t)
+target_clear t small p c = free-append p (mark_text t.inverted) (decimal t.qubit) (mark_clear t.inverted p c) (decimal_clear t.qubit (omega (arith, small)) p c)
+
+lookback_clear : (k : ℕ) → IsLookback k → (p : ℕ → Bool) → IsClear p → Free p (lookback_text k)
+lookback_clear k small p c =
+    let m = c.marks in
+    free-append p (codes "rec[-") (decimal k ++ codes "]") (m.1.0, (m.1.1.0, (m.1.1.1.0, (m.1.1.1.1.0, (m.1.1.1.1.1.0, tt)))))
+    (free-append p (decimal k) (codes "]") (decimal_clear k (omega (arith, small.1)) p c) (m.1.1.1.1.1.1.0, tt))
+
+qubit_targets : (qs : List ℕ) → Each IsQubit qs → AreTargets (spaced decimal qs)
+qubit_targets qs g =
+    spaced_targets decimal qs (qubits_words qs g) (each_weaker IsQubit (λ q. (p : ℕ → Bool) → IsClear p → Free p (decimal q)) qs (λ q small. decimal_clear q (omega (arith, small))) g)
+
+lookback_targets : (ks : List ℕ) → Each IsLookback ks → AreTargets (spaced lookback_text ks)
+lookback_targets ks g =
+    spaced_targets lookback_text ks (each_weaker IsLookback (λ k. IsWord (lookback_text k)) ks lookback_word g)
+    (each_weaker IsLookback (λ k. (p : ℕ → Bool) → IsClear p → Free p (lookback_text k)) ks lookback_clear g)
+
+pub kind_targets : (k : Kind) → IsGoodKind k → AreTargets (targets_text k)
+kind_targets (kind.Gate gate qubits) g = qubit_targets qubits g
+kind_targets (kind.PairGate gate pairs) g = subst AreTargets (sym (pairs_spaced pairs)) (qubit_targets (pair_qubits pairs) (pair_qubits_good pairs g))
+kind_targets (kind.Measure m targets) g =
+    spaced_targets target_text targets (each_weaker IsMeasured (λ t. IsWord (target_text t)) targets target_word g)
+    (each_weaker IsMeasured (λ t. (p : ℕ → Bool) → IsClear p → Free p (target_text t)) targets target_clear g)
+kind_targets (kind.Reset qubits) g = qubit_targets qubits g
+kind_targets (kind.Detector coordinates ks) g = lookback_targets ks g.1
+kind_targets (kind.ObservableInclude j ks) g = lookback_targets ks g.1
+kind_targets kind.Tick g = no_targets
+kind_targets (kind.QubitCoords coordinates qubits) g = qubit_targets qubits g.1
+kind_targets (kind.ShiftCoords coordinates) g = no_targets
+
+-- arguments are made of digits, and of a few other bytes
+digits_coordinate : (ds : List ℕ) → list_all is_digit ds ≡ true → list_all is_coordinate_byte ds ≡ true
+digits_coordinate [] h = refl
+digits_coordinate (d ∷ ds) h =
+    both (is_coordinate_byte d) (list_all is_coordinate_byte ds) (digit_coordinate d (and_left (is_digit d) (list_all is_digit ds) h)) (digits_coordinate ds (and_right (is_digit d) (list_all is_digit ds) h))
+  where
+    digit_coordinate : (b : ℕ) → is_digit b ≡ true → is_coordinate_byte b ≡ true
+    digit_coordinate b e = grind (arith, nat_tests)
+
+decimal_coordinate : (n : ℕ) → n < 2 ^ 64 → IsCoordinate (decimal n)
+decimal_coordinate n wide = (decimal_some n wide, digits_coordinate (decimal n) (decimal_digits n wide))
+
+pub kind_coordinates : (k : Kind) → IsGoodKind k → Each IsCoordinate (kind_arguments k)
+kind_coordinates (kind.Gate gate qubits) g = tt
+kind_coordinates (kind.PairGate gate pairs) g = tt
+kind_coordinates (kind.Measure m targets) g = tt
+kind_coordinates (kind.Reset qubits) g = tt
+kind_coordinates (kind.Detector coordinates ks) g = g.0
+kind_coordinates (kind.ObservableInclude j ks) g = (decimal_coordinate j (omega (arith, g.0)), tt)
+kind_coordinates kind.Tick g = tt
+kind_coordinates (kind.QubitCoords coordinates qubits) g = g.0
+kind_coordinates (kind.ShiftCoords coordinates) g = g

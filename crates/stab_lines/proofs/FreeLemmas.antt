@@ -1,0 +1,146 @@
+-- Bytes that are free of others, and where such bytes end.
+use Rattle.std.proofs.Common.{◌≡◌, ◌<◌, refl, ap, sym, ◌∙◌, subst, ℕ, ◌+◌, ◌==◌, nat_lt, zero, suc, List, [], ◌∷◌, ◌++◌, Bool, true, false, not, ◌||◌, length, take, drop, take_all, reverse, arith, if◌then◌else◌, replicate}
+use Rattle.std.specs.List.{slice_split, onto_first, prefix_len, position_or_len, before_first, after_first, list_any, list_all}
+use Rattle.std.proofs.lemmas.List.{length-append, reverse-append}
+use Rattle.std.proofs.lemmas.List.Splits.{slice_split-cons_yes, slice_split-cons_no}
+use Rattle.stab_lines.specs.Lines.{is_byte, is_digit, has_byte, starts_with_byte, ends_with_byte}
+use Rattle.stab_lines.proofs.BoolLemmas.{and_left, and_right}
+
+-- each element has P
+abbrev pub Each : {A : Type 0} → (A → Type 0) → List A → Type 0
+Each P [] = Unit {0}
+Each P (x ∷ xs) = P x × Each P xs
+
+-- each byte fails the test
+abbrev pub Free : (ℕ → Bool) → List ℕ → Type 0
+Free p xs = Each (λ x. p x ≡ false) xs
+
+pub each-append : {A : Type 0} (P : A → Type 0) (xs ys : List A) → Each P xs → Each P ys → Each P (xs ++ ys)
+each-append P [] ys f g = g
+each-append P (x ∷ xs) ys f g = (f.0, each-append P xs ys f.1 g)
+
+pub free-append : (p : ℕ → Bool) (xs ys : List ℕ) → Free p xs → Free p ys → Free p (xs ++ ys)
+free-append p xs ys f g = each-append (λ x. p x ≡ false) xs ys f g
+
+pub each_weaker : {A : Type 0} (P Q : A → Type 0) (xs : List A) → ((x : A) → P x → Q x) → Each P xs → Each Q xs
+each_weaker P Q [] w f = tt
+each_weaker P Q (x ∷ xs) w f = (w x f.0, each_weaker P Q xs w f.1)
+
+pub free_take : (p : ℕ → Bool) (n : ℕ) (xs : List ℕ) → Free p xs → Free p (take n xs)
+free_take p zero [] f = tt
+free_take p zero (x ∷ xs) f = tt
+free_take p (suc n) [] f = tt
+free_take p (suc n) (x ∷ xs) f = (f.0, free_take p n xs f.1)
+
+pub free_drop : (p : ℕ → Bool) (n : ℕ) (xs : List ℕ) → Free p xs → Free p (drop n xs)
+free_drop p zero [] f = tt
+free_drop p zero (x ∷ xs) f = f
+free_drop p (suc n) [] f = tt
+free_drop p (suc n) (x ∷ xs) f = free_drop p n xs f.1
+
+free_cut : (p : ℕ → Bool) (x : ℕ) (xs : List ℕ) (b : Bool) → p x ≡ b → Free p (take (prefix_len (λ y. not (p y)) xs) xs) → Free p (take (if not b then 1 + prefix_len (λ y. not (p y)) xs else 0) (x ∷ xs))
+free_cut p x xs true e f = tt
+free_cut p x xs false e f =
+    let one : suc (prefix_len (λ y. not (p y)) xs) ≡ 1 + prefix_len (λ y. not (p y)) xs = omega arith in
+    let g : Free p (take (suc (prefix_len (λ y. not (p y)) xs)) (x ∷ xs)) = (e, f) in
+    subst (λ m. Free p (take m (x ∷ xs))) one g
+
+-- what stands before the first such byte has none
+pub free_before : (p : ℕ → Bool) (xs : List ℕ) → Free p (before_first p xs)
+free_before p [] = tt
+free_before p (x ∷ xs) = free_cut p x xs (p x) refl (free_before p xs)
+
+-- a piece without the byte is the first
+pub split_free : (p : ℕ → Bool) (xs : List ℕ) (y : ℕ) (ys : List ℕ) → Free p xs → p y ≡ true → slice_split p (xs ++ y ∷ ys) ≡ xs ∷ slice_split p ys
+split_free p [] y ys f e = slice_split-cons_yes p y ys e
+split_free p (x ∷ xs) y ys f e = slice_split-cons_no p x (xs ++ y ∷ ys) f.0 ∙ ap (onto_first x) (split_free p xs y ys f.1 e)
+
+-- the last piece
+pub split_last : (p : ℕ → Bool) (xs : List ℕ) → Free p xs → slice_split p xs ≡ xs ∷ []
+split_last p [] f = refl
+split_last p (x ∷ xs) f = slice_split-cons_no p x xs f.0 ∙ ap (onto_first x) (split_last p xs f.1)
+
+-- the test stops at what follows
+abbrev pub Stops : (ℕ → Bool) → List ℕ → Type 0
+Stops p [] = Unit {0}
+Stops p (y ∷ ys) = p y ≡ false
+
+prefix_yes : (p : ℕ → Bool) (x : ℕ) (xs : List ℕ) → p x ≡ true → prefix_len p (x ∷ xs) ≡ 1 + prefix_len p xs
+prefix_yes p x xs e = ap (λ b. if b then 1 + prefix_len p xs else 0) e
+
+pub prefix_no : (p : ℕ → Bool) (x : ℕ) (xs : List ℕ) → p x ≡ false → prefix_len p (x ∷ xs) ≡ 0
+prefix_no p x xs e = ap (λ b. if b then 1 + prefix_len p xs else 0) e
+
+pub prefix_front : (p : ℕ → Bool) (xs ys : List ℕ) → Each (λ x. p x ≡ true) xs → Stops p ys → prefix_len p (xs ++ ys) ≡ length xs
+prefix_front p [] [] f s = refl
+prefix_front p [] (y ∷ ys) f s = prefix_no p y ys s
+prefix_front p (x ∷ xs) ys f s = let rest = prefix_front p xs ys f.1 s in let one = prefix_yes p x (xs ++ ys) f.0 in omega (arith, rest, one)
+
+pub take_front : (xs ys : List ℕ) → take (length xs) (xs ++ ys) ≡ xs
+take_front [] [] = refl
+take_front [] (y ∷ ys) = refl
+take_front (x ∷ xs) ys = ap (λ l. x ∷ l) (take_front xs ys)
+
+pub drop_front : (xs ys : List ℕ) → drop (length xs) (xs ++ ys) ≡ ys
+drop_front [] [] = refl
+drop_front [] (y ∷ ys) = refl
+drop_front (x ∷ xs) ys = drop_front xs ys
+
+-- where the first byte that passes stands, and what stands before and after it
+position_front : (p : ℕ → Bool) (xs : List ℕ) (y : ℕ) (ys : List ℕ) → Free p xs → p y ≡ true → position_or_len p (xs ++ y ∷ ys) ≡ length xs
+position_front p xs y ys f e = prefix_front (λ x. not (p x)) xs (y ∷ ys) (each_weaker (λ x. p x ≡ false) (λ x. not (p x) ≡ true) xs (λ x h. ap not h) f) (ap not e)
+
+pub before_front : (p : ℕ → Bool) (xs : List ℕ) (y : ℕ) (ys : List ℕ) → Free p xs → p y ≡ true → before_first p (xs ++ y ∷ ys) ≡ xs
+before_front p xs y ys f e = ap (λ n. take n (xs ++ y ∷ ys)) (position_front p xs y ys f e) ∙ take_front xs (y ∷ ys)
+
+drop_one_more : (xs : List ℕ) (y : ℕ) (ys : List ℕ) → drop (suc (length xs)) (xs ++ y ∷ ys) ≡ ys
+drop_one_more [] y [] = refl
+drop_one_more [] y (z ∷ ys) = refl
+drop_one_more (x ∷ xs) y ys = drop_one_more xs y ys
+
+pub after_front : (p : ℕ → Bool) (xs : List ℕ) (y : ℕ) (ys : List ℕ) → Free p xs → p y ≡ true → after_first p (xs ++ y ∷ ys) ≡ ys
+after_front p xs y ys f e =
+    let at : position_or_len p (xs ++ y ∷ ys) + 1 ≡ suc (length xs) = omega (arith, position_front p xs y ys f e) in
+    ap (λ n. drop n (xs ++ y ∷ ys)) at ∙ drop_one_more xs y ys
+
+lt_true : (a b : ℕ) → a < b → nat_lt a b ≡ true
+lt_true a b h = grind arith
+
+pub has_front : (b : ℕ) (xs ys : List ℕ) → Free (is_byte b) xs → (b == b) ≡ true → has_byte b (xs ++ b ∷ ys) ≡ true
+has_front b xs ys f e =
+    ap (λ n. nat_lt n (length (xs ++ b ∷ ys))) (position_front (is_byte b) xs b ys f e)
+    ∙ lt_true (length xs) (length (xs ++ b ∷ ys)) (omega (arith, length-append xs (b ∷ ys)))
+
+free_position : (p : ℕ → Bool) (xs : List ℕ) → Free p xs → position_or_len p xs ≡ length xs
+free_position p [] f = refl
+free_position p (x ∷ xs) f = let rest = free_position p xs f.1 in let one = prefix_yes (λ y. not (p y)) x xs (ap not f.0) in omega (arith, rest, one)
+
+pub before_free : (p : ℕ → Bool) (xs : List ℕ) → Free p xs → before_first p xs ≡ xs
+before_free p xs f = ap (λ n. take n xs) (free_position p xs f) ∙ take_all (length xs) xs (omega arith)
+
+pub any_free : (p : ℕ → Bool) (xs : List ℕ) → Free p xs → list_any p xs ≡ false
+any_free p [] f = refl
+any_free p (x ∷ xs) f = ap (λ b. b || list_any p xs) f.0 ∙ any_free p xs f.1
+
+free_reverse : (p : ℕ → Bool) (xs : List ℕ) → Free p xs → Free p (reverse xs)
+free_reverse p [] f = tt
+free_reverse p (x ∷ xs) f = subst (Free p) (sym (reverse-append (x ∷ []) xs)) (free-append p (reverse xs) (x ∷ []) (free_reverse p xs f.1) (f.0, tt))
+
+pub starts_free : (b : ℕ) (xs : List ℕ) → Free (is_byte b) xs → starts_with_byte xs b ≡ false
+starts_free b [] f = refl
+starts_free b (x ∷ xs) f = f.0
+
+pub ends_free : (b : ℕ) (xs : List ℕ) → Free (is_byte b) xs → ends_with_byte xs b ≡ false
+ends_free b xs f = starts_free b (reverse xs) (free_reverse (is_byte b) xs f)
+
+pub ends_with_last : (b : ℕ) (xs : List ℕ) → (b == b) ≡ true → ends_with_byte (xs ++ b ∷ []) b ≡ true
+ends_with_last b xs e = ap (λ l. starts_with_byte l b) (reverse-append xs (b ∷ [])) ∙ e
+
+-- digits are no other bytes
+pub digits_free : (p : ℕ → Bool) (ds : List ℕ) → ((d : ℕ) → is_digit d ≡ true → p d ≡ false) → list_all is_digit ds ≡ true → Free p ds
+digits_free p [] f h = tt
+digits_free p (d ∷ ds) f h = (f d (and_left (is_digit d) (list_all is_digit ds) h), digits_free p ds f (and_right (is_digit d) (list_all is_digit ds) h))
+
+pub free_spaces : (b n : ℕ) → (32 == b) ≡ false → Free (is_byte b) (replicate n 32)
+free_spaces b zero e = tt
+free_spaces b (suc n) e = (e, free_spaces b n e)

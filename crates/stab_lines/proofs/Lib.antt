@@ -1,0 +1,16 @@
+pub mod BoolLemmas
+pub mod ResultLemmas
+pub mod OutputLemmas
+pub mod PrintLemmas
+pub mod WordLemmas
+pub mod PieceLemmas
+pub mod TargetLemmas
+pub mod FreeLemmas
+pub mod SureLemmas
+pub mod AgainLemmas
+pub mod NeatLemmas
+pub mod ShapeLemmas
+pub mod ContentLemmas
+pub mod PrintedLemmas
+pub mod MeaningLemmas
+pub mod RefusalLemmas

@@ -1,0 +1,28 @@
+-- Results that follow one another.
+use Rattle.std.proofs.Common.{◌≡◌, List, [], ◌∷◌, ◌++◌, Result, Ok, Err, refl, sym, ap, ◌∙◌, append_assoc, append-nil}
+use Rattle.stab_lines.specs.Results.{◌>>=◌, each}
+
+-- a list that follows another
+abbrev pub behind : {X E : Type 0} → List X → Result (List X) E → Result (List X) E
+behind front given = given >>= λ more. Ok (front ++ more)
+
+-- nothing more
+pub behind_none : {X E : Type 0} (front : List X) → behind {X = X} {E = E} front (Ok []) ≡ Ok front
+behind_none front = ap Ok (append-nil front)
+
+behind_more : {X E : Type 0} (front : List X) (x : X) (given : Result (List X) E) → behind front (given >>= λ rest. Ok (x ∷ rest)) ≡ behind (front ++ x ∷ []) given
+behind_more front x (Ok rest) = ap Ok (sym (append_assoc front (x ∷ []) rest))
+behind_more front x (Err e) = refl
+
+-- one element more
+pub behind_next : {A X E : Type 0} (f : A → Result X E) (front : List X) (a : A) (more : List A) (x : X) → f a ≡ Ok x → behind front (each f (a ∷ more)) ≡ behind (front ++ x ∷ []) (each f more)
+behind_next f front a more x e = ap (λ r. behind front (r >>= λ first. each f more >>= λ rest. Ok (first ∷ rest))) e ∙ behind_more front x (each f more)
+
+-- an element that is refused
+pub behind_refused : {A X E : Type 0} (f : A → Result X E) (front : List X) (a : A) (more : List A) (r : E) → f a ≡ Err r → behind front (each f (a ∷ more)) ≡ Err r
+behind_refused f front a more r e = ap (λ given. behind front (given >>= λ first. each f more >>= λ rest. Ok (first ∷ rest))) e
+
+-- nothing in front
+pub behind-nil : {X E : Type 0} (given : Result (List X) E) → behind [] given ≡ given
+behind-nil (Ok xs) = refl
+behind-nil (Err e) = refl

@@ -1,0 +1,269 @@
+-- What is known of all that a line is read as.
+use Rattle.std.proofs.Common.{◌≡◌, ◌≢◌, ◌<◌, ◌≤◌, ◌^◌, refl, subst, ℕ, List, [], ◌∷◌, Bool, true, false, not, nat_lt, ◌==◌, ◌&&◌, ◌||◌, length, drop, take, Option, None, Some, Result, Ok, Err, if◌then◌else◌, arith}
+use Rattle.std.specs.List.{list_all, list_any, prefix_len, take_while}
+use Rattle.std.proofs.lemmas.Bool.Decides.{nat_tests}
+use Rattle.stab_pauli.specs.declared.refusal.Refusal.{Refusal}
+use Rattle.stab_pauli.specs.declared.refusal.Refusal.TheVariants.{BadArguments, BadTarget, BadLine}
+use Rattle.stab_lines.specs.declared.range.MeasureTarget.{MeasureTarget}
+use Rattle.stab_lines.specs.declared.name.Instruction.{Instruction}
+use Rattle.stab_lines.specs.declared.name.Instruction.TheVariants as instruction
+use Rattle.stab_lines.specs.declared.name.Name.{Name}
+use Rattle.stab_lines.specs.declared.name.Name.TheVariants as name
+use Rattle.stab_lines.specs.declared.operation.Kind.{Kind}
+use Rattle.stab_lines.specs.declared.operation.Kind.TheVariants as kind
+use Rattle.stab_lines.specs.declared.meanings.Line.{Line}
+use Rattle.stab_lines.specs.declared.meanings.Line.TheVariants.{Blank, Close, Open}
+use Rattle.stab_lines.specs.declared.meanings.Line.TheVariants as line
+use Rattle.stab_lines.specs.Results.{◌>>=◌, each}
+use Rattle.stab_lines.specs.Lines.{Shape, is_byte, bracketed, behind_tag, shaped, shape_of, starts_with_byte, ends_with_byte, has_byte, is_name_byte, is_letter, is_brace, is_apart, without_open}
+use Rattle.stab_lines.specs.Words.{words, is_blank, arguments_of, is_some_word, is_number, value}
+use Rattle.stab_lines.specs.Lookbacks.{IsLookback}
+use Rattle.stab_lines.specs.Names.{name_of}
+use Rattle.stab_lines.specs.Targets.{qubit_of, measure_target_of, lookback_of, count_of, pairs_of, is_coordinate_byte, coordinate_of, number_of, observable_of}
+use Rattle.stab_lines.specs.Meanings.{targets_alone, coordinates_of, kind_of, observable_include_of, only_count, opened, block_of, named_line, shape_meaning, is_close, meaning_of}
+use Rattle.stab_lines.proofs.BoolLemmas.{and_left, and_right}
+use Rattle.stab_lines.proofs.WordLemmas.{eighteen_digits}
+use Rattle.stab_lines.proofs.TargetLemmas.{lookback_in_range}
+use Rattle.stab_lines.proofs.FreeLemmas.{Each, Free, free_take, free_drop, free_before}
+
+-- where there is a result, it has P
+abbrev OnOk' : {A : Type 0} → (A → Type 0) → Result A Refusal → Type 0
+OnOk' P (Ok x) = P x
+OnOk' P (Err r) = Unit {0}
+
+pub record IsSure {A : Type 0} (P : A → Type 0) (x : Result A Refusal) : Type 0 where
+  pub holds : OnOk' P x
+
+sure_ok : {A : Type 0} (P : A → Type 0) (x : A) → P x → IsSure P (Ok x)
+sure_ok P x p = record { holds = p }
+
+sure_err : {A : Type 0} (P : A → Type 0) (r : Refusal) → IsSure P (Err r)
+sure_err P r = record { holds = tt }
+
+-- what is known of a result that is there
+pub sure_of : {A : Type 0} (P : A → Type 0) (r : Result A Refusal) (x : A) → IsSure P r → r ≡ Ok x → P x
+sure_of P (Ok y) x s e = let same : y ≡ x = cc in subst P same s.holds
+sure_of P (Err r) x s e = cc
+
+sure_bind : {A B : Type 0} (P : A → Type 0) (Q : B → Type 0) (x : Result A Refusal) (f : A → Result B Refusal) → IsSure P x → ((a : A) → P a → IsSure Q (f a)) → IsSure Q (x >>= f)
+sure_bind P Q (Ok a) f s t = t a s.holds
+sure_bind P Q (Err r) f s t = sure_err Q r
+
+sure_if : {A : Type 0} (P : A → Type 0) (b : Bool) (x y : Result A Refusal) → (b ≡ true → IsSure P x) → (b ≡ false → IsSure P y) → IsSure P (if b then x else y)
+sure_if P true x y s t = s refl
+sure_if P false x y s t = t refl
+
+guard_sure : {A : Type 0} (P : A → Type 0) (b : Bool) (x : Result A Refusal) (r : Refusal) → IsSure P x → IsSure P (if b then x else Err r)
+guard_sure P true x r s = s
+guard_sure P false x r s = sure_err P r
+
+sure_each : {A X : Type 0} (P : X → Type 0) (f : A → Result X Refusal) → ((a : A) → IsSure P (f a)) → (as' : List A) → IsSure (Each P) (each f as')
+sure_each P f s [] = sure_ok (Each P) [] tt
+sure_each P f s (a ∷ more) =
+    sure_bind P (Each P) (f a) (λ first. each f more >>= λ rest. Ok (first ∷ rest)) (s a)
+    (λ first p. sure_bind (Each P) (Each P) (each f more) (λ rest. Ok (first ∷ rest)) (sure_each P f s more) (λ rest q. sure_ok (Each P) (first ∷ rest) (p, q)))
+
+lt_of : (a b : ℕ) → nat_lt a b ≡ true → a < b
+lt_of a b h = grind (arith, nat_tests)
+
+-- ranges
+abbrev pub IsQubit : ℕ → Type 0
+IsQubit q = q < 1024
+
+qubit_sure : (word : List ℕ) → IsSure IsQubit (qubit_of word)
+unfolding qubit_of
+qubit_sure word =
+    sure_if IsQubit (not (is_number word)) _ _ (λ e. sure_err IsQubit _)
+    (λ e. sure_if IsQubit (nat_lt (value word) 1024) _ _ (λ h. sure_ok IsQubit (value word) (lt_of (value word) 1024 h)) (λ h. sure_err IsQubit _))
+
+abbrev pub IsMeasured : MeasureTarget → Type 0
+IsMeasured t = t.qubit < 1024
+
+measure_sure : (word : List ℕ) → IsSure IsMeasured (measure_target_of word)
+unfolding measure_target_of
+measure_sure word =
+    sure_if IsMeasured (starts_with_byte word 33) _ _
+    (λ e. sure_bind IsQubit IsMeasured (qubit_of (drop 1 word)) _ (qubit_sure (drop 1 word)) (λ q p. sure_ok IsMeasured _ p))
+    (λ e. sure_bind IsQubit IsMeasured (qubit_of word) _ (qubit_sure word) (λ q p. sure_ok IsMeasured _ p))
+
+lookback_sure : (word : List ℕ) → IsSure IsLookback (lookback_of word)
+lookback_sure word = sure_case (lookback_of word) (lookback_in_range word)
+  where
+    sure_case : (r : Result ℕ Refusal) → ((k : ℕ) → r ≡ Ok k → IsLookback k) → IsSure IsLookback r
+    sure_case (Ok k) h = sure_ok IsLookback k (h k refl)
+    sure_case (Err r) h = sure_err IsLookback r
+
+abbrev pub IsCount : ℕ → Type 0
+IsCount n = (0 < n) × (n < 10 ^ 18)
+
+abbrev IsSomeCount : Option ℕ → Type 0
+IsSomeCount None = Unit {0}
+IsSomeCount (Some n) = IsCount n
+
+count_sure : (word : List ℕ) → IsSure IsSomeCount (count_of word)
+unfolding count_of
+count_sure word =
+    sure_if IsSomeCount (not (is_number word)) _ _ (λ e. sure_err IsSomeCount _)
+    (λ e. sure_if IsSomeCount (nat_lt 18 (length word) || (value word == 0)) _ _ (λ h. sure_ok IsSomeCount None tt)
+    (λ h. sure_ok IsSomeCount (Some (value word)) (count_range (is_number word) (nat_lt 18 (length word)) (value word == 0) refl refl refl e h)))
+  where
+    count_range : (a b d : Bool) → is_number word ≡ a → nat_lt 18 (length word) ≡ b → (value word == 0) ≡ d → not a ≡ false → (b || d) ≡ false → IsCount (value word)
+    count_range true false false n l z e h =
+        let few : length word ≤ 18 = grind (arith, nat_tests) in
+        (grind (arith, nat_tests), eighteen_digits word n few)
+    count_range false b d n l z e h = cc
+    count_range true true d n l z e h = cc
+    count_range true false true n l z e h = cc
+
+abbrev pub IsPair : ℕ × ℕ → Type 0
+IsPair p = (p.0 < 1024) × (p.1 < 1024) × (p.0 ≢ p.1)
+
+differ : (a b : ℕ) → (a == b) ≡ false → a ≢ b
+differ a b e = grind (arith, nat_tests)
+
+pairs_sure : (qs : List ℕ) → Each IsQubit qs → IsSure (Each IsPair) (pairs_of qs)
+pairs_sure [] f = sure_ok (Each IsPair) [] tt
+pairs_sure (a ∷ []) f = sure_err (Each IsPair) _
+pairs_sure (a ∷ b ∷ rest) f =
+    sure_if (Each IsPair) (a == b) _ _ (λ e. sure_err (Each IsPair) _)
+    (λ e. sure_bind (Each IsPair) (Each IsPair) (pairs_of rest) _ (pairs_sure rest f.1.1) (λ more p. sure_ok (Each IsPair) ((a, b) ∷ more) ((f.0, f.1.0, differ a b e), p)))
+
+abbrev pub IsCoordinate : List ℕ → Type 0
+IsCoordinate c = (is_some_word c ≡ true) × (list_all is_coordinate_byte c ≡ true)
+
+coordinate_sure : (argument : List ℕ) → IsSure IsCoordinate (coordinate_of argument)
+unfolding coordinate_of
+coordinate_sure argument =
+    sure_if IsCoordinate (is_some_word argument && list_all is_coordinate_byte argument) _ _
+    (λ e. sure_ok IsCoordinate argument (and_left (is_some_word argument) (list_all is_coordinate_byte argument) e, and_right (is_some_word argument) (list_all is_coordinate_byte argument) e))
+    (λ e. sure_err IsCoordinate _)
+
+abbrev pub IsObservable : ℕ → Type 0
+IsObservable j = j < 4096
+
+observable_sure : (digits : List ℕ) → IsSure IsObservable (observable_of digits)
+unfolding observable_of
+observable_sure digits = sure_if IsObservable (nat_lt (value digits) 4096) _ _ (λ e. sure_ok IsObservable (value digits) (lt_of (value digits) 4096 e)) (λ e. sure_err IsObservable _)
+
+-- an instruction's numbers are in range, and its coordinates made of the bytes that they may have
+abbrev pub IsGoodKind : Kind → Type 0
+IsGoodKind (kind.Gate g qubits) = Each IsQubit qubits
+IsGoodKind (kind.PairGate g pairs) = Each IsPair pairs
+IsGoodKind (kind.Measure m targets) = Each IsMeasured targets
+IsGoodKind (kind.Reset qubits) = Each IsQubit qubits
+IsGoodKind (kind.Detector coordinates ks) = Each IsCoordinate coordinates × Each IsLookback ks
+IsGoodKind (kind.ObservableInclude j ks) = IsObservable j × Each IsLookback ks
+IsGoodKind kind.Tick = Unit {0}
+IsGoodKind (kind.QubitCoords coordinates qubits) = Each IsCoordinate coordinates × Each IsQubit qubits
+IsGoodKind (kind.ShiftCoords coordinates) = Each IsCoordinate coordinates
+
+abbrev Anything : {A : Type 0} → A → Type 0
+Anything x = Unit {0}
+
+sure_any : {A : Type 0} (x : Result A Refusal) → IsSure Anything x
+sure_any (Ok a) = sure_ok Anything a tt
+sure_any (Err r) = sure_err Anything r
+
+alone_sure : {X : Type 0} (P : X → Type 0) (target : List ℕ → Result X Refusal) (s : Shape) → ((word : List ℕ) → IsSure P (target word)) → IsSure (Each P) (targets_alone target s)
+alone_sure P target s h = sure_if (Each P) _ _ _ (λ e. sure_each P target h (words s.targets)) (λ e. sure_err (Each P) _)
+
+coordinates_sure : (s : Shape) → IsSure (Each IsCoordinate) (coordinates_of s)
+coordinates_sure s = sure_each IsCoordinate coordinate_of coordinate_sure (arguments_of s.arguments)
+
+lookbacks_sure : (s : Shape) → IsSure (Each IsLookback) (each lookback_of (words s.targets))
+lookbacks_sure s = sure_each IsLookback lookback_of lookback_sure (words s.targets)
+
+include_sure : (s : Shape) → IsSure IsGoodKind (observable_include_of s)
+unfolding observable_include_of
+include_sure s =
+    sure_bind Anything IsGoodKind (number_of (arguments_of s.arguments)) _ (sure_any (number_of (arguments_of s.arguments)))
+    (λ digits t. sure_bind (Each IsLookback) IsGoodKind (each lookback_of (words s.targets)) _ (lookbacks_sure s)
+    (λ ks p. sure_bind IsObservable IsGoodKind _ _ (sure_if IsObservable s.opens _ _ (λ e. sure_err IsObservable _) (λ e. observable_sure digits))
+    (λ j q. sure_ok IsGoodKind (kind.ObservableInclude j ks) (q, p))))
+
+kind_sure : (i : Instruction) (s : Shape) → IsSure IsGoodKind (kind_of i s)
+unfolding kind_of
+kind_sure (instruction.Gate g) s = sure_bind (Each IsQubit) IsGoodKind _ _ (alone_sure IsQubit qubit_of s qubit_sure) (λ qs p. sure_ok IsGoodKind (kind.Gate g qs) p)
+kind_sure (instruction.PairGate g) s =
+    sure_bind (Each IsQubit) IsGoodKind _ _ (alone_sure IsQubit qubit_of s qubit_sure)
+    (λ qs p. sure_bind (Each IsPair) IsGoodKind (pairs_of qs) _ (pairs_sure qs p) (λ ps q. sure_ok IsGoodKind (kind.PairGate g ps) q))
+kind_sure (instruction.Measure m) s = sure_bind (Each IsMeasured) IsGoodKind _ _ (alone_sure IsMeasured measure_target_of s measure_sure) (λ ts p. sure_ok IsGoodKind (kind.Measure m ts) p)
+kind_sure instruction.Reset s = sure_bind (Each IsQubit) IsGoodKind _ _ (alone_sure IsQubit qubit_of s qubit_sure) (λ qs p. sure_ok IsGoodKind (kind.Reset qs) p)
+kind_sure instruction.Detector s =
+    sure_bind (Each IsCoordinate) IsGoodKind (coordinates_of s) _ (coordinates_sure s)
+    (λ cs p. sure_bind (Each IsLookback) IsGoodKind (each lookback_of (words s.targets)) _ (lookbacks_sure s) (λ ks q. sure_ok IsGoodKind (kind.Detector cs ks) (p, q)))
+kind_sure instruction.ObservableInclude s = include_sure s
+kind_sure instruction.Tick s = guard_sure IsGoodKind (is_blank s.arguments) _ BadArguments (guard_sure IsGoodKind (is_blank s.targets) (Ok kind.Tick) BadTarget (sure_ok IsGoodKind kind.Tick tt))
+kind_sure instruction.QubitCoords s =
+    sure_bind (Each IsCoordinate) IsGoodKind (coordinates_of s) _ (coordinates_sure s)
+    (λ cs p. sure_bind (Each IsQubit) IsGoodKind (each qubit_of (words s.targets)) _ (sure_each IsQubit qubit_of qubit_sure (words s.targets)) (λ qs q. sure_ok IsGoodKind (kind.QubitCoords cs qs) (p, q)))
+kind_sure instruction.ShiftCoords s =
+    sure_bind (Each IsCoordinate) IsGoodKind (coordinates_of s) _ (coordinates_sure s)
+    (λ cs p. guard_sure IsGoodKind (is_blank s.targets) (Ok (kind.ShiftCoords cs)) BadTarget (sure_ok IsGoodKind (kind.ShiftCoords cs) p))
+
+-- the parts of a text have the text's bytes alone
+abbrev IsCutAt : ℕ → List ℕ → List ℕ × List ℕ → Type 0
+IsCutAt closing bs p = Free (is_byte closing) p.0 × ((q : ℕ → Bool) → Free q bs → Free q p.0 × Free q p.1)
+
+bracketed_sure : (opening closing : ℕ) (bs : List ℕ) → IsSure (IsCutAt closing bs) (bracketed opening closing bs)
+unfolding bracketed
+bracketed_sure opening closing bs =
+    sure_if (IsCutAt closing bs) (starts_with_byte bs opening) _ _
+    (λ e. sure_if (IsCutAt closing bs) (has_byte closing (drop 1 bs)) _ _
+    (λ f. sure_ok (IsCutAt closing bs) _ (free_before (is_byte closing) (drop 1 bs), λ q h. (free_take q _ (drop 1 bs) (free_drop q 1 bs h), free_drop q _ (drop 1 bs) (free_drop q 1 bs h))))
+    (λ f. sure_err (IsCutAt closing bs) _))
+    (λ e. sure_ok (IsCutAt closing bs) ([], bs) (tt, λ q h. (tt, h)))
+
+-- a tag has no line feed, no # and no closing bracket
+abbrev pub IsTag : List ℕ → Type 0
+IsTag tag = Free (is_byte 10) tag × Free (is_byte 35) tag × Free (is_byte 93) tag
+
+abbrev HasTag : Shape → Type 0
+HasTag s = IsTag s.tag
+
+shaped_sure : (content tag : List ℕ) (arguments : List ℕ × List ℕ) → IsTag tag → IsSure HasTag (shaped content tag arguments)
+shaped_sure content tag arguments t =
+    guard_sure HasTag (list_any is_letter (take 1 content) && is_apart arguments.1 && not (list_any is_brace arguments.0) && not (list_any is_brace (without_open arguments.1)))
+    (Ok (record { name = take_while is_name_byte content; tag = tag; arguments = arguments.0; targets = without_open arguments.1; opens = ends_with_byte arguments.1 123 }))
+    BadLine (sure_ok HasTag _ t)
+
+shape_sure : (content : List ℕ) → Free (is_byte 10) content → Free (is_byte 35) content → IsSure HasTag (shape_of content)
+unfolding shape_of
+shape_sure content f g =
+    let rest = drop (prefix_len is_name_byte content) content in
+    sure_bind (IsCutAt 93 rest) HasTag (bracketed 91 93 rest) (behind_tag content) (bracketed_sure 91 93 rest)
+    (λ tag p. sure_bind (IsCutAt 41 tag.1) HasTag (bracketed 40 41 tag.1) (shaped content tag.0) (bracketed_sure 40 41 tag.1)
+    (λ arguments q. shaped_sure content tag.0 arguments ((p.1 (is_byte 10) (free_drop (is_byte 10) _ content f)).0, (p.1 (is_byte 35) (free_drop (is_byte 35) _ content g)).0, p.0)))
+
+-- a line's operation or opening can be printed
+abbrev pub IsGoodLine : Line → Type 0
+IsGoodLine Blank = Unit {0}
+IsGoodLine Close = Unit {0}
+IsGoodLine (Open n tag) = IsCount n × IsTag tag
+IsGoodLine (line.Operation op) = IsGoodKind op.kind × IsTag op.tag
+
+only_sure : (counts : List (Option ℕ)) → Each IsSomeCount counts → IsSomeCount (only_count counts)
+only_sure [] f = tt
+only_sure (c ∷ []) f = f.0
+only_sure (c ∷ d ∷ more) f = tt
+
+opened_sure : (s : Shape) (o : Option ℕ) → HasTag s → IsSomeCount o → IsSure IsGoodLine (opened s o)
+opened_sure s (Some n) t c = sure_if IsGoodLine s.opens _ _ (λ e. sure_ok IsGoodLine (Open n s.tag) (c, t)) (λ e. sure_err IsGoodLine _)
+opened_sure s None t c = sure_err IsGoodLine _
+
+line_sure : (s : Shape) (n : Name) → HasTag s → IsSure IsGoodLine (named_line s n)
+unfolding named_line block_of
+line_sure s name.Repeat t =
+    sure_bind (Each IsSomeCount) IsGoodLine (targets_alone count_of s) _ (alone_sure IsSomeCount count_of s count_sure)
+    (λ counts p. opened_sure s (only_count counts) t (only_sure counts p))
+line_sure s (name.Instruction i) t =
+    sure_bind IsGoodKind IsGoodLine (kind_of i s) _ (kind_sure i s)
+    (λ k p. sure_if IsGoodLine s.opens _ _ (λ e. sure_err IsGoodLine _) (λ e. sure_ok IsGoodLine (line.Operation (record { kind = k; tag = s.tag })) (p, t)))
+
+pub meaning_sure : (content : List ℕ) → Free (is_byte 10) content → Free (is_byte 35) content → IsSure IsGoodLine (meaning_of content)
+unfolding meaning_of
+meaning_sure content f g =
+    sure_if IsGoodLine (length content == 0) _ _ (λ e. sure_ok IsGoodLine Blank tt)
+    (λ e. sure_if IsGoodLine (is_close content) _ _ (λ h. sure_ok IsGoodLine Close tt)
+    (λ h. sure_bind HasTag IsGoodLine (shape_of content) shape_meaning (shape_sure content f g)
+    (λ s t. sure_bind Anything IsGoodLine (name_of s.name) (named_line s) (sure_any (name_of s.name)) (λ n u. line_sure s n t))))

@@ -1,0 +1,10 @@
+pub mod Results
+pub mod Lines
+pub mod Words
+pub mod Names
+pub mod Lookbacks
+pub mod Targets
+pub mod Meanings
+pub mod Prints
+pub mod Views
+pub mod Outputs

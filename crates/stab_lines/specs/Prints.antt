@@ -1,0 +1,120 @@
+-- Prints: the one text of an instruction, and of the opening of a block.
+use Rattle.std.specs.Prelude.{ℕ, Bool, true, false, List, [], ◌∷◌, ◌++◌, codes}
+use Rattle.std.specs.Fmt.{decimal}
+use Rattle.stab_tableau.specs.declared.gate.Gate.{Gate}
+use Rattle.stab_tableau.specs.declared.gate.Gate.TheVariants as one
+use Rattle.stab_tableau.specs.declared.gate.PairGate.{PairGate}
+use Rattle.stab_tableau.specs.declared.gate.PairGate.TheVariants as two
+use Rattle.stab_lines.specs.declared.range.MeasureTarget.{MeasureTarget}
+use Rattle.stab_lines.specs.declared.operation.Measurement.{Measurement}
+use Rattle.stab_lines.specs.declared.operation.Measurement.TheVariants as measure
+use Rattle.stab_lines.specs.declared.operation.Kind.{Kind}
+use Rattle.stab_lines.specs.declared.operation.Kind.TheVariants as kind
+use Rattle.stab_lines.specs.declared.operation.Operation.{Operation}
+
+-- the name of a gate
+abbrev pub gate_name : Gate → List ℕ
+gate_name one.I = codes "I"
+gate_name one.X = codes "X"
+gate_name one.Y = codes "Y"
+gate_name one.Z = codes "Z"
+gate_name one.H = codes "H"
+gate_name one.S = codes "S"
+gate_name one.SDag = codes "S_DAG"
+
+-- the name of a gate on two qubits
+abbrev pub pair_gate_name : PairGate → List ℕ
+pair_gate_name two.Cx = codes "CX"
+pair_gate_name two.Cy = codes "CY"
+pair_gate_name two.Cz = codes "CZ"
+pair_gate_name two.Swap = codes "SWAP"
+
+-- the name of a measurement
+abbrev pub measurement_name : Measurement → List ℕ
+measurement_name measure.M = codes "M"
+measurement_name measure.Mx = codes "MX"
+measurement_name measure.Mr = codes "MR"
+
+-- the name of an instruction
+abbrev pub kind_name : Kind → List ℕ
+kind_name (kind.Gate g qubits) = gate_name g
+kind_name (kind.PairGate g pairs) = pair_gate_name g
+kind_name (kind.Measure m targets) = measurement_name m
+kind_name (kind.Reset qubits) = codes "R"
+kind_name (kind.Detector coordinates ks) = codes "DETECTOR"
+kind_name (kind.ObservableInclude j ks) = codes "OBSERVABLE_INCLUDE"
+kind_name kind.Tick = codes "TICK"
+kind_name (kind.QubitCoords coordinates qubits) = codes "QUBIT_COORDS"
+kind_name (kind.ShiftCoords coordinates) = codes "SHIFT_COORDS"
+
+-- a tag in its brackets, where there is one
+abbrev pub tag_text : List ℕ → List ℕ
+tag_text [] = []
+tag_text (b ∷ bs) = codes "[" ++ ((b ∷ bs) ++ codes "]")
+
+-- the texts, each after a separator
+abbrev pub each_after : {A : Type 0} → List ℕ → (A → List ℕ) → List A → List ℕ
+each_after separator text [] = []
+each_after separator text (x ∷ xs) = separator ++ (text x ++ each_after separator text xs)
+
+-- arguments in their brackets, where there are any, joined by a comma and a space
+abbrev pub arguments_text : List (List ℕ) → List ℕ
+arguments_text [] = []
+arguments_text (a ∷ more) = codes "(" ++ (a ++ (each_after (codes ", ") (λ b. b) more ++ codes ")"))
+
+-- the arguments of an instruction
+abbrev pub kind_arguments : Kind → List (List ℕ)
+kind_arguments (kind.Detector coordinates ks) = coordinates
+kind_arguments (kind.ObservableInclude j ks) = decimal j ∷ []
+kind_arguments (kind.QubitCoords coordinates qubits) = coordinates
+kind_arguments (kind.ShiftCoords coordinates) = coordinates
+kind_arguments (kind.Gate g qubits) = []
+kind_arguments (kind.PairGate g pairs) = []
+kind_arguments (kind.Measure m targets) = []
+kind_arguments (kind.Reset qubits) = []
+kind_arguments kind.Tick = []
+
+-- two qubits
+abbrev pub pair_text : ℕ × ℕ → List ℕ
+pair_text pair = decimal pair.0 ++ (codes " " ++ decimal pair.1)
+
+-- the mark of an inverted target
+abbrev pub mark_text : Bool → List ℕ
+mark_text true = codes "!"
+mark_text false = []
+
+-- a qubit, perhaps with ! before it
+abbrev pub target_text : MeasureTarget → List ℕ
+target_text t = mark_text t.inverted ++ decimal t.qubit
+
+-- a record
+abbrev pub lookback_text : ℕ → List ℕ
+lookback_text k = codes "rec[-" ++ (decimal k ++ codes "]")
+
+-- the texts, each after a space
+abbrev pub spaced : {A : Type 0} → (A → List ℕ) → List A → List ℕ
+spaced text xs = each_after (codes " ") text xs
+
+-- the targets of an instruction
+abbrev pub targets_text : Kind → List ℕ
+targets_text (kind.Gate g qubits) = spaced decimal qubits
+targets_text (kind.PairGate g pairs) = spaced pair_text pairs
+targets_text (kind.Measure m targets) = spaced target_text targets
+targets_text (kind.Reset qubits) = spaced decimal qubits
+targets_text (kind.Detector coordinates ks) = spaced lookback_text ks
+targets_text (kind.ObservableInclude j ks) = spaced lookback_text ks
+targets_text kind.Tick = []
+targets_text (kind.QubitCoords coordinates qubits) = spaced decimal qubits
+targets_text (kind.ShiftCoords coordinates) = []
+
+-- a name and its tag
+abbrev pub head_text : List ℕ → List ℕ → List ℕ
+head_text name tag = name ++ tag_text tag
+
+-- one instruction
+abbrev pub operation_text : Operation → List ℕ
+operation_text op = head_text (kind_name op.kind) op.tag ++ (arguments_text (kind_arguments op.kind) ++ targets_text op.kind)
+
+-- the opening of a block
+abbrev pub open_text : ℕ → List ℕ → List ℕ
+open_text count tag = head_text (codes "REPEAT") tag ++ (codes " " ++ (decimal count ++ codes " {"))

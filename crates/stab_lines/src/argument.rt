@@ -1,0 +1,83 @@
+ghost use Rattle.std.specs.Prelude.{◌≡◌, List, [], Option};
+ghost use Rattle.std.specs.List.{list_all};
+ghost use Rattle.stab_lines.specs.Results.{Gives, GivesBy, each};
+ghost use Rattle.stab_lines.specs.Words.{arguments_of};
+ghost use Rattle.stab_lines.specs.Targets.{is_coordinate_byte as coordinate_byte, coordinate_of, number_of, observable_of};
+
+use crate::line::{is_digit, without_spacing};
+use crate::operation::Coordinates;
+use crate::range::Observable;
+use crate::sequence::Sequence;
+use crate::word::{capped_value, first_piece, is_blank, is_number};
+use stab_pauli::Refusal;
+use std::alloc::Global;
+
+fn is_coordinate_byte(byte: u8) -> bool
+    ensures value { result ≡ coordinate_byte byte }
+{
+    is_digit(byte) || byte == b'+' || byte == b'-' || byte == b'.' || byte == b'e' || byte == b'E'
+}
+
+fn are_coordinate_bytes(bytes: &[u8]) -> bool
+    ensures value { result ≡ list_all coordinate_byte bytes.now }
+{
+    bytes.iter().all(|b| is_coordinate_byte(*b))
+}
+
+/// A coordinate, as it is written.
+#[tactic(auto, unfolding(crate::specs::Targets::coordinate_of))]
+fn coordinate(alloc: Global, argument: &[u8]) -> Result<Sequence<u8>, Refusal>
+    ensures gives { Gives result (coordinate_of argument.now) }
+{
+    if !argument.is_empty() && are_coordinate_bytes(argument) {
+        Ok(Sequence::of_bytes(alloc, argument)?)
+    } else {
+        Err(Refusal::BadArguments)
+    }
+}
+
+/// The coordinates among the arguments.
+pub fn coordinates(alloc: Global, arguments: &[u8]) -> Result<Coordinates, Refusal>
+    ensures gives { Gives result (each coordinate_of (arguments_of arguments.now)) }
+{
+    let mut found = Sequence::new(alloc);
+    if is_blank(arguments) {
+        return Ok(found);
+    }
+    let mut rest = Some(arguments);
+    while let Some(bytes) = rest {
+        let (argument, after) = first_piece(bytes, b',');
+        found.push(coordinate(alloc, without_spacing(argument))?)?;
+        rest = after;
+    }
+    Ok(found)
+}
+
+/// The digits of the only argument.
+#[tactic(auto, unfolding(crate::specs::Targets::number_of), using(crate::proofs::TargetLemmas::two_arguments))]
+pub fn only_number(arguments: &[u8]) -> Result<&[u8], Refusal>
+    ensures gives { GivesBy (λ r. r.now) result (number_of (arguments_of arguments.now)) }
+{
+    if is_blank(arguments) {
+        return Err(Refusal::BadArguments);
+    }
+    let (argument, after) = first_piece(arguments, b',');
+    let number = without_spacing(argument);
+    match after {
+        None if is_number(number) => Ok(number),
+        _ => Err(Refusal::BadArguments),
+    }
+}
+
+/// The observable of a number.
+#[tactic(auto, unfolding(crate::specs::Targets::observable_of))]
+pub fn observable(digits: &[u8]) -> Result<Observable, Refusal>
+    ensures value { result ≡ observable_of digits.now }
+{
+    let number = capped_value(digits, 4096);
+    if number < 4096 {
+        Ok(Observable::new(number as u16))
+    } else {
+        Err(Refusal::ObservableOutOfRange)
+    }
+}

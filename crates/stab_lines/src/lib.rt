@@ -1,0 +1,29 @@
+//! One line of a circuit's text: what it means, and how an instruction is printed.
+//!
+//! - `line`: what is left of a line, and its shape.
+//! - `word`: words between spacing, parts between commas, decimal numbers.
+//! - `sequence`, `range`: lists, and numbers with their ranges.
+//! - `name`, `target`, `argument`: the parts of an instruction.
+//! - `operation`: instructions.
+//! - `meanings`: what a line means, or why it is refused.
+//! - `print`: the one text of an instruction, and of the opening of a block.
+#![tactic(auto)]
+
+mod argument;
+mod line;
+mod meanings;
+mod name;
+mod operation;
+mod print;
+mod range;
+mod sequence;
+mod target;
+mod word;
+
+pub use line::content;
+pub use meanings::{Line, is_close, meaning};
+pub use operation::{Coordinates, Kind, Measurement, Operation};
+pub use print::{write_opening, write_operation};
+pub use range::{Count, Lookbacks, MeasureTarget, Observable, Pair, Qubit};
+pub use sequence::Sequence;
+pub use word::first_piece;

@@ -1,0 +1,148 @@
+ghost use Rattle.std.specs.Prelude.{◌≡◌};
+ghost use Rattle.stab_lines.specs.Results.{Gives};
+ghost use Rattle.stab_lines.specs.Views.{shape_shown};
+ghost use Rattle.stab_lines.specs.declared.name.Name.{Name};
+ghost use Rattle.stab_lines.specs.Meanings.{targets_alone as alone, observable_include_of, kind_of, only_count as only_count_of, block_of, named_line as named_line_of, shape_meaning, is_close as is_close_of, meaning_of};
+
+use crate::argument::{coordinates, observable, only_number};
+use crate::line::{Shape, starts_with};
+use crate::name::{Instruction, Name};
+use crate::operation::{Kind, Operation};
+use crate::range::Count;
+use crate::sequence::Sequence;
+use crate::target::{Counts, MeasureTargets, Qubits, Target, lookbacks, pairs, targets};
+use crate::word::is_blank;
+use stab_pauli::Refusal;
+use std::alloc::Global;
+
+/// What the content of a line means.
+#[derive(Drop)]
+pub enum Line {
+    Blank,
+    Close,
+    Open { count: Count, tag: Sequence<u8> },
+    Operation(Operation),
+}
+
+/// The targets of an instruction without arguments.
+fn targets_alone<T: Target>(alloc: Global, shape: &Shape) -> Result<Sequence<T::Kept>, Refusal>
+    ensures gives { Gives result (alone T.meaning (shape_shown shape.now)) }
+{
+    if is_blank(shape.arguments) {
+        targets::<T>(alloc, shape.targets)
+    } else {
+        Err(Refusal::BadArguments)
+    }
+}
+
+#[tactic(auto, unfolding(crate::specs::Meanings::observable_include_of))]
+fn observable_include(alloc: Global, shape: &Shape) -> Result<Kind, Refusal>
+    ensures gives { Gives result (observable_include_of (shape_shown shape.now)) }
+{
+    let digits = only_number(shape.arguments)?;
+    let records = lookbacks(alloc, shape.targets)?;
+    if shape.opens {
+        return Err(Refusal::BadBlock);
+    }
+    Ok(Kind::ObservableInclude(observable(digits)?, records))
+}
+
+/// What an instruction does.
+#[tactic(auto, unfolding(crate::specs::Meanings::kind_of))]
+fn kind(alloc: Global, instruction: Instruction, shape: &Shape) -> Result<Kind, Refusal>
+    ensures gives { Gives result (kind_of instruction (shape_shown shape.now)) }
+{
+    match instruction {
+        Instruction::Gate(gate) => Ok(Kind::Gate(gate, targets_alone::<Qubits>(alloc, shape)?)),
+        Instruction::PairGate(gate) => {
+            let qubits = targets_alone::<Qubits>(alloc, shape)?;
+            Ok(Kind::PairGate(gate, pairs(alloc, qubits.as_slice())?))
+        }
+        Instruction::Measure(measurement) => {
+            let targets = targets_alone::<MeasureTargets>(alloc, shape)?;
+            Ok(Kind::Measure(measurement, targets))
+        }
+        Instruction::Reset => Ok(Kind::Reset(targets_alone::<Qubits>(alloc, shape)?)),
+        Instruction::Detector => {
+            let coordinates = coordinates(alloc, shape.arguments)?;
+            Ok(Kind::Detector(coordinates, lookbacks(alloc, shape.targets)?))
+        }
+        Instruction::ObservableInclude => observable_include(alloc, shape),
+        Instruction::Tick if !is_blank(shape.arguments) => Err(Refusal::BadArguments),
+        Instruction::Tick if !is_blank(shape.targets) => Err(Refusal::BadTarget),
+        Instruction::Tick => Ok(Kind::Tick),
+        Instruction::QubitCoords => {
+            let coordinates = coordinates(alloc, shape.arguments)?;
+            let qubits = targets::<Qubits>(alloc, shape.targets)?;
+            Ok(Kind::QubitCoords(coordinates, qubits))
+        }
+        Instruction::ShiftCoords => {
+            let coordinates = coordinates(alloc, shape.arguments)?;
+            if is_blank(shape.targets) {
+                Ok(Kind::ShiftCoords(coordinates))
+            } else {
+                Err(Refusal::BadTarget)
+            }
+        }
+    }
+}
+
+fn only_count(counts: &[Option<Count>]) -> Option<Count>
+    ensures value { result ≡ only_count_of counts.now }
+{
+    if counts.len() == 1 { counts[0] } else { None }
+}
+
+#[tactic(auto, unfolding(crate::specs::Meanings::block_of))]
+fn block(alloc: Global, shape: &Shape) -> Result<Line, Refusal>
+    ensures gives { Gives result (block_of (shape_shown shape.now)) }
+{
+    let counts = targets_alone::<Counts>(alloc, shape)?;
+    match only_count(counts.as_slice()) {
+        Some(count) if shape.opens => Ok(Line::Open {
+            count,
+            tag: Sequence::of_bytes(alloc, shape.tag)?,
+        }),
+        _ => Err(Refusal::BadBlock),
+    }
+}
+
+#[tactic(auto, unfolding(crate::specs::Meanings::named_line))]
+fn named_line(alloc: Global, shape: &Shape, name: Name) -> Result<Line, Refusal>
+    ensures gives { Gives result (named_line_of (shape_shown shape.now) name) }
+{
+    match name {
+        Name::Repeat => block(alloc, shape),
+        Name::Instruction(instruction) => {
+            let kind = kind(alloc, instruction, shape)?;
+            if shape.opens {
+                return Err(Refusal::BadBlock);
+            }
+            let tag = Sequence::of_bytes(alloc, shape.tag)?;
+            Ok(Line::Operation(Operation { kind, tag }))
+        }
+    }
+}
+
+/// Whether the content closes a block.
+pub fn is_close(content: &[u8]) -> bool
+    ensures value { result ≡ is_close_of content.now }
+{
+    content.len() == 1 && starts_with(content, b'}')
+}
+
+/// What the content of a line means: a refusal is the first that applies.
+#[tactic(auto, unfolding(crate::specs::Meanings::meaning_of))]
+pub fn meaning(alloc: Global, content: &[u8]) -> Result<Line, Refusal>
+    ensures gives { Gives result (meaning_of content.now) }
+{
+    if content.is_empty() {
+        return Ok(Line::Blank);
+    }
+    if is_close(content) {
+        return Ok(Line::Close);
+    }
+    let shape = Shape::of(content)?;
+    let name = Name::of(shape.name)?;
+    named_line(alloc, &shape, name)
+}

@@ -1,0 +1,75 @@
+ghost use Rattle.std.specs.Prelude.{◌≡◌, ◌≤◌, ◌<◌, ◌^◌, min, ◌∷◌, [], length, MatchOption};
+ghost use Rattle.std.specs.Option.{option_copied};
+ghost use Rattle.std.specs.List.{position_or_len, list_all, slice_split};
+ghost use Rattle.stab_lines.specs.Lines.{is_byte, is_digit as digit, is_spacing as spacing};
+ghost use Rattle.stab_lines.specs.Words.{words, is_blank as blank, is_number as number, value, pieces_after};
+
+use crate::line::{is_digit, is_spacing, position_of, without_spacing_in_front};
+
+fn word_len(bytes: &[u8]) -> usize
+    ensures value { result ≡ position_or_len spacing bytes.now }
+    ensures within { result ≤ length bytes.now }
+{
+    bytes.iter().take_while(|b| !is_spacing(**b)).count()
+}
+
+/// The first word, and what follows it.
+#[tactic(auto, using(crate::proofs::PieceLemmas::no_word, crate::proofs::PieceLemmas::one_word, crate::proofs::PieceLemmas::rest_shorter))]
+pub fn first_word(bytes: &[u8]) -> Option<(&[u8], &[u8])>
+    ensures value { MatchOption result (words bytes.now ≡ []) (λ p. words bytes.now ≡ p.0.now ∷ words p.1.now) }
+    ensures shorter { MatchOption result (Unit {0}) (λ p. length p.1.now < length bytes.now) }
+{
+    let bytes = without_spacing_in_front(bytes);
+    if bytes.is_empty() {
+        return None;
+    }
+    Some(bytes.split_at(word_len(bytes)))
+}
+
+/// What stands before the first such byte, and what follows it, where it stands somewhere.
+#[tactic(auto, using(crate::proofs::PieceLemmas::pieces_more, crate::proofs::PieceLemmas::pieces_last))]
+pub fn first_piece(bytes: &[u8], byte: u8) -> (&[u8], Option<&[u8]>)
+    ensures value { slice_split (is_byte byte) bytes.now ≡ result.0.now ∷ pieces_after byte (option_copied result.1) }
+    ensures shorter { MatchOption (option_copied result.1) (Unit {0}) (λ after. length after < length bytes.now) }
+{
+    let end = position_of(bytes, byte);
+    if end == bytes.len() {
+        return (bytes, None);
+    }
+    (bytes.split_at(end).0, Some(bytes.split_at(end + 1).1))
+}
+
+/// Whether there is nothing but spacing.
+pub fn is_blank(bytes: &[u8]) -> bool
+    ensures value { result ≡ blank bytes.now }
+{
+    bytes.iter().all(|b| is_spacing(*b))
+}
+
+fn are_digits(bytes: &[u8]) -> bool
+    ensures value { result ≡ list_all digit bytes.now }
+{
+    bytes.iter().all(|b| is_digit(*b))
+}
+
+/// Whether it is a decimal number: digits, at least one.
+pub fn is_number(word: &[u8]) -> bool
+    ensures value { result ≡ number word.now }
+{
+    !word.is_empty() && are_digits(word)
+}
+
+/// The number that digits stand for, or the cap where it isn't below that.
+#[tactic(auto, using(crate::proofs::WordLemmas::le_value_from, crate::proofs::WordLemmas::value_from_drop))]
+pub fn capped_value(digits: &[u8], cap: u64) -> u64
+    requires small { cap ≤ 10 ^ 18 }
+    ensures value { result ≡ min (value digits.now) cap }
+{
+    let mut value = 0;
+    for digit in digits {
+        if value < cap {
+            value = value * 10 + u64::from(*digit).saturating_sub(48);
+        }
+    }
+    value.min(cap)
+}
