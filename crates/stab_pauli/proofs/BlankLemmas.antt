@@ -8,7 +8,7 @@ use Rattle.stab_pauli.specs.declared.letter.Letter.{Letter}
 use Rattle.stab_pauli.specs.declared.letter.Letter.TheVariants.{I}
 use Rattle.stab_pauli.specs.Paulis.{Signed, identity}
 use Rattle.stab_pauli.specs.inner.Words.{word_letters, packed_letters}
-use Rattle.stab_pauli.specs.inner.Blocks.{row_letters, full_rows, blocks_of, IsPadded, IsRow, IsTable, table, signed_row}
+use Rattle.stab_pauli.specs.inner.Blocks.{row_letters, full_rows, blocks_of, AreBlocks, IsPadded, IsRow, IsTable, table, signed_row}
 
 replicate-append : {A : Type 0} (a b : ℕ) (x : A) → replicate a x ++ replicate b x ≡ replicate (a + b) x
 replicate-append zero b x = let e : b ≡ 0 + b = omega arith in ap (λ n. replicate n x) e
@@ -41,8 +41,8 @@ block-none : (k j c : ℕ) (xs zs : List ℕ) → xs ≡ replicate j 0 → zs �
 block-none k j c xs zs ex ez = (λ i. packed_letters k (ex i) (ez i) ++ replicate c I) ∙ ap (λ t. t ++ replicate c I) (packed-none k j) ∙ replicate-append (j * k) c I
 
 -- the blocks of n letters hold them
-pub fits : (n m : ℕ) → m ≡ blocks_of n → n ≤ 256 * m
-fits n m e = omega arith
+pub fits : (n m : ℕ) → AreBlocks n m → n ≤ 256 * m
+fits n m e = let c = e.count in omega arith
 
 pub row-none : (m : ℕ) (row : List ℕ) → row ≡ replicate (8 * m) 0 → row_letters m row ≡ replicate (256 * m) I
 row-none zero row e = refl
@@ -77,7 +77,7 @@ all-replicate n m zero le = All-nil (IsPadded n m)
 all-replicate n m (suc count) le =
     All-cons (IsPadded n m) (replicate (256 * m) I) (replicate count (replicate (256 * m) I)) (drop-replicate n (256 * m) (256 * m - n) I (omega arith)) (all-replicate n m count le)
 
-pub IsTable-none : (n m count : ℕ) (ws : List ℕ) (ss : List Bool) → m ≡ blocks_of n → ws ≡ replicate (8 * m * count) 0 → ss ≡ replicate count false → IsTable n m ws ss
+pub IsTable-none : (n m count : ℕ) (ws : List ℕ) (ss : List Bool) → AreBlocks n m → ws ≡ replicate (8 * m * count) 0 → ss ≡ replicate count false → IsTable n m ws ss
 IsTable-none n m count ws ss eb ew es = record {
   blocks = eb;
   size = ap length ew ∙ length-replicate (8 * m * count) 0 ∙ ap (λ c. 8 * m * c) (sym ls);

@@ -20,7 +20,7 @@ use Rattle.stab_pauli.proofs.TurnLemmas.{turn_add-zero}
 use Rattle.stab_pauli.proofs.StringLemmas.{string_turn-blank, string_product-blank}
 use Rattle.stab_pauli.specs.inner.Words.{xor_words}
 use Rattle.stab_pauli.specs.Rows.{Rows, row_at, with_row}
-use Rattle.stab_pauli.specs.inner.Blocks.{row_letters, full_rows, blocks_of, IsPadded, IsRow, IsTable, table, signed_row}
+use Rattle.stab_pauli.specs.inner.Blocks.{row_letters, full_rows, blocks_of, AreBlocks, IsPadded, IsRow, IsTable, table, signed_row}
 use Rattle.stab_pauli.proofs.BlankLemmas.{fits}
 use Rattle.stab_pauli.proofs.RowLemmas.{row_product, length-row}
 use Rattle.stab_pauli.proofs.PackedLemmas.{string_turn-append}

@@ -61,13 +61,7 @@ impl WideCounters {
 
     /// Adds the powers of i of the products of 256 letters with 256 others.
     #[inline(always)]
-    pub(crate) fn after(
-        self,
-        x: u64x4,
-        z: u64x4,
-        other_x: u64x4,
-        other_z: u64x4,
-    ) -> WideCounters
+    pub(crate) fn after(self, x: u64x4, z: u64x4, other_x: u64x4, other_z: u64x4) -> WideCounters
         ensures value { counters_turn 64 result.twos result.ones ≡ turn_add (counters_turn 64 self.twos self.ones) (string_turn (packed_letters 64 x z) (packed_letters 64 other_x other_z)) }
     {
         let crossed = x & other_z;

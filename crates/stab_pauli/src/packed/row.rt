@@ -1,18 +1,34 @@
 //! The words of one string, in blocks.
 
-ghost use Rattle.std.specs.Prelude.{◌≡◌, ◌≢◌, ℕ, ◌+◌, ◌*◌, ◌/◌, ◌%◌, ◌<◌, length, take, false, true, slice_index_or, slice_set, eqb, IfSome, IfNone};
+ghost use Rattle.std.specs.Prelude.{◌≡◌, ◌≢◌, ℕ, ◌+◌, ◌*◌, ◌/◌, ◌%◌, ◌^◌, ◌<◌, ◌≤◌, length, slice_index_or, slice_set, eqb, IfSome, IfNone};
 ghost use Rattle.std.specs.Int.{bit_at};
-ghost use Rattle.std.specs.List.{list_any};
 ghost use Rattle.stab_pauli.specs.declared.letter.Letter.TheVariants.{I};
+ghost use Rattle.stab_pauli.specs.Turns.{turn_add, sign_turn, sign_of_turn};
 ghost use Rattle.stab_pauli.specs.Flips.{flips};
 ghost use Rattle.stab_pauli.specs.Paulis.{string_turn, strings_anticommute};
 ghost use Rattle.stab_pauli.specs.inner.Words.{xor_words, letter_of_bits};
-ghost use Rattle.stab_pauli.specs.inner.Blocks.{row_letters};
+ghost use Rattle.stab_pauli.specs.inner.Blocks.{row_letters, AreBlocks, FlipsNoneBefore, IsFirstFlip};
 
 use crate::letter::Letter;
 use crate::packed::counters::WideCounters;
 use crate::turn::Turn;
 use std::simd::u64x4;
+
+/// How many blocks n letters take.
+#[inline(always)]
+pub(crate) fn blocks_of(n: usize) -> usize
+    ensures value { AreBlocks n result }
+{
+    n / 256 + (n % 256 + 255) / 256
+}
+
+/// The sign of a product by the signs of both and the power of i of their letters.
+#[inline(always)]
+pub(crate) fn product_sign(first: bool, second: bool, turn: Turn) -> bool
+    ensures value { result ≡ sign_of_turn (turn_add (turn_add (sign_turn first) (sign_turn second)) turn) }
+{
+    first ^ second ^ turn.sign()
+}
 
 /// Makes a row of so many blocks the product of itself and another, and gives its power of i.
 #[inline(always)]
@@ -90,6 +106,39 @@ pub(crate) fn flips_at(blocks: usize, row: &[u64], qubit: usize) -> bool
     ensures value { result ≡ flips (slice_index_or (row_letters blocks row.now) qubit I) }
 {
     bit_of(row[x_word(qubit)], qubit % 64)
+}
+
+/// The first place in a row of so many blocks where a letter flips a bit.
+pub(crate) fn first_flip(blocks: usize, row: &[u64]) -> Option<usize>
+    requires few { blocks ≤ 2 ^ 56 }
+    requires length { length row.now ≡ 8 * blocks }
+    ensures none { IfNone result (FlipsNoneBefore (256 * blocks) (row_letters blocks row.now)) }
+    ensures some { IfSome result (IsFirstFlip (256 * blocks) (row_letters blocks row.now)) }
+{
+    let start = 4 * still_blocks(blocks, row);
+    for word in start..4 * blocks {
+        let x = row[8 * (word / 4) + word % 4];
+        if x != 0 {
+            return Some(64 * word + x.trailing_zeros() as usize);
+        }
+    }
+    None
+}
+
+/// How many blocks at the front of a row flip no bit.
+#[inline(always)]
+fn still_blocks(blocks: usize, row: &[u64]) -> usize
+    requires length { length row.now ≡ 8 * blocks }
+    ensures in_range { result ≤ blocks }
+    ensures still { FlipsNoneBefore (256 * result) (row_letters blocks row.now) }
+{
+    for block in 0..blocks {
+        let at = 8 * block;
+        if (row[at] | row[at + 1]) | (row[at + 2] | row[at + 3]) != 0 {
+            return block;
+        }
+    }
+    blocks
 }
 
 /// The place of the word with the X bit of a qubit.
