@@ -8,7 +8,7 @@ use Rattle.stab_pauli.specs.declared.letter.Letter.{Letter}
 use Rattle.stab_pauli.specs.declared.letter.Letter.TheVariants.{I}
 use Rattle.stab_pauli.specs.Paulis.{Signed, identity}
 use Rattle.stab_pauli.specs.inner.Words.{word_letters, packed_letters}
-use Rattle.stab_pauli.specs.inner.Blocks.{row_letters, full_rows, blocks_of, AreBlocks, IsPadded, IsRow, IsTable, table, signed_row}
+use Rattle.stab_pauli.specs.inner.Blocks.{row_letters, full_rows, AreBlocks, IsPadded, IsTable, table, signed_row}
 
 replicate-append : {A : Type 0} (a b : ℕ) (x : A) → replicate a x ++ replicate b x ≡ replicate (a + b) x
 replicate-append zero b x = let e : b ≡ 0 + b = omega arith in ap (λ n. replicate n x) e

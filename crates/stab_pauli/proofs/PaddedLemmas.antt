@@ -1,5 +1,5 @@
 -- One string in its words: what stands past its last letter is I, which changes no product.
-use Rattle.std.proofs.Common.{◌≡◌, ℕ, zero, suc, [], ◌∷◌, ◌++◌, ◌+◌, ◌-◌, ◌*◌, ◌<◌, ◌≤◌, Bool, true, false, not, refl, sym, ◌∙◌, ap, List, length, get_or, set, take, drop, replicate, arith, subst}
+use Rattle.std.proofs.Common.{◌≡◌, ℕ, zero, suc, [], ◌∷◌, ◌++◌, ◌-◌, ◌*◌, ◌<◌, Bool, true, false, not, refl, sym, ◌∙◌, ap, List, length, set, take, drop, replicate, arith, subst}
 use Rattle.std.specs.Prelude.{bit_xor}
 use Rattle.std.proofs.lemmas.List.{length-replicate, length-take-le, append-nil, drop-set-lt}
 use Rattle.std.proofs.Math.Seq.{take-length, drop-length}
@@ -127,7 +127,7 @@ letters-set n m old new q x lt e = ap (take n) e ∙ take-set_before n (row_lett
 
 -- words of a vector that were written through a slice
 
-pub written_all : (ws new : List ℕ) (len : ℕ) → length new ≡ length ws → len ≡ length ws → take len (new ++ drop (length new) ws) ≡ new
+pub written_all : {A : Type 0} (ws new : List A) (len : ℕ) → length new ≡ length ws → len ≡ length ws → take len (new ++ drop (length new) ws) ≡ new
 written_all ws new len same l =
     ap (λ n. take len (new ++ drop n ws)) same ∙ ap (λ xs. take len (new ++ xs)) (drop-length ws) ∙ ap (take len) (append-nil new)
     ∙ ap (λ n. take n new) (l ∙ sym same) ∙ take-length new
@@ -150,3 +150,13 @@ IsRow-read n m ws ws' new is is' e = subst (IsRow n m) (sym e) (IsRow-product n 
 pub letters-read : (n m : ℕ) (ws ws' new : List ℕ) → IsRow n m ws → IsRow n m ws' → new ≡ xor_words ws ws'
     → take n (row_letters m new) ≡ string_product (take n (row_letters m ws)) (take n (row_letters m ws'))
 letters-read n m ws ws' new is is' e = ap (λ w. take n (row_letters m w)) e ∙ letters-product n m ws ws' is is'
+
+-- the same words over the same numbers
+
+pub same_numbers : {n m : ℕ} {ws : List ℕ} {s : Bool} {v : Signed} (n' m' : ℕ) → n ≡ n' → m ≡ m' → IsView n m ws s v → IsView n' m' ws s v
+same_numbers {n} {m} {ws} {s} {v} n' m' en em view = subst (λ k. IsView k m' ws s v) en (subst (λ k. IsView n k ws s v) em view)
+
+pub written_view : {n m : ℕ} {ws : List ℕ} {s : Bool} {v : Signed} {s' : Bool} {v' : Signed} (new : List ℕ) (len : ℕ) → IsView n m ws s v → len ≡ length ws
+    → IsView n m new s' v' → IsView n m (take len (new ++ drop (length new) ws)) s' v'
+written_view {n} {m} {ws} {s} {v} {s'} {v'} new len was l view =
+    subst (λ w. IsView n m w s' v') (sym (written_all ws new len (view.row.size ∙ sym was.row.size) l)) view

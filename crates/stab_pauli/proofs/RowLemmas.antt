@@ -2,7 +2,7 @@
 use Rattle.std.proofs.Common.{◌≡◌, ℕ, zero, suc, ◌+◌, ◌-◌, ◌*◌, ◌<◌, ◌≤◌, refl, sym, ◌∙◌, ap, List, [], ◌∷◌, ◌++◌, length, take, drop, arith, subst, append_assoc, length-drop, length-append}
 use Rattle.std.specs.Prelude.{bit_xor}
 use Rattle.std.specs.Simd.Lanes.{zip2, chunk, put_chunk}
-use Rattle.std.proofs.lemmas.List.{drop_at, take_at, drop-drop, length-take-le, take-append-le, drop-append-le}
+use Rattle.std.proofs.lemmas.List.{take-append-drop, drop_at, take_at, drop-drop, length-take-le, take-append-le, drop-append-le}
 use Rattle.std.proofs.lemmas.Simd.{length-chunk, put_chunk_is}
 use Rattle.stab_pauli.specs.declared.turn.Turn.{Turn}
 use Rattle.stab_pauli.specs.declared.turn.Turn.TheVariants.{Zero}
@@ -184,3 +184,9 @@ IsRewritten-part k a j size words new P ek ej l le p =
 
     read : chunk a size (put_chunk a words new) ≡ new
     read = ap (chunk a size) (put_chunk_is a words new (omega arith)) ∙ ap (take size) (drop_at (take a words) (new ++ drop (length new) (drop a words)) a (length-take-le a words (omega arith))) ∙ take_at new (drop (length new) (drop a words)) size l
+
+-- a part that was written over itself
+pub put_same : (k s : ℕ) (ws : List ℕ) → k + s ≤ length ws → put_chunk k ws (chunk k s ws) ≡ ws
+put_same k s ws le =
+    let l = length-chunk k s ws le in
+    sym (put_middle k s ws (chunk k s ws) l le) ∙ ap (λ t. take k ws ++ t) (take-append-drop s (drop k ws)) ∙ take-append-drop k ws

@@ -1,28 +1,22 @@
 -- Rows one after another: what a row that was replaced does to their letters, and products of padded rows.
-use Rattle.std.proofs.Common.{◌≡◌, ℕ, zero, suc, ◌+◌, ◌-◌, ◌*◌, ◌<◌, ◌≤◌, Bool, true, false, not, refl, sym, ◌∙◌, ap, List, [], ◌∷◌, ◌++◌, length, get_or, set, take, drop, arith, subst, inl, inr, length-drop}
-use Rattle.std.specs.Prelude.{bit_xor, ◌⊎◌, ◌≢◌}
+use Rattle.std.proofs.Common.{◌≡◌, ℕ, zero, suc, ◌+◌, ◌-◌, ◌*◌, ◌<◌, ◌≤◌, Bool, false, refl, sym, ◌∙◌, ap, List, [], ◌∷◌, ◌++◌, length, get_or, set, take, drop, arith, subst, inl, inr, length-drop}
+use Rattle.std.specs.Prelude.{◌⊎◌, ◌≢◌}
 use Rattle.std.proofs.Math.Seq.{take-length, drop-length}
 use Rattle.std.proofs.lemmas.Bool.{cases_order}
-use Rattle.std.specs.Bool.{beq, Decides}
 use Rattle.std.specs.List.{All}
 use Rattle.std.specs.Simd.Lanes.{zip2, chunk, put_chunk}
-use Rattle.std.proofs.lemmas.List.{get_or-take, drop-drop, length-take-le, take-append-drop, length-set, append-nil}
+use Rattle.std.proofs.lemmas.List.{drop-drop, length-take-le, take-append-drop, length-set, append-nil}
 use Rattle.std.proofs.lemmas.List.Elements.{All-set, All-get_or}
 use Rattle.std.proofs.lemmas.Simd.{get_or-zip2, length-zip2, length-chunk, length-put_chunk}
 use Rattle.std.proofs.Math.Nat.{mul-le-mul_left}
 use Rattle.stab_pauli.specs.declared.letter.Letter.{Letter}
-use Rattle.stab_pauli.specs.declared.letter.Letter.TheVariants.{I}
-use Rattle.stab_pauli.specs.declared.turn.Turn.{Turn}
-use Rattle.stab_pauli.specs.Turns.{turn_add, sign_turn}
-use Rattle.stab_pauli.specs.Letters.{◌⊕◌, letter_product}
-use Rattle.stab_pauli.specs.Paulis.{Signed, identity, with_sign, product_turn, string_product, string_turn}
+use Rattle.stab_pauli.specs.Turns.{turn_add}
+use Rattle.stab_pauli.specs.Letters.{letter_product}
+use Rattle.stab_pauli.specs.Paulis.{identity, string_product, string_turn}
 use Rattle.stab_pauli.proofs.TurnLemmas.{turn_add-zero}
 use Rattle.stab_pauli.proofs.StringLemmas.{string_turn-blank, string_product-blank}
-use Rattle.stab_pauli.specs.inner.Words.{xor_words}
 use Rattle.stab_pauli.specs.Rows.{Rows, row_at, with_row}
-use Rattle.stab_pauli.specs.inner.Blocks.{row_letters, full_rows, blocks_of, AreBlocks, IsPadded, IsRow, IsTable, table, signed_row}
-use Rattle.stab_pauli.proofs.BlankLemmas.{fits}
-use Rattle.stab_pauli.proofs.RowLemmas.{row_product, length-row}
+use Rattle.stab_pauli.specs.inner.Blocks.{row_letters, full_rows, IsPadded, IsTable, table, signed_row}
 use Rattle.stab_pauli.proofs.PackedLemmas.{string_turn-append}
 
 -- words that are replaced
@@ -167,63 +161,8 @@ padded-row n m ws ss a is lt =
     subst (IsPadded n m) (get_or-full_rows m ws (length ss) a [] lt)
     (All-get_or (IsPadded n m) (full_rows m ws (length ss)) a [] (rw (length-full_rows m ws (length ss)) lt) is.padded)
 
-length-row_at : (m : ℕ) (ws : List ℕ) (ss : List Bool) (a : ℕ) → length ws ≡ 8 * m * length ss → a < length ss → length (chunk (8 * m * a) (8 * m) ws) ≡ 8 * m
+pub length-row_at : (m : ℕ) (ws : List ℕ) (ss : List Bool) (a : ℕ) → length ws ≡ 8 * m * length ss → a < length ss → length (chunk (8 * m * a) (8 * m) ws) ≡ 8 * m
 length-row_at m ws ss a e lt = length-chunk (8 * m * a) (8 * m) ws (row_fits m (length ss) a (length ws) lt e)
-
--- the row that multiplies two
-pub multiplied-length : (m : ℕ) (ws : List ℕ) (ss : List Bool) (a b : ℕ) → length ws ≡ 8 * m * length ss → a < length ss → b < length ss
-    → length (xor_words (chunk (8 * m * a) (8 * m) ws) (chunk (8 * m * b) (8 * m) ws)) ≡ 8 * m
-multiplied-length m ws ss a b e la lb =
-    length-zip2 bit_xor (chunk (8 * m * a) (8 * m) ws) (chunk (8 * m * b) (8 * m) ws) (length-row_at m ws ss a e la ∙ sym (length-row_at m ws ss b e lb))
-    ∙ length-row_at m ws ss a e la
-
-pub multiplied-padded : (n m : ℕ) (ws : List ℕ) (ss : List Bool) (a b : ℕ) → IsTable n m ws ss → a < length ss → b < length ss
-    → IsPadded n m (row_letters m (xor_words (chunk (8 * m * a) (8 * m) ws) (chunk (8 * m * b) (8 * m) ws)))
-multiplied-padded n m ws ss a b is la lb =
-    subst (IsPadded n m) (sym (row_product m cA cB lA lB))
-    (padded-product n m (row_letters m cA) (row_letters m cB) (length-row m cA lA) (length-row m cB lB) (padded-row n m ws ss a is la) (padded-row n m ws ss b is lb))
-  where
-    cA : List ℕ
-    cA = chunk (8 * m * a) (8 * m) ws
-
-    cB : List ℕ
-    cB = chunk (8 * m * b) (8 * m) ws
-
-    lA : length cA ≡ 8 * m
-    lA = length-row_at m ws ss a is.size la
-
-    lB : length cB ≡ 8 * m
-    lB = length-row_at m ws ss b is.size lb
-
--- its letters and its power of i are those of the product
-pub multiplied-row : (n m : ℕ) (ws : List ℕ) (ss : List Bool) (a b : ℕ) (s : Bool) (f : Turn → Bool) → IsTable n m ws ss → a < length ss → b < length ss
-    → s ≡ f (turn_add (turn_add (sign_turn (get_or ss a false)) (sign_turn (get_or ss b false))) (string_turn (row_letters m (chunk (8 * m * a) (8 * m) ws)) (row_letters m (chunk (8 * m * b) (8 * m) ws))))
-    → ◌≡◌ {A = Signed} (signed_row n s (row_letters m (xor_words (chunk (8 * m * a) (8 * m) ws) (chunk (8 * m * b) (8 * m) ws))))
-    record {
-      negative = f (product_turn (row_at (table n m ws ss) a) (row_at (table n m ws ss) b));
-      letters = string_product (row_at (table n m ws ss) a).letters (row_at (table n m ws ss) b).letters;
-    }
-multiplied-row n m ws ss a b s f is la lb e =
-    (λ i. record {
-      negative = (e ∙ ap (λ t. f (turn_add (turn_add (sign_turn (get_or ss a false)) (sign_turn (get_or ss b false))) t)) (padded-turn n m (row_letters m cA) (row_letters m cB) (fits n m is.blocks) (length-row m cA lA) (length-row m cB lB) (padded-row n m ws ss a is la))) i;
-      letters = (ap (take n) (row_product m cA cB lA lB) ∙ take-product n (row_letters m cA) (row_letters m cB) (length-row m cA lA ∙ sym (length-row m cB lB))) i;
-    })
-    ∙ (λ i. record {
-      negative = f (product_turn (sym (row_at-table n m ws ss a la) i) (sym (row_at-table n m ws ss b lb) i));
-      letters = string_product (sym (row_at-table n m ws ss a la) i).letters (sym (row_at-table n m ws ss b lb) i).letters;
-    })
-  where
-    cA : List ℕ
-    cA = chunk (8 * m * a) (8 * m) ws
-
-    cB : List ℕ
-    cB = chunk (8 * m * b) (8 * m) ws
-
-    lA : length cA ≡ 8 * m
-    lA = length-row_at m ws ss a is.size la
-
-    lB : length cB ≡ 8 * m
-    lB = length-row_at m ws ss b is.size lb
 
 -- two rows do not overlap
 pub rows_apart : (m a b : ℕ) → a ≢ b → (8 * m * a + 8 * m ≤ 8 * m * b) ⊎ (8 * m * b + 8 * m ≤ 8 * m * a)
@@ -253,74 +192,3 @@ pub get_or-any : {A : Type 0} (xs : List A) (k : ℕ) (d e : A) → k < length x
 get_or-any [] k d e lt = absurd (omega arith)
 get_or-any (x ∷ xs) zero d e lt = refl
 get_or-any (x ∷ xs) (suc k) d e lt = get_or-any xs k d e (omega arith)
-
--- a sign that was replaced
-
-zip2-set_left : {A B C : Type 0} (f : A → B → C) (xs : List A) (ys : List B) (a : ℕ) (x : A) (d : B) → a < length ys → zip2 f (set xs a x) ys ≡ set (zip2 f xs ys) a (f x (get_or ys a d))
-zip2-set_left f xs [] a x d lt = absurd (omega arith)
-zip2-set_left f [] (y ∷ ys) a x d lt = refl
-zip2-set_left f (x' ∷ xs) (y ∷ ys) zero x d lt = refl
-zip2-set_left f (x' ∷ xs) (y ∷ ys) (suc a) x d lt = ap (λ t. f x' y ∷ t) (zip2-set_left f xs ys a x d (omega arith))
-
-turned_bit : (x b : Bool) → not (beq x b) ≡ b ⊕ x
-turned_bit false false = refl
-turned_bit false true = refl
-turned_bit true false = refl
-turned_bit true true = refl
-
-pub turned-sign : (n m : ℕ) (ws : List ℕ) (ss : List Bool) (a : ℕ) (x b : Bool) (v : Rows) → a < length ss → x ≡ get_or ss a x → table n m ws ss ≡ v
-    → table n m ws (set ss a (not (beq x b))) ≡ with_row v a (with_sign b (row_at v a))
-turned-sign n m ws ss a x b v lt ex ev =
-    (λ i. record {
-      qubits = n;
-      rows =
-          (ap (λ c. zip2 (signed_row n) (set ss a (not (beq x b))) (full_rows m ws c)) (length-set ss a (not (beq x b)))
-          ∙ zip2-set_left (signed_row n) ss (full_rows m ws (length ss)) a (not (beq x b)) [] (rw (length-full_rows m ws (length ss)) lt)) i;
-    })
-    ∙ ap (with_row (table n m ws ss) a)
-    ((λ i. signed_row n ((turned_bit x b ∙ ap (λ t. b ⊕ t) (ex ∙ get_or-any ss a x false lt)) i) (get_or-full_rows m ws (length ss) a [] lt i))
-    ∙ ap (with_sign b) (sym (row_at-table n m ws ss a lt)))
-    ∙ ap (λ r. with_row r a (with_sign b (row_at r a))) ev
-
--- two tables of the same numbers, words and signs
-pub table-same : (n n' m m' : ℕ) (ws ws' : List ℕ) (ss ss' : List Bool) (v v' : Rows) → table n m ws ss ≡ v → table n' m' ws' ss' ≡ v' → n ≡ n' → m ≡ m' → ws ≡ ws' → ss ≡ ss' → v ≡ v'
-table-same n n' m m' ws ws' ss ss' v v' e e' en em ew es = sym e ∙ (λ i. table (en i) (em i) (ew i) (es i)) ∙ e'
-
-pub Decides-beq : (x y : Bool) → Decides (beq x y) (x ≡ y)
-Decides-beq false false = (λ e. refl, λ e. refl)
-Decides-beq false true = (λ e. cc, λ e. cc)
-Decides-beq true false = (λ e. cc, λ e. cc)
-Decides-beq true true = (λ e. refl, λ e. refl)
-
--- a row that became another
-
-pub copied-table : (n m len : ℕ) (ws now words : List ℕ) (ss : List Bool) (a b : ℕ) (s : Bool) → IsTable n m ws ss → a < length ss → b < length ss → len ≡ length ws → now ≡ ws
-    → words ≡ put_chunk (8 * m * a) now (chunk (8 * m * b) (8 * m) now)
-    → IsTable n m (take len (words ++ drop (length words) ws)) (set ss a s)
-copied-table n m len ws now words ss a b s is la lb l v e =
-    subst (λ w. IsTable n m w (set ss a s)) (sym (written ws words (chunk (8 * m * b) (8 * m) ws) (8 * m * a) len (e ∙ (λ i. put_chunk (8 * m * a) (v i) (chunk (8 * m * b) (8 * m) (v i)))) l))
-    (IsTable-put n m ws ss a (chunk (8 * m * b) (8 * m) ws) s is la (length-row_at m ws ss b is.size lb) (padded-row n m ws ss b is lb))
-
-pub copied-row : (n m len : ℕ) (ws now words : List ℕ) (ss : List Bool) (a b : ℕ) (s : Bool) (v : Rows) → IsTable n m ws ss → a < length ss → b < length ss → len ≡ length ws → now ≡ ws
-    → words ≡ put_chunk (8 * m * a) now (chunk (8 * m * b) (8 * m) now) → s ≡ get_or ss b s → table n m ws ss ≡ v
-    → table n m (take len (words ++ drop (length words) ws)) (set ss a s) ≡ with_row v a (row_at v b)
-copied-row n m len ws now words ss a b s v is la lb l en e es ev =
-    ap (λ w. table n m w (set ss a s)) (written ws words (chunk (8 * m * b) (8 * m) ws) (8 * m * a) len (e ∙ (λ i. put_chunk (8 * m * a) (en i) (chunk (8 * m * b) (8 * m) (en i)))) l)
-    ∙ table-put n m ws ss a (chunk (8 * m * b) (8 * m) ws) s is la (length-row_at m ws ss b is.size lb)
-    ∙ ap (with_row (table n m ws ss) a) (ap (λ t. signed_row n t (row_letters m (chunk (8 * m * b) (8 * m) ws))) (es ∙ get_or-any ss b s false lb) ∙ sym (row_at-table n m ws ss b lb))
-    ∙ ap (λ r. with_row r a (row_at r b)) ev
-
--- a letter of a row
-pub letter-table : (n m : ℕ) (ws now : List ℕ) (ss : List Bool) (a q : ℕ) (v : Rows) → now ≡ ws → a < length ss → table n m ws ss ≡ v → q < v.qubits
-    → get_or (row_letters m (chunk (8 * m * a) (8 * m) now)) q I ≡ get_or (row_at v a).letters q I
-letter-table n m ws now ss a q v en la ev lq =
-    ap (λ w. get_or (row_letters m (chunk (8 * m * a) (8 * m) w)) q I) en
-    ∙ sym (get_or-take n (row_letters m (chunk (8 * m * a) (8 * m) ws)) q I (subst (λ (r : Rows). q < r.qubits) (sym ev) lq))
-    ∙ ap (λ (p : Signed). get_or p.letters q I) (sym (row_at-table n m ws ss a la))
-    ∙ ap (λ r. get_or (row_at r a).letters q I) ev
-
-pub qubit-table : (n m : ℕ) (ws : List ℕ) (ss : List Bool) (q : ℕ) (v : Rows) → IsTable n m ws ss → table n m ws ss ≡ v → q < v.qubits → q < 256 * m
-qubit-table n m ws ss q v is ev lq =
-    let lt : q < n = subst (λ (r : Rows). q < r.qubits) (sym ev) lq in
-    let le = fits n m is.blocks in
-    omega arith

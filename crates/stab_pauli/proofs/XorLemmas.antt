@@ -1,16 +1,11 @@
 -- Walks along packed strings: what a loop over the words knows, one word or one block of words later.
-use Rattle.std.proofs.Common.{◌≡◌, ℕ, ◌+◌, ◌<◌, ◌≤◌, refl, sym, ◌∙◌, ap, List, ◌∷◌, ◌++◌, length, get_or, set, drop, ◌-◌, ◌*◌, inl, inr, arith, below_more, drop-cons, add-one}
+use Rattle.std.proofs.Common.{◌≡◌, ℕ, ◌+◌, ◌<◌, ◌≤◌, refl, sym, ◌∙◌, ap, List, length, get_or, set, ◌-◌, inl, inr, arith, below_more}
 use Rattle.std.specs.Prelude.{bit_xor, ◌⊎◌}
 use Rattle.std.specs.Simd.Lanes.{zip2, chunk, put_chunk}
-use Rattle.std.proofs.lemmas.List.{length-set, get_or-set_other, get_or-set_same, ext_get_or, drop_all}
+use Rattle.std.proofs.lemmas.List.{length-set, get_or-set_other, get_or-set_same, ext_get_or}
 use Rattle.std.proofs.lemmas.Bool.{cases_order}
-use Rattle.std.proofs.lemmas.Simd.{get_or-zip2, length-zip2, chunk-drop, length-chunk, get_or-chunk, length-put_chunk, get_or-put_chunk_below, get_or-put_chunk_at, get_or-put_chunk_above}
-use Rattle.stab_pauli.specs.declared.turn.Turn.{Turn}
-use Rattle.stab_pauli.specs.Turns.{turn_add}
-use Rattle.stab_pauli.specs.Paulis.{string_turn}
-use Rattle.stab_pauli.proofs.TurnLemmas.{turn_add-zero, turn_add-assoc}
-use Rattle.stab_pauli.specs.inner.Words.{word_letters, packed_letters, xor_words}
-use Rattle.stab_pauli.proofs.PackedLemmas.{packed_turn, packed-append, length-packed, string_turn-append}
+use Rattle.std.proofs.lemmas.Simd.{get_or-zip2, length-zip2, length-chunk, get_or-chunk, length-put_chunk, get_or-put_chunk_below, get_or-put_chunk_at, get_or-put_chunk_above}
+use Rattle.stab_pauli.specs.inner.Words.{xor_words}
 
 -- products of words
 

@@ -1,5 +1,5 @@
 -- Several signed Pauli strings of one length, side by side.
-use Rattle.std.specs.Prelude.{ℕ, Bool, List, map, slice_index_or, slice_set}
+use Rattle.std.specs.Prelude.{ℕ, ◌≡◌, ◌<◌, List, length, map, slice_index_or, slice_set}
 use Rattle.stab_pauli.specs.declared.letter.Letter.{Letter}
 use Rattle.stab_pauli.specs.declared.turn.Turn.TheVariants.{Quarter}
 use Rattle.stab_pauli.specs.Turns.{turn_add, sign_of_turn}
@@ -17,6 +17,14 @@ row_at r a = slice_index_or r.rows a (identity r.qubits)
 -- another string in the place of one
 abbrev pub with_row : Rows → ℕ → Signed → Rows
 with_row r a p = record { qubits = r.qubits; rows = slice_set r.rows a p }
+
+-- another letter at a qubit
+abbrev pub with_letter : ℕ → Letter → Signed → Signed
+with_letter qubit letter p = record { negative = p.negative; letters = slice_set p.letters qubit letter }
+
+-- each has a letter for each qubit
+abbrev pub AreOver : Rows → Type 0
+AreOver r = (a : ℕ) → a < length r.rows → length (row_at r a).letters ≡ r.qubits
 
 -- two that have changed places
 abbrev pub swapped_rows : Rows → ℕ → ℕ → Rows

@@ -1,4 +1,4 @@
-use Rattle.std.proofs.Common.{arith, ◌≡◌, ◌∙◌, ap, ◌+◌, ◌-◌, ◌*◌}
+use Rattle.std.proofs.Common.{arith, ◌≡◌, ◌∙◌, ◌+◌, ◌-◌, ◌*◌}
 use Rattle.std.specs.Prelude.{slice_set}
 use Rattle.std.specs.Simd.Lanes.{chunk}
 use Rattle.stab_pauli.specs.inner.Blocks.{row_letters}

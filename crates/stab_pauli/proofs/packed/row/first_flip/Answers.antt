@@ -1,4 +1,4 @@
-use Rattle.std.proofs.Common.{arith, refl, ◌<◌, ◌^◌, get_or, ◌+◌, ◌*◌, ◌/◌, ◌%◌}
+use Rattle.std.proofs.Common.{arith, refl, ◌<◌, get_or, ◌+◌, ◌*◌, ◌/◌, ◌%◌}
 use Rattle.stab_pauli.proofs.FlipLemmas.{still-word, lowest_in_word, first-found}
 use Rattle.stab_pauli.proofs.packed.row.first_flip.Goals as goal
 

@@ -1,4 +1,4 @@
-use Rattle.std.proofs.Common.{arith, ◌≡◌, ◌*◌, not, length, sym, ◌∙◌, ap}
+use Rattle.std.proofs.Common.{not, length, ◌∙◌, ap}
 use Rattle.stab_pauli.specs.Paulis.{strings_anticommute}
 use Rattle.stab_pauli.specs.inner.Blocks.{row_letters}
 use Rattle.stab_pauli.proofs.PaddedLemmas.{IsView, alike, letters_of, anticommute-product}

@@ -1,7 +1,7 @@
-use Rattle.std.proofs.Common.{arith, ◌≡◌, ◌*◌, take, length, sym, ◌∙◌, ap, subst}
+use Rattle.std.proofs.Common.{arith, ◌≡◌, take, length, sym, ◌∙◌, ap, subst}
 use Rattle.std.proofs.lemmas.Grind.{common_steps}
 use Rattle.stab_pauli.specs.inner.Blocks.{row_letters, IsRow}
-use Rattle.stab_pauli.proofs.PaddedLemmas.{IsView, alike, letters_of, sign_of, IsRow-written, letters-written}
+use Rattle.stab_pauli.proofs.PaddedLemmas.{IsView, alike, sign_of, IsRow-written, letters-written}
 use Rattle.stab_pauli.proofs.pauli.Pauli.copy_from.Goals as goal
 
 pub copy_from_slice-requires : goal.copy_from_slice-requires

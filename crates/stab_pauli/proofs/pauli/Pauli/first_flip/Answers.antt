@@ -1,7 +1,6 @@
-use Rattle.std.proofs.Common.{arith, ℕ, ◌*◌, ◌≡◌, ◌≤◌, ◌^◌, length, sym, ◌∙◌, ap, subst, false, true, take, get_or}
+use Rattle.std.proofs.Common.{arith, ℕ, ◌*◌, sym, ◌∙◌, ap, subst}
 use Rattle.std.specs.List.{list_any}
 use Rattle.std.proofs.lemmas.Option.{IfSome_then}
-use Rattle.stab_pauli.specs.declared.letter.Letter.TheVariants.{I}
 use Rattle.stab_pauli.specs.Flips.{flips}
 use Rattle.stab_pauli.specs.inner.Blocks.{row_letters, FlipsNoneBefore, IsFirstFlip}
 use Rattle.stab_pauli.proofs.PaddedLemmas.{IsView, length-view, letters_of}

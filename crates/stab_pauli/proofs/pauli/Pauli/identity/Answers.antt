@@ -1,4 +1,4 @@
-use Rattle.std.proofs.Common.{arith, rules, ◌≡◌, ◌*◌, ap, replicate, false}
+use Rattle.std.proofs.Common.{rules, ◌≡◌, ◌*◌, replicate, false}
 use Rattle.stab_pauli.proofs.PaddedLemmas.{IsRow-none, letters-none}
 use Rattle.stab_pauli.proofs.pauli.Pauli.identity.Goals as goal
 

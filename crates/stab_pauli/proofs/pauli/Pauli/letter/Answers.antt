@@ -1,4 +1,4 @@
-use Rattle.std.proofs.Common.{arith, ◌≡◌, ◌<◌, length, get_or, sym, ◌∙◌, ap}
+use Rattle.std.proofs.Common.{arith, ◌<◌, get_or, sym, ◌∙◌, ap}
 use Rattle.std.proofs.lemmas.List.{get_or-take}
 use Rattle.stab_pauli.specs.declared.letter.Letter.TheVariants.{I}
 use Rattle.stab_pauli.specs.inner.Blocks.{row_letters}

@@ -1,4 +1,4 @@
-use Rattle.std.proofs.Common.{◌≡◌, ◌∙◌, ap, sym, Bool}
+use Rattle.std.proofs.Common.{◌≡◌, ◌∙◌, ap}
 use Rattle.stab_pauli.specs.Paulis.{Signed}
 use Rattle.stab_pauli.specs.Turns.{turn_add, sign_turn, sign_of_turn}
 use Rattle.stab_pauli.proofs.pauli.Pauli.multiply.Goals as goal

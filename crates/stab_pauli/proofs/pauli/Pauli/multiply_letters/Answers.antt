@@ -1,4 +1,3 @@
-use Rattle.std.proofs.Common.{refl}
 use Rattle.stab_pauli.proofs.pauli.Pauli.multiply_letters.Goals as goal
 
 pub returns : goal.returns

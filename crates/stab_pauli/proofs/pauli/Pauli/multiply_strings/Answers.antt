@@ -1,7 +1,6 @@
-use Rattle.std.proofs.Common.{arith, ◌≡◌, ◌*◌, length, sym, ◌∙◌, ap}
+use Rattle.std.proofs.Common.{length, ◌∙◌, ap}
 use Rattle.stab_pauli.specs.Paulis.{string_product, string_turn}
-use Rattle.stab_pauli.specs.inner.Blocks.{row_letters, IsRow}
-use Rattle.stab_pauli.specs.inner.Words.{xor_words}
+use Rattle.stab_pauli.specs.inner.Blocks.{row_letters}
 use Rattle.stab_pauli.proofs.PaddedLemmas.{IsView, alike, letters_of, sign_of, read-product, IsRow-read, IsRow-written, letters-written, letters-read, turn-product}
 use Rattle.stab_pauli.proofs.pauli.Pauli.multiply_strings.Goals as goal
 

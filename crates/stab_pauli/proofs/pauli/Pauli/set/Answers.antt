@@ -1,5 +1,5 @@
-use Rattle.std.proofs.Common.{arith, ◌≡◌, ◌<◌, length, set, sym, ◌∙◌, ap}
-use Rattle.stab_pauli.specs.inner.Blocks.{row_letters, IsRow}
+use Rattle.std.proofs.Common.{arith, ◌<◌, set, ◌∙◌, ap}
+use Rattle.stab_pauli.specs.inner.Blocks.{row_letters}
 use Rattle.stab_pauli.proofs.PaddedLemmas.{IsView, length-view, place_in_row, letters_of, sign_of, IsRow-set, letters-set, IsRow-written, letters-written}
 use Rattle.stab_pauli.proofs.pauli.Pauli.set.Goals as goal
 
