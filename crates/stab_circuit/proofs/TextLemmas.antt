@@ -14,8 +14,7 @@ use Rattle.stab_circuit.specs.Circuits.{Joins, contents, meanings, limited, text
 use Rattle.stab_circuit.specs.Steps.{check_of, unroll, looks_too_far, most_steps}
 use Rattle.stab_circuit.specs.Views.{item_of, items_of}
 use Rattle.stab_circuit.specs.Readers.{start, read_on, reading}
-use Rattle.stab_lines.specs.Meanings.{is_of_line}
-use Rattle.stab_circuit.specs.Readings.{ReadsCircuit, IsCircuit, IsFaultOf, IsPlaced, is_of_circuit, is_of_item}
+use Rattle.stab_circuit.specs.Readings.{ReadsCircuit, IsCircuit, IsFaultOf, IsPlaced, has_line, is_of_circuit, is_of_item}
 use Rattle.stab_lines.proofs.BoolLemmas.{chosen, passed}
 use Rattle.stab_circuit.proofs.ReadingLemmas.{joined_read, fault_read}
 use Rattle.stab_circuit.proofs.OneItemLemmas.{blank_read, read_blank, read_one, same_meanings, size, size-listed}
@@ -136,7 +135,7 @@ circuit_placed text f (inr (inr (items, r, s, k, e))) = check_placed f r e (chec
 
 -- no text is refused for a failed read
 line_no_read : (f : Fault) → IsLineFault f → f.refusal ≡ ReadFault → ⊥
-line_no_read f p e = let q : false ≡ true = sym (ap is_of_line e) ∙ p.0 in cc
+line_no_read f p e = let q : false ≡ true = sym (ap has_line e) ∙ p.0 in cc
 
 whole_no_read : (f : Fault) (r : Refusal) → f ≡ whole r → f.refusal ≡ ReadFault → r ≡ ReadFault
 whole_no_read f r p e = sym (ap (λ g. g.refusal) p) ∙ e

@@ -1,7 +1,7 @@
 -- Readings: how the calls that read a text answer it.
 use Rattle.std.specs.Prelude.{◌≡◌, ◌<◌, Bool, true, false, IsTrue, Some, None, Result, Ok, Err, List, ℕ, ◌⊎◌}
 use Rattle.stab_pauli.specs.declared.refusal.Refusal.{Refusal}
-use Rattle.stab_pauli.specs.declared.refusal.Refusal.TheVariants.{LookbackTooFar, TooManySteps, BadLine, TooLong, ReadFault, OutOfMemory}
+use Rattle.stab_pauli.specs.declared.refusal.Refusal.TheVariants.{LookbackTooFar, TooManySteps, TooDeep, BadLine, TooLong, ReadFault, OutOfMemory}
 use Rattle.stab_pauli.specs.declared.refusal.Fault.{Fault}
 use Rattle.stab_pauli.specs.Refusals.{whole}
 use Rattle.stab_circuit.specs.declared.item.Item.{Item}
@@ -41,6 +41,11 @@ abbrev pub ReadsItem : List ℕ → Result Item Fault → Type 0
 ReadsItem text (Ok item) = StandsForOne text (item_of item)
 ReadsItem text (Err fault) = (fault ≡ whole OutOfMemory) ⊎ (item_fault text ≡ Some fault)
 
+-- whether a refusal has a line: those of lines, and that of blocks that nest too deep
+abbrev pub has_line : Refusal → Bool
+has_line TooDeep = true
+has_line r = is_of_line r
+
 -- whether a whole circuit text can be refused like this: 8, 9, 14, 15 and 20
 abbrev pub is_of_circuit : Refusal → Bool
 is_of_circuit LookbackTooFar = true
@@ -59,4 +64,4 @@ is_of_item r = false
 
 -- the fault has a line, as a refused line has, or is one of those that have none
 abbrev pub IsPlaced : (Refusal → Bool) → Fault → Type 0
-IsPlaced is_whole fault = (IsTrue (is_of_line fault.refusal) × (0 < fault.line)) ⊎ (IsTrue (is_whole fault.refusal) × (fault.line ≡ 0))
+IsPlaced is_whole fault = (IsTrue (has_line fault.refusal) × (0 < fault.line)) ⊎ (IsTrue (is_whole fault.refusal) × (fault.line ≡ 0))

@@ -7,3 +7,4 @@ pub mod Targets
 pub mod Meanings
 pub mod Prints
 pub mod Views
+pub mod Laws

@@ -10,6 +10,7 @@
 #![tactic(auto)]
 
 mod argument;
+pub mod laws;
 mod line;
 mod meanings;
 mod name;
