@@ -6,7 +6,7 @@ use Rattle.stab_pauli.specs.declared.refusal.Fault.{Fault}
 use Rattle.stab_pauli.specs.Refusals.{whole}
 use Rattle.stab_circuit.specs.Items.{Items, OneItem, operation, repeat, before, done, next, block}
 use Rattle.stab_circuit.specs.Circuits.{Joins, most_bytes, contents, meanings, fault_from, one_item, is_empty, item_fault}
-use Rattle.stab_circuit.specs.Readers.{start, read_on}
+use Rattle.stab_circuit.specs.inner.Readers.{start, read_on}
 use Rattle.stab_circuit.specs.Laws.{StandsForOneOnly}
 use Rattle.stab_circuit.proofs.ReadingLemmas.{one_list, some_list, read_joined}
 use Rattle.stab_circuit.proofs.OneItemLemmas.{read_blank, read_one, same_meanings, size}

@@ -10,7 +10,7 @@ use Rattle.stab_circuit.specs.Items.{Items, OneItem, operation, repeat, listed, 
 use Rattle.stab_lines.specs.Meanings.{meaning_of, is_close}
 use Rattle.stab_lines.proofs.LineLaws.{blank_is_empty}
 use Rattle.stab_circuit.specs.Circuits.{Meaning, Joins, nothing, blank_line, operation_line, block_lines, at_line, fault_from, meaning_after, depth_after, ends_item, one_item, is_empty}
-use Rattle.stab_circuit.specs.Readers.{Frame, State, start, closed, stepped, finished, read_on, is_whole, meaning_at, pending}
+use Rattle.stab_circuit.specs.inner.Readers.{Frame, Progress, start, closed, stepped, finished, read_on, is_whole, meaning_at, pending}
 use Rattle.stab_lines.proofs.BoolLemmas.{chosen, passed, and_left, and_right, both}
 use Rattle.stab_circuit.proofs.FaultLemmas.{state, frame}
 use Rattle.stab_circuit.proofs.ReadingLemmas.{joined_read, choice_none, fault_opens}
@@ -77,7 +77,7 @@ one_if true = 1
 one_if false = 0
 
 -- there is at most one item, and only where it is whole
-abbrev IsSmall : State → Type 0
+abbrev IsSmall : Progress → Type 0
 IsSmall s = size (outer s.frames s.now) ≤ one_if (is_whole s)
 
 size-join : (xs ys : Items) → size (join xs ys) ≡ size xs + size ys
@@ -85,12 +85,12 @@ size-join done ys = omega arith
 size-join (next op rest) ys = omega (arith, size-join rest ys)
 size-join (block c t body rest) ys = omega (arith, size-join rest ys)
 
-small_open : (n : ℕ) (fs : List Frame) (now : Items) (c : ℕ) (tag : List ℕ) (t : State) (b : Bool) → size (outer fs now) ≤ 0
+small_open : (n : ℕ) (fs : List Frame) (now : Items) (c : ℕ) (tag : List ℕ) (t : Progress) (b : Bool) → size (outer fs now) ≤ 0
     → (if b then Ok (state (frame n c tag now ∷ fs) done) else Err TooDeep) ≡ Ok t → IsSmall t
 small_open n fs now c tag t true h e = let same : state (frame n c tag now ∷ fs) done ≡ t = cc in subst IsSmall same (omega (arith, h))
 small_open n fs now c tag t false h e = cc
 
-small_step : (n : ℕ) (fs : List Frame) (now : Items) (m : Meaning) (t : State) → is_whole (state fs now) ≡ false → size (outer fs now) ≤ 0 → stepped n m (state fs now) ≡ Ok t → IsSmall t
+small_step : (n : ℕ) (fs : List Frame) (now : Items) (m : Meaning) (t : Progress) → is_whole (state fs now) ≡ false → size (outer fs now) ≤ 0 → stepped n m (state fs now) ≡ Ok t → IsSmall t
 small_step n fs now (Err r) t w h e = cc
 small_step n fs now (Ok Blank) t w h e = let same : state fs now ≡ t = cc in subst IsSmall same (omega (arith, h))
 small_step n [] now (Ok Close) t w h e = cc
@@ -105,7 +105,7 @@ small_step n [] now (Ok (line.Operation op)) t w h e =
 small_step n (f ∷ fs) now (Ok (line.Operation op)) t w h e = let same : state (f ∷ fs) (join now (next op done)) ≡ t = cc in subst IsSmall same (omega (arith, h))
 
 -- a line that is taken leaves at most one item
-small_taken : (n : ℕ) (s t : State) (c : List ℕ) (b : Bool) → is_whole s ≡ b → stepped n (if b then meaning_after c else meaning_of c) s ≡ Ok t → IsSmall s → IsSmall t
+small_taken : (n : ℕ) (s t : Progress) (c : List ℕ) (b : Bool) → is_whole s ≡ b → stepped n (if b then meaning_after c else meaning_of c) s ≡ Ok t → IsSmall s → IsSmall t
 small_taken n s t c true w e h = subst IsSmall (whole_kept n s.frames s.now t (length c == 0) (is_close c) w e) h
 small_taken n s t c false w e h = small_step n s.frames s.now (meaning_of c) t w (subst (λ b. size (outer s.frames s.now) ≤ one_if b) w h) e
 
@@ -118,13 +118,13 @@ small_end [] now xs e h = let same : now ≡ xs = cc in subst (λ z. size z ≤ 
 small_end (f ∷ fs) now xs e h = cc
 
 -- a line, and those after it
-one_more : (n : ℕ) (s : State) (c : List ℕ) (cs : List (List ℕ)) (xs : Items) (r : Result State Refusal) → stepped n (meaning_at true s c) s ≡ r
+one_more : (n : ℕ) (s : Progress) (c : List ℕ) (cs : List (List ℕ)) (xs : Items) (r : Result Progress Refusal) → stepped n (meaning_at true s c) s ≡ r
     → read_on n s (pending true s (c ∷ cs)) ≡ Ok xs → IsSmall s
-    → ((t : State) → read_on (n + 1) t (pending true t cs) ≡ Ok xs → IsSmall t → size xs ≤ 1) → size xs ≤ 1
+    → ((t : Progress) → read_on (n + 1) t (pending true t cs) ≡ Ok xs → IsSmall t → size xs ≤ 1) → size xs ≤ 1
 one_more n s c cs xs (Ok t) p e h rest = rest t (sym (pending_taken true n s t c cs p) ∙ e) (small_taken n s t c (is_whole s) refl p h)
 one_more n s c cs xs (Err x) p e h rest = let f : Err (at_line n x) ≡ Ok xs = sym (pending_refused true n s c cs x p) ∙ e in cc
 
-one_read : (cs : List (List ℕ)) (n : ℕ) (s : State) (xs : Items) → read_on n s (pending true s cs) ≡ Ok xs → IsSmall s → size xs ≤ 1
+one_read : (cs : List (List ℕ)) (n : ℕ) (s : Progress) (xs : Items) → read_on n s (pending true s cs) ≡ Ok xs → IsSmall s → size xs ≤ 1
 one_read [] n s xs e h = small_end s.frames s.now xs (sym (nothing_pending true n s) ∙ e) h
 one_read (c ∷ cs) n s xs e h = one_more n s c cs xs (stepped n (meaning_at true s c) s) refl e h (λ t f g. one_read cs (n + 1) t xs f g)
 

@@ -16,7 +16,7 @@ use Rattle.stab_lines.specs.Meanings.{meaning_of}
 use Rattle.stab_lines.specs.Laws.{IsLine, line_printed, Says}
 use Rattle.stab_circuit.specs.Items.{Items, done, next, block}
 use Rattle.stab_circuit.specs.Circuits.{Meaning, Joins, line_meanings, meanings, fault_from, text_fault, most_bytes, StandsFor}
-use Rattle.stab_circuit.specs.Prints.{Written, written, text_of, printed}
+use Rattle.stab_circuit.specs.Prints.{PrintedLine, printed_lines, text_of, printed}
 use Rattle.stab_circuit.specs.Laws.{AreLinesOf}
 use Rattle.stab_lines.proofs.BoolLemmas.{passed}
 use Rattle.stab_lines.proofs.FreeLemmas.{Each, Free, each-append, free-append, free_spaces, free_any, any_free, split_free}
@@ -65,35 +65,35 @@ says : (m : Line) → IsOfLine (Ok m) → Says (line_printed m) m
 says m (line, one, e) = printed_again line m one (sym e)
 
 -- the printed lines mean what the items' lines mean, and say it
-abbrev meaning_written : Written → Meaning
+abbrev meaning_written : PrintedLine → Meaning
 meaning_written w = meaning_of w.content
 
-abbrev AreSaid : List Written → Type 0
+abbrev AreSaid : List PrintedLine → Type 0
 AreSaid ws = Each (λ w. (m : Line) × Says w.content m) ws
 
 close_said : Says (codes "}") Close
 unfolding meaning_of content_of
 close_said = says Close (codes "}", refl, refl)
 
-written_said : (d : ℕ) (xs : Items) → AreOfLines (lines_of xs) → AreSaid (written d xs)
+written_said : (d : ℕ) (xs : Items) → AreOfLines (lines_of xs) → AreSaid (printed_lines d xs)
 written_said d done g = tt
 written_said d (next op rest) g = ((line.Operation op, says (line.Operation op) g.0), written_said d rest g.1)
 written_said d (block count tag body rest) g = (
   (Open count tag, says (Open count tag) g.0),
-  each-append (λ w. (m : Line) × Says w.content m) (written (suc d) body) _ (written_said (suc d) body (each_left IsOfLine (lines_of body) _ g.1))
+  each-append (λ w. (m : Line) × Says w.content m) (printed_lines (suc d) body) _ (written_said (suc d) body (each_left IsOfLine (lines_of body) _ g.1))
       ((Close, close_said), written_said d rest (each_right IsOfLine (lines_of body) _ g.1).1),
 )
 
-written_means : (d : ℕ) (xs : Items) → AreOfLines (lines_of xs) → map meaning_written (written d xs) ≡ lines_of xs
+written_means : (d : ℕ) (xs : Items) → AreOfLines (lines_of xs) → map meaning_written (printed_lines d xs) ≡ lines_of xs
 written_means d done g = refl
-written_means d (next op rest) g = ap (λ m. m ∷ map meaning_written (written d rest)) (says (line.Operation op) g.0).means ∙ ap (λ l. Ok (line.Operation op) ∷ l) (written_means d rest g.1)
+written_means d (next op rest) g = ap (λ m. m ∷ map meaning_written (printed_lines d rest)) (says (line.Operation op) g.0).means ∙ ap (λ l. Ok (line.Operation op) ∷ l) (written_means d rest g.1)
 written_means d (block count tag body rest) g =
-    let behind = record { depth = d; content = codes "}" } ∷ written d rest in
-    ap (λ m. m ∷ map meaning_written (written (suc d) body ++ behind)) (says (Open count tag) g.0).means
+    let behind = record { depth = d; content = codes "}" } ∷ printed_lines d rest in
+    ap (λ m. m ∷ map meaning_written (printed_lines (suc d) body ++ behind)) (says (Open count tag) g.0).means
     ∙ ap (λ l. Ok (Open count tag) ∷ l)
-    (map-append meaning_written (written (suc d) body) behind
+    (map-append meaning_written (printed_lines (suc d) body) behind
     ∙ ap (λ l. l ++ map meaning_written behind) (written_means (suc d) body (each_left IsOfLine (lines_of body) _ g.1))
-    ∙ ap (λ m. lines_of body ++ m ∷ map meaning_written (written d rest)) close_said.means
+    ∙ ap (λ m. lines_of body ++ m ∷ map meaning_written (printed_lines d rest)) close_said.means
     ∙ ap (λ l. lines_of body ++ Ok Close ∷ l) (written_means d rest (each_right IsOfLine (lines_of body) _ g.1).1))
 
 -- nothing is left of an empty line
@@ -102,7 +102,7 @@ unfolding content_of
 last_blank = (blank_is_empty []).1 refl
 
 -- the meanings of a printed text are those of its contents, and a blank
-text_means : (ws : List Written) → AreSaid ws → meanings (text_of ws) ≡ map meaning_written ws ++ Ok Blank ∷ []
+text_means : (ws : List PrintedLine) → AreSaid ws → meanings (text_of ws) ≡ map meaning_written ws ++ Ok Blank ∷ []
 text_means [] n = ap (λ m. m ∷ []) last_blank
 text_means (w ∷ ws) n =
     let spaces = replicate (4 * w.depth) 32 in
@@ -132,7 +132,7 @@ pub round_trip : (lines : List (List ℕ)) (items : Items) → AreLinesOf lines 
 round_trip lines items s h =
     let meant : AreOfLines (lines_of items) = subst AreOfLines (unblank_joined s.joined) (unblank_each IsOfLine (line_meanings lines) (lines_meant lines s.each)) in
     let means : meanings (printed items) ≡ lines_of items ++ Ok Blank ∷ [] =
-    text_means (written 0 items) (written_said 0 items meant) ∙ ap (λ l. l ++ Ok Blank ∷ []) (written_means 0 items meant) in
+    text_means (printed_lines 0 items) (written_said 0 items meant) ∙ ap (λ l. l ++ Ok Blank ∷ []) (written_means 0 items meant) in
     let joins : Joins (meanings (printed items)) items = subst (λ ms. Joins ms items) (sym means) (joins_end (lines_join items)) in
     let none : fault_from 1 [] (meanings (printed items)) ≡ None = same_faultless (line_meanings lines) (meanings (printed items)) items s.joined joins s.faultless in
     (passed (nat_lt most_bytes (length (printed items))) _ _ (within_limit (length (printed items)) h) ∙ none, joins)

@@ -37,8 +37,8 @@ pub record IsSummary (s : Summary) : Type 0 where
   pub qubits : s.qubits ≤ 1024
 
 -- the summary of items with others after them
-abbrev pub after : Summary → Summary → Summary
-after s t = record {
+abbrev pub followed_by : Summary → Summary → Summary
+followed_by s t = record {
   steps = min (s.steps + t.steps) 1048577;
   records = min (s.records + t.records) 16777215;
   reach = max s.reach (t.reach - s.records);
