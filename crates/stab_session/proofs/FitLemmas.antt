@@ -1,4 +1,4 @@
--- Fits: the steps of a circuit that is not refused on n qubits are on these qubits.
+-- StepFits: the steps of a circuit that is not refused on n qubits are on these qubits.
 use Rattle.std.proofs.Common.{◌≡◌, ℕ, zero, suc, ◌<◌, ◌≤◌, max, refl, sym, subst, Bool, true, false, nat_lt, List, [], ◌∷◌, length, map, All, get_or, arith}
 use Rattle.std.specs.Prelude.{Option, Some, None, if◌then◌else◌}
 use Rattle.std.proofs.lemmas.List.Elements.{All-nil, All-cons, All-append}
@@ -14,7 +14,7 @@ use Rattle.stab_circuit.specs.Items.{Items, done, next, block}
 use Rattle.stab_lines.specs.Targets.{pair_qubits}
 use Rattle.stab_circuit.specs.Steps.{Step, one, two, collapse, detector, observable, measured, steps_of, rounds, unroll, past, target_qubits, named_qubits, qubits_of, most_steps, check_of, check_within}
 use Rattle.stab_circuit.specs.Cursors.{IsApart}
-use Rattle.stab_session.specs.Sights.{Fits}
+use Rattle.stab_session.specs.inner.Sights.{StepFits}
 
 -- the qubits of a step are below n
 abbrev IsWithin : ℕ → Step → Type 0
@@ -91,7 +91,7 @@ within-items n (block count tag body rest) le =
     (within-rounds n count (unroll body) (within-items n body (max-left (qubits_of body) (qubits_of rest) n le)))
     (within-items n rest (max-right (qubits_of body) (qubits_of rest) n le))
 
-fits-within : (n : ℕ) (x : Step) → IsWithin n x → IsApart x → Fits n x
+fits-within : (n : ℕ) (x : Step) → IsWithin n x → IsApart x → StepFits n x
 fits-within n (one g q) w a = w
 fits-within n (two g p q) w a = (w.0, w.1, a)
 fits-within n (collapse l q recorded inverted resets) w a = w
@@ -117,6 +117,6 @@ pub check-steps : (items : Items) → check_of items ≡ None → length (unroll
 unfolding check_of
 check-steps items e = not_less most_steps (length (unroll items)) (chosen _ _ _ (chosen _ _ _ e).1).0
 
-pub check-fits : (n : ℕ) (items : Items) (xs : List Step) → check_within n items ≡ None → xs ≡ unroll items → All IsApart xs → All (Fits n) xs
+pub check-fits : (n : ℕ) (items : Items) (xs : List Step) → check_within n items ≡ None → xs ≡ unroll items → All IsApart xs → All (StepFits n) xs
 check-fits n items xs e is apart = λ k d lt.
     fits-within n (get_or xs k d) (subst (All (IsWithin n)) (sym is) (within-items n items (check-qubits n items e)) k d lt) (apart k d lt)

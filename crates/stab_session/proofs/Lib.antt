@@ -3,4 +3,5 @@ mod RunLemmas
 mod StateLemmas
 mod FutureLemmas
 mod FitLemmas
+mod SoundLemmas
 mod ShotLemmas

@@ -9,7 +9,7 @@ use Rattle.stab_circuit.specs.Items.{Items}
 use Rattle.stab_circuit.specs.Steps.{Step, one, two, collapse, detector, observable, unroll, observables_of}
 use Rattle.stab_session.specs.Records.{parity}
 use Rattle.stab_session.specs.Runs.{State, start, when, collapsed, effect, run, run_of}
-use Rattle.stab_session.specs.Points.{Point, Output, joined, given, next, after, outputs, point_of, state_at}
+use Rattle.stab_session.specs.Points.{Point, Output, joined, given, next_point, point_after, outputs, point_of, state_at}
 use Rattle.stab_session.specs.Laws.{AgreeWhere, DependsOnCoinsAt}
 
 -- a point and its outputs
@@ -17,7 +17,7 @@ use Rattle.stab_session.specs.Laws.{AgreeWhere, DependsOnCoinsAt}
 same_point : (t : List Happening) (c : ℕ) (r : List Bool) → ◌≡◌ {A = Point} (record { trace = t; coin = c; records = r }) (record { trace = t; coin = c + 0; records = r ++ [] })
 same_point t c r = λ i. record { trace = t; coin = sym (add-zero c) i; records = sym (append-nil r) i }
 
-next-point : (n : ℕ) (coins : ℕ → Bool) (x : Step) (s : State) → point_of (effect n coins x s) ≡ next n coins x (point_of s)
+next-point : (n : ℕ) (coins : ℕ → Bool) (x : Step) (s : State) → point_of (effect n coins x s) ≡ next_point n coins x (point_of s)
 next-point n coins (one g q) s = same_point (applied g q ∷ s.trace) s.coin s.records
 next-point n coins (two g a b) s = same_point (applied_pair g a b ∷ s.trace) s.coin s.records
 next-point n coins (collapse l q recorded inverted resets) s = refl
@@ -34,12 +34,12 @@ given-state n coins (detector ks) s p o = ap (λ d. record (state_at p o s) { de
 given-state n coins (observable j ks) s p o = refl
 
 pub run-state : (n : ℕ) (coins : ℕ → Bool) (xs : List Step) (s : State)
-    → run n coins xs s ≡ state_at (after n coins xs (point_of s)) (outputs n coins xs (point_of s)) s
+    → run n coins xs s ≡ state_at (point_after n coins xs (point_of s)) (outputs n coins xs (point_of s)) s
 run-state n coins [] s = λ i. record s { free = sym (append-nil s.free) i; detectors = sym (append-nil s.detectors) i }
 run-state n coins (x ∷ xs) s =
     run-state n coins xs (effect n coins x s)
-    ∙ ap (λ p. state_at (after n coins xs p) (outputs n coins xs p) (effect n coins x s)) (next-point n coins x s)
-    ∙ given-state n coins x s (after n coins xs (next n coins x (point_of s))) (outputs n coins xs (next n coins x (point_of s)))
+    ∙ ap (λ p. state_at (point_after n coins xs p) (outputs n coins xs p) (effect n coins x s)) (next-point n coins x s)
+    ∙ given-state n coins x s (point_after n coins xs (next_point n coins x (point_of s))) (outputs n coins xs (next_point n coins x (point_of s)))
 
 -- coins that do not decide
 

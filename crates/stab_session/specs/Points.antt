@@ -70,18 +70,18 @@ all_coins_of [] = 0
 all_coins_of (x ∷ xs) = coins_of x + all_coins_of xs
 
 -- where a step leads
-abbrev pub next : ℕ → (ℕ → Bool) → Step → Point → Point
-next n coins x p = record { trace = trace_after n coins x p; coin = p.coin + coins_of x; records = p.records ++ (given n coins x p).records }
+abbrev pub next_point : ℕ → (ℕ → Bool) → Step → Point → Point
+next_point n coins x p = record { trace = trace_after n coins x p; coin = p.coin + coins_of x; records = p.records ++ (given n coins x p).records }
 
 -- where steps lead
-abbrev pub after : ℕ → (ℕ → Bool) → List Step → Point → Point
-after n coins [] p = p
-after n coins (x ∷ xs) p = after n coins xs (next n coins x p)
+abbrev pub point_after : ℕ → (ℕ → Bool) → List Step → Point → Point
+point_after n coins [] p = p
+point_after n coins (x ∷ xs) p = point_after n coins xs (next_point n coins x p)
 
 -- what steps give
 abbrev pub outputs : ℕ → (ℕ → Bool) → List Step → Point → Output
 outputs n coins [] p = nothing
-outputs n coins (x ∷ xs) p = joined (given n coins x p) (outputs n coins xs (next n coins x p))
+outputs n coins (x ∷ xs) p = joined (given n coins x p) (outputs n coins xs (next_point n coins x p))
 
 -- observables with additions made
 abbrev pub with_additions : List Addition → List Bool → List Bool

@@ -6,7 +6,7 @@ ghost use Rattle.stab_circuit.specs.Cursors.{step_shown};
 ghost use Rattle.stab_session.specs.Records.{ones};
 ghost use Rattle.stab_session.specs.Runs.{when};
 ghost use Rattle.stab_session.specs.Points.{coins_of};
-ghost use Rattle.stab_session.specs.Sights.{Fits, IsRun, sight, output_of, flipped_by};
+ghost use Rattle.stab_session.specs.inner.Sights.{StepFits, IsRun, sight, output_of, flipped_by};
 
 use crate::coins::Coins;
 use crate::outputs::{Addition, Outputs};
@@ -70,7 +70,7 @@ pub fn apply_step<C: Coins>(
     step: Step,
     applied: &mut u64,
 ) -> Result<(), AllocError>
-    requires fits { Fits tableau.old.qubits (step_shown step) }
+    requires fits { StepFits tableau.old.qubits (step_shown step) }
     requires few { applied.old < 2 ^ 63 }
     ensures counted { applied.new ≡ applied.old + 1 }
     ensures qubits { tableau.new.qubits ≡ tableau.old.qubits }

@@ -11,8 +11,8 @@
 //! Proved: coins are one fixed sequence of bits by number, which no call changes, and a seed gives
 //! the bits of ChaCha8 that `specs/Coins.antt` names. A run gives the records, flags, detectors and
 //! observables that the group rules of `specs/Runs.antt` give for the circuit's unrolled steps, and
-//! depends on no coin but those that decide. Each shot of a sampler is such a run, whatever became of
-//! the shots before it.
+//! depends on no coin but those that decide; its trace is sound. Each shot of a sampler is such a
+//! run, whatever became of the shots before it. `specs/inner/` has what only private contracts cite.
 #![tactic(auto)]
 
 mod apply;

@@ -5,7 +5,7 @@ ghost use Rattle.stab_session.specs.Records.{ones};
 ghost use Rattle.stab_session.specs.Runs.{run_of, Refuses};
 ghost use Rattle.stab_session.specs.Points.{all_coins_of};
 ghost use Rattle.stab_session.specs.Laws.{DependsOnCoinsAt};
-ghost use Rattle.stab_session.specs.Sights.{Fits, IsRun, sight, output_of};
+ghost use Rattle.stab_session.specs.inner.Sights.{StepFits, IsRun, sight, output_of};
 
 use crate::apply::apply_step;
 use crate::coins::Coins;
@@ -37,7 +37,7 @@ pub fn run_steps<C: Coins>(
     cursor: &mut Cursor,
     applied: &mut u64,
 ) -> Result<(), AllocError>
-    requires fits { All (Fits tableau.old.qubits) cursor.old.left }
+    requires fits { All (StepFits tableau.old.qubits) cursor.old.left }
     requires few { applied.old + length cursor.old.left < 2 ^ 63 }
     ensures counted { OnOk result (applied.new ≡ applied.old + length cursor.old.left) }
     ensures all { cursor.new.all ≡ cursor.old.all }

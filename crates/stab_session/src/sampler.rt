@@ -23,7 +23,8 @@ pub struct Sampler<'a> {
 
 impl<'a> Model for Sampler<'a> {
     ghost use Rattle.stab_circuit.specs.Views.{circuit_items};
-    ghost use Rattle.stab_session.specs.Samplers.{SamplerState, IsReady, sampler_code};
+    ghost use Rattle.stab_session.specs.Samplers.{SamplerState};
+    ghost use Rattle.stab_session.specs.inner.ReadySamplers.{IsReady, sampler_code};
 
     ghost Value = { SamplerState };
 
@@ -35,14 +36,14 @@ impl<'a> Model for Sampler<'a> {
 }
 
 impl<'a> Sampler<'a> {
-    ghost use Rattle.std.specs.Prelude.{◌≡◌, ◌+◌, ◌≤◌, IfOk, IfErr};
+    ghost use Rattle.std.specs.Prelude.{◌≡◌, ℕ, ◌+◌, ◌≤◌, Bool, IfOk, IfErr};
     ghost use Rattle.stab_pauli.specs.declared.refusal.Refusal.TheVariants.{OutOfMemory};
     ghost use Rattle.stab_circuit.specs.Steps.{unroll, check_within};
     ghost use Rattle.stab_circuit.specs.Views.{circuit_items};
     ghost use Rattle.stab_session.specs.Records.{ones};
     ghost use Rattle.stab_session.specs.Runs.{run_of, Refuses};
     ghost use Rattle.stab_session.specs.Points.{all_coins_of};
-    ghost use Rattle.stab_session.specs.Laws.{DependsOnCoinsAt};
+    ghost use Rattle.stab_session.specs.Laws.{DependsOnCoinsAt, IsSoundRun};
 
     /// Makes a circuit ready for shots on n qubits, at most 1,024.
     ///
@@ -104,6 +105,13 @@ impl<'a> Sampler<'a> {
             detectors,
             observables,
         })
+    }
+
+    /// A law, and no work: whatever the coins, the trace of a shot fits the qubits and is sound.
+    pub fn runs_are_sound(&self)
+        ensures law { (coins : ℕ → Bool) → IsSoundRun self.now.qubits coins self.now.items }
+    {
+        let _ = &self.circuit;
     }
 }
 

@@ -1,7 +1,7 @@
-use Rattle.std.proofs.Common.{arith, rules, ap, subst, sym, ◌∙◌}
+use Rattle.std.proofs.Common.{arith, rules, ap, sym, ◌∙◌}
 use Rattle.stab_tableau.specs.Tableaus.{stabilises}
 use Rattle.stab_circuit.specs.Cursors.{step_shown}
-use Rattle.stab_session.specs.Sights.{Fits, sight, output_of}
+use Rattle.stab_session.specs.inner.Sights.{sight, output_of}
 use Rattle.stab_session.specs.Records.{ones}
 use Rattle.stab_session.proofs.RecordLemmas.{ones_more}
 use Rattle.stab_session.proofs.RunLemmas.{run-collapse}
@@ -11,7 +11,6 @@ pub returns-in_ok-push_when-in-Collapse-clause-run : goal.returns-in_ok-push_whe
 returns-in_ok-push_when-in-Collapse-clause-run g c =
     run-collapse c.args.tableau.now.qubits (g.C.Coins.sequence c.args.coins.now) (step_shown c.args.step)
     c.in-Collapse.letter c.in-Collapse.qubit c.in-Collapse.recorded c.in-Collapse.inverted c.in-Collapse.reset (ap step_shown c.in-Collapse.is)
-    (subst (Fits c.args.tableau.now.qubits) (ap step_shown c.in-Collapse.is) c.requires.fits)
     (sight c.args.tableau.now (output_of c.args.outputs.now)) _ c.measure-measured.result.outcome (search rules)
     (record {
       measured = stabilises c.measure-measured.new.tableau;

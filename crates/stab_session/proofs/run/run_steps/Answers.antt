@@ -1,7 +1,7 @@
 use Rattle.std.proofs.Common.{arith, ap, subst, sym, ◌∙◌, length}
 use Rattle.stab_circuit.specs.Cursors.{step_shown}
 use Rattle.stab_session.specs.Points.{all_coins_of}
-use Rattle.stab_session.specs.Sights.{IsRun, sight, output_of}
+use Rattle.stab_session.specs.inner.Sights.{IsRun, sight, output_of}
 use Rattle.stab_session.proofs.RunLemmas.{IsRun-none, fits-rest, run-rest}
 use Rattle.stab_session.proofs.run.run_steps.Goals as goal
 

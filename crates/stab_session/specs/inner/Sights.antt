@@ -4,18 +4,19 @@ use Rattle.stab_pauli.specs.Paulis.{Signed}
 use Rattle.stab_tableau.specs.declared.gate.Gate.TheVariants as on
 use Rattle.stab_tableau.specs.Gates.{back}
 use Rattle.stab_tableau.specs.Traces.{member}
+use Rattle.stab_tableau.specs.Groups.{SameGroup}
 use Rattle.stab_tableau.specs.Tableaus.{TableauState, stabilises}
 use Rattle.stab_circuit.specs.Steps.{Step, one, two, collapse, detector, observable}
 use Rattle.stab_session.specs.declared.outputs.Outputs.{Outputs}
-use Rattle.stab_session.specs.Points.{Point, Output, joined, after, outputs}
+use Rattle.stab_session.specs.Points.{Point, Output, joined, point_after, outputs}
 
 -- the qubits of a step are below n, and those of a pair differ
-abbrev pub Fits : ℕ → Step → Type 0
-Fits n (one g q) = q < n
-Fits n (two g a b) = (a < n) × (b < n) × (b ≢ a)
-Fits n (collapse l q recorded inverted resets) = q < n
-Fits n (detector ks) = Unit {0}
-Fits n (observable j ks) = Unit {0}
+abbrev pub StepFits : ℕ → Step → Type 0
+StepFits n (one g q) = q < n
+StepFits n (two g a b) = (a < n) × (b < n) × (b ≢ a)
+StepFits n (collapse l q recorded inverted resets) = q < n
+StepFits n (detector ks) = Unit {0}
+StepFits n (observable j ks) = Unit {0}
 
 -- what the program has gathered, as an output
 abbrev pub output_of : Outputs → Output
@@ -37,13 +38,13 @@ sight tableau output = record { stabilised = stabilises tableau; output = output
 
 -- the program is at the point: the same strings of n letters, number of the next coin and records
 pub record Shows (n : ℕ) (s : Sight) (p : Point) : Type 0 where
-  pub group : (q : Signed) → length q.letters ≡ n → s.stabilised q ≡ member p.trace q
+  pub group : SameGroup n s.stabilised (member p.trace)
   pub coin : length s.output.free ≡ p.coin
   pub records : s.output.records ≡ p.records
 
 -- from the point the program went where the steps lead, and gathered what they give
 pub record Leads (n : ℕ) (coins : ℕ → Bool) (xs : List Step) (old new : Sight) (p : Point) : Type 0 where
-  pub shows : Shows n new (after n coins xs p)
+  pub shows : Shows n new (point_after n coins xs p)
   pub output : new.output ≡ joined old.output (outputs n coins xs p)
 
 -- the program went through the steps, from whatever point it was at
