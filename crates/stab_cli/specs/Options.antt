@@ -63,9 +63,13 @@ sample = shot_command (codes "sample")
 abbrev pub detect : Kept → Shape
 detect formats = let run = shot_command (codes "detect") formats in record run { rules = run.rules ++ flag (codes "append_observables") ∷ [] }
 
--- the program, of which some command is wanted
+-- the program without its commands, of which some command is wanted, and which tells its version
+abbrev pub bare : App
+bare = on_top (λ s. record s { subcommand_required = true; has_version = true }) (new_app (codes "stabsim"))
+
+-- the program
 abbrev pub stabsim : Kept → App
-stabsim formats = with_subcommand (with_subcommand (on_top (λ s. record s { subcommand_required = true }) (new_app (codes "stabsim"))) (sample formats)) (detect formats)
+stabsim formats = with_subcommand (with_subcommand bare (sample formats)) (detect formats)
 
 -- an argument is this option of one command
 abbrev pub IsOption : Rule → Arg → Type 0
