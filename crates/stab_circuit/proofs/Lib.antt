@@ -1,3 +1,4 @@
+mod InputLemmas
 mod ItemLemmas
 mod ViewLemmas
 mod ReaderLemmas

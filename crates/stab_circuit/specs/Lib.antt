@@ -1,6 +1,6 @@
 pub mod Items
-pub mod Inputs
 pub mod Circuits
+pub mod Inputs
 pub mod Steps
 pub mod Views
 pub mod Readings

@@ -6,8 +6,10 @@ use Rattle.stab_pauli.specs.declared.refusal.Fault.{Fault}
 use Rattle.stab_pauli.specs.Refusals.{whole}
 use Rattle.stab_circuit.specs.declared.item.Item.{Item}
 use Rattle.stab_circuit.specs.declared.circuit.Circuit.{Circuit}
+use Rattle.stab_pauli.specs.Devices.{InputView}
 use Rattle.stab_lines.specs.Meanings.{is_of_line}
 use Rattle.stab_circuit.specs.Items.{Items}
+use Rattle.stab_circuit.specs.Inputs.{GaveText, IsUnread}
 use Rattle.stab_circuit.specs.Circuits.{text_fault, item_fault, StandsFor, StandsForOne}
 use Rattle.stab_circuit.specs.Steps.{check_of}
 use Rattle.stab_circuit.specs.Views.{item_of, circuit_items}
@@ -28,6 +30,11 @@ IsFaultOf text fault = (text_fault text ≡ Some fault) ⊎ IsRefused text fault
 abbrev pub ReadsCircuit : List ℕ → Result Circuit Fault → Type 0
 ReadsCircuit text (Ok circuit) = IsCircuit text (circuit_items circuit)
 ReadsCircuit text (Err fault) = (fault ≡ whole OutOfMemory) ⊎ IsFaultOf text fault
+
+-- the call read the circuit of the input's text, or refused it by the text's fault, or unread
+abbrev pub ReadsInput : InputView → InputView → Result Circuit Fault → Type 0
+ReadsInput old new (Ok circuit) = (text : List ℕ) × GaveText old new text × IsCircuit text (circuit_items circuit)
+ReadsInput old new (Err fault) = ((text : List ℕ) × GaveText old new text × IsFaultOf text fault) ⊎ ((fault ≡ whole fault.refusal) × IsUnread old new fault.refusal)
 
 -- the call gave the one item that the text stands for, or the text's fault, or memory was refused
 abbrev pub ReadsItem : List ℕ → Result Item Fault → Type 0

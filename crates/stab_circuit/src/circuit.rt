@@ -1,9 +1,7 @@
-ghost use Rattle.std.specs.Prelude.{◌≡◌, ◌≤◌, ◌⊎◌, length, [], None, IsTrue, IfOk, IfErr, OnOk};
-ghost use Rattle.stab_pauli.specs.Devices.{Failed};
-ghost use Rattle.stab_pauli.specs.Refusals.{whole};
+ghost use Rattle.std.specs.Prelude.{◌≡◌, ◌≤◌, length, None, IfOk, IfErr};
 ghost use Rattle.stab_circuit.specs.Steps.{check_of, Checks};
 ghost use Rattle.stab_circuit.specs.Views.{circuit_items, items_of};
-ghost use Rattle.stab_circuit.specs.Readings.{IsCircuit, IsFaultOf, ReadsCircuit, ReadsItem, IsPlaced, is_of_circuit, is_of_item};
+ghost use Rattle.stab_circuit.specs.Readings.{ReadsCircuit, ReadsInput, ReadsItem, IsPlaced, is_of_circuit, is_of_item};
 
 use crate::input::read_text;
 use crate::item::Item;
@@ -117,15 +115,13 @@ fn circuit_of_text(alloc: Global, text: &[u8]) -> Result<Circuit, Fault>
 }
 
 /// Reads the circuit that the input's text stands for.
+///
+/// The fault of the text is that of a text that was read whole. Of a text over its limit at most
+/// 4,096 bytes behind the limit are read, and then no more: the fault is `TooLong`, whatever
+/// stands there.
 pub fn read_circuit<I: Input>(alloc: Global, input: &mut I) -> Result<Circuit, Fault>
+    ensures reads { ReadsInput (I.seen input.old) (I.seen input.new) result }
     ensures only { IfErr result (IsPlaced is_of_circuit) }
-    ensures as_honest { I.honest input.new ≡ I.honest input.old }
-    ensures kept { OnOk result (I.failures input.new ≡ I.failures input.old) }
-    ensures failed { IfErr result (λ f. f.refusal ≡ Refusal.ReadFault → Failed (I.failures input.old) (I.failures input.new)) }
-    ensures unfailed { IfErr result (λ f. (f.refusal ≡ Refusal.ReadFault → ⊥) → I.failures input.new ≡ I.failures input.old) }
-    ensures all { IsTrue (I.honest input.old) → OnOk result (I.unread input.new ≡ []) }
-    ensures items { IsTrue (I.honest input.old) → IfOk result (λ c. IsCircuit (I.unread input.old) (circuit_items c)) }
-    ensures fault { IsTrue (I.honest input.old) → IfErr result (λ f. (f ≡ whole Refusal.OutOfMemory) ⊎ (f ≡ whole Refusal.ReadFault) ⊎ IsFaultOf (I.unread input.old) f) }
     ensures checked { IfOk result (λ c. check_of (circuit_items c) ≡ None) }
 {
     match read_text(alloc, input) {

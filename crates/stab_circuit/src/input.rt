@@ -1,22 +1,14 @@
-ghost use Rattle.std.specs.Prelude.{◌≡◌, ◌+◌, ◌<◌, ◌≤◌, ◌↔◌, List, [], ◌++◌, length, vec_len, IsTrue, IfOk, IfErr, OnOk, OnErr, IsErrOf};
-ghost use Rattle.stab_pauli.specs.Devices.{Failed};
-ghost use Rattle.stab_circuit.specs.Inputs.{IsReadRefusal};
+ghost use Rattle.std.specs.Prelude.{◌≡◌};
+ghost use Rattle.stab_circuit.specs.Inputs.{ReadsText};
 
 use stab_pauli::{DeviceFault, Input, Refusal};
 use std::alloc::Global;
 
 const MOST_BYTES: usize = 16_777_216;
 
-/// Reads all of the input.
+/// Reads all of the input. Behind the limit of a text it reads no further.
 pub fn read_text<I: Input>(alloc: Global, input: &mut I) -> Result<Vec<u8>, Refusal>
-    ensures only { IfErr result IsReadRefusal }
-    ensures as_honest { I.honest input.new ≡ I.honest input.old }
-    ensures small { IfOk result (λ v. vec_len v ≤ 16777216) }
-    ensures kept { OnOk result (I.failures input.new ≡ I.failures input.old) }
-    ensures fault { IsErrOf result Refusal.ReadFault → Failed (I.failures input.old) (I.failures input.new) }
-    ensures unfailed { IfErr result (λ r. (r ≡ Refusal.ReadFault → ⊥) → I.failures input.new ≡ I.failures input.old) }
-    ensures whole { IsTrue (I.honest input.old) → IfOk result (λ v. (v.items ≡ I.unread input.old) × (I.unread input.new ≡ [])) }
-    ensures long { IsTrue (I.honest input.old) → IsErrOf result Refusal.TooLong → 16777216 < length (I.unread input.old) }
+    ensures reads { ReadsText (I.seen input.old) (I.seen input.new) result }
 {
     let mut text = Vec::new(alloc);
     let mut buf = [0u8; 4096];

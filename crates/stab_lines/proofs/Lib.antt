@@ -1,6 +1,6 @@
 pub mod BoolLemmas
 pub mod ResultLemmas
-pub mod OutputLemmas
+pub mod WriteLemmas
 pub mod PrintLemmas
 pub mod WordLemmas
 pub mod PieceLemmas

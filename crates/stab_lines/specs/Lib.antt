@@ -7,4 +7,3 @@ pub mod Targets
 pub mod Meanings
 pub mod Prints
 pub mod Views
-pub mod Outputs

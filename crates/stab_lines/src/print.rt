@@ -1,6 +1,6 @@
 ghost use Rattle.std.specs.Prelude.{◌≡◌, ◌++◌, List, ℕ, Bool, [], ◌∷◌, codes};
 ghost use Rattle.std.specs.Fmt.{decimal};
-ghost use Rattle.stab_lines.specs.Outputs.{Sent};
+ghost use Rattle.stab_pauli.specs.Devices.{WritesAll};
 ghost use Rattle.stab_lines.specs.Prints.{gate_name as gate_name_of, pair_gate_name as pair_gate_name_of, measurement_name as measurement_name_of, kind_name as kind_name_of, tag_text, each_after, head_text, arguments_text, kind_arguments, pair_text, target_text, lookback_text, targets_text, operation_text, open_text};
 
 use crate::operation::{Kind, Measurement, Operation};
@@ -61,12 +61,6 @@ fn kind_name(kind: &Kind) -> &'static [u8]
     }
 }
 
-fn write_bytes<O: Output>(out: &mut O, bytes: &[u8]) -> Result<(), Refusal>
-    ensures sent { Sent O.failures O.honest O.written out.old out.new result bytes.now }
-{
-    write_all(out, bytes)
-}
-
 /// Writes three parts, one after another.
 fn write_parts<O: Output>(
     out: &mut O,
@@ -74,11 +68,11 @@ fn write_parts<O: Output>(
     second: &[u8],
     third: &[u8],
 ) -> Result<(), Refusal>
-    ensures sent { Sent O.failures O.honest O.written out.old out.new result (first.now ++ (second.now ++ third.now)) }
+    ensures writes { WritesAll (O.seen out.old) (O.seen out.new) (first.now ++ (second.now ++ third.now)) result }
 {
-    write_bytes(out, first)?;
-    write_bytes(out, second)?;
-    write_bytes(out, third)
+    write_all(out, first)?;
+    write_all(out, second)?;
+    write_all(out, third)
 }
 
 /// Writes a number between two texts.
@@ -88,7 +82,7 @@ fn write_number<O: Output>(
     number: u64,
     after: &[u8],
 ) -> Result<(), Refusal>
-    ensures sent { Sent O.failures O.honest O.written out.old out.new result (before.now ++ (decimal number ++ after.now)) }
+    ensures writes { WritesAll (O.seen out.old) (O.seen out.new) (before.now ++ (decimal number ++ after.now)) result }
 {
     let mut digits = Buffer::new();
     write_parts(out, before, digits.format(number).as_bytes(), after)
@@ -100,7 +94,7 @@ trait Word {
     ghost text: { Self → List ℕ };
 
     fn write<O: Output>(&self, out: &mut O) -> Result<(), Refusal>
-        ensures sent { Sent O.failures O.honest O.written out.old out.new result (text self.now) };
+        ensures writes { WritesAll (O.seen out.old) (O.seen out.new) (text self.now) result };
 }
 
 impl Word for Qubit {
@@ -108,7 +102,7 @@ impl Word for Qubit {
 
     fn write<O: Output>(&self, out: &mut O) -> Result<(), Refusal> {
         let mut digits = Buffer::new();
-        write_bytes(out, digits.format(self.number() as u64).as_bytes())
+        write_all(out, digits.format(self.number() as u64).as_bytes())
     }
 }
 
@@ -117,7 +111,7 @@ impl Word for Pair {
 
     fn write<O: Output>(&self, out: &mut O) -> Result<(), Refusal> {
         self.first().write(out)?;
-        write_bytes(out, b" ")?;
+        write_all(out, b" ")?;
         self.second().write(out)
     }
 }
@@ -149,15 +143,15 @@ impl Word for Sequence<u8> {
     ghost text = { λ bytes. bytes };
 
     fn write<O: Output>(&self, out: &mut O) -> Result<(), Refusal> {
-        write_bytes(out, self.as_slice())
+        write_all(out, self.as_slice())
     }
 }
 
 fn write_each<O: Output, W: Word>(out: &mut O, separator: &[u8], words: &[W]) -> Result<(), Refusal>
-    ensures sent { Sent O.failures O.honest O.written out.old out.new result (each_after separator.now W.text words.now) }
+    ensures writes { WritesAll (O.seen out.old) (O.seen out.new) (each_after separator.now W.text words.now) result }
 {
     for word in words {
-        write_bytes(out, separator)?;
+        write_all(out, separator)?;
         word.write(out)?;
     }
     Ok(())
@@ -165,7 +159,7 @@ fn write_each<O: Output, W: Word>(out: &mut O, separator: &[u8], words: &[W]) ->
 
 #[tactic(auto, using(crate::proofs::PrintLemmas::tag_some))]
 fn write_tag<O: Output>(out: &mut O, tag: &[u8]) -> Result<(), Refusal>
-    ensures sent { Sent O.failures O.honest O.written out.old out.new result (tag_text tag.now) }
+    ensures writes { WritesAll (O.seen out.old) (O.seen out.new) (tag_text tag.now) result }
 {
     if tag.is_empty() {
         return Ok(());
@@ -175,9 +169,9 @@ fn write_tag<O: Output>(out: &mut O, tag: &[u8]) -> Result<(), Refusal>
 
 /// Writes a name and its tag.
 fn write_head<O: Output>(out: &mut O, name: &[u8], tag: &[u8]) -> Result<(), Refusal>
-    ensures sent { Sent O.failures O.honest O.written out.old out.new result (head_text name.now tag.now) }
+    ensures writes { WritesAll (O.seen out.old) (O.seen out.new) (head_text name.now tag.now) result }
 {
-    write_bytes(out, name)?;
+    write_all(out, name)?;
     write_tag(out, tag)
 }
 
@@ -187,15 +181,15 @@ fn write_bracketed<O: Output>(
     first: &Sequence<u8>,
     more: &[Sequence<u8>],
 ) -> Result<(), Refusal>
-    ensures sent { Sent O.failures O.honest O.written out.old out.new result (arguments_text (first.now ∷ more.now)) }
+    ensures writes { WritesAll (O.seen out.old) (O.seen out.new) (arguments_text (first.now ∷ more.now)) result }
 {
     write_parts(out, b"", b"(", first.as_slice())?;
     write_each(out, b", ", more)?;
-    write_bytes(out, b")")
+    write_all(out, b")")
 }
 
 fn write_coordinates<O: Output>(out: &mut O, coordinates: &[Sequence<u8>]) -> Result<(), Refusal>
-    ensures sent { Sent O.failures O.honest O.written out.old out.new result (arguments_text coordinates.now) }
+    ensures writes { WritesAll (O.seen out.old) (O.seen out.new) (arguments_text coordinates.now) result }
 {
     match coordinates.split_first() {
         None => Ok(()),
@@ -204,7 +198,7 @@ fn write_coordinates<O: Output>(out: &mut O, coordinates: &[Sequence<u8>]) -> Re
 }
 
 fn write_arguments<O: Output>(out: &mut O, kind: &Kind) -> Result<(), Refusal>
-    ensures sent { Sent O.failures O.honest O.written out.old out.new result (arguments_text (kind_arguments kind.now)) }
+    ensures writes { WritesAll (O.seen out.old) (O.seen out.new) (arguments_text (kind_arguments kind.now)) result }
 {
     match kind {
         Kind::Detector(coordinates, _) => write_coordinates(out, coordinates.as_slice()),
@@ -225,7 +219,7 @@ fn write_arguments<O: Output>(out: &mut O, kind: &Kind) -> Result<(), Refusal>
 }
 
 fn write_targets<O: Output>(out: &mut O, kind: &Kind) -> Result<(), Refusal>
-    ensures sent { Sent O.failures O.honest O.written out.old out.new result (targets_text kind.now) }
+    ensures writes { WritesAll (O.seen out.old) (O.seen out.new) (targets_text kind.now) result }
 {
     match kind {
         Kind::Gate(_, qubits) => write_each(out, b" ", qubits.as_slice()),
@@ -240,13 +234,13 @@ fn write_targets<O: Output>(out: &mut O, kind: &Kind) -> Result<(), Refusal>
 }
 
 fn write_name<O: Output>(out: &mut O, operation: &Operation) -> Result<(), Refusal>
-    ensures sent { Sent O.failures O.honest O.written out.old out.new result (head_text (kind_name_of operation.now.kind) operation.now.tag) }
+    ensures writes { WritesAll (O.seen out.old) (O.seen out.new) (head_text (kind_name_of operation.now.kind) operation.now.tag) result }
 {
     write_head(out, kind_name(&operation.kind), operation.tag.as_slice())
 }
 
 pub fn write_operation<O: Output>(out: &mut O, operation: &Operation) -> Result<(), Refusal>
-    ensures sent { Sent O.failures O.honest O.written out.old out.new result (operation_text operation.now) }
+    ensures writes { WritesAll (O.seen out.old) (O.seen out.new) (operation_text operation.now) result }
 {
     write_name(out, operation)?;
     write_arguments(out, &operation.kind)?;
@@ -254,7 +248,7 @@ pub fn write_operation<O: Output>(out: &mut O, operation: &Operation) -> Result<
 }
 
 pub fn write_opening<O: Output>(out: &mut O, count: Count, tag: &[u8]) -> Result<(), Refusal>
-    ensures sent { Sent O.failures O.honest O.written out.old out.new result (open_text count tag.now) }
+    ensures writes { WritesAll (O.seen out.old) (O.seen out.new) (open_text count tag.now) result }
 {
     write_head(out, b"REPEAT", tag)?;
     write_number(out, b" ", count.number(), b" {")

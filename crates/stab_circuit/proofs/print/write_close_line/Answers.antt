@@ -1,12 +1,12 @@
 use Rattle.std.proofs.Common.{codes}
 use Rattle.std.proofs.lemmas.Result.{err_from_is_err_and}
-use Rattle.stab_lines.proofs.OutputLemmas.{sent_failed, sent_then}
+use Rattle.stab_lines.proofs.WriteLemmas.{writes_failed, writes_then}
 use Rattle.stab_circuit.proofs.print.write_close_line.Goals as goal
 
 pub returns-in_err-write_margin : goal.returns-in_err-write_margin
 returns-in_err-write_margin g c =
     let p = err_from_is_err_and c.from_residual.result c.from_residual.ensures.1 in
-    record { sent = sent_failed (codes "}\n") p.1 p.2 c.in_err-write_margin.ensures.sent }
+    record { writes = writes_failed (codes "}\n") p.1 p.2 c.in_err-write_margin.ensures.writes }
 
 pub returns : goal.returns
-returns g c = record { sent = sent_then c.in_ok-write_margin.ensures.sent c.write_bytes.ensures.sent }
+returns g c = record { writes = writes_then _ _ _ c.in_ok-write_margin.ensures.writes c.write_all.ensures.writes }

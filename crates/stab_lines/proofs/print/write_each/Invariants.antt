@@ -1,7 +1,7 @@
-use Rattle.std.proofs.Common.{take, Ok}
-use Rattle.stab_lines.specs.Outputs.{Sent}
+use Rattle.std.proofs.Common.{take}
+use Rattle.stab_pauli.specs.Devices.{Took}
 use Rattle.stab_lines.specs.Prints.{each_after}
 use Rattle.stab_lines.proofs.print.write_each.Given as goal
 
 abbrev pub invariant-loop-word : goal.invariant-loop-word
-invariant-loop-word g l = Sent g.O.Output.failures g.O.Output.honest g.O.Output.written l.initial.out l.out (Ok tt) (each_after l.separator g.W.Word.text (take l.word-index l.words))
+invariant-loop-word g l = Took (g.O.Output.seen l.initial.out) (g.O.Output.seen l.out) (each_after l.separator g.W.Word.text (take l.word-index l.words))

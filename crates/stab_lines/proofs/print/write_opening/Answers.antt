@@ -1,13 +1,13 @@
 use Rattle.std.proofs.Common.{◌++◌, codes}
 use Rattle.std.specs.Fmt.{decimal}
 use Rattle.std.proofs.lemmas.Result.{err_from_is_err_and}
-use Rattle.stab_lines.proofs.OutputLemmas.{sent_failed, sent_then}
+use Rattle.stab_lines.proofs.WriteLemmas.{writes_failed, writes_then}
 use Rattle.stab_lines.proofs.print.write_opening.Goals as goal
 
 pub returns-in_err-write_head : goal.returns-in_err-write_head
 returns-in_err-write_head g c =
     let p = err_from_is_err_and c.from_residual.result c.from_residual.ensures.1 in
-    record { sent = sent_failed (codes " " ++ (decimal c.args.count ++ codes " {")) p.1 p.2 c.in_err-write_head.ensures.sent }
+    record { writes = writes_failed (codes " " ++ (decimal c.args.count ++ codes " {")) p.1 p.2 c.in_err-write_head.ensures.writes }
 
 pub returns : goal.returns
-returns g c = record { sent = sent_then c.in_ok-write_head.ensures.sent (rw c.number.ensures.value at c.write_number.ensures.sent) }
+returns g c = record { writes = writes_then _ _ _ c.in_ok-write_head.ensures.writes (rw c.number.ensures.value at c.write_number.ensures.writes) }
