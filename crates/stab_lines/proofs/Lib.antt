@@ -5,9 +5,13 @@ pub mod PrintLemmas
 pub mod WordLemmas
 pub mod PieceLemmas
 pub mod TargetLemmas
+pub mod ProductLemmas
+pub mod ControlLemmas
 pub mod FreeLemmas
 pub mod SureLemmas
 pub mod AgainLemmas
+pub mod FactorLemmas
+pub mod ControlAgainLemmas
 pub mod NeatLemmas
 pub mod ShapeLemmas
 pub mod ContentLemmas
