@@ -36,6 +36,12 @@ gate_is one.Z = name_is _ _ refl refl
 gate_is one.H = name_is _ _ refl refl
 gate_is one.S = name_is _ _ refl refl
 gate_is one.SDag = name_is _ _ refl refl
+gate_is one.CXyz = name_is _ _ refl refl
+gate_is one.CZyx = name_is _ _ refl refl
+gate_is one.SqrtX = name_is _ _ refl refl
+gate_is one.SqrtXDag = name_is _ _ refl refl
+gate_is one.SqrtY = name_is _ _ refl refl
+gate_is one.SqrtYDag = name_is _ _ refl refl
 
 controlled_is : (a : Axis) → IsName (controlled_name a)
 controlled_is axis.X = name_is _ _ refl refl

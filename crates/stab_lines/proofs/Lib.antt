@@ -1,20 +1,22 @@
 pub mod BoolLemmas
-pub mod ResultLemmas
+mod ResultLemmas
 pub mod WriteLemmas
-pub mod PrintLemmas
-pub mod WordLemmas
-pub mod PieceLemmas
-pub mod TargetLemmas
-pub mod ProductLemmas
-pub mod ControlLemmas
+mod PrintLemmas
+mod WordLemmas
+mod PieceLemmas
+mod TargetLemmas
+mod ProductLemmas
+mod ControlLemmas
 pub mod FreeLemmas
-pub mod SureLemmas
-pub mod AgainLemmas
-pub mod FactorLemmas
-pub mod ControlAgainLemmas
-pub mod NeatLemmas
-pub mod ShapeLemmas
-pub mod ContentLemmas
-pub mod PrintedLemmas
-pub mod MeaningLemmas
-pub mod RefusalLemmas
+mod SureLemmas
+mod AgainLemmas
+mod FactorLemmas
+mod ControlAgainLemmas
+mod NeatLemmas
+mod ShapeLemmas
+mod ContentLemmas
+mod PrintedLemmas
+mod MeaningLemmas
+mod EmptyLemmas
+mod RefusalLemmas
+pub mod LineLaws

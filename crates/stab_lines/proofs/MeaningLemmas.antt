@@ -55,6 +55,12 @@ gate_again one.Z = refl
 gate_again one.H = refl
 gate_again one.S = refl
 gate_again one.SDag = refl
+gate_again one.CXyz = refl
+gate_again one.CZyx = refl
+gate_again one.SqrtX = refl
+gate_again one.SqrtXDag = refl
+gate_again one.SqrtY = refl
+gate_again one.SqrtYDag = refl
 
 controlled_again : (a : Axis) → name_of (controlled_name a) ≡ Ok (name.Instruction (instruction.Controlled a))
 unfolding name_of instruction_named gate_named controlled_named measurement_named other_named

@@ -9,4 +9,5 @@ pub mod Products
 pub mod Controls
 pub mod Meanings
 pub mod Prints
-pub mod Views
+pub mod Laws
+pub mod inner

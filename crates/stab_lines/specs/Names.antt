@@ -32,6 +32,12 @@ gate_names =
     ∷ (codes "SQRT_Z", one.S)
     ∷ (codes "S_DAG", one.SDag)
     ∷ (codes "SQRT_Z_DAG", one.SDag)
+    ∷ (codes "C_XYZ", one.CXyz)
+    ∷ (codes "C_ZYX", one.CZyx)
+    ∷ (codes "SQRT_X", one.SqrtX)
+    ∷ (codes "SQRT_X_DAG", one.SqrtXDag)
+    ∷ (codes "SQRT_Y", one.SqrtY)
+    ∷ (codes "SQRT_Y_DAG", one.SqrtYDag)
     ∷ []
 
 -- the gates X, Y and Z under a control

@@ -23,6 +23,12 @@ gate_name one.Z = codes "Z"
 gate_name one.H = codes "H"
 gate_name one.S = codes "S"
 gate_name one.SDag = codes "S_DAG"
+gate_name one.CXyz = codes "C_XYZ"
+gate_name one.CZyx = codes "C_ZYX"
+gate_name one.SqrtX = codes "SQRT_X"
+gate_name one.SqrtXDag = codes "SQRT_X_DAG"
+gate_name one.SqrtY = codes "SQRT_Y"
+gate_name one.SqrtYDag = codes "SQRT_Y_DAG"
 
 -- the name of X, Y or Z under a control
 abbrev pub controlled_name : Axis → List ℕ

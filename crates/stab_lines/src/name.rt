@@ -54,6 +54,18 @@ fn gate_named(name: &[u8]) -> Option<Gate>
         Some(Gate::S)
     } else if is(name, b"S_DAG") || is(name, b"SQRT_Z_DAG") {
         Some(Gate::SDag)
+    } else if is(name, b"C_XYZ") {
+        Some(Gate::CXyz)
+    } else if is(name, b"C_ZYX") {
+        Some(Gate::CZyx)
+    } else if is(name, b"SQRT_X") {
+        Some(Gate::SqrtX)
+    } else if is(name, b"SQRT_X_DAG") {
+        Some(Gate::SqrtXDag)
+    } else if is(name, b"SQRT_Y") {
+        Some(Gate::SqrtY)
+    } else if is(name, b"SQRT_Y_DAG") {
+        Some(Gate::SqrtYDag)
     } else {
         None
     }

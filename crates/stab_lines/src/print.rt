@@ -24,6 +24,12 @@ fn gate_name(gate: Gate) -> &'static [u8]
         Gate::H => b"H",
         Gate::S => b"S",
         Gate::SDag => b"S_DAG",
+        Gate::CXyz => b"C_XYZ",
+        Gate::CZyx => b"C_ZYX",
+        Gate::SqrtX => b"SQRT_X",
+        Gate::SqrtXDag => b"SQRT_X_DAG",
+        Gate::SqrtY => b"SQRT_Y",
+        Gate::SqrtYDag => b"SQRT_Y_DAG",
     }
 }
 

@@ -122,7 +122,7 @@ impl Observable {
 /// How far back a record is looked for: the number k of `rec[-k]`, from 1 to 16,777,215.
 #[derive(Clone, Copy, Debug, PartialEq, Eq)]
 pub struct Lookback {
-    number: u32,
+    records: u32,
 }
 
 impl Model for Lookback {
@@ -131,11 +131,11 @@ impl Model for Lookback {
 
     ghost Value = { ℕ };
 
-    ghost view = { λ l. l.number };
+    ghost view = { λ l. l.records };
 
-    ghost invariant = { λ l. IsLookback l.number };
+    ghost invariant = { λ l. IsLookback l.records };
 
-    ghost inverse = { λ n. record { number = n } };
+    ghost inverse = { λ n. record { records = n } };
 }
 
 impl Lookback {
@@ -146,7 +146,7 @@ impl Lookback {
         requires in_range { IsLookback number }
         ensures value { result ≡ number }
     {
-        Lookback { number }
+        Lookback { records: number }
     }
 
     /// The number k.
@@ -154,7 +154,7 @@ impl Lookback {
         ensures value { result ≡ self }
         ensures in_range { IsLookback result }
     {
-        self.number
+        self.records
     }
 }
 
