@@ -12,7 +12,7 @@ use Rattle.stab_cli.specs.Options.{Kept, stabsim}
 use Rattle.stab_cli.specs.Asked.{EndsBy, IsJob, IsTold, RefusesCoins, Takes}
 use Rattle.stab_cli.specs.declared.words.Usage.{Usage}
 use Rattle.stab_cli.specs.declared.words.Usage.TheVariants.{Memory}
-use Rattle.stab_cli.specs.declared.words.job.Job.{Job}
+use Rattle.stab_commands.specs.declared.job.Job.{Job}
 
 -- the reader has its own account of these commands
 pub has_account : (formats : Kept) → is_simple (stabsim formats) ≡ true

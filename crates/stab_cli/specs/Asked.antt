@@ -11,11 +11,11 @@ use Rattle.clap.specs.declared.error.kind.ErrorKind.TheVariants.{DisplayHelp, Di
 use Rattle.stab_cli.specs.Options.{Kept, format_names, most_seed, most_shots, stabsim}
 use Rattle.stab_cli.specs.declared.words.Usage.{Usage}
 use Rattle.stab_cli.specs.declared.words.Usage.TheVariants.{Help, Fault, Memory}
-use Rattle.stab_cli.specs.declared.words.job.Job.{Job}
-use Rattle.stab_cli.specs.declared.words.job.Command.{Command}
-use Rattle.stab_cli.specs.declared.words.job.Command.TheVariants.{Sample, Detect}
-use Rattle.stab_cli.specs.declared.words.job.Source.{Source}
-use Rattle.stab_cli.specs.declared.words.job.Source.TheVariants.{Seed, List as Listed}
+use Rattle.stab_commands.specs.declared.job.Job.{Job}
+use Rattle.stab_commands.specs.declared.job.Command.{Command}
+use Rattle.stab_commands.specs.declared.job.Command.TheVariants.{Sample, Detect}
+use Rattle.stab_commands.specs.declared.job.Source.{Source}
+use Rattle.stab_commands.specs.declared.job.Source.TheVariants.{Seed, List as Listed}
 
 -- the name of a format
 abbrev pub format_name : Format → Text

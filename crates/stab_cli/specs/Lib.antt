@@ -1,5 +1,3 @@
-pub mod Outputs
-pub mod Sending
-pub mod Jobs
+pub mod Usages
 pub mod Options
 pub mod Asked

@@ -1,25 +1,17 @@
-//! The commands of stabsim, from bytes to bytes.
+//! The words of stabsim's command line.
 //!
 //! - `words`: what the words of a command line ask for.
-//! - `shots`: the shots of a circuit, written one after another.
-//! - `run`: the commands that run a circuit.
-//! - `job`: running what the words ask for, and telling words that ask for nothing.
-//! - `fault_line`: the line that tells a fault.
+//! - `usage`: telling words that ask for nothing.
 //!
-//! Proved on `run_sample` and `run_detect`: what is written is what the stabiliser rules give for the
-//! circuit that was read and for the coins of each shot, in the format asked for, and nothing else;
-//! each refusal is the text's own, a failing device's or memory's. `run_job` carries the same for a
-//! job, with its status and the line that tells its fault; `parse_words` gives the job that the
-//! words ask for.
+//! Proved: `parse_words` gives the job that the words ask for, and `write_usage` tells words that ask
+//! for none. The commands and jobs are those of `stab_commands`, handed on.
 #![tactic(auto)]
 
-mod fault_line;
-mod job;
-mod run;
-mod shots;
+mod usage;
 mod words;
 
-pub use fault_line::write_fault;
-pub use job::{run_job, write_usage};
-pub use run::{run_detect, run_sample};
-pub use words::{Command, Job, Shots, Source, Usage, parse_words};
+pub use stab_commands::{
+    Command, Job, Shots, Source, run_detect, run_job, run_sample, write_fault,
+};
+pub use usage::write_usage;
+pub use words::{Usage, parse_words};

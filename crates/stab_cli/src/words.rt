@@ -1,6 +1,5 @@
 //! The words of a command line.
 //!
-//! - `job`: what words can ask for.
 //! - `app`: the commands and their options, as the command line reader is told of them.
 //! - `options`: what the words say to each option.
 ghost use Rattle.std.specs.Prelude.{◌≡◌, map};
@@ -9,14 +8,13 @@ ghost use Rattle.stab_cli.specs.Asked.{EndsReading, IsTold};
 ghost use Rattle.stab_cli.specs.declared.words.Usage.TheVariants.{Memory};
 
 mod app;
-mod job;
 mod options;
 
 use app::{FORMATS, app};
 use clap::Error;
 use clap::error::ErrorKind;
-pub use job::{Command, Job, Shots, Source};
 use options::job;
+use stab_commands::Job;
 use std::alloc::{AllocError, Global};
 
 /// Why words are no job.

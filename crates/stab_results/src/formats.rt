@@ -16,7 +16,7 @@ fn digit(bit: bool) -> u8
 
 /// The number with these binary digits, the least significant first.
 fn number(bits: &[bool]) -> u8
-    requires { length bits.now ≤ 8 }
+    requires within { length bits.now ≤ 8 }
     ensures value { result ≡ number bits.now }
 {
     let mut value = 0;
@@ -38,7 +38,7 @@ fn entry(kinds: Kinds, place: usize) -> (&'static [u8], usize)
 }
 
 impl Gathered {
-    ghost use Rattle.stab_results.specs.Gathered.{Puts};
+    ghost use Rattle.stab_results.specs.inner.Gathered.{Puts};
 
     /// Puts a shot in a format.
     pub(crate) fn put_shot<O: Output>(
@@ -48,7 +48,7 @@ impl Gathered {
         kinds: Kinds,
         bits: &[bool],
     ) -> Result<(), Refusal>
-        ensures puts { Puts O.failures O.failed_flushes O.honest O.written out.old out.new self.old self.new (shot_bytes format kinds bits.now) result }
+        ensures puts { Puts (O.seen out.old) (O.seen out.new) self.old self.new (shot_bytes format kinds bits.now) result }
     {
         match format {
             Format::F01 => self.put_f01(out, bits),
@@ -60,7 +60,7 @@ impl Gathered {
     }
 
     fn put_f01<O: Output>(&mut self, out: &mut O, bits: &[bool]) -> Result<(), Refusal>
-        ensures puts { Puts O.failures O.failed_flushes O.honest O.written out.old out.new self.old self.new (f01_bytes bits.now) result }
+        ensures puts { Puts (O.seen out.old) (O.seen out.new) self.old self.new (f01_bytes bits.now) result }
     {
         for bit in bits {
             self.push(out, digit(*bit))?;
@@ -69,7 +69,7 @@ impl Gathered {
     }
 
     fn put_b8<O: Output>(&mut self, out: &mut O, bits: &[bool]) -> Result<(), Refusal>
-        ensures puts { Puts O.failures O.failed_flushes O.honest O.written out.old out.new self.old self.new (b8_bytes bits.now) result }
+        ensures puts { Puts (O.seen out.old) (O.seen out.new) self.old self.new (b8_bytes bits.now) result }
     {
         for group in bits.chunks(8) {
             self.push(out, number(group))?;
@@ -78,7 +78,7 @@ impl Gathered {
     }
 
     fn put_r8<O: Output>(&mut self, out: &mut O, bits: &[bool]) -> Result<(), Refusal>
-        ensures puts { Puts O.failures O.failed_flushes O.honest O.written out.old out.new self.old self.new (r8_bytes bits.now) result }
+        ensures puts { Puts (O.seen out.old) (O.seen out.new) self.old self.new (r8_bytes bits.now) result }
     {
         let mut start = 0;
         for place in Ones::new(bits) {
@@ -90,7 +90,7 @@ impl Gathered {
 
     /// Puts so many zeros and the 1 behind them, in r8.
     fn put_run<O: Output>(&mut self, out: &mut O, zeros: usize) -> Result<(), Refusal>
-        ensures puts { Puts O.failures O.failed_flushes O.honest O.written out.old out.new self.old self.new (run_bytes zeros) result }
+        ensures puts { Puts (O.seen out.old) (O.seen out.new) self.old self.new (run_bytes zeros) result }
     {
         for _ in 0..zeros / 255 {
             self.push(out, 0xff)?;
@@ -99,7 +99,7 @@ impl Gathered {
     }
 
     fn put_hits<O: Output>(&mut self, out: &mut O, bits: &[bool]) -> Result<(), Refusal>
-        ensures puts { Puts O.failures O.failed_flushes O.honest O.written out.old out.new self.old self.new (hits_bytes bits.now) result }
+        ensures puts { Puts (O.seen out.old) (O.seen out.new) self.old self.new (hits_bytes bits.now) result }
     {
         let mut separator: &[u8] = b"";
         for place in Ones::new(bits) {
@@ -115,7 +115,7 @@ impl Gathered {
         kinds: Kinds,
         bits: &[bool],
     ) -> Result<(), Refusal>
-        ensures puts { Puts O.failures O.failed_flushes O.honest O.written out.old out.new self.old self.new (dets_bytes kinds bits.now) result }
+        ensures puts { Puts (O.seen out.old) (O.seen out.new) self.old self.new (dets_bytes kinds bits.now) result }
     {
         self.put(out, b"shot")?;
         for place in Ones::new(bits) {
@@ -132,7 +132,7 @@ impl Gathered {
         prefix: &[u8],
         number: usize,
     ) -> Result<(), Refusal>
-        ensures puts { Puts O.failures O.failed_flushes O.honest O.written out.old out.new self.old self.new (prefix.now ++ decimal number) result }
+        ensures puts { Puts (O.seen out.old) (O.seen out.new) self.old self.new (prefix.now ++ decimal number) result }
     {
         self.put(out, prefix)?;
         self.put_decimal(out, number)

@@ -1,6 +1,6 @@
 ghost use Rattle.std.specs.Prelude.{◌≡◌, ◌≤◌, List, ℕ, [], ◌∷◌, take, OnOk};
 ghost use Rattle.std.specs.Fmt.{decimal};
-ghost use Rattle.stab_results.specs.Gathered.{Puts};
+ghost use Rattle.stab_results.specs.inner.Gathered.{Puts};
 
 use itoa::Buffer;
 use stab_pauli::{Output, Refusal, write_all};
@@ -39,7 +39,7 @@ impl Gathered {
 
     /// Sends all that is held.
     pub(crate) fn send<O: Output>(&mut self, out: &mut O) -> Result<(), Refusal>
-        ensures puts { Puts O.failures O.failed_flushes O.honest O.written out.old out.new self.old self.new [] result }
+        ensures puts { Puts (O.seen out.old) (O.seen out.new) self.old self.new [] result }
         ensures empty { OnOk result (self.new ≡ []) }
     {
         write_all(out, self.bytes.split_at(self.held).0)?;
@@ -49,7 +49,7 @@ impl Gathered {
 
     /// Puts one byte; what is held goes out first where there is no room.
     pub(crate) fn push<O: Output>(&mut self, out: &mut O, byte: u8) -> Result<(), Refusal>
-        ensures puts { Puts O.failures O.failed_flushes O.honest O.written out.old out.new self.old self.new (byte ∷ []) result }
+        ensures puts { Puts (O.seen out.old) (O.seen out.new) self.old self.new (byte ∷ []) result }
     {
         if self.held == ROOM {
             self.send(out)?;
@@ -61,7 +61,7 @@ impl Gathered {
 
     /// Puts the bytes, one after another.
     pub(crate) fn put<O: Output>(&mut self, out: &mut O, bytes: &[u8]) -> Result<(), Refusal>
-        ensures puts { Puts O.failures O.failed_flushes O.honest O.written out.old out.new self.old self.new bytes.now result }
+        ensures puts { Puts (O.seen out.old) (O.seen out.new) self.old self.new bytes.now result }
     {
         for byte in bytes {
             self.push(out, *byte)?;
@@ -75,7 +75,7 @@ impl Gathered {
         out: &mut O,
         number: usize,
     ) -> Result<(), Refusal>
-        ensures puts { Puts O.failures O.failed_flushes O.honest O.written out.old out.new self.old self.new (decimal number) result }
+        ensures puts { Puts (O.seen out.old) (O.seen out.new) self.old self.new (decimal number) result }
     {
         let mut digits = Buffer::new();
         self.put(out, digits.format(number).as_bytes())

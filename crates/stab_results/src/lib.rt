@@ -7,7 +7,7 @@
 //! - `shot`: `write_shot`, which the other crates call.
 //!
 //! Proved: `write_shot` writes exactly the bytes of `specs/Formats.antt`, or a prefix of them where
-//! the output failed.
+//! the output failed, and never flushes.
 #![tactic(auto)]
 
 mod format;

@@ -1,9 +1,7 @@
-ghost use Rattle.std.specs.Prelude.{◌≡◌, ◌≤◌, [], ◌++◌, length, IsTrue, OnOk, OnErr, IsErrOf};
-ghost use Rattle.stab_pauli.specs.Devices.{Failed, WritesPrefix};
-ghost use Rattle.stab_pauli.specs.Refusals.{whole};
-ghost use Rattle.stab_pauli.specs.declared.refusal.Refusal.TheVariants.{WriteFault};
+ghost use Rattle.std.specs.Prelude.{◌≤◌, [], length};
+ghost use Rattle.stab_pauli.specs.Devices.{WritesAllOrFault};
 ghost use Rattle.stab_results.specs.Formats.{shot_bytes, detectors_of};
-ghost use Rattle.stab_results.specs.Gathered.{Puts};
+ghost use Rattle.stab_results.specs.inner.Gathered.{Puts};
 
 use crate::format::{Format, Kinds};
 use crate::gathered::Gathered;
@@ -16,7 +14,7 @@ fn send_shot<O: Output>(
     kinds: Kinds,
     bits: &[bool],
 ) -> Result<(), Refusal>
-    ensures puts { Puts O.failures O.failed_flushes O.honest O.written out.old out.new [] [] (shot_bytes format kinds bits.now) result }
+    ensures puts { Puts (O.seen out.old) (O.seen out.new) [] [] (shot_bytes format kinds bits.now) result }
 {
     let mut gathered = Gathered::new();
     gathered.put_shot(out, format, kinds, bits)?;
@@ -30,7 +28,8 @@ fn send_shot<O: Output>(
 /// The formats are those of Stim's result format reference. Several shots are written one after
 /// another; in `b8` and `r8` nothing stands between them.
 ///
-/// Refusal `WriteFault` alone, without a line: a prefix of the shot's bytes was then written.
+/// It does not flush. Refusal `WriteFault` alone, without a line: a prefix of the shot's bytes was
+/// then written, and nothing more is tried.
 pub fn write_shot<O: Output>(
     out: &mut O,
     format: Format,
@@ -38,13 +37,7 @@ pub fn write_shot<O: Output>(
     bits: &[bool],
 ) -> Result<(), Fault>
     requires within { detectors_of kinds ≤ length bits.now }
-    ensures only { OnErr result (IsErrOf result (whole WriteFault)) }
-    ensures kept { OnOk result (O.failures out.new ≡ O.failures out.old) }
-    ensures failed { OnErr result (Failed (O.failures out.old) (O.failures out.new)) }
-    ensures no_flush { O.failed_flushes out.new ≡ O.failed_flushes out.old }
-    ensures as_honest { O.honest out.new ≡ O.honest out.old }
-    ensures whole { IsTrue (O.honest out.old) → OnOk result (O.written out.new ≡ O.written out.old ++ shot_bytes format kinds bits.now) }
-    ensures prefix { IsTrue (O.honest out.old) → OnErr result (WritesPrefix (O.written out.old) (O.written out.new) (shot_bytes format kinds bits.now)) }
+    ensures writes { WritesAllOrFault (O.seen out.old) (O.seen out.new) (shot_bytes format kinds bits.now) result }
 {
     match send_shot(out, format, kinds, bits) {
         Ok(()) => Ok(()),

@@ -14,7 +14,7 @@ fn check(
     bits: &[bool],
     bytes: &[u8],
 ) -> Result<(), Fail>
-    requires { detectors_of kinds ≤ length bits.now }
+    requires within { detectors_of kinds ≤ length bits.now }
 {
     for room in 0..=bytes.len() {
         let mut out = MemoryOutput::new(rt.alloc(), room)?;

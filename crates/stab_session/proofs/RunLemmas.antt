@@ -7,7 +7,7 @@ use Rattle.stab_pauli.specs.Letters.{◌⊕◌}
 use Rattle.stab_pauli.specs.Paulis.{Signed, single}
 use Rattle.stab_tableau.specs.declared.gate.Gate.TheVariants as on
 use Rattle.stab_tableau.specs.Traces.{Happening, applied, projected, member, is_free}
-use Rattle.stab_tableau.specs.Tableaus.{outcome_by, is_free_by, projected_by}
+use Rattle.stab_tableau.specs.Rules.{outcome_by, is_free_by, projected_by}
 use Rattle.stab_tableau.proofs.OneLetterLemmas.{length-one_letter}
 use Rattle.stab_tableau.proofs.MemberLemmas.{Agree, Agree-applied, Agree-member, outcome-agree, is_free-agree}
 use Rattle.stab_circuit.specs.Steps.{Step, collapse}

@@ -1,8 +1,9 @@
 pub mod GateTables
 pub mod PlaceLemmas
 pub mod SymmetryLemmas
-pub mod GroupLemmas
+pub mod TestLemmas
 pub mod DiagonalLemmas
+pub mod GroupLemmas
 pub mod TraceLemmas
 pub mod FreeLemmas
 pub mod MemberLemmas
@@ -13,6 +14,7 @@ pub mod SymmetryMapLemmas
 pub mod TableGateLemmas
 pub mod CollapseLemmas
 pub mod StabiliseLemmas
+pub mod GroupTestLemmas
 pub mod CollapseRuleLemmas
 pub mod TableCollapseLemmas
 pub mod PairRowLemmas

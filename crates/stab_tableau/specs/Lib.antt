@@ -1,9 +1,9 @@
 pub mod Gates
-pub mod Traces
 pub mod GateLaws
+pub mod Rules
+pub mod Traces
+pub mod Groups
 pub mod Laws
-pub mod Preimages
-pub mod Collapses
-pub mod Observables
 pub mod Tableaus
 pub mod Columns
+pub mod inner

@@ -8,11 +8,12 @@
 //! - `gate_laws`: a gate is undone by its way back, and keeps products and commuting.
 //! - `laws`: the members of a sound trace are a group, outcomes keep it sound, and what is free.
 //!
-//! `specs/` says by the stabiliser rules which signed Pauli strings stabilise a state.
+//! `specs/` says by the stabiliser rules which signed Pauli strings stabilise a state; `specs/inner/` has what only private
+//! contracts cite.
 //!
 //! Proved: after each call a tableau is stabilised by the strings that the rules say, and no others; the sign and the
-//! outcome of any Pauli are exact; and what commutes with all stabilisers is, up to sign, the product of those whose
-//! destabilisers anticommute with it.
+//! outcome of any Pauli are exact; these strings are a group; and what commutes with all stabilisers is, up to sign, the
+//! product of those whose destabilisers anticommute with it.
 #![tactic(auto)]
 
 mod collapse;

@@ -10,7 +10,10 @@ use std::mem;
 
 /// A stabiliser state on some qubits, at most 1,024.
 ///
-/// Contracts see how many qubits there are, and which signed Pauli strings stabilise the state.
+/// What contracts see of it is a value that holds the preimages of X and Z on each qubit. What clauses promise of that
+/// value is the number of qubits (`qubits`), which signed Pauli strings stabilise the state (`stabilises`), and its
+/// stabilisers and destabilisers by number. Where a clause calls a tableau unchanged, or a copy equal, the whole values
+/// are equal, and so all of this is.
 #[derive(Drop)]
 pub struct Tableau {
     rows: Vec<Preimages>,
@@ -20,7 +23,8 @@ pub struct Tableau {
 
 impl Model for Tableau {
     ghost use Rattle.std.specs.Prelude.{length};
-    ghost use Rattle.stab_tableau.specs.Tableaus.{TableauState, IsTableau};
+    ghost use Rattle.stab_tableau.specs.Tableaus.{TableauState};
+    ghost use Rattle.stab_tableau.specs.inner.Tables.{IsTableau};
 
     ghost Value = { TableauState };
 
@@ -35,7 +39,9 @@ impl Tableau {
     ghost use Rattle.stab_pauli.specs.declared.refusal.Refusal.TheVariants.{OutOfMemory};
     ghost use Rattle.stab_tableau.specs.Gates.{back, back_pair};
     ghost use Rattle.stab_tableau.specs.Traces.{member};
-    ghost use Rattle.stab_tableau.specs.Tableaus.{stabilises, outcome_by, is_free_by, projected_by};
+    ghost use Rattle.stab_tableau.specs.Tableaus.{stabilises};
+    ghost use Rattle.stab_tableau.specs.Rules.{outcome_by, is_free_by, projected_by};
+    ghost use Rattle.stab_tableau.specs.Groups.{IsStabiliserGroup};
     ghost use Rattle.stab_tableau.specs.Columns.{stabiliser_of, destabiliser_of, AreDual, CommutesWithAll, IsGenerated};
 
     /// The state of n qubits, all zero.
@@ -218,6 +224,14 @@ impl Tableau {
         let mut destabiliser = Pauli::identity(alloc, self.len())?;
         rows::write_column(self.rows.as_slice(), Letter::X, k, &mut destabiliser);
         Ok(destabiliser)
+    }
+
+    /// A law, and no work: the strings that stabilise the state are a group, whose members commute, and of no string
+    /// both signs.
+    pub fn stabilises_a_group(&self)
+        ensures law { IsStabiliserGroup self.now.qubits (stabilises self.now) }
+    {
+        let _ = &self.rows;
     }
 
     /// A law, and no work: stabilisers commute, destabilisers commute, and a stabiliser and a destabiliser anticommute

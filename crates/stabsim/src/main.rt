@@ -1,8 +1,8 @@
 //! The program `stabsim`: reads its words, opens the files that they name, runs the job that they
 //! ask for, and ends with its status.
 //!
-//! All that a job does is in `stab_cli`; here the words, files, standard streams and the status
-//! meet.
+//! All that a job does is in `stab_commands`, and what words ask for in `stab_cli`; here the words,
+//! files, standard streams and the status meet.
 #![tactic(auto)]
 
 use stab_cli::{Job, Usage, parse_words, run_job, write_fault, write_usage};

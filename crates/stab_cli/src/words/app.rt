@@ -2,9 +2,9 @@
 ghost use Rattle.std.specs.Prelude.{IfOk};
 ghost use Rattle.stab_cli.specs.Options.{IsApp, IsOption, alone, flag, named, numbered, shot_command, stabsim, valued};
 
-use crate::words::job::Shots;
 use clap::builder::ValueParser;
 use clap::{Arg, ArgAction, Command};
+use stab_commands::Shots;
 use std::alloc::{AllocError, Global};
 
 /// The names of the result formats.

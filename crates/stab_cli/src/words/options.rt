@@ -6,8 +6,8 @@ ghost use Rattle.stab_cli.specs.Options.{most_seed, most_shots};
 ghost use Rattle.stab_cli.specs.declared.words.Usage.{Usage};
 
 use crate::words::Usage;
-use crate::words::job::{Command, Job, Shots, Source};
 use clap::ArgMatches;
+use stab_commands::{Command, Job, Shots, Source};
 use stab_results::Format;
 use std::alloc::{AllocError, Global};
 

@@ -4,7 +4,7 @@ use Rattle.stab_results.proofs.PutsLemmas.{begins, goes_on, breaks_off, ended}
 use Rattle.stab_results.proofs.gathered.Gathered.put.Goals as goal
 
 pub loop-byte-init : goal.loop-byte-init
-loop-byte-init g c = begins c.args.out.now c.args.self.now c.args.bytes.now
+loop-byte-init g c = begins (g.O.Output.seen c.args.out.now) c.args.self.now c.args.bytes.now
 
 pub loop-byte-preserved : goal.loop-byte-preserved
 loop-byte-preserved g c =

@@ -10,7 +10,7 @@ pub loop-group-init : goal.loop-group-init
 loop-group-init g c =
     let all : chunks_rest c.into_iter-group-iterator.result ≡ c.args.bits.now = cc in record {
       eight = search rules;
-      puts = rw all (begins c.args.out.now c.args.self.now (b8_bytes c.args.bits.now));
+      puts = rw all (begins (g.O.Output.seen c.args.out.now) c.args.self.now (b8_bytes c.args.bits.now));
     }
 
 pub loop-group-preserved : goal.loop-group-preserved

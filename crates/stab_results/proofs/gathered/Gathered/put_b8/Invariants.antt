@@ -7,5 +7,5 @@ use Rattle.stab_results.proofs.gathered.Gathered.put_b8.Given as goal
 abbrev pub invariant-loop-group : goal.invariant-loop-group
 invariant-loop-group g l = record {
   eight : chunks_size l.group-iterator ≡ 8;
-  puts : Underway g.O.Output.failures g.O.Output.failed_flushes g.O.Output.honest g.O.Output.written l.fn.out l.out l.fn.self l.self (b8_bytes l.bits) (b8_bytes (chunks_rest l.group-iterator));
+  puts : Underway (g.O.Output.seen l.fn.out) (g.O.Output.seen l.out) l.fn.self l.self (b8_bytes l.bits) (b8_bytes (chunks_rest l.group-iterator));
 }

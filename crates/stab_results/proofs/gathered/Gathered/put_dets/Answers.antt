@@ -7,13 +7,13 @@ use Rattle.stab_results.proofs.gathered.Gathered.put_dets.Goals as goal
 
 pub returns-in_err-put : goal.returns-in_err-put
 returns-in_err-put g c = record {
-  puts = breaks_off c.from_residual.result (flat_map (entry c.args.kinds) (ones c.args.bits.now) ++ codes "\n") (begins c.args.out.now c.args.self.now (dets_bytes c.args.kinds c.args.bits.now)) c.in_err-put.ensures.puts refl c.from_residual.ensures.1;
+  puts = breaks_off c.from_residual.result (flat_map (entry c.args.kinds) (ones c.args.bits.now) ++ codes "\n") (begins (g.O.Output.seen c.args.out.now) c.args.self.now (dets_bytes c.args.kinds c.args.bits.now)) c.in_err-put.ensures.puts refl c.from_residual.ensures.1;
 }
 
 pub loop-place-init : goal.loop-place-init
 loop-place-init g c =
     let all : c.into_iter-place-iterator.result ≡ ones c.args.bits.now = cc in
-    rw all (goes_on (begins c.args.out.now c.args.self.now (dets_bytes c.args.kinds c.args.bits.now)) c.in_ok-put.ensures.puts refl)
+    rw all (goes_on (begins (g.O.Output.seen c.args.out.now) c.args.self.now (dets_bytes c.args.kinds c.args.bits.now)) c.in_ok-put.ensures.puts refl)
 
 pub loop-place-preserved : goal.loop-place-preserved
 loop-place-preserved g c =

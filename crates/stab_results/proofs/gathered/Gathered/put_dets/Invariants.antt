@@ -5,4 +5,4 @@ use Rattle.stab_results.proofs.PutsLemmas.{Underway}
 use Rattle.stab_results.proofs.gathered.Gathered.put_dets.Given as goal
 
 abbrev pub invariant-loop-place : goal.invariant-loop-place
-invariant-loop-place g l = Underway g.O.Output.failures g.O.Output.failed_flushes g.O.Output.honest g.O.Output.written l.fn.out l.out l.fn.self l.self (dets_bytes l.kinds l.bits) (flat_map (entry l.kinds) l.place-iterator ++ codes "\n")
+invariant-loop-place g l = Underway (g.O.Output.seen l.fn.out) (g.O.Output.seen l.out) l.fn.self l.self (dets_bytes l.kinds l.bits) (flat_map (entry l.kinds) l.place-iterator ++ codes "\n")

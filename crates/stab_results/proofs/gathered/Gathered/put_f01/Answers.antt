@@ -7,7 +7,7 @@ use Rattle.stab_results.proofs.PieceLemmas.{next_piece}
 use Rattle.stab_results.proofs.gathered.Gathered.put_f01.Goals as goal
 
 pub loop-bit-init : goal.loop-bit-init
-loop-bit-init g c = begins c.args.out.now c.args.self.now (f01_bytes c.args.bits.now)
+loop-bit-init g c = begins (g.O.Output.seen c.args.out.now) c.args.self.now (f01_bytes c.args.bits.now)
 
 pub loop-bit-preserved : goal.loop-bit-preserved
 loop-bit-preserved g c =

@@ -5,4 +5,4 @@ use Rattle.stab_results.proofs.PutsLemmas.{Underway}
 use Rattle.stab_results.proofs.gathered.Gathered.put_f01.Given as goal
 
 abbrev pub invariant-loop-bit : goal.invariant-loop-bit
-invariant-loop-bit g l = Underway g.O.Output.failures g.O.Output.failed_flushes g.O.Output.honest g.O.Output.written l.fn.out l.out l.fn.self l.self (f01_bytes l.bits) (flat_map digit (drop l.bit-index l.bits) ++ codes "\n")
+invariant-loop-bit g l = Underway (g.O.Output.seen l.fn.out) (g.O.Output.seen l.out) l.fn.self l.self (f01_bytes l.bits) (flat_map digit (drop l.bit-index l.bits) ++ codes "\n")

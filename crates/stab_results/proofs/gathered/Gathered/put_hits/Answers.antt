@@ -7,7 +7,7 @@ use Rattle.stab_results.proofs.gathered.Gathered.put_hits.Goals as goal
 pub loop-place-init : goal.loop-place-init
 loop-place-init g c =
     let all : c.into_iter-place-iterator.result ≡ ones c.args.bits.now = cc in
-    rw (all, separated_none (ones c.args.bits.now)) (begins c.args.out.now c.args.self.now (hits_bytes c.args.bits.now))
+    rw (all, separated_none (ones c.args.bits.now)) (begins (g.O.Output.seen c.args.out.now) c.args.self.now (hits_bytes c.args.bits.now))
 
 pub loop-place-preserved : goal.loop-place-preserved
 loop-place-preserved g c =

@@ -5,4 +5,4 @@ use Rattle.stab_results.proofs.HitLemmas.{separated}
 use Rattle.stab_results.proofs.gathered.Gathered.put_hits.Given as goal
 
 abbrev pub invariant-loop-place : goal.invariant-loop-place
-invariant-loop-place g l = Underway g.O.Output.failures g.O.Output.failed_flushes g.O.Output.honest g.O.Output.written l.fn.out l.out l.fn.self l.self (hits_bytes l.bits) (separated l.separator l.place-iterator ++ codes "\n")
+invariant-loop-place g l = Underway (g.O.Output.seen l.fn.out) (g.O.Output.seen l.out) l.fn.self l.self (hits_bytes l.bits) (separated l.separator l.place-iterator ++ codes "\n")

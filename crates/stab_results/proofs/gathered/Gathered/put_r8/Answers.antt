@@ -8,7 +8,7 @@ pub loop-place-init : goal.loop-place-init
 loop-place-init g c = record {
   start = omega arith;
   left = search rules;
-  puts = begins c.args.out.now c.args.self.now (r8_bytes c.args.bits.now);
+  puts = begins (g.O.Output.seen c.args.out.now) c.args.self.now (r8_bytes c.args.bits.now);
 }
 
 pub overflow_sub-place : goal.overflow_sub-place

@@ -8,5 +8,5 @@ abbrev pub invariant-loop-place : goal.invariant-loop-place
 invariant-loop-place g l = record {
   start : l.start ≤ length l.bits;
   left : l.place-iterator ≡ ones_from l.start (drop l.start l.bits);
-  puts : Underway g.O.Output.failures g.O.Output.failed_flushes g.O.Output.honest g.O.Output.written l.fn.out l.out l.fn.self l.self (r8_bytes l.bits) (runs_from l.start l.bits);
+  puts : Underway (g.O.Output.seen l.fn.out) (g.O.Output.seen l.out) l.fn.self l.self (r8_bytes l.bits) (runs_from l.start l.bits);
 }

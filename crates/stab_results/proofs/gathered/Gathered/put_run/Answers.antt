@@ -6,7 +6,7 @@ use Rattle.stab_results.proofs.gathered.Gathered.put_run.Goals as goal
 pub loop-init : goal.loop-init
 loop-init g c =
     let all : c.args.zeros / 255 - 0 ≡ c.args.zeros / 255 = omega arith in
-    rw all (begins c.args.out.now c.args.self.now (run_bytes c.args.zeros))
+    rw all (begins (g.O.Output.seen c.args.out.now) c.args.self.now (run_bytes c.args.zeros))
 
 pub loop-preserved : goal.loop-preserved
 loop-preserved g c =

@@ -1,0 +1,3 @@
+pub mod FaultLineLaws
+pub mod SendingLaws
+pub mod RunLaws

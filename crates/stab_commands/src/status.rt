@@ -1,0 +1,66 @@
+//! Running a job, with the status of the program.
+ghost use Rattle.std.specs.Prelude.{◌≡◌};
+ghost use Rattle.stab_commands.specs.Jobs.{EndsJob};
+ghost use Rattle.stab_commands.specs.Outputs.{EndsRun, output_of};
+
+use crate::fault_line::write_fault;
+use crate::job::{Command, Job};
+use crate::run::{run_detect, run_sample};
+use stab_pauli::{Fault, Input, Output};
+use std::alloc::Global;
+
+/// Runs the command of a job.
+fn run_command<I: Input, O: Output>(
+    alloc: Global,
+    job: &Job,
+    input: &mut I,
+    out: &mut O,
+) -> Result<(), Fault>
+    ensures as_honest { (I.honest input.new ≡ I.honest input.old) × (O.honest out.new ≡ O.honest out.old) }
+    ensures ends { EndsRun (output_of job.now)
+        (record { honest = I.honest input.old; unread = I.unread input.old; left = I.unread input.new; failures = I.failures input.old; failures_after = I.failures input.new })
+        (record { honest = O.honest out.old; old = O.written out.old; new = O.written out.new; failures = O.failures out.old; failures_after = O.failures out.new; failed_flushes = O.failed_flushes out.old; failed_flushes_after = O.failed_flushes out.new })
+        result }
+{
+    let source = &job.source;
+    match job.command {
+        Command::Sample { format, shots } => {
+            run_sample(alloc, input, out, format, shots.number(), source)
+        }
+        Command::Detect {
+            format,
+            shots,
+            append,
+        } => run_detect(alloc, input, out, format, append, shots.number(), source),
+    }
+}
+
+/// Runs a job over these devices, tells its fault on `err`, and answers the status of the program:
+/// 0 without a fault, 1 with one, whether or not `err` fails.
+///
+/// The paths of the job are the caller's to open. No command reads the script.
+pub fn run_job<I: Input, S: Input, O: Output, E: Output>(
+    alloc: Global,
+    job: &Job,
+    input: &mut I,
+    script: &mut S,
+    out: &mut O,
+    err: &mut E,
+) -> u8
+    ensures as_honest { (I.honest input.new ≡ I.honest input.old) × (O.honest out.new ≡ O.honest out.old) × (E.honest err.new ≡ E.honest err.old) }
+    ensures ends { EndsJob (output_of job.now)
+        (record { honest = I.honest input.old; unread = I.unread input.old; left = I.unread input.new; failures = I.failures input.old; failures_after = I.failures input.new })
+        (record { honest = O.honest out.old; old = O.written out.old; new = O.written out.new; failures = O.failures out.old; failures_after = O.failures out.new; failed_flushes = O.failed_flushes out.old; failed_flushes_after = O.failed_flushes out.new })
+        (record { honest = E.honest err.old; old = E.written err.old; new = E.written err.new; failures = E.failures err.old; failures_after = E.failures err.new; failed_flushes = E.failed_flushes err.old; failed_flushes_after = E.failed_flushes err.new })
+        result }
+    ensures script { script.new ≡ script.old }
+{
+    let _ = script;
+    match run_command(alloc, job, input, out) {
+        Ok(()) => 0,
+        Err(fault) => {
+            let _ = write_fault(err, fault);
+            1
+        }
+    }
+}

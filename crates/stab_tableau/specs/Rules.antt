@@ -1,0 +1,16 @@
+-- Rules: what a measurement answers, and what it leaves, by a test of which signed strings stabilise the state before it.
+use Rattle.std.specs.Prelude.{Bool, true, false, not, ◌&&◌, ◌||◌, if◌then◌else◌}
+use Rattle.stab_pauli.specs.Paulis.{Signed, minus, with_sign, commute, product}
+
+-- the outcome of a measurement of p with a coin: 0 where p stabilises, 1 where its negative does, else the coin
+abbrev pub outcome_by : (Signed → Bool) → Signed → Bool → Bool
+outcome_by stabilised p coin = if stabilised p then false else (if stabilised (minus p) then true else coin)
+
+-- whether neither sign of p stabilises, so that the coin decides
+abbrev pub is_free_by : (Signed → Bool) → Signed → Bool
+is_free_by stabilised p = not (stabilised p) && not (stabilised (minus p))
+
+-- whether p stabilises after a projection of q on an outcome: it commutes with q, and it stabilised before, by itself or
+-- after a product with q, whose sign is that of the outcome
+abbrev pub projected_by : (Signed → Bool) → Signed → Bool → Signed → Bool
+projected_by stabilised q outcome p = commute q p && (stabilised p || stabilised (product (with_sign outcome q) p))

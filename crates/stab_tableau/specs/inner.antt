@@ -1,0 +1,5 @@
+pub mod Preimages
+pub mod Tables
+pub mod Collapses
+pub mod Observables
+pub mod ColumnLetters

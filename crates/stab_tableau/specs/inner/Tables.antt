@@ -1,0 +1,22 @@
+-- Tables: what a tableau keeps, and what a measurement makes of its rows.
+use Rattle.std.specs.Prelude.{◌≡◌, ℕ, Bool, false, List, length}
+use Rattle.stab_pauli.specs.Paulis.{Signed}
+use Rattle.stab_tableau.specs.declared.preimages.Preimages.{Preimages}
+use Rattle.stab_tableau.specs.Rules.{outcome_by, is_free_by, projected_by}
+use Rattle.stab_tableau.specs.Tableaus.{stabilises}
+use Rattle.stab_tableau.specs.inner.Preimages.{IsOver, IsTable, IsOnto}
+
+-- what a tableau keeps: rows by which preimages keep products and reach every string, and rows of their size to work with
+pub record IsTableau (n : ℕ) (rows : List Preimages) (scratch : Preimages) : Type 0 where
+  pub table : IsTable n rows
+  pub onto : IsOnto n rows
+  pub size : IsOver n scratch
+
+-- what a measurement of p with a coin makes of rows, and what it answers
+pub record IsMeasured (n : ℕ) (rows : List Preimages) (p : Signed) (coin : Bool) (outcome free : Bool) (new : List Preimages) (scratch : Preimages) : Type 0 where
+  pub tableau : IsTableau n new scratch
+  pub outcome_is : outcome ≡ outcome_by (stabilises (record { qubits = n; rows = rows })) p coin
+  pub free_is : free ≡ is_free_by (stabilises (record { qubits = n; rows = rows })) p
+  pub members : (q : Signed) → length q.letters ≡ n
+      → stabilises (record { qubits = n; rows = new }) q ≡ projected_by (stabilises (record { qubits = n; rows = rows })) p outcome q
+  pub kept : free ≡ false → new ≡ rows
