@@ -126,6 +126,12 @@ controlled_summary a ps =
     let past' = past (controlled_qubits ps) in
     same_summary _ _ _ _ _ _ past' 0 past' 0 (ap (λ n. min n 1048577) (length-map ps (controlled_step a))) (omega (arith, r.0)) r.1 refl refl
 
+-- the same of an instruction that is one
+pub controlled_found : {k : Kind} {a : Axis} {ps seen : List ControlledPair} → k ≡ kind.Controlled a ps → seen ≡ ps
+    → summary (min (length seen) 1048577) 0 (furthest seen) (past (controlled_qubits seen)) 0 ≡ kind_summary_of k
+controlled_found {k} {a} {ps} {seen} e f =
+    ap (λ l. summary (min (length l) 1048577) 0 (furthest l) (past (controlled_qubits l)) 0) f ∙ sym (controlled_summary a ps) ∙ ap kind_summary_of (sym e)
+
 -- steps that make a record each, and don't look back
 abbrev IsMeasured : Step → Type 0
 IsMeasured s = (makes s ≡ 1) × (lookbacks s ≡ [])
