@@ -53,21 +53,18 @@ fn a_line_without_the_shape_of_a_line_is_refused(rt: HostRuntime) -> Result<(), 
 }
 
 // Instructions whose names are not read, most of them Stim's.
-const OTHER_NAMES: [&str; 21] = [
+const OTHER_NAMES: [&str; 18] = [
     "X_ERROR 0",
     "DEPOLARIZE1(0.1) 0",
     "MPAD 0",
     "MXX 0 1",
-    "MPP X0",
-    "MY 0",
-    "RX 0",
+    "MRXX 0 1",
+    "MPPS X0",
     "ISWAP 0 1",
     "SQRT_XX 0 1",
     "SPP X0",
     "XCX 0 1",
     "H_XY 0",
-    "SQRT_X 0",
-    "C_XYZ 0",
     "XX 0",
     "M_ 0",
     "H0 1",
@@ -117,7 +114,7 @@ fn wrong_arguments_are_refused(rt: HostRuntime) -> Result<(), Fail> {
 }
 
 // Instructions of which a target is not what the name takes.
-const WRONG_TARGETS: [&str; 33] = [
+const WRONG_TARGETS: [&str; 39] = [
     "X !0",
     "X -1",
     "X a",
@@ -131,8 +128,14 @@ const WRONG_TARGETS: [&str; 33] = [
     "R !0",
     "CX !0 1",
     "CX sweep[0] 0",
-    "CX rec[-1] 0",
     "CZ 0 rec[-1]",
+    "CY rec[-1] rec[-1]",
+    "SWAP rec[-1] 0",
+    "MPP X0*Z0",
+    "MPP X0*",
+    "MPP I0",
+    "MPP X0*!!Z1",
+    "MPP 0",
     "CX 0 0 a",
     "TICK 0",
     "SHIFT_COORDS(1) 0",
@@ -173,6 +176,8 @@ fn targets_without_their_partners_are_refused(rt: HostRuntime) -> Result<(), Fai
         "CNOT 0 00",
         "CX 0 1 2 {",
         "CX 0 0\n}",
+        "CX rec[-1] 0 1",
+        "CZ rec[-1]",
     ];
     assert_each_refused(
         &rt,
@@ -214,6 +219,9 @@ fn numbers_out_of_range_are_refused(rt: HostRuntime) -> Result<(), Fail> {
         "X 1024 y {",
         "CX 0 1024 0",
         "QUBIT_COORDS(1) 1024",
+        "MPP X1024*X1024",
+        "MPP X0*X1024*X0",
+        "CX rec[-1] 1024",
         "R 99999999999999999999999999999999",
     ];
     let observables = [
@@ -237,6 +245,9 @@ fn a_lookback_past_the_first_record_is_refused(rt: HostRuntime) -> Result<(), Fa
     let texts = [
         "DETECTOR rec[-1]",
         "OBSERVABLE_INCLUDE(0) rec[-1]",
+        "CX rec[-1] 0",
+        "MPP X0*Z1\nCZ rec[-2] 0",
+        "REPEAT 2 {\nCY rec[-1] 0\nM 0\n}",
         "M 0\nDETECTOR rec[-1] rec[-2]",
         "R 0\nDETECTOR rec[-1]",
         "REPEAT 2 {\nDETECTOR rec[-1]\nM 0\n}",

@@ -84,6 +84,46 @@ fn pair_gates_act_as_the_gate_tables_say(rt: HostRuntime) -> Result<(), Fail> {
 }
 
 #[test]
+fn letters_are_exchanged_as_the_gate_tables_say(rt: HostRuntime) -> Result<(), Fail> {
+    let rows = [
+        ("SQRT_X 0\nSQRT_X 0\nM 0", "1\n"),
+        ("C_XYZ 0\nC_ZYX 0\nM 0", "0\n"),
+        // What each gate makes of Z, then of X.
+        ("C_XYZ 0\nMX 0", "0\n"),
+        ("RX 0\nC_XYZ 0\nMY 0", "0\n"),
+        ("C_ZYX 0\nMY 0", "0\n"),
+        ("RX 0\nC_ZYX 0\nM 0", "0\n"),
+        ("SQRT_X 0\nMY 0", "1\n"),
+        ("RX 0\nSQRT_X 0\nMX 0", "0\n"),
+        ("SQRT_X_DAG 0\nMY 0", "0\n"),
+        ("RX 0\nSQRT_X_DAG 0\nMX 0", "0\n"),
+        ("SQRT_Y 0\nMX 0", "0\n"),
+        ("RX 0\nSQRT_Y 0\nM 0", "1\n"),
+        ("SQRT_Y_DAG 0\nMX 0", "1\n"),
+        ("RX 0\nSQRT_Y_DAG 0\nM 0", "0\n"),
+    ];
+    assert_each_is_fixed(&rt, rows.as_slice())
+}
+
+#[test]
+fn products_and_records_that_control_act_as_the_format_says(
+    rt: HostRuntime,
+) -> Result<(), Fail> {
+    let rows = [
+        ("X 0\nMPP Z0*Z1 Z1 !Z0*!Z1 !Z0*Z1", "1010\n"),
+        ("H 0\nCX 0 1\nMPP X0*X1 Z0*Z1 Y0*Y1", "001\n"),
+        ("H 0\nCX 0 1\nMPP Z1*Z0\nX 1\nMPP y0*y1", "00\n"),
+        ("X 0\nM 0\nCX rec[-1] 1\nM 1", "11\n"),
+        ("M 0\nCX rec[-1] 1\nM 1", "00\n"),
+        ("X 0\nM 0 1\nCX rec[-2] 2 rec[-1] 3\nM 2 3", "1010\n"),
+        ("X 0\nM 0\nCY rec[-1] 1\nM 1", "11\n"),
+        ("X 0\nM 0\nRX 1\nCZ rec[-1] 1\nMX 1", "11\n"),
+        ("M !0\nREPEAT 3 {\nCX rec[-1] 0\nM 0\n}", "1100\n"),
+    ];
+    assert_each_is_fixed(&rt, rows.as_slice())
+}
+
+#[test]
 fn an_instruction_has_its_other_names(rt: HostRuntime) -> Result<(), Fail> {
     let rows = [
         ("H_XZ 0\nMX 0", "0\n"),
