@@ -239,6 +239,9 @@ fn write_name<O: Output>(out: &mut O, operation: &Operation) -> Result<(), Refus
     write_head(out, kind_name(&operation.kind), operation.tag.as_slice())
 }
 
+/// Writes the one text of an instruction, without a line feed, and does not flush.
+///
+/// Refusal `WriteFault` where a write failed; what was written is then a prefix of the text.
 pub fn write_operation<O: Output>(out: &mut O, operation: &Operation) -> Result<(), Refusal>
     ensures writes { WritesAll (O.seen out.old) (O.seen out.new) (operation_text operation.now) result }
 {
@@ -247,6 +250,9 @@ pub fn write_operation<O: Output>(out: &mut O, operation: &Operation) -> Result<
     write_targets(out, &operation.kind)
 }
 
+/// Writes the one text of a block's opening, without a line feed, and does not flush.
+///
+/// Refusal `WriteFault` where a write failed; what was written is then a prefix of the text.
 pub fn write_opening<O: Output>(out: &mut O, count: Count, tag: &[u8]) -> Result<(), Refusal>
     ensures writes { WritesAll (O.seen out.old) (O.seen out.new) (open_text count tag.now) result }
 {
