@@ -105,7 +105,7 @@ packed_told : (k : ℕ) (xs zs xs' zs' : List ℕ) → length xs ≡ length zs �
 packed_told k [] [] [] [] a b c sx sz sx' sz' e = (refl, refl)
 packed_told k (x ∷ xs) (z ∷ zs) (x' ∷ xs') (z' ∷ zs') a b c sx sz sx' sz' e =
     let rest = packed_told k xs zs xs' zs' (omega arith) (omega arith) (omega arith) (short_tail k x xs sx) (short_tail k z zs sz) (short_tail k x' xs' sx') (short_tail k z' zs' sz')
-        (sym (drop_at (word_letters k x z) (packed_letters k xs zs) k (length-word_letters k x z)) ∙ ap (drop k) e ∙ drop_at (word_letters k x' z') (packed_letters k xs' zs') k (length-word_letters k x' z')) in
+    (sym (drop_at (word_letters k x z) (packed_letters k xs zs) k (length-word_letters k x z)) ∙ ap (drop k) e ∙ drop_at (word_letters k x' z') (packed_letters k xs' zs') k (length-word_letters k x' z')) in
     ((λ i. first.0 i ∷ rest.0 i), (λ i. first.1 i ∷ rest.1 i))
   where
     first : (x ≡ x') × (z ≡ z')
@@ -127,8 +127,8 @@ row_told : (m : ℕ) (p q : List ℕ) → length p ≡ 8 * m → length q ≡ 8 
 row_told zero p q lp lq sp sq e = none_told p q lp lq
 row_told (suc m) p q lp lq sp sq e =
     let rest = row_told m (drop 8 p) (drop 8 q) (length-rest m p lp) (length-rest m q lq) (short_drop 64 8 p sp) (short_drop 64 8 q sq)
-        (sym (drop_at (packed_letters 64 (take 4 p) (take 4 (drop 4 p))) (row_letters m (drop 8 p)) 256 (lb p lp)) ∙ ap (drop 256) e
-        ∙ drop_at (packed_letters 64 (take 4 q) (take 4 (drop 4 q))) (row_letters m (drop 8 q)) 256 (lb q lq)) in
+    (sym (drop_at (packed_letters 64 (take 4 p) (take 4 (drop 4 p))) (row_letters m (drop 8 p)) 256 (lb p lp)) ∙ ap (drop 256) e
+    ∙ drop_at (packed_letters 64 (take 4 q) (take 4 (drop 4 q))) (row_letters m (drop 8 q)) 256 (lb q lq)) in
     sym (parts p) ∙ (λ i. block.0 i ++ (block.1 i ++ rest i)) ∙ parts q
   where
     lb : (r : List ℕ) → length r ≡ 8 * suc m → length (packed_letters 64 (take 4 r) (take 4 (drop 4 r))) ≡ 256

@@ -14,7 +14,7 @@ returns-then-not-same c =
     record {
       value = (
         (λ h. absurd (no_false h)),
-        (λ e. absurd (no_false (told.1 (c.as_slice.ensures.value ∙ sym (signs_seen mine) ∙ ap signs_of e ∙ signs_seen theirs ∙ sym c.as_slice-2.ensures.value))))
+        (λ e. absurd (no_false (told.1 (c.as_slice.ensures.value ∙ sym (signs_seen mine) ∙ ap signs_of e ∙ signs_seen theirs ∙ sym c.as_slice-2.ensures.value)))),
       );
     }
 
@@ -27,6 +27,6 @@ returns c =
     record {
       value = (
         (λ h. all_told mine theirs signs (c.same_letters.ensures.value.0 h).0 (c.same_letters.ensures.value.0 h).1),
-        (λ e. c.same_letters.ensures.value.1 (ap (λ (r : Rows). r.qubits) e, ap unsigned_rows e))
+        (λ e. c.same_letters.ensures.value.1 (ap (λ (r : Rows). r.qubits) e, ap unsigned_rows e)),
       );
     }

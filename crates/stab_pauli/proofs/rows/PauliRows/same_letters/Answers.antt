@@ -35,8 +35,10 @@ returns c =
     let shorts = AreShort-same 64 c.other.inside.words.items c.as_slice-others.result.now c.as_slice-others.ensures.value c.same.ensures.others_short in
     record {
       value = (
-        (λ h. (sym (qubits_seen mine) ∙ c.if-self-other.false ∙ qubits_seen theirs,
-        letters_told mine theirs c.if-self-other.false number (sym c.as_slice-words.ensures.value ∙ c.same.ensures.value.0 h ∙ c.as_slice-others.ensures.value))),
-        (λ both. c.same.ensures.value.1 (c.as_slice-words.ensures.value ∙ words_told mine theirs short shorts both.0 both.1 ∙ sym c.as_slice-others.ensures.value))
+        (λ h. (
+          sym (qubits_seen mine) ∙ c.if-self-other.false ∙ qubits_seen theirs,
+          letters_told mine theirs c.if-self-other.false number (sym c.as_slice-words.ensures.value ∙ c.same.ensures.value.0 h ∙ c.as_slice-others.ensures.value),
+        )),
+        (λ both. c.same.ensures.value.1 (c.as_slice-words.ensures.value ∙ words_told mine theirs short shorts both.0 both.1 ∙ sym c.as_slice-others.ensures.value)),
       );
     }
