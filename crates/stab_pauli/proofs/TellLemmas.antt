@@ -1,11 +1,11 @@
 -- Rows are told by their letters: equal letters lie in equal words.
-use Rattle.std.proofs.Common.{◌≡◌, ℕ, zero, suc, ◌+◌, ◌*◌, ◌/◌, ◌%◌, ◌^◌, ◌<◌, ◌≤◌, Bool, true, false, refl, sym, ◌∙◌, ap, List, [], ◌∷◌, ◌++◌, length, get_or, take, drop, map, arith, rules, subst, inl, inr, eqb, length-append, length-drop}
+use Rattle.std.proofs.Common.{◌≡◌, ℕ, zero, suc, ◌+◌, ◌*◌, ◌/◌, ◌%◌, ◌^◌, ◌<◌, Bool, true, false, refl, sym, ◌∙◌, ap, List, [], ◌∷◌, ◌++◌, length, get_or, take, drop, map, arith, rules, subst, inl, inr, eqb, length-drop}
 use Rattle.std.specs.Prelude.{◌⊎◌}
 use Rattle.std.specs.List.{All}
 use Rattle.std.specs.Bool.{IsTrue}
 use Rattle.std.specs.Simd.Lanes.{zip2}
 use Rattle.std.proofs.Math.Nat.{pow-suc}
-use Rattle.std.proofs.lemmas.List.{take_at, drop_at, take-append-drop, drop-drop, get_or-take, get_or-drop, length-map, length-take-le}
+use Rattle.std.proofs.lemmas.List.{take_at, drop_at, take-append-drop, drop-drop, get_or-drop, length-map, length-take-le}
 use Rattle.std.proofs.lemmas.List.Elements.{All-head, All-tail}
 use Rattle.stab_pauli.specs.declared.letter.Letter.{Letter}
 use Rattle.stab_pauli.specs.declared.letter.Letter.TheVariants.{I, X, Y, Z}
@@ -13,7 +13,7 @@ use Rattle.stab_pauli.specs.Flips.{flips}
 use Rattle.stab_pauli.specs.Paulis.{Signed}
 use Rattle.stab_pauli.specs.Rows.{Rows, unsigned_rows}
 use Rattle.stab_pauli.specs.inner.Words.{lowest, letter_of_bits, word_letters, packed_letters, AreShort}
-use Rattle.stab_pauli.specs.inner.Blocks.{row_letters, blocks_of, full_rows, IsPadded, IsTable, table, signed_row}
+use Rattle.stab_pauli.specs.inner.Blocks.{row_letters, blocks_of, full_rows, IsPadded, signed_row}
 use Rattle.stab_pauli.proofs.BitLemmas.{two_cases, below_two}
 use Rattle.stab_pauli.proofs.PlaceLemmas.{flips_bits}
 use Rattle.stab_pauli.proofs.PackedLemmas.{length-word_letters}

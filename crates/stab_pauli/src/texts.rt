@@ -3,7 +3,7 @@
 use crate::{Letter, MemoryOutput, Pauli, Refusal};
 use std::alloc::Global;
 
-// The Pauli that a text such as `-_XZ` stands for.
+/// The Pauli that a text such as `-_XZ` stands for.
 pub fn read(alloc: Global, text: &str) -> Result<Pauli, Refusal> {
     let mut pauli = Pauli::identity(alloc, text.len().saturating_sub(1))?;
     for (place, byte) in text.as_bytes().iter().enumerate() {
@@ -25,14 +25,14 @@ fn put(pauli: &mut Pauli, place: usize, letter: Letter) {
     }
 }
 
-// Whether the Pauli is printed as the text.
+/// Whether the Pauli is printed as the text.
 pub fn prints(alloc: Global, pauli: &Pauli, text: &str) -> Result<bool, Refusal> {
     let mut out = MemoryOutput::new(alloc, 2048)?;
     pauli.write_text(&mut out)?;
     Ok(out.bytes() == text.as_bytes())
 }
 
-// n times one letter.
+/// n times one letter.
 pub fn repeated(alloc: Global, n: usize, letter: Letter) -> Result<Pauli, Refusal> {
     let mut pauli = Pauli::identity(alloc, n)?;
     for qubit in 0..n {

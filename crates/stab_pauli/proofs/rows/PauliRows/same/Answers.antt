@@ -1,9 +1,9 @@
-use Rattle.std.proofs.Common.{arith, ◌≡◌, ◌∙◌, sym, refl, ap, length, true, false}
+use Rattle.std.proofs.Common.{◌∙◌, sym, refl, ap, true, false}
 use Rattle.std.proofs.lemmas.Slice.Eq.{slice_eq-Decides}
 use Rattle.stab_pauli.specs.Rows.{Rows, unsigned_rows}
 use Rattle.stab_pauli.proofs.TableLemmas.{Decides-beq}
 use Rattle.stab_pauli.proofs.TellLemmas.{signs_of, signs_seen, all_told, no_false}
-use Rattle.stab_pauli.proofs.SeenLemmas.{IsSeen, qubits_seen}
+use Rattle.stab_pauli.proofs.SeenLemmas.{IsSeen}
 use Rattle.stab_pauli.proofs.rows.PauliRows.same.Goals as goal
 
 pub returns-then-not-same : goal.returns-then-not-same

@@ -1,5 +1,4 @@
-use Rattle.std.proofs.Common.{arith, ◌≡◌, ◌∙◌, sym, length, false}
-use Rattle.std.specs.Bool.{IsTrue}
+use Rattle.std.proofs.Common.{arith, ◌≡◌, ◌∙◌, sym, length}
 use Rattle.stab_pauli.proofs.TellLemmas.{AreShort-same, words_told, letters_told, same_number, no_false}
 use Rattle.stab_pauli.proofs.SeenLemmas.{IsSeen, qubits_seen}
 use Rattle.stab_pauli.proofs.rows.PauliRows.same_letters.Goals as goal
