@@ -12,7 +12,8 @@ use Rattle.stab_circuit.specs.declared.step.Step.{Step as StepValue}
 use Rattle.stab_circuit.specs.Items.{done, before}
 use Rattle.stab_circuit.specs.Views.{item_of, items_of}
 use Rattle.stab_circuit.specs.Steps.{Step, steps_of, rounds, unroll}
-use Rattle.stab_circuit.specs.Cursors.{step_shown, steps_shown, IsApart, Appends}
+use Rattle.stab_circuit.specs.Cursors.{step_shown, IsApart}
+use Rattle.stab_circuit.specs.inner.Unrolled.{steps_shown, Appends}
 use Rattle.stab_circuit.proofs.ViewLemmas.{item_of_operation, item_of_repeat, items_of_pushed}
 use Rattle.stab_circuit.proofs.StepLemmas.{unroll-join}
 

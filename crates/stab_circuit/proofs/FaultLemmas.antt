@@ -6,7 +6,7 @@ use Rattle.stab_lines.specs.declared.meanings.Line.TheVariants.{Blank, Close, Op
 use Rattle.stab_lines.specs.declared.meanings.Line.TheVariants as line
 use Rattle.stab_circuit.specs.Items.{Items, done, next, join}
 use Rattle.stab_circuit.specs.Circuits.{Meaning, at_line, fault_from}
-use Rattle.stab_circuit.specs.Readers.{Frame, State, closed, read_on}
+use Rattle.stab_circuit.specs.inner.Readers.{Frame, Progress, closed, read_on}
 
 -- the lines of the open blocks
 abbrev pub lines_of : List Frame → List ℕ
@@ -18,7 +18,7 @@ fault_of (Ok xs) = None
 fault_of (Err f) = Some f
 
 -- what a reader keeps
-abbrev pub state : List Frame → Items → State
+abbrev pub state : List Frame → Items → Progress
 state fs now = record { frames = fs; now = now }
 
 abbrev pub frame : ℕ → ℕ → List ℕ → Items → Frame

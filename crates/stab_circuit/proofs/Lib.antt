@@ -13,4 +13,5 @@ mod OneItemLemmas
 mod TextLemmas
 mod BlankLemmas
 mod RoundLemmas
+mod ItemTextLemmas
 mod CircuitFaultLemmas

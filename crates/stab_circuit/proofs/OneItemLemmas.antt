@@ -1,30 +1,31 @@
 -- One item's text: what is read of it is one item, or none where every line is blank.
-use Rattle.std.proofs.Common.{◌≡◌, ◌≤◌, refl, ap, sym, ◌∙◌, subst, ℕ, ◌+◌, ◌-◌, suc, List, [], ◌∷◌, Bool, true, false, ◌==◌, nat_lt, length, map, Option, None, Some, Result, Ok, Err, if◌then◌else◌, arith}
+use Rattle.std.proofs.Common.{◌≡◌, ◌≤◌, refl, ap, sym, ◌∙◌, subst, ℕ, ◌+◌, ◌-◌, suc, List, [], ◌∷◌, Bool, true, false, ◌==◌, nat_lt, length, map, None, Some, Result, Ok, Err, if◌then◌else◌, arith}
 use Rattle.std.specs.List.{list_all}
+use Rattle.std.proofs.lemmas.Bool.Decides.{nat_tests}
 use Rattle.stab_pauli.specs.declared.refusal.Refusal.{Refusal}
-use Rattle.stab_pauli.specs.declared.refusal.Refusal.TheVariants.{BadLine, BadBlock, TooDeep}
+use Rattle.stab_pauli.specs.declared.refusal.Refusal.TheVariants.{BadLine, TooDeep}
 use Rattle.stab_lines.specs.declared.meanings.Line.TheVariants.{Blank, Close, Open}
 use Rattle.stab_lines.specs.declared.meanings.Line.TheVariants as line
 use Rattle.stab_circuit.specs.Items.{Items, OneItem, operation, repeat, listed, done, next, block, join}
-use Rattle.stab_lines.specs.declared.name.Name.{Name}
-use Rattle.stab_lines.specs.declared.name.Name.TheVariants as name
-use Rattle.stab_lines.specs.declared.operation.Kind.{Kind}
-use Rattle.stab_lines.specs.Names.{name_of}
-use Rattle.stab_lines.specs.Targets.{count_of}
-use Rattle.stab_lines.specs.Meanings.{meaning_of, is_close, shape_meaning, named_line, block_of, kind_of, targets_alone, opened, only_count}
-use Rattle.stab_lines.specs.Lines.{Shape, shape_of}
-use Rattle.stab_lines.specs.Results.{◌>>=◌}
+use Rattle.stab_lines.specs.Meanings.{meaning_of, is_close}
+use Rattle.stab_lines.proofs.LineLaws.{blank_is_empty}
 use Rattle.stab_circuit.specs.Circuits.{Meaning, Joins, nothing, blank_line, operation_line, block_lines, at_line, fault_from, meaning_after, depth_after, ends_item, one_item, is_empty}
-use Rattle.stab_circuit.specs.Readers.{Frame, State, start, closed, stepped, finished, read_on, is_whole, meaning_at, pending}
+use Rattle.stab_circuit.specs.inner.Readers.{Frame, Progress, start, closed, stepped, finished, read_on, is_whole, meaning_at, pending}
 use Rattle.stab_lines.proofs.BoolLemmas.{chosen, passed, and_left, and_right, both}
 use Rattle.stab_circuit.proofs.FaultLemmas.{state, frame}
 use Rattle.stab_circuit.proofs.ReadingLemmas.{joined_read, choice_none, fault_opens}
 use Rattle.stab_circuit.proofs.ReaderLemmas.{pending_taken, pending_refused, not_one, not_none, whole_kept, some_joined, nothing_pending}
 
--- a blank content
+-- the blank contents are the empty ones
 blank_means : (c : List ℕ) → is_empty c ≡ true → meaning_of c ≡ Ok Blank
-unfolding meaning_of
-blank_means c e = chosen (is_empty c) _ _ e
+blank_means [] e = (blank_is_empty []).1 refl
+blank_means (x ∷ xs) e = absurd (omega (arith, some x xs e))
+  where
+    some : (x : ℕ) (xs : List ℕ) → (length (x ∷ xs) == 0) ≡ true → length (x ∷ xs) ≡ 0
+    some x xs e = grind (arith, nat_tests)
+
+means_blank : (c : List ℕ) → meaning_of c ≡ Ok Blank → is_empty c ≡ true
+means_blank c e = ap is_empty ((blank_is_empty c).0 e)
 
 -- blank lines alone are read as nothing
 pub blank_read : (cs : List (List ℕ)) (n : ℕ) → list_all is_empty cs ≡ true → read_on n start (one_item 0 cs) ≡ Ok done
@@ -44,42 +45,6 @@ joins_done nothing e = tt
 joins_done (blank_line j) e = (refl, joins_done j e)
 joins_done (operation_line j) e = cc
 joins_done (block_lines j k) e = cc
-
--- a name and what follows it are never a blank line
-opens_blank : (s : Shape) (o : Option ℕ) (b : Bool) → s.opens ≡ b → opened s o ≡ Ok Blank → ⊥
-opens_blank s None b h e = cc
-opens_blank s (Some n) true h e = let f : Ok (Open n s.tag) ≡ Ok Blank = sym (chosen s.opens (Ok (Open n s.tag)) (Err BadBlock) h) ∙ e in cc
-opens_blank s (Some n) false h e = let f : Err BadBlock ≡ Ok Blank = sym (passed s.opens (Ok (Open n s.tag)) (Err BadBlock) h) ∙ e in cc
-
-block_blank : (s : Shape) (r : Result (List (Option ℕ)) Refusal) → (r >>= λ counts. opened s (only_count counts)) ≡ Ok Blank → ⊥
-block_blank s (Ok counts) e = opens_blank s (only_count counts) s.opens refl e
-block_blank s (Err x) e = cc
-
-kind_blank : (s : Shape) (b : Bool) (r : Result Kind Refusal)
-    → (r >>= λ kind. if b then Err BadBlock else Ok (line.Operation (record { kind = kind; tag = s.tag }))) ≡ Ok Blank → ⊥
-kind_blank s true (Ok kind) e = cc
-kind_blank s false (Ok kind) e = cc
-kind_blank s b (Err x) e = cc
-
-named_blank : (s : Shape) (q : Result Name Refusal) → (q >>= named_line s) ≡ Ok Blank → ⊥
-unfolding named_line block_of
-named_blank s (Ok name.Repeat) e = block_blank s (targets_alone count_of s) e
-named_blank s (Ok (name.Instruction i)) e = kind_blank s s.opens (kind_of i s) e
-named_blank s (Err x) e = cc
-
-shape_blank : (r : Result Shape Refusal) → (r >>= shape_meaning) ≡ Ok Blank → ⊥
-shape_blank (Ok s) e = named_blank s (name_of s.name) e
-shape_blank (Err x) e = cc
-
-blank_choice : (b d : Bool) (r : Meaning) → (r ≡ Ok Blank → ⊥) → (if b then Ok Blank else if d then Ok Close else r) ≡ Ok Blank → b ≡ true
-blank_choice true d r no' e = refl
-blank_choice false true r no' e = cc
-blank_choice false false r no' e = absurd (no' e)
-
--- only an empty content is blank
-means_blank : (c : List ℕ) → meaning_of c ≡ Ok Blank → is_empty c ≡ true
-unfolding meaning_of
-means_blank c e = blank_choice (is_empty c) (is_close c) (shape_of c >>= shape_meaning) (shape_blank (shape_of c)) e
 
 blank_lines : (cs : List (List ℕ)) → AreBlank (one_item 0 cs) → list_all is_empty cs ≡ true
 blank_lines [] a = refl
@@ -112,7 +77,7 @@ one_if true = 1
 one_if false = 0
 
 -- there is at most one item, and only where it is whole
-abbrev IsSmall : State → Type 0
+abbrev IsSmall : Progress → Type 0
 IsSmall s = size (outer s.frames s.now) ≤ one_if (is_whole s)
 
 size-join : (xs ys : Items) → size (join xs ys) ≡ size xs + size ys
@@ -120,12 +85,12 @@ size-join done ys = omega arith
 size-join (next op rest) ys = omega (arith, size-join rest ys)
 size-join (block c t body rest) ys = omega (arith, size-join rest ys)
 
-small_open : (n : ℕ) (fs : List Frame) (now : Items) (c : ℕ) (tag : List ℕ) (t : State) (b : Bool) → size (outer fs now) ≤ 0
+small_open : (n : ℕ) (fs : List Frame) (now : Items) (c : ℕ) (tag : List ℕ) (t : Progress) (b : Bool) → size (outer fs now) ≤ 0
     → (if b then Ok (state (frame n c tag now ∷ fs) done) else Err TooDeep) ≡ Ok t → IsSmall t
 small_open n fs now c tag t true h e = let same : state (frame n c tag now ∷ fs) done ≡ t = cc in subst IsSmall same (omega (arith, h))
 small_open n fs now c tag t false h e = cc
 
-small_step : (n : ℕ) (fs : List Frame) (now : Items) (m : Meaning) (t : State) → is_whole (state fs now) ≡ false → size (outer fs now) ≤ 0 → stepped n m (state fs now) ≡ Ok t → IsSmall t
+small_step : (n : ℕ) (fs : List Frame) (now : Items) (m : Meaning) (t : Progress) → is_whole (state fs now) ≡ false → size (outer fs now) ≤ 0 → stepped n m (state fs now) ≡ Ok t → IsSmall t
 small_step n fs now (Err r) t w h e = cc
 small_step n fs now (Ok Blank) t w h e = let same : state fs now ≡ t = cc in subst IsSmall same (omega (arith, h))
 small_step n [] now (Ok Close) t w h e = cc
@@ -140,7 +105,7 @@ small_step n [] now (Ok (line.Operation op)) t w h e =
 small_step n (f ∷ fs) now (Ok (line.Operation op)) t w h e = let same : state (f ∷ fs) (join now (next op done)) ≡ t = cc in subst IsSmall same (omega (arith, h))
 
 -- a line that is taken leaves at most one item
-small_taken : (n : ℕ) (s t : State) (c : List ℕ) (b : Bool) → is_whole s ≡ b → stepped n (if b then meaning_after c else meaning_of c) s ≡ Ok t → IsSmall s → IsSmall t
+small_taken : (n : ℕ) (s t : Progress) (c : List ℕ) (b : Bool) → is_whole s ≡ b → stepped n (if b then meaning_after c else meaning_of c) s ≡ Ok t → IsSmall s → IsSmall t
 small_taken n s t c true w e h = subst IsSmall (whole_kept n s.frames s.now t (length c == 0) (is_close c) w e) h
 small_taken n s t c false w e h = small_step n s.frames s.now (meaning_of c) t w (subst (λ b. size (outer s.frames s.now) ≤ one_if b) w h) e
 
@@ -153,13 +118,13 @@ small_end [] now xs e h = let same : now ≡ xs = cc in subst (λ z. size z ≤ 
 small_end (f ∷ fs) now xs e h = cc
 
 -- a line, and those after it
-one_more : (n : ℕ) (s : State) (c : List ℕ) (cs : List (List ℕ)) (xs : Items) (r : Result State Refusal) → stepped n (meaning_at true s c) s ≡ r
+one_more : (n : ℕ) (s : Progress) (c : List ℕ) (cs : List (List ℕ)) (xs : Items) (r : Result Progress Refusal) → stepped n (meaning_at true s c) s ≡ r
     → read_on n s (pending true s (c ∷ cs)) ≡ Ok xs → IsSmall s
-    → ((t : State) → read_on (n + 1) t (pending true t cs) ≡ Ok xs → IsSmall t → size xs ≤ 1) → size xs ≤ 1
+    → ((t : Progress) → read_on (n + 1) t (pending true t cs) ≡ Ok xs → IsSmall t → size xs ≤ 1) → size xs ≤ 1
 one_more n s c cs xs (Ok t) p e h rest = rest t (sym (pending_taken true n s t c cs p) ∙ e) (small_taken n s t c (is_whole s) refl p h)
 one_more n s c cs xs (Err x) p e h rest = let f : Err (at_line n x) ≡ Ok xs = sym (pending_refused true n s c cs x p) ∙ e in cc
 
-one_read : (cs : List (List ℕ)) (n : ℕ) (s : State) (xs : Items) → read_on n s (pending true s cs) ≡ Ok xs → IsSmall s → size xs ≤ 1
+one_read : (cs : List (List ℕ)) (n : ℕ) (s : Progress) (xs : Items) → read_on n s (pending true s cs) ≡ Ok xs → IsSmall s → size xs ≤ 1
 one_read [] n s xs e h = small_end s.frames s.now xs (sym (nothing_pending true n s) ∙ e) h
 one_read (c ∷ cs) n s xs e h = one_more n s c cs xs (stepped n (meaning_at true s c) s) refl e h (λ t f g. one_read cs (n + 1) t xs f g)
 

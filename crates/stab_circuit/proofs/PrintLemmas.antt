@@ -10,7 +10,7 @@ use Rattle.stab_circuit.specs.Views.{item_of, items_of}
 use Rattle.stab_circuit.proofs.ItemLemmas.{before-join, listed-append}
 use Rattle.stab_circuit.proofs.ViewLemmas.{item_of_operation, item_of_repeat, items_of_pushed}
 use Rattle.stab_lines.specs.Prints.{operation_text, open_text}
-use Rattle.stab_circuit.specs.Prints.{Written, written, line_text, text_of, printed_in}
+use Rattle.stab_circuit.specs.Prints.{PrintedLine, printed_lines, line_text, text_of, printed_in}
 
 pub margin_none : replicate {A = ℕ} (4 * 0) 32 ≡ []
 margin_none = refl
@@ -20,20 +20,20 @@ margin_inside n =
     let four : 4 * n + 4 ≡ 4 * suc n = omega arith in
     replicate-append-replicate (4 * n) 4 32 ∙ ap (λ k. replicate {A = ℕ} k 32) four
 
-text_of-append : (vs ws : List Written) → text_of (vs ++ ws) ≡ text_of vs ++ text_of ws
+text_of-append : (vs ws : List PrintedLine) → text_of (vs ++ ws) ≡ text_of vs ++ text_of ws
 text_of-append [] ws = refl
 text_of-append (v ∷ vs) ws = ap (λ l. line_text v ++ l) (text_of-append vs ws) ∙ sym (append_assoc (line_text v) (text_of vs) (text_of ws))
 
-written-join : (d : ℕ) (xs ys : Items) → written d (join xs ys) ≡ written d xs ++ written d ys
+written-join : (d : ℕ) (xs ys : Items) → printed_lines d (join xs ys) ≡ printed_lines d xs ++ printed_lines d ys
 written-join d done ys = refl
 written-join d (next op rest) ys = ap (λ l. record { depth = d; content = operation_text op } ∷ l) (written-join d rest ys)
 written-join d (block c t body rest) ys =
-    let close : Written = record { depth = d; content = codes "}" } in
-    ap (λ l. record { depth = d; content = open_text c t } ∷ (written (suc d) body ++ close ∷ l)) (written-join d rest ys)
-    ∙ ap (λ l. record { depth = d; content = open_text c t } ∷ l) (sym (append_assoc (written (suc d) body) (close ∷ written d rest) (written d ys)))
+    let close : PrintedLine = record { depth = d; content = codes "}" } in
+    ap (λ l. record { depth = d; content = open_text c t } ∷ (printed_lines (suc d) body ++ close ∷ l)) (written-join d rest ys)
+    ∙ ap (λ l. record { depth = d; content = open_text c t } ∷ l) (sym (append_assoc (printed_lines (suc d) body) (close ∷ printed_lines d rest) (printed_lines d ys)))
 
 pub printed_in-join : (d : ℕ) (xs ys : Items) → printed_in d (join xs ys) ≡ printed_in d xs ++ printed_in d ys
-printed_in-join d xs ys = ap text_of (written-join d xs ys) ∙ text_of-append (written d xs) (written d ys)
+printed_in-join d xs ys = ap text_of (written-join d xs ys) ∙ text_of-append (printed_lines d xs) (printed_lines d ys)
 
 -- one instruction, and one block, on their lines
 pub printed_operation : (d : ℕ) (op : Operation) → printed_in d (next op done) ≡ line_text (record { depth = d; content = operation_text op })
@@ -42,9 +42,9 @@ printed_operation d op = append-nil (line_text (record { depth = d; content = op
 pub printed_block : (d count : ℕ) (tag : List ℕ) (body : Items)
     → printed_in d (block count tag body done) ≡ line_text (record { depth = d; content = open_text count tag }) ++ (printed_in (suc d) body ++ line_text (record { depth = d; content = codes "}" }))
 printed_block d count tag body =
-    let close : Written = record { depth = d; content = codes "}" } in
+    let close : PrintedLine = record { depth = d; content = codes "}" } in
     ap (λ l. line_text (record { depth = d; content = open_text count tag }) ++ l)
-    (text_of-append (written (suc d) body) (close ∷ []) ∙ ap (λ l. printed_in (suc d) body ++ l) (append-nil (line_text close)))
+    (text_of-append (printed_lines (suc d) body) (close ∷ []) ∙ ap (λ l. printed_in (suc d) body ++ l) (append-nil (line_text close)))
 
 -- what stands before a place, the item there, and what follows
 items_at : (xs : List Item) (i : ℕ) (x : Item) → i < length xs → x ≡ get_or xs i x

@@ -15,11 +15,11 @@ use Rattle.stab_lines.specs.Lines.{is_byte, content_of}
 use Rattle.stab_circuit.specs.Items.{Items, OneItem, operation, repeat, before, done, next, block, join}
 use Rattle.stab_lines.specs.Meanings.{meaning_of, is_close}
 use Rattle.stab_circuit.specs.Circuits.{Meaning, at_line, meaning_after, one_item, contents, depth_after, ends_item}
-use Rattle.stab_circuit.specs.Readers.{Frame, State, closed, stepped, finished, read_on, is_some_items, is_whole, meaning_at, pending, line_fault, frame_of}
+use Rattle.stab_circuit.specs.inner.Readers.{Frame, Progress, closed, stepped, finished, read_on, is_some_items, is_whole, meaning_at, pending, line_fault, frame_of}
 use Rattle.stab_lines.proofs.BoolLemmas.{chosen}
 
 -- after a line of one item's text, what follows is seen as it is by the state
-abbrev Follows : State → Meaning → State → Type 0
+abbrev Follows : Progress → Meaning → Progress → Type 0
 Follows s m t = (is_whole t ≡ ends_item (length s.frames) m) × (length t.frames ≡ depth_after (length s.frames) m)
 
 pub some_joined : (xs : Items) (ys : Items) → is_some_items ys ≡ true → is_some_items (join xs ys) ≡ true
@@ -33,7 +33,7 @@ not_one n = grind arith
 pub not_none : (n : ℕ) → false ≡ (suc n == 0)
 not_none n = grind arith
 
-opened : (n : ℕ) (fs : List Frame) (now : Items) (c : ℕ) (tag : List ℕ) (t : State) (b : Bool)
+opened : (n : ℕ) (fs : List Frame) (now : Items) (c : ℕ) (tag : List ℕ) (t : Progress) (b : Bool)
     → (if b then Ok (record { frames = record { line = n; count = c; tag = tag; before = now } ∷ fs; now = done }) else Err TooDeep) ≡ Ok t
     → Follows (record { frames = fs; now = now }) (Ok (Open c tag)) t
 opened n fs now c tag t true e =
@@ -41,7 +41,7 @@ opened n fs now c tag t true e =
     subst (Follows (record { frames = fs; now = now }) (Ok (Open c tag))) same (refl, omega arith)
 opened n fs now c tag t false e = cc
 
-follows : (n : ℕ) (fs : List Frame) (now : Items) (m : Meaning) (t : State) → is_whole (record { frames = fs; now = now }) ≡ false
+follows : (n : ℕ) (fs : List Frame) (now : Items) (m : Meaning) (t : Progress) → is_whole (record { frames = fs; now = now }) ≡ false
     → stepped n m (record { frames = fs; now = now }) ≡ Ok t → Follows (record { frames = fs; now = now }) m t
 follows n fs now (Err r) t w e = cc
 follows n fs now (Ok Blank) t w e = let same : record { frames = fs; now = now } ≡ t = cc in subst (Follows (record { frames = fs; now = now }) (Ok Blank)) same (w, refl)
@@ -61,11 +61,11 @@ follows n (f ∷ fs) now (Ok (line.Operation op)) t w e =
     subst (Follows (record { frames = f ∷ fs; now = now }) (Ok (line.Operation op))) same (not_none (length fs), refl)
 
 -- what follows a line
-abbrev after_step : ℕ → List Meaning → Result State Refusal → Result Items Fault
+abbrev after_step : ℕ → List Meaning → Result Progress Refusal → Result Items Fault
 after_step n ms r = elim r [ Ok t ↦ read_on (n + 1) t ms | Err x ↦ Err (at_line n x) ]
 
 -- after a whole item only a blank line is taken, and changes nothing
-pub whole_kept : (n : ℕ) (fs : List Frame) (now : Items) (t : State) (b d : Bool) → is_whole (record { frames = fs; now = now }) ≡ true
+pub whole_kept : (n : ℕ) (fs : List Frame) (now : Items) (t : Progress) (b d : Bool) → is_whole (record { frames = fs; now = now }) ≡ true
     → stepped n (if b then Ok Blank else if d then Ok Close else Err BadLine) (record { frames = fs; now = now }) ≡ Ok t → record { frames = fs; now = now } ≡ t
 whole_kept n fs now t true d w e = cc
 whole_kept n [] now t false true w e = cc
@@ -73,7 +73,7 @@ whole_kept n (f ∷ fs) now t false true w e = cc
 whole_kept n fs now t false false w e = cc
 
 -- a line of one item's text that is taken
-one_taken : (n : ℕ) (s t : State) (c : List ℕ) (cs : List (List ℕ)) (b : Bool) → is_whole s ≡ b → stepped n (if b then meaning_after c else meaning_of c) s ≡ Ok t
+one_taken : (n : ℕ) (s t : Progress) (c : List ℕ) (cs : List (List ℕ)) (b : Bool) → is_whole s ≡ b → stepped n (if b then meaning_after c else meaning_of c) s ≡ Ok t
     → read_on n s (if b then map meaning_after (c ∷ cs) else one_item (length s.frames) (c ∷ cs)) ≡ read_on (n + 1) t (pending true t cs)
 one_taken n s t c cs true w e =
     let kept : is_whole t ≡ true = sym (ap is_whole (whole_kept n s.frames s.now t (length c == 0) (is_close c) w e)) ∙ w in
@@ -85,29 +85,29 @@ one_taken n s t c cs false w e =
     ∙ ap (λ k. read_on (n + 1) t (if is_whole t then map meaning_after cs else one_item k cs)) (sym f.1)
 
 -- a line that is taken, and those after it
-pub pending_taken : (single : Bool) (n : ℕ) (s t : State) (c : List ℕ) (cs : List (List ℕ)) → stepped n (meaning_at single s c) s ≡ Ok t
+pub pending_taken : (single : Bool) (n : ℕ) (s t : Progress) (c : List ℕ) (cs : List (List ℕ)) → stepped n (meaning_at single s c) s ≡ Ok t
     → read_on n s (pending single s (c ∷ cs)) ≡ read_on (n + 1) t (pending single t cs)
 pending_taken true n s t c cs e = one_taken n s t c cs (is_whole s) refl e
 pending_taken false n s t c cs e = ap (after_step n (map meaning_of cs)) e
 
-one_refused : (n : ℕ) (s : State) (c : List ℕ) (cs : List (List ℕ)) (r : Refusal) (b : Bool) → stepped n (if b then meaning_after c else meaning_of c) s ≡ Err r
+one_refused : (n : ℕ) (s : Progress) (c : List ℕ) (cs : List (List ℕ)) (r : Refusal) (b : Bool) → stepped n (if b then meaning_after c else meaning_of c) s ≡ Err r
     → read_on n s (if b then map meaning_after (c ∷ cs) else one_item (length s.frames) (c ∷ cs)) ≡ Err (at_line n r)
 one_refused n s c cs r true e = ap (after_step n (map meaning_after cs)) e
 one_refused n s c cs r false e = ap (after_step n (if ends_item (length s.frames) (meaning_of c) then map meaning_after cs else one_item (depth_after (length s.frames) (meaning_of c)) cs)) e
 
 -- a line that is refused
-pub pending_refused : (single : Bool) (n : ℕ) (s : State) (c : List ℕ) (cs : List (List ℕ)) (r : Refusal) → stepped n (meaning_at single s c) s ≡ Err r
+pub pending_refused : (single : Bool) (n : ℕ) (s : Progress) (c : List ℕ) (cs : List (List ℕ)) (r : Refusal) → stepped n (meaning_at single s c) s ≡ Err r
     → read_on n s (pending single s (c ∷ cs)) ≡ Err (at_line n r)
 pending_refused true n s c cs r e = one_refused n s c cs r (is_whole s) e
 pending_refused false n s c cs r e = ap (after_step n (map meaning_of cs)) e
 
-pub lines_taken : (single : Bool) (n : ℕ) (s t : State) (rest bytes after : List ℕ) → slice_split (is_byte 10) rest ≡ bytes ∷ slice_split (is_byte 10) after
+pub lines_taken : (single : Bool) (n : ℕ) (s t : Progress) (rest bytes after : List ℕ) → slice_split (is_byte 10) rest ≡ bytes ∷ slice_split (is_byte 10) after
     → stepped n (meaning_at single s (content_of bytes)) s ≡ Ok t
     → read_on n s (pending single s (contents rest)) ≡ read_on (n + 1) t (pending single t (contents after))
 lines_taken single n s t rest bytes after p e =
     ap (λ l. read_on n s (pending single s (map content_of l))) p ∙ pending_taken single n s t (content_of bytes) (contents after) e
 
-pub nothing_pending : (single : Bool) (n : ℕ) (t : State) → read_on n t (pending single t []) ≡ finished t
+pub nothing_pending : (single : Bool) (n : ℕ) (t : Progress) → read_on n t (pending single t []) ≡ finished t
 nothing_pending false n t = refl
 nothing_pending true n t = nothing_one (is_whole t)
   where
@@ -115,13 +115,13 @@ nothing_pending true n t = nothing_one (is_whole t)
     nothing_one true = refl
     nothing_one false = refl
 
-pub lines_ended : (single : Bool) (n : ℕ) (s t : State) (rest bytes : List ℕ) → slice_split (is_byte 10) rest ≡ bytes ∷ []
+pub lines_ended : (single : Bool) (n : ℕ) (s t : Progress) (rest bytes : List ℕ) → slice_split (is_byte 10) rest ≡ bytes ∷ []
     → stepped n (meaning_at single s (content_of bytes)) s ≡ Ok t
     → read_on n s (pending single s (contents rest)) ≡ finished t
 lines_ended single n s t rest bytes p e =
     ap (λ l. read_on n s (pending single s (map content_of l))) p ∙ pending_taken single n s t (content_of bytes) [] e ∙ nothing_pending single (n + 1) t
 
-pub lines_refused : (single : Bool) (n : ℕ) (s : State) (rest bytes : List ℕ) (more : List (List ℕ)) (r : Refusal) → slice_split (is_byte 10) rest ≡ bytes ∷ more
+pub lines_refused : (single : Bool) (n : ℕ) (s : Progress) (rest bytes : List ℕ) (more : List (List ℕ)) (r : Refusal) → slice_split (is_byte 10) rest ≡ bytes ∷ more
     → stepped n (meaning_at single s (content_of bytes)) s ≡ Err r
     → read_on n s (pending single s (contents rest)) ≡ Err (at_line n r)
 lines_refused single n s rest bytes more r p e =
@@ -152,7 +152,7 @@ pub is_whole_held : (fs : List Held) (xs : List Item) → is_whole (record { fra
 is_whole_held fs xs = whole_lists (reverse (map frame_of fs)) fs xs (length-reverse (map frame_of fs) ∙ length-map fs frame_of)
 
 -- a line that is refused ends the reading, with its fault or for want of memory
-pub reading_refused : (single : Bool) (n : ℕ) (s : State) (rest line bytes : List ℕ) (more : List (List ℕ)) (r : Refusal) (all : Result Items Fault) (fault : Fault)
+pub reading_refused : (single : Bool) (n : ℕ) (s : Progress) (rest line bytes : List ℕ) (more : List (List ℕ)) (r : Refusal) (all : Result Items Fault) (fault : Fault)
     → slice_split (is_byte 10) rest ≡ bytes ∷ more → line ≡ content_of bytes
     → (r ≡ OutOfMemory) ⊎ (stepped n (meaning_at single s line) s ≡ Err r)
     → read_on n s (pending single s (contents rest)) ≡ all → fault ≡ line_fault n r

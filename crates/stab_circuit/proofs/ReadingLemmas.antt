@@ -7,7 +7,7 @@ use Rattle.stab_lines.specs.declared.meanings.Line.TheVariants.{Blank, Close, Op
 use Rattle.stab_lines.specs.declared.meanings.Line.TheVariants as line
 use Rattle.stab_circuit.specs.Items.{Items, done, next, block, join}
 use Rattle.stab_circuit.specs.Circuits.{Meaning, Joins, nothing, blank_line, operation_line, block_lines, at_line, fault_from}
-use Rattle.stab_circuit.specs.Readers.{Frame, start, closed, read_on}
+use Rattle.stab_circuit.specs.inner.Readers.{Frame, start, closed, read_on}
 use Rattle.stab_circuit.proofs.ItemLemmas.{join_done, join_assoc}
 use Rattle.stab_lines.proofs.BoolLemmas.{chosen}
 use Rattle.stab_circuit.proofs.FaultLemmas.{lines_of, fault_of, state, frame, length-lines_of, fault_agrees}

@@ -3,11 +3,39 @@ use Rattle.std.proofs.Common.{◌≡◌, ◌<◌, refl, subst, ℕ, ◌+◌, Lis
 use Rattle.stab_pauli.specs.declared.refusal.Refusal.{Refusal}
 use Rattle.stab_pauli.specs.declared.refusal.Refusal.TheVariants.{BadBlock, TooDeep}
 use Rattle.stab_pauli.specs.declared.refusal.Fault.{Fault}
+use Rattle.stab_lines.specs.declared.meanings.Line.{Line}
 use Rattle.stab_lines.specs.declared.meanings.Line.TheVariants.{Blank, Close, Open}
 use Rattle.stab_lines.specs.declared.meanings.Line.TheVariants as line
 use Rattle.stab_lines.specs.Meanings.{is_close, meaning_of, is_of_line}
 use Rattle.stab_circuit.specs.Circuits.{Meaning, at_line, meaning_after, ends_item, depth_after, one_item, fault_from, is_empty}
-use Rattle.stab_lines.proofs.RefusalLemmas.{IsOfLine, good, bad, if_line, meaning_line}
+use Rattle.stab_lines.proofs.LineLaws.{refused_as_line}
+use Rattle.stab_circuit.specs.Readings.{has_line}
+
+-- where a line is refused, such a refusal has a line
+abbrev pub OfLine : Meaning → Type 0
+OfLine (Ok x) = Unit {0}
+OfLine (Err r) = has_line r ≡ true
+
+pub record IsOfLine (m : Meaning) : Type 0 where
+  pub holds : OfLine m
+
+good : (x : Line) → IsOfLine (Ok x)
+good x = record { holds = tt }
+
+if_line : (b : Bool) {x y : Meaning} → IsOfLine x → IsOfLine y → IsOfLine (if b then x else y)
+if_line true p q = p
+if_line false p q = q
+
+has_some : (r : Refusal) → is_of_line r ≡ true → has_line r ≡ true
+has_some TooDeep e = refl
+has_some r e = e
+
+line_case : (m : Meaning) → ((r : Refusal) → m ≡ Err r → is_of_line r ≡ true) → IsOfLine m
+line_case (Ok x) f = good x
+line_case (Err r) f = record { holds = has_some r (f r refl) }
+
+meaning_line : (content : List ℕ) → IsOfLine (meaning_of content)
+meaning_line content = line_case (meaning_of content) (refused_as_line content)
 
 -- each line is refused as lines are, if at all
 abbrev pub AreLines : List Meaning → Type 0
@@ -20,7 +48,7 @@ meanings_lines (c ∷ cs) = (meaning_line c, meanings_lines cs)
 
 after_lines : (cs : List (List ℕ)) → AreLines (map meaning_after cs)
 after_lines [] = tt
-after_lines (c ∷ cs) = (if_line (is_empty c) (good Blank) (if_line (is_close c) (good Close) (bad _ refl)), after_lines cs)
+after_lines (c ∷ cs) = (if_line (is_empty c) (good Blank) (if_line (is_close c) (good Close) (record { holds = refl })), after_lines cs)
 
 choose_lines : (b : Bool) (ms ns : List Meaning) → AreLines ms → AreLines ns → AreLines (if b then ms else ns)
 choose_lines true ms ns p q = p
@@ -32,13 +60,13 @@ one_item_lines d (c ∷ cs) = (meaning_line c, choose_lines (ends_item d (meanin
 
 -- a fault with a line, as a refused line has
 abbrev pub IsLineFault : Fault → Type 0
-IsLineFault f = (is_of_line f.refusal ≡ true) × (0 < f.line)
+IsLineFault f = (has_line f.refusal ≡ true) × (0 < f.line)
 
 abbrev pub ArePositive : List ℕ → Type 0
 ArePositive [] = Unit {0}
 ArePositive (n ∷ ns) = (0 < n) × ArePositive ns
 
-found : (r : Refusal) (n : ℕ) (f : Fault) → Some (at_line n r) ≡ Some f → is_of_line r ≡ true → 0 < n → IsLineFault f
+found : (r : Refusal) (n : ℕ) (f : Fault) → Some (at_line n r) ≡ Some f → has_line r ≡ true → 0 < n → IsLineFault f
 found r n f e p h = let same : at_line n r ≡ f = cc in subst IsLineFault same (p, h)
 
 opens_found : (b : Bool) (n : ℕ) (more : Option Fault) (f : Fault) → (if b then more else Some (at_line n TooDeep)) ≡ Some f → 0 < n → (more ≡ Some f → IsLineFault f) → IsLineFault f

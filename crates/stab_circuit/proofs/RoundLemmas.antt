@@ -1,25 +1,26 @@
 -- A printed text stands for its items, and for no others.
-use Rattle.std.proofs.Common.{◌≡◌, ◌≤◌, refl, ap, sym, ◌∙◌, subst, ℕ, ◌*◌, ◌-◌, suc, List, [], ◌∷◌, ◌++◌, Bool, true, false, nat_lt, length, map, replicate, Option, None, Some, Ok, append_assoc, arith, codes, if◌then◌else◌}
-use Rattle.std.specs.List.{slice_split, onto_first, before_first, position_or_len, prefix_len, suffix_len}
+use Rattle.std.proofs.Common.{◌≡◌, ◌≤◌, refl, ap, sym, ◌∙◌, subst, ℕ, ◌*◌, suc, List, [], ◌∷◌, ◌++◌, Bool, true, false, nat_lt, length, map, replicate, All, Option, None, Some, Ok, append_assoc, arith, codes, if◌then◌else◌}
+use Rattle.std.specs.List.{slice_split, onto_first}
 use Rattle.std.proofs.lemmas.List.{map-append}
+use Rattle.std.proofs.lemmas.List.Elements.{All-nil, All-cons, All-head, All-tail}
 use Rattle.std.proofs.lemmas.List.Splits.{slice_split-cons_yes, slice_split-cons_no}
 use Rattle.std.proofs.lemmas.Bool.Decides.{nat_tests}
 use Rattle.stab_pauli.specs.declared.refusal.Refusal.TheVariants.{TooLong}
 use Rattle.stab_pauli.specs.declared.refusal.Fault.{Fault}
 use Rattle.stab_pauli.specs.Refusals.{whole}
+use Rattle.stab_lines.specs.declared.meanings.Line.{Line}
 use Rattle.stab_lines.specs.declared.meanings.Line.TheVariants.{Blank, Close, Open}
 use Rattle.stab_lines.specs.declared.meanings.Line.TheVariants as line
-use Rattle.stab_circuit.specs.Items.{Items, done, next, block}
-use Rattle.stab_lines.specs.Lines.{is_byte, is_spacing, trimmed, trimmed_front, content_of}
+use Rattle.stab_lines.specs.Lines.{is_byte, content_of}
 use Rattle.stab_lines.specs.Meanings.{meaning_of}
-use Rattle.stab_circuit.specs.Circuits.{Meaning, Joins, meanings, fault_from, text_fault, most_bytes, StandsFor}
-use Rattle.stab_circuit.specs.Prints.{Written, written, text_of, printed}
+use Rattle.stab_lines.specs.Laws.{IsLine, line_printed, Says}
+use Rattle.stab_circuit.specs.Items.{Items, done, next, block}
+use Rattle.stab_circuit.specs.Circuits.{Meaning, Joins, line_meanings, meanings, fault_from, text_fault, most_bytes, StandsFor}
+use Rattle.stab_circuit.specs.Prints.{PrintedLine, printed_lines, text_of, printed}
+use Rattle.stab_circuit.specs.Laws.{AreLinesOf}
 use Rattle.stab_lines.proofs.BoolLemmas.{passed}
-use Rattle.stab_lines.proofs.FreeLemmas.{Each, Free, each-append, free-append, free_take, free_drop, free_before, free_spaces, split_free}
-use Rattle.stab_lines.proofs.SureLemmas.{IsSure, IsGoodLine, sure_of, meaning_sure}
-use Rattle.stab_lines.proofs.NeatLemmas.{IsNeat, content_again}
-use Rattle.stab_lines.proofs.PrintedLemmas.{operation_neat, open_neat, close_neat}
-use Rattle.stab_lines.proofs.MeaningLemmas.{operation_again, open_again, close_again}
+use Rattle.stab_lines.proofs.FreeLemmas.{Each, Free, each-append, free-append, free_spaces, free_any, any_free, split_free}
+use Rattle.stab_lines.proofs.LineLaws.{printed_again, blank_is_empty}
 use Rattle.stab_circuit.proofs.BlankLemmas.{lines_of, lines_join, joins_end, unblank_joined, unblank_each, same_faultless}
 use Rattle.stab_circuit.proofs.ReadingLemmas.{one_list, some_list}
 
@@ -31,7 +32,7 @@ each_right : {A : Type 0} (P : A → Type 0) (xs ys : List A) → Each P (xs ++ 
 each_right P [] ys e = e
 each_right P (x ∷ xs) ys e = each_right P xs ys e.1
 
--- the lines of a text hold no line end, and its contents no comment either
+-- the lines of a text hold no line feed
 onto_free : (p : ℕ → Bool) (x : ℕ) (parts : List (List ℕ)) → p x ≡ false → Each (Free p) parts → Each (Free p) (onto_first x parts)
 onto_free p x [] e f = ((e, tt), tt)
 onto_free p x (part ∷ parts) e f = ((e, f.0), f.1)
@@ -44,95 +45,96 @@ parts_free : (p : ℕ → Bool) (xs : List ℕ) → Each (Free p) (slice_split p
 parts_free p [] = (tt, tt)
 parts_free p (x ∷ xs) = parts_more p x xs (p x) refl (parts_free p xs)
 
-trimmed_free : (p : ℕ → Bool) (bs : List ℕ) → Free p bs → Free p (trimmed bs)
-trimmed_free p bs f =
-    let front : Free p (trimmed_front bs) = free_drop p (prefix_len is_spacing bs) bs f in free_take p (length (trimmed_front bs) - suffix_len is_spacing (trimmed_front bs)) (trimmed_front bs) front
+text_lines : (parts : List (List ℕ)) → Each (Free (is_byte 10)) parts → All IsLine parts
+text_lines [] f = All-nil IsLine
+text_lines (part ∷ parts) f = All-cons IsLine part parts (any_free (is_byte 10) part f.0) (text_lines parts f.1)
 
-content_free : (line' : List ℕ) → Free (is_byte 10) line' → Free (is_byte 10) (content_of line') × Free (is_byte 35) (content_of line')
-unfolding content_of
-content_free line' f =
-    let before = before_first (is_byte 35) line' in (
-      trimmed_free (is_byte 10) before (free_take (is_byte 10) (position_or_len (is_byte 35) line') line' f),
-      trimmed_free (is_byte 35) before (free_before (is_byte 35) line'),
-    )
+-- each meaning is that of some line
+abbrev IsOfLine : Meaning → Type 0
+IsOfLine m = (line : List ℕ) × IsLine line × (m ≡ meaning_of (content_of line))
 
--- what is known of each line of a text
-abbrev AreGood : List Meaning → Type 0
-AreGood ms = Each (IsSure IsGoodLine) ms
+abbrev AreOfLines : List Meaning → Type 0
+AreOfLines ms = Each IsOfLine ms
 
-lines_good : (lines : List (List ℕ)) → Each (Free (is_byte 10)) lines → AreGood (map meaning_of (map content_of lines))
-lines_good [] f = tt
-lines_good (l ∷ ls) f = let free = content_free l f.0 in (meaning_sure (content_of l) free.0 free.1, lines_good ls f.1)
+lines_meant : (lines : List (List ℕ)) → All IsLine lines → AreOfLines (line_meanings lines)
+lines_meant [] a = tt
+lines_meant (l ∷ ls) a = ((l, All-head IsLine l ls a, refl), lines_meant ls (All-tail IsLine l ls a))
 
-text_good : (text : List ℕ) → AreGood (meanings text)
-text_good text = lines_good (slice_split (is_byte 10) text) (parts_free (is_byte 10) text)
+-- what is printed of a line that some line means, says just that
+says : (m : Line) → IsOfLine (Ok m) → Says (line_printed m) m
+says m (line, one, e) = printed_again line m one (sym e)
 
--- what the printed lines mean, and that they are neat
-abbrev meaning_written : Written → Meaning
+-- the printed lines mean what the items' lines mean, and say it
+abbrev meaning_written : PrintedLine → Meaning
 meaning_written w = meaning_of w.content
 
-abbrev AreNeat : List Written → Type 0
-AreNeat ws = Each (λ w. IsNeat w.content) ws
+abbrev AreSaid : List PrintedLine → Type 0
+AreSaid ws = Each (λ w. (m : Line) × Says w.content m) ws
 
-written_neat : (d : ℕ) (xs : Items) → AreGood (lines_of xs) → AreNeat (written d xs)
-written_neat d done g = tt
-written_neat d (next op rest) g = let k = sure_of IsGoodLine _ (line.Operation op) g.0 refl in (operation_neat op k.0 k.1, written_neat d rest g.1)
-written_neat d (block count tag body rest) g =
-    let k = sure_of IsGoodLine _ (Open count tag) g.0 refl in (
-      open_neat count tag k.0 k.1,
-      each-append (λ w. IsNeat w.content) (written (suc d) body) _ (written_neat (suc d) body (each_left (IsSure IsGoodLine) (lines_of body) _ g.1))
-          (close_neat, written_neat d rest (each_right (IsSure IsGoodLine) (lines_of body) _ g.1).1),
-    )
+close_said : Says (codes "}") Close
+unfolding meaning_of content_of
+close_said = says Close (codes "}", refl, refl)
 
-written_means : (d : ℕ) (xs : Items) → AreGood (lines_of xs) → map meaning_written (written d xs) ≡ lines_of xs
+written_said : (d : ℕ) (xs : Items) → AreOfLines (lines_of xs) → AreSaid (printed_lines d xs)
+written_said d done g = tt
+written_said d (next op rest) g = ((line.Operation op, says (line.Operation op) g.0), written_said d rest g.1)
+written_said d (block count tag body rest) g = (
+  (Open count tag, says (Open count tag) g.0),
+  each-append (λ w. (m : Line) × Says w.content m) (printed_lines (suc d) body) _ (written_said (suc d) body (each_left IsOfLine (lines_of body) _ g.1))
+      ((Close, close_said), written_said d rest (each_right IsOfLine (lines_of body) _ g.1).1),
+)
+
+written_means : (d : ℕ) (xs : Items) → AreOfLines (lines_of xs) → map meaning_written (printed_lines d xs) ≡ lines_of xs
 written_means d done g = refl
-written_means d (next op rest) g =
-    let k = sure_of IsGoodLine _ (line.Operation op) g.0 refl in
-    ap (λ m. m ∷ map meaning_written (written d rest)) (operation_again op k.0 k.1) ∙ ap (λ l. Ok (line.Operation op) ∷ l) (written_means d rest g.1)
+written_means d (next op rest) g = ap (λ m. m ∷ map meaning_written (printed_lines d rest)) (says (line.Operation op) g.0).means ∙ ap (λ l. Ok (line.Operation op) ∷ l) (written_means d rest g.1)
 written_means d (block count tag body rest) g =
-    let k = sure_of IsGoodLine _ (Open count tag) g.0 refl in
-    let behind = record { depth = d; content = codes "}" } ∷ written d rest in
-    ap (λ m. m ∷ map meaning_written (written (suc d) body ++ behind)) (open_again count tag k.0 k.1)
+    let behind = record { depth = d; content = codes "}" } ∷ printed_lines d rest in
+    ap (λ m. m ∷ map meaning_written (printed_lines (suc d) body ++ behind)) (says (Open count tag) g.0).means
     ∙ ap (λ l. Ok (Open count tag) ∷ l)
-    (map-append meaning_written (written (suc d) body) behind
-    ∙ ap (λ l. l ++ map meaning_written behind) (written_means (suc d) body (each_left (IsSure IsGoodLine) (lines_of body) _ g.1))
-    ∙ ap (λ m. lines_of body ++ m ∷ map meaning_written (written d rest)) close_again
-    ∙ ap (λ l. lines_of body ++ Ok Close ∷ l) (written_means d rest (each_right (IsSure IsGoodLine) (lines_of body) _ g.1).1))
+    (map-append meaning_written (printed_lines (suc d) body) behind
+    ∙ ap (λ l. l ++ map meaning_written behind) (written_means (suc d) body (each_left IsOfLine (lines_of body) _ g.1))
+    ∙ ap (λ m. lines_of body ++ m ∷ map meaning_written (printed_lines d rest)) close_said.means
+    ∙ ap (λ l. lines_of body ++ Ok Close ∷ l) (written_means d rest (each_right IsOfLine (lines_of body) _ g.1).1))
 
 -- nothing is left of an empty line
 last_blank : meaning_of (content_of []) ≡ Ok Blank
-unfolding meaning_of content_of
-last_blank = refl
+unfolding content_of
+last_blank = (blank_is_empty []).1 refl
 
 -- the meanings of a printed text are those of its contents, and a blank
-text_means : (ws : List Written) → AreNeat ws → meanings (text_of ws) ≡ map meaning_written ws ++ Ok Blank ∷ []
+text_means : (ws : List PrintedLine) → AreSaid ws → meanings (text_of ws) ≡ map meaning_written ws ++ Ok Blank ∷ []
 text_means [] n = ap (λ m. m ∷ []) last_blank
 text_means (w ∷ ws) n =
     let spaces = replicate (4 * w.depth) 32 in
     let flat : text_of (w ∷ ws) ≡ (spaces ++ w.content) ++ 10 ∷ text_of ws =
     append_assoc spaces (w.content ++ codes "\n") (text_of ws) ∙ ap (λ l. spaces ++ l) (append_assoc w.content (codes "\n") (text_of ws)) ∙ sym (append_assoc spaces w.content (10 ∷ text_of ws)) in
-    let free : Free (is_byte 10) (spaces ++ w.content) = free-append (is_byte 10) spaces w.content (free_spaces 10 (4 * w.depth) refl) n.0.lines in
+    let free : Free (is_byte 10) (spaces ++ w.content) = free-append (is_byte 10) spaces w.content (free_spaces 10 (4 * w.depth) refl) (free_any (is_byte 10) w.content n.0.1.one_line) in
     ap meanings flat
     ∙ ap (λ ls. map meaning_of (map content_of ls)) (split_free (is_byte 10) (spaces ++ w.content) 10 (text_of ws) free refl)
-    ∙ ap (λ c. meaning_of c ∷ meanings (text_of ws)) (content_again (4 * w.depth) w.content n.0)
+    ∙ ap (λ c. meaning_of c ∷ meanings (text_of ws)) (n.0.1.left (4 * w.depth))
     ∙ ap (λ ms. meaning_written w ∷ ms) (text_means ws n.1)
 
 -- a text without a fault is within its limit, and its lines have none
-limit_case : (b : Bool) (f : Option Fault) → (if b then Some (whole TooLong) else f) ≡ None → f ≡ None
+pub limit_case : (b : Bool) (f : Option Fault) → (if b then Some (whole TooLong) else f) ≡ None → f ≡ None
 limit_case true f e = cc
 limit_case false f e = e
 
 pub lines_faultless : (text : List ℕ) → text_fault text ≡ None → fault_from 1 [] (meanings text) ≡ None
 lines_faultless text e = limit_case (nat_lt most_bytes (length text)) (fault_from 1 [] (meanings text)) e
 
--- what is printed of the items of a text is read back
-pub round_trip : (text : List ℕ) (items : Items) → StandsFor text items → length (printed items) ≤ most_bytes → StandsFor (printed items) items
-round_trip text items s h =
-    let good : AreGood (lines_of items) = subst AreGood (unblank_joined s.1) (unblank_each (IsSure IsGoodLine) (meanings text) (text_good text)) in
+-- the lines of a text that stands for items
+pub text_is_lines : (text : List ℕ) (items : Items) → StandsFor text items → AreLinesOf (slice_split (is_byte 10) text) items
+text_is_lines text items s =
+    record { each = text_lines (slice_split (is_byte 10) text) (parts_free (is_byte 10) text); faultless = lines_faultless text s.0; joined = s.1 }
+
+-- what is printed of the items of lines is read back
+pub round_trip : (lines : List (List ℕ)) (items : Items) → AreLinesOf lines items → length (printed items) ≤ most_bytes → StandsFor (printed items) items
+round_trip lines items s h =
+    let meant : AreOfLines (lines_of items) = subst AreOfLines (unblank_joined s.joined) (unblank_each IsOfLine (line_meanings lines) (lines_meant lines s.each)) in
     let means : meanings (printed items) ≡ lines_of items ++ Ok Blank ∷ [] =
-    text_means (written 0 items) (written_neat 0 items good) ∙ ap (λ l. l ++ Ok Blank ∷ []) (written_means 0 items good) in
+    text_means (printed_lines 0 items) (written_said 0 items meant) ∙ ap (λ l. l ++ Ok Blank ∷ []) (written_means 0 items meant) in
     let joins : Joins (meanings (printed items)) items = subst (λ ms. Joins ms items) (sym means) (joins_end (lines_join items)) in
-    let none : fault_from 1 [] (meanings (printed items)) ≡ None = same_faultless (meanings text) (meanings (printed items)) items s.1 joins (lines_faultless text s.0) in
+    let none : fault_from 1 [] (meanings (printed items)) ≡ None = same_faultless (line_meanings lines) (meanings (printed items)) items s.joined joins s.faultless in
     (passed (nat_lt most_bytes (length (printed items))) _ _ (within_limit (length (printed items)) h) ∙ none, joins)
   where
     within_limit : (n : ℕ) → n ≤ most_bytes → nat_lt most_bytes n ≡ false

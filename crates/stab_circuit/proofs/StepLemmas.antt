@@ -6,7 +6,7 @@ use Rattle.std.specs.List.{list_any}
 use Rattle.stab_lines.specs.Lookbacks.{IsLookback}
 use Rattle.stab_circuit.specs.Items.{Items, done, next, block, join}
 use Rattle.stab_circuit.specs.Steps.{Step, steps_of, rounds, unroll, makes, records_of, lookbacks, looks_too_far}
-use Rattle.stab_circuit.specs.Summaries.{greatest, reach}
+use Rattle.stab_circuit.specs.inner.Summaries.{greatest, reach}
 
 pub greatest_small : (ks : List ℕ) → All IsLookback ks → greatest ks ≤ 16777215
 greatest_small [] a = omega arith

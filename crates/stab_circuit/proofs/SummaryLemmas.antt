@@ -21,7 +21,7 @@ use Rattle.stab_circuit.specs.Items.{Items, done, next, block, join, before}
 use Rattle.stab_circuit.specs.Views.{item_of, items_of}
 use Rattle.stab_lines.specs.Targets.{pair_qubits}
 use Rattle.stab_circuit.specs.Steps.{Step, one, two, collapse, measured, steps_of, rounds, unroll, makes, records_of, lookbacks, target_qubits, past, past_named, qubits_of, observables_of, named_qubits, named_observables, check_of}
-use Rattle.stab_circuit.specs.Summaries.{greatest, reach, summed, kind_summary_of, summary_of, after, repeated, judged}
+use Rattle.stab_circuit.specs.inner.Summaries.{greatest, reach, summed, kind_summary_of, summary_of, followed_by, repeated, judged}
 use Rattle.stab_circuit.proofs.ViewLemmas.{item_of_operation, item_of_repeat, items_of_pushed}
 use Rattle.stab_circuit.proofs.StepLemmas.{length-rounds, records_of-append, records_of-rounds, reach-append, reach-rounds, unroll-join, capped_sum, capped_left, capped_times, looks_too_far_reach}
 
@@ -112,7 +112,7 @@ past_named-join named done ys = omega arith
 past_named-join named (next op rest) ys = omega (arith, past_named-join named rest ys)
 past_named-join named (block c t body rest) ys = omega (arith, past_named-join named rest ys)
 
-summary-join : (xs ys : Items) → reach (unroll ys) ≤ 16777215 → summary_of (join xs ys) ≡ after (summary_of xs) (summary_of ys)
+summary-join : (xs ys : Items) → reach (unroll ys) ≤ 16777215 → summary_of (join xs ys) ≡ followed_by (summary_of xs) (summary_of ys)
 summary-join xs ys h =
     same_summary _ _ _ _ _ _ _ _ _ _
     (ap (λ l. min (length l) 1048577) (unroll-join xs ys) ∙ ap (λ n. min n 1048577) (length-append (unroll xs) (unroll ys)) ∙ sym (capped_sum (length (unroll xs)) (length (unroll ys)) 1048577))
@@ -146,7 +146,7 @@ repeat_summary i count tag body e h =
     ∙ block_summary count (items_of body.items) h
 
 pub summary_taken : (xs : List Item) (n : ℕ) (d : Item) → n < length xs → reach (unroll (before (item_of (get_or xs n d)) done)) ≤ 16777215
-    → summary_of (items_of (take (n + 1) xs)) ≡ after (summary_of (items_of (take n xs))) (summary_of (before (item_of (get_or xs n d)) done))
+    → summary_of (items_of (take (n + 1) xs)) ≡ followed_by (summary_of (items_of (take n xs))) (summary_of (before (item_of (get_or xs n d)) done))
 summary_taken xs n d h small =
     let x = get_or xs n d in
     ap (λ l. summary_of (items_of l)) (take_more xs n d h)

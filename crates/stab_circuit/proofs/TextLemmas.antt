@@ -1,21 +1,19 @@
 -- What is read of a text is what it stands for, and what refuses it is its fault.
-use Rattle.std.proofs.Common.{◌≡◌, ◌≤◌, ◌<◌, refl, ap, sym, ◌∙◌, subst, ℕ, List, [], ◌∷◌, ◌++◌, Bool, true, false, nat_lt, length, length-append, map, Option, None, Some, Result, Ok, Err, if◌then◌else◌, arith, ◌⊎◌, inl, inr, IfErr}
+use Rattle.std.proofs.Common.{◌≡◌, ◌≤◌, ◌<◌, refl, ap, sym, ◌∙◌, subst, ℕ, List, [], ◌∷◌, ◌++◌, Bool, true, false, nat_lt, length, length-append, map, Option, None, Some, Ok, Err, if◌then◌else◌, arith, ◌⊎◌, inl, inr}
 use Rattle.std.specs.List.{list_all}
 use Rattle.std.proofs.lemmas.List.{length-map}
 use Rattle.std.proofs.lemmas.Bool.Decides.{nat_tests}
 use Rattle.stab_pauli.specs.declared.refusal.Refusal.{Refusal}
-use Rattle.stab_pauli.specs.declared.refusal.Refusal.TheVariants.{LookbackTooFar, TooManySteps, TooLong, BadLine, ReadFault, OutOfMemory}
+use Rattle.stab_pauli.specs.declared.refusal.Refusal.TheVariants.{LookbackTooFar, TooManySteps, TooLong, BadLine, OutOfMemory}
 use Rattle.stab_pauli.specs.declared.refusal.Fault.{Fault}
 use Rattle.stab_pauli.specs.Refusals.{whole}
 use Rattle.stab_circuit.specs.declared.item.Item.{Item}
-use Rattle.stab_circuit.specs.declared.circuit.Circuit.{Circuit}
 use Rattle.stab_circuit.specs.Items.{Items, OneItem, before, done}
 use Rattle.stab_circuit.specs.Circuits.{Joins, contents, meanings, limited, text_fault, item_fault, StandsFor, StandsForOne, one_item, is_empty}
 use Rattle.stab_circuit.specs.Steps.{check_of, unroll, looks_too_far, most_steps}
 use Rattle.stab_circuit.specs.Views.{item_of, items_of}
-use Rattle.stab_circuit.specs.Readers.{start, read_on, reading}
-use Rattle.stab_lines.specs.Meanings.{is_of_line}
-use Rattle.stab_circuit.specs.Readings.{ReadsCircuit, IsCircuit, IsFaultOf, IsPlaced, is_of_circuit, is_of_item}
+use Rattle.stab_circuit.specs.inner.Readers.{start, read_on, reading}
+use Rattle.stab_circuit.specs.Readings.{IsCircuit, IsFaultOf, IsPlaced, is_of_circuit, is_of_item}
 use Rattle.stab_lines.proofs.BoolLemmas.{chosen, passed}
 use Rattle.stab_circuit.proofs.ReadingLemmas.{joined_read, fault_read}
 use Rattle.stab_circuit.proofs.OneItemLemmas.{blank_read, read_blank, read_one, same_meanings, size, size-listed}
@@ -134,22 +132,6 @@ circuit_placed text f (inl e) = whole_placed f OutOfMemory is_of_circuit e refl
 circuit_placed text f (inr (inl e)) = text_fault_placed text f e
 circuit_placed text f (inr (inr (items, r, s, k, e))) = check_placed f r e (check_refusal items r k)
 
--- no text is refused for a failed read
-line_no_read : (f : Fault) → IsLineFault f → f.refusal ≡ ReadFault → ⊥
-line_no_read f p e = let q : false ≡ true = sym (ap is_of_line e) ∙ p.0 in cc
-
-whole_no_read : (f : Fault) (r : Refusal) → f ≡ whole r → f.refusal ≡ ReadFault → r ≡ ReadFault
-whole_no_read f r p e = sym (ap (λ g. g.refusal) p) ∙ e
-
-pub not_read_fault : (text : List ℕ) (f : Fault) → (f ≡ whole OutOfMemory) ⊎ IsFaultOf text f → f.refusal ≡ ReadFault → ⊥
-not_read_fault text f (inl p) e = let q = whole_no_read f OutOfMemory p e in cc
-not_read_fault text f (inr (inl p)) e = elim (text_fault_cases text f p) [ inl l ↦ (let q = whole_no_read f TooLong l e in cc) | inr g ↦ line_no_read f g e ]
-not_read_fault text f (inr (inr (items, r, s, k, p))) e =
-    elim (check_refusal items r k) [
-      | inl l ↦ (let q : LookbackTooFar ≡ ReadFault = sym l ∙ whole_no_read f r p e in cc)
-      | inr l ↦ (let q : TooManySteps ≡ ReadFault = sym l ∙ whole_no_read f r p e in cc)
-    ]
-
 -- the answers of the calls
 pub circuit_refused : (text : List ℕ) (f : Fault) → length text ≤ 16777216 → (f ≡ whole OutOfMemory) ⊎ (reading false text ≡ Err f) → (f ≡ whole OutOfMemory) ⊎ IsFaultOf text f
 circuit_refused text f h (inl e) = inl e
@@ -162,10 +144,6 @@ circuit_checked text slice held f same h e k =
 
 pub circuit_read : (text : List ℕ) (slice held : List Item) → slice ≡ held → length text ≤ 16777216 → reading false text ≡ Ok (items_of held) → check_of (items_of slice) ≡ None → IsCircuit text (items_of held)
 circuit_read text slice held same h e k = (text_read text (items_of held) h e, subst (λ l. check_of (items_of l) ≡ None) same k)
-
-pub never_failed : (text : List ℕ) (r : Result Circuit Fault) (P : Type 0) → ReadsCircuit text r → IfErr r (λ f. f.refusal ≡ ReadFault → P)
-never_failed text (Ok c) P h = tt
-never_failed text (Err f) P h = λ e. absurd (not_read_fault text f h e)
 
 pub one_refused : (text : List ℕ) (f : Fault) → length text ≤ 16777216 → (f ≡ whole OutOfMemory) ⊎ (reading true text ≡ Err f) → (f ≡ whole OutOfMemory) ⊎ (item_fault text ≡ Some f)
 one_refused text f h (inl e) = inl e

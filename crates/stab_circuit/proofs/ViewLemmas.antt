@@ -10,7 +10,7 @@ use Rattle.stab_circuit.specs.declared.item.Node.TheFolds.{fold-Node, fold-roll-
 use Rattle.stab_circuit.specs.Items.{before, OneItem, operation, repeat, listed, done, join}
 use Rattle.stab_circuit.specs.Views.{node_step, item_step, item_of, items_of}
 use Rattle.stab_circuit.specs.declared.reader.Frame.{Frame as Held}
-use Rattle.stab_circuit.specs.Readers.{frame_of}
+use Rattle.stab_circuit.specs.inner.Readers.{frame_of}
 use Rattle.stab_circuit.proofs.ItemLemmas.{listed-append}
 
 pub item_of_operation : (o : Operation) → item_of (record { node = node.Operation o }) ≡ operation o

@@ -21,6 +21,10 @@ Meaning = Result Line Refusal
 abbrev pub contents : List ℕ → List (List ℕ)
 contents text = map content_of (slice_split (is_byte 10) text)
 
+-- what lines mean
+abbrev pub line_meanings : List (List ℕ) → List Meaning
+line_meanings lines = map meaning_of (map content_of lines)
+
 -- what the lines of a circuit text mean
 abbrev pub meanings : List ℕ → List Meaning
 meanings text = map meaning_of (contents text)

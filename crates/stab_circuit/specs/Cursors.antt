@@ -1,5 +1,5 @@
 -- Cursors: which steps the values of the code stand for.
-use Rattle.std.specs.Prelude.{◌≢◌, List, ◌++◌, map, All, ◌≡◌}
+use Rattle.std.specs.Prelude.{◌≢◌, List}
 use Rattle.stab_circuit.specs.declared.step.Step.{Step as StepValue}
 use Rattle.stab_circuit.specs.declared.step.Step.TheVariants.{One, Two, Collapse, Detector, Observable}
 use Rattle.stab_circuit.specs.Steps.{Step, one, two, collapse, detector, observable}
@@ -11,10 +11,6 @@ step_shown (Two g a b) = two g a b
 step_shown (Collapse l q recorded inverted resets) = collapse l q recorded inverted resets
 step_shown (Detector ks) = detector ks.now
 step_shown (Observable j ks) = observable j ks.now
-
--- the steps that values stand for
-abbrev pub steps_shown : List StepValue → List Step
-steps_shown steps = map step_shown steps
 
 -- a gate on two qubits has two different ones
 abbrev pub IsApart : Step → Type 0
@@ -28,8 +24,3 @@ IsApart (observable j ks) = Unit {0}
 pub record CursorState : Type 0 where
   pub all : List Step
   pub left : List Step
-
--- these steps were put behind others
-pub record Appends (steps : List Step) (old new : List StepValue) : Type 0 where
-  pub appended : steps_shown new ≡ steps_shown old ++ steps
-  pub apart : All IsApart steps

@@ -1,8 +1,11 @@
 -- Laws: what holds between all texts and all items.
-use Rattle.std.specs.Prelude.{◌≡◌, ◌≤◌, ◌⊎◌, ℕ, List, length, None}
+use Rattle.std.specs.Prelude.{◌≡◌, ◌≤◌, ◌⊎◌, ℕ, List, [], All, length, None}
+use Rattle.std.specs.List.{slice_split}
 use Rattle.stab_pauli.specs.declared.refusal.Fault.{Fault}
-use Rattle.stab_circuit.specs.Items.{Items}
-use Rattle.stab_circuit.specs.Circuits.{most_bytes, text_fault, StandsFor}
+use Rattle.stab_lines.specs.Lines.{is_byte}
+use Rattle.stab_lines.specs.Laws.{IsLine}
+use Rattle.stab_circuit.specs.Items.{Items, OneItem}
+use Rattle.stab_circuit.specs.Circuits.{most_bytes, line_meanings, fault_from, Joins, text_fault, item_fault, StandsFor, StandsForOne}
 use Rattle.stab_circuit.specs.Prints.{printed}
 use Rattle.stab_circuit.specs.Readings.{IsCircuit, IsFaultOf}
 
@@ -14,9 +17,27 @@ StandsForOnly text items = StandsFor text items × ((other : Items) → StandsFo
 abbrev pub TextsHaveOneMeaning : Type 0
 TextsHaveOneMeaning = (text : List ℕ) → text_fault text ≡ None → (items : Items) × StandsForOnly text items
 
--- what is printed of the items of a text stands for these, where it is no longer than a text may be
-abbrev pub PrintedTextsAreReadBack : Type 0
-PrintedTextsAreReadBack = (text : List ℕ) (items : Items) → StandsFor text items → length (printed items) ≤ most_bytes → StandsForOnly (printed items) items
+-- lines, however many, of which none is faulty and which stand for the items
+pub record AreLinesOf (lines : List (List ℕ)) (items : Items) : Type 0 where
+  pub each : All IsLine lines
+  pub faultless : fault_from 1 [] (line_meanings lines) ≡ None
+  pub joined : Joins (line_meanings lines) items
+
+-- the lines of a text that stands for items are such lines
+abbrev pub TextsAreLines : Type 0
+TextsAreLines = (text : List ℕ) (items : Items) → StandsFor text items → AreLinesOf (slice_split (is_byte 10) text) items
+
+-- what is printed of the items of any such lines stands for these, where it is no longer than a text may be
+abbrev pub PrintedItemsAreReadBack : Type 0
+PrintedItemsAreReadBack = (lines : List (List ℕ)) (items : Items) → AreLinesOf lines items → length (printed items) ≤ most_bytes → StandsForOnly (printed items) items
+
+-- the text of one item stands for the item, and for no other
+abbrev pub StandsForOneOnly : List ℕ → OneItem → Type 0
+StandsForOneOnly text item = StandsForOne text item × ((other : OneItem) → StandsForOne text other → other ≡ item)
+
+-- one item's text without a fault stands for one item
+abbrev pub ItemTextsHaveOneMeaning : Type 0
+ItemTextsHaveOneMeaning = (text : List ℕ) → item_fault text ≡ None → (item : OneItem) × StandsForOneOnly text item
 
 -- every text is that of a circuit or has a fault
 abbrev pub EachTextHasAMeaning : Type 0

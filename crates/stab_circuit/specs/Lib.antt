@@ -1,12 +1,10 @@
 pub mod Items
 pub mod Circuits
-pub mod Inputs
 pub mod Steps
 pub mod Views
+pub mod Inputs
 pub mod Readings
-pub mod Readers
-pub mod Summaries
 pub mod Cursors
 pub mod Prints
-pub mod Margins
 pub mod Laws
+pub mod inner

@@ -1,7 +1,7 @@
 -- Readings: how the calls that read a text answer it.
 use Rattle.std.specs.Prelude.{◌≡◌, ◌<◌, Bool, true, false, IsTrue, Some, None, Result, Ok, Err, List, ℕ, ◌⊎◌}
 use Rattle.stab_pauli.specs.declared.refusal.Refusal.{Refusal}
-use Rattle.stab_pauli.specs.declared.refusal.Refusal.TheVariants.{LookbackTooFar, TooManySteps, BadLine, TooLong, ReadFault, OutOfMemory}
+use Rattle.stab_pauli.specs.declared.refusal.Refusal.TheVariants.{LookbackTooFar, TooManySteps, TooDeep, BadLine, TooLong, ReadFault, OutOfMemory}
 use Rattle.stab_pauli.specs.declared.refusal.Fault.{Fault}
 use Rattle.stab_pauli.specs.Refusals.{whole}
 use Rattle.stab_circuit.specs.declared.item.Item.{Item}
@@ -9,7 +9,7 @@ use Rattle.stab_circuit.specs.declared.circuit.Circuit.{Circuit}
 use Rattle.stab_pauli.specs.Devices.{InputView}
 use Rattle.stab_lines.specs.Meanings.{is_of_line}
 use Rattle.stab_circuit.specs.Items.{Items}
-use Rattle.stab_circuit.specs.Inputs.{GaveText, IsUnread}
+use Rattle.stab_circuit.specs.Inputs.{GaveText, RefusesText}
 use Rattle.stab_circuit.specs.Circuits.{text_fault, item_fault, StandsFor, StandsForOne}
 use Rattle.stab_circuit.specs.Steps.{check_of}
 use Rattle.stab_circuit.specs.Views.{item_of, circuit_items}
@@ -26,20 +26,20 @@ IsRefused text fault = (items : Items) × (refusal : Refusal) × StandsFor text 
 abbrev pub IsFaultOf : List ℕ → Fault → Type 0
 IsFaultOf text fault = (text_fault text ≡ Some fault) ⊎ IsRefused text fault
 
--- the call gave the circuit that the text stands for, or the text's fault, or memory was refused
-abbrev pub ReadsCircuit : List ℕ → Result Circuit Fault → Type 0
-ReadsCircuit text (Ok circuit) = IsCircuit text (circuit_items circuit)
-ReadsCircuit text (Err fault) = (fault ≡ whole OutOfMemory) ⊎ IsFaultOf text fault
-
--- the call read the circuit of the input's text, or refused it by the text's fault, or unread
+-- the call read the circuit of the input's text, or refused the text
 abbrev pub ReadsInput : InputView → InputView → Result Circuit Fault → Type 0
 ReadsInput old new (Ok circuit) = (text : List ℕ) × GaveText old new text × IsCircuit text (circuit_items circuit)
-ReadsInput old new (Err fault) = ((text : List ℕ) × GaveText old new text × IsFaultOf text fault) ⊎ ((fault ≡ whole fault.refusal) × IsUnread old new fault.refusal)
+ReadsInput old new (Err fault) = RefusesText IsFaultOf old new fault
 
 -- the call gave the one item that the text stands for, or the text's fault, or memory was refused
 abbrev pub ReadsItem : List ℕ → Result Item Fault → Type 0
 ReadsItem text (Ok item) = StandsForOne text (item_of item)
 ReadsItem text (Err fault) = (fault ≡ whole OutOfMemory) ⊎ (item_fault text ≡ Some fault)
+
+-- whether a refusal has a line: those of lines, and that of blocks that nest too deep
+abbrev pub has_line : Refusal → Bool
+has_line TooDeep = true
+has_line r = is_of_line r
 
 -- whether a whole circuit text can be refused like this: 8, 9, 14, 15 and 20
 abbrev pub is_of_circuit : Refusal → Bool
@@ -59,4 +59,4 @@ is_of_item r = false
 
 -- the fault has a line, as a refused line has, or is one of those that have none
 abbrev pub IsPlaced : (Refusal → Bool) → Fault → Type 0
-IsPlaced is_whole fault = (IsTrue (is_of_line fault.refusal) × (0 < fault.line)) ⊎ (IsTrue (is_whole fault.refusal) × (fault.line ≡ 0))
+IsPlaced is_whole fault = (IsTrue (has_line fault.refusal) × (0 < fault.line)) ⊎ (IsTrue (is_whole fault.refusal) × (fault.line ≡ 0))

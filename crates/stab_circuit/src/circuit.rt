@@ -1,7 +1,8 @@
 ghost use Rattle.std.specs.Prelude.{◌≡◌, ◌≤◌, length, None, IfOk, IfErr};
 ghost use Rattle.stab_circuit.specs.Steps.{check_of, Checks};
 ghost use Rattle.stab_circuit.specs.Views.{circuit_items, items_of};
-ghost use Rattle.stab_circuit.specs.Readings.{ReadsCircuit, ReadsInput, ReadsItem, IsPlaced, is_of_circuit, is_of_item};
+ghost use Rattle.stab_circuit.specs.Readings.{ReadsInput, ReadsItem, IsPlaced, is_of_circuit, is_of_item};
+ghost use Rattle.stab_circuit.specs.inner.Texts.{ReadsCircuit};
 
 use crate::input::read_text;
 use crate::item::Item;
@@ -19,7 +20,7 @@ pub struct Circuit {
 impl Circuit {
     ghost use Rattle.std.specs.Prelude.{◌≡◌, ◌≤◌, [], map, min, length};
     ghost use Rattle.stab_circuit.specs.Steps.{unroll, records_of, qubits_of, observables_of, check_within, Checks};
-    ghost use Rattle.stab_circuit.specs.Summaries.{summary_of, IsSummary};
+    ghost use Rattle.stab_circuit.specs.inner.Summaries.{summary_of, IsSummary};
     ghost use Rattle.stab_circuit.specs.Views.{item_of, entries, circuit_items};
 
     /// The empty circuit, which takes no memory.

@@ -16,7 +16,8 @@ pub struct Cursor<'a> {
 
 impl<'a> Model for Cursor<'a> {
     ghost use Rattle.std.specs.Prelude.{drop, All};
-    ghost use Rattle.stab_circuit.specs.Cursors.{CursorState, steps_shown, IsApart};
+    ghost use Rattle.stab_circuit.specs.Cursors.{CursorState, IsApart};
+    ghost use Rattle.stab_circuit.specs.inner.Unrolled.{steps_shown};
 
     ghost Value = { CursorState };
 

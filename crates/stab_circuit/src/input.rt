@@ -1,5 +1,5 @@
 ghost use Rattle.std.specs.Prelude.{◌≡◌};
-ghost use Rattle.stab_circuit.specs.Inputs.{ReadsText};
+ghost use Rattle.stab_circuit.specs.inner.Texts.{ReadsText};
 
 use stab_pauli::{DeviceFault, Input, Refusal};
 use std::alloc::Global;

@@ -1,17 +1,29 @@
 //! Laws of circuit texts. Each function does nothing: its contract is the law, and the check
 //! proves it.
 
-ghost use Rattle.stab_circuit.specs.Laws.{CircuitsHaveNoFault, EachTextHasAMeaning, PrintedTextsAreReadBack, TextsAreOfOneCircuit, TextsHaveOneFault, TextsHaveOneMeaning};
+ghost use Rattle.stab_circuit.specs.Laws.{CircuitsHaveNoFault, EachTextHasAMeaning, ItemTextsHaveOneMeaning, PrintedItemsAreReadBack, TextsAreLines, TextsAreOfOneCircuit, TextsHaveOneFault, TextsHaveOneMeaning};
 
 /// A text without a faulty line stands for one list of items, and for no other.
 pub fn texts_have_one_meaning()
     ensures law { TextsHaveOneMeaning }
 {}
 
-/// What is printed of the items of a text stands for these items and for no others, where it is no
-/// longer than a circuit text may be. So `read_circuit` reads back what `write_circuit` wrote.
-pub fn printed_texts_are_read_back()
-    ensures law { PrintedTextsAreReadBack }
+/// What is printed of the items of any lines, however many, none of them faulty, stands for these
+/// items and for no others, where it is no longer than a circuit text may be. The lines need not
+/// have stood in one text; so this holds of circuits that were put together from several.
+pub fn printed_items_are_read_back()
+    ensures law { PrintedItemsAreReadBack }
+{}
+
+/// The lines of a text that stands for items are such lines. So `read_circuit` reads back what
+/// `write_circuit` wrote.
+pub fn texts_are_lines()
+    ensures law { TextsAreLines }
+{}
+
+/// One item's text without a fault stands for one item, and for no other.
+pub fn item_texts_have_one_meaning()
+    ensures law { ItemTextsHaveOneMeaning }
 {}
 
 /// Every text is that of a circuit or has a fault.

@@ -1,18 +1,24 @@
 //! Circuits: reading their text, and what they come to once their blocks are written out.
 //!
+//! What one line means is said by `stab_lines`; here lines are put together.
+//!
 //! - `item`: instructions and blocks.
 //! - `reader`: the items of a text's lines, with the blocks that are open.
 //! - `input`: reading an input whole.
-//! - `summary`: the numbers of a list of items, for which no block's rounds are walked.
+//! - `summary`: the numbers of a list of items.
 //! - `circuit`: circuits, and reading one.
 //! - `print`: the one text of a circuit.
 //! - `step`, `unrolled`, `cursor`: the unrolled steps of a circuit, from any place on.
 //! - `laws`: what holds between all texts and all items.
 //!
+//! `specs/` says which items a text stands for, what its fault is, and what its unrolled steps are;
+//! `specs/inner` has what private contracts alone speak of.
+//!
 //! Proved: every text is that of one circuit or has one fault, and never both; it is read as exactly
-//! the items that it stands for, or refused with exactly its fault; qubits, observables, steps,
-//! records and what refuses a whole circuit are those of its unrolled steps; what is printed of the
-//! items that a text stands for, stands for these items and no others.
+//! the items that it stands for, or refused with exactly its fault, and behind the limit of a text
+//! nothing is read but what one read brings; qubits, observables, steps, records and what refuses a
+//! whole circuit are those of its unrolled steps; one item's text without a fault stands for one
+//! item; what is printed of the items of any lines stands for these items and no others.
 #![tactic(auto)]
 
 mod circuit;

@@ -2,7 +2,7 @@ ghost use Rattle.std.specs.Prelude.{◌≡◌, ◌+◌, ◌*◌, ◌++◌, repli
 ghost use Rattle.stab_circuit.specs.Items.{before, done};
 ghost use Rattle.stab_circuit.specs.Views.{item_of, items_of, circuit_items};
 ghost use Rattle.stab_pauli.specs.Devices.{WritesAll, WritesAllOrFault};
-ghost use Rattle.stab_circuit.specs.Margins.{depth_of};
+ghost use Rattle.stab_circuit.specs.inner.Margins.{depth_of};
 ghost use Rattle.stab_lines.specs.Prints.{operation_text, open_text};
 ghost use Rattle.stab_circuit.specs.Prints.{line_text, printed_in, printed};
 

@@ -1,6 +1,6 @@
 ghost use Rattle.std.specs.Prelude.{◌≡◌, ◌≤◌, length};
 ghost use Rattle.stab_circuit.specs.Circuits.{meaning_after as meaning_after_of};
-ghost use Rattle.stab_circuit.specs.Readers.{Reads, reading, line_fault};
+ghost use Rattle.stab_circuit.specs.inner.Readers.{ReadsItems, reading, line_fault};
 
 use crate::item::Item;
 use stab_lines::{Count, Line, Sequence, content, first_piece, is_close, meaning};
@@ -27,10 +27,10 @@ pub struct Reader {
 impl Reader {
     ghost use Rattle.std.specs.Prelude.{◌≡◌, [], List, ◌∷◌};
     ghost use Rattle.stab_lines.specs.Results.{Gives};
-    ghost use Rattle.stab_circuit.specs.Readers.{state_of, start, stepped, opening, closing, finished, is_whole as whole_of, meaning_at, Steps, Reads};
+    ghost use Rattle.stab_circuit.specs.inner.Readers.{progress_of, start, stepped, opening, closing, finished, is_whole as whole_of, meaning_at, TakesLine, ReadsItems};
 
     fn new(alloc: Global) -> Reader
-        ensures value { state_of result ≡ start }
+        ensures value { progress_of result ≡ start }
     {
         Reader {
             alloc,
@@ -42,7 +42,7 @@ impl Reader {
     /// The items, where no block is open.
     #[tactic(auto, using(crate::proofs::ViewLemmas::frames_pushed))]
     fn finish(self) -> Result<Vec<Item>, Fault>
-        ensures gives { Reads result (finished (state_of self)) }
+        ensures gives { ReadsItems result (finished (progress_of self)) }
     {
         let Reader {
             alloc: _,
@@ -61,14 +61,14 @@ impl Reader {
     /// Whether a whole item was read.
     #[tactic(auto, using(crate::proofs::ReaderLemmas::is_whole_held))]
     fn is_whole(&self) -> bool
-        ensures value { result ≡ whole_of (state_of self.now) }
+        ensures value { result ≡ whole_of (progress_of self.now) }
     {
         self.frames.is_empty() && !self.items.is_empty()
     }
 
     /// What a content means here, perhaps in one item's text.
     fn found(&self, single: bool, content: &[u8]) -> Result<Line, Refusal>
-        ensures gives { Gives result (meaning_at single (state_of self.now) content.now) }
+        ensures gives { Gives result (meaning_at single (progress_of self.now) content.now) }
     {
         if single && self.is_whole() {
             meaning_after(content)
@@ -78,7 +78,7 @@ impl Reader {
     }
 
     fn take_content(&mut self, single: bool, line: u64, content: &[u8]) -> Result<(), Refusal>
-        ensures gives { Steps (state_of self.new) result (stepped line (meaning_at single (state_of self.old) content.now) (state_of self.old)) }
+        ensures gives { TakesLine (progress_of self.new) result (stepped line (meaning_at single (progress_of self.old) content.now) (progress_of self.old)) }
     {
         let found = self.found(single, content)?;
         self.take(line, found)
@@ -86,7 +86,7 @@ impl Reader {
 
     #[tactic(auto, using(crate::proofs::ViewLemmas::items_of_pushed))]
     fn take(&mut self, line: u64, found: Line) -> Result<(), Refusal>
-        ensures gives { Steps (state_of self.new) result (stepped line (Ok found) (state_of self.old)) }
+        ensures gives { TakesLine (progress_of self.new) result (stepped line (Ok found) (progress_of self.old)) }
     {
         match found {
             Line::Blank => Ok(()),
@@ -100,7 +100,7 @@ impl Reader {
     }
 
     fn open(&mut self, line: u64, count: Count, tag: Sequence<u8>) -> Result<(), Refusal>
-        ensures gives { Steps (state_of self.new) result (opening line count tag (state_of self.old)) }
+        ensures gives { TakesLine (progress_of self.new) result (opening line count tag (progress_of self.old)) }
     {
         if self.frames.len() >= 16 {
             return Err(Refusal::TooDeep);
@@ -117,7 +117,7 @@ impl Reader {
 
     #[tactic(auto, using(crate::proofs::ViewLemmas::items_of_pushed, crate::proofs::ViewLemmas::frames_pushed))]
     fn close(&mut self) -> Result<(), Refusal>
-        ensures gives { Steps (state_of self.new) result (closing (state_of self.old)) }
+        ensures gives { TakesLine (progress_of self.new) result (closing (progress_of self.old)) }
     {
         match self.frames.pop() {
             None => Err(Refusal::BadBlock),
@@ -163,7 +163,7 @@ fn fault_at(refusal: Refusal, line: u64) -> Fault
 #[tactic(auto, using(crate::proofs::ReaderLemmas::lines_taken, crate::proofs::ReaderLemmas::lines_ended))]
 pub fn read_lines(alloc: Global, single: bool, text: &[u8]) -> Result<Vec<Item>, Fault>
     requires small { length text.now ≤ 16777216 }
-    ensures gives { Reads result (reading single text.now) }
+    ensures gives { ReadsItems result (reading single text.now) }
 {
     let mut reader = Reader::new(alloc);
     let mut rest = text;

@@ -3,7 +3,7 @@ ghost use Rattle.stab_circuit.specs.Items.{before, done};
 ghost use Rattle.stab_circuit.specs.Views.{item_of, items_of};
 ghost use Rattle.stab_lines.specs.Targets.{pair_qubits};
 ghost use Rattle.stab_circuit.specs.Steps.{past as past_of, target_qubits};
-ghost use Rattle.stab_circuit.specs.Summaries.{greatest as greatest_of, kind_summary_of, summary_of, IsSummary};
+ghost use Rattle.stab_circuit.specs.inner.Summaries.{greatest as greatest_of, kind_summary_of, summary_of, IsSummary};
 
 use crate::item::{Item, Node};
 use stab_lines::{Kind, Lookbacks, MeasureTarget, Pair, Qubit};
@@ -27,7 +27,7 @@ const MOST_RECORDS: u32 = 16_777_215;
 
 impl Summary {
     ghost use Rattle.std.specs.Prelude.{◌≡◌};
-    ghost use Rattle.stab_circuit.specs.Summaries.{judged, after, repeated as repeated_of, IsSummary};
+    ghost use Rattle.stab_circuit.specs.inner.Summaries.{judged, followed_by, repeated as repeated_of, IsSummary};
 
     const NONE: Summary = Summary {
         steps: 0,
@@ -54,7 +54,7 @@ impl Summary {
     fn then(self, next: Summary) -> Summary
         requires first { IsSummary self }
         requires second { IsSummary next }
-        ensures value { result ≡ after self next }
+        ensures value { result ≡ followed_by self next }
         ensures small { IsSummary result }
     {
         Summary {

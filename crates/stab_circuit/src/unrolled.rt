@@ -3,7 +3,8 @@ ghost use Rattle.stab_pauli.specs.declared.letter.Letter.TheVariants as letter;
 ghost use Rattle.stab_circuit.specs.Items.{before, done};
 ghost use Rattle.stab_circuit.specs.Steps.{one, two, collapse, measured as measured_step, steps_of, rounds, unroll};
 ghost use Rattle.stab_circuit.specs.Views.{item_of, items_of};
-ghost use Rattle.stab_circuit.specs.Cursors.{step_shown, steps_shown, Appends};
+ghost use Rattle.stab_circuit.specs.Cursors.{step_shown};
+ghost use Rattle.stab_circuit.specs.inner.Unrolled.{steps_shown, Appends};
 
 use crate::item::{Item, Node};
 use crate::step::Step;

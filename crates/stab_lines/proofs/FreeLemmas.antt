@@ -122,6 +122,14 @@ pub any_free : (p : ℕ → Bool) (xs : List ℕ) → Free p xs → list_any p x
 any_free p [] f = refl
 any_free p (x ∷ xs) f = ap (λ b. b || list_any p xs) f.0 ∙ any_free p xs f.1
 
+neither : (a b : Bool) → (a || b) ≡ false → (a ≡ false) × (b ≡ false)
+neither true b e = cc
+neither false b e = (refl, e)
+
+pub free_any : (p : ℕ → Bool) (xs : List ℕ) → list_any p xs ≡ false → Free p xs
+free_any p [] e = tt
+free_any p (x ∷ xs) e = let both = neither (p x) (list_any p xs) e in (both.0, free_any p xs both.1)
+
 free_reverse : (p : ℕ → Bool) (xs : List ℕ) → Free p xs → Free p (reverse xs)
 free_reverse p [] f = tt
 free_reverse p (x ∷ xs) f = subst (Free p) (sym (reverse-append (x ∷ []) xs)) (free-append p (reverse xs) (x ∷ []) (free_reverse p xs f.1) (f.0, tt))

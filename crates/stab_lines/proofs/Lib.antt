@@ -1,16 +1,18 @@
 pub mod BoolLemmas
-pub mod ResultLemmas
+mod ResultLemmas
 pub mod WriteLemmas
-pub mod PrintLemmas
-pub mod WordLemmas
-pub mod PieceLemmas
-pub mod TargetLemmas
+mod PrintLemmas
+mod WordLemmas
+mod PieceLemmas
+mod TargetLemmas
 pub mod FreeLemmas
-pub mod SureLemmas
-pub mod AgainLemmas
-pub mod NeatLemmas
-pub mod ShapeLemmas
-pub mod ContentLemmas
-pub mod PrintedLemmas
-pub mod MeaningLemmas
-pub mod RefusalLemmas
+mod SureLemmas
+mod AgainLemmas
+mod NeatLemmas
+mod ShapeLemmas
+mod ContentLemmas
+mod PrintedLemmas
+mod MeaningLemmas
+mod EmptyLemmas
+mod RefusalLemmas
+pub mod LineLaws

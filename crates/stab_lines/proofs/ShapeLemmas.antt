@@ -5,7 +5,7 @@ use Rattle.std.proofs.lemmas.List.{length-append}
 use Rattle.std.proofs.lemmas.Bool.Decides.{nat_tests}
 use Rattle.stab_pauli.specs.declared.refusal.Refusal.TheVariants.{BadLine}
 use Rattle.stab_lines.specs.Results.{◌>>=◌}
-use Rattle.stab_lines.specs.Lines.{is_spacing, is_byte, is_letter, is_name_byte, is_brace, is_apart, bracketed, has_byte, starts_with_byte, ends_with_byte, without_open, shaped, behind_tag, shape_of}
+use Rattle.stab_lines.specs.Lines.{is_spacing, is_byte, is_letter, is_name_byte, is_brace, is_apart, bracketed, has_byte, starts_with_byte, ends_with_byte, without_brace, shaped, behind_tag, shape_of}
 use Rattle.stab_lines.specs.Targets.{is_coordinate_byte}
 use Rattle.stab_lines.specs.Prints.{tag_text, arguments_text, head_text}
 use Rattle.stab_lines.proofs.BoolLemmas.{chosen, passed, both, and_left, and_right}
@@ -144,17 +144,17 @@ letter_again name tag arguments tail n =
 
 -- a shape, where the targets without a brace and whether one opens are known
 shaped_again : (content name tag inner tail targets : List ℕ) (open' : Bool) → list_any is_letter (take 1 content) ≡ true → take_while is_name_byte content ≡ name → is_apart tail ≡ true → Free is_brace inner
-    → Free is_brace targets → without_open tail ≡ targets → ends_with_byte tail 123 ≡ open'
+    → Free is_brace targets → without_brace tail ≡ targets → ends_with_byte tail 123 ≡ open'
     → shaped content tag (inner, tail) ≡ Ok (record { name = name; tag = tag; arguments = inner; targets = targets; opens = open' })
 shaped_again content name tag inner tail targets open' l n a f g same o =
     let plain : not (list_any is_brace inner) ≡ true = ap not (any_free is_brace inner f) in
-    let clear : not (list_any is_brace (without_open tail)) ≡ true = ap (λ t. not (list_any is_brace t)) same ∙ ap not (any_free is_brace targets g) in
+    let clear : not (list_any is_brace (without_brace tail)) ≡ true = ap (λ t. not (list_any is_brace t)) same ∙ ap not (any_free is_brace targets g) in
     let two : (list_any is_letter (take 1 content) && is_apart tail) ≡ true = both (list_any is_letter (take 1 content)) (is_apart tail) l a in
     let three : (list_any is_letter (take 1 content) && is_apart tail && not (list_any is_brace inner)) ≡ true =
     both (list_any is_letter (take 1 content) && is_apart tail) (not (list_any is_brace inner)) two plain in
-    chosen (list_any is_letter (take 1 content) && is_apart tail && not (list_any is_brace inner) && not (list_any is_brace (without_open tail))) _ _
-    (both (list_any is_letter (take 1 content) && is_apart tail && not (list_any is_brace inner)) (not (list_any is_brace (without_open tail))) three clear)
-    ∙ ap (λ s. Ok (record { name = s; tag = tag; arguments = inner; targets = without_open tail; opens = ends_with_byte tail 123 })) n
+    chosen (list_any is_letter (take 1 content) && is_apart tail && not (list_any is_brace inner) && not (list_any is_brace (without_brace tail))) _ _
+    (both (list_any is_letter (take 1 content) && is_apart tail && not (list_any is_brace inner)) (not (list_any is_brace (without_brace tail))) three clear)
+    ∙ ap (λ s. Ok (record { name = s; tag = tag; arguments = inner; targets = without_brace tail; opens = ends_with_byte tail 123 })) n
     ∙ ap (λ s. Ok (record { name = name; tag = tag; arguments = inner; targets = s; opens = ends_with_byte tail 123 })) same
     ∙ ap (λ b. Ok (record { name = name; tag = tag; arguments = inner; targets = targets; opens = b })) o
 
@@ -181,6 +181,6 @@ open_shape_again name tag front n t a f =
     let tail = front ++ 123 ∷ [] in
     let opens : ends_with_byte tail 123 ≡ true = ends_with_last 123 front refl in
     let one_less : length tail - 1 ≡ length front = omega (arith, length-append front (123 ∷ [])) in
-    let same : without_open tail ≡ front = chosen (ends_with_byte tail 123) _ _ opens ∙ ap (λ k. take k tail) one_less ∙ take_front front (123 ∷ []) in
+    let same : without_brace tail ≡ front = chosen (ends_with_byte tail 123) _ _ opens ∙ ap (λ k. take k tail) one_less ∙ take_front front (123 ∷ []) in
     cut_again name tag [] tail n t tt a
     ∙ shaped_again (content_text name tag [] tail) name tag [] tail front true (letter_again name tag [] tail n) (name_again name tag [] tail n a) (apart_again tail a) tt f same opens

@@ -15,7 +15,7 @@ use Rattle.stab_lines.specs.declared.meanings.Line.{Line}
 use Rattle.stab_lines.specs.declared.meanings.Line.TheVariants.{Blank, Close, Open}
 use Rattle.stab_lines.specs.declared.meanings.Line.TheVariants as line
 use Rattle.stab_lines.specs.Results.{◌>>=◌, each}
-use Rattle.stab_lines.specs.Lines.{Shape, is_byte, bracketed, behind_tag, shaped, shape_of, starts_with_byte, ends_with_byte, has_byte, is_name_byte, is_letter, is_brace, is_apart, without_open}
+use Rattle.stab_lines.specs.Lines.{Shape, is_byte, bracketed, behind_tag, shaped, shape_of, starts_with_byte, ends_with_byte, has_byte, is_name_byte, is_letter, is_brace, is_apart, without_brace}
 use Rattle.stab_lines.specs.Words.{words, is_blank, arguments_of, is_some_word, is_number, value}
 use Rattle.stab_lines.specs.Lookbacks.{IsLookback}
 use Rattle.stab_lines.specs.Names.{name_of}
@@ -223,8 +223,8 @@ HasTag s = IsTag s.tag
 
 shaped_sure : (content tag : List ℕ) (arguments : List ℕ × List ℕ) → IsTag tag → IsSure HasTag (shaped content tag arguments)
 shaped_sure content tag arguments t =
-    guard_sure HasTag (list_any is_letter (take 1 content) && is_apart arguments.1 && not (list_any is_brace arguments.0) && not (list_any is_brace (without_open arguments.1)))
-    (Ok (record { name = take_while is_name_byte content; tag = tag; arguments = arguments.0; targets = without_open arguments.1; opens = ends_with_byte arguments.1 123 }))
+    guard_sure HasTag (list_any is_letter (take 1 content) && is_apart arguments.1 && not (list_any is_brace arguments.0) && not (list_any is_brace (without_brace arguments.1)))
+    (Ok (record { name = take_while is_name_byte content; tag = tag; arguments = arguments.0; targets = without_brace arguments.1; opens = ends_with_byte arguments.1 123 }))
     BadLine (sure_ok HasTag _ t)
 
 shape_sure : (content : List ℕ) → Free (is_byte 10) content → Free (is_byte 35) content → IsSure HasTag (shape_of content)

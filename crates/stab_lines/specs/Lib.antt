@@ -6,4 +6,5 @@ pub mod Lookbacks
 pub mod Targets
 pub mod Meanings
 pub mod Prints
-pub mod Views
+pub mod Laws
+pub mod inner

@@ -74,14 +74,14 @@ unfoldable pub is_apart : List ℕ → Bool
 is_apart bs = (length bs == 0) || list_any is_spacing (take 1 bs) || ((length bs == 1) && ends_with_byte bs 123)
 
 -- the targets, without the brace at the end
-abbrev pub without_open : List ℕ → List ℕ
-without_open bs = if ends_with_byte bs 123 then take (length bs - 1) bs else bs
+abbrev pub without_brace : List ℕ → List ℕ
+without_brace bs = if ends_with_byte bs 123 then take (length bs - 1) bs else bs
 
 -- the shape, where the rest is as it must be
 abbrev pub shaped : List ℕ → List ℕ → List ℕ × List ℕ → Result Shape Refusal
 shaped content tag arguments =
-    if list_any is_letter (take 1 content) && is_apart arguments.1 && not (list_any is_brace arguments.0) && not (list_any is_brace (without_open arguments.1))
-    then Ok (record { name = take_while is_name_byte content; tag = tag; arguments = arguments.0; targets = without_open arguments.1; opens = ends_with_byte arguments.1 123 })
+    if list_any is_letter (take 1 content) && is_apart arguments.1 && not (list_any is_brace arguments.0) && not (list_any is_brace (without_brace arguments.1))
+    then Ok (record { name = take_while is_name_byte content; tag = tag; arguments = arguments.0; targets = without_brace arguments.1; opens = ends_with_byte arguments.1 123 })
     else Err BadLine
 
 abbrev pub behind_tag : List ℕ → List ℕ × List ℕ → Result Shape Refusal

@@ -1,7 +1,7 @@
 -- Meanings: what the content of a line means, or why it is refused.
 use Rattle.std.specs.Prelude.{ℕ, Bool, true, false, ◌&&◌, ◌==◌, List, [], ◌∷◌, length, if◌then◌else◌, Option, Some, None, Result, Ok, Err}
 use Rattle.stab_pauli.specs.declared.refusal.Refusal.{Refusal}
-use Rattle.stab_pauli.specs.declared.refusal.Refusal.TheVariants.{UnsupportedName, BadArguments, BadTarget, BadPairing, BadBlock, QubitOutOfRange, ObservableOutOfRange, TooDeep, BadLine}
+use Rattle.stab_pauli.specs.declared.refusal.Refusal.TheVariants.{UnsupportedName, BadArguments, BadTarget, BadPairing, BadBlock, QubitOutOfRange, ObservableOutOfRange, BadLine}
 use Rattle.stab_lines.specs.declared.name.Instruction.{Instruction}
 use Rattle.stab_lines.specs.declared.name.Instruction.TheVariants as instruction
 use Rattle.stab_lines.specs.declared.name.Name.{Name}
@@ -90,7 +90,7 @@ meaning_of content =
     else if is_close content then Ok line.Close
     else shape_of content >>= shape_meaning
 
--- whether a line can be refused like this: 1 to 7, 10 and 11
+-- whether a line can be refused like this, whatever stands around it: 1 to 7 and 11
 abbrev pub is_of_line : Refusal → Bool
 is_of_line UnsupportedName = true
 is_of_line BadArguments = true
@@ -99,6 +99,5 @@ is_of_line BadPairing = true
 is_of_line BadBlock = true
 is_of_line QubitOutOfRange = true
 is_of_line ObservableOutOfRange = true
-is_of_line TooDeep = true
 is_of_line BadLine = true
 is_of_line r = false

@@ -18,8 +18,3 @@ each f (a ∷ more) = f a >>= λ first. each f more >>= λ rest. Ok (first ∷ r
 abbrev pub Gives : {X : Type 0} → Result X Refusal → Result X Refusal → Type 0
 Gives (Ok x) given = given ≡ Ok x
 Gives (Err r) given = (r ≡ OutOfMemory) ⊎ (given ≡ Err r)
-
--- the call gave what the definition gives, seen by view, or failed as it does
-abbrev pub GivesBy : {X Y : Type 0} → (X → Y) → Result X Refusal → Result Y Refusal → Type 0
-GivesBy view (Ok x) given = given ≡ Ok (view x)
-GivesBy view (Err r) given = given ≡ Err r

@@ -1,6 +1,7 @@
 ghost use Rattle.std.specs.Prelude.{◌≡◌, List, [], Option};
 ghost use Rattle.std.specs.List.{list_all};
-ghost use Rattle.stab_lines.specs.Results.{Gives, GivesBy, each};
+ghost use Rattle.stab_lines.specs.Results.{Gives, each};
+ghost use Rattle.stab_lines.specs.inner.Parts.{GivesBy};
 ghost use Rattle.stab_lines.specs.Words.{arguments_of};
 ghost use Rattle.stab_lines.specs.Targets.{is_coordinate_byte as coordinate_byte, coordinate_of, number_of, observable_of};
 

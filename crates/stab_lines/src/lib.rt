@@ -1,15 +1,28 @@
-//! One line of a circuit's text: what it means, and how an instruction is printed.
+//! One line of a circuit's text: what it means, and how it is printed.
+//!
+//! A line is cut to its content, and the content means nothing, the opening or the end of a block,
+//! or an instruction, or it is refused. Which lines stand together is not known here: that is for
+//! `stab_circuit`, which also runs the tests of both crates.
 //!
 //! - `line`: what is left of a line, and its shape.
 //! - `word`: words between spacing, parts between commas, decimal numbers.
 //! - `sequence`, `range`: lists, and numbers with their ranges.
-//! - `name`, `target`, `argument`: the parts of an instruction.
 //! - `operation`: instructions.
+//! - `name`, `target`, `argument`: the parts of an instruction.
 //! - `meanings`: what a line means, or why it is refused.
 //! - `print`: the one text of an instruction, and of the opening of a block.
+//! - `laws`: what holds of all lines.
+//!
+//! `specs/` says what a content means (`meaning_of`) and what is printed of it; `specs/inner` has
+//! what private contracts alone speak of.
+//!
+//! Proved: a content is read as exactly what it means, or refused as exactly what refuses it first;
+//! what is printed of an instruction or an opening is its one text; that text fits on one line and
+//! means what it was printed of, whatever line that was read from.
 #![tactic(auto)]
 
 mod argument;
+pub mod laws;
 mod line;
 mod meanings;
 mod name;

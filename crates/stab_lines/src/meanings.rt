@@ -1,6 +1,6 @@
 ghost use Rattle.std.specs.Prelude.{◌≡◌};
 ghost use Rattle.stab_lines.specs.Results.{Gives};
-ghost use Rattle.stab_lines.specs.Views.{shape_shown};
+ghost use Rattle.stab_lines.specs.inner.Parts.{shape_shown};
 ghost use Rattle.stab_lines.specs.declared.name.Name.{Name};
 ghost use Rattle.stab_lines.specs.Meanings.{targets_alone as alone, observable_include_of, kind_of, only_count as only_count_of, block_of, named_line as named_line_of, shape_meaning, is_close as is_close_of, meaning_of};
 

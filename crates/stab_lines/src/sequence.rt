@@ -17,7 +17,7 @@ impl<T> Model for Sequence<T> {
 
 impl<T> Sequence<T> {
     /// The empty sequence, which takes no memory.
-    pub fn new(alloc: Global) -> Sequence<T>
+    pub(crate) fn new(alloc: Global) -> Sequence<T>
         ensures value { result ≡ [] }
     {
         Sequence {
@@ -37,7 +37,7 @@ impl Sequence<u8> {
     ghost use Rattle.std.specs.Prelude.{◌≡◌, IfOk};
 
     /// A copy of the bytes.
-    pub fn of_bytes(alloc: Global, bytes: &[u8]) -> Result<Sequence<u8>, AllocError>
+    pub(crate) fn of_bytes(alloc: Global, bytes: &[u8]) -> Result<Sequence<u8>, AllocError>
         ensures ok { IfOk result (λ s. s ≡ bytes.now) }
     {
         let mut elements = Vec::new(alloc);
@@ -48,7 +48,7 @@ impl Sequence<u8> {
 
 impl<T: Drop> Sequence<T> {
     /// Adds an element at the end; where memory is refused the sequence stays as it was.
-    pub fn push(&mut self, element: T) -> Result<(), AllocError>
+    pub(crate) fn push(&mut self, element: T) -> Result<(), AllocError>
         ensures ok { OnOk result (self.new ≡ self.old ++ element ∷ []) }
         ensures err { OnErr result (self.new ≡ self.old) }
     {

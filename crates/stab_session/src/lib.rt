@@ -6,7 +6,7 @@
 //! - `apply`: one step on a tableau.
 //! - `run`: one run of a circuit, and what it gives.
 //! - `sampler`: many runs of one circuit.
-//! - `laws`: what a run depends on.
+//! - `laws`: what a run depends on, and that what happens in it is sound.
 //!
 //! Proved: coins are one fixed sequence of bits by number, which no call changes, and a seed gives
 //! the bits of ChaCha8 that `specs/Coins.antt` names. A run gives the records, flags, detectors and

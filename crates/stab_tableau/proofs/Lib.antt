@@ -17,6 +17,7 @@ pub mod StabiliseLemmas
 pub mod GroupTestLemmas
 pub mod CollapseRuleLemmas
 pub mod TableCollapseLemmas
+pub mod GateRowLemmas
 pub mod PairRowLemmas
 pub mod TableRowLemmas
 pub mod TableauGateLemmas

@@ -1,5 +1,5 @@
 -- Answers of std as a device tells them.
-use Rattle.std.specs.Prelude.{◌≡◌, ℕ, ◌<◌, ◌⊎◌, Result, Ok, IsErr, MatchResult}
+use Rattle.std.specs.Prelude.{◌≡◌, ℕ, ◌<◌, ◌⊎◌, Result, Ok, Err, IsErr, MatchResult}
 use Rattle.stab_pauli.specs.declared.device.DeviceFault.{DeviceFault}
 use Rattle.stab_pauli.specs.Devices.{counted_up}
 use Rattle.stab_pauli.specs.StdDevices.{DeviceState}
@@ -14,4 +14,4 @@ Tells answer old new r = MatchResult answer
 abbrev pub TakesNoneAsError : {E : Type 0} → Result ℕ E → ℕ → Result ℕ E → Type 0
 TakesNoneAsError answer given r = MatchResult r
     (λ n. (answer ≡ Ok n) × (0 < given → 0 < n))
-    (λ _. IsErr answer ⊎ ((answer ≡ Ok 0) × (0 < given)))
+    (λ e. (answer ≡ Err e) ⊎ ((answer ≡ Ok 0) × (0 < given)))

@@ -1,7 +1,7 @@
 use Rattle.std.proofs.Common.{◌++◌, ◌+◌, suc, codes, drop}
 use Rattle.std.proofs.lemmas.Result.{err_from_is_err_and}
 use Rattle.stab_circuit.specs.Views.{items_of}
-use Rattle.stab_circuit.specs.Margins.{depth_of}
+use Rattle.stab_circuit.specs.inner.Margins.{depth_of}
 use Rattle.stab_circuit.specs.Prints.{line_text, printed_in}
 use Rattle.stab_pauli.proofs.DeviceLemmas.{took_more}
 use Rattle.stab_lines.proofs.WriteLemmas.{writes_failed, writes_then, writes_as, took_as}

@@ -1,7 +1,7 @@
 use Rattle.std.proofs.Common.{take}
 use Rattle.stab_circuit.specs.Views.{items_of}
 use Rattle.stab_pauli.specs.Devices.{Took}
-use Rattle.stab_circuit.specs.Margins.{depth_of}
+use Rattle.stab_circuit.specs.inner.Margins.{depth_of}
 use Rattle.stab_circuit.specs.Prints.{printed_in}
 use Rattle.stab_circuit.proofs.print.+printing.Given as goal
 

@@ -1,6 +1,6 @@
 use Rattle.std.proofs.Common.{ℕ, ◌*◌, ◌∙◌, sym, ap, codes, replicate}
 use Rattle.std.proofs.lemmas.Result.{err_from_is_err_and}
-use Rattle.stab_circuit.specs.Margins.{depth_of}
+use Rattle.stab_circuit.specs.inner.Margins.{depth_of}
 use Rattle.stab_lines.proofs.WriteLemmas.{writes_failed, writes_then, writes_as}
 use Rattle.stab_circuit.proofs.PrintLemmas.{margin_inside}
 use Rattle.stab_circuit.proofs.print.+write_margin.Goals as goal

@@ -1,12 +1,12 @@
 use Rattle.std.proofs.Common.{◌≡◌, ◌≤◌, ◌+◌, length}
 use Rattle.stab_circuit.specs.Circuits.{contents}
-use Rattle.stab_circuit.specs.Readers.{state_of, read_on, pending, reading}
+use Rattle.stab_circuit.specs.inner.Readers.{progress_of, read_on, pending, reading}
 use Rattle.stab_circuit.proofs.reader.read_lines.Given as goal
 
 abbrev pub invariant-lines : goal.invariant-lines
 invariant-lines l = record {
   few : l.line + length l.rest ≤ 16777217;
-  same : read_on l.line (state_of l.reader) (pending l.single (state_of l.reader) (contents l.rest)) ≡ reading l.single l.text;
+  same : read_on l.line (progress_of l.reader) (pending l.single (progress_of l.reader) (contents l.rest)) ≡ reading l.single l.text;
 }
 
 abbrev pub decreases-lines : goal.decreases-lines

@@ -1,6 +1,6 @@
 use Rattle.std.proofs.Common.{◌≡◌, take}
 use Rattle.stab_circuit.specs.Views.{items_of}
-use Rattle.stab_circuit.specs.Summaries.{summary_of, IsSummary}
+use Rattle.stab_circuit.specs.inner.Summaries.{summary_of, IsSummary}
 use Rattle.stab_circuit.proofs.summary.+summaries.Given as goal
 
 abbrev pub invariant-items_summary-loop-item : goal.invariant-items_summary-loop-item

@@ -1,5 +1,5 @@
 use Rattle.std.proofs.Common.{◌≡◌, max, drop}
-use Rattle.stab_circuit.specs.Summaries.{greatest}
+use Rattle.stab_circuit.specs.inner.Summaries.{greatest}
 use Rattle.stab_circuit.proofs.summary.greatest.Given as goal
 
 abbrev pub invariant-loop-number : goal.invariant-loop-number

@@ -1,6 +1,6 @@
 use Rattle.std.proofs.Common.{map, take}
 use Rattle.stab_circuit.specs.Steps.{one}
-use Rattle.stab_circuit.specs.Cursors.{Appends}
+use Rattle.stab_circuit.specs.inner.Unrolled.{Appends}
 use Rattle.stab_circuit.proofs.unrolled.push_gates.Given as goal
 
 abbrev pub invariant-loop-qubit : goal.invariant-loop-qubit

@@ -1,6 +1,6 @@
 use Rattle.std.proofs.Common.{map, take}
 use Rattle.stab_circuit.specs.Steps.{measured}
-use Rattle.stab_circuit.specs.Cursors.{Appends}
+use Rattle.stab_circuit.specs.inner.Unrolled.{Appends}
 use Rattle.stab_circuit.proofs.unrolled.push_measurements.Given as goal
 
 abbrev pub invariant-loop-target : goal.invariant-loop-target

@@ -1,6 +1,6 @@
 use Rattle.std.proofs.Common.{map, take}
 use Rattle.stab_circuit.specs.Steps.{two}
-use Rattle.stab_circuit.specs.Cursors.{Appends}
+use Rattle.stab_circuit.specs.inner.Unrolled.{Appends}
 use Rattle.stab_circuit.proofs.unrolled.push_pair_gates.Given as goal
 
 abbrev pub invariant-loop-pair : goal.invariant-loop-pair

@@ -1,7 +1,7 @@
 use Rattle.std.proofs.Common.{map, take, true, false}
 use Rattle.stab_circuit.specs.Steps.{collapse}
 use Rattle.stab_pauli.specs.declared.letter.Letter.TheVariants as letter
-use Rattle.stab_circuit.specs.Cursors.{Appends}
+use Rattle.stab_circuit.specs.inner.Unrolled.{Appends}
 use Rattle.stab_circuit.proofs.unrolled.push_resets.Given as goal
 
 abbrev pub invariant-loop-qubit : goal.invariant-loop-qubit

@@ -1,0 +1,61 @@
+-- One item's text without a fault stands for one item, and for no other.
+use Rattle.std.proofs.Common.{◌≡◌, ◌≤◌, ap, refl, sym, ◌∙◌, subst, ℕ, List, [], Bool, true, false, nat_lt, length, Option, None, Some, Ok, arith, if◌then◌else◌}
+use Rattle.std.specs.List.{list_all}
+use Rattle.stab_pauli.specs.declared.refusal.Refusal.TheVariants.{BadLine}
+use Rattle.stab_pauli.specs.declared.refusal.Fault.{Fault}
+use Rattle.stab_pauli.specs.Refusals.{whole}
+use Rattle.stab_circuit.specs.Items.{Items, OneItem, operation, repeat, before, done, next, block}
+use Rattle.stab_circuit.specs.Circuits.{Joins, most_bytes, contents, meanings, fault_from, one_item, is_empty, item_fault}
+use Rattle.stab_circuit.specs.inner.Readers.{start, read_on}
+use Rattle.stab_circuit.specs.Laws.{StandsForOneOnly}
+use Rattle.stab_circuit.proofs.ReadingLemmas.{one_list, some_list, read_joined}
+use Rattle.stab_circuit.proofs.OneItemLemmas.{read_blank, read_one, same_meanings, size}
+use Rattle.stab_circuit.proofs.RoundLemmas.{limit_case}
+
+-- a text without a fault has a line that is not blank, and its lines have no fault
+some_line : (b : Bool) (f : Option Fault) → (if b then Some (whole BadLine) else f) ≡ None → (b ≡ false) × (f ≡ None)
+some_line true f e = cc
+some_line false f e = (refl, e)
+
+item_lines : (text : List ℕ) → item_fault text ≡ None → (list_all is_empty (contents text) ≡ false) × (fault_from 1 [] (one_item 0 (contents text)) ≡ None)
+item_lines text e =
+    some_line (list_all is_empty (contents text)) (fault_from 1 [] (one_item 0 (contents text))) (limit_case (nat_lt most_bytes (length text)) _ e)
+
+-- one item is all that there is
+one_alone : (xs : Items) → (xs ≡ done → ⊥) → size xs ≤ 1 → (item : OneItem) × (xs ≡ before item done)
+one_alone done some few = absurd (some refl)
+one_alone (next op done) some few = (operation op, refl)
+one_alone (next op (next other rest)) some few = absurd (omega (arith, few))
+one_alone (next op (block count tag body rest)) some few = absurd (omega (arith, few))
+one_alone (block count tag body done) some few = (repeat count tag body, refl)
+one_alone (block count tag body (next op rest)) some few = absurd (omega (arith, few))
+one_alone (block count tag body (block other sign inner rest)) some few = absurd (omega (arith, few))
+
+-- the first item, or another where there is none
+abbrev first_or : OneItem → Items → OneItem
+first_or other done = other
+first_or other (next op rest) = operation op
+first_or other (block count tag body rest) = repeat count tag body
+
+first_before : (other item : OneItem) → first_or other (before item done) ≡ item
+first_before other (operation op) = refl
+first_before other (repeat count tag body) = refl
+
+same_item : (item other : OneItem) → before other done ≡ before item done → other ≡ item
+same_item item other e = sym (first_before item other) ∙ ap (first_or item) e ∙ first_before item item
+
+-- lines that are read as one item, and as that alone
+item_found : (text : List ℕ) (item : OneItem) → item_fault text ≡ None → fault_from 1 [] (meanings text) ≡ None → Joins (meanings text) (before item done) → StandsForOneOnly text item
+item_found text item e none j = ((e, j), λ other s. same_item item other (one_list (meanings text) (before other done) (before item done) none s.1 j))
+
+pub one_item_text : (text : List ℕ) → item_fault text ≡ None → (item : OneItem) × StandsForOneOnly text item
+one_item_text text e =
+    let cs = contents text in
+    let lines = item_lines text e in
+    let found = some_list (one_item 0 cs) lines.1 in
+    let read : read_on 1 start (one_item 0 cs) ≡ Ok found.0 = read_joined (one_item 0 cs) found.0 found.1 lines.1 in
+    let some : found.0 ≡ done → ⊥ = λ d. (let blank : list_all is_empty cs ≡ true = read_blank cs (read ∙ ap Ok d) in cc) in
+    let one = one_alone found.0 some (read_one cs found.0 read) in
+    let same : one_item 0 cs ≡ meanings text = same_meanings cs 1 [] lines.1 in
+    let none : fault_from 1 [] (meanings text) ≡ None = ap (fault_from 1 []) (sym same) ∙ lines.1 in
+    (one.0, item_found text one.0 e none (subst (λ ms. Joins ms (before one.0 done)) same (subst (Joins (one_item 0 cs)) one.1 found.1)))

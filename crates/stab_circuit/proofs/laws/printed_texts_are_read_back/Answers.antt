@@ -1,6 +1,0 @@
-use Rattle.stab_circuit.specs.Prints.{printed}
-use Rattle.stab_circuit.proofs.RoundLemmas.{round_trip, only_items}
-use Rattle.stab_circuit.proofs.laws.printed_texts_are_read_back.Goals as goal
-
-pub returns : goal.returns
-returns c = record { law = λ text items s h. let back = round_trip text items s h in (back, λ other t. only_items (printed items) items other back t) }

@@ -1,0 +1,5 @@
+pub mod Readers
+pub mod Texts
+pub mod Summaries
+pub mod Unrolled
+pub mod Margins

@@ -1,0 +1,55 @@
+-- Summaries: what checks need to know of items, in numbers that stop growing.
+use Rattle.std.specs.Prelude.{ℕ, ◌+◌, ◌*◌, ◌-◌, ◌≤◌, max, min, nat_lt, List, [], ◌∷◌, length, if◌then◌else◌, Option, Some, None}
+use Rattle.stab_pauli.specs.declared.refusal.Refusal.{Refusal}
+use Rattle.stab_pauli.specs.declared.refusal.Refusal.TheVariants.{LookbackTooFar, TooManySteps}
+use Rattle.stab_circuit.specs.declared.summary.Summary.{Summary}
+use Rattle.stab_lines.specs.declared.operation.Kind.{Kind}
+use Rattle.stab_circuit.specs.Items.{Items}
+use Rattle.stab_circuit.specs.Steps.{Step, makes, records_of, lookbacks, steps_of, unroll, past, named_qubits, named_observables, qubits_of, observables_of}
+
+-- the greatest number, or 0
+abbrev pub greatest : List ℕ → ℕ
+greatest [] = 0
+greatest (k ∷ ks) = max k (greatest ks)
+
+-- how many records have to stand before the steps
+abbrev pub reach : List Step → ℕ
+reach [] = 0
+reach (s ∷ ss) = max (greatest (lookbacks s)) (reach ss - makes s)
+
+-- the summary of steps that name so many qubits and observables: up to 1,048,577 steps and 16,777,215 records
+abbrev pub summed : List Step → ℕ → ℕ → Summary
+summed steps qubits observables = record { steps = min (length steps) 1048577; records = min (records_of steps) 16777215; reach = reach steps; qubits = qubits; observables = observables }
+
+-- the summary of an instruction
+abbrev pub kind_summary_of : Kind → Summary
+kind_summary_of kind = summed (steps_of kind) (past (named_qubits kind)) (past (named_observables kind))
+
+-- the summary of items
+abbrev pub summary_of : Items → Summary
+summary_of items = summed (unroll items) (qubits_of items) (observables_of items)
+
+-- a summary's numbers are within their bounds
+pub record IsSummary (s : Summary) : Type 0 where
+  pub steps : s.steps ≤ 1048577
+  pub records : s.records ≤ 16777215
+  pub reach : s.reach ≤ 16777215
+  pub qubits : s.qubits ≤ 1024
+
+-- the summary of items with others after them
+abbrev pub followed_by : Summary → Summary → Summary
+followed_by s t = record {
+  steps = min (s.steps + t.steps) 1048577;
+  records = min (s.records + t.records) 16777215;
+  reach = max s.reach (t.reach - s.records);
+  qubits = max s.qubits t.qubits;
+  observables = max s.observables t.observables;
+}
+
+-- the summary of so many rounds, of which the first reaches furthest
+abbrev pub repeated : ℕ → Summary → Summary
+repeated count s = record s { steps = min (count * s.steps) 1048577; records = min (count * s.records) 16777215 }
+
+-- what refuses a whole circuit of this summary
+abbrev pub judged : Summary → Option Refusal
+judged s = if nat_lt 0 s.reach then Some LookbackTooFar else if nat_lt 1048576 s.steps then Some TooManySteps else None

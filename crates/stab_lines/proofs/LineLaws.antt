@@ -1,0 +1,66 @@
+-- The laws of lines.
+use Rattle.std.proofs.Common.{◌≡◌, refl, ap, ◌∙◌, subst, ℕ, ◌+◌, ◌-◌, zero, suc, Bool, true, List, [], ◌∷◌, ◌++◌, length, drop, replicate, append-nil, arith, codes, Ok, Err}
+use Rattle.std.specs.List.{before_first, position_or_len, prefix_len, suffix_len}
+use Rattle.stab_pauli.specs.declared.refusal.Refusal.{Refusal}
+use Rattle.stab_lines.specs.declared.meanings.Line.{Line}
+use Rattle.stab_lines.specs.declared.meanings.Line.TheVariants.{Blank, Close, Open}
+use Rattle.stab_lines.specs.declared.meanings.Line.TheVariants as line
+use Rattle.stab_lines.specs.Lines.{is_byte, is_spacing, trimmed, trimmed_front, trimmed_end, content_of}
+use Rattle.stab_lines.specs.Meanings.{meaning_of, is_of_line}
+use Rattle.stab_lines.specs.Laws.{IsLine, line_printed, Says}
+use Rattle.stab_lines.proofs.FreeLemmas.{Free, free_take, free_drop, free_before, free_spaces, before_free, any_free, free_any}
+use Rattle.stab_lines.proofs.SureLemmas.{IsGoodLine, sure_of, meaning_sure}
+use Rattle.stab_lines.proofs.NeatLemmas.{IsNeat, content_again}
+use Rattle.stab_lines.proofs.PrintedLemmas.{operation_neat, open_neat, close_neat}
+use Rattle.stab_lines.proofs.MeaningLemmas.{operation_again, open_again, close_again}
+use Rattle.stab_lines.proofs.EmptyLemmas.{blank_empty, empty_blank}
+use Rattle.stab_lines.proofs.RefusalLemmas.{OfLine, meaning_line}
+
+-- what is left of a line has its bytes alone, and no comment
+trimmed_free : (p : ℕ → Bool) (bs : List ℕ) → Free p bs → Free p (trimmed bs)
+trimmed_free p bs f =
+    let front : Free p (trimmed_front bs) = free_drop p (prefix_len is_spacing bs) bs f in free_take p (length (trimmed_front bs) - suffix_len is_spacing (trimmed_front bs)) (trimmed_front bs) front
+
+content_free : (line' : List ℕ) → Free (is_byte 10) line' → Free (is_byte 10) (content_of line') × Free (is_byte 35) (content_of line')
+unfolding content_of
+content_free line' f =
+    let before = before_first (is_byte 35) line' in (
+      trimmed_free (is_byte 10) before (free_take (is_byte 10) (position_or_len (is_byte 35) line') line' f),
+      trimmed_free (is_byte 35) before (free_before (is_byte 35) line'),
+    )
+
+-- nothing is left of spaces
+spaces_trimmed : (n : ℕ) → trimmed_front (replicate n 32) ≡ []
+spaces_trimmed zero = refl
+spaces_trimmed (suc n) =
+    let k = prefix_len is_spacing (replicate n 32) in
+    let one : 1 + k ≡ suc k = omega arith in
+    ap (λ m. drop m (32 ∷ replicate n 32)) one ∙ spaces_trimmed n
+
+spaces_left : (n : ℕ) → content_of (replicate n 32 ++ []) ≡ []
+unfolding content_of
+spaces_left n =
+    ap (λ l. trimmed (before_first (is_byte 35) l)) (append-nil (replicate n 32))
+    ∙ ap trimmed (before_free (is_byte 35) (replicate n 32) (free_spaces 35 n refl))
+    ∙ ap trimmed_end (spaces_trimmed n)
+
+-- a neat content says what it means
+said : (content : List ℕ) (m : Line) → IsNeat content → meaning_of content ≡ Ok m → Says content m
+said content m n e = record { one_line = any_free (is_byte 10) content n.lines; left = λ k. content_again k content n; means = e }
+
+good_said : (m : Line) → IsGoodLine m → Says (line_printed m) m
+good_said Blank g = record { one_line = refl; left = spaces_left; means = empty_blank }
+good_said Close g = said (codes "}") Close close_neat close_again
+good_said (Open count tag) g = said (line_printed (Open count tag)) (Open count tag) (open_neat count tag g.0 g.1) (open_again count tag g.0 g.1)
+good_said (line.Operation op) g = said (line_printed (line.Operation op)) (line.Operation op) (operation_neat op g.0 g.1) (operation_again op g.0 g.1)
+
+pub printed_again : (line : List ℕ) (m : Line) → IsLine line → meaning_of (content_of line) ≡ Ok m → Says (line_printed m) m
+printed_again line m one e =
+    let free = content_free line (free_any (is_byte 10) line one) in
+    good_said m (sure_of IsGoodLine (meaning_of (content_of line)) m (meaning_sure (content_of line) free.0 free.1) e)
+
+pub blank_is_empty : (content : List ℕ) → (meaning_of content ≡ Ok Blank → content ≡ []) × (content ≡ [] → meaning_of content ≡ Ok Blank)
+blank_is_empty content = (blank_empty content, λ e. ap meaning_of e ∙ empty_blank)
+
+pub refused_as_line : (content : List ℕ) (r : Refusal) → meaning_of content ≡ Err r → is_of_line r ≡ true
+refused_as_line content r e = subst OfLine e (meaning_line content).holds

@@ -1,0 +1,14 @@
+-- Parts: how the parts of a content are shown.
+use Rattle.std.specs.Prelude.{◌≡◌, Result, Ok, Err}
+use Rattle.stab_pauli.specs.declared.refusal.Refusal.{Refusal}
+use Rattle.stab_lines.specs.declared.line.Shape.{Shape as Parts}
+use Rattle.stab_lines.specs.Lines.{Shape}
+
+-- the shape that the parts of a content show
+abbrev pub shape_shown : Parts → Shape
+shape_shown s = record { name = s.name.now; tag = s.tag.now; arguments = s.arguments.now; targets = s.targets.now; opens = s.opens }
+
+-- the call gave what the definition gives, seen by view, or failed as it does
+abbrev pub GivesBy : {X Y : Type 0} → (X → Y) → Result X Refusal → Result Y Refusal → Type 0
+GivesBy view (Ok x) given = given ≡ Ok (view x)
+GivesBy view (Err r) given = given ≡ Err r
