@@ -4,12 +4,15 @@ use Rattle.std.proofs.lemmas.List.{length-append, length-map, take_more}
 use Rattle.std.proofs.lemmas.List.Elements.{All-head, All-tail}
 use Rattle.std.specs.Global.{Vec}
 use Rattle.stab_pauli.specs.declared.refusal.Refusal.TheVariants.{LookbackTooFar, TooManySteps}
-use Rattle.stab_pauli.specs.declared.letter.Letter.TheVariants as letter
 use Rattle.stab_tableau.specs.declared.gate.Gate.{Gate}
-use Rattle.stab_tableau.specs.declared.gate.PairGate.{PairGate}
+use Rattle.stab_tableau.specs.declared.gate.PairGate.TheVariants as gate
+use Rattle.stab_lines.specs.declared.axis.Axis.{Axis}
+use Rattle.stab_lines.specs.declared.product.Factor.{Factor}
+use Rattle.stab_lines.specs.declared.control.ControlledPair.{ControlledPair}
+use Rattle.stab_lines.specs.declared.control.ControlledPair.TheVariants as pair
+use Rattle.stab_lines.specs.Axes.{letter_of}
 use Rattle.stab_lines.specs.declared.range.MeasureTarget.{MeasureTarget}
 use Rattle.stab_lines.specs.declared.operation.Measurement.{Measurement}
-use Rattle.stab_lines.specs.declared.operation.Measurement.TheVariants as measure
 use Rattle.stab_lines.specs.declared.operation.Kind.{Kind}
 use Rattle.stab_lines.specs.declared.operation.Kind.TheVariants as kind
 use Rattle.stab_lines.specs.declared.operation.Operation.{Operation}
@@ -20,8 +23,8 @@ use Rattle.stab_lines.specs.Lookbacks.{IsLookback}
 use Rattle.stab_circuit.specs.Items.{Items, done, next, block, join, before}
 use Rattle.stab_circuit.specs.Views.{item_of, items_of}
 use Rattle.stab_lines.specs.Targets.{pair_qubits}
-use Rattle.stab_circuit.specs.Steps.{Step, one, two, collapse, measured, steps_of, rounds, unroll, makes, records_of, lookbacks, target_qubits, past, past_named, qubits_of, observables_of, named_qubits, named_observables, check_of}
-use Rattle.stab_circuit.specs.inner.Summaries.{greatest, reach, summed, kind_summary_of, summary_of, followed_by, repeated, judged}
+use Rattle.stab_circuit.specs.Steps.{Step, one, two, collapse, measured, measured_product, controlled_step, steps_of, rounds, unroll, makes, records_of, lookbacks, target_qubits, factor_qubits, product_qubits, controlled_qubits, past, past_named, qubits_of, observables_of, named_qubits, named_observables, check_of}
+use Rattle.stab_circuit.specs.inner.Summaries.{greatest, looks_back, furthest, reach, summed, kind_summary_of, summary_of, followed_by, repeated, judged}
 use Rattle.stab_circuit.proofs.ViewLemmas.{item_of_operation, item_of_repeat, items_of_pushed}
 use Rattle.stab_circuit.proofs.StepLemmas.{length-rounds, records_of-append, records_of-rounds, reach-append, reach-rounds, unroll-join, capped_sum, capped_left, capped_times, looks_too_far_reach}
 
@@ -50,6 +53,29 @@ pub past_targets_dropped : (ts : List MeasureTarget) (i : ℕ) (d : MeasureTarge
     → past (target_qubits (drop i ts)) ≡ max ((get_or ts i d).qubit + 1) (past (target_qubits (drop (i + 1) ts)))
 past_targets_dropped ts i d h = from_place (λ l. past (target_qubits l)) (λ t. t.qubit + 1) ts i d h (λ t more. refl)
 
+past-append : (xs ys : List ℕ) → past (xs ++ ys) ≡ max (past xs) (past ys)
+past-append [] ys = omega arith
+past-append (x ∷ xs) ys = omega (arith, past-append xs ys)
+
+pub past_factors_dropped : (fs : List Factor) (i : ℕ) (d : Factor) → i < length fs
+    → past (factor_qubits (drop i fs)) ≡ max ((get_or fs i d).qubit + 1) (past (factor_qubits (drop (i + 1) fs)))
+past_factors_dropped fs i d h = from_place (λ l. past (factor_qubits l)) (λ f. f.qubit + 1) fs i d h (λ f more. refl)
+
+pub past_products_dropped : (ps : List (List Factor)) (i : ℕ) (d : List Factor) → i < length ps
+    → past (product_qubits (drop i ps)) ≡ max (past (factor_qubits (get_or ps i d))) (past (product_qubits (drop (i + 1) ps)))
+past_products_dropped ps i d h = from_place (λ l. past (product_qubits l)) (λ fs. past (factor_qubits fs)) ps i d h (λ fs more. past-append (factor_qubits fs) (product_qubits more))
+
+past_pair_more : (p : ControlledPair) (more : List ControlledPair) → past (controlled_qubits (p ∷ more)) ≡ max (past (controlled_qubits (p ∷ []))) (past (controlled_qubits more))
+past_pair_more (pair.Qubits p) more = omega arith
+past_pair_more (pair.Record k q) more = omega arith
+
+pub past_controlled_dropped : (ps : List ControlledPair) (i : ℕ) (d : ControlledPair) → i < length ps
+    → past (controlled_qubits (drop i ps)) ≡ max (past (controlled_qubits (get_or ps i d ∷ []))) (past (controlled_qubits (drop (i + 1) ps)))
+past_controlled_dropped ps i d h = from_place (λ l. past (controlled_qubits l)) (λ p. past (controlled_qubits (p ∷ []))) ps i d h past_pair_more
+
+pub furthest_dropped : (ps : List ControlledPair) (i : ℕ) (d : ControlledPair) → i < length ps → furthest (drop i ps) ≡ max (looks_back (get_or ps i d)) (furthest (drop (i + 1) ps))
+furthest_dropped ps i d h = from_place furthest looks_back ps i d h (λ p more. refl)
+
 abbrev summary : ℕ → ℕ → ℕ → ℕ → ℕ → Summary
 summary a b c q o = record { steps = a; records = b; reach = c; qubits = q; observables = o }
 
@@ -75,30 +101,59 @@ plain_summary f xs q p =
 pub gate_summary : (g : Gate) (qubits : List ℕ) → kind_summary_of (kind.Gate g qubits) ≡ record { steps = min (length qubits) 1048577; records = 0; reach = 0; qubits = past qubits; observables = 0 }
 gate_summary g qubits = plain_summary (one g) qubits (past qubits) (λ q. (refl, refl))
 
-pub pair_summary : (g : PairGate) (pairs : List (ℕ × ℕ)) → kind_summary_of (kind.PairGate g pairs) ≡ record { steps = min (length pairs) 1048577; records = 0; reach = 0; qubits = past (pair_qubits pairs); observables = 0 }
-pair_summary g pairs = plain_summary (λ pair. two g pair.0 pair.1) pairs (past (pair_qubits pairs)) (λ p. (refl, refl))
+pub swap_summary : (pairs : List (ℕ × ℕ)) → kind_summary_of (kind.Swap pairs) ≡ record { steps = min (length pairs) 1048577; records = 0; reach = 0; qubits = past (pair_qubits pairs); observables = 0 }
+swap_summary pairs = plain_summary (λ pair. two gate.Swap pair.0 pair.1) pairs (past (pair_qubits pairs)) (λ p. (refl, refl))
 
-pub reset_summary : (qubits : List ℕ) → kind_summary_of (kind.Reset qubits) ≡ record { steps = min (length qubits) 1048577; records = 0; reach = 0; qubits = past qubits; observables = 0 }
-reset_summary qubits = plain_summary (λ q. collapse letter.Z q false false true) qubits (past qubits) (λ q. (refl, refl))
+pub reset_summary : (a : Axis) (qubits : List ℕ) → kind_summary_of (kind.Reset a qubits) ≡ record { steps = min (length qubits) 1048577; records = 0; reach = 0; qubits = past qubits; observables = 0 }
+reset_summary a qubits = plain_summary (λ q. collapse (letter_of a) q false false true) qubits (past qubits) (λ q. (refl, refl))
 
-measured_makes : (m : Measurement) (t : MeasureTarget) → (makes (measured m t) ≡ 1) × (lookbacks (measured m t) ≡ [])
-measured_makes measure.M t = (refl, refl)
-measured_makes measure.Mx t = (refl, refl)
-measured_makes measure.Mr t = (refl, refl)
+-- the pairs of a controlled gate
+controlled_makes : (a : Axis) (p : ControlledPair) → (makes (controlled_step a p) ≡ 0) × (greatest (lookbacks (controlled_step a p)) ≡ looks_back p)
+controlled_makes a (pair.Qubits p) = (refl, refl)
+controlled_makes a (pair.Record k q) = (refl, omega arith)
 
-measured_records : (m : Measurement) (ts : List MeasureTarget) → (records_of (map (measured m) ts) ≡ length ts) × (reach (map (measured m) ts) ≡ 0)
-measured_records m [] = (refl, refl)
-measured_records m (t ∷ ts) =
-    let rest = measured_records m ts in
-    let here = measured_makes m t in
-    (omega (arith, here.0, rest.0), omega (arith, ap greatest here.1, rest.1))
+controlled_steps : (a : Axis) (ps : List ControlledPair) → (records_of (map (controlled_step a) ps) ≡ 0) × (reach (map (controlled_step a) ps) ≡ furthest ps)
+controlled_steps a [] = (refl, refl)
+controlled_steps a (p ∷ ps) =
+    let rest = controlled_steps a ps in
+    let here = controlled_makes a p in
+    (omega (arith, here.0, rest.0), omega (arith, here.0, here.1, rest.1))
+
+pub controlled_summary : (a : Axis) (ps : List ControlledPair)
+    → kind_summary_of (kind.Controlled a ps) ≡ record { steps = min (length ps) 1048577; records = 0; reach = furthest ps; qubits = past (controlled_qubits ps); observables = 0 }
+controlled_summary a ps =
+    let r = controlled_steps a ps in
+    let past' = past (controlled_qubits ps) in
+    same_summary _ _ _ _ _ _ past' 0 past' 0 (ap (λ n. min n 1048577) (length-map ps (controlled_step a))) (omega (arith, r.0)) r.1 refl refl
+
+-- the same of an instruction that is one
+pub controlled_found : {k : Kind} {a : Axis} {ps seen : List ControlledPair} → k ≡ kind.Controlled a ps → seen ≡ ps
+    → summary (min (length seen) 1048577) 0 (furthest seen) (past (controlled_qubits seen)) 0 ≡ kind_summary_of k
+controlled_found {k} {a} {ps} {seen} e f =
+    ap (λ l. summary (min (length l) 1048577) 0 (furthest l) (past (controlled_qubits l)) 0) f ∙ sym (controlled_summary a ps) ∙ ap kind_summary_of (sym e)
+
+-- steps that make a record each, and don't look back
+abbrev IsMeasured : Step → Type 0
+IsMeasured s = (makes s ≡ 1) × (lookbacks s ≡ [])
+
+measured_steps : {A : Type 0} (f : A → Step) (xs : List A) → ((x : A) → IsMeasured (f x)) → (records_of (map f xs) ≡ length xs) × (reach (map f xs) ≡ 0)
+measured_steps f [] p = (refl, refl)
+measured_steps f (x ∷ xs) p =
+    let rest = measured_steps f xs p in
+    (omega (arith, (p x).0, rest.0), omega (arith, ap greatest (p x).1, rest.1))
+
+measured_summary : {A : Type 0} (f : A → Step) (xs : List A) (q : ℕ) → ((x : A) → IsMeasured (f x)) → summed (map f xs) q 0 ≡ summary (min (length xs) 1048577) (min (length xs) 16777215) 0 q 0
+measured_summary f xs q p =
+    let r = measured_steps f xs p in
+    same_summary _ _ _ _ _ _ q 0 q 0 (ap (λ n. min n 1048577) (length-map xs f)) (ap (λ n. min n 16777215) r.0) r.1 refl refl
 
 pub measure_summary : (m : Measurement) (ts : List MeasureTarget)
     → kind_summary_of (kind.Measure m ts) ≡ record { steps = min (length ts) 1048577; records = min (length ts) 16777215; reach = 0; qubits = past (target_qubits ts); observables = 0 }
-measure_summary m ts =
-    let q = measured_records m ts in
-    let past' = past (target_qubits ts) in
-    same_summary _ _ _ _ _ _ past' 0 past' 0 (ap (λ n. min n 1048577) (length-map ts (measured m))) (ap (λ n. min n 16777215) q.0) q.1 refl refl
+measure_summary m ts = measured_summary (measured m) ts (past (target_qubits ts)) (λ t. (refl, refl))
+
+pub product_summary : (ps : List (List Factor))
+    → kind_summary_of (kind.MeasureProducts ps) ≡ record { steps = min (length ps) 1048577; records = min (length ps) 16777215; reach = 0; qubits = past (product_qubits ps); observables = 0 }
+product_summary ps = measured_summary measured_product ps (past (product_qubits ps)) (λ fs. (refl, refl))
 
 pub detector_summary : (coordinates : List (List ℕ)) (ks : List ℕ) → kind_summary_of (kind.Detector coordinates ks) ≡ record { steps = 1; records = 0; reach = greatest ks; qubits = 0; observables = 0 }
 detector_summary coordinates ks = same_summary _ _ _ _ _ _ _ _ _ _ refl refl (omega arith) refl refl

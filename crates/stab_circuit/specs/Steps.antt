@@ -2,18 +2,24 @@
 use Rattle.std.specs.Prelude.{◌≡◌, ℕ, ◌+◌, zero, suc, max, Bool, true, false, ◌||◌, nat_lt, List, [], ◌∷◌, ◌++◌, length, map, if◌then◌else◌, Option, Some, None, Result, Ok, Err}
 use Rattle.std.specs.List.{list_any}
 use Rattle.stab_pauli.specs.declared.letter.Letter.{Letter}
-use Rattle.stab_pauli.specs.declared.letter.Letter.TheVariants as letter
+use Rattle.stab_pauli.specs.Letters.{◌⊕◌}
 use Rattle.stab_pauli.specs.declared.refusal.Refusal.{Refusal}
 use Rattle.stab_pauli.specs.declared.refusal.Refusal.TheVariants.{QubitOutOfRange, LookbackTooFar, TooManySteps}
 use Rattle.stab_pauli.specs.declared.refusal.Fault.{Fault}
 use Rattle.stab_pauli.specs.Refusals.{whole}
 use Rattle.stab_tableau.specs.declared.gate.Gate.{Gate}
 use Rattle.stab_tableau.specs.declared.gate.PairGate.{PairGate}
+use Rattle.stab_tableau.specs.declared.gate.PairGate.TheVariants as gate
+use Rattle.stab_lines.specs.declared.axis.Axis.{Axis}
+use Rattle.stab_lines.specs.declared.axis.Axis.TheVariants as axis
+use Rattle.stab_lines.specs.declared.control.ControlledPair.{ControlledPair}
+use Rattle.stab_lines.specs.declared.control.ControlledPair.TheVariants as pair
+use Rattle.stab_lines.specs.declared.product.Factor.{Factor}
 use Rattle.stab_lines.specs.declared.range.MeasureTarget.{MeasureTarget}
 use Rattle.stab_lines.specs.declared.operation.Measurement.{Measurement}
-use Rattle.stab_lines.specs.declared.operation.Measurement.TheVariants as measure
 use Rattle.stab_lines.specs.declared.operation.Kind.{Kind}
 use Rattle.stab_lines.specs.declared.operation.Kind.TheVariants as kind
+use Rattle.stab_lines.specs.Axes.{letter_of}
 use Rattle.stab_lines.specs.Targets.{pair_qubits}
 use Rattle.stab_circuit.specs.Items.{Items, done, next, block}
 
@@ -21,22 +27,44 @@ use Rattle.stab_circuit.specs.Items.{Items, done, next, block}
 pub data Step : Type 0 where
   one : Gate → (qubit : ℕ) → Step
   two : PairGate → (first second : ℕ) → Step
+  controlled : Letter → (lookback qubit : ℕ) → Step
   collapse : Letter → (qubit : ℕ) → (recorded inverted resets : Bool) → Step
+  product : (factors : List Factor) → (inverted : Bool) → Step
   detector : (lookbacks : List ℕ) → Step
   observable : (number : ℕ) → (lookbacks : List ℕ) → Step
 
 -- the step of a measured target
 abbrev pub measured : Measurement → MeasureTarget → Step
-measured measure.M t = collapse letter.Z t.qubit true t.inverted false
-measured measure.Mx t = collapse letter.X t.qubit true t.inverted false
-measured measure.Mr t = collapse letter.Z t.qubit true t.inverted true
+measured m t = collapse (letter_of m.axis) t.qubit true t.inverted m.resets
+
+-- whether a product's record is inverted: the parity of its factors' marks
+abbrev pub is_inverted : List Factor → Bool
+is_inverted [] = false
+is_inverted (f ∷ fs) = f.inverted ⊕ is_inverted fs
+
+-- the step of a measured product
+abbrev pub measured_product : List Factor → Step
+measured_product factors = product factors (is_inverted factors)
+
+-- the gate that applies X, Y or Z under the control of a qubit
+abbrev pub controlled_gate : Axis → PairGate
+controlled_gate axis.X = gate.Cx
+controlled_gate axis.Y = gate.Cy
+controlled_gate axis.Z = gate.Cz
+
+-- the step of a pair of a controlled gate
+abbrev pub controlled_step : Axis → ControlledPair → Step
+controlled_step a (pair.Qubits p) = two (controlled_gate a) p.0 p.1
+controlled_step a (pair.Record k q) = controlled (letter_of a) k q
 
 -- the steps of one instruction
 abbrev pub steps_of : Kind → List Step
 steps_of (kind.Gate g qubits) = map (one g) qubits
-steps_of (kind.PairGate g pairs) = map (λ pair. two g pair.0 pair.1) pairs
+steps_of (kind.Controlled axis pairs) = map (controlled_step axis) pairs
+steps_of (kind.Swap pairs) = map (λ pair. two gate.Swap pair.0 pair.1) pairs
 steps_of (kind.Measure m targets) = map (measured m) targets
-steps_of (kind.Reset qubits) = map (λ q. collapse letter.Z q false false true) qubits
+steps_of (kind.Reset axis qubits) = map (λ q. collapse (letter_of axis) q false false true) qubits
+steps_of (kind.MeasureProducts products) = map measured_product products
 steps_of (kind.Detector coordinates ks) = detector ks ∷ []
 steps_of (kind.ObservableInclude j ks) = observable j ks ∷ []
 steps_of kind.Tick = []
@@ -60,6 +88,8 @@ makes (collapse l q true inverted resets) = 1
 makes (collapse l q false inverted resets) = 0
 makes (one g q) = 0
 makes (two g a b) = 0
+makes (controlled l k q) = 0
+makes (product factors inverted) = 1
 makes (detector ks) = 0
 makes (observable j ks) = 0
 
@@ -74,6 +104,8 @@ lookbacks (detector ks) = ks
 lookbacks (observable j ks) = ks
 lookbacks (one g q) = []
 lookbacks (two g a b) = []
+lookbacks (controlled l k q) = k ∷ []
+lookbacks (product factors inverted) = []
 lookbacks (collapse l q recorded inverted resets) = []
 
 -- whether some step looks further back than there are records, of which m are there before
@@ -85,12 +117,29 @@ looks_too_far m (s ∷ ss) = list_any (nat_lt m) (lookbacks s) || looks_too_far 
 abbrev pub target_qubits : List MeasureTarget → List ℕ
 target_qubits targets = map (λ t. t.qubit) targets
 
+-- the qubits of the pairs of a controlled gate
+abbrev pub controlled_qubits : List ControlledPair → List ℕ
+controlled_qubits [] = []
+controlled_qubits (pair.Qubits p ∷ pairs) = p.0 ∷ p.1 ∷ controlled_qubits pairs
+controlled_qubits (pair.Record k q ∷ pairs) = q ∷ controlled_qubits pairs
+
+-- the qubits of factors
+abbrev pub factor_qubits : List Factor → List ℕ
+factor_qubits factors = map (λ f. f.qubit) factors
+
+-- the qubits of products
+abbrev pub product_qubits : List (List Factor) → List ℕ
+product_qubits [] = []
+product_qubits (factors ∷ products) = factor_qubits factors ++ product_qubits products
+
 -- the qubits that an instruction names
 abbrev pub named_qubits : Kind → List ℕ
 named_qubits (kind.Gate g qubits) = qubits
-named_qubits (kind.PairGate g pairs) = pair_qubits pairs
+named_qubits (kind.Controlled axis pairs) = controlled_qubits pairs
+named_qubits (kind.Swap pairs) = pair_qubits pairs
 named_qubits (kind.Measure m targets) = target_qubits targets
-named_qubits (kind.Reset qubits) = qubits
+named_qubits (kind.Reset axis qubits) = qubits
+named_qubits (kind.MeasureProducts products) = product_qubits products
 named_qubits (kind.QubitCoords coordinates qubits) = qubits
 named_qubits (kind.Detector coordinates ks) = []
 named_qubits (kind.ObservableInclude j ks) = []
@@ -101,9 +150,11 @@ named_qubits (kind.ShiftCoords coordinates) = []
 abbrev pub named_observables : Kind → List ℕ
 named_observables (kind.ObservableInclude j ks) = j ∷ []
 named_observables (kind.Gate g qubits) = []
-named_observables (kind.PairGate g pairs) = []
+named_observables (kind.Controlled axis pairs) = []
+named_observables (kind.Swap pairs) = []
 named_observables (kind.Measure m targets) = []
-named_observables (kind.Reset qubits) = []
+named_observables (kind.Reset axis qubits) = []
+named_observables (kind.MeasureProducts products) = []
 named_observables (kind.Detector coordinates ks) = []
 named_observables kind.Tick = []
 named_observables (kind.QubitCoords coordinates qubits) = []

@@ -1,3 +1,4 @@
+use stab_lines::Factor;
 use stab_pauli::Letter;
 use stab_tableau::{Gate, PairGate};
 
@@ -8,6 +9,8 @@ pub enum Step<'a> {
     One(Gate, usize),
     /// A gate on two different qubits; of a controlled gate the first is the control.
     Two(PairGate, usize, usize),
+    /// A letter on a qubit, applied where the record `rec[-k]` is 1: the letter, k, the qubit.
+    Controlled(Letter, u32, usize),
     /// A measurement of a letter on a qubit.
     Collapse {
         letter: Letter,
@@ -18,6 +21,13 @@ pub enum Step<'a> {
         inverted: bool,
         /// Whether the qubit is flipped where the outcome is 1.
         reset: bool,
+    },
+    /// A measurement of a product of letters on different qubits, whose outcome goes into the
+    /// records.
+    Product {
+        factors: &'a [Factor],
+        /// Whether its record is the other bit: the parity of the factors' marks.
+        inverted: bool,
     },
     /// A detector: the numbers k of its `rec[-k]`.
     Detector(&'a [u32]),

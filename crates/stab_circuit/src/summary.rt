@@ -1,12 +1,12 @@
-ghost use Rattle.std.specs.Prelude.{◌≡◌, ◌≤◌, ◌*◌, min, length};
+ghost use Rattle.std.specs.Prelude.{◌≡◌, ◌≤◌, ◌*◌, min, length, ◌∷◌, []};
 ghost use Rattle.stab_circuit.specs.Items.{before, done};
 ghost use Rattle.stab_circuit.specs.Views.{item_of, items_of};
 ghost use Rattle.stab_lines.specs.Targets.{pair_qubits};
-ghost use Rattle.stab_circuit.specs.Steps.{past as past_of, target_qubits};
-ghost use Rattle.stab_circuit.specs.inner.Summaries.{greatest as greatest_of, kind_summary_of, summary_of, IsSummary};
+ghost use Rattle.stab_circuit.specs.Steps.{past as past_of, target_qubits, factor_qubits, product_qubits, controlled_qubits};
+ghost use Rattle.stab_circuit.specs.inner.Summaries.{greatest as greatest_of, looks_back, furthest as furthest_of, kind_summary_of, summary_of, IsSummary};
 
 use crate::item::{Item, Node};
-use stab_lines::{Kind, Lookbacks, MeasureTarget, Pair, Qubit};
+use stab_lines::{ControlledPair, Factor, Kind, Lookbacks, MeasureTarget, Pair, Product, Qubit};
 use stab_pauli::Refusal;
 
 /// What checks need to know of items: how many steps they make, up to 1,048,577, how many
@@ -144,6 +144,79 @@ fn past_targets(targets: &[MeasureTarget]) -> u32
     past
 }
 
+#[tactic(auto, using(crate::proofs::SummaryLemmas::past_factors_dropped))]
+fn past_factors(factors: &[Factor]) -> u32
+    ensures value { result ≡ past_of (factor_qubits factors.now) }
+    ensures small { result ≤ 1024 }
+{
+    let mut past = 0;
+    for factor in factors {
+        past = past.max(factor.qubit.number() as u32 + 1);
+    }
+    past
+}
+
+#[tactic(auto, using(crate::proofs::SummaryLemmas::past_products_dropped))]
+fn past_products(products: &[Product]) -> u32
+    ensures value { result ≡ past_of (product_qubits products.now) }
+    ensures small { result ≤ 1024 }
+{
+    let mut past = 0;
+    for product in products {
+        past = past.max(past_factors(product.as_slice()));
+    }
+    past
+}
+
+/// How many qubits a pair of a controlled gate names, up to the greatest.
+fn past_pair(pair: &ControlledPair) -> u32
+    ensures value { result ≡ past_of (controlled_qubits (pair.now ∷ [])) }
+    ensures small { result ≤ 1024 }
+{
+    match pair {
+        ControlledPair::Qubits(pair) => {
+            let first = pair.first().number() as u32 + 1;
+            first.max(pair.second().number() as u32 + 1)
+        }
+        ControlledPair::Record(_, qubit) => qubit.number() as u32 + 1,
+    }
+}
+
+#[tactic(auto, using(crate::proofs::SummaryLemmas::past_controlled_dropped))]
+fn past_controlled(pairs: &[ControlledPair]) -> u32
+    ensures value { result ≡ past_of (controlled_qubits pairs.now) }
+    ensures small { result ≤ 1024 }
+{
+    let mut past = 0;
+    for pair in pairs {
+        past = past.max(past_pair(pair));
+    }
+    past
+}
+
+/// How far back a pair of a controlled gate looks, or 0.
+fn reach_of_pair(pair: &ControlledPair) -> u32
+    ensures value { result ≡ looks_back pair.now }
+    ensures small { result ≤ 16777215 }
+{
+    match pair {
+        ControlledPair::Qubits(_) => 0,
+        ControlledPair::Record(lookback, _) => lookback.number(),
+    }
+}
+
+#[tactic(auto, using(crate::proofs::SummaryLemmas::furthest_dropped))]
+fn furthest(pairs: &[ControlledPair]) -> u32
+    ensures value { result ≡ furthest_of pairs.now }
+    ensures small { result ≤ 16777215 }
+{
+    let mut furthest = 0;
+    for pair in pairs {
+        furthest = furthest.max(reach_of_pair(pair));
+    }
+    furthest
+}
+
 /// The summary of so many steps on so many qubits that make no records.
 fn plain(steps: usize, qubits: u32) -> Summary
     requires few { qubits ≤ 1024 }
@@ -171,28 +244,48 @@ fn look(records: &Lookbacks, observables: u32) -> Summary
     }
 }
 
-fn measurement(targets: &[MeasureTarget]) -> Summary
-    ensures value { result ≡ record { steps = min (length targets.now) 1048577; records = min (length targets.now) 16777215; reach = 0; qubits = past_of (target_qubits targets.now); observables = 0 } }
+/// The summary of the pairs of a controlled gate.
+fn controlled(pairs: &[ControlledPair]) -> Summary
+    ensures value { result ≡ record { steps = min (length pairs.now) 1048577; records = 0; reach = furthest_of pairs.now; qubits = past_of (controlled_qubits pairs.now); observables = 0 } }
     ensures small { IsSummary result }
 {
     Summary {
-        steps: capped(targets.len(), MOST_STEPS),
-        records: capped(targets.len(), MOST_RECORDS),
-        qubits: past_targets(targets),
-        ..Summary::NONE
+        reach: furthest(pairs),
+        ..plain(pairs.len(), past_controlled(pairs))
     }
 }
 
-#[tactic(auto, using(crate::proofs::SummaryLemmas::gate_summary, crate::proofs::SummaryLemmas::pair_summary, crate::proofs::SummaryLemmas::measure_summary, crate::proofs::SummaryLemmas::reset_summary, crate::proofs::SummaryLemmas::detector_summary, crate::proofs::SummaryLemmas::observable_summary))]
+/// The summary of so many steps on so many qubits that make a record each.
+fn measurement(steps: usize, qubits: u32) -> Summary
+    requires few { qubits ≤ 1024 }
+    ensures value { result ≡ record { steps = min steps 1048577; records = min steps 16777215; reach = 0; qubits = qubits; observables = 0 } }
+    ensures small { IsSummary result }
+{
+    Summary {
+        records: capped(steps, MOST_RECORDS),
+        ..plain(steps, qubits)
+    }
+}
+
+#[tactic(auto, using(crate::proofs::SummaryLemmas::gate_summary, crate::proofs::SummaryLemmas::swap_summary, crate::proofs::SummaryLemmas::product_summary, crate::proofs::SummaryLemmas::measure_summary, crate::proofs::SummaryLemmas::reset_summary, crate::proofs::SummaryLemmas::detector_summary, crate::proofs::SummaryLemmas::observable_summary))]
 fn kind_summary(kind: &Kind) -> Summary
     ensures value { result ≡ kind_summary_of kind.now }
     ensures small { IsSummary result }
 {
     match kind {
         Kind::Gate(_, qubits) => plain(qubits.as_slice().len(), past(qubits.as_slice())),
-        Kind::PairGate(_, pairs) => plain(pairs.as_slice().len(), past_pairs(pairs.as_slice())),
-        Kind::Measure(_, targets) => measurement(targets.as_slice()),
-        Kind::Reset(qubits) => plain(qubits.as_slice().len(), past(qubits.as_slice())),
+        Kind::Controlled(_, pairs) => controlled(pairs.as_slice()),
+        Kind::Swap(pairs) => plain(pairs.as_slice().len(), past_pairs(pairs.as_slice())),
+        Kind::Measure(_, targets) => {
+            measurement(targets.as_slice().len(), past_targets(targets.as_slice()))
+        }
+        Kind::Reset(_, qubits) => plain(qubits.as_slice().len(), past(qubits.as_slice())),
+        Kind::MeasureProducts(products) => {
+            measurement(
+                products.as_slice().len(),
+                past_products(products.as_slice()),
+            )
+        }
         Kind::Detector(_, records) => look(records, 0),
         Kind::ObservableInclude(observable, records) => look(records, observable.number() + 1),
         Kind::QubitCoords(_, qubits) => plain(0, past(qubits.as_slice())),

@@ -67,6 +67,37 @@ fn a_faulty_text_is_refused_with_its_number_and_line(rt: HostRuntime) -> Result<
         ("CX 1 01", 4, 1),
         ("M(0.1) 0", 2, 1),
         ("X_ERROR 0", 1, 1),
+        ("CZ 0 rec[-1]", 3, 1),
+        ("CX rec[-1] rec[-1]", 3, 1),
+        ("SWAP rec[-1] 0", 3, 1),
+        ("CX rec[-1] 0", 8, 0),
+        ("M 0\nCY rec[-2] 0", 8, 0),
+        ("M 0\nREPEAT 2 {\nCZ rec[-1] 1 0 1\n}", 0, 0),
+        ("CX rec[-1] 0 1", 4, 1),
+        ("CX 0 1 rec[-1]", 4, 1),
+        ("CX rec[-0] 0", 3, 1),
+        ("CX 0 0 1 rec[-1]", 3, 1),
+        ("CX 0 0 rec[-1] 1024", 6, 1),
+        ("CX(1) rec[-1] 0", 2, 1),
+        ("MPP X0*Z0", 3, 1),
+        ("MPP X0*", 3, 1),
+        ("MPP *X0", 3, 1),
+        ("MPP X0 * X1", 3, 1),
+        ("MPP X1024*X1024", 6, 1),
+        ("MPP I0", 3, 1),
+        ("MPP X", 3, 1),
+        ("MPP 0", 3, 1),
+        ("MPP !!X0", 3, 1),
+        ("MPP X!0", 3, 1),
+        ("MPP X0*X1024*X0", 6, 1),
+        ("MPP X1024*I0", 3, 1),
+        ("MPP X0 X1024 X0*Z0", 6, 1),
+        ("MPP(0.1) X0", 2, 1),
+        ("MPP rec[-1]", 3, 1),
+        ("MPP Y0 Z0", 0, 0),
+        ("RY !0", 3, 1),
+        ("MRX rec[-1]", 3, 1),
+        ("SQRT_X !0", 3, 1),
         ("CX 0 {", 4, 1),
         ("TICK 0 {", 3, 1),
         ("OBSERVABLE_INCLUDE(4096) {", 5, 1),
@@ -152,6 +183,9 @@ fn a_circuit_has_its_numbers(rt: HostRuntime) -> Result<(), Fail> {
     let many = read(rt.alloc(), b"REPEAT 1048576 {\nm 5\n}\nQUBIT_COORDS 1023")?;
     assert_eq!(rt; (many.steps(), many.records()), (1_048_576, 1_048_576));
     assert_eq!(rt; (many.qubits(), many.observables()), (1024, 0));
+    let products = read(rt.alloc(), b"MPP X0*X7 !Z1\nM 0\nCX rec[-2] 9")?;
+    assert_eq!(rt; (products.steps(), products.records()), (4, 3));
+    assert_eq!(rt; (products.qubits(), products.observables()), (10, 0));
     for cut in 0..CODE.len() {
         let found = fault_of(read(rt.alloc(), CODE.as_bytes().split_at(cut).0));
         assert!(rt; found.0 <= 11);
@@ -234,6 +268,20 @@ fn a_circuit_is_printed_as_its_one_text(rt: HostRuntime) -> Result<(), Fail> {
         (
             "tick\nqubit_coords 3\nShift_Coords(1e5)",
             "TICK\nQUBIT_COORDS 3\nSHIFT_COORDS(1e5)\n",
+        ),
+        ("mpp !x0*!x1 z0", "MPP !X0*!X1 Z0\n"),
+        ("Mpp Y007*x1*!z2\nMPP", "MPP Y7*X1*!Z2\nMPP\n"),
+        (
+            "my !0 1\nmrx 0\nMRY !1\nrx 0\nRY 1",
+            "MY !0 1\nMRX 0\nMRY !1\nRX 0\nRY 1\n",
+        ),
+        (
+            "M 0\nzcx rec[-01] 1 2 3\nCY rec[-1] 0\ncz rec[-1] 1",
+            "M 0\nCX rec[-1] 1 2 3\nCY rec[-1] 0\nCZ rec[-1] 1\n",
+        ),
+        (
+            "c_xyz 0\nC_zyx 0\nsqrt_x 0\nsqrt_x_dag 0\nSqrt_Y 0\nsqrt_y_dag 0",
+            "C_XYZ 0\nC_ZYX 0\nSQRT_X 0\nSQRT_X_DAG 0\nSQRT_Y 0\nSQRT_Y_DAG 0\n",
         ),
         (CODE, CODE),
     ] {

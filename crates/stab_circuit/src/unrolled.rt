@@ -1,15 +1,17 @@
 ghost use Rattle.std.specs.Prelude.{◌≡◌, ◌≤◌, ◌++◌, true, false, length, map, drop, OnOk};
-ghost use Rattle.stab_pauli.specs.declared.letter.Letter.TheVariants as letter;
+ghost use Rattle.stab_tableau.specs.declared.gate.PairGate.TheVariants as gate;
+ghost use Rattle.stab_lines.specs.Axes.{letter_of};
 ghost use Rattle.stab_circuit.specs.Items.{before, done};
-ghost use Rattle.stab_circuit.specs.Steps.{one, two, collapse, measured as measured_step, steps_of, rounds, unroll};
+ghost use Rattle.stab_circuit.specs.Steps.{one, two, collapse, measured as measured_step, is_inverted as is_inverted_of, measured_product as measured_product_step, controlled_gate as controlled_gate_of, controlled_step, steps_of, rounds, unroll};
 ghost use Rattle.stab_circuit.specs.Views.{item_of, items_of};
-ghost use Rattle.stab_circuit.specs.Cursors.{step_shown};
+ghost use Rattle.stab_circuit.specs.Cursors.{step_shown, IsApart};
 ghost use Rattle.stab_circuit.specs.inner.Unrolled.{steps_shown, Appends};
 
 use crate::item::{Item, Node};
 use crate::step::Step;
-use stab_lines::{Kind, MeasureTarget, Measurement, Pair, Qubit};
-use stab_pauli::Letter;
+use stab_lines::{
+    Axis, ControlledPair, Factor, Kind, MeasureTarget, Measurement, Pair, Product, Qubit,
+};
 use stab_tableau::{Gate, PairGate};
 use std::alloc::AllocError;
 
@@ -17,16 +19,61 @@ use std::alloc::AllocError;
 fn measured(measurement: Measurement, target: MeasureTarget) -> Step<'static>
     ensures value { step_shown result ≡ measured_step measurement target }
 {
-    let letter = match measurement {
-        Measurement::Mx => Letter::X,
-        Measurement::M | Measurement::Mr => Letter::Z,
-    };
     Step::Collapse {
-        letter,
+        letter: measurement.axis.letter(),
         qubit: target.qubit.number(),
         recorded: true,
         inverted: target.inverted,
-        reset: measurement == Measurement::Mr,
+        reset: measurement.resets,
+    }
+}
+
+/// Whether the record of a product is inverted.
+fn is_inverted(factors: &[Factor]) -> bool
+    ensures value { result ≡ is_inverted_of factors.now }
+{
+    let mut inverted = false;
+    for factor in factors {
+        inverted ^= factor.inverted;
+    }
+    inverted
+}
+
+/// The step of a measured product.
+fn measured_product(product: &Product) -> Step
+    ensures value { step_shown result ≡ measured_product_step product.now }
+    ensures apart { IsApart (step_shown result) }
+{
+    let factors = product.as_slice();
+    Step::Product {
+        factors,
+        inverted: is_inverted(factors),
+    }
+}
+
+fn controlled_gate(axis: Axis) -> PairGate
+    ensures value { result ≡ controlled_gate_of axis }
+{
+    match axis {
+        Axis::X => PairGate::Cx,
+        Axis::Y => PairGate::Cy,
+        Axis::Z => PairGate::Cz,
+    }
+}
+
+/// The step of a pair of a controlled gate.
+fn controlled(axis: Axis, pair: &ControlledPair) -> Step<'static>
+    ensures value { step_shown result ≡ controlled_step axis pair.now }
+    ensures apart { IsApart (step_shown result) }
+{
+    match pair {
+        ControlledPair::Qubits(pair) => {
+            let first = pair.first().number();
+            Step::Two(controlled_gate(axis), first, pair.second().number())
+        }
+        ControlledPair::Record(lookback, qubit) => {
+            Step::Controlled(axis.letter(), lookback.number(), qubit.number())
+        }
     }
 }
 
@@ -41,13 +88,37 @@ fn push_gates(steps: &mut Vec<Step>, gate: Gate, qubits: &[Qubit]) -> Result<(),
 }
 
 #[tactic(auto, using(crate::proofs::CursorLemmas::appends_none, crate::proofs::CursorLemmas::appends_each, crate::proofs::CursorLemmas::appends_all))]
-fn push_pair_gates(steps: &mut Vec<Step>, gate: PairGate, pairs: &[Pair]) -> Result<(), AllocError>
-    ensures steps { OnOk result (Appends (map (λ pair. two gate pair.0 pair.1) pairs.now) steps.old.items steps.new.items) }
+fn push_controlled(
+    steps: &mut Vec<Step>,
+    axis: Axis,
+    pairs: &[ControlledPair],
+) -> Result<(), AllocError>
+    ensures steps { OnOk result (Appends (map (controlled_step axis) pairs.now) steps.old.items steps.new.items) }
+{
+    for pair in pairs {
+        steps.push(controlled(axis, pair))?;
+    }
+    Ok(())
+}
+
+#[tactic(auto, using(crate::proofs::CursorLemmas::appends_none, crate::proofs::CursorLemmas::appends_each, crate::proofs::CursorLemmas::appends_all))]
+fn push_swaps(steps: &mut Vec<Step>, pairs: &[Pair]) -> Result<(), AllocError>
+    ensures steps { OnOk result (Appends (map (λ pair. two gate.Swap pair.0 pair.1) pairs.now) steps.old.items steps.new.items) }
 {
     for pair in pairs {
         let first = pair.first().number();
         let second = pair.second().number();
-        steps.push(Step::Two(gate, first, second))?;
+        steps.push(Step::Two(PairGate::Swap, first, second))?;
+    }
+    Ok(())
+}
+
+#[tactic(auto, using(crate::proofs::CursorLemmas::appends_none, crate::proofs::CursorLemmas::appends_each, crate::proofs::CursorLemmas::appends_all))]
+fn push_products<'a>(steps: &mut Vec<Step<'a>>, products: &'a [Product]) -> Result<(), AllocError>
+    ensures steps { OnOk result (Appends (map measured_product_step products.now) steps.old.items steps.new.items) }
+{
+    for product in products {
+        steps.push(measured_product(product))?;
     }
     Ok(())
 }
@@ -67,12 +138,12 @@ fn push_measurements(
 }
 
 #[tactic(auto, using(crate::proofs::CursorLemmas::appends_none, crate::proofs::CursorLemmas::appends_each, crate::proofs::CursorLemmas::appends_all))]
-fn push_resets(steps: &mut Vec<Step>, qubits: &[Qubit]) -> Result<(), AllocError>
-    ensures steps { OnOk result (Appends (map (λ q. collapse letter.Z q false false true) qubits.now) steps.old.items steps.new.items) }
+fn push_resets(steps: &mut Vec<Step>, axis: Axis, qubits: &[Qubit]) -> Result<(), AllocError>
+    ensures steps { OnOk result (Appends (map (λ q. collapse (letter_of axis) q false false true) qubits.now) steps.old.items steps.new.items) }
 {
     for qubit in qubits {
         steps.push(Step::Collapse {
-            letter: Letter::Z,
+            letter: axis.letter(),
             qubit: qubit.number(),
             recorded: false,
             inverted: false,
@@ -88,11 +159,13 @@ fn push_kind<'a>(steps: &mut Vec<Step<'a>>, kind: &'a Kind) -> Result<(), AllocE
 {
     match kind {
         Kind::Gate(gate, qubits) => push_gates(steps, *gate, qubits.as_slice()),
-        Kind::PairGate(gate, pairs) => push_pair_gates(steps, *gate, pairs.as_slice()),
+        Kind::Controlled(axis, pairs) => push_controlled(steps, *axis, pairs.as_slice()),
+        Kind::Swap(pairs) => push_swaps(steps, pairs.as_slice()),
         Kind::Measure(measurement, targets) => {
             push_measurements(steps, *measurement, targets.as_slice())
         }
-        Kind::Reset(qubits) => push_resets(steps, qubits.as_slice()),
+        Kind::Reset(axis, qubits) => push_resets(steps, *axis, qubits.as_slice()),
+        Kind::MeasureProducts(products) => push_products(steps, products.as_slice()),
         Kind::Detector(_, records) => {
             steps.push(Step::Detector(records.as_slice()))?;
             Ok(())

@@ -28,7 +28,7 @@ decimal_digits n wide = digits_decimal decimal_model n wide
 pub decimal_value : (n : ℕ) → n < 2 ^ 64 → value (decimal n) ≡ n
 decimal_value n wide = digits_value-decimal decimal_model n wide
 
-some_of : (w : List ℕ) → 0 < length w → is_some_word w ≡ true
+pub some_of : (w : List ℕ) → 0 < length w → is_some_word w ≡ true
 some_of [] h = absurd (omega arith)
 some_of (b ∷ bs) h = grind arith
 
@@ -49,7 +49,7 @@ qubit_again q small =
     ∙ chosen (nat_lt (value (decimal q)) 1024) _ _ (ap (λ v. nat_lt v 1024) (decimal_value q wide) ∙ lt_true q 1024 small)
     ∙ ap Ok (decimal_value q wide)
 
-digit_no : (b : ℕ) → b < 48 → (d : ℕ) → is_digit d ≡ true → (d == b) ≡ false
+pub digit_no : (b : ℕ) → b < 48 → (d : ℕ) → is_digit d ≡ true → (d == b) ≡ false
 digit_no b h d e = grind (arith, nat_tests)
 
 plain_start : (ds : List ℕ) → list_all is_digit ds ≡ true → starts_with_byte ds 33 ≡ false
@@ -70,15 +70,21 @@ digits_again k =
     let six : length (lookback_text k) - 6 ≡ length (decimal k) = omega (arith, length-append (decimal k) (codes "]")) in
     ap (λ n. take n (decimal k ++ codes "]")) six ∙ take_front (decimal k) (codes "]")
 
+-- a printed record is written as one
+pub lookback_written : (k : ℕ) → k < 2 ^ 64 → is_lookback (lookback_text k) ≡ true
+lookback_written k wide =
+    let w : List ℕ = lookback_text k in
+    let ends : ends_with_byte w 93 ≡ true = ends_with_last 93 (codes "rec[-" ++ decimal k) refl in
+    let number : is_number (lookback_digits w) ≡ true = ap is_number (digits_again k) ∙ decimal_number k wide in
+    both (starts_with nat_eq w (codes "rec[-") && ends_with_byte w 93) (is_number (lookback_digits w)) (both (starts_with nat_eq w (codes "rec[-")) (ends_with_byte w 93) refl ends) number
+
 pub lookback_again : (k : ℕ) → IsLookback k → lookback_of (lookback_text k) ≡ Ok k
 unfolding lookback_of
 lookback_again k p =
     let wide : k < 2 ^ 64 = omega (arith, p.1) in
     let w : List ℕ = lookback_text k in
     let v : value (lookback_digits w) ≡ k = ap value (digits_again k) ∙ decimal_value k wide in
-    let ends : ends_with_byte w 93 ≡ true = ends_with_last 93 (codes "rec[-" ++ decimal k) refl in
-    let number : is_number (lookback_digits w) ≡ true = ap is_number (digits_again k) ∙ decimal_number k wide in
-    let written : is_lookback w ≡ true = both (starts_with nat_eq w (codes "rec[-") && ends_with_byte w 93) (is_number (lookback_digits w)) (both (starts_with nat_eq w (codes "rec[-")) (ends_with_byte w 93) refl ends) number in
+    let written : is_lookback w ≡ true = lookback_written k wide in
     let low : nat_lt 0 (value (lookback_digits w)) ≡ true = ap (nat_lt 0) v ∙ lt_true 0 k p.0 in
     let high : nat_lt (value (lookback_digits w)) 16777216 ≡ true = ap (λ n. nat_lt n 16777216) v ∙ lt_true k 16777216 p.1 in
     chosen (is_lookback w && nat_lt 0 (value (lookback_digits w)) && nat_lt (value (lookback_digits w)) 16777216) _ _
@@ -116,7 +122,7 @@ observable_again j small =
     chosen (nat_lt (value (decimal j)) 4096) _ _ (ap (λ v. nat_lt v 4096) (decimal_value j wide) ∙ lt_true j 4096 small) ∙ ap Ok (decimal_value j wide)
 
 -- what each is read as
-pub each_again : {X : Type 0} (f : List ℕ → Result X Refusal) (text : X → List ℕ) (P : X → Type 0) → ((x : X) → P x → f (text x) ≡ Ok x) → (xs : List X) → Each P xs → each f (map text xs) ≡ Ok xs
+pub each_again : {A X : Type 0} (f : A → Result X Refusal) (text : X → A) (P : X → Type 0) → ((x : X) → P x → f (text x) ≡ Ok x) → (xs : List X) → Each P xs → each f (map text xs) ≡ Ok xs
 each_again f text P h [] p = refl
 each_again f text P h (x ∷ xs) p =
     ap (λ r. r >>= λ first. each f (map text xs) >>= λ rest. Ok (first ∷ rest)) (h x p.0) ∙ ap (λ r. r >>= λ rest. Ok (x ∷ rest)) (each_again f text P h xs p.1)
@@ -144,7 +150,7 @@ words_again text (x ∷ xs) w =
     ap (filter is_some_word) (slice_split-cons_yes is_spacing 32 (text x ++ spaced text xs) refl ∙ ap (λ l. [] ∷ l) (pieces_again text x xs w)) ∙ all_kept text (x ∷ xs) w
 
 -- what is printed is words
-spacing_no : (d : ℕ) → is_digit d ≡ true → is_spacing d ≡ false
+pub spacing_no : (d : ℕ) → is_digit d ≡ true → is_spacing d ≡ false
 spacing_no d e = grind (arith, nat_tests)
 
 pub decimal_word : (n : ℕ) → n < 2 ^ 64 → IsWord (decimal n)

@@ -5,23 +5,26 @@ use Rattle.std.specs.Fmt.{decimal}
 use Rattle.std.proofs.lemmas.Bool.Decides.{nat_tests}
 use Rattle.stab_tableau.specs.declared.gate.Gate.{Gate}
 use Rattle.stab_tableau.specs.declared.gate.Gate.TheVariants as one
-use Rattle.stab_tableau.specs.declared.gate.PairGate.{PairGate}
-use Rattle.stab_tableau.specs.declared.gate.PairGate.TheVariants as two
+use Rattle.stab_lines.specs.declared.axis.Axis.{Axis}
+use Rattle.stab_lines.specs.declared.axis.Axis.TheVariants as axis
+use Rattle.stab_lines.specs.declared.product.Factor.{Factor}
+use Rattle.stab_lines.specs.declared.control.ControlledPair.{ControlledPair}
+use Rattle.stab_lines.specs.declared.control.ControlledPair.TheVariants as pair
 use Rattle.stab_lines.specs.declared.range.MeasureTarget.{MeasureTarget}
-use Rattle.stab_lines.specs.declared.operation.Measurement.{Measurement}
-use Rattle.stab_lines.specs.declared.operation.Measurement.TheVariants as measure
 use Rattle.stab_lines.specs.declared.operation.Kind.{Kind}
 use Rattle.stab_lines.specs.declared.operation.Kind.TheVariants as kind
 use Rattle.stab_lines.specs.Lines.{is_digit}
 use Rattle.stab_lines.specs.Lookbacks.{IsLookback}
 use Rattle.stab_lines.specs.Targets.{is_coordinate_byte}
 use Rattle.stab_lines.specs.Targets.{pair_qubits}
-use Rattle.stab_lines.specs.Prints.{gate_name, pair_gate_name, measurement_name, kind_name, kind_arguments, mark_text, target_text, lookback_text, spaced, targets_text}
+use Rattle.stab_lines.specs.Prints.{gate_name, controlled_name, measurement_name, reset_name, kind_name, controlled_text, product_text, kind_arguments, mark_text, target_text, lookback_text, spaced, targets_text}
 use Rattle.stab_lines.proofs.BoolLemmas.{both, and_left, and_right}
 use Rattle.stab_lines.proofs.FreeLemmas.{Each, Free, free-append, each_weaker, digits_free}
-use Rattle.stab_lines.proofs.SureLemmas.{IsQubit, IsMeasured, IsCoordinate, IsGoodKind}
+use Rattle.stab_lines.proofs.SureLemmas.{IsQubit, IsMeasured, IsProduct, IsControlled, IsCoordinate, IsGoodKind}
 use Rattle.stab_lines.proofs.NeatLemmas.{Ends, ends-append, solid_word}
 use Rattle.stab_lines.proofs.AgainLemmas.{IsWord, AreWords, decimal_digits, decimal_some, target_word, lookback_word, qubits_words, pairs_spaced, pair_qubits_good}
+use Rattle.stab_lines.proofs.FactorLemmas.{product_free, product_word}
+use Rattle.stab_lines.proofs.ControlAgainLemmas.{flat, flat_words, controlled_spaced}
 use Rattle.stab_lines.proofs.ShapeLemmas.{IsName, IsApart, name_is}
 
 -- names
@@ -33,23 +36,38 @@ gate_is one.Z = name_is _ _ refl refl
 gate_is one.H = name_is _ _ refl refl
 gate_is one.S = name_is _ _ refl refl
 gate_is one.SDag = name_is _ _ refl refl
+gate_is one.CXyz = name_is _ _ refl refl
+gate_is one.CZyx = name_is _ _ refl refl
+gate_is one.SqrtX = name_is _ _ refl refl
+gate_is one.SqrtXDag = name_is _ _ refl refl
+gate_is one.SqrtY = name_is _ _ refl refl
+gate_is one.SqrtYDag = name_is _ _ refl refl
 
-pair_gate_is : (g : PairGate) → IsName (pair_gate_name g)
-pair_gate_is two.Cx = name_is _ _ refl refl
-pair_gate_is two.Cy = name_is _ _ refl refl
-pair_gate_is two.Cz = name_is _ _ refl refl
-pair_gate_is two.Swap = name_is _ _ refl refl
+controlled_is : (a : Axis) → IsName (controlled_name a)
+controlled_is axis.X = name_is _ _ refl refl
+controlled_is axis.Y = name_is _ _ refl refl
+controlled_is axis.Z = name_is _ _ refl refl
 
-measurement_is : (m : Measurement) → IsName (measurement_name m)
-measurement_is measure.M = name_is _ _ refl refl
-measurement_is measure.Mx = name_is _ _ refl refl
-measurement_is measure.Mr = name_is _ _ refl refl
+measured_is : (a : Axis) (resets : Bool) → IsName (measurement_name (record { axis = a; resets = resets }))
+measured_is axis.X true = name_is _ _ refl refl
+measured_is axis.Y true = name_is _ _ refl refl
+measured_is axis.Z true = name_is _ _ refl refl
+measured_is axis.X false = name_is _ _ refl refl
+measured_is axis.Y false = name_is _ _ refl refl
+measured_is axis.Z false = name_is _ _ refl refl
+
+reset_is : (a : Axis) → IsName (reset_name a)
+reset_is axis.X = name_is _ _ refl refl
+reset_is axis.Y = name_is _ _ refl refl
+reset_is axis.Z = name_is _ _ refl refl
 
 pub kind_is : (k : Kind) → IsName (kind_name k)
 kind_is (kind.Gate g qubits) = gate_is g
-kind_is (kind.PairGate g pairs) = pair_gate_is g
-kind_is (kind.Measure m targets) = measurement_is m
-kind_is (kind.Reset qubits) = name_is _ _ refl refl
+kind_is (kind.Controlled axis pairs) = controlled_is axis
+kind_is (kind.Swap pairs) = name_is _ _ refl refl
+kind_is (kind.Measure m targets) = measured_is m.axis m.resets
+kind_is (kind.Reset axis qubits) = reset_is axis
+kind_is (kind.MeasureProducts products) = name_is _ _ refl refl
 kind_is (kind.Detector coordinates ks) = name_is _ _ refl refl
 kind_is (kind.ObservableInclude j ks) = name_is _ _ refl refl
 kind_is kind.Tick = name_is _ _ refl refl
@@ -62,7 +80,7 @@ repeat_is = name_is _ _ refl refl
 -- a test that fails on all that targets are made of
 pub record IsClear (p : ℕ → Bool) : Type 0 where
   pub digits : (d : ℕ) → is_digit d ≡ true → p d ≡ false
-  pub marks : Free p (codes "!rec[-]")
+  pub marks : Free p (codes "!rec[-]*XYZ")
   pub space : p 32 ≡ false
 
 -- nothing, or something that ends without spacing
@@ -130,13 +148,33 @@ lookback_targets ks g =
     spaced_targets lookback_text ks (each_weaker IsLookback (λ k. IsWord (lookback_text k)) ks lookback_word g)
     (each_weaker IsLookback (λ k. (p : ℕ → Bool) → IsClear p → Free p (lookback_text k)) ks lookback_clear g)
 
+product_clear : (fs : List Factor) → IsProduct fs → (p : ℕ → Bool) → IsClear p → Free p (product_text fs)
+product_clear fs g p c =
+    let m = c.marks.1.1.1.1.1.1.1 in
+    product_free p c.digits (c.marks.0, (m.1.0, (m.1.1.0, (m.1.1.1.0, tt)))) m.0 fs g.0
+
+product_targets : (products : List (List Factor)) → Each IsProduct products → AreTargets (spaced product_text products)
+product_targets products g =
+    spaced_targets product_text products (each_weaker IsProduct (λ fs. IsWord (product_text fs)) products product_word g)
+    (each_weaker IsProduct (λ fs. (p : ℕ → Bool) → IsClear p → Free p (product_text fs)) products product_clear g)
+
+controlled_clear : (pairs : List ControlledPair) → Each IsControlled pairs → AreClear (λ w. w) (flat pairs)
+controlled_clear [] g = tt
+controlled_clear (pair.Qubits a ∷ pairs) g = (decimal_clear a.0 (omega (arith, g.0.0)), (decimal_clear a.1 (omega (arith, g.0.1)), controlled_clear pairs g.1))
+controlled_clear (pair.Record k q ∷ pairs) g = (lookback_clear k g.0.0, (decimal_clear q (omega (arith, g.0.1)), controlled_clear pairs g.1))
+
+controlled_targets : (pairs : List ControlledPair) → Each IsControlled pairs → AreTargets (spaced controlled_text pairs)
+controlled_targets pairs g = subst AreTargets (sym (controlled_spaced pairs)) (spaced_targets (λ w. w) (flat pairs) (flat_words pairs g) (controlled_clear pairs g))
+
 pub kind_targets : (k : Kind) → IsGoodKind k → AreTargets (targets_text k)
 kind_targets (kind.Gate gate qubits) g = qubit_targets qubits g
-kind_targets (kind.PairGate gate pairs) g = subst AreTargets (sym (pairs_spaced pairs)) (qubit_targets (pair_qubits pairs) (pair_qubits_good pairs g))
+kind_targets (kind.Controlled axis pairs) g = controlled_targets pairs g
+kind_targets (kind.Swap pairs) g = subst AreTargets (sym (pairs_spaced pairs)) (qubit_targets (pair_qubits pairs) (pair_qubits_good pairs g))
 kind_targets (kind.Measure m targets) g =
     spaced_targets target_text targets (each_weaker IsMeasured (λ t. IsWord (target_text t)) targets target_word g)
     (each_weaker IsMeasured (λ t. (p : ℕ → Bool) → IsClear p → Free p (target_text t)) targets target_clear g)
-kind_targets (kind.Reset qubits) g = qubit_targets qubits g
+kind_targets (kind.Reset axis qubits) g = qubit_targets qubits g
+kind_targets (kind.MeasureProducts products) g = product_targets products g
 kind_targets (kind.Detector coordinates ks) g = lookback_targets ks g.1
 kind_targets (kind.ObservableInclude j ks) g = lookback_targets ks g.1
 kind_targets kind.Tick g = no_targets
@@ -157,9 +195,11 @@ decimal_coordinate n wide = (decimal_some n wide, digits_coordinate (decimal n) 
 
 pub kind_coordinates : (k : Kind) → IsGoodKind k → Each IsCoordinate (kind_arguments k)
 kind_coordinates (kind.Gate gate qubits) g = tt
-kind_coordinates (kind.PairGate gate pairs) g = tt
+kind_coordinates (kind.Controlled axis pairs) g = tt
+kind_coordinates (kind.Swap pairs) g = tt
 kind_coordinates (kind.Measure m targets) g = tt
-kind_coordinates (kind.Reset qubits) g = tt
+kind_coordinates (kind.Reset axis qubits) g = tt
+kind_coordinates (kind.MeasureProducts products) g = tt
 kind_coordinates (kind.Detector coordinates ks) g = g.0
 kind_coordinates (kind.ObservableInclude j ks) g = (decimal_coordinate j (omega (arith, g.0)), tt)
 kind_coordinates kind.Tick g = tt

@@ -5,9 +5,13 @@ mod PrintLemmas
 mod WordLemmas
 mod PieceLemmas
 mod TargetLemmas
+mod ProductLemmas
+mod ControlLemmas
 pub mod FreeLemmas
 mod SureLemmas
 mod AgainLemmas
+mod FactorLemmas
+mod ControlAgainLemmas
 mod NeatLemmas
 mod ShapeLemmas
 mod ContentLemmas

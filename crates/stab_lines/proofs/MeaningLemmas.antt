@@ -5,10 +5,8 @@ use Rattle.std.proofs.lemmas.List.Splits.{slice_split-cons_yes}
 use Rattle.std.proofs.lemmas.Bool.Decides.{nat_tests}
 use Rattle.stab_tableau.specs.declared.gate.Gate.{Gate}
 use Rattle.stab_tableau.specs.declared.gate.Gate.TheVariants as one
-use Rattle.stab_tableau.specs.declared.gate.PairGate.{PairGate}
-use Rattle.stab_tableau.specs.declared.gate.PairGate.TheVariants as two
-use Rattle.stab_lines.specs.declared.operation.Measurement.{Measurement}
-use Rattle.stab_lines.specs.declared.operation.Measurement.TheVariants as measure
+use Rattle.stab_lines.specs.declared.axis.Axis.{Axis}
+use Rattle.stab_lines.specs.declared.axis.Axis.TheVariants as axis
 use Rattle.stab_lines.specs.declared.name.Instruction.{Instruction}
 use Rattle.stab_lines.specs.declared.name.Instruction.TheVariants as instruction
 use Rattle.stab_lines.specs.declared.name.Name.TheVariants as name
@@ -20,24 +18,28 @@ use Rattle.stab_lines.specs.declared.meanings.Line.TheVariants as line
 use Rattle.stab_lines.specs.Results.{◌>>=◌, each}
 use Rattle.stab_lines.specs.Lines.{Shape, is_spacing, is_digit, is_letter, is_brace, shape_of}
 use Rattle.stab_lines.specs.Words.{words, is_some_word, is_number, arguments_of}
-use Rattle.stab_lines.specs.Names.{gate_named, pair_gate_named, other_named, instruction_named, name_of}
+use Rattle.stab_lines.specs.Names.{gate_named, controlled_named, measurement_named, other_named, instruction_named, name_of}
 use Rattle.stab_lines.specs.Targets.{pair_qubits}
 use Rattle.stab_lines.specs.Targets.{qubit_of, lookback_of, count_of, pairs_of, coordinate_of, number_of, observable_of}
 use Rattle.stab_lines.specs.Meanings.{kind_of, observable_include_of, without_open, only_count, opened, block_of, named_line, shape_meaning, is_close, meaning_of}
-use Rattle.stab_lines.specs.Prints.{gate_name, pair_gate_name, measurement_name, kind_name, tag_text, kind_arguments, lookback_text, spaced, targets_text, head_text, operation_text, open_text}
+use Rattle.stab_lines.specs.Prints.{gate_name, controlled_name, measurement_name, reset_name, kind_name, tag_text, kind_arguments, lookback_text, spaced, targets_text, head_text, operation_text, open_text}
 use Rattle.stab_lines.proofs.BoolLemmas.{chosen, passed}
 use Rattle.stab_lines.proofs.FreeLemmas.{Each, Free, free-append, digits_free, split_free}
 use Rattle.stab_lines.proofs.SureLemmas.{IsCount, IsCoordinate, IsGoodKind, IsTag}
 use Rattle.stab_lines.proofs.AgainLemmas.{decimal_digits, decimal_number, decimal_some, decimal_word, arguments_again, qubits_again, targets_again, lookbacks_again, pairs_again, pairs_spaced, pair_qubits_good, coordinate_again, count_again, observable_again, each_again}
+use Rattle.stab_lines.proofs.FactorLemmas.{products_again}
+use Rattle.stab_lines.proofs.ControlAgainLemmas.{controlled_pairs_again}
 use Rattle.stab_lines.proofs.ShapeLemmas.{IsName, inner_of, shape_again, open_shape_again}
 use Rattle.stab_lines.proofs.ContentLemmas.{IsClear, kind_is, repeat_is, kind_targets, kind_coordinates}
 
 -- the instruction of a kind
 abbrev instruction_of : Kind → Instruction
 instruction_of (kind.Gate g qubits) = instruction.Gate g
-instruction_of (kind.PairGate g pairs) = instruction.PairGate g
+instruction_of (kind.Controlled axis pairs) = instruction.Controlled axis
+instruction_of (kind.Swap pairs) = instruction.Swap
 instruction_of (kind.Measure m targets) = instruction.Measure m
-instruction_of (kind.Reset qubits) = instruction.Reset
+instruction_of (kind.Reset axis qubits) = instruction.Reset axis
+instruction_of (kind.MeasureProducts products) = instruction.MeasureProducts
 instruction_of (kind.Detector coordinates ks) = instruction.Detector
 instruction_of (kind.ObservableInclude j ks) = instruction.ObservableInclude
 instruction_of kind.Tick = instruction.Tick
@@ -45,7 +47,7 @@ instruction_of (kind.QubitCoords coordinates qubits) = instruction.QubitCoords
 instruction_of (kind.ShiftCoords coordinates) = instruction.ShiftCoords
 
 gate_again : (g : Gate) → name_of (gate_name g) ≡ Ok (name.Instruction (instruction.Gate g))
-unfolding name_of instruction_named gate_named pair_gate_named other_named
+unfolding name_of instruction_named gate_named controlled_named measurement_named other_named
 gate_again one.I = refl
 gate_again one.X = refl
 gate_again one.Y = refl
@@ -53,27 +55,43 @@ gate_again one.Z = refl
 gate_again one.H = refl
 gate_again one.S = refl
 gate_again one.SDag = refl
+gate_again one.CXyz = refl
+gate_again one.CZyx = refl
+gate_again one.SqrtX = refl
+gate_again one.SqrtXDag = refl
+gate_again one.SqrtY = refl
+gate_again one.SqrtYDag = refl
 
-pair_gate_again : (g : PairGate) → name_of (pair_gate_name g) ≡ Ok (name.Instruction (instruction.PairGate g))
-unfolding name_of instruction_named gate_named pair_gate_named other_named
-pair_gate_again two.Cx = refl
-pair_gate_again two.Cy = refl
-pair_gate_again two.Cz = refl
-pair_gate_again two.Swap = refl
+controlled_again : (a : Axis) → name_of (controlled_name a) ≡ Ok (name.Instruction (instruction.Controlled a))
+unfolding name_of instruction_named gate_named controlled_named measurement_named other_named
+controlled_again axis.X = refl
+controlled_again axis.Y = refl
+controlled_again axis.Z = refl
 
-measurement_again : (m : Measurement) → name_of (measurement_name m) ≡ Ok (name.Instruction (instruction.Measure m))
-unfolding name_of instruction_named gate_named pair_gate_named other_named
-measurement_again measure.M = refl
-measurement_again measure.Mx = refl
-measurement_again measure.Mr = refl
+measured_again : (a : Axis) (resets : Bool) → name_of (measurement_name (record { axis = a; resets = resets })) ≡ Ok (name.Instruction (instruction.Measure (record { axis = a; resets = resets })))
+unfolding name_of instruction_named gate_named controlled_named measurement_named other_named
+measured_again axis.X true = refl
+measured_again axis.Y true = refl
+measured_again axis.Z true = refl
+measured_again axis.X false = refl
+measured_again axis.Y false = refl
+measured_again axis.Z false = refl
+
+reset_again : (a : Axis) → name_of (reset_name a) ≡ Ok (name.Instruction (instruction.Reset a))
+unfolding name_of instruction_named gate_named controlled_named measurement_named other_named
+reset_again axis.X = refl
+reset_again axis.Y = refl
+reset_again axis.Z = refl
 
 -- a printed name is the name of its instruction
 kind_name_again : (k : Kind) → name_of (kind_name k) ≡ Ok (name.Instruction (instruction_of k))
-unfolding name_of instruction_named gate_named pair_gate_named other_named
+unfolding name_of instruction_named gate_named controlled_named measurement_named other_named
 kind_name_again (kind.Gate g qubits) = gate_again g
-kind_name_again (kind.PairGate g pairs) = pair_gate_again g
-kind_name_again (kind.Measure m targets) = measurement_again m
-kind_name_again (kind.Reset qubits) = refl
+kind_name_again (kind.Controlled axis pairs) = controlled_again axis
+kind_name_again (kind.Swap pairs) = refl
+kind_name_again (kind.Measure m targets) = measured_again m.axis m.resets
+kind_name_again (kind.Reset axis qubits) = reset_again axis
+kind_name_again (kind.MeasureProducts products) = refl
 kind_name_again (kind.Detector coordinates ks) = refl
 kind_name_again (kind.ObservableInclude j ks) = refl
 kind_name_again kind.Tick = refl
@@ -111,12 +129,14 @@ number_again j small =
 kind_again : (tag : List ℕ) (k : Kind) → IsGoodKind k → kind_of (instruction_of k) (shape_for tag k) ≡ Ok k
 unfolding kind_of observable_include_of
 kind_again tag (kind.Gate gate qubits) g = ap (λ r. r >>= λ qs. Ok (kind.Gate gate qs)) (qubits_again qubits g)
-kind_again tag (kind.PairGate gate pairs) g =
-    ap (λ t. each qubit_of (words t) >>= λ qs. pairs_of qs >>= λ ps. Ok (kind.PairGate gate ps)) (pairs_spaced pairs)
-    ∙ ap (λ r. r >>= λ qs. pairs_of qs >>= λ ps. Ok (kind.PairGate gate ps)) (qubits_again (pair_qubits pairs) (pair_qubits_good pairs g))
-    ∙ ap (λ r. r >>= λ ps. Ok (kind.PairGate gate ps)) (pairs_again pairs g)
+kind_again tag (kind.Controlled axis pairs) g = ap (λ r. r >>= λ ps. Ok (kind.Controlled axis ps)) (controlled_pairs_again pairs g)
+kind_again tag (kind.Swap pairs) g =
+    ap (λ t. each qubit_of (words t) >>= λ qs. pairs_of qs >>= λ ps. Ok (kind.Swap ps)) (pairs_spaced pairs)
+    ∙ ap (λ r. r >>= λ qs. pairs_of qs >>= λ ps. Ok (kind.Swap ps)) (qubits_again (pair_qubits pairs) (pair_qubits_good pairs g))
+    ∙ ap (λ r. r >>= λ ps. Ok (kind.Swap ps)) (pairs_again pairs g)
 kind_again tag (kind.Measure m targets) g = ap (λ r. r >>= λ ts. Ok (kind.Measure m ts)) (targets_again targets g)
-kind_again tag (kind.Reset qubits) g = ap (λ r. r >>= λ qs. Ok (kind.Reset qs)) (qubits_again qubits g)
+kind_again tag (kind.Reset axis qubits) g = ap (λ r. r >>= λ qs. Ok (kind.Reset axis qs)) (qubits_again qubits g)
+kind_again tag (kind.MeasureProducts products) g = ap (λ r. r >>= λ ps. Ok (kind.MeasureProducts ps)) (products_again products g)
 kind_again tag (kind.Detector coordinates ks) g =
     ap (λ r. r >>= λ cs. each lookback_of (words (spaced lookback_text ks)) >>= λ ls. Ok (kind.Detector cs ls)) (coordinates_again coordinates g.0)
     ∙ ap (λ r. r >>= λ ls. Ok (kind.Detector coordinates ls)) (lookbacks_again ks g.1)
@@ -153,7 +173,7 @@ headed_means name tag rest n =
     ap meaning_of front ∙ letter_means n.first ((n.rest ++ tag_text tag) ++ rest) n.letter ∙ ap (λ l. shape_of l >>= shape_meaning) (sym front)
 
 no_braces : IsClear is_brace
-no_braces = record { digits = digit_no; marks = (refl, (refl, (refl, (refl, (refl, (refl, (refl, tt))))))); space = refl }
+no_braces = record { digits = digit_no; marks = (refl, (refl, (refl, (refl, (refl, (refl, (refl, (refl, (refl, (refl, (refl, tt))))))))))); space = refl }
   where
     digit_no : (b : ℕ) → is_digit b ≡ true → is_brace b ≡ false
     digit_no b e = grind (arith, nat_tests)

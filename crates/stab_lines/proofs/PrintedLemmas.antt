@@ -30,7 +30,7 @@ line_ends_outer : IsOuter (is_byte 10)
 line_ends_outer = record {
   names = name_no;
   coordinates = coordinate_no;
-  targets = record { digits = digit_no; marks = (refl, (refl, (refl, (refl, (refl, (refl, (refl, tt))))))); space = refl };
+  targets = record { digits = digit_no; marks = (refl, (refl, (refl, (refl, (refl, (refl, (refl, (refl, (refl, (refl, (refl, tt))))))))))); space = refl };
   open_tag = refl;
   close_tag = refl;
   open_arguments = refl;
@@ -52,7 +52,7 @@ comments_outer : IsOuter (is_byte 35)
 comments_outer = record {
   names = name_no;
   coordinates = coordinate_no;
-  targets = record { digits = digit_no; marks = (refl, (refl, (refl, (refl, (refl, (refl, (refl, tt))))))); space = refl };
+  targets = record { digits = digit_no; marks = (refl, (refl, (refl, (refl, (refl, (refl, (refl, (refl, (refl, (refl, (refl, tt))))))))))); space = refl };
   open_tag = refl;
   close_tag = refl;
   open_arguments = refl;

@@ -2,16 +2,24 @@
 use Rattle.std.proofs.Common.{◌≡◌, refl, ℕ, ◌==◌, List, [], ◌∷◌, Bool, true, false, length, drop, Option, None, Some, Result, Ok, Err, if◌then◌else◌}
 use Rattle.stab_pauli.specs.declared.refusal.Refusal.{Refusal}
 use Rattle.stab_tableau.specs.declared.gate.Gate.{Gate}
-use Rattle.stab_tableau.specs.declared.gate.PairGate.{PairGate}
+use Rattle.stab_lines.specs.declared.axis.Axis.{Axis}
+use Rattle.stab_lines.specs.declared.control.Control.{Control}
+use Rattle.stab_lines.specs.declared.control.Control.TheVariants as control
+use Rattle.stab_lines.specs.declared.product.Factor.{Factor}
+use Rattle.stab_lines.specs.declared.operation.Measurement.{Measurement}
 use Rattle.stab_lines.specs.declared.name.Instruction.{Instruction}
 use Rattle.stab_lines.specs.declared.name.Instruction.TheVariants as instruction
 use Rattle.stab_lines.specs.declared.name.Name.{Name}
 use Rattle.stab_lines.specs.declared.name.Name.TheVariants as name
 use Rattle.stab_lines.specs.declared.meanings.Line.TheVariants.{Blank, Close}
 use Rattle.stab_lines.specs.Results.{◌>>=◌, each}
-use Rattle.stab_lines.specs.Lines.{Shape, bracketed, behind_tag, shaped, shape_of}
+use Rattle.std.specs.List.{slice_split}
+use Rattle.stab_lines.specs.Lines.{Shape, is_byte, starts_with_byte, bracketed, behind_tag, shaped, shape_of}
 use Rattle.stab_lines.specs.Words.{words, arguments_of}
-use Rattle.stab_lines.specs.Names.{first_named, instruction_named, name_of, gate_named, pair_gate_named, other_named}
+use Rattle.stab_lines.specs.Names.{first_named, instruction_named, name_of, gate_named, controlled_named, measurement_named, other_named}
+use Rattle.stab_lines.specs.Axes.{first_axis}
+use Rattle.stab_lines.specs.Products.{unmarked, factor_on, factor_of, on_different, product_of}
+use Rattle.stab_lines.specs.Controls.{control_of, by_turns, pair_of, paired, controlled_of}
 use Rattle.stab_lines.specs.Targets.{qubit_of, measure_target_of, lookback_of, count_of, pairs_of, coordinate_of, one_argument, number_of, observable_of}
 use Rattle.stab_lines.specs.Meanings.{targets_alone, coordinates_of, kind_of, observable_include_of, only_count, opened, block_of, named_line, shape_meaning, is_close, meaning_of, is_of_line}
 
@@ -49,15 +57,16 @@ shape_line : (content : List ℕ) → IsOfLine (shape_of content)
 unfolding shape_of
 shape_line content = bind_line _ (behind_tag content) (bracketed_line 91 93 _) (λ tag. bind_line _ (shaped content tag.0) (bracketed_line 40 41 tag.1) (λ arguments. if_line _ (good _) (bad _ refl)))
 
-first_line : (a : Option Gate) (b : Option PairGate) (c : Option Instruction) → IsOfLine (first_named a b c)
-first_line (Some a) b c = good _
-first_line None (Some b) c = good _
-first_line None None (Some c) = good _
-first_line None None None = bad _ refl
+first_line : (a : Option Gate) (b : Option Axis) (c : Option Measurement) (d : Option Instruction) → IsOfLine (first_named a b c d)
+first_line (Some a) b c d = good _
+first_line None (Some b) c d = good _
+first_line None None (Some c) d = good _
+first_line None None None (Some d) = good _
+first_line None None None None = bad _ refl
 
 name_line : (text : List ℕ) → IsOfLine (name_of text)
 unfolding name_of instruction_named
-name_line text = if_line _ (good _) (bind_line _ _ (first_line (gate_named text) (pair_gate_named text) (other_named text)) (λ i. good _))
+name_line text = if_line _ (good _) (bind_line _ _ (first_line (gate_named text) (controlled_named text) (measurement_named text) (other_named text)) (λ i. good _))
 
 qubit_line : (word : List ℕ) → IsOfLine (qubit_of word)
 unfolding qubit_of
@@ -66,6 +75,21 @@ qubit_line word = if_line _ (bad _ refl) (if_line _ (good _) (bad _ refl))
 measure_line : (word : List ℕ) → IsOfLine (measure_target_of word)
 unfolding measure_target_of
 measure_line word = if_line _ (bind_line _ _ (qubit_line (drop 1 word)) (λ q. good _)) (bind_line _ _ (qubit_line word) (λ q. good _))
+
+factor_on_line : (inverted : Bool) (digits : List ℕ) (axis : Option Axis) → IsOfLine (factor_on inverted digits axis)
+factor_on_line inverted digits None = bad _ refl
+factor_on_line inverted digits (Some axis) = bind_line _ _ (qubit_line digits) (λ q. good _)
+
+factor_line : (word : List ℕ) → IsOfLine (factor_of word)
+unfolding factor_of
+factor_line word = factor_on_line (starts_with_byte word 33) (drop 1 (unmarked word)) (first_axis (unmarked word))
+
+different_line : (factors : List Factor) → IsOfLine (on_different factors)
+different_line factors = if_line _ (bad _ refl) (good _)
+
+product_line : (word : List ℕ) → IsOfLine (product_of word)
+unfolding product_of
+product_line word = if_line _ (bind_line _ on_different (each_line factor_of factor_line (slice_split (is_byte 42) word)) different_line) (bad _ refl)
 
 lookback_line : (word : List ℕ) → IsOfLine (lookback_of word)
 unfolding lookback_of
@@ -79,6 +103,22 @@ pairs_line : (qubits : List ℕ) → IsOfLine (pairs_of qubits)
 pairs_line [] = good _
 pairs_line (a ∷ []) = bad _ refl
 pairs_line (a ∷ b ∷ rest) = if_line _ (bad _ refl) (bind_line (pairs_of rest) _ (pairs_line rest) (λ more. good _))
+
+control_line : (word : List ℕ) → IsOfLine (control_of word)
+unfolding control_of
+control_line word = if_line _ (bind_line _ _ (lookback_line word) (λ k. good _)) (bind_line _ _ (qubit_line word) (λ q. good _))
+
+turns_line : (targets : List (List ℕ)) → IsOfLine (by_turns targets)
+turns_line [] = good _
+turns_line (a ∷ []) = bind_line _ _ (control_line a) (λ c. bad _ refl)
+turns_line (a ∷ b ∷ rest) = bind_line _ _ (control_line a) (λ c. bind_line _ _ (qubit_line b) (λ q. bind_line (by_turns rest) _ (turns_line rest) (λ more. good _)))
+
+pair_line : (c : Control) (q : ℕ) → IsOfLine (pair_of c q)
+pair_line (control.Qubit a) q = if_line _ (bad _ refl) (good _)
+pair_line (control.Record k) q = good _
+
+controlled_line : (targets : List (List ℕ)) → IsOfLine (controlled_of targets)
+controlled_line targets = bind_line (by_turns targets) (each paired) (turns_line targets) (λ ts. each_line paired (λ t. pair_line t.control t.qubit) ts)
 
 coordinate_line : (argument : List ℕ) → IsOfLine (coordinate_of argument)
 unfolding coordinate_of
@@ -115,9 +155,11 @@ include_line s =
 kind_line : (i : Instruction) (s : Shape) → IsOfLine (kind_of i s)
 unfolding kind_of
 kind_line (instruction.Gate g) s = bind_line _ _ (alone_line qubit_of s qubit_line) (λ qubits. good _)
-kind_line (instruction.PairGate g) s = bind_line _ _ (alone_line qubit_of s qubit_line) (λ qubits. bind_line _ _ (pairs_line qubits) (λ pairs. good _))
+kind_line (instruction.Controlled axis) s = bind_line _ _ (if_line _ (controlled_line (words s.targets)) (bad _ refl)) (λ pairs. good _)
+kind_line instruction.Swap s = bind_line _ _ (alone_line qubit_of s qubit_line) (λ qubits. bind_line _ _ (pairs_line qubits) (λ pairs. good _))
 kind_line (instruction.Measure m) s = bind_line _ _ (alone_line measure_target_of s measure_line) (λ targets. good _)
-kind_line instruction.Reset s = bind_line _ _ (alone_line qubit_of s qubit_line) (λ qubits. good _)
+kind_line (instruction.Reset axis) s = bind_line _ _ (alone_line qubit_of s qubit_line) (λ qubits. good _)
+kind_line instruction.MeasureProducts s = bind_line _ _ (alone_line product_of s product_line) (λ products. good _)
 kind_line instruction.Detector s = bind_line _ _ (coordinates_line s) (λ coordinates. bind_line _ _ (lookbacks_line s) (λ ks. good _))
 kind_line instruction.ObservableInclude s = include_line s
 kind_line instruction.Tick s = if_line _ (if_line _ (good _) (bad _ refl)) (bad _ refl)

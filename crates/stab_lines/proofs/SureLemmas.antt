@@ -1,10 +1,17 @@
 -- What is known of all that a line is read as.
-use Rattle.std.proofs.Common.{◌≡◌, ◌≢◌, ◌<◌, ◌≤◌, ◌^◌, refl, subst, ℕ, List, [], ◌∷◌, Bool, true, false, not, nat_lt, ◌==◌, ◌&&◌, ◌||◌, length, drop, take, Option, None, Some, Result, Ok, Err, if◌then◌else◌, arith}
-use Rattle.std.specs.List.{list_all, list_any, prefix_len, take_while}
+use Rattle.std.proofs.Common.{◌≡◌, ◌≢◌, ◌<◌, ◌≤◌, ◌^◌, refl, sym, subst, ℕ, List, [], ◌∷◌, Bool, true, false, not, nat_lt, ◌==◌, ◌&&◌, ◌||◌, length, drop, take, Option, None, Some, Result, Ok, Err, if◌then◌else◌, arith}
+use Rattle.std.specs.List.{list_all, list_any, prefix_len, slice_split, take_while}
 use Rattle.std.proofs.lemmas.Bool.Decides.{nat_tests}
 use Rattle.stab_pauli.specs.declared.refusal.Refusal.{Refusal}
 use Rattle.stab_pauli.specs.declared.refusal.Refusal.TheVariants.{BadArguments, BadTarget, BadLine}
 use Rattle.stab_lines.specs.declared.range.MeasureTarget.{MeasureTarget}
+use Rattle.stab_lines.specs.declared.axis.Axis.{Axis}
+use Rattle.stab_lines.specs.declared.product.Factor.{Factor}
+use Rattle.stab_lines.specs.declared.control.Control.{Control}
+use Rattle.stab_lines.specs.declared.control.Control.TheVariants as control
+use Rattle.stab_lines.specs.declared.control.ControlTarget.{ControlTarget}
+use Rattle.stab_lines.specs.declared.control.ControlledPair.{ControlledPair}
+use Rattle.stab_lines.specs.declared.control.ControlledPair.TheVariants as pair
 use Rattle.stab_lines.specs.declared.name.Instruction.{Instruction}
 use Rattle.stab_lines.specs.declared.name.Instruction.TheVariants as instruction
 use Rattle.stab_lines.specs.declared.name.Name.{Name}
@@ -19,11 +26,14 @@ use Rattle.stab_lines.specs.Lines.{Shape, is_byte, bracketed, behind_tag, shaped
 use Rattle.stab_lines.specs.Words.{words, is_blank, arguments_of, is_some_word, is_number, value}
 use Rattle.stab_lines.specs.Lookbacks.{IsLookback}
 use Rattle.stab_lines.specs.Names.{name_of}
-use Rattle.stab_lines.specs.Targets.{qubit_of, measure_target_of, lookback_of, count_of, pairs_of, is_coordinate_byte, coordinate_of, number_of, observable_of}
+use Rattle.stab_lines.specs.Axes.{first_axis}
+use Rattle.stab_lines.specs.Products.{unmarked, is_factor, factor_on, factor_of, names_twice, on_different, product_of}
+use Rattle.stab_lines.specs.Controls.{control_of, by_turns, pair_of, paired, controlled_of}
+use Rattle.stab_lines.specs.Targets.{qubit_of, measure_target_of, lookback_of, is_lookback, count_of, pairs_of, is_coordinate_byte, coordinate_of, number_of, observable_of}
 use Rattle.stab_lines.specs.Meanings.{targets_alone, coordinates_of, kind_of, observable_include_of, only_count, opened, block_of, named_line, shape_meaning, is_close, meaning_of}
 use Rattle.stab_lines.proofs.BoolLemmas.{and_left, and_right}
 use Rattle.stab_lines.proofs.WordLemmas.{eighteen_digits}
-use Rattle.stab_lines.proofs.TargetLemmas.{lookback_in_range}
+use Rattle.stab_lines.proofs.TargetLemmas.{lookback_in_range, split_some}
 use Rattle.stab_lines.proofs.FreeLemmas.{Each, Free, free_take, free_drop, free_before}
 
 -- where there is a result, it has P
@@ -128,6 +138,88 @@ pairs_sure (a ∷ b ∷ rest) f =
     sure_if (Each IsPair) (a == b) _ _ (λ e. sure_err (Each IsPair) _)
     (λ e. sure_bind (Each IsPair) (Each IsPair) (pairs_of rest) _ (pairs_sure rest f.1.1) (λ more p. sure_ok (Each IsPair) ((a, b) ∷ more) ((f.0, f.1.0, differ a b e), p)))
 
+-- factors on qubits in range
+abbrev pub IsFactor : Factor → Type 0
+IsFactor f = f.qubit < 1024
+
+factor_on_sure : (inverted : Bool) (digits : List ℕ) (axis : Option Axis) → IsSure IsFactor (factor_on inverted digits axis)
+factor_on_sure inverted digits None = sure_err IsFactor _
+factor_on_sure inverted digits (Some axis) = sure_bind IsQubit IsFactor (qubit_of digits) _ (qubit_sure digits) (λ q p. sure_ok IsFactor _ p)
+
+factor_sure : (word : List ℕ) → IsSure IsFactor (factor_of word)
+unfolding factor_of
+factor_sure word = factor_on_sure (starts_with_byte word 33) (drop 1 (unmarked word)) (first_axis (unmarked word))
+
+-- there is one
+abbrev pub IsFilled : List Factor → Type 0
+IsFilled [] = ⊥
+IsFilled (f ∷ fs) = Unit {0}
+
+-- a product has factors, on different qubits in range
+abbrev pub IsProduct : List Factor → Type 0
+IsProduct fs = Each IsFactor fs × (names_twice fs ≡ false) × IsFilled fs
+
+abbrev AreFactors : List Factor → Type 0
+AreFactors fs = Each IsFactor fs × IsFilled fs
+
+each_factor_sure : (first : List ℕ) (more : List (List ℕ)) → IsSure AreFactors (each factor_of (first ∷ more))
+each_factor_sure first more =
+    sure_bind IsFactor AreFactors (factor_of first) (λ f. each factor_of more >>= λ rest. Ok (f ∷ rest)) (factor_sure first)
+    (λ f p. sure_bind (Each IsFactor) AreFactors (each factor_of more) (λ rest. Ok (f ∷ rest)) (sure_each IsFactor factor_of factor_sure more) (λ rest q. sure_ok AreFactors (f ∷ rest) ((p, q), tt)))
+
+different_sure : (fs : List Factor) → AreFactors fs → IsSure IsProduct (on_different fs)
+different_sure fs p = sure_if IsProduct (names_twice fs) _ _ (λ e. sure_err IsProduct _) (λ e. sure_ok IsProduct fs (p.0, e, p.1))
+
+product_sure : (word : List ℕ) → IsSure IsProduct (product_of word)
+unfolding product_of
+product_sure word =
+    let pieces = slice_split (is_byte 42) word in
+    let some = split_some (is_byte 42) word in
+    guard_sure IsProduct (list_all is_factor pieces) (each factor_of pieces >>= on_different) BadTarget
+    (sure_bind AreFactors IsProduct (each factor_of pieces) on_different (subst (λ l. IsSure AreFactors (each factor_of l)) (sym some.2) (each_factor_sure some.0 some.1)) different_sure)
+
+-- controls, and pairs of one and a qubit
+abbrev pub IsControl : Control → Type 0
+IsControl (control.Qubit q) = IsQubit q
+IsControl (control.Record k) = IsLookback k
+
+control_sure : (word : List ℕ) → IsSure IsControl (control_of word)
+unfolding control_of
+control_sure word =
+    sure_if IsControl (is_lookback word) _ _
+    (λ e. sure_bind IsLookback IsControl (lookback_of word) _ (lookback_sure word) (λ k p. sure_ok IsControl (control.Record k) p))
+    (λ e. sure_bind IsQubit IsControl (qubit_of word) _ (qubit_sure word) (λ q p. sure_ok IsControl (control.Qubit q) p))
+
+abbrev pub IsTurn : ControlTarget → Type 0
+IsTurn t = IsControl t.control × IsQubit t.qubit
+
+turns_sure : (ws : List (List ℕ)) → IsSure (Each IsTurn) (by_turns ws)
+turns_sure [] = sure_ok (Each IsTurn) [] tt
+turns_sure (a ∷ []) = sure_bind IsControl (Each IsTurn) (control_of a) _ (control_sure a) (λ c p. sure_err (Each IsTurn) _)
+turns_sure (a ∷ b ∷ rest) =
+    sure_bind IsControl (Each IsTurn) (control_of a) _ (control_sure a)
+    (λ c p. sure_bind IsQubit (Each IsTurn) (qubit_of b) _ (qubit_sure b)
+    (λ q r. sure_bind (Each IsTurn) (Each IsTurn) (by_turns rest) _ (turns_sure rest) (λ more s. sure_ok (Each IsTurn) (record { control = c; qubit = q } ∷ more) ((p, r), s))))
+
+abbrev pub IsControlled : ControlledPair → Type 0
+IsControlled (pair.Qubits p) = IsPair p
+IsControlled (pair.Record k q) = IsLookback k × IsQubit q
+
+pair_sure : (c : Control) (q : ℕ) → IsControl c → IsQubit q → IsSure IsControlled (pair_of c q)
+pair_sure (control.Qubit a) q p r = sure_if IsControlled (a == q) _ _ (λ e. sure_err IsControlled _) (λ e. sure_ok IsControlled (pair.Qubits (a, q)) (p, r, differ a q e))
+pair_sure (control.Record k) q p r = sure_ok IsControlled (pair.Record k q) (p, r)
+
+sure_each_of : {A X : Type 0} (P : A → Type 0) (Q : X → Type 0) (f : A → Result X Refusal) → ((a : A) → P a → IsSure Q (f a)) → (as' : List A) → Each P as' → IsSure (Each Q) (each f as')
+sure_each_of P Q f s [] e = sure_ok (Each Q) [] tt
+sure_each_of P Q f s (a ∷ more) e =
+    sure_bind Q (Each Q) (f a) (λ first. each f more >>= λ rest. Ok (first ∷ rest)) (s a e.0)
+    (λ first p. sure_bind (Each Q) (Each Q) (each f more) (λ rest. Ok (first ∷ rest)) (sure_each_of P Q f s more e.1) (λ rest q. sure_ok (Each Q) (first ∷ rest) (p, q)))
+
+controlled_sure : (ws : List (List ℕ)) → IsSure (Each IsControlled) (controlled_of ws)
+controlled_sure ws =
+    sure_bind (Each IsTurn) (Each IsControlled) (by_turns ws) (each paired) (turns_sure ws)
+    (λ ts p. sure_each_of IsTurn IsControlled paired (λ t q. pair_sure t.control t.qubit q.0 q.1) ts p)
+
 abbrev pub IsCoordinate : List ℕ → Type 0
 IsCoordinate c = (is_some_word c ≡ true) × (list_all is_coordinate_byte c ≡ true)
 
@@ -148,9 +240,11 @@ observable_sure digits = sure_if IsObservable (nat_lt (value digits) 4096) _ _ (
 -- an instruction's numbers are in range, and its coordinates made of the bytes that they may have
 abbrev pub IsGoodKind : Kind → Type 0
 IsGoodKind (kind.Gate g qubits) = Each IsQubit qubits
-IsGoodKind (kind.PairGate g pairs) = Each IsPair pairs
+IsGoodKind (kind.Controlled axis pairs) = Each IsControlled pairs
+IsGoodKind (kind.Swap pairs) = Each IsPair pairs
 IsGoodKind (kind.Measure m targets) = Each IsMeasured targets
-IsGoodKind (kind.Reset qubits) = Each IsQubit qubits
+IsGoodKind (kind.Reset axis qubits) = Each IsQubit qubits
+IsGoodKind (kind.MeasureProducts products) = Each IsProduct products
 IsGoodKind (kind.Detector coordinates ks) = Each IsCoordinate coordinates × Each IsLookback ks
 IsGoodKind (kind.ObservableInclude j ks) = IsObservable j × Each IsLookback ks
 IsGoodKind kind.Tick = Unit {0}
@@ -184,11 +278,15 @@ include_sure s =
 kind_sure : (i : Instruction) (s : Shape) → IsSure IsGoodKind (kind_of i s)
 unfolding kind_of
 kind_sure (instruction.Gate g) s = sure_bind (Each IsQubit) IsGoodKind _ _ (alone_sure IsQubit qubit_of s qubit_sure) (λ qs p. sure_ok IsGoodKind (kind.Gate g qs) p)
-kind_sure (instruction.PairGate g) s =
+kind_sure (instruction.Controlled axis) s =
+    sure_bind (Each IsControlled) IsGoodKind _ _ (guard_sure (Each IsControlled) (is_blank s.arguments) (controlled_of (words s.targets)) BadArguments (controlled_sure (words s.targets)))
+    (λ ps p. sure_ok IsGoodKind (kind.Controlled axis ps) p)
+kind_sure instruction.Swap s =
     sure_bind (Each IsQubit) IsGoodKind _ _ (alone_sure IsQubit qubit_of s qubit_sure)
-    (λ qs p. sure_bind (Each IsPair) IsGoodKind (pairs_of qs) _ (pairs_sure qs p) (λ ps q. sure_ok IsGoodKind (kind.PairGate g ps) q))
+    (λ qs p. sure_bind (Each IsPair) IsGoodKind (pairs_of qs) _ (pairs_sure qs p) (λ ps q. sure_ok IsGoodKind (kind.Swap ps) q))
 kind_sure (instruction.Measure m) s = sure_bind (Each IsMeasured) IsGoodKind _ _ (alone_sure IsMeasured measure_target_of s measure_sure) (λ ts p. sure_ok IsGoodKind (kind.Measure m ts) p)
-kind_sure instruction.Reset s = sure_bind (Each IsQubit) IsGoodKind _ _ (alone_sure IsQubit qubit_of s qubit_sure) (λ qs p. sure_ok IsGoodKind (kind.Reset qs) p)
+kind_sure (instruction.Reset axis) s = sure_bind (Each IsQubit) IsGoodKind _ _ (alone_sure IsQubit qubit_of s qubit_sure) (λ qs p. sure_ok IsGoodKind (kind.Reset axis qs) p)
+kind_sure instruction.MeasureProducts s = sure_bind (Each IsProduct) IsGoodKind _ _ (alone_sure IsProduct product_of s product_sure) (λ ps p. sure_ok IsGoodKind (kind.MeasureProducts ps) p)
 kind_sure instruction.Detector s =
     sure_bind (Each IsCoordinate) IsGoodKind (coordinates_of s) _ (coordinates_sure s)
     (λ cs p. sure_bind (Each IsLookback) IsGoodKind (each lookback_of (words s.targets)) _ (lookbacks_sure s) (λ ks q. sure_ok IsGoodKind (kind.Detector cs ks) (p, q)))

@@ -58,7 +58,8 @@ pair_alone [] h = absurd (omega arith)
 pair_alone (a ∷ []) h = refl
 pair_alone (a ∷ b ∷ rest) h = absurd (omega arith)
 
-split_some : (p : ℕ → Bool) (bs : List ℕ) → (first : List ℕ) × (more : List (List ℕ)) × (slice_split p bs ≡ first ∷ more)
+-- there is a first part
+pub split_some : (p : ℕ → Bool) (bs : List ℕ) → (first : List ℕ) × (more : List (List ℕ)) × (slice_split p bs ≡ first ∷ more)
 split_some p [] = ([], [], refl)
 split_some p (b ∷ bs) = split_case (p b) (split_some p bs)
   where

@@ -4,6 +4,9 @@ pub mod Words
 pub mod Names
 pub mod Lookbacks
 pub mod Targets
+pub mod Axes
+pub mod Products
+pub mod Controls
 pub mod Meanings
 pub mod Prints
 pub mod Laws

@@ -14,6 +14,8 @@ use Rattle.stab_lines.specs.Results.{◌>>=◌, each}
 use Rattle.stab_lines.specs.Lines.{Shape, shape_of, starts_with_byte}
 use Rattle.stab_lines.specs.Words.{words, is_blank, arguments_of}
 use Rattle.stab_lines.specs.Names.{name_of}
+use Rattle.stab_lines.specs.Controls.{controlled_of}
+use Rattle.stab_lines.specs.Products.{product_of}
 use Rattle.stab_lines.specs.Targets.{qubit_of, measure_target_of, lookback_of, count_of, pairs_of, coordinate_of, number_of, observable_of}
 
 -- refusal 2 where there are arguments
@@ -47,9 +49,11 @@ observable_include_of s = do
 -- what an instruction does, by its arguments and then its targets
 unfoldable pub kind_of : Instruction → Shape → Result Kind Refusal
 kind_of (instruction.Gate g) s = targets_alone qubit_of s >>= λ qubits. Ok (kind.Gate g qubits)
-kind_of (instruction.PairGate g) s = targets_alone qubit_of s >>= λ qubits. pairs_of qubits >>= λ pairs. Ok (kind.PairGate g pairs)
+kind_of (instruction.Controlled axis) s = without_arguments s (controlled_of (words s.targets)) >>= λ pairs. Ok (kind.Controlled axis pairs)
+kind_of instruction.Swap s = targets_alone qubit_of s >>= λ qubits. pairs_of qubits >>= λ pairs. Ok (kind.Swap pairs)
 kind_of (instruction.Measure m) s = targets_alone measure_target_of s >>= λ targets. Ok (kind.Measure m targets)
-kind_of instruction.Reset s = targets_alone qubit_of s >>= λ qubits. Ok (kind.Reset qubits)
+kind_of (instruction.Reset axis) s = targets_alone qubit_of s >>= λ qubits. Ok (kind.Reset axis qubits)
+kind_of instruction.MeasureProducts s = targets_alone product_of s >>= λ products. Ok (kind.MeasureProducts products)
 kind_of instruction.Detector s = coordinates_of s >>= λ coordinates. each lookback_of (words s.targets) >>= λ ks. Ok (kind.Detector coordinates ks)
 kind_of instruction.ObservableInclude s = observable_include_of s
 kind_of instruction.Tick s = without_arguments s (without_targets s (Ok kind.Tick))

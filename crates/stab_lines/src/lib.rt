@@ -7,8 +7,10 @@
 //! - `line`: what is left of a line, and its shape.
 //! - `word`: words between spacing, parts between commas, decimal numbers.
 //! - `sequence`, `range`: lists, and numbers with their ranges.
+//! - `axis`, `product`: the letters X, Y and Z, and products of them on different qubits.
 //! - `operation`: instructions.
 //! - `name`, `target`, `argument`: the parts of an instruction.
+//! - `factor`, `control`: the targets that are products, and those of controlled gates.
 //! - `meanings`: what a line means, or why it is refused.
 //! - `print`: the one text of an instruction, and of the opening of a block.
 //! - `laws`: what holds of all lines.
@@ -22,21 +24,28 @@
 #![tactic(auto)]
 
 mod argument;
+mod axis;
+mod control;
+mod factor;
 pub mod laws;
 mod line;
 mod meanings;
 mod name;
 mod operation;
 mod print;
+mod product;
 mod range;
 mod sequence;
 mod target;
 mod word;
 
+pub use axis::Axis;
+pub use control::ControlledPair;
 pub use line::content;
 pub use meanings::{Line, is_close, meaning};
 pub use operation::{Coordinates, Kind, Measurement, Operation};
 pub use print::{write_opening, write_operation};
-pub use range::{Count, Lookbacks, MeasureTarget, Observable, Pair, Qubit};
+pub use product::{Factor, Product};
+pub use range::{Count, Lookback, Lookbacks, MeasureTarget, Observable, Pair, Qubit};
 pub use sequence::Sequence;
 pub use word::first_piece;

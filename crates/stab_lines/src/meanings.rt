@@ -1,16 +1,19 @@
 ghost use Rattle.std.specs.Prelude.{◌≡◌};
 ghost use Rattle.stab_lines.specs.Results.{Gives};
+ghost use Rattle.stab_lines.specs.Words.{words};
+ghost use Rattle.stab_lines.specs.Controls.{controlled_of};
 ghost use Rattle.stab_lines.specs.inner.Parts.{shape_shown};
 ghost use Rattle.stab_lines.specs.declared.name.Name.{Name};
-ghost use Rattle.stab_lines.specs.Meanings.{targets_alone as alone, observable_include_of, kind_of, only_count as only_count_of, block_of, named_line as named_line_of, shape_meaning, is_close as is_close_of, meaning_of};
+ghost use Rattle.stab_lines.specs.Meanings.{without_arguments, targets_alone as alone, observable_include_of, kind_of, only_count as only_count_of, block_of, named_line as named_line_of, shape_meaning, is_close as is_close_of, meaning_of};
 
 use crate::argument::{coordinates, observable, only_number};
+use crate::control::{ControlledPair, controlled_pairs};
 use crate::line::{Shape, starts_with};
 use crate::name::{Instruction, Name};
 use crate::operation::{Kind, Operation};
 use crate::range::Count;
 use crate::sequence::Sequence;
-use crate::target::{Counts, MeasureTargets, Qubits, Target, lookbacks, pairs, targets};
+use crate::target::{Counts, MeasureTargets, Products, Qubits, Target, lookbacks, pairs, targets};
 use crate::word::is_blank;
 use stab_pauli::Refusal;
 use std::alloc::Global;
@@ -35,6 +38,17 @@ fn targets_alone<T: Target>(alloc: Global, shape: &Shape) -> Result<Sequence<T::
     }
 }
 
+/// The pairs of a control and a qubit of an instruction without arguments.
+fn pairs_alone(alloc: Global, shape: &Shape) -> Result<Sequence<ControlledPair>, Refusal>
+    ensures gives { Gives result (without_arguments (shape_shown shape.now) (controlled_of (words (shape_shown shape.now).targets))) }
+{
+    if is_blank(shape.arguments) {
+        controlled_pairs(alloc, shape.targets)
+    } else {
+        Err(Refusal::BadArguments)
+    }
+}
+
 #[tactic(auto, unfolding(crate::specs::Meanings::observable_include_of))]
 fn observable_include(alloc: Global, shape: &Shape) -> Result<Kind, Refusal>
     ensures gives { Gives result (observable_include_of (shape_shown shape.now)) }
@@ -54,15 +68,20 @@ fn kind(alloc: Global, instruction: Instruction, shape: &Shape) -> Result<Kind, 
 {
     match instruction {
         Instruction::Gate(gate) => Ok(Kind::Gate(gate, targets_alone::<Qubits>(alloc, shape)?)),
-        Instruction::PairGate(gate) => {
+        Instruction::Controlled(axis) => Ok(Kind::Controlled(axis, pairs_alone(alloc, shape)?)),
+        Instruction::Swap => {
             let qubits = targets_alone::<Qubits>(alloc, shape)?;
-            Ok(Kind::PairGate(gate, pairs(alloc, qubits.as_slice())?))
+            Ok(Kind::Swap(pairs(alloc, qubits.as_slice())?))
         }
         Instruction::Measure(measurement) => {
             let targets = targets_alone::<MeasureTargets>(alloc, shape)?;
             Ok(Kind::Measure(measurement, targets))
         }
-        Instruction::Reset => Ok(Kind::Reset(targets_alone::<Qubits>(alloc, shape)?)),
+        Instruction::Reset(axis) => Ok(Kind::Reset(axis, targets_alone::<Qubits>(alloc, shape)?)),
+        Instruction::MeasureProducts => {
+            let products = targets_alone::<Products>(alloc, shape)?;
+            Ok(Kind::MeasureProducts(products))
+        }
         Instruction::Detector => {
             let coordinates = coordinates(alloc, shape.arguments)?;
             Ok(Kind::Detector(coordinates, lookbacks(alloc, shape.targets)?))

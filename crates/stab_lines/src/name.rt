@@ -1,18 +1,21 @@
 ghost use Rattle.std.specs.Prelude.{◌≡◌};
 ghost use Rattle.std.specs.Str.{str_eq_ignore_ascii_case};
-ghost use Rattle.stab_lines.specs.Names.{gate_named as gate_of, pair_gate_named as pair_gate_of, other_named as other_of};
+ghost use Rattle.stab_lines.specs.Names.{gate_named as gate_of, controlled_named as controlled_of, measurement_named as measurement_of, other_named as other_of};
 
+use crate::axis::Axis;
 use crate::operation::Measurement;
 use stab_pauli::Refusal;
-use stab_tableau::{Gate, PairGate};
+use stab_tableau::Gate;
 
 /// What an instruction is, by its name.
 #[derive(Clone, Copy, Debug, PartialEq, Eq)]
 pub enum Instruction {
     Gate(Gate),
-    PairGate(PairGate),
+    Controlled(Axis),
+    Swap,
     Measure(Measurement),
-    Reset,
+    Reset(Axis),
+    MeasureProducts,
     Detector,
     ObservableInclude,
     Tick,
@@ -51,40 +54,79 @@ fn gate_named(name: &[u8]) -> Option<Gate>
         Some(Gate::S)
     } else if is(name, b"S_DAG") || is(name, b"SQRT_Z_DAG") {
         Some(Gate::SDag)
+    } else if is(name, b"C_XYZ") {
+        Some(Gate::CXyz)
+    } else if is(name, b"C_ZYX") {
+        Some(Gate::CZyx)
+    } else if is(name, b"SQRT_X") {
+        Some(Gate::SqrtX)
+    } else if is(name, b"SQRT_X_DAG") {
+        Some(Gate::SqrtXDag)
+    } else if is(name, b"SQRT_Y") {
+        Some(Gate::SqrtY)
+    } else if is(name, b"SQRT_Y_DAG") {
+        Some(Gate::SqrtYDag)
     } else {
         None
     }
 }
 
-#[tactic(auto, unfolding(crate::specs::Names::pair_gate_named))]
-fn pair_gate_named(name: &[u8]) -> Option<PairGate>
-    ensures value { result ≡ pair_gate_of name.now }
+#[tactic(auto, unfolding(crate::specs::Names::controlled_named))]
+fn controlled_named(name: &[u8]) -> Option<Axis>
+    ensures value { result ≡ controlled_of name.now }
 {
     if is(name, b"CX") || is(name, b"CNOT") || is(name, b"ZCX") {
-        Some(PairGate::Cx)
+        Some(Axis::X)
     } else if is(name, b"CY") || is(name, b"ZCY") {
-        Some(PairGate::Cy)
+        Some(Axis::Y)
     } else if is(name, b"CZ") || is(name, b"ZCZ") {
-        Some(PairGate::Cz)
-    } else if is(name, b"SWAP") {
-        Some(PairGate::Swap)
+        Some(Axis::Z)
     } else {
         None
     }
+}
+
+#[tactic(auto, unfolding(crate::specs::Names::measurement_named))]
+fn measurement_named(name: &[u8]) -> Option<Measurement>
+    ensures value { result ≡ measurement_of name.now }
+{
+    if is(name, b"M") || is(name, b"MZ") {
+        Some(measurement(Axis::Z, false))
+    } else if is(name, b"MX") {
+        Some(measurement(Axis::X, false))
+    } else if is(name, b"MY") {
+        Some(measurement(Axis::Y, false))
+    } else if is(name, b"MR") || is(name, b"MRZ") {
+        Some(measurement(Axis::Z, true))
+    } else if is(name, b"MRX") {
+        Some(measurement(Axis::X, true))
+    } else if is(name, b"MRY") {
+        Some(measurement(Axis::Y, true))
+    } else {
+        None
+    }
+}
+
+fn measurement(axis: Axis, resets: bool) -> Measurement
+    ensures value { result ≡ record { axis = axis; resets = resets } }
+{
+    Measurement { axis, resets }
 }
 
 #[tactic(auto, unfolding(crate::specs::Names::other_named))]
 fn other_named(name: &[u8]) -> Option<Instruction>
     ensures value { result ≡ other_of name.now }
 {
-    if is(name, b"M") || is(name, b"MZ") {
-        Some(Instruction::Measure(Measurement::M))
-    } else if is(name, b"MX") {
-        Some(Instruction::Measure(Measurement::Mx))
-    } else if is(name, b"MR") || is(name, b"MRZ") {
-        Some(Instruction::Measure(Measurement::Mr))
+    if is(name, b"SWAP") {
+        Some(Instruction::Swap)
     } else if is(name, b"R") || is(name, b"RZ") {
-        Some(Instruction::Reset)
+        Some(Instruction::Reset(Axis::Z))
+    } else if is(name, b"RX") {
+        Some(Instruction::Reset(Axis::X))
+    } else if is(name, b"RY") {
+        Some(Instruction::Reset(Axis::Y))
+    } else if is(name, b"MPP") {
+        Some(Instruction::MeasureProducts)
     } else if is(name, b"DETECTOR") {
         Some(Instruction::Detector)
     } else if is(name, b"OBSERVABLE_INCLUDE") {
@@ -111,8 +153,11 @@ impl Instruction {
         if let Some(gate) = gate_named(name) {
             return Ok(Instruction::Gate(gate));
         }
-        if let Some(gate) = pair_gate_named(name) {
-            return Ok(Instruction::PairGate(gate));
+        if let Some(axis) = controlled_named(name) {
+            return Ok(Instruction::Controlled(axis));
+        }
+        if let Some(measurement) = measurement_named(name) {
+            return Ok(Instruction::Measure(measurement));
         }
         match other_named(name) {
             Some(other) => Ok(other),

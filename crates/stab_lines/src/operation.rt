@@ -1,22 +1,27 @@
+use crate::axis::Axis;
+use crate::control::ControlledPair;
+use crate::product::Product;
 use crate::range::{Lookbacks, MeasureTarget, Observable, Pair, Qubit};
 use crate::sequence::Sequence;
-use stab_tableau::{Gate, PairGate};
+use stab_tableau::Gate;
 
-/// Which measurement: of the letter Z, of X, or of Z with a reset.
+/// Which measurement: of which letter, and whether it resets the qubit.
 #[derive(Clone, Copy, Debug, PartialEq, Eq)]
-pub enum Measurement {
-    M,
-    Mx,
-    Mr,
+pub struct Measurement {
+    pub axis: Axis,
+    pub resets: bool,
 }
 
 /// What an operation does.
 #[derive(Drop)]
 pub enum Kind {
     Gate(Gate, Sequence<Qubit>),
-    PairGate(PairGate, Sequence<Pair>),
+    /// X, Y or Z under a control: CX, CY and CZ.
+    Controlled(Axis, Sequence<ControlledPair>),
+    Swap(Sequence<Pair>),
     Measure(Measurement, Sequence<MeasureTarget>),
-    Reset(Sequence<Qubit>),
+    Reset(Axis, Sequence<Qubit>),
+    MeasureProducts(Sequence<Product>),
     Detector(Coordinates, Lookbacks),
     ObservableInclude(Observable, Lookbacks),
     Tick,

@@ -1,14 +1,17 @@
 ghost use Rattle.std.specs.Prelude.{◌≡◌, ◌++◌, List, ℕ, Bool, [], ◌∷◌, codes};
 ghost use Rattle.std.specs.Fmt.{decimal};
 ghost use Rattle.stab_pauli.specs.Devices.{WritesAll};
-ghost use Rattle.stab_lines.specs.Prints.{gate_name as gate_name_of, pair_gate_name as pair_gate_name_of, measurement_name as measurement_name_of, kind_name as kind_name_of, tag_text, each_after, head_text, arguments_text, kind_arguments, pair_text, target_text, lookback_text, targets_text, operation_text, open_text};
+ghost use Rattle.stab_lines.specs.Prints.{gate_name as gate_name_of, controlled_name as controlled_name_of, measurement_name as measurement_name_of, reset_name as reset_name_of, axis_text as axis_text_of, kind_name as kind_name_of, tag_text, each_after, head_text, arguments_text, kind_arguments, pair_text, target_text, lookback_text, controlled_text, factor_text, product_text, targets_text, operation_text, open_text};
 
+use crate::axis::Axis;
+use crate::control::ControlledPair;
 use crate::operation::{Kind, Measurement, Operation};
-use crate::range::{Count, MeasureTarget, Pair, Qubit};
+use crate::product::{Factor, Product};
+use crate::range::{Count, Lookback, MeasureTarget, Pair, Qubit};
 use crate::sequence::Sequence;
 use itoa::Buffer;
 use stab_pauli::{Output, Refusal, write_all};
-use stab_tableau::{Gate, PairGate};
+use stab_tableau::Gate;
 
 fn gate_name(gate: Gate) -> &'static [u8]
     ensures value { result.now ≡ gate_name_of gate }
@@ -21,27 +24,55 @@ fn gate_name(gate: Gate) -> &'static [u8]
         Gate::H => b"H",
         Gate::S => b"S",
         Gate::SDag => b"S_DAG",
+        Gate::CXyz => b"C_XYZ",
+        Gate::CZyx => b"C_ZYX",
+        Gate::SqrtX => b"SQRT_X",
+        Gate::SqrtXDag => b"SQRT_X_DAG",
+        Gate::SqrtY => b"SQRT_Y",
+        Gate::SqrtYDag => b"SQRT_Y_DAG",
     }
 }
 
-fn pair_gate_name(gate: PairGate) -> &'static [u8]
-    ensures value { result.now ≡ pair_gate_name_of gate }
+fn controlled_name(axis: Axis) -> &'static [u8]
+    ensures value { result.now ≡ controlled_name_of axis }
 {
-    match gate {
-        PairGate::Cx => b"CX",
-        PairGate::Cy => b"CY",
-        PairGate::Cz => b"CZ",
-        PairGate::Swap => b"SWAP",
+    match axis {
+        Axis::X => b"CX",
+        Axis::Y => b"CY",
+        Axis::Z => b"CZ",
     }
 }
 
 fn measurement_name(measurement: Measurement) -> &'static [u8]
     ensures value { result.now ≡ measurement_name_of measurement }
 {
-    match measurement {
-        Measurement::M => b"M",
-        Measurement::Mx => b"MX",
-        Measurement::Mr => b"MR",
+    match (measurement.axis, measurement.resets) {
+        (Axis::X, false) => b"MX",
+        (Axis::Y, false) => b"MY",
+        (Axis::Z, false) => b"M",
+        (Axis::X, true) => b"MRX",
+        (Axis::Y, true) => b"MRY",
+        (Axis::Z, true) => b"MR",
+    }
+}
+
+fn reset_name(axis: Axis) -> &'static [u8]
+    ensures value { result.now ≡ reset_name_of axis }
+{
+    match axis {
+        Axis::X => b"RX",
+        Axis::Y => b"RY",
+        Axis::Z => b"R",
+    }
+}
+
+fn axis_text(axis: Axis) -> &'static [u8]
+    ensures value { result.now ≡ axis_text_of axis }
+{
+    match axis {
+        Axis::X => b"X",
+        Axis::Y => b"Y",
+        Axis::Z => b"Z",
     }
 }
 
@@ -50,9 +81,11 @@ fn kind_name(kind: &Kind) -> &'static [u8]
 {
     match kind {
         Kind::Gate(gate, _) => gate_name(*gate),
-        Kind::PairGate(gate, _) => pair_gate_name(*gate),
+        Kind::Controlled(axis, _) => controlled_name(*axis),
+        Kind::Swap(_) => b"SWAP",
         Kind::Measure(measurement, _) => measurement_name(*measurement),
-        Kind::Reset(_) => b"R",
+        Kind::Reset(axis, _) => reset_name(*axis),
+        Kind::MeasureProducts(_) => b"MPP",
         Kind::Detector(_, _) => b"DETECTOR",
         Kind::ObservableInclude(_, _) => b"OBSERVABLE_INCLUDE",
         Kind::Tick => b"TICK",
@@ -139,6 +172,60 @@ impl Word for u32 {
     }
 }
 
+impl Word for ControlledPair {
+    ghost text = { controlled_text };
+
+    fn write<O: Output>(&self, out: &mut O) -> Result<(), Refusal> {
+        match self {
+            ControlledPair::Qubits(pair) => pair.write(out),
+            ControlledPair::Record(lookback, qubit) => write_feedback(out, *lookback, *qubit),
+        }
+    }
+}
+
+/// Writes a record and the qubit on which it acts.
+fn write_feedback<O: Output>(out: &mut O, lookback: Lookback, qubit: Qubit) -> Result<(), Refusal>
+    ensures writes { WritesAll (O.seen out.old) (O.seen out.new) (lookback_text lookback ++ (codes " " ++ decimal qubit)) result }
+{
+    lookback.number().write(out)?;
+    write_all(out, b" ")?;
+    qubit.write(out)
+}
+
+impl Word for Factor {
+    ghost text = { factor_text };
+
+    fn write<O: Output>(&self, out: &mut O) -> Result<(), Refusal> {
+        let mark = if self.inverted { b"!".as_slice() } else { b"" };
+        let mut digits = Buffer::new();
+        write_parts(
+            out,
+            mark,
+            axis_text(self.letter),
+            digits.format(self.qubit.number() as u64).as_bytes(),
+        )
+    }
+}
+
+impl Word for Product {
+    ghost text = { product_text };
+
+    fn write<O: Output>(&self, out: &mut O) -> Result<(), Refusal> {
+        match self.as_slice().split_first() {
+            None => Ok(()),
+            Some((first, more)) => write_factors(out, *first, more),
+        }
+    }
+}
+
+/// Writes factors, at least one.
+fn write_factors<O: Output>(out: &mut O, first: Factor, more: &[Factor]) -> Result<(), Refusal>
+    ensures writes { WritesAll (O.seen out.old) (O.seen out.new) (product_text (first ∷ more.now)) result }
+{
+    first.write(out)?;
+    write_each(out, b"*", more)
+}
+
 impl Word for Sequence<u8> {
     ghost text = { λ bytes. bytes };
 
@@ -211,9 +298,11 @@ fn write_arguments<O: Output>(out: &mut O, kind: &Kind) -> Result<(), Refusal>
         Kind::QubitCoords(coordinates, _) => write_coordinates(out, coordinates.as_slice()),
         Kind::ShiftCoords(coordinates) => write_coordinates(out, coordinates.as_slice()),
         Kind::Gate(_, _)
-        | Kind::PairGate(_, _)
+        | Kind::Controlled(_, _)
+        | Kind::Swap(_)
         | Kind::Measure(_, _)
-        | Kind::Reset(_)
+        | Kind::Reset(_, _)
+        | Kind::MeasureProducts(_)
         | Kind::Tick => Ok(()),
     }
 }
@@ -223,9 +312,11 @@ fn write_targets<O: Output>(out: &mut O, kind: &Kind) -> Result<(), Refusal>
 {
     match kind {
         Kind::Gate(_, qubits) => write_each(out, b" ", qubits.as_slice()),
-        Kind::PairGate(_, pairs) => write_each(out, b" ", pairs.as_slice()),
+        Kind::Controlled(_, pairs) => write_each(out, b" ", pairs.as_slice()),
+        Kind::Swap(pairs) => write_each(out, b" ", pairs.as_slice()),
         Kind::Measure(_, targets) => write_each(out, b" ", targets.as_slice()),
-        Kind::Reset(qubits) => write_each(out, b" ", qubits.as_slice()),
+        Kind::Reset(_, qubits) => write_each(out, b" ", qubits.as_slice()),
+        Kind::MeasureProducts(products) => write_each(out, b" ", products.as_slice()),
         Kind::Detector(_, records) => write_each(out, b" ", records.as_slice()),
         Kind::ObservableInclude(_, records) => write_each(out, b" ", records.as_slice()),
         Kind::QubitCoords(_, qubits) => write_each(out, b" ", qubits.as_slice()),
@@ -239,6 +330,9 @@ fn write_name<O: Output>(out: &mut O, operation: &Operation) -> Result<(), Refus
     write_head(out, kind_name(&operation.kind), operation.tag.as_slice())
 }
 
+/// Writes the one text of an instruction, without a line feed, and does not flush.
+///
+/// Refusal `WriteFault` where a write failed; what was written is then a prefix of the text.
 pub fn write_operation<O: Output>(out: &mut O, operation: &Operation) -> Result<(), Refusal>
     ensures writes { WritesAll (O.seen out.old) (O.seen out.new) (operation_text operation.now) result }
 {
@@ -247,6 +341,9 @@ pub fn write_operation<O: Output>(out: &mut O, operation: &Operation) -> Result<
     write_targets(out, &operation.kind)
 }
 
+/// Writes the one text of a block's opening, without a line feed, and does not flush.
+///
+/// Refusal `WriteFault` where a write failed; what was written is then a prefix of the text.
 pub fn write_opening<O: Output>(out: &mut O, count: Count, tag: &[u8]) -> Result<(), Refusal>
     ensures writes { WritesAll (O.seen out.old) (O.seen out.new) (open_text count tag.now) result }
 {

@@ -119,6 +119,45 @@ impl Observable {
     }
 }
 
+/// How far back a record is looked for: the number k of `rec[-k]`, from 1 to 16,777,215.
+#[derive(Clone, Copy, Debug, PartialEq, Eq)]
+pub struct Lookback {
+    records: u32,
+}
+
+impl Model for Lookback {
+    ghost use Rattle.std.specs.Prelude.{ℕ};
+    ghost use Rattle.stab_lines.specs.Lookbacks.{IsLookback};
+
+    ghost Value = { ℕ };
+
+    ghost view = { λ l. l.records };
+
+    ghost invariant = { λ l. IsLookback l.records };
+
+    ghost inverse = { λ n. record { records = n } };
+}
+
+impl Lookback {
+    ghost use Rattle.std.specs.Prelude.{◌≡◌};
+    ghost use Rattle.stab_lines.specs.Lookbacks.{IsLookback};
+
+    pub(crate) fn new(number: u32) -> Lookback
+        requires in_range { IsLookback number }
+        ensures value { result ≡ number }
+    {
+        Lookback { records: number }
+    }
+
+    /// The number k.
+    pub fn number(self) -> u32
+        ensures value { result ≡ self }
+        ensures in_range { IsLookback result }
+    {
+        self.records
+    }
+}
+
 /// How far back records are looked for: numbers k of `rec[-k]`, from 1 to 16,777,215 each.
 #[derive(Drop)]
 pub struct Lookbacks {

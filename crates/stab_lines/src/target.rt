@@ -2,10 +2,13 @@ ghost use Rattle.std.specs.Prelude.{◌≡◌, ℕ, List, ◌≤◌, length, Res
 ghost use Rattle.stab_pauli.specs.declared.refusal.Refusal.{Refusal};
 ghost use Rattle.stab_lines.specs.Results.{Gives, each};
 ghost use Rattle.stab_lines.specs.Words.{words};
+ghost use Rattle.stab_lines.specs.Products.{product_of};
 ghost use Rattle.stab_lines.specs.Targets.{qubit_of, measure_target_of, lookback_of, lookback_digits, is_lookback, count_of, pairs_of};
 
+use crate::factor::product;
 use crate::line::{ends_with, starts_with};
-use crate::range::{Count, Lookbacks, MeasureTarget, Pair, Qubit};
+use crate::product::Product;
+use crate::range::{Count, Lookback, Lookbacks, MeasureTarget, Pair, Qubit};
 use crate::sequence::Sequence;
 use crate::word::{capped_value, first_word, is_number};
 use stab_pauli::Refusal;
@@ -20,8 +23,24 @@ pub trait Target {
     ghost meaning: { List ℕ → Result Self.Kept Refusal };
 
     /// What the word means as such a target.
-    fn of(word: &[u8]) -> Result<Self::Kept, Refusal>
-        ensures value { result ≡ meaning word.now };
+    fn of(alloc: Global, word: &[u8]) -> Result<Self::Kept, Refusal>
+        ensures gives { Gives result (meaning word.now) };
+}
+
+/// The qubit of a word.
+#[tactic(auto, unfolding(crate::specs::Targets::qubit_of))]
+pub fn qubit(word: &[u8]) -> Result<Qubit, Refusal>
+    ensures value { result ≡ qubit_of word.now }
+{
+    if !is_number(word) {
+        return Err(Refusal::BadTarget);
+    }
+    let number = capped_value(word, 1024);
+    if number < 1024 {
+        Ok(Qubit::new(number as u16))
+    } else {
+        Err(Refusal::QubitOutOfRange)
+    }
 }
 
 /// The targets that are qubits.
@@ -32,17 +51,8 @@ impl Target for Qubits {
 
     ghost meaning = { qubit_of };
 
-    #[tactic(auto, unfolding(crate::specs::Targets::qubit_of))]
-    fn of(word: &[u8]) -> Result<Qubit, Refusal> {
-        if !is_number(word) {
-            return Err(Refusal::BadTarget);
-        }
-        let number = capped_value(word, 1024);
-        if number < 1024 {
-            Ok(Qubit::new(number as u16))
-        } else {
-            Err(Refusal::QubitOutOfRange)
-        }
+    fn of(_alloc: Global, word: &[u8]) -> Result<Qubit, Refusal> {
+        qubit(word)
     }
 }
 
@@ -55,21 +65,37 @@ impl Target for MeasureTargets {
     ghost meaning = { measure_target_of };
 
     #[tactic(auto, unfolding(crate::specs::Targets::measure_target_of))]
-    fn of(word: &[u8]) -> Result<MeasureTarget, Refusal> {
+    fn of(_alloc: Global, word: &[u8]) -> Result<MeasureTarget, Refusal> {
         let inverted = starts_with(word, b'!');
         if inverted {
-            let qubit = Qubits::of(word.split_at(1).1)?;
+            let qubit = qubit(word.split_at(1).1)?;
             Ok(MeasureTarget {
                 qubit,
                 inverted: true,
             })
         } else {
-            let qubit = Qubits::of(word)?;
+            let qubit = qubit(word)?;
             Ok(MeasureTarget {
                 qubit,
                 inverted: false,
             })
         }
+    }
+}
+
+/// How far back the record of a word is looked for.
+#[tactic(auto, unfolding(crate::specs::Targets::lookback_of))]
+pub fn record(word: &[u8]) -> Result<Lookback, Refusal>
+    ensures value { result ≡ lookback_of word.now }
+{
+    if !is_record(word) {
+        return Err(Refusal::BadTarget);
+    }
+    let number = capped_value(record_digits(word), 16_777_216);
+    if 0 < number && number < 16_777_216 {
+        Ok(Lookback::new(number as u32))
+    } else {
+        Err(Refusal::BadTarget)
     }
 }
 
@@ -81,17 +107,22 @@ impl Target for Records {
 
     ghost meaning = { lookback_of };
 
-    #[tactic(auto, unfolding(crate::specs::Targets::lookback_of))]
-    fn of(word: &[u8]) -> Result<u32, Refusal> {
-        if !is_record(word) {
-            return Err(Refusal::BadTarget);
-        }
-        let number = capped_value(record_digits(word), 16_777_216);
-        if 0 < number && number < 16_777_216 {
-            Ok(number as u32)
-        } else {
-            Err(Refusal::BadTarget)
-        }
+    fn of(_alloc: Global, word: &[u8]) -> Result<u32, Refusal> {
+        let lookback = record(word)?;
+        Ok(lookback.number())
+    }
+}
+
+/// The targets that are products.
+pub struct Products;
+
+impl Target for Products {
+    type Kept = Product;
+
+    ghost meaning = { product_of };
+
+    fn of(alloc: Global, word: &[u8]) -> Result<Product, Refusal> {
+        product(alloc, word)
     }
 }
 
@@ -102,7 +133,8 @@ fn record_digits(word: &[u8]) -> &[u8]
     word.split_at(5).1.split_at(word.len() - 6).0
 }
 
-fn is_record(word: &[u8]) -> bool
+/// Whether it is written as a record is.
+pub fn is_record(word: &[u8]) -> bool
     ensures value { result ≡ is_lookback word.now }
     ensures long { IsTrue result → 6 ≤ length word.now }
 {
@@ -121,7 +153,7 @@ impl Target for Counts {
     ghost meaning = { count_of };
 
     #[tactic(auto, unfolding(crate::specs::Targets::count_of), using(crate::proofs::WordLemmas::eighteen_digits))]
-    fn of(word: &[u8]) -> Result<Option<Count>, Refusal> {
+    fn of(_alloc: Global, word: &[u8]) -> Result<Option<Count>, Refusal> {
         if !is_number(word) {
             return Err(Refusal::BadTarget);
         }
@@ -141,7 +173,7 @@ pub fn targets<T: Target>(alloc: Global, words_text: &[u8]) -> Result<Sequence<T
     let mut found = Sequence::new(alloc);
     let mut rest = words_text;
     while let Some((word, after)) = first_word(rest) {
-        found.push(T::of(word)?)?;
+        found.push(T::of(alloc, word)?)?;
         rest = after;
     }
     Ok(found)

@@ -3,6 +3,8 @@ use Rattle.std.specs.Prelude.{ℕ, ◌+◌, ◌*◌, ◌-◌, ◌≤◌, max, mi
 use Rattle.stab_pauli.specs.declared.refusal.Refusal.{Refusal}
 use Rattle.stab_pauli.specs.declared.refusal.Refusal.TheVariants.{LookbackTooFar, TooManySteps}
 use Rattle.stab_circuit.specs.declared.summary.Summary.{Summary}
+use Rattle.stab_lines.specs.declared.control.ControlledPair.{ControlledPair}
+use Rattle.stab_lines.specs.declared.control.ControlledPair.TheVariants as pair
 use Rattle.stab_lines.specs.declared.operation.Kind.{Kind}
 use Rattle.stab_circuit.specs.Items.{Items}
 use Rattle.stab_circuit.specs.Steps.{Step, makes, records_of, lookbacks, steps_of, unroll, past, named_qubits, named_observables, qubits_of, observables_of}
@@ -11,6 +13,16 @@ use Rattle.stab_circuit.specs.Steps.{Step, makes, records_of, lookbacks, steps_o
 abbrev pub greatest : List ℕ → ℕ
 greatest [] = 0
 greatest (k ∷ ks) = max k (greatest ks)
+
+-- how far back a pair of a controlled gate looks, or 0
+abbrev pub looks_back : ControlledPair → ℕ
+looks_back (pair.Qubits p) = 0
+looks_back (pair.Record k q) = k
+
+-- how far back the furthest of the pairs looks, or 0
+abbrev pub furthest : List ControlledPair → ℕ
+furthest [] = 0
+furthest (p ∷ ps) = max (looks_back p) (furthest ps)
 
 -- how many records have to stand before the steps
 abbrev pub reach : List Step → ℕ

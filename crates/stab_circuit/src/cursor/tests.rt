@@ -14,7 +14,7 @@ fn shown(alloc: Global, cursor: &mut Cursor, lines: usize) -> Result<String, Ref
 }
 
 // Texts, places among their unrolled steps, and the steps from there on.
-const CASES: [(&str, usize, &str); 6] = [
+const CASES: [(&str, usize, &str); 9] = [
     (
         "REPEAT 2 {\nX 0\nM 0 1\n}",
         3,
@@ -50,6 +50,34 @@ Some(One(H, 1))
         "REPEAT 999999999999999999 {\nREPEAT 999999999999999999 {\nTICK\n}\n}\nH 1",
         0,
         "Some(One(H, 1))\n",
+    ),
+    (
+        "MPP X0*X1 Z2 !X0*!Y1*!Z2",
+        0,
+        "Some(Product { factors: [Factor { letter: X, qubit: Qubit { number: 0 }, inverted: false }, Factor { letter: X, qubit: Qubit { number: 1 }, inverted: false }], inverted: false })
+Some(Product { factors: [Factor { letter: Z, qubit: Qubit { number: 2 }, inverted: false }], inverted: false })
+Some(Product { factors: [Factor { letter: X, qubit: Qubit { number: 0 }, inverted: true }, Factor { letter: Y, qubit: Qubit { number: 1 }, inverted: true }, Factor { letter: Z, qubit: Qubit { number: 2 }, inverted: true }], inverted: true })
+",
+    ),
+    (
+        "M 0\nCX rec[-1] 2 0 1\nSQRT_Y 3",
+        1,
+        "Some(Controlled(X, 1, 2))
+Some(Two(Cx, 0, 1))
+Some(One(SqrtY, 3))
+",
+    ),
+    (
+        "MY 0\nMRX !1\nMRY 2\nRX 3\nRY 4\nCY rec[-2] 0\nCZ rec[-1] 1",
+        0,
+        "Some(Collapse { letter: Y, qubit: 0, recorded: true, inverted: false, reset: false })
+Some(Collapse { letter: X, qubit: 1, recorded: true, inverted: true, reset: true })
+Some(Collapse { letter: Y, qubit: 2, recorded: true, inverted: false, reset: true })
+Some(Collapse { letter: X, qubit: 3, recorded: false, inverted: false, reset: true })
+Some(Collapse { letter: Y, qubit: 4, recorded: false, inverted: false, reset: true })
+Some(Controlled(Y, 2, 0))
+Some(Controlled(Z, 1, 1))
+",
     ),
     ("X 0", 1, ""),
     ("", 0, ""),

@@ -1,0 +1,9 @@
+use Rattle.std.proofs.Common.{◌≡◌, ◌≤◌, max, drop}
+use Rattle.stab_circuit.specs.inner.Summaries.{furthest}
+use Rattle.stab_circuit.proofs.summary.furthest.Given as goal
+
+abbrev pub invariant-loop-pair : goal.invariant-loop-pair
+invariant-loop-pair l = record {
+  small : l.furthest ≤ 16777215;
+  same : max l.furthest (furthest (drop l.pair-index l.pairs)) ≡ furthest l.pairs;
+}

@@ -1,0 +1,6 @@
+use Rattle.std.proofs.Common.{◌∙◌}
+use Rattle.stab_circuit.proofs.SummaryLemmas.{controlled_found}
+use Rattle.stab_circuit.proofs.summary.kind_summary.Goals as goal
+
+pub returns-in-Controlled-clause-value : goal.returns-in-Controlled-clause-value
+returns-in-Controlled-clause-value c = c.controlled.ensures.value ∙ controlled_found c.in-Controlled.is c.as_slice-in-Controlled.ensures.value

@@ -1,0 +1,11 @@
+use Rattle.std.proofs.Common.{◌≡◌, length}
+use Rattle.stab_lines.specs.Words.{words}
+use Rattle.stab_lines.specs.Controls.{by_turns}
+use Rattle.stab_lines.proofs.ResultLemmas.{behind}
+use Rattle.stab_lines.proofs.control.control_targets.Given as goal
+
+abbrev pub invariant-loop-word : goal.invariant-loop-word
+invariant-loop-word l = behind l.found (by_turns (words l.rest)) ≡ by_turns (words l.words_text)
+
+abbrev pub decreases-loop-word : goal.decreases-loop-word
+decreases-loop-word l = length l.rest

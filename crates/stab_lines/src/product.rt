@@ -1,0 +1,50 @@
+use crate::axis::Axis;
+use crate::range::Qubit;
+use crate::sequence::Sequence;
+use std::marker::Model;
+
+/// A letter on a qubit, and whether it inverts the recorded bit of its product.
+#[derive(Clone, Copy, Debug, PartialEq, Eq)]
+pub struct Factor {
+    pub letter: Axis,
+    pub qubit: Qubit,
+    pub inverted: bool,
+}
+
+/// A product of letters on different qubits, which is measured as a whole.
+#[derive(Drop)]
+pub struct Product {
+    factors: Sequence<Factor>,
+}
+
+impl Model for Product {
+    ghost use Rattle.std.specs.Prelude.{◌≡◌, List, false};
+    ghost use Rattle.stab_lines.specs.declared.product.Factor.{Factor};
+    ghost use Rattle.stab_lines.specs.Products.{names_twice};
+
+    ghost Value = { List Factor };
+
+    ghost view = { λ p. p.factors };
+
+    ghost invariant = { λ p. names_twice p.factors ≡ false };
+}
+
+impl Product {
+    ghost use Rattle.std.specs.Prelude.{◌≡◌, false};
+    ghost use Rattle.stab_lines.specs.Products.{names_twice};
+
+    pub(crate) fn new(factors: Sequence<Factor>) -> Product
+        requires different { names_twice factors ≡ false }
+        ensures value { result ≡ factors }
+    {
+        Product { factors }
+    }
+
+    /// The factors.
+    pub fn as_slice(&self) -> &[Factor]
+        ensures value { result.now ≡ self.now }
+        ensures different { names_twice self.now ≡ false }
+    {
+        self.factors.as_slice()
+    }
+}
