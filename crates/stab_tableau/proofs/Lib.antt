@@ -30,3 +30,6 @@ pub mod MeasureLemmas
 pub mod TableauMeasureLemmas
 pub mod FixedLemmas
 pub mod TableauColumnLemmas
+pub mod BitLemmas
+pub mod ReducedLemmas
+pub mod RowsTellLemmas
