@@ -33,3 +33,9 @@ pub mod TableauColumnLemmas
 pub mod BitLemmas
 pub mod ReducedLemmas
 pub mod RowsTellLemmas
+pub mod ExchangeLemmas
+pub mod EliminationStepLemmas
+pub mod EliminationEndLemmas
+pub mod SameGroupLemmas
+pub mod SignFrameLemmas
+pub mod BasisLemmas
