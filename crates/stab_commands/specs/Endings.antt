@@ -33,6 +33,7 @@ RefusesText own old new f = ((text : List ℕ) × GaveText old new text × own t
 
 -- How a call ends that reads a text whole and goes on with it: the text was refused and all else is untouched; or it was given whole, and
 -- the rest says how the call went on.
-abbrev pub Ends : {T : Type 0} → (own : List ℕ → Fault → Type 0) → (untouched : Type 0) → (rest : List ℕ → Result T Fault → Type 0) → InputView → InputView → Result T Fault → Type 0
+abbrev pub Ends : {T : Type 0} → (own : List ℕ → Fault → Type 0) → (untouched : Type 0)
+    → (rest : List ℕ → Result T Fault → Type 0) → InputView → InputView → Result T Fault → Type 0
 Ends own untouched rest old new (Ok x) = (text : List ℕ) × GaveText old new text × rest text (Ok x)
 Ends own untouched rest old new (Err f) = (untouched × RefusesText own old new f) ⊎ ((text : List ℕ) × GaveText old new text × rest text (Err f))

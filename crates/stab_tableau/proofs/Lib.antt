@@ -30,3 +30,12 @@ pub mod MeasureLemmas
 pub mod TableauMeasureLemmas
 pub mod FixedLemmas
 pub mod TableauColumnLemmas
+pub mod BitLemmas
+pub mod ReducedLemmas
+pub mod RowsTellLemmas
+pub mod ExchangeLemmas
+pub mod EliminationStepLemmas
+pub mod EliminationEndLemmas
+pub mod SameGroupLemmas
+pub mod SignFrameLemmas
+pub mod BasisLemmas

@@ -3,3 +3,5 @@ pub mod Tables
 pub mod Collapses
 pub mod Observables
 pub mod ColumnLetters
+pub mod Eliminations
+pub mod Frames

@@ -5,8 +5,10 @@
 //! - `collapse`: what a measurement answers, and what it does to the rows of a state.
 //! - `preimages`: the two rows that a state keeps for a qubit, and how gates and measurements change them.
 //! - `rows`: the rows of all qubits: preimages of strings, columns, and a pass over all of them.
+//! - `elimination`: rows that generate a group are made its reduced rows.
 //! - `gate_laws`: a gate is undone by its way back, and keeps products and commuting.
-//! - `laws`: the members of a sound trace are a group, outcomes keep it sound, and what is free.
+//! - `laws`: the members of a sound trace are a group, outcomes keep it sound, and what is free; a group has at most one
+//!   list of reduced rows, which tells it.
 //!
 //! `specs/` says by the stabiliser rules which signed Pauli strings stabilise a state; `specs/inner/` has what only private
 //! contracts cite.
@@ -17,6 +19,7 @@
 #![tactic(auto)]
 
 mod collapse;
+mod elimination;
 mod gate;
 pub mod gate_laws;
 pub mod laws;
