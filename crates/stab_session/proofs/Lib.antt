@@ -1,4 +1,5 @@
 mod RecordLemmas
+mod ProductLemmas
 mod RunLemmas
 mod StateLemmas
 mod FutureLemmas

@@ -3,6 +3,8 @@
 //! - `coins`: the bits that decide outcomes which nothing else decides.
 //! - `records`: the records that `rec[-k]` names, and their parity.
 //! - `outputs`: what steps have given so far.
+//! - `letters`: letters that are applied where a bit is 1.
+//! - `products`: products of letters, and their measurement.
 //! - `apply`: one step on a tableau.
 //! - `run`: one run of a circuit, and what it gives.
 //! - `sampler`: many runs of one circuit.
@@ -18,7 +20,9 @@
 mod apply;
 mod coins;
 pub mod laws;
+mod letters;
 mod outputs;
+mod products;
 mod records;
 mod run;
 mod sampler;

@@ -2,7 +2,7 @@ ghost use Rattle.std.specs.Prelude.{◌≡◌};
 ghost use Rattle.stab_session.specs.Records.{looked_up as looked_up_of, parity as parity_of};
 
 /// The record `rec[-k]`, or 0 where there are fewer than k.
-fn looked_up(records: &[bool], k: u32) -> bool
+pub fn looked_up(records: &[bool], k: u32) -> bool
     ensures value { result ≡ looked_up_of records.now k }
 {
     match records.len().checked_sub(k as usize) {

@@ -1,20 +1,23 @@
 -- Sights: what a running program holds, and how it follows a run.
-use Rattle.std.specs.Prelude.{◌≡◌, ◌≢◌, ℕ, ◌<◌, Bool, true, false, List, length}
+use Rattle.std.specs.Prelude.{◌≡◌, ◌≢◌, ℕ, ◌<◌, Bool, true, false, List, All, length}
+use Rattle.stab_pauli.specs.declared.letter.Letter.{Letter}
 use Rattle.stab_pauli.specs.Paulis.{Signed}
-use Rattle.stab_tableau.specs.declared.gate.Gate.TheVariants as on
 use Rattle.stab_tableau.specs.Gates.{back}
 use Rattle.stab_tableau.specs.Traces.{member}
 use Rattle.stab_tableau.specs.Groups.{SameGroup}
 use Rattle.stab_tableau.specs.Tableaus.{TableauState, stabilises}
-use Rattle.stab_circuit.specs.Steps.{Step, one, two, collapse, detector, observable}
+use Rattle.stab_circuit.specs.Steps.{Step, one, two, controlled, collapse, product, detector, observable}
 use Rattle.stab_session.specs.declared.outputs.Outputs.{Outputs}
+use Rattle.stab_session.specs.Runs.{gate_of}
 use Rattle.stab_session.specs.Points.{Point, Output, joined, point_after, outputs}
 
 -- the qubits of a step are below n, and those of a pair differ
 abbrev pub StepFits : ℕ → Step → Type 0
 StepFits n (one g q) = q < n
 StepFits n (two g a b) = (a < n) × (b < n) × (b ≢ a)
+StepFits n (controlled l k q) = q < n
 StepFits n (collapse l q recorded inverted resets) = q < n
+StepFits n (product factors inverted) = All (λ f. f.qubit < n) factors
 StepFits n (detector ks) = Unit {0}
 StepFits n (observable j ks) = Unit {0}
 
@@ -22,10 +25,10 @@ StepFits n (observable j ks) = Unit {0}
 abbrev pub output_of : Outputs → Output
 output_of o = record { records = o.records.items; free = o.free.items; detectors = o.detectors.items; additions = o.additions.items }
 
--- the strings that stabilise, by those before, where the gate X was applied to the qubit if it is flipped
-abbrev pub flipped_by : Bool → ℕ → (Signed → Bool) → Signed → Bool
-flipped_by true q stabilised p = stabilised (back on.X q p)
-flipped_by false q stabilised p = stabilised p
+-- the strings that stabilise, by those before, where a letter was applied to the qubit if the bit is 1
+abbrev pub applied_by : Bool → Letter → ℕ → (Signed → Bool) → Signed → Bool
+applied_by true l q stabilised p = stabilised (back (gate_of l) q p)
+applied_by false l q stabilised p = stabilised p
 
 -- which strings the program's tableau stabilises, and what it has gathered
 pub record Sight : Type 0 where

@@ -18,6 +18,7 @@ loop-step-preserved g c =
       counted = omega (arith, ap length more, done.counted, inv.counted);
       all = c.next.ensures.all ∙ inv.all;
       qubits = done.qubits ∙ inv.qubits;
+      string = done.string ∙ inv.string;
       same_coins = done.same_coins ∙ inv.same_coins;
       asks = omega (arith, ap all_coins_of more, done.asks, inv.asks);
       asks_free = omega (arith, done.asks_free, inv.asks_free);

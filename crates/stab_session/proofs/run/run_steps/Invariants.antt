@@ -10,6 +10,7 @@ invariant-loop-step g l = record {
   counted : l.applied + length l.cursor.left ≡ l.initial.applied + length l.initial.cursor.left;
   all : l.cursor.all ≡ l.initial.cursor.all;
   qubits : l.tableau.qubits ≡ l.initial.tableau.qubits;
+  string : length l.string.letters ≡ length l.initial.string.letters;
   same_coins : g.C.Coins.sequence l.coins ≡ g.C.Coins.sequence l.initial.coins;
   asks : g.C.Coins.asks l.coins + all_coins_of l.cursor.left ≤ g.C.Coins.asks l.initial.coins + all_coins_of l.initial.cursor.left;
   asks_free : g.C.Coins.asks l.coins + ones l.initial.outputs.free.items ≤ g.C.Coins.asks l.initial.coins + ones l.outputs.free.items;
