@@ -1,3 +1,4 @@
+pub mod PairedRowsLemmas
 pub mod GateTables
 pub mod PlaceLemmas
 pub mod SymmetryLemmas
@@ -17,6 +18,7 @@ pub mod StabiliseLemmas
 pub mod GroupTestLemmas
 pub mod CollapseRuleLemmas
 pub mod TableCollapseLemmas
+pub mod CollapsedStringLemmas
 pub mod GateRowLemmas
 pub mod PairRowLemmas
 pub mod TableRowLemmas

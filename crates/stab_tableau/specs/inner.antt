@@ -1,4 +1,5 @@
 pub mod Preimages
+pub mod Pairs
 pub mod Tables
 pub mod Collapses
 pub mod Observables
