@@ -41,3 +41,5 @@ pub mod EliminationEndLemmas
 pub mod SameGroupLemmas
 pub mod SignFrameLemmas
 pub mod BasisLemmas
+pub mod FrameLemmas
+pub mod SameStateLemmas

@@ -17,6 +17,7 @@ pub fn eliminate(rows: &mut PauliRows)
     requires short { rows.old.qubits ≤ 2 ^ 24 }
     requires basis { (member : Signed → Bool) × IsStabiliserGroup rows.old.qubits member × IsBasis member rows.old }
     ensures qubits { rows.new.qubits ≡ rows.old.qubits }
+    ensures number { length rows.new.rows ≡ length rows.old.rows }
     ensures reduced { (member : Signed → Bool) → IsStabiliserGroup rows.old.qubits member → IsBasis member rows.old → AreReduced rows.old.qubits member rows.new.rows }
 {
     let mut used = 0;

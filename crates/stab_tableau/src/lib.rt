@@ -6,6 +6,7 @@
 //! - `table`: the two rows that a state keeps for each qubit, all in one allocation.
 //! - `preimages`: how gates and measurements change the rows of a qubit.
 //! - `rows`: the rows of all qubits: preimages of strings, columns, and a pass over all of them.
+//! - `group`: whether two states have one group, and reading stabilisers.
 //! - `elimination`: rows that generate a group are made its reduced rows.
 //! - `gate_laws`: a gate is undone by its way back, and keeps products and commuting.
 //! - `laws`: the members of a sound trace are a group, outcomes keep it sound, and what is free; a group has at most one
@@ -23,6 +24,7 @@ mod collapse;
 mod elimination;
 mod gate;
 pub mod gate_laws;
+mod group;
 pub mod laws;
 mod observable;
 mod preimages;

@@ -49,7 +49,7 @@ impl Model for Table {
 }
 
 impl Table {
-    ghost use Rattle.std.specs.Prelude.{◌≡◌, ◌≢◌, ℕ, ◌<◌, ◌≤◌, ◌⊎◌, true, false, length, slice_set, IfOk, IfErr, IfSome, IfNone};
+    ghost use Rattle.std.specs.Prelude.{◌≡◌, ◌≢◌, ℕ, ◌<◌, ◌≤◌, ◌⊎◌, true, false, length, slice_set, ◌↔◌, IsTrue, IfOk, IfErr, IfSome, IfNone};
     ghost use Rattle.std.specs.List.{list_any};
     ghost use Rattle.stab_pauli.specs.declared.refusal.Refusal.TheVariants.{OutOfMemory};
     ghost use Rattle.stab_pauli.specs.Flips.{flips};
@@ -58,6 +58,7 @@ impl Table {
     ghost use Rattle.stab_pauli.specs.Rows.{turned_product};
     ghost use Rattle.stab_tableau.specs.Gates.{letter_at};
     ghost use Rattle.stab_tableau.specs.inner.Preimages.{row_at, zeros_row, IsOver};
+    ghost use Rattle.stab_tableau.specs.inner.Frames.{SameLetters};
     ghost use Rattle.stab_tableau.specs.inner.Pairs.{string_of, put, exchanged};
 
     /// Rows of letters I alone, for n qubits.
@@ -86,6 +87,20 @@ impl Table {
         ensures value { self.new ≡ other.now }
     {
         self.rows.copy_from(&other.rows);
+    }
+
+    /// Whether both have the same rows.
+    pub fn same(&self, other: &Table) -> bool
+        ensures value { IsTrue result ↔ (self.now ≡ other.now) }
+    {
+        self.rows.same(&other.rows)
+    }
+
+    /// Whether both have rows with the same letters, whatever their signs.
+    pub fn same_letters(&self, other: &Table) -> bool
+        ensures value { IsTrue result ↔ SameLetters self.now other.now }
+    {
+        self.rows.same_letters(&other.rows)
     }
 
     /// The number of qubits.
@@ -224,6 +239,15 @@ impl Table {
         ensures value { result ≡ flips (letter_at (string_of row (row_at self.now qubit)).letters place) }
     {
         self.rows.flips(row.place(qubit), place)
+    }
+
+    /// Whether the sign of a row is -.
+    #[inline(always)]
+    pub fn is_negative(&self, row: Row, qubit: usize) -> bool
+        requires in_range { qubit < length self.now }
+        ensures value { result ≡ (string_of row (row_at self.now qubit)).negative }
+    {
+        self.rows.is_negative(row.place(qubit))
     }
 
     /// The sign of a row of letters I and Z alone, which is the outcome of a measurement, or `None` where it has others.

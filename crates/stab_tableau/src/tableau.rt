@@ -1,9 +1,13 @@
+ghost use Rattle.std.specs.Prelude.{◌≡◌, IfOk, IfErr};
+ghost use Rattle.stab_pauli.specs.declared.refusal.Refusal.TheVariants.{OutOfMemory};
+
 use super::collapse::{Collapse, fixed_sign, measure};
+use super::elimination::eliminate;
 use super::gate::{Gate, PairGate};
 use super::observable::Observable;
 use super::table::{Row, Table};
-use super::{preimages, rows};
-use stab_pauli::{Letter, Pauli, Refusal};
+use super::{group, preimages, rows};
+use stab_pauli::{Letter, Pauli, PauliRows, Refusal};
 use std::alloc::Global;
 use std::marker::Model;
 
@@ -41,7 +45,9 @@ impl Tableau {
     ghost use Rattle.stab_tableau.specs.Traces.{member};
     ghost use Rattle.stab_tableau.specs.Tableaus.{stabilises};
     ghost use Rattle.stab_tableau.specs.Rules.{outcome_by, is_free_by, projected_by};
-    ghost use Rattle.stab_tableau.specs.Groups.{IsStabiliserGroup};
+    ghost use Rattle.stab_tableau.specs.Groups.{IsStabiliserGroup, SameGroup};
+    ghost use Rattle.stab_tableau.specs.Reduced.{AreReduced};
+    ghost use Rattle.stab_tableau.specs.inner.Tables.{IsTableau};
     ghost use Rattle.stab_tableau.specs.Columns.{stabiliser_of, destabiliser_of, AreDual, CommutesWithAll, IsGenerated};
 
     /// The state of n qubits, all zero.
@@ -262,4 +268,91 @@ impl Tableau {
     {
         let _ = &self.table;
     }
+
+    /// Whether two states on as many qubits are stabilised by the same signed strings; it takes no memory.
+    ///
+    /// Cheapest first: equal rows; rows that differ in their signs alone; else each stabiliser of this state, up to the
+    /// first that does not stabilise the other.
+    pub fn same_group(&mut self, other: &mut Tableau) -> bool
+        requires same_length { other.old.qubits ≡ self.old.qubits }
+        ensures unchanged { self.new ≡ self.old }
+        ensures other_unchanged { other.new ≡ other.old }
+        ensures value { (result ≡ true) ↔ SameGroup self.old.qubits (stabilises self.old) (stabilises other.old) }
+    {
+        if self.table.same(&other.table) {
+            return true;
+        }
+        if self.table.same_letters(&other.table) {
+            return group::same_by_signs(
+                &self.table,
+                &other.table,
+                &mut self.preimage,
+                &mut self.turning,
+            );
+        }
+        other.has_stabilisers(&self.table, &mut self.preimage, &mut self.turning)
+    }
+
+    // Whether each stabiliser of a table stabilises this state: then both have one group, since any other string of the
+    // one commutes with all of them and so is, up to sign, their product.
+    fn has_stabilisers(
+        &mut self,
+        table: &Table,
+        preimage: &mut Pauli,
+        stabiliser: &mut Pauli,
+    ) -> bool
+        requires tableau { IsTableau (length table.now) table.now (record { x = preimage.old; z = stabiliser.old }) }
+        requires same_length { self.old.qubits ≡ length table.now }
+        ensures unchanged { self.new ≡ self.old }
+        ensures tableau { IsTableau (length table.now) table.now (record { x = preimage.new; z = stabiliser.new }) }
+        ensures value { (result ≡ true) ↔ SameGroup (length table.now) (stabilises (record { qubits = length table.now; rows = table.now })) (stabilises self.old) }
+    {
+        self.stabilises_a_group();
+        for k in 0..table.len() {
+            group::write_stabiliser(table, k, preimage, stabiliser);
+            match self.sign_of(stabiliser) {
+                None => return false,
+                Some(negative) => {
+                    if negative {
+                        return false;
+                    }
+                }
+            }
+        }
+        true
+    }
+
+    /// The reduced rows of the strings that stabilise the state, n in number: by ascending place of the first 1 of some
+    /// of these strings, bits in the order x_0 .. x_(n-1), z_0 .. z_(n-1), the one with its first 1 there and 0 at every
+    /// other such place.
+    ///
+    /// States of one group have the same reduced rows, and only they. Refusal `OutOfMemory` alone.
+    pub fn reduced_rows(&mut self, alloc: Global) -> Result<Vec<Pauli>, Refusal>
+        ensures unchanged { self.new ≡ self.old }
+        ensures count { IfOk result (λ rows. length rows.items ≡ self.old.qubits) }
+        ensures reduced { IfOk result (λ rows. AreReduced self.old.qubits (stabilises self.old) rows.items) }
+        ensures err { IfErr result (λ r. r ≡ OutOfMemory) }
+    {
+        self.stabilises_a_group();
+        let table = &self.table;
+        let n = table.len();
+        let mut rows = PauliRows::new(alloc, n, n)?;
+        group::write_stabilisers(table, &mut self.preimage, &mut self.turning, &mut rows);
+        eliminate(&mut rows);
+        strings_of(alloc, &rows)
+    }
+}
+
+// The strings of rows, each in memory of its own.
+fn strings_of(alloc: Global, rows: &PauliRows) -> Result<Vec<Pauli>, Refusal>
+    ensures ok { IfOk result (λ strings. strings.items ≡ rows.now.rows) }
+    ensures err { IfErr result (λ r. r ≡ OutOfMemory) }
+{
+    let mut strings = Vec::with_capacity(alloc, rows.len())?;
+    for row in 0..rows.len() {
+        let mut string = Pauli::identity(alloc, rows.qubits())?;
+        rows.copy_row(row, &mut string);
+        strings.push(string)?;
+    }
+    Ok(strings)
 }

@@ -4,7 +4,7 @@ use Rattle.stab_tableau.proofs.EliminationEndLemmas.{end-step}
 use Rattle.stab_tableau.proofs.elimination.eliminate.Goals as goal
 
 pub loop-place-init : goal.loop-place-init
-loop-place-init c = record { qubits = refl; comes = λ member g b. start member c.args.rows.now b }
+loop-place-init c = record { qubits = refl; number = refl; comes = λ member g b. start member c.args.rows.now b }
 
 pub step-used-requires-clause-comes : goal.step-used-requires-clause-comes
 step-used-requires-clause-comes c =
@@ -13,6 +13,7 @@ step-used-requires-clause-comes c =
 pub loop-place-preserved : goal.loop-place-preserved
 loop-place-preserved c = record {
   qubits = c.step-used.ensures.steps.qubits ∙ c.loop-place.invariant.qubits;
+  number = c.step-used.ensures.steps.count ∙ c.loop-place.invariant.number;
   comes = comes-on c.loop-place.place c.loop-place.used c.step-used.result c.args.rows.now c.loop-place.rows c.step-used.new.rows c.loop-place.invariant.qubits
       c.loop-place.invariant.comes c.step-used.ensures.steps;
 }
