@@ -1,11 +1,7 @@
 //! Devices that fail, inputs that never end, and flushes.
-ghost use Rattle.std.specs.Prelude.{◌≤◌, [], false};
-
 use crate::runs::job_of;
 use stab_cli::{Source, run_detect, run_job, run_sample};
-use stab_pauli::{
-    CutInput, DeviceFault, EndlessInput, Fault, Input, MemoryInput, MemoryOutput, Output, Refusal,
-};
+use stab_pauli::{CutInput, EndlessInput, Fault, Input, MemoryInput, MemoryOutput, Refusal};
 use stab_results::Format;
 use std::alloc::Global;
 use std::process::Abort;
@@ -14,27 +10,8 @@ use std::test::Fail;
 const TEXT: &[u8] =
     b"X 0\nM 0 1\nDETECTOR rec[-2]\nDETECTOR rec[-1]\nOBSERVABLE_INCLUDE(0) rec[-2]";
 
-/// Runs so many shots of a circuit, and writes their records, or where `detect` says so their
-/// detectors and observables.
-fn run_shots<I: Input, O: Output>(
-    alloc: Global,
-    detect: bool,
-    format: Format,
-    shots: usize,
-    input: &mut I,
-    out: &mut O,
-) -> Result<(), Fault>
-    requires few { shots ≤ 1000000 }
-{
-    let source = Source::Seed(0);
-    if detect {
-        run_detect(alloc, input, out, format, true, shots, &source)
-    } else {
-        run_sample(alloc, input, out, format, shots, &source)
-    }
-}
-
-/// Runs two shots likewise.
+/// Runs two shots of a circuit, and writes their records, or where `detect` says so their detectors
+/// and observables.
 fn run_two_shots<I: Input>(
     alloc: Global,
     detect: bool,
@@ -42,7 +19,12 @@ fn run_two_shots<I: Input>(
     input: &mut I,
     out: &mut MemoryOutput,
 ) -> Result<(), Fault> {
-    run_shots(alloc, detect, format, 2, input, out)
+    let source = Source::Seed(0);
+    if detect {
+        run_detect(alloc, input, out, format, true, 2, &source)
+    } else {
+        run_sample(alloc, input, out, format, 2, &source)
+    }
 }
 
 // Whether it is `detect` that writes, the format, and what two shots of `TEXT` are in it.
@@ -170,96 +152,6 @@ fn no_shots_are_flushed_too(rt: HostRuntime) -> Result<(), Fail> {
     );
     assert_eq!(rt; detected, Err(Fault::whole(Refusal::WriteFault)));
     assert!(rt; out.bytes().is_empty());
-    Ok(())
-}
-
-/// An output that takes all bytes and keeps none. It counts its flushes, and the bytes that no flush
-/// has followed.
-#[derive(Drop)]
-struct FlushCounter {
-    flushes: u64,
-    waiting: usize,
-}
-
-impl FlushCounter {
-    fn new() -> FlushCounter {
-        FlushCounter {
-            flushes: 0,
-            waiting: 0,
-        }
-    }
-}
-
-impl Output for FlushCounter {
-    ghost honest = { λ _. false };
-
-    ghost written = { λ _. [] };
-
-    ghost failures = { λ _. 0 };
-
-    ghost failed_flushes = { λ _. 0 };
-
-    fn write(&mut self, bytes: &[u8]) -> Result<usize, DeviceFault> {
-        self.waiting = self.waiting.saturating_add(bytes.len());
-        Ok(bytes.len())
-    }
-
-    fn flush(&mut self) -> Result<(), DeviceFault> {
-        self.flushes = self.flushes.saturating_add(1);
-        self.waiting = 0;
-        Ok(())
-    }
-}
-
-/// Asserts that a run without a fault flushes once, after its last byte.
-fn assert_one_flush(rt: &(impl Abort + AllocGlobal), detect: bool, shots: usize) -> Result<(), Fail>
-    requires few { shots ≤ 1000000 }
-{
-    let mut out = FlushCounter::new();
-    let mut input = MemoryInput::new(TEXT);
-    let ended = run_shots(rt.alloc(), detect, Format::F01, shots, &mut input, &mut out);
-    assert_eq!(rt; ended, Ok(()), "{shots} shots, detect {detect}");
-    assert_eq!(rt; out.flushes, 1, "{shots} shots, detect {detect}");
-    assert_eq!(rt; out.waiting, 0, "{shots} shots, detect {detect}");
-    Ok(())
-}
-
-#[test]
-fn an_output_is_flushed_once_at_its_end(rt: HostRuntime) -> Result<(), Fail> {
-    assert_one_flush(&rt, false, 0)?;
-    assert_one_flush(&rt, true, 0)?;
-    assert_one_flush(&rt, false, 1)?;
-    assert_one_flush(&rt, true, 1)?;
-    assert_one_flush(&rt, false, 3)?;
-    assert_one_flush(&rt, true, 3)
-}
-
-/// Asserts that a run over this text ends with this fault and flushes nothing.
-fn assert_no_flush(
-    rt: &(impl Abort + AllocGlobal),
-    detect: bool,
-    text: &str,
-    fault: Fault,
-) -> Result<(), Fail> {
-    let mut out = FlushCounter::new();
-    let mut input = MemoryInput::new(text.as_bytes());
-    let ended = run_shots(rt.alloc(), detect, Format::F01, 3, &mut input, &mut out);
-    assert_eq!(rt; ended, Err(fault), "{text:?}, detect {detect}");
-    assert_eq!(rt; out.flushes, 0, "{text:?}, detect {detect}");
-    Ok(())
-}
-
-#[test]
-fn a_fault_of_the_text_flushes_nothing(rt: HostRuntime) -> Result<(), Fail> {
-    let rows = [
-        ("X!", Refusal::BadLine, 1),
-        ("M 0\nM 1024", Refusal::QubitOutOfRange, 2),
-        ("M 0\nDETECTOR rec[-2]", Refusal::LookbackTooFar, 0),
-    ];
-    for (text, refusal, line) in rows {
-        assert_no_flush(&rt, false, text, Fault { refusal, line })?;
-        assert_no_flush(&rt, true, text, Fault { refusal, line })?;
-    }
     Ok(())
 }
 

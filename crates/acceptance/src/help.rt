@@ -112,3 +112,13 @@ fn detect_alone_appends_observables(rt: HostRuntime) -> Result<(), Fail> {
     }
     Ok(())
 }
+
+#[test]
+fn the_version_names_the_logic_that_proved_it(rt: HostRuntime) -> Result<(), Fail> {
+    let told = "stabsim 0.1.0\nproved with rattle-kit-13b logic dac8208d650f15bf\n";
+    for word in ["--version", "-V"] {
+        let text = help_of(parse_words(rt.alloc(), &["stabsim", word])).ok_or(word)?;
+        assert_eq!(rt; text.as_str(), told, "{word}");
+    }
+    Ok(())
+}

@@ -67,3 +67,15 @@ fn help_that_cannot_be_written_has_status_1(rt: HostRuntime) -> Result<(), Fail>
     assert!(rt; err.bytes() == b"stabsim: refused 16 WriteFault\n".as_slice());
     Ok(())
 }
+
+#[test]
+fn help_that_cannot_be_flushed_has_status_1(rt: HostRuntime) -> Result<(), Fail> {
+    let help = Usage::Help(String::from_str(rt.alloc(), "help")?);
+    let mut out = MemoryOutput::new(rt.alloc(), 99)?;
+    out.fail_flush();
+    let mut err = MemoryOutput::new(rt.alloc(), 99)?;
+    assert_eq!(rt; write_usage(&help, &mut out, &mut err), 1);
+    assert!(rt; out.bytes() == b"help".as_slice());
+    assert!(rt; err.bytes() == b"stabsim: refused 16 WriteFault\n".as_slice());
+    Ok(())
+}

@@ -1,27 +1,26 @@
 -- Laws of fault lines: texts one after another, and the line that they make.
-use Rattle.std.proofs.Common.{◌≡◌, refl, sym, ap, subst, ℕ, Result, Ok, Err, OnOk, OnErr, IsErrOf, inl, inr, ◌+◌, ◌<◌, true, false, ◌==◌, List, [], ◌∷◌, ◌++◌, length, map, drop, get_or, add-one, append_assoc, codes, decimal, arith}
+use Rattle.std.proofs.Common.{◌≡◌, refl, sym, ap, ℕ, Result, Ok, Err, inl, inr, ◌+◌, ◌<◌, true, false, ◌==◌, List, [], ◌∷◌, ◌++◌, length, map, drop, get_or, add-one, append_assoc, codes, decimal, arith}
 use Rattle.std.proofs.lemmas.Bool.Decides.{nat_tests}
 use Rattle.std.proofs.Math.Seq.{drop-cons}
-use Rattle.stab_pauli.specs.Devices.{Failed, WritesPrefix}
+use Rattle.stab_pauli.specs.Devices.{OutputView, WritesAll}
 use Rattle.stab_pauli.specs.declared.refusal.Refusal.{Refusal}
-use Rattle.stab_pauli.specs.declared.refusal.Refusal.TheVariants.{WriteFault}
 use Rattle.stab_pauli.specs.declared.refusal.Fault.{Fault}
 use Rattle.stab_pauli.specs.Refusals.{number_of, name_of}
-use Rattle.stab_commands.specs.Outputs.{OutputInCall}
-use Rattle.stab_commands.specs.Jobs.{Tells, joined, fault_line, refused_text}
+use Rattle.stab_commands.specs.Jobs.{TellsFault, fault_line, refused_text}
+use Rattle.stab_commands.specs.inner.Texts.{texts_joined}
 
 -- the text at a place, and those after it
-pub joined-drop : {X : Type 0} (f : X → List ℕ) (xs : List X) (i : ℕ) (d : X) → i < length xs → joined (map f (drop i xs)) ≡ f (get_or xs i d) ++ joined (map f (drop (i + 1) xs))
-joined-drop f xs i d h = rw (add-one) (ap (λ l. joined (map f l)) (drop-cons xs i d h))
+pub joined-drop : {X : Type 0} (f : X → List ℕ) (xs : List X) (i : ℕ) (d : X) → i < length xs → texts_joined (map f (drop i xs)) ≡ f (get_or xs i d) ++ texts_joined (map f (drop (i + 1) xs))
+joined-drop f xs i d h = rw (add-one) (ap (λ l. texts_joined (map f l)) (drop-cons xs i d h))
 
 -- the line of a fault without a line
 pub joined-whole : (f : Fault) (number name : List ℕ) → (f.line == 0) ≡ true → number ≡ decimal (number_of f.refusal) → name ≡ name_of f.refusal
-    → joined (codes "stabsim: " ∷ codes "refused " ∷ number ∷ codes " " ∷ name ∷ codes "\n" ∷ []) ≡ fault_line f
+    → texts_joined (codes "stabsim: " ∷ codes "refused " ∷ number ∷ codes " " ∷ name ∷ codes "\n" ∷ []) ≡ fault_line f
 joined-whole f number name none is_number is_name = rw (is_number, is_name, none) refl
 
 -- the line of a fault at a line
 pub joined-line : (f : Fault) (line number name : List ℕ) → (f.line == 0) ≡ false → line ≡ decimal f.line → number ≡ decimal (number_of f.refusal) → name ≡ name_of f.refusal
-    → joined (codes "stabsim: " ∷ codes "line " ∷ line ∷ codes ": " ∷ codes "refused " ∷ number ∷ codes " " ∷ name ∷ codes "\n" ∷ []) ≡ fault_line f
+    → texts_joined (codes "stabsim: " ∷ codes "line " ∷ line ∷ codes ": " ∷ codes "refused " ∷ number ∷ codes " " ∷ name ∷ codes "\n" ∷ []) ≡ fault_line f
 joined-line f line number name some is_line is_number is_name = rw (is_line, is_number, is_name, some)
     (ap (λ l. codes "stabsim: line " ++ l) (sym (append_assoc (decimal f.line) (codes ": ") (refused_text f.refusal))))
 
@@ -30,11 +29,6 @@ pub not_zero : (n : ℕ) → (n ≡ 0 → ⊥) → (n == 0) ≡ false
 not_zero n h = grind (arith, nat_tests)
 
 -- a fault whose line was written, or some first bytes of it, is told
-pub told : (e : OutputInCall) (f g : Fault) (r : Result (Unit {0}) Refusal) → f ≡ g → OnOk r (e.new ≡ e.old ++ fault_line f) → OnErr r (Failed e.failures e.failures_after)
-    → OnErr r (WritesPrefix e.old e.new (fault_line f)) → Tells {T = Unit {0}} (Err g) e
-told e f g (Ok u) same all failed prefix = subst (λ x. Tells {T = Unit {0}} (Err x) e) same (inl all)
-told e f g (Err r) same all failed prefix = subst (λ x. Tells {T = Unit {0}} (Err x) e) same (inr (failed, prefix))
-
--- an answer that can only be the output's fault is that fault
-pub write_alone : (r : Refusal) → IsErrOf {T = Unit {0}} (Err r) WriteFault → r ≡ WriteFault
-write_alone r only = cc
+pub told : (old new : OutputView) (f : Fault) (r : Result (Unit {0}) Refusal) → WritesAll old new (fault_line f) r → TellsFault f old new
+told old new f (Ok u) writes = inl writes
+told old new f (Err r) writes = inr writes.1

@@ -1,28 +1,14 @@
 -- Laws of sending: bytes that calls write one after another.
-use Rattle.std.proofs.Common.{◌≡◌, refl, sym, ap, subst, ◌∙◌, ℕ, ◌+◌, ◌<◌, zero, suc, Bool, true, false, List, [], ◌++◌, append_assoc, Result, Ok, Err, ◌⊎◌, inl, inr, IsTrue, OnOk, OnErr, IsErrOf, arith, add-one}
+use Rattle.std.proofs.Common.{◌≡◌, refl, sym, ap, subst, ◌∙◌, ℕ, ◌+◌, ◌<◌, zero, suc, List, [], ◌++◌, append_assoc, Result, Ok, Err, ◌⊎◌, inl, inr, arith, add-one}
 use Rattle.std.proofs.lemmas.List.{append-nil}
 use Rattle.std.specs.Result.{IsErrAnd}
-use Rattle.stab_pauli.specs.Devices.{Failed, WritesPrefix}
-use Rattle.stab_pauli.proofs.DeviceLemmas.{WritesPrefix-front, WritesPrefix-back}
-use Rattle.stab_pauli.specs.declared.refusal.Refusal.{Refusal}
-use Rattle.stab_pauli.specs.declared.refusal.Refusal.TheVariants.{WriteFault, OutOfMemory}
+use Rattle.stab_pauli.specs.Devices.{OutputView, Took, TookAndFailed, TookSome, CutOff, WritesAllOrFault}
+use Rattle.stab_pauli.proofs.DeviceLemmas.{took_none, took_more, took_and_failed, failed_within}
+use Rattle.stab_pauli.specs.declared.refusal.Refusal.TheVariants.{OutOfMemory}
 use Rattle.stab_pauli.specs.declared.refusal.Fault.{Fault}
 use Rattle.stab_pauli.specs.Refusals.{whole}
 use Rattle.stab_commands.specs.Outputs.{of_shots}
-use Rattle.stab_commands.specs.inner.Sendings.{Sends, IsSendingFault}
-
--- whether the refusal is the output's
-abbrev pub is_write : Refusal → Bool
-is_write WriteFault = true
-is_write r = false
-
--- memory is not the output
-pub memory_is_no_write : (f : Fault) → f ≡ whole OutOfMemory → f.refusal ≡ WriteFault → ⊥
-memory_is_no_write f memory write = let no : is_write f.refusal ≡ false = ap (λ g. is_write g.refusal) memory in let yes : is_write f.refusal ≡ true = ap is_write write in cc
-
--- nothing was written yet
-pub prefix_of_none : (old bytes : List ℕ) → WritesPrefix old old bytes
-prefix_of_none old bytes = (bytes, ([], refl, sym (append-nil old)))
+use Rattle.stab_commands.specs.inner.Sendings.{SendsUnflushed}
 
 -- a number below the next is this one or before it
 last_or_before : (n m : ℕ) → n < suc m → (n ≡ m) ⊎ (n < m)
@@ -44,91 +30,40 @@ more_shots bytes_of shot (suc shots) h = shot_follows bytes_of shot shots (found
     found before (inl e) = inl e
     found before (inr less) = inr (before less)
 
-module _ {O : Type 0} {failures flushes : O → ℕ} {honest : O → Bool} {written : O → List ℕ} where
-  -- a call that writes one text
-  pub sends_text : (old new : O) (text bytes : List ℕ) (r : Result (Unit {0}) Fault) → text ≡ bytes
-      → OnErr r (IsErrOf r (whole WriteFault)) → OnOk r (failures new ≡ failures old) → OnErr r (Failed (failures old) (failures new)) → flushes new ≡ flushes old → honest new ≡ honest old
-      → (IsTrue (honest old) → OnOk r (written new ≡ written old ++ text)) → (IsTrue (honest old) → OnErr r (WritesPrefix (written old) (written new) text))
-      → Sends failures flushes honest written old new bytes r
-  sends_text old new text bytes (Ok u) same only kept failed no_flush as_honest all prefix = record {
-    only = tt;
-    kept = kept;
-    failed = tt;
-    unfailed = tt;
-    no_flush = no_flush;
-    as_honest = as_honest;
-    whole_written = λ h. all h ∙ ap (λ l. written old ++ l) same;
-    prefix_written = λ h. tt;
-  }
-  sends_text old new text bytes (Err f) same only kept failed no_flush as_honest all prefix = record {
-    only = inl (err_is only);
-    kept = tt;
-    failed = λ e. failed;
-    unfailed = λ no. absurd (no (ap (λ g. g.refusal) (err_is only)));
-    no_flush = no_flush;
-    as_honest = as_honest;
-    whole_written = λ h. tt;
-    prefix_written = λ h. subst (λ l. WritesPrefix (written old) (written new) l) same (prefix h);
-  }
-    where
-      err_is : IsErrOf {T = Unit {0}} (Err f) (whole WriteFault) → f ≡ whole WriteFault
-      err_is e = cc
+-- nothing was written yet
+pub took_some_none : (old : OutputView) (bytes : List ℕ) → TookSome old old bytes
+took_some_none old bytes = record { front = []; rest = bytes; split = refl; took = took_none old }
 
-  -- memory was refused before anything was written
-  pub sends_none : (old : O) (bytes : List ℕ) (r : Result (Unit {0}) Fault) → IsErrAnd r (λ f. f ≡ whole OutOfMemory) → Sends failures flushes honest written old old bytes r
-  sends_none old bytes (Ok u) is = absurd is
-  sends_none old bytes (Err f) is = record {
-    only = inr is;
-    kept = tt;
-    failed = λ e. absurd (memory_is_no_write f is e);
-    unfailed = λ no. refl;
-    no_flush = refl;
-    as_honest = refl;
-    whole_written = λ h. tt;
-    prefix_written = λ h. prefix_of_none (written old) bytes;
-  }
+-- a call that writes one text
+pub sends_text : (old new : OutputView) (text bytes : List ℕ) (r : Result (Unit {0}) Fault) → text ≡ bytes → WritesAllOrFault old new text r → SendsUnflushed bytes old new r
+sends_text old new text bytes (Ok u) same writes = subst (λ l. Took old new l) same writes
+sends_text old new text bytes (Err f) same writes = inl (writes.0, subst (λ l. TookAndFailed old new l) same writes.1)
 
-  -- no shot was sent yet
-  pub sent_no_shot : (old : O) (bytes_of : ℕ → List ℕ) → Sends failures flushes honest written old old (of_shots bytes_of 0) (Ok tt)
-  sent_no_shot old bytes_of = record {
-    only = tt;
-    kept = refl;
-    failed = tt;
-    unfailed = tt;
-    no_flush = refl;
-    as_honest = refl;
-    whole_written = λ h. sym (append-nil (written old));
-    prefix_written = λ h. tt;
-  }
+-- memory was refused before anything was written
+pub sends_none : (old : OutputView) (bytes : List ℕ) (r : Result (Unit {0}) Fault) → IsErrAnd r (λ f. f ≡ whole OutOfMemory) → SendsUnflushed bytes old old r
+sends_none old bytes (Ok u) is = absurd is
+sends_none old bytes (Err f) is = inr (is, took_some_none old bytes)
 
-  -- one shot more was sent
-  pub sent_shot : {old mid new : O} (bytes_of : ℕ → List ℕ) (shot : ℕ) → Sends failures flushes honest written old mid (of_shots bytes_of shot) (Ok tt) → Sends failures flushes honest written mid new (bytes_of shot) (Ok tt)
-      → Sends failures flushes honest written old new (of_shots bytes_of (shot + 1)) (Ok tt)
-  sent_shot {old} {mid} {new} bytes_of shot before call = record {
-    only = tt;
-    kept = call.kept ∙ before.kept;
-    failed = tt;
-    unfailed = tt;
-    no_flush = call.no_flush ∙ before.no_flush;
-    as_honest = call.as_honest ∙ before.as_honest;
-    whole_written = λ h. rw add-one (call.whole_written (before.as_honest ∙ h) ∙ ap (λ l. l ++ bytes_of shot) (before.whole_written h) ∙ append_assoc (written old) (of_shots bytes_of shot) (bytes_of shot));
-    prefix_written = λ h. tt;
-  }
+-- one shot more was sent
+pub sent_shot : {old mid new : OutputView} (bytes_of : ℕ → List ℕ) (shot : ℕ) → Took old mid (of_shots bytes_of shot) → Took mid new (bytes_of shot) → Took old new (of_shots bytes_of (shot + 1))
+sent_shot bytes_of shot before call = rw add-one (took_more (of_shots bytes_of shot) (bytes_of shot) before call)
 
-  -- a shot that fails ends the shots
-  pub shots_break_off : {old mid new : O} (bytes_of : ℕ → List ℕ) (shot shots : ℕ) (f : Fault) (r : Result (Unit {0}) Fault) → shot < shots → Sends failures flushes honest written old mid (of_shots bytes_of shot) (Ok tt)
-      → Sends failures flushes honest written mid new (bytes_of shot) (Err f) → IsErrAnd r (λ y. y ≡ f) → Sends failures flushes honest written old new (of_shots bytes_of shots) r
-  shots_break_off bytes_of shot shots f (Ok u) less before call is = absurd is
-  shots_break_off {old} {mid} {new} bytes_of shot shots f (Err y) less before call is = record {
-    only = subst IsSendingFault (sym is) call.only;
-    kept = tt;
-    failed = λ e. subst (λ n. Failed n (failures new)) before.kept (call.failed (ap (λ g. g.refusal) (sym is) ∙ e));
-    unfailed = λ no. call.unfailed (λ e. no (ap (λ g. g.refusal) is ∙ e)) ∙ before.kept;
-    no_flush = call.no_flush ∙ before.no_flush;
-    as_honest = call.as_honest ∙ before.as_honest;
-    whole_written = λ h. tt;
-    prefix_written = λ h.
-        let more = more_shots bytes_of shot shots less in
-        let this = WritesPrefix-back (written old) (written mid) (written new) (of_shots bytes_of shot) (bytes_of shot) (before.whole_written h) (call.prefix_written (before.as_honest ∙ h)) in
-        subst (λ l. WritesPrefix (written old) (written new) l) (sym more.1) (WritesPrefix-front (written old) (written new) (of_shots bytes_of shot ++ bytes_of shot) more.0 this);
-  }
+-- the place where the back of a text is cut off, within the whole
+cut_place : (xs ys rest front back : List ℕ) → ys ≡ front ++ back → (xs ++ ys) ++ rest ≡ (xs ++ front) ++ (back ++ rest)
+cut_place xs ys rest front back e = ap (λ l. (xs ++ l) ++ rest) e ∙ ap (λ l. l ++ rest) (sym (append_assoc xs front back)) ∙ append_assoc (xs ++ front) back rest
+
+-- what is cut off behind some text, and before the rest, is cut off
+pub cut_off_behind : {old mid new : OutputView} (xs ys rest : List ℕ) (f : Fault) → Took old mid xs → CutOff mid new ys f → CutOff old new ((xs ++ ys) ++ rest) f
+cut_off_behind xs ys rest f before (inl failed) = inl (failed.0, failed_within (xs ++ ys) rest (took_and_failed xs ys before failed.1))
+cut_off_behind xs ys rest f before (inr some) =
+    let part = some.1 in
+    inr (some.0, record { front = xs ++ part.front; rest = part.rest ++ rest; split = cut_place xs ys rest part.front part.rest part.split; took = took_more xs part.front before part.took })
+
+-- a shot that fails ends the shots
+pub shots_break_off : {old mid new : OutputView} (bytes_of : ℕ → List ℕ) (shot shots : ℕ) (f : Fault) (r : Result (Unit {0}) Fault) → shot < shots
+    → Took old mid (of_shots bytes_of shot) → CutOff mid new (bytes_of shot) f → IsErrAnd r (λ y. y ≡ f) → SendsUnflushed (of_shots bytes_of shots) old new r
+shots_break_off bytes_of shot shots f (Ok u) less before call is = absurd is
+shots_break_off {old} {mid} {new} bytes_of shot shots f (Err y) less before call is =
+    let more = more_shots bytes_of shot shots less in
+    let cut : CutOff old new ((of_shots bytes_of shot ++ bytes_of shot) ++ more.0) f = cut_off_behind (of_shots bytes_of shot) (bytes_of shot) more.0 f before call in
+    subst (λ g. CutOff old new (of_shots bytes_of shots) g) (sym is) (subst (λ l. CutOff old new l f) (sym more.1) cut)

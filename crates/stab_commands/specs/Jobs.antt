@@ -1,16 +1,11 @@
 -- Jobs: the status of a program's run, and the line that tells a fault.
-use Rattle.std.specs.Prelude.{◌≡◌, ℕ, IsTrue, List, [], ◌∷◌, ◌++◌, ◌⊎◌, codes, decimal, Result, Ok, Err, ◌==◌, if◌then◌else◌}
-use Rattle.stab_pauli.specs.Devices.{Failed, WritesPrefix}
+use Rattle.std.specs.Prelude.{◌≡◌, ℕ, List, [], ◌++◌, ◌⊎◌, codes, decimal, Result, Ok, Err, ◌==◌, if◌then◌else◌}
+use Rattle.stab_pauli.specs.Devices.{InputView, OutputView, Took, TookAndFailed}
 use Rattle.stab_pauli.specs.declared.refusal.Refusal.{Refusal}
 use Rattle.stab_pauli.specs.declared.refusal.Fault.{Fault}
 use Rattle.stab_pauli.specs.Refusals.{number_of, name_of}
 use Rattle.stab_circuit.specs.Items.{Items}
-use Rattle.stab_commands.specs.Outputs.{InputInCall, OutputInCall, EndsRun}
-
--- texts one after another
-abbrev pub joined : List (List ℕ) → List ℕ
-joined [] = []
-joined (t ∷ ts) = t ++ joined ts
+use Rattle.stab_commands.specs.Outputs.{EndsRun}
 
 -- where the fault is, as its line says it
 abbrev pub place_text : ℕ → List ℕ
@@ -29,15 +24,22 @@ abbrev pub status_of : {T : Type 0} → Result T Fault → ℕ
 status_of (Ok x) = 0
 status_of (Err f) = 1
 
--- A run's fault is told: nothing is written without one, and else its line, or some first bytes of it where the output failed.
-abbrev pub Tells : {T : Type 0} → Result T Fault → OutputInCall → Type 0
-Tells (Ok x) e = (e.new ≡ e.old) × (e.failures_after ≡ e.failures)
-Tells (Err f) e = (e.new ≡ e.old ++ fault_line f) ⊎ (Failed e.failures e.failures_after × WritesPrefix e.old e.new (fault_line f))
+-- the output took these bytes, or failed once after some first bytes of them
+abbrev pub TookOrFailed : OutputView → OutputView → List ℕ → Type 0
+TookOrFailed old new bytes = Took old new bytes ⊎ TookAndFailed old new bytes
 
--- How a run of a job ends whose command writes this output: as the call of the command ends, with that call's status, its fault told where the
--- error output is honest.
-pub record EndsJob (output : Items → List ℕ) (i : InputInCall) (o : OutputInCall) (e : OutputInCall) (status : ℕ) : Type 0 where
+-- a fault is told: its line was written, or the output failed once after some first bytes of it
+abbrev pub TellsFault : Fault → OutputView → OutputView → Type 0
+TellsFault f old new = TookOrFailed old new (fault_line f)
+
+-- a run's fault is told, and without one the error output is untouched
+abbrev pub Tells : {T : Type 0} → Result T Fault → OutputView → OutputView → Type 0
+Tells (Ok x) old new = new ≡ old
+Tells (Err f) old new = TellsFault f old new
+
+-- How a run of a job ends whose command writes this output: as the call of the command ends, with that call's status, and its fault told.
+pub record EndsJob (output : Items → List ℕ) (i i' : InputView) (o o' e e' : OutputView) (status : ℕ) : Type 0 where
   pub answer : Result (Unit {0}) Fault
-  pub ends : EndsRun output i o answer
+  pub ends : EndsRun output i i' o o' answer
   pub status_is : status ≡ status_of answer
-  pub told : IsTrue e.honest → Tells answer e
+  pub told : Tells answer e e'

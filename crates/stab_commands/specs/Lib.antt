@@ -1,3 +1,4 @@
+pub mod Endings
 pub mod Outputs
 pub mod Jobs
 pub mod inner

@@ -1,18 +1,14 @@
-ghost use Rattle.std.specs.Prelude.{◌≡◌, ◌++◌, IsTrue, OnOk, OnErr, IsErrOf, map};
-ghost use Rattle.stab_pauli.specs.Devices.{Failed, WritesPrefix};
-ghost use Rattle.stab_commands.specs.Jobs.{fault_line, joined};
+//! The line that tells a fault.
+ghost use Rattle.std.specs.Prelude.{map};
+ghost use Rattle.stab_pauli.specs.Devices.{WritesAll};
+ghost use Rattle.stab_commands.specs.Jobs.{fault_line};
+ghost use Rattle.stab_commands.specs.inner.Texts.{texts_joined};
 
 use stab_pauli::{Fault, Output, Refusal, write_all};
 
 /// Writes texts one after another.
 fn write_texts<O: Output>(out: &mut O, texts: &[&[u8]]) -> Result<(), Refusal>
-    ensures only { OnErr result (IsErrOf result Refusal.WriteFault) }
-    ensures kept { OnOk result (O.failures out.new ≡ O.failures out.old) }
-    ensures failed { OnErr result (Failed (O.failures out.old) (O.failures out.new)) }
-    ensures no_flush { O.failed_flushes out.new ≡ O.failed_flushes out.old }
-    ensures as_honest { O.honest out.new ≡ O.honest out.old }
-    ensures whole { IsTrue (O.honest out.old) → OnOk result (O.written out.new ≡ O.written out.old ++ joined (map (λ t. t.now) texts.now)) }
-    ensures prefix { IsTrue (O.honest out.old) → OnErr result (WritesPrefix (O.written out.old) (O.written out.new) (joined (map (λ t. t.now) texts.now))) }
+    ensures writes { WritesAll (O.seen out.old) (O.seen out.new) (texts_joined (map (λ t. t.now) texts.now)) result }
 {
     for text in texts {
         write_all(out, text)?;
@@ -25,13 +21,7 @@ fn write_texts<O: Output>(out: &mut O, texts: &[&[u8]]) -> Result<(), Refusal>
 ///
 /// Refusal `WriteFault` after a prefix of the line.
 pub fn write_fault<O: Output>(out: &mut O, fault: Fault) -> Result<(), Refusal>
-    ensures only { OnErr result (IsErrOf result Refusal.WriteFault) }
-    ensures kept { OnOk result (O.failures out.new ≡ O.failures out.old) }
-    ensures failed { OnErr result (Failed (O.failures out.old) (O.failures out.new)) }
-    ensures no_flush { O.failed_flushes out.new ≡ O.failed_flushes out.old }
-    ensures as_honest { O.honest out.new ≡ O.honest out.old }
-    ensures whole { IsTrue (O.honest out.old) → OnOk result (O.written out.new ≡ O.written out.old ++ fault_line fault) }
-    ensures prefix { IsTrue (O.honest out.old) → OnErr result (WritesPrefix (O.written out.old) (O.written out.new) (fault_line fault)) }
+    ensures writes { WritesAll (O.seen out.old) (O.seen out.new) (fault_line fault) result }
 {
     let mut line = itoa::Buffer::new();
     let mut number = itoa::Buffer::new();

@@ -1,10 +1,10 @@
 //! The commands that run a circuit, from its text to the bytes of its shots.
 ghost use Rattle.std.specs.Prelude.{◌≡◌, ◌≤◌, None};
-ghost use Rattle.stab_circuit.specs.Items.{Items};
 ghost use Rattle.stab_circuit.specs.Steps.{check_of};
 ghost use Rattle.stab_circuit.specs.Views.{circuit_items};
+ghost use Rattle.stab_commands.specs.Endings.{Sends};
 ghost use Rattle.stab_commands.specs.Outputs.{EndsRun, sample_of, detect_of};
-ghost use Rattle.stab_commands.specs.inner.Sendings.{Sends, shots_of};
+ghost use Rattle.stab_commands.specs.inner.Sendings.{shots_of};
 
 use crate::job::Source;
 use crate::shots::{Shown, send_shots};
@@ -14,7 +14,7 @@ use stab_results::Format;
 use stab_session::Sampler;
 use std::alloc::Global;
 
-/// Writes what is shown of a circuit's shots. The circuit is unrolled once.
+/// Writes what is shown of a circuit's shots, and flushes. The circuit is unrolled once.
 fn send_circuit<O: Output>(
     alloc: Global,
     circuit: &Circuit,
@@ -25,13 +25,17 @@ fn send_circuit<O: Output>(
     source: &Source,
 ) -> Result<(), Fault>
     requires checked { check_of (circuit_items circuit.now) ≡ None }
-    ensures sends { Sends O.failures O.failed_flushes O.honest O.written out.old out.new (shots_of format shown shots source.now (circuit_items circuit.now)) result }
+    ensures sends { Sends (shots_of format shown shots source.now (circuit_items circuit.now)) (O.seen out.old) (O.seen out.new) result }
 {
     let mut sampler = Sampler::new(alloc, circuit, circuit.qubits())?;
-    send_shots(alloc, &mut sampler, out, format, shown, source, shots)
+    send_shots(alloc, &mut sampler, out, format, shown, source, shots)?;
+    match out.flush() {
+        Ok(()) => Ok(()),
+        Err(DeviceFault) => Err(Fault::whole(Refusal::WriteFault)),
+    }
 }
 
-/// Reads a circuit, writes what is shown of its shots, and flushes.
+/// Reads a circuit, and sends what is shown of its shots.
 fn run_circuit<I: Input, O: Output>(
     alloc: Global,
     input: &mut I,
@@ -41,18 +45,10 @@ fn run_circuit<I: Input, O: Output>(
     shots: usize,
     source: &Source,
 ) -> Result<(), Fault>
-    ensures as_honest { (I.honest input.new ≡ I.honest input.old) × (O.honest out.new ≡ O.honest out.old) }
-    ensures ends { EndsRun (shots_of format shown shots source.now)
-        (record { honest = I.honest input.old; unread = I.unread input.old; left = I.unread input.new; failures = I.failures input.old; failures_after = I.failures input.new })
-        (record { honest = O.honest out.old; old = O.written out.old; new = O.written out.new; failures = O.failures out.old; failures_after = O.failures out.new; failed_flushes = O.failed_flushes out.old; failed_flushes_after = O.failed_flushes out.new })
-        result }
+    ensures ends { EndsRun (shots_of format shown shots source.now) (I.seen input.old) (I.seen input.new) (O.seen out.old) (O.seen out.new) result }
 {
     let circuit = read_circuit(alloc, input)?;
-    send_circuit(alloc, &circuit, out, format, shown, shots, source)?;
-    match out.flush() {
-        Ok(()) => Ok(()),
-        Err(DeviceFault) => Err(Fault::whole(Refusal::WriteFault)),
-    }
+    send_circuit(alloc, &circuit, out, format, shown, shots, source)
 }
 
 /// Reads a circuit, runs so many shots of it, at most 1,000,000, and writes the records of each in
@@ -72,11 +68,7 @@ pub fn run_sample<I: Input, O: Output>(
     source: &Source,
 ) -> Result<(), Fault>
     requires few { shots ≤ 1000000 }
-    ensures as_honest { (I.honest input.new ≡ I.honest input.old) × (O.honest out.new ≡ O.honest out.old) }
-    ensures ends { EndsRun (sample_of format shots source.now)
-        (record { honest = I.honest input.old; unread = I.unread input.old; left = I.unread input.new; failures = I.failures input.old; failures_after = I.failures input.new })
-        (record { honest = O.honest out.old; old = O.written out.old; new = O.written out.new; failures = O.failures out.old; failures_after = O.failures out.new; failed_flushes = O.failed_flushes out.old; failed_flushes_after = O.failed_flushes out.new })
-        result }
+    ensures ends { EndsRun (sample_of format shots source.now) (I.seen input.old) (I.seen input.new) (O.seen out.old) (O.seen out.new) result }
 {
     run_circuit(alloc, input, out, format, Shown::Records, shots, source)
 }
@@ -96,11 +88,7 @@ pub fn run_detect<I: Input, O: Output>(
     source: &Source,
 ) -> Result<(), Fault>
     requires few { shots ≤ 1000000 }
-    ensures as_honest { (I.honest input.new ≡ I.honest input.old) × (O.honest out.new ≡ O.honest out.old) }
-    ensures ends { EndsRun (detect_of format append shots source.now)
-        (record { honest = I.honest input.old; unread = I.unread input.old; left = I.unread input.new; failures = I.failures input.old; failures_after = I.failures input.new })
-        (record { honest = O.honest out.old; old = O.written out.old; new = O.written out.new; failures = O.failures out.old; failures_after = O.failures out.new; failed_flushes = O.failed_flushes out.old; failed_flushes_after = O.failed_flushes out.new })
-        result }
+    ensures ends { EndsRun (detect_of format append shots source.now) (I.seen input.old) (I.seen input.new) (O.seen out.old) (O.seen out.new) result }
 {
     if append {
         let shown = Shown::DetectorsAndObservables;

@@ -1,9 +1,9 @@
 //! The shots of a circuit, written one after another.
-ghost use Rattle.std.specs.Prelude.{◌≡◌, ◌⊎◌, ◌≤◌, IfOk, IfErr};
+ghost use Rattle.std.specs.Prelude.{◌≡◌, IfOk, IfErr};
 ghost use Rattle.stab_pauli.specs.declared.refusal.Refusal.TheVariants.{OutOfMemory};
 ghost use Rattle.stab_session.specs.Runs.{State, run_of};
 ghost use Rattle.stab_commands.specs.Outputs.{coins_of_shot, of_shots};
-ghost use Rattle.stab_commands.specs.inner.Sendings.{IsShot, Sends, shown_bytes};
+ghost use Rattle.stab_commands.specs.inner.Sendings.{IsShot, SendsUnflushed, shown_bytes};
 
 use crate::job::Source;
 use stab_pauli::{Fault, Output, Refusal};
@@ -46,7 +46,7 @@ fn write_shown<O: Output>(
     shown: Shown,
     shot: Shot,
 ) -> Result<(), Fault>
-    ensures sends { (run : State) → IsShot shot run → Sends O.failures O.failed_flushes O.honest O.written out.old out.new (shown_bytes format shown run) result }
+    ensures sends { (run : State) → IsShot shot run → SendsUnflushed (shown_bytes format shown run) (O.seen out.old) (O.seen out.new) result }
 {
     let Shot {
         records,
@@ -76,7 +76,7 @@ fn send_shot<O: Output>(
     shot: u64,
 ) -> Result<(), Fault>
     ensures kept { sampler.new ≡ sampler.old }
-    ensures sends { Sends O.failures O.failed_flushes O.honest O.written out.old out.new (shown_bytes format shown (run_of sampler.old.qubits (coins_of_shot source.now shot) sampler.old.items)) result }
+    ensures sends { SendsUnflushed (shown_bytes format shown (run_of sampler.old.qubits (coins_of_shot source.now shot) sampler.old.items)) (O.seen out.old) (O.seen out.new) result }
 {
     match run_shot(alloc, sampler, source, shot) {
         Ok(found) => write_shown(out, format, shown, found),
@@ -94,7 +94,7 @@ pub(crate) fn send_shots<O: Output>(
     source: &Source,
     shots: usize,
 ) -> Result<(), Fault>
-    ensures sends { Sends O.failures O.failed_flushes O.honest O.written out.old out.new (of_shots (λ shot. shown_bytes format shown (run_of sampler.old.qubits (coins_of_shot source.now shot) sampler.old.items)) shots) result }
+    ensures sends { SendsUnflushed (of_shots (λ shot. shown_bytes format shown (run_of sampler.old.qubits (coins_of_shot source.now shot) sampler.old.items)) shots) (O.seen out.old) (O.seen out.new) result }
 {
     for shot in 0..shots {
         send_shot(alloc, sampler, out, format, shown, source, shot as u64)?;

@@ -16,11 +16,7 @@ fn run_command<I: Input, O: Output>(
     input: &mut I,
     out: &mut O,
 ) -> Result<(), Fault>
-    ensures as_honest { (I.honest input.new ≡ I.honest input.old) × (O.honest out.new ≡ O.honest out.old) }
-    ensures ends { EndsRun (output_of job.now)
-        (record { honest = I.honest input.old; unread = I.unread input.old; left = I.unread input.new; failures = I.failures input.old; failures_after = I.failures input.new })
-        (record { honest = O.honest out.old; old = O.written out.old; new = O.written out.new; failures = O.failures out.old; failures_after = O.failures out.new; failed_flushes = O.failed_flushes out.old; failed_flushes_after = O.failed_flushes out.new })
-        result }
+    ensures ends { EndsRun (output_of job.now) (I.seen input.old) (I.seen input.new) (O.seen out.old) (O.seen out.new) result }
 {
     let source = &job.source;
     match job.command {
@@ -47,12 +43,7 @@ pub fn run_job<I: Input, S: Input, O: Output, E: Output>(
     out: &mut O,
     err: &mut E,
 ) -> u8
-    ensures as_honest { (I.honest input.new ≡ I.honest input.old) × (O.honest out.new ≡ O.honest out.old) × (E.honest err.new ≡ E.honest err.old) }
-    ensures ends { EndsJob (output_of job.now)
-        (record { honest = I.honest input.old; unread = I.unread input.old; left = I.unread input.new; failures = I.failures input.old; failures_after = I.failures input.new })
-        (record { honest = O.honest out.old; old = O.written out.old; new = O.written out.new; failures = O.failures out.old; failures_after = O.failures out.new; failed_flushes = O.failed_flushes out.old; failed_flushes_after = O.failed_flushes out.new })
-        (record { honest = E.honest err.old; old = E.written err.old; new = E.written err.new; failures = E.failures err.old; failures_after = E.failures err.new; failed_flushes = E.failed_flushes err.old; failed_flushes_after = E.failed_flushes err.new })
-        result }
+    ensures ends { EndsJob (output_of job.now) (I.seen input.old) (I.seen input.new) (O.seen out.old) (O.seen out.new) (E.seen err.old) (E.seen err.new) result }
     ensures script { script.new ≡ script.old }
 {
     let _ = script;

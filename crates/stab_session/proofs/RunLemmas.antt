@@ -1,19 +1,23 @@
 -- Runs: steps one after another, and how the program follows each.
-use Rattle.std.proofs.Common.{◌≡◌, ℕ, ◌+◌, ◌<◌, refl, sym, ◌∙◌, ap, subst, Bool, true, false, ◌&&◌, List, [], ◌∷◌, ◌++◌, append_assoc, append-nil, All, length}
+use Rattle.std.proofs.Common.{◌≡◌, ℕ, ◌+◌, refl, sym, ◌∙◌, ap, subst, Bool, true, false, ◌&&◌, List, [], ◌∷◌, ◌++◌, append_assoc, append-nil, All, length}
 use Rattle.std.proofs.lemmas.List.Elements.{All-tail}
 use Rattle.std.proofs.lemmas.List.{length-append}
 use Rattle.stab_pauli.specs.declared.letter.Letter.{Letter}
+use Rattle.stab_pauli.specs.declared.letter.Letter.TheVariants.{I}
 use Rattle.stab_pauli.specs.Letters.{◌⊕◌}
 use Rattle.stab_pauli.specs.Paulis.{Signed, single}
-use Rattle.stab_tableau.specs.declared.gate.Gate.TheVariants as on
-use Rattle.stab_tableau.specs.Traces.{Happening, applied, projected, member, is_free}
+use Rattle.stab_tableau.specs.Traces.{Happening, projected, member, is_free}
+use Rattle.stab_tableau.specs.Groups.{SameGroup}
 use Rattle.stab_tableau.specs.Rules.{outcome_by, is_free_by, projected_by}
 use Rattle.stab_tableau.proofs.OneLetterLemmas.{length-one_letter}
-use Rattle.stab_tableau.proofs.MemberLemmas.{Agree, Agree-applied, Agree-member, outcome-agree, is_free-agree}
-use Rattle.stab_circuit.specs.Steps.{Step, collapse}
-use Rattle.stab_session.specs.Runs.{when, flipped, collapsed, outcome_of}
-use Rattle.stab_session.specs.Points.{Point, Output, nothing, joined, given, trace_after, coins_of, next, after, outputs}
-use Rattle.stab_session.specs.Sights.{Fits, Sight, Shows, Leads, IsRun, flipped_by}
+use Rattle.stab_tableau.proofs.MemberLemmas.{same-applied, same-projected, same-outcome, same-free}
+use Rattle.stab_lines.specs.declared.product.Factor.{Factor}
+use Rattle.stab_circuit.specs.Steps.{Step, controlled, collapse, product}
+use Rattle.stab_session.specs.Records.{looked_up}
+use Rattle.stab_session.specs.Runs.{when, string_of, gate_of, flip_of, applied_where, outcome_of}
+use Rattle.stab_session.specs.Points.{Point, Output, nothing, joined, given, trace_after, coins_of, next_point, point_after, outputs}
+use Rattle.stab_session.specs.inner.Sights.{StepFits, Sight, Shows, Leads, IsRun, applied_by}
+use Rattle.stab_session.proofs.ProductLemmas.{length-string_of}
 
 -- outputs one after another
 
@@ -33,16 +37,16 @@ joined-assoc a b c = λ i. record {
   additions = append_assoc a.additions b.additions c.additions i;
 }
 
-pub after-append : (n : ℕ) (coins : ℕ → Bool) (xs ys : List Step) (p : Point) → after n coins (xs ++ ys) p ≡ after n coins ys (after n coins xs p)
+pub after-append : (n : ℕ) (coins : ℕ → Bool) (xs ys : List Step) (p : Point) → point_after n coins (xs ++ ys) p ≡ point_after n coins ys (point_after n coins xs p)
 after-append n coins [] ys p = refl
-after-append n coins (x ∷ xs) ys p = after-append n coins xs ys (next n coins x p)
+after-append n coins (x ∷ xs) ys p = after-append n coins xs ys (next_point n coins x p)
 
 pub outputs-append : (n : ℕ) (coins : ℕ → Bool) (xs ys : List Step) (p : Point)
-    → outputs n coins (xs ++ ys) p ≡ joined (outputs n coins xs p) (outputs n coins ys (after n coins xs p))
+    → outputs n coins (xs ++ ys) p ≡ joined (outputs n coins xs p) (outputs n coins ys (point_after n coins xs p))
 outputs-append n coins [] ys p = refl
 outputs-append n coins (x ∷ xs) ys p =
-    ap (joined (given n coins x p)) (outputs-append n coins xs ys (next n coins x p))
-    ∙ sym (joined-assoc (given n coins x p) (outputs n coins xs (next n coins x p)) (outputs n coins ys (after n coins xs (next n coins x p))))
+    ap (joined (given n coins x p)) (outputs-append n coins xs ys (next_point n coins x p))
+    ∙ sym (joined-assoc (given n coins x p) (outputs n coins xs (next_point n coins x p)) (outputs n coins ys (point_after n coins xs (next_point n coins x p))))
 
 -- runs of the program one after another
 
@@ -52,20 +56,20 @@ IsRun-none n coins a = λ p s. record { shows = s; output = sym (joined-nothing 
 pub IsRun-append : (n : ℕ) (coins : ℕ → Bool) (xs ys : List Step) (a b c : Sight) → IsRun n coins xs a b → IsRun n coins ys b c → IsRun n coins (xs ++ ys) a c
 IsRun-append n coins xs ys a b c f g = λ p s.
     let front = f p s in
-    let back = g (after n coins xs p) front.shows in
+    let back = g (point_after n coins xs p) front.shows in
     record {
       shows = subst (Shows n c) (sym (after-append n coins xs ys p)) back.shows;
       output =
           back.output
-          ∙ ap (λ o. joined o (outputs n coins ys (after n coins xs p))) front.output
-          ∙ joined-assoc a.output (outputs n coins xs p) (outputs n coins ys (after n coins xs p))
+          ∙ ap (λ o. joined o (outputs n coins ys (point_after n coins xs p))) front.output
+          ∙ joined-assoc a.output (outputs n coins xs p) (outputs n coins ys (point_after n coins xs p))
           ∙ ap (joined a.output) (sym (outputs-append n coins xs ys p));
     }
 
 -- one step: where the group is right, so is all that follows from the output
 
 one-run : (n : ℕ) (coins : ℕ → Bool) (x : Step) (a b : Sight) (p : Point) → Shows n a p
-    → ((q : Signed) → length q.letters ≡ n → b.stabilised q ≡ member (trace_after n coins x p) q)
+    → SameGroup n b.stabilised (member (trace_after n coins x p))
     → length (given n coins x p).free ≡ coins_of x → b.output ≡ joined a.output (given n coins x p) → Leads n coins (x ∷ []) a b p
 one-run n coins x a b p s group flags output = record {
   shows = record {
@@ -79,75 +83,115 @@ one-run n coins x a b p s group flags output = record {
   output = output ∙ ap (joined a.output) (sym (joined-nothing (given n coins x p)));
 }
 
--- what the program does at a collapse with some outcome: it measures, flips, and gathers the flag and the record
-pub record IsCollapse (n : ℕ) (l : Letter) (q : ℕ) (recorded inverted resets : Bool) (bit : Bool) (a b : Sight) : Type 0 where
+-- what the program does where it measures a string with some outcome: it projects, applies a letter to a qubit where it resets
+-- an outcome 1, and gathers the flag and the record
+pub record IsMeasurement (n : ℕ) (m : Signed) (l : Letter) (q : ℕ) (recorded inverted resets : Bool) (bit : Bool) (a b : Sight) : Type 0 where
   pub measured : Signed → Bool
-  pub projects : (r : Signed) → length r.letters ≡ n → measured r ≡ projected_by a.stabilised (single n q l) bit r
-  pub flips : (r : Signed) → length r.letters ≡ n → b.stabilised r ≡ flipped_by (resets && bit) q measured r
+  pub projects : (r : Signed) → length r.letters ≡ n → measured r ≡ projected_by a.stabilised m bit r
+  pub flips : (r : Signed) → length r.letters ≡ n → b.stabilised r ≡ applied_by (resets && bit) l q measured r
   pub output : b.output ≡ record a.output {
     records = a.output.records ++ when recorded (inverted ⊕ bit);
-    free = a.output.free ++ is_free_by a.stabilised (single n q l) ∷ [];
+    free = a.output.free ++ is_free_by a.stabilised m ∷ [];
   }
 
-flipped-group : (n : ℕ) (flip : Bool) (q : ℕ) (u : Signed → Bool) (t : List Happening) → q < n → Agree n u (member t)
-    → Agree n (flipped_by flip q u) (member (flipped flip q t))
-flipped-group n true q u t lt same = Agree-member n u (applied on.X q) t (lt, tt) same
-flipped-group n false q u t lt same = same
+applied-group : (n : ℕ) (bit : Bool) (l : Letter) (q : ℕ) (u : Signed → Bool) (t : List Happening) → SameGroup n u (member t)
+    → SameGroup n (applied_by bit l q u) (member (applied_where bit l q t))
+applied-group n true l q u t same = same-applied n u (member t) (gate_of l) q same
+applied-group n false l q u t same = same
 
-flipped-agree : (n : ℕ) (flip : Bool) (q : ℕ) (u v : Signed → Bool) → q < n → Agree n u v → Agree n (flipped_by flip q u) (flipped_by flip q v)
-flipped-agree n true q u v lt same = Agree-applied n u v on.X q lt same
-flipped-agree n false q u v lt same = same
-
-joined-collapse : (a : Output) (rs fs : List Bool) → joined a (record nothing { records = rs; free = fs }) ≡ record a { records = a.records ++ rs; free = a.free ++ fs }
-joined-collapse a rs fs = λ i. record {
+joined-measured : (a : Output) (rs fs : List Bool) → joined a (record nothing { records = rs; free = fs }) ≡ record a { records = a.records ++ rs; free = a.free ++ fs }
+joined-measured a rs fs = λ i. record {
   records = a.records ++ rs;
   free = a.free ++ fs;
   detectors = append-nil a.detectors i;
   additions = append-nil a.additions i;
 }
 
+module _ (n : ℕ) (coins : ℕ → Bool) (m : Signed) (size : length m.letters ≡ n) (l : Letter) (q : ℕ) (recorded inverted resets bit : Bool) (a b : Sight)
+    (bit_is : bit ≡ outcome_by a.stabilised m (coins (length a.output.free))) (h : IsMeasurement n m l q recorded inverted resets bit a b)
+    (p : Point) (s : Shows n a p) where
+  same_bit : bit ≡ outcome_of coins m p.trace p.coin
+  same_bit =
+      bit_is
+      ∙ ap (λ t. outcome_by a.stabilised m (coins t)) s.coin
+      ∙ same-outcome n a.stabilised (member p.trace) m size s.group (coins p.coin)
+
+  measured-group : (r : Signed) → length r.letters ≡ n
+      → b.stabilised r ≡ member (applied_where (resets && outcome_of coins m p.trace p.coin) l q (projected m (outcome_of coins m p.trace p.coin) ∷ p.trace)) r
+  measured-group r lr =
+      h.flips r lr
+      ∙ applied-group n (resets && bit) l q h.measured (projected m bit ∷ p.trace)
+      (λ w lw. h.projects w lw ∙ same-projected n a.stabilised (member p.trace) m bit size s.group w lw) r lr
+      ∙ ap (λ o. member (applied_where (resets && o) l q (projected m o ∷ p.trace)) r) same_bit
+
+  measured-output : b.output ≡ joined a.output (record nothing {
+    records = when recorded (inverted ⊕ outcome_of coins m p.trace p.coin);
+    free = is_free p.trace m ∷ [];
+  })
+  measured-output =
+      h.output
+      ∙ (λ i. record a.output {
+        records = a.output.records ++ when recorded (inverted ⊕ same_bit i);
+        free = a.output.free ++ same-free n a.stabilised (member p.trace) m size s.group i ∷ [];
+      })
+      ∙ sym (joined-measured a.output (when recorded (inverted ⊕ outcome_of coins m p.trace p.coin)) (is_free p.trace m ∷ []))
+
 pub run-collapse : (n : ℕ) (coins : ℕ → Bool) (x : Step) (l : Letter) (q : ℕ) (recorded inverted resets : Bool)
-    → x ≡ collapse l q recorded inverted resets → q < n → (a b : Sight) (bit : Bool)
-    → bit ≡ outcome_by a.stabilised (single n q l) (coins (length a.output.free)) → IsCollapse n l q recorded inverted resets bit a b → IsRun n coins (x ∷ []) a b
-run-collapse n coins x l q recorded inverted resets is lt a b bit bit_is h =
-    subst (λ x. IsRun n coins (x ∷ []) a b) (sym is) (λ p s. one-run n coins (collapse l q recorded inverted resets) a b p s (group p s) refl (output p s))
+    → x ≡ collapse l q recorded inverted resets → (a b : Sight) (bit : Bool)
+    → bit ≡ outcome_by a.stabilised (single n q l) (coins (length a.output.free))
+    → IsMeasurement n (single n q l) (flip_of l) q recorded inverted resets bit a b → IsRun n coins (x ∷ []) a b
+run-collapse n coins x l q recorded inverted resets is a b bit bit_is h =
+    subst (λ x. IsRun n coins (x ∷ []) a b) (sym is)
+    (λ p s. one-run n coins (collapse l q recorded inverted resets) a b p s
+    (measured-group n coins (single n q l) (length-one_letter n q l) (flip_of l) q recorded inverted resets bit a b bit_is h p s) refl
+    (measured-output n coins (single n q l) (length-one_letter n q l) (flip_of l) q recorded inverted resets bit a b bit_is h p s))
+
+-- a product is no reset, so nothing is applied
+pub run-product : (n : ℕ) (coins : ℕ → Bool) (x : Step) (factors : List Factor) (inverted : Bool)
+    → x ≡ product factors inverted → (m : Signed) → m ≡ string_of n factors → (a b : Sight) (bit : Bool)
+    → bit ≡ outcome_by a.stabilised m (coins (length a.output.free))
+    → ((r : Signed) → length r.letters ≡ n → b.stabilised r ≡ projected_by a.stabilised m bit r)
+    → b.output ≡ record a.output {
+      records = a.output.records ++ (inverted ⊕ bit) ∷ [];
+      free = a.output.free ++ is_free_by a.stabilised m ∷ [];
+    } → IsRun n coins (x ∷ []) a b
+run-product n coins x factors inverted is m m_is a b bit m_outcome m_projects output =
+    subst (λ x. IsRun n coins (x ∷ []) a b) (sym is)
+    (λ p s. one-run n coins (product factors inverted) a b p s
+    (measured-group n coins (string_of n factors) (length-string_of n factors) I 0 true inverted false bit a b bit_is h p s) refl
+    (measured-output n coins (string_of n factors) (length-string_of n factors) I 0 true inverted false bit a b bit_is h p s))
   where
-    m : Signed
-    m = single n q l
+    bit_is : bit ≡ outcome_by a.stabilised (string_of n factors) (coins (length a.output.free))
+    bit_is = m_outcome ∙ ap (λ w. outcome_by a.stabilised w (coins (length a.output.free))) m_is
 
-    size : length (single n q l).letters ≡ n
-    size = length-one_letter n q l
+    h : IsMeasurement n (string_of n factors) I 0 true inverted false bit a b
+    h = record {
+      measured = b.stabilised;
+      projects = λ r lr. m_projects r lr ∙ ap (λ w. projected_by a.stabilised w bit r) m_is;
+      flips = λ r lr. refl;
+      output =
+          output
+          ∙ (λ i. record a.output { records = a.output.records ++ (inverted ⊕ bit) ∷ []; free = a.output.free ++ is_free_by a.stabilised (m_is i) ∷ [] });
+    }
 
-    same_bit : (p : Point) → Shows n a p → bit ≡ outcome_of n coins l q p.trace p.coin
-    same_bit p s =
-        bit_is
-        ∙ ap (λ t. outcome_by a.stabilised (single n q l) (coins t)) s.coin
-        ∙ outcome-agree n a.stabilised (member p.trace) (single n q l) size s.group (coins p.coin)
-
-    group : (p : Point) → Shows n a p → (r : Signed) → length r.letters ≡ n
-        → b.stabilised r ≡ member (collapsed n l q resets (outcome_of n coins l q p.trace p.coin) p.trace) r
-    group p s r lr =
-        h.flips r lr
-        ∙ flipped-agree n (resets && bit) q h.measured (member (projected (single n q l) bit ∷ p.trace)) lt
-        (λ w lw. h.projects w lw ∙ Agree-member n a.stabilised (projected (single n q l) bit) p.trace (size, tt) s.group w lw) r lr
-        ∙ flipped-group n (resets && bit) q (member (projected (single n q l) bit ∷ p.trace)) (projected (single n q l) bit ∷ p.trace) lt (λ w lw. refl) r lr
-        ∙ ap (λ o. member (collapsed n l q resets o p.trace) r) (same_bit p s)
-
-    output : (p : Point) → Shows n a p → b.output ≡ joined a.output (given n coins (collapse l q recorded inverted resets) p)
-    output p s =
-        h.output
-        ∙ (λ i. record a.output {
-          records = a.output.records ++ when recorded (inverted ⊕ same_bit p s i);
-          free = a.output.free ++ is_free-agree n a.stabilised (member p.trace) (single n q l) size s.group i ∷ [];
-        })
-        ∙ sym (joined-collapse a.output (when recorded (inverted ⊕ outcome_of n coins l q p.trace p.coin)) (is_free p.trace (single n q l) ∷ []))
+pub run-controlled : (n : ℕ) (coins : ℕ → Bool) (x : Step) (l : Letter) (k q : ℕ) → x ≡ controlled l k q → (a b : Sight) (bit : Bool)
+    → bit ≡ looked_up a.output.records k → ((r : Signed) → length r.letters ≡ n → b.stabilised r ≡ applied_by bit l q a.stabilised r)
+    → b.output ≡ a.output → IsRun n coins (x ∷ []) a b
+run-controlled n coins x l k q is a b bit bit_is applies output =
+    subst (λ x. IsRun n coins (x ∷ []) a b) (sym is)
+    (λ p s. one-run n coins (controlled l k q) a b p s (group p s) refl (output ∙ sym (joined-nothing a.output)))
+  where
+    group : (p : Point) → Shows n a p → SameGroup n b.stabilised (member (applied_where (looked_up p.records k) l q p.trace))
+    group p s = λ r lr.
+        applies r lr ∙ applied-group n bit l q a.stabilised p.trace s.group r lr
+        ∙ ap (λ o. member (applied_where o l q p.trace) r) (bit_is ∙ ap (λ rs. looked_up rs k) s.records)
 
 -- the first of the steps that are left, and the others
 
-pub fits-rest : (n m : ℕ) (xs : List Step) (x : Step) (rest : List Step) → xs ≡ x ∷ rest → m ≡ n → All (Fits n) xs → All (Fits m) rest
+pub fits-rest : (n m : ℕ) (xs : List Step) (x : Step) (rest : List Step) → xs ≡ x ∷ rest → m ≡ n → All (StepFits n) xs → All (StepFits m) rest
 fits-rest n m xs x rest e same fits =
-    let all : All (Fits n) (x ∷ rest) = subst (All (Fits n)) e fits in
-    subst (λ k. All (Fits k) rest) (sym same) (All-tail (Fits n) x rest all)
+    let all : All (StepFits n) (x ∷ rest) = subst (All (StepFits n)) e fits in
+    subst (λ k. All (StepFits k) rest) (sym same) (All-tail (StepFits n) x rest all)
 
 -- a run of the others, after one of the first
 pub run-rest : (n m : ℕ) (c d : ℕ → Bool) (xs : List Step) (x : Step) (rest : List Step) (a b new : Sight) → xs ≡ x ∷ rest → m ≡ n → d ≡ c

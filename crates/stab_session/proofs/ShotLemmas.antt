@@ -5,8 +5,8 @@ use Rattle.stab_tableau.specs.Traces.{member}
 use Rattle.stab_circuit.specs.Items.{Items}
 use Rattle.stab_circuit.specs.Steps.{unroll, observables_of}
 use Rattle.stab_session.specs.Runs.{State, start, run_of}
-use Rattle.stab_session.specs.Points.{Output, nothing, joined, origin, after, outputs, with_additions, state_at}
-use Rattle.stab_session.specs.Sights.{Sight, Shows, Leads, IsRun}
+use Rattle.stab_session.specs.Points.{Output, nothing, joined, origin, point_after, outputs, with_additions, state_at}
+use Rattle.stab_session.specs.inner.Sights.{Sight, Shows, Leads, IsRun}
 use Rattle.stab_session.proofs.StateLemmas.{run-state}
 
 -- the lists of a run are those of an output
@@ -28,7 +28,7 @@ module _ (n : ℕ) (coins : ℕ → Bool) (items : Items) (a b : Sight) (empty :
   gathered = led.output ∙ ap (λ o. joined o (outputs n coins (unroll items) origin)) empty
 
   same_state : run_of n coins items
-      ≡ state_at (after n coins (unroll items) origin) (outputs n coins (unroll items) origin) (start (observables_of items))
+      ≡ state_at (point_after n coins (unroll items) origin) (outputs n coins (unroll items) origin) (start (observables_of items))
   unfolding run_of
   same_state = run-state n coins (unroll items) (start (observables_of items))
 

@@ -1,20 +1,20 @@
--- Laws of runs: a state is a point with what was given so far; a coin that does not decide makes no difference; and the
--- future depends on the group, the number of the next coin and the records alone.
-use Rattle.std.specs.Prelude.{◌≡◌, ℕ, Bool, true, false, List, All, slice_index_or}
+-- Laws of runs: a state is a point with what was given so far; a coin that does not decide makes no difference; the trace of
+-- a run is sound; and the future depends on the group, the number of the next coin and the records alone.
+use Rattle.std.specs.Prelude.{◌≡◌, ℕ, Bool, true, false, List, All, None, slice_index_or}
 use Rattle.stab_pauli.specs.Paulis.{Signed}
-use Rattle.stab_tableau.specs.Traces.{Happening, outcome, is_free}
-use Rattle.stab_tableau.specs.Laws.{SameMembers}
+use Rattle.stab_tableau.specs.Traces.{Happening, member, outcome, is_free, Fits, IsSound}
+use Rattle.stab_tableau.specs.Groups.{SameGroup}
 use Rattle.stab_circuit.specs.Items.{Items}
-use Rattle.stab_circuit.specs.Steps.{Step}
+use Rattle.stab_circuit.specs.Steps.{Step, unroll, check_within}
+use Rattle.stab_circuit.specs.Cursors.{IsApart}
 use Rattle.stab_session.specs.Runs.{State, run, run_of}
-use Rattle.stab_session.specs.Points.{Point, after, outputs, point_of, state_at}
-use Rattle.stab_session.specs.Sights.{Fits}
+use Rattle.stab_session.specs.Points.{Point, point_after, outputs, point_of, state_at}
 
 -- a run ends at the point where its steps lead, with what they give put behind what there was
 abbrev pub RunsArePointsWithOutputs : Type 0
 RunsArePointsWithOutputs =
     (n : ℕ) (coins : ℕ → Bool) (xs : List Step) (s : State) →
-    run n coins xs s ≡ state_at (after n coins xs (point_of s)) (outputs n coins xs (point_of s)) s
+    run n coins xs s ≡ state_at (point_after n coins xs (point_of s)) (outputs n coins xs (point_of s)) s
 
 -- a free outcome is the coin, and any other does not depend on it
 abbrev pub CoinsDecideFreeOutcomes : Type 0
@@ -35,14 +35,22 @@ DependsOnCoinsAt flags n coins items = (others : ℕ → Bool) → AgreeWhere fl
 abbrev pub RunsDependOnFreeCoins : Type 0
 RunsDependOnFreeCoins = (n : ℕ) (coins : ℕ → Bool) (items : Items) → DependsOnCoinsAt (run_of n coins items).free n coins items
 
--- two points have the same members on n qubits, number of the next coin and records
+-- what happens in a run is on n qubits, and no projection is on an outcome that the state before it rules out
+abbrev pub IsSoundRun : ℕ → (ℕ → Bool) → Items → Type 0
+IsSoundRun n coins items = Fits n (run_of n coins items).trace × IsSound (run_of n coins items).trace
+
+-- that is so where nothing refuses the items on n qubits, and the two qubits of each of their pairs differ
+abbrev pub RunsAreSound : Type 0
+RunsAreSound = (n : ℕ) (coins : ℕ → Bool) (items : Items) → check_within n items ≡ None → All IsApart (unroll items) → IsSoundRun n coins items
+
+-- two points have one group on n qubits, and the same number of the next coin and records
 pub record AgreeAt (n : ℕ) (a b : Point) : Type 0 where
-  pub group : SameMembers n a.trace b.trace
+  pub group : SameGroup n (member a.trace) (member b.trace)
   pub coin : a.coin ≡ b.coin
   pub records : a.records ≡ b.records
 
--- such points give the same by all steps, and lead to such points again
+-- such points give the same by all steps, whichever qubits they are on, and lead to such points again
 abbrev pub SameFuture : Type 0
 SameFuture =
-    (n : ℕ) (coins : ℕ → Bool) (xs : List Step) (a b : Point) → All (Fits n) xs → AgreeAt n a b →
-    (outputs n coins xs a ≡ outputs n coins xs b) × AgreeAt n (after n coins xs a) (after n coins xs b)
+    (n : ℕ) (coins : ℕ → Bool) (xs : List Step) (a b : Point) → AgreeAt n a b →
+    (outputs n coins xs a ≡ outputs n coins xs b) × AgreeAt n (point_after n coins xs a) (point_after n coins xs b)

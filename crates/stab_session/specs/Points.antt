@@ -2,11 +2,11 @@
 use Rattle.std.specs.Prelude.{ℕ, ◌+◌, Bool, List, [], ◌∷◌, ◌++◌}
 use Rattle.stab_pauli.specs.Letters.{◌⊕◌}
 use Rattle.stab_pauli.specs.Paulis.{single}
-use Rattle.stab_tableau.specs.Traces.{Happening, applied, applied_pair, is_free}
-use Rattle.stab_circuit.specs.Steps.{Step, one, two, collapse, detector, observable}
+use Rattle.stab_tableau.specs.Traces.{Happening, applied, applied_pair, projected, is_free}
+use Rattle.stab_circuit.specs.Steps.{Step, one, two, controlled, collapse, product, detector, observable}
 use Rattle.stab_session.specs.declared.outputs.Addition.{Addition}
-use Rattle.stab_session.specs.Records.{parity}
-use Rattle.stab_session.specs.Runs.{State, when, outcome_of, collapsed, added}
+use Rattle.stab_session.specs.Records.{looked_up, parity}
+use Rattle.stab_session.specs.Runs.{State, when, string_of, applied_where, outcome_of, collapsed, added}
 
 -- what decides all that follows: what happened, the number of the next coin, and the records
 pub record Point : Type 0 where
@@ -41,9 +41,14 @@ joined a b = record {
 abbrev pub given : ℕ → (ℕ → Bool) → Step → Point → Output
 given n coins (one g q) p = nothing
 given n coins (two g a b) p = nothing
+given n coins (controlled l k q) p = nothing
 given n coins (collapse l q recorded inverted resets) p = record nothing {
-  records = when recorded (inverted ⊕ outcome_of n coins l q p.trace p.coin);
+  records = when recorded (inverted ⊕ outcome_of coins (single n q l) p.trace p.coin);
   free = is_free p.trace (single n q l) ∷ [];
+}
+given n coins (product factors inverted) p = record nothing {
+  records = (inverted ⊕ outcome_of coins (string_of n factors) p.trace p.coin) ∷ [];
+  free = is_free p.trace (string_of n factors) ∷ [];
 }
 given n coins (detector ks) p = record nothing { detectors = parity p.records ks ∷ [] }
 given n coins (observable j ks) p = record nothing { additions = record { observable = j; bit = parity p.records ks } ∷ [] }
@@ -52,15 +57,19 @@ given n coins (observable j ks) p = record nothing { additions = record { observ
 abbrev pub trace_after : ℕ → (ℕ → Bool) → Step → Point → List Happening
 trace_after n coins (one g q) p = applied g q ∷ p.trace
 trace_after n coins (two g a b) p = applied_pair g a b ∷ p.trace
-trace_after n coins (collapse l q recorded inverted resets) p = collapsed n l q resets (outcome_of n coins l q p.trace p.coin) p.trace
+trace_after n coins (controlled l k q) p = applied_where (looked_up p.records k) l q p.trace
+trace_after n coins (collapse l q recorded inverted resets) p = collapsed n l q resets (outcome_of coins (single n q l) p.trace p.coin) p.trace
+trace_after n coins (product factors inverted) p = projected (string_of n factors) (outcome_of coins (string_of n factors) p.trace p.coin) ∷ p.trace
 trace_after n coins (detector ks) p = p.trace
 trace_after n coins (observable j ks) p = p.trace
 
--- how many coin numbers a step uses up: each collapse one, whether or not the coin decides
+-- how many coin numbers a step uses up: each measurement one, whether or not the coin decides
 abbrev pub coins_of : Step → ℕ
 coins_of (one g q) = 0
 coins_of (two g a b) = 0
+coins_of (controlled l k q) = 0
 coins_of (collapse l q recorded inverted resets) = 1
+coins_of (product factors inverted) = 1
 coins_of (detector ks) = 0
 coins_of (observable j ks) = 0
 
@@ -70,18 +79,18 @@ all_coins_of [] = 0
 all_coins_of (x ∷ xs) = coins_of x + all_coins_of xs
 
 -- where a step leads
-abbrev pub next : ℕ → (ℕ → Bool) → Step → Point → Point
-next n coins x p = record { trace = trace_after n coins x p; coin = p.coin + coins_of x; records = p.records ++ (given n coins x p).records }
+abbrev pub next_point : ℕ → (ℕ → Bool) → Step → Point → Point
+next_point n coins x p = record { trace = trace_after n coins x p; coin = p.coin + coins_of x; records = p.records ++ (given n coins x p).records }
 
 -- where steps lead
-abbrev pub after : ℕ → (ℕ → Bool) → List Step → Point → Point
-after n coins [] p = p
-after n coins (x ∷ xs) p = after n coins xs (next n coins x p)
+abbrev pub point_after : ℕ → (ℕ → Bool) → List Step → Point → Point
+point_after n coins [] p = p
+point_after n coins (x ∷ xs) p = point_after n coins xs (next_point n coins x p)
 
 -- what steps give
 abbrev pub outputs : ℕ → (ℕ → Bool) → List Step → Point → Output
 outputs n coins [] p = nothing
-outputs n coins (x ∷ xs) p = joined (given n coins x p) (outputs n coins xs (next n coins x p))
+outputs n coins (x ∷ xs) p = joined (given n coins x p) (outputs n coins xs (next_point n coins x p))
 
 -- observables with additions made
 abbrev pub with_additions : List Addition → List Bool → List Bool

@@ -1,10 +1,11 @@
 -- Records: which one rec[-k] is, and the parity and the number of ones of bits.
-use Rattle.std.specs.Prelude.{ℕ, ◌+◌, ◌-◌, Bool, true, false, List, [], ◌∷◌, length, slice_index_or}
+use Rattle.std.specs.Prelude.{ℕ, ◌+◌, ◌-◌, nat_lt, Bool, true, false, List, [], ◌∷◌, length, slice_index_or, if◌then◌else◌}
 use Rattle.stab_pauli.specs.Letters.{◌⊕◌}
 
--- the record rec[-k]: after m records it is record m - k
+-- the record rec[-k]: k counts back from the newest, so of m records, numbered from 0, it is record m - k. Where k is more
+-- than m there is no such record, and its bit is 0
 abbrev pub looked_up : List Bool → ℕ → Bool
-looked_up records k = slice_index_or records (length records - k) false
+looked_up records k = if nat_lt (length records) k then false else slice_index_or records (length records - k) false
 
 -- the parity of the records that the numbers k name; one that is named twice cancels
 abbrev pub parity : List Bool → List ℕ → Bool

@@ -5,13 +5,17 @@ use Rattle.stab_pauli.specs.declared.refusal.Refusal.TheVariants.{OutOfMemory}
 use Rattle.stab_pauli.specs.declared.refusal.Fault.{Fault}
 use Rattle.stab_pauli.specs.Refusals.{whole}
 use Rattle.stab_pauli.specs.declared.letter.Letter.{Letter}
+use Rattle.stab_pauli.specs.declared.letter.Letter.TheVariants as letter
 use Rattle.stab_pauli.specs.Letters.{◌⊕◌}
-use Rattle.stab_pauli.specs.Paulis.{single}
+use Rattle.stab_pauli.specs.Paulis.{Signed, single}
+use Rattle.stab_tableau.specs.declared.gate.Gate.{Gate}
 use Rattle.stab_tableau.specs.declared.gate.Gate.TheVariants as on
 use Rattle.stab_tableau.specs.Traces.{Happening, applied, applied_pair, projected, outcome, is_free}
+use Rattle.stab_lines.specs.declared.product.Factor.{Factor}
+use Rattle.stab_lines.specs.Axes.{letter_of}
 use Rattle.stab_circuit.specs.Items.{Items}
-use Rattle.stab_circuit.specs.Steps.{Step, one, two, collapse, detector, observable, unroll, observables_of}
-use Rattle.stab_session.specs.Records.{parity}
+use Rattle.stab_circuit.specs.Steps.{Step, one, two, controlled, collapse, product, detector, observable, unroll, observables_of}
+use Rattle.stab_session.specs.Records.{looked_up, parity}
 
 -- a run so far: what happened to the qubits, newest first; the number of the next coin; the records; for each coin number
 -- whether the coin decided; and the bits of detectors and observables
@@ -32,18 +36,41 @@ abbrev pub when : Bool → Bool → List Bool
 when true bit = bit ∷ []
 when false bit = []
 
--- the gate X on the qubit, where it is flipped
-abbrev pub flipped : Bool → ℕ → List Happening → List Happening
-flipped true q trace = applied on.X q ∷ trace
-flipped false q trace = trace
+-- letters with those of the factors put at their qubits
+abbrev pub with_factors : List Factor → List Letter → List Letter
+with_factors [] letters = letters
+with_factors (f ∷ fs) letters = with_factors fs (slice_set letters f.qubit (letter_of f.letter))
 
--- the outcome of measuring a letter on one of n qubits, with the next coin
-abbrev pub outcome_of : ℕ → (ℕ → Bool) → Letter → ℕ → List Happening → ℕ → Bool
-outcome_of n coins l q trace coin = outcome trace (single n q l) (coins coin)
+-- the factors' letters at their qubits among n, I elsewhere, with the sign +
+abbrev pub string_of : ℕ → List Factor → Signed
+string_of n factors = record { negative = false; letters = with_factors factors (replicate n letter.I) }
 
--- a projection on an outcome, and a flip where it resets an outcome 1
+-- the gate that a letter is
+abbrev pub gate_of : Letter → Gate
+gate_of letter.I = on.I
+gate_of letter.X = on.X
+gate_of letter.Y = on.Y
+gate_of letter.Z = on.Z
+
+-- a letter that exchanges the two outcomes of a letter, with which it anticommutes
+abbrev pub flip_of : Letter → Letter
+flip_of letter.I = letter.X
+flip_of letter.X = letter.Z
+flip_of letter.Y = letter.X
+flip_of letter.Z = letter.X
+
+-- a letter applied to the qubit, where the bit is 1
+abbrev pub applied_where : Bool → Letter → ℕ → List Happening → List Happening
+applied_where true l q trace = applied (gate_of l) q ∷ trace
+applied_where false l q trace = trace
+
+-- the outcome of measuring a string, with the coin of this number
+abbrev pub outcome_of : (ℕ → Bool) → Signed → List Happening → ℕ → Bool
+outcome_of coins p trace coin = outcome trace p (coins coin)
+
+-- a projection of a letter on an outcome, and a flip where it resets an outcome 1
 abbrev pub collapsed : ℕ → Letter → ℕ → Bool → Bool → List Happening → List Happening
-collapsed n l q resets bit trace = flipped (resets && bit) q (projected (single n q l) bit ∷ trace)
+collapsed n l q resets bit trace = applied_where (resets && bit) (flip_of l) q (projected (single n q l) bit ∷ trace)
 
 -- a bit added to an observable
 abbrev pub added : ℕ → Bool → List Bool → List Bool
@@ -53,11 +80,18 @@ added j bit observables = slice_set observables j (bit ⊕ slice_index_or observ
 abbrev pub effect : ℕ → (ℕ → Bool) → Step → State → State
 effect n coins (one g q) s = record s { trace = applied g q ∷ s.trace }
 effect n coins (two g a b) s = record s { trace = applied_pair g a b ∷ s.trace }
+effect n coins (controlled l k q) s = record s { trace = applied_where (looked_up s.records k) l q s.trace }
 effect n coins (collapse l q recorded inverted resets) s = record s {
-  trace = collapsed n l q resets (outcome_of n coins l q s.trace s.coin) s.trace;
+  trace = collapsed n l q resets (outcome_of coins (single n q l) s.trace s.coin) s.trace;
   coin = s.coin + 1;
-  records = s.records ++ when recorded (inverted ⊕ outcome_of n coins l q s.trace s.coin);
+  records = s.records ++ when recorded (inverted ⊕ outcome_of coins (single n q l) s.trace s.coin);
   free = s.free ++ is_free s.trace (single n q l) ∷ [];
+}
+effect n coins (product factors inverted) s = record s {
+  trace = projected (string_of n factors) (outcome_of coins (string_of n factors) s.trace s.coin) ∷ s.trace;
+  coin = s.coin + 1;
+  records = s.records ++ (inverted ⊕ outcome_of coins (string_of n factors) s.trace s.coin) ∷ [];
+  free = s.free ++ is_free s.trace (string_of n factors) ∷ [];
 }
 effect n coins (detector ks) s = record s { detectors = s.detectors ++ parity s.records ks ∷ [] }
 effect n coins (observable j ks) s = record s { observables = added j (parity s.records ks) s.observables }

@@ -1,24 +1,8 @@
--- Samplers: what contracts see of one, and what it keeps from shot to shot.
-use Rattle.std.specs.Prelude.{◌≡◌, ℕ, min, List, All, None, refl}
-use Rattle.std.specs.Coded.{Coded, code_by, coded×, coded_ℕ}
+-- Samplers: what contracts see of one.
+use Rattle.std.specs.Prelude.{ℕ}
 use Rattle.stab_circuit.specs.Items.{Items}
-use Rattle.stab_circuit.specs.Steps.{Step, unroll, records_of, observables_of, check_within}
-use Rattle.stab_circuit.specs.Cursors.{IsApart}
-use Rattle.stab_session.specs.StoredItems.{items_code}
 
 -- the number of qubits, and the items of the circuit
 pub record SamplerState : Type 0 where
   pub qubits : ℕ
   pub items : Items
-
--- it is stored as the pair of its fields
-abbrev pub sampler_code : Coded SamplerState
-sampler_code = code_by (ℕ × Items) (coded× coded_ℕ items_code) (λ s. (s.qubits, s.items)) (λ p. record { qubits = p.0; items = p.1 }) (λ _. refl)
-
--- nothing refuses the items on the qubits, the steps are all of theirs, and the numbers of records and observables are theirs
-pub record IsReady (n : ℕ) (items : Items) (steps : List Step) (records observables : ℕ) : Type 0 where
-  pub checked : check_within n items ≡ None
-  pub unrolled : steps ≡ unroll items
-  pub apart : All IsApart steps
-  pub records_are : records ≡ min (records_of (unroll items)) 1048577
-  pub observables_are : observables ≡ observables_of items

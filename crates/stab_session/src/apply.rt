@@ -1,4 +1,4 @@
-ghost use Rattle.std.specs.Prelude.{◌≡◌, ℕ, ◌+◌, ◌<◌, ◌≤◌, ◌^◌, ◌∷◌, [], ◌++◌, ◌&&◌, length, OnOk};
+ghost use Rattle.std.specs.Prelude.{◌≡◌, ℕ, ◌+◌, ◌<◌, ◌≤◌, ◌^◌, ◌∷◌, [], ◌++◌, length, OnOk};
 ghost use Rattle.stab_pauli.specs.Paulis.{Signed, single};
 ghost use Rattle.stab_tableau.specs.Tableaus.{stabilises};
 ghost use Rattle.stab_tableau.specs.Rules.{outcome_by, is_free_by, projected_by};
@@ -6,14 +6,16 @@ ghost use Rattle.stab_circuit.specs.Cursors.{step_shown};
 ghost use Rattle.stab_session.specs.Records.{ones};
 ghost use Rattle.stab_session.specs.Runs.{when};
 ghost use Rattle.stab_session.specs.Points.{coins_of};
-ghost use Rattle.stab_session.specs.Sights.{Fits, IsRun, sight, output_of, flipped_by};
+ghost use Rattle.stab_session.specs.inner.Sights.{StepFits, IsRun, sight, output_of};
 
 use crate::coins::Coins;
+use crate::letters::{apply_where, reset_if};
 use crate::outputs::{Addition, Outputs};
-use crate::records::parity;
+use crate::products::{measure_string, write_product};
+use crate::records::{looked_up, parity};
 use stab_circuit::Step;
-use stab_pauli::Letter;
-use stab_tableau::{Collapse, Gate, Tableau};
+use stab_pauli::{Letter, Pauli};
+use stab_tableau::{Collapse, Tableau};
 use std::alloc::AllocError;
 
 /// Measures a letter on a qubit, and asks for the coin with this number only where it decides.
@@ -41,17 +43,6 @@ fn measure<C: Coins>(
     }
 }
 
-/// Flips a qubit where it resets an outcome 1.
-fn reset_if(tableau: &mut Tableau, qubit: usize, resets: bool, outcome: bool)
-    requires in_range { qubit < tableau.old.qubits }
-    ensures qubits { tableau.new.qubits ≡ tableau.old.qubits }
-    ensures members { (p : Signed) → length p.letters ≡ tableau.old.qubits → stabilises tableau.new p ≡ flipped_by (resets && outcome) qubit (stabilises tableau.old) p }
-{
-    if resets && outcome {
-        tableau.apply(Gate::X, qubit);
-    }
-}
-
 /// Appends a bit, where there is one.
 fn push_when(bits: &mut Vec<bool>, test: bool, bit: bool) -> Result<(), AllocError>
     ensures value { OnOk result (bits.new.items ≡ bits.old.items ++ when test bit) }
@@ -62,27 +53,36 @@ fn push_when(bits: &mut Vec<bool>, test: bool, bit: bool) -> Result<(), AllocErr
     Ok(())
 }
 
-/// Carries out one step on a tableau, gathers what it gives, and counts it.
+/// Carries out one step on a tableau, gathers what it gives, and counts it. The string is for
+/// products to be written into.
 pub fn apply_step<C: Coins>(
     tableau: &mut Tableau,
+    string: &mut Pauli,
     coins: &mut C,
     outputs: &mut Outputs,
     step: Step,
     applied: &mut u64,
 ) -> Result<(), AllocError>
-    requires fits { Fits tableau.old.qubits (step_shown step) }
+    requires same_length { length string.old.letters ≡ tableau.old.qubits }
+    requires fits { StepFits tableau.old.qubits (step_shown step) }
     requires few { applied.old < 2 ^ 63 }
     ensures counted { applied.new ≡ applied.old + 1 }
     ensures qubits { tableau.new.qubits ≡ tableau.old.qubits }
+    ensures string { length string.new.letters ≡ length string.old.letters }
     ensures same_coins { C.sequence coins.new ≡ C.sequence coins.old }
     ensures asks { C.asks coins.new ≤ C.asks coins.old + coins_of (step_shown step.entry) }
     ensures asks_free { OnOk result (C.asks coins.new + ones outputs.old.free.items ≤ C.asks coins.old + ones outputs.new.free.items) }
     ensures run { OnOk result (IsRun tableau.old.qubits (C.sequence coins.old) (step_shown step.entry ∷ []) (sight tableau.old (output_of outputs.old)) (sight tableau.new (output_of outputs.new))) }
 {
     *applied += 1;
+    let coin = outputs.free.len() as u64;
     match step {
         Step::One(gate, qubit) => tableau.apply(gate, qubit),
         Step::Two(gate, first, second) => tableau.apply_pair(gate, first, second),
+        Step::Controlled(letter, k, qubit) => {
+            let bit = looked_up(outputs.records.as_slice(), k);
+            apply_where(tableau, bit, letter, qubit);
+        }
         Step::Collapse {
             letter,
             qubit,
@@ -90,11 +90,16 @@ pub fn apply_step<C: Coins>(
             inverted,
             reset,
         } => {
-            let coin = outputs.free.len() as u64;
             let measured = measure(tableau, coins, coin, letter, qubit);
-            reset_if(tableau, qubit, reset, measured.outcome);
+            reset_if(tableau, letter, qubit, reset, measured.outcome);
             outputs.free.push(measured.free)?;
             push_when(&mut outputs.records, recorded, inverted ^ measured.outcome)?;
+        }
+        Step::Product { factors, inverted } => {
+            write_product(string, factors);
+            let measured = measure_string(tableau, coins, coin, string);
+            outputs.free.push(measured.free)?;
+            outputs.records.push(inverted ^ measured.outcome)?;
         }
         Step::Detector(lookbacks) => {
             let bit = parity(outputs.records.as_slice(), lookbacks);

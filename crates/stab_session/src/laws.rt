@@ -1,6 +1,6 @@
 //! Laws of runs. Each function does nothing: its contract is the law, and the check proves it.
 
-ghost use Rattle.stab_session.specs.Laws.{RunsArePointsWithOutputs, CoinsDecideFreeOutcomes, RunsDependOnFreeCoins, SameFuture};
+ghost use Rattle.stab_session.specs.Laws.{RunsArePointsWithOutputs, CoinsDecideFreeOutcomes, RunsDependOnFreeCoins, RunsAreSound, SameFuture};
 
 /// A run ends at the point where its steps lead, with what the steps give put behind what there
 /// was; so prefixes and tails of runs are prefixes and tails of lists.
@@ -18,8 +18,18 @@ pub fn runs_depend_on_free_coins()
     ensures law { RunsDependOnFreeCoins }
 {}
 
+/// Where nothing refuses the items on n qubits, the trace of their run fits n qubits and is sound,
+/// whatever the coins. So the laws of `stab_tableau::laws` hold of every run.
+///
+/// That the two qubits of each pair differ is a premise beside that, since a list of items doesn't
+/// show it. Each circuit's items have it, so `Sampler::runs_are_sound` asks for nothing.
+pub fn runs_are_sound()
+    ensures law { RunsAreSound }
+{}
+
 /// Two points with the same stabilised strings, number of the next coin and records have the same
-/// future, though they came about in different ways.
+/// future, though they came about in different ways: every list of steps gives the same from both,
+/// and leads to two such points.
 pub fn same_future()
     ensures law { SameFuture }
 {}

@@ -3,22 +3,26 @@
 //! - `coins`: the bits that decide outcomes which nothing else decides.
 //! - `records`: the records that `rec[-k]` names, and their parity.
 //! - `outputs`: what steps have given so far.
+//! - `letters`: letters that are applied where a bit is 1.
+//! - `products`: products of letters, and their measurement.
 //! - `apply`: one step on a tableau.
 //! - `run`: one run of a circuit, and what it gives.
 //! - `sampler`: many runs of one circuit.
-//! - `laws`: what a run depends on.
+//! - `laws`: what a run depends on, and that what happens in it is sound.
 //!
 //! Proved: coins are one fixed sequence of bits by number, which no call changes, and a seed gives
 //! the bits of ChaCha8 that `specs/Coins.antt` names. A run gives the records, flags, detectors and
 //! observables that the group rules of `specs/Runs.antt` give for the circuit's unrolled steps, and
-//! depends on no coin but those that decide. Each shot of a sampler is such a run, whatever became of
-//! the shots before it.
+//! depends on no coin but those that decide; its trace is sound. Each shot of a sampler is such a
+//! run, whatever became of the shots before it. `specs/inner/` has what only private contracts cite.
 #![tactic(auto)]
 
 mod apply;
 mod coins;
 pub mod laws;
+mod letters;
 mod outputs;
+mod products;
 mod records;
 mod run;
 mod sampler;

@@ -23,7 +23,7 @@ pub struct Outputs {
 impl Outputs {
     ghost use Rattle.std.specs.Prelude.{◌≡◌, IfOk};
     ghost use Rattle.stab_session.specs.Points.{nothing};
-    ghost use Rattle.stab_session.specs.Sights.{output_of};
+    ghost use Rattle.stab_session.specs.inner.Sights.{output_of};
 
     /// Nothing yet, with room for so many records and as many flags.
     pub fn with_capacity(alloc: Global, records: usize) -> Result<Outputs, AllocError>

@@ -5,14 +5,14 @@ ghost use Rattle.stab_session.specs.Records.{ones};
 ghost use Rattle.stab_session.specs.Runs.{run_of, Refuses};
 ghost use Rattle.stab_session.specs.Points.{all_coins_of};
 ghost use Rattle.stab_session.specs.Laws.{DependsOnCoinsAt};
-ghost use Rattle.stab_session.specs.Sights.{Fits, IsRun, sight, output_of};
+ghost use Rattle.stab_session.specs.inner.Sights.{StepFits, IsRun, sight, output_of};
 
 use crate::apply::apply_step;
 use crate::coins::Coins;
 use crate::outputs::Outputs;
 use crate::sampler::Sampler;
 use stab_circuit::{Circuit, Cursor};
-use stab_pauli::Fault;
+use stab_pauli::{Fault, Pauli};
 use stab_tableau::Tableau;
 use std::alloc::{AllocError, Global};
 
@@ -29,26 +29,30 @@ pub struct Shot {
     pub observables: Vec<bool>,
 }
 
-/// Carries out the steps that a cursor has left, and counts them.
+/// Carries out the steps that a cursor has left, and counts them. The string is for products to be
+/// written into.
 pub fn run_steps<C: Coins>(
     tableau: &mut Tableau,
+    string: &mut Pauli,
     coins: &mut C,
     outputs: &mut Outputs,
     cursor: &mut Cursor,
     applied: &mut u64,
 ) -> Result<(), AllocError>
-    requires fits { All (Fits tableau.old.qubits) cursor.old.left }
+    requires same_length { length string.old.letters ≡ tableau.old.qubits }
+    requires fits { All (StepFits tableau.old.qubits) cursor.old.left }
     requires few { applied.old + length cursor.old.left < 2 ^ 63 }
     ensures counted { OnOk result (applied.new ≡ applied.old + length cursor.old.left) }
     ensures all { cursor.new.all ≡ cursor.old.all }
     ensures qubits { tableau.new.qubits ≡ tableau.old.qubits }
+    ensures string { length string.new.letters ≡ length string.old.letters }
     ensures same_coins { C.sequence coins.new ≡ C.sequence coins.old }
     ensures asks { C.asks coins.new ≤ C.asks coins.old + all_coins_of cursor.old.left }
     ensures asks_free { OnOk result (C.asks coins.new + ones outputs.old.free.items ≤ C.asks coins.old + ones outputs.new.free.items) }
     ensures run { OnOk result (IsRun tableau.old.qubits (C.sequence coins.old) cursor.old.left (sight tableau.old (output_of outputs.old)) (sight tableau.new (output_of outputs.new))) }
 {
     while let Some(step) = cursor.next() {
-        apply_step(tableau, coins, outputs, step, applied)?;
+        apply_step(tableau, string, coins, outputs, step, applied)?;
     }
     Ok(())
 }

@@ -2,7 +2,7 @@ use crate::coins::Coins;
 use crate::outputs::{Outputs, observables};
 use crate::run::{Shot, run_steps};
 use stab_circuit::{Circuit, Cursor};
-use stab_pauli::{Fault, Refusal};
+use stab_pauli::{Fault, Pauli, Refusal};
 use stab_tableau::Tableau;
 use std::alloc::Global;
 use std::marker::Model;
@@ -15,6 +15,8 @@ use std::marker::Model;
 pub struct Sampler<'a> {
     circuit: &'a Circuit,
     tableau: Tableau,
+    // A string on the tableau's qubits, for products to be written into: so no step takes memory for one.
+    string: Pauli,
     cursor: Cursor<'a>,
     // How many of each the circuit has, which the items are walked for once.
     records: usize,
@@ -23,7 +25,8 @@ pub struct Sampler<'a> {
 
 impl<'a> Model for Sampler<'a> {
     ghost use Rattle.stab_circuit.specs.Views.{circuit_items};
-    ghost use Rattle.stab_session.specs.Samplers.{SamplerState, IsReady, sampler_code};
+    ghost use Rattle.stab_session.specs.Samplers.{SamplerState};
+    ghost use Rattle.stab_session.specs.inner.ReadySamplers.{IsReady, sampler_code};
 
     ghost Value = { SamplerState };
 
@@ -31,18 +34,18 @@ impl<'a> Model for Sampler<'a> {
 
     ghost view = { λ s. record { qubits = s.tableau.qubits; items = circuit_items s.circuit.now } };
 
-    ghost invariant = { λ s. IsReady s.tableau.qubits (circuit_items s.circuit.now) s.cursor.all s.records s.observables };
+    ghost invariant = { λ s. IsReady s.tableau.qubits (circuit_items s.circuit.now) s.cursor.all s.string s.records s.observables };
 }
 
 impl<'a> Sampler<'a> {
-    ghost use Rattle.std.specs.Prelude.{◌≡◌, ◌+◌, ◌≤◌, IfOk, IfErr};
+    ghost use Rattle.std.specs.Prelude.{◌≡◌, ℕ, ◌+◌, ◌≤◌, Bool, None, IfOk, IfErr};
     ghost use Rattle.stab_pauli.specs.declared.refusal.Refusal.TheVariants.{OutOfMemory};
     ghost use Rattle.stab_circuit.specs.Steps.{unroll, check_within};
     ghost use Rattle.stab_circuit.specs.Views.{circuit_items};
     ghost use Rattle.stab_session.specs.Records.{ones};
     ghost use Rattle.stab_session.specs.Runs.{run_of, Refuses};
     ghost use Rattle.stab_session.specs.Points.{all_coins_of};
-    ghost use Rattle.stab_session.specs.Laws.{DependsOnCoinsAt};
+    ghost use Rattle.stab_session.specs.Laws.{DependsOnCoinsAt, IsSoundRun};
 
     /// Makes a circuit ready for shots on n qubits, at most 1,024.
     ///
@@ -53,11 +56,27 @@ impl<'a> Sampler<'a> {
         ensures refused { Refuses result (check_within n (circuit_items circuit.now)) }
     {
         circuit.check(n)?;
-        let tableau = Tableau::new(alloc, n).map_err(Fault::whole)?;
-        let cursor = Cursor::at(alloc, circuit, 0).map_err(Fault::whole)?;
+        match Sampler::of_checked(alloc, circuit, n) {
+            Ok(sampler) => Ok(sampler),
+            Err(refusal) => Err(Fault::whole(refusal)),
+        }
+    }
+
+    // Makes a circuit ready that was checked.
+    #[tactic(auto, using(crate::proofs::ProductLemmas::length_identity))]
+    fn of_checked(alloc: Global, circuit: &'a Circuit, n: usize) -> Result<Sampler<'a>, Refusal>
+        requires in_range { n ≤ 1024 }
+        requires checked { check_within n (circuit_items circuit.now) ≡ None }
+        ensures state { IfOk result (λ s. s ≡ record { qubits = n; items = circuit_items circuit.now }) }
+        ensures err { IfErr result (λ r. r ≡ OutOfMemory) }
+    {
+        let tableau = Tableau::new(alloc, n)?;
+        let string = Pauli::identity(alloc, n)?;
+        let cursor = Cursor::at(alloc, circuit, 0)?;
         Ok(Sampler {
             circuit,
             tableau,
+            string,
             cursor,
             records: circuit.records(),
             observables: circuit.observables(),
@@ -86,6 +105,7 @@ impl<'a> Sampler<'a> {
         let mut applied = 0;
         run_steps(
             &mut self.tableau,
+            &mut self.string,
             coins,
             &mut outputs,
             &mut self.cursor,
@@ -104,6 +124,13 @@ impl<'a> Sampler<'a> {
             detectors,
             observables,
         })
+    }
+
+    /// A law, and no work: whatever the coins, the trace of a shot fits the qubits and is sound.
+    pub fn runs_are_sound(&self)
+        ensures law { (coins : ℕ → Bool) → IsSoundRun self.now.qubits coins self.now.items }
+    {
+        let _ = &self.circuit;
     }
 }
 

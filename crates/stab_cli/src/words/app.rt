@@ -1,6 +1,7 @@
 //! The commands of the program and their options, as the command line reader is told of them.
 ghost use Rattle.std.specs.Prelude.{IfOk};
-ghost use Rattle.stab_cli.specs.Options.{IsApp, IsOption, alone, flag, named, numbered, shot_command, stabsim, valued};
+ghost use Rattle.stab_cli.specs.Options.{alone, flag, named, numbered, shot_command, stabsim, valued};
+ghost use Rattle.stab_cli.specs.inner.Parts.{IsApp, IsOption};
 
 use clap::builder::ValueParser;
 use clap::{Arg, ArgAction, Command};
@@ -9,6 +10,9 @@ use std::alloc::{AllocError, Global};
 
 /// The names of the result formats.
 pub(crate) static FORMATS: [&str; 5] = ["01", "b8", "r8", "hits", "dets"];
+
+// The version of the program, and by which kit and logic it was proved.
+const VERSION: &str = "0.1.0\nproved with rattle-kit-13b logic dac8208d650f15bf";
 
 const ABOUT: &str = "Simulates Clifford circuits by the stabiliser rules";
 
@@ -124,6 +128,7 @@ pub(crate) fn app<'a>(alloc: Global, formats: &'a [&'a str]) -> Result<Command<'
     let append = flag(alloc, "append_observables", HELP_APPEND);
     let detect = shot_command(alloc, "detect", ABOUT_DETECT, AFTER_DETECT, formats)?.arg(append)?;
     Command::new(alloc, "stabsim")
+        .version(VERSION)
         .about(ABOUT)
         .after_help(AFTER)
         .subcommand_required(true)

@@ -1,9 +1,7 @@
--- Sending: what is shown of a run, and what a call leaves of an output to which it sends bytes.
-use Rattle.std.specs.Prelude.{◌≡◌, ℕ, Bool, true, false, ◌⊎◌, IsTrue, List, ◌++◌, Result, OnOk, OnErr, IfErr}
-use Rattle.stab_pauli.specs.Devices.{Failed, WritesPrefix}
-use Rattle.stab_pauli.specs.declared.refusal.Refusal.TheVariants.{WriteFault, OutOfMemory}
+-- Sendings: what is shown of a run, and what a call leaves of an output to which it sends bytes without a flush.
+use Rattle.std.specs.Prelude.{◌≡◌, ℕ, true, false, List, Result, Ok, Err}
+use Rattle.stab_pauli.specs.Devices.{OutputView, Took, CutOff}
 use Rattle.stab_pauli.specs.declared.refusal.Fault.{Fault}
-use Rattle.stab_pauli.specs.Refusals.{whole}
 use Rattle.stab_session.specs.declared.run.Shot.{Shot}
 use Rattle.stab_session.specs.Runs.{State}
 use Rattle.stab_circuit.specs.Items.{Items}
@@ -31,17 +29,7 @@ shown_bytes format DetectorsAndObservables run = detected format true run
 abbrev pub shots_of : Format → Shown → ℕ → Source → Items → List ℕ
 shots_of format shown shots source items = of_shots (λ shot. shown_bytes format shown (run_of_shot source items shot)) shots
 
--- the output failed, or memory was refused
-abbrev pub IsSendingFault : Fault → Type 0
-IsSendingFault f = (f ≡ whole WriteFault) ⊎ (f ≡ whole OutOfMemory)
-
--- all the bytes were written, or some first bytes, and then the output failed or memory was refused
-pub record Sends {O : Type 0} (failures flushes : O → ℕ) (honest : O → Bool) (written : O → List ℕ) (old new : O) (bytes : List ℕ) (r : Result (Unit {0}) Fault) : Type 0 where
-  pub only : IfErr r IsSendingFault
-  pub kept : OnOk r (failures new ≡ failures old)
-  pub failed : IfErr r (λ f. f.refusal ≡ WriteFault → Failed (failures old) (failures new))
-  pub unfailed : IfErr r (λ f. (f.refusal ≡ WriteFault → ⊥) → failures new ≡ failures old)
-  pub no_flush : flushes new ≡ flushes old
-  pub as_honest : honest new ≡ honest old
-  pub whole_written : IsTrue (honest old) → OnOk r (written new ≡ written old ++ bytes)
-  pub prefix_written : IsTrue (honest old) → OnErr r (WritesPrefix (written old) (written new) bytes)
+-- these bytes were sent without a flush: all of them, or cut off after a prefix
+abbrev pub SendsUnflushed : {T : Type 0} → List ℕ → OutputView → OutputView → Result T Fault → Type 0
+SendsUnflushed bytes old new (Ok x) = Took old new bytes
+SendsUnflushed bytes old new (Err f) = CutOff old new bytes f

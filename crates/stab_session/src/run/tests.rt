@@ -58,12 +58,26 @@ const BELL: &str = "H 0\nCX 0 1\nM 0 1";
 
 const TURNED_BELL: &str = "H 0\nCX 0 1\nS_DAG 0 1\nMX 0 1";
 
+/// A state is moved from qubit 0 to qubit 2 by a Bell pair and two records.
+const TELEPORTATION: &str = "X 0
+H 1
+CX 1 2
+CX 0 1
+H 0
+M 0 1
+CX rec[-1] 2
+CZ rec[-2] 2
+M 2
+";
+
+const PRODUCTS: &str = "MPP X0*X1 Z0*Z1 Y0*Y1";
+
 const ROUNDS: &str = "REPEAT 3 {\nX 0\nM 0\nDETECTOR rec[-1]\nOBSERVABLE_INCLUDE(0) rec[-1]\n}";
 
 #[test]
 fn a_run_gives_the_lists_of_its_circuit(rt: HostRuntime) -> Result<(), Fail> {
     let none: [bool; 0] = [];
-    let cases: [(&str, usize, &[bool], &str); 17] = [
+    let cases: [(&str, usize, &[bool], &str); 26] = [
         ("", 0, &none, "records  free  detectors  observables "),
         (
             BELL,
@@ -160,6 +174,60 @@ fn a_run_gives_the_lists_of_its_circuit(rt: HostRuntime) -> Result<(), Fail> {
             5,
             &none,
             "records 000000000 free 00000000000000 detectors 00000000 observables 0",
+        ),
+        (
+            PRODUCTS,
+            2,
+            &[false, false, false],
+            "records 001 free 100 detectors  observables ",
+        ),
+        (
+            PRODUCTS,
+            2,
+            &[true, false, false],
+            "records 100 free 100 detectors  observables ",
+        ),
+        (
+            "H 0\nMPP X0 !Z1 X0*!Z1*X2",
+            3,
+            &[false, false, true],
+            "records 010 free 001 detectors  observables ",
+        ),
+        (
+            TELEPORTATION,
+            3,
+            &[true, true],
+            "records 111 free 110 detectors  observables ",
+        ),
+        (
+            TELEPORTATION,
+            3,
+            &[false, true],
+            "records 011 free 110 detectors  observables ",
+        ),
+        (
+            "X 0\nMY 0\nMRY !0\nMY 0",
+            1,
+            &[true],
+            "records 100 free 100 detectors  observables ",
+        ),
+        (
+            "RX 0\nMRX 0\nZ 0\nMX 0",
+            1,
+            &[true],
+            "records 01 free 100 detectors  observables ",
+        ),
+        (
+            "SQRT_X 0\nSQRT_X 0\nM 0",
+            1,
+            &none,
+            "records 1 free 0 detectors  observables ",
+        ),
+        (
+            "C_XYZ 0\nC_ZYX 0\nM 0",
+            1,
+            &none,
+            "records 0 free 0 detectors  observables ",
         ),
     ];
     for (text, n, coins, lists) in cases {

@@ -4,7 +4,7 @@ use stab_pauli::{Fault, MemoryInput, Refusal};
 use std::alloc::Global;
 use std::test::Fail;
 
-/// Free and fixed outcomes, resets, inverted targets, detectors and observables.
+/// Free and fixed outcomes, resets, inverted targets, products, feedback, detectors and observables.
 const ROUNDS: &str = "H 0
 CX 0 1
 REPEAT 3 {
@@ -13,6 +13,8 @@ REPEAT 3 {
     M 2 !3
     DETECTOR rec[-1] rec[-2]
     R 2
+    MPP X0*!Z2 !Y1*Y3
+    CX rec[-2] 1 rec[-1] 2
     MR 3
     OBSERVABLE_INCLUDE(1) rec[-1]
 }

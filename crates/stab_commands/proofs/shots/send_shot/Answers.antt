@@ -7,4 +7,4 @@ pub returns-in-Ok-clause-sends : goal.returns-in-Ok-clause-sends
 returns-in-Ok-clause-sends g c = c.write_shown.ensures.sends _ c.in-Ok.ensures.ok
 
 pub returns-in-Err-clause-sends : goal.returns-in-Err-clause-sends
-returns-in-Err-clause-sends g c = sends_none c.args.out.now _ (Err c.whole.result) (c.whole.ensures.value ∙ ap whole c.in-Err.ensures.err)
+returns-in-Err-clause-sends g c = sends_none (g.O.Output.seen c.args.out.now) _ (Err c.whole.result) (c.whole.ensures.value ∙ ap whole c.in-Err.ensures.err)

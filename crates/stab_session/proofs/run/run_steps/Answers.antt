@@ -1,7 +1,7 @@
 use Rattle.std.proofs.Common.{arith, ap, subst, sym, ◌∙◌, length}
 use Rattle.stab_circuit.specs.Cursors.{step_shown}
 use Rattle.stab_session.specs.Points.{all_coins_of}
-use Rattle.stab_session.specs.Sights.{IsRun, sight, output_of}
+use Rattle.stab_session.specs.inner.Sights.{IsRun, sight, output_of}
 use Rattle.stab_session.proofs.RunLemmas.{IsRun-none, fits-rest, run-rest}
 use Rattle.stab_session.proofs.run.run_steps.Goals as goal
 
@@ -18,6 +18,7 @@ loop-step-preserved g c =
       counted = omega (arith, ap length more, done.counted, inv.counted);
       all = c.next.ensures.all ∙ inv.all;
       qubits = done.qubits ∙ inv.qubits;
+      string = done.string ∙ inv.string;
       same_coins = done.same_coins ∙ inv.same_coins;
       asks = omega (arith, ap all_coins_of more, done.asks, inv.asks);
       asks_free = omega (arith, done.asks_free, inv.asks_free);

@@ -1,15 +1,16 @@
 use Rattle.std.proofs.Common.{◌≡◌, ◌+◌, ◌≤◌, All, length}
 use Rattle.stab_session.specs.Records.{ones}
 use Rattle.stab_session.specs.Points.{all_coins_of}
-use Rattle.stab_session.specs.Sights.{Sight, Fits, IsRun, sight, output_of}
+use Rattle.stab_session.specs.inner.Sights.{Sight, StepFits, IsRun, sight, output_of}
 use Rattle.stab_session.proofs.run.run_steps.Given as goal
 
 abbrev pub invariant-loop-step : goal.invariant-loop-step
 invariant-loop-step g l = record {
-  fits : All (Fits l.tableau.qubits) l.cursor.left;
+  fits : All (StepFits l.tableau.qubits) l.cursor.left;
   counted : l.applied + length l.cursor.left ≡ l.initial.applied + length l.initial.cursor.left;
   all : l.cursor.all ≡ l.initial.cursor.all;
   qubits : l.tableau.qubits ≡ l.initial.tableau.qubits;
+  string : length l.string.letters ≡ length l.initial.string.letters;
   same_coins : g.C.Coins.sequence l.coins ≡ g.C.Coins.sequence l.initial.coins;
   asks : g.C.Coins.asks l.coins + all_coins_of l.cursor.left ≤ g.C.Coins.asks l.initial.coins + all_coins_of l.initial.cursor.left;
   asks_free : g.C.Coins.asks l.coins + ones l.initial.outputs.free.items ≤ g.C.Coins.asks l.initial.coins + ones l.outputs.free.items;

@@ -1,14 +1,13 @@
-use Rattle.std.proofs.Common.{rules, codes, true}
+use Rattle.std.proofs.Common.{rules}
 use Rattle.std.proofs.lemmas.Result.{IfOk-weaker}
-use Rattle.clap.specs.Words.{new_app}
-use Rattle.clap.specs.Simple.{on_top}
-use Rattle.stab_cli.specs.Options.{IsApp}
+use Rattle.stab_cli.specs.Options.{bare}
+use Rattle.stab_cli.specs.inner.Parts.{IsApp}
 use Rattle.stab_cli.proofs.CommandLaws.{with_command, with_option}
 use Rattle.stab_cli.proofs.words.app.app.Goals as goal
 
 pub returns : goal.returns
 returns c =
     let detect = with_option _ c.in_ok-detect.detect c.flag-append.result _ _ c.in_ok-detect.ensures c.flag-append.ensures.rule c.in_ok-shot_command.ensures.app in
-    let none : IsApp (on_top (λ s. record s { subcommand_required = true }) (new_app (codes "stabsim"))) c.subcommand_required.result = search rules in
+    let none : IsApp bare c.subcommand_required.result = search rules in
     let first = with_command _ c.in_ok-subcommand.field-0 c.in_ok-sample.sample _ _ c.in_ok-subcommand.ensures c.in_ok-sample.ensures.app none in
     record { app = IfOk-weaker c.subcommand-2.result _ _ (λ command adds. with_command _ command c.in_ok-detect.detect _ _ adds detect first) c.subcommand-2.ensures }

@@ -5,7 +5,7 @@ use Rattle.stab_circuit.specs.Cursors.{IsApart}
 use Rattle.stab_session.specs.Runs.{run_of}
 use Rattle.stab_session.specs.Points.{with_additions}
 use Rattle.stab_session.specs.Laws.{DependsOnCoinsAt}
-use Rattle.stab_session.specs.Sights.{Fits, IsRun, sight, output_of}
+use Rattle.stab_session.specs.inner.Sights.{StepFits, IsRun, sight, output_of}
 use Rattle.stab_session.specs.Samplers.{SamplerState}
 use Rattle.stab_session.proofs.FitLemmas.{check-fits, check-steps, check-whole}
 use Rattle.stab_session.proofs.ShotLemmas.{run-lists, HasLists}
@@ -16,7 +16,7 @@ pub run_steps-requires-clause-fits : goal.run_steps-requires-clause-fits
 run_steps-requires-clause-fits g c =
     let ready = c.self.invariant in
     let left = c.restart.new.self.left in
-    subst (λ n. All (Fits n) left) (sym c.reset.ensures.qubits)
+    subst (λ n. All (StepFits n) left) (sym c.reset.ensures.qubits)
     (check-fits c.self.inside.tableau.qubits (circuit_items c.self.inside.circuit.now) left ready.checked (c.restart.ensures.left ∙ ready.unrolled)
     (subst (All IsApart) (sym c.restart.ensures.left) ready.apart))
 

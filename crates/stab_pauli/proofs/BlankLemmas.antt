@@ -1,0 +1,101 @@
+-- Words of zeros are letters I.
+use Rattle.std.proofs.Common.{◌≡◌, ℕ, zero, suc, ◌+◌, ◌-◌, ◌*◌, ◌≤◌, Bool, false, refl, sym, ◌∙◌, ap, List, ◌∷◌, ◌++◌, length, take, drop, replicate, arith, subst}
+use Rattle.std.specs.List.{All}
+use Rattle.std.specs.Simd.Lanes.{zip2}
+use Rattle.std.proofs.lemmas.List.{length-replicate}
+use Rattle.std.proofs.lemmas.List.Elements.{All-nil, All-cons}
+use Rattle.stab_pauli.specs.declared.letter.Letter.{Letter}
+use Rattle.stab_pauli.specs.declared.letter.Letter.TheVariants.{I}
+use Rattle.stab_pauli.specs.Paulis.{Signed, identity}
+use Rattle.stab_pauli.specs.inner.Words.{word_letters, packed_letters}
+use Rattle.stab_pauli.specs.inner.Blocks.{row_letters, full_rows, AreBlocks, IsPadded, IsTable, table, signed_row}
+
+replicate-append : {A : Type 0} (a b : ℕ) (x : A) → replicate a x ++ replicate b x ≡ replicate (a + b) x
+replicate-append zero b x = let e : b ≡ 0 + b = omega arith in ap (λ n. replicate n x) e
+replicate-append (suc a) b x = let e : suc (a + b) ≡ suc a + b = omega arith in ap (λ t. x ∷ t) (replicate-append a b x) ∙ ap (λ n. replicate n x) e
+
+pub take-replicate : {A : Type 0} (k n : ℕ) (x : A) → k ≤ n → take k (replicate n x) ≡ replicate k x
+take-replicate zero n x le = refl
+take-replicate (suc k) zero x le = absurd (omega arith)
+take-replicate (suc k) (suc n) x le = ap (λ t. x ∷ t) (take-replicate k n x (omega arith))
+
+pub drop-replicate : {A : Type 0} (k n m : ℕ) (x : A) → k + m ≡ n → drop k (replicate n x) ≡ replicate m x
+drop-replicate zero n m x e = let d : n ≡ m = omega arith in ap (λ n. replicate n x) d
+drop-replicate (suc k) zero m x e = absurd (omega arith)
+drop-replicate (suc k) (suc n) m x e = drop-replicate k n m x (omega arith)
+
+word_letters-none : (k : ℕ) → word_letters k 0 0 ≡ replicate k I
+unfolding word_letters
+word_letters-none zero = refl
+word_letters-none (suc k) = ap (λ t. I ∷ t) (word_letters-none k)
+
+packed-none : (k j : ℕ) → packed_letters k (replicate j 0) (replicate j 0) ≡ replicate (j * k) I
+packed-none k zero = let e : 0 ≡ 0 * k = omega arith in ap (λ n. replicate n I) e
+packed-none k (suc j) =
+    (λ i. word_letters-none k i ++ packed-none k j i) ∙ replicate-append k (j * k) I ∙ ap (λ n. replicate n I) (suc_times j)
+  where
+    suc_times : (n : ℕ) → k + n * k ≡ suc n * k
+    suc_times n = grind arith
+
+block-none : (k j c : ℕ) (xs zs : List ℕ) → xs ≡ replicate j 0 → zs ≡ replicate j 0 → packed_letters k xs zs ++ replicate c I ≡ replicate (j * k + c) I
+block-none k j c xs zs ex ez = (λ i. packed_letters k (ex i) (ez i) ++ replicate c I) ∙ ap (λ t. t ++ replicate c I) (packed-none k j) ∙ replicate-append (j * k) c I
+
+-- the blocks of n letters hold them
+pub fits : (n m : ℕ) → AreBlocks n m → n ≤ 256 * m
+fits n m e = let c = e.count in omega arith
+
+pub row-none : (m : ℕ) (row : List ℕ) → row ≡ replicate (8 * m) 0 → row_letters m row ≡ replicate (256 * m) I
+row-none zero row e = refl
+row-none (suc m) row e =
+    ap (λ t. packed_letters 64 (take 4 row) (take 4 (drop 4 row)) ++ t) (row-none m (drop 8 row) (ap (drop 8) e ∙ drop-replicate 8 (8 * suc m) (8 * m) 0 (omega arith)))
+    ∙ block-none 64 4 (256 * m) (take 4 row) (take 4 (drop 4 row))
+    (ap (take 4) e ∙ take-replicate 4 (8 * suc m) 0 (omega arith))
+    (ap (λ r. take 4 (drop 4 r)) e ∙ ap (take 4) (drop-replicate 4 (8 * suc m) (8 * m + 4) 0 (omega arith)) ∙ take-replicate 4 (8 * m + 4) 0 (omega arith))
+    ∙ ap (λ n. replicate n I) (next m)
+  where
+    next : (n : ℕ) → 256 + 256 * n ≡ 256 * suc n
+    next n = omega arith
+
+pub full_rows-none : (m count : ℕ) (ws : List ℕ) → ws ≡ replicate (8 * m * count) 0 → full_rows m ws count ≡ replicate count (replicate (256 * m) I)
+full_rows-none m zero ws e = refl
+full_rows-none m (suc count) ws e =
+    λ i. row-none m (take (8 * m) ws) (ap (take (8 * m)) e ∙ take-replicate (8 * m) (8 * m * suc count) 0 fits) i
+    ∷ full_rows-none m count (drop (8 * m) ws) (ap (drop (8 * m)) e ∙ drop-replicate (8 * m) (8 * m * suc count) (8 * m * count) 0 parts) i
+  where
+    parts : 8 * m + 8 * m * count ≡ 8 * m * suc count
+    parts = grind arith
+
+    fits : 8 * m ≤ 8 * m * suc count
+    fits = grind arith
+
+zip2-replicate : {A B C : Type 0} (f : A → B → C) (n : ℕ) (a : A) (b : B) → zip2 f (replicate n a) (replicate n b) ≡ replicate n (f a b)
+zip2-replicate f zero a b = refl
+zip2-replicate f (suc n) a b = ap (λ t. f a b ∷ t) (zip2-replicate f n a b)
+
+all-replicate : (n m count : ℕ) → n ≤ 256 * m → All (IsPadded n m) (replicate count (replicate (256 * m) I))
+all-replicate n m zero le = All-nil (IsPadded n m)
+all-replicate n m (suc count) le =
+    All-cons (IsPadded n m) (replicate (256 * m) I) (replicate count (replicate (256 * m) I)) (drop-replicate n (256 * m) (256 * m - n) I (omega arith)) (all-replicate n m count le)
+
+pub IsTable-none : (n m count : ℕ) (ws : List ℕ) (ss : List Bool) → AreBlocks n m → ws ≡ replicate (8 * m * count) 0 → ss ≡ replicate count false → IsTable n m ws ss
+IsTable-none n m count ws ss eb ew es = record {
+  blocks = eb;
+  size = ap length ew ∙ length-replicate (8 * m * count) 0 ∙ ap (λ c. 8 * m * c) (sym ls);
+  padded = subst (All (IsPadded n m)) (sym (ap (full_rows m ws) ls ∙ full_rows-none m count ws ew)) (all-replicate n m count (fits n m eb));
+}
+  where
+    ls : length ss ≡ count
+    ls = ap length es ∙ length-replicate count false
+
+pub table-none : (n m count : ℕ) (ws : List ℕ) (ss : List Bool) → n ≤ 256 * m → ws ≡ replicate (8 * m * count) 0 → ss ≡ replicate count false → table n m ws ss ≡ record { qubits = n; rows = replicate count (identity n) }
+table-none n m count ws ss le ew es =
+    λ i. record {
+      qubits = n;
+      rows =
+          ((λ j. zip2 (signed_row n) (es j) ((ap (full_rows m ws) (ap length es ∙ length-replicate count false) ∙ full_rows-none m count ws ew) j))
+          ∙ zip2-replicate (signed_row n) count false (replicate (256 * m) I)
+          ∙ ap (λ (l : List Letter). replicate count (the_row l)) (take-replicate n (256 * m) I le)) i;
+    }
+  where
+    the_row : List Letter → Signed
+    the_row l = record { negative = false; letters = l }

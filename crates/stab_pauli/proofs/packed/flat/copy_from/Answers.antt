@@ -1,0 +1,15 @@
+use Rattle.std.proofs.Common.{arith, ◌≡◌, ◌∙◌, length, ◌+◌, ◌-◌, ◌*◌}
+use Rattle.std.specs.Simd.Lanes.{put_chunk}
+use Rattle.std.proofs.lemmas.Grind.{common_steps}
+use Rattle.stab_pauli.proofs.RowLemmas.{put_middle}
+use Rattle.stab_pauli.proofs.packed.flat.copy_from.Goals as goal
+
+pub returns : goal.returns
+returns c =
+    let r : c.copy_from_slice.new.self ≡ c.args.other.now = grind (arith, common_steps) in
+    let l : length c.copy_from_slice.new.self ≡ c.place_of-at.result + 8 * c.args.blocks - c.place_of-at.result = grind (arith, common_steps) in
+    record {
+      words =
+          put_middle c.place_of-at.result (c.place_of-at.result + 8 * c.args.blocks - c.place_of-at.result) c.args.words.now c.copy_from_slice.new.self l (omega arith)
+          ∙ (λ i. put_chunk (c.place_of-at.ensures.value i) c.args.words.now (r i));
+    }

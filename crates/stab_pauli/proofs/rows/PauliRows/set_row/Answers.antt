@@ -1,0 +1,48 @@
+use Rattle.std.proofs.Common.{arith, ◌≡◌, ◌∙◌, ◌*◌, ap, subst, length, ℕ, List}
+use Rattle.std.specs.Simd.Lanes.{put_chunk}
+use Rattle.stab_pauli.proofs.PaddedLemmas.{IsView}
+use Rattle.stab_pauli.proofs.SeenLemmas.{IsSeen, in_seen, put_seen, written_seen, fitting}
+use Rattle.stab_pauli.proofs.rows.PauliRows.set_row.Goals as goal
+
+pub copy_from-requires-clause-in_range : goal.copy_from-requires-clause-in_range
+copy_from-requires-clause-in_range c =
+    let mine : IsSeen c.self.inside.qubits c.self.inside.blocks c.self.inside.words.items c.self.inside.signs.items c.args.self.now = record { lies = c.self.invariant; is = c.self.view_is } in
+    let lt = in_seen mine c.args.a c.requires.in_range in
+    let k = c.self.inside.signs.ok.0 in
+    omega arith
+
+pub copy_from-requires-clause-other_length : goal.copy_from-requires-clause-other_length
+copy_from-requires-clause-other_length c =
+    let mine : IsSeen c.self.inside.qubits c.self.inside.blocks c.self.inside.words.items c.self.inside.signs.items c.args.self.now = record { lies = c.self.invariant; is = c.self.view_is } in
+    let theirs : IsView c.other.inside.qubits c.other.inside.blocks c.other.inside.words.items c.other.inside.negative c.args.other.now = record { row = c.other.invariant; is = c.other.view_is } in
+    let fit = fitting mine theirs c.requires.same_length in
+    ap length c.as_slice.ensures.value ∙ fit.view.row.size
+
+pub index_mut-requires : goal.index_mut-requires
+index_mut-requires c =
+    let mine : IsSeen c.self.inside.qubits c.self.inside.blocks c.self.inside.words.items c.self.inside.signs.items c.args.self.now = record { lies = c.self.invariant; is = c.self.view_is } in
+    let lt = in_seen mine c.args.a c.requires.in_range in
+    let k = c.self.inside.signs.ok.0 in
+    omega arith
+
+pub invariant_of-self : goal.invariant_of-self
+invariant_of-self c =
+    let mine : IsSeen c.self.inside.qubits c.self.inside.blocks c.self.inside.words.items c.self.inside.signs.items c.args.self.now = record { lies = c.self.invariant; is = c.self.view_is } in
+    let theirs : IsView c.other.inside.qubits c.other.inside.blocks c.other.inside.words.items c.other.inside.negative c.args.other.now = record { row = c.other.invariant; is = c.other.view_is } in
+    let fit = fitting mine theirs c.requires.same_length in
+    let la = in_seen mine c.args.a c.requires.in_range in
+    let words = subst (λ (w : List ℕ). c.copy_from.new.words ≡ put_chunk (8 * c.self.inside.blocks * c.args.a) w c.other.inside.words.items) c.as_mut_slice-words.ensures.value
+    (subst (λ (o : List ℕ). c.copy_from.new.words ≡ put_chunk (8 * c.self.inside.blocks * c.args.a) c.as_mut_slice-words.result.now o) c.as_slice.ensures.value c.copy_from.ensures.words) in
+    let seen = written_seen c.self.inside.words.items c.copy_from.new.words c.other.inside.words.items (8 * c.self.inside.blocks * c.args.a) c.self.inside.words.len words c.self.inside.words.ok.0 (put_seen mine c.args.a la fit.view) in
+    seen.lies
+
+pub returns : goal.returns
+returns c =
+    let mine : IsSeen c.self.inside.qubits c.self.inside.blocks c.self.inside.words.items c.self.inside.signs.items c.args.self.now = record { lies = c.self.invariant; is = c.self.view_is } in
+    let theirs : IsView c.other.inside.qubits c.other.inside.blocks c.other.inside.words.items c.other.inside.negative c.args.other.now = record { row = c.other.invariant; is = c.other.view_is } in
+    let fit = fitting mine theirs c.requires.same_length in
+    let la = in_seen mine c.args.a c.requires.in_range in
+    let words = subst (λ (w : List ℕ). c.copy_from.new.words ≡ put_chunk (8 * c.self.inside.blocks * c.args.a) w c.other.inside.words.items) c.as_mut_slice-words.ensures.value
+    (subst (λ (o : List ℕ). c.copy_from.new.words ≡ put_chunk (8 * c.self.inside.blocks * c.args.a) c.as_mut_slice-words.result.now o) c.as_slice.ensures.value c.copy_from.ensures.words) in
+    let seen = written_seen c.self.inside.words.items c.copy_from.new.words c.other.inside.words.items (8 * c.self.inside.blocks * c.args.a) c.self.inside.words.len words c.self.inside.words.ok.0 (put_seen mine c.args.a la fit.view) in
+    record { value = seen.is }

@@ -1,0 +1,39 @@
+-- Several signed Pauli strings of one length, side by side.
+use Rattle.std.specs.Prelude.{ℕ, ◌≡◌, ◌<◌, List, length, map, slice_index_or, slice_set}
+use Rattle.stab_pauli.specs.declared.letter.Letter.{Letter}
+use Rattle.stab_pauli.specs.declared.turn.Turn.TheVariants.{Quarter}
+use Rattle.stab_pauli.specs.Turns.{turn_add, sign_of_turn}
+use Rattle.stab_pauli.specs.Paulis.{Signed, identity, product_turn, string_product}
+
+-- signed strings of one length
+pub record Rows : Type 0 where
+  pub qubits : ℕ
+  pub rows : List Signed
+
+-- one of them
+abbrev pub row_at : Rows → ℕ → Signed
+row_at r a = slice_index_or r.rows a (identity r.qubits)
+
+-- another string in the place of one
+abbrev pub with_row : Rows → ℕ → Signed → Rows
+with_row r a p = record { qubits = r.qubits; rows = slice_set r.rows a p }
+
+-- another letter at a qubit
+abbrev pub with_letter : ℕ → Letter → Signed → Signed
+with_letter qubit letter p = record { negative = p.negative; letters = slice_set p.letters qubit letter }
+
+-- each has a letter for each qubit
+abbrev pub AreOver : Rows → Type 0
+AreOver r = (a : ℕ) → a < length r.rows → length (row_at r a).letters ≡ r.qubits
+
+-- two that have changed places
+abbrev pub swapped_rows : Rows → ℕ → ℕ → Rows
+swapped_rows r a b = with_row (with_row r a (row_at r b)) b (row_at r a)
+
+-- the letters without the signs
+abbrev pub unsigned_rows : Rows → List (List Letter)
+unsigned_rows r = map (λ p. p.letters) r.rows
+
+-- i times the product of two strings that anticommute
+abbrev pub turned_product : Signed → Signed → Signed
+turned_product p q = record { negative = sign_of_turn (turn_add Quarter (product_turn p q)); letters = string_product p.letters q.letters }

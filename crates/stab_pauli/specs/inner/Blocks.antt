@@ -1,0 +1,69 @@
+-- Rows of blocks: 256 letters to 8 words, four words with their X bits and then four with their Z bits.
+use Rattle.std.specs.List.{All}
+use Rattle.std.specs.Simd.Lanes.{zip2, chunk, put_chunk}
+use Rattle.std.specs.Prelude.{◌≡◌, ℕ, zero, suc, ◌+◌, ◌*◌, ◌-◌, ◌/◌, ◌^◌, ◌≤◌, length, Bool, List, [], ◌∷◌, ◌++◌, take, drop, replicate, slice_index_or, ◌<◌, true, false}
+use Rattle.stab_pauli.specs.declared.letter.Letter.{Letter}
+use Rattle.stab_pauli.specs.declared.letter.Letter.TheVariants.{I}
+use Rattle.stab_pauli.specs.Flips.{flips}
+use Rattle.stab_pauli.specs.Paulis.{Signed}
+use Rattle.stab_pauli.specs.Rows.{Rows}
+use Rattle.stab_pauli.specs.inner.Words.{packed_letters}
+
+-- how many blocks n letters take
+abbrev pub blocks_of : ℕ → ℕ
+blocks_of n = (n + 255) / 256
+
+-- m blocks for n letters, n being a number of the machine
+pub record AreBlocks (n m : ℕ) : Type 0 where
+  pub count : m ≡ blocks_of n
+  pub few : m ≤ 2 ^ 56
+
+-- the letters of m blocks
+abbrev pub row_letters : ℕ → List ℕ → List Letter
+row_letters zero row = []
+row_letters (suc m) row = packed_letters 64 (take 4 row) (take 4 (drop 4 row)) ++ row_letters m (drop 8 row)
+
+-- the letters after the first n are I
+abbrev pub IsPadded : ℕ → ℕ → List Letter → Type 0
+IsPadded n m letters = drop n letters ≡ replicate (256 * m - n) I
+
+-- no letter before the place flips a bit
+abbrev pub FlipsNoneBefore : ℕ → List Letter → Type 0
+FlipsNoneBefore k letters = (j : ℕ) → j < k → flips (slice_index_or letters j I) ≡ false
+
+-- the first of so many letters that flips a bit
+pub record IsFirstFlip (size : ℕ) (letters : List Letter) (k : ℕ) : Type 0 where
+  pub in_range : k < size
+  pub flips_here : flips (slice_index_or letters k I) ≡ true
+  pub first : FlipsNoneBefore k letters
+
+-- words that lie as one row of m blocks, for n letters
+pub record IsRow (n m : ℕ) (row : List ℕ) : Type 0 where
+  pub blocks : AreBlocks n m
+  pub size : length row ≡ 8 * m
+  pub padded : IsPadded n m (row_letters m row)
+
+-- the first n letters, with a sign
+abbrev pub signed_row : ℕ → Bool → List Letter → Signed
+signed_row n negative letters = record { negative = negative; letters = take n letters }
+
+-- the letters of the rows that lie in the words, one after another, each of m blocks
+abbrev pub full_rows : ℕ → List ℕ → ℕ → List (List Letter)
+full_rows m words zero = []
+full_rows m words (suc count) = row_letters m (take (8 * m) words) ∷ full_rows m (drop (8 * m) words) count
+
+-- words and signs that lie as rows of m blocks, for n letters each
+pub record IsTable (n m : ℕ) (words : List ℕ) (signs : List Bool) : Type 0 where
+  pub blocks : AreBlocks n m
+  pub size : length words ≡ 8 * m * length signs
+  pub padded : All (IsPadded n m) (full_rows m words (length signs))
+
+-- what they stand for
+abbrev pub table : ℕ → ℕ → List ℕ → List Bool → Rows
+table n m words signs = record { qubits = n; rows = zip2 (signed_row n) signs (full_rows m words (length signs)) }
+
+-- the size words from k on are others, of which P holds, and all else is as it was
+pub record IsRewritten (k size : ℕ) (old new : List ℕ) (P : List ℕ → Type 0) : Type 0 where
+  pub words : new ≡ put_chunk k old (chunk k size new)
+  pub size_is : length (chunk k size new) ≡ size
+  pub holds : P (chunk k size new)

@@ -1,0 +1,174 @@
+//! Rows that lie side by side in one slice of words.
+
+ghost use Rattle.std.specs.Prelude.{◌≡◌, ◌≢◌, ◌+◌, ◌*◌, ◌<◌, ◌≤◌, ◌⊎◌, ◌↔◌, IsTrue, length, replicate, slice_set};
+ghost use Rattle.std.specs.Simd.Lanes.{chunk, put_chunk};
+ghost use Rattle.stab_pauli.specs.Paulis.{string_turn};
+ghost use Rattle.stab_pauli.specs.inner.Words.{xor_words, swapped_words, AreShort};
+ghost use Rattle.stab_pauli.specs.inner.Blocks.{row_letters, IsRewritten};
+
+use crate::letter::Letter;
+use crate::packed::row;
+use crate::turn::Turn;
+use std::simd::u64x4;
+
+/// Where the words of row a of so many rows begin.
+#[inline(always)]
+pub(crate) fn place_of(size: usize, count: usize, blocks: usize, a: usize) -> usize
+    requires in_range { a < count }
+    requires all { size ≡ 8 * blocks * count }
+    ensures value { result ≡ 8 * blocks * a }
+    ensures inside { result + 8 * blocks ≤ size }
+{
+    8 * blocks * a
+}
+
+/// The words of row a.
+#[inline(always)]
+pub(crate) fn row_of(words: &[u64], count: usize, blocks: usize, a: usize) -> &[u64]
+    requires all { length words.now ≡ 8 * blocks * count }
+    requires in_range { a < count }
+    ensures value { result.now ≡ chunk (8 * blocks * a) (8 * blocks) words.now }
+    ensures size { length result.now ≡ 8 * blocks }
+{
+    let at = place_of(words.len(), count, blocks, a);
+    &words[at..at + 8 * blocks]
+}
+
+/// Multiplies row a of so many rows by row b.
+#[inline(always)]
+pub(crate) fn multiply(words: &mut [u64], count: usize, blocks: usize, a: usize, b: usize) -> Turn
+    requires all { length words.old ≡ 8 * blocks * count }
+    requires a_in_range { a < count }
+    requires b_in_range { b < count }
+    requires apart { a ≢ b }
+    ensures words { words.new ≡ put_chunk (8 * blocks * a) words.old (xor_words (chunk (8 * blocks * a) (8 * blocks) words.old) (chunk (8 * blocks * b) (8 * blocks) words.old)) }
+    ensures turn { result ≡ string_turn (row_letters blocks (chunk (8 * blocks * a) (8 * blocks) words.old)) (row_letters blocks (chunk (8 * blocks * b) (8 * blocks) words.old)) }
+{
+    let size = words.len();
+    let first = place_of(size, count, blocks, a);
+    let second = place_of(size, count, blocks, b);
+    multiply_at(words, blocks, first, second)
+}
+
+/// Multiplies the row of so many blocks at word a by the one at word b, which it does not overlap.
+#[inline(always)]
+fn multiply_at(words: &mut [u64], blocks: usize, a: usize, b: usize) -> Turn
+    requires a_fits { a + 8 * blocks ≤ length words.old }
+    requires b_fits { b + 8 * blocks ≤ length words.old }
+    requires apart { (a + 8 * blocks ≤ b) ⊎ (b + 8 * blocks ≤ a) }
+    ensures words { words.new ≡ put_chunk a words.old (xor_words (chunk a (8 * blocks) words.old) (chunk b (8 * blocks) words.old)) }
+    ensures turn { result ≡ string_turn (row_letters blocks (chunk a (8 * blocks) words.old)) (row_letters blocks (chunk b (8 * blocks) words.old)) }
+{
+    let size = 8 * blocks;
+    if a < b {
+        let (front, back) = words.split_at_mut(b);
+        row::multiply(blocks, &mut front[a..a + size], &back[..size])
+    } else {
+        let (front, back) = words.split_at_mut(a);
+        row::multiply(blocks, &mut back[..size], &front[b..b + size])
+    }
+}
+
+/// Multiplies row a by another row.
+#[inline(always)]
+pub(crate) fn multiply_by(
+    words: &mut [u64],
+    count: usize,
+    blocks: usize,
+    a: usize,
+    other: &[u64],
+) -> Turn
+    requires all { length words.old ≡ 8 * blocks * count }
+    requires in_range { a < count }
+    requires other_length { length other.now ≡ 8 * blocks }
+    ensures words { words.new ≡ put_chunk (8 * blocks * a) words.old (xor_words (chunk (8 * blocks * a) (8 * blocks) words.old) other.now) }
+    ensures turn { result ≡ string_turn (row_letters blocks (chunk (8 * blocks * a) (8 * blocks) words.old)) (row_letters blocks other.now) }
+{
+    let at = place_of(words.len(), count, blocks, a);
+    row::multiply(blocks, &mut words[at..at + 8 * blocks], other)
+}
+
+/// Makes row a another row.
+#[inline(always)]
+pub(crate) fn copy_from(words: &mut [u64], count: usize, blocks: usize, a: usize, other: &[u64])
+    requires all { length words.old ≡ 8 * blocks * count }
+    requires in_range { a < count }
+    requires other_length { length other.now ≡ 8 * blocks }
+    ensures words { words.new ≡ put_chunk (8 * blocks * a) words.old other.now }
+{
+    let at = place_of(words.len(), count, blocks, a);
+    words[at..at + 8 * blocks].copy_from_slice(other);
+}
+
+/// Makes row a letters I.
+#[inline(always)]
+pub(crate) fn clear(words: &mut [u64], count: usize, blocks: usize, a: usize)
+    requires all { length words.old ≡ 8 * blocks * count }
+    requires in_range { a < count }
+    ensures words { words.new ≡ put_chunk (8 * blocks * a) words.old (replicate (8 * blocks) 0) }
+{
+    let at = place_of(words.len(), count, blocks, a);
+    words[at..at + 8 * blocks].fill(0);
+}
+
+/// Puts a letter at a place of row a.
+#[inline(always)]
+pub(crate) fn set(
+    words: &mut [u64],
+    count: usize,
+    blocks: usize,
+    a: usize,
+    qubit: usize,
+    letter: Letter,
+)
+    requires all { length words.old ≡ 8 * blocks * count }
+    requires in_range { a < count }
+    requires qubit_in_range { qubit < 256 * blocks }
+    ensures words { IsRewritten (8 * blocks * a) (8 * blocks) words.old words.new (λ new. row_letters blocks new ≡ slice_set (row_letters blocks (chunk (8 * blocks * a) (8 * blocks) words.old)) qubit letter) }
+{
+    let at = place_of(words.len(), count, blocks, a);
+    row::set(blocks, &mut words[at..at + 8 * blocks], qubit, letter);
+}
+
+/// Exchanges row a and row b.
+#[inline(always)]
+pub(crate) fn swap(words: &mut [u64], count: usize, blocks: usize, a: usize, b: usize)
+    requires all { length words.old ≡ 8 * blocks * count }
+    requires a_in_range { a < count }
+    requires b_in_range { b < count }
+    requires apart { a ≢ b }
+    ensures words { words.new ≡ swapped_words (8 * blocks * a) (8 * blocks * b) (8 * blocks) words.old }
+{
+    let size = words.len();
+    let first = place_of(size, count, blocks, a);
+    let second = place_of(size, count, blocks, b);
+    swap_at(words, blocks, first, second);
+}
+
+/// Exchanges the rows of so many blocks at word a and at word b, which do not overlap.
+#[inline(always)]
+fn swap_at(words: &mut [u64], blocks: usize, a: usize, b: usize)
+    requires a_fits { a + 8 * blocks ≤ length words.old }
+    requires b_fits { b + 8 * blocks ≤ length words.old }
+    requires apart { (a + 8 * blocks ≤ b) ⊎ (b + 8 * blocks ≤ a) }
+    ensures words { words.new ≡ swapped_words a b (8 * blocks) words.old }
+{
+    for half in 0..2 * blocks {
+        let first = u64x4::from_slice(&words[a + 4 * half..]);
+        let second = u64x4::from_slice(&words[b + 4 * half..]);
+        second.copy_to_slice(&mut words[a + 4 * half..]);
+        first.copy_to_slice(&mut words[b + 4 * half..]);
+    }
+}
+
+/// Whether both are the same words. That words have 64 bits is known of slices at hand, and handed back to the caller.
+#[inline(always)]
+pub(crate) fn same(words: &[u64], others: &[u64]) -> bool
+    requires are_short { AreShort 64 words.now }
+    requires others_are_short { AreShort 64 others.now }
+    ensures value { IsTrue result ↔ (words.now ≡ others.now) }
+    ensures short { AreShort 64 words.now }
+    ensures others_short { AreShort 64 others.now }
+{
+    words == others
+}

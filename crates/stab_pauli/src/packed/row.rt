@@ -1,0 +1,199 @@
+//! The words of one string, in blocks.
+
+ghost use Rattle.std.specs.Prelude.{◌≡◌, ◌≢◌, ℕ, ◌+◌, ◌*◌, ◌/◌, ◌%◌, ◌^◌, ◌<◌, ◌≤◌, length, slice_index_or, slice_set, eqb, IfSome, IfNone};
+ghost use Rattle.std.specs.Int.{bit_at};
+ghost use Rattle.stab_pauli.specs.declared.letter.Letter.TheVariants.{I};
+ghost use Rattle.stab_pauli.specs.Turns.{turn_add, sign_turn, sign_of_turn};
+ghost use Rattle.stab_pauli.specs.Flips.{flips};
+ghost use Rattle.stab_pauli.specs.Paulis.{string_turn, strings_anticommute};
+ghost use Rattle.stab_pauli.specs.inner.Words.{xor_words, letter_of_bits};
+ghost use Rattle.stab_pauli.specs.inner.Blocks.{row_letters, AreBlocks, FlipsNoneBefore, IsFirstFlip};
+
+use crate::letter::Letter;
+use crate::packed::counters::WideCounters;
+use crate::turn::Turn;
+use std::simd::u64x4;
+
+/// How many blocks n letters take.
+#[inline(always)]
+pub(crate) fn blocks_of(n: usize) -> usize
+    ensures value { AreBlocks n result }
+{
+    n / 256 + (n % 256 + 255) / 256
+}
+
+/// The sign of a product by the signs of both and the power of i of their letters.
+#[inline(always)]
+pub(crate) fn product_sign(first: bool, second: bool, turn: Turn) -> bool
+    ensures value { result ≡ sign_of_turn (turn_add (turn_add (sign_turn first) (sign_turn second)) turn) }
+{
+    first ^ second ^ turn.sign()
+}
+
+/// Makes a row of so many blocks the product of itself and another, and gives its power of i.
+#[inline(always)]
+pub(crate) fn multiply(blocks: usize, row: &mut [u64], other: &[u64]) -> Turn
+    requires length { length row.old ≡ 8 * blocks }
+    requires other_length { length other.now ≡ 8 * blocks }
+    ensures words { row.new ≡ xor_words row.old other.now }
+    ensures turn { result ≡ string_turn (row_letters blocks row.old) (row_letters blocks other.now) }
+{
+    let mut counters = WideCounters::new();
+    for block in 0..blocks {
+        let at = 8 * block;
+        let x = u64x4::from_slice(&row[at..]);
+        let z = u64x4::from_slice(&row[at + 4..]);
+        let other_x = u64x4::from_slice(&other[at..]);
+        let other_z = u64x4::from_slice(&other[at + 4..]);
+        counters = counters.after(x, z, other_x, other_z);
+        (x ^ other_x).copy_to_slice(&mut row[at..]);
+        (z ^ other_z).copy_to_slice(&mut row[at + 4..]);
+    }
+    counters.turn()
+}
+
+/// Whether two rows of so many blocks anticommute.
+#[inline(always)]
+pub(crate) fn anticommute(blocks: usize, row: &[u64], other: &[u64]) -> bool
+    requires length { length row.now ≡ 8 * blocks }
+    requires other_length { length other.now ≡ 8 * blocks }
+    ensures value { result ≡ strings_anticommute (row_letters blocks row.now) (row_letters blocks other.now) }
+{
+    let mut counters = WideCounters::new();
+    for block in 0..blocks {
+        let at = 8 * block;
+        let x = u64x4::from_slice(&row[at..]);
+        let z = u64x4::from_slice(&row[at + 4..]);
+        let other_x = u64x4::from_slice(&other[at..]);
+        let other_z = u64x4::from_slice(&other[at + 4..]);
+        counters = counters.after(x, z, other_x, other_z);
+    }
+    !counters.turn().is_even()
+}
+
+/// The letter at a place of a row of so many blocks.
+#[inline(always)]
+pub(crate) fn letter(blocks: usize, row: &[u64], qubit: usize) -> Letter
+    requires length { length row.now ≡ 8 * blocks }
+    requires in_range { qubit < 256 * blocks }
+    ensures value { result ≡ slice_index_or (row_letters blocks row.now) qubit I }
+{
+    let at = x_word(qubit);
+    let bit = qubit % 64;
+    letter_of(bit_of(row[at], bit), bit_of(row[at + 4], bit))
+}
+
+/// Puts a letter at a place of a row of so many blocks.
+#[inline(always)]
+pub(crate) fn set(blocks: usize, row: &mut [u64], qubit: usize, letter: Letter)
+    requires length { length row.old ≡ 8 * blocks }
+    requires in_range { qubit < 256 * blocks }
+    ensures size { length row.new ≡ 8 * blocks }
+    ensures letters { row_letters blocks row.new ≡ slice_set (row_letters blocks row.old) qubit letter }
+{
+    let at = x_word(qubit);
+    let bit = qubit % 64;
+    let (x, z) = bits_of(letter);
+    row[at] = with_bit(row[at], bit, x);
+    row[at + 4] = with_bit(row[at + 4], bit, z);
+}
+
+/// Whether the letter at a place of a row of so many blocks flips a bit: its X bit.
+#[inline(always)]
+pub(crate) fn flips_at(blocks: usize, row: &[u64], qubit: usize) -> bool
+    requires length { length row.now ≡ 8 * blocks }
+    requires in_range { qubit < 256 * blocks }
+    ensures value { result ≡ flips (slice_index_or (row_letters blocks row.now) qubit I) }
+{
+    bit_of(row[x_word(qubit)], qubit % 64)
+}
+
+/// The first place in a row of so many blocks where a letter flips a bit.
+pub(crate) fn first_flip(blocks: usize, row: &[u64]) -> Option<usize>
+    requires few { blocks ≤ 2 ^ 56 }
+    requires length { length row.now ≡ 8 * blocks }
+    ensures none { IfNone result (FlipsNoneBefore (256 * blocks) (row_letters blocks row.now)) }
+    ensures some { IfSome result (IsFirstFlip (256 * blocks) (row_letters blocks row.now)) }
+{
+    let start = 4 * still_blocks(blocks, row);
+    for word in start..4 * blocks {
+        let x = row[8 * (word / 4) + word % 4];
+        if x != 0 {
+            return Some(64 * word + x.trailing_zeros() as usize);
+        }
+    }
+    None
+}
+
+/// How many blocks at the front of a row flip no bit.
+#[inline(always)]
+fn still_blocks(blocks: usize, row: &[u64]) -> usize
+    requires length { length row.now ≡ 8 * blocks }
+    ensures in_range { result ≤ blocks }
+    ensures still { FlipsNoneBefore (256 * result) (row_letters blocks row.now) }
+{
+    for block in 0..blocks {
+        let at = 8 * block;
+        if (row[at] | row[at + 1]) | (row[at + 2] | row[at + 3]) != 0 {
+            return block;
+        }
+    }
+    blocks
+}
+
+/// The place of the word with the X bit of a qubit.
+#[inline(always)]
+pub(crate) fn x_word(qubit: usize) -> usize
+    ensures value { result ≡ 8 * (qubit / 256) + qubit % 256 / 64 }
+{
+    8 * (qubit / 256) + qubit % 256 / 64
+}
+
+/// A bit of a word.
+#[inline(always)]
+fn bit_of(word: u64, bit: usize) -> bool
+    requires in_range { bit < 64 }
+    ensures value { result ≡ eqb (bit_at word bit) 1 }
+{
+    (word >> bit) % 2 == 1
+}
+
+/// The word with another bit at a place.
+#[inline(always)]
+fn with_bit(word: u64, bit: usize, value: bool) -> u64
+    requires in_range { bit < 64 }
+    ensures same { eqb (bit_at result bit) 1 ≡ value }
+    ensures others { (k : ℕ) → k ≢ bit → k < 64 → bit_at result k ≡ bit_at word k }
+{
+    if value {
+        word | (1 << bit)
+    } else {
+        word & !(1 << bit)
+    }
+}
+
+/// The letter of an X bit and a Z bit.
+#[inline(always)]
+fn letter_of(x: bool, z: bool) -> Letter
+    ensures value { result ≡ letter_of_bits x z }
+{
+    match (x, z) {
+        (false, false) => Letter::I,
+        (true, false) => Letter::X,
+        (true, true) => Letter::Y,
+        (false, true) => Letter::Z,
+    }
+}
+
+/// The X bit and the Z bit of a letter.
+#[inline(always)]
+fn bits_of(letter: Letter) -> (bool, bool)
+    ensures value { letter_of_bits result.0 result.1 ≡ letter }
+{
+    match letter {
+        Letter::I => (false, false),
+        Letter::X => (true, false),
+        Letter::Y => (true, true),
+        Letter::Z => (false, true),
+    }
+}
