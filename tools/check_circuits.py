@@ -6,15 +6,15 @@
 
 Of a memory experiment it checks that each detector and the observable is 0 whatever the outcomes
 that are free, that there are as many detectors as there should be, that each bit flip of a data
-qubit is seen by one or two detectors of the next round, and that bit flips from side to side are
-seen by the observable alone. Of each circuit it checks that no lookback goes too far and that the first line
-tells the right numbers. It is small and slow, and meant for small distances. Stim was not at hand,
-so nothing was compared with what Stim prints or computes.
+qubit is seen by one or two detectors of the next round, or up to three in a colour code, and that bit
+flips from side to side are seen by the observable alone. Of each circuit it checks that no lookback
+goes too far and that the first line tells the right numbers. It is small and slow, and meant for small
+distances. Stim was not at hand, so nothing was compared with what Stim prints or computes.
 
 The simulator keeps stabilisers and destabilisers (Aaronson and Gottesman 2004). A free outcome is
 a new unknown, so that signs and outcomes are sums of unknowns, and a detector is deterministic
-exactly where no unknown is left in its parity. It knows the instructions that the generator prints
-and the Pauli gates; blocks are written out.
+exactly where no unknown is left in its parity. It knows what circuits.py prints and all instructions
+of stabsim by the first of their names; blocks are written out.
 """
 import re
 import sys
@@ -59,6 +59,12 @@ ONE = {
     "H": {"X": "+Z", "Z": "+X"},
     "S": {"X": "+Y", "Z": "+Z"},
     "S_DAG": {"X": "-Y", "Z": "+Z"},
+    "C_XYZ": {"X": "+Y", "Z": "+X"},
+    "C_ZYX": {"X": "+Z", "Z": "+Y"},
+    "SQRT_X": {"X": "+X", "Z": "-Y"},
+    "SQRT_X_DAG": {"X": "+X", "Z": "+Y"},
+    "SQRT_Y": {"X": "-Z", "Z": "+X"},
+    "SQRT_Y_DAG": {"X": "+Z", "Z": "-X"},
 }
 TWO = {
     "CX": {"X_": "+XX", "Z_": "+Z_", "_X": "+_X", "_Z": "+ZZ"},
@@ -67,7 +73,11 @@ TWO = {
     "SWAP": {"X_": "+_X", "Z_": "+_Z", "_X": "+X_", "_Z": "+Z_"},
 }
 # What measurements and resets measure.
-COLLAPSES = {"M": "+Z", "MX": "+X", "MR": "+Z", "R": "+Z"}
+COLLAPSES = {"M": "+Z", "MX": "+X", "MY": "+Y", "MR": "+Z", "MRX": "+X", "MRY": "+Y", "R": "+Z", "RX": "+X", "RY": "+Y"}
+# The letter that a reset flips the outcome 1 of each letter by.
+FLIPS = {"X": "+Z", "Y": "+X", "Z": "+X"}
+# What a record controls.
+CONTROLLED = {"CX": "+X", "CY": "+Y", "CZ": "+Z"}
 # What has coordinates or nothing, and is no step.
 NO_STEP = ("TICK", "QUBIT_COORDS", "SHIFT_COORDS")
 
@@ -148,12 +158,12 @@ class State:
         rows[free] = Pauli(observable.x, observable.z, observable.turns, unknown)
         return 0, unknown
 
-    def flip_if(self, outcome, qubit):
-        """Applies X where the outcome is 1."""
+    def flip_if(self, outcome, flip):
+        """Applies a Pauli where the outcome is 1."""
         known, unknowns = outcome
         for rows in (self.stabilisers, self.destabilisers):
             for i, row in enumerate(rows):
-                if row.z >> qubit & 1:
+                if row.anticommutes(flip):
                     rows[i] = Pauli(row.x, row.z, row.turns + 2 * known, row.unknowns ^ unknowns)
 
 
@@ -197,24 +207,42 @@ class Run:
                 self.detectors.append(parity)
             else:
                 self.observables[argument] = added([self.observables.get(argument, (0, 0)), parity])
+        elif name == "MPP":
+            self.steps += len(targets)
+            for target in targets:
+                self.product(target.split("*"))
         elif name in TWO:
-            self.steps += len(qubits) // 2
-            for pair in zip(qubits[0::2], qubits[1::2]):
-                self.state.apply(TWO[name], pair)
+            self.steps += len(targets) // 2
+            for first, second in zip(targets[0::2], targets[1::2]):
+                self.pair(name, first, int(second))
         elif name not in NO_STEP:
             self.steps += len(qubits)
-            for qubit in qubits:
-                self.one(name, qubit)
+            for target, qubit in zip(targets, qubits):
+                self.one(name, qubit, target.startswith("!"))
 
-    def one(self, name, qubit):
+    def pair(self, name, first, second):
+        if first.startswith("rec"):
+            self.state.flip_if(self.record(first), pauli(CONTROLLED[name], [second]))
+        else:
+            self.state.apply(TWO[name], (int(first), second))
+
+    def product(self, factors):
+        """Measures a product such as X0*!Z1, and records it inverted where factors are odd in number that are."""
+        letters = "+" + "".join(factor.strip("!")[0] for factor in factors)
+        observable = pauli(letters, [qubit_of(factor) for factor in factors])
+        inverted = sum(factor.startswith("!") for factor in factors) % 2
+        self.records.append(added([self.state.measure(observable), (inverted, 0)]))
+
+    def one(self, name, qubit, inverted):
         if name in ONE:
             self.state.apply(ONE[name], [qubit])
             return
-        outcome = self.state.measure(pauli(COLLAPSES[name], [qubit]))
-        if name in ("R", "MR"):
-            self.state.flip_if(outcome, qubit)
-        if name != "R":
-            self.records.append(outcome)
+        measured = COLLAPSES[name]
+        outcome = self.state.measure(pauli(measured, [qubit]))
+        if name in ("R", "RX", "RY", "MR", "MRX", "MRY"):
+            self.state.flip_if(outcome, pauli(FLIPS[measured[1]], [qubit]))
+        if not name.startswith("R"):
+            self.records.append(added([outcome, (int(inverted), 0)]))
 
     def record(self, target):
         back = int(re.fullmatch(r"rec\[-(\d+)\]", target)[1])
@@ -222,8 +250,15 @@ class Run:
         return self.records[-back]
 
 
+def qubit_of(target):
+    """The qubit of a target such as 3, !3, X3 or !X3."""
+    return int(target.lstrip("!XYZ"))
+
+
 def qubits_of(name, targets):
-    return [] if name in ("DETECTOR", "OBSERVABLE_INCLUDE") else [int(target) for target in targets]
+    """The qubits that targets name, those of products one by one; records name none."""
+    parts = [part for target in targets for part in target.split("*")]
+    return [qubit_of(part) for part in parts if not part.startswith("rec")]
 
 
 def run(text):
@@ -260,7 +295,29 @@ def check_simulator():
     right &= say("S_DAG on both of a pair makes -XX", added(run("H 0\nCX 0 1\nS_DAG 0 1\nMX 0 1").records) == (1, 0))
     right &= say("a reset forgets an outcome", run("H 0\nCX 0 1\nR 0\nM 0 1").records == [(0, 0), one])
     right &= say("SWAP, CY and CZ", run("X 0\nSWAP 0 1\nCY 1 2\nCZ 1 2\nM 0 1 2").records == [(0, 0), (1, 0), (1, 0)])
-    return right
+    return right & check_products()
+
+
+def check_products():
+    """The same of products, records as controls, and the gates and resets of every letter."""
+    zero, one = (0, 0), (0, 1)
+    told = run("MPP X0*X1 Z0*Z1 Y0*Y1").records
+    right = say("XX times ZZ is -YY", told[:2] == [one, zero] and added([told[0], told[2]]) == (1, 0))
+    right &= say("marks of factors add up", run("MPP !Z0*!Z1 !Z0*Z1 Z0*!Z1").records == [zero, (1, 0), (1, 0)])
+    moved = "H 1\nCX 1 2\nCX 0 1\nH 0\nM 0 1\nCX rec[-1] 2\nCZ rec[-2] 2\n"
+    for letter, flip in [("X", "Z"), ("Y", "X"), ("Z", "X")]:
+        told = run(f"R{letter} 0\n{flip} 0\n{moved}M{letter} 2".replace("RZ", "R").replace("MZ", "M")).records
+        free = told[0][1] and told[1][1] and told[0] != told[1]
+        right &= say(f"teleportation of a 1 in {letter}", bool(free) and told[2] == (1, 0))
+    right &= say("resets of every letter", run("H 0\nCX 0 1\nRX 0\nRY 1\nMX 0\nMY 1").records == [zero, zero])
+    right &= say("measured resets", run("RX 0\nMRX 0\nZ 0\nMX 0").records == [zero, (1, 0)])
+    right &= say("marks on measured resets", run("RY 0\nX 0\nMRY !0\nMY 0").records == [zero, zero])
+    # Each gate once and its inverse, from a state that neither keeps; and twice the square roots.
+    for gate, back in [("C_XYZ", "C_ZYX"), ("SQRT_X", "SQRT_X_DAG"), ("SQRT_Y", "SQRT_Y_DAG")]:
+        text = f"{gate} 0\n{back} 0\nM 0\nRX 0\n{back} 0\n{gate} 0\nMX 0"
+        right &= say(f"{back} undoes {gate}", run(text).records == [zero, zero])
+    turned = run("SQRT_X 0 0 1\nSQRT_Y 2 2 3\nC_XYZ 4\nM 0 2\nMY !1\nMX 3 4").records
+    return right & say("what the gates make of zeros", turned == [(1, 0), (1, 0), zero, zero, zero])
 
 
 def check_memories():
@@ -272,14 +329,28 @@ def check_memories():
         right &= check_memory(text, checks // 2 + checks * (rounds - 1) + checks // 2)
         text = circuits.repetition_code(distance).text(rounds)
         right &= check_memory(text, (distance - 1) * (rounds + 1))
+        # Of each letter there is a check for each gap, and those of Z speak at the start and at the end too.
+        text = circuits.bacon_shor(distance).text(rounds)
+        right &= check_memory(text, (distance - 1) * 2 * rounds)
     for distance in (3, 4):
         code = circuits.SurfaceCode(distance)
         side = [code.number[place] for place in code.data if place[0] == 1]
         right &= check_errors(circuits.surface_code(distance), code.numbers(code.data), side)
         data = list(range(0, 2 * distance, 2))
         right &= check_errors(circuits.repetition_code(distance), data, data)
+        across = list(range(distance))
+        right &= check_errors(circuits.bacon_shor(distance), range(distance**2), across)
+    for distance, rounds in [(3, 1), (3, 4), (5, 2), (7, 2)]:
+        # There are (3 d^2 - 3) / 8 faces, with two checks each.
+        faces = (3 * distance**2 - 3) // 8
+        right &= check_memory(circuits.colour_code(distance).text(rounds), 2 * faces * rounds)
+    for distance in (3, 5):
+        qubits, bottom = (3 * distance**2 + 1) // 4, list(range(distance))
+        right &= check_errors(circuits.colour_code(distance), range(qubits), bottom, most=3)
     surface_codes = [circuits.surface_code(distance) for distance in (3, circuits.MOST_DISTANCE)]
-    for memory in surface_codes + [circuits.repetition_code(3)]:
+    products = [circuits.colour_code(circuits.MOST_COLOUR_DISTANCE)]
+    products.append(circuits.bacon_shor(circuits.MOST_BACON_SHOR_DISTANCE))
+    for memory in surface_codes + products + [circuits.repetition_code(3)]:
         right &= check_deepest(memory)
     # An error of a measured qubit halfway through its check spreads to the last two qubits that it
     # meets. They lie side by side across the logical operator of their kind.
@@ -303,11 +374,11 @@ def check_memory(text, detectors):
     return say(text.split("\n")[0], quiet and whole and counts_are_told(text, ran))
 
 
-def check_errors(memory, data, side):
+def check_errors(memory, data, side, most=2):
     """Bit flips between the first two rounds.
 
-    One of any data qubit is seen by one or two detectors of the second round, and by nothing else; those of a whole
-    side are seen by the observable alone.
+    One of any data qubit is seen by at least one detector of the second round and at most so many, and by nothing else;
+    those of a whole side are seen by the observable alone.
     """
     lines = memory.text(3).split("\n")
     place = lines.index("REPEAT 2 {")
@@ -321,7 +392,7 @@ def check_errors(memory, data, side):
         return detectors, sum(known for known, _ in ran.observables.values())
 
     singles = [flipped([qubit])[0] for qubit in data]
-    seen = all(1 <= len(found) <= 2 and first <= found[0] and found[-1] < first + each for found in singles)
+    seen = all(1 <= len(found) <= most and first <= found[0] and found[-1] < first + each for found in singles)
     return say(f"errors of {memory.title}", seen and flipped(side) == ([], 1))
 
 

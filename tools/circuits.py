@@ -4,21 +4,28 @@
     python3 tools/circuits.py surface_code --distance 3 --rounds 2
     python3 tools/circuits.py surface_code --distance 21 --deepest
     python3 tools/circuits.py repetition_code --distance 5 --rounds 10
+    python3 tools/circuits.py colour_code --distance 5 --rounds 10
+    python3 tools/circuits.py bacon_shor --distance 5 --rounds 10
     python3 tools/circuits.py dense --qubits 1024 --steps 100000 --seed 1
 
 - surface_code: the rotated surface code keeps a logical qubit in the state 0 and measures it in Z.
   Data qubits lie at odd coordinates and measured ones at even coordinates, and each round measures
   all checks.
 - repetition_code: the same for the repetition code, with data qubits 0, 2, 4 .. on a line.
+- colour_code: the same for the triangular colour code of hexagons, of odd distance, whose checks of X
+  and of Z on each face are measured whole, by MPP, without qubits of their own.
+- bacon_shor: the same for the Bacon-Shor code on a square, by MPP on pairs of neighbours: of X along
+  columns, of Z along rows. The product of a whole row of such pairs is a check.
 - dense: layers of random Clifford gates on all qubits, each followed by some random measurements
   and resets, and by detectors over random earlier records.
 
-Both codes follow the layout that `stim gen` has for `surface_code:rotated_memory_z` and
+The first two codes follow the layout that `stim gen` has for `surface_code:rotated_memory_z` and
 `repetition_code:memory`, written from its description: Stim was not at hand to compare with.
 
 The first line says how many steps and records the circuit has when its blocks are unrolled. A step
-is a gate on one qubit or one pair, a qubit that is measured or reset, a detector, or an addition to
-an observable. A circuit has at most 1,048,576 steps; `--deepest` takes as many rounds as fit.
+is a gate on one qubit or one pair, a qubit that is measured or reset, a product that is measured, a
+detector, or an addition to an observable. A circuit has at most 1,048,576 steps; `--deepest` takes as
+many rounds as fit.
 tools/check_circuits.py checks what is said here.
 """
 import argparse
@@ -27,6 +34,9 @@ MOST_STEPS = 1_048_576
 MOST_QUBITS = 1024
 # The greatest distance of a surface code whose qubits are numbered below 1,024.
 MOST_DISTANCE = 21
+# The greatest distances of the codes that MPP measures whose qubits are numbered below 1,024.
+MOST_COLOUR_DISTANCE = 35
+MOST_BACON_SHOR_DISTANCE = 32
 
 
 class Text:
@@ -53,6 +63,11 @@ class Text:
     def measure(self, name, qubits):
         """One step and one record for each qubit."""
         self.add(words(name, qubits), steps=len(qubits), records=len(qubits))
+
+    def products(self, letter, groups):
+        """One step and one record for each group of qubits, on which the product of this letter is measured."""
+        targets = ["*".join(f"{letter}{qubit}" for qubit in group) for group in groups]
+        self.add(words("MPP", targets), steps=len(groups), records=len(groups))
 
     def detector(self, coordinates, lookbacks):
         """The parity of the records that lie so many before the end."""
@@ -234,6 +249,116 @@ def repetition_code(distance):
     return Memory(f"Repetition code of distance {distance}", head, body, tail)
 
 
+def colour_code(distance):
+    """The triangular colour code of an odd distance, as a memory of a logical 0."""
+    side = distance + distance // 2
+    rows = [[(2 * x + y, y) for x in range(side - y)] for y in range(side)]
+    # Every third place of the triangular lattice is the middle of a face, and data qubits lie round it.
+    faces = [place for y, row in enumerate(rows) for x, place in enumerate(row) if (x + 2 * y) % 3 == 2]
+    data = [place for row in rows for place in row if place not in faces]
+    number = {place: i for i, place in enumerate(data)}
+    groups = [sorted(number[place] for place in around(face) if place in number) for face in faces]
+
+    def measure_faces(text):
+        text.add("TICK")
+        text.products("X", groups)
+        text.add("TICK")
+        text.products("Z", groups)
+
+    each = len(faces)
+    head = Text()
+    for place in data:
+        head.add(f"QUBIT_COORDS({place[0]}, {place[1]}) {number[place]}")
+    head.gate("R", list(number.values()))
+    measure_faces(head)
+    for i, face in enumerate(faces):
+        head.detector(face + (0, 1), [each - i])
+
+    body = Text()
+    measure_faces(body)
+    body.add("SHIFT_COORDS(0, 0, 1)")
+    # The last coordinate tells the letter: 0 for X, 1 for Z.
+    for letter in (0, 1):
+        for i, face in enumerate(faces):
+            back = (2 - letter) * each - i
+            body.detector(face + (0, letter), [back, back + 2 * each])
+
+    tail = Text()
+    tail.measure("M", list(number.values()))
+    for i, face in enumerate(faces):
+        of_data = sorted(len(data) - qubit for qubit in groups[i])
+        tail.detector(face + (1, 1), of_data + [len(data) + each - i])
+    tail.observable(0, sorted(len(data) - number[place] for place in data if place[1] == 0))
+    return Memory(f"Colour code of distance {distance}", head, body, tail)
+
+
+def around(place):
+    """The six neighbours of a place in the triangular lattice, whose rows are half a step apart."""
+    steps = [(-2, 0), (-1, -1), (1, -1), (2, 0), (1, 1), (-1, 1)]
+    return [beside(place, step) for step in steps]
+
+
+class BaconShor:
+    """The pairs of the Bacon-Shor code. Those of one gap between two lines stand side by side, and make a check."""
+
+    def __init__(self, distance):
+        self.lines = range(distance)
+        self.gaps = self.lines[:-1]
+        self.size = distance**2
+        self.upright = [(self.qubit(x, y), self.qubit(x, y + 1)) for y in self.gaps for x in self.lines]
+        self.level = [(self.qubit(x, y), self.qubit(x + 1, y)) for x in self.gaps for y in self.lines]
+
+    def qubit(self, x, y):
+        return x + y * len(self.lines)
+
+    def back_of_gap(self, gap):
+        """How many records before the end of a round those of a gap's pairs of Z stand."""
+        return [len(self.level) - gap * len(self.lines) - i for i in self.lines]
+
+    def back_of_columns(self, columns):
+        """The same for the data qubits of columns at the end, in ascending order."""
+        return sorted(self.size - self.qubit(x, y) for x in columns for y in self.lines)
+
+    def measure_pairs(self, text):
+        text.add("TICK")
+        text.products("X", self.upright)
+        text.add("TICK")
+        text.products("Z", self.level)
+
+
+def bacon_shor(distance):
+    """The Bacon-Shor code of a distance, as a memory of a logical 0."""
+    code = BaconShor(distance)
+
+    head = Text()
+    for y in code.lines:
+        for x in code.lines:
+            head.add(f"QUBIT_COORDS({x}, {y}) {code.qubit(x, y)}")
+    head.gate("R", range(code.size))
+    code.measure_pairs(head)
+    for gap in code.gaps:
+        head.detector((gap + 0.5, 0, 0), code.back_of_gap(gap))
+
+    body = Text()
+    code.measure_pairs(body)
+    body.add("SHIFT_COORDS(0, 0, 1)")
+    each = len(code.upright) + len(code.level)
+    for behind in (len(code.level), 0):
+        # The checks of X stand before those of Z, and lie between rows.
+        for gap in code.gaps:
+            back = [behind + it for it in code.back_of_gap(gap)]
+            place = (0, gap + 0.5, 0) if behind else (gap + 0.5, 0, 0)
+            body.detector(place, back + [each + it for it in back])
+
+    tail = Text()
+    tail.measure("M", range(code.size))
+    for gap in code.gaps:
+        before = [code.size + it for it in code.back_of_gap(gap)]
+        tail.detector((gap + 0.5, 0, 1), code.back_of_columns((gap, gap + 1)) + before)
+    tail.observable(0, code.back_of_columns((0,)))
+    return Memory(f"Bacon-Shor code of distance {distance}", head, body, tail)
+
+
 class Numbers:
     """Random numbers that are the same everywhere: SplitMix64 (Steele, Lea and Flood 2014)."""
 
@@ -295,9 +420,20 @@ def grouped(numbers, names, items):
     return [(name, group) for name, group in groups.items() if group]
 
 
+# The codes, and the greatest distance of each.
+CODES = {
+    "surface_code": (surface_code, MOST_DISTANCE),
+    "repetition_code": (repetition_code, MOST_QUBITS // 2),
+    "colour_code": (colour_code, MOST_COLOUR_DISTANCE),
+    "bacon_shor": (bacon_shor, MOST_BACON_SHOR_DISTANCE),
+}
+
+
 def memory_of(parser, given):
     """The text of a memory experiment, with the rounds that were asked for."""
-    memory = surface_code(given.distance) if given.kind == "surface_code" else repetition_code(given.distance)
+    if given.kind == "colour_code" and given.distance % 2 == 0:
+        parser.error("the distance of a colour code is odd")
+    memory = CODES[given.kind][0](given.distance)
     deepest = memory.deepest()
     if not given.deepest and given.rounds > deepest:
         parser.error(f"{given.rounds} rounds have over {MOST_STEPS} steps; {deepest} rounds fit")
@@ -319,7 +455,7 @@ def number_in(least, most):
 def command_line():
     parser = argparse.ArgumentParser(description=__doc__, formatter_class=argparse.RawDescriptionHelpFormatter)
     kinds = parser.add_subparsers(dest="kind", required=True)
-    for kind, most in [("surface_code", MOST_DISTANCE), ("repetition_code", MOST_QUBITS // 2)]:
+    for kind, (_, most) in CODES.items():
         memory = kinds.add_parser(kind)
         memory.add_argument("--distance", type=number_in(2, most), required=True)
         depth = memory.add_mutually_exclusive_group(required=True)

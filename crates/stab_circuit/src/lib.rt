@@ -16,9 +16,10 @@
 //!
 //! Proved: every text is that of one circuit or has one fault, and never both; it is read as exactly
 //! the items that it stands for, or refused with exactly its fault, and behind the limit of a text
-//! nothing is read but what one read brings; qubits, observables, steps, records and what refuses a
-//! whole circuit are those of its unrolled steps; one item's text without a fault stands for one
-//! item; what is printed of the items of any lines stands for these items and no others.
+//! nothing is read but what one read brings; qubits and observables are those of its items, and
+//! steps, records and what refuses a whole circuit those of its unrolled steps; one item's text
+//! without a fault stands for one item; what is printed of the items of any lines stands for these
+//! items and no others, within the limit of a text.
 #![tactic(auto)]
 
 mod circuit;

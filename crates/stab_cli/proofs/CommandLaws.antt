@@ -3,7 +3,7 @@ use Rattle.std.proofs.Common.{◌∙◌, ◌||◌, ap, ap₂}
 use Rattle.clap.specs.Words.{AddsArg, AddsSubcommand, App, Rule, with_rule, with_subcommand}
 use Rattle.clap.specs.declared.builder.arg.Arg.{Arg}
 use Rattle.clap.specs.declared.builder.command.Command.{Command}
-use Rattle.stab_cli.specs.Options.{IsApp, IsOption}
+use Rattle.stab_cli.specs.inner.Parts.{IsApp, IsOption}
 
 -- a command with one option more
 pub with_option : (old new : Command) (arg : Arg) (app : App) (option : Rule) → AddsArg old arg new → IsOption option arg → IsApp app old → IsApp (with_rule app option) new

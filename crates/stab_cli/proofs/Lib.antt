@@ -1,3 +1,4 @@
 pub mod OptionLaws
 pub mod CommandLaws
 pub mod EndingLaws
+pub mod NameLaws

@@ -55,10 +55,10 @@ IsSource coins seed source = ⊥
 abbrev pub HasShots : List Row → Format → ℕ → Type 0
 HasShots options format shots = IsNamed (first_of (codes "out_format") options) format × IsWritten most_shots (one_of (codes "shots") options) shots
 
--- the command of a name, with what its options say; the reader names one of the program's two
+-- the command of a name, with what its options say
 abbrev pub IsCommand : Text → List Row → Command → Type 0
-IsCommand name options (Sample format shots) = (name ≢ codes "detect") × HasShots options format shots
-IsCommand name options (Detect format shots append) = (name ≢ codes "sample") × HasShots options format shots × IsSet (one_of (codes "append_observables") options) append
+IsCommand name options (Sample format shots) = (name ≡ codes "sample") × HasShots options format shots
+IsCommand name options (Detect format shots append) = (name ≡ codes "detect") × HasShots options format shots × IsSet (one_of (codes "append_observables") options) append
 
 -- a job is what a command's name and options say
 pub record IsJob (name : Text) (options : List Row) (job : Job) : Type 0 where

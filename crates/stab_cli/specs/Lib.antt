@@ -1,3 +1,4 @@
 pub mod Usages
 pub mod Options
 pub mod Asked
+pub mod inner

@@ -1,11 +1,8 @@
 -- Options: the commands of the program and their options, as the command line reader sees them.
-use Rattle.std.specs.Prelude.{◌≡◌, true, false, ℕ, List, [], ◌∷◌, ◌++◌, Some, codes}
+use Rattle.std.specs.Prelude.{true, ℕ, List, [], ◌∷◌, ◌++◌, Some, codes}
 use Rattle.std.specs.Borrow.{Bor}
-use Rattle.clap.specs.Words.{App, Rule, Shape, Text, app_of, new_app, new_rule, rule_of, with_subcommand}
+use Rattle.clap.specs.Words.{App, Rule, Shape, Text, new_app, new_rule, with_subcommand}
 use Rattle.clap.specs.Simple.{new_shape, on_top}
-use Rattle.clap.specs.declared.builder.arg.Arg.{Arg}
-use Rattle.clap.specs.declared.builder.command.Command.{Command}
-use Rattle.clap.specs.declared.builder.command.Command.TheViews.{out-Command}
 use Rattle.clap.specs.declared.builder.action.ArgAction.TheVariants.{SetTrue}
 use Rattle.clap.specs.declared.builder.value_parser.ValueParser.TheVariants.{Names, Unsigned}
 
@@ -70,11 +67,3 @@ bare = on_top (λ s. record s { subcommand_required = true; has_version = true }
 -- the program
 abbrev pub stabsim : Kept → App
 stabsim formats = with_subcommand (with_subcommand bare (sample formats)) (detect formats)
-
--- an argument is this option of one command
-abbrev pub IsOption : Rule → Arg → Type 0
-IsOption option arg = (rule_of arg ≡ option) × (arg.global ≡ false)
-
--- a command is this one, and no option of it is shared with its commands
-abbrev pub IsApp : App → Command → Type 0
-IsApp app command = (app_of command ≡ app) × ((out-Command command).has_globals ≡ false)

@@ -20,7 +20,7 @@ use std::alloc::{AllocError, Global};
 /// Why words are no job.
 #[derive(Debug, Drop)]
 pub enum Usage {
-    /// Help was asked for, and this is its text.
+    /// Help or the version was asked for, and this is its text.
     Help(String),
     /// The words are wrong, as this text says.
     Fault(String),
@@ -55,9 +55,9 @@ fn usage_of(alloc: Global, error: &Error) -> Usage
 
 /// Reads the words of a command line, the program's name first.
 ///
-/// No job comes of words that ask for help (`Usage::Help`), of words that the command line reader
-/// doesn't take, or whose coins are not characters 0 and 1 (`Usage::Fault`), or where memory was
-/// refused (`Usage::Memory`). The coins are looked at last.
+/// No job comes of words that ask for help or the version (`Usage::Help`), of words that the command
+/// line reader doesn't take, or whose coins are not characters 0 and 1 (`Usage::Fault`), or where
+/// memory was refused (`Usage::Memory`). The coins are looked at last.
 pub fn parse_words(alloc: Global, words: &[&str]) -> Result<Job, Usage>
     ensures ends { EndsReading (map (λ w. w.now) words.now) result }
 {

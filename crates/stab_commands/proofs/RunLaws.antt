@@ -5,12 +5,12 @@ use Rattle.stab_pauli.specs.Devices.{InputView, OutputView, CutOff}
 use Rattle.stab_pauli.specs.declared.refusal.Refusal.TheVariants.{OutOfMemory}
 use Rattle.stab_pauli.specs.declared.refusal.Fault.{Fault}
 use Rattle.stab_pauli.specs.Refusals.{whole}
-use Rattle.stab_circuit.specs.Inputs.{GaveText}
+use Rattle.stab_circuit.specs.Inputs.{GaveText, RefusesText}
 use Rattle.stab_circuit.specs.Items.{Items}
 use Rattle.stab_circuit.specs.Steps.{check_of, check_within, qubits_of}
 use Rattle.stab_circuit.specs.Readings.{IsCircuit, IsFaultOf}
 use Rattle.stab_session.specs.Runs.{Refuses}
-use Rattle.stab_commands.specs.Endings.{RefusesText, Sends}
+use Rattle.stab_commands.specs.Endings.{Sends}
 use Rattle.stab_commands.specs.Outputs.{EndsRun}
 use Rattle.stab_commands.proofs.SendingLaws.{took_some_none}
 

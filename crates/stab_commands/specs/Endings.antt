@@ -4,7 +4,7 @@ use Rattle.stab_pauli.specs.Devices.{InputView, OutputView, Took, TookAndFailed,
 use Rattle.stab_pauli.specs.declared.refusal.Refusal.TheVariants.{WriteFault, OutOfMemory}
 use Rattle.stab_pauli.specs.declared.refusal.Fault.{Fault}
 use Rattle.stab_pauli.specs.Refusals.{whole}
-use Rattle.stab_circuit.specs.Inputs.{GaveText, IsUnread}
+use Rattle.stab_circuit.specs.Inputs.{GaveText, RefusesText}
 
 -- the output took these bytes and was flushed once, and did not fail
 pub record TookAndFlushed (old new : OutputView) (bytes : List ℕ) : Type 0 where
@@ -27,12 +27,9 @@ abbrev pub Sends : {T : Type 0} → List ℕ → OutputView → OutputView → R
 Sends bytes old new (Ok x) = TookAndFlushed old new bytes
 Sends bytes old new (Err f) = ((f ≡ whole WriteFault) × FailsToSend old new bytes) ⊎ ((f ≡ whole OutOfMemory) × TookSome old new bytes)
 
--- Why a text was refused: by its own fault, once it was given whole; or it was not read whole, with 14, 15 or 20.
-abbrev pub RefusesText : (own : List ℕ → Fault → Type 0) → InputView → InputView → Fault → Type 0
-RefusesText own old new f = ((text : List ℕ) × GaveText old new text × own text f) ⊎ ((f ≡ whole f.refusal) × IsUnread old new f.refusal)
-
 -- How a call ends that reads a text whole and goes on with it: the text was refused and all else is untouched; or it was given whole, and
 -- the rest says how the call went on.
-abbrev pub Ends : {T : Type 0} → (own : List ℕ → Fault → Type 0) → (untouched : Type 0) → (rest : List ℕ → Result T Fault → Type 0) → InputView → InputView → Result T Fault → Type 0
+abbrev pub Ends : {T : Type 0} → (own : List ℕ → Fault → Type 0) → (untouched : Type 0)
+    → (rest : List ℕ → Result T Fault → Type 0) → InputView → InputView → Result T Fault → Type 0
 Ends own untouched rest old new (Ok x) = (text : List ℕ) × GaveText old new text × rest text (Ok x)
 Ends own untouched rest old new (Err f) = (untouched × RefusesText own old new f) ⊎ ((text : List ℕ) × GaveText old new text × rest text (Err f))

@@ -1,16 +1,11 @@
 -- Jobs: the status of a program's run, and the line that tells a fault.
-use Rattle.std.specs.Prelude.{◌≡◌, ℕ, List, [], ◌∷◌, ◌++◌, ◌⊎◌, codes, decimal, Result, Ok, Err, ◌==◌, if◌then◌else◌}
+use Rattle.std.specs.Prelude.{◌≡◌, ℕ, List, [], ◌++◌, ◌⊎◌, codes, decimal, Result, Ok, Err, ◌==◌, if◌then◌else◌}
 use Rattle.stab_pauli.specs.Devices.{InputView, OutputView, Took, TookAndFailed}
 use Rattle.stab_pauli.specs.declared.refusal.Refusal.{Refusal}
 use Rattle.stab_pauli.specs.declared.refusal.Fault.{Fault}
 use Rattle.stab_pauli.specs.Refusals.{number_of, name_of}
 use Rattle.stab_circuit.specs.Items.{Items}
 use Rattle.stab_commands.specs.Outputs.{EndsRun}
-
--- texts one after another
-abbrev pub joined : List (List ℕ) → List ℕ
-joined [] = []
-joined (t ∷ ts) = t ++ joined ts
 
 -- where the fault is, as its line says it
 abbrev pub place_text : ℕ → List ℕ

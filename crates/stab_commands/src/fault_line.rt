@@ -1,13 +1,14 @@
 //! The line that tells a fault.
 ghost use Rattle.std.specs.Prelude.{map};
 ghost use Rattle.stab_pauli.specs.Devices.{WritesAll};
-ghost use Rattle.stab_commands.specs.Jobs.{fault_line, joined};
+ghost use Rattle.stab_commands.specs.Jobs.{fault_line};
+ghost use Rattle.stab_commands.specs.inner.Texts.{texts_joined};
 
 use stab_pauli::{Fault, Output, Refusal, write_all};
 
 /// Writes texts one after another.
 fn write_texts<O: Output>(out: &mut O, texts: &[&[u8]]) -> Result<(), Refusal>
-    ensures writes { WritesAll (O.seen out.old) (O.seen out.new) (joined (map (λ t. t.now) texts.now)) result }
+    ensures writes { WritesAll (O.seen out.old) (O.seen out.new) (texts_joined (map (λ t. t.now) texts.now)) result }
 {
     for text in texts {
         write_all(out, text)?;

@@ -6,9 +6,10 @@
 //! - `status`: running a job, with the status of the program.
 //! - `fault_line`: the line that tells a fault.
 //!
-//! Proved on `run_sample` and `run_detect`: what is written is what the stabiliser rules give for the
-//! circuit that was read and for the coins of each shot, in the format asked for, and nothing else;
-//! each refusal is the text's own, a failing device's or memory's. `run_job` carries the same for a
+//! Proved on `run_sample` and `run_detect`: a call ends by cases. The text was refused, by its own fault
+//! or unread, and the output is untouched; or it was given whole, and the output took what the
+//! stabiliser rules give for its circuit and the coins of each shot, in the format asked for, and one
+//! flush; or it failed once, or memory was refused, after a prefix. `run_job` carries the same for a
 //! job, with its status and the line that tells its fault.
 #![tactic(auto)]
 

@@ -1,5 +1,5 @@
 -- Printed targets and arguments are read again as what they were printed of.
-use Rattle.std.proofs.Common.{◌≡◌, ◌≢◌, ◌<◌, ◌≤◌, ◌^◌, refl, ap, sym, ◌∙◌, subst, ℕ, ◌-◌, ◌==◌, ◌&&◌, ◌||◌, nat_lt, nat_eq, List, [], ◌∷◌, ◌++◌, Bool, true, false, not, length, take, filter, map, append_assoc, append-nil, arith, codes, if◌then◌else◌, Some, Result, Ok}
+use Rattle.std.proofs.Common.{◌≡◌, ◌<◌, ◌≤◌, ◌^◌, refl, ap, sym, ◌∙◌, subst, ℕ, ◌-◌, ◌==◌, ◌&&◌, ◌||◌, nat_lt, nat_eq, List, [], ◌∷◌, ◌++◌, Bool, true, false, not, length, take, filter, map, append_assoc, append-nil, arith, codes, if◌then◌else◌, Some, Result, Ok}
 use Rattle.std.specs.List.{slice_split, list_all, starts_with}
 use Rattle.std.specs.Fmt.{decimal}
 use Rattle.std.proofs.lemmas.List.{length-append}
@@ -17,6 +17,7 @@ use Rattle.stab_lines.specs.Targets.{qubit_of, measure_target_of, lookback_of, l
 use Rattle.stab_lines.specs.Prints.{each_after, spaced, pair_text, mark_text, target_text, lookback_text}
 use Rattle.stab_lines.proofs.BoolLemmas.{chosen, passed, both, and_left, and_right}
 use Rattle.stab_lines.proofs.WordLemmas.{decimal_model}
+use Rattle.stab_lines.proofs.TargetLemmas.{different}
 use Rattle.stab_lines.proofs.FreeLemmas.{Each, Free, each_weaker, free-append, split_free, split_last, digits_free, ends_with_last, take_front, starts_free}
 use Rattle.stab_lines.proofs.NeatLemmas.{IsSolid, solid_word, trimmed_again}
 use Rattle.stab_lines.proofs.SureLemmas.{IsQubit, IsMeasured, IsCount, IsPair, IsCoordinate, IsObservable}
@@ -106,10 +107,7 @@ count_again n p =
 
 pub pairs_again : (ps : List (ℕ × ℕ)) → Each IsPair ps → pairs_of (pair_qubits ps) ≡ Ok ps
 pairs_again [] p = refl
-pairs_again (a ∷ ps) p = passed (a.0 == a.1) _ _ (unequal a.0 a.1 p.0.2) ∙ ap (λ r. r >>= λ more. Ok (a ∷ more)) (pairs_again ps p.1)
-  where
-    unequal : (x y : ℕ) → x ≢ y → (x == y) ≡ false
-    unequal x y ne = grind (arith, nat_tests)
+pairs_again (a ∷ ps) p = passed (a.0 == a.1) _ _ (different a.0 a.1 p.0.2) ∙ ap (λ r. r >>= λ more. Ok (a ∷ more)) (pairs_again ps p.1)
 
 pub coordinate_again : (c : List ℕ) → IsCoordinate c → coordinate_of c ≡ Ok c
 unfolding coordinate_of
@@ -148,6 +146,10 @@ pub words_again : {X : Type 0} (text : X → List ℕ) (xs : List X) → AreWord
 words_again text [] w = refl
 words_again text (x ∷ xs) w =
     ap (filter is_some_word) (slice_split-cons_yes is_spacing 32 (text x ++ spaced text xs) refl ∙ ap (λ l. [] ∷ l) (pieces_again text x xs w)) ∙ all_kept text (x ∷ xs) w
+
+pub same_map : (xs : List (List ℕ)) → map (λ x. x) xs ≡ xs
+same_map [] = refl
+same_map (x ∷ xs) = ap (λ l. x ∷ l) (same_map xs)
 
 -- what is printed is words
 pub spacing_no : (d : ℕ) → is_digit d ≡ true → is_spacing d ≡ false

@@ -1,5 +1,5 @@
 -- Printed pairs of a control and a qubit are read again as what they were printed of.
-use Rattle.std.proofs.Common.{◌≡◌, ◌≢◌, ◌<◌, refl, ap, ◌∙◌, ℕ, ◌==◌, ◌&&◌, nat_eq, List, [], ◌∷◌, ◌++◌, true, false, map, append_assoc, arith, codes, Ok}
+use Rattle.std.proofs.Common.{◌≡◌, ◌<◌, refl, ap, ◌∙◌, ℕ, ◌==◌, ◌&&◌, nat_eq, List, [], ◌∷◌, ◌++◌, true, false, map, append_assoc, arith, codes, Ok}
 use Rattle.std.specs.List.{list_all, starts_with}
 use Rattle.std.specs.Fmt.{decimal}
 use Rattle.std.proofs.lemmas.Bool.Decides.{nat_tests}
@@ -15,9 +15,10 @@ use Rattle.stab_lines.specs.Targets.{qubit_of, lookback_digits, is_lookback}
 use Rattle.stab_lines.specs.Controls.{control_of, by_turns, paired, controlled_of}
 use Rattle.stab_lines.specs.Prints.{spaced, lookback_text, controlled_text}
 use Rattle.stab_lines.proofs.BoolLemmas.{chosen, passed, and_left}
+use Rattle.stab_lines.proofs.TargetLemmas.{different}
 use Rattle.stab_lines.proofs.FreeLemmas.{Each}
 use Rattle.stab_lines.proofs.SureLemmas.{IsControlled}
-use Rattle.stab_lines.proofs.AgainLemmas.{IsWord, AreWords, decimal_digits, decimal_word, lookback_word, lookback_written, lookback_again, qubit_again, each_again, words_again}
+use Rattle.stab_lines.proofs.AgainLemmas.{IsWord, AreWords, decimal_digits, decimal_word, lookback_word, lookback_written, lookback_again, qubit_again, each_again, words_again, same_map}
 
 -- the text of a control, and the qubit that it acts on
 abbrev front : ControlledPair → List ℕ
@@ -56,10 +57,6 @@ pub flat_words : (xs : List ControlledPair) → Each IsControlled xs → AreWord
 flat_words [] g = tt
 flat_words (x ∷ xs) g = (front_word x g.0, (decimal_word (back x) (omega (arith, back_small x g.0)), flat_words xs g.1))
 
-same_words : (ws : List (List ℕ)) → map (λ w. w) ws ≡ ws
-same_words [] = refl
-same_words (w ∷ ws) = ap (λ l. w ∷ l) (same_words ws)
-
 -- digits are no record
 no_record : (ds : List ℕ) → list_all is_digit ds ≡ true → is_lookback ds ≡ false
 no_record [] h = refl
@@ -91,16 +88,13 @@ turns_again (x ∷ xs) g =
     ∙ ap (λ r. r >>= λ more. Ok (turn x ∷ more)) (turns_again xs g.1)
 
 pair_again : (x : ControlledPair) → IsControlled x → paired (turn x) ≡ Ok x
-pair_again (pair.Qubits p) g = passed (p.0 == p.1) _ _ (unequal p.0 p.1 g.2)
-  where
-    unequal : (a b : ℕ) → a ≢ b → (a == b) ≡ false
-    unequal a b ne = grind (arith, nat_tests)
+pair_again (pair.Qubits p) g = passed (p.0 == p.1) _ _ (different p.0 p.1 g.2)
 pair_again (pair.Record k q) g = refl
 
 -- the words of pairs are read as the pairs
 pub controlled_pairs_again : (xs : List ControlledPair) → Each IsControlled xs → controlled_of (words (spaced controlled_text xs)) ≡ Ok xs
 controlled_pairs_again xs g =
     ap (λ t. controlled_of (words t)) (controlled_spaced xs)
-    ∙ ap controlled_of (words_again (λ w. w) (flat xs) (flat_words xs g) ∙ same_words (flat xs))
+    ∙ ap controlled_of (words_again (λ w. w) (flat xs) (flat_words xs g) ∙ same_map (flat xs))
     ∙ ap (λ r. r >>= each paired) (turns_again xs g)
     ∙ each_again paired turn IsControlled pair_again xs g

@@ -13,7 +13,7 @@ use Rattle.stab_lines.specs.Axes.{first_axis}
 use Rattle.stab_lines.specs.Products.{unmarked, is_factor, factor_on, factor_of, names_twice, on_different, product_of}
 use Rattle.stab_lines.specs.Prints.{each_after, spaced, mark_text, axis_text, factor_text, product_text}
 use Rattle.stab_lines.proofs.BoolLemmas.{chosen, passed, both}
-use Rattle.stab_lines.proofs.FreeLemmas.{Each, Free, each_weaker, free-append, digits_free, split_free, split_last}
+use Rattle.stab_lines.proofs.FreeLemmas.{Each, Free, drop_none, each_weaker, free-append, digits_free, split_free, split_last}
 use Rattle.stab_lines.proofs.SureLemmas.{IsFactor, IsProduct}
 use Rattle.stab_lines.proofs.AgainLemmas.{IsWord, decimal_digits, decimal_number, qubit_again, digit_no, spacing_no, each_again, words_again}
 
@@ -39,10 +39,6 @@ axis_again : (a : Axis) (ds : List ℕ) → first_axis (axis_text a ++ ds) ≡ S
 axis_again axis.X ds = refl
 axis_again axis.Y ds = refl
 axis_again axis.Z ds = refl
-
-drop_none : (xs : List ℕ) → drop 0 xs ≡ xs
-drop_none [] = refl
-drop_none (x ∷ xs) = refl
 
 behind_axis : (a : Axis) (ds : List ℕ) → drop 1 (axis_text a ++ ds) ≡ ds
 behind_axis axis.X ds = drop_none ds

@@ -93,6 +93,10 @@ position_front p xs y ys f e = prefix_front (λ x. not (p x)) xs (y ∷ ys) (eac
 pub before_front : (p : ℕ → Bool) (xs : List ℕ) (y : ℕ) (ys : List ℕ) → Free p xs → p y ≡ true → before_first p (xs ++ y ∷ ys) ≡ xs
 before_front p xs y ys f e = ap (λ n. take n (xs ++ y ∷ ys)) (position_front p xs y ys f e) ∙ take_front xs (y ∷ ys)
 
+pub drop_none : (xs : List ℕ) → drop 0 xs ≡ xs
+drop_none [] = refl
+drop_none (x ∷ xs) = refl
+
 drop_one_more : (xs : List ℕ) (y : ℕ) (ys : List ℕ) → drop (suc (length xs)) (xs ++ y ∷ ys) ≡ ys
 drop_one_more [] y [] = refl
 drop_one_more [] y (z ∷ ys) = refl

@@ -1,5 +1,5 @@
 -- Printed contents mean what they were printed of.
-use Rattle.std.proofs.Common.{◌≡◌, ◌<◌, ◌^◌, refl, ap, sym, ◌∙◌, ℕ, ◌==◌, ◌&&◌, List, [], ◌∷◌, ◌++◌, Bool, true, false, length, filter, map, append_assoc, arith, codes, if◌then◌else◌, Ok}
+use Rattle.std.proofs.Common.{◌≡◌, ◌<◌, ◌^◌, refl, ap, sym, ◌∙◌, ℕ, ◌==◌, ◌&&◌, List, [], ◌∷◌, ◌++◌, Bool, true, false, length, filter, append_assoc, arith, codes, if◌then◌else◌, Ok}
 use Rattle.std.specs.Fmt.{decimal}
 use Rattle.std.proofs.lemmas.List.Splits.{slice_split-cons_yes}
 use Rattle.std.proofs.lemmas.Bool.Decides.{nat_tests}
@@ -26,7 +26,7 @@ use Rattle.stab_lines.specs.Prints.{gate_name, controlled_name, measurement_name
 use Rattle.stab_lines.proofs.BoolLemmas.{chosen, passed}
 use Rattle.stab_lines.proofs.FreeLemmas.{Each, Free, free-append, digits_free, split_free}
 use Rattle.stab_lines.proofs.SureLemmas.{IsCount, IsCoordinate, IsGoodKind, IsTag}
-use Rattle.stab_lines.proofs.AgainLemmas.{decimal_digits, decimal_number, decimal_some, decimal_word, arguments_again, qubits_again, targets_again, lookbacks_again, pairs_again, pairs_spaced, pair_qubits_good, coordinate_again, count_again, observable_again, each_again}
+use Rattle.stab_lines.proofs.AgainLemmas.{decimal_digits, decimal_number, decimal_some, decimal_word, arguments_again, qubits_again, targets_again, lookbacks_again, pairs_again, pairs_spaced, pair_qubits_good, coordinate_again, count_again, observable_again, each_again, same_map}
 use Rattle.stab_lines.proofs.FactorLemmas.{products_again}
 use Rattle.stab_lines.proofs.ControlAgainLemmas.{controlled_pairs_again}
 use Rattle.stab_lines.proofs.ShapeLemmas.{IsName, inner_of, shape_again, open_shape_again}
@@ -109,10 +109,6 @@ shape_for tag k = record { name = kind_name k; tag = tag; arguments = inner_of (
 all_again : (arguments : List (List ℕ)) → Each IsCoordinate arguments → arguments_of (inner_of arguments) ≡ arguments
 all_again [] c = refl
 all_again (a ∷ more) c = arguments_again a more c
-
-same_map : (xs : List (List ℕ)) → map (λ c. c) xs ≡ xs
-same_map [] = refl
-same_map (x ∷ xs) = ap (λ l. x ∷ l) (same_map xs)
 
 coordinates_again : (arguments : List (List ℕ)) → Each IsCoordinate arguments → each coordinate_of (arguments_of (inner_of arguments)) ≡ Ok arguments
 coordinates_again arguments c =

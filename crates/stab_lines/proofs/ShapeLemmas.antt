@@ -9,7 +9,7 @@ use Rattle.stab_lines.specs.Lines.{is_spacing, is_byte, is_letter, is_name_byte,
 use Rattle.stab_lines.specs.Targets.{is_coordinate_byte}
 use Rattle.stab_lines.specs.Prints.{tag_text, arguments_text, head_text}
 use Rattle.stab_lines.proofs.BoolLemmas.{chosen, passed, both, and_left, and_right}
-use Rattle.stab_lines.proofs.FreeLemmas.{Each, Free, Stops, free-append, prefix_front, take_front, drop_front, before_front, after_front, has_front, any_free, ends_free, ends_with_last, each_weaker}
+use Rattle.stab_lines.proofs.FreeLemmas.{Each, Free, drop_none, Stops, free-append, prefix_front, take_front, drop_front, before_front, after_front, has_front, any_free, ends_free, ends_with_last, each_weaker}
 use Rattle.stab_lines.proofs.SureLemmas.{IsCoordinate}
 use Rattle.stab_lines.proofs.AgainLemmas.{further, coordinate_free}
 
@@ -66,10 +66,6 @@ brackets_again opening closing all inner rest e f free same =
     ∙ chosen (has_byte closing (inner ++ closing ∷ rest)) _ _ (has_front closing inner rest free f)
     ∙ ap (λ l. Ok (l, after_first (is_byte closing) (inner ++ closing ∷ rest))) (before_front (is_byte closing) inner closing rest free f)
     ∙ ap (λ l. Ok (inner, l)) (after_front (is_byte closing) inner closing rest free f)
-  where
-    drop_none : (xs : List ℕ) → drop 0 xs ≡ xs
-    drop_none [] = refl
-    drop_none (x ∷ xs) = refl
 
 no_brackets : (opening closing : ℕ) (rest : List ℕ) → Stops (is_byte opening) rest → bracketed opening closing rest ≡ Ok ([], rest)
 unfolding bracketed

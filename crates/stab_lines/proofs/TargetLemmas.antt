@@ -11,7 +11,7 @@ use Rattle.stab_lines.specs.Lookbacks.{IsLookback}
 use Rattle.stab_lines.specs.Targets.{lookback_of, lookback_digits, is_lookback, pairs_of, one_argument}
 use Rattle.stab_lines.proofs.BoolLemmas.{chosen, passed}
 
-different : (a b : ℕ) → a ≢ b → (a == b) ≡ false
+pub different : (a b : ℕ) → a ≢ b → (a == b) ≡ false
 different a b ne = grind arith
 
 same : (a b : ℕ) → a ≡ b → (a == b) ≡ true

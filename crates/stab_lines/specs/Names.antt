@@ -52,10 +52,11 @@ controlled_names =
     ∷ (codes "ZCZ", axis.Z)
     ∷ []
 
--- a measurement that leaves the outcome's state, and one that resets
+-- a measurement of a letter
 abbrev pub measures : Axis → Measurement
 measures axis = record { axis = axis; resets = false }
 
+-- a measurement of a letter that resets
 abbrev pub measures_and_resets : Axis → Measurement
 measures_and_resets axis = record { axis = axis; resets = true }
 

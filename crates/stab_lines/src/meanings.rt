@@ -74,13 +74,11 @@ fn kind(alloc: Global, instruction: Instruction, shape: &Shape) -> Result<Kind, 
             Ok(Kind::Swap(pairs(alloc, qubits.as_slice())?))
         }
         Instruction::Measure(measurement) => {
-            let targets = targets_alone::<MeasureTargets>(alloc, shape)?;
-            Ok(Kind::Measure(measurement, targets))
+            Ok(Kind::Measure(measurement, targets_alone::<MeasureTargets>(alloc, shape)?))
         }
         Instruction::Reset(axis) => Ok(Kind::Reset(axis, targets_alone::<Qubits>(alloc, shape)?)),
         Instruction::MeasureProducts => {
-            let products = targets_alone::<Products>(alloc, shape)?;
-            Ok(Kind::MeasureProducts(products))
+            Ok(Kind::MeasureProducts(targets_alone::<Products>(alloc, shape)?))
         }
         Instruction::Detector => {
             let coordinates = coordinates(alloc, shape.arguments)?;

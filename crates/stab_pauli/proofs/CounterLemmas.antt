@@ -6,8 +6,7 @@ use Rattle.stab_pauli.specs.declared.turn.Turn.TheVariants.{Zero}
 use Rattle.stab_pauli.specs.Turns.{turn_add}
 use Rattle.stab_pauli.specs.Letters.{◌⊕◌, letter_turn}
 use Rattle.stab_pauli.specs.Paulis.{string_turn}
-use Rattle.stab_pauli.proofs.TurnLemmas.{turn_add-mid}
-use Rattle.stab_pauli.proofs.WalkLemmas.{quarters, quarters-add, quarters-mod}
+use Rattle.stab_pauli.proofs.TurnLemmas.{turn_add-mid, quarters, quarters-add, quarters-mod}
 use lib.Count.{ones, ones_step, ones-ones}
 use Rattle.std.proofs.Math.Nat.{pow-suc}
 use Rattle.stab_pauli.specs.inner.Words.{lowest, letter_of_bits, word_letters, lane_turn, lanes_turn}

@@ -1,7 +1,7 @@
 -- Packed strings: appended words, and products.
 use Rattle.std.proofs.Common.{◌≡◌, ℕ, zero, suc, ◌+◌, ◌*◌, ◌/◌, refl, sym, ◌∙◌, ap, arith, Bool, List, [], ◌∷◌, ◌++◌, append_assoc, length, length-append, get_or}
 use Rattle.std.specs.Prelude.{bit_xor, bit_and}
-use Rattle.std.specs.Simd.Lanes.{zip2}
+use Rattle.std.specs.Simd.Lanes.{zip2, pick_l}
 use Rattle.stab_pauli.specs.declared.letter.Letter.{Letter}
 use Rattle.stab_pauli.specs.declared.turn.Turn.TheVariants.{Zero}
 use Rattle.stab_pauli.specs.Turns.{turn_add}
@@ -10,7 +10,7 @@ use Rattle.stab_pauli.specs.Paulis.{string_product, string_turn}
 use Rattle.stab_pauli.proofs.TurnLemmas.{turn_add-mid, turn_add-assoc, turn_add-zero}
 use Rattle.stab_pauli.specs.inner.Words.{lowest, letter_of_bits, word_letters, packed_letters, lanes_turn, counters_turn, xor_words}
 use Rattle.stab_pauli.proofs.BitLemmas.{half_xor, lowest_xor}
-use Rattle.stab_pauli.proofs.CounterLemmas.{lanes_step}
+use Rattle.stab_pauli.proofs.CounterLemmas.{lanes_step, lanes_sum}
 
 -- appended strings
 
@@ -104,11 +104,30 @@ counters_step k (t ∷ ts) (o ∷ os) (x1 ∷ x1s) (z1 ∷ z1s) (x2 ∷ x2s) (z2
     ∙ ap (turn_add (turn_add (lanes_turn k t o) (counters_turn k ts os))) (sym (packed_turn k x1 z1 x2 z2 x1s z1s x2s z2s))
 counters_step k ts os x1 z1 x2 z2 a b c d e = absurd (omega arith)
 
--- four pairs of counters, one by one
-pub counters_four : (k : ℕ) (ts os : List ℕ) → length ts ≡ 4 → length os ≡ 4
-    → counters_turn k ts os ≡ turn_add (turn_add (lanes_turn k (get_or ts 0 0) (get_or os 0 0)) (lanes_turn k (get_or ts 1 0) (get_or os 1 0)))
-    (turn_add (lanes_turn k (get_or ts 2 0) (get_or os 2 0)) (lanes_turn k (get_or ts 3 0) (get_or os 3 0)))
-counters_four k (t ∷ t' ∷ t'' ∷ t''' ∷ []) (o ∷ o' ∷ o'' ∷ o''' ∷ []) a b =
-    sym (turn_add-assoc (lanes_turn k t o) (lanes_turn k t' o') (turn_add (lanes_turn k t'' o'') (turn_add (lanes_turn k t''' o''') Zero)))
-    ∙ ap (λ y. turn_add (turn_add (lanes_turn k t o) (lanes_turn k t' o')) (turn_add (lanes_turn k t'' o'') y)) (turn_add-zero (lanes_turn k t''' o'''))
-counters_four k ts os a b = absurd (omega arith)
+-- four pairs of counters: the first and third and the second and fourth summed, and then both
+
+-- the lanes further on by two, and by one
+abbrev by_two : List ℕ → List ℕ
+by_two xs = pick_l 0 (xs ++ xs) (2 ∷ 3 ∷ 0 ∷ 1 ∷ [])
+
+abbrev by_one : List ℕ → List ℕ
+by_one xs = pick_l 0 (xs ++ xs) (1 ∷ 2 ∷ 3 ∷ 0 ∷ [])
+
+abbrev half_ones_all : List ℕ → List ℕ
+half_ones_all os = zip2 bit_xor os (by_two os)
+
+abbrev half_twos_all : List ℕ → List ℕ → List ℕ
+half_twos_all ts os = zip2 bit_xor (zip2 bit_xor ts (by_two ts)) (zip2 bit_and os (by_two os))
+
+pub counters_fold : (k : ℕ) (ts os : List ℕ) → length ts ≡ 4 → length os ≡ 4
+    → lanes_turn k
+    (get_or (zip2 bit_xor (zip2 bit_xor (half_twos_all ts os) (by_one (half_twos_all ts os))) (zip2 bit_and (half_ones_all os) (by_one (half_ones_all os)))) 0 0)
+    (get_or (zip2 bit_xor (half_ones_all os) (by_one (half_ones_all os))) 0 0)
+    ≡ counters_turn k ts os
+counters_fold k (t ∷ t' ∷ t'' ∷ t''' ∷ []) (o ∷ o' ∷ o'' ∷ o''' ∷ []) a b =
+    lanes_sum k (bit_xor (bit_xor t t'') (bit_and o o'')) (bit_xor o o'') (bit_xor (bit_xor t' t''') (bit_and o' o''')) (bit_xor o' o''')
+    ∙ (λ i. turn_add (lanes_sum k t o t'' o'' i) (lanes_sum k t' o' t''' o''' i))
+    ∙ turn_add-mid (lanes_turn k t o) (lanes_turn k t'' o'') (lanes_turn k t' o') (lanes_turn k t''' o''')
+    ∙ ap (λ y. turn_add (turn_add (lanes_turn k t o) (lanes_turn k t' o')) (turn_add (lanes_turn k t'' o'') y)) (sym (turn_add-zero (lanes_turn k t''' o''')))
+    ∙ turn_add-assoc (lanes_turn k t o) (lanes_turn k t' o') (turn_add (lanes_turn k t'' o'') (turn_add (lanes_turn k t''' o''') Zero))
+counters_fold k ts os a b = absurd (omega arith)

@@ -115,7 +115,7 @@ pub letter_at_place : (m : ℕ) (row : List ℕ) (q at : ℕ) → length row ≡
     → get_or (row_letters m row) q I ≡ bits_letter (get_or row at 0) (get_or row (at + 4) 0) (q % 64)
 letter_at_place m row q at e lt ea = get_or-place m row q e lt ∙ ap (λ n. bits_letter (get_or row n 0) (get_or row (n + 4) 0) (q % 64)) (sym ea)
 
-flips_bits : (x z : Bool) → flips (letter_of_bits x z) ≡ x
+pub flips_bits : (x z : Bool) → flips (letter_of_bits x z) ≡ x
 flips_bits false false = refl
 flips_bits false true = refl
 flips_bits true false = refl

@@ -5,7 +5,6 @@ use Rattle.std.specs.Simd.Lanes.{zip2, chunk, put_chunk}
 use Rattle.std.proofs.lemmas.List.{take-append-drop, drop_at, take_at, drop-drop, length-take-le, take-append-le, drop-append-le}
 use Rattle.std.proofs.lemmas.Simd.{length-chunk, put_chunk_is}
 use Rattle.stab_pauli.specs.declared.turn.Turn.{Turn}
-use Rattle.stab_pauli.specs.declared.turn.Turn.TheVariants.{Zero}
 use Rattle.stab_pauli.specs.Turns.{turn_add}
 use Rattle.stab_pauli.specs.Paulis.{string_product, string_turn}
 use Rattle.stab_pauli.proofs.TurnLemmas.{turn_add-zero, turn_add-assoc}
@@ -83,9 +82,6 @@ row_letters-drop m k p lt =
 -- the power counted in the blocks before k and that of the blocks from k on make the whole
 pub record IsRowTurnBefore (m : ℕ) (p q : List ℕ) (k : ℕ) (counted : Turn) : Type 0 where
   pub whole : turn_add counted (string_turn (row_letters (m - k) (drop (8 * k) p)) (row_letters (m - k) (drop (8 * k) q))) ≡ string_turn (row_letters m p) (row_letters m q)
-
-pub IsRowTurnBefore-none : (m : ℕ) (p q : List ℕ) (counted : Turn) → counted ≡ Zero → IsRowTurnBefore m p q 0 counted
-IsRowTurnBefore-none m p q counted e = let z : m - 0 ≡ m = omega arith in record { whole = rw (e, z) refl }
 
 pub IsRowTurnBefore-more : (m : ℕ) (p q : List ℕ) (k : ℕ) (counted counted' : Turn) (a b c d : List ℕ) → length p ≡ 8 * m → length q ≡ 8 * m → k < m
     → a ≡ chunk (8 * k) 4 p → b ≡ chunk (8 * k + 4) 4 p → c ≡ chunk (8 * k) 4 q → d ≡ chunk (8 * k + 4) 4 q

@@ -1,8 +1,9 @@
 -- Rows one after another: what a row that was replaced does to their letters, and products of padded rows.
-use Rattle.std.proofs.Common.{◌≡◌, ℕ, zero, suc, ◌+◌, ◌-◌, ◌*◌, ◌<◌, ◌≤◌, Bool, false, refl, sym, ◌∙◌, ap, List, [], ◌∷◌, ◌++◌, length, get_or, set, take, drop, arith, subst, inl, inr, length-drop}
+use Rattle.std.proofs.Common.{◌≡◌, ℕ, zero, suc, ◌+◌, ◌-◌, ◌*◌, ◌<◌, ◌≤◌, Bool, true, false, refl, sym, ◌∙◌, ap, List, [], ◌∷◌, ◌++◌, length, get_or, set, take, drop, arith, subst, inl, inr, length-drop}
 use Rattle.std.specs.Prelude.{◌⊎◌, ◌≢◌}
 use Rattle.std.proofs.Math.Seq.{take-length, drop-length}
 use Rattle.std.proofs.lemmas.Bool.{cases_order}
+use Rattle.std.specs.Bool.{beq, Decides}
 use Rattle.std.specs.List.{All}
 use Rattle.std.specs.Simd.Lanes.{zip2, chunk, put_chunk}
 use Rattle.std.proofs.lemmas.List.{drop-drop, length-take-le, take-append-drop, length-set, append-nil}
@@ -192,3 +193,9 @@ pub get_or-any : {A : Type 0} (xs : List A) (k : ℕ) (d e : A) → k < length x
 get_or-any [] k d e lt = absurd (omega arith)
 get_or-any (x ∷ xs) zero d e lt = refl
 get_or-any (x ∷ xs) (suc k) d e lt = get_or-any xs k d e (omega arith)
+
+pub Decides-beq : (x y : Bool) → Decides (beq x y) (x ≡ y)
+Decides-beq false false = (λ e. refl, λ e. refl)
+Decides-beq false true = (λ e. cc, λ e. cc)
+Decides-beq true false = (λ e. cc, λ e. cc)
+Decides-beq true true = (λ e. refl, λ e. refl)

@@ -1,8 +1,8 @@
--- Walks along packed strings: what a loop over the words knows, one word or one block of words later.
-use Rattle.std.proofs.Common.{◌≡◌, ℕ, ◌+◌, ◌<◌, ◌≤◌, refl, sym, ◌∙◌, ap, List, length, get_or, set, ◌-◌, inl, inr, arith, below_more}
+-- The words of a product: what a loop over them knows, some words later.
+use Rattle.std.proofs.Common.{◌≡◌, ℕ, ◌+◌, ◌<◌, ◌≤◌, sym, ◌∙◌, ap, List, length, get_or, ◌-◌, inl, inr, arith}
 use Rattle.std.specs.Prelude.{bit_xor, ◌⊎◌}
 use Rattle.std.specs.Simd.Lanes.{zip2, chunk, put_chunk}
-use Rattle.std.proofs.lemmas.List.{length-set, get_or-set_other, get_or-set_same, ext_get_or}
+use Rattle.std.proofs.lemmas.List.{ext_get_or}
 use Rattle.std.proofs.lemmas.Bool.{cases_order}
 use Rattle.std.proofs.lemmas.Simd.{get_or-zip2, length-zip2, length-chunk, get_or-chunk, length-put_chunk, get_or-put_chunk_below, get_or-put_chunk_at, get_or-put_chunk_above}
 use Rattle.stab_pauli.specs.inner.Words.{xor_words}
@@ -15,23 +15,7 @@ pub record IsXorBefore (p q : List ℕ) (k : ℕ) (now : List ℕ) : Type 0 wher
   pub done : (j : ℕ) → j < k → get_or now j 0 ≡ bit_xor (get_or p j 0) (get_or q j 0)
   pub rest : (j : ℕ) → k ≤ j → get_or now j 0 ≡ get_or p j 0
 
-pub IsXorBefore-none : (p q : List ℕ) → IsXorBefore p q 0 p
-IsXorBefore-none p q = record { size = refl; done = λ j lt. absurd (omega arith); rest = λ j le. refl }
-
-pub IsXorBefore-more : (p q : List ℕ) (k : ℕ) (now : List ℕ) → length p ≡ length q → k < length q
-    → IsXorBefore p q k now → IsXorBefore p q (k + 1) (set now k (bit_xor (get_or now k 0) (get_or q k 0)))
-IsXorBefore-more p q k now same lt is = record {
-  size = length-set now k v ∙ is.size;
-  done = below_more _ _
-      (λ j h. get_or-set_other now k j v 0 (omega arith) ∙ is.done j h)
-      (get_or-set_same now k v 0 (let s = is.size in omega arith) ∙ ap (λ t. bit_xor t (get_or q k 0)) (is.rest k (omega arith)));
-  rest = λ j h. get_or-set_other now k j v 0 (omega arith) ∙ is.rest j (omega arith);
-}
-  where
-    v : ℕ
-    v = bit_xor (get_or now k 0) (get_or q k 0)
-
--- the same, m words later
+-- the same where m more words were written
 pub IsXorBefore-block : (p q : List ℕ) (k m : ℕ) (now : List ℕ) → length p ≡ length q → k + m ≤ length q
     → IsXorBefore p q k now → IsXorBefore p q (k + m) (put_chunk k now (zip2 bit_xor (chunk k m now) (chunk k m q)))
 IsXorBefore-block p q k m now same le is = record {

@@ -315,4 +315,33 @@ impl PauliRows {
         flat::copy_from(words, count, self.blocks, a, other.words.as_slice());
         self.signs[a] = other.negative;
     }
+
+    /// Whether both have the same strings.
+    pub fn same(&self, other: &PauliRows) -> bool
+        ensures value { IsTrue result ↔ (self.now ≡ other.now) }
+    {
+        let same = self.signs.as_slice() == other.signs.as_slice();
+        if !same {
+            return false;
+        }
+        self.same_letters(other)
+    }
+
+    /// Whether both have as many strings over as many qubits, with the same letters, whatever their signs.
+    pub fn same_letters(&self, other: &PauliRows) -> bool
+        ensures value { IsTrue result ↔ (self.now.qubits ≡ other.now.qubits) × (unsigned_rows self.now ≡ unsigned_rows other.now) }
+    {
+        if self.qubits != other.qubits {
+            return false;
+        }
+        if self.signs.len() != other.signs.len() {
+            return false;
+        }
+        let words = self.words.as_slice();
+        let others = other.words.as_slice();
+        flat::same(words, others)
+    }
 }
+
+#[cfg(test)]
+mod tests;

@@ -1,3 +1,4 @@
+pub mod PairedRowsLemmas
 pub mod GateTables
 pub mod PlaceLemmas
 pub mod SymmetryLemmas
@@ -17,6 +18,7 @@ pub mod StabiliseLemmas
 pub mod GroupTestLemmas
 pub mod CollapseRuleLemmas
 pub mod TableCollapseLemmas
+pub mod CollapsedStringLemmas
 pub mod GateRowLemmas
 pub mod PairRowLemmas
 pub mod TableRowLemmas
@@ -30,3 +32,14 @@ pub mod MeasureLemmas
 pub mod TableauMeasureLemmas
 pub mod FixedLemmas
 pub mod TableauColumnLemmas
+pub mod BitLemmas
+pub mod ReducedLemmas
+pub mod RowsTellLemmas
+pub mod ExchangeLemmas
+pub mod EliminationStepLemmas
+pub mod EliminationEndLemmas
+pub mod SameGroupLemmas
+pub mod SignFrameLemmas
+pub mod BasisLemmas
+pub mod FrameLemmas
+pub mod SameStateLemmas

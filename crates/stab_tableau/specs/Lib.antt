@@ -3,6 +3,7 @@ pub mod GateLaws
 pub mod Rules
 pub mod Traces
 pub mod Groups
+pub mod Reduced
 pub mod Laws
 pub mod Tableaus
 pub mod Columns

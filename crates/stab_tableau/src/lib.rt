@@ -3,10 +3,14 @@
 //! - `gate`: the gates on one and on two qubits.
 //! - `tableau`: a state, its gates, the sign of any Pauli, measurements, stabilisers and destabilisers.
 //! - `collapse`: what a measurement answers, and what it does to the rows of a state.
-//! - `preimages`: the two rows that a state keeps for a qubit, and how gates and measurements change them.
+//! - `table`: the two rows that a state keeps for each qubit, all in one allocation.
+//! - `preimages`: how gates and measurements change the rows of a qubit.
 //! - `rows`: the rows of all qubits: preimages of strings, columns, and a pass over all of them.
+//! - `group`: whether two states have one group, and reading stabilisers.
+//! - `elimination`: rows that generate a group are made its reduced rows.
 //! - `gate_laws`: a gate is undone by its way back, and keeps products and commuting.
-//! - `laws`: the members of a sound trace are a group, outcomes keep it sound, and what is free.
+//! - `laws`: the members of a sound trace are a group, outcomes keep it sound, and what is free; a group has at most one
+//!   list of reduced rows, which tells it.
 //!
 //! `specs/` says by the stabiliser rules which signed Pauli strings stabilise a state; `specs/inner/` has what only private
 //! contracts cite.
@@ -17,12 +21,15 @@
 #![tactic(auto)]
 
 mod collapse;
+mod elimination;
 mod gate;
 pub mod gate_laws;
+mod group;
 pub mod laws;
 mod observable;
 mod preimages;
 mod rows;
+mod table;
 mod tableau;
 
 pub use collapse::Collapse;

@@ -1,12 +1,15 @@
+ghost use Rattle.std.specs.Prelude.{◌≡◌, IfOk, IfErr};
+ghost use Rattle.stab_pauli.specs.declared.refusal.Refusal.TheVariants.{OutOfMemory};
+
 use super::collapse::{Collapse, fixed_sign, measure};
+use super::elimination::eliminate;
 use super::gate::{Gate, PairGate};
 use super::observable::Observable;
-use super::preimages::Preimages;
-use super::rows;
-use stab_pauli::{Letter, Pauli, Refusal};
+use super::table::{Row, Table};
+use super::{group, preimages, rows};
+use stab_pauli::{Letter, Pauli, PauliRows, Refusal};
 use std::alloc::Global;
 use std::marker::Model;
-use std::mem;
 
 /// A stabiliser state on some qubits, at most 1,024.
 ///
@@ -16,9 +19,10 @@ use std::mem;
 /// are equal, and so all of this is.
 #[derive(Drop)]
 pub struct Tableau {
-    rows: Vec<Preimages>,
-    // Rows of the same size, to work with: so no gate and no measurement takes memory.
-    scratch: Preimages,
+    table: Table,
+    // Strings of the same length, to work with: so no gate and no measurement takes memory.
+    preimage: Pauli,
+    turning: Pauli,
 }
 
 impl Model for Tableau {
@@ -28,9 +32,9 @@ impl Model for Tableau {
 
     ghost Value = { TableauState };
 
-    ghost view = { λ t. record { qubits = length t.rows.items; rows = t.rows.items } };
+    ghost view = { λ t. record { qubits = length t.table; rows = t.table } };
 
-    ghost invariant = { λ t. IsTableau (length t.rows.items) t.rows.items t.scratch };
+    ghost invariant = { λ t. IsTableau (length t.table) t.table (record { x = t.preimage; z = t.turning }) };
 }
 
 impl Tableau {
@@ -41,7 +45,9 @@ impl Tableau {
     ghost use Rattle.stab_tableau.specs.Traces.{member};
     ghost use Rattle.stab_tableau.specs.Tableaus.{stabilises};
     ghost use Rattle.stab_tableau.specs.Rules.{outcome_by, is_free_by, projected_by};
-    ghost use Rattle.stab_tableau.specs.Groups.{IsStabiliserGroup};
+    ghost use Rattle.stab_tableau.specs.Groups.{IsStabiliserGroup, SameGroup};
+    ghost use Rattle.stab_tableau.specs.Reduced.{AreReduced};
+    ghost use Rattle.stab_tableau.specs.inner.Tables.{IsTableau};
     ghost use Rattle.stab_tableau.specs.Columns.{stabiliser_of, destabiliser_of, AreDual, CommutesWithAll, IsGenerated};
 
     /// The state of n qubits, all zero.
@@ -53,17 +59,14 @@ impl Tableau {
         ensures members { IfOk result (λ t. (p : Signed) → length p.letters ≡ n → stabilises t p ≡ member [] p) }
         ensures err { IfErr result (λ r. r ≡ OutOfMemory) }
     {
-        let mut rows = Vec::with_capacity(alloc, n)?;
-        for qubit in 0..n {
-            let x = Pauli::single(alloc, n, qubit, Letter::X)?;
-            let z = Pauli::single(alloc, n, qubit, Letter::Z)?;
-            rows.push(Preimages { x, z })?;
-        }
-        let x = Pauli::identity(alloc, n)?;
-        let z = Pauli::identity(alloc, n)?;
+        let mut table = Table::new(alloc, n)?;
+        rows::reset_rows(&mut table);
+        let preimage = Pauli::identity(alloc, n)?;
+        let turning = Pauli::identity(alloc, n)?;
         Ok(Tableau {
-            rows,
-            scratch: Preimages { x, z },
+            table,
+            preimage,
+            turning,
         })
     }
 
@@ -74,12 +77,22 @@ impl Tableau {
         ensures ok { IfOk result (λ t. t ≡ self.now) }
         ensures err { IfErr result (λ r. r ≡ OutOfMemory) }
     {
-        let mut rows = Vec::with_capacity(alloc, self.len())?;
-        for row in &self.rows {
-            rows.push(row.copy(alloc)?)?;
-        }
-        let scratch = self.scratch.copy(alloc)?;
-        Ok(Tableau { rows, scratch })
+        let table = self.table.copy(alloc)?;
+        let preimage = self.preimage.copy(alloc)?;
+        let turning = self.turning.copy(alloc)?;
+        Ok(Tableau {
+            table,
+            preimage,
+            turning,
+        })
+    }
+
+    /// Makes this state the other one, in the memory that the tableau has.
+    pub fn copy_from(&mut self, other: &Tableau)
+        requires same_qubits { self.old.qubits ≡ other.now.qubits }
+        ensures value { self.new ≡ other.now }
+    {
+        self.table.copy_from(&other.table);
     }
 
     /// Makes the state all zeros again, in the memory that the tableau has.
@@ -87,14 +100,14 @@ impl Tableau {
         ensures qubits { self.new.qubits ≡ self.old.qubits }
         ensures members { (p : Signed) → length p.letters ≡ self.old.qubits → stabilises self.new p ≡ member [] p }
     {
-        rows::reset_rows(self.rows.as_mut_slice());
+        rows::reset_rows(&mut self.table);
     }
 
     /// The number of qubits.
     pub fn len(&self) -> usize
         ensures value { result ≡ self.now.qubits }
     {
-        self.rows.len()
+        self.table.len()
     }
 
     /// Applies a gate to a qubit.
@@ -105,7 +118,7 @@ impl Tableau {
         ensures qubits { self.new.qubits ≡ self.old.qubits }
         ensures members { (p : Signed) → length p.letters ≡ self.old.qubits → stabilises self.new p ≡ stabilises self.old (back gate qubit p) }
     {
-        self.rows[qubit].apply(gate);
+        preimages::apply(&mut self.table, gate, qubit);
     }
 
     /// Applies a gate to two qubits; of a controlled gate the first is the control.
@@ -118,10 +131,7 @@ impl Tableau {
         ensures qubits { self.new.qubits ≡ self.old.qubits }
         ensures members { (p : Signed) → length p.letters ≡ self.old.qubits → stabilises self.new p ≡ stabilises self.old (back_pair gate first second p) }
     {
-        // One qubit's rows change places with the scratch rows, so that both can be written.
-        mem::swap(&mut self.rows[second], &mut self.scratch);
-        self.rows[first].apply_pair(&mut self.scratch, gate);
-        mem::swap(&mut self.rows[second], &mut self.scratch);
+        preimages::apply_pair(&mut self.table, gate, first, second);
     }
 
     /// The sign with which a string stabilises the state, true for -, or `None` where neither sign does.
@@ -133,11 +143,10 @@ impl Tableau {
         ensures some { (b : Bool) → (result ≡ Some b) ↔ (stabilises self.old (with_sign b pauli.now) ≡ true) }
         ensures none { (result ≡ None) ↔ (is_free_by (stabilises self.old) pauli.now ≡ true) }
     {
-        let preimage = &mut self.scratch.x;
-        rows::write_preimage(self.rows.as_slice(), pauli, preimage);
-        match self.scratch.x.first_flip() {
+        rows::write_preimage(&self.table, pauli, &mut self.preimage);
+        match self.preimage.first_flip() {
             Some(_) => None,
-            None => Some(self.scratch.x.is_negative()),
+            None => Some(self.preimage.is_negative()),
         }
     }
 
@@ -152,10 +161,15 @@ impl Tableau {
         ensures members { (p : Signed) → length p.letters ≡ self.old.qubits → stabilises self.new p ≡ projected_by (stabilises self.old) pauli.now result.outcome p }
         ensures unchanged { result.free ≡ false → self.new ≡ self.old }
     {
-        rows::write_preimage(self.rows.as_slice(), pauli, &mut self.scratch.x);
+        rows::write_preimage(&self.table, pauli, &mut self.preimage);
         let observable = &Observable::String(pauli);
-        let rows = self.rows.as_mut_slice();
-        measure(rows, &mut self.scratch, observable, coin)
+        measure(
+            &mut self.table,
+            &mut self.preimage,
+            &mut self.turning,
+            observable,
+            coin,
+        )
     }
 
     /// Measures one letter on a qubit: `collapse` of the string with that letter alone, which isn't built.
@@ -167,10 +181,15 @@ impl Tableau {
         ensures members { (p : Signed) → length p.letters ≡ self.old.qubits → stabilises self.new p ≡ projected_by (stabilises self.old) (single self.old.qubits qubit letter) result.outcome p }
         ensures unchanged { result.free ≡ false → self.new ≡ self.old }
     {
-        self.rows[qubit].copy_into(letter, &mut self.scratch.x);
+        preimages::copy_into(&self.table, qubit, letter, &mut self.preimage);
         let observable = &Observable::Single(letter, qubit);
-        let rows = self.rows.as_mut_slice();
-        measure(rows, &mut self.scratch, observable, coin)
+        measure(
+            &mut self.table,
+            &mut self.preimage,
+            &mut self.turning,
+            observable,
+            coin,
+        )
     }
 
     /// The outcome of a measurement of one letter on a qubit where it is fixed, or `None` where a coin would decide.
@@ -184,11 +203,11 @@ impl Tableau {
         ensures members { IfSome result (λ b. (p : Signed) → length p.letters ≡ self.old.qubits → stabilises self.old p ≡ projected_by (stabilises self.old) (single self.old.qubits qubit letter) b p) }
     {
         match letter {
-            Letter::X => fixed_sign(&self.rows[qubit].x),
-            Letter::Z => fixed_sign(&self.rows[qubit].z),
+            Letter::X => self.table.fixed_sign(Row::OfX, qubit),
+            Letter::Z => self.table.fixed_sign(Row::OfZ, qubit),
             Letter::I | Letter::Y => {
-                self.rows[qubit].copy_into(letter, &mut self.scratch.x);
-                fixed_sign(&self.scratch.x)
+                preimages::copy_into(&self.table, qubit, letter, &mut self.preimage);
+                fixed_sign(&self.preimage)
             }
         }
     }
@@ -206,9 +225,9 @@ impl Tableau {
         ensures err { IfErr result (λ r. r ≡ OutOfMemory) }
     {
         let mut stabiliser = Pauli::identity(alloc, self.len())?;
-        rows::write_column(self.rows.as_slice(), Letter::Z, k, &mut stabiliser);
-        rows::write_preimage(self.rows.as_slice(), &stabiliser, &mut self.scratch.x);
-        stabiliser.negate_if(self.scratch.x.is_negative());
+        rows::write_column(&self.table, Letter::Z, k, &mut stabiliser);
+        rows::write_preimage(&self.table, &stabiliser, &mut self.preimage);
+        stabiliser.negate_if(self.preimage.is_negative());
         Ok(stabiliser)
     }
 
@@ -222,7 +241,7 @@ impl Tableau {
         ensures err { IfErr result (λ r. r ≡ OutOfMemory) }
     {
         let mut destabiliser = Pauli::identity(alloc, self.len())?;
-        rows::write_column(self.rows.as_slice(), Letter::X, k, &mut destabiliser);
+        rows::write_column(&self.table, Letter::X, k, &mut destabiliser);
         Ok(destabiliser)
     }
 
@@ -231,7 +250,7 @@ impl Tableau {
     pub fn stabilises_a_group(&self)
         ensures law { IsStabiliserGroup self.now.qubits (stabilises self.now) }
     {
-        let _ = &self.rows;
+        let _ = &self.table;
     }
 
     /// A law, and no work: stabilisers commute, destabilisers commute, and a stabiliser and a destabiliser anticommute
@@ -239,7 +258,7 @@ impl Tableau {
     pub fn stabilisers_are_dual(&self)
         ensures law { (j k : ℕ) → j < self.now.qubits → k < self.now.qubits → AreDual self.now j k }
     {
-        let _ = &self.rows;
+        let _ = &self.table;
     }
 
     /// A law, and no work: a string that commutes with every string that stabilises the state is, up to sign, the
@@ -247,6 +266,93 @@ impl Tableau {
     pub fn stabilisers_generate(&self)
         ensures law { (p : Signed) → length p.letters ≡ self.now.qubits → CommutesWithAll self.now p → IsGenerated self.now p }
     {
-        let _ = &self.rows;
+        let _ = &self.table;
     }
+
+    /// Whether two states on as many qubits are stabilised by the same signed strings; it takes no memory.
+    ///
+    /// Cheapest first: equal rows; rows that differ in their signs alone; else each stabiliser of this state, up to the
+    /// first that does not stabilise the other.
+    pub fn same_group(&mut self, other: &mut Tableau) -> bool
+        requires same_length { other.old.qubits ≡ self.old.qubits }
+        ensures unchanged { self.new ≡ self.old }
+        ensures other_unchanged { other.new ≡ other.old }
+        ensures value { (result ≡ true) ↔ SameGroup self.old.qubits (stabilises self.old) (stabilises other.old) }
+    {
+        if self.table.same(&other.table) {
+            return true;
+        }
+        if self.table.same_letters(&other.table) {
+            return group::same_by_signs(
+                &self.table,
+                &other.table,
+                &mut self.preimage,
+                &mut self.turning,
+            );
+        }
+        other.has_stabilisers(&self.table, &mut self.preimage, &mut self.turning)
+    }
+
+    // Whether each stabiliser of a table stabilises this state: then both have one group, since any other string of the
+    // one commutes with all of them and so is, up to sign, their product.
+    fn has_stabilisers(
+        &mut self,
+        table: &Table,
+        preimage: &mut Pauli,
+        stabiliser: &mut Pauli,
+    ) -> bool
+        requires tableau { IsTableau (length table.now) table.now (record { x = preimage.old; z = stabiliser.old }) }
+        requires same_length { self.old.qubits ≡ length table.now }
+        ensures unchanged { self.new ≡ self.old }
+        ensures tableau { IsTableau (length table.now) table.now (record { x = preimage.new; z = stabiliser.new }) }
+        ensures value { (result ≡ true) ↔ SameGroup (length table.now) (stabilises (record { qubits = length table.now; rows = table.now })) (stabilises self.old) }
+    {
+        self.stabilises_a_group();
+        for k in 0..table.len() {
+            group::write_stabiliser(table, k, preimage, stabiliser);
+            match self.sign_of(stabiliser) {
+                None => return false,
+                Some(negative) => {
+                    if negative {
+                        return false;
+                    }
+                }
+            }
+        }
+        true
+    }
+
+    /// The reduced rows of the strings that stabilise the state, n in number: by ascending place of the first 1 of some
+    /// of these strings, bits in the order x_0 .. x_(n-1), z_0 .. z_(n-1), the one with its first 1 there and 0 at every
+    /// other such place.
+    ///
+    /// States of one group have the same reduced rows, and only they. Refusal `OutOfMemory` alone.
+    pub fn reduced_rows(&mut self, alloc: Global) -> Result<Vec<Pauli>, Refusal>
+        ensures unchanged { self.new ≡ self.old }
+        ensures count { IfOk result (λ rows. length rows.items ≡ self.old.qubits) }
+        ensures reduced { IfOk result (λ rows. AreReduced self.old.qubits (stabilises self.old) rows.items) }
+        ensures err { IfErr result (λ r. r ≡ OutOfMemory) }
+    {
+        self.stabilises_a_group();
+        let table = &self.table;
+        let n = table.len();
+        let mut rows = PauliRows::new(alloc, n, n)?;
+        group::write_stabilisers(table, &mut self.preimage, &mut self.turning, &mut rows);
+        eliminate(&mut rows);
+        strings_of(alloc, &rows)
+    }
+}
+
+// The strings of rows, each in memory of its own.
+fn strings_of(alloc: Global, rows: &PauliRows) -> Result<Vec<Pauli>, Refusal>
+    ensures ok { IfOk result (λ strings. strings.items ≡ rows.now.rows) }
+    ensures err { IfErr result (λ r. r ≡ OutOfMemory) }
+{
+    let mut strings = Vec::with_capacity(alloc, rows.len())?;
+    for row in 0..rows.len() {
+        let mut string = Pauli::identity(alloc, rows.qubits())?;
+        rows.copy_row(row, &mut string);
+        strings.push(string)?;
+    }
+    Ok(strings)
 }

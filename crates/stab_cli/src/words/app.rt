@@ -1,6 +1,7 @@
 //! The commands of the program and their options, as the command line reader is told of them.
 ghost use Rattle.std.specs.Prelude.{IfOk};
-ghost use Rattle.stab_cli.specs.Options.{IsApp, IsOption, alone, flag, named, numbered, shot_command, stabsim, valued};
+ghost use Rattle.stab_cli.specs.Options.{alone, flag, named, numbered, shot_command, stabsim, valued};
+ghost use Rattle.stab_cli.specs.inner.Parts.{IsApp, IsOption};
 
 use clap::builder::ValueParser;
 use clap::{Arg, ArgAction, Command};

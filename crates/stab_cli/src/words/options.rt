@@ -4,6 +4,7 @@ ghost use Rattle.clap.specs.Words.{IsUnsignedIn, first_of, found_of, has_subcomm
 ghost use Rattle.stab_cli.specs.Asked.{IsCommand, IsJob, IsNamed, IsSet, IsSource, IsWritten, RefusesCoins, coin_character, coin_text};
 ghost use Rattle.stab_cli.specs.Options.{most_seed, most_shots};
 ghost use Rattle.stab_cli.specs.declared.words.Usage.{Usage};
+ghost use Rattle.stab_cli.specs.inner.Parts.{IsCommandName};
 
 use crate::words::Usage;
 use clap::ArgMatches;
@@ -110,8 +111,9 @@ fn path(alloc: Global, options: &ArgMatches, id: &str) -> Result<Option<String>,
     }
 }
 
-/// The command of a name, with its own options. The command line reader takes no other name.
+/// The command of a name, with its own options.
 fn command(name: &str, options: &ArgMatches) -> Command
+    requires named { IsCommandName name.now }
     ensures command { IsCommand name.now (rows_of (found_of options.now)) result }
 {
     let format = format(options);
@@ -128,6 +130,7 @@ fn command(name: &str, options: &ArgMatches) -> Command
 
 /// The job of a command with these options.
 pub(crate) fn job(alloc: Global, name: &str, options: &ArgMatches) -> Result<Job, Usage>
+    requires named { IsCommandName name.now }
     ensures job { IfOk result (IsJob name.now (rows_of (found_of options.now))) }
     ensures refused { IfErr result (RefusesCoins (first_of (codes "coins") (rows_of (found_of options.now)))) }
 {

@@ -1,5 +1,5 @@
 -- Packed strings: k letters to a pair of words, one word for the X bits and one for the Z bits.
-use Rattle.std.specs.Prelude.{ℕ, zero, suc, ◌/◌, ◌%◌, Bool, true, false, eqb, bit_xor, List, [], ◌∷◌, ◌++◌}
+use Rattle.std.specs.Prelude.{ℕ, zero, suc, ◌/◌, ◌%◌, ◌^◌, ◌<◌, slice_index, Bool, true, false, eqb, bit_xor, List, [], ◌∷◌, ◌++◌}
 use Rattle.std.specs.Simd.Lanes.{zip2, chunk, put_chunk}
 use Rattle.stab_pauli.specs.declared.letter.Letter.{Letter}
 use Rattle.stab_pauli.specs.declared.letter.Letter.TheVariants.{I, X, Y, Z}
@@ -54,3 +54,7 @@ xor_words = zip2 bit_xor
 -- the size words from a on and those from b on have changed places
 abbrev pub swapped_words : ℕ → ℕ → ℕ → List ℕ → List ℕ
 swapped_words a b size words = put_chunk b (put_chunk a words (chunk b size words)) (chunk a size words)
+
+-- each word has so many bits
+pub record AreShort (k : ℕ) (words : List ℕ) : Type 0 where
+  pub below : (i : ℕ) → slice_index words i < 2 ^ k

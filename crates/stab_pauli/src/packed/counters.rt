@@ -15,17 +15,6 @@ pub(crate) struct Counters {
 }
 
 impl Counters {
-    /// The sums of two, lane by lane.
-    #[inline(always)]
-    pub(crate) fn plus(self, other: Counters) -> Counters
-        ensures value { lanes_turn 64 result.twos result.ones ≡ turn_add (lanes_turn 64 self.twos self.ones) (lanes_turn 64 other.twos other.ones) }
-    {
-        Counters {
-            ones: self.ones ^ other.ones,
-            twos: (self.twos ^ other.twos) ^ (self.ones & other.ones),
-        }
-    }
-
     /// Their sum as a power of i.
     #[inline(always)]
     pub(crate) fn turn(self) -> Turn
@@ -80,29 +69,20 @@ impl WideCounters {
         self.folded().turn()
     }
 
-    // The sums of the four pairs of words, lane by lane.
+    // The sums of the four pairs of words, lane by lane: of the first and third and of the second and fourth, and
+    // then of both.
     #[inline(always)]
     fn folded(self) -> Counters
         ensures value { lanes_turn 64 result.twos result.ones ≡ counters_turn 64 self.twos self.ones }
     {
-        let ones = self.ones.to_array();
-        let twos = self.twos.to_array();
-        let first = Counters {
-            ones: ones[0],
-            twos: twos[0],
-        };
-        let second = Counters {
-            ones: ones[1],
-            twos: twos[1],
-        };
-        let third = Counters {
-            ones: ones[2],
-            twos: twos[2],
-        };
-        let fourth = Counters {
-            ones: ones[3],
-            twos: twos[3],
-        };
-        first.plus(second).plus(third.plus(fourth))
+        let others = self.ones.rotate_elements_left::<2>();
+        let ones = self.ones ^ others;
+        let twos = (self.twos ^ self.twos.rotate_elements_left::<2>()) ^ (self.ones & others);
+        let next = ones.rotate_elements_left::<1>();
+        let sum = (twos ^ twos.rotate_elements_left::<1>()) ^ (ones & next);
+        Counters {
+            ones: (ones ^ next).to_array()[0],
+            twos: sum.to_array()[0],
+        }
     }
 }

@@ -1,9 +1,9 @@
 //! Rows that lie side by side in one slice of words.
 
-ghost use Rattle.std.specs.Prelude.{◌≡◌, ◌≢◌, ◌+◌, ◌*◌, ◌<◌, ◌≤◌, ◌⊎◌, length, replicate, slice_set};
+ghost use Rattle.std.specs.Prelude.{◌≡◌, ◌≢◌, ◌+◌, ◌*◌, ◌<◌, ◌≤◌, ◌⊎◌, ◌↔◌, IsTrue, length, replicate, slice_set};
 ghost use Rattle.std.specs.Simd.Lanes.{chunk, put_chunk};
 ghost use Rattle.stab_pauli.specs.Paulis.{string_turn};
-ghost use Rattle.stab_pauli.specs.inner.Words.{xor_words, swapped_words};
+ghost use Rattle.stab_pauli.specs.inner.Words.{xor_words, swapped_words, AreShort};
 ghost use Rattle.stab_pauli.specs.inner.Blocks.{row_letters, IsRewritten};
 
 use crate::letter::Letter;
@@ -159,4 +159,16 @@ fn swap_at(words: &mut [u64], blocks: usize, a: usize, b: usize)
         second.copy_to_slice(&mut words[a + 4 * half..]);
         first.copy_to_slice(&mut words[b + 4 * half..]);
     }
+}
+
+/// Whether both are the same words. That words have 64 bits is known of slices at hand, and handed back to the caller.
+#[inline(always)]
+pub(crate) fn same(words: &[u64], others: &[u64]) -> bool
+    requires are_short { AreShort 64 words.now }
+    requires others_are_short { AreShort 64 others.now }
+    ensures value { IsTrue result ↔ (words.now ≡ others.now) }
+    ensures short { AreShort 64 words.now }
+    ensures others_short { AreShort 64 others.now }
+{
+    words == others
 }

@@ -3,7 +3,7 @@ use Rattle.std.specs.Prelude.{ℕ, Bool, true, false, List, [], ◌∷◌}
 use Rattle.stab_pauli.specs.declared.letter.Letter.{Letter}
 use Rattle.stab_pauli.specs.declared.letter.Letter.TheVariants.{I, X, Y, Z}
 use Rattle.stab_pauli.specs.Letters.{letters_anticommute}
-use Rattle.stab_tableau.specs.declared.preimages.Preimages.{Preimages}
+use Rattle.stab_tableau.specs.inner.Preimages.{Preimages}
 use Rattle.stab_tableau.specs.Gates.{letter_at}
 
 -- the letter that anticommutes with X, and with Z, just where the bits say so

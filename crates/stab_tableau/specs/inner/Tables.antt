@@ -1,10 +1,9 @@
 -- Tables: what a tableau keeps, and what a measurement makes of its rows.
 use Rattle.std.specs.Prelude.{◌≡◌, ℕ, Bool, false, List, length}
 use Rattle.stab_pauli.specs.Paulis.{Signed}
-use Rattle.stab_tableau.specs.declared.preimages.Preimages.{Preimages}
 use Rattle.stab_tableau.specs.Rules.{outcome_by, is_free_by, projected_by}
 use Rattle.stab_tableau.specs.Tableaus.{stabilises}
-use Rattle.stab_tableau.specs.inner.Preimages.{IsOver, IsTable, IsOnto}
+use Rattle.stab_tableau.specs.inner.Preimages.{Preimages, IsOver, IsTable, IsOnto}
 
 -- what a tableau keeps: rows by which preimages keep products and reach every string, and rows of their size to work with
 pub record IsTableau (n : ℕ) (rows : List Preimages) (scratch : Preimages) : Type 0 where

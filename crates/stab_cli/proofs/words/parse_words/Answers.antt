@@ -4,7 +4,24 @@ use Rattle.clap.specs.Faults.{fault_of}
 use Rattle.clap.specs.Walk.{texts}
 use Rattle.stab_cli.specs.Options.{format_names, stabsim}
 use Rattle.stab_cli.proofs.EndingLaws.{ends_with_command, ends_with_error, found_command, has_account, has_whole_account}
+use Rattle.stab_cli.proofs.NameLaws.{own_name}
 use Rattle.stab_cli.proofs.words.parse_words.Goals as goal
+
+pub job-requires : goal.job-requires
+job-requires c =
+    let formats = c.as_slice.result in
+    let words : List Text = map (λ w. w.now) c.args.words.now in
+    let is = c.in_ok-app.ensures.app.0 in
+    let name = c.unwrap.result.0.now in
+    let options = rows_of (found_of c.unwrap.result.1.now) in
+    let found = found_command c.in-Ok.matches name options
+    (sym c.subcommand.ensures.name ∙ ap (option_map (λ p. p.0.now)) c.unwrap.ensures)
+    (sym c.subcommand.ensures.rows ∙ ap (option_map (λ p. rows_of (found_of p.1.now))) c.unwrap.ensures) in
+    let account = (c.in-Ok.ensures.matches (ap is_simple is ∙ has_account formats)).1 in
+    let faultless = c.in-Ok.ensures.kinds (ap is_simple_and_free is ∙ has_whole_account formats) in
+    record {
+      named = own_name formats words name options (sym (ap (λ app. fault_of app words) is) ∙ faultless) (sym (ap (λ app. subcommand_of app words) is) ∙ (sym account ∙ found));
+    }
 
 pub returns-in-Ok : goal.returns-in-Ok
 returns-in-Ok c =

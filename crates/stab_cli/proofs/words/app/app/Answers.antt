@@ -1,6 +1,7 @@
 use Rattle.std.proofs.Common.{rules}
 use Rattle.std.proofs.lemmas.Result.{IfOk-weaker}
-use Rattle.stab_cli.specs.Options.{IsApp, bare}
+use Rattle.stab_cli.specs.Options.{bare}
+use Rattle.stab_cli.specs.inner.Parts.{IsApp}
 use Rattle.stab_cli.proofs.CommandLaws.{with_command, with_option}
 use Rattle.stab_cli.proofs.words.app.app.Goals as goal
 

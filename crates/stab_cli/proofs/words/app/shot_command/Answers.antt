@@ -2,7 +2,7 @@ use Rattle.std.proofs.Common.{ap, ◌∙◌}
 use Rattle.std.proofs.lemmas.Result.{IfOk-weaker}
 use Rattle.clap.specs.Words.{new_app}
 use Rattle.clap.specs.Simple.{app_of_fields}
-use Rattle.stab_cli.specs.Options.{IsApp}
+use Rattle.stab_cli.specs.inner.Parts.{IsApp}
 use Rattle.stab_cli.proofs.CommandLaws.{with_option}
 use Rattle.stab_cli.proofs.words.app.shot_command.Goals as goal
 

@@ -1,0 +1,258 @@
+-- Rows are told by their letters: equal letters lie in equal words.
+use Rattle.std.proofs.Common.{◌≡◌, ℕ, zero, suc, ◌+◌, ◌*◌, ◌/◌, ◌%◌, ◌^◌, ◌<◌, Bool, true, false, refl, sym, ◌∙◌, ap, List, [], ◌∷◌, ◌++◌, length, get_or, take, drop, map, arith, rules, subst, inl, inr, eqb, length-drop}
+use Rattle.std.specs.Prelude.{◌⊎◌}
+use Rattle.std.specs.List.{All}
+use Rattle.std.specs.Bool.{IsTrue}
+use Rattle.std.specs.Simd.Lanes.{zip2}
+use Rattle.std.proofs.Math.Nat.{pow-suc}
+use Rattle.std.proofs.lemmas.List.{take_at, drop_at, take-append-drop, drop-drop, get_or-drop, length-map, length-take-le}
+use Rattle.std.proofs.lemmas.List.Elements.{All-head, All-tail}
+use Rattle.stab_pauli.specs.declared.letter.Letter.{Letter}
+use Rattle.stab_pauli.specs.declared.letter.Letter.TheVariants.{I, X, Y, Z}
+use Rattle.stab_pauli.specs.Flips.{flips}
+use Rattle.stab_pauli.specs.Paulis.{Signed}
+use Rattle.stab_pauli.specs.Rows.{Rows, unsigned_rows}
+use Rattle.stab_pauli.specs.inner.Words.{lowest, letter_of_bits, word_letters, packed_letters, AreShort}
+use Rattle.stab_pauli.specs.inner.Blocks.{row_letters, blocks_of, full_rows, IsPadded, signed_row}
+use Rattle.stab_pauli.proofs.BitLemmas.{two_cases, below_two}
+use Rattle.stab_pauli.proofs.PlaceLemmas.{flips_bits}
+use Rattle.stab_pauli.proofs.PackedLemmas.{length-word_letters}
+use Rattle.stab_pauli.proofs.RowLemmas.{length-front, length-second, length-rest, length-block}
+use Rattle.stab_pauli.proofs.TableLemmas.{length-full_rows}
+use Rattle.stab_pauli.proofs.SeenLemmas.{IsSeen, rows_seen, AreAlike, both_seen}
+
+-- letters
+
+-- whether a letter has a Z bit
+flips_phase : Letter → Bool
+flips_phase I = false
+flips_phase X = false
+flips_phase Y = true
+flips_phase Z = true
+
+phase_bits : (x z : Bool) → flips_phase (letter_of_bits x z) ≡ z
+unfolding flips_phase
+phase_bits false false = refl
+phase_bits false true = refl
+phase_bits true false = refl
+phase_bits true true = refl
+
+x_told : (a b c d : Bool) → letter_of_bits a b ≡ letter_of_bits c d → a ≡ c
+x_told a b c d e = sym (flips_bits a b) ∙ ap flips e ∙ flips_bits c d
+
+z_told : (a b c d : Bool) → letter_of_bits a b ≡ letter_of_bits c d → b ≡ d
+z_told a b c d e = sym (phase_bits a b) ∙ ap flips_phase e ∙ phase_bits c d
+
+-- words
+
+lowest_told : (x y : ℕ) → lowest x ≡ lowest y → x % 2 ≡ y % 2
+lowest_told x y e = by_cases (two_cases (x % 2) (below_two x)) (two_cases (y % 2) (below_two y))
+  where
+    by_cases : (x % 2 ≡ 0) ⊎ (x % 2 ≡ 1) → (y % 2 ≡ 0) ⊎ (y % 2 ≡ 1) → x % 2 ≡ y % 2
+    by_cases (inl p) (inl q) = p ∙ sym q
+    by_cases (inl p) (inr q) = absurd (no (ap (λ n. eqb n 1) (sym p) ∙ e ∙ ap (λ n. eqb n 1) q))
+      where
+        no : false ≡ true → ⊥
+        no h = cc
+    by_cases (inr p) (inl q) = absurd (no (ap (λ n. eqb n 1) (sym p) ∙ e ∙ ap (λ n. eqb n 1) q))
+      where
+        no : true ≡ false → ⊥
+        no h = cc
+    by_cases (inr p) (inr q) = p ∙ sym q
+
+half_below : (n k : ℕ) → n < 2 ^ suc k → n / 2 < 2 ^ k
+half_below n k h = let e : 2 ^ suc k ≡ 2 ^ k * 2 = pow-suc 2 k in omega (arith, e)
+
+whole : (x y : ℕ) → x % 2 ≡ y % 2 → x / 2 ≡ y / 2 → x ≡ y
+whole x y e f = omega arith
+
+word_told : (k x z x' z' : ℕ) → x < 2 ^ k → z < 2 ^ k → x' < 2 ^ k → z' < 2 ^ k → word_letters k x z ≡ word_letters k x' z' → (x ≡ x') × (z ≡ z')
+unfolding word_letters
+word_told zero x z x' z' hx hz hx' hz' e = (omega arith, omega arith)
+word_told (suc k) x z x' z' hx hz hx' hz' e =
+    let head : letter_of_bits (lowest x) (lowest z) ≡ letter_of_bits (lowest x') (lowest z') = ap (λ (l : List Letter). get_or l 0 I) e in
+    let rest = word_told k (x / 2) (z / 2) (x' / 2) (z' / 2) (half_below x k hx) (half_below z k hz) (half_below x' k hx') (half_below z' k hz') (ap (drop 1) e) in
+    (whole x x' (lowest_told x x' (x_told (lowest x) (lowest z) (lowest x') (lowest z') head)) rest.0, whole z z' (lowest_told z z' (z_told (lowest x) (lowest z) (lowest x') (lowest z') head)) rest.1)
+
+-- words of k bits
+
+pub AreShort-same : (k : ℕ) (ws now : List ℕ) → now ≡ ws → AreShort k now → AreShort k ws
+AreShort-same k ws now e s = subst (AreShort k) e s
+
+short_head : (k w : ℕ) (ws : List ℕ) → AreShort k (w ∷ ws) → w < 2 ^ k
+short_head k w ws s = s.below 0
+
+short_tail : (k w : ℕ) (ws : List ℕ) → AreShort k (w ∷ ws) → AreShort k ws
+short_tail k w ws s = record { below = λ i. s.below (suc i) }
+
+short_drop : (k n : ℕ) (ws : List ℕ) → AreShort k ws → AreShort k (drop n ws)
+short_drop k n ws s = record { below = λ i. rw (get_or-drop n ws i 0) (s.below (n + i)) }
+
+short_more : (k w : ℕ) (ws : List ℕ) → w < 2 ^ k → AreShort k ws → AreShort k (w ∷ ws)
+short_more k w ws h s = record { below = at }
+  where
+    at : (i : ℕ) → get_or (w ∷ ws) i 0 < 2 ^ k
+    at zero = h
+    at (suc i) = s.below i
+
+short_take : (k n : ℕ) (ws : List ℕ) → AreShort k ws → AreShort k (take n ws)
+short_take k zero ws s = record { below = λ i. let h = s.below 0 in omega arith }
+short_take k (suc n) [] s = s
+short_take k (suc n) (w ∷ ws) s = short_more k w (take n ws) (s.below 0) (short_take k n ws (short_tail k w ws s))
+
+packed_told : (k : ℕ) (xs zs xs' zs' : List ℕ) → length xs ≡ length zs → length xs ≡ length xs' → length xs ≡ length zs'
+    → AreShort k xs → AreShort k zs → AreShort k xs' → AreShort k zs' → packed_letters k xs zs ≡ packed_letters k xs' zs' → (xs ≡ xs') × (zs ≡ zs')
+packed_told k [] [] [] [] a b c sx sz sx' sz' e = (refl, refl)
+packed_told k (x ∷ xs) (z ∷ zs) (x' ∷ xs') (z' ∷ zs') a b c sx sz sx' sz' e =
+    let rest = packed_told k xs zs xs' zs' (omega arith) (omega arith) (omega arith) (short_tail k x xs sx) (short_tail k z zs sz) (short_tail k x' xs' sx') (short_tail k z' zs' sz')
+    (sym (drop_at (word_letters k x z) (packed_letters k xs zs) k (length-word_letters k x z)) ∙ ap (drop k) e ∙ drop_at (word_letters k x' z') (packed_letters k xs' zs') k (length-word_letters k x' z')) in
+    ((λ i. first.0 i ∷ rest.0 i), (λ i. first.1 i ∷ rest.1 i))
+  where
+    first : (x ≡ x') × (z ≡ z')
+    first = word_told k x z x' z' (short_head k x xs sx) (short_head k z zs sz) (short_head k x' xs' sx') (short_head k z' zs' sz')
+        (sym (take_at (word_letters k x z) (packed_letters k xs zs) k (length-word_letters k x z)) ∙ ap (take k) e ∙ take_at (word_letters k x' z') (packed_letters k xs' zs') k (length-word_letters k x' z'))
+packed_told k xs zs xs' zs' a b c sx sz sx' sz' e = absurd (omega arith)
+
+-- rows
+
+parts : (p : List ℕ) → take 4 p ++ (take 4 (drop 4 p) ++ drop 8 p) ≡ p
+parts p = ap (λ t. take 4 p ++ (take 4 (drop 4 p) ++ t)) (sym (drop-drop 4 4 p)) ∙ ap (λ t. take 4 p ++ t) (take-append-drop 4 (drop 4 p)) ∙ take-append-drop 4 p
+
+none_told : (p q : List ℕ) → length p ≡ 0 → length q ≡ 0 → p ≡ q
+none_told [] [] a b = refl
+none_told [] (y ∷ q) a b = absurd (omega arith)
+none_told (x ∷ p) q a b = absurd (omega arith)
+
+row_told : (m : ℕ) (p q : List ℕ) → length p ≡ 8 * m → length q ≡ 8 * m → AreShort 64 p → AreShort 64 q → row_letters m p ≡ row_letters m q → p ≡ q
+row_told zero p q lp lq sp sq e = none_told p q lp lq
+row_told (suc m) p q lp lq sp sq e =
+    let rest = row_told m (drop 8 p) (drop 8 q) (length-rest m p lp) (length-rest m q lq) (short_drop 64 8 p sp) (short_drop 64 8 q sq)
+    (sym (drop_at (packed_letters 64 (take 4 p) (take 4 (drop 4 p))) (row_letters m (drop 8 p)) 256 (lb p lp)) ∙ ap (drop 256) e
+    ∙ drop_at (packed_letters 64 (take 4 q) (take 4 (drop 4 q))) (row_letters m (drop 8 q)) 256 (lb q lq)) in
+    sym (parts p) ∙ (λ i. block.0 i ++ (block.1 i ++ rest i)) ∙ parts q
+  where
+    lb : (r : List ℕ) → length r ≡ 8 * suc m → length (packed_letters 64 (take 4 r) (take 4 (drop 4 r))) ≡ 256
+    lb r l = length-block (take 4 r) (take 4 (drop 4 r)) (length-front m r l) (length-second m r l)
+
+    block : (take 4 p ≡ take 4 q) × (take 4 (drop 4 p) ≡ take 4 (drop 4 q))
+    block = packed_told 64 (take 4 p) (take 4 (drop 4 p)) (take 4 q) (take 4 (drop 4 q))
+        (length-front m p lp ∙ sym (length-second m p lp)) (length-front m p lp ∙ sym (length-front m q lq)) (length-front m p lp ∙ sym (length-second m q lq))
+        (short_take 64 4 p sp) (short_take 64 4 (drop 4 p) (short_drop 64 4 p sp)) (short_take 64 4 q sq) (short_take 64 4 (drop 4 q) (short_drop 64 4 q sq))
+        (sym (take_at (packed_letters 64 (take 4 p) (take 4 (drop 4 p))) (row_letters m (drop 8 p)) 256 (lb p lp)) ∙ ap (take 256) e
+        ∙ take_at (packed_letters 64 (take 4 q) (take 4 (drop 4 q))) (row_letters m (drop 8 q)) 256 (lb q lq))
+
+rows_told : (m count : ℕ) (p q : List ℕ) → length p ≡ 8 * m * count → length q ≡ 8 * m * count → AreShort 64 p → AreShort 64 q → full_rows m p count ≡ full_rows m q count → p ≡ q
+rows_told m zero p q lp lq sp sq e = none_told p q (lp ∙ none) (lq ∙ none)
+  where
+    none : 8 * m * 0 ≡ 0
+    none = omega arith
+rows_told m (suc count) p q lp lq sp sq e =
+    let rest = rows_told m count (drop (8 * m) p) (drop (8 * m) q) (lr p lp) (lr q lq) (short_drop 64 (8 * m) p sp) (short_drop 64 (8 * m) q sq) (ap (drop 1) e) in
+    sym (take-append-drop (8 * m) p) ∙ (λ i. first i ++ rest i) ∙ take-append-drop (8 * m) q
+  where
+    one : 8 * m * suc count ≡ 8 * m + 8 * m * count
+    one = grind arith
+
+    lf : (r : List ℕ) → length r ≡ 8 * m * suc count → length (take (8 * m) r) ≡ 8 * m
+    lf r l = length-take-le (8 * m) r (omega (arith, one))
+
+    lr : (r : List ℕ) → length r ≡ 8 * m * suc count → length (drop (8 * m) r) ≡ 8 * m * count
+    lr r l = omega (arith, one, length-drop (8 * m) r)
+
+    first : take (8 * m) p ≡ take (8 * m) q
+    first = row_told m (take (8 * m) p) (take (8 * m) q) (lf p lp) (lf q lq) (short_take 64 (8 * m) p sp) (short_take 64 (8 * m) q sq) (ap (λ (l : List (List Letter)). get_or l 0 []) e)
+
+-- the first n letters tell rows whose other letters are I
+
+padded_told : (n m : ℕ) (ls ls' : List (List Letter)) → All (IsPadded n m) ls → All (IsPadded n m) ls' → map (take n) ls ≡ map (take n) ls' → ls ≡ ls'
+padded_told n m [] [] h h' e = refl
+padded_told n m [] (l' ∷ ls') h h' e = absurd (let z = ap length e in omega arith)
+padded_told n m (l ∷ ls) [] h h' e = absurd (let z = ap length e in omega arith)
+padded_told n m (l ∷ ls) (l' ∷ ls') h h' e =
+    λ i. (sym (take-append-drop n l) ∙ (λ j. front j ++ back j) ∙ take-append-drop n l') i ∷ padded_told n m ls ls' (All-tail (IsPadded n m) l ls h) (All-tail (IsPadded n m) l' ls' h') (ap (drop 1) e) i
+  where
+    front : take n l ≡ take n l'
+    front = ap (λ (t : List (List Letter)). get_or t 0 []) e
+
+    back : drop n l ≡ drop n l'
+    back = All-head (IsPadded n m) l ls h ∙ sym (All-head (IsPadded n m) l' ls' h')
+
+-- what contracts see of letters and signs
+
+letters_zip : (n : ℕ) (ss : List Bool) (ls : List (List Letter)) → length ss ≡ length ls → map (λ (p : Signed). p.letters) (zip2 (signed_row n) ss ls) ≡ map (take n) ls
+letters_zip n [] [] e = refl
+letters_zip n [] (l ∷ ls) e = absurd (omega arith)
+letters_zip n (s ∷ ss) [] e = absurd (omega arith)
+letters_zip n (s ∷ ss) (l ∷ ls) e = ap (λ t. take n l ∷ t) (letters_zip n ss ls (omega arith))
+
+signs_zip : (n : ℕ) (ss : List Bool) (ls : List (List Letter)) → length ss ≡ length ls → map (λ (p : Signed). p.negative) (zip2 (signed_row n) ss ls) ≡ ss
+signs_zip n [] [] e = refl
+signs_zip n [] (l ∷ ls) e = absurd (omega arith)
+signs_zip n (s ∷ ss) [] e = absurd (omega arith)
+signs_zip n (s ∷ ss) (l ∷ ls) e = ap (λ t. s ∷ t) (signs_zip n ss ls (omega arith))
+
+pub letters_seen : {n m : ℕ} {ws : List ℕ} {ss : List Bool} {v : Rows} → IsSeen n m ws ss v → unsigned_rows v ≡ map (take n) (full_rows m ws (length ss))
+letters_seen {n} {m} {ws} {ss} seen = ap unsigned_rows (sym seen.is) ∙ letters_zip n ss (full_rows m ws (length ss)) (sym (length-full_rows m ws (length ss)))
+
+-- the signs of all
+abbrev pub signs_of : Rows → List Bool
+signs_of r = map (λ (p : Signed). p.negative) r.rows
+
+pub signs_seen : {n m : ℕ} {ws : List ℕ} {ss : List Bool} {v : Rows} → IsSeen n m ws ss v → signs_of v ≡ ss
+signs_seen {n} {m} {ws} {ss} seen = ap (λ (r : Rows). map (λ (p : Signed). p.negative) r.rows) (sym seen.is) ∙ signs_zip n ss (full_rows m ws (length ss)) (sym (length-full_rows m ws (length ss)))
+
+length-unsigned : (v : Rows) → length (unsigned_rows v) ≡ length v.rows
+length-unsigned v = simp length-map
+
+-- equal letters are of equally many rows
+pub same_number : {n m : ℕ} {ws : List ℕ} {ss : List Bool} {v : Rows} {n' m' : ℕ} {ws' : List ℕ} {ss' : List Bool} {v' : Rows}
+    → IsSeen n m ws ss v → IsSeen n' m' ws' ss' v' → unsigned_rows v ≡ unsigned_rows v' → length ss ≡ length ss'
+same_number {v = v} {v' = v'} mine theirs el = sym (rows_seen mine) ∙ sym (length-unsigned v) ∙ ap length el ∙ length-unsigned v' ∙ rows_seen theirs
+
+pub no_false : IsTrue false → ⊥
+no_false h = search rules
+
+-- equal letters lie in equal words
+pub words_told : {n m : ℕ} {ws : List ℕ} {ss : List Bool} {v : Rows} {n' m' : ℕ} {ws' : List ℕ} {ss' : List Bool} {v' : Rows}
+    → IsSeen n m ws ss v → IsSeen n' m' ws' ss' v' → AreShort 64 ws → AreShort 64 ws' → v.qubits ≡ v'.qubits → unsigned_rows v ≡ unsigned_rows v' → ws ≡ ws'
+words_told {n} {m} {ws} {ss} {v} {n'} {m'} {ws'} {ss'} {v'} mine theirs short short' eq el =
+    rows_told m (length ss) ws ws' mine.lies.size (sym both.words ∙ mine.lies.size) short short'
+    (padded_told n m (full_rows m ws (length ss)) (full_rows m ws' (length ss)) mine.lies.padded other
+    (sym (letters_seen mine) ∙ el ∙ letters_seen theirs ∙ (λ i. map (take (sym both.qubits i)) (full_rows (sym both.blocks i) ws' (sym both.signs i)))))
+  where
+    number : length v.rows ≡ length v'.rows
+    number = sym (length-unsigned v) ∙ ap length el ∙ length-unsigned v'
+
+    both : AreAlike n m ws ss n' m' ws' ss'
+    both = both_seen mine theirs eq number
+
+    other : All (IsPadded n m) (full_rows m ws' (length ss))
+    other =
+        subst (λ c. All (IsPadded n m) (full_rows m ws' c)) (sym both.signs)
+        (subst (λ k. All (IsPadded n k) (full_rows k ws' (length ss'))) (sym both.blocks) (subst (λ k. All (IsPadded k m') (full_rows m' ws' (length ss'))) (sym both.qubits) theirs.lies.padded))
+
+-- and equal words have equal letters
+pub letters_told : {n m : ℕ} {ws : List ℕ} {ss : List Bool} {v : Rows} {n' m' : ℕ} {ws' : List ℕ} {ss' : List Bool} {v' : Rows}
+    → IsSeen n m ws ss v → IsSeen n' m' ws' ss' v' → n ≡ n' → length ss ≡ length ss' → ws ≡ ws' → unsigned_rows v ≡ unsigned_rows v'
+letters_told {n} {m} {ws} {ss} {v} {n'} {m'} {ws'} {ss'} {v'} mine theirs en es ew =
+    letters_seen mine ∙ (λ i. map (take (en i)) (full_rows (em i) (ew i) (es i))) ∙ sym (letters_seen theirs)
+  where
+    em : m ≡ m'
+    em = mine.lies.blocks.count ∙ ap blocks_of en ∙ sym theirs.lies.blocks.count
+
+rows_by : (ps qs : List Signed) → map (λ (p : Signed). p.negative) ps ≡ map (λ (p : Signed). p.negative) qs → map (λ (p : Signed). p.letters) ps ≡ map (λ (p : Signed). p.letters) qs → ps ≡ qs
+rows_by [] [] es el = refl
+rows_by [] (q ∷ qs) es el = absurd (let z = ap length es in omega arith)
+rows_by (p ∷ ps) [] es el = absurd (let z = ap length es in omega arith)
+rows_by (p ∷ ps) (q ∷ qs) es el = λ i. record { negative = sign i; letters = letters i } ∷ rows_by ps qs (ap (drop 1) es) (ap (drop 1) el) i
+  where
+    sign : p.negative ≡ q.negative
+    sign = ap (λ (l : List Bool). get_or l 0 false) es
+
+    letters : p.letters ≡ q.letters
+    letters = ap (λ (l : List (List Letter)). get_or l 0 []) el
+
+-- letters and signs tell the rows
+pub all_told : {n m : ℕ} {ws : List ℕ} {ss : List Bool} {v : Rows} {n' m' : ℕ} {ws' : List ℕ} {ss' : List Bool} {v' : Rows}
+    → IsSeen n m ws ss v → IsSeen n' m' ws' ss' v' → ss ≡ ss' → v.qubits ≡ v'.qubits → unsigned_rows v ≡ unsigned_rows v' → v ≡ v'
+all_told {v = v} {v' = v'} mine theirs es eq el = λ i. record { qubits = eq i; rows = rows_by v.rows v'.rows (signs_seen mine ∙ es ∙ sym (signs_seen theirs)) el i }

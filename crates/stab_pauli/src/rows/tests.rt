@@ -1,0 +1,158 @@
+use crate::texts::{prints, read, repeated};
+use crate::{Letter, Pauli, PauliRows, Refusal};
+use std::alloc::Global;
+use std::test::Fail;
+
+// The rows that texts of n letters each stand for.
+fn rows_of(alloc: Global, n: usize, texts: &[&str]) -> Result<PauliRows, Fail> {
+    if n > 1024 || texts.len() > 16 {
+        return Err(Fail::from(Refusal::OutOfMemory));
+    }
+    let mut rows = PauliRows::new(alloc, texts.len(), n)?;
+    for a in 0..texts.len() {
+        let pauli = read(alloc, texts[a])?;
+        if a < rows.len() && pauli.len() == rows.qubits() {
+            rows.set_row(a, &pauli);
+        }
+    }
+    Ok(rows)
+}
+
+// Whether the rows are printed as the texts.
+fn are(alloc: Global, rows: &PauliRows, texts: &[&str]) -> Result<bool, Refusal> {
+    let mut same = rows.len() == texts.len();
+    let mut pauli = Pauli::identity(alloc, rows.qubits())?;
+    for a in 0..rows.len() {
+        if a < texts.len() && pauli.len() == rows.qubits() {
+            rows.copy_row(a, &mut pauli);
+            same &= prints(alloc, &pauli, texts[a])?;
+        }
+    }
+    Ok(same)
+}
+
+#[test]
+fn rows_are_made_and_changed(rt: HostRuntime) -> Result<(), Fail> {
+    let mut rows = PauliRows::new(rt.alloc(), 3, 2)?;
+    assert!(rt; are(rt.alloc(), &rows, &["+__", "+__", "+__"])?);
+    assert!(rt; rows.len() == 3 && rows.qubits() == 2);
+    rows.set(0, 0, Letter::X);
+    rows.set(1, 1, Letter::Z);
+    rows.negate_if(1, true);
+    rows.negate_if(0, false);
+    assert!(rt; are(rt.alloc(), &rows, &["+X_", "-_Z", "+__"])?);
+    assert!(rt; rows.len() == 3 && rows.qubits() == 2);
+    assert!(rt; rows.letter(1, 1) == Letter::Z && rows.is_negative(1) && !rows.is_negative(0));
+    assert!(rt; rows.flips(0, 0) && !rows.flips(1, 1) && !rows.flips(0, 1));
+    assert!(rt; rows.first_flip(0) == Some(0) && rows.first_flip(1) == None);
+    let copy = rows.copy(rt.alloc())?;
+    rows.swap(0, 1);
+    assert!(rt; are(rt.alloc(), &rows, &["-_Z", "+X_", "+__"])?);
+    assert!(rt; rows.len() == 3);
+    rows.clear(0);
+    assert!(rt; are(rt.alloc(), &rows, &["+__", "+X_", "+__"])?);
+    assert!(rt; are(rt.alloc(), &copy, &["+X_", "-_Z", "+__"])?);
+    assert!(rt; rows.len() == copy.len() && rows.qubits() == copy.qubits());
+    rows.copy_from(&copy);
+    assert!(rt; are(rt.alloc(), &rows, &["+X_", "-_Z", "+__"])?);
+    Ok(())
+}
+
+// Multiplies row 0 by row 1, and row 2, which is a string, by another.
+fn multiply_rows(rows: &mut PauliRows, string: &Pauli, other: &Pauli) {
+    let n = rows.qubits();
+    if rows.len() != 3 || string.len() != n || other.len() != n || string.len() != other.len() {
+        return;
+    }
+    rows.set_row(0, string);
+    rows.set_row(1, other);
+    rows.set_row(2, string);
+    if string.commutes(other) {
+        rows.multiply(0, 1);
+        rows.multiply_by(2, other);
+    } else {
+        rows.multiply_turned(0, 1);
+        rows.multiply_turned_by(2, other);
+    }
+}
+
+// Multiplies a string by row 1, which is another string.
+fn multiply_string(rows: &mut PauliRows, string: &mut Pauli, other: &Pauli) {
+    if rows.len() != 3 || other.len() != rows.qubits() || string.len() != other.len() {
+        return;
+    }
+    rows.set_row(1, other);
+    if string.commutes(other) {
+        rows.multiply_into(1, string);
+    } else {
+        rows.multiply_turned_into(1, string);
+    }
+}
+
+#[test]
+fn rows_multiply_as_strings_do(rt: HostRuntime) -> Result<(), Fail> {
+    for (first, second, product) in [
+        ("+XX", "+ZZ", "-YY"),
+        ("-XX", "+ZZ", "+YY"),
+        ("+XY", "-YX", "-ZZ"),
+        ("+X_", "+Y_", "-Z_"),
+        ("+Y_", "+X_", "+Z_"),
+        ("-X_", "+Z_", "-Y_"),
+    ] {
+        let mut rows = PauliRows::new(rt.alloc(), 3, 2)?;
+        let mut string = read(rt.alloc(), first)?;
+        let other = read(rt.alloc(), second)?;
+        multiply_rows(&mut rows, &string, &other);
+        assert!(rt;
+            are(rt.alloc(), &rows, &[product, second, product])?,
+            "{first} {second}"
+        );
+        multiply_string(&mut rows, &mut string, &other);
+        assert!(rt;
+            are(rt.alloc(), &rows, &[product, second, product])?,
+            "{first} {second}"
+        );
+        assert!(rt; prints(rt.alloc(), &string, product)?, "{first} {second}");
+    }
+    Ok(())
+}
+
+#[test]
+fn rows_are_compared_with_and_without_signs(rt: HostRuntime) -> Result<(), Fail> {
+    let rows = rows_of(rt.alloc(), 3, &["+X_Z", "-_YZ"])?;
+    for (texts, same, letters) in [
+        (["+X_Z", "-_YZ"], true, true),
+        (["+X_Z", "+_YZ"], false, true),
+        (["+X_Z", "-_YY"], false, false),
+        (["-_YZ", "+X_Z"], false, false),
+    ] {
+        let others = rows_of(rt.alloc(), 3, &texts)?;
+        assert_eq!(rt; rows.same(&others), same);
+        assert_eq!(rt; rows.same_letters(&others), letters);
+    }
+    let fewer = rows_of(rt.alloc(), 3, &["+X_Z"])?;
+    let shorter = rows_of(rt.alloc(), 2, &["+X_", "-_Y"])?;
+    assert!(rt; !rows.same(&fewer) && !rows.same_letters(&shorter));
+    Ok(())
+}
+
+#[test]
+fn a_row_behind_many_keeps_the_others(rt: HostRuntime) -> Result<(), Fail> {
+    for n in [1, 255, 256, 257, 1024] {
+        let mut rows = PauliRows::new(rt.alloc(), 4, n)?;
+        let other = repeated(rt.alloc(), n, Letter::Y)?;
+        if rows.len() == 4 && other.len() == rows.qubits() {
+            rows.set_row(2, &other);
+        }
+        rows.negate_if(2, true);
+        let mut string = Pauli::identity(rt.alloc(), n)?;
+        for a in 0..4 {
+            if a < rows.len() && string.len() == rows.qubits() {
+                rows.copy_row(a, &mut string);
+            }
+            assert_eq!(rt; string.is_negative(), a == 2);
+            assert_eq!(rt; string.first_flip().is_some(), a == 2);
+        }
+    }
+    Ok(())
+}

@@ -1,0 +1,174 @@
+-- Tables whose rows differ in their signs alone: which strings stabilise, and when both have one group.
+use Rattle.std.proofs.Common.{◌≡◌, ℕ, suc, ◌<◌, Bool, true, false, refl, sym, ◌∙◌, ap, List, [], ◌∷◌, length, get_or, arith}
+use Rattle.stab_pauli.specs.declared.letter.Letter.{Letter}
+use Rattle.stab_pauli.specs.declared.letter.Letter.TheVariants.{I, X, Y, Z}
+use Rattle.stab_pauli.specs.declared.turn.Turn.TheVariants.{Quarter}
+use Rattle.stab_pauli.specs.Turns.{sign_turn}
+use Rattle.stab_pauli.specs.Letters.{◌⊕◌, letters_anticommute}
+use Rattle.stab_pauli.specs.Paulis.{Signed, minus, with_sign, strings_anticommute}
+use Rattle.stab_pauli.specs.Phaseds.{Phased, plain, phased, turned, phased_product}
+use Rattle.stab_pauli.proofs.TurnLemmas.{sign_turn-parity}
+use Rattle.stab_pauli.proofs.StringLemmas.{strings_anticommute-comm}
+use Rattle.stab_pauli.proofs.PhasedLemmas.{turned-turned, turned-comm, phased_product-turned_left, phased_product-turned_right}
+use Rattle.stab_pauli.proofs.SignedLemmas.{signed_path, phased-with_sign}
+use Rattle.stab_tableau.specs.inner.Preimages.{Preimages}
+use Rattle.stab_tableau.specs.Traces.{diagonal}
+use Rattle.stab_tableau.specs.inner.Preimages.{blank, letter_preimage, string_preimage, extend, IsTable, IsOnto}
+use Rattle.stab_tableau.specs.Tableaus.{stabilises_zeros, stabilises}
+use Rattle.stab_tableau.specs.inner.ColumnLetters.{letter_by, column}
+use Rattle.stab_tableau.specs.Columns.{stabiliser_of}
+use Rattle.stab_tableau.specs.Groups.{SameGroup}
+use Rattle.stab_tableau.specs.inner.Frames.{SameLetters, sign_frame}
+use Rattle.stab_tableau.proofs.HomomorphismLemmas.{extend-turned, kept-anticommute}
+use Rattle.stab_tableau.proofs.OneLetterLemmas.{one_letter-anticommute}
+use Rattle.stab_tableau.proofs.DiagonalLemmas.{diagonal-commute}
+use Rattle.stab_tableau.proofs.TestLemmas.{not-true}
+use Rattle.stab_tableau.proofs.StabiliseLemmas.{zeros-letters, diagonal-from}
+use Rattle.stab_tableau.proofs.ColumnLemmas.{length-column_n, column-preimage}
+use Rattle.stab_tableau.proofs.GeneratedLemmas.{stabiliser-length, stabiliser-member}
+use Rattle.stab_tableau.proofs.GroupTestLemmas.{group-stabilises}
+
+pub length-frame : (rows others : List Preimages) → SameLetters rows others → length (sign_frame rows others) ≡ length rows
+length-frame [] [] s = refl
+length-frame [] (r ∷ others) s = refl
+length-frame (r ∷ rows) [] s = absurd s
+length-frame (r ∷ rows) (t ∷ others) s = ap suc (length-frame rows others s.2)
+
+-- one letter
+
+by-X : (a b : Bool) → letters_anticommute (letter_by a b) X ≡ a
+by-X a b = grind arith
+
+by-Y : (a b : Bool) → letters_anticommute (letter_by a b) Y ≡ a ⊕ b
+by-Y a b = grind arith
+
+by-Z : (a b : Bool) → letters_anticommute (letter_by a b) Z ≡ b
+by-Z a b = grind arith
+
+by-I : (a b : Bool) → letters_anticommute (letter_by a b) I ≡ false
+by-I a b = grind arith
+
+-- a string with the same letters is that with the sign turned where the signs differ
+other-sign : (p q : Signed) → p.letters ≡ q.letters → phased q ≡ turned (sign_turn (p.negative ⊕ q.negative)) (phased p)
+other-sign p q e =
+    ap phased (signed_path q (with_sign (p.negative ⊕ q.negative) p) (back p.negative q.negative) (sym e))
+    ∙ phased-with_sign (p.negative ⊕ q.negative) p
+  where
+    back : (a b : Bool) → b ≡ (a ⊕ b) ⊕ a
+    back a b = grind arith
+
+-- signs of two factors
+turned_both : (a b : Bool) (p q : Phased) → phased_product (turned (sign_turn a) p) (turned (sign_turn b) q) ≡ turned (sign_turn (a ⊕ b)) (phased_product p q)
+turned_both a b p q =
+    phased_product-turned_left (sign_turn a) p (turned (sign_turn b) q)
+    ∙ ap (turned (sign_turn a)) (phased_product-turned_right (sign_turn b) p q)
+    ∙ turned-turned (sign_turn a) (sign_turn b) (phased_product p q)
+    ∙ ap (λ t. turned t (phased_product p q)) (sym (sign_turn-parity a b))
+
+frame-letter : (n : ℕ) (r s : Preimages) → r.x.letters ≡ s.x.letters → r.z.letters ≡ s.z.letters → (l : Letter)
+    → letter_preimage n s l ≡ turned (sign_turn (letters_anticommute (letter_by (r.x.negative ⊕ s.x.negative) (r.z.negative ⊕ s.z.negative)) l)) (letter_preimage n r l)
+frame-letter n r s ex ez I = ap (λ b. turned (sign_turn b) (plain (blank n))) (sym (by-I (r.x.negative ⊕ s.x.negative) (r.z.negative ⊕ s.z.negative)))
+frame-letter n r s ex ez X =
+    other-sign r.x s.x ex ∙ ap (λ b. turned (sign_turn b) (phased r.x)) (sym (by-X (r.x.negative ⊕ s.x.negative) (r.z.negative ⊕ s.z.negative)))
+frame-letter n r s ex ez Z =
+    other-sign r.z s.z ez ∙ ap (λ b. turned (sign_turn b) (phased r.z)) (sym (by-Z (r.x.negative ⊕ s.x.negative) (r.z.negative ⊕ s.z.negative)))
+frame-letter n r s ex ez Y =
+    (λ i. turned Quarter (phased_product (other-sign r.x s.x ex i) (other-sign r.z s.z ez i)))
+    ∙ ap (turned Quarter) (turned_both (r.x.negative ⊕ s.x.negative) (r.z.negative ⊕ s.z.negative) (phased r.x) (phased r.z))
+    ∙ turned-comm Quarter (sign_turn ((r.x.negative ⊕ s.x.negative) ⊕ (r.z.negative ⊕ s.z.negative))) (phased_product (phased r.x) (phased r.z))
+    ∙ ap (λ b. turned (sign_turn b) (letter_preimage n r Y)) (sym (by-Y (r.x.negative ⊕ s.x.negative) (r.z.negative ⊕ s.z.negative)))
+
+-- the preimage of a string takes the other sign where the string anticommutes with the frame
+pub frame-preimage : (n : ℕ) (rows others : List Preimages) → SameLetters rows others → (p : List Letter)
+    → string_preimage n others p ≡ turned (sign_turn (strings_anticommute (sign_frame rows others) p)) (string_preimage n rows p)
+frame-preimage n [] [] s p = refl
+frame-preimage n [] (t ∷ others) s p = absurd s
+frame-preimage n (r ∷ rows) [] s p = absurd s
+frame-preimage n (r ∷ rows) (t ∷ others) s [] = refl
+frame-preimage n (r ∷ rows) (t ∷ others) s (l ∷ p) =
+    (λ i. phased_product (frame-letter n r t s.0 s.1 l i) (frame-preimage n rows others s.2 p i))
+    ∙ turned_both (letters_anticommute (letter_by (r.x.negative ⊕ t.x.negative) (r.z.negative ⊕ t.z.negative)) l) (strings_anticommute (sign_frame rows others) p)
+    (letter_preimage n r l) (string_preimage n rows p)
+
+-- so a string stabilises the one state where it, with the other sign if it anticommutes with the frame, stabilises the other
+pub frame-stabilises : (n : ℕ) (rows others : List Preimages) → SameLetters rows others → (p : Signed)
+    → stabilises (record { qubits = n; rows = others }) p
+    ≡ stabilises (record { qubits = n; rows = rows }) (with_sign (strings_anticommute (sign_frame rows others) p.letters) p)
+frame-stabilises n rows others s p = ap stabilises_zeros whole
+  where
+    whole : extend (string_preimage n others) (phased p)
+        ≡ extend (string_preimage n rows) (phased (with_sign (strings_anticommute (sign_frame rows others) p.letters) p))
+    whole =
+        ap (turned (sign_turn p.negative)) (frame-preimage n rows others s p.letters)
+        ∙ turned-comm (sign_turn p.negative) (sign_turn (strings_anticommute (sign_frame rows others) p.letters)) (string_preimage n rows p.letters)
+        ∙ sym (extend-turned (string_preimage n rows) (sign_turn (strings_anticommute (sign_frame rows others) p.letters)) (phased p))
+        ∙ ap (extend (string_preimage n rows)) (sym (phased-with_sign (strings_anticommute (sign_frame rows others) p.letters) p))
+
+-- one group where the frame's preimage has letters I and Z alone
+
+module _ (n : ℕ) (rows others : List Preimages) (is : IsTable n rows) (onto : IsOnto n rows) (s : SameLetters rows others) where
+  length-frame_n : length (sign_frame rows others) ≡ n
+  length-frame_n = length-frame rows others s ∙ is.count
+
+  -- the frame and a string anticommute where their preimages do
+  frame-kept : (p : List Letter) → length p ≡ n
+      → strings_anticommute (string_preimage n rows (sign_frame rows others)).letters (string_preimage n rows p).letters
+      ≡ strings_anticommute (sign_frame rows others) p
+  frame-kept p lp = kept-anticommute n n (string_preimage n rows) is.keeps (sign_frame rows others) p length-frame_n lp
+
+  pub frame-same : diagonal (string_preimage n rows (sign_frame rows others)).letters ≡ true
+      → SameGroup n (stabilises (record { qubits = n; rows = rows })) (stabilises (record { qubits = n; rows = others }))
+  frame-same d p lp = by_sign (strings_anticommute (sign_frame rows others) p.letters) refl ∙ sym (frame-stabilises n rows others s p)
+    where
+      neither : (q : Signed) → q.letters ≡ p.letters → strings_anticommute (sign_frame rows others) p.letters ≡ true
+          → stabilises (record { qubits = n; rows = rows }) q ≡ false
+      neither q e a =
+          not-true (stabilises (record { qubits = n; rows = rows }) q)
+          (λ m. let c : strings_anticommute (sign_frame rows others) p.letters ≡ false =
+          sym (frame-kept p.letters lp)
+          ∙ diagonal-commute (string_preimage n rows (sign_frame rows others)).letters (string_preimage n rows p.letters).letters d
+          (ap (λ p. diagonal (string_preimage n rows p).letters) (sym e)
+          ∙ zeros-letters (extend (string_preimage n rows) (phased q)) m) in cc)
+
+      by_sign : (b : Bool) → strings_anticommute (sign_frame rows others) p.letters ≡ b
+          → stabilises (record { qubits = n; rows = rows }) p
+          ≡ stabilises (record { qubits = n; rows = rows }) (with_sign (strings_anticommute (sign_frame rows others) p.letters) p)
+      by_sign false e = ap (λ b. stabilises (record { qubits = n; rows = rows }) (with_sign b p)) (sym e)
+      by_sign true e = neither p refl e ∙ sym (neither (with_sign (strings_anticommute (sign_frame rows others) p.letters) p) refl e)
+
+  -- and only there: the frame commutes with each stabiliser
+  pub same-frame : SameGroup n (stabilises (record { qubits = n; rows = rows })) (stabilises (record { qubits = n; rows = others }))
+      → diagonal (string_preimage n rows (sign_frame rows others)).letters ≡ true
+  same-frame same =
+      diagonal-from (string_preimage n rows (sign_frame rows others)).letters
+      (λ k lt. at k (let e = is.keeps.size (sign_frame rows others) length-frame_n in omega arith))
+    where
+      commutes : (k : ℕ) → k < n → strings_anticommute (sign_frame rows others) (column Z k rows) ≡ false
+      commutes k lt = by_sign (strings_anticommute (sign_frame rows others) (column Z k rows)) refl
+        where
+          moved : stabilises (record { qubits = n; rows = rows })
+              (with_sign (strings_anticommute (sign_frame rows others) (column Z k rows)) (stabiliser_of (record { qubits = n; rows = rows }) k)) ≡ true
+          moved =
+              sym (frame-stabilises n rows others s (stabiliser_of (record { qubits = n; rows = rows }) k))
+              ∙ sym (same (stabiliser_of (record { qubits = n; rows = rows }) k) (stabiliser-length (record { qubits = n; rows = rows }) is onto k lt))
+              ∙ stabiliser-member (record { qubits = n; rows = rows }) is onto k lt
+
+          clash : (b : Bool) → b ≡ true → b ≡ false → ⊥
+          clash b e f = cc
+
+          by_sign : (b : Bool) → strings_anticommute (sign_frame rows others) (column Z k rows) ≡ b
+              → strings_anticommute (sign_frame rows others) (column Z k rows) ≡ false
+          by_sign false e = e
+          by_sign true e =
+              absurd (clash (stabilises (record { qubits = n; rows = rows }) (minus (stabiliser_of (record { qubits = n; rows = rows }) k)))
+              (ap (λ b. stabilises (record { qubits = n; rows = rows }) (with_sign b (stabiliser_of (record { qubits = n; rows = rows }) k))) (sym e) ∙ moved)
+              ((group-stabilises (record { qubits = n; rows = rows }) is).one_sign (stabiliser_of (record { qubits = n; rows = rows }) k)
+              (stabiliser-length (record { qubits = n; rows = rows }) is onto k lt) (stabiliser-member (record { qubits = n; rows = rows }) is onto k lt)))
+
+      at : (k : ℕ) → k < n → letters_anticommute Z (get_or (string_preimage n rows (sign_frame rows others)).letters k I) ≡ false
+      at k lt =
+          sym (one_letter-anticommute n k Z (string_preimage n rows (sign_frame rows others)).letters (is.keeps.size (sign_frame rows others) length-frame_n) lt)
+          ∙ strings_anticommute-comm _ (string_preimage n rows (sign_frame rows others)).letters
+          ∙ ap (strings_anticommute (string_preimage n rows (sign_frame rows others)).letters) (sym (column-preimage n rows is onto Z k lt))
+          ∙ frame-kept (column Z k rows) (length-column_n n rows is onto Z k lt)
+          ∙ commutes k lt

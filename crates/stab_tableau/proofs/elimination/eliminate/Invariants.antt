@@ -1,0 +1,12 @@
+use Rattle.std.proofs.Common.{◌≡◌, Bool, length}
+use Rattle.stab_pauli.specs.Paulis.{Signed}
+use Rattle.stab_tableau.specs.Groups.{IsStabiliserGroup}
+use Rattle.stab_tableau.specs.inner.Eliminations.{IsBasis, HasCome}
+use Rattle.stab_tableau.proofs.elimination.eliminate.Given as goal
+
+abbrev pub invariant-loop-place : goal.invariant-loop-place
+invariant-loop-place l = record {
+  qubits : l.rows.qubits ≡ l.fn.rows.qubits;
+  number : length l.rows.rows ≡ length l.fn.rows.rows;
+  comes : (member : Signed → Bool) → IsStabiliserGroup l.fn.rows.qubits member → IsBasis member l.fn.rows → HasCome member l.place l.used l.rows;
+}

@@ -1,0 +1,39 @@
+use Rattle.std.proofs.Common.{◌≡◌, ◌<◌, ◌∙◌, sym, ap, length, arith}
+use Rattle.std.specs.List.{list_any}
+use Rattle.stab_pauli.specs.Flips.{flips}
+use Rattle.stab_pauli.specs.Paulis.{Signed}
+use Rattle.stab_tableau.specs.Gates.{letter_at}
+use Rattle.stab_tableau.proofs.PairedRowsLemmas.{seen-few, seen-place, seen-length, seen-read}
+use Rattle.stab_tableau.proofs.table.Table.fixed_sign.Goals as goal
+
+pub place-requires : goal.place-requires
+place-requires c = record { few = seen-few c.self.inside.rows c.self.invariant c.args.self.now c.self.view_is c.args.qubit c.requires.in_range }
+
+pub first_flip-requires : goal.first_flip-requires
+first_flip-requires c =
+    record { in_range = seen-place c.self.inside.rows c.self.invariant c.args.self.now c.self.view_is c.args.row c.args.qubit c.place.result c.requires.in_range c.place.ensures.value }
+
+pub place-requires-in-None : goal.place-requires-in-None
+place-requires-in-None c = record { few = seen-few c.self.inside.rows c.self.invariant c.args.self.now c.self.view_is c.args.qubit c.requires.in_range }
+
+pub is_negative-requires : goal.is_negative-requires
+is_negative-requires c =
+    record { in_range = seen-place c.self.inside.rows c.self.invariant c.args.self.now c.self.view_is c.args.row c.args.qubit c.place-in-None.result c.requires.in_range c.place-in-None.ensures.value }
+
+pub returns-in-Some-clause-none : goal.returns-in-Some-clause-none
+returns-in-Some-clause-none c =
+    let read = seen-read c.self.inside.rows c.self.invariant c.args.self.now c.self.view_is c.args.row c.args.qubit c.place.result c.requires.in_range c.place.ensures.value in
+    let e = seen-length c.self.inside.rows c.self.invariant c.args.self.now c.self.view_is in
+    let over = c.requires.over in (
+      c.in-Some.field-0,
+      (let lt = c.in-Some.ensures.in_range in omega arith),
+      ap (λ (p : Signed). flips (letter_at p.letters c.in-Some.field-0)) (sym read) ∙ c.in-Some.ensures.flips,
+    )
+
+pub returns-in-None-clause-some : goal.returns-in-None-clause-some
+returns-in-None-clause-some c =
+    let first = seen-read c.self.inside.rows c.self.invariant c.args.self.now c.self.view_is c.args.row c.args.qubit c.place.result c.requires.in_range c.place.ensures.value in
+    let read = seen-read c.self.inside.rows c.self.invariant c.args.self.now c.self.view_is c.args.row c.args.qubit c.place-in-None.result c.requires.in_range c.place-in-None.ensures.value in (
+      c.is_negative.ensures.value ∙ ap (λ (p : Signed). p.negative) read,
+      ap (λ (p : Signed). list_any flips p.letters) (sym first) ∙ c.in-None.ensures.none,
+    )

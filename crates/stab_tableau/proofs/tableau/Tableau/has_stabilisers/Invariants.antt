@@ -1,0 +1,12 @@
+use Rattle.std.proofs.Common.{◌≡◌, ℕ, ◌<◌, true, length}
+use Rattle.stab_tableau.specs.inner.Tables.{IsTableau}
+use Rattle.stab_tableau.specs.Tableaus.{stabilises}
+use Rattle.stab_tableau.specs.Columns.{stabiliser_of}
+use Rattle.stab_tableau.proofs.tableau.Tableau.has_stabilisers.Given as goal
+
+abbrev pub invariant-loop-k : goal.invariant-loop-k
+invariant-loop-k l = record {
+  same : l.self ≡ l.fn.self;
+  tableau : IsTableau (length l.table) l.table (record { x = l.preimage; z = l.stabiliser });
+  has : (j : ℕ) → j < l.k → stabilises l.fn.self (stabiliser_of (record { qubits = length l.table; rows = l.table }) j) ≡ true;
+}

@@ -1,0 +1,116 @@
+//! Elimination: rows that generate a stabiliser group are made its reduced rows, in place.
+
+ghost use Rattle.std.specs.Prelude.{◌≡◌, ◌≢◌, ℕ, ◌+◌, ◌^◌, ◌<◌, ◌≤◌, Bool, true, false, length, IfSome, IfNone};
+ghost use Rattle.stab_pauli.specs.Paulis.{Signed, anticommute};
+ghost use Rattle.stab_pauli.specs.Rows.{row_at, with_row};
+ghost use Rattle.stab_tableau.specs.Groups.{IsStabiliserGroup};
+ghost use Rattle.stab_tableau.specs.Reduced.{bit_at, AreReduced};
+ghost use Rattle.stab_tableau.specs.inner.Eliminations.{IsBasis, ComesTo, AreExchanged, cleared_by, AreCleared, HasStepped};
+
+use stab_pauli::{Letter, PauliRows};
+
+/// Makes rows that generate a stabiliser group its reduced rows.
+///
+/// At each place in turn the first row with a 1 there that is not yet used is the pivot: it is moved up behind the rows
+/// that are used, and all other rows with a 1 there are multiplied by it.
+pub fn eliminate(rows: &mut PauliRows)
+    requires short { rows.old.qubits ≤ 2 ^ 24 }
+    requires basis { (member : Signed → Bool) × IsStabiliserGroup rows.old.qubits member × IsBasis member rows.old }
+    ensures qubits { rows.new.qubits ≡ rows.old.qubits }
+    ensures number { length rows.new.rows ≡ length rows.old.rows }
+    ensures reduced { (member : Signed → Bool) → IsStabiliserGroup rows.old.qubits member → IsBasis member rows.old → AreReduced rows.old.qubits member rows.new.rows }
+{
+    let mut used = 0;
+    for place in 0..2 * rows.qubits() {
+        used = step(rows, used, place);
+    }
+}
+
+/// Takes one place: chooses a pivot and clears the other rows by it, where a row that is left has a 1 there. Answers the
+/// number of rows that are used.
+fn step(rows: &mut PauliRows, used: usize, place: usize) -> usize
+    requires in_range { place < rows.old.qubits + rows.old.qubits }
+    requires comes { ComesTo place used rows.old }
+    ensures steps { HasStepped place used result rows.old rows.new }
+{
+    if used == rows.len() {
+        return used;
+    }
+    match find_pivot(rows, used, place) {
+        None => used,
+        Some(pivot) => {
+            exchange(rows, used, pivot);
+            clear_others(rows, used, place);
+            used + 1
+        }
+    }
+}
+
+/// The first row from a number on that has a 1 at a place.
+fn find_pivot(rows: &PauliRows, from: usize, place: usize) -> Option<usize>
+    requires in_range { place < rows.now.qubits + rows.now.qubits }
+    ensures none { IfNone result ((a : ℕ) → from ≤ a → a < length rows.now.rows → bit_at rows.now.qubits (row_at rows.now a).letters place ≡ false) }
+    ensures from { IfSome result (λ a. from ≤ a) }
+    ensures in_range { IfSome result (λ a. a < length rows.now.rows) }
+    ensures one { IfSome result (λ a. bit_at rows.now.qubits (row_at rows.now a).letters place ≡ true) }
+{
+    for row in from..rows.len() {
+        if bit(rows, row, place) {
+            return Some(row);
+        }
+    }
+    None
+}
+
+/// Exchanges two rows, which may be one.
+fn exchange(rows: &mut PauliRows, first: usize, second: usize)
+    requires first_in_range { first < length rows.old.rows }
+    requires second_in_range { second < length rows.old.rows }
+    ensures rows { AreExchanged first second rows.old rows.new }
+{
+    if first != second {
+        rows.swap(first, second);
+    }
+}
+
+/// Clears all rows but the pivot by it.
+fn clear_others(rows: &mut PauliRows, pivot: usize, place: usize)
+    requires in_range { place < rows.old.qubits + rows.old.qubits }
+    requires pivot_in_range { pivot < length rows.old.rows }
+    requires commuting { (a : ℕ) → a < length rows.old.rows → anticommute (row_at rows.old a) (row_at rows.old pivot) ≡ false }
+    ensures rows { AreCleared pivot place rows.old rows.new }
+{
+    for row in 0..rows.len() {
+        if row != pivot {
+            clear(rows, row, pivot, place);
+        }
+    }
+}
+
+/// Clears a row by a pivot: multiplies it where it has a 1 at the place.
+fn clear(rows: &mut PauliRows, row: usize, pivot: usize, place: usize)
+    requires in_range { place < rows.old.qubits + rows.old.qubits }
+    requires row_in_range { row < length rows.old.rows }
+    requires pivot_in_range { pivot < length rows.old.rows }
+    requires apart { row ≢ pivot }
+    requires commuting { anticommute (row_at rows.old row) (row_at rows.old pivot) ≡ false }
+    ensures value { rows.new ≡ with_row rows.old row (cleared_by rows.old.qubits place (row_at rows.old pivot) (row_at rows.old row)) }
+{
+    if bit(rows, row, place) {
+        rows.multiply(row, pivot);
+    }
+}
+
+/// The bit of a row at a place: of X and Y at the first places, then of Z and Y.
+fn bit(rows: &PauliRows, row: usize, place: usize) -> bool
+    requires row_in_range { row < length rows.now.rows }
+    requires in_range { place < rows.now.qubits + rows.now.qubits }
+    ensures value { result ≡ bit_at rows.now.qubits (row_at rows.now row).letters place }
+{
+    let qubits = rows.qubits();
+    if place < qubits {
+        rows.flips(row, place)
+    } else {
+        Letter::X.anticommutes(rows.letter(row, place - qubits))
+    }
+}

@@ -1,0 +1,91 @@
+//! Whether two states have one group: by the signs of their rows where the letters are the same, else by stabilisers.
+
+ghost use Rattle.std.specs.Prelude.{◌≡◌, ℕ, ◌<◌, ◌↔◌, true, length};
+ghost use Rattle.stab_pauli.specs.Rows.{row_at};
+ghost use Rattle.stab_tableau.specs.Tableaus.{stabilises};
+ghost use Rattle.stab_tableau.specs.Columns.{stabiliser_of};
+ghost use Rattle.stab_tableau.specs.Groups.{SameGroup};
+ghost use Rattle.stab_tableau.specs.inner.Tables.{IsTableau};
+ghost use Rattle.stab_tableau.specs.inner.ColumnLetters.{letter_by};
+ghost use Rattle.stab_tableau.specs.inner.Frames.{SameLetters, sign_frame};
+
+use super::rows;
+use super::table::{Row, Table};
+use stab_pauli::{Letter, Pauli, PauliRows};
+
+/// Whether two tables whose rows differ in their signs alone have one group.
+///
+/// The two states differ by a Pauli string, the frame; it keeps the group exactly where it is up to sign a member, that is
+/// where its preimage has letters I and Z alone.
+pub fn same_by_signs(table: &Table, others: &Table, preimage: &mut Pauli, frame: &mut Pauli) -> bool
+    requires tableau { IsTableau (length table.now) table.now (record { x = preimage.old; z = frame.old }) }
+    requires same_letters { SameLetters table.now others.now }
+    ensures tableau { IsTableau (length table.now) table.now (record { x = preimage.new; z = frame.new }) }
+    ensures value { (result ≡ true) ↔ SameGroup (length table.now) (stabilises (record { qubits = length table.now; rows = table.now })) (stabilises (record { qubits = length table.now; rows = others.now })) }
+{
+    write_frame(table, others, frame);
+    rows::write_preimage(table, frame, preimage);
+    match preimage.first_flip() {
+        None => true,
+        Some(_) => false,
+    }
+}
+
+/// Makes the letters of a string those that tell where the signs of the rows of two tables differ.
+fn write_frame(table: &Table, others: &Table, out: &mut Pauli)
+    requires same_length { length others.now ≡ length table.now }
+    requires out_length { length out.old.letters ≡ length table.now }
+    ensures value { out.new ≡ record out.old { letters = sign_frame table.now others.now } }
+{
+    for qubit in 0..table.len() {
+        let x = table.is_negative(Row::OfX, qubit) ^ others.is_negative(Row::OfX, qubit);
+        let z = table.is_negative(Row::OfZ, qubit) ^ others.is_negative(Row::OfZ, qubit);
+        out.set(qubit, letter_where(x, z));
+    }
+}
+
+/// The letter that anticommutes with X, and with Z, just where the bits say so.
+fn letter_where(with_x: bool, with_z: bool) -> Letter
+    ensures value { result ≡ letter_by with_x with_z }
+{
+    match (with_x, with_z) {
+        (false, false) => Letter::I,
+        (false, true) => Letter::X,
+        (true, true) => Letter::Y,
+        (true, false) => Letter::Z,
+    }
+}
+
+/// Makes a string stabiliser k of a table.
+pub fn write_stabiliser(table: &Table, k: usize, preimage: &mut Pauli, out: &mut Pauli)
+    requires tableau { IsTableau (length table.now) table.now (record { x = preimage.old; z = out.old }) }
+    requires in_range { k < length table.now }
+    ensures tableau { IsTableau (length table.now) table.now (record { x = preimage.new; z = out.new }) }
+    ensures value { out.new ≡ stabiliser_of (record { qubits = length table.now; rows = table.now }) k }
+{
+    out.clear();
+    rows::write_column(table, Letter::Z, k, out);
+    rows::write_preimage(table, out, preimage);
+    out.negate_if(preimage.is_negative());
+}
+
+/// Makes strings the stabilisers of a table, in their order.
+pub fn write_stabilisers(
+    table: &Table,
+    preimage: &mut Pauli,
+    stabiliser: &mut Pauli,
+    out: &mut PauliRows,
+)
+    requires tableau { IsTableau (length table.now) table.now (record { x = preimage.old; z = stabiliser.old }) }
+    requires same_qubits { out.old.qubits ≡ length table.now }
+    requires same_number { length out.old.rows ≡ length table.now }
+    ensures tableau { IsTableau (length table.now) table.now (record { x = preimage.new; z = stabiliser.new }) }
+    ensures qubits { out.new.qubits ≡ length table.now }
+    ensures number { length out.new.rows ≡ length table.now }
+    ensures rows { (k : ℕ) → k < length table.now → row_at out.new k ≡ stabiliser_of (record { qubits = length table.now; rows = table.now }) k }
+{
+    for k in 0..table.len() {
+        write_stabiliser(table, k, preimage, stabiliser);
+        out.set_row(k, stabiliser);
+    }
+}

@@ -1,0 +1,266 @@
+use stab_pauli::{Letter, Pauli, PauliRows, Refusal};
+use std::alloc::Global;
+use std::marker::Model;
+
+/// One of the two preimages of a qubit.
+#[derive(Clone, Copy, Debug, PartialEq, Eq)]
+pub enum Row {
+    /// That of X.
+    OfX,
+    /// That of Z.
+    OfZ,
+}
+
+impl Row {
+    ghost use Rattle.std.specs.Prelude.{◌≡◌, ◌≤◌};
+    ghost use Rattle.stab_tableau.specs.inner.Pairs.{place_of};
+
+    /// Where the string lies among those of all qubits.
+    #[inline(always)]
+    fn place(self, qubit: usize) -> usize
+        requires few { qubit ≤ 1024 }
+        ensures value { result ≡ place_of self qubit }
+    {
+        match self {
+            Row::OfX => 2 * qubit,
+            Row::OfZ => 2 * qubit + 1,
+        }
+    }
+}
+
+/// What was made into X and what into Z on each qubit by all that happened: their preimages.
+///
+/// Those of qubit q are the strings 2q and 2q + 1 of one allocation. Contracts see a list of pairs.
+#[derive(Drop)]
+pub struct Table {
+    rows: PauliRows,
+}
+
+impl Model for Table {
+    ghost use Rattle.std.specs.Prelude.{List};
+    ghost use Rattle.stab_tableau.specs.inner.Preimages.{Preimages};
+    ghost use Rattle.stab_tableau.specs.inner.Pairs.{paired, IsPaired};
+
+    ghost Value = { List Preimages };
+
+    ghost view = { λ t. paired t.rows.rows };
+
+    ghost invariant = { λ t. IsPaired t.rows };
+}
+
+impl Table {
+    ghost use Rattle.std.specs.Prelude.{◌≡◌, ◌≢◌, ℕ, ◌<◌, ◌≤◌, ◌⊎◌, true, false, length, slice_set, ◌↔◌, IsTrue, IfOk, IfErr, IfSome, IfNone};
+    ghost use Rattle.std.specs.List.{list_any};
+    ghost use Rattle.stab_pauli.specs.declared.refusal.Refusal.TheVariants.{OutOfMemory};
+    ghost use Rattle.stab_pauli.specs.Flips.{flips};
+    ghost use Rattle.stab_pauli.specs.Letters.{letters_anticommute};
+    ghost use Rattle.stab_pauli.specs.Paulis.{single, anticommute, product, with_sign};
+    ghost use Rattle.stab_pauli.specs.Rows.{turned_product};
+    ghost use Rattle.stab_tableau.specs.Gates.{letter_at};
+    ghost use Rattle.stab_tableau.specs.inner.Preimages.{row_at, zeros_row, IsOver};
+    ghost use Rattle.stab_tableau.specs.inner.Frames.{SameLetters};
+    ghost use Rattle.stab_tableau.specs.inner.Pairs.{string_of, put, exchanged};
+
+    /// Rows of letters I alone, for n qubits.
+    pub fn new(alloc: Global, n: usize) -> Result<Table, Refusal>
+        requires few { n ≤ 1024 }
+        ensures size { IfOk result (λ t. length t ≡ n) }
+        ensures over { IfOk result (λ t. (q : ℕ) → q < n → IsOver n (row_at t q)) }
+        ensures err { IfErr result (λ r. r ≡ OutOfMemory) }
+    {
+        let rows = PauliRows::new(alloc, 2 * n, n)?;
+        Ok(Table { rows })
+    }
+
+    /// The same rows in memory of their own.
+    pub fn copy(&self, alloc: Global) -> Result<Table, Refusal>
+        ensures ok { IfOk result (λ t. t ≡ self.now) }
+        ensures err { IfErr result (λ r. r ≡ OutOfMemory) }
+    {
+        let rows = self.rows.copy(alloc)?;
+        Ok(Table { rows })
+    }
+
+    /// Makes these rows the other ones, in the memory that they have.
+    pub fn copy_from(&mut self, other: &Table)
+        requires same_number { length self.old ≡ length other.now }
+        ensures value { self.new ≡ other.now }
+    {
+        self.rows.copy_from(&other.rows);
+    }
+
+    /// Whether both have the same rows.
+    pub fn same(&self, other: &Table) -> bool
+        ensures value { IsTrue result ↔ (self.now ≡ other.now) }
+    {
+        self.rows.same(&other.rows)
+    }
+
+    /// Whether both have rows with the same letters, whatever their signs.
+    pub fn same_letters(&self, other: &Table) -> bool
+        ensures value { IsTrue result ↔ SameLetters self.now other.now }
+    {
+        self.rows.same_letters(&other.rows)
+    }
+
+    /// The number of qubits.
+    #[inline(always)]
+    pub fn len(&self) -> usize
+        ensures value { result ≡ length self.now }
+        ensures few { result ≤ 1024 }
+    {
+        self.rows.qubits()
+    }
+
+    /// Makes the rows of a qubit those in the state of all zeros.
+    #[inline(always)]
+    pub fn reset(&mut self, qubit: usize)
+        requires in_range { qubit < length self.old }
+        ensures row { self.new ≡ slice_set self.old qubit (zeros_row (length self.old) qubit) }
+    {
+        self.reset_row(Row::OfX, qubit, Letter::X);
+        self.reset_row(Row::OfZ, qubit, Letter::Z);
+    }
+
+    // Makes a row one letter on its own qubit.
+    #[inline(always)]
+    fn reset_row(&mut self, row: Row, qubit: usize, letter: Letter)
+        requires in_range { qubit < length self.old }
+        ensures row { self.new ≡ put row qubit (single (length self.old) qubit letter) self.old }
+    {
+        self.rows.clear(row.place(qubit));
+        self.rows.set(row.place(qubit), qubit, letter);
+    }
+
+    /// Turns the sign of a row where the bit is 1.
+    #[inline(always)]
+    pub fn negate_if(&mut self, row: Row, qubit: usize, bit: bool)
+        requires in_range { qubit < length self.old }
+        ensures value { self.new ≡ put row qubit (with_sign bit (string_of row (row_at self.old qubit))) self.old }
+    {
+        self.rows.negate_if(row.place(qubit), bit);
+    }
+
+    /// Exchanges two rows.
+    #[inline(always)]
+    pub fn exchange(&mut self, row: Row, qubit: usize, other: Row, other_qubit: usize)
+        requires in_range { qubit < length self.old }
+        requires other_in_range { other_qubit < length self.old }
+        requires apart { (row ≢ other) ⊎ (qubit ≢ other_qubit) }
+        ensures value { self.new ≡ exchanged row qubit other other_qubit self.old }
+    {
+        self.rows.swap(row.place(qubit), other.place(other_qubit));
+    }
+
+    /// Makes a row the product of itself and another, with which it commutes.
+    #[inline(always)]
+    pub fn multiply(&mut self, row: Row, qubit: usize, other: Row, other_qubit: usize)
+        requires in_range { qubit < length self.old }
+        requires other_in_range { other_qubit < length self.old }
+        requires apart { (row ≢ other) ⊎ (qubit ≢ other_qubit) }
+        requires commuting { anticommute (string_of row (row_at self.old qubit)) (string_of other (row_at self.old other_qubit)) ≡ false }
+        ensures value { self.new ≡ put row qubit (product (string_of row (row_at self.old qubit)) (string_of other (row_at self.old other_qubit))) self.old }
+    {
+        self.rows
+            .multiply(row.place(qubit), other.place(other_qubit));
+    }
+
+    /// Makes a row i times the product of itself and another, with which it anticommutes.
+    #[inline(always)]
+    pub fn multiply_turned(&mut self, row: Row, qubit: usize, other: Row, other_qubit: usize)
+        requires in_range { qubit < length self.old }
+        requires other_in_range { other_qubit < length self.old }
+        requires apart { (row ≢ other) ⊎ (qubit ≢ other_qubit) }
+        requires anticommuting { anticommute (string_of row (row_at self.old qubit)) (string_of other (row_at self.old other_qubit)) ≡ true }
+        ensures value { self.new ≡ put row qubit (turned_product (string_of row (row_at self.old qubit)) (string_of other (row_at self.old other_qubit))) self.old }
+    {
+        self.rows
+            .multiply_turned(row.place(qubit), other.place(other_qubit));
+    }
+
+    /// Makes a row i times the product of itself and a string, with which it anticommutes.
+    #[inline(always)]
+    pub fn multiply_turned_by(&mut self, row: Row, qubit: usize, other: &Pauli)
+        requires in_range { qubit < length self.old }
+        requires same_length { length other.now.letters ≡ length self.old }
+        requires anticommuting { anticommute (string_of row (row_at self.old qubit)) other.now ≡ true }
+        ensures value { self.new ≡ put row qubit (turned_product (string_of row (row_at self.old qubit)) other.now) self.old }
+    {
+        self.rows.multiply_turned_by(row.place(qubit), other);
+    }
+
+    /// Makes a string the product of itself and a row, with which it commutes.
+    #[inline(always)]
+    pub fn multiply_into(&self, row: Row, qubit: usize, out: &mut Pauli)
+        requires in_range { qubit < length self.now }
+        requires same_length { length out.old.letters ≡ length self.now }
+        requires commuting { anticommute out.old (string_of row (row_at self.now qubit)) ≡ false }
+        ensures value { out.new ≡ product out.old (string_of row (row_at self.now qubit)) }
+    {
+        self.rows.multiply_into(row.place(qubit), out);
+    }
+
+    /// Makes a string i times the product of itself and a row, with which it anticommutes.
+    #[inline(always)]
+    pub fn multiply_turned_into(&self, row: Row, qubit: usize, out: &mut Pauli)
+        requires in_range { qubit < length self.now }
+        requires same_length { length out.old.letters ≡ length self.now }
+        requires anticommuting { anticommute out.old (string_of row (row_at self.now qubit)) ≡ true }
+        ensures value { out.new ≡ turned_product out.old (string_of row (row_at self.now qubit)) }
+    {
+        self.rows.multiply_turned_into(row.place(qubit), out);
+    }
+
+    /// Makes a string what a row is.
+    #[inline(always)]
+    pub fn copy_row(&self, row: Row, qubit: usize, out: &mut Pauli)
+        requires in_range { qubit < length self.now }
+        requires same_length { length out.old.letters ≡ length self.now }
+        ensures value { out.new ≡ string_of row (row_at self.now qubit) }
+    {
+        self.rows.copy_row(row.place(qubit), out);
+    }
+
+    /// The letter of a row at a place.
+    #[inline(always)]
+    pub fn letter(&self, row: Row, qubit: usize, place: usize) -> Letter
+        requires in_range { qubit < length self.now }
+        requires place_in_range { place < length self.now }
+        ensures value { result ≡ letter_at (string_of row (row_at self.now qubit)).letters place }
+    {
+        self.rows.letter(row.place(qubit), place)
+    }
+
+    /// Whether the letter of a row at a place flips a bit, and so anticommutes with Z.
+    #[inline(always)]
+    pub fn flips(&self, row: Row, qubit: usize, place: usize) -> bool
+        requires in_range { qubit < length self.now }
+        requires place_in_range { place < length self.now }
+        ensures value { result ≡ flips (letter_at (string_of row (row_at self.now qubit)).letters place) }
+    {
+        self.rows.flips(row.place(qubit), place)
+    }
+
+    /// Whether the sign of a row is -.
+    #[inline(always)]
+    pub fn is_negative(&self, row: Row, qubit: usize) -> bool
+        requires in_range { qubit < length self.now }
+        ensures value { result ≡ (string_of row (row_at self.now qubit)).negative }
+    {
+        self.rows.is_negative(row.place(qubit))
+    }
+
+    /// The sign of a row of letters I and Z alone, which is the outcome of a measurement, or `None` where it has others.
+    #[inline(always)]
+    pub fn fixed_sign(&self, row: Row, qubit: usize) -> Option<bool>
+        requires in_range { qubit < length self.now }
+        requires over { length (string_of row (row_at self.now qubit)).letters ≡ length self.now }
+        ensures some { IfSome result (λ b. (b ≡ (string_of row (row_at self.now qubit)).negative) × (list_any flips (string_of row (row_at self.now qubit)).letters ≡ false)) }
+        ensures none { IfNone result ((k : ℕ) × (k < length (string_of row (row_at self.now qubit)).letters) × (flips (letter_at (string_of row (row_at self.now qubit)).letters k) ≡ true)) }
+    {
+        match self.rows.first_flip(row.place(qubit)) {
+            Some(_) => None,
+            None => Some(self.rows.is_negative(row.place(qubit))),
+        }
+    }
+}
