@@ -2,7 +2,7 @@
 use Rattle.std.specs.Prelude.{◌≡◌, List, [], ◌∷◌}
 use Rattle.stab_pauli.specs.declared.letter.Letter.{Letter}
 use Rattle.stab_pauli.specs.Letters.{◌⊕◌}
-use Rattle.stab_tableau.specs.declared.preimages.Preimages.{Preimages}
+use Rattle.stab_tableau.specs.inner.Preimages.{Preimages}
 use Rattle.stab_tableau.specs.inner.ColumnLetters.{letter_by}
 
 -- the rows of two tables differ in their signs alone
