@@ -11,9 +11,8 @@ use Rattle.stab_pauli.proofs.TurnLemmas.{sign_turn-parity}
 use Rattle.stab_pauli.proofs.StringLemmas.{strings_anticommute-comm}
 use Rattle.stab_pauli.proofs.PhasedLemmas.{turned-turned, turned-comm, phased_product-turned_left, phased_product-turned_right}
 use Rattle.stab_pauli.proofs.SignedLemmas.{signed_path, phased-with_sign}
-use Rattle.stab_tableau.specs.inner.Preimages.{Preimages}
 use Rattle.stab_tableau.specs.Traces.{diagonal}
-use Rattle.stab_tableau.specs.inner.Preimages.{blank, letter_preimage, string_preimage, extend, IsTable, IsOnto}
+use Rattle.stab_tableau.specs.inner.Preimages.{Preimages, blank, letter_preimage, string_preimage, extend, IsTable, IsOnto}
 use Rattle.stab_tableau.specs.Tableaus.{stabilises_zeros, stabilises}
 use Rattle.stab_tableau.specs.inner.ColumnLetters.{letter_by, column}
 use Rattle.stab_tableau.specs.Columns.{stabiliser_of}
