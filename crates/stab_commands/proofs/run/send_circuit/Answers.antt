@@ -27,3 +27,12 @@ returns g c = record {
     }),
   );
 }
+
+pub returns-in-Ok : goal.returns-in-Ok
+returns-in-Ok g c = record {
+  sends = record {
+    between = g.O.Output.seen c.send_shots.new.out;
+    took = rw c.qubits.ensures.value at (rw c.in_ok-sampler.ensures.state at c.in_ok-send_shots.ensures.sends);
+    flushed = c.in-Ok.ensures.flushes;
+  };
+}
