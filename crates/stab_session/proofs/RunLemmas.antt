@@ -12,8 +12,7 @@ use Rattle.stab_tableau.specs.Rules.{outcome_by, is_free_by, projected_by}
 use Rattle.stab_tableau.proofs.OneLetterLemmas.{length-one_letter}
 use Rattle.stab_tableau.proofs.MemberLemmas.{same-applied, same-projected, same-outcome, same-free}
 use Rattle.stab_lines.specs.declared.product.Factor.{Factor}
-use Rattle.stab_circuit.specs.Steps.{Step, controlled, collapse, product}
-use Rattle.stab_session.specs.Records.{looked_up}
+use Rattle.stab_circuit.specs.Steps.{Step, collapse, product}
 use Rattle.stab_session.specs.Runs.{when, string_of, gate_of, flip_of, applied_where, outcome_of}
 use Rattle.stab_session.specs.Points.{Point, Output, nothing, joined, given, trace_after, coins_of, next_point, point_after, outputs}
 use Rattle.stab_session.specs.inner.Sights.{StepFits, Sight, Shows, Leads, IsRun, applied_by}
@@ -173,18 +172,6 @@ run-product n coins x factors inverted is m m_is a b bit m_outcome m_projects ou
           output
           ∙ (λ i. record a.output { records = a.output.records ++ (inverted ⊕ bit) ∷ []; free = a.output.free ++ is_free_by a.stabilised (m_is i) ∷ [] });
     }
-
-pub run-controlled : (n : ℕ) (coins : ℕ → Bool) (x : Step) (l : Letter) (k q : ℕ) → x ≡ controlled l k q → (a b : Sight) (bit : Bool)
-    → bit ≡ looked_up a.output.records k → ((r : Signed) → length r.letters ≡ n → b.stabilised r ≡ applied_by bit l q a.stabilised r)
-    → b.output ≡ a.output → IsRun n coins (x ∷ []) a b
-run-controlled n coins x l k q is a b bit bit_is applies output =
-    subst (λ x. IsRun n coins (x ∷ []) a b) (sym is)
-    (λ p s. one-run n coins (controlled l k q) a b p s (group p s) refl (output ∙ sym (joined-nothing a.output)))
-  where
-    group : (p : Point) → Shows n a p → SameGroup n b.stabilised (member (applied_where (looked_up p.records k) l q p.trace))
-    group p s = λ r lr.
-        applies r lr ∙ applied-group n bit l q a.stabilised p.trace s.group r lr
-        ∙ ap (λ o. member (applied_where o l q p.trace) r) (bit_is ∙ ap (λ rs. looked_up rs k) s.records)
 
 -- the first of the steps that are left, and the others
 
