@@ -35,11 +35,11 @@ impl Subject {
         ensures qubits { IfOk result (λ s. s.tableau.qubits ≡ n) }
         ensures err { IfErr result (λ r. r ≡ OutOfMemory) }
     {
+        let pairs = bytes::pairs(alloc, n)?;
+        let observable = state::observable(alloc, n)?;
         let zeros = Tableau::new(alloc, n)?;
         let scrambled = state::scrambled(alloc, n)?;
         let tableau = zeros.copy(alloc)?;
-        let observable = state::observable(alloc, n)?;
-        let pairs = bytes::pairs(alloc, n)?;
         Ok(Subject {
             zeros,
             scrambled,
