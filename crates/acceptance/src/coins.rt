@@ -15,8 +15,7 @@ const GHZ: &str = "H 0\nCX 0 1 1 2\nMX 0 1 2";
 const PRODUCTS: &str = "MPP X0*X1 Z0*Z1 Y0*Y1";
 
 // The state of qubit 0 is moved to qubit 2.
-const TELEPORTATION: &str =
-    "X 0\nH 1\nCX 1 2\nCX 0 1\nH 0\nM 0 1\nCX rec[-1] 2\nCZ rec[-2] 2\nM 2";
+const TELEPORTATION: &str = "X 0\nH 1\nCX 1 2\nCX 0 1\nH 0\nM 0 1\nCX rec[-1] 2\nCZ rec[-2] 2\nM 2";
 
 // Command lines and circuits whose free outcomes are the coins, and what is written.
 const DECIDED: [(&str, &str, &str); 34] = [
@@ -43,12 +42,24 @@ const DECIDED: [(&str, &str, &str); 34] = [
     ("stabsim sample --coins 100", PRODUCTS, "100\n"),
     ("stabsim sample --coins 11", TELEPORTATION, "111\n"),
     ("stabsim sample --coins 01", TELEPORTATION, "011\n"),
-    ("stabsim sample --coins 1", "X 0\nMY 0\nMRY !0\nMY 0", "100\n"),
+    (
+        "stabsim sample --coins 1",
+        "X 0\nMY 0\nMRY !0\nMY 0",
+        "100\n",
+    ),
     ("stabsim sample --coins 1", "RX 0\nMRX 0\nZ 0\nMX 0", "01\n"),
     ("stabsim sample --coins 1", "RY 0\nMY 0", "0\n"),
     ("stabsim sample --coins 1", "MPP X0 !X0*Z1", "10\n"),
-    ("stabsim sample --coins 1", "MX 0\nCZ rec[-1] 0\nMX 0", "10\n"),
-    ("stabsim sample --coins 0", "MX 0\nCY rec[-1] 0\nMX 0", "00\n"),
+    (
+        "stabsim sample --coins 1",
+        "MX 0\nCZ rec[-1] 0\nMX 0",
+        "10\n",
+    ),
+    (
+        "stabsim sample --coins 0",
+        "MX 0\nCY rec[-1] 0\nMX 0",
+        "00\n",
+    ),
     (
         "stabsim detect --coins 1",
         "MPP X0*X1\nDETECTOR rec[-1]\nMPP !X1*X0\nDETECTOR rec[-1] rec[-2]",

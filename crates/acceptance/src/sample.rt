@@ -106,9 +106,7 @@ fn letters_are_exchanged_as_the_gate_tables_say(rt: HostRuntime) -> Result<(), F
 }
 
 #[test]
-fn products_and_records_that_control_act_as_the_format_says(
-    rt: HostRuntime,
-) -> Result<(), Fail> {
+fn products_and_records_that_control_act_as_the_format_says(rt: HostRuntime) -> Result<(), Fail> {
     let rows = [
         ("X 0\nMPP Z0*Z1 Z1 !Z0*!Z1 !Z0*Z1", "1010\n"),
         ("H 0\nCX 0 1\nMPP X0*X1 Z0*Z1 Y0*Y1", "001\n"),

@@ -37,6 +37,7 @@ pub use circuit::{Circuit, read_circuit, read_item};
 pub use cursor::Cursor;
 pub use item::Item;
 pub use print::write_circuit;
+pub use stab_lines::{Axis, Factor, Qubit};
 pub use step::Step;
 
 #[cfg(test)]

@@ -6,7 +6,7 @@ ghost use Rattle.stab_session.specs.Records.{ones};
 ghost use Rattle.stab_session.specs.Runs.{string_of};
 
 use crate::coins::Coins;
-use stab_lines::Factor;
+use stab_circuit::Factor;
 use stab_pauli::Pauli;
 use stab_tableau::{Collapse, Tableau};
 
