@@ -1,4 +1,6 @@
 pub mod Endings
 pub mod Outputs
 pub mod Jobs
+pub mod ScriptWords
+pub mod Scripts
 pub mod inner

@@ -16,6 +16,7 @@
 mod fault_line;
 mod job;
 mod run;
+mod script;
 mod shots;
 mod status;
 

@@ -2,7 +2,7 @@ pub mod BoolLemmas
 mod ResultLemmas
 pub mod WriteLemmas
 mod PrintLemmas
-mod WordLemmas
+pub mod WordLemmas
 mod PieceLemmas
 mod TargetLemmas
 mod ProductLemmas

@@ -41,11 +41,11 @@ mod word;
 
 pub use axis::Axis;
 pub use control::ControlledPair;
-pub use line::content;
+pub use line::{content, ends_with, is_spacing, without_spacing_in_front};
 pub use meanings::{Line, is_close, meaning};
 pub use operation::{Coordinates, Kind, Measurement, Operation};
 pub use print::{write_opening, write_operation};
 pub use product::{Factor, Product};
 pub use range::{Count, Lookback, Lookbacks, MeasureTarget, Observable, Pair, Qubit};
 pub use sequence::Sequence;
-pub use word::first_piece;
+pub use word::{capped_value, first_piece, is_number};
