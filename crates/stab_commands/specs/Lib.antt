@@ -3,4 +3,5 @@ pub mod Outputs
 pub mod Jobs
 pub mod ScriptWords
 pub mod Scripts
+pub mod ScriptLaws
 pub mod inner

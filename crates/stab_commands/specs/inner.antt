@@ -1,3 +1,4 @@
 pub mod Texts
 pub mod Sendings
 pub mod Requests
+pub mod Replies

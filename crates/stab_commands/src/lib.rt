@@ -15,6 +15,7 @@
 
 mod fault_line;
 mod job;
+pub mod laws;
 mod run;
 mod script;
 mod shots;

@@ -1,0 +1,20 @@
+//! Laws of edit scripts. Each function does nothing: its contract is the law, and the check proves
+//! it.
+ghost use Rattle.stab_commands.specs.ScriptLaws.{ScriptsHaveOneAnswer, FirstRepliesComeFirst};
+
+use stab_circuit::laws::item_texts_have_one_meaning;
+
+/// A script, however long, has at most one answer.
+pub fn scripts_have_one_answer()
+    ensures law { ScriptsHaveOneAnswer }
+{
+    item_texts_have_one_meaning();
+}
+
+/// What the first requests of a script are answered begins what the whole script is answered. So a
+/// run that was cut off behind some replies wrote a prefix.
+pub fn first_replies_come_first()
+    ensures law { FirstRepliesComeFirst }
+{
+    item_texts_have_one_meaning();
+}
