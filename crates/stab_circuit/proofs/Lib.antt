@@ -15,3 +15,4 @@ mod BlankLemmas
 mod RoundLemmas
 mod ItemTextLemmas
 mod CircuitFaultLemmas
+mod EditLemmas
