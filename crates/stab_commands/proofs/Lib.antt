@@ -3,3 +3,5 @@ pub mod SendingLaws
 pub mod RunLaws
 pub mod PlaceLaws
 pub mod AnswerLaws
+pub mod ReadingLaws
+pub mod TellingLaws

@@ -4,4 +4,5 @@ pub mod Jobs
 pub mod ScriptWords
 pub mod Scripts
 pub mod ScriptLaws
+pub mod ScriptEndings
 pub mod inner

@@ -10,7 +10,10 @@ use Rattle.stab_tableau.specs.Traces.{member}
 use Rattle.stab_tableau.specs.Reduced.{AreReduced}
 use Rattle.stab_lines.specs.Lines.{content_of, ends_with_byte}
 use Rattle.stab_lines.specs.Meanings.{is_close}
-use Rattle.stab_circuit.specs.Items.{Items, OneItem}
+use Rattle.stab_circuit.specs.Items.{Items, OneItem, listed, entries}
+use Rattle.stab_circuit.specs.Paths.{Path}
+use Rattle.stab_circuit.specs.Edits.{Change, edited, verdict}
+use Rattle.stab_circuit.specs.Edits as change
 use Rattle.stab_circuit.specs.Circuits.{most_bytes, item_fault, StandsForOne}
 use Rattle.stab_circuit.specs.Prints.{printed}
 use Rattle.stab_session.specs.Runs.{State, run_of}
@@ -25,18 +28,18 @@ use Rattle.stab_commands.specs.declared.script.request.Show.TheVariants.{Measure
 -- what a script asks for: that the item of a text is put in at a place, or that the item at a place is deleted, or that something
 -- is shown; or nothing, where a line is refused
 pub data Request : Type 0 where
-  put : ItemEdit → (place text : List ℕ) → Request
-  delete : (place : List ℕ) → Request
+  put : ItemEdit → (place : Path) → (text : List ℕ) → Request
+  delete : (place : Path) → Request
   show : Show → Request
   refuse : Refusal → Request
 
 -- an edit that puts in an item, where there are a place and a text
-abbrev pub put_at : ItemEdit → Option (List ℕ) → (text : List ℕ) → Request
+abbrev pub put_at : ItemEdit → Option Path → (text : List ℕ) → Request
 put_at edit None text = refuse BadCommand
 put_at edit (Some place) text = if length text == 0 then refuse BadCommand else put edit place text
 
 -- a deletion, where there are a place and nothing behind it
-abbrev pub delete_at : Option (List ℕ) → (text : List ℕ) → Request
+abbrev pub delete_at : Option Path → (text : List ℕ) → Request
 delete_at None text = refuse BadCommand
 delete_at (Some place) text = if length text == 0 then delete place else refuse BadCommand
 
@@ -75,7 +78,7 @@ most_script = 67108864
 -- an edit whose item's text is gathered: how many blocks are open, and the text so far
 pub record Gathering : Type 0 where
   pub edit : ItemEdit
-  pub place : List ℕ
+  pub place : Path
   pub opened : ℕ
   pub text : Gathered
 
@@ -98,7 +101,7 @@ abbrev pub line_ended : Option Gathering → List Request → Reading
 line_ended gathering requests = record { desk = record { gathering = gathering; line = Some [] }; requests = requests }
 
 -- what an edit with a gathered text asks for
-abbrev pub put_gathered : ItemEdit → (place : List ℕ) → Gathered → Request
+abbrev pub put_gathered : ItemEdit → (place : Path) → Gathered → Request
 put_gathered edit place None = refuse TooLong
 put_gathered edit place (Some text) = put edit place text
 
@@ -178,13 +181,29 @@ empty_desk = record { gathering = None; line = Some [] }
 abbrev pub requests_of : List ℕ → List Request
 requests_of script = (then_read (read empty_desk script) read_end).requests
 
--- what edits are judged by, and what is shown of items: the number of qubits, the coins, and what an edit at a place makes of
--- items, or why it is refused
+-- what requests are answered by, beside the items: the number of qubits and the coins
 pub record Setting : Type 0 where
   pub qubits : ℕ
   pub coins : ℕ → Bool
-  pub putting : ItemEdit → List ℕ → OneItem → Items → Result Items Refusal
-  pub deleting : List ℕ → Items → Result Items Refusal
+
+-- the change that puts in an item
+abbrev pub change_of : ItemEdit → OneItem → Change
+change_of Insert item = change.Insert item
+change_of Replace item = change.Replace item
+
+-- the items, unless something refuses them
+abbrev pub unless : Option Refusal → Items → Result Items Refusal
+unless None items = Ok items
+unless (Some r) items = Err r
+
+-- the items of an edited list on n qubits, or the verdict that refuses it
+abbrev pub judged : ℕ → Result (List OneItem) Refusal → Result Items Refusal
+judged n (Ok list) = unless (verdict n (Ok list)) (listed list)
+judged n (Err r) = Err r
+
+-- what a change at a place makes of items on n qubits, or what refuses it
+abbrev pub edited_items : ℕ → Change → Path → Items → Result Items Refusal
+edited_items n change place items = judged n (edited change place (entries items))
 
 -- what a request is answered: the items after it, the reply, and whether a line was refused
 pub record Answer : Type 0 where
@@ -202,14 +221,14 @@ refusing items r = record { items = items; reply = refused_text r; refused = tru
 
 -- an edit is made, or refused
 abbrev pub decided : Items → Result Items Refusal → Answer
-decided items (Ok edited) = record { items = edited; reply = codes "ok\n"; refused = false }
+decided items (Ok after) = record { items = after; reply = codes "ok\n"; refused = false }
 decided items (Err r) = refusing items r
 
 -- the item's text has a fault, or it stands for an item, and the edit with that is made or refused
 abbrev pub IsPut : Items → (OneItem → Result Items Refusal) → (text : List ℕ) → Answer → Type 0
-IsPut items edited text a =
+IsPut items after text a =
     ((fault : Fault) × (item_fault text ≡ Some fault) × (a ≡ refusing items fault.refusal))
-    ⊎ ((item : OneItem) × StandsForOne text item × (a ≡ decided items (edited item)))
+    ⊎ ((item : OneItem) × StandsForOne text item × (a ≡ decided items (after item)))
 
 -- rows, one a line
 abbrev pub rows_text : List Signed → List ℕ
@@ -230,8 +249,8 @@ Shows n run items Circuit reply = reply ≡ printed items
 
 -- the answer to a request, where the items are these
 abbrev pub IsAnswer : Setting → Items → Request → Answer → Type 0
-IsAnswer s items (put edit place text) a = IsPut items (λ item. s.putting edit place item items) text a
-IsAnswer s items (delete place) a = a ≡ decided items (s.deleting place items)
+IsAnswer s items (put edit place text) a = IsPut items (λ item. edited_items s.qubits (change_of edit item) place items) text a
+IsAnswer s items (delete place) a = a ≡ decided items (edited_items s.qubits change.Delete place items)
 IsAnswer s items (show what) a = (reply : List ℕ) × Shows s.qubits (run_of s.qubits s.coins items) items what reply × (a ≡ replying items reply)
 IsAnswer s items (refuse r) a = a ≡ refusing items r
 

@@ -2,3 +2,4 @@ pub mod Texts
 pub mod Sendings
 pub mod Requests
 pub mod Replies
+pub mod Editors

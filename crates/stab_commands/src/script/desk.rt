@@ -7,8 +7,8 @@ ghost use Rattle.stab_commands.specs.Scripts.{Desk as DeskState, Gathering as Ga
 ghost use Rattle.stab_commands.specs.inner.Requests.{asked, asked_if_any, opened_in};
 
 use crate::script::gathered::Gathered;
-use crate::script::place::Place;
 use crate::script::request::{ItemEdit, Request, read_request};
+use stab_circuit::Path;
 use stab_lines::{content, ends_with, is_close};
 use stab_pauli::{Fault, Refusal};
 use std::alloc::Global;
@@ -24,7 +24,7 @@ const MOST_TEXT: usize = 16_777_216;
 #[derive(Drop)]
 struct Gathering {
     edit: ItemEdit,
-    place: Place,
+    place: Path,
     opened: u64,
     text: Gathered,
 }

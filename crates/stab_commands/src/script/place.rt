@@ -1,39 +1,15 @@
-//! Places of a script, and the numbers that stand for them.
+//! Words of a script, and the paths that they stand for.
 ghost use Rattle.std.specs.Prelude.{◌≡◌, ◌≤◌, ℕ, List, true, false, length, take, Some, None, MatchOption};
 ghost use Rattle.std.specs.List.{position_or_len};
 ghost use Rattle.stab_lines.specs.Lines.{is_spacing as spacing};
 ghost use Rattle.stab_lines.specs.Words.{value};
 ghost use Rattle.stab_commands.specs.ScriptWords.{first_word as first_of, behind_word, is_place_number, place_of};
 
+use stab_circuit::Path;
 use stab_lines::{capped_value, first_piece, is_number, is_spacing, without_spacing_in_front};
-use std::marker::Model;
 
 /// The most numbers of a place.
 const MOST_NUMBERS: usize = 17;
-
-/// A place: the numbers of the blocks around, the outermost first, and a place in the innermost.
-#[derive(Drop)]
-pub(crate) struct Place {
-    numbers: [usize; 17],
-    count: usize,
-}
-
-impl Model for Place {
-    ghost Value = { List ℕ };
-
-    ghost view = { λ p. take p.count p.numbers };
-
-    ghost invariant = { λ p. p.count ≤ 17 };
-}
-
-impl Place {
-    /// The numbers, at least one and at most 17.
-    pub(crate) fn numbers(&self) -> &[usize]
-        ensures value { result.now ≡ self.now }
-    {
-        self.numbers.split_at(self.count).0
-    }
-}
 
 fn word_len(text: &[u8]) -> usize
     ensures value { result ≡ position_or_len spacing text.now }
@@ -66,7 +42,7 @@ fn place_number(word: &[u8]) -> Option<usize>
 
 /// The place that a word stands for.
 #[tactic(auto, unfolding(crate::specs::ScriptWords::place_of))]
-pub(crate) fn read_place(word: &[u8]) -> Option<Place>
+pub(crate) fn read_place(word: &[u8]) -> Option<Path>
     ensures value { MatchOption result (place_of word.now ≡ None) (λ p. place_of word.now ≡ Some p) }
 {
     let mut numbers = [0; MOST_NUMBERS];
@@ -86,5 +62,5 @@ pub(crate) fn read_place(word: &[u8]) -> Option<Place>
         }
         rest = after;
     }
-    Some(Place { numbers, count })
+    Some(Path::new(numbers.split_at(count).0))
 }

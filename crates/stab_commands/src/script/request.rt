@@ -6,7 +6,8 @@ ghost use Rattle.stab_commands.specs.ScriptWords.{first_word as first_of, behind
 ghost use Rattle.stab_commands.specs.Scripts.{put_at as put_of, delete_at as delete_of, show_of, request_by as by_word, request_of};
 ghost use Rattle.stab_commands.specs.inner.Requests.{asked};
 
-use crate::script::place::{Place, first_word, read_place};
+use crate::script::place::{first_word, read_place};
+use stab_circuit::Path;
 use stab_pauli::{Fault, Refusal};
 use std::alloc::Global;
 
@@ -42,12 +43,12 @@ pub(crate) enum Request {
     /// That the item of a text is put in at a place.
     Put {
         edit: ItemEdit,
-        place: Place,
+        place: Path,
         text: Vec<u8>,
     },
     /// That the item at a place is deleted.
     Delete {
-        place: Place,
+        place: Path,
     },
     /// That something is shown.
     Show(Show),
