@@ -57,10 +57,11 @@ pub first_replies : ItemTextsHaveOneMeaning → (s : Setting) (items : Items) (f
 first_replies law s items [] rest a b p q = (b.reply, sym (ap (λ (x : Answer). x.reply ++ b.reply) p))
 first_replies law s items (r ∷ first) rest a b p q =
     let same : q.0 ≡ p.0 = one_answer law s items r p.0 q.0 p.2 q.2 in
-    let more = first_replies law s p.0.items first rest p.1 q.1 p.3 (subst (λ (x : Answer). IsAnswerToAll s x.items (first ++ rest) q.1) same q.3) in
-    (more.0,
+    let more = first_replies law s p.0.items first rest p.1 q.1 p.3 (subst (λ (x : Answer). IsAnswerToAll s x.items (first ++ rest) q.1) same q.3) in (
+      more.0,
       ap (λ (x : Answer). x.reply) q.4
-      ∙ ap (λ (x : Answer). x.reply ++ q.1.reply) same
-      ∙ ap (λ l. p.0.reply ++ l) more.1
-      ∙ sym (append_assoc p.0.reply p.1.reply more.0)
-      ∙ sym (ap (λ (x : Answer). x.reply ++ more.0) p.4))
+          ∙ ap (λ (x : Answer). x.reply ++ q.1.reply) same
+          ∙ ap (λ l. p.0.reply ++ l) more.1
+          ∙ sym (append_assoc p.0.reply p.1.reply more.0)
+          ∙ sym (ap (λ (x : Answer). x.reply ++ more.0) p.4),
+    )

@@ -5,3 +5,4 @@ pub mod PlaceLaws
 pub mod AnswerLaws
 pub mod ReadingLaws
 pub mod TellingLaws
+pub mod ScriptRunLaws

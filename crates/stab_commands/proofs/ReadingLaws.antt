@@ -42,9 +42,10 @@ read_more desk bytes i h =
 
 -- what first bytes ask for comes first
 pub first_requests : (desk : Desk) (bytes : List ℕ) (n : ℕ) → (more : List Request) × ((read desk bytes).requests ≡ (read desk (take n bytes)).requests ++ more)
-first_requests desk bytes n =
-    ((read (read desk (take n bytes)).desk (drop n bytes)).requests,
-      ap (λ l. (read desk l).requests) (sym (take-append-drop n bytes)) ∙ ap (λ (r : Reading). r.requests) (read_append desk (take n bytes) (drop n bytes)))
+first_requests desk bytes n = (
+  (read (read desk (take n bytes)).desk (drop n bytes)).requests,
+  ap (λ l. (read desk l).requests) (sym (take-append-drop n bytes)) ∙ ap (λ (r : Reading). r.requests) (read_append desk (take n bytes) (drop n bytes)),
+)
 
 -- how many blocks are open in what is gathered after a reading
 abbrev opened_by : Reading → ℕ
@@ -82,3 +83,9 @@ opened_line (Some g) line = let one = opened_gathered (gathered_with g line) in 
 pub opened_byte : (desk : Desk) (b : ℕ) → opened_by (read_byte desk b) ≤ opened_in desk.gathering + 1
 unfolding read_line
 opened_byte desk b = opened_choice (b == 10) (read_line desk) _ (opened_in desk.gathering + 1) (opened_line desk.gathering desk.line) (omega arith)
+
+-- bytes open at most as many blocks as they are
+pub opened_read : (desk : Desk) (bytes : List ℕ) → opened_by (read desk bytes) ≤ opened_in desk.gathering + length bytes
+unfolding read
+opened_read desk [] = omega arith
+opened_read desk (b ∷ bs) = let one = opened_byte desk b in let more = opened_read (read_byte desk b).desk bs in omega (arith, one, more)

@@ -13,6 +13,7 @@
 //! job, with its status and the line that tells its fault.
 #![tactic(auto)]
 
+mod edit;
 mod editor;
 mod fault_line;
 mod job;

@@ -34,8 +34,8 @@ returns-in_err-take_byte-clause-tells g c =
     let here : ToldSome mid (read_byte before.desk byte).requests p q f = subst (λ (d : Desk). ToldSome mid (read_byte d byte).requests p q f) c.loop-byte.invariant.desk c.in_err-take_byte.ensures.tells in
     let whole : (before.requests ++ (read_byte before.desk byte).requests) ++ rest.0 ≡ (read desk c.args.piece.now).requests = ap (λ (r : Reading). r.requests ++ rest.0) (sym more) ∙ sym rest.1 in
     tells_err old _ _ o q f c.from_residual.result c.from_residual.ensures.1
-      (subst (λ (l : List Request). ToldSome old l o q f) whole
-        (told_some_within (before.requests ++ (read_byte before.desk byte).requests) rest.0 f (told_some_behind before.requests (read_byte before.desk byte).requests f c.loop-byte.invariant.told here)))
+    (subst (λ (l : List Request). ToldSome old l o q f) whole
+    (told_some_within (before.requests ++ (read_byte before.desk byte).requests) rest.0 f (told_some_behind before.requests (read_byte before.desk byte).requests f c.loop-byte.invariant.told here)))
 
 pub loop-byte-preserved : goal.loop-byte-preserved
 loop-byte-preserved g c =

@@ -16,7 +16,7 @@ returns-in-Ok-clause-tells g c =
     let took : Took o o' a.reply = subst (λ (l : List ℕ). Took o o' l) c.bytes.ensures.value c.in-Ok.ensures.writes in
     let noted : old.refused || a.refused ≡ c.either-self.result = sym c.either-self.ensures.value in
     subst (λ (b : Bool). Told old (sitting_with (g.A.Answer.setting c.answer.new.self) a.items b) (asked c.args.request ∷ []) o o') noted
-      (told_one old (g.A.Answer.setting c.answer.new.self) (asked c.args.request) a c.in_ok-reply.ensures.setting c.in_ok-reply.ensures.answers took)
+    (told_one old (g.A.Answer.setting c.answer.new.self) (asked c.args.request) a c.in_ok-reply.ensures.setting c.in_ok-reply.ensures.answers took)
 
 pub returns-clause-tells : goal.returns-clause-tells
 returns-clause-tells g c =
