@@ -53,34 +53,10 @@ fn shown<C: Coins>(alloc: Global, session: &Session<C>) -> Result<String, AllocE
     Ok(text)
 }
 
-/// The rows, each with LF.
-fn printed(alloc: Global, rows: &[Pauli]) -> Result<String, Fail> {
-    let mut out = MemoryOutput::new(alloc, 256)?;
-    let mut text = String::new(alloc);
-    for row in rows {
-        row.write_text(&mut out)?;
-    }
-    for byte in out.bytes() {
-        text.push(char::from(*byte))?;
-    }
-    Ok(text)
-}
-
-fn sign<C: Coins>(
-    session: &mut Session<C>,
-    alloc: Global,
-    letters: &[Letter],
-) -> Result<Option<bool>, Fail> {
-    let mut pauli = Pauli::identity(alloc, letters.len())?;
-    for (qubit, letter) in letters.iter().enumerate() {
-        if qubit < pauli.len() {
-            pauli.set(qubit, *letter);
-        }
-    }
-    if pauli.len() != session.qubits() {
-        Err(MISUSED)?;
-    }
-    Ok(session.sign_of(&pauli))
+/// What a session on a text shows.
+fn shown_of(alloc: Global, text: &str, n: usize, bits: &[bool]) -> Result<String, Fail> {
+    let session = opened(alloc, text, n, bits)?;
+    Ok(shown(alloc, &session)?)
 }
 
 #[test]
@@ -107,98 +83,115 @@ fn a_session_shows_the_run_of_its_circuit(rt: HostRuntime) -> Result<(), Fail> {
         ),
     ];
     for (text, n, bits, wanted) in cases {
-        let session = opened(rt.alloc(), text, n, bits)?;
-        assert_eq!(rt; shown(rt.alloc(), &session)?.as_str(), wanted, "{text}");
-        assert_eq!(rt; session.qubits(), n);
+        let shown = shown_of(rt.alloc(), text, n, bits)?;
+        assert_eq!(rt; shown.as_str(), wanted, "{text}");
     }
     Ok(())
 }
 
-/// Opens a session where that is refused, with what comes back.
-fn open_twice<'a>(
-    alloc: Global,
-    text: &str,
-    bits: &'a [bool],
-) -> Result<(Fault, Session<ListCoins<'a>>), Fail> {
+/// The fault of an opening on no qubits, and what a session shows that is opened on one qubit with
+/// the circuit and the coins that came back.
+fn opened_again(alloc: Global, text: &str, bits: &[bool]) -> Result<(Fault, String), Fail> {
     let circuit = read(alloc, text)?;
     match Session::open(alloc, circuit, 0, 1, ListCoins::new(bits)) {
         Ok(_) => Err(MISUSED)?,
-        Err(refused) => {
-            let OpenRefused {
-                fault,
-                circuit,
-                coins,
-            } = refused;
-            match Session::open(alloc, circuit, 1, 65_536, coins) {
-                Ok(session) => Ok((fault, session)),
-                Err(again) => Err(again.fault)?,
-            }
-        }
+        Err(refused) => Ok((refused.fault, shown_after(alloc, refused)?)),
+    }
+}
+
+fn shown_after(alloc: Global, refused: OpenRefused<ListCoins>) -> Result<String, Fail> {
+    match Session::open(alloc, refused.circuit, 1, 65_536, refused.coins) {
+        Ok(session) => Ok(shown(alloc, &session)?),
+        Err(again) => Err(again.fault)?,
     }
 }
 
 #[test]
 fn a_refused_opening_hands_circuit_and_coins_back(rt: HostRuntime) -> Result<(), Fail> {
-    let wanted = Fault {
-        refusal: Refusal::QubitOutOfRange,
-        line: 0,
-    };
-    let (fault, session) = open_twice(rt.alloc(), "REPEAT 2 {\nTICK\nM 0\n}", &[])?;
-    assert_eq!(rt; fault, wanted);
-    assert_eq!(rt;
-        shown(rt.alloc(), &session)?.as_str(),
-        "records 00 free 00 detectors  observables "
-    );
-    let (fault, session) = open_twice(rt.alloc(), "H 0\nM 0\nMX 0", &[true, true])?;
-    assert_eq!(rt; fault, wanted);
-    assert_eq!(rt;
-        shown(rt.alloc(), &session)?.as_str(),
-        "records 11 free 11 detectors  observables "
-    );
-    assert_eq!(rt; session.circuit().steps(), 3);
+    let cases: [(&str, &[bool], &str); 2] = [
+        (
+            "REPEAT 2 {\nTICK\nM 0\n}",
+            &[],
+            "records 00 free 00 detectors  observables ",
+        ),
+        (
+            "H 0\nM 0\nMX 0",
+            &[true, true],
+            "records 11 free 11 detectors  observables ",
+        ),
+    ];
+    for (text, bits, wanted) in cases {
+        let (fault, shown) = opened_again(rt.alloc(), text, bits)?;
+        assert_eq!(rt; fault.refusal, Refusal::QubitOutOfRange, "{text}");
+        assert_eq!(rt; fault.line, 0);
+        assert_eq!(rt; shown.as_str(), wanted, "{text}");
+    }
     Ok(())
+}
+
+/// The string of these letters.
+fn string(alloc: Global, letters: &[Letter]) -> Result<Pauli, Refusal> {
+    let mut pauli = Pauli::identity(alloc, letters.len())?;
+    for (qubit, letter) in letters.iter().enumerate() {
+        if qubit < pauli.len() {
+            pauli.set(qubit, *letter);
+        }
+    }
+    Ok(pauli)
+}
+
+/// The sign of a string in a session on a text, with coins 1, 0, 0 and so on.
+fn sign(alloc: Global, text: &str, letters: &[Letter]) -> Result<Option<bool>, Fail> {
+    let pauli = string(alloc, letters)?;
+    let mut session = opened(alloc, text, letters.len(), &[true])?;
+    if pauli.len() != session.qubits() || session.circuit().qubits() > session.qubits() {
+        return Err(MISUSED)?;
+    }
+    Ok(session.sign_of(&pauli))
 }
 
 #[test]
 fn a_session_tells_the_strings_that_stabilise(rt: HostRuntime) -> Result<(), Fail> {
-    let mut bell = opened(rt.alloc(), BELL, 2, &[])?;
-    assert_eq!(rt;
-        sign(&mut bell, rt.alloc(), &[Letter::X, Letter::X])?,
-        Some(false)
-    );
-    assert_eq!(rt;
-        sign(&mut bell, rt.alloc(), &[Letter::Y, Letter::Y])?,
-        Some(true)
-    );
-    assert_eq!(rt; sign(&mut bell, rt.alloc(), &[Letter::Z, Letter::I])?, None);
-    let mut measured = opened(rt.alloc(), MEASURED, 2, &[true])?;
-    assert_eq!(rt;
-        sign(&mut measured, rt.alloc(), &[Letter::Z, Letter::I])?,
-        Some(true)
-    );
-    assert_eq!(rt;
-        sign(&mut measured, rt.alloc(), &[Letter::X, Letter::X])?,
-        None
-    );
+    let cases: [(&str, [Letter; 2], Option<bool>); 5] = [
+        (BELL, [Letter::X, Letter::X], Some(false)),
+        (BELL, [Letter::Y, Letter::Y], Some(true)),
+        (BELL, [Letter::Z, Letter::I], None),
+        (MEASURED, [Letter::Z, Letter::I], Some(true)),
+        (MEASURED, [Letter::X, Letter::X], None),
+    ];
+    for (text, letters, wanted) in cases {
+        let sign = sign(rt.alloc(), text, letters.as_slice())?;
+        assert_eq!(rt; sign, wanted, "{text}");
+    }
     Ok(())
+}
+
+fn rows(alloc: Global, text: &str, n: usize) -> Result<Vec<Pauli>, Fail> {
+    let mut session = opened(alloc, text, n, &[true])?;
+    Ok(session.reduced_rows(alloc)?)
+}
+
+/// The reduced rows of a session on a text, one behind the other.
+fn printed(alloc: Global, text: &str, n: usize) -> Result<MemoryOutput, Fail> {
+    let rows = rows(alloc, text, n)?;
+    let mut out = MemoryOutput::new(alloc, 64)?;
+    for row in rows.iter() {
+        row.write_text(&mut out)?;
+    }
+    Ok(out)
 }
 
 #[test]
 fn a_session_tells_reduced_rows(rt: HostRuntime) -> Result<(), Fail> {
-    let cases: [(&str, usize, &str); 4] = [
+    let cases = [
         ("", 0, ""),
         (BELL, 2, "+XX+ZZ"),
         ("H 0\nCX 0 1\nS_DAG 0 1", 2, "-XX+ZZ"),
         (MEASURED, 2, "-Z_-_Z"),
     ];
     for (text, n, wanted) in cases {
-        let mut session = opened(rt.alloc(), text, n, &[true])?;
-        let rows = session.reduced_rows(rt.alloc())?;
-        assert_eq!(rt;
-            printed(rt.alloc(), rows.as_slice())?.as_str(),
-            wanted,
-            "{text}"
-        );
+        let out = printed(rt.alloc(), text, n)?;
+        assert!(rt; out.bytes() == wanted.as_bytes(), "{text}");
     }
     Ok(())
 }
