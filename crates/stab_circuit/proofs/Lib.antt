@@ -16,3 +16,4 @@ mod RoundLemmas
 pub mod ApartLemmas
 mod ItemTextLemmas
 mod CircuitFaultLemmas
+mod EditLemmas

@@ -1,7 +1,7 @@
 //! Laws of circuit texts. Each function does nothing: its contract is the law, and the check
 //! proves it.
 
-ghost use Rattle.stab_circuit.specs.Laws.{CircuitsHaveNoFault, EachTextHasAMeaning, ItemTextsHaveOneMeaning, LinesKeepQubitsApart, PrintedItemsAreReadBack, TextsAreLines, TextsAreOfOneCircuit, TextsHaveOneFault, TextsHaveOneMeaning};
+ghost use Rattle.stab_circuit.specs.Laws.{CircuitsHaveNoFault, EachTextHasAMeaning, EditsLeaveTheRest, ItemTextsHaveOneMeaning, LinesKeepQubitsApart, PrintedItemsAreReadBack, TextsAreLines, TextsAreOfOneCircuit, TextsHaveOneFault, TextsHaveOneMeaning};
 
 /// A text without a faulty line stands for one list of items, and for no other.
 pub fn texts_have_one_meaning()
@@ -50,4 +50,11 @@ pub fn texts_have_one_fault()
 /// The text of a circuit has no fault.
 pub fn circuits_have_no_fault()
     ensures law { CircuitsHaveNoFault }
+{}
+
+/// An edit leaves the steps before the first changed one, and those behind the outermost item
+/// around its place: behind the block in the outermost list, or behind what is put into that list
+/// or taken out of it.
+pub fn edits_leave_the_rest()
+    ensures law { EditsLeaveTheRest }
 {}
