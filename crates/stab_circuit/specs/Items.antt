@@ -40,3 +40,8 @@ abbrev pub depth : Items → ℕ
 depth done = 0
 depth (next op rest) = depth rest
 depth (block count tag body rest) = max (depth body + 1) (depth rest)
+
+-- how deep blocks are nested in one item
+abbrev pub depth_of : OneItem → ℕ
+depth_of (operation op) = 0
+depth_of (repeat count tag body) = depth body + 1
