@@ -16,3 +16,6 @@ mod RoundLemmas
 mod ItemTextLemmas
 mod CircuitFaultLemmas
 mod EditLemmas
+mod SpliceLemmas
+mod JudgementLemmas
+mod CommitLemmas
