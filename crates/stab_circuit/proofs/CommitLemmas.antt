@@ -1,12 +1,12 @@
 -- Edits in blocks keep the blocks right.
-use Rattle.std.proofs.Common.{◌≡◌, ◌≤◌, ◌<◌, refl, ap, sym, ◌∙◌, subst, ℕ, ◌+◌, suc, zero, max, min, List, [], ◌∷◌, length, set, get_or, arith, Option, Some, None, Result, Ok, Err}
+use Rattle.std.proofs.Common.{◌≡◌, ◌≤◌, ◌<◌, ap, sym, ◌∙◌, subst, ℕ, ◌+◌, suc, zero, max, min, List, [], ◌∷◌, length, set, get_or, arith, Option, Some, Result, Ok, Err}
 use Rattle.std.specs.Prelude.{slice_get}
 use Rattle.std.proofs.lemmas.Option.{slice_get-get_or}
 use Rattle.std.specs.Result.{OnOk, OnErr}
 use Rattle.stab_pauli.specs.declared.refusal.Refusal.{Refusal}
 use Rattle.stab_circuit.specs.declared.change.Change.{Change}
 use Rattle.stab_circuit.specs.declared.item.Head.{Head}
-use Rattle.stab_circuit.specs.Items.{Items, OneItem, operation, repeat, listed, before, entries, depth, depth_of}
+use Rattle.stab_circuit.specs.Items.{Items, OneItem, operation, repeat, listed, before, depth, depth_of}
 use Rattle.stab_circuit.specs.Edits.{put, rebuilt, edited_inside, edited_in, inner, taken_in}
 use Rattle.stab_circuit.specs.inner.Judgements.{IsShallow, IsShallowItem}
 use Rattle.stab_circuit.proofs.EditLemmas.{entries-listed}

@@ -96,21 +96,21 @@ changed_behind change p xs ys e =
     sym (ap (drop (behind_put change p)) (s.1 ∙ sym (append_assoc (take p xs) (put_in change) rest)) ∙ drop_at front rest (behind_put change p) long)
 
 -- a list with an item rebuilt in it
-record Rebuilds (edit : List OneItem → Result (List OneItem) Refusal) (b : ℕ) (xs ys : List OneItem) : Type 0 where
-  count : ℕ
-  tag : List ℕ
-  body : Items
-  within : List OneItem
-  found : slice_get xs b ≡ Some (repeat count tag body)
-  edited : edit (entries body) ≡ Ok within
-  same : ys ≡ set xs b (repeat count tag (listed within))
+pub record Rebuilds (edit : List OneItem → Result (List OneItem) Refusal) (b : ℕ) (xs ys : List OneItem) : Type 0 where
+  pub count : ℕ
+  pub tag : List ℕ
+  pub body : Items
+  pub within : List OneItem
+  pub found : slice_get xs b ≡ Some (repeat count tag body)
+  pub edited : edit (entries body) ≡ Ok within
+  pub same : ys ≡ set xs b (repeat count tag (listed within))
 
 rebuilds_by : (edit : List OneItem → Result (List OneItem) Refusal) (b : ℕ) (xs ys : List OneItem) (count : ℕ) (tag : List ℕ) (body : Items) (r : Result (List OneItem) Refusal)
     → slice_get xs b ≡ Some (repeat count tag body) → edit (entries body) ≡ r → put b xs (rebuilt count tag r) ≡ Ok ys → Rebuilds edit b xs ys
 rebuilds_by edit b xs ys count tag body (Err r) f g e = absurd (cc)
 rebuilds_by edit b xs ys count tag body (Ok zs) f g e = record { count = count; tag = tag; body = body; within = zs; found = f; edited = g; same = cc }
 
-rebuilds : (edit : List OneItem → Result (List OneItem) Refusal) (b : ℕ) (xs ys : List OneItem) (g : Option OneItem)
+pub rebuilds : (edit : List OneItem → Result (List OneItem) Refusal) (b : ℕ) (xs ys : List OneItem) (g : Option OneItem)
     → slice_get xs b ≡ g → put b xs (edited_inside edit g) ≡ Ok ys → Rebuilds edit b xs ys
 rebuilds edit b xs ys None f e = absurd (cc)
 rebuilds edit b xs ys (Some (operation op)) f e = absurd (cc)

@@ -1,16 +1,16 @@
 -- What an edit comes to, by kept summaries.
-use Rattle.std.proofs.Common.{◌≡◌, ◌≤◌, ◌<◌, refl, ap, sym, ◌∙◌, subst, ℕ, ◌+◌, ◌-◌, suc, zero, min, max, List, [], ◌∷◌, ◌++◌, length, take, drop, arith, append_assoc, append-nil, Option, Some, None, Result, Ok, Err}
+use Rattle.std.proofs.Common.{◌≡◌, ◌≤◌, ◌<◌, refl, ap, sym, ◌∙◌, subst, ℕ, ◌+◌, suc, zero, min, List, [], ◌∷◌, ◌++◌, length, take, drop, arith, append-nil, Option, Some, None, Result, Ok, Err}
 use Rattle.std.proofs.lemmas.List.{length-append}
 use Rattle.std.specs.Prelude.{slice_get}
 use Rattle.stab_pauli.specs.declared.refusal.Refusal.{Refusal}
 use Rattle.stab_circuit.specs.declared.summary.Summary.{Summary}
 use Rattle.stab_circuit.specs.declared.edit.Judgement.{Judgement}
 use Rattle.stab_circuit.specs.declared.change.Change.{Change}
-use Rattle.stab_circuit.specs.Items.{Items, OneItem, operation, repeat, done, block, listed, entries, join}
+use Rattle.stab_circuit.specs.Items.{OneItem, operation, repeat, listed}
 use Rattle.stab_circuit.specs.Steps.{Step, unroll, rounds}
 use Rattle.stab_circuit.specs.Edits.{rebuilt, edited_inside, edited_in, inner, steps_in}
 use Rattle.stab_circuit.specs.inner.Summaries.{summary_of, followed_by, repeated, reach, IsSummary}
-use Rattle.stab_circuit.specs.inner.Splices.{Splice, splice_at, splice_block, splice_of, spliced, IsWithin}
+use Rattle.stab_circuit.specs.inner.Splices.{Splice, splice_block, splice_of, spliced, IsWithin}
 use Rattle.stab_circuit.specs.inner.Judgements.{summed, judgement_of, block_refusal, BeginsWith}
 use Rattle.stab_circuit.proofs.ItemLemmas.{listed-append}
 use Rattle.stab_circuit.proofs.SummaryLemmas.{summary-join, block_summary}

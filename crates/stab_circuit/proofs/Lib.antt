@@ -19,3 +19,4 @@ mod EditLemmas
 mod SpliceLemmas
 mod JudgementLemmas
 mod CommitLemmas
+mod EditingLemmas

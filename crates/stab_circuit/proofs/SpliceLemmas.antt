@@ -1,5 +1,5 @@
 -- An edit as one exchange of items in the outermost list.
-use Rattle.std.proofs.Common.{◌≡◌, ◌≤◌, ◌<◌, refl, ap, sym, ◌∙◌, subst, ℕ, ◌+◌, suc, zero, Bool, true, false, List, [], ◌∷◌, ◌++◌, length, take, drop, set, arith, nat_le, nat_lt, if◌then◌else◌, Option, Some, None, Result, Ok, Err}
+use Rattle.std.proofs.Common.{◌≡◌, ◌<◌, refl, ap, ◌∙◌, subst, ℕ, ◌+◌, Bool, true, false, List, [], ◌∷◌, ◌++◌, length, take, drop, set, arith, nat_le, nat_lt, if◌then◌else◌, Option, Some, None, Result, Ok, Err}
 use Rattle.std.proofs.lemmas.List.{set_split}
 use Rattle.std.specs.List.{insert, remove}
 use Rattle.std.specs.Prelude.{slice_get}
@@ -8,8 +8,8 @@ use Rattle.stab_pauli.specs.declared.refusal.Refusal.{Refusal}
 use Rattle.stab_pauli.specs.declared.refusal.Refusal.TheVariants.{PlaceOutOfRange}
 use Rattle.stab_circuit.specs.declared.change.Change.{Change}
 use Rattle.stab_circuit.specs.declared.change.Change.TheVariants.{Insert, Replace, Delete}
-use Rattle.stab_circuit.specs.Items.{Items, OneItem, operation, repeat, entries}
-use Rattle.stab_circuit.specs.Edits.{put, rebuilt, edited_inside, changed, edited_in}
+use Rattle.stab_circuit.specs.Items.{OneItem, operation, repeat}
+use Rattle.stab_circuit.specs.Edits.{put, edited_inside, changed, edited_in}
 use Rattle.stab_circuit.specs.inner.Splices.{Splice, splice_at, splice_block, splice_of, spliced, IsWithin}
 use Rattle.stab_circuit.proofs.EditLemmas.{if_ok, le_holds, lt_holds, next_place}
 

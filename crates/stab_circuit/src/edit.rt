@@ -1,4 +1,4 @@
-ghost use Rattle.std.specs.Prelude.{◌≡◌, ◌≤◌, length, min, take, slice_get, IfOk};
+ghost use Rattle.std.specs.Prelude.{◌≡◌, ◌≤◌, ◌+◌, length, min, take, slice_get, IfOk};
 ghost use Rattle.stab_circuit.specs.Items.{listed};
 ghost use Rattle.stab_circuit.specs.Steps.{unroll};
 ghost use Rattle.stab_circuit.specs.Edits.{edited_in, steps_in as steps_of_place};
@@ -123,6 +123,31 @@ pub(crate) fn edited_summary(
             let (_, back) = items.split_at(judgement.behind);
             Ok(around(front, judgement.put, back))
         }
+    }
+}
+
+/// Which steps an edit changes, counted up to 1,048,577: how many stand before its place, before
+/// the end of what leaves the outermost list, and before the end of what is put in its stead.
+#[derive(Clone, Copy)]
+pub(crate) struct Span {
+    pub(crate) first: u32,
+    pub(crate) old_end: u32,
+    pub(crate) new_end: u32,
+}
+
+/// Which steps an edit changes that comes to this.
+pub(crate) fn changed_span(items: &[Item], blocks: &[usize], place: usize, judgement: Judgement) -> Span
+    requires small { IsSummary judgement.put }
+    ensures first { result.first ≡ min (length (steps_of_place blocks.now place items.now)) 1048577 }
+    ensures front { BeginsWith (steps_of_place blocks.now place items.now) (unroll (listed items.now)) }
+    ensures old_end { result.old_end ≡ min (length (unroll (listed (take judgement.behind items.now)))) 1048577 }
+    ensures new_end { result.new_end ≡ min (min (length (unroll (listed (take judgement.first items.now)))) 1048577 + judgement.put.steps) 1048577 }
+{
+    let new_end = steps_up_to(items, judgement.first) + judgement.put.steps;
+    Span {
+        first: steps_in(items, blocks, place),
+        old_end: steps_up_to(items, judgement.behind),
+        new_end: new_end.min(1_048_577),
     }
 }
 

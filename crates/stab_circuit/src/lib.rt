@@ -37,7 +37,7 @@ mod step;
 mod summary;
 mod unrolled;
 
-pub use change::Change;
+pub use change::{Change, Edited, Refused};
 pub use circuit::{Circuit, read_circuit, read_item};
 pub use cursor::Cursor;
 pub use item::Item;
