@@ -1,3 +1,2 @@
 pub mod Sights
-pub mod StoredItems
 pub mod ReadySamplers
