@@ -136,7 +136,12 @@ pub(crate) struct Span {
 }
 
 /// Which steps an edit changes that comes to this.
-pub(crate) fn changed_span(items: &[Item], blocks: &[usize], place: usize, judgement: Judgement) -> Span
+pub(crate) fn changed_span(
+    items: &[Item],
+    blocks: &[usize],
+    place: usize,
+    judgement: Judgement,
+) -> Span
     requires small { IsSummary judgement.put }
     ensures first { result.first ≡ min (length (steps_of_place blocks.now place items.now)) 1048577 }
     ensures front { BeginsWith (steps_of_place blocks.now place items.now) (unroll (listed items.now)) }

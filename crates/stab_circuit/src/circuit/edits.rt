@@ -85,18 +85,18 @@ impl Circuit {
         match judge(self.items.as_slice(), path.blocks(), path.place(), change) {
             Err(_) => unreachable!(),
             Ok(judgement) => {
-                changed_span(self.items.as_slice(), path.blocks(), path.place(), judgement)
+                changed_span(
+                    self.items.as_slice(),
+                    path.blocks(),
+                    path.place(),
+                    judgement,
+                )
             }
         }
     }
 
     /// Makes a change that leaves items of this summary.
-    fn make(
-        &mut self,
-        path: Path,
-        change: Change,
-        total: Summary,
-    ) -> Result<Option<Item>, Refused>
+    fn make(&mut self, path: Path, change: Change, total: Summary) -> Result<Option<Item>, Refused>
         requires judged { Ok total ≡ summed (edited change path self.old) }
         requires small { IsSummary total }
         requires shallow { total.depth ≤ 16 }
@@ -213,3 +213,6 @@ impl Circuit {
         }
     }
 }
+
+#[cfg(test)]
+mod tests;

@@ -43,7 +43,7 @@ commit_within-invariant_of-item t c =
     let was : min (depth (listed c.in-Repeat.body.items)) 17 ≤ 15 = omega (arith, ap (λ s. s.depth) old.0, old.2) in
     let now : min (depth (listed c.commit-done.new.items.items)) 17 ≤ 15 =
     kept_shallow c.commit-done.result c.args.change c.args.place c.args.blocks.now c.args.item.now c.in-Repeat.head.value.count c.in-Repeat.head.value.tag c.in-Repeat.body.items c.commit-done.new.items.items
-        (sym c.item.view_is ∙ ap shown c.in-Repeat.is) c.requires.allowed c.commit-done.ensures.ok c.commit-done.ensures.unchanged was in
+    (sym c.item.view_is ∙ ap shown c.in-Repeat.is) c.requires.allowed c.commit-done.ensures.ok c.commit-done.ensures.unchanged was in
     (kept, c.items_summary.ensures.small, omega (arith, ap (λ s. s.depth) kept))
 
 pub commit_within-returns-clause-ok : goal.commit_within-returns-clause-ok

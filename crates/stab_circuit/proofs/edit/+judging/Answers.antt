@@ -23,7 +23,7 @@ judge-returns-in-Ok-edited_summary-clause-value t c =
     let b = c.in-Some.block.now in
     ap (λ s. Ok (record { first = b; behind = b + 1; put = s })) (c.repeated.ensures.value ∙ ap (λ n. repeated n c.in-Ok-edited_summary.round) count)
     ∙ judged_ok c.args.change.now b c.args.place c.in-Ok.inner.count c.in-Some.others.now c.args.blocks.now found.0 c.args.items.now c.in-Ok.inner.body.now c.in-Ok-edited_summary.round c.in-Some.ensures.cases.0 found.1 (rw count at c.number.ensures.some)
-        c.in-Ok-edited_summary.ensures.value
+    c.in-Ok-edited_summary.ensures.value
 
 pub judge-returns-in-Ok-edited_summary-clause-within : goal.judge-returns-in-Ok-edited_summary-clause-within
 judge-returns-in-Ok-edited_summary-clause-within t c =

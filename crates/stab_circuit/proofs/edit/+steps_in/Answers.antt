@@ -16,11 +16,11 @@ pub returns-in-Ok-clause-value : goal.returns-in-Ok-clause-value
 returns-in-Ok-clause-value t c =
     let found = c.in-Ok.ensures.value in
     few_block c.in-Some.block.now c.args.place c.in-Ok.inner.count c.in-Some.others.now c.args.blocks.now found.0 c.args.items.now c.in-Ok.inner.body.now c.steps_up_to-before.result c.steps_in.result c.min.result c.in-Some.ensures.cases.0
-        found.1 c.steps_up_to-before.ensures.value c.steps_in.ensures.value c.min.ensures
+    found.1 c.steps_up_to-before.ensures.value c.steps_in.ensures.value c.min.ensures
 
 pub returns-in-Ok-clause-front : goal.returns-in-Ok-clause-front
 returns-in-Ok-clause-front t c =
     let found = c.in-Ok.ensures.value in
     let count : c.number.result ≡ c.in-Ok.inner.count = c.number.ensures.value in
     begins_block c.in-Some.block.now c.args.place c.in-Ok.inner.count c.in-Some.others.now c.args.blocks.now found.0 c.args.items.now c.in-Ok.inner.body.now c.in-Some.ensures.cases.0 found.1 (rw count at c.number.ensures.some)
-        c.steps_in.ensures.front
+    c.steps_in.ensures.front
