@@ -8,6 +8,8 @@ use Rattle.stab_circuit.specs.declared.change.Change.{Change}
 use Rattle.stab_circuit.specs.Items.{Items, OneItem, listed}
 use Rattle.stab_circuit.specs.Circuits.{most_bytes, line_meanings, fault_from, Joins, text_fault, item_fault, StandsFor, StandsForOne}
 use Rattle.stab_circuit.specs.Prints.{printed}
+use Rattle.stab_circuit.specs.Steps.{unroll}
+use Rattle.stab_circuit.specs.Cursors.{IsApart}
 use Rattle.stab_circuit.specs.Readings.{IsCircuit, IsFaultOf}
 use Rattle.stab_circuit.specs.Steps.{unroll}
 use Rattle.stab_circuit.specs.Paths.{Path}
@@ -34,6 +36,10 @@ TextsAreLines = (text : List ℕ) (items : Items) → StandsFor text items → A
 -- what is printed of the items of any such lines stands for these, where it is no longer than a text may be
 abbrev pub PrintedItemsAreReadBack : Type 0
 PrintedItemsAreReadBack = (lines : List (List ℕ)) (items : Items) → AreLinesOf lines items → length (printed items) ≤ most_bytes → StandsForOnly (printed items) items
+
+-- in their steps the two qubits of each pair differ, and so do those of each product
+abbrev pub LinesKeepQubitsApart : Type 0
+LinesKeepQubitsApart = (lines : List (List ℕ)) (items : Items) → AreLinesOf lines items → All IsApart (unroll items)
 
 -- the text of one item stands for the item, and for no other
 abbrev pub StandsForOneOnly : List ℕ → OneItem → Type 0

@@ -1,7 +1,7 @@
 //! Laws of circuit texts. Each function does nothing: its contract is the law, and the check
 //! proves it.
 
-ghost use Rattle.stab_circuit.specs.Laws.{CircuitsHaveNoFault, EachTextHasAMeaning, EditsLeaveTheRest, ItemTextsHaveOneMeaning, PrintedItemsAreReadBack, TextsAreLines, TextsAreOfOneCircuit, TextsHaveOneFault, TextsHaveOneMeaning};
+ghost use Rattle.stab_circuit.specs.Laws.{CircuitsHaveNoFault, EachTextHasAMeaning, EditsLeaveTheRest, ItemTextsHaveOneMeaning, LinesKeepQubitsApart, PrintedItemsAreReadBack, TextsAreLines, TextsAreOfOneCircuit, TextsHaveOneFault, TextsHaveOneMeaning};
 
 /// A text without a faulty line stands for one list of items, and for no other.
 pub fn texts_have_one_meaning()
@@ -19,6 +19,12 @@ pub fn printed_items_are_read_back()
 /// `write_circuit` wrote.
 pub fn texts_are_lines()
     ensures law { TextsAreLines }
+{}
+
+/// In the steps of the items of any such lines the two qubits of each pair differ, and so do the
+/// qubits of each product.
+pub fn lines_keep_qubits_apart()
+    ensures law { LinesKeepQubitsApart }
 {}
 
 /// One item's text without a fault stands for one item, and for no other.
