@@ -17,3 +17,8 @@ pub mod ApartLemmas
 mod ItemTextLemmas
 mod CircuitFaultLemmas
 mod EditLemmas
+mod SpliceLemmas
+mod JudgementLemmas
+mod CommitLemmas
+mod EditingLemmas
+mod UndoLemmas

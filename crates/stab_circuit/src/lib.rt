@@ -22,8 +22,11 @@
 //! items and no others, within the limit of a text.
 #![tactic(auto)]
 
+mod change;
 mod circuit;
+mod commit;
 mod cursor;
+mod edit;
 mod input;
 mod item;
 pub mod laws;
@@ -34,6 +37,7 @@ mod step;
 mod summary;
 mod unrolled;
 
+pub use change::{Change, Edited, Refused};
 pub use circuit::{Circuit, read_circuit, read_item};
 pub use cursor::Cursor;
 pub use item::Item;
