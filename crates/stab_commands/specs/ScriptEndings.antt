@@ -6,7 +6,12 @@ use Rattle.stab_pauli.specs.declared.refusal.Fault.{Fault}
 use Rattle.stab_pauli.specs.Refusals.{whole}
 use Rattle.stab_circuit.specs.Items.{Items}
 use Rattle.stab_circuit.specs.Inputs.{most_read}
-use Rattle.stab_commands.specs.Endings.{TookAndFlushed, TookAndFlushFailed}
+use Rattle.stab_circuit.specs.Steps.{qubits_of, check_within}
+use Rattle.stab_circuit.specs.Readings.{IsCircuit, IsFaultOf}
+use Rattle.stab_session.specs.Sessions as session
+use Rattle.stab_commands.specs.Endings.{Ends, TookAndFlushed, TookAndFlushFailed}
+use Rattle.stab_commands.specs.Outputs.{coins_of_shot}
+use Rattle.stab_commands.specs.declared.job.Source.{Source}
 use Rattle.stab_commands.specs.Scripts.{Setting, Request, Answer, IsAnswerToAll, IsAnswerToScript, requests_of, read, empty_desk, most_script}
 
 -- the script was read to its end: its answer was written and flushed once, and the call says whether a line was refused
@@ -51,3 +56,33 @@ pub record AnswersFront (setting : Setting) (items : Items) (s s' : InputView) (
 abbrev pub EndsScript : Setting → Items → InputView → InputView → OutputView → OutputView → Result Bool Fault → Type 0
 EndsScript setting items s s' o o' (Ok refused) = AnswersScript setting items s s' o o' refused
 EndsScript setting items s s' o o' (Err f) = BreaksOff setting items s s' o o' f ⊎ AnswersFront setting items s s' o o' f
+
+-- on how many qubits the items are edited: so many as were asked for, or as they name
+abbrev pub qubits_for : Option ℕ → Items → ℕ
+qubits_for (Some n) items = n
+qubits_for None items = qubits_of items
+
+-- what a script is answered by: the qubits, and the coins of shot 0
+abbrev pub setting_of : Option ℕ → Source → Items → Setting
+setting_of qubits source items = record { qubits = qubits_for qubits items; coins = coins_of_shot source 0 }
+
+-- the items are refused on so many qubits, or memory was refused, before the script was read
+pub record NotOpened (n : ℕ) (items : Items) (s s' : InputView) (o o' : OutputView) (f : Fault) : Type 0 where
+  pub fault : session.IsFaultOf (check_within n items) f
+  pub unread : s' ≡ s
+  pub untouched : o' ≡ o
+
+-- how a call ends that opens a session on these items and answers a script: the items or memory were refused, or the script ended
+abbrev pub EndsOn : Setting → Items → InputView → InputView → OutputView → OutputView → Result Bool Fault → Type 0
+EndsOn setting items s s' o o' (Ok refused) = EndsScript setting items s s' o o' (Ok refused)
+EndsOn setting items s s' o o' (Err f) = NotOpened setting.qubits items s s' o o' f ⊎ EndsScript setting items s s' o o' (Err f)
+
+-- the text stands for a circuit, which was edited by the script
+pub record EditsCircuit (qubits : Option ℕ) (source : Source) (s s' : InputView) (o o' : OutputView) (text : List ℕ) (r : Result Bool Fault) : Type 0 where
+  pub items : Items
+  pub circuit : IsCircuit text items
+  pub ends : EndsOn (setting_of qubits source items) items s s' o o' r
+
+-- How a call of `edit` ends, over the inputs of a circuit and of a script, and an output.
+abbrev pub EndsEdit : Option ℕ → Source → InputView → InputView → InputView → InputView → OutputView → OutputView → Result Bool Fault → Type 0
+EndsEdit qubits source i i' s s' o o' r = Ends IsFaultOf ((s' ≡ s) × (o' ≡ o)) (EditsCircuit qubits source s s' o o') i i' r

@@ -12,8 +12,9 @@ use Rattle.stab_lines.specs.Lines.{content_of, ends_with_byte}
 use Rattle.stab_lines.specs.Meanings.{is_close}
 use Rattle.stab_circuit.specs.Items.{Items, OneItem, listed, entries}
 use Rattle.stab_circuit.specs.Paths.{Path}
-use Rattle.stab_circuit.specs.Edits.{Change, edited, verdict}
-use Rattle.stab_circuit.specs.Edits as change
+use Rattle.stab_circuit.specs.declared.change.Change.{Change}
+use Rattle.stab_circuit.specs.declared.change.Change.TheVariants as change
+use Rattle.stab_circuit.specs.Edits.{edited, verdict}
 use Rattle.stab_circuit.specs.Circuits.{most_bytes, item_fault, StandsForOne}
 use Rattle.stab_circuit.specs.Prints.{printed}
 use Rattle.stab_session.specs.Runs.{State, run_of}

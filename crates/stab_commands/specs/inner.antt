@@ -3,3 +3,4 @@ pub mod Sendings
 pub mod Requests
 pub mod Replies
 pub mod Editors
+pub mod SessionAnswers

@@ -20,6 +20,7 @@ mod job;
 pub mod laws;
 mod run;
 mod script;
+mod session_answers;
 mod shots;
 mod status;
 
