@@ -21,4 +21,5 @@ mod SpliceLemmas
 mod JudgementLemmas
 mod CommitLemmas
 mod EditingLemmas
-mod UndoLemmas
+pub mod UndoLemmas
+pub mod ClearLemmas

@@ -41,14 +41,14 @@ module _ (f : List OneItem) (x : OneItem) (r : List OneItem) (p : ℕ) (size : l
       subst (λ n. changed (Replace z) n (f ++ x ∷ r) ≡ Ok (f ++ z ∷ r)) size
       (ap (λ c. if c then Ok (set (f ++ x ∷ r) (length f) z) else Err PlaceOutOfRange) (there f x r) ∙ ap Ok (set-at f x z r))
 
-  deleted : changed Delete p (f ++ x ∷ r) ≡ Ok (f ++ r)
+  pub deleted : changed Delete p (f ++ x ∷ r) ≡ Ok (f ++ r)
   deleted =
       subst (λ n. changed Delete n (f ++ x ∷ r) ≡ Ok (f ++ r)) size
       (ap (λ c. if c then Ok (remove (f ++ x ∷ r) (length f)) else Err PlaceOutOfRange) (there f x r) ∙ ap Ok (remove-at f x r))
 
 -- an edit inside a block
 
-abbrev around : List OneItem → ℕ → List ℕ → List OneItem → Result (List OneItem) Refusal → Result (List OneItem) Refusal
+abbrev pub around : List OneItem → ℕ → List ℕ → List OneItem → Result (List OneItem) Refusal → Result (List OneItem) Refusal
 around f count tag r (Ok ys) = Ok (f ++ repeat count tag (listed ys) ∷ r)
 around f count tag r (Err e) = Err e
 
@@ -73,10 +73,10 @@ module _ (edit : List OneItem → Result (List OneItem) Refusal) (b : ℕ) (xs y
   front_size : length (take b xs) ≡ b
   front_size = length-take-le b xs (omega (arith, within))
 
-  old_parts : xs ≡ take b xs ++ repeat is.count is.tag is.body ∷ drop (suc b) xs
+  pub old_parts : xs ≡ take b xs ++ repeat is.count is.tag is.body ∷ drop (suc b) xs
   old_parts = got_split xs b (repeat is.count is.tag is.body) is.found
 
-  new_parts : ys ≡ take b xs ++ repeat is.count is.tag (listed is.within) ∷ drop (suc b) xs
+  pub new_parts : ys ≡ take b xs ++ repeat is.count is.tag (listed is.within) ∷ drop (suc b) xs
   new_parts = is.same ∙ set_split xs b (repeat is.count is.tag (listed is.within)) within
 
   new_inner : inner (slice_get ys b) ≡ is.within
@@ -85,16 +85,16 @@ module _ (edit : List OneItem → Result (List OneItem) Refusal) (b : ℕ) (xs y
       ∙ inside_block (take b xs) is.count is.tag (listed is.within) (drop (suc b) xs) b front_size
       ∙ entries-listed is.within
 
-  old_inner : inner (slice_get xs b) ≡ entries is.body
+  pub old_inner : inner (slice_get xs b) ≡ entries is.body
   old_inner = ap inner is.found
 
-  edited_new : (change : Change) (bs : List ℕ) (p : ℕ) → edited_in change (b ∷ bs) p ys ≡ around (take b xs) is.count is.tag (drop (suc b) xs) (edited_in change bs p is.within)
+  pub edited_new : (change : Change) (bs : List ℕ) (p : ℕ) → edited_in change (b ∷ bs) p ys ≡ around (take b xs) is.count is.tag (drop (suc b) xs) (edited_in change bs p is.within)
   edited_new change bs p =
       ap (edited_in change (b ∷ bs) p) new_parts
       ∙ edited_block (take b xs) is.count is.tag (listed is.within) (drop (suc b) xs) b front_size change bs p
       ∙ ap (λ l. around (take b xs) is.count is.tag (drop (suc b) xs) (edited_in change bs p l)) (entries-listed is.within)
 
-  edited_old : (change : Change) (bs : List ℕ) (p : ℕ) → edited_in change (b ∷ bs) p xs ≡ around (take b xs) is.count is.tag (drop (suc b) xs) (edited_in change bs p (entries is.body))
+  pub edited_old : (change : Change) (bs : List ℕ) (p : ℕ) → edited_in change (b ∷ bs) p xs ≡ around (take b xs) is.count is.tag (drop (suc b) xs) (edited_in change bs p (entries is.body))
   edited_old change bs p =
       ap (edited_in change (b ∷ bs) p) old_parts
       ∙ edited_block (take b xs) is.count is.tag is.body (drop (suc b) xs) b front_size change bs p

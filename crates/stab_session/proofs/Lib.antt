@@ -7,3 +7,4 @@ mod FitLemmas
 mod SoundLemmas
 mod ShotLemmas
 mod SessionLemmas
+mod PendingLemmas

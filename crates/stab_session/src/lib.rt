@@ -26,6 +26,7 @@ mod coins;
 pub mod laws;
 mod letters;
 mod outputs;
+mod pending;
 mod products;
 mod records;
 mod run;
