@@ -24,6 +24,7 @@ mod session_answers;
 mod shots;
 mod status;
 
+pub use edit::run_edit;
 pub use fault_line::write_fault;
 pub use job::{Command, Job, Shots, Source};
 pub use run::{run_detect, run_sample};

@@ -1,9 +1,10 @@
 //! Answers from a session: edits of it, and what is shown of it.
-use crate::editor::Answered;
+use crate::editor::{Answer, Answered};
 use crate::script::reply::Reply;
-use crate::script::request::Show;
+use crate::script::request::{ItemEdit, Request, Show};
+use stab_circuit::{Path, read_item};
 use stab_pauli::{Fault, Refusal};
-use stab_session::{Coins, Session};
+use stab_session::{Coins, Edit, Session};
 use stab_tableau::laws::traces_have_one_list;
 use std::alloc::Global;
 
@@ -18,8 +19,11 @@ impl<C: Coins> SessionAnswers<C> {
     ghost use Rattle.std.specs.Prelude.{◌≡◌, ◌≢◌, IfOk, IfErr, OnOk, true};
     ghost use Rattle.stab_pauli.specs.Refusals.{whole};
     ghost use Rattle.stab_pauli.specs.declared.refusal.Refusal.TheVariants.{OutOfMemory};
+    ghost use Rattle.stab_circuit.specs.Items.{entries};
+    ghost use Rattle.stab_session.specs.SessionEdits.{edited_by};
     ghost use Rattle.stab_commands.specs.Jobs.{refused_text};
-    ghost use Rattle.stab_commands.specs.inner.SessionAnswers.{ShowsOf};
+    ghost use Rattle.stab_commands.specs.Scripts.{IsPut, decided, judged, edited_items, change_of};
+    ghost use Rattle.stab_commands.specs.inner.SessionAnswers.{ShowsOf, setting_of, answered};
     ghost use Rattle.stab_commands.specs.declared.script.request.Show.TheVariants.{Stabilisers};
 
     /// A session that answers requests.
@@ -73,5 +77,56 @@ impl<C: Coins> SessionAnswers<C> {
             reply: Reply::refusal(self.alloc, refusal)?,
             refused: true,
         })
+    }
+
+    /// Makes an edit.
+    fn apply(&mut self, edit: Edit) -> Result<Answered, Fault>
+        ensures setting { OnOk result (setting_of C.sequence self.new.session ≡ setting_of C.sequence self.old.session) }
+        ensures answers { IfOk result (λ a. answered self.new.session.items a.reply.written a.refused ≡ decided self.old.session.items (judged self.old.session.qubits (edited_by edit (entries self.old.session.items)))) }
+        ensures err { IfErr result (λ f. f ≡ whole OutOfMemory) }
+    {
+        match self.session.apply(edit) {
+            Ok(_) => Ok(Answered {
+                reply: Reply::ok(self.alloc)?,
+                refused: false,
+            }),
+            Err(refused) => self.refuse(refused.fault.refusal),
+        }
+    }
+
+    /// Makes an edit that puts in the item of a text.
+    fn put(&mut self, edit: ItemEdit, place: Path, text: &[u8]) -> Result<Answered, Fault>
+        ensures setting { OnOk result (setting_of C.sequence self.new.session ≡ setting_of C.sequence self.old.session) }
+        ensures answers { IfOk result (λ a. IsPut self.old.session.items (λ item. edited_items self.old.session.qubits (change_of edit item) place self.old.session.items) text.now (answered self.new.session.items a.reply.written a.refused)) }
+        ensures err { IfErr result (λ f. f ≡ whole OutOfMemory) }
+    {
+        let item = match read_item(self.alloc, text) {
+            Ok(item) => item,
+            Err(fault) => return self.refuse(fault.refusal),
+        };
+        match edit {
+            ItemEdit::Insert => self.apply(Edit::Insert { place, item }),
+            ItemEdit::Replace => self.apply(Edit::Replace { place, item }),
+        }
+    }
+}
+
+impl<C: Coins> Answer for SessionAnswers<C> {
+    ghost use Rattle.stab_commands.specs.inner.SessionAnswers.{setting_of, items_of};
+
+    ghost setting = { λ a. setting_of C.sequence a.session };
+
+    ghost items = { λ a. items_of a.session };
+
+    fn answer(&mut self, request: Request) -> Result<Answered, Fault> {
+        match request {
+            Request::Put { edit, place, text } => self.put(edit, place, text.as_slice()),
+            Request::Delete { place } => self.apply(Edit::Delete { place }),
+            Request::Show(what) => Ok(Answered {
+                reply: self.show(what)?,
+                refused: false,
+            }),
+            Request::Refuse(refusal) => self.refuse(refusal),
+        }
     }
 }
