@@ -8,3 +8,4 @@ mod SoundLemmas
 mod ShotLemmas
 mod SessionLemmas
 mod PendingLemmas
+mod EditedLemmas

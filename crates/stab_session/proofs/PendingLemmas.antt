@@ -103,20 +103,17 @@ module _ (n : ℕ) (path : Path) (old now : List OneItem) (shallow : depth (list
 
 -- how a refused edit answers
 
+same_refusal : (a b : Refusal) → ◌≡◌ {A = Option Refusal} (Some a) (Some b) → a ≡ b
+same_refusal a b e = cc
+
+none_some : (b : Refusal) → ◌≡◌ {A = Option Refusal} None (Some b) → ⊥
+none_some b e = absurd (cc)
+
 pub fault-of : (v : Option Refusal) (f : Fault) → IsVerdict v f → IsFaultOf v f
-fault-of (Some r) f h = h.1 ∙ ap whole (sym (some_is r f.refusal h.0))
-  where
-    some_is : (a b : Refusal) → ◌≡◌ {A = Option Refusal} (Some a) (Some b) → a ≡ b
-    some_is a b e = cc
+fault-of (Some r) f h = h.1 ∙ ap whole (sym (same_refusal r f.refusal h.0))
 fault-of None f h = absurd (none_some f.refusal h.0)
-  where
-    none_some : (b : Refusal) → ◌≡◌ {A = Option Refusal} None (Some b) → ⊥
-    none_some b e = absurd (cc)
 
 pub fault-edit : (change : Change) (v : Option Refusal) (f : Fault) → IsVerdict v f ⊎ WantsMemory change v f → IsFaultOf v f
 fault-edit change v f (inl h) = fault-of v f h
-fault-edit change (Some r) f (inr h) = absurd (cc)
+fault-edit change (Some r) f (inr h) = absurd (none_some r (sym h.1))
 fault-edit change None f (inr h) = h.2
-
-pub fault-replace : (x : OneItem) (v : Option Refusal) (f : Fault) → IsVerdict v f ⊎ WantsMemory (Replace x) v f → IsFaultOf v f
-fault-replace x v f h = fault-edit (Replace x) v f h

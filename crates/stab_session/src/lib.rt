@@ -37,7 +37,8 @@ mod whole;
 pub use coins::{Coins, ListCoins, SeedCoins};
 pub use run::{Shot, run_once};
 pub use sampler::Sampler;
-pub use session::{OpenRefused, Session};
+pub use pending::Edit;
+pub use session::{OpenRefused, Report, Session};
 
 #[cfg(test)]
 mod tests;

@@ -5,7 +5,7 @@ ghost use Rattle.stab_session.specs.Sessions.{IsFaultOf};
 ghost use Rattle.stab_session.specs.SessionEdits.{change_of, place_of};
 ghost use Rattle.stab_session.specs.inner.Pendings.{taken_back, item_back, kept, IsBegun};
 
-use stab_circuit::{Change, Circuit, Item, Path, Refused};
+use stab_circuit::{Change, Circuit, Edited, Item, Path, Refused};
 use std::alloc::Global;
 
 /// An edit of a session's circuit, at a path.
@@ -70,10 +70,13 @@ fn replace(circuit: &mut Circuit, n: usize, place: Path, item: Item) -> Result<P
 {
     let _ = circuit.items();
     match circuit.edit(n, place, Change::Replace(item)) {
-        Ok(edited) => match edited.taken {
-            Some(old) => Ok(Pending::Replaced(place, old)),
-            None => unreachable!(),
-        },
+        Ok(edited) => {
+            let Edited { taken, .. } = edited;
+            match taken {
+                Some(old) => Ok(Pending::Replaced(place, old)),
+                None => unreachable!(),
+            }
+        }
         Err(refused) => Err(refused),
     }
 }
@@ -86,10 +89,13 @@ fn delete(alloc: Global, circuit: &mut Circuit, n: usize, place: Path) -> Result
 {
     let _ = circuit.items();
     match circuit.edit(n, place, Change::Replace(Item::tick(alloc))) {
-        Ok(edited) => match edited.taken {
-            Some(old) => Ok(Pending::Deleted(place, old)),
-            None => unreachable!(),
-        },
+        Ok(edited) => {
+            let Edited { taken, .. } = edited;
+            match taken {
+                Some(old) => Ok(Pending::Deleted(place, old)),
+                None => unreachable!(),
+            }
+        }
         Err(refused) => Err(Refused {
             fault: refused.fault,
             item: None,

@@ -1,3 +1,7 @@
+mod edits;
+
+pub use edits::Report;
+
 use crate::coins::Coins;
 use crate::run::Shot;
 use crate::whole::{Ran, run_circuit};
