@@ -15,7 +15,7 @@ use Rattle.stab_circuit.proofs.EditLemmas.{entries-listed}
 use Rattle.stab_session.specs.declared.run.Shot.{Shot}
 use Rattle.stab_session.specs.declared.pending.Edit.{Edit}
 use Rattle.stab_session.specs.declared.pending.Pending.{Pending}
-use Rattle.stab_session.specs.Runs.{run, start, run_of}
+use Rattle.stab_session.specs.Runs.{run, start, run_of, Refuses}
 use Rattle.stab_session.specs.Sessions.{SessionState, IsFaultOf}
 use Rattle.stab_session.specs.SessionEdits.{change_of, place_of, edited_by, verdict_on, IsEditedBy}
 use Rattle.stab_session.specs.Headline.{IsRunOfItems}
@@ -83,3 +83,6 @@ pub run-fault : {C : Type 0} (s : SessionState C) (e : Edit) (n : ℕ) (old mid 
     → s.items ≡ listed old → s.qubits ≡ n → (f : Fault) → f ≡ whole OutOfMemory → IsFaultOf (verdict_on s.qubits e (entries s.items)) f
 run-fault s e n old mid pending b items qubits f h =
     refused_none (verdict_on s.qubits e (entries s.items)) f (sym (session-verdict s e n old items qubits) ∙ ap (verdict n) b.edited ∙ b.accepted) h
+
+pub refused-memory : (A : Type 0) (v : Option Refusal) (f : Fault) → v ≡ None → Refuses {A = A} (Err f) v → f ≡ whole OutOfMemory
+refused-memory A v f e h = subst (λ w. Refuses {A = A} (Err f) w) e h
