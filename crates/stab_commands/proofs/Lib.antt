@@ -6,3 +6,4 @@ pub mod AnswerLaws
 pub mod ReadingLaws
 pub mod TellingLaws
 pub mod ScriptRunLaws
+pub mod SessionAnswerLaws

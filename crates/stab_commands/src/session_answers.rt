@@ -2,7 +2,7 @@
 use crate::editor::{Answer, Answered};
 use crate::script::reply::Reply;
 use crate::script::request::{ItemEdit, Request, Show};
-use stab_circuit::{Path, read_item};
+use stab_circuit::{Item, Path, read_item};
 use stab_pauli::{Fault, Refusal};
 use stab_session::{Coins, Edit, Session};
 use stab_tableau::laws::traces_have_one_list;
@@ -86,11 +86,29 @@ impl<C: Coins> SessionAnswers<C> {
         ensures err { IfErr result (λ f. f ≡ whole OutOfMemory) }
     {
         match self.session.apply(edit) {
-            Ok(_) => Ok(Answered {
-                reply: Reply::ok(self.alloc)?,
-                refused: false,
-            }),
-            Err(refused) => self.refuse(refused.fault.refusal),
+            Ok(_) => {
+                let reply = Reply::ok(self.alloc)?;
+                Ok(Answered {
+                    reply,
+                    refused: false,
+                })
+            }
+            Err(refused) => {
+                let answered = self.refuse(refused.fault.refusal)?;
+                Ok(answered)
+            }
+        }
+    }
+
+    /// Makes an edit that puts in an item.
+    fn put_item(&mut self, edit: ItemEdit, place: Path, item: Item) -> Result<Answered, Fault>
+        ensures setting { OnOk result (setting_of C.sequence self.new.session ≡ setting_of C.sequence self.old.session) }
+        ensures answers { IfOk result (λ a. answered self.new.session.items a.reply.written a.refused ≡ decided self.old.session.items (edited_items self.old.session.qubits (change_of edit item) place self.old.session.items)) }
+        ensures err { IfErr result (λ f. f ≡ whole OutOfMemory) }
+    {
+        match edit {
+            ItemEdit::Insert => self.apply(Edit::Insert { place, item }),
+            ItemEdit::Replace => self.apply(Edit::Replace { place, item }),
         }
     }
 
@@ -100,13 +118,15 @@ impl<C: Coins> SessionAnswers<C> {
         ensures answers { IfOk result (λ a. IsPut self.old.session.items (λ item. edited_items self.old.session.qubits (change_of edit item) place self.old.session.items) text.now (answered self.new.session.items a.reply.written a.refused)) }
         ensures err { IfErr result (λ f. f ≡ whole OutOfMemory) }
     {
-        let item = match read_item(self.alloc, text) {
-            Ok(item) => item,
-            Err(fault) => return self.refuse(fault.refusal),
-        };
-        match edit {
-            ItemEdit::Insert => self.apply(Edit::Insert { place, item }),
-            ItemEdit::Replace => self.apply(Edit::Replace { place, item }),
+        match read_item(self.alloc, text) {
+            Ok(item) => {
+                let answered = self.put_item(edit, place, item)?;
+                Ok(answered)
+            }
+            Err(fault) => {
+                let answered = self.refuse(fault.refusal)?;
+                Ok(answered)
+            }
         }
     }
 }
