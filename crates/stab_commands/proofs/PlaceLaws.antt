@@ -1,9 +1,9 @@
 -- Laws of places: their numbers are met one after another.
-use Rattle.std.proofs.Common.{◌≡◌, ◌≤◌, ◌<◌, ℕ, ◌+◌, Bool, true, false, ◌&&◌, List, [], ◌∷◌, ◌++◌, length, take, slice_set, slice_index_or, ◌-◌, map, refl, sym, ap, ◌∙◌, subst, arith, Option, Some, None, nat_le, append_assoc, length-append, if◌then◌else◌}
+use Rattle.std.proofs.Common.{◌≡◌, ◌≤◌, ◌<◌, ℕ, ◌+◌, Bool, true, false, ◌&&◌, List, [], ◌∷◌, ◌++◌, length, take, slice_set, slice_index_or, ◌-◌, map, refl, sym, ap, ◌∙◌, arith, Option, Some, None, nat_le, append_assoc, length-append, if◌then◌else◌}
 use Rattle.std.proofs.lemmas.List.{append-nil, take_more_set}
 use Rattle.std.proofs.Math.Seq.{take-append_seam, get_or-append_seam}
 use Rattle.std.specs.List.{list_all}
-use Rattle.stab_lines.specs.Words.{value, pieces_after}
+use Rattle.stab_lines.specs.Words.{value}
 use Rattle.stab_circuit.specs.Paths.{Path, numbers}
 use Rattle.stab_commands.specs.ScriptWords.{is_place_number, most_numbers, numbers_behind, path_of}
 

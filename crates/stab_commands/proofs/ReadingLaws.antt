@@ -1,12 +1,9 @@
 -- Laws of reading a script: it is read in pieces as it is read whole, and a byte opens at most one block.
-use Rattle.std.proofs.Common.{◌≡◌, ◌≤◌, ◌<◌, ℕ, ◌+◌, ◌-◌, Bool, true, false, ◌==◌, List, [], ◌∷◌, ◌++◌, length, take, drop, get_or, refl, sym, ap, ◌∙◌, subst, arith, append_assoc, Option, Some, None, if◌then◌else◌}
+use Rattle.std.proofs.Common.{◌≡◌, ◌≤◌, ◌<◌, ℕ, ◌+◌, Bool, true, false, ◌==◌, List, [], ◌∷◌, ◌++◌, length, take, drop, get_or, refl, sym, ap, ◌∙◌, arith, append_assoc, Option, Some, None, if◌then◌else◌}
 use Rattle.std.proofs.lemmas.List.{append-nil, take_more, take-append-drop}
-use Rattle.stab_pauli.specs.declared.refusal.Refusal.{Refusal}
-use Rattle.stab_circuit.specs.Paths.{Path}
 use Rattle.stab_lines.specs.Lines.{content_of, ends_with_byte}
-use Rattle.stab_lines.specs.Meanings.{is_close}
 use Rattle.stab_commands.specs.ScriptWords.{Gathered}
-use Rattle.stab_commands.specs.Scripts.{Request, put, delete, show, refuse, request_of, Desk, Gathering, Reading, silent, line_ended, begun, content_alone, line_alone, opened_behind, gathered_with, gathering_ended, line_gathered, line_behind, read_line, read_byte, then_read, read}
+use Rattle.stab_commands.specs.Scripts.{Request, put, delete, show, refuse, request_of, Desk, Gathering, Reading, silent, line_ended, begun, line_alone, opened_behind, gathered_with, gathering_ended, line_gathered, line_behind, read_line, read_byte, then_read, read}
 use Rattle.stab_commands.specs.inner.Requests.{opened_in}
 
 -- one reading after another, as a whole

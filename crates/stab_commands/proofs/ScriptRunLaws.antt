@@ -1,19 +1,18 @@
 -- Laws of script runs: what was read and answered so far, and how a script ends from there.
-use Rattle.std.proofs.Common.{◌≡◌, ◌≤◌, ◌<◌, ℕ, ◌+◌, ◌-◌, ◌^◌, Bool, false, ◌||◌, IsTrue, List, [], ◌∷◌, ◌++◌, length, take, drop, refl, sym, ap, ◌∙◌, subst, arith, append_assoc, length-append, length-take, Option, Result, Ok, Err, ◌⊎◌, inl, inr}
+use Rattle.std.proofs.Common.{◌≡◌, ◌≤◌, ◌<◌, ℕ, ◌+◌, ◌-◌, Bool, false, ◌||◌, List, [], ◌++◌, length, take, refl, sym, ap, ◌∙◌, subst, arith, append_assoc, length-append, Result, Ok, Err, inl, inr}
 use Rattle.std.proofs.lemmas.List.{append-nil, take_all}
 use Rattle.std.proofs.Math.Seq.{take-append-add}
 use Rattle.std.specs.Result.{IsErrAnd}
-use Rattle.stab_pauli.specs.Devices.{InputView, OutputView, Gave, GaveAndFailed, GaveAll, IsAtEnd, Took}
+use Rattle.stab_pauli.specs.Devices.{InputView, OutputView, Gave, GaveAndFailed, GaveAll, IsAtEnd}
 use Rattle.stab_pauli.specs.declared.refusal.Refusal.TheVariants.{TooLong, ReadFault}
 use Rattle.stab_pauli.specs.declared.refusal.Fault.{Fault}
 use Rattle.stab_pauli.specs.Refusals.{whole}
 use Rattle.stab_pauli.proofs.DeviceLemmas.{gave_none, gave_more, gave_and_failed, took_more}
 use Rattle.stab_circuit.specs.Items.{Items}
-use Rattle.stab_commands.specs.Scripts.{Setting, Request, Answer, IsAnswerToAll, both, Desk, Reading, read, read_end, requests_of, empty_desk, most_script}
+use Rattle.stab_commands.specs.Scripts.{Setting, Request, IsAnswerToAll, both, Desk, Reading, read, read_end, requests_of, empty_desk, most_script}
 use Rattle.stab_commands.specs.ScriptEndings.{AnswersScript, BreaksOff, AnswersFront, EndsScript}
-use Rattle.stab_commands.specs.inner.Requests.{opened_in}
-use Rattle.stab_commands.specs.inner.Editors.{Sitting, Told, ToldSome, FlushFails, Sent, Finishes, Tells}
-use Rattle.stab_commands.proofs.ReadingLaws.{read_append, read_none, first_requests}
+use Rattle.stab_commands.specs.inner.Editors.{Sitting, Told, ToldSome, FlushFails, Sent, Finishes}
+use Rattle.stab_commands.proofs.ReadingLaws.{read_append, read_none}
 use Rattle.stab_commands.proofs.TellingLaws.{answers_then, told_none, told_then, told_some_behind}
 
 -- the sitting before a script

@@ -3,14 +3,12 @@ use Rattle.std.proofs.Common.{◌≡◌, ◌≢◌, ℕ, Bool, true, false, List
 use Rattle.stab_pauli.specs.declared.refusal.Refusal.{Refusal}
 use Rattle.stab_pauli.specs.declared.refusal.Refusal.TheVariants.{OutOfMemory}
 use Rattle.stab_pauli.specs.declared.refusal.Fault.{Fault}
-use Rattle.stab_pauli.specs.Refusals.{whole}
 use Rattle.stab_circuit.specs.Items.{Items, OneItem, listed, entries}
 use Rattle.stab_circuit.specs.Edits.{verdict}
 use Rattle.stab_circuit.proofs.EditLemmas.{listed-entries}
 use Rattle.stab_session.specs.declared.pending.Edit.{Edit}
 use Rattle.stab_session.specs.Sessions.{SessionState, IsFaultOf}
 use Rattle.stab_session.specs.SessionEdits.{edited_by, verdict_on, IsEditedBy, IsAsBefore}
-use Rattle.stab_circuit.specs.Circuits.{StandsForOne}
 use Rattle.stab_circuit.specs.Readings.{ReadsItem}
 use Rattle.stab_commands.specs.Jobs.{refused_text}
 use Rattle.stab_commands.specs.Scripts.{Setting, unless, judged, decided, refusing, IsPut}
@@ -23,7 +21,7 @@ made_answer sequence e old new is =
     let after : edited_by e (entries old.items) ≡ Ok (entries new.items) = is.items in
     let passes : verdict old.qubits (Ok (entries new.items)) ≡ None = sym (ap (verdict old.qubits) after) ∙ is.accepted in
     let all : judged old.qubits (edited_by e (entries old.items)) ≡ Ok new.items =
-        ap (judged old.qubits) after ∙ ap (λ v. unless v (listed (entries new.items))) passes ∙ ap Ok (listed-entries new.items) in
+    ap (judged old.qubits) after ∙ ap (λ v. unless v (listed (entries new.items))) passes ∙ ap Ok (listed-entries new.items) in
     sym (ap (decided old.items) all)
 
 judged_refused : (n : ℕ) (r : Result (List OneItem) Refusal) (x : Refusal) → verdict n r ≡ Some x → judged n r ≡ Err x

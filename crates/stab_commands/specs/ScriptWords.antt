@@ -1,5 +1,5 @@
 -- Script words: the words and places of a script's lines, and texts that are gathered up to a limit.
-use Rattle.std.specs.Prelude.{ℕ, ◌+◌, ◌-◌, Bool, false, ◌&&◌, ◌==◌, nat_le, List, [], ◌∷◌, ◌++◌, length, take, drop, slice_index_or, map, Option, Some, None, if◌then◌else◌}
+use Rattle.std.specs.Prelude.{ℕ, ◌+◌, ◌-◌, Bool, false, ◌&&◌, ◌==◌, nat_le, List, [], ◌++◌, length, take, drop, slice_index_or, map, Option, Some, None, if◌then◌else◌}
 use Rattle.std.specs.List.{before_first, position_or_len, slice_split, list_all}
 use Rattle.stab_lines.specs.Lines.{is_byte, is_spacing, trimmed_front}
 use Rattle.stab_lines.specs.Words.{is_number, value}

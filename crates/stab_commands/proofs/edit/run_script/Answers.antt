@@ -1,4 +1,4 @@
-use Rattle.std.proofs.Common.{◌≡◌, ◌≤◌, ◌<◌, ◌+◌, ◌-◌, ◌++◌, [], sym, ap, ◌∙◌, subst, arith, inl, inr, length, length-take, take, drop}
+use Rattle.std.proofs.Common.{◌≡◌, ◌+◌, ◌-◌, ◌++◌, [], sym, ap, ◌∙◌, subst, arith, inr, length, length-take, take, drop}
 use Rattle.std.proofs.lemmas.List.{append-nil, take-append-drop}
 use Rattle.std.specs.Prelude.{List, ℕ}
 use Rattle.stab_pauli.specs.Devices.{Gave}

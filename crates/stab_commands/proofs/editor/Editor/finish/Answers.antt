@@ -1,4 +1,4 @@
-use Rattle.std.proofs.Common.{◌≡◌, sym, ap, ◌∙◌, subst}
+use Rattle.std.proofs.Common.{◌≡◌, ap, ◌∙◌, subst}
 use Rattle.std.specs.Prelude.{List}
 use Rattle.stab_commands.specs.Scripts.{Request, Desk, read_last, closed}
 use Rattle.stab_commands.specs.inner.Requests.{asked_if_any}

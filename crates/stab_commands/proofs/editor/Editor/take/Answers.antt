@@ -1,8 +1,8 @@
-use Rattle.std.proofs.Common.{◌≡◌, ◌≤◌, ◌+◌, ◌++◌, refl, sym, ap, ◌∙◌, subst, arith, get_or, take, drop}
+use Rattle.std.proofs.Common.{◌≡◌, ◌+◌, ◌++◌, sym, ap, ◌∙◌, subst, arith, get_or, take}
 use Rattle.std.specs.Prelude.{List}
 use Rattle.stab_commands.specs.Scripts.{Request, Desk, Reading, read, read_byte}
 use Rattle.stab_commands.specs.inner.Requests.{opened_in}
-use Rattle.stab_commands.specs.inner.Editors.{Told, ToldSome, Tells, sitting}
+use Rattle.stab_commands.specs.inner.Editors.{Told, ToldSome, sitting}
 use Rattle.stab_commands.proofs.ReadingLaws.{read_none, read_more, first_requests, opened_byte}
 use Rattle.stab_commands.proofs.TellingLaws.{told_none, told_then, told_some_behind, told_some_within, tells_err}
 use Rattle.stab_commands.proofs.editor.Editor.take.Goals as goal

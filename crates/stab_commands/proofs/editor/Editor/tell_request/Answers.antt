@@ -1,9 +1,9 @@
-use Rattle.std.proofs.Common.{◌≡◌, ◌∷◌, [], ◌||◌, sym, ap, ◌∙◌, subst}
+use Rattle.std.proofs.Common.{◌≡◌, ◌∷◌, [], ◌||◌, sym, subst}
 use Rattle.std.specs.Prelude.{List, ℕ, Bool}
 use Rattle.stab_pauli.specs.Devices.{Took, TookAndFailed}
 use Rattle.stab_commands.specs.Scripts.{Answer}
 use Rattle.stab_commands.specs.inner.Requests.{asked}
-use Rattle.stab_commands.specs.inner.Editors.{Sitting, Told, sitting}
+use Rattle.stab_commands.specs.inner.Editors.{Told, sitting}
 use Rattle.stab_commands.proofs.TellingLaws.{told_one, told_one_cut, sitting_with}
 use Rattle.stab_commands.proofs.editor.Editor.tell_request.Goals as goal
 
