@@ -5,5 +5,5 @@ pub mod ItemSizes
 pub mod Parts
 pub mod Readers
 pub mod Texts
-pub mod Unrolled
+pub mod Walks
 pub mod Margins

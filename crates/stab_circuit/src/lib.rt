@@ -8,7 +8,8 @@
 //! - `summary`: the numbers of a list of items.
 //! - `circuit`: circuits, and reading one.
 //! - `print`: the one text of a circuit.
-//! - `step`, `unrolled`, `cursor`: the unrolled steps of a circuit, from any place on.
+//! - `step`, `instruction`: the steps of an instruction.
+//! - `walk`, `cursor`: the unrolled steps of a circuit, from any place on.
 //! - `laws`: what holds between all texts and all items.
 //!
 //! `specs/` says which items a text stands for, what its fault is, and what its unrolled steps are;
@@ -25,13 +26,14 @@
 mod circuit;
 mod cursor;
 mod input;
+mod instruction;
 mod item;
 pub mod laws;
 mod print;
 mod reader;
 mod step;
 mod summary;
-mod unrolled;
+mod walk;
 
 pub use circuit::{Circuit, read_circuit, read_item};
 pub use cursor::Cursor;
