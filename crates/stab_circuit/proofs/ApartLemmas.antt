@@ -1,81 +1,73 @@
--- Steps whose qubits are different ones.
-use Rattle.std.proofs.Common.{◌≡◌, ◌<◌, ℕ, ◌+◌, zero, suc, List, [], ◌∷◌, ◌++◌, length, take, get_or, All, subst, sym, ap, ◌∙◌, true, false, append-nil}
-use Rattle.std.proofs.Math.Seq.{take-length}
-use Rattle.std.proofs.lemmas.List.{take_more}
-use Rattle.std.proofs.lemmas.List.Elements.{All-nil, All-cons, All-append, All-map}
-use Rattle.stab_tableau.specs.declared.gate.Gate.{Gate}
-use Rattle.stab_tableau.specs.declared.gate.PairGate.TheVariants as gate
+-- Items that lines stand for: the two qubits of each pair differ, and so do those of each product.
+use Rattle.std.proofs.Common.{◌≡◌, refl, sym, ℕ, zero, suc, List, [], ◌∷◌, map, All, Ok, Err}
+use Rattle.std.proofs.lemmas.List.Elements.{All-nil, All-cons, All-append, All-head, All-tail}
 use Rattle.stab_lines.specs.declared.axis.Axis.{Axis}
-use Rattle.stab_lines.specs.declared.product.Factor.{Factor}
 use Rattle.stab_lines.specs.declared.control.ControlledPair.{ControlledPair}
 use Rattle.stab_lines.specs.declared.control.ControlledPair.TheVariants as pair
-use Rattle.stab_lines.specs.declared.range.MeasureTarget.{MeasureTarget}
-use Rattle.stab_lines.specs.declared.operation.Measurement.{Measurement}
+use Rattle.stab_lines.specs.declared.operation.Kind.{Kind}
 use Rattle.stab_lines.specs.declared.operation.Kind.TheVariants as kind
-use Rattle.stab_lines.specs.declared.operation.Operation.{Operation}
-use Rattle.stab_lines.specs.Axes.{letter_of}
-use Rattle.stab_circuit.specs.Items.{Items, OneItem, operation, repeat, done, before, listed}
-use Rattle.stab_circuit.specs.Steps.{Step, one, two, collapse, detector, observable, measured, measured_product, controlled_step, steps_of, rounds, unroll}
+use Rattle.stab_lines.specs.declared.meanings.Line.TheVariants.{Close}
+use Rattle.stab_lines.specs.Lines.{content_of}
+use Rattle.stab_lines.specs.Meanings.{meaning_of}
+use Rattle.stab_lines.specs.Laws.{IsLine}
+use Rattle.stab_lines.proofs.FreeLemmas.{Each}
+use Rattle.stab_lines.proofs.SureLemmas.{IsQubit, IsMeasured, IsPair, IsControlled, IsProduct, IsGoodKind, IsGoodLine}
+use Rattle.stab_lines.proofs.LineLaws.{line_good}
+use Rattle.stab_circuit.specs.Items.{Items}
+use Rattle.stab_circuit.specs.Circuits.{Meaning, Joins, nothing, blank_line, operation_line, block_lines, line_meanings}
+use Rattle.stab_circuit.specs.Steps.{Step, controlled_step, steps_of, rounds, unroll}
 use Rattle.stab_circuit.specs.Cursors.{IsApart}
-use Rattle.stab_circuit.specs.inner.Summaries.{IsPairApart, IsSwapApart, IsProductApart}
-use Rattle.stab_circuit.proofs.ItemLemmas.{listed_pushed}
-use Rattle.stab_circuit.proofs.StepLemmas.{unroll-join}
+use Rattle.stab_circuit.proofs.RoundLemmas.{each_left, each_right}
 
-All-one : {A : Type 0} (P : A → Type 0) (x : A) → P x → All P (x ∷ [])
-All-one P x p = All-cons P x [] p (All-nil P)
+-- one step for each element of a list
+apart_each : {A : Type 0} (P : A → Type 0) (f : A → Step) → ((x : A) → P x → IsApart (f x)) → (xs : List A) → Each P xs → All IsApart (map f xs)
+apart_each P f h [] e = All-nil IsApart
+apart_each P f h (x ∷ xs) e = All-cons IsApart (f x) (map f xs) (h x e.0) (apart_each P f h xs e.1)
 
--- one element more, and all of them
-pub All_taken : {A : Type 0} (P : A → Type 0) (xs : List A) (i : ℕ) (d : A) → i < length xs → All P (take i xs) → P (get_or xs i d) → All P (take (i + 1) xs)
-All_taken P xs i d lt a p = subst (All P) (sym (take_more xs i d lt)) (All-append P (take i xs) (get_or xs i d ∷ []) a (All-one P (get_or xs i d) p))
+apart_pair : (axis : Axis) (p : ControlledPair) → IsControlled p → IsApart (controlled_step axis p)
+apart_pair axis (pair.Qubits p) e = λ same. e.2 (sym same)
+apart_pair axis (pair.Record k q) e = tt
 
-pub All_whole : {A : Type 0} (P : A → Type 0) (xs : List A) → All P (take (length xs) xs) → All P xs
-All_whole P xs a = subst (All P) (take-length xs) a
+-- one instruction
+apart_kind : (k : Kind) → IsGoodKind k → All IsApart (steps_of k)
+apart_kind (kind.Gate g qubits) e = apart_each IsQubit _ (λ q p. tt) qubits e
+apart_kind (kind.Controlled axis pairs) e = apart_each IsControlled (controlled_step axis) (apart_pair axis) pairs e
+apart_kind (kind.Swap pairs) e = apart_each IsPair _ (λ p differ same. differ.2 (sym same)) pairs e
+apart_kind (kind.Measure m targets) e = apart_each IsMeasured _ (λ t p. tt) targets e
+apart_kind (kind.Reset axis qubits) e = apart_each IsQubit _ (λ q p. tt) qubits e
+apart_kind (kind.MeasureProducts products) e = apart_each IsProduct _ (λ fs p. p.1) products e
+apart_kind (kind.Detector coordinates ks) e = All-cons IsApart _ [] tt (All-nil IsApart)
+apart_kind (kind.ObservableInclude j ks) e = All-cons IsApart _ [] tt (All-nil IsApart)
+apart_kind kind.Tick e = All-nil IsApart
+apart_kind (kind.QubitCoords coordinates qubits) e = All-nil IsApart
+apart_kind (kind.ShiftCoords coordinates) e = All-nil IsApart
 
--- the steps of instructions
-pub gate_apart : (g : Gate) (qs : List ℕ) → All IsApart (steps_of (kind.Gate g qs))
-gate_apart g qs = All-map IsApart (one g) qs (λ k d lt. tt)
+apart_rounds : (n : ℕ) (ss : List Step) → All IsApart ss → All IsApart (rounds n ss)
+apart_rounds zero ss a = All-nil IsApart
+apart_rounds (suc n) ss a = All-append IsApart ss (rounds n ss) a (apart_rounds n ss a)
 
-pub measure_apart : (m : Measurement) (ts : List MeasureTarget) → All IsApart (steps_of (kind.Measure m ts))
-measure_apart m ts = All-map IsApart (measured m) ts (λ k d lt. tt)
+-- what is known of a line that is not refused
+abbrev IsGood : Meaning → Type 0
+IsGood (Ok m) = IsGoodLine m
+IsGood (Err r) = Unit {0}
 
-pub reset_apart : (a : Axis) (qs : List ℕ) → All IsApart (steps_of (kind.Reset a qs))
-reset_apart a qs = All-map IsApart (λ q. collapse (letter_of a) q false false true) qs (λ k d lt. tt)
+good_of : (m : Meaning) (l : List ℕ) → IsLine l → meaning_of (content_of l) ≡ m → IsGood m
+good_of (Ok m) l whole e = line_good l m whole e
+good_of (Err r) l whole e = tt
 
-pub swap_apart : (ps seen : List (ℕ × ℕ)) → seen ≡ ps → All IsSwapApart seen → All IsApart (steps_of (kind.Swap ps))
-swap_apart ps seen e h = All-map IsApart (λ pair. two gate.Swap pair.0 pair.1) ps (subst (All IsSwapApart) e h)
+all_good : (lines : List (List ℕ)) → All IsLine lines → Each IsGood (line_meanings lines)
+all_good [] a = tt
+all_good (l ∷ ls) a = (good_of (meaning_of (content_of l)) l (All-head IsLine l ls a) refl, all_good ls (All-tail IsLine l ls a))
 
-pub product_apart : (ps seen : List (List Factor)) → seen ≡ ps → All IsProductApart seen → All IsApart (steps_of (kind.MeasureProducts ps))
-product_apart ps seen e h = All-map IsApart measured_product ps (subst (All IsProductApart) e h)
+apart_items : {ms : List Meaning} {xs : Items} → Joins ms xs → Each IsGood ms → All IsApart (unroll xs)
+apart_items nothing e = All-nil IsApart
+apart_items (blank_line j) e = apart_items j e.1
+apart_items (operation_line {op} {ms} {xs} j) e = All-append IsApart (steps_of op.kind) (unroll xs) (apart_kind op.kind e.0.0) (apart_items j e.1)
+apart_items (block_lines {count} {tag} {inner} {after} {body} {rest} j k) e =
+    All-append IsApart (rounds count (unroll body)) (unroll rest)
+    (apart_rounds count (unroll body) (apart_items j (each_left IsGood inner (Ok Close ∷ after) e.1)))
+    (apart_items k (each_right IsGood inner (Ok Close ∷ after) e.1).1)
 
-pair_apart : (a : Axis) (p : ControlledPair) → IsPairApart p → IsApart (controlled_step a p)
-pair_apart a (pair.Qubits p) h = h
-pair_apart a (pair.Record k q) h = tt
-
-pub controlled_apart : (a : Axis) (ps seen : List ControlledPair) → seen ≡ ps → All IsPairApart seen → All IsApart (steps_of (kind.Controlled a ps))
-controlled_apart a ps seen e h = All-map IsApart (controlled_step a) ps (λ k d lt. pair_apart a (get_or ps k d) (subst (All IsPairApart) e h k d lt))
-
-pub detector_apart : (coordinates : List (List ℕ)) (ks : List ℕ) → All IsApart (steps_of (kind.Detector coordinates ks))
-detector_apart coordinates ks = All-one IsApart (detector ks) tt
-
-pub observable_apart : (j : ℕ) (ks : List ℕ) → All IsApart (steps_of (kind.ObservableInclude j ks))
-observable_apart j ks = All-one IsApart (observable j ks) tt
-
-pub nothing_apart : All IsApart []
-nothing_apart = All-nil IsApart
-
--- the steps of items
-rounds_apart : (n : ℕ) (ss : List Step) → All IsApart ss → All IsApart (rounds n ss)
-rounds_apart zero ss a = All-nil IsApart
-rounds_apart (suc n) ss a = All-append IsApart ss (rounds n ss) a (rounds_apart n ss a)
-
-pub operation_apart : (x : OneItem) (op : Operation) → operation op ≡ x → All IsApart (steps_of op.kind) → All IsApart (unroll (before x done))
-operation_apart x op is a = subst (λ y. All IsApart (unroll (before y done))) is (subst (All IsApart) (sym (append-nil (steps_of op.kind))) a)
-
-pub block_apart : (x : OneItem) (count : ℕ) (tag : List ℕ) (body : Items) → repeat count tag body ≡ x → All IsApart (unroll body) → All IsApart (unroll (before x done))
-block_apart x count tag body is a =
-    subst (λ y. All IsApart (unroll (before y done))) is (subst (All IsApart) (sym (append-nil (rounds count (unroll body)))) (rounds_apart count (unroll body) a))
-
-pub items_apart : (xs : List OneItem) (i : ℕ) (x : OneItem) → i < length xs → x ≡ get_or xs i x → All IsApart (unroll (listed (take i xs))) → All IsApart (unroll (before x done)) → All IsApart (unroll (listed (take (i + 1) xs)))
-items_apart xs i x h e a b =
-    subst (All IsApart) (sym (ap (λ l. unroll (listed l)) (take_more xs i x h ∙ ap (λ y. take i xs ++ y ∷ []) (sym e)) ∙ ap unroll (listed_pushed (take i xs) x) ∙ unroll-join (listed (take i xs)) (before x done)))
-    (All-append IsApart (unroll (listed (take i xs))) (unroll (before x done)) a b)
+-- the steps of items that lines stand for
+pub joined_apart : (lines : List (List ℕ)) (items : Items) → All IsLine lines → Joins (line_meanings lines) items → All IsApart (unroll items)
+joined_apart lines items a j = apart_items j (all_good lines a)

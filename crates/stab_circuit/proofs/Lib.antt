@@ -4,7 +4,7 @@ mod ViewLemmas
 mod ReaderLemmas
 mod PrintLemmas
 mod StepLemmas
-mod ApartLemmas
+mod StepApartLemmas
 mod WalkLemmas
 mod SkipLemmas
 mod SummaryLemmas
@@ -15,5 +15,7 @@ mod OneItemLemmas
 mod TextLemmas
 mod BlankLemmas
 mod RoundLemmas
+pub mod ApartLemmas
 mod ItemTextLemmas
 mod CircuitFaultLemmas
+mod EditLemmas

@@ -29,6 +29,12 @@ join done after = after
 join (next op rest) after = next op (join rest after)
 join (block count tag body rest) after = block count tag body (join rest after)
 
+-- the items one by one
+abbrev pub entries : Items → List OneItem
+entries done = []
+entries (next op rest) = operation op ∷ entries rest
+entries (block count tag body rest) = repeat count tag body ∷ entries rest
+
 -- how deep blocks are nested
 abbrev pub depth : Items → ℕ
 depth done = 0

@@ -7,3 +7,4 @@ pub mod Readers
 pub mod Texts
 pub mod Walks
 pub mod Margins
+pub mod Places

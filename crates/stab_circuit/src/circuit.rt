@@ -48,7 +48,7 @@ impl Circuit {
     ghost use Rattle.stab_circuit.specs.Views.{circuit_items};
 
     /// The empty circuit, which takes no memory.
-    #[tactic(auto, using(crate::proofs::ApartLemmas::nothing_apart))]
+    #[tactic(auto, using(crate::proofs::StepApartLemmas::nothing_apart))]
     pub fn new(alloc: Global) -> Circuit
         ensures empty { result ≡ [] }
     {

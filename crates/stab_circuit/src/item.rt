@@ -115,7 +115,7 @@ impl Item {
     }
 
     /// The summary of the item, without a walk over a block's body.
-    #[tactic(auto, using(crate::proofs::SummaryLemmas::operation_summary, crate::proofs::ApartLemmas::operation_apart))]
+    #[tactic(auto, using(crate::proofs::SummaryLemmas::operation_summary, crate::proofs::StepApartLemmas::operation_apart))]
     pub(crate) fn summary(&self) -> Summary
         ensures value { result ≡ summary_of (before self.now done) }
         ensures small { IsSummary result }
@@ -135,7 +135,7 @@ ghost use Rattle.stab_circuit.specs.Cursors.{IsApart};
 ghost use Rattle.stab_circuit.specs.inner.Summaries.{summary_of, IsSummary};
 
 /// The summary of the items, by what each keeps.
-#[tactic(auto, using(crate::proofs::SummaryLemmas::summary_taken, crate::proofs::ApartLemmas::items_apart, crate::proofs::ApartLemmas::nothing_apart))]
+#[tactic(auto, using(crate::proofs::SummaryLemmas::summary_taken, crate::proofs::StepApartLemmas::items_apart, crate::proofs::StepApartLemmas::nothing_apart))]
 pub(crate) fn items_summary(items: &[Item]) -> Summary
     ensures value { result ≡ summary_of (listed items.now) }
     ensures small { IsSummary result }

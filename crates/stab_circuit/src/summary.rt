@@ -123,7 +123,7 @@ fn past(qubits: &[Qubit]) -> u32
     past
 }
 
-#[tactic(auto, using(crate::proofs::SummaryLemmas::past_pairs_dropped, crate::proofs::ApartLemmas::All_taken, crate::proofs::ApartLemmas::All_whole))]
+#[tactic(auto, using(crate::proofs::SummaryLemmas::past_pairs_dropped, crate::proofs::StepApartLemmas::All_taken, crate::proofs::StepApartLemmas::All_whole))]
 fn past_pairs(pairs: &[Pair]) -> u32
     ensures value { result ≡ past_of (pair_qubits pairs.now) }
     ensures small { result ≤ 1024 }
@@ -161,7 +161,7 @@ fn past_factors(factors: &[Factor]) -> u32
     past
 }
 
-#[tactic(auto, using(crate::proofs::SummaryLemmas::past_products_dropped, crate::proofs::ApartLemmas::All_taken, crate::proofs::ApartLemmas::All_whole))]
+#[tactic(auto, using(crate::proofs::SummaryLemmas::past_products_dropped, crate::proofs::StepApartLemmas::All_taken, crate::proofs::StepApartLemmas::All_whole))]
 fn past_products(products: &[Product]) -> u32
     ensures value { result ≡ past_of (product_qubits products.now) }
     ensures small { result ≤ 1024 }
@@ -189,7 +189,7 @@ fn past_pair(pair: &ControlledPair) -> u32
     }
 }
 
-#[tactic(auto, using(crate::proofs::SummaryLemmas::past_controlled_dropped, crate::proofs::ApartLemmas::All_taken, crate::proofs::ApartLemmas::All_whole))]
+#[tactic(auto, using(crate::proofs::SummaryLemmas::past_controlled_dropped, crate::proofs::StepApartLemmas::All_taken, crate::proofs::StepApartLemmas::All_whole))]
 fn past_controlled(pairs: &[ControlledPair]) -> u32
     ensures value { result ≡ past_of (controlled_qubits pairs.now) }
     ensures small { result ≤ 1024 }
@@ -277,7 +277,7 @@ fn measurement(steps: usize, qubits: u32) -> Summary
 }
 
 /// The summary of an instruction.
-#[tactic(auto, using(crate::proofs::SummaryLemmas::gate_summary, crate::proofs::SummaryLemmas::swap_summary, crate::proofs::SummaryLemmas::product_summary, crate::proofs::SummaryLemmas::measure_summary, crate::proofs::SummaryLemmas::reset_summary, crate::proofs::SummaryLemmas::detector_summary, crate::proofs::SummaryLemmas::observable_summary, crate::proofs::ApartLemmas::gate_apart, crate::proofs::ApartLemmas::measure_apart, crate::proofs::ApartLemmas::reset_apart, crate::proofs::ApartLemmas::swap_apart, crate::proofs::ApartLemmas::product_apart, crate::proofs::ApartLemmas::controlled_apart, crate::proofs::ApartLemmas::detector_apart, crate::proofs::ApartLemmas::observable_apart, crate::proofs::ApartLemmas::nothing_apart))]
+#[tactic(auto, using(crate::proofs::SummaryLemmas::gate_summary, crate::proofs::SummaryLemmas::swap_summary, crate::proofs::SummaryLemmas::product_summary, crate::proofs::SummaryLemmas::measure_summary, crate::proofs::SummaryLemmas::reset_summary, crate::proofs::SummaryLemmas::detector_summary, crate::proofs::SummaryLemmas::observable_summary, crate::proofs::StepApartLemmas::gate_apart, crate::proofs::StepApartLemmas::measure_apart, crate::proofs::StepApartLemmas::reset_apart, crate::proofs::StepApartLemmas::swap_apart, crate::proofs::StepApartLemmas::product_apart, crate::proofs::StepApartLemmas::controlled_apart, crate::proofs::StepApartLemmas::detector_apart, crate::proofs::StepApartLemmas::observable_apart, crate::proofs::StepApartLemmas::nothing_apart))]
 pub fn kind_summary(kind: &Kind) -> Summary
     ensures value { result ≡ kind_summary_of kind.now }
     ensures apart { All IsApart (steps_of kind.now) }

@@ -1,2 +1,4 @@
 pub mod Sights
 pub mod ReadySamplers
+pub mod Shots
+pub mod KeptSessions

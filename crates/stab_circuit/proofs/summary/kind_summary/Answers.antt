@@ -2,7 +2,7 @@ use Rattle.std.proofs.Common.{◌∙◌, sym, subst, All}
 use Rattle.stab_circuit.specs.Cursors.{IsApart}
 use Rattle.stab_circuit.specs.Steps.{steps_of}
 use Rattle.stab_circuit.proofs.SummaryLemmas.{controlled_found}
-use Rattle.stab_circuit.proofs.ApartLemmas.{controlled_apart}
+use Rattle.stab_circuit.proofs.StepApartLemmas.{controlled_apart}
 use Rattle.stab_circuit.proofs.summary.kind_summary.Goals as goal
 
 pub returns-in-Controlled-clause-value : goal.returns-in-Controlled-clause-value

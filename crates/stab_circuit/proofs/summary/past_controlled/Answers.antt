@@ -2,7 +2,7 @@ use Rattle.std.proofs.Common.{◌≡◌, ap, ◌∙◌, ◌∷◌, [], get_or, t
 use Rattle.stab_circuit.specs.Steps.{past, controlled_qubits}
 use Rattle.stab_circuit.specs.inner.Summaries.{IsPairApart}
 use Rattle.stab_circuit.proofs.SummaryLemmas.{past_controlled_dropped}
-use Rattle.stab_circuit.proofs.ApartLemmas.{All_taken, All_whole}
+use Rattle.stab_circuit.proofs.StepApartLemmas.{All_taken, All_whole}
 use Rattle.stab_circuit.proofs.summary.past_controlled.Goals as goal
 
 pub loop-pair-preserved : goal.loop-pair-preserved

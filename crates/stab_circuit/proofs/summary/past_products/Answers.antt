@@ -1,7 +1,7 @@
 use Rattle.std.proofs.Common.{◌≡◌, ap, ◌∙◌, get_or, subst, arith}
 use Rattle.stab_circuit.specs.Steps.{past, factor_qubits}
 use Rattle.stab_circuit.specs.inner.Summaries.{IsProductApart}
-use Rattle.stab_circuit.proofs.ApartLemmas.{All_taken}
+use Rattle.stab_circuit.proofs.StepApartLemmas.{All_taken}
 use Rattle.stab_circuit.proofs.SummaryLemmas.{past_products_dropped}
 use Rattle.stab_circuit.proofs.summary.past_products.Goals as goal
 

@@ -2,7 +2,7 @@ use Rattle.std.proofs.Common.{◌∙◌, ap, sym, subst}
 use Rattle.stab_circuit.specs.Items.{listed}
 use Rattle.stab_circuit.specs.inner.Kept.{shown, IsKept}
 use Rattle.stab_circuit.proofs.SummaryLemmas.{kept_summary}
-use Rattle.stab_circuit.proofs.ApartLemmas.{block_apart}
+use Rattle.stab_circuit.proofs.StepApartLemmas.{block_apart}
 use Rattle.stab_circuit.proofs.item.Item.summary.Goals as goal
 
 pub returns-in-Repeat-clause-value : goal.returns-in-Repeat-clause-value
