@@ -2,7 +2,8 @@
 //!
 //! Without words it prints one fixed line. With the word `measure` it prints a table for each size,
 //! and the time to read a long circuit text. With the word `run` and paths it prints, for the circuit
-//! in each of these files, the times to read it and to run it once.
+//! in each of these files, the times to read it and to run it once, and those of a cursor over its
+//! steps.
 //!
 //! - `work`: what is timed.
 //! - `state`: the states and the string that the works take.
@@ -12,6 +13,7 @@
 //! - `report`: the tables.
 //! - `reading`: a long circuit text, and the time to read it.
 //! - `running`: circuits in files, and the times to read and to run them.
+//! - `walking`: the times of a cursor over the steps of a circuit.
 //!
 //! It is proved safe, and nothing is claimed of the times.
 #![tactic(auto)]
@@ -24,6 +26,7 @@ mod running;
 mod state;
 mod subject;
 mod timing;
+mod walking;
 mod work;
 
 use failure::Failure;
