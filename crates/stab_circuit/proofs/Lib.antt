@@ -17,3 +17,7 @@ pub mod ApartLemmas
 mod ItemTextLemmas
 mod CircuitFaultLemmas
 mod EditLemmas
+mod SpliceLemmas
+mod JudgementLemmas
+mod CommitLemmas
+mod EditingLemmas

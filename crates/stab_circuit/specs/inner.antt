@@ -8,3 +8,5 @@ pub mod Texts
 pub mod Unrolled
 pub mod Margins
 pub mod Places
+pub mod Splices
+pub mod Judgements
