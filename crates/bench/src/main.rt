@@ -9,6 +9,7 @@
 //! - `bytes`: the plain loop.
 //! - `subject`: does each work.
 //! - `timing`: the best of several rounds.
+//! - `groups`: comparing the groups of two states, and reduced rows.
 //! - `report`: the tables.
 //! - `reading`: a long circuit text, and the time to read it.
 //! - `running`: circuits in files, and the times to read and to run them.
@@ -18,6 +19,7 @@
 
 mod bytes;
 mod failure;
+mod groups;
 mod reading;
 mod report;
 mod running;
