@@ -3,3 +3,4 @@ pub mod Texts
 pub mod Summaries
 pub mod Unrolled
 pub mod Margins
+pub mod Places

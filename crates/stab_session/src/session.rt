@@ -203,3 +203,6 @@ impl<C: Coins> Session<C> {
         let _ = &self.circuit;
     }
 }
+
+#[cfg(test)]
+mod tests;
