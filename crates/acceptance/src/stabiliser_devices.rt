@@ -37,7 +37,11 @@ fn a_full_output_has_a_prefix_of_the_rows(rt: HostRuntime) -> Result<(), Fail> {
     for room in 0..ROWS.len() {
         let mut out = MemoryOutput::new(rt.alloc(), room)?;
         let ended = write_stabilisers(rt.alloc(), &mut MemoryInput::new(TEXT), &mut out);
-        assert_eq!(rt; ended, Err(Fault::whole(Refusal::WriteFault)), "room {room}");
+        assert_eq!(rt;
+            ended,
+            Err(Fault::whole(Refusal::WriteFault)),
+            "room {room}"
+        );
         assert!(rt; out.bytes() == ROWS.split_at(room).0, "room {room}");
     }
     Ok(())
@@ -76,16 +80,20 @@ fn a_failing_input_has_no_rows(rt: HostRuntime) -> Result<(), Fail> {
 #[test]
 fn a_job_tells_its_fault_and_reads_no_script(rt: HostRuntime) -> Result<(), Fail> {
     let job = job_of(rt.alloc(), &["stabsim", "stabilisers"])?;
-    let rows: [(usize, u8, &[u8]); 2] = [
-        (8, 0, b""),
-        (7, 1, b"stabsim: refused 16 WriteFault\n"),
-    ];
+    let rows: [(usize, u8, &[u8]); 2] = [(8, 0, b""), (7, 1, b"stabsim: refused 16 WriteFault\n")];
     for (room, status, told) in rows {
         let mut out = MemoryOutput::new(rt.alloc(), room)?;
         let mut err = MemoryOutput::new(rt.alloc(), 99)?;
         let mut script = CutInput::new(b"x", 1, 1);
         let mut input = MemoryInput::new(TEXT);
-        let ended = run_job(rt.alloc(), &job, &mut input, &mut script, &mut out, &mut err);
+        let ended = run_job(
+            rt.alloc(),
+            &job,
+            &mut input,
+            &mut script,
+            &mut out,
+            &mut err,
+        );
         assert_eq!(rt; ended, status, "room {room}");
         assert!(rt; out.bytes() == ROWS.split_at(room).0, "room {room}");
         assert!(rt; err.bytes() == told, "room {room}");
@@ -105,6 +113,9 @@ fn there_are_as_many_rows_as_qubits(rt: HostRuntime) -> Result<(), Fail> {
     // The one lead among the bits of X is that of the last qubit, and comes first.
     assert!(rt; bytes.starts_with(b"+_"));
     assert_eq!(rt; bytes.iter().position(|byte| *byte == b'X'), Some(1024));
-    assert_eq!(rt; bytes.iter().position(|byte| *byte == b'Z'), Some(length + 1));
+    assert_eq!(rt;
+        bytes.iter().position(|byte| *byte == b'Z'),
+        Some(length + 1)
+    );
     Ok(())
 }

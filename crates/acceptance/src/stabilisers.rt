@@ -89,8 +89,14 @@ fn refused_circuits_have_no_rows(rt: HostRuntime) -> Result<(), Fail> {
         ("X_ERROR 0", "stabsim: line 1: refused 1 UnsupportedName\n"),
         ("H 0\nCX 0 0", "stabsim: line 2: refused 4 BadPairing\n"),
         ("M 1024", "stabsim: line 1: refused 6 QubitOutOfRange\n"),
-        ("X 0\nDETECTOR rec[-1]", "stabsim: refused 8 LookbackTooFar\n"),
-        ("REPEAT 1048577 {\nX 0\n}", "stabsim: refused 9 TooManySteps\n"),
+        (
+            "X 0\nDETECTOR rec[-1]",
+            "stabsim: refused 8 LookbackTooFar\n",
+        ),
+        (
+            "REPEAT 1048577 {\nX 0\n}",
+            "stabsim: refused 9 TooManySteps\n",
+        ),
     ];
     for (text, fault) in rows {
         assert_refuses(&rt, "stabsim stabilisers", text, fault)?;
