@@ -9,6 +9,7 @@
 //! - `bytes`: the plain loop.
 //! - `subject`: does each work.
 //! - `timing`: the best of several rounds.
+//! - `groups`: comparing the groups of two states, and reduced rows.
 //! - `report`: the tables.
 //! - `reading`: a long circuit text, and the time to read it.
 //! - `editing`: a circuit of many items, and the time to edit it.
@@ -20,6 +21,7 @@
 mod bytes;
 mod editing;
 mod failure;
+mod groups;
 mod reading;
 mod report;
 mod running;
