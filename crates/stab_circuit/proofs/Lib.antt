@@ -19,3 +19,7 @@ pub mod ApartLemmas
 mod ItemTextLemmas
 mod CircuitFaultLemmas
 mod EditLemmas
+mod SpliceLemmas
+mod JudgementLemmas
+mod CommitLemmas
+mod EditingLemmas

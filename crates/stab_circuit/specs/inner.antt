@@ -8,3 +8,5 @@ pub mod Texts
 pub mod Walks
 pub mod Margins
 pub mod Places
+pub mod Splices
+pub mod Judgements

@@ -5,6 +5,8 @@ ghost use Rattle.stab_circuit.specs.Views.{circuit_items};
 ghost use Rattle.stab_circuit.specs.Readings.{ReadsInput, ReadsItem, IsPlaced, is_of_circuit, is_of_item};
 ghost use Rattle.stab_circuit.specs.inner.Texts.{ReadsCircuit};
 
+mod edits;
+
 use crate::input::read_text;
 use crate::item::{Item, items_summary};
 use crate::reader::read_lines;
