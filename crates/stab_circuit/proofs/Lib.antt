@@ -21,3 +21,4 @@ mod SpliceLemmas
 mod JudgementLemmas
 mod CommitLemmas
 mod EditingLemmas
+mod TickLemmas
