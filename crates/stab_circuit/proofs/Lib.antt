@@ -23,3 +23,4 @@ mod SpliceLemmas
 mod JudgementLemmas
 mod CommitLemmas
 mod EditingLemmas
+mod TickLemmas
