@@ -4,6 +4,7 @@ ghost use Rattle.stab_pauli.specs.declared.refusal.Refusal.TheVariants.{BadLine}
 ghost use Rattle.stab_lines.specs.inner.Parts.{GivesBy};
 ghost use Rattle.stab_lines.specs.Lines.{is_spacing as spacing, is_letter as letter, is_digit as digit, is_name_byte as name_byte, is_brace as brace, trimmed_front, trimmed_end, trimmed, content_of, bracketed, is_byte, starts_with_byte, ends_with_byte, is_apart as apart};
 
+use memchr::{memchr, memchr2};
 use stab_pauli::Refusal;
 
 /// Whether the byte is a space, a tab or a carriage return.
@@ -32,12 +33,6 @@ fn is_name_byte(byte: u8) -> bool
     is_letter(byte) || is_digit(byte) || byte == b'_'
 }
 
-fn is_brace(byte: u8) -> bool
-    ensures value { result ≡ brace byte }
-{
-    byte == b'{' || byte == b'}'
-}
-
 fn name_len(bytes: &[u8]) -> usize
     ensures value { result ≡ prefix_len name_byte bytes.now }
     ensures within { result ≤ length bytes.now }
@@ -52,10 +47,14 @@ fn spacing_len(bytes: &[u8]) -> usize
     bytes.iter().take_while(|b| is_spacing(**b)).count()
 }
 
+#[tactic(auto, using(crate::proofs::SearchLemmas::brace_found, crate::proofs::SearchLemmas::no_brace))]
 fn has_brace(bytes: &[u8]) -> bool
     ensures value { result ≡ list_any brace bytes.now }
 {
-    bytes.iter().any(|b| is_brace(*b))
+    match memchr2(b'{', b'}', bytes) {
+        Some(_) => true,
+        None => false,
+    }
 }
 
 /// The bytes without the spacing in front.
@@ -89,11 +88,15 @@ fn without_comment(line: &[u8]) -> &[u8]
 }
 
 /// Where the byte first stands, or the length.
+#[tactic(auto, using(crate::proofs::SearchLemmas::found_first, crate::proofs::SearchLemmas::found_none))]
 pub fn position_of(bytes: &[u8], byte: u8) -> usize
     ensures value { result ≡ position_or_len (is_byte byte) bytes.now }
     ensures within { result ≤ length bytes.now }
 {
-    bytes.iter().take_while(|b| **b != byte).count()
+    match memchr(byte, bytes) {
+        Some(place) => place,
+        None => bytes.len(),
+    }
 }
 
 /// What is left of a line without its comment and the spacing at both ends.
