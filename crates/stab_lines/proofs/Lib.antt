@@ -13,7 +13,7 @@ mod ProductLemmas
 pub mod FreeLemmas
 mod SightLemmas
 mod ControlLemmas
-mod SureLemmas
+pub mod SureLemmas
 mod AgainLemmas
 mod FactorLemmas
 mod ControlAgainLemmas
