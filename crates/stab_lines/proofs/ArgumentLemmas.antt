@@ -1,5 +1,5 @@
 -- Arguments as they are printed, one after another.
-use Rattle.std.proofs.Common.{◌≡◌, ℕ, List, [], ◌∷◌, ◌++◌, Option, Some, None, map, codes, refl, ap, sym, ◌∙◌, append_assoc}
+use Rattle.std.proofs.Common.{◌≡◌, ℕ, List, ◌∷◌, ◌++◌, Option, Some, map, codes, ap, sym, ◌∙◌}
 use Rattle.std.specs.List.{slice_split}
 use Rattle.stab_lines.specs.Lines.{is_byte, trimmed}
 use Rattle.stab_lines.specs.Words.{pieces_after}

@@ -1,20 +1,17 @@
 -- Printed pairs of a control and a qubit are read again as what they were printed of.
-use Rattle.std.proofs.Common.{◌≡◌, ◌<◌, refl, ap, ◌∙◌, ℕ, ◌==◌, ◌&&◌, nat_eq, List, [], ◌∷◌, ◌++◌, true, false, map, append_assoc, arith, codes, Ok}
-use Rattle.std.specs.List.{list_all, starts_with}
+use Rattle.std.proofs.Common.{◌≡◌, ◌<◌, refl, ap, ◌∙◌, ℕ, ◌==◌, List, [], ◌∷◌, ◌++◌, map, append_assoc, arith, codes, Ok}
 use Rattle.std.specs.Fmt.{decimal}
-use Rattle.std.proofs.lemmas.Bool.Decides.{nat_tests}
 use Rattle.stab_lines.specs.declared.control.Control.{Control}
 use Rattle.stab_lines.specs.declared.control.Control.TheVariants as control
 use Rattle.stab_lines.specs.declared.control.ControlTarget.{ControlTarget}
 use Rattle.stab_lines.specs.declared.control.ControlledPair.{ControlledPair}
 use Rattle.stab_lines.specs.declared.control.ControlledPair.TheVariants as pair
 use Rattle.stab_lines.specs.Results.{◌>>=◌, each}
-use Rattle.stab_lines.specs.Lines.{is_digit, ends_with_byte}
-use Rattle.stab_lines.specs.Words.{words, is_number}
-use Rattle.stab_lines.specs.Targets.{qubit_of, lookback_digits, is_lookback}
+use Rattle.stab_lines.specs.Words.{words}
+use Rattle.stab_lines.specs.Targets.{qubit_of, is_lookback}
 use Rattle.stab_lines.specs.Controls.{control_of, by_turns, paired, controlled_of}
 use Rattle.stab_lines.specs.Prints.{spaced, lookback_text, controlled_text}
-use Rattle.stab_lines.proofs.BoolLemmas.{chosen, passed, and_left}
+use Rattle.stab_lines.proofs.BoolLemmas.{chosen, passed}
 use Rattle.stab_lines.proofs.TargetLemmas.{different}
 use Rattle.stab_lines.proofs.ControlLemmas.{no_record}
 use Rattle.stab_lines.proofs.FreeLemmas.{Each}

@@ -1,14 +1,12 @@
 -- Controls: targets by turns, one pair more.
-use Rattle.std.proofs.Common.{◌≡◌, Bor, Option, Some, None, MatchOption, ℕ, Bool, true, false, ◌&&◌, ◌==◌, nat_eq, List, [], ◌∷◌, ◌++◌, take, codes, Result, Ok, Err, refl, ap, sym, ◌∙◌, append_assoc, arith}
+use Rattle.std.proofs.Common.{◌≡◌, Bor, Option, Some, None, MatchOption, ℕ, true, false, ◌&&◌, nat_eq, List, [], ◌∷◌, ◌++◌, codes, Result, Ok, Err, refl, ap, sym, ◌∙◌, append_assoc, arith}
 use Rattle.std.specs.List.{list_all, starts_with}
-use Rattle.std.specs.Cmp.Lexicographic.{pointwise}
 use Rattle.std.proofs.lemmas.Bool.Decides.{nat_tests}
 use Rattle.stab_pauli.specs.declared.refusal.Refusal.{Refusal}
 use Rattle.stab_lines.specs.declared.control.Control.{Control}
 use Rattle.stab_lines.specs.declared.control.ControlTarget.{ControlTarget}
 use Rattle.stab_lines.specs.declared.control.Control.TheVariants as control
 use Rattle.stab_lines.specs.declared.control.ControlledPair.{ControlledPair}
-use Rattle.stab_lines.specs.declared.control.ControlledPair.TheVariants as pair
 use Rattle.stab_lines.specs.Results.{◌>>=◌, each}
 use Rattle.stab_lines.specs.Lines.{is_digit, ends_with_byte}
 use Rattle.stab_lines.specs.Words.{words, is_number, is_some_word}

@@ -1,12 +1,12 @@
 -- Numbers that are the first of several words.
-use Rattle.std.proofs.Common.{◌≡◌, ◌<◌, ◌≤◌, ℕ, Bool, true, false, ◌||◌, ◌&&◌, ◌==◌, nat_le, List, [], ◌∷◌, length, take, drop, get_or, min, refl, sym, ap, subst, ◌∙◌, arith, drop-cons, length-take}
+use Rattle.std.proofs.Common.{◌≡◌, ◌<◌, ◌≤◌, ℕ, Bool, true, false, List, [], ◌∷◌, length, take, drop, get_or, min, refl, sym, ap, subst, ◌∙◌, arith, drop-cons, length-take}
 use Rattle.std.specs.List.{position_or_len, list_all}
 use Rattle.std.proofs.lemmas.Bool.Decides.{nat_tests}
 use Rattle.std.proofs.lemmas.List.{get_or-take}
 use Rattle.std.proofs.lemmas.List.Sums.{position_or_len_is}
 use Rattle.std.proofs.lemmas.List.Folds.{list_all_at}
 use Rattle.stab_lines.specs.Lines.{is_spacing, is_digit, trimmed_front}
-use Rattle.stab_lines.specs.Words.{words, is_number, is_some_word, value}
+use Rattle.stab_lines.specs.Words.{words, is_some_word, value}
 use Rattle.stab_lines.specs.inner.Numbers.{is_word_end, BeginsWithNumber}
 use Rattle.stab_lines.proofs.BoolLemmas.{both}
 use Rattle.stab_lines.proofs.PieceLemmas.{one_word, rest_shorter}

@@ -1,10 +1,10 @@
 -- The answers of searches for bytes.
-use Rattle.std.proofs.Common.{◌≡◌, ◌<◌, ◌≤◌, ℕ, Bool, true, false, ◌||◌, List, Option, Some, None, length, get_or, refl, sym, ap, ◌∙◌, arith}
+use Rattle.std.proofs.Common.{◌≡◌, ◌<◌, ℕ, Bool, true, false, List, length, get_or, refl, sym, ap, ◌∙◌, arith}
 use Rattle.std.specs.List.{position_or_len, list_any}
 use Rattle.std.proofs.lemmas.List.{get_or_default}
 use Rattle.std.proofs.lemmas.List.Sums.{position_or_len_is}
 use Rattle.std.proofs.lemmas.List.Folds.{list_any_none, list_any_at}
-use Rattle.memchr.specs.Find.{IsFirst, IsFirstByte, Passes, NoneBefore, Nowhere}
+use Rattle.memchr.specs.Find.{Passes, NoneBefore, Nowhere}
 use Rattle.stab_lines.specs.Lines.{is_byte, is_brace}
 
 not_passed : (b : Bool) → ¬ (b ≡ true) → b ≡ false

@@ -1,12 +1,10 @@
 -- Targets that are read off the front of several words.
-use Rattle.std.proofs.Common.{◌≡◌, ◌<◌, ◌≤◌, ℕ, ◌+◌, ◌-◌, Bool, true, false, ◌||◌, ◌&&◌, not, ◌==◌, nat_lt, nat_eq, List, [], ◌∷◌, length, take, drop, ◌++◌, append_assoc, append-nil, length-drop, get_or, min, refl, sym, ap, subst, ◌∙◌, arith, drop-cons, length-take, Result, Ok, Err, if◌then◌else◌, codes}
+use Rattle.std.proofs.Common.{◌≡◌, ◌<◌, ℕ, ◌-◌, Bool, true, false, ◌&&◌, not, ◌==◌, nat_lt, nat_eq, List, [], ◌∷◌, length, take, drop, ◌++◌, append_assoc, append-nil, length-drop, min, refl, sym, ap, ◌∙◌, arith, Ok, Err, if◌then◌else◌, codes}
 use Rattle.std.specs.List.{list_all, starts_with, position_or_len, prefix_len}
 use Rattle.std.specs.Cmp.Lexicographic.{pointwise}
 use Rattle.std.proofs.lemmas.List.{length-append, take-append-drop}
 use Rattle.std.proofs.lemmas.Bool.Decides.{nat_tests}
-use Rattle.stab_pauli.specs.declared.refusal.Refusal.{Refusal}
 use Rattle.stab_pauli.specs.declared.refusal.Refusal.TheVariants.{BadTarget, QubitOutOfRange}
-use Rattle.stab_lines.specs.declared.range.MeasureTarget.{MeasureTarget}
 use Rattle.stab_lines.specs.Lines.{is_spacing, is_digit, starts_with_byte, ends_with_byte, trimmed_front}
 use Rattle.stab_lines.specs.Words.{words, is_number, is_some_word, value}
 use Rattle.stab_lines.specs.Results.{◌>>=◌}

@@ -1,4 +1,4 @@
-use Rattle.std.proofs.Common.{◌++◌, codes, ap, refl}
+use Rattle.std.proofs.Common.{◌++◌, codes, ap}
 use Rattle.std.specs.Option.{option_copied}
 use Rattle.stab_lines.specs.Words.{pieces_after}
 use Rattle.std.proofs.lemmas.Result.{err_from_is_err_and}
