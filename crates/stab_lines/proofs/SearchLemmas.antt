@@ -1,34 +1,41 @@
--- The answers of searches for bytes.
-use Rattle.std.proofs.Common.{◌≡◌, ◌<◌, ℕ, Bool, true, false, List, length, get_or, refl, sym, ap, ◌∙◌, arith}
+-- Searches for a byte that pass over runs of other bytes.
+use Rattle.std.proofs.Common.{◌≡◌, ◌≤◌, ℕ, ◌+◌, Bool, true, false, ◌||◌, not, List, [], ◌∷◌, ◌++◌, length, take, drop, refl, sym, ap, ◌∙◌, arith, length-take, if◌then◌else◌}
 use Rattle.std.specs.List.{position_or_len, list_any}
-use Rattle.std.proofs.lemmas.List.{get_or_default}
-use Rattle.std.proofs.lemmas.List.Sums.{position_or_len_is}
-use Rattle.std.proofs.lemmas.List.Folds.{list_any_none, list_any_at}
-use Rattle.memchr.specs.Find.{Passes, NoneBefore, Nowhere}
-use Rattle.stab_lines.specs.Lines.{is_byte, is_brace}
+use Rattle.std.proofs.Math.Seq.{take-append-add}
+use Rattle.std.proofs.lemmas.List.{take-append-drop}
+use Rattle.std.proofs.lemmas.List.Folds.{list_any-append}
+use Rattle.stab_lines.specs.Lines.{is_byte}
 
-not_passed : (b : Bool) → ¬ (b ≡ true) → b ≡ false
-not_passed true h = absurd (h refl)
-not_passed false h = refl
+taken : (n m : ℕ) (xs : List ℕ) → n ≤ length xs → take (n + m) xs ≡ take n xs ++ take m (drop n xs)
+taken n m xs within =
+    let long : n ≡ length (take n xs) = omega (arith, length-take n xs, within) in
+    ap (λ k. take (k + m) xs) long
+    ∙ ap (take (length (take n xs) + m)) (sym (take-append-drop n xs))
+    ∙ take-append-add (take n xs) (drop n xs) m
 
--- where the byte was found, it stands first
-pub found_first : (bs : List ℕ) (byte k : ℕ) → NoneBefore (Passes (is_byte byte) bs) 0 (length bs) k → Passes (is_byte byte) bs k → k ≡ position_or_len (is_byte byte) bs
-found_first bs byte k before here =
-    let high = before.high in
-    sym (position_or_len_is (is_byte byte) bs k 0 (omega (arith, high)) (λ i lt. not_passed (is_byte byte (get_or bs i 0)) (before.before i (omega arith) lt)) (λ lt. here))
+-- one run of others more
+pub others_more : (bs : List ℕ) (byte n m : ℕ) → n ≤ length bs → list_any (is_byte byte) (take n bs) ≡ false → list_any (is_byte byte) (take m (drop n bs)) ≡ false → list_any (is_byte byte) (take (n + m) bs) ≡ false
+others_more bs byte n m within h k =
+    ap (list_any (is_byte byte)) (taken n m bs within)
+    ∙ list_any-append (is_byte byte) (take n bs) (take m (drop n bs))
+    ∙ ap (λ b. b || list_any (is_byte byte) (take m (drop n bs))) h
+    ∙ k
 
--- where it was not found, it stands nowhere
-pub found_none : (bs : List ℕ) (byte : ℕ) → Nowhere (Passes (is_byte byte) bs) 0 (length bs) → length bs ≡ position_or_len (is_byte byte) bs
-found_none bs byte nowhere =
-    sym (position_or_len_is (is_byte byte) bs (length bs) 0 (omega arith) (λ i lt. not_passed (is_byte byte (get_or bs i 0)) (nowhere i (omega arith) lt)) (λ lt. absurd (omega (arith, lt))))
+either : (a b : Bool) → (a || b) ≡ false → (a ≡ false) × (b ≡ false)
+either true b h = cc
+either false b h = (refl, h)
 
--- where a brace was found, there is one
-pub brace_found : (bs : List ℕ) (k : ℕ) → NoneBefore (Passes is_brace bs) 0 (length bs) k → Passes is_brace bs k → true ≡ list_any is_brace bs
-brace_found bs k before here = let high = before.high in sym (list_any_at is_brace bs k 0 high here)
+position_behind : (p : ℕ → Bool) (xs ys : List ℕ) → list_any p xs ≡ false → position_or_len p (xs ++ ys) ≡ length xs + position_or_len p ys
+position_behind p [] ys h = omega arith
+position_behind p (x ∷ xs) ys h =
+    let parts = either (p x) (list_any p xs) h in
+    let more = position_behind p xs ys parts.1 in
+    let one : position_or_len p (x ∷ (xs ++ ys)) ≡ 1 + position_or_len p (xs ++ ys) = ap (λ b. if not b then 1 + position_or_len p (xs ++ ys) else 0) parts.0 in
+    omega (arith, more, one)
 
--- where none was found, there is none
-pub no_brace : (bs : List ℕ) → Nowhere (Passes is_brace bs) 0 (length bs) → false ≡ list_any is_brace bs
-no_brace bs nowhere = sym (list_any_none is_brace bs (λ i d lt. same i d lt))
-  where
-    same : (i d : ℕ) → i < length bs → is_brace (get_or bs i d) ≡ false
-    same i d lt = ap is_brace (get_or_default bs i d 0 lt) ∙ not_passed (is_brace (get_or bs i 0)) (nowhere i (omega arith) lt)
+-- where others stand in front, the byte stands first behind them
+pub behind_others : (bs : List ℕ) (byte n near : ℕ) → n ≤ length bs → list_any (is_byte byte) (take n bs) ≡ false → near ≡ position_or_len (is_byte byte) (drop n bs) → n + near ≡ position_or_len (is_byte byte) bs
+behind_others bs byte n near within h e =
+    let all = ap (position_or_len (is_byte byte)) (take-append-drop n bs) in
+    let cut = position_behind (is_byte byte) (take n bs) (drop n bs) h in
+    omega (arith, all, cut, e, length-take n bs, within)
