@@ -3,7 +3,7 @@ ghost use Rattle.stab_circuit.specs.Views.{circuit_items};
 ghost use Rattle.bench.specs.Runs.{records_of_run};
 
 use super::failure::Failure;
-use super::reading;
+use super::{reading, walking};
 use stab_circuit::Circuit;
 use stab_session::{SeedCoins, Shot, run_once};
 use std::alloc::Global;
@@ -31,6 +31,9 @@ pub fn print_table<R: CpuClock + Files + AllocGlobal + Print>(
     for path in paths {
         print_line(rt, path.as_str())?;
     }
+    for path in paths {
+        print_walk(rt, path.as_str())?;
+    }
     Ok(())
 }
 
@@ -49,6 +52,16 @@ fn print_line<R: CpuClock + Files + AllocGlobal + Print>(
         "{bytes:>9} {steps:>8} {records:>8} {read:>10.3} {run:>10.3} {each:>10.1}  {path}"
     )?;
     Ok(())
+}
+
+/// Prints what a cursor takes over the steps of the circuit in a file.
+fn print_walk<R: CpuClock + Files + AllocGlobal + Print>(
+    rt: &R,
+    path: &str,
+) -> Result<(), Failure> {
+    let text = text_of_file(rt, path)?;
+    let circuit = reading::circuit_of_text(rt.alloc(), text.as_slice())?;
+    walking::print_line(rt, &circuit, path)
 }
 
 /// The bytes of a file.

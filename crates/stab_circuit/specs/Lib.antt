@@ -6,5 +6,9 @@ pub mod Inputs
 pub mod Readings
 pub mod Cursors
 pub mod Prints
+pub mod Paths
+pub mod Edits
+pub mod Editings
+pub mod Ticks
 pub mod Laws
 pub mod inner

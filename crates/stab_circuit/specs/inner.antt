@@ -1,5 +1,12 @@
+pub mod StoredItems
+pub mod Summaries
+pub mod Kept
+pub mod ItemSizes
+pub mod Parts
 pub mod Readers
 pub mod Texts
-pub mod Summaries
-pub mod Unrolled
+pub mod Walks
 pub mod Margins
+pub mod Places
+pub mod Splices
+pub mod Judgements

@@ -1,7 +1,8 @@
 //! Laws of circuit texts. Each function does nothing: its contract is the law, and the check
 //! proves it.
 
-ghost use Rattle.stab_circuit.specs.Laws.{CircuitsHaveNoFault, EachTextHasAMeaning, ItemTextsHaveOneMeaning, PrintedItemsAreReadBack, TextsAreLines, TextsAreOfOneCircuit, TextsHaveOneFault, TextsHaveOneMeaning};
+ghost use Rattle.stab_circuit.specs.Laws.{CircuitsHaveNoFault, EachTextHasAMeaning, EditsLeaveTheRest, ItemTextsHaveOneMeaning, LinesKeepQubitsApart, PrintedItemsAreReadBack, TextsAreLines, TextsAreOfOneCircuit, TextsHaveOneFault, TextsHaveOneMeaning};
+ghost use Rattle.stab_circuit.specs.Ticks.{TicksStandForDeletions};
 
 /// A text without a faulty line stands for one list of items, and for no other.
 pub fn texts_have_one_meaning()
@@ -19,6 +20,12 @@ pub fn printed_items_are_read_back()
 /// `write_circuit` wrote.
 pub fn texts_are_lines()
     ensures law { TextsAreLines }
+{}
+
+/// In the steps of the items of any such lines the two qubits of each pair differ, and so do the
+/// qubits of each product.
+pub fn lines_keep_qubits_apart()
+    ensures law { LinesKeepQubitsApart }
 {}
 
 /// One item's text without a fault stands for one item, and for no other.
@@ -44,4 +51,18 @@ pub fn texts_have_one_fault()
 /// The text of a circuit has no fault.
 pub fn circuits_have_no_fault()
     ensures law { CircuitsHaveNoFault }
+{}
+
+/// An edit leaves the steps before the first changed one, and those behind the outermost item
+/// around its place: behind the block in the outermost list, or behind what is put into that list
+/// or taken out of it.
+pub fn edits_leave_the_rest()
+    ensures law { EditsLeaveTheRest }
+{}
+
+/// A TICK in an item's stead is judged as the item's deletion, on each number of qubits, and what it
+/// leaves runs alike; deleted in turn, it leaves what the item's deletion leaves. So who deletes an
+/// item and may have to take that back without memory can put a TICK there first.
+pub fn ticks_stand_for_deletions()
+    ensures law { TicksStandForDeletions }
 {}

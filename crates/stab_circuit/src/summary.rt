@@ -1,17 +1,15 @@
-ghost use Rattle.std.specs.Prelude.{◌≡◌, ◌≤◌, ◌*◌, min, length, ◌∷◌, []};
-ghost use Rattle.stab_circuit.specs.Items.{before, done};
-ghost use Rattle.stab_circuit.specs.Views.{item_of, items_of};
+ghost use Rattle.std.specs.Prelude.{◌≡◌, ◌≤◌, ◌*◌, min, length, ◌∷◌, [], All};
 ghost use Rattle.stab_lines.specs.Targets.{pair_qubits};
-ghost use Rattle.stab_circuit.specs.Steps.{past as past_of, target_qubits, factor_qubits, product_qubits, controlled_qubits};
-ghost use Rattle.stab_circuit.specs.inner.Summaries.{greatest as greatest_of, looks_back, furthest as furthest_of, kind_summary_of, summary_of, IsSummary};
+ghost use Rattle.stab_circuit.specs.Cursors.{IsApart};
+ghost use Rattle.stab_circuit.specs.Steps.{steps_of, past as past_of, target_qubits, factor_qubits, product_qubits, controlled_qubits};
+ghost use Rattle.stab_circuit.specs.inner.Summaries.{greatest as greatest_of, looks_back, furthest as furthest_of, kind_summary_of, IsPairApart, IsSwapApart, IsProductApart, IsSummary};
 
-use crate::item::{Item, Node};
 use stab_lines::{ControlledPair, Factor, Kind, Lookbacks, MeasureTarget, Pair, Product, Qubit};
 use stab_pauli::Refusal;
 
 /// What checks need to know of items: how many steps they make, up to 1,048,577, how many
-/// records, up to 16,777,215, how many records have to stand before them, and how many qubits
-/// and observables they name.
+/// records, up to 16,777,215, how many records have to stand before them, how many qubits and
+/// observables they name, and how deep blocks are nested in them, up to 17.
 #[derive(Clone, Copy, Debug, PartialEq, Eq)]
 pub struct Summary {
     pub steps: u32,
@@ -19,22 +17,26 @@ pub struct Summary {
     pub reach: u32,
     pub qubits: u32,
     pub observables: u32,
+    pub depth: u32,
 }
 
 const MOST_STEPS: u32 = 1_048_577;
 
 const MOST_RECORDS: u32 = 16_777_215;
 
+const MOST_DEPTH: u32 = 17;
+
 impl Summary {
     ghost use Rattle.std.specs.Prelude.{◌≡◌};
     ghost use Rattle.stab_circuit.specs.inner.Summaries.{judged, followed_by, repeated as repeated_of, IsSummary};
 
-    const NONE: Summary = Summary {
+    pub const NONE: Summary = Summary {
         steps: 0,
         records: 0,
         reach: 0,
         qubits: 0,
         observables: 0,
+        depth: 0,
     };
 
     /// What refuses a whole circuit of this summary: a lookback, or else the number of steps.
@@ -51,7 +53,7 @@ impl Summary {
     }
 
     /// The summary of these items with others after them.
-    fn then(self, next: Summary) -> Summary
+    pub fn then(self, next: Summary) -> Summary
         requires first { IsSummary self }
         requires second { IsSummary next }
         ensures value { result ≡ followed_by self next }
@@ -63,11 +65,12 @@ impl Summary {
             reach: self.reach.max(next.reach.saturating_sub(self.records)),
             qubits: self.qubits.max(next.qubits),
             observables: self.observables.max(next.observables),
+            depth: self.depth.max(next.depth),
         }
     }
 
     /// The summary of so many rounds of these items.
-    fn repeated(self, count: u64) -> Summary
+    pub fn repeated(self, count: u64) -> Summary
         requires once { IsSummary self }
         ensures value { result ≡ repeated_of count self }
         ensures small { IsSummary result }
@@ -75,6 +78,7 @@ impl Summary {
         Summary {
             steps: capped_product(count, self.steps, MOST_STEPS),
             records: capped_product(count, self.records, MOST_RECORDS),
+            depth: (self.depth + 1).min(MOST_DEPTH),
             ..self
         }
     }
@@ -119,10 +123,11 @@ fn past(qubits: &[Qubit]) -> u32
     past
 }
 
-#[tactic(auto, using(crate::proofs::SummaryLemmas::past_pairs_dropped))]
+#[tactic(auto, using(crate::proofs::SummaryLemmas::past_pairs_dropped, crate::proofs::StepApartLemmas::All_taken, crate::proofs::StepApartLemmas::All_whole))]
 fn past_pairs(pairs: &[Pair]) -> u32
     ensures value { result ≡ past_of (pair_qubits pairs.now) }
     ensures small { result ≤ 1024 }
+    ensures apart { All IsSwapApart pairs.now }
 {
     let mut past = 0;
     for pair in pairs {
@@ -156,10 +161,11 @@ fn past_factors(factors: &[Factor]) -> u32
     past
 }
 
-#[tactic(auto, using(crate::proofs::SummaryLemmas::past_products_dropped))]
+#[tactic(auto, using(crate::proofs::SummaryLemmas::past_products_dropped, crate::proofs::StepApartLemmas::All_taken, crate::proofs::StepApartLemmas::All_whole))]
 fn past_products(products: &[Product]) -> u32
     ensures value { result ≡ past_of (product_qubits products.now) }
     ensures small { result ≤ 1024 }
+    ensures apart { All IsProductApart products.now }
 {
     let mut past = 0;
     for product in products {
@@ -172,6 +178,7 @@ fn past_products(products: &[Product]) -> u32
 fn past_pair(pair: &ControlledPair) -> u32
     ensures value { result ≡ past_of (controlled_qubits (pair.now ∷ [])) }
     ensures small { result ≤ 1024 }
+    ensures apart { IsPairApart pair.now }
 {
     match pair {
         ControlledPair::Qubits(pair) => {
@@ -182,10 +189,11 @@ fn past_pair(pair: &ControlledPair) -> u32
     }
 }
 
-#[tactic(auto, using(crate::proofs::SummaryLemmas::past_controlled_dropped))]
+#[tactic(auto, using(crate::proofs::SummaryLemmas::past_controlled_dropped, crate::proofs::StepApartLemmas::All_taken, crate::proofs::StepApartLemmas::All_whole))]
 fn past_controlled(pairs: &[ControlledPair]) -> u32
     ensures value { result ≡ past_of (controlled_qubits pairs.now) }
     ensures small { result ≤ 1024 }
+    ensures apart { All IsPairApart pairs.now }
 {
     let mut past = 0;
     for pair in pairs {
@@ -220,7 +228,7 @@ fn furthest(pairs: &[ControlledPair]) -> u32
 /// The summary of so many steps on so many qubits that make no records.
 fn plain(steps: usize, qubits: u32) -> Summary
     requires few { qubits ≤ 1024 }
-    ensures value { result ≡ record { steps = min steps 1048577; records = 0; reach = 0; qubits = qubits; observables = 0 } }
+    ensures value { result ≡ record { steps = min steps 1048577; records = 0; reach = 0; qubits = qubits; observables = 0; depth = 0 } }
     ensures small { IsSummary result }
 {
     Summary {
@@ -233,7 +241,7 @@ fn plain(steps: usize, qubits: u32) -> Summary
 /// The summary of one step that looks back.
 #[tactic(auto, using(crate::proofs::SummaryLemmas::greatest_small))]
 fn look(records: &Lookbacks, observables: u32) -> Summary
-    ensures value { result ≡ record { steps = 1; records = 0; reach = greatest_of records.now; qubits = 0; observables = observables } }
+    ensures value { result ≡ record { steps = 1; records = 0; reach = greatest_of records.now; qubits = 0; observables = observables; depth = 0 } }
     ensures small { IsSummary result }
 {
     Summary {
@@ -246,7 +254,8 @@ fn look(records: &Lookbacks, observables: u32) -> Summary
 
 /// The summary of the pairs of a controlled gate.
 fn controlled(pairs: &[ControlledPair]) -> Summary
-    ensures value { result ≡ record { steps = min (length pairs.now) 1048577; records = 0; reach = furthest_of pairs.now; qubits = past_of (controlled_qubits pairs.now); observables = 0 } }
+    ensures value { result ≡ record { steps = min (length pairs.now) 1048577; records = 0; reach = furthest_of pairs.now; qubits = past_of (controlled_qubits pairs.now); observables = 0; depth = 0 } }
+    ensures apart { All IsPairApart pairs.now }
     ensures small { IsSummary result }
 {
     Summary {
@@ -258,7 +267,7 @@ fn controlled(pairs: &[ControlledPair]) -> Summary
 /// The summary of so many steps on so many qubits that make a record each.
 fn measurement(steps: usize, qubits: u32) -> Summary
     requires few { qubits ≤ 1024 }
-    ensures value { result ≡ record { steps = min steps 1048577; records = min steps 16777215; reach = 0; qubits = qubits; observables = 0 } }
+    ensures value { result ≡ record { steps = min steps 1048577; records = min steps 16777215; reach = 0; qubits = qubits; observables = 0; depth = 0 } }
     ensures small { IsSummary result }
 {
     Summary {
@@ -267,9 +276,11 @@ fn measurement(steps: usize, qubits: u32) -> Summary
     }
 }
 
-#[tactic(auto, using(crate::proofs::SummaryLemmas::gate_summary, crate::proofs::SummaryLemmas::swap_summary, crate::proofs::SummaryLemmas::product_summary, crate::proofs::SummaryLemmas::measure_summary, crate::proofs::SummaryLemmas::reset_summary, crate::proofs::SummaryLemmas::detector_summary, crate::proofs::SummaryLemmas::observable_summary))]
-fn kind_summary(kind: &Kind) -> Summary
+/// The summary of an instruction.
+#[tactic(auto, using(crate::proofs::SummaryLemmas::gate_summary, crate::proofs::SummaryLemmas::swap_summary, crate::proofs::SummaryLemmas::product_summary, crate::proofs::SummaryLemmas::measure_summary, crate::proofs::SummaryLemmas::reset_summary, crate::proofs::SummaryLemmas::detector_summary, crate::proofs::SummaryLemmas::observable_summary, crate::proofs::StepApartLemmas::gate_apart, crate::proofs::StepApartLemmas::measure_apart, crate::proofs::StepApartLemmas::reset_apart, crate::proofs::StepApartLemmas::swap_apart, crate::proofs::StepApartLemmas::product_apart, crate::proofs::StepApartLemmas::controlled_apart, crate::proofs::StepApartLemmas::detector_apart, crate::proofs::StepApartLemmas::observable_apart, crate::proofs::StepApartLemmas::nothing_apart))]
+pub fn kind_summary(kind: &Kind) -> Summary
     ensures value { result ≡ kind_summary_of kind.now }
+    ensures apart { All IsApart (steps_of kind.now) }
     ensures small { IsSummary result }
 {
     match kind {
@@ -291,31 +302,4 @@ fn kind_summary(kind: &Kind) -> Summary
         Kind::QubitCoords(_, qubits) => plain(0, past(qubits.as_slice())),
         Kind::Tick | Kind::ShiftCoords(_) => Summary::NONE,
     }
-}
-
-/// The summary of an item.
-#[cycle(summaries)]
-#[tactic(auto, using(crate::proofs::SummaryLemmas::operation_summary, crate::proofs::SummaryLemmas::repeat_summary))]
-pub fn item_summary(item: &Item) -> Summary
-    ensures value { result ≡ summary_of (before (item_of item.now) done) }
-    ensures small { IsSummary result }
-{
-    match &item.node {
-        Node::Operation(operation) => kind_summary(&operation.kind),
-        Node::Repeat { count, body, .. } => items_summary(body.as_slice()).repeated(count.number()),
-    }
-}
-
-/// The summary of the items.
-#[cycle(summaries)]
-#[tactic(auto, using(crate::proofs::SummaryLemmas::summary_taken))]
-pub fn items_summary(items: &[Item]) -> Summary
-    ensures value { result ≡ summary_of (items_of items.now) }
-    ensures small { IsSummary result }
-{
-    let mut all = Summary::NONE;
-    for item in items {
-        all = all.then(item_summary(item));
-    }
-    all
 }
