@@ -1,20 +1,16 @@
 -- Cursors: how the list of all steps is put together.
 use Rattle.std.proofs.Common.{◌≡◌, ℕ, zero, suc, ◌+◌, ◌-◌, ◌<◌, ◌≤◌, refl, sym, ◌∙◌, ap, subst, List, [], ◌∷◌, ◌++◌, append_assoc, append-nil, add-one, drop-cons, length, map, take, drop, get_or, All, arith}
-use Rattle.std.specs.Global.{Vec}
 use Rattle.std.specs.Prelude.{slice_range}
 use Rattle.std.proofs.Math.Seq.{take-append_seam, take-length, drop-length, drop-append_seam}
 use Rattle.std.proofs.lemmas.List.{map-append, take_more, drop-append-le, length-drop, length-map, get_or-map}
 use Rattle.std.proofs.lemmas.List.Elements.{All-nil, All-append}
 use Rattle.stab_lines.specs.declared.operation.Operation.{Operation}
-use Rattle.stab_circuit.specs.declared.item.Item.{Item}
-use Rattle.stab_circuit.specs.declared.item.Node.TheVariants as node
 use Rattle.stab_circuit.specs.declared.step.Step.{Step as StepValue}
-use Rattle.stab_circuit.specs.Items.{done, before}
-use Rattle.stab_circuit.specs.Views.{item_of, items_of}
+use Rattle.stab_circuit.specs.Items.{Items, OneItem, operation, repeat, done, before, listed}
 use Rattle.stab_circuit.specs.Steps.{Step, steps_of, rounds, unroll}
 use Rattle.stab_circuit.specs.Cursors.{step_shown, IsApart}
 use Rattle.stab_circuit.specs.inner.Unrolled.{steps_shown, Appends}
-use Rattle.stab_circuit.proofs.ViewLemmas.{item_of_operation, item_of_repeat, items_of_pushed}
+use Rattle.stab_circuit.proofs.ItemLemmas.{listed_pushed}
 use Rattle.stab_circuit.proofs.StepLemmas.{unroll-join}
 
 -- nothing, and one list after another
@@ -104,59 +100,53 @@ rounds_none n from xs e =
 
 -- items
 
-pub appends_operation : (i : Item) (o : Operation) (old new : List StepValue) → i.node ≡ node.Operation o
-    → Appends (steps_of o.kind) old new → Appends (unroll (before (item_of i) done)) old new
-appends_operation i o old new e a =
+pub appends_operation : (x : OneItem) (o : Operation) (old new : List StepValue) → x ≡ operation o
+    → Appends (steps_of o.kind) old new → Appends (unroll (before x done)) old new
+appends_operation x o old new e a =
     subst (λ ys. Appends ys old new) (sym is) a
   where
-    is : unroll (before (item_of i) done) ≡ steps_of o.kind
-    is =
-        ap (λ n. unroll (before (item_of (record { node = n })) done)) e
-        ∙ ap (λ x. unroll (before x done)) (item_of_operation o)
-        ∙ append-nil (steps_of o.kind)
+    is : unroll (before x done) ≡ steps_of o.kind
+    is = ap (λ y. unroll (before y done)) e ∙ append-nil (steps_of o.kind)
 
 All-rounds : (n : ℕ) (ss : List Step) → All IsApart ss → All IsApart (rounds n ss)
 All-rounds zero ss a = All-nil IsApart
 All-rounds (suc n) ss a = All-append IsApart ss (rounds n ss) a (All-rounds n ss a)
 
-pub appends_repeat : (i : Item) (count : ℕ) (tag : List ℕ) (body : Vec Item) (old mid new : List StepValue) → i.node ≡ node.Repeat count tag body → 0 < count
-    → Appends (unroll (items_of body.items)) old mid → steps_shown new ≡ steps_shown mid ++ rounds (count - 1) (drop (length old) (steps_shown mid))
-    → Appends (unroll (before (item_of i) done)) old new
-appends_repeat i count tag body old mid new e some a more =
-    subst (λ ys. Appends ys old new) (sym is) (record { appended = by_rounds; apart = All-rounds count (unroll (items_of body.items)) a.apart })
+pub appends_repeat : (x : OneItem) (count : ℕ) (tag : List ℕ) (body : Items) (old mid new : List StepValue) → x ≡ repeat count tag body → 0 < count
+    → Appends (unroll body) old mid → steps_shown new ≡ steps_shown mid ++ rounds (count - 1) (drop (length old) (steps_shown mid))
+    → Appends (unroll (before x done)) old new
+appends_repeat x count tag body old mid new e some a more =
+    subst (λ ys. Appends ys old new) (sym is) (record { appended = by_rounds; apart = All-rounds count (unroll body) a.apart })
   where
-    is : unroll (before (item_of i) done) ≡ rounds count (unroll (items_of body.items))
-    is =
-        ap (λ n. unroll (before (item_of (record { node = n })) done)) e
-        ∙ ap (λ x. unroll (before x done)) (item_of_repeat count tag body)
-        ∙ append-nil (rounds count (unroll (items_of body.items)))
+    is : unroll (before x done) ≡ rounds count (unroll body)
+    is = ap (λ y. unroll (before y done)) e ∙ append-nil (rounds count (unroll body))
 
-    first : drop (length old) (steps_shown mid) ≡ unroll (items_of body.items)
+    first : drop (length old) (steps_shown mid) ≡ unroll body
     first =
         (λ j. drop (sym (length-map old step_shown) j) (a.appended j))
-        ∙ drop-append_seam (steps_shown old) (unroll (items_of body.items))
+        ∙ drop-append_seam (steps_shown old) (unroll body)
 
     all_rounds : (n : ℕ) → 0 < n → (ss : List Step) → ss ++ rounds (n - 1) ss ≡ rounds n ss
     all_rounds zero lt ss = absurd (omega arith)
     all_rounds (suc n) lt ss = let e : suc n - 1 ≡ n = omega arith in ap (λ k. ss ++ rounds k ss) e
 
-    by_rounds : steps_shown new ≡ steps_shown old ++ rounds count (unroll (items_of body.items))
+    by_rounds : steps_shown new ≡ steps_shown old ++ rounds count (unroll body)
     by_rounds =
         more
         ∙ (λ j. a.appended j ++ rounds (count - 1) (first j))
-        ∙ append_assoc (steps_shown old) (unroll (items_of body.items)) (rounds (count - 1) (unroll (items_of body.items)))
-        ∙ ap (λ l. steps_shown old ++ l) (all_rounds count some (unroll (items_of body.items)))
+        ∙ append_assoc (steps_shown old) (unroll body) (rounds (count - 1) (unroll body))
+        ∙ ap (λ l. steps_shown old ++ l) (all_rounds count some (unroll body))
 
-pub appends_taken : (xs : List Item) (n : ℕ) (d : Item) (old mid new : List StepValue) → n < length xs → d ≡ get_or xs n d
-    → Appends (unroll (items_of (take n xs))) old mid → Appends (unroll (before (item_of d) done)) mid new → Appends (unroll (items_of (take (n + 1) xs))) old new
+pub appends_taken : (xs : List OneItem) (n : ℕ) (d : OneItem) (old mid new : List StepValue) → n < length xs → d ≡ get_or xs n d
+    → Appends (unroll (listed (take n xs))) old mid → Appends (unroll (before d done)) mid new → Appends (unroll (listed (take (n + 1) xs))) old new
 appends_taken xs n d old mid new lt at a b =
-    subst (λ ys. Appends ys old new) (sym is) (appends_append (unroll (items_of (take n xs))) (unroll (before (item_of d) done)) old mid new a b)
+    subst (λ ys. Appends ys old new) (sym is) (appends_append (unroll (listed (take n xs))) (unroll (before d done)) old mid new a b)
   where
-    is : unroll (items_of (take (n + 1) xs)) ≡ unroll (items_of (take n xs)) ++ unroll (before (item_of d) done)
+    is : unroll (listed (take (n + 1) xs)) ≡ unroll (listed (take n xs)) ++ unroll (before d done)
     is =
-        ap (λ l. unroll (items_of l)) (take_more xs n d lt ∙ ap (λ x. take n xs ++ x ∷ []) (sym at))
-        ∙ ap unroll (items_of_pushed (take n xs) d)
-        ∙ unroll-join (items_of (take n xs)) (before (item_of d) done)
+        ap (λ l. unroll (listed l)) (take_more xs n d lt ∙ ap (λ x. take n xs ++ x ∷ []) (sym at))
+        ∙ ap unroll (listed_pushed (take n xs) d)
+        ∙ unroll-join (listed (take n xs)) (before d done)
 
 -- a cursor's next step
 

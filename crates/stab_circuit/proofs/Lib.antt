@@ -13,5 +13,7 @@ mod OneItemLemmas
 mod TextLemmas
 mod BlankLemmas
 mod RoundLemmas
+pub mod ApartLemmas
 mod ItemTextLemmas
 mod CircuitFaultLemmas
+mod EditLemmas

@@ -1,14 +1,9 @@
 -- Printed texts, part by part.
-use Rattle.std.proofs.Common.{◌≡◌, ◌<◌, ℕ, ◌+◌, suc, List, [], ◌∷◌, ◌++◌, length, take, drop, get_or, refl, ap, sym, ◌∙◌, append_assoc, append-nil, arith, codes, drop-cons, replicate, ◌*◌, map}
-use Rattle.std.proofs.lemmas.List.{take-append-drop, take_more, map-append, replicate-append-replicate}
-use Rattle.std.specs.Global.{Vec}
+use Rattle.std.proofs.Common.{◌≡◌, ◌<◌, ℕ, ◌+◌, suc, List, [], ◌∷◌, ◌++◌, length, take, drop, get_or, refl, ap, sym, ◌∙◌, append_assoc, append-nil, arith, codes, drop-cons, replicate, ◌*◌}
+use Rattle.std.proofs.lemmas.List.{take-append-drop, take_more, replicate-append-replicate}
 use Rattle.stab_lines.specs.declared.operation.Operation.{Operation}
-use Rattle.stab_circuit.specs.declared.item.Item.{Item}
-use Rattle.stab_circuit.specs.declared.item.Node.TheVariants as node
-use Rattle.stab_circuit.specs.Items.{Items, done, next, block, join, before, listed}
-use Rattle.stab_circuit.specs.Views.{item_of, items_of}
-use Rattle.stab_circuit.proofs.ItemLemmas.{before-join, listed-append}
-use Rattle.stab_circuit.proofs.ViewLemmas.{item_of_operation, item_of_repeat, items_of_pushed}
+use Rattle.stab_circuit.specs.Items.{Items, OneItem, operation, repeat, done, next, block, join, before, listed}
+use Rattle.stab_circuit.proofs.ItemLemmas.{before-join, listed-append, listed_pushed}
 use Rattle.stab_lines.specs.Prints.{operation_text, open_text}
 use Rattle.stab_circuit.specs.Prints.{PrintedLine, printed_lines, line_text, text_of, printed_in}
 
@@ -47,41 +42,36 @@ printed_block d count tag body =
     (text_of-append (printed_lines (suc d) body) (close ∷ []) ∙ ap (λ l. printed_in (suc d) body ++ l) (append-nil (line_text close)))
 
 -- what stands before a place, the item there, and what follows
-items_at : (xs : List Item) (i : ℕ) (x : Item) → i < length xs → x ≡ get_or xs i x
-    → join (items_of (take i xs)) (join (before (item_of x) done) (items_of (drop (i + 1) xs))) ≡ items_of xs
+items_at : (xs : List OneItem) (i : ℕ) (x : OneItem) → i < length xs → x ≡ get_or xs i x
+    → join (listed (take i xs)) (join (before x done) (listed (drop (i + 1) xs))) ≡ listed xs
 items_at xs i x h e =
     let next' : i + 1 ≡ suc i = omega arith in
-    ap (λ n. join (items_of (take i xs)) (join (before (item_of x) done) (items_of (drop n xs)))) next'
-    ∙ ap (λ y. join (items_of (take i xs)) (join (before (item_of y) done) (items_of (drop (suc i) xs)))) e
-    ∙ ap (join (items_of (take i xs))) (sym (before-join (item_of (get_or xs i x)) done (items_of (drop (suc i) xs))))
-    ∙ ap (λ l. join (items_of (take i xs)) (items_of l)) (sym (drop-cons xs i x h))
-    ∙ sym (listed-append (map item_of (take i xs)) (map item_of (drop i xs)))
-    ∙ ap listed (sym (map-append item_of (take i xs) (drop i xs)))
-    ∙ ap items_of (take-append-drop i xs)
+    ap (λ n. join (listed (take i xs)) (join (before x done) (listed (drop n xs)))) next'
+    ∙ ap (λ y. join (listed (take i xs)) (join (before y done) (listed (drop (suc i) xs)))) e
+    ∙ ap (join (listed (take i xs))) (sym (before-join (get_or xs i x) done (listed (drop (suc i) xs))))
+    ∙ ap (λ l. join (listed (take i xs)) (listed l)) (sym (drop-cons xs i x h))
+    ∙ sym (listed-append (take i xs) (drop i xs))
+    ∙ ap listed (take-append-drop i xs)
 
-pub printed_place : (d : ℕ) (xs : List Item) (i : ℕ) (x : Item) → i < length xs → x ≡ get_or xs i x
-    → printed_in d (items_of (take i xs)) ++ (printed_in d (before (item_of x) done) ++ printed_in d (items_of (drop (i + 1) xs))) ≡ printed_in d (items_of xs)
+pub printed_place : (d : ℕ) (xs : List OneItem) (i : ℕ) (x : OneItem) → i < length xs → x ≡ get_or xs i x
+    → printed_in d (listed (take i xs)) ++ (printed_in d (before x done) ++ printed_in d (listed (drop (i + 1) xs))) ≡ printed_in d (listed xs)
 printed_place d xs i x h e =
-    ap (λ l. printed_in d (items_of (take i xs)) ++ l) (sym (printed_in-join d (before (item_of x) done) (items_of (drop (i + 1) xs))))
-    ∙ sym (printed_in-join d (items_of (take i xs)) (join (before (item_of x) done) (items_of (drop (i + 1) xs))))
+    ap (λ l. printed_in d (listed (take i xs)) ++ l) (sym (printed_in-join d (before x done) (listed (drop (i + 1) xs))))
+    ∙ sym (printed_in-join d (listed (take i xs)) (join (before x done) (listed (drop (i + 1) xs))))
     ∙ ap (printed_in d) (items_at xs i x h e)
 
-pub printed_more : (d : ℕ) (xs : List Item) (i : ℕ) (x : Item) → i < length xs → x ≡ get_or xs i x
-    → printed_in d (items_of (take i xs)) ++ printed_in d (before (item_of x) done) ≡ printed_in d (items_of (take (i + 1) xs))
+pub printed_more : (d : ℕ) (xs : List OneItem) (i : ℕ) (x : OneItem) → i < length xs → x ≡ get_or xs i x
+    → printed_in d (listed (take i xs)) ++ printed_in d (before x done) ≡ printed_in d (listed (take (i + 1) xs))
 printed_more d xs i x h e =
-    sym (printed_in-join d (items_of (take i xs)) (before (item_of x) done))
-    ∙ ap (λ y. printed_in d (join (items_of (take i xs)) (before (item_of y) done))) e
-    ∙ ap (printed_in d) (sym (items_of_pushed (take i xs) (get_or xs i x)))
-    ∙ ap (λ l. printed_in d (items_of l)) (sym (take_more xs i x h))
+    sym (printed_in-join d (listed (take i xs)) (before x done))
+    ∙ ap (λ y. printed_in d (join (listed (take i xs)) (before y done))) e
+    ∙ ap (printed_in d) (sym (listed_pushed (take i xs) (get_or xs i x)))
+    ∙ ap (λ l. printed_in d (listed l)) (sym (take_more xs i x h))
 
 -- the lines of one item
-pub operation_lines : (d : ℕ) (i : Item) (o : Operation) → i.node ≡ node.Operation o → line_text (record { depth = d; content = operation_text o }) ≡ printed_in d (before (item_of i) done)
-operation_lines d i o e =
-    sym (ap (λ n. printed_in d (before (item_of (record { node = n })) done)) e ∙ ap (λ x. printed_in d (before x done)) (item_of_operation o) ∙ printed_operation d o)
+pub operation_lines : (d : ℕ) (x : OneItem) (o : Operation) → x ≡ operation o → line_text (record { depth = d; content = operation_text o }) ≡ printed_in d (before x done)
+operation_lines d x o e = sym (ap (λ y. printed_in d (before y done)) e ∙ printed_operation d o)
 
-pub block_lines : (d : ℕ) (i : Item) (count : ℕ) (tag : List ℕ) (body : Vec Item) → i.node ≡ node.Repeat count tag body
-    → line_text (record { depth = d; content = open_text count tag }) ++ (printed_in (suc d) (items_of body.items) ++ line_text (record { depth = d; content = codes "}" })) ≡ printed_in d (before (item_of i) done)
-block_lines d i count tag body e =
-    sym (ap (λ n. printed_in d (before (item_of (record { node = n })) done)) e
-    ∙ ap (λ x. printed_in d (before x done)) (item_of_repeat count tag body)
-    ∙ printed_block d count tag (items_of body.items))
+pub block_lines : (d : ℕ) (x : OneItem) (count : ℕ) (tag : List ℕ) (body : Items) → x ≡ repeat count tag body
+    → line_text (record { depth = d; content = open_text count tag }) ++ (printed_in (suc d) body ++ line_text (record { depth = d; content = codes "}" })) ≡ printed_in d (before x done)
+block_lines d x count tag body e = sym (ap (λ y. printed_in d (before y done)) e ∙ printed_block d count tag body)

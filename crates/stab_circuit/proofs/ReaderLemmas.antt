@@ -1,21 +1,23 @@
 -- The reader's way over the lines.
-use Rattle.std.proofs.Common.{◌≡◌, refl, ap, sym, ◌∙◌, subst, ℕ, ◌+◌, suc, List, [], ◌∷◌, Bool, true, false, nat_lt, ◌==◌, length, map, reverse, ◌&&◌, not, ◌⊎◌, inl, inr, Result, Ok, Err, if◌then◌else◌, arith}
+use Rattle.std.proofs.Common.{◌≡◌, ◌≤◌, ◌<◌, refl, ap, sym, ◌∙◌, subst, ℕ, ◌+◌, suc, List, [], ◌∷◌, Bool, true, false, nat_lt, ◌==◌, length, map, reverse, ◌&&◌, not, ◌⊎◌, inl, inr, Result, Ok, Err, if◌then◌else◌, arith}
 use Rattle.std.specs.List.{slice_split}
+use Rattle.std.specs.Result.{IfOk}
+use Rattle.std.specs.Global.{Vec}
+use Rattle.std.proofs.lemmas.Bool.Decides.{nat_tests}
 use Rattle.std.proofs.lemmas.List.{length-reverse, length-map}
 use Rattle.stab_pauli.specs.declared.refusal.Refusal.{Refusal}
 use Rattle.stab_pauli.specs.declared.refusal.Refusal.TheVariants.{TooDeep, BadLine, OutOfMemory}
 use Rattle.stab_pauli.specs.Refusals.{whole}
-use Rattle.stab_circuit.specs.declared.item.Item.{Item}
 use Rattle.stab_circuit.specs.declared.reader.Frame.{Frame as Held}
-use Rattle.stab_circuit.specs.Views.{item_of, items_of}
 use Rattle.stab_pauli.specs.declared.refusal.Fault.{Fault}
 use Rattle.stab_lines.specs.declared.meanings.Line.TheVariants.{Blank, Close, Open}
 use Rattle.stab_lines.specs.declared.meanings.Line.TheVariants as line
 use Rattle.stab_lines.specs.Lines.{is_byte, content_of}
-use Rattle.stab_circuit.specs.Items.{Items, OneItem, operation, repeat, before, done, next, block, join}
+use Rattle.stab_circuit.specs.Items.{Items, OneItem, operation, repeat, before, done, next, block, join, listed, depth}
 use Rattle.stab_lines.specs.Meanings.{meaning_of, is_close}
 use Rattle.stab_circuit.specs.Circuits.{Meaning, at_line, meaning_after, one_item, contents, depth_after, ends_item}
-use Rattle.stab_circuit.specs.inner.Readers.{Frame, Progress, closed, stepped, finished, read_on, is_some_items, is_whole, meaning_at, pending, line_fault, frame_of}
+use Rattle.stab_circuit.specs.inner.Readers.{Frame, Progress, closed, stepped, finished, read_on, is_some_items, is_whole, meaning_at, pending, line_fault, frame_of, ReadsItems, IsShallow}
+use Rattle.stab_circuit.proofs.ItemLemmas.{depth-join}
 use Rattle.stab_lines.proofs.BoolLemmas.{chosen}
 
 -- after a line of one item's text, what follows is seen as it is by the state
@@ -127,6 +129,42 @@ pub lines_refused : (single : Bool) (n : ℕ) (s : Progress) (rest bytes : List 
 lines_refused single n s rest bytes more r p e =
     ap (λ l. read_on n s (pending single s (map content_of l))) p ∙ pending_refused single n s (content_of bytes) (map content_of more) r e
 
+-- blocks stay nested at most 16 deep
+opened_shallow : (n : ℕ) (fs : List Frame) (now : Items) (c : ℕ) (tag : List ℕ) (t : Progress) (b : Bool) → b ≡ nat_lt (length fs) 16 → IsShallow (record { frames = fs; now = now })
+    → (if b then Ok (record { frames = record { line = n; count = c; tag = tag; before = now } ∷ fs; now = done }) else Err TooDeep) ≡ Ok t → IsShallow t
+opened_shallow n fs now c tag t true w h e =
+    let same : record { frames = record { line = n; count = c; tag = tag; before = now } ∷ fs; now = done } ≡ t = cc in
+    let room : length fs < 16 = grind (arith, w, nat_tests) in
+    subst IsShallow same (record { now = omega (arith, room); before = (h.now, h.before) })
+opened_shallow n fs now c tag t false w h e = cc
+
+pub stepped_shallow : (n : ℕ) (m : Meaning) (s t : Progress) → IsShallow s → stepped n m s ≡ Ok t → IsShallow t
+stepped_shallow n m s t h e = lines m s.frames s.now h e
+  where
+    lines : (m : Meaning) (fs : List Frame) (now : Items) → IsShallow (record { frames = fs; now = now }) → stepped n m (record { frames = fs; now = now }) ≡ Ok t → IsShallow t
+    lines (Err r) fs now h e = cc
+    lines (Ok Blank) fs now h e = let same : record { frames = fs; now = now } ≡ t = cc in subst IsShallow same h
+    lines (Ok Close) [] now h e = cc
+    lines (Ok Close) (f ∷ fs) now h e =
+        let same : record { frames = fs; now = closed f now } ≡ t = cc in
+        subst IsShallow same (record { now = omega (arith, h.now, h.before.0, depth-join f.before (block f.count f.tag now done)); before = h.before.1 })
+    lines (Ok (Open c tag)) fs now h e = opened_shallow n fs now c tag t (nat_lt (length fs) 16) refl h e
+    lines (Ok (line.Operation op)) fs now h e =
+        let same : record { frames = fs; now = join now (next op done) } ≡ t = cc in
+        subst IsShallow same (record { now = omega (arith, h.now, depth-join now (next op done)); before = h.before })
+
+-- so a block that is closed has at most 15 nested in it
+pub closes_shallow : (gs : List Frame) (f : Frame) (fs : List Frame) (now : Items) → gs ≡ f ∷ fs → IsShallow (record { frames = gs; now = now }) → depth now ≤ 15
+closes_shallow gs f fs now e h = omega (arith, h.now, ap length e)
+
+pub finished_shallow : (s : Progress) (given : Result (Vec OneItem) Fault) → IsShallow s → ReadsItems given (finished s) → IfOk given (λ v. depth (listed v.items) ≤ 16)
+finished_shallow s (Err f) h e = tt
+finished_shallow s (Ok v) h e = ended s.frames s.now h e
+  where
+    ended : (fs : List Frame) (now : Items) → IsShallow (record { frames = fs; now = now }) → finished (record { frames = fs; now = now }) ≡ Ok (listed v.items) → depth (listed v.items) ≤ 16
+    ended [] now h e = let same : now ≡ listed v.items = cc in omega (arith, h.now, ap depth same)
+    ended (f ∷ fs) now h e = cc
+
 -- the fault of a line's refusal
 pub told : (n : ℕ) (r : Refusal) (given : Result Items Fault) → (r ≡ OutOfMemory) ⊎ (given ≡ Err (at_line n r)) → (line_fault n r ≡ whole OutOfMemory) ⊎ (given ≡ Err (line_fault n r))
 told n OutOfMemory given h = inl refl
@@ -141,14 +179,14 @@ not_empty : (n : ℕ) → true ≡ not (suc n == 0)
 not_empty n = ap not (not_none n)
 
 -- whether a whole item was read, by the lists that the reader holds
-whole_lists : (gs : List Frame) (fs : List Held) (xs : List Item) → length gs ≡ length fs → is_whole (record { frames = gs; now = items_of xs }) ≡ ((length fs == 0) && not (length xs == 0))
+whole_lists : (gs : List Frame) (fs : List Held) (xs : List OneItem) → length gs ≡ length fs → is_whole (record { frames = gs; now = listed xs }) ≡ ((length fs == 0) && not (length xs == 0))
 whole_lists [] [] [] e = refl
-whole_lists [] [] (x ∷ xs) e = some_before (item_of x) (items_of xs) ∙ not_empty (length xs)
+whole_lists [] [] (x ∷ xs) e = some_before x (listed xs) ∙ not_empty (length xs)
 whole_lists [] (f ∷ fs) xs e = absurd (omega (arith, e))
 whole_lists (g ∷ gs) [] xs e = absurd (omega (arith, e))
 whole_lists (g ∷ gs) (f ∷ fs) xs e = ap (λ b. b && not (length xs == 0)) (not_none (length fs))
 
-pub is_whole_held : (fs : List Held) (xs : List Item) → is_whole (record { frames = reverse (map frame_of fs); now = items_of xs }) ≡ ((length fs == 0) && not (length xs == 0))
+pub is_whole_held : (fs : List Held) (xs : List OneItem) → is_whole (record { frames = reverse (map frame_of fs); now = listed xs }) ≡ ((length fs == 0) && not (length xs == 0))
 is_whole_held fs xs = whole_lists (reverse (map frame_of fs)) fs xs (length-reverse (map frame_of fs) ∙ length-map fs frame_of)
 
 -- a line that is refused ends the reading, with its fault or for want of memory

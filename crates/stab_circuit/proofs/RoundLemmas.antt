@@ -24,11 +24,11 @@ use Rattle.stab_lines.proofs.LineLaws.{printed_again, blank_is_empty}
 use Rattle.stab_circuit.proofs.BlankLemmas.{lines_of, lines_join, joins_end, unblank_joined, unblank_each, same_faultless}
 use Rattle.stab_circuit.proofs.ReadingLemmas.{one_list, some_list}
 
-each_left : {A : Type 0} (P : A → Type 0) (xs ys : List A) → Each P (xs ++ ys) → Each P xs
+pub each_left : {A : Type 0} (P : A → Type 0) (xs ys : List A) → Each P (xs ++ ys) → Each P xs
 each_left P [] ys e = tt
 each_left P (x ∷ xs) ys e = (e.0, each_left P xs ys e.1)
 
-each_right : {A : Type 0} (P : A → Type 0) (xs ys : List A) → Each P (xs ++ ys) → Each P ys
+pub each_right : {A : Type 0} (P : A → Type 0) (xs ys : List A) → Each P (xs ++ ys) → Each P ys
 each_right P [] ys e = e
 each_right P (x ∷ xs) ys e = each_right P xs ys e.1
 

@@ -1,17 +1,16 @@
 -- What is read of a text is what it stands for, and what refuses it is its fault.
-use Rattle.std.proofs.Common.{◌≡◌, ◌≤◌, ◌<◌, refl, ap, sym, ◌∙◌, subst, ℕ, List, [], ◌∷◌, ◌++◌, Bool, true, false, nat_lt, length, length-append, map, Option, None, Some, Ok, Err, if◌then◌else◌, arith, ◌⊎◌, inl, inr}
+use Rattle.std.proofs.Common.{◌≡◌, ◌≤◌, ◌<◌, refl, ap, sym, ◌∙◌, subst, ℕ, List, [], ◌∷◌, ◌++◌, Bool, true, false, nat_lt, length, length-append, Option, None, Some, Result, Ok, Err, if◌then◌else◌, arith, ◌⊎◌, inl, inr}
 use Rattle.std.specs.List.{list_all}
-use Rattle.std.proofs.lemmas.List.{length-map}
+use Rattle.std.specs.Result.{IfOk, IfErr}
 use Rattle.std.proofs.lemmas.Bool.Decides.{nat_tests}
 use Rattle.stab_pauli.specs.declared.refusal.Refusal.{Refusal}
 use Rattle.stab_pauli.specs.declared.refusal.Refusal.TheVariants.{LookbackTooFar, TooManySteps, TooLong, BadLine, OutOfMemory}
 use Rattle.stab_pauli.specs.declared.refusal.Fault.{Fault}
 use Rattle.stab_pauli.specs.Refusals.{whole}
-use Rattle.stab_circuit.specs.declared.item.Item.{Item}
-use Rattle.stab_circuit.specs.Items.{Items, OneItem, before, done}
+use Rattle.stab_circuit.specs.Items.{Items, OneItem, before, done, listed}
 use Rattle.stab_circuit.specs.Circuits.{Joins, contents, meanings, limited, text_fault, item_fault, StandsFor, StandsForOne, one_item, is_empty}
-use Rattle.stab_circuit.specs.Steps.{check_of, unroll, looks_too_far, most_steps}
-use Rattle.stab_circuit.specs.Views.{item_of, items_of}
+use Rattle.stab_circuit.specs.inner.Texts.{ReadsCircuit}
+use Rattle.stab_circuit.specs.Steps.{check_of, Checks, unroll, looks_too_far, most_steps}
 use Rattle.stab_circuit.specs.inner.Readers.{start, read_on, reading}
 use Rattle.stab_circuit.specs.Readings.{IsCircuit, IsFaultOf, IsPlaced, is_of_circuit, is_of_item}
 use Rattle.stab_lines.proofs.BoolLemmas.{chosen, passed}
@@ -44,20 +43,20 @@ not_blank cs xs true e r h =
     absurd (omega (arith, h, ap size none))
 not_blank cs xs false e r h = refl
 
-alone : (ys : List Item) (item : Item) → size (items_of (ys ++ item ∷ [])) ≤ 1 → ys ≡ []
+alone : (ys : List OneItem) (item : OneItem) → size (listed (ys ++ item ∷ [])) ≤ 1 → ys ≡ []
 alone [] item h = refl
 alone (y ∷ ys) item h =
-    absurd (omega (arith, h, size-listed (map item_of ((y ∷ ys) ++ item ∷ [])), length-map ((y ∷ ys) ++ item ∷ []) item_of, length-append ys (item ∷ [])))
+    absurd (omega (arith, h, size-listed ((y ∷ ys) ++ item ∷ []), length-append ys (item ∷ [])))
 
-pub item_read : (text : List ℕ) (ys : List Item) (item : Item) → length text ≤ 16777216 → reading true text ≡ Ok (items_of (ys ++ item ∷ [])) → StandsForOne text (item_of item)
+pub item_read : (text : List ℕ) (ys : List OneItem) (item : OneItem) → length text ≤ 16777216 → reading true text ≡ Ok (listed (ys ++ item ∷ [])) → StandsForOne text item
 item_read text ys item h e =
     let cs = contents text in
-    let none : ys ≡ [] = alone ys item (read_one cs (items_of (ys ++ item ∷ [])) e) in
-    let read : read_on 1 start (one_item 0 cs) ≡ Ok (before (item_of item) done) = e ∙ ap (λ l. Ok (items_of (l ++ item ∷ []))) none in
-    let j = joined_read (one_item 0 cs) (before (item_of item) done) read in
-    let some : list_all is_empty cs ≡ false = not_blank cs (before (item_of item) done) (list_all is_empty cs) refl read (one_size (item_of item)) in (
+    let none : ys ≡ [] = alone ys item (read_one cs (listed (ys ++ item ∷ [])) e) in
+    let read : read_on 1 start (one_item 0 cs) ≡ Ok (before item done) = e ∙ ap (λ l. Ok (listed (l ++ item ∷ []))) none in
+    let j = joined_read (one_item 0 cs) (before item done) read in
+    let some : list_all is_empty cs ≡ false = not_blank cs (before item done) (list_all is_empty cs) refl read (one_size item) in (
       within text _ h ∙ passed (list_all is_empty cs) _ _ some ∙ j.0,
-      subst (λ ms. Joins ms (before (item_of item) done)) (same_meanings cs 1 [] j.0) j.1,
+      subst (λ ms. Joins ms (before item done)) (same_meanings cs 1 [] j.0) j.1,
     )
   where
     one_size : (x : OneItem) → 0 < size (before x done)
@@ -137,22 +136,23 @@ pub circuit_refused : (text : List ℕ) (f : Fault) → length text ≤ 16777216
 circuit_refused text f h (inl e) = inl e
 circuit_refused text f h (inr e) = inr (inl (text_refused text f h e))
 
-pub circuit_checked : (text : List ℕ) (slice held : List Item) (f : Fault) → slice ≡ held → length text ≤ 16777216 → reading false text ≡ Ok (items_of held)
-    → (check_of (items_of slice) ≡ Some f.refusal) × (f ≡ whole f.refusal) → (f ≡ whole OutOfMemory) ⊎ IsFaultOf text f
-circuit_checked text slice held f same h e k =
-    inr (inr (items_of held, f.refusal, text_read text (items_of held) h e, subst (λ l. check_of (items_of l) ≡ Some f.refusal) same k.0, k.1))
+pub circuit_judged : (text : List ℕ) (held : List OneItem) (given : Result (List OneItem) Fault) → length text ≤ 16777216 → reading false text ≡ Ok (listed held)
+    → IfOk given (λ c. c ≡ held) → Checks given (check_of (listed held)) → ReadsCircuit text given
+circuit_judged text held (Ok c) h e same k = subst (λ l. IsCircuit text (listed l)) (sym same) (text_read text (listed held) h e, k)
+circuit_judged text held (Err f) h e same k = inr (inr (listed held, f.refusal, text_read text (listed held) h e, k.0, k.1))
 
-pub circuit_read : (text : List ℕ) (slice held : List Item) → slice ≡ held → length text ≤ 16777216 → reading false text ≡ Ok (items_of held) → check_of (items_of slice) ≡ None → IsCircuit text (items_of held)
-circuit_read text slice held same h e k = (text_read text (items_of held) h e, subst (λ l. check_of (items_of l) ≡ None) same k)
+pub circuit_answered : (text : List ℕ) (given : Result (List OneItem) Fault) → ReadsCircuit text given → IfErr given (IsPlaced is_of_circuit)
+circuit_answered text (Ok c) p = tt
+circuit_answered text (Err f) p = circuit_placed text f p
 
 pub one_refused : (text : List ℕ) (f : Fault) → length text ≤ 16777216 → (f ≡ whole OutOfMemory) ⊎ (reading true text ≡ Err f) → (f ≡ whole OutOfMemory) ⊎ (item_fault text ≡ Some f)
 one_refused text f h (inl e) = inl e
 one_refused text f h (inr e) = inr (item_refused text f h e)
 
-pub one_read : (text : List ℕ) (held ys : List Item) (item : Item) → held ≡ ys ++ item ∷ [] → length text ≤ 16777216 → reading true text ≡ Ok (items_of held) → StandsForOne text (item_of item)
-one_read text held ys item p h e = item_read text ys item h (e ∙ ap (λ l. Ok (items_of l)) p)
+pub one_read : (text : List ℕ) (held ys : List OneItem) (item : OneItem) → held ≡ ys ++ item ∷ [] → length text ≤ 16777216 → reading true text ≡ Ok (listed held) → StandsForOne text item
+one_read text held ys item p h e = item_read text ys item h (e ∙ ap (λ l. Ok (listed l)) p)
 
-pub none_read : (text : List ℕ) (held : List Item) (f : Fault) → length held ≡ 0 → length text ≤ 16777216 → reading true text ≡ Ok (items_of held) → f ≡ whole BadLine
+pub none_read : (text : List ℕ) (held : List OneItem) (f : Fault) → length held ≡ 0 → length text ≤ 16777216 → reading true text ≡ Ok (listed held) → f ≡ whole BadLine
     → (f ≡ whole OutOfMemory) ⊎ (item_fault text ≡ Some f)
 none_read text [] f p h e w = inr (item_missing text h e ∙ ap Some (sym w))
 none_read text (x ∷ xs) f p h e w = absurd (omega (arith, p))

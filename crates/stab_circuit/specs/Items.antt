@@ -1,5 +1,5 @@
 -- Items without pointers.
-use Rattle.std.specs.Prelude.{ℕ, List, [], ◌∷◌}
+use Rattle.std.specs.Prelude.{ℕ, ◌+◌, max, List, [], ◌∷◌}
 use Rattle.stab_lines.specs.declared.operation.Operation.{Operation}
 
 -- a list of items
@@ -28,3 +28,20 @@ abbrev pub join : Items → Items → Items
 join done after = after
 join (next op rest) after = next op (join rest after)
 join (block count tag body rest) after = block count tag body (join rest after)
+
+-- the items one by one
+abbrev pub entries : Items → List OneItem
+entries done = []
+entries (next op rest) = operation op ∷ entries rest
+entries (block count tag body rest) = repeat count tag body ∷ entries rest
+
+-- how deep blocks are nested
+abbrev pub depth : Items → ℕ
+depth done = 0
+depth (next op rest) = depth rest
+depth (block count tag body rest) = max (depth body + 1) (depth rest)
+
+-- how deep blocks are nested in one item
+abbrev pub depth_of : OneItem → ℕ
+depth_of (operation op) = 0
+depth_of (repeat count tag body) = depth body + 1

@@ -1,13 +1,18 @@
 -- Laws: what holds between all texts and all items.
-use Rattle.std.specs.Prelude.{◌≡◌, ◌≤◌, ◌⊎◌, ℕ, List, [], All, length, None}
+use Rattle.std.specs.Prelude.{◌≡◌, ◌≤◌, ◌⊎◌, ℕ, List, [], All, length, take, drop, None, Ok}
 use Rattle.std.specs.List.{slice_split}
 use Rattle.stab_pauli.specs.declared.refusal.Fault.{Fault}
 use Rattle.stab_lines.specs.Lines.{is_byte}
 use Rattle.stab_lines.specs.Laws.{IsLine}
-use Rattle.stab_circuit.specs.Items.{Items, OneItem}
+use Rattle.stab_circuit.specs.Items.{Items, OneItem, listed}
 use Rattle.stab_circuit.specs.Circuits.{most_bytes, line_meanings, fault_from, Joins, text_fault, item_fault, StandsFor, StandsForOne}
 use Rattle.stab_circuit.specs.Prints.{printed}
+use Rattle.stab_circuit.specs.Steps.{unroll}
+use Rattle.stab_circuit.specs.Cursors.{IsApart}
 use Rattle.stab_circuit.specs.Readings.{IsCircuit, IsFaultOf}
+use Rattle.stab_circuit.specs.Steps.{unroll}
+use Rattle.stab_circuit.specs.Paths.{Path}
+use Rattle.stab_circuit.specs.Edits.{Change, edited, first_changed, old_end, new_end}
 
 -- the text stands for the items, and for no others
 abbrev pub StandsForOnly : List ℕ → Items → Type 0
@@ -30,6 +35,10 @@ TextsAreLines = (text : List ℕ) (items : Items) → StandsFor text items → A
 -- what is printed of the items of any such lines stands for these, where it is no longer than a text may be
 abbrev pub PrintedItemsAreReadBack : Type 0
 PrintedItemsAreReadBack = (lines : List (List ℕ)) (items : Items) → AreLinesOf lines items → length (printed items) ≤ most_bytes → StandsForOnly (printed items) items
+
+-- in their steps the two qubits of each pair differ, and so do those of each product
+abbrev pub LinesKeepQubitsApart : Type 0
+LinesKeepQubitsApart = (lines : List (List ℕ)) (items : Items) → AreLinesOf lines items → All IsApart (unroll items)
 
 -- the text of one item stands for the item, and for no other
 abbrev pub StandsForOneOnly : List ℕ → OneItem → Type 0
@@ -54,3 +63,12 @@ TextsHaveOneFault = (text : List ℕ) (fault other : Fault) → IsFaultOf text f
 -- the text of a circuit has no fault
 abbrev pub CircuitsHaveNoFault : Type 0
 CircuitsHaveNoFault = (text : List ℕ) (items : Items) (fault : Fault) → IsCircuit text items → IsFaultOf text fault → ⊥
+
+-- an edit leaves the steps before the first changed one, and those behind the outermost item around the place
+pub record LeavesTheRest (change : Change) (path : Path) (old new : List OneItem) : Type 0 where
+  pub before : take (first_changed path old) (unroll (listed old)) ≡ take (first_changed path old) (unroll (listed new))
+  pub behind : drop (old_end change path old) (unroll (listed old)) ≡ drop (new_end change path new) (unroll (listed new))
+
+-- each edit leaves the rest of the steps
+abbrev pub EditsLeaveTheRest : Type 0
+EditsLeaveTheRest = (change : Change) (path : Path) (old new : List OneItem) → edited change path old ≡ Ok new → LeavesTheRest change path old new

@@ -6,5 +6,7 @@ pub mod Inputs
 pub mod Readings
 pub mod Cursors
 pub mod Prints
+pub mod Paths
+pub mod Edits
 pub mod Laws
 pub mod inner

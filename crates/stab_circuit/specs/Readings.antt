@@ -4,15 +4,13 @@ use Rattle.stab_pauli.specs.declared.refusal.Refusal.{Refusal}
 use Rattle.stab_pauli.specs.declared.refusal.Refusal.TheVariants.{LookbackTooFar, TooManySteps, TooDeep, BadLine, TooLong, ReadFault, OutOfMemory}
 use Rattle.stab_pauli.specs.declared.refusal.Fault.{Fault}
 use Rattle.stab_pauli.specs.Refusals.{whole}
-use Rattle.stab_circuit.specs.declared.item.Item.{Item}
-use Rattle.stab_circuit.specs.declared.circuit.Circuit.{Circuit}
 use Rattle.stab_pauli.specs.Devices.{InputView}
 use Rattle.stab_lines.specs.Meanings.{is_of_line}
-use Rattle.stab_circuit.specs.Items.{Items}
+use Rattle.stab_circuit.specs.Items.{Items, OneItem}
 use Rattle.stab_circuit.specs.Inputs.{GaveText, RefusesText}
 use Rattle.stab_circuit.specs.Circuits.{text_fault, item_fault, StandsFor, StandsForOne}
 use Rattle.stab_circuit.specs.Steps.{check_of}
-use Rattle.stab_circuit.specs.Views.{item_of, circuit_items}
+use Rattle.stab_circuit.specs.Views.{circuit_items}
 
 -- the text stands for the items, and nothing refuses these as a whole circuit
 abbrev pub IsCircuit : List ℕ → Items → Type 0
@@ -27,13 +25,13 @@ abbrev pub IsFaultOf : List ℕ → Fault → Type 0
 IsFaultOf text fault = (text_fault text ≡ Some fault) ⊎ IsRefused text fault
 
 -- the call read the circuit of the input's text, or refused the text
-abbrev pub ReadsInput : InputView → InputView → Result Circuit Fault → Type 0
+abbrev pub ReadsInput : InputView → InputView → Result (List OneItem) Fault → Type 0
 ReadsInput old new (Ok circuit) = (text : List ℕ) × GaveText old new text × IsCircuit text (circuit_items circuit)
 ReadsInput old new (Err fault) = RefusesText IsFaultOf old new fault
 
 -- the call gave the one item that the text stands for, or the text's fault, or memory was refused
-abbrev pub ReadsItem : List ℕ → Result Item Fault → Type 0
-ReadsItem text (Ok item) = StandsForOne text (item_of item)
+abbrev pub ReadsItem : List ℕ → Result OneItem Fault → Type 0
+ReadsItem text (Ok item) = StandsForOne text item
 ReadsItem text (Err fault) = (fault ≡ whole OutOfMemory) ⊎ (item_fault text ≡ Some fault)
 
 -- whether a refusal has a line: those of lines, and that of blocks that nest too deep

@@ -1,5 +1,10 @@
+pub mod StoredItems
+pub mod Summaries
+pub mod Kept
+pub mod ItemSizes
+pub mod Parts
 pub mod Readers
 pub mod Texts
-pub mod Summaries
 pub mod Unrolled
 pub mod Margins
+pub mod Places

@@ -1,49 +1,80 @@
 ghost use Rattle.std.specs.Prelude.{◌≡◌, ◌≤◌, length, None, IfOk, IfErr};
+ghost use Rattle.stab_circuit.specs.Items.{depth, listed};
 ghost use Rattle.stab_circuit.specs.Steps.{check_of, Checks};
-ghost use Rattle.stab_circuit.specs.Views.{circuit_items, items_of};
+ghost use Rattle.stab_circuit.specs.Views.{circuit_items};
 ghost use Rattle.stab_circuit.specs.Readings.{ReadsInput, ReadsItem, IsPlaced, is_of_circuit, is_of_item};
 ghost use Rattle.stab_circuit.specs.inner.Texts.{ReadsCircuit};
 
 use crate::input::read_text;
-use crate::item::Item;
+use crate::item::{Item, items_summary};
 use crate::reader::read_lines;
-use crate::summary::{Summary, items_summary};
+use crate::summary::Summary;
 use stab_pauli::{Fault, Input, Refusal};
 use std::alloc::Global;
+use std::marker::Model;
 
-/// A list of items.
+/// A list of items. Contracts see them one by one.
+///
+/// What is known of them all is kept, so that no call walks over them for it.
 #[derive(Drop)]
 pub struct Circuit {
     items: Vec<Item>,
+    total: Summary,
+}
+
+impl Model for Circuit {
+    ghost use Rattle.std.specs.Prelude.{◌≡◌, ◌≤◌, List};
+    ghost use Rattle.stab_circuit.specs.Items.{OneItem, listed};
+    ghost use Rattle.stab_circuit.specs.inner.StoredItems.{entries_code};
+
+    ghost Value = { List OneItem };
+
+    ghost coded = { entries_code };
+
+    ghost use Rattle.stab_circuit.specs.inner.Summaries.{summary_of, IsSummary};
+
+    ghost view = { λ c. c.items.items };
+
+    ghost invariant = { λ c. (c.total ≡ summary_of (listed c.items.items)) × IsSummary c.total × (c.total.depth ≤ 16) };
 }
 
 impl Circuit {
-    ghost use Rattle.std.specs.Prelude.{◌≡◌, ◌≤◌, [], map, min, length};
-    ghost use Rattle.stab_circuit.specs.Steps.{unroll, records_of, qubits_of, observables_of, check_within, Checks};
-    ghost use Rattle.stab_circuit.specs.inner.Summaries.{summary_of, IsSummary};
-    ghost use Rattle.stab_circuit.specs.Views.{item_of, entries, circuit_items};
+    ghost use Rattle.std.specs.Prelude.{◌≡◌, ◌≤◌, [], min, length, IfOk};
+    ghost use Rattle.stab_circuit.specs.Items.{listed, depth};
+    ghost use Rattle.stab_circuit.specs.Steps.{unroll, records_of, qubits_of, observables_of, check_of, check_within, Checks};
+    ghost use Rattle.stab_circuit.specs.Views.{circuit_items};
 
     /// The empty circuit, which takes no memory.
     pub fn new(alloc: Global) -> Circuit
-        ensures empty { entries result ≡ [] }
+        ensures empty { result ≡ [] }
     {
         Circuit {
             items: Vec::new(alloc),
+            total: Summary::NONE,
+        }
+    }
+
+    /// The circuit of these items, where nothing refuses it as a whole.
+    #[tactic(auto, using(crate::proofs::SummaryLemmas::check_judged))]
+    fn of_items(items: Vec<Item>) -> Result<Circuit, Fault>
+        requires shallow { depth (listed items.items) ≤ 16 }
+        ensures value { IfOk result (λ c. c ≡ items.items) }
+        ensures checked { Checks result (check_of (listed items.items)) }
+    {
+        let total = items_summary(items.as_slice());
+        match total.refusal() {
+            Some(refusal) => Err(Fault::whole(refusal)),
+            None => Ok(Circuit { items, total }),
         }
     }
 
     /// The items.
     pub fn items(&self) -> &[Item]
-        ensures value { map item_of result.now ≡ entries self.now }
+        ensures value { result.now ≡ self.now }
+        ensures shallow { depth (circuit_items self.now) ≤ 16 }
     {
+        let _ = &self.total;
         self.items.as_slice()
-    }
-
-    fn summary(&self) -> Summary
-        ensures value { result ≡ summary_of (circuit_items self.now) }
-        ensures small { IsSummary result }
-    {
-        items_summary(self.items())
     }
 
     /// One more than the greatest qubit named anywhere, by QUBIT_COORDS too, or 0. It is at most
@@ -52,28 +83,28 @@ impl Circuit {
         ensures value { result ≡ qubits_of (circuit_items self.now) }
         ensures in_range { result ≤ 1024 }
     {
-        self.summary().qubits as usize
+        self.total.qubits as usize
     }
 
     /// One more than the greatest observable named anywhere, or 0.
     pub fn observables(&self) -> usize
         ensures value { result ≡ observables_of (circuit_items self.now) }
     {
-        self.summary().observables as usize
+        self.total.observables as usize
     }
 
     /// The number of unrolled steps, or 1,048,577 where there are more.
     pub fn steps(&self) -> usize
         ensures value { result ≡ min (length (unroll (circuit_items self.now))) 1048577 }
     {
-        self.summary().steps as usize
+        self.total.steps as usize
     }
 
     /// The number of records, or 1,048,577 where there are more.
     pub fn records(&self) -> usize
         ensures value { result ≡ min (records_of (unroll (circuit_items self.now))) 1048577 }
     {
-        self.summary().records.min(1_048_577) as usize
+        self.total.records.min(1_048_577) as usize
     }
 
     /// Whether nothing refuses the circuit on n qubits: a qubit that isn't below n, then a
@@ -82,25 +113,13 @@ impl Circuit {
     pub fn check(&self, n: usize) -> Result<(), Fault>
         ensures value { Checks result (check_within n (circuit_items self.now)) }
     {
-        let summary = self.summary();
-        if summary.qubits as usize > n {
+        if self.total.qubits as usize > n {
             return Err(Fault::whole(Refusal::QubitOutOfRange));
         }
-        match summary.refusal() {
+        match self.total.refusal() {
             Some(refusal) => Err(Fault::whole(refusal)),
             None => Ok(()),
         }
-    }
-}
-
-/// Whether nothing refuses a whole circuit of these items.
-#[tactic(auto, using(crate::proofs::SummaryLemmas::check_judged))]
-fn check_items(items: &[Item]) -> Result<(), Fault>
-    ensures value { Checks result (check_of (items_of items.now)) }
-{
-    match items_summary(items).refusal() {
-        Some(refusal) => Err(Fault::whole(refusal)),
-        None => Ok(()),
     }
 }
 
@@ -111,8 +130,7 @@ fn circuit_of_text(alloc: Global, text: &[u8]) -> Result<Circuit, Fault>
     ensures only { IfErr result (IsPlaced is_of_circuit) }
 {
     let items = read_lines(alloc, false, text)?;
-    check_items(items.as_slice())?;
-    Ok(Circuit { items })
+    Circuit::of_items(items)
 }
 
 /// Reads the circuit that the input's text stands for.

@@ -1,6 +1,11 @@
+use crate::summary::{Summary, kind_summary};
 use stab_lines::{Count, Operation, Sequence};
+use std::alloc::{AllocError, Global};
+use std::marker::Model;
 
-/// An item of a circuit: an instruction or a block.
+/// An item of a circuit: an instruction or a block. Contracts see it without pointers.
+///
+/// A block keeps the summary of one round, and blocks are nested at most 16 deep.
 #[cycle(item)]
 #[derive(Drop)]
 pub struct Item {
@@ -12,22 +17,62 @@ pub struct Item {
 #[derive(Drop)]
 pub(crate) enum Node {
     Operation(Operation),
-    Repeat {
+    // What is known of a block has a box of its own, so that instructions stay small.
+    Repeat { head: Box<Head>, body: Vec<Item> },
+}
+
+/// What is known of a block besides its items.
+#[derive(Drop)]
+pub(crate) struct Head {
+    pub(crate) count: Count,
+    pub(crate) tag: Sequence<u8>,
+    /// The summary of one round.
+    pub(crate) kept: Summary,
+}
+
+impl Model for Item {
+    ghost use Rattle.stab_circuit.specs.Items.{OneItem, depth_of};
+    ghost use Rattle.stab_circuit.specs.inner.StoredItems.{item_code};
+
+    ghost Value = { OneItem };
+
+    ghost coded = { item_code };
+
+    ghost use Rattle.stab_circuit.specs.inner.Kept.{shown, IsKept};
+
+    ghost view = { λ i. shown i.node };
+
+    ghost invariant = { λ i. IsKept i.node };
+
+    ghost size = { depth_of };
+
+    ghost use Rattle.stab_circuit.specs.inner.ItemSizes.{deep_le-depth};
+
+    ghost size_decreases = { λ i h. deep_le-depth i.node };
+}
+
+/// What an item shows of itself.
+#[derive(Clone, Copy)]
+pub(crate) enum Part<'a> {
+    Operation(&'a Operation),
+    Block {
         count: Count,
-        tag: Sequence<u8>,
-        body: Vec<Item>,
+        tag: &'a [u8],
+        /// The summary of one round.
+        kept: Summary,
+        body: &'a [Item],
     },
 }
 
 impl Item {
-    ghost use Rattle.std.specs.Prelude.{◌≡◌};
-    ghost use Rattle.stab_circuit.specs.Items.{operation as single, repeat as repeated};
-    ghost use Rattle.stab_circuit.specs.Views.{item_of, items_of};
+    ghost use Rattle.std.specs.Prelude.{◌≡◌, ◌≤◌, IfOk};
+    ghost use Rattle.stab_circuit.specs.Items.{operation as single, repeat as repeated, listed, before, done, depth};
+    ghost use Rattle.stab_circuit.specs.inner.Summaries.{summary_of, IsSummary};
+    ghost use Rattle.stab_circuit.specs.inner.Parts.{part_of, IsPart};
 
     /// The item that is one instruction.
-    #[tactic(auto, using(crate::proofs::ViewLemmas::item_of_operation))]
     pub(crate) fn operation(operation: Operation) -> Item
-        ensures value { item_of result ≡ single operation }
+        ensures value { result ≡ single operation }
     {
         Item {
             node: Node::Operation(operation),
@@ -35,12 +80,64 @@ impl Item {
     }
 
     /// The item that is a block: its count of rounds, its tag, the items of one round.
-    #[tactic(auto, using(crate::proofs::ViewLemmas::item_of_repeat))]
-    pub(crate) fn repeat(count: Count, tag: Sequence<u8>, body: Vec<Item>) -> Item
-        ensures value { item_of result ≡ repeated count tag (items_of body.items) }
+    pub(crate) fn repeat(
+        alloc: Global,
+        count: Count,
+        tag: Sequence<u8>,
+        body: Vec<Item>,
+    ) -> Result<Item, AllocError>
+        requires shallow { depth (listed body.items) ≤ 15 }
+        ensures ok { IfOk result (λ i. i ≡ repeated count tag (listed body.items)) }
     {
-        Item {
-            node: Node::Repeat { count, tag, body },
+        let kept = items_summary(body.as_slice());
+        let head = Box::new(alloc, Head { count, tag, kept })?;
+        Ok(Item {
+            node: Node::Repeat { head, body },
+        })
+    }
+
+    /// What the item is.
+    pub(crate) fn part(&self) -> Part<'_>
+        ensures value { self.now ≡ part_of result }
+        ensures kept { IsPart result }
+    {
+        match &self.node {
+            Node::Operation(operation) => Part::Operation(operation),
+            Node::Repeat { head, body } => Part::Block {
+                count: head.count,
+                tag: head.tag.as_slice(),
+                kept: head.kept,
+                body: body.as_slice(),
+            },
         }
     }
+
+    /// The summary of the item, without a walk over a block's body.
+    #[tactic(auto, using(crate::proofs::SummaryLemmas::operation_summary, crate::proofs::SummaryLemmas::block_summary))]
+    pub(crate) fn summary(&self) -> Summary
+        ensures value { result ≡ summary_of (before self.now done) }
+        ensures small { IsSummary result }
+    {
+        match &self.node {
+            Node::Operation(operation) => kind_summary(&operation.kind),
+            Node::Repeat { head, .. } => head.kept.repeated(head.count.number()),
+        }
+    }
+}
+
+ghost use Rattle.std.specs.Prelude.{◌≡◌};
+ghost use Rattle.stab_circuit.specs.Items.{listed};
+ghost use Rattle.stab_circuit.specs.inner.Summaries.{summary_of, IsSummary};
+
+/// The summary of the items, by what each keeps.
+#[tactic(auto, using(crate::proofs::SummaryLemmas::summary_taken))]
+pub(crate) fn items_summary(items: &[Item]) -> Summary
+    ensures value { result ≡ summary_of (listed items.now) }
+    ensures small { IsSummary result }
+{
+    let mut all = Summary::NONE;
+    for item in items {
+        all = all.then(item.summary());
+    }
+    all
 }

@@ -1,7 +1,7 @@
 //! Laws of circuit texts. Each function does nothing: its contract is the law, and the check
 //! proves it.
 
-ghost use Rattle.stab_circuit.specs.Laws.{CircuitsHaveNoFault, EachTextHasAMeaning, ItemTextsHaveOneMeaning, PrintedItemsAreReadBack, TextsAreLines, TextsAreOfOneCircuit, TextsHaveOneFault, TextsHaveOneMeaning};
+ghost use Rattle.stab_circuit.specs.Laws.{CircuitsHaveNoFault, EachTextHasAMeaning, EditsLeaveTheRest, ItemTextsHaveOneMeaning, LinesKeepQubitsApart, PrintedItemsAreReadBack, TextsAreLines, TextsAreOfOneCircuit, TextsHaveOneFault, TextsHaveOneMeaning};
 
 /// A text without a faulty line stands for one list of items, and for no other.
 pub fn texts_have_one_meaning()
@@ -19,6 +19,12 @@ pub fn printed_items_are_read_back()
 /// `write_circuit` wrote.
 pub fn texts_are_lines()
     ensures law { TextsAreLines }
+{}
+
+/// In the steps of the items of any such lines the two qubits of each pair differ, and so do the
+/// qubits of each product.
+pub fn lines_keep_qubits_apart()
+    ensures law { LinesKeepQubitsApart }
 {}
 
 /// One item's text without a fault stands for one item, and for no other.
@@ -44,4 +50,11 @@ pub fn texts_have_one_fault()
 /// The text of a circuit has no fault.
 pub fn circuits_have_no_fault()
     ensures law { CircuitsHaveNoFault }
+{}
+
+/// An edit leaves the steps before the first changed one, and those behind the outermost item
+/// around its place: behind the block in the outermost list, or behind what is put into that list
+/// or taken out of it.
+pub fn edits_leave_the_rest()
+    ensures law { EditsLeaveTheRest }
 {}

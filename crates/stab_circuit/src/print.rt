@@ -1,13 +1,13 @@
 ghost use Rattle.std.specs.Prelude.{◌≡◌, ◌+◌, ◌*◌, ◌++◌, replicate, codes};
-ghost use Rattle.stab_circuit.specs.Items.{before, done};
-ghost use Rattle.stab_circuit.specs.Views.{item_of, items_of, circuit_items};
+ghost use Rattle.stab_circuit.specs.Items.{before, done, listed};
+ghost use Rattle.stab_circuit.specs.Views.{circuit_items};
 ghost use Rattle.stab_pauli.specs.Devices.{WritesAll, WritesAllOrFault};
 ghost use Rattle.stab_circuit.specs.inner.Margins.{depth_of};
 ghost use Rattle.stab_lines.specs.Prints.{operation_text, open_text};
 ghost use Rattle.stab_circuit.specs.Prints.{line_text, printed_in, printed};
 
 use crate::circuit::Circuit;
-use crate::item::{Item, Node};
+use crate::item::{Item, Part};
 use stab_lines::{Count, Operation, write_opening, write_operation};
 use stab_pauli::{Fault, Output, Refusal, write_all};
 
@@ -66,13 +66,18 @@ fn write_close_line<O: Output>(out: &mut O, margin: &Margin) -> Result<(), Refus
 /// Writes an item's lines.
 #[cycle(printing)]
 fn write_item<O: Output>(out: &mut O, margin: &Margin, item: &Item) -> Result<(), Refusal>
-    ensures writes { WritesAll (O.seen out.old) (O.seen out.new) (printed_in (depth_of margin.now) (before (item_of item.now) done)) result }
+    ensures writes { WritesAll (O.seen out.old) (O.seen out.new) (printed_in (depth_of margin.now) (before item.now done)) result }
 {
-    match &item.node {
-        Node::Operation(operation) => write_operation_line(out, margin, operation),
-        Node::Repeat { count, tag, body } => {
-            write_open_line(out, margin, *count, tag.as_slice())?;
-            write_items(out, &Margin::Inside(&*margin), body.as_slice())?;
+    match item.part() {
+        Part::Operation(operation) => write_operation_line(out, margin, operation),
+        Part::Block {
+            count,
+            tag,
+            body,
+            ..
+        } => {
+            write_open_line(out, margin, count, tag)?;
+            write_items(out, &Margin::Inside(&*margin), body)?;
             write_close_line(out, margin)
         }
     }
@@ -81,7 +86,7 @@ fn write_item<O: Output>(out: &mut O, margin: &Margin, item: &Item) -> Result<()
 /// Writes the items' lines.
 #[cycle(printing)]
 fn write_items<O: Output>(out: &mut O, margin: &Margin, items: &[Item]) -> Result<(), Refusal>
-    ensures writes { WritesAll (O.seen out.old) (O.seen out.new) (printed_in (depth_of margin.now) (items_of items.now)) result }
+    ensures writes { WritesAll (O.seen out.old) (O.seen out.new) (printed_in (depth_of margin.now) (listed items.now)) result }
 {
     for item in items {
         write_item(out, margin, item)?;

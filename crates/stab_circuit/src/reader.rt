@@ -1,5 +1,6 @@
-ghost use Rattle.std.specs.Prelude.{◌≡◌, ◌≤◌, length};
+ghost use Rattle.std.specs.Prelude.{◌≡◌, ◌≤◌, length, IfOk};
 ghost use Rattle.stab_circuit.specs.Circuits.{meaning_after as meaning_after_of};
+ghost use Rattle.stab_circuit.specs.Items.{listed, depth};
 ghost use Rattle.stab_circuit.specs.inner.Readers.{ReadsItems, reading, line_fault};
 
 use crate::item::Item;
@@ -27,7 +28,7 @@ pub struct Reader {
 impl Reader {
     ghost use Rattle.std.specs.Prelude.{◌≡◌, [], List, ◌∷◌};
     ghost use Rattle.stab_lines.specs.Results.{Gives};
-    ghost use Rattle.stab_circuit.specs.inner.Readers.{progress_of, start, stepped, opening, closing, finished, is_whole as whole_of, meaning_at, TakesLine, ReadsItems};
+    ghost use Rattle.stab_circuit.specs.inner.Readers.{progress_of, start, stepped, opening, closing, finished, is_whole as whole_of, meaning_at, TakesLine, ReadsItems, IsShallow};
 
     fn new(alloc: Global) -> Reader
         ensures value { progress_of result ≡ start }
@@ -78,14 +79,16 @@ impl Reader {
     }
 
     fn take_content(&mut self, single: bool, line: u64, content: &[u8]) -> Result<(), Refusal>
+        requires shallow { IsShallow (progress_of self.old) }
         ensures gives { TakesLine (progress_of self.new) result (stepped line (meaning_at single (progress_of self.old) content.now) (progress_of self.old)) }
     {
         let found = self.found(single, content)?;
         self.take(line, found)
     }
 
-    #[tactic(auto, using(crate::proofs::ViewLemmas::items_of_pushed))]
+    #[tactic(auto, using(crate::proofs::ItemLemmas::listed_pushed))]
     fn take(&mut self, line: u64, found: Line) -> Result<(), Refusal>
+        requires shallow { IsShallow (progress_of self.old) }
         ensures gives { TakesLine (progress_of self.new) result (stepped line (Ok found) (progress_of self.old)) }
     {
         match found {
@@ -115,8 +118,9 @@ impl Reader {
         Ok(())
     }
 
-    #[tactic(auto, using(crate::proofs::ViewLemmas::items_of_pushed, crate::proofs::ViewLemmas::frames_pushed))]
+    #[tactic(auto, using(crate::proofs::ItemLemmas::listed_pushed, crate::proofs::ViewLemmas::frames_pushed, crate::proofs::ReaderLemmas::closes_shallow))]
     fn close(&mut self) -> Result<(), Refusal>
+        requires shallow { IsShallow (progress_of self.old) }
         ensures gives { TakesLine (progress_of self.new) result (closing (progress_of self.old)) }
     {
         match self.frames.pop() {
@@ -129,7 +133,8 @@ impl Reader {
                     before,
                 } = frame;
                 let body = std::mem::replace(&mut self.items, before);
-                self.items.push(Item::repeat(count, tag, body))?;
+                self.items
+                    .push(Item::repeat(self.alloc, count, tag, body)?)?;
                 Ok(())
             }
         }
@@ -160,10 +165,11 @@ fn fault_at(refusal: Refusal, line: u64) -> Fault
 }
 
 /// The items that a text stands for, perhaps as one item's text.
-#[tactic(auto, using(crate::proofs::ReaderLemmas::lines_taken, crate::proofs::ReaderLemmas::lines_ended))]
+#[tactic(auto, using(crate::proofs::ReaderLemmas::lines_taken, crate::proofs::ReaderLemmas::lines_ended, crate::proofs::ReaderLemmas::stepped_shallow, crate::proofs::ReaderLemmas::finished_shallow))]
 pub fn read_lines(alloc: Global, single: bool, text: &[u8]) -> Result<Vec<Item>, Fault>
     requires small { length text.now ≤ 16777216 }
     ensures gives { ReadsItems result (reading single text.now) }
+    ensures shallow { IfOk result (λ v. depth (listed v.items) ≤ 16) }
 {
     let mut reader = Reader::new(alloc);
     let mut rest = text;

@@ -1,17 +1,14 @@
 ghost use Rattle.std.specs.Prelude.{◌≡◌, ◌≤◌, ◌*◌, min, length, ◌∷◌, []};
-ghost use Rattle.stab_circuit.specs.Items.{before, done};
-ghost use Rattle.stab_circuit.specs.Views.{item_of, items_of};
 ghost use Rattle.stab_lines.specs.Targets.{pair_qubits};
 ghost use Rattle.stab_circuit.specs.Steps.{past as past_of, target_qubits, factor_qubits, product_qubits, controlled_qubits};
-ghost use Rattle.stab_circuit.specs.inner.Summaries.{greatest as greatest_of, looks_back, furthest as furthest_of, kind_summary_of, summary_of, IsSummary};
+ghost use Rattle.stab_circuit.specs.inner.Summaries.{greatest as greatest_of, looks_back, furthest as furthest_of, kind_summary_of, IsSummary};
 
-use crate::item::{Item, Node};
 use stab_lines::{ControlledPair, Factor, Kind, Lookbacks, MeasureTarget, Pair, Product, Qubit};
 use stab_pauli::Refusal;
 
 /// What checks need to know of items: how many steps they make, up to 1,048,577, how many
-/// records, up to 16,777,215, how many records have to stand before them, and how many qubits
-/// and observables they name.
+/// records, up to 16,777,215, how many records have to stand before them, how many qubits and
+/// observables they name, and how deep blocks are nested in them, up to 17.
 #[derive(Clone, Copy, Debug, PartialEq, Eq)]
 pub struct Summary {
     pub steps: u32,
@@ -19,22 +16,26 @@ pub struct Summary {
     pub reach: u32,
     pub qubits: u32,
     pub observables: u32,
+    pub depth: u32,
 }
 
 const MOST_STEPS: u32 = 1_048_577;
 
 const MOST_RECORDS: u32 = 16_777_215;
 
+const MOST_DEPTH: u32 = 17;
+
 impl Summary {
     ghost use Rattle.std.specs.Prelude.{◌≡◌};
     ghost use Rattle.stab_circuit.specs.inner.Summaries.{judged, followed_by, repeated as repeated_of, IsSummary};
 
-    const NONE: Summary = Summary {
+    pub const NONE: Summary = Summary {
         steps: 0,
         records: 0,
         reach: 0,
         qubits: 0,
         observables: 0,
+        depth: 0,
     };
 
     /// What refuses a whole circuit of this summary: a lookback, or else the number of steps.
@@ -51,7 +52,7 @@ impl Summary {
     }
 
     /// The summary of these items with others after them.
-    fn then(self, next: Summary) -> Summary
+    pub fn then(self, next: Summary) -> Summary
         requires first { IsSummary self }
         requires second { IsSummary next }
         ensures value { result ≡ followed_by self next }
@@ -63,11 +64,12 @@ impl Summary {
             reach: self.reach.max(next.reach.saturating_sub(self.records)),
             qubits: self.qubits.max(next.qubits),
             observables: self.observables.max(next.observables),
+            depth: self.depth.max(next.depth),
         }
     }
 
     /// The summary of so many rounds of these items.
-    fn repeated(self, count: u64) -> Summary
+    pub fn repeated(self, count: u64) -> Summary
         requires once { IsSummary self }
         ensures value { result ≡ repeated_of count self }
         ensures small { IsSummary result }
@@ -75,6 +77,7 @@ impl Summary {
         Summary {
             steps: capped_product(count, self.steps, MOST_STEPS),
             records: capped_product(count, self.records, MOST_RECORDS),
+            depth: (self.depth + 1).min(MOST_DEPTH),
             ..self
         }
     }
@@ -220,7 +223,7 @@ fn furthest(pairs: &[ControlledPair]) -> u32
 /// The summary of so many steps on so many qubits that make no records.
 fn plain(steps: usize, qubits: u32) -> Summary
     requires few { qubits ≤ 1024 }
-    ensures value { result ≡ record { steps = min steps 1048577; records = 0; reach = 0; qubits = qubits; observables = 0 } }
+    ensures value { result ≡ record { steps = min steps 1048577; records = 0; reach = 0; qubits = qubits; observables = 0; depth = 0 } }
     ensures small { IsSummary result }
 {
     Summary {
@@ -233,7 +236,7 @@ fn plain(steps: usize, qubits: u32) -> Summary
 /// The summary of one step that looks back.
 #[tactic(auto, using(crate::proofs::SummaryLemmas::greatest_small))]
 fn look(records: &Lookbacks, observables: u32) -> Summary
-    ensures value { result ≡ record { steps = 1; records = 0; reach = greatest_of records.now; qubits = 0; observables = observables } }
+    ensures value { result ≡ record { steps = 1; records = 0; reach = greatest_of records.now; qubits = 0; observables = observables; depth = 0 } }
     ensures small { IsSummary result }
 {
     Summary {
@@ -246,7 +249,7 @@ fn look(records: &Lookbacks, observables: u32) -> Summary
 
 /// The summary of the pairs of a controlled gate.
 fn controlled(pairs: &[ControlledPair]) -> Summary
-    ensures value { result ≡ record { steps = min (length pairs.now) 1048577; records = 0; reach = furthest_of pairs.now; qubits = past_of (controlled_qubits pairs.now); observables = 0 } }
+    ensures value { result ≡ record { steps = min (length pairs.now) 1048577; records = 0; reach = furthest_of pairs.now; qubits = past_of (controlled_qubits pairs.now); observables = 0; depth = 0 } }
     ensures small { IsSummary result }
 {
     Summary {
@@ -258,7 +261,7 @@ fn controlled(pairs: &[ControlledPair]) -> Summary
 /// The summary of so many steps on so many qubits that make a record each.
 fn measurement(steps: usize, qubits: u32) -> Summary
     requires few { qubits ≤ 1024 }
-    ensures value { result ≡ record { steps = min steps 1048577; records = min steps 16777215; reach = 0; qubits = qubits; observables = 0 } }
+    ensures value { result ≡ record { steps = min steps 1048577; records = min steps 16777215; reach = 0; qubits = qubits; observables = 0; depth = 0 } }
     ensures small { IsSummary result }
 {
     Summary {
@@ -267,8 +270,9 @@ fn measurement(steps: usize, qubits: u32) -> Summary
     }
 }
 
+/// The summary of an instruction.
 #[tactic(auto, using(crate::proofs::SummaryLemmas::gate_summary, crate::proofs::SummaryLemmas::swap_summary, crate::proofs::SummaryLemmas::product_summary, crate::proofs::SummaryLemmas::measure_summary, crate::proofs::SummaryLemmas::reset_summary, crate::proofs::SummaryLemmas::detector_summary, crate::proofs::SummaryLemmas::observable_summary))]
-fn kind_summary(kind: &Kind) -> Summary
+pub fn kind_summary(kind: &Kind) -> Summary
     ensures value { result ≡ kind_summary_of kind.now }
     ensures small { IsSummary result }
 {
@@ -291,31 +295,4 @@ fn kind_summary(kind: &Kind) -> Summary
         Kind::QubitCoords(_, qubits) => plain(0, past(qubits.as_slice())),
         Kind::Tick | Kind::ShiftCoords(_) => Summary::NONE,
     }
-}
-
-/// The summary of an item.
-#[cycle(summaries)]
-#[tactic(auto, using(crate::proofs::SummaryLemmas::operation_summary, crate::proofs::SummaryLemmas::repeat_summary))]
-pub fn item_summary(item: &Item) -> Summary
-    ensures value { result ≡ summary_of (before (item_of item.now) done) }
-    ensures small { IsSummary result }
-{
-    match &item.node {
-        Node::Operation(operation) => kind_summary(&operation.kind),
-        Node::Repeat { count, body, .. } => items_summary(body.as_slice()).repeated(count.number()),
-    }
-}
-
-/// The summary of the items.
-#[cycle(summaries)]
-#[tactic(auto, using(crate::proofs::SummaryLemmas::summary_taken))]
-pub fn items_summary(items: &[Item]) -> Summary
-    ensures value { result ≡ summary_of (items_of items.now) }
-    ensures small { IsSummary result }
-{
-    let mut all = Summary::NONE;
-    for item in items {
-        all = all.then(item_summary(item));
-    }
-    all
 }

@@ -1,4 +1,3 @@
-use crate::summary::item_summary;
 use crate::{Circuit, read_circuit, read_item, write_circuit};
 use stab_pauli::{CutInput, EndlessInput, Fault, MemoryInput, MemoryOutput, Refusal};
 use std::alloc::Global;
@@ -210,7 +209,7 @@ fn an_item_is_read_alone(rt: HostRuntime) -> Result<(), Fail> {
         (" \n# note", 11, 0, 0),
     ] {
         let found = match read_item(rt.alloc(), text.as_bytes()) {
-            Ok(item) => (0, 0, item_summary(&item).steps),
+            Ok(item) => (0, 0, item.summary().steps),
             Err(fault) => (fault.refusal.number(), fault.line, 0),
         };
         assert_eq!(rt; found, (number, line, steps), "at {text}");

@@ -1,13 +1,12 @@
 ghost use Rattle.std.specs.Prelude.{◌≡◌, ◌≤◌, ◌++◌, true, false, length, map, drop, OnOk};
 ghost use Rattle.stab_tableau.specs.declared.gate.PairGate.TheVariants as gate;
 ghost use Rattle.stab_lines.specs.Axes.{letter_of};
-ghost use Rattle.stab_circuit.specs.Items.{before, done};
+ghost use Rattle.stab_circuit.specs.Items.{before, done, listed};
 ghost use Rattle.stab_circuit.specs.Steps.{one, two, collapse, measured as measured_step, is_inverted as is_inverted_of, measured_product as measured_product_step, controlled_gate as controlled_gate_of, controlled_step, steps_of, rounds, unroll};
-ghost use Rattle.stab_circuit.specs.Views.{item_of, items_of};
 ghost use Rattle.stab_circuit.specs.Cursors.{step_shown, IsApart};
 ghost use Rattle.stab_circuit.specs.inner.Unrolled.{steps_shown, Appends};
 
-use crate::item::{Item, Node};
+use crate::item::{Item, Part};
 use crate::step::Step;
 use stab_lines::{
     Axis, ControlledPair, Factor, Kind, MeasureTarget, Measurement, Pair, Product, Qubit,
@@ -198,14 +197,15 @@ fn push_rounds(steps: &mut Vec<Step>, from: usize, more: u64) -> Result<(), Allo
 #[cycle(unrolling)]
 #[tactic(auto, using(crate::proofs::CursorLemmas::appends_operation, crate::proofs::CursorLemmas::appends_repeat))]
 fn push_item<'a>(steps: &mut Vec<Step<'a>>, item: &'a Item) -> Result<(), AllocError>
-    ensures steps { OnOk result (Appends (unroll (before (item_of item.now) done)) steps.old.items steps.new.items) }
+    ensures steps { OnOk result (Appends (unroll (before item.now done)) steps.old.items steps.new.items) }
 {
-    match &item.node {
-        Node::Operation(operation) => push_kind(steps, &operation.kind),
-        Node::Repeat { count, body, .. } => {
+    match item.part() {
+        Part::Operation(operation) => push_kind(steps, &operation.kind),
+        Part::Block { count, body, .. } => {
             let from = steps.len();
-            push_items(steps, body.as_slice())?;
-            push_rounds(steps, from, count.number() - 1)
+            push_items(steps, body)?;
+            push_rounds(steps, from, count.number() - 1)?;
+            Ok(())
         }
     }
 }
@@ -214,7 +214,7 @@ fn push_item<'a>(steps: &mut Vec<Step<'a>>, item: &'a Item) -> Result<(), AllocE
 #[cycle(unrolling)]
 #[tactic(auto, using(crate::proofs::CursorLemmas::appends_none))]
 pub fn push_items<'a>(steps: &mut Vec<Step<'a>>, items: &'a [Item]) -> Result<(), AllocError>
-    ensures steps { OnOk result (Appends (unroll (items_of items.now)) steps.old.items steps.new.items) }
+    ensures steps { OnOk result (Appends (unroll (listed items.now)) steps.old.items steps.new.items) }
 {
     for item in items {
         push_item(steps, item)?;

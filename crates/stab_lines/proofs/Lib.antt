@@ -8,7 +8,7 @@ mod TargetLemmas
 mod ProductLemmas
 mod ControlLemmas
 pub mod FreeLemmas
-mod SureLemmas
+pub mod SureLemmas
 mod AgainLemmas
 mod FactorLemmas
 mod ControlAgainLemmas

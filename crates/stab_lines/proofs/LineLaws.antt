@@ -54,10 +54,14 @@ good_said Close g = said (codes "}") Close close_neat close_again
 good_said (Open count tag) g = said (line_printed (Open count tag)) (Open count tag) (open_neat count tag g.0 g.1) (open_again count tag g.0 g.1)
 good_said (line.Operation op) g = said (line_printed (line.Operation op)) (line.Operation op) (operation_neat op g.0 g.1) (operation_again op g.0 g.1)
 
-pub printed_again : (line : List ℕ) (m : Line) → IsLine line → meaning_of (content_of line) ≡ Ok m → Says (line_printed m) m
-printed_again line m one e =
+-- what is known of all that a line means
+pub line_good : (line : List ℕ) (m : Line) → IsLine line → meaning_of (content_of line) ≡ Ok m → IsGoodLine m
+line_good line m one e =
     let free = content_free line (free_any (is_byte 10) line one) in
-    good_said m (sure_of IsGoodLine (meaning_of (content_of line)) m (meaning_sure (content_of line) free.0 free.1) e)
+    sure_of IsGoodLine (meaning_of (content_of line)) m (meaning_sure (content_of line) free.0 free.1) e
+
+pub printed_again : (line : List ℕ) (m : Line) → IsLine line → meaning_of (content_of line) ≡ Ok m → Says (line_printed m) m
+printed_again line m one e = good_said m (line_good line m one e)
 
 pub blank_is_empty : (content : List ℕ) → (meaning_of content ≡ Ok Blank → content ≡ []) × (content ≡ [] → meaning_of content ≡ Ok Blank)
 blank_is_empty content = (blank_empty content, λ e. ap meaning_of e ∙ empty_blank)

@@ -6,3 +6,4 @@ mod FutureLemmas
 mod FitLemmas
 mod SoundLemmas
 mod ShotLemmas
+mod SessionLemmas

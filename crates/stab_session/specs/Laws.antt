@@ -1,12 +1,12 @@
 -- Laws of runs: a state is a point with what was given so far; a coin that does not decide makes no difference; the trace of
 -- a run is sound; and the future depends on the group, the number of the next coin and the records alone.
-use Rattle.std.specs.Prelude.{◌≡◌, ℕ, Bool, true, false, List, All, None, slice_index_or}
+use Rattle.std.specs.Prelude.{◌≡◌, ℕ, Bool, true, false, List, None, slice_index_or}
 use Rattle.stab_pauli.specs.Paulis.{Signed}
 use Rattle.stab_tableau.specs.Traces.{Happening, member, outcome, is_free, Fits, IsSound}
 use Rattle.stab_tableau.specs.Groups.{SameGroup}
 use Rattle.stab_circuit.specs.Items.{Items}
-use Rattle.stab_circuit.specs.Steps.{Step, unroll, check_within}
-use Rattle.stab_circuit.specs.Cursors.{IsApart}
+use Rattle.stab_circuit.specs.Steps.{Step, check_within}
+use Rattle.stab_circuit.specs.Laws.{AreLinesOf}
 use Rattle.stab_session.specs.Runs.{State, run, run_of}
 use Rattle.stab_session.specs.Points.{Point, point_after, outputs, point_of, state_at}
 
@@ -39,9 +39,9 @@ RunsDependOnFreeCoins = (n : ℕ) (coins : ℕ → Bool) (items : Items) → Dep
 abbrev pub IsSoundRun : ℕ → (ℕ → Bool) → Items → Type 0
 IsSoundRun n coins items = Fits n (run_of n coins items).trace × IsSound (run_of n coins items).trace
 
--- that is so where nothing refuses the items on n qubits, and the two qubits of each of their pairs differ
+-- that is so of all items that lines stand for, where nothing refuses them on n qubits
 abbrev pub RunsAreSound : Type 0
-RunsAreSound = (n : ℕ) (coins : ℕ → Bool) (items : Items) → check_within n items ≡ None → All IsApart (unroll items) → IsSoundRun n coins items
+RunsAreSound = (n : ℕ) (coins : ℕ → Bool) (lines : List (List ℕ)) (items : Items) → AreLinesOf lines items → check_within n items ≡ None → IsSoundRun n coins items
 
 -- two points have one group on n qubits, and the same number of the next coin and records
 pub record AgreeAt (n : ℕ) (a b : Point) : Type 0 where

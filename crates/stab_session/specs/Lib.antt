@@ -4,4 +4,6 @@ pub mod Runs
 pub mod Points
 pub mod Laws
 pub mod Samplers
+pub mod Sessions
+pub mod Headline
 pub mod inner

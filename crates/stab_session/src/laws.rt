@@ -18,11 +18,9 @@ pub fn runs_depend_on_free_coins()
     ensures law { RunsDependOnFreeCoins }
 {}
 
-/// Where nothing refuses the items on n qubits, the trace of their run fits n qubits and is sound,
-/// whatever the coins. So the laws of `stab_tableau::laws` hold of every run.
-///
-/// That the two qubits of each pair differ is a premise beside that, since a list of items doesn't
-/// show it. Each circuit's items have it, so `Sampler::runs_are_sound` asks for nothing.
+/// Where nothing refuses the items of any faultless lines on n qubits, the trace of their run fits
+/// n qubits and is sound, whatever the coins. So the laws of `stab_tableau::laws` hold of every
+/// run. The lines rule out pairs of one qubit with itself, which a bare list of items could hold.
 pub fn runs_are_sound()
     ensures law { RunsAreSound }
 {}

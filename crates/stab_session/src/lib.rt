@@ -7,14 +7,18 @@
 //! - `products`: products of letters, and their measurement.
 //! - `apply`: one step on a tableau.
 //! - `run`: one run of a circuit, and what it gives.
+//! - `whole`: a run of all steps, from the first on.
 //! - `sampler`: many runs of one circuit.
+//! - `session`: a circuit with what its run gives, to be read and edited.
 //! - `laws`: what a run depends on, and that what happens in it is sound.
 //!
 //! Proved: coins are one fixed sequence of bits by number, which no call changes, and a seed gives
 //! the bits of ChaCha8 that `specs/Coins.antt` names. A run gives the records, flags, detectors and
 //! observables that the group rules of `specs/Runs.antt` give for the circuit's unrolled steps, and
 //! depends on no coin but those that decide; its trace is sound. Each shot of a sampler is such a
-//! run, whatever became of the shots before it. `specs/inner/` has what only private contracts cite.
+//! run, whatever became of the shots before it. What a session shows is the run of its items from
+//! the first step on: `specs/Headline.antt` says so. `specs/inner/` has what only private contracts
+//! cite.
 #![tactic(auto)]
 
 mod apply;
@@ -26,10 +30,13 @@ mod products;
 mod records;
 mod run;
 mod sampler;
+mod session;
+mod whole;
 
 pub use coins::{Coins, ListCoins, SeedCoins};
 pub use run::{Shot, run_once};
 pub use sampler::Sampler;
+pub use session::{OpenRefused, Session};
 
 #[cfg(test)]
 mod tests;

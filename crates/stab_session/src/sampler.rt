@@ -1,6 +1,6 @@
 use crate::coins::Coins;
-use crate::outputs::{Outputs, observables};
-use crate::run::{Shot, run_steps};
+use crate::run::Shot;
+use crate::whole::run_whole;
 use stab_circuit::{Circuit, Cursor};
 use stab_pauli::{Fault, Pauli, Refusal};
 use stab_tableau::Tableau;
@@ -99,31 +99,15 @@ impl<'a> Sampler<'a> {
         ensures asks_free { IfOk result (λ s. C.asks coins.new ≤ C.asks coins.old + ones s.free.items) }
         ensures err { IfErr result (λ r. r ≡ OutOfMemory) }
     {
-        self.tableau.reset();
-        self.cursor.restart();
-        let mut outputs = Outputs::with_capacity(alloc, self.records)?;
-        let mut applied = 0;
-        run_steps(
+        run_whole(
+            alloc,
             &mut self.tableau,
             &mut self.string,
             coins,
-            &mut outputs,
             &mut self.cursor,
-            &mut applied,
-        )?;
-        let Outputs {
-            records,
-            free,
-            detectors,
-            additions,
-        } = outputs;
-        let observables = observables(alloc, self.observables, additions.as_slice())?;
-        Ok(Shot {
-            records,
-            free,
-            detectors,
-            observables,
-        })
+            self.records,
+            self.observables,
+        )
     }
 
     /// A law, and no work: whatever the coins, the trace of a shot fits the qubits and is sound.

@@ -92,7 +92,7 @@ module _ (n : ℕ) (s t : Signed → Bool) (same : SameGroup n s t) where
     others = λ l lead ne. r.others l (same-lead l lead) ne;
   }
 
-  same-rows : (low : ℕ) (rows : List Signed) → AreRowsFrom n s low rows → AreRowsFrom n t low rows
+  pub same-rows : (low : ℕ) (rows : List Signed) → AreRowsFrom n s low rows → AreRowsFrom n t low rows
   same-rows low [] none = λ k le lead. none k le (same-lead k lead)
   same-rows low (p ∷ rows) r =
       (r.0, r.1, (λ j le lt lead. r.2 j le lt (same-lead j lead)), same-row r.0 p r.3, same-rows (suc r.0) rows r.4)

@@ -1,19 +1,17 @@
 -- Readers: the way over the lines of a text, with a stack of open blocks.
-use Rattle.std.specs.Prelude.{◌≡◌, ℕ, ◌+◌, Bool, true, false, List, [], ◌∷◌, nat_lt, length, map, reverse, if◌then◌else◌, Result, Ok, Err, ◌⊎◌}
+use Rattle.std.specs.Prelude.{◌≡◌, ◌≤◌, ℕ, ◌+◌, Bool, true, false, List, [], ◌∷◌, nat_lt, length, map, reverse, if◌then◌else◌, Result, Ok, Err, ◌⊎◌}
 use Rattle.std.specs.Global.{Vec}
 use Rattle.stab_pauli.specs.declared.refusal.Refusal.{Refusal}
 use Rattle.stab_pauli.specs.declared.refusal.Refusal.TheVariants.{BadBlock, TooDeep, OutOfMemory}
 use Rattle.stab_pauli.specs.declared.refusal.Fault.{Fault}
 use Rattle.stab_pauli.specs.Refusals.{whole}
-use Rattle.stab_circuit.specs.declared.item.Item.{Item}
 use Rattle.stab_lines.specs.declared.meanings.Line.TheVariants.{Blank, Close, Open}
 use Rattle.stab_lines.specs.declared.meanings.Line.TheVariants as line
 use Rattle.stab_circuit.specs.declared.reader.Frame.{Frame as Held}
 use Rattle.stab_circuit.specs.declared.reader.Reader.{Reader}
-use Rattle.stab_circuit.specs.Items.{Items, done, next, block, join}
+use Rattle.stab_circuit.specs.Items.{Items, OneItem, done, next, block, join, listed, depth}
 use Rattle.stab_lines.specs.Meanings.{meaning_of}
 use Rattle.stab_circuit.specs.Circuits.{Meaning, at_line, meaning_after, one_item, contents}
-use Rattle.stab_circuit.specs.Views.{items_of}
 
 -- an open block, and the items before it
 pub record Frame : Type 0 where
@@ -29,11 +27,21 @@ pub record Progress : Type 0 where
 
 -- an open block without pointers
 abbrev pub frame_of : Held → Frame
-frame_of f = record { line = f.line; count = f.count; tag = f.tag; before = items_of f.before.items }
+frame_of f = record { line = f.line; count = f.count; tag = f.tag; before = listed f.before.items }
 
 -- what a reader keeps, without pointers
 abbrev pub progress_of : Reader → Progress
-progress_of r = record { frames = reverse (map frame_of r.frames.items); now = items_of r.items.items }
+progress_of r = record { frames = reverse (map frame_of r.frames.items); now = listed r.items.items }
+
+-- blocks are nested at most 16 deep in what stands before open blocks, the innermost of them first, with those around it
+abbrev pub AreShallow : List Frame → Type 0
+AreShallow [] = Unit {0}
+AreShallow (f ∷ fs) = (depth f.before + length fs ≤ 16) × AreShallow fs
+
+-- blocks are nested at most 16 deep in what a reader keeps, with those that are open
+pub record IsShallow (s : Progress) : Type 0 where
+  pub now : depth s.now + length s.frames ≤ 16
+  pub before : AreShallow s.frames
 
 -- nothing read
 abbrev pub start : Progress
@@ -104,6 +112,6 @@ TakesLine new (Ok x) given = given ≡ Ok new
 TakesLine new (Err r) given = (r ≡ OutOfMemory) ⊎ (given ≡ Err r)
 
 -- the call read the items, or failed as the definition does, or for want of memory, which has no line
-abbrev pub ReadsItems : Result (Vec Item) Fault → Result Items Fault → Type 0
-ReadsItems (Ok v) given = given ≡ Ok (items_of v.items)
+abbrev pub ReadsItems : Result (Vec OneItem) Fault → Result Items Fault → Type 0
+ReadsItems (Ok v) given = given ≡ Ok (listed v.items)
 ReadsItems (Err f) given = (f ≡ whole OutOfMemory) ⊎ (given ≡ Err f)

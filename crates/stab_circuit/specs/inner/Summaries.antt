@@ -6,7 +6,7 @@ use Rattle.stab_circuit.specs.declared.summary.Summary.{Summary}
 use Rattle.stab_lines.specs.declared.control.ControlledPair.{ControlledPair}
 use Rattle.stab_lines.specs.declared.control.ControlledPair.TheVariants as pair
 use Rattle.stab_lines.specs.declared.operation.Kind.{Kind}
-use Rattle.stab_circuit.specs.Items.{Items}
+use Rattle.stab_circuit.specs.Items.{Items, depth}
 use Rattle.stab_circuit.specs.Steps.{Step, makes, records_of, lookbacks, steps_of, unroll, past, named_qubits, named_observables, qubits_of, observables_of}
 
 -- the greatest number, or 0
@@ -29,17 +29,24 @@ abbrev pub reach : List Step → ℕ
 reach [] = 0
 reach (s ∷ ss) = max (greatest (lookbacks s)) (reach ss - makes s)
 
--- the summary of steps that name so many qubits and observables: up to 1,048,577 steps and 16,777,215 records
-abbrev pub summed : List Step → ℕ → ℕ → Summary
-summed steps qubits observables = record { steps = min (length steps) 1048577; records = min (records_of steps) 16777215; reach = reach steps; qubits = qubits; observables = observables }
+-- the summary of steps that name so many qubits and observables, in so many blocks: up to 1,048,577 steps, 16,777,215 records and 17 blocks
+abbrev pub summed : List Step → ℕ → ℕ → ℕ → Summary
+summed steps qubits observables deep = record {
+  steps = min (length steps) 1048577;
+  records = min (records_of steps) 16777215;
+  reach = reach steps;
+  qubits = qubits;
+  observables = observables;
+  depth = min deep 17;
+}
 
 -- the summary of an instruction
 abbrev pub kind_summary_of : Kind → Summary
-kind_summary_of kind = summed (steps_of kind) (past (named_qubits kind)) (past (named_observables kind))
+kind_summary_of kind = summed (steps_of kind) (past (named_qubits kind)) (past (named_observables kind)) 0
 
 -- the summary of items
 abbrev pub summary_of : Items → Summary
-summary_of items = summed (unroll items) (qubits_of items) (observables_of items)
+summary_of items = summed (unroll items) (qubits_of items) (observables_of items) (depth items)
 
 -- a summary's numbers are within their bounds
 pub record IsSummary (s : Summary) : Type 0 where
@@ -47,6 +54,7 @@ pub record IsSummary (s : Summary) : Type 0 where
   pub records : s.records ≤ 16777215
   pub reach : s.reach ≤ 16777215
   pub qubits : s.qubits ≤ 1024
+  pub depth : s.depth ≤ 17
 
 -- the summary of items with others after them
 abbrev pub followed_by : Summary → Summary → Summary
@@ -56,11 +64,12 @@ followed_by s t = record {
   reach = max s.reach (t.reach - s.records);
   qubits = max s.qubits t.qubits;
   observables = max s.observables t.observables;
+  depth = max s.depth t.depth;
 }
 
 -- the summary of so many rounds, of which the first reaches furthest
 abbrev pub repeated : ℕ → Summary → Summary
-repeated count s = record s { steps = min (count * s.steps) 1048577; records = min (count * s.records) 16777215 }
+repeated count s = record s { steps = min (count * s.steps) 1048577; records = min (count * s.records) 16777215; depth = min (s.depth + 1) 17 }
 
 -- what refuses a whole circuit of this summary
 abbrev pub judged : Summary → Option Refusal

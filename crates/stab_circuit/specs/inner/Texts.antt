@@ -6,7 +6,7 @@ use Rattle.stab_pauli.specs.declared.refusal.Refusal.TheVariants.{OutOfMemory}
 use Rattle.stab_pauli.specs.declared.refusal.Fault.{Fault}
 use Rattle.stab_pauli.specs.Refusals.{whole}
 use Rattle.stab_pauli.specs.Devices.{InputView}
-use Rattle.stab_circuit.specs.declared.circuit.Circuit.{Circuit}
+use Rattle.stab_circuit.specs.Items.{OneItem}
 use Rattle.stab_circuit.specs.Inputs.{GaveText, IsUnread}
 use Rattle.stab_circuit.specs.Views.{circuit_items}
 use Rattle.stab_circuit.specs.Readings.{IsCircuit, IsFaultOf}
@@ -17,6 +17,6 @@ ReadsText old new (Ok text) = GaveText old new text.items
 ReadsText old new (Err r) = IsUnread old new r
 
 -- the call gave the circuit that the text stands for, or the text's fault, or memory was refused
-abbrev pub ReadsCircuit : List ℕ → Result Circuit Fault → Type 0
+abbrev pub ReadsCircuit : List ℕ → Result (List OneItem) Fault → Type 0
 ReadsCircuit text (Ok circuit) = IsCircuit text (circuit_items circuit)
 ReadsCircuit text (Err fault) = (fault ≡ whole OutOfMemory) ⊎ IsFaultOf text fault

@@ -6,7 +6,7 @@ use Rattle.stab_circuit.specs.Items.{Items}
 use Rattle.stab_circuit.specs.Steps.{Step, unroll, records_of, observables_of, check_within}
 use Rattle.stab_circuit.specs.Cursors.{IsApart}
 use Rattle.stab_session.specs.Samplers.{SamplerState}
-use Rattle.stab_session.specs.inner.StoredItems.{items_code}
+use Rattle.stab_circuit.specs.inner.StoredItems.{items_code}
 
 -- it is stored as the pair of its fields
 abbrev pub sampler_code : Coded SamplerState

@@ -4,7 +4,7 @@ use Rattle.std.specs.Coded.{Coded, coded_ℕ, coded_list, coded×}
 use base.Stored.{Gv, gnil, gnum, gcons, num}
 use native.Mathlib.Nat.{suc-ne-zero}
 use Rattle.stab_lines.specs.contracts.operation.Operation.{the_row}
-use Rattle.stab_circuit.specs.Items.{Items, done, next, block}
+use Rattle.stab_circuit.specs.Items.{Items, OneItem, done, next, block, operation, repeat}
 
 -- the first and the second branch of a tree, or an empty tree
 
@@ -48,6 +48,28 @@ one_to_one (block count tag body xs) (block c t inner ys) p =
     let bodies : body ≡ inner = one_to_one body inner (ap (λ g. first (second (second g))) p) in
     λ i. block (heads i).0 (heads i).1 (bodies i) (one_to_one xs ys (ap (λ g. second (second (second g))) p) i)
 
+abbrev item_tree : OneItem → Gv
+item_tree (operation op) = gcons (gnum 1) (the_row.coded.code op)
+item_tree (repeat count tag body) = gcons (gnum 2) (gcons (head_code.code (count, tag)) (tree body))
+
+-- the same tree stands for the same item
+pub item_one_to_one : (x y : OneItem) → item_tree x ≡ item_tree y → x ≡ y
+item_one_to_one (operation op) (operation o) p = ap operation (the_row.coded.inj op o (ap second p))
+item_one_to_one (operation op) (repeat count tag body) p = absurd (suc-ne-zero 0 (sym (ap (λ g. label g - 1) p)))
+item_one_to_one (repeat count tag body) (operation op) p = absurd (suc-ne-zero 0 (ap (λ g. label g - 1) p))
+item_one_to_one (repeat count tag body) (repeat c t inner) p =
+    let heads : ◌≡◌ {A = ℕ × List ℕ} (count, tag) (c, t) = head_code.inj (count, tag) (c, t) (ap (λ g. first (second g)) p) in
+    let bodies : body ≡ inner = one_to_one body inner (ap (λ g. second (second g)) p) in
+    λ i. repeat (heads i).0 (heads i).1 (bodies i)
+
 -- by this a proof tells items apart
 abbrev pub items_code : Coded Items
 items_code = record { code = tree; inj = one_to_one }
+
+-- and one item from another
+abbrev pub item_code : Coded OneItem
+item_code = record { code = item_tree; inj = item_one_to_one }
+
+-- and lists of them
+abbrev pub entries_code : Coded (List OneItem)
+entries_code = coded_list item_code

@@ -1,0 +1,73 @@
+-- Items that lines stand for: the two qubits of each pair differ, and so do those of each product.
+use Rattle.std.proofs.Common.{◌≡◌, refl, sym, ℕ, zero, suc, List, [], ◌∷◌, map, All, Ok, Err}
+use Rattle.std.proofs.lemmas.List.Elements.{All-nil, All-cons, All-append, All-head, All-tail}
+use Rattle.stab_lines.specs.declared.axis.Axis.{Axis}
+use Rattle.stab_lines.specs.declared.control.ControlledPair.{ControlledPair}
+use Rattle.stab_lines.specs.declared.control.ControlledPair.TheVariants as pair
+use Rattle.stab_lines.specs.declared.operation.Kind.{Kind}
+use Rattle.stab_lines.specs.declared.operation.Kind.TheVariants as kind
+use Rattle.stab_lines.specs.declared.meanings.Line.TheVariants.{Close}
+use Rattle.stab_lines.specs.Lines.{content_of}
+use Rattle.stab_lines.specs.Meanings.{meaning_of}
+use Rattle.stab_lines.specs.Laws.{IsLine}
+use Rattle.stab_lines.proofs.FreeLemmas.{Each}
+use Rattle.stab_lines.proofs.SureLemmas.{IsQubit, IsMeasured, IsPair, IsControlled, IsProduct, IsGoodKind, IsGoodLine}
+use Rattle.stab_lines.proofs.LineLaws.{line_good}
+use Rattle.stab_circuit.specs.Items.{Items}
+use Rattle.stab_circuit.specs.Circuits.{Meaning, Joins, nothing, blank_line, operation_line, block_lines, line_meanings}
+use Rattle.stab_circuit.specs.Steps.{Step, controlled_step, steps_of, rounds, unroll}
+use Rattle.stab_circuit.specs.Cursors.{IsApart}
+use Rattle.stab_circuit.proofs.RoundLemmas.{each_left, each_right}
+
+-- one step for each element of a list
+apart_each : {A : Type 0} (P : A → Type 0) (f : A → Step) → ((x : A) → P x → IsApart (f x)) → (xs : List A) → Each P xs → All IsApart (map f xs)
+apart_each P f h [] e = All-nil IsApart
+apart_each P f h (x ∷ xs) e = All-cons IsApart (f x) (map f xs) (h x e.0) (apart_each P f h xs e.1)
+
+apart_pair : (axis : Axis) (p : ControlledPair) → IsControlled p → IsApart (controlled_step axis p)
+apart_pair axis (pair.Qubits p) e = λ same. e.2 (sym same)
+apart_pair axis (pair.Record k q) e = tt
+
+-- one instruction
+apart_kind : (k : Kind) → IsGoodKind k → All IsApart (steps_of k)
+apart_kind (kind.Gate g qubits) e = apart_each IsQubit _ (λ q p. tt) qubits e
+apart_kind (kind.Controlled axis pairs) e = apart_each IsControlled (controlled_step axis) (apart_pair axis) pairs e
+apart_kind (kind.Swap pairs) e = apart_each IsPair _ (λ p differ same. differ.2 (sym same)) pairs e
+apart_kind (kind.Measure m targets) e = apart_each IsMeasured _ (λ t p. tt) targets e
+apart_kind (kind.Reset axis qubits) e = apart_each IsQubit _ (λ q p. tt) qubits e
+apart_kind (kind.MeasureProducts products) e = apart_each IsProduct _ (λ fs p. p.1) products e
+apart_kind (kind.Detector coordinates ks) e = All-cons IsApart _ [] tt (All-nil IsApart)
+apart_kind (kind.ObservableInclude j ks) e = All-cons IsApart _ [] tt (All-nil IsApart)
+apart_kind kind.Tick e = All-nil IsApart
+apart_kind (kind.QubitCoords coordinates qubits) e = All-nil IsApart
+apart_kind (kind.ShiftCoords coordinates) e = All-nil IsApart
+
+apart_rounds : (n : ℕ) (ss : List Step) → All IsApart ss → All IsApart (rounds n ss)
+apart_rounds zero ss a = All-nil IsApart
+apart_rounds (suc n) ss a = All-append IsApart ss (rounds n ss) a (apart_rounds n ss a)
+
+-- what is known of a line that is not refused
+abbrev IsGood : Meaning → Type 0
+IsGood (Ok m) = IsGoodLine m
+IsGood (Err r) = Unit {0}
+
+good_of : (m : Meaning) (l : List ℕ) → IsLine l → meaning_of (content_of l) ≡ m → IsGood m
+good_of (Ok m) l whole e = line_good l m whole e
+good_of (Err r) l whole e = tt
+
+all_good : (lines : List (List ℕ)) → All IsLine lines → Each IsGood (line_meanings lines)
+all_good [] a = tt
+all_good (l ∷ ls) a = (good_of (meaning_of (content_of l)) l (All-head IsLine l ls a) refl, all_good ls (All-tail IsLine l ls a))
+
+apart_items : {ms : List Meaning} {xs : Items} → Joins ms xs → Each IsGood ms → All IsApart (unroll xs)
+apart_items nothing e = All-nil IsApart
+apart_items (blank_line j) e = apart_items j e.1
+apart_items (operation_line {op} {ms} {xs} j) e = All-append IsApart (steps_of op.kind) (unroll xs) (apart_kind op.kind e.0.0) (apart_items j e.1)
+apart_items (block_lines {count} {tag} {inner} {after} {body} {rest} j k) e =
+    All-append IsApart (rounds count (unroll body)) (unroll rest)
+    (apart_rounds count (unroll body) (apart_items j (each_left IsGood inner (Ok Close ∷ after) e.1)))
+    (apart_items k (each_right IsGood inner (Ok Close ∷ after) e.1).1)
+
+-- the steps of items that lines stand for
+pub joined_apart : (lines : List (List ℕ)) (items : Items) → All IsLine lines → Joins (line_meanings lines) items → All IsApart (unroll items)
+joined_apart lines items a j = apart_items j (all_good lines a)

@@ -1,0 +1,73 @@
+use std::marker::Model;
+
+/// Where an edit is made: the places of the blocks around, the outermost first, of which there are
+/// at most 16, and a place in the innermost list. Places are counted from 0.
+#[derive(Clone, Copy, Debug, PartialEq, Eq)]
+pub struct Path {
+    /// The blocks' places, and then zeros.
+    blocks: [usize; 16],
+    depth: usize,
+    place: usize,
+}
+
+impl Model for Path {
+    ghost use Rattle.stab_circuit.specs.Paths.{Path as PathValue};
+
+    ghost Value = { PathValue };
+
+    ghost use Rattle.stab_circuit.specs.inner.Places.{path_of, kept_path, kept_path_of, IsPadded};
+
+    ghost view = { path_of };
+
+    ghost invariant = { IsPadded };
+
+    ghost inverse = { kept_path };
+
+    ghost inverse_ok = { kept_path_of };
+}
+
+impl Path {
+    ghost use Rattle.std.specs.Prelude.{◌≡◌, ◌<◌, ◌≤◌, ◌∷◌, length, slice_get, Some};
+    ghost use Rattle.stab_circuit.specs.Paths.{numbers};
+
+    /// The path of these numbers, of which there are 1 to 17.
+    pub fn new(places: &[usize]) -> Path
+        requires some { 0 < length places.now }
+        requires few { length places.now ≤ 17 }
+        ensures value { numbers result ≡ places.now }
+    {
+        let depth = places.len() - 1;
+        let mut blocks = [0; 16];
+        blocks[..depth].copy_from_slice(&places[..depth]);
+        Path {
+            blocks,
+            depth,
+            place: places[depth],
+        }
+    }
+
+    /// The first number: a place in the outermost list.
+    pub fn first(&self) -> usize
+        ensures value { slice_get (numbers self.now) 0 ≡ Some result }
+    {
+        if self.depth == 0 {
+            self.place
+        } else {
+            self.blocks[0]
+        }
+    }
+
+    /// The places of the blocks around, the outermost first.
+    pub(crate) fn blocks(&self) -> &[usize]
+        ensures value { result.now ≡ self.now.blocks }
+    {
+        &self.blocks[..self.depth]
+    }
+
+    /// The place in the innermost list.
+    pub(crate) fn place(&self) -> usize
+        ensures value { result ≡ self.now.place }
+    {
+        self.place
+    }
+}

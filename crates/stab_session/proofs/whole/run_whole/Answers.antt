@@ -1,0 +1,18 @@
+use Rattle.std.proofs.Common.{ap, subst, replicate, refl, false, ◌∙◌}
+use Rattle.stab_session.specs.Points.{with_additions}
+use Rattle.stab_session.specs.inner.Sights.{IsRun, sight, output_of}
+use Rattle.stab_session.proofs.ShotLemmas.{run-shot}
+use Rattle.stab_session.proofs.whole.run_whole.Goals as goal
+
+pub returns-clause-run : goal.returns-clause-run
+returns-clause-run g c =
+    let coins = g.C.Coins.sequence c.args.coins.now in
+    let n = c.args.tableau.now.qubits in
+    let xs = c.args.cursor.now.all in
+    let before = sight c.reset.new.self (output_of c.in_ok-outputs.outputs) in
+    let behind = sight c.run_steps.new.tableau (output_of c.run_steps.new.outputs) in
+    let done : IsRun n coins xs before behind =
+    subst (λ ys. IsRun n coins ys before behind) c.restart.ensures.left
+    (subst (λ m. IsRun m coins c.restart.new.self.left before behind) c.reset.ensures.qubits c.in_ok-run_steps.ensures.run) in
+    run-shot n coins xs c.args.observables before behind c.in_ok-outputs.ensures.value c.reset.ensures.members done _ refl refl refl
+    (c.in_ok-observables.ensures.value ∙ ap (λ a. with_additions a (replicate c.args.observables false)) c.as_slice.ensures.value)

@@ -1,0 +1,25 @@
+-- Sessions: what contracts see of one, and what a refused opening answers.
+use Rattle.std.specs.Prelude.{◌≡◌, ℕ, Bool, List, Option, Some, None}
+use Rattle.stab_pauli.specs.declared.refusal.Refusal.{Refusal}
+use Rattle.stab_pauli.specs.declared.refusal.Refusal.TheVariants.{OutOfMemory}
+use Rattle.stab_pauli.specs.declared.refusal.Fault.{Fault}
+use Rattle.stab_pauli.specs.Refusals.{whole}
+use Rattle.stab_tableau.specs.Tableaus.{TableauState}
+use Rattle.stab_circuit.specs.Items.{Items}
+
+-- the items, the number of qubits, the stride, the source of coins, the four lists, and the state of the qubits
+pub record SessionState (C : Type 0) : Type 0 where
+  pub items : Items
+  pub qubits : ℕ
+  pub stride : ℕ
+  pub coins : C
+  pub records : List Bool
+  pub free : List Bool
+  pub detectors : List Bool
+  pub observables : List Bool
+  pub tableau : TableauState
+
+-- the fault of a call whose verdict is the definition's; where that refuses nothing, the call wanted memory
+abbrev pub IsFaultOf : Option Refusal → Fault → Type 0
+IsFaultOf (Some refusal) fault = fault ≡ whole refusal
+IsFaultOf None fault = fault ≡ whole OutOfMemory

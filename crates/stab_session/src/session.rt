@@ -1,0 +1,208 @@
+use crate::coins::Coins;
+use crate::run::Shot;
+use crate::whole::{Ran, run_circuit};
+use stab_circuit::Circuit;
+use stab_pauli::{Fault, Pauli, Refusal};
+use stab_tableau::Tableau;
+use std::alloc::Global;
+use std::marker::Model;
+
+/// A circuit with what its run gives, to be read and edited.
+///
+/// Contracts see its items, its number of qubits, its stride, its coins, the four lists of bits and
+/// the state of its qubits. Of all of these the statement of `specs/Headline.antt` holds, which each
+/// call that gives or takes a session repeats: they are those of the run of the items from the first
+/// step on.
+#[derive(Drop)]
+pub struct Session<C: Coins> {
+    alloc: Global,
+    circuit: Circuit,
+    stride: usize,
+    coins: C,
+    tableau: Tableau,
+    // A string on the tableau's qubits, for products to be written into.
+    string: Pauli,
+    shot: Shot,
+}
+
+/// What a refused opening hands back: the fault, the circuit as it was, and the coins, which stand
+/// for the same sequence.
+#[derive(Drop)]
+pub struct OpenRefused<C: Coins> {
+    pub fault: Fault,
+    pub circuit: Circuit,
+    pub coins: C,
+}
+
+impl<C: Coins> Model for Session<C> {
+    ghost use Rattle.stab_circuit.specs.Views.{circuit_items};
+    ghost use Rattle.stab_session.specs.Sessions.{SessionState};
+    ghost use Rattle.stab_session.specs.inner.KeptSessions.{IsKept, session_of, session_code};
+
+    ghost Value = { SessionState C };
+
+    ghost coded = { session_code C.code };
+
+    ghost view = { λ s. session_of (circuit_items s.circuit) s.stride s.coins s.tableau s.shot };
+
+    ghost invariant = { λ s. IsKept C.sequence (session_of (circuit_items s.circuit) s.stride s.coins s.tableau s.shot) s.string };
+}
+
+impl<C: Coins> Session<C> {
+    ghost use Rattle.std.specs.Prelude.{◌≡◌, ℕ, ◌+◌, ◌≤◌, ◌↔◌, Bool, true, Some, None, length, IfOk, IfErr, OnOk};
+    ghost use Rattle.stab_pauli.specs.declared.refusal.Refusal.TheVariants.{OutOfMemory};
+    ghost use Rattle.stab_pauli.specs.Paulis.{with_sign};
+    ghost use Rattle.stab_tableau.specs.Traces.{member};
+    ghost use Rattle.stab_tableau.specs.Tableaus.{stabilises};
+    ghost use Rattle.stab_tableau.specs.Rules.{is_free_by};
+    ghost use Rattle.stab_tableau.specs.Reduced.{AreReduced};
+    ghost use Rattle.stab_circuit.specs.Steps.{unroll, check_within};
+    ghost use Rattle.stab_circuit.specs.Views.{circuit_items};
+    ghost use Rattle.stab_session.specs.Records.{ones};
+    ghost use Rattle.stab_session.specs.Runs.{run_of};
+    ghost use Rattle.stab_session.specs.Points.{all_coins_of};
+    ghost use Rattle.stab_session.specs.Sessions.{IsFaultOf};
+    ghost use Rattle.stab_session.specs.Laws.{IsSoundRun};
+    ghost use Rattle.stab_session.specs.Headline.{IsRunOfItems};
+
+    /// Runs a circuit once on n qubits, at most 1,024, and keeps it with what the run gives. The
+    /// stride is from 1 to 65,536.
+    ///
+    /// Coins are numbered and asked for as by `run_once`. Refused as `Circuit::check` refuses, else
+    /// `OutOfMemory`, always with line 0; circuit and coins then come back.
+    pub fn open(
+        alloc: Global,
+        circuit: Circuit,
+        n: usize,
+        stride: usize,
+        coins: C,
+    ) -> Result<Session<C>, OpenRefused<C>>
+        requires in_range { n ≤ 1024 }
+        requires stride_above { 1 ≤ stride }
+        requires stride_within { stride ≤ 65536 }
+        ensures statement { IfOk result (IsRunOfItems C.sequence) }
+        ensures items { IfOk result (λ s. s.items ≡ circuit_items circuit) }
+        ensures qubits { IfOk result (λ s. s.qubits ≡ n) }
+        ensures stride { IfOk result (λ s. s.stride ≡ stride) }
+        ensures coins { IfOk result (λ s. C.sequence s.coins ≡ C.sequence coins) }
+        ensures asks { IfOk result (λ s. C.asks s.coins ≤ C.asks coins + all_coins_of (unroll (circuit_items circuit))) }
+        ensures asks_free { IfOk result (λ s. C.asks s.coins ≤ C.asks coins + ones s.free) }
+        ensures accepted { OnOk result (check_within n (circuit_items circuit) ≡ None) }
+        ensures refused { IfErr result (λ r. IsFaultOf (check_within n (circuit_items circuit)) r.fault) }
+        ensures refused_circuit { IfErr result (λ r. r.circuit ≡ circuit) }
+        ensures refused_coins { IfErr result (λ r. C.sequence r.coins ≡ C.sequence coins) }
+        ensures refused_asks { IfErr result (λ r. C.asks r.coins ≤ C.asks coins + all_coins_of (unroll (circuit_items circuit))) }
+    {
+        let mut coins = coins;
+        match run_circuit(alloc, &circuit, n, &mut coins) {
+            Ok(ran) => {
+                let Ran {
+                    tableau,
+                    string,
+                    shot,
+                } = ran;
+                Ok(Session {
+                    alloc,
+                    circuit,
+                    stride,
+                    coins,
+                    tableau,
+                    string,
+                    shot,
+                })
+            }
+            Err(fault) => Err(OpenRefused {
+                fault,
+                circuit,
+                coins,
+            }),
+        }
+    }
+
+    /// The records, one for each measured target that has one.
+    pub fn records(&self) -> &[bool]
+        ensures value { result.now ≡ self.now.records }
+        ensures statement { IsRunOfItems C.sequence self.now }
+    {
+        self.shot.records.as_slice()
+    }
+
+    /// For each coin number, whether the coin decided the outcome.
+    pub fn free(&self) -> &[bool]
+        ensures value { result.now ≡ self.now.free }
+        ensures statement { IsRunOfItems C.sequence self.now }
+    {
+        self.shot.free.as_slice()
+    }
+
+    /// The parity of each detector's records.
+    pub fn detectors(&self) -> &[bool]
+        ensures value { result.now ≡ self.now.detectors }
+        ensures statement { IsRunOfItems C.sequence self.now }
+    {
+        self.shot.detectors.as_slice()
+    }
+
+    /// The parity of each observable's records, in the order of their numbers.
+    pub fn observables(&self) -> &[bool]
+        ensures value { result.now ≡ self.now.observables }
+        ensures statement { IsRunOfItems C.sequence self.now }
+    {
+        self.shot.observables.as_slice()
+    }
+
+    /// The circuit as it is now.
+    pub fn circuit(&self) -> &Circuit
+        ensures value { circuit_items result.now ≡ self.now.items }
+        ensures accepted { check_within self.now.qubits self.now.items ≡ None }
+    {
+        &self.circuit
+    }
+
+    /// The number of qubits.
+    pub fn qubits(&self) -> usize
+        ensures value { result ≡ self.now.qubits }
+        ensures in_range { result ≤ 1024 }
+    {
+        self.tableau.len()
+    }
+
+    /// The sign with which a string stabilises the state after the run, true for -, or `None` where
+    /// neither sign does.
+    ///
+    /// The string's own sign counts: the answer for -P is the other one than that for P.
+    pub fn sign_of(&mut self, pauli: &Pauli) -> Option<bool>
+        requires same_length { length pauli.now.letters ≡ self.old.qubits }
+        ensures unchanged { self.new ≡ self.old }
+        ensures some { (b : Bool) → (result ≡ Some b) ↔ (stabilises self.old.tableau (with_sign b pauli.now) ≡ true) }
+        ensures none { (result ≡ None) ↔ (is_free_by (stabilises self.old.tableau) pauli.now ≡ true) }
+        ensures statement { IsRunOfItems C.sequence self.old }
+    {
+        self.tableau.sign_of(pauli)
+    }
+
+    /// The reduced rows of the strings that stabilise the state after the run, in the order of
+    /// `Tableau::reduced_rows`.
+    ///
+    /// Refusal `OutOfMemory` alone.
+    pub fn reduced_rows(&mut self, alloc: Global) -> Result<Vec<Pauli>, Refusal>
+        ensures unchanged { self.new ≡ self.old }
+        ensures count { IfOk result (λ rows. length rows.items ≡ self.old.qubits) }
+        ensures reduced { IfOk result (λ rows. AreReduced self.old.qubits (stabilises self.old.tableau) rows.items) }
+        ensures reduced_of_run { IfOk result (λ rows. AreReduced self.old.qubits (member (run_of self.old.qubits (C.sequence self.old.coins) self.old.items).trace) rows.items) }
+        ensures statement { IsRunOfItems C.sequence self.old }
+        ensures err { IfErr result (λ r. r ≡ OutOfMemory) }
+    {
+        self.tableau.reduced_rows(alloc)
+    }
+
+    /// A law, and no work: whatever the coins, the trace of the run fits the qubits and is sound.
+    pub fn runs_are_sound(&self)
+        ensures law { (coins : ℕ → Bool) → IsSoundRun self.now.qubits coins self.now.items }
+    {
+        let _ = &self.circuit;
+    }
+}
+
+#[cfg(test)]
+mod tests;

@@ -1,0 +1,102 @@
+"""Numbers of a circuit: qubits, observables, unrolled steps and records, and how far back it looks."""
+
+from .reading import COLLAPSES, CONTROLLED, MOST_STEPS, Block, Refused
+
+
+def steps_of(operation):
+    """The unrolled steps of one instruction, as tuples that begin with their kind."""
+    name, targets = operation.name, operation.targets
+    if name == "DETECTOR":
+        return [("detector", targets)]
+    if name == "OBSERVABLE_INCLUDE":
+        return [("observable", operation.number, targets)]
+    if name in ("TICK", "QUBIT_COORDS", "SHIFT_COORDS"):
+        return []
+    if name == "MPP":
+        return [("product", factors) for factors in targets]
+    if name in COLLAPSES:
+        return [("collapse", *COLLAPSES[name], qubit, inverted) for qubit, inverted in targets]
+    if name in CONTROLLED or name == "SWAP":
+        return [pair_step(name, a, b) for a, b in zip(targets[::2], targets[1::2])]
+    return [("gate", name, qubit) for qubit in targets]
+
+
+def pair_step(name, first, second):
+    if isinstance(first, tuple):
+        return ("controlled", CONTROLLED[name], first[1], second)
+    return ("pair", name, first, second)
+
+
+def lookbacks(step):
+    if step[0] in ("detector", "observable"):
+        return step[-1]
+    return [step[2]] if step[0] == "controlled" else []
+
+
+def records_of(step):
+    return int(step[0] == "product" or (step[0] == "collapse" and step[2]))
+
+
+def summary(items):
+    """Steps, records, and how many records must stand before: all counted without unrolling."""
+    steps = records = need = 0
+    for item in items:
+        if isinstance(item, Block):
+            inner_steps, inner_records, inner_need = summary(item.body)
+            need = max(need, inner_need - records)
+            steps += item.count * inner_steps
+            records += item.count * inner_records
+            continue
+        for step in steps_of(item):
+            need = max([need] + [k - records for k in lookbacks(step)])
+            records += records_of(step)
+            steps += 1
+    return steps, records, need
+
+
+def check(items):
+    """Refuses a whole circuit: 8 before 9."""
+    steps, _, need = summary(items)
+    if need > 0:
+        raise Refused(8)
+    if steps > MOST_STEPS:
+        raise Refused(9)
+
+
+def qubits_named(item):
+    for target in item.targets:
+        if item.name == "MPP":
+            yield from (qubit for _, qubit, _ in target)
+        elif item.name in COLLAPSES:
+            yield target[0]
+        elif isinstance(target, int) and item.name not in ("DETECTOR", "OBSERVABLE_INCLUDE"):
+            yield target
+
+
+def greatest(items, numbers):
+    """One more than the greatest number of any instruction, or 0."""
+    most = 0
+    for item in items:
+        if isinstance(item, Block):
+            most = max(most, greatest(item.body, numbers))
+        else:
+            most = max([most] + [number + 1 for number in numbers(item)])
+    return most
+
+
+def qubits(items):
+    return greatest(items, qubits_named)
+
+
+def observables(items):
+    return greatest(items, lambda item: [item.number] if item.name == "OBSERVABLE_INCLUDE" else [])
+
+
+def unroll(items):
+    for item in items:
+        if isinstance(item, Block):
+            if summary(item.body)[0] > 0:
+                for _ in range(item.count):
+                    yield from unroll(item.body)
+        else:
+            yield from steps_of(item)

@@ -1,0 +1,239 @@
+"""Circuit text: what each line means, the items of a text, and the one fault of a text that has none."""
+
+from dataclasses import dataclass, field
+from typing import Optional
+
+SPACING = b" \t\r"
+DIGITS = frozenset(b"0123456789")
+LETTERS = frozenset(range(65, 91)) | frozenset(range(97, 123))
+NAME_BYTES = LETTERS | DIGITS | {95}
+COORDINATE_BYTES = frozenset(b"0123456789+-.eE")
+
+MOST_BYTES = 16_777_216
+MOST_QUBITS = 1_024
+MOST_OBSERVABLES = 4_096
+MOST_STEPS = 1_048_576
+MOST_LOOKBACK = 16_777_215
+MOST_DEPTH = 16
+MOST_COUNT_DIGITS = 18
+
+REFUSALS = {
+    1: "UnsupportedName", 2: "BadArguments", 3: "BadTarget", 4: "BadPairing", 5: "BadBlock", 6: "QubitOutOfRange",
+    7: "ObservableOutOfRange", 8: "LookbackTooFar", 9: "TooManySteps", 10: "TooDeep", 11: "BadLine", 14: "TooLong",
+}
+
+ONE_QUBIT = ["I", "X", "Y", "Z", "H", "S", "S_DAG", "SQRT_X", "SQRT_X_DAG", "SQRT_Y", "SQRT_Y_DAG", "C_XYZ", "C_ZYX"]
+CONTROLLED = {"CX": "X", "CY": "Y", "CZ": "Z"}
+# Which letter is measured, whether it is recorded, and whether the qubit is reset.
+COLLAPSES = {
+    "M": ("Z", True, False), "MX": ("X", True, False), "MY": ("Y", True, False),
+    "MR": ("Z", True, True), "MRX": ("X", True, True), "MRY": ("Y", True, True),
+    "R": ("Z", False, True), "RX": ("X", False, True), "RY": ("Y", False, True),
+}
+OTHERS = ["SWAP", "MPP", "DETECTOR", "OBSERVABLE_INCLUDE", "TICK", "QUBIT_COORDS", "SHIFT_COORDS", "REPEAT"]
+ALIASES = {
+    "H_XZ": "H", "SQRT_Z": "S", "SQRT_Z_DAG": "S_DAG", "CNOT": "CX", "ZCX": "CX", "ZCY": "CY", "ZCZ": "CZ",
+    "MZ": "M", "MRZ": "MR", "RZ": "R",
+}
+NAMES = ONE_QUBIT + list(CONTROLLED) + list(COLLAPSES) + OTHERS
+WITH_COORDINATES = ("DETECTOR", "QUBIT_COORDS", "SHIFT_COORDS")
+
+
+class Refused(Exception):
+    """A refusal of a text: its number, and its line or 0."""
+
+    def __init__(self, number, line=0):
+        super().__init__(number, line)
+        self.number = number
+        self.line = line
+
+
+@dataclass
+class Operation:
+    """One instruction: its first name, the number of an observable, and its targets as tuples."""
+
+    name: str
+    number: Optional[int]
+    targets: list
+
+
+@dataclass
+class Block:
+    """A body that is gone through `count` times."""
+
+    count: int
+    body: list = field(default_factory=list)
+
+
+def is_digits(text):
+    return len(text) > 0 and all(byte in DIGITS for byte in text)
+
+
+def content_of(line):
+    return line.split(b"#", 1)[0].strip(SPACING)
+
+
+def cut(content):
+    """The name, the arguments, the words of the targets and whether `{` ends it; 11 where it has no shape."""
+    if content[0] not in LETTERS:
+        raise Refused(11)
+    at = 0
+    while at < len(content) and content[at] in NAME_BYTES:
+        at += 1
+    name = content[:at].decode().upper()
+    if content[at:at + 1] == b"[":
+        end = content.find(b"]", at)
+        if end < 0:
+            raise Refused(11)
+        at = end + 1
+    arguments = b""
+    rest = content[at:]
+    opens = rest.endswith(b"{")
+    if b"{" in rest[:-1] or b"}" in rest:
+        raise Refused(11)
+    if rest.startswith(b"("):
+        end = rest.find(b")")
+        if end < 0:
+            raise Refused(11)
+        arguments, rest = rest[1:end], rest[end + 1:]
+    if opens:
+        rest = rest[:-1]
+    if rest and rest[0] not in SPACING:
+        raise Refused(11)
+    words = [word for word in rest.replace(b"\t", b" ").replace(b"\r", b" ").split(b" ") if word]
+    return name, split_arguments(arguments), words, opens
+
+
+def split_arguments(text):
+    return [part.strip(SPACING) for part in text.split(b",")] if text.strip(SPACING) else []
+
+
+def check_arguments(name, arguments):
+    """The number of an observable, or None; 2 where the arguments do not suit the name."""
+    if name in WITH_COORDINATES:
+        if not all(a and all(byte in COORDINATE_BYTES for byte in a) for a in arguments):
+            raise Refused(2)
+        return None
+    if name == "OBSERVABLE_INCLUDE":
+        if len(arguments) != 1 or not is_digits(arguments[0]):
+            raise Refused(2)
+        return int(arguments[0])
+    if arguments:
+        raise Refused(2)
+    return None
+
+
+def qubit_of(word):
+    if not is_digits(word):
+        raise Refused(3)
+    if int(word) >= MOST_QUBITS:
+        raise Refused(6)
+    return int(word)
+
+
+def record_of(word):
+    digits = word[5:-1]
+    if not (word.startswith(b"rec[-") and word.endswith(b"]") and is_digits(digits)):
+        raise Refused(3)
+    if not 1 <= int(digits) <= MOST_LOOKBACK:
+        raise Refused(3)
+    return int(digits)
+
+
+def product_of(word):
+    """The factors of a product, each a letter, a qubit and whether `!` stands before it."""
+    factors = []
+    for part in word.split(b"*"):
+        inverted = part.startswith(b"!")
+        part = part[1:] if inverted else part
+        if part[:1].upper() not in (b"X", b"Y", b"Z") or not is_digits(part[1:]):
+            raise Refused(3)
+        factors.append((part[:1].upper().decode(), int(part[1:]), inverted))
+    if any(qubit >= MOST_QUBITS for _, qubit, _ in factors):
+        raise Refused(6)
+    if len({qubit for _, qubit, _ in factors}) < len(factors):
+        raise Refused(3)
+    return factors
+
+
+def target_of(name, place, word):
+    """One target, in order from the left: 3 for its kind or spelling, 6 for a qubit's number."""
+    if name in ("DETECTOR", "OBSERVABLE_INCLUDE"):
+        return record_of(word)
+    if name in ("TICK", "SHIFT_COORDS"):
+        raise Refused(3)
+    if name == "REPEAT":
+        if not is_digits(word):
+            raise Refused(3)
+        return word
+    if name == "MPP":
+        return product_of(word)
+    if name in CONTROLLED and place % 2 == 0 and word.startswith(b"rec"):
+        return ("record", record_of(word))
+    if name in COLLAPSES and COLLAPSES[name][1] and word.startswith(b"!"):
+        return (qubit_of(word[1:]), True)
+    if name in COLLAPSES:
+        return (qubit_of(word), False)
+    return qubit_of(word)
+
+
+def check_pairs(name, targets):
+    if name not in CONTROLLED and name != "SWAP":
+        return
+    if len(targets) % 2 or any(a == b for a, b in zip(targets[::2], targets[1::2])):
+        raise Refused(4)
+
+
+def check_block(name, targets, opens):
+    if opens != (name == "REPEAT"):
+        raise Refused(5)
+    if name == "REPEAT" and (len(targets) != 1 or len(targets[0]) > MOST_COUNT_DIGITS or int(targets[0]) == 0):
+        raise Refused(5)
+
+
+def meaning_of(content):
+    """None for a blank line, "}" for a closing brace, else an operation or an empty block."""
+    if not content:
+        return None
+    if content == b"}":
+        return "}"
+    spelled, arguments, words, opens = cut(content)
+    name = ALIASES.get(spelled, spelled)
+    if name not in NAMES:
+        raise Refused(1)
+    number = check_arguments(name, arguments)
+    targets = [target_of(name, place, word) for place, word in enumerate(words)]
+    check_pairs(name, targets)
+    check_block(name, targets, opens)
+    if number is not None and number >= MOST_OBSERVABLES:
+        raise Refused(7)
+    return Block(int(targets[0])) if name == "REPEAT" else Operation(name, number, targets)
+
+
+def items_of(text):
+    """The items that a text stands for; its first fault, with its line, where it stands for none."""
+    if len(text) > MOST_BYTES:
+        raise Refused(14)
+    items = []
+    opened = []
+    for number, line in enumerate(text.split(b"\n"), 1):
+        try:
+            meaning = meaning_of(content_of(line))
+        except Refused as refused:
+            raise Refused(refused.number, number) from None
+        if meaning is None:
+            continue
+        if meaning == "}":
+            if not opened:
+                raise Refused(5, number)
+            opened.pop()
+            continue
+        body = opened[-1][0].body if opened else items
+        if isinstance(meaning, Block):
+            if len(opened) == MOST_DEPTH:
+                raise Refused(10, number)
+            opened.append((meaning, number))
+        body.append(meaning)
+    if opened:
+        raise Refused(5, opened[-1][1])
+    return items
