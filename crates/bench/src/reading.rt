@@ -15,10 +15,10 @@ const ROUNDS: u32 = 100_000;
 /// The best of so many readings counts, since other programs disturb the rest.
 const READINGS: u32 = 5;
 
-/// A long circuit text, of twelve megabytes and 800,004 steps.
-fn long_text(alloc: Global) -> Result<Vec<u8>, AllocError> {
+/// A long circuit text: four measurements, and then so many rounds.
+pub fn long_text(alloc: Global, rounds: u32) -> Result<Vec<u8>, AllocError> {
     let mut text = Vec::from_slice(alloc, b"M 0 0 0 0\n")?;
-    for _ in 0..ROUNDS {
+    for _ in 0..rounds {
         text.extend_from_slice(ROUND)?;
     }
     Ok(text)
@@ -26,7 +26,7 @@ fn long_text(alloc: Global) -> Result<Vec<u8>, AllocError> {
 
 /// Prints how long it takes to read a long circuit text, and the time for each byte of it.
 pub fn print_time<R: CpuClock + AllocGlobal + Print>(rt: &R) -> Result<(), Failure> {
-    let text = long_text(rt.alloc())?;
+    let text = long_text(rt.alloc(), ROUNDS)?;
     let least = best_time(rt, text.as_slice())?;
     let (bytes, seconds) = (text.len(), least.as_secs_f64());
     let each = seconds * 1e9 / nearest_usize_to_f64(bytes);

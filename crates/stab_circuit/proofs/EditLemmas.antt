@@ -6,10 +6,13 @@ use Rattle.std.specs.Prelude.{slice_get}
 use Rattle.std.proofs.lemmas.Option.{slice_get_within}
 use Rattle.stab_pauli.specs.declared.refusal.Refusal.{Refusal}
 use Rattle.stab_pauli.specs.declared.refusal.Refusal.TheVariants.{PlaceOutOfRange}
+use Rattle.stab_circuit.specs.declared.change.Change.{Change}
+use Rattle.stab_circuit.specs.declared.change.Change.TheVariants.{Insert, Replace, Delete}
 use Rattle.stab_circuit.specs.Items.{Items, OneItem, operation, repeat, done, next, block, before, listed, entries}
 use Rattle.stab_circuit.specs.Steps.{Step, unroll, rounds}
 use Rattle.stab_circuit.specs.Paths.{Path}
-use Rattle.stab_circuit.specs.Edits.{Change, Insert, Replace, Delete, put, rebuilt, edited_inside, changed, edited_in, edited, inner, steps_in, steps_before, behind_taken, behind_put, outermost, first_changed, old_end, new_end}
+use Rattle.stab_circuit.specs.Edits.{put, rebuilt, edited_inside, changed, edited_in, edited, inner, steps_in, steps_before, behind_taken, behind_put, outermost, first_changed, old_end, new_end}
+use Rattle.stab_circuit.specs.inner.Judgements.{BeginsWith}
 use Rattle.stab_circuit.specs.Laws.{LeavesTheRest}
 use Rattle.stab_circuit.proofs.ItemLemmas.{listed-append}
 use Rattle.stab_circuit.proofs.StepLemmas.{unroll-join}
@@ -31,10 +34,10 @@ listed-entries (block c t body rest) = ap (block c t body) (listed-entries rest)
 abbrev steps : List OneItem → List Step
 steps xs = unroll (listed xs)
 
-steps-append : (xs ys : List OneItem) → steps (xs ++ ys) ≡ steps xs ++ steps ys
+pub steps-append : (xs ys : List OneItem) → steps (xs ++ ys) ≡ steps xs ++ steps ys
 steps-append xs ys = ap unroll (listed-append xs ys) ∙ unroll-join (listed xs) (listed ys)
 
-steps_split : (n : ℕ) (xs : List OneItem) → steps xs ≡ steps (take n xs) ++ steps (drop n xs)
+pub steps_split : (n : ℕ) (xs : List OneItem) → steps xs ≡ steps (take n xs) ++ steps (drop n xs)
 steps_split n xs = sym (ap steps (take-append-drop n xs)) ∙ steps-append (take n xs) (drop n xs)
 
 steps_dropped : (n : ℕ) (xs : List OneItem) → drop (length (steps (take n xs))) (steps xs) ≡ steps (drop n xs)
@@ -51,17 +54,17 @@ behind_put_is (Insert x) p = refl
 behind_put_is (Replace x) p = refl
 behind_put_is Delete p = omega arith
 
-if_ok : {A B : Type 0} (c : Bool) (a b : A) (r : B) → (if c then Ok a else Err r) ≡ Ok b → (c ≡ true) × (a ≡ b)
+pub if_ok : {A B : Type 0} (c : Bool) (a b : A) (r : B) → (if c then Ok a else Err r) ≡ Ok b → (c ≡ true) × (a ≡ b)
 if_ok true a b r e = (refl, cc)
 if_ok false a b r e = absurd (cc)
 
-le_holds : (m n : ℕ) → nat_le m n ≡ true → m ≤ n
+pub le_holds : (m n : ℕ) → nat_le m n ≡ true → m ≤ n
 le_holds m n e = grind arith
 
-lt_holds : (m n : ℕ) → nat_lt m n ≡ true → m < n
+pub lt_holds : (m n : ℕ) → nat_lt m n ≡ true → m < n
 lt_holds m n e = grind arith
 
-next_place : (p : ℕ) → suc p ≡ p + 1
+pub next_place : (p : ℕ) → suc p ≡ p + 1
 next_place p = omega arith
 
 -- a list that is changed, in parts
@@ -93,44 +96,40 @@ changed_behind change p xs ys e =
     sym (ap (drop (behind_put change p)) (s.1 ∙ sym (append_assoc (take p xs) (put_in change) rest)) ∙ drop_at front rest (behind_put change p) long)
 
 -- a list with an item rebuilt in it
-record Rebuilds (edit : List OneItem → Result (List OneItem) Refusal) (b : ℕ) (xs ys : List OneItem) : Type 0 where
-  count : ℕ
-  tag : List ℕ
-  body : Items
-  within : List OneItem
-  found : slice_get xs b ≡ Some (repeat count tag body)
-  edited : edit (entries body) ≡ Ok within
-  same : ys ≡ set xs b (repeat count tag (listed within))
+pub record Rebuilds (edit : List OneItem → Result (List OneItem) Refusal) (b : ℕ) (xs ys : List OneItem) : Type 0 where
+  pub count : ℕ
+  pub tag : List ℕ
+  pub body : Items
+  pub within : List OneItem
+  pub found : slice_get xs b ≡ Some (repeat count tag body)
+  pub edited : edit (entries body) ≡ Ok within
+  pub same : ys ≡ set xs b (repeat count tag (listed within))
 
 rebuilds_by : (edit : List OneItem → Result (List OneItem) Refusal) (b : ℕ) (xs ys : List OneItem) (count : ℕ) (tag : List ℕ) (body : Items) (r : Result (List OneItem) Refusal)
     → slice_get xs b ≡ Some (repeat count tag body) → edit (entries body) ≡ r → put b xs (rebuilt count tag r) ≡ Ok ys → Rebuilds edit b xs ys
 rebuilds_by edit b xs ys count tag body (Err r) f g e = absurd (cc)
 rebuilds_by edit b xs ys count tag body (Ok zs) f g e = record { count = count; tag = tag; body = body; within = zs; found = f; edited = g; same = cc }
 
-rebuilds : (edit : List OneItem → Result (List OneItem) Refusal) (b : ℕ) (xs ys : List OneItem) (g : Option OneItem)
+pub rebuilds : (edit : List OneItem → Result (List OneItem) Refusal) (b : ℕ) (xs ys : List OneItem) (g : Option OneItem)
     → slice_get xs b ≡ g → put b xs (edited_inside edit g) ≡ Ok ys → Rebuilds edit b xs ys
 rebuilds edit b xs ys None f e = absurd (cc)
 rebuilds edit b xs ys (Some (operation op)) f e = absurd (cc)
 rebuilds edit b xs ys (Some (repeat count tag body)) f e = rebuilds_by edit b xs ys count tag body (edit (entries body)) f refl e
 
 -- a list around one of its items
-got_split : (xs : List OneItem) (b : ℕ) (x : OneItem) → slice_get xs b ≡ Some x → xs ≡ take b xs ++ x ∷ drop (suc b) xs
+pub got_split : (xs : List OneItem) (b : ℕ) (x : OneItem) → slice_get xs b ≡ Some x → xs ≡ take b xs ++ x ∷ drop (suc b) xs
 got_split [] b x e = absurd (cc)
 got_split (y ∷ xs) zero x e = let same : y ≡ x = cc in ap (λ z. z ∷ xs) same
 got_split (y ∷ xs) (suc b) x e = ap (λ l. y ∷ l) (got_split xs b x e)
-
--- the first of the steps are these
-abbrev BeginsWith : List Step → List Step → Type 0
-BeginsWith front all = (rest : List Step) × (all ≡ front ++ rest)
 
 -- both begin with these steps, or are the same
 abbrev AreSame : List Step → List Step → List Step → Type 0
 AreSame front old new = (old ≡ new) ⊎ (BeginsWith front old × BeginsWith front new)
 
-begins_before : (front old rest : List Step) → BeginsWith front old → BeginsWith front (old ++ rest)
+pub begins_before : (front old rest : List Step) → BeginsWith front old → BeginsWith front (old ++ rest)
 begins_before front old rest h = (h.0 ++ rest, ap (λ l. l ++ rest) h.1 ∙ append_assoc front h.0 rest)
 
-begins_behind : (some front old : List Step) → BeginsWith front old → BeginsWith (some ++ front) (some ++ old)
+pub begins_behind : (some front old : List Step) → BeginsWith front old → BeginsWith (some ++ front) (some ++ old)
 begins_behind some front old h = (h.0, ap (λ l. some ++ l) h.1 ∙ sym (append_assoc some front h.0))
 
 same_rounds : (n : ℕ) (front old new : List Step) → AreSame front old new → AreSame front (rounds n old) (rounds n new)

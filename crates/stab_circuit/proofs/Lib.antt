@@ -4,7 +4,9 @@ mod ViewLemmas
 mod ReaderLemmas
 mod PrintLemmas
 mod StepLemmas
-mod CursorLemmas
+mod StepApartLemmas
+mod WalkLemmas
+mod SkipLemmas
 mod SummaryLemmas
 mod FaultLemmas
 mod ReadingLemmas
@@ -17,3 +19,8 @@ pub mod ApartLemmas
 mod ItemTextLemmas
 mod CircuitFaultLemmas
 mod EditLemmas
+mod SpliceLemmas
+mod JudgementLemmas
+mod CommitLemmas
+mod EditingLemmas
+mod TickLemmas

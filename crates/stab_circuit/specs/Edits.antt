@@ -3,15 +3,11 @@ use Rattle.std.specs.Prelude.{ℕ, ◌+◌, nat_lt, nat_le, List, [], ◌∷◌,
 use Rattle.std.specs.List.{insert, remove}
 use Rattle.stab_pauli.specs.declared.refusal.Refusal.{Refusal}
 use Rattle.stab_pauli.specs.declared.refusal.Refusal.TheVariants.{PlaceOutOfRange, NotABlock, TooDeep}
+use Rattle.stab_circuit.specs.declared.change.Change.{Change}
+use Rattle.stab_circuit.specs.declared.change.Change.TheVariants.{Insert, Replace, Delete}
 use Rattle.stab_circuit.specs.Items.{OneItem, operation, repeat, listed, entries, depth}
 use Rattle.stab_circuit.specs.Steps.{Step, unroll, check_within}
 use Rattle.stab_circuit.specs.Paths.{Path}
-
--- a change at a place of a list
-pub data Change : Type 0 where
-  Insert : OneItem → Change
-  Replace : OneItem → Change
-  Delete : Change
 
 -- a list with an item that became another, unless that was refused
 abbrev pub put : ℕ → List OneItem → Result OneItem Refusal → Result (List OneItem) Refusal
@@ -59,6 +55,33 @@ abbrev pub inner : Option OneItem → List OneItem
 inner None = []
 inner (Some (operation op)) = []
 inner (Some (repeat count tag body)) = entries body
+
+-- the item that a change at a place takes out of its list
+abbrev pub taken_at : Change → ℕ → List OneItem → Option OneItem
+taken_at (Insert x) p xs = None
+taken_at (Replace x) p xs = slice_get xs p
+taken_at Delete p xs = slice_get xs p
+
+-- the item that a change takes out at a place in the last of these blocks
+abbrev pub taken_in : Change → List ℕ → ℕ → List OneItem → Option OneItem
+taken_in change [] p xs = taken_at change p xs
+taken_in change (b ∷ bs) p xs = taken_in change bs p (inner (slice_get xs b))
+
+-- the item that a change at a path takes out
+abbrev pub taken : Change → Path → List OneItem → Option OneItem
+taken change path xs = taken_in change path.blocks path.place xs
+
+-- the item that a change puts in
+abbrev pub put_item : Change → Option OneItem
+put_item (Insert x) = Some x
+put_item (Replace x) = Some x
+put_item Delete = None
+
+-- a change that may take memory
+abbrev pub IsInsert : Change → Type 0
+IsInsert (Insert x) = Unit {0}
+IsInsert (Replace x) = ⊥
+IsInsert Delete = ⊥
 
 -- the steps before a place in the last of these blocks, in the first round of each
 abbrev pub steps_in : List ℕ → ℕ → List OneItem → List Step

@@ -4,6 +4,7 @@ use Rattle.std.specs.List.{slice_split}
 use Rattle.stab_pauli.specs.declared.refusal.Fault.{Fault}
 use Rattle.stab_lines.specs.Lines.{is_byte}
 use Rattle.stab_lines.specs.Laws.{IsLine}
+use Rattle.stab_circuit.specs.declared.change.Change.{Change}
 use Rattle.stab_circuit.specs.Items.{Items, OneItem, listed}
 use Rattle.stab_circuit.specs.Circuits.{most_bytes, line_meanings, fault_from, Joins, text_fault, item_fault, StandsFor, StandsForOne}
 use Rattle.stab_circuit.specs.Prints.{printed}
@@ -12,7 +13,7 @@ use Rattle.stab_circuit.specs.Cursors.{IsApart}
 use Rattle.stab_circuit.specs.Readings.{IsCircuit, IsFaultOf}
 use Rattle.stab_circuit.specs.Steps.{unroll}
 use Rattle.stab_circuit.specs.Paths.{Path}
-use Rattle.stab_circuit.specs.Edits.{Change, edited, first_changed, old_end, new_end}
+use Rattle.stab_circuit.specs.Edits.{edited, first_changed, old_end, new_end}
 
 -- the text stands for the items, and for no others
 abbrev pub StandsForOnly : List ℕ → Items → Type 0

@@ -8,5 +8,7 @@ pub mod Cursors
 pub mod Prints
 pub mod Paths
 pub mod Edits
+pub mod Editings
+pub mod Ticks
 pub mod Laws
 pub mod inner

@@ -5,6 +5,8 @@ pub mod ItemSizes
 pub mod Parts
 pub mod Readers
 pub mod Texts
-pub mod Unrolled
+pub mod Walks
 pub mod Margins
 pub mod Places
+pub mod Splices
+pub mod Judgements

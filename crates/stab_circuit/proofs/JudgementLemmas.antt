@@ -1,0 +1,175 @@
+-- What an edit comes to, by kept summaries.
+use Rattle.std.proofs.Common.{◌≡◌, ◌≤◌, ◌<◌, refl, ap, sym, ◌∙◌, subst, ℕ, ◌+◌, suc, zero, min, List, [], ◌∷◌, ◌++◌, length, take, drop, arith, append-nil, Option, Some, None, Result, Ok, Err}
+use Rattle.std.proofs.lemmas.List.{length-append}
+use Rattle.std.specs.Prelude.{slice_get}
+use Rattle.stab_pauli.specs.declared.refusal.Refusal.{Refusal}
+use Rattle.stab_circuit.specs.declared.summary.Summary.{Summary}
+use Rattle.stab_circuit.specs.declared.edit.Judgement.{Judgement}
+use Rattle.stab_circuit.specs.declared.change.Change.{Change}
+use Rattle.stab_circuit.specs.Items.{OneItem, operation, repeat, listed}
+use Rattle.stab_circuit.specs.Steps.{Step, unroll, rounds}
+use Rattle.stab_circuit.specs.Edits.{rebuilt, edited_inside, edited_in, inner, steps_in}
+use Rattle.stab_circuit.specs.inner.Summaries.{summary_of, followed_by, repeated, reach, IsSummary}
+use Rattle.stab_circuit.specs.inner.Splices.{Splice, splice_block, splice_of, spliced, IsWithin}
+use Rattle.stab_circuit.specs.inner.Judgements.{summed, judgement_of, block_refusal, BeginsWith}
+use Rattle.stab_circuit.proofs.ItemLemmas.{listed-append}
+use Rattle.stab_circuit.proofs.SummaryLemmas.{summary-join, block_summary}
+use Rattle.stab_circuit.proofs.EditLemmas.{entries-listed, got_split, steps-append, steps_split, begins_before, begins_behind}
+use Rattle.stab_circuit.proofs.SpliceLemmas.{edited_spliced, splice_within}
+
+refused_inside : (edit : List OneItem → Result (List OneItem) Refusal) (g : Option OneItem) (r : Refusal) → block_refusal g ≡ Some r → edited_inside edit g ≡ Err r
+refused_inside edit None r e = cc
+refused_inside edit (Some (operation op)) r e = cc
+refused_inside edit (Some (repeat n tag body)) r e = absurd (cc)
+
+-- no block
+pub judged_no_block : (change : Change) (b p : ℕ) (bs blocks : List ℕ) (xs : List OneItem) (r : Refusal) → blocks ≡ b ∷ bs → block_refusal (slice_get xs b) ≡ Some r
+    → Err r ≡ judgement_of (splice_of change blocks p xs)
+judged_no_block change b p bs blocks xs r e f =
+    sym (ap (λ l. judgement_of (splice_of change l p xs)) e ∙ ap (λ q. judgement_of (splice_block b q)) (refused_inside (edited_in change bs p) (slice_get xs b) r f))
+
+inside_is : (edit : List OneItem → Result (List OneItem) Refusal) (n : ℕ) (tag : List ℕ) (body : List OneItem) (g : Option OneItem) → g ≡ Some (repeat n tag (listed body)) → edited_inside edit g ≡ rebuilt n tag (edit body)
+inside_is edit n tag body g e = ap (edited_inside edit) e ∙ ap (λ l. rebuilt n tag (edit l)) (entries-listed body)
+
+err_rebuilt : (n b : ℕ) (tag : List ℕ) (q : Result (List OneItem) Refusal) (r : Refusal) → summed q ≡ Err r → judgement_of (splice_block b (rebuilt n tag q)) ≡ Err r
+err_rebuilt n b tag (Ok ys) r e = absurd (cc)
+err_rebuilt n b tag (Err s) r e = cc
+
+ok_rebuilt : (n b : ℕ) (tag : List ℕ) (q : Result (List OneItem) Refusal) (s : Summary) → 0 < n → summed q ≡ Ok s
+    → judgement_of (splice_block b (rebuilt n tag q)) ≡ Ok (record { first = b; behind = b + 1; put = repeated n s })
+ok_rebuilt n b tag (Ok ys) s h e =
+    let same : summary_of (listed ys) ≡ s = cc in
+    ap (λ t. Ok (record { first = b; behind = b + 1; put = t })) (block_summary n tag (listed ys) h ∙ ap (repeated n) same)
+ok_rebuilt n b tag (Err r) s h e = absurd (cc)
+
+-- in a block
+judged_inside : (change : Change) (b p n : ℕ) (bs blocks tag : List ℕ) (xs body : List OneItem) → blocks ≡ b ∷ bs → slice_get xs b ≡ Some (repeat n tag (listed body))
+    → judgement_of (splice_of change blocks p xs) ≡ judgement_of (splice_block b (rebuilt n tag (edited_in change bs p body)))
+judged_inside change b p n bs blocks tag xs body e f =
+    ap (λ l. judgement_of (splice_of change l p xs)) e ∙ ap (λ q. judgement_of (splice_block b q)) (inside_is (edited_in change bs p) n tag body (slice_get xs b) f)
+
+pub judged_err : (change : Change) (b p n : ℕ) (bs blocks tag : List ℕ) (xs body : List OneItem) (r : Refusal) → blocks ≡ b ∷ bs → slice_get xs b ≡ Some (repeat n tag (listed body)) → Err r ≡ summed (edited_in change bs p body)
+    → Err r ≡ judgement_of (splice_of change blocks p xs)
+judged_err change b p n bs blocks tag xs body r e f h = sym (judged_inside change b p n bs blocks tag xs body e f ∙ err_rebuilt n b tag (edited_in change bs p body) r (sym h))
+
+pub judged_ok : (change : Change) (b p n : ℕ) (bs blocks tag : List ℕ) (xs body : List OneItem) (s : Summary) → blocks ≡ b ∷ bs → slice_get xs b ≡ Some (repeat n tag (listed body)) → 0 < n → Ok s ≡ summed (edited_in change bs p body)
+    → Ok (record { first = b; behind = b + 1; put = repeated n s }) ≡ judgement_of (splice_of change blocks p xs)
+judged_ok change b p n bs blocks tag xs body s e f pos h = sym (judged_inside change b p n bs blocks tag xs body e f ∙ ok_rebuilt n b tag (edited_in change bs p body) s pos (sym h))
+
+-- where a judgement lies in the list
+within_by : (q : Result Splice Refusal) (j : Judgement) (xs : List OneItem) → ((s : Splice) → q ≡ Ok s → IsWithin s xs) → Ok j ≡ judgement_of q → (j.first ≤ j.behind) × (j.behind ≤ length xs)
+within_by (Ok s) j xs f e =
+    let w = f s refl in
+    let same : j ≡ record { first = s.first; behind = s.behind; put = summary_of (listed s.put) } = cc in
+    (omega (arith, ap (λ t. t.first) same, ap (λ t. t.behind) same, w.order), omega (arith, ap (λ t. t.behind) same, w.end))
+within_by (Err r) j xs f e = absurd (cc)
+
+pub judged_within : (change : Change) (blocks : List ℕ) (p : ℕ) (xs : List OneItem) (j : Judgement) → Ok j ≡ judgement_of (splice_of change blocks p xs) → (j.first ≤ j.behind) × (j.behind ≤ length xs)
+judged_within change blocks p xs j e = within_by (splice_of change blocks p xs) j xs (λ s h. splice_within change blocks p xs s h) e
+
+-- the summary of a list with items put into it
+put_summary : (front put back : List OneItem) → (summary_of (listed put)).reach ≤ 16777215 → (summary_of (listed back)).reach ≤ 16777215
+    → summary_of (listed (front ++ (put ++ back))) ≡ followed_by (summary_of (listed front)) (followed_by (summary_of (listed put)) (summary_of (listed back)))
+put_summary front put back near far =
+    let inner : summary_of (listed (put ++ back)) ≡ followed_by (summary_of (listed put)) (summary_of (listed back)) = ap summary_of (listed-append put back) ∙ summary-join (listed put) (listed back) far in
+    let small : reach (unroll (listed (put ++ back))) ≤ 16777215 = omega (arith, ap (λ s. s.reach) inner, near, far) in
+    ap summary_of (listed-append front (put ++ back)) ∙ summary-join (listed front) (listed (put ++ back)) small ∙ ap (followed_by (summary_of (listed front))) inner
+
+summed_by : (q : Result Splice Refusal) (j : Judgement) (xs : List OneItem) → Ok j ≡ judgement_of q → IsSummary j.put → (summary_of (listed (drop j.behind xs))).reach ≤ 16777215
+    → Ok (followed_by (summary_of (listed (take j.first xs))) (followed_by j.put (summary_of (listed (drop j.behind xs))))) ≡ summed (spliced xs q)
+summed_by (Ok s) j xs e small far =
+    let same : j ≡ record { first = s.first; behind = s.behind; put = summary_of (listed s.put) } = cc in
+    let first : j.first ≡ s.first = ap (λ t. t.first) same in
+    let behind : j.behind ≡ s.behind = ap (λ t. t.behind) same in
+    let put : j.put ≡ summary_of (listed s.put) = ap (λ t. t.put) same in
+    let near : (summary_of (listed s.put)).reach ≤ 16777215 = omega (arith, small.reach, ap (λ t. t.reach) put) in
+    let far' : (summary_of (listed (drop s.behind xs))).reach ≤ 16777215 = subst (λ n. (summary_of (listed (drop n xs))).reach ≤ 16777215) behind far in
+    ap (λ n. Ok (followed_by (summary_of (listed (take n xs))) (followed_by j.put (summary_of (listed (drop j.behind xs)))))) first
+    ∙ ap (λ n. Ok (followed_by (summary_of (listed (take s.first xs))) (followed_by j.put (summary_of (listed (drop n xs)))))) behind
+    ∙ ap (λ t. Ok (followed_by (summary_of (listed (take s.first xs))) (followed_by t (summary_of (listed (drop s.behind xs)))))) put
+    ∙ ap Ok (sym (put_summary (take s.first xs) s.put (drop s.behind xs) near far'))
+summed_by (Err r) j xs e small far = absurd (cc)
+
+summed_judged : (change : Change) (blocks : List ℕ) (p : ℕ) (xs : List OneItem) (j : Judgement) → Ok j ≡ judgement_of (splice_of change blocks p xs) → IsSummary j.put → (summary_of (listed (drop j.behind xs))).reach ≤ 16777215
+    → Ok (followed_by (summary_of (listed (take j.first xs))) (followed_by j.put (summary_of (listed (drop j.behind xs))))) ≡ summed (edited_in change blocks p xs)
+summed_judged change blocks p xs j e small far = summed_by (splice_of change blocks p xs) j xs e small far ∙ ap summed (sym (edited_spliced change blocks p xs))
+
+err_by : (q : Result Splice Refusal) (xs : List OneItem) (r : Refusal) → Err r ≡ judgement_of q → Err r ≡ summed (spliced xs q)
+err_by (Ok s) xs r e = absurd (cc)
+err_by (Err s) xs r e = cc
+
+pub summed_refused : (change : Change) (blocks : List ℕ) (p : ℕ) (xs : List OneItem) (r : Refusal) → Err r ≡ judgement_of (splice_of change blocks p xs) → Err r ≡ summed (edited_in change blocks p xs)
+summed_refused change blocks p xs r e = err_by (splice_of change blocks p xs) xs r e ∙ ap summed (sym (edited_spliced change blocks p xs))
+
+pub summed_around : (change : Change) (blocks : List ℕ) (p : ℕ) (xs front back : List OneItem) (j : Judgement) (s : Summary) → Ok j ≡ judgement_of (splice_of change blocks p xs) → IsSummary j.put
+    → front ≡ take j.first xs → back ≡ drop j.behind xs → (summary_of (listed back)).reach ≤ 16777215 → s ≡ followed_by (summary_of (listed front)) (followed_by j.put (summary_of (listed back)))
+    → Ok s ≡ summed (edited_in change blocks p xs)
+summed_around change blocks p xs front back j s e small f g far h =
+    ap Ok h
+    ∙ ap (λ l. Ok (followed_by (summary_of (listed l)) (followed_by j.put (summary_of (listed back))))) f
+    ∙ ap (λ l. Ok (followed_by (summary_of (listed (take j.first xs))) (followed_by j.put (summary_of (listed l))))) g
+    ∙ summed_judged change blocks p xs j e small (subst (λ l. (summary_of (listed l)).reach ≤ 16777215) g far)
+
+-- the steps before a place in nested blocks
+no_steps : (bs : List ℕ) (p : ℕ) → steps_in bs p [] ≡ []
+no_steps [] zero = refl
+no_steps [] (suc p) = refl
+no_steps (zero ∷ bs) p = no_steps bs p
+no_steps (suc b ∷ bs) p = no_steps bs p
+
+nothing_in : (g : Option OneItem) (r : Refusal) → block_refusal g ≡ Some r → inner g ≡ []
+nothing_in None r e = refl
+nothing_in (Some (operation op)) r e = refl
+nothing_in (Some (repeat n tag body)) r e = absurd (cc)
+
+steps_no_block : (b p : ℕ) (bs blocks : List ℕ) (xs : List OneItem) (r : Refusal) → blocks ≡ b ∷ bs → block_refusal (slice_get xs b) ≡ Some r → steps_in blocks p xs ≡ unroll (listed (take b xs))
+steps_no_block b p bs blocks xs r e f =
+    ap (λ l. steps_in l p xs) e
+    ∙ ap (λ l. unroll (listed (take b xs)) ++ steps_in bs p l) (nothing_in (slice_get xs b) r f)
+    ∙ ap (λ l. unroll (listed (take b xs)) ++ l) (no_steps bs p)
+    ∙ append-nil (unroll (listed (take b xs)))
+
+pub few_no_block : (b p : ℕ) (bs blocks : List ℕ) (xs : List OneItem) (r : Refusal) (n : ℕ) → blocks ≡ b ∷ bs → block_refusal (slice_get xs b) ≡ Some r → n ≡ min (length (unroll (listed (take b xs)))) 1048577
+    → n ≡ min (length (steps_in blocks p xs)) 1048577
+few_no_block b p bs blocks xs r n e f h = h ∙ ap (λ l. min (length l) 1048577) (sym (steps_no_block b p bs blocks xs r e f))
+
+-- the steps of the first items
+pub begins_up_to : (n : ℕ) (xs : List OneItem) → BeginsWith (unroll (listed (take n xs))) (unroll (listed xs))
+begins_up_to n xs = (unroll (listed (drop n xs)), steps_split n xs)
+
+pub begins_at : (p : ℕ) (blocks : List ℕ) (xs : List OneItem) → length blocks ≡ 0 → BeginsWith (steps_in blocks p xs) (unroll (listed xs))
+begins_at p [] xs e = begins_up_to p xs
+begins_at p (b ∷ bs) xs e = absurd (omega arith)
+
+pub begins_no_block : (b p : ℕ) (bs blocks : List ℕ) (xs : List OneItem) (r : Refusal) → blocks ≡ b ∷ bs → block_refusal (slice_get xs b) ≡ Some r → BeginsWith (steps_in blocks p xs) (unroll (listed xs))
+begins_no_block b p bs blocks xs r e f = subst (λ l. BeginsWith l (unroll (listed xs))) (sym (steps_no_block b p bs blocks xs r e f)) (begins_up_to b xs)
+
+steps_block : (b p n : ℕ) (bs blocks tag : List ℕ) (xs body : List OneItem) → blocks ≡ b ∷ bs → slice_get xs b ≡ Some (repeat n tag (listed body)) → steps_in blocks p xs ≡ unroll (listed (take b xs)) ++ steps_in bs p body
+steps_block b p n bs blocks tag xs body e f =
+    ap (λ l. steps_in l p xs) e
+    ∙ ap (λ g. unroll (listed (take b xs)) ++ steps_in bs p (inner g)) f
+    ∙ ap (λ l. unroll (listed (take b xs)) ++ steps_in bs p l) (entries-listed body)
+
+few_more : (a b : List Step) (m k n : ℕ) → m ≡ min (length a) 1048577 → k ≡ min (length b) 1048577 → n ≡ min (m + k) 1048577 → n ≡ min (length (a ++ b)) 1048577
+few_more a b m k n e f g = omega (arith, e, f, g, length-append a b)
+
+pub few_block : (b p n : ℕ) (bs blocks tag : List ℕ) (xs body : List OneItem) (m k s : ℕ) → blocks ≡ b ∷ bs → slice_get xs b ≡ Some (repeat n tag (listed body))
+    → m ≡ min (length (unroll (listed (take b xs)))) 1048577 → k ≡ min (length (steps_in bs p body)) 1048577 → s ≡ min (m + k) 1048577 → s ≡ min (length (steps_in blocks p xs)) 1048577
+few_block b p n bs blocks tag xs body m k s e f g h i =
+    few_more (unroll (listed (take b xs))) (steps_in bs p body) m k s g h i ∙ ap (λ l. min (length l) 1048577) (sym (steps_block b p n bs blocks tag xs body e f))
+
+begins_rounds : (n : ℕ) (front body : List Step) → 0 < n → BeginsWith front body → BeginsWith front (rounds n body)
+begins_rounds zero front body h b = absurd (omega arith)
+begins_rounds (suc n) front body h b = begins_before front body (rounds n body) b
+
+pub begins_block : (b p n : ℕ) (bs blocks tag : List ℕ) (xs body : List OneItem) → blocks ≡ b ∷ bs → slice_get xs b ≡ Some (repeat n tag (listed body)) → 0 < n → BeginsWith (steps_in bs p body) (unroll (listed body))
+    → BeginsWith (steps_in blocks p xs) (unroll (listed xs))
+begins_block b p n bs blocks tag xs body e f h inside =
+    let front = unroll (listed (take b xs)) in
+    let within = steps_in bs p body in
+    let turns = begins_rounds n within (unroll (listed body)) h inside in
+    let more = begins_before within (rounds n (unroll (listed body))) (unroll (listed (drop (suc b) xs))) turns in
+    let whole = begins_behind front within (rounds n (unroll (listed body)) ++ unroll (listed (drop (suc b) xs))) more in
+    let all : unroll (listed xs) ≡ front ++ (rounds n (unroll (listed body)) ++ unroll (listed (drop (suc b) xs))) =
+    ap (λ l. unroll (listed l)) (got_split xs b (repeat n tag (listed body)) f) ∙ steps-append (take b xs) (repeat n tag (listed body) ∷ drop (suc b) xs) in
+    subst (λ l. BeginsWith l (unroll (listed xs))) (sym (steps_block b p n bs blocks tag xs body e f)) (subst (BeginsWith (front ++ within)) (sym all) whole)

@@ -1,0 +1,6 @@
+use Rattle.std.proofs.Common.{◌∙◌, sym}
+use Rattle.stab_circuit.proofs.EditingLemmas.{replaced}
+use Rattle.stab_circuit.proofs.circuit.Circuit.replace.Goals as goal
+
+pub unreachable-requires : goal.unreachable-requires
+unreachable-requires c = replaced c.args.item c.args.path c.args.self.now c.change.new.self (c.in-Ok-None.ensures.ok) (sym c.in-Ok-None.ensures.taken ∙ c.in-Ok-None.field-0-is)

@@ -1,0 +1,45 @@
+-- Judgements: what an edit comes to, by the summaries that items keep.
+use Rattle.std.specs.Prelude.{◌≡◌, ◌≤◌, ℕ, List, ◌++◌, Option, Some, None, Result, Ok, Err}
+use Rattle.stab_pauli.specs.declared.refusal.Refusal.{Refusal}
+use Rattle.stab_pauli.specs.declared.refusal.Refusal.TheVariants.{PlaceOutOfRange, NotABlock}
+use Rattle.stab_circuit.specs.declared.summary.Summary.{Summary}
+use Rattle.stab_circuit.specs.declared.edit.Judgement.{Judgement}
+use Rattle.stab_circuit.specs.declared.edit.Block.{Block}
+use Rattle.stab_circuit.specs.Items.{OneItem, operation, repeat, listed, depth, depth_of}
+use Rattle.stab_circuit.specs.Steps.{Step}
+use Rattle.stab_circuit.specs.inner.Summaries.{summary_of}
+use Rattle.stab_circuit.specs.inner.Splices.{Splice}
+
+-- the summary of the items that an edit leaves, unless it is refused
+abbrev pub summed : Result (List OneItem) Refusal → Result Summary Refusal
+summed (Ok ys) = Ok (summary_of (listed ys))
+summed (Err r) = Err r
+
+-- a splice with the summary of what is put in, unless it is refused
+abbrev pub judgement_of : Result Splice Refusal → Result Judgement Refusal
+judgement_of (Ok s) = Ok (record { first = s.first; behind = s.behind; put = summary_of (listed s.put) })
+judgement_of (Err r) = Err r
+
+-- why a number of a path leads into no block
+abbrev pub block_refusal : Option OneItem → Option Refusal
+block_refusal None = Some PlaceOutOfRange
+block_refusal (Some (operation op)) = Some NotABlock
+block_refusal (Some (repeat count tag body)) = None
+
+-- the call gave the block's count and items, or told why there is no block
+abbrev pub IsBlockAt : Option OneItem → Result Block Refusal → Type 0
+IsBlockAt x (Ok found) = (tag : List ℕ) × (x ≡ Some (repeat found.count tag (listed found.body.now)))
+IsBlockAt x (Err r) = block_refusal x ≡ Some r
+
+-- the edit leaves items that are not nested too deep
+abbrev pub IsShallow : Result (List OneItem) Refusal → Type 0
+IsShallow (Ok ys) = depth (listed ys) ≤ 16
+IsShallow (Err r) = ⊥
+
+abbrev pub IsShallowItem : Result OneItem Refusal → Type 0
+IsShallowItem (Ok y) = depth_of y ≤ 16
+IsShallowItem (Err r) = ⊥
+
+-- the first of the steps are these
+abbrev pub BeginsWith : List Step → List Step → Type 0
+BeginsWith front all = (rest : List Step) × (all ≡ front ++ rest)

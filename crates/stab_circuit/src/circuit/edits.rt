@@ -1,0 +1,218 @@
+ghost use Rattle.std.specs.Prelude.{◌≡◌, Some, None, if◌then◌else◌, nat_lt};
+ghost use Rattle.stab_pauli.specs.Refusals.{whole};
+ghost use Rattle.stab_pauli.specs.declared.refusal.Refusal.TheVariants.{QubitOutOfRange};
+ghost use Rattle.stab_circuit.specs.Edits.{put_item};
+ghost use Rattle.stab_circuit.specs.inner.Summaries.{judged};
+
+use super::Circuit;
+use crate::change::{Change, Edited, Refused};
+use crate::commit::commit;
+use crate::edit::{Span, changed_span, edited_summary, judge, steps_in};
+use crate::item::{Item, items_summary};
+use crate::path::Path;
+use crate::summary::Summary;
+use stab_pauli::{Fault, Refusal};
+
+/// A change that is refused, with the item that it would have put in.
+fn refused(change: Change, refusal: Refusal) -> Refused
+    ensures item { result.item ≡ put_item change }
+    ensures fault { result.fault ≡ whole refusal }
+{
+    let item = match change {
+        Change::Insert(item) | Change::Replace(item) => Some(item),
+        Change::Delete => None,
+    };
+    Refused {
+        fault: Fault::whole(refusal),
+        item,
+    }
+}
+
+/// What refuses a whole circuit of this summary on n qubits.
+fn refusal_on(total: Summary, n: usize) -> Option<Refusal>
+    ensures value { result ≡ (if nat_lt n total.qubits then Some QubitOutOfRange else judged total) }
+{
+    if total.qubits as usize > n {
+        Some(Refusal::QubitOutOfRange)
+    } else {
+        total.refusal()
+    }
+}
+
+impl Circuit {
+    ghost use Rattle.std.specs.Prelude.{◌≡◌, ◌≤◌, ◌⊎◌, Ok, Some, None, min, length, OnOk, OnErr, IfOk, IfErr, IsOk};
+    ghost use Rattle.stab_pauli.specs.Refusals.{whole};
+    ghost use Rattle.stab_pauli.specs.declared.refusal.Refusal.TheVariants.{OutOfMemory};
+    ghost use Rattle.stab_circuit.specs.declared.change.Change.TheVariants.{Insert as inserting, Replace as replacing, Delete as deleting};
+    ghost use Rattle.stab_circuit.specs.Edits.{edited, edit_refusal, verdict, taken, put_item, first_changed, old_end, new_end, IsInsert};
+    ghost use Rattle.stab_circuit.specs.Items.{listed};
+    ghost use Rattle.stab_circuit.specs.Steps.{unroll};
+    ghost use Rattle.stab_circuit.specs.Editings.{TellsSteps, IsVerdict, WantsMemory};
+    ghost use Rattle.stab_circuit.specs.inner.Summaries.{IsSummary};
+    ghost use Rattle.stab_circuit.specs.inner.Judgements.{summed};
+
+    /// How many steps stand before the place of a path, in the first round of each block around it,
+    /// or 1,048,577 where there are more.
+    pub fn steps_before(&self, path: Path) -> usize
+        ensures value { result ≡ min (first_changed path self.now) 1048577 }
+    {
+        steps_in(self.items.as_slice(), path.blocks(), path.place()) as usize
+    }
+
+    /// The summary of what a change at a path leaves.
+    fn judged(&self, path: Path, change: &Change) -> Result<Summary, Refusal>
+        ensures ok { IfOk result (λ total. Ok total ≡ summed (edited change.now path self.now)) }
+        ensures small { IfOk result IsSummary }
+        ensures shallow { IfOk result (λ total. total.depth ≤ 16) }
+        ensures allowed { OnOk result (edit_refusal (edited change.now path self.now) ≡ None) }
+        ensures refused { IfErr result (λ r. edit_refusal (edited change.now path self.now) ≡ Some r) }
+    {
+        match edited_summary(self.items.as_slice(), path.blocks(), path.place(), change) {
+            Err(refusal) => Err(refusal),
+            Ok(total) if total.depth > 16 => Err(Refusal::TooDeep),
+            Ok(total) => Ok(total),
+        }
+    }
+
+    /// Which steps a change at a path would change, where its path leads to a place.
+    fn span(&self, path: Path, change: &Change) -> Span
+        requires leads { IsOk (edited change.now path self.now) }
+        ensures first { result.first ≡ min (first_changed path self.now) 1048577 }
+        ensures within { first_changed path self.now ≤ length (unroll (listed self.now)) }
+        ensures old_end { result.old_end ≡ min (old_end change.now path self.now) 1048577 }
+        ensures new_end { IfOk (edited change.now path self.now) (λ new. result.new_end ≡ min (new_end change.now path new) 1048577) }
+    {
+        match judge(self.items.as_slice(), path.blocks(), path.place(), change) {
+            Err(_) => unreachable!(),
+            Ok(judgement) => {
+                changed_span(
+                    self.items.as_slice(),
+                    path.blocks(),
+                    path.place(),
+                    judgement,
+                )
+            }
+        }
+    }
+
+    /// Makes a change that leaves items of this summary.
+    fn make(&mut self, path: Path, change: Change, total: Summary) -> Result<Option<Item>, Refused>
+        requires judged { Ok total ≡ summed (edited change path self.old) }
+        requires small { IsSummary total }
+        requires shallow { total.depth ≤ 16 }
+        ensures ok { OnOk result (edited change path self.old ≡ Ok self.new) }
+        ensures taken { IfOk result (λ old. old ≡ taken change path self.old) }
+        ensures unchanged { OnErr result (self.new ≡ self.old) }
+        ensures item { IfErr result (λ r. r.item ≡ put_item change) }
+        ensures fault { IfErr result (λ r. r.fault ≡ whole OutOfMemory) }
+        ensures memory { OnErr result (IsInsert change) }
+    {
+        match commit(&mut self.items, path.blocks(), path.place(), change) {
+            Ok(taken) => {
+                self.total = items_summary(self.items.as_slice());
+                Ok(taken)
+            }
+            Err(change) => Err(refused(change, Refusal::OutOfMemory)),
+        }
+    }
+
+    /// Makes a change at a path, where neither the path nor the depth of blocks refuses it.
+    fn change(&mut self, path: Path, change: Change) -> Result<Option<Item>, Refused>
+        ensures ok { OnOk result (edited change path self.old ≡ Ok self.new) }
+        ensures taken { IfOk result (λ old. old ≡ taken change path self.old) }
+        ensures unchanged { OnErr result (self.new ≡ self.old) }
+        ensures item { IfErr result (λ r. r.item ≡ put_item change) }
+        ensures fault { IfErr result (λ r. IsVerdict (edit_refusal (edited change path self.old)) r.fault ⊎ WantsMemory change (edit_refusal (edited change path self.old)) r.fault) }
+    {
+        match self.judged(path, &change) {
+            Err(refusal) => Err(refused(change, refusal)),
+            Ok(total) => self.make(path, change, total),
+        }
+    }
+
+    /// Puts an item in before the one at a path.
+    ///
+    /// Refused without a line: 12 and 17 along the path, 10 where blocks would be nested over 16
+    /// deep, 20. The item then comes back, and the circuit is as before.
+    pub fn insert(&mut self, path: Path, item: Item) -> Result<(), Refused>
+        ensures ok { OnOk result (edited (inserting item) path self.old ≡ Ok self.new) }
+        ensures unchanged { OnErr result (self.new ≡ self.old) }
+        ensures item { IfErr result (λ r. r.item ≡ Some item) }
+        ensures fault { IfErr result (λ r. IsVerdict (edit_refusal (edited (inserting item) path self.old)) r.fault ⊎ WantsMemory (inserting item) (edit_refusal (edited (inserting item) path self.old)) r.fault) }
+    {
+        match self.change(path, Change::Insert(item)) {
+            Ok(_) => Ok(()),
+            Err(refused) => Err(refused),
+        }
+    }
+
+    /// Puts an item in the stead of the one at a path, and gives the old one. It takes no memory.
+    ///
+    /// Refused without a line: 12 and 17 along the path, 10 where blocks would be nested over 16
+    /// deep. The new item then comes back, and the circuit is as before.
+    pub fn replace(&mut self, path: Path, item: Item) -> Result<Item, Refused>
+        ensures ok { OnOk result (edited (replacing item) path self.old ≡ Ok self.new) }
+        ensures taken { IfOk result (λ old. taken (replacing item) path self.old ≡ Some old) }
+        ensures unchanged { OnErr result (self.new ≡ self.old) }
+        ensures item { IfErr result (λ r. r.item ≡ Some item) }
+        ensures fault { IfErr result (λ r. IsVerdict (edit_refusal (edited (replacing item) path self.old)) r.fault) }
+    {
+        match self.change(path, Change::Replace(item)) {
+            Ok(Some(old)) => Ok(old),
+            Ok(None) => unreachable!(),
+            Err(refused) => Err(refused),
+        }
+    }
+
+    /// Takes the item at a path out, and gives it. It takes no memory.
+    ///
+    /// Refused without a line: 12 and 17 along the path. The circuit is then as before.
+    pub fn delete(&mut self, path: Path) -> Result<Item, Fault>
+        ensures ok { OnOk result (edited deleting path self.old ≡ Ok self.new) }
+        ensures taken { IfOk result (λ old. taken deleting path self.old ≡ Some old) }
+        ensures unchanged { OnErr result (self.new ≡ self.old) }
+        ensures fault { IfErr result (λ f. IsVerdict (edit_refusal (edited deleting path self.old)) f) }
+    {
+        match self.change(path, Change::Delete) {
+            Ok(Some(old)) => Ok(old),
+            Ok(None) => unreachable!(),
+            Err(refused) => Err(refused.fault),
+        }
+    }
+
+    /// Makes a change at a path, where nothing refuses the circuit on n qubits that it leaves.
+    ///
+    /// Refused without a line: 12 and 17 along the path, 10 where blocks would be nested over 16
+    /// deep, then what `check` refuses the edited circuit for, and 20 for an insertion alone. The
+    /// item then comes back, and the circuit is as before.
+    pub fn edit(&mut self, n: usize, path: Path, change: Change) -> Result<Edited, Refused>
+        ensures ok { OnOk result (edited change path self.old ≡ Ok self.new) }
+        ensures allowed { OnOk result (verdict n (edited change path self.old) ≡ None) }
+        ensures taken { IfOk result (λ told. told.taken ≡ taken change path self.old) }
+        ensures steps { IfOk result (λ told. TellsSteps change path self.old self.new told) }
+        ensures unchanged { OnErr result (self.new ≡ self.old) }
+        ensures item { IfErr result (λ r. r.item ≡ put_item change) }
+        ensures fault { IfErr result (λ r. IsVerdict (verdict n (edited change path self.old)) r.fault ⊎ WantsMemory change (verdict n (edited change path self.old)) r.fault) }
+    {
+        let total = match self.judged(path, &change) {
+            Err(refusal) => return Err(refused(change, refusal)),
+            Ok(total) => total,
+        };
+        if let Some(refusal) = refusal_on(total, n) {
+            return Err(refused(change, refusal));
+        }
+        let span = self.span(path, &change);
+        match self.make(path, change, total) {
+            Err(refused) => Err(refused),
+            Ok(taken) => Ok(Edited {
+                taken,
+                first: span.first as usize,
+                old_end: span.old_end as usize,
+                new_end: span.new_end as usize,
+            }),
+        }
+    }
+}
+
+#[cfg(test)]
+mod tests;
