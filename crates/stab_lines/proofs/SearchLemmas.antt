@@ -21,6 +21,10 @@ others_more bs byte n m within h k =
     ∙ ap (λ b. b || list_any (is_byte byte) (take m (drop n bs))) h
     ∙ k
 
+-- what stands somewhere stands in front or behind
+pub any_split : (p : ℕ → Bool) (bs : List ℕ) (n : ℕ) → list_any p bs ≡ (list_any p (take n bs) || list_any p (drop n bs))
+any_split p bs n = ap (list_any p) (sym (take-append-drop n bs)) ∙ list_any-append p (take n bs) (drop n bs)
+
 either : (a b : Bool) → (a || b) ≡ false → (a ≡ false) × (b ≡ false)
 either true b h = cc
 either false b h = (refl, h)

@@ -55,23 +55,38 @@ fn is_brace(byte: u8) -> bool
     byte == b'{' || byte == b'}'
 }
 
-// Looks at all bytes, also behind a brace: so many are looked at at once.
-fn has_brace(bytes: &[u8]) -> bool
-    ensures value { result ≡ list_any brace bytes.now }
+// Looks at all bytes, also behind a brace: so the bytes of a run are looked at at once.
+fn run_has_brace(run: &[u8]) -> bool
+    ensures value { result ≡ list_any brace run.now }
 {
     let mut found = false;
-    for byte in bytes {
+    for byte in run {
         found |= is_brace(*byte);
     }
     found
 }
 
-// Looks at all bytes, as `has_brace` does.
-fn has_byte(bytes: &[u8], byte: u8) -> bool
-    ensures value { result ≡ list_any (is_byte byte) bytes.now }
+#[tactic(auto, using(crate::proofs::SearchLemmas::any_split))]
+fn has_brace(bytes: &[u8]) -> bool
+    ensures value { result ≡ list_any brace bytes.now }
+{
+    let mut rest = bytes;
+    while rest.len() >= RUN {
+        let (run, more) = rest.split_at(RUN);
+        if run_has_brace(run) {
+            return true;
+        }
+        rest = more;
+    }
+    run_has_brace(rest)
+}
+
+// Looks at all bytes, as `run_has_brace` does.
+fn run_has_byte(run: &[u8], byte: u8) -> bool
+    ensures value { result ≡ list_any (is_byte byte) run.now }
 {
     let mut found = false;
-    for other in bytes {
+    for other in run {
         found |= *other == byte;
     }
     found
@@ -86,7 +101,7 @@ fn others_in_front(bytes: &[u8], byte: u8) -> usize
     let mut length = 0;
     while bytes.len() - length >= RUN {
         let run = bytes.split_at(length).1.split_at(RUN).0;
-        if has_byte(run, byte) {
+        if run_has_byte(run, byte) {
             return length;
         }
         length += RUN;
