@@ -22,3 +22,4 @@ mod JudgementLemmas
 mod CommitLemmas
 mod EditingLemmas
 mod TickLemmas
+mod TickTextLemmas
