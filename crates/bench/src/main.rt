@@ -2,17 +2,20 @@
 //!
 //! Without words it prints one fixed line. With the word `measure` it prints a table for each size,
 //! the time to read a long circuit text, and the times to edit one. With the word `run` and paths it
-//! prints, for the circuit in each of these files, the times to read it and to run it once.
+//! prints, for the circuit in each of these files, the times to read it and to run it once, and those
+//! of a cursor over its steps.
 //!
 //! - `work`: what is timed.
 //! - `state`: the states and the string that the works take.
 //! - `bytes`: the plain loop.
 //! - `subject`: does each work.
 //! - `timing`: the best of several rounds.
+//! - `groups`: comparing the groups of two states, and reduced rows.
 //! - `report`: the tables.
 //! - `reading`: a long circuit text, and the time to read it.
 //! - `editing`: a circuit of many items, and the time to edit it.
 //! - `running`: circuits in files, and the times to read and to run them.
+//! - `walking`: the times of a cursor over the steps of a circuit.
 //!
 //! It is proved safe, and nothing is claimed of the times.
 #![tactic(auto)]
@@ -20,12 +23,14 @@
 mod bytes;
 mod editing;
 mod failure;
+mod groups;
 mod reading;
 mod report;
 mod running;
 mod state;
 mod subject;
 mod timing;
+mod walking;
 mod work;
 
 use failure::Failure;

@@ -1,9 +1,10 @@
-ghost use Rattle.std.specs.Prelude.{◌≡◌, length, IfOk};
+ghost use Rattle.std.specs.Prelude.{◌≡◌, length, None, IfOk};
+ghost use Rattle.stab_circuit.specs.Steps.{check_of};
 ghost use Rattle.stab_circuit.specs.Views.{circuit_items};
 ghost use Rattle.bench.specs.Runs.{records_of_run};
 
 use super::failure::Failure;
-use super::reading;
+use super::{reading, walking};
 use stab_circuit::{Circuit, read_circuit};
 use stab_pauli::MemoryInput;
 use stab_session::{SeedCoins, run_once};
@@ -31,6 +32,9 @@ pub fn print_table<R: CpuClock + Files + AllocGlobal + Print>(
     for path in paths {
         print_line(rt, path.as_str())?;
     }
+    for path in paths {
+        print_walk(rt, path.as_str())?;
+    }
     Ok(())
 }
 
@@ -51,6 +55,16 @@ fn print_line<R: CpuClock + Files + AllocGlobal + Print>(
     Ok(())
 }
 
+/// Prints what a cursor takes over the steps of the circuit in a file.
+fn print_walk<R: CpuClock + Files + AllocGlobal + Print>(
+    rt: &R,
+    path: &str,
+) -> Result<(), Failure> {
+    let text = text_of_file(rt, path)?;
+    let circuit = circuit_of_text(rt, text.as_slice())?;
+    walking::print_line(rt, &circuit, path)
+}
+
 /// The bytes of a file.
 fn text_of_file<R: Files + AllocGlobal>(rt: &R, path: &str) -> Result<Vec<u8>, Failure> {
     match fs::read(rt, path) {
@@ -60,7 +74,9 @@ fn text_of_file<R: Files + AllocGlobal>(rt: &R, path: &str) -> Result<Vec<u8>, F
 }
 
 /// The circuit that a text stands for.
-fn circuit_of_text<R: AllocGlobal>(rt: &R, text: &[u8]) -> Result<Circuit, Failure> {
+fn circuit_of_text<R: AllocGlobal>(rt: &R, text: &[u8]) -> Result<Circuit, Failure>
+    ensures checked { IfOk result (λ c. check_of (circuit_items c) ≡ None) }
+{
     match read_circuit(rt.alloc(), &mut MemoryInput::new(text)) {
         Ok(circuit) => Ok(circuit),
         Err(fault) => Err(Failure::Circuit(fault)),

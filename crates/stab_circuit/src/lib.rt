@@ -11,7 +11,8 @@
 //! - `circuit`: circuits, reading one, and editing one.
 //! - `tick`: an item of which nothing is left, to stand where another was.
 //! - `print`: the one text of a circuit.
-//! - `step`, `unrolled`, `cursor`: the unrolled steps of a circuit, from any place on.
+//! - `step`, `instruction`: the steps of an instruction.
+//! - `walk`, `cursor`: the unrolled steps of a circuit, from any place on.
 //! - `laws`: what holds between all texts and all items.
 //!
 //! `specs/` says which items a text stands for, what its fault is, what its unrolled steps are, and
@@ -34,6 +35,7 @@ mod commit;
 mod cursor;
 mod edit;
 mod input;
+mod instruction;
 mod item;
 pub mod laws;
 mod path;
@@ -42,7 +44,7 @@ mod reader;
 mod step;
 mod summary;
 mod tick;
-mod unrolled;
+mod walk;
 
 pub use change::{Change, Edited, Refused};
 pub use circuit::{Circuit, read_circuit, read_item};

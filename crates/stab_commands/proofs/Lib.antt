@@ -1,3 +1,4 @@
 pub mod FaultLineLaws
 pub mod SendingLaws
 pub mod RunLaws
+pub mod RowLaws

@@ -1,4 +1,5 @@
 pub mod Endings
 pub mod Outputs
+pub mod Stabilisers
 pub mod Jobs
 pub mod inner

@@ -8,10 +8,10 @@ use Rattle.std.proofs.lemmas.Simd.{length-chunk, get_or-chunk, length-put_chunk,
 use Rattle.stab_pauli.specs.inner.Words.{swapped_words}
 
 -- before a part, in it, or behind it
-abbrev Place : ℕ → ℕ → ℕ → Type 0
+abbrev pub Place : ℕ → ℕ → ℕ → Type 0
 Place a s i = ((i < a) ⊎ (a + s ≤ i)) ⊎ ((j : ℕ) × (j < s) × (i ≡ a + j))
 
-place : (a s i : ℕ) → Place a s i
+pub place : (a s i : ℕ) → Place a s i
 place a s i = by_front (cases_order i a)
   where
     inside : a ≤ i → (i ≡ a + s) ⊎ ((i < a + s) ⊎ (a + s < i)) → Place a s i

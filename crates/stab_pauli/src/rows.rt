@@ -8,12 +8,23 @@ use std::marker::Model;
 /// Signed Pauli strings of one length, side by side in one allocation, with their signs in another.
 ///
 /// Contracts see the number of qubits and the list of the strings. No call takes memory but `new` and `copy`.
-#[derive(Drop)]
 pub struct PauliRows {
     qubits: usize,
     blocks: usize,
     words: Vec<u64>,
     signs: Vec<bool>,
+}
+
+// Written out, so that to a proof rows that are let go are one call, and not one for each of their parts.
+impl Drop for PauliRows {
+    fn drop(self) {
+        let PauliRows {
+            qubits: _,
+            blocks: _,
+            words: _,
+            signs: _,
+        } = self;
+    }
 }
 
 impl Model for PauliRows {

@@ -17,12 +17,22 @@ use std::marker::Model;
 /// value is the number of qubits (`qubits`), which signed Pauli strings stabilise the state (`stabilises`), and its
 /// stabilisers and destabilisers by number. Where a clause calls a tableau unchanged, or a copy equal, the whole values
 /// are equal, and so all of this is.
-#[derive(Drop)]
 pub struct Tableau {
     table: Table,
     // Strings of the same length, to work with: so no gate and no measurement takes memory.
     preimage: Pauli,
     turning: Pauli,
+}
+
+// Written out, so that to a proof a state that is let go is one call, and not one for each of its parts.
+impl Drop for Tableau {
+    fn drop(self) {
+        let Tableau {
+            table: _,
+            preimage: _,
+            turning: _,
+        } = self;
+    }
 }
 
 impl Model for Tableau {

@@ -7,6 +7,7 @@ ghost use Rattle.stab_pauli.specs.inner.Words.{xor_words, swapped_words, AreShor
 ghost use Rattle.stab_pauli.specs.inner.Blocks.{row_letters, IsRewritten};
 
 use crate::letter::Letter;
+use crate::packed::counters::WideCounters;
 use crate::packed::row;
 use crate::turn::Turn;
 use std::simd::u64x4;
@@ -45,9 +46,32 @@ pub(crate) fn multiply(words: &mut [u64], count: usize, blocks: usize, a: usize,
     ensures turn { result ≡ string_turn (row_letters blocks (chunk (8 * blocks * a) (8 * blocks) words.old)) (row_letters blocks (chunk (8 * blocks * b) (8 * blocks) words.old)) }
 {
     let size = words.len();
+    if blocks == 1 {
+        let first = place_of(size, count, 1, a);
+        let second = place_of(size, count, 1, b);
+        return multiply_block(words, first, second);
+    }
     let first = place_of(size, count, blocks, a);
     let second = place_of(size, count, blocks, b);
     multiply_at(words, blocks, first, second)
+}
+
+/// Multiplies the block at word a by the one at word b. Up to 256 qubits it is the whole row, and takes no loop.
+#[inline(always)]
+fn multiply_block(words: &mut [u64], a: usize, b: usize) -> Turn
+    requires a_fits { a + 8 ≤ length words.old }
+    requires b_fits { b + 8 ≤ length words.old }
+    ensures words { words.new ≡ put_chunk a words.old (xor_words (chunk a 8 words.old) (chunk b 8 words.old)) }
+    ensures turn { result ≡ string_turn (row_letters 1 (chunk a 8 words.old)) (row_letters 1 (chunk b 8 words.old)) }
+{
+    let x = u64x4::from_slice(&words[a..]);
+    let z = u64x4::from_slice(&words[a + 4..]);
+    let other_x = u64x4::from_slice(&words[b..]);
+    let other_z = u64x4::from_slice(&words[b + 4..]);
+    (x ^ other_x).copy_to_slice(&mut words[a..]);
+    (z ^ other_z).copy_to_slice(&mut words[a + 4..]);
+    let counters = WideCounters::new().after(x, z, other_x, other_z);
+    counters.turn()
 }
 
 /// Multiplies the row of so many blocks at word a by the one at word b, which it does not overlap.
@@ -140,6 +164,13 @@ pub(crate) fn swap(words: &mut [u64], count: usize, blocks: usize, a: usize, b: 
     ensures words { words.new ≡ swapped_words (8 * blocks * a) (8 * blocks * b) (8 * blocks) words.old }
 {
     let size = words.len();
+    // One block, which most codes have, is told apart so that its two halves need no loop.
+    if blocks == 1 {
+        let first = place_of(size, count, 1, a);
+        let second = place_of(size, count, 1, b);
+        swap_at(words, 1, first, second);
+        return;
+    }
     let first = place_of(size, count, blocks, a);
     let second = place_of(size, count, blocks, b);
     swap_at(words, blocks, first, second);

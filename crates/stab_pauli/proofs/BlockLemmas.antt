@@ -1,0 +1,123 @@
+-- One block multiplied by another of the same slice of words.
+use Rattle.std.proofs.Common.{◌≡◌, ℕ, ◌+◌, ◌<◌, ◌≤◌, sym, ◌∙◌, ap, List, length, get_or, inl, inr, arith}
+use Rattle.std.specs.Prelude.{bit_xor}
+use Rattle.std.specs.Simd.Lanes.{chunk, put_chunk}
+use Rattle.std.proofs.lemmas.List.{ext_get_or}
+use Rattle.std.proofs.lemmas.Simd.{get_or-zip2, length-zip2, length-chunk, get_or-chunk, length-put_chunk, get_or-put_chunk_below, get_or-put_chunk_at, get_or-put_chunk_above}
+use Rattle.stab_pauli.specs.declared.turn.Turn.{Turn}
+use Rattle.stab_pauli.specs.declared.turn.Turn.TheVariants.{Zero}
+use Rattle.stab_pauli.specs.Turns.{turn_add}
+use Rattle.stab_pauli.specs.Paulis.{string_turn}
+use Rattle.stab_pauli.specs.inner.Words.{packed_letters, xor_words}
+use Rattle.stab_pauli.specs.inner.Blocks.{row_letters}
+use Rattle.stab_pauli.proofs.SwapLemmas.{Place, place}
+use Rattle.stab_pauli.proofs.RowLemmas.{IsRowTurnBefore-more, IsRowTurnBefore-all}
+
+-- a part of a part
+pub chunk-in : (a m i s : ℕ) (ws : List ℕ) → i + s ≤ m → a + m ≤ length ws → chunk i s (chunk a m ws) ≡ chunk (a + i) s ws
+chunk-in a m i s ws le fits =
+    ext_get_or 0 (chunk i s (chunk a m ws)) (chunk (a + i) s ws) (l ∙ sym (length-chunk (a + i) s ws (omega arith)))
+    (λ j lt.
+    let e : a + (i + j) ≡ a + i + j = omega arith in
+    get_or-chunk i s (chunk a m ws) j 0 (omega (arith, l)) ∙ get_or-chunk a m ws (i + j) 0 (omega (arith, l))
+    ∙ ap (λ n. get_or ws n 0) e ∙ sym (get_or-chunk (a + i) s ws j 0 (omega (arith, l))))
+  where
+    l : length (chunk i s (chunk a m ws)) ≡ s
+    l = length-chunk i s (chunk a m ws) (let e = length-chunk a m ws fits in omega arith)
+
+-- the words of a product of two parts
+module _ (a b s : ℕ) (ws : List ℕ) (la : a + s ≤ length ws) (lb : b + s ≤ length ws) where
+  pub length-product : length (xor_words (chunk a s ws) (chunk b s ws)) ≡ s
+  length-product = length-zip2 bit_xor (chunk a s ws) (chunk b s ws) (length-chunk a s ws la ∙ sym (length-chunk b s ws lb)) ∙ length-chunk a s ws la
+
+  pub get_or-product : (j : ℕ) → j < s → get_or (xor_words (chunk a s ws) (chunk b s ws)) j 0 ≡ bit_xor (get_or ws (a + j) 0) (get_or ws (b + j) 0)
+  get_or-product j lt =
+      get_or-zip2 bit_xor (chunk a s ws) (chunk b s ws) j 0 0 0 (rw (length-chunk a s ws la) lt) (rw (length-chunk b s ws lb) lt)
+      ∙ (λ i. bit_xor (get_or-chunk a s ws j 0 lt i) (get_or-chunk b s ws j 0 lt i))
+
+-- two halves of a product are written one after the other
+module _ (a b s : ℕ) (ws : List ℕ) (la : a + (s + s) ≤ length ws) (lb : b + (s + s) ≤ length ws) where
+  first : List ℕ
+  first = xor_words (chunk a s ws) (chunk b s ws)
+
+  second : List ℕ
+  second = xor_words (chunk (a + s) s ws) (chunk (b + s) s ws)
+
+  whole : List ℕ
+  whole = xor_words (chunk a (s + s) ws) (chunk b (s + s) ws)
+
+  first_size : length first ≡ s
+  unfolding first
+  first_size = length-product a b s ws (omega arith) (omega arith)
+
+  second_size : length second ≡ s
+  unfolding second
+  second_size = length-product (a + s) (b + s) s ws (omega arith) (omega arith)
+
+  whole_size : length whole ≡ s + s
+  unfolding whole
+  whole_size = length-product a b (s + s) ws la lb
+
+  in_first : (j : ℕ) → j < s → get_or first j 0 ≡ get_or whole j 0
+  unfolding first whole
+  in_first j lt = get_or-product a b s ws (omega arith) (omega arith) j lt ∙ sym (get_or-product a b (s + s) ws la lb j (omega arith))
+
+  in_second : (j : ℕ) → j < s → get_or second j 0 ≡ get_or whole (s + j) 0
+  unfolding second whole
+  in_second j lt =
+      let e : a + s + j ≡ a + (s + j) = omega arith in
+      let f : b + s + j ≡ b + (s + j) = omega arith in
+      get_or-product (a + s) (b + s) s ws (omega arith) (omega arith) j lt
+      ∙ (λ i. bit_xor (get_or ws (e i) 0) (get_or ws (f i) 0))
+      ∙ sym (get_or-product a b (s + s) ws la lb (s + j) (omega arith))
+
+  half : List ℕ
+  half = put_chunk a ws first
+
+  half_size : length half ≡ length ws
+  unfolding half
+  half_size = length-put_chunk a ws first
+
+  by_place : (k : ℕ) → Place a s k → Place (a + s) s k → get_or (put_chunk (a + s) half second) k 0 ≡ get_or (put_chunk a ws whole) k 0
+  unfolding half
+  by_place k (inr (j, lt, e)) p = rw e
+      (get_or-put_chunk_below (a + s) half second (a + j) 0 (omega arith)
+      ∙ get_or-put_chunk_at a ws first j 0 (rw first_size lt) (rw first_size (omega arith))
+      ∙ in_first j lt
+      ∙ sym (get_or-put_chunk_at a ws whole j 0 (omega (arith, whole_size)) (omega (arith, whole_size))))
+  by_place k (inl p) (inr (j, lt, e)) =
+      let f : a + s + j ≡ a + (s + j) = omega arith in
+      rw e
+      (get_or-put_chunk_at (a + s) half second j 0 (rw second_size lt) (omega (arith, second_size, half_size))
+      ∙ in_second j lt
+      ∙ sym (get_or-put_chunk_at a ws whole (s + j) 0 (omega (arith, whole_size)) (omega (arith, whole_size)))
+      ∙ ap (λ n. get_or (put_chunk a ws whole) n 0) (sym f))
+  by_place k (inl (inl lt)) (inl q) =
+      get_or-put_chunk_below (a + s) half second k 0 (omega arith) ∙ get_or-put_chunk_below a ws first k 0 lt
+      ∙ sym (get_or-put_chunk_below a ws whole k 0 lt)
+  by_place k (inl (inr le)) (inl (inl lt)) = absurd (omega arith)
+  by_place k (inl (inr le)) (inl (inr more)) =
+      get_or-put_chunk_above (a + s) half second k 0 (omega (arith, second_size)) ∙ get_or-put_chunk_above a ws first k 0 (omega (arith, first_size))
+      ∙ sym (get_or-put_chunk_above a ws whole k 0 (omega (arith, whole_size)))
+
+  pub product-halves : put_chunk (a + s) (put_chunk a ws (xor_words (chunk a s ws) (chunk b s ws))) (xor_words (chunk (a + s) s ws) (chunk (b + s) s ws))
+      ≡ put_chunk a ws (xor_words (chunk a (s + s) ws) (chunk b (s + s) ws))
+  unfolding first second whole half
+  product-halves =
+      ext_get_or 0 (put_chunk (a + s) half second) (put_chunk a ws whole)
+      (length-put_chunk (a + s) half second ∙ half_size ∙ sym (length-put_chunk a ws whole))
+      (λ k lt. by_place k (place a s k) (place (a + s) s k))
+
+-- the power of i of two blocks
+pub block-turn : (a b : ℕ) (ws x z other_x other_z : List ℕ) (start counted : Turn) → a + 8 ≤ length ws → b + 8 ≤ length ws
+    → x ≡ chunk a 4 ws → z ≡ chunk (a + 4) 4 ws → other_x ≡ chunk b 4 ws → other_z ≡ chunk (b + 4) 4 ws
+    → start ≡ Zero → counted ≡ turn_add start (string_turn (packed_letters 64 x z) (packed_letters 64 other_x other_z))
+    → counted ≡ string_turn (row_letters 1 (chunk a 8 ws)) (row_letters 1 (chunk b 8 ws))
+block-turn a b ws x z other_x other_z start counted la lb ex ez eox eoz none e =
+    IsRowTurnBefore-all 1 (chunk a 8 ws) (chunk b 8 ws) 1 counted (omega arith)
+    (IsRowTurnBefore-more 1 (chunk a 8 ws) (chunk b 8 ws) 0 start counted x z other_x other_z (length-chunk a 8 ws la) (length-chunk b 8 ws lb) (omega arith)
+    (ex ∙ low a la) (ez ∙ sym (chunk-in a 8 4 4 ws (omega arith) la)) (eox ∙ low b lb) (eoz ∙ sym (chunk-in b 8 4 4 ws (omega arith) lb)) e
+    (record { whole = ap (λ t. turn_add t (string_turn (row_letters 1 (chunk a 8 ws)) (row_letters 1 (chunk b 8 ws)))) none }))
+  where
+    low : (c : ℕ) → c + 8 ≤ length ws → chunk c 4 ws ≡ chunk 0 4 (chunk c 8 ws)
+    low c lc = let z : c + 0 ≡ c = omega arith in sym (chunk-in c 8 0 4 ws (omega arith) lc ∙ ap (λ k. chunk k 4 ws) z)
