@@ -24,3 +24,4 @@ mod JudgementLemmas
 mod CommitLemmas
 mod EditingLemmas
 mod TickLemmas
+mod TickTextLemmas
