@@ -24,4 +24,3 @@ mod JudgementLemmas
 mod CommitLemmas
 mod EditingLemmas
 mod TickLemmas
-mod TickTextLemmas

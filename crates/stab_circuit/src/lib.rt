@@ -9,7 +9,6 @@
 //! - `path`, `change`: where a circuit is edited, and what for.
 //! - `edit`, `commit`: judging an edit by what items keep, and making it.
 //! - `circuit`: circuits, reading one, and editing one.
-//! - `tick`: an item of which nothing is left, to stand where another was.
 //! - `print`: the one text of a circuit.
 //! - `step`, `instruction`: the steps of an instruction.
 //! - `walk`, `cursor`: the unrolled steps of a circuit, from any place on.
@@ -43,7 +42,6 @@ mod print;
 mod reader;
 mod step;
 mod summary;
-mod tick;
 mod walk;
 
 pub use change::{Change, Edited, Refused};
@@ -54,7 +52,6 @@ pub use path::Path;
 pub use print::write_circuit;
 pub use stab_lines::{Axis, Factor, Qubit};
 pub use step::Step;
-pub use tick::read_tick;
 
 #[cfg(test)]
 mod tests;

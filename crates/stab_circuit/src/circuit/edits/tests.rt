@@ -1,6 +1,4 @@
-use crate::{
-    Change, Circuit, Edited, Item, Path, Refused, read_circuit, read_item, read_tick, write_circuit,
-};
+use crate::{Change, Circuit, Edited, Item, Path, Refused, read_circuit, read_item, write_circuit};
 use stab_pauli::{Fault, MemoryInput, MemoryOutput};
 use std::alloc::Global;
 use std::test::Fail;
@@ -200,18 +198,5 @@ fn an_edit_is_judged_on_its_qubits(rt: HostRuntime) -> Result<(), Fail> {
     assert_eq!(rt; told(circuit.edit(2, path, Change::Delete)), (0, 1, 15, 9));
     let tick = Change::Replace(read_item(rt.alloc(), b"TICK")?);
     assert_eq!(rt; told(circuit.edit(2, Path::new(&[1]), tick)), (0, 9, 10, 9));
-    Ok(())
-}
-
-#[test]
-fn a_tick_stands_where_an_item_was(rt: HostRuntime) -> Result<(), Fail> {
-    let mut circuit = read(rt.alloc(), ROUNDS)?;
-    let tick = read_tick(rt.alloc())?;
-    let path = Path::new(&[0, 0]);
-    assert!(rt; circuit.replace(path, tick).is_ok());
-    let ticked = "REPEAT 3 {\n    TICK\n    M 0\n}\nM 0\n";
-    assert!(rt; is_printed(rt.alloc(), &circuit, ticked)?);
-    assert_eq!(rt; number_of(circuit.delete(path)), 0);
-    assert!(rt; is_printed(rt.alloc(), &circuit, "REPEAT 3 {\n    M 0\n}\nM 0\n")?);
     Ok(())
 }
