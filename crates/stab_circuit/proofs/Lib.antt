@@ -23,4 +23,3 @@ mod SpliceLemmas
 mod JudgementLemmas
 mod CommitLemmas
 mod EditingLemmas
-mod TickLemmas

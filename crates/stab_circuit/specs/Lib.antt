@@ -9,6 +9,5 @@ pub mod Prints
 pub mod Paths
 pub mod Edits
 pub mod Editings
-pub mod Ticks
 pub mod Laws
 pub mod inner
