@@ -10,4 +10,5 @@ pub mod Paths
 pub mod Edits
 pub mod Editings
 pub mod Laws
+pub mod Nothings
 pub mod inner
