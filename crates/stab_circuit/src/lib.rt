@@ -2,10 +2,10 @@
 //!
 //! What one line means is said by `stab_lines`; here lines are put together.
 //!
-//! - `item`: instructions and blocks.
+//! - `item`: instructions and blocks, which keep the numbers of one round.
 //! - `reader`: the items of a text's lines, with the blocks that are open.
 //! - `input`: reading an input whole.
-//! - `summary`: the numbers of a list of items.
+//! - `summary`: the numbers that are kept.
 //! - `path`, `change`: where a circuit is edited, and what for.
 //! - `edit`, `commit`: judging an edit by what items keep, and making it.
 //! - `circuit`: circuits, reading one, and editing one.
