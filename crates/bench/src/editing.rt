@@ -1,8 +1,6 @@
 use super::failure::Failure;
 use super::reading;
-use stab_circuit::{Change, Circuit, Path, read_circuit, read_item};
-use stab_pauli::MemoryInput;
-use std::alloc::Global;
+use stab_circuit::{Change, Circuit, Path, read_item};
 use std::time::{CpuClock, Duration};
 
 /// The best of so many edits counts, since other programs disturb the rest.
@@ -14,11 +12,11 @@ const ROUNDS: u32 = 18_750;
 /// Prints how long edits take at places of a circuit that is written out, and of one block.
 pub fn print_times<R: CpuClock + AllocGlobal + Print>(rt: &R) -> Result<(), Failure> {
     let text = reading::long_text(rt.alloc(), ROUNDS)?;
-    let mut written = circuit_of_text(rt.alloc(), text.as_slice())?;
+    let mut written = reading::circuit_of_text(rt.alloc(), text.as_slice())?;
     for place in [0, 75_000, 150_000] {
         print_line(rt, &mut written, Path::new(&[place]), place)?;
     }
-    let mut block = circuit_of_text(rt.alloc(), b"REPEAT 1000 {\nCX 0 1 2 3\nM 0 1\n}")?;
+    let mut block = reading::circuit_of_text(rt.alloc(), b"REPEAT 1000 {\nCX 0 1 2 3\nM 0 1\n}")?;
     print_line(rt, &mut block, Path::new(&[0, 1]), 1)
 }
 
@@ -60,13 +58,5 @@ fn edit(circuit: &mut Circuit, path: Path, change: Change) -> Result<(), Failure
     match circuit.edit(5, path, change) {
         Ok(_) => Ok(()),
         Err(refused) => Err(Failure::Circuit(refused.fault)),
-    }
-}
-
-/// The circuit that a text stands for.
-fn circuit_of_text(alloc: Global, text: &[u8]) -> Result<Circuit, Failure> {
-    match read_circuit(alloc, &mut MemoryInput::new(text)) {
-        Ok(circuit) => Ok(circuit),
-        Err(fault) => Err(Failure::Circuit(fault)),
     }
 }

@@ -35,23 +35,33 @@ mod work;
 
 use failure::Failure;
 use std::env;
+use std::rt::Files;
+use std::time::CpuClock;
 
 /// The numbers of qubits that are measured.
 const SIZES: [usize; 3] = [64, 256, 1024];
 
 fn main(rt: HostRuntime) -> Result<(), Failure> {
     let words: Vec<String> = env::args(&rt)?.skip(1).collect(rt.alloc())?;
-    match words.as_slice() {
+    measure(&rt, words.as_slice())
+}
+
+/// Measures what the words ask for.
+fn measure<R: CpuClock + Files + AllocGlobal + Print>(
+    rt: &R,
+    words: &[String],
+) -> Result<(), Failure> {
+    match words {
         [] => println!(rt; "bench: the word measure times what a tableau does")?,
         [word] if word.as_str() == "measure" => {
             for qubits in SIZES {
-                report::print_table(&rt, qubits)?;
+                report::print_table(rt, qubits)?;
             }
-            reading::print_time(&rt)?;
-            editing::print_times(&rt)?;
+            reading::print_time(rt)?;
+            editing::print_times(rt)?;
         }
         [word, paths @ ..] if word.as_str() == "run" && !paths.is_empty() => {
-            running::print_table(&rt, paths)?;
+            running::print_table(rt, paths)?;
         }
         _ => return Err(Failure::Words),
     }

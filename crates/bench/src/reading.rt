@@ -1,5 +1,9 @@
+ghost use Rattle.std.specs.Prelude.{◌≡◌, None, IfOk};
+ghost use Rattle.stab_circuit.specs.Steps.{check_of};
+ghost use Rattle.stab_circuit.specs.Views.{circuit_items};
+
 use super::failure::Failure;
-use stab_circuit::read_circuit;
+use stab_circuit::{Circuit, read_circuit};
 use stab_pauli::MemoryInput;
 use std::alloc::{AllocError, Global};
 use std::num::nearest_usize_to_f64;
@@ -43,11 +47,21 @@ pub fn best_time<R: CpuClock + AllocGlobal>(rt: &R, text: &[u8]) -> Result<Durat
     Ok(least)
 }
 
-/// The processor time of reading a circuit text once.
+/// The processor time of reading a circuit text once, without that of letting the circuit go.
 fn time_of_reading<R: CpuClock + AllocGlobal>(rt: &R, text: &[u8]) -> Result<Duration, Failure> {
     let start = rt.thread_cpu_time()?;
-    match read_circuit(rt.alloc(), &mut MemoryInput::new(text)) {
-        Ok(_circuit) => Ok(rt.thread_cpu_time()?.saturating_sub(start)),
+    let circuit = circuit_of_text(rt.alloc(), text)?;
+    let end = rt.thread_cpu_time();
+    drop(circuit);
+    Ok(end?.saturating_sub(start))
+}
+
+/// The circuit that a text stands for.
+pub fn circuit_of_text(alloc: Global, text: &[u8]) -> Result<Circuit, Failure>
+    ensures checked { IfOk result (λ c. check_of (circuit_items c) ≡ None) }
+{
+    match read_circuit(alloc, &mut MemoryInput::new(text)) {
+        Ok(circuit) => Ok(circuit),
         Err(fault) => Err(Failure::Circuit(fault)),
     }
 }

@@ -68,7 +68,7 @@ pub next_place : (p : ℕ) → suc p ≡ p + 1
 next_place p = omega arith
 
 -- a list that is changed, in parts
-changed_split : (change : Change) (p : ℕ) (xs ys : List OneItem) → changed change p xs ≡ Ok ys
+pub changed_split : (change : Change) (p : ℕ) (xs ys : List OneItem) → changed change p xs ≡ Ok ys
     → (p ≤ length xs) × (ys ≡ take p xs ++ (put_in change ++ drop (behind_taken change p) xs))
 changed_split (Insert x) p xs ys e =
     let h = if_ok (nat_le p (length xs)) (insert xs p x) ys PlaceOutOfRange e in

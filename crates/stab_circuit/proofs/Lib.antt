@@ -18,9 +18,10 @@ mod RoundLemmas
 pub mod ApartLemmas
 mod ItemTextLemmas
 mod CircuitFaultLemmas
-mod EditLemmas
+pub mod EditLemmas
 mod SpliceLemmas
 mod JudgementLemmas
 mod CommitLemmas
-mod EditingLemmas
-mod TickLemmas
+pub mod EditingLemmas
+pub mod UndoLemmas
+pub mod ClearLemmas

@@ -158,7 +158,7 @@ pub observable_summary : (j : ℕ) (ks : List ℕ) → kind_summary_of (kind.Obs
 observable_summary j ks = same_summary _ _ _ _ _ _ _ _ _ _ _ _ refl refl (omega arith) refl (omega arith) refl
 
 -- one list of items after another
-past_named-join : (named : Kind → List ℕ) (xs ys : Items) → past_named named (join xs ys) ≡ max (past_named named xs) (past_named named ys)
+pub past_named-join : (named : Kind → List ℕ) (xs ys : Items) → past_named named (join xs ys) ≡ max (past_named named xs) (past_named named ys)
 past_named-join named done ys = omega arith
 past_named-join named (next op rest) ys = omega (arith, past_named-join named rest ys)
 past_named-join named (block c t body rest) ys = omega (arith, past_named-join named rest ys)

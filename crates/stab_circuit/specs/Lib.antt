@@ -9,6 +9,6 @@ pub mod Prints
 pub mod Paths
 pub mod Edits
 pub mod Editings
-pub mod Ticks
 pub mod Laws
+pub mod Nothings
 pub mod inner

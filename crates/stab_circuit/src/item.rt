@@ -68,6 +68,7 @@ impl Item {
     ghost use Rattle.std.specs.Prelude.{◌≡◌, ◌≤◌, All, IfOk};
     ghost use Rattle.stab_circuit.specs.Steps.{unroll};
     ghost use Rattle.stab_circuit.specs.Cursors.{IsApart};
+    ghost use Rattle.stab_circuit.specs.Nothings.{IsNothing};
     ghost use Rattle.stab_circuit.specs.Items.{operation as single, repeat as repeated, listed, before, done, depth};
     ghost use Rattle.stab_circuit.specs.inner.Summaries.{summary_of, IsSummary};
     ghost use Rattle.stab_circuit.specs.inner.Parts.{part_of, IsPart};
@@ -79,6 +80,15 @@ impl Item {
         Item {
             node: Node::Operation(operation),
         }
+    }
+
+    /// `TICK` without a tag, which stands for nothing: it has no step, and names no qubit and no
+    /// observable. It takes no memory.
+    #[tactic(auto, using(crate::proofs::ClearLemmas::tick_nothing))]
+    pub fn tick(alloc: Global) -> Item
+        ensures nothing { IsNothing result }
+    {
+        Item::operation(Operation::tick(alloc))
     }
 
     /// The item that is a block: its count of rounds, its tag, the items of one round.

@@ -2,7 +2,6 @@
 //! proves it.
 
 ghost use Rattle.stab_circuit.specs.Laws.{CircuitsHaveNoFault, EachTextHasAMeaning, EditsLeaveTheRest, ItemTextsHaveOneMeaning, LinesKeepQubitsApart, PrintedItemsAreReadBack, TextsAreLines, TextsAreOfOneCircuit, TextsHaveOneFault, TextsHaveOneMeaning};
-ghost use Rattle.stab_circuit.specs.Ticks.{TicksStandForDeletions};
 
 /// A text without a faulty line stands for one list of items, and for no other.
 pub fn texts_have_one_meaning()
@@ -58,11 +57,4 @@ pub fn circuits_have_no_fault()
 /// or taken out of it.
 pub fn edits_leave_the_rest()
     ensures law { EditsLeaveTheRest }
-{}
-
-/// A TICK in an item's stead is judged as the item's deletion, on each number of qubits, and what it
-/// leaves runs alike; deleted in turn, it leaves what the item's deletion leaves. So who deletes an
-/// item and may have to take that back without memory can put a TICK there first.
-pub fn ticks_stand_for_deletions()
-    ensures law { TicksStandForDeletions }
 {}

@@ -2,3 +2,4 @@ pub mod FaultLineLaws
 pub mod SendingLaws
 pub mod RunLaws
 pub mod RowLaws
+pub mod LineLaws

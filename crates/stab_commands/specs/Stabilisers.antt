@@ -1,5 +1,5 @@
 -- Stabilisers: what `stabilisers` writes for the items of a circuit, and how a call of it ends.
-use Rattle.std.specs.Prelude.{◌≡◌, ℕ, List, [], ◌∷◌, ◌++◌, codes, ◌⊎◌, Result, Ok, Err}
+use Rattle.std.specs.Prelude.{◌≡◌, ℕ, Bool, List, [], ◌∷◌, ◌++◌, codes, ◌⊎◌, ◌↔◌, Result, Ok, Err}
 use Rattle.stab_pauli.specs.Devices.{InputView, OutputView}
 use Rattle.stab_pauli.specs.declared.refusal.Refusal.TheVariants.{WriteFault, OutOfMemory}
 use Rattle.stab_pauli.specs.declared.refusal.Fault.{Fault}
@@ -7,6 +7,7 @@ use Rattle.stab_pauli.specs.Refusals.{whole}
 use Rattle.stab_pauli.specs.Paulis.{Signed}
 use Rattle.stab_pauli.specs.Texts.{pauli_text}
 use Rattle.stab_tableau.specs.Traces.{member}
+use Rattle.stab_tableau.specs.Groups.{IsStabiliserGroup, SameGroup}
 use Rattle.stab_tableau.specs.Reduced.{AreReduced}
 use Rattle.stab_circuit.specs.Items.{Items}
 use Rattle.stab_circuit.specs.Steps.{qubits_of}
@@ -43,3 +44,9 @@ pub record SendsStabilisers {T : Type 0} (source : Source) (old new : OutputView
 -- How a call of `stabilisers` ends, over an input and an output, with coins from the source.
 abbrev pub EndsStabilisers : {T : Type 0} → Source → InputView → InputView → OutputView → OutputView → Result T Fault → Type 0
 EndsStabilisers source i i' o o' r = Ends IsFaultOf (o' ≡ o) (SendsStabilisers source o o') i i' r
+
+-- two stabiliser groups are one exactly where the lines of their reduced rows are the same
+abbrev pub SameGroupSameLines : Type 0
+SameGroupSameLines =
+    (n : ℕ) (s t : Signed → Bool) → IsStabiliserGroup n s → IsStabiliserGroup n t → (a b : List Signed) →
+    AreReduced n s a → AreReduced n t b → SameGroup n s t ↔ (lines_of a ≡ lines_of b)

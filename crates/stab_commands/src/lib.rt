@@ -6,6 +6,7 @@
 //! - `stabilisers`: the command that writes the stabilisers of the state after a run.
 //! - `status`: running a job, with the status of the program.
 //! - `fault_line`: the line that tells a fault.
+//! - `laws`: what `stabilisers` writes tells the group.
 //!
 //! Proved on `run_sample` and `run_detect`: a call ends by cases. The text was refused, by its own fault
 //! or unread, and the output is untouched; or it was given whole, and the output took what the
@@ -17,6 +18,7 @@
 
 mod fault_line;
 mod job;
+pub mod laws;
 mod run;
 mod shots;
 mod stabilisers;

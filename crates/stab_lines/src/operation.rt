@@ -5,6 +5,7 @@ use crate::product::Product;
 use crate::range::{Lookbacks, MeasureTarget, Observable, Pair, Qubit};
 use crate::sequence::Sequence;
 use stab_tableau::Gate;
+use std::alloc::Global;
 
 /// Which measurement: of which letter, and whether it resets the qubit.
 #[derive(Clone, Copy, Debug, PartialEq, Eq)]
@@ -35,4 +36,20 @@ pub enum Kind {
 pub struct Operation {
     pub kind: Kind,
     pub tag: Sequence<u8>,
+}
+
+impl Operation {
+    ghost use Rattle.std.specs.Prelude.{◌≡◌, []};
+    ghost use Rattle.stab_lines.specs.declared.operation.Kind.TheVariants.{Tick};
+
+    /// `TICK` without a tag. It takes no memory.
+    pub fn tick(alloc: Global) -> Operation
+        ensures kind { result.kind ≡ Tick }
+        ensures tag { result.tag ≡ [] }
+    {
+        Operation {
+            kind: Kind::Tick,
+            tag: Sequence::new(alloc),
+        }
+    }
 }

@@ -7,3 +7,5 @@ mod FitLemmas
 mod SoundLemmas
 mod ShotLemmas
 mod SessionLemmas
+mod PendingLemmas
+mod EditedLemmas

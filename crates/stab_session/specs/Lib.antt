@@ -6,4 +6,5 @@ pub mod Laws
 pub mod Samplers
 pub mod Sessions
 pub mod Headline
+pub mod SessionEdits
 pub mod inner

@@ -10,7 +10,7 @@ use Rattle.stab_circuit.specs.Cursors.{IsApart}
 use Rattle.stab_session.specs.declared.run.Shot.{Shot}
 use Rattle.stab_session.specs.Sessions.{SessionState}
 use Rattle.stab_session.specs.Headline.{IsRunOfItems}
-use Rattle.stab_session.specs.inner.StoredItems.{items_code}
+use Rattle.stab_circuit.specs.inner.StoredItems.{items_code}
 
 -- the four lists of bits of a session
 abbrev pub Lists : Type 0

@@ -1,4 +1,3 @@
-use Rattle.std.proofs.Common.{map}
 use Rattle.std.proofs.Math.ListN.{drop}
 use Rattle.stab_pauli.proofs.DeviceLemmas.{WroteUpTo}
 use Rattle.stab_commands.specs.Stabilisers.{lines_of}

@@ -1,0 +1,48 @@
+-- Pending edits: a circuit is edited before it is run, and the edit is taken back where the run is refused memory.
+use Rattle.std.specs.Prelude.{◌≡◌, ℕ, List, Option, None, Result, Ok}
+use Rattle.stab_pauli.specs.declared.refusal.Refusal.{Refusal}
+use Rattle.stab_circuit.specs.Items.{OneItem, listed}
+use Rattle.stab_circuit.specs.Steps.{unroll, observables_of, check_within}
+use Rattle.stab_circuit.specs.Paths.{Path}
+use Rattle.stab_circuit.specs.Edits.{edited, edit_refusal, verdict, taken, put_item}
+use Rattle.stab_circuit.specs.declared.change.Change.{Change}
+use Rattle.stab_circuit.specs.declared.change.Change.TheVariants.{Replace, Delete}
+use Rattle.stab_session.specs.declared.pending.Pending.{Pending}
+use Rattle.stab_session.specs.declared.pending.Pending.TheVariants.{Inserted, Replaced, Deleted}
+
+-- the items after the edit is taken back
+abbrev pub taken_back : Pending → List OneItem → Result (List OneItem) Refusal
+taken_back (Inserted path) items = edited Delete path items
+taken_back (Replaced path old) items = edited (Replace old) path items
+taken_back (Deleted path old) items = edited (Replace old) path items
+
+-- the item that the edit put in, and that comes back with it
+abbrev pub item_back : Pending → List OneItem → Option OneItem
+item_back (Inserted path) items = taken Delete path items
+item_back (Replaced path old) items = taken (Replace old) path items
+item_back (Deleted path old) items = None
+
+-- the items after the edit is kept: an item that is to be deleted has another in its stead until then, which stands for nothing
+abbrev pub kept : Pending → List OneItem → Result (List OneItem) Refusal
+kept (Inserted path) items = Ok items
+kept (Replaced path old) items = Ok items
+kept (Deleted path old) items = edited Delete path items
+
+-- two lists of items have the same runs
+pub record HaveSameRuns (xs ys : List OneItem) : Type 0 where
+  pub steps : unroll (listed xs) ≡ unroll (listed ys)
+  pub observables : observables_of (listed xs) ≡ observables_of (listed ys)
+
+-- an edit that nothing refuses on n qubits was begun: it leads back to the old items, with what it put in, and ahead to the new
+-- ones, which have the same runs as those that there are now
+pub record IsBegun (n : ℕ) (change : Change) (path : Path) (old now : List OneItem) (p : Pending) : Type 0 where
+  pub new : List OneItem
+  pub edited : edited change path old ≡ Ok new
+  pub accepted : verdict n (Ok new) ≡ None
+  pub ahead : kept p now ≡ Ok new
+  pub ahead_allowed : edit_refusal (kept p now) ≡ None
+  pub back : taken_back p now ≡ Ok old
+  pub back_allowed : edit_refusal (taken_back p now) ≡ None
+  pub item : item_back p now ≡ put_item change
+  pub same_runs : HaveSameRuns now new
+  pub checked : check_within n (listed now) ≡ None
