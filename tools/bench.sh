@@ -25,6 +25,8 @@ for distance in 3 7 13 21; do
     python3 "$tools/circuits.py" surface_code --distance "$distance" --deepest \
         >"$folder/surface_code_$distance.stim"
 done
+python3 "$tools/circuits.py" surface_code --distance 21 --deepest --written-out \
+    >"$folder/surface_code_21_written_out.stim"
 for distance in 7 21; do
     python3 "$tools/circuits.py" colour_code --distance "$distance" --deepest \
         >"$folder/colour_code_$distance.stim"
@@ -36,5 +38,5 @@ python3 "$tools/circuits.py" dense --qubits 1024 --steps 1048576 --seed 1 >"$fol
 "$bench/out/bench" measure
 cd "$folder"
 "$bench/out/bench" run surface_code_3.stim surface_code_7.stim surface_code_13.stim \
-    surface_code_21.stim colour_code_7.stim colour_code_21.stim bacon_shor_7.stim \
-    bacon_shor_21.stim dense_1024.stim
+    surface_code_21.stim surface_code_21_written_out.stim colour_code_7.stim \
+    colour_code_21.stim bacon_shor_7.stim bacon_shor_21.stim dense_1024.stim

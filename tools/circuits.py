@@ -3,6 +3,7 @@
 
     python3 tools/circuits.py surface_code --distance 3 --rounds 2
     python3 tools/circuits.py surface_code --distance 21 --deepest
+    python3 tools/circuits.py surface_code --distance 21 --deepest --written-out
     python3 tools/circuits.py repetition_code --distance 5 --rounds 10
     python3 tools/circuits.py colour_code --distance 5 --rounds 10
     python3 tools/circuits.py bacon_shor --distance 5 --rounds 10
@@ -25,7 +26,7 @@ The first two codes follow the layout that `stim gen` has for `surface_code:rota
 The first line says how many steps and records the circuit has when its blocks are unrolled. A step
 is a gate on one qubit or one pair, a qubit that is measured or reset, a product that is measured, a
 detector, or an addition to an observable. A circuit has at most 1,048,576 steps; `--deepest` takes as
-many rounds as fit.
+many rounds as fit. `--written-out` writes each round's lines, without a block.
 tools/check_circuits.py checks what is said here.
 """
 import argparse
@@ -82,10 +83,10 @@ class Text:
         self.steps += other.steps
         self.records += other.records
 
-    def repeat(self, count, body):
-        """The body, so many times; a block where that is more than once."""
-        if count == 1:
-            self.lines += body.lines
+    def repeat(self, count, body, written_out=False):
+        """The body, so many times; a block where that is more than once and not to be written out."""
+        if count == 1 or written_out:
+            self.lines += count * body.lines
         elif count > 1:
             self.lines += [f"REPEAT {count} {{"] + ["    " + line for line in body.lines] + ["}"]
         self.steps += count * body.steps
@@ -109,10 +110,10 @@ class Memory:
         """The most rounds that the limit on steps allows."""
         return 1 + (MOST_STEPS - self.head.steps - self.tail.steps) // self.body.steps
 
-    def text(self, rounds):
+    def text(self, rounds, written_out=False):
         circuit = Text()
         circuit.join(self.head)
-        circuit.repeat(rounds - 1, self.body)
+        circuit.repeat(rounds - 1, self.body, written_out)
         circuit.join(self.tail)
         return titled(f"{self.title}, {rounds} round{'s' * (rounds != 1)}", circuit)
 
@@ -437,7 +438,7 @@ def memory_of(parser, given):
     deepest = memory.deepest()
     if not given.deepest and given.rounds > deepest:
         parser.error(f"{given.rounds} rounds have over {MOST_STEPS} steps; {deepest} rounds fit")
-    return memory.text(deepest if given.deepest else given.rounds)
+    return memory.text(deepest if given.deepest else given.rounds, given.written_out)
 
 
 def number_in(least, most):
@@ -461,6 +462,7 @@ def command_line():
         depth = memory.add_mutually_exclusive_group(required=True)
         depth.add_argument("--rounds", type=number_in(1, MOST_STEPS))
         depth.add_argument("--deepest", action="store_true")
+        memory.add_argument("--written-out", action="store_true")
     random = kinds.add_parser("dense")
     random.add_argument("--qubits", type=number_in(2, MOST_QUBITS), required=True)
     random.add_argument("--steps", type=number_in(1, MOST_STEPS), required=True)

@@ -26,6 +26,12 @@ mod seeds;
 #[cfg(test)]
 mod shots;
 #[cfg(test)]
+mod stabiliser_devices;
+#[cfg(test)]
+mod stabiliser_words;
+#[cfg(test)]
+mod stabilisers;
+#[cfg(test)]
 mod usage;
 #[cfg(test)]
 mod words;

@@ -1,49 +1,67 @@
 //! The program `bench`: times what a tableau does, a plain loop over as many bytes, and whole runs.
 //!
 //! Without words it prints one fixed line. With the word `measure` it prints a table for each size,
-//! and the time to read a long circuit text. With the word `run` and paths it prints, for the circuit
-//! in each of these files, the times to read it and to run it once.
+//! the time to read a long circuit text, and the times to edit one. With the word `run` and paths it
+//! prints, for the circuit in each of these files, the times to read it and to run it once, and those
+//! of a cursor over its steps.
 //!
 //! - `work`: what is timed.
 //! - `state`: the states and the string that the works take.
 //! - `bytes`: the plain loop.
 //! - `subject`: does each work.
 //! - `timing`: the best of several rounds.
+//! - `groups`: comparing the groups of two states, and reduced rows.
 //! - `report`: the tables.
 //! - `reading`: a long circuit text, and the time to read it.
+//! - `editing`: a circuit of many items, and the time to edit it.
 //! - `running`: circuits in files, and the times to read and to run them.
+//! - `walking`: the times of a cursor over the steps of a circuit.
 //!
 //! It is proved safe, and nothing is claimed of the times.
 #![tactic(auto)]
 
 mod bytes;
+mod editing;
 mod failure;
+mod groups;
 mod reading;
 mod report;
 mod running;
 mod state;
 mod subject;
 mod timing;
+mod walking;
 mod work;
 
 use failure::Failure;
 use std::env;
+use std::rt::Files;
+use std::time::CpuClock;
 
 /// The numbers of qubits that are measured.
 const SIZES: [usize; 3] = [64, 256, 1024];
 
 fn main(rt: HostRuntime) -> Result<(), Failure> {
     let words: Vec<String> = env::args(&rt)?.skip(1).collect(rt.alloc())?;
-    match words.as_slice() {
+    measure(&rt, words.as_slice())
+}
+
+/// Measures what the words ask for.
+fn measure<R: CpuClock + Files + AllocGlobal + Print>(
+    rt: &R,
+    words: &[String],
+) -> Result<(), Failure> {
+    match words {
         [] => println!(rt; "bench: the word measure times what a tableau does")?,
         [word] if word.as_str() == "measure" => {
             for qubits in SIZES {
-                report::print_table(&rt, qubits)?;
+                report::print_table(rt, qubits)?;
             }
-            reading::print_time(&rt)?;
+            reading::print_time(rt)?;
+            editing::print_times(rt)?;
         }
         [word, paths @ ..] if word.as_str() == "run" && !paths.is_empty() => {
-            running::print_table(&rt, paths)?;
+            running::print_table(rt, paths)?;
         }
         _ => return Err(Failure::Words),
     }

@@ -1,5 +1,9 @@
+ghost use Rattle.std.specs.Prelude.{◌≡◌, None, IfOk};
+ghost use Rattle.stab_circuit.specs.Steps.{check_of};
+ghost use Rattle.stab_circuit.specs.Views.{circuit_items};
+
 use super::failure::Failure;
-use stab_circuit::read_circuit;
+use stab_circuit::{Circuit, read_circuit};
 use stab_pauli::MemoryInput;
 use std::alloc::{AllocError, Global};
 use std::num::nearest_usize_to_f64;
@@ -15,10 +19,10 @@ const ROUNDS: u32 = 100_000;
 /// The best of so many readings counts, since other programs disturb the rest.
 const READINGS: u32 = 5;
 
-/// A long circuit text, of twelve megabytes and 800,004 steps.
-fn long_text(alloc: Global) -> Result<Vec<u8>, AllocError> {
+/// A long circuit text: four measurements, and then so many rounds.
+pub fn long_text(alloc: Global, rounds: u32) -> Result<Vec<u8>, AllocError> {
     let mut text = Vec::from_slice(alloc, b"M 0 0 0 0\n")?;
-    for _ in 0..ROUNDS {
+    for _ in 0..rounds {
         text.extend_from_slice(ROUND)?;
     }
     Ok(text)
@@ -26,7 +30,7 @@ fn long_text(alloc: Global) -> Result<Vec<u8>, AllocError> {
 
 /// Prints how long it takes to read a long circuit text, and the time for each byte of it.
 pub fn print_time<R: CpuClock + AllocGlobal + Print>(rt: &R) -> Result<(), Failure> {
-    let text = long_text(rt.alloc())?;
+    let text = long_text(rt.alloc(), ROUNDS)?;
     let least = best_time(rt, text.as_slice())?;
     let (bytes, seconds) = (text.len(), least.as_secs_f64());
     let each = seconds * 1e9 / nearest_usize_to_f64(bytes);
@@ -43,11 +47,21 @@ pub fn best_time<R: CpuClock + AllocGlobal>(rt: &R, text: &[u8]) -> Result<Durat
     Ok(least)
 }
 
-/// The processor time of reading a circuit text once.
+/// The processor time of reading a circuit text once, without that of letting the circuit go.
 fn time_of_reading<R: CpuClock + AllocGlobal>(rt: &R, text: &[u8]) -> Result<Duration, Failure> {
     let start = rt.thread_cpu_time()?;
-    match read_circuit(rt.alloc(), &mut MemoryInput::new(text)) {
-        Ok(_circuit) => Ok(rt.thread_cpu_time()?.saturating_sub(start)),
+    let circuit = circuit_of_text(rt.alloc(), text)?;
+    let end = rt.thread_cpu_time();
+    drop(circuit);
+    Ok(end?.saturating_sub(start))
+}
+
+/// The circuit that a text stands for.
+pub fn circuit_of_text(alloc: Global, text: &[u8]) -> Result<Circuit, Failure>
+    ensures checked { IfOk result (λ c. check_of (circuit_items c) ≡ None) }
+{
+    match read_circuit(alloc, &mut MemoryInput::new(text)) {
+        Ok(circuit) => Ok(circuit),
         Err(fault) => Err(Failure::Circuit(fault)),
     }
 }

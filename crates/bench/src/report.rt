@@ -3,7 +3,7 @@ ghost use Rattle.std.specs.Prelude.{◌≡◌, ◌<◌, ◌≤◌};
 use super::failure::Failure;
 use super::subject::Subject;
 use super::work::Work;
-use super::{state, timing};
+use super::{groups, state, timing};
 use stab_tableau::PairGate;
 use std::time::CpuClock;
 
@@ -24,6 +24,7 @@ pub(super) fn print_table<R: CpuClock + AllocGlobal + Print>(
         let (to_xor, to_cx) = (time / xor, time / cx);
         println!(rt; "{time:>12.1} {to_xor:>10.2} {to_cx:>8.2}  {work}")?;
     }
+    groups::print_lines(rt, n, xor, cx)?;
     println!(rt; "outcomes that were free: {}", subject.free_outcomes())?;
     Ok(())
 }

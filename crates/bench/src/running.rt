@@ -3,10 +3,10 @@ ghost use Rattle.stab_circuit.specs.Views.{circuit_items};
 ghost use Rattle.bench.specs.Runs.{records_of_run};
 
 use super::failure::Failure;
-use super::reading;
-use stab_circuit::{Circuit, read_circuit};
-use stab_pauli::MemoryInput;
-use stab_session::{SeedCoins, run_once};
+use super::{reading, walking};
+use stab_circuit::Circuit;
+use stab_session::{SeedCoins, Shot, run_once};
+use std::alloc::Global;
 use std::fs;
 use std::num::nearest_usize_to_f64;
 use std::rt::Files;
@@ -31,6 +31,9 @@ pub fn print_table<R: CpuClock + Files + AllocGlobal + Print>(
     for path in paths {
         print_line(rt, path.as_str())?;
     }
+    for path in paths {
+        print_walk(rt, path.as_str())?;
+    }
     Ok(())
 }
 
@@ -41,7 +44,7 @@ fn print_line<R: CpuClock + Files + AllocGlobal + Print>(
 ) -> Result<(), Failure> {
     let text = text_of_file(rt, path)?;
     let read = reading::best_time(rt, text.as_slice())?.as_secs_f64() * 1e3;
-    let circuit = circuit_of_text(rt, text.as_slice())?;
+    let circuit = reading::circuit_of_text(rt.alloc(), text.as_slice())?;
     let Timed { time, records } = best_run(rt, &circuit)?;
     let (bytes, steps, run) = (text.len(), circuit.steps(), time.as_secs_f64() * 1e3);
     let each = run * 1e6 / nearest_usize_to_f64(steps.max(1));
@@ -51,19 +54,21 @@ fn print_line<R: CpuClock + Files + AllocGlobal + Print>(
     Ok(())
 }
 
+/// Prints what a cursor takes over the steps of the circuit in a file.
+fn print_walk<R: CpuClock + Files + AllocGlobal + Print>(
+    rt: &R,
+    path: &str,
+) -> Result<(), Failure> {
+    let text = text_of_file(rt, path)?;
+    let circuit = reading::circuit_of_text(rt.alloc(), text.as_slice())?;
+    walking::print_line(rt, &circuit, path)
+}
+
 /// The bytes of a file.
 fn text_of_file<R: Files + AllocGlobal>(rt: &R, path: &str) -> Result<Vec<u8>, Failure> {
     match fs::read(rt, path) {
         Ok(text) => Ok(text),
         Err(_) => Err(Failure::File(String::from_str(rt.alloc(), path)?)),
-    }
-}
-
-/// The circuit that a text stands for.
-fn circuit_of_text<R: AllocGlobal>(rt: &R, text: &[u8]) -> Result<Circuit, Failure> {
-    match read_circuit(rt.alloc(), &mut MemoryInput::new(text)) {
-        Ok(circuit) => Ok(circuit),
-        Err(fault) => Err(Failure::Circuit(fault)),
     }
 }
 
@@ -79,17 +84,28 @@ fn best_run<R: CpuClock + AllocGlobal>(rt: &R, circuit: &Circuit) -> Result<Time
     Ok(best)
 }
 
-/// Runs a circuit once on its own qubits, with the coins of seed 0 and shot 0.
+/// The processor time of a run, without that of letting go what it gave.
 fn timed_run<R: CpuClock + AllocGlobal>(rt: &R, circuit: &Circuit) -> Result<Timed, Failure>
     ensures records { IfOk result (λ t. t.records ≡ length (records_of_run (circuit_items circuit.now))) }
 {
-    let mut coins = SeedCoins::new(0, 0);
     let start = rt.thread_cpu_time()?;
-    match run_once(rt.alloc(), circuit, circuit.qubits(), &mut coins) {
-        Ok(shot) => Ok(Timed {
-            time: rt.thread_cpu_time()?.saturating_sub(start),
-            records: shot.records.len(),
-        }),
+    let shot = shot_of(rt.alloc(), circuit)?;
+    let end = rt.thread_cpu_time();
+    let records = shot.records.len();
+    drop(shot);
+    Ok(Timed {
+        time: end?.saturating_sub(start),
+        records,
+    })
+}
+
+/// Runs a circuit once on its own qubits, with the coins of seed 0 and shot 0.
+fn shot_of(alloc: Global, circuit: &Circuit) -> Result<Shot, Failure>
+    ensures records { IfOk result (λ s. length s.records.items ≡ length (records_of_run (circuit_items circuit.now))) }
+{
+    let mut coins = SeedCoins::new(0, 0);
+    match run_once(alloc, circuit, circuit.qubits(), &mut coins) {
+        Ok(shot) => Ok(shot),
         Err(fault) => Err(Failure::Circuit(fault)),
     }
 }

@@ -12,12 +12,20 @@ pub fn scrambled(alloc: Global, n: usize) -> Result<Tableau, Refusal>
     ensures err { IfErr result (λ r. r ≡ OutOfMemory) }
 {
     let mut tableau = Tableau::new(alloc, n)?;
+    scramble(&mut tableau);
+    Ok(tableau)
+}
+
+/// Joins each qubit with all others by gates.
+pub fn scramble(tableau: &mut Tableau)
+    requires in_range { tableau.old.qubits ≤ 1024 }
+    ensures qubits { tableau.new.qubits ≡ tableau.old.qubits }
+{
     let mut stride = 1;
-    while stride < n {
-        join_with_stride(&mut tableau, stride);
+    while stride < tableau.len() {
+        join_with_stride(tableau, stride);
         stride *= 2;
     }
-    Ok(tableau)
 }
 
 /// Applies gates to each qubit and the one that is a stride after it.

@@ -4,7 +4,9 @@ mod ViewLemmas
 mod ReaderLemmas
 mod PrintLemmas
 mod StepLemmas
-mod CursorLemmas
+mod StepApartLemmas
+mod WalkLemmas
+mod SkipLemmas
 mod SummaryLemmas
 mod FaultLemmas
 mod ReadingLemmas

@@ -1,7 +1,8 @@
 -- The summaries of items.
-use Rattle.std.proofs.Common.{◌≡◌, ◌≤◌, ◌<◌, refl, ap, sym, ◌∙◌, ℕ, ◌+◌, suc, max, min, true, false, List, [], ◌∷◌, ◌++◌, length, map, take, drop, get_or, All, arith, drop-cons, append-nil, nat_lt, Some, None, if◌then◌else◌}
+use Rattle.std.proofs.Common.{◌≡◌, ◌≤◌, ◌<◌, refl, ap, sym, ◌∙◌, ℕ, ◌+◌, suc, max, min, Bool, true, false, List, [], ◌∷◌, ◌++◌, length, map, take, drop, get_or, All, arith, drop-cons, append-nil, nat_lt, Some, None, if◌then◌else◌}
 use Rattle.std.proofs.lemmas.List.{length-append, length-map, take_more}
 use Rattle.std.proofs.lemmas.List.Elements.{All-head, All-tail}
+use Rattle.std.proofs.lemmas.Bool.Decides.{nat_tests}
 use Rattle.stab_pauli.specs.declared.refusal.Refusal.TheVariants.{LookbackTooFar, TooManySteps}
 use Rattle.stab_tableau.specs.declared.gate.Gate.{Gate}
 use Rattle.stab_tableau.specs.declared.gate.PairGate.TheVariants as gate
@@ -19,7 +20,7 @@ use Rattle.stab_circuit.specs.declared.summary.Summary.{Summary}
 use Rattle.stab_lines.specs.Lookbacks.{IsLookback}
 use Rattle.stab_circuit.specs.Items.{Items, OneItem, done, next, block, join, before, repeat, listed, depth}
 use Rattle.stab_lines.specs.Targets.{pair_qubits}
-use Rattle.stab_circuit.specs.Steps.{Step, one, two, collapse, measured, measured_product, controlled_step, steps_of, rounds, unroll, makes, records_of, lookbacks, target_qubits, factor_qubits, product_qubits, controlled_qubits, past, past_named, qubits_of, observables_of, named_qubits, named_observables, check_of}
+use Rattle.stab_circuit.specs.Steps.{Step, one, two, collapse, measured, measured_product, controlled_step, steps_of, rounds, unroll, makes, records_of, lookbacks, target_qubits, factor_qubits, product_qubits, controlled_qubits, past, past_named, qubits_of, observables_of, named_qubits, named_observables, looks_too_far, check_of}
 use Rattle.stab_circuit.specs.inner.Summaries.{greatest, looks_back, furthest, reach, summed, kind_summary_of, summary_of, followed_by, repeated, judged}
 use Rattle.stab_circuit.proofs.ItemLemmas.{listed-append, depth-join}
 use Rattle.stab_circuit.proofs.StepLemmas.{length-rounds, records_of-append, records_of-rounds, reach-append, reach-rounds, unroll-join, capped_sum, capped_left, capped_times, looks_too_far_reach}
@@ -218,3 +219,13 @@ unfolding check_of
 check_judged items =
     ap (λ b. if b then Some LookbackTooFar else if nat_lt 1048576 (length (unroll items)) then Some TooManySteps else None) (looks_too_far_reach 0 (unroll items))
     ∙ ap (λ b. if nat_lt 0 (reach (unroll items)) then Some LookbackTooFar else if b then Some TooManySteps else None) (still_more (length (unroll items)))
+
+-- so a circuit that nothing refuses has at most 1,048,576 steps
+pub few_steps : (items : Items) → check_of items ≡ None → length (unroll items) ≤ 1048576
+unfolding check_of
+few_steps items e = counted (looks_too_far 0 (unroll items)) (nat_lt 1048576 (length (unroll items))) refl e
+  where
+    counted : (a b : Bool) → nat_lt 1048576 (length (unroll items)) ≡ b → (if a then Some LookbackTooFar else if b then Some TooManySteps else None) ≡ None → length (unroll items) ≤ 1048576
+    counted true b t e = cc
+    counted false true t e = cc
+    counted false false t e = grind (arith, t, nat_tests)

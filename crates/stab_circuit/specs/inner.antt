@@ -5,7 +5,7 @@ pub mod ItemSizes
 pub mod Parts
 pub mod Readers
 pub mod Texts
-pub mod Unrolled
+pub mod Walks
 pub mod Margins
 pub mod Places
 pub mod Splices

@@ -25,8 +25,10 @@ pub struct Circuit {
 }
 
 impl Model for Circuit {
-    ghost use Rattle.std.specs.Prelude.{◌≡◌, ◌≤◌, List};
+    ghost use Rattle.std.specs.Prelude.{◌≡◌, ◌≤◌, List, All};
     ghost use Rattle.stab_circuit.specs.Items.{OneItem, listed};
+    ghost use Rattle.stab_circuit.specs.Steps.{unroll};
+    ghost use Rattle.stab_circuit.specs.Cursors.{IsApart};
     ghost use Rattle.stab_circuit.specs.inner.StoredItems.{entries_code};
 
     ghost Value = { List OneItem };
@@ -37,16 +39,18 @@ impl Model for Circuit {
 
     ghost view = { λ c. c.items.items };
 
-    ghost invariant = { λ c. (c.total ≡ summary_of (listed c.items.items)) × IsSummary c.total × (c.total.depth ≤ 16) };
+    ghost invariant = { λ c. (c.total ≡ summary_of (listed c.items.items)) × IsSummary c.total × (c.total.depth ≤ 16) × All IsApart (unroll (listed c.items.items)) };
 }
 
 impl Circuit {
-    ghost use Rattle.std.specs.Prelude.{◌≡◌, ◌≤◌, [], min, length, IfOk};
+    ghost use Rattle.std.specs.Prelude.{◌≡◌, ◌≤◌, [], All, min, length, IfOk};
     ghost use Rattle.stab_circuit.specs.Items.{listed, depth};
     ghost use Rattle.stab_circuit.specs.Steps.{unroll, records_of, qubits_of, observables_of, check_of, check_within, Checks};
+    ghost use Rattle.stab_circuit.specs.Cursors.{IsApart};
     ghost use Rattle.stab_circuit.specs.Views.{circuit_items};
 
     /// The empty circuit, which takes no memory.
+    #[tactic(auto, using(crate::proofs::StepApartLemmas::nothing_apart))]
     pub fn new(alloc: Global) -> Circuit
         ensures empty { result ≡ [] }
     {
@@ -74,6 +78,7 @@ impl Circuit {
     pub fn items(&self) -> &[Item]
         ensures value { result.now ≡ self.now }
         ensures shallow { depth (circuit_items self.now) ≤ 16 }
+        ensures apart { All IsApart (unroll (circuit_items self.now)) }
     {
         let _ = &self.total;
         self.items.as_slice()

@@ -1,29 +1,34 @@
 use crate::circuit::Circuit;
+use crate::item::Item;
 use crate::step::Step;
-use crate::unrolled::push_items;
+use crate::walk::Walk;
 use stab_pauli::Refusal;
 use std::alloc::Global;
 use std::marker::Model;
 
 /// The steps of an unrolled circuit from some place on. Contracts see the list of all its steps, and
 /// that of the steps that are left.
+///
+/// It keeps a place within nested blocks, and no list of steps.
 #[derive(Drop)]
 pub struct Cursor<'a> {
-    // All steps, of which those from the place on are left.
-    steps: Vec<Step<'a>>,
-    place: usize,
+    items: &'a [Item],
+    walk: Walk<'a>,
 }
 
 impl<'a> Model for Cursor<'a> {
-    ghost use Rattle.std.specs.Prelude.{drop, All};
-    ghost use Rattle.stab_circuit.specs.Cursors.{CursorState, IsApart};
-    ghost use Rattle.stab_circuit.specs.inner.Unrolled.{steps_shown};
+    ghost use Rattle.std.specs.Prelude.{◌≤◌};
+    ghost use Rattle.stab_circuit.specs.Items.{listed, depth};
+    ghost use Rattle.stab_circuit.specs.Steps.{unroll};
+    ghost use Rattle.stab_circuit.specs.Cursors.{CursorState};
 
     ghost Value = { CursorState };
 
-    ghost view = { λ c. record { all = steps_shown c.steps.items; left = drop c.place (steps_shown c.steps.items) } };
+    ghost use Rattle.stab_circuit.specs.inner.Walks.{walk_left, IsWalk};
 
-    ghost invariant = { λ c. All IsApart (steps_shown c.steps.items) };
+    ghost view = { λ c. record { all = unroll (listed c.items.now); left = walk_left c.walk } };
+
+    ghost invariant = { λ c. IsWalk c.walk × (depth (listed c.items.now) ≤ 16) };
 }
 
 impl<'a> Cursor<'a> {
@@ -37,6 +42,7 @@ impl<'a> Cursor<'a> {
     ///
     /// Asks that no lookback of the circuit goes too far and that it has no more steps than a
     /// circuit may have. Refusal `OutOfMemory` alone.
+    #[tactic(auto, using(crate::proofs::SummaryLemmas::few_steps))]
     pub fn at(alloc: Global, circuit: &'a Circuit, step: usize) -> Result<Cursor<'a>, Refusal>
         requires checked { check_of (circuit_items circuit.now) ≡ None }
         requires in_range { step ≤ length (unroll (circuit_items circuit.now)) }
@@ -45,9 +51,10 @@ impl<'a> Cursor<'a> {
         ensures apart { IfOk result (λ c. All IsApart c.all) }
         ensures err { IfErr result (λ r. r ≡ OutOfMemory) }
     {
-        let mut steps = Vec::with_capacity(alloc, circuit.steps())?;
-        push_items(&mut steps, circuit.items())?;
-        Ok(Cursor { steps, place: step })
+        let items = circuit.items();
+        let mut walk = Walk::new(alloc, items)?;
+        walk.skip(step as u32);
+        Ok(Cursor { items, walk })
     }
 
     /// The next step, or `None` where none is left, and then for ever. It takes no memory.
@@ -57,13 +64,7 @@ impl<'a> Cursor<'a> {
         ensures apart { IfSome result (λ s. IsApart (step_shown s)) }
         ensures none { IfNone result ((self.old.left ≡ []) × (self.new.left ≡ [])) }
     {
-        match self.steps.get(self.place) {
-            Some(step) => {
-                self.place += 1;
-                Some(*step)
-            }
-            None => None,
-        }
+        self.walk.next()
     }
 
     /// Back to the circuit's first step. It takes no memory.
@@ -71,7 +72,7 @@ impl<'a> Cursor<'a> {
         ensures all { self.new.all ≡ self.old.all }
         ensures left { self.new.left ≡ self.old.all }
     {
-        self.place = 0;
+        self.walk.restart(self.items);
     }
 }
 

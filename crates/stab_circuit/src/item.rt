@@ -65,7 +65,9 @@ pub(crate) enum Part<'a> {
 }
 
 impl Item {
-    ghost use Rattle.std.specs.Prelude.{◌≡◌, ◌≤◌, IfOk};
+    ghost use Rattle.std.specs.Prelude.{◌≡◌, ◌≤◌, All, IfOk};
+    ghost use Rattle.stab_circuit.specs.Steps.{unroll};
+    ghost use Rattle.stab_circuit.specs.Cursors.{IsApart};
     ghost use Rattle.stab_circuit.specs.Nothings.{IsNothing};
     ghost use Rattle.stab_circuit.specs.Items.{operation as single, repeat as repeated, listed, before, done, depth};
     ghost use Rattle.stab_circuit.specs.inner.Summaries.{summary_of, IsSummary};
@@ -123,10 +125,11 @@ impl Item {
     }
 
     /// The summary of the item, without a walk over a block's body.
-    #[tactic(auto, using(crate::proofs::SummaryLemmas::operation_summary, crate::proofs::SummaryLemmas::block_summary))]
+    #[tactic(auto, using(crate::proofs::SummaryLemmas::operation_summary, crate::proofs::StepApartLemmas::operation_apart))]
     pub(crate) fn summary(&self) -> Summary
         ensures value { result ≡ summary_of (before self.now done) }
         ensures small { IsSummary result }
+        ensures apart { All IsApart (unroll (before self.now done)) }
     {
         match &self.node {
             Node::Operation(operation) => kind_summary(&operation.kind),
@@ -135,15 +138,18 @@ impl Item {
     }
 }
 
-ghost use Rattle.std.specs.Prelude.{◌≡◌};
+ghost use Rattle.std.specs.Prelude.{◌≡◌, All};
 ghost use Rattle.stab_circuit.specs.Items.{listed};
+ghost use Rattle.stab_circuit.specs.Steps.{unroll};
+ghost use Rattle.stab_circuit.specs.Cursors.{IsApart};
 ghost use Rattle.stab_circuit.specs.inner.Summaries.{summary_of, IsSummary};
 
 /// The summary of the items, by what each keeps.
-#[tactic(auto, using(crate::proofs::SummaryLemmas::summary_taken))]
+#[tactic(auto, using(crate::proofs::SummaryLemmas::summary_taken, crate::proofs::StepApartLemmas::items_apart, crate::proofs::StepApartLemmas::nothing_apart))]
 pub(crate) fn items_summary(items: &[Item]) -> Summary
     ensures value { result ≡ summary_of (listed items.now) }
     ensures small { IsSummary result }
+    ensures apart { All IsApart (unroll (listed items.now)) }
 {
     let mut all = Summary::NONE;
     for item in items {

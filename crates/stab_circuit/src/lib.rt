@@ -2,16 +2,20 @@
 //!
 //! What one line means is said by `stab_lines`; here lines are put together.
 //!
-//! - `item`: instructions and blocks.
+//! - `item`: instructions and blocks, which keep the numbers of one round.
 //! - `reader`: the items of a text's lines, with the blocks that are open.
 //! - `input`: reading an input whole.
-//! - `summary`: the numbers of a list of items.
-//! - `circuit`: circuits, and reading one.
+//! - `summary`: the numbers that are kept.
+//! - `path`, `change`: where a circuit is edited, and what for.
+//! - `edit`, `commit`: judging an edit by what items keep, and making it.
+//! - `circuit`: circuits, reading one, and editing one.
 //! - `print`: the one text of a circuit.
-//! - `step`, `unrolled`, `cursor`: the unrolled steps of a circuit, from any place on.
+//! - `step`, `instruction`: the steps of an instruction.
+//! - `walk`, `cursor`: the unrolled steps of a circuit, from any place on.
 //! - `laws`: what holds between all texts and all items.
 //!
-//! `specs/` says which items a text stands for, what its fault is, and what its unrolled steps are;
+//! `specs/` says which items a text stands for, what its fault is, what its unrolled steps are, and
+//! what an edit leaves of items;
 //! `specs/inner` has what private contracts alone speak of.
 //!
 //! Proved: every text is that of one circuit or has one fault, and never both; it is read as exactly
@@ -19,7 +23,9 @@
 //! nothing is read but what one read brings; qubits and observables are those of its items, and
 //! steps, records and what refuses a whole circuit those of its unrolled steps; one item's text
 //! without a fault stands for one item; what is printed of the items of any lines stands for these
-//! items and no others, within the limit of a text.
+//! items and no others, within the limit of a text; an edit leaves exactly the items that its path
+//! and its change give, and the steps before the first changed one and behind the outermost item
+//! around its place, or is refused by what refuses it first and leaves the circuit as it was.
 #![tactic(auto)]
 
 mod change;
@@ -28,6 +34,7 @@ mod commit;
 mod cursor;
 mod edit;
 mod input;
+mod instruction;
 mod item;
 pub mod laws;
 mod path;
@@ -35,7 +42,7 @@ mod print;
 mod reader;
 mod step;
 mod summary;
-mod unrolled;
+mod walk;
 
 pub use change::{Change, Edited, Refused};
 pub use circuit::{Circuit, read_circuit, read_item};

@@ -1,7 +1,8 @@
-ghost use Rattle.std.specs.Prelude.{◌≡◌, ◌≤◌, ◌*◌, min, length, ◌∷◌, []};
+ghost use Rattle.std.specs.Prelude.{◌≡◌, ◌≤◌, ◌*◌, min, length, ◌∷◌, [], All};
 ghost use Rattle.stab_lines.specs.Targets.{pair_qubits};
-ghost use Rattle.stab_circuit.specs.Steps.{past as past_of, target_qubits, factor_qubits, product_qubits, controlled_qubits};
-ghost use Rattle.stab_circuit.specs.inner.Summaries.{greatest as greatest_of, looks_back, furthest as furthest_of, kind_summary_of, IsSummary};
+ghost use Rattle.stab_circuit.specs.Cursors.{IsApart};
+ghost use Rattle.stab_circuit.specs.Steps.{steps_of, past as past_of, target_qubits, factor_qubits, product_qubits, controlled_qubits};
+ghost use Rattle.stab_circuit.specs.inner.Summaries.{greatest as greatest_of, looks_back, furthest as furthest_of, kind_summary_of, IsPairApart, IsSwapApart, IsProductApart, IsSummary};
 
 use stab_lines::{ControlledPair, Factor, Kind, Lookbacks, MeasureTarget, Pair, Product, Qubit};
 use stab_pauli::Refusal;
@@ -122,10 +123,11 @@ fn past(qubits: &[Qubit]) -> u32
     past
 }
 
-#[tactic(auto, using(crate::proofs::SummaryLemmas::past_pairs_dropped))]
+#[tactic(auto, using(crate::proofs::SummaryLemmas::past_pairs_dropped, crate::proofs::StepApartLemmas::All_taken, crate::proofs::StepApartLemmas::All_whole))]
 fn past_pairs(pairs: &[Pair]) -> u32
     ensures value { result ≡ past_of (pair_qubits pairs.now) }
     ensures small { result ≤ 1024 }
+    ensures apart { All IsSwapApart pairs.now }
 {
     let mut past = 0;
     for pair in pairs {
@@ -159,10 +161,11 @@ fn past_factors(factors: &[Factor]) -> u32
     past
 }
 
-#[tactic(auto, using(crate::proofs::SummaryLemmas::past_products_dropped))]
+#[tactic(auto, using(crate::proofs::SummaryLemmas::past_products_dropped, crate::proofs::StepApartLemmas::All_taken, crate::proofs::StepApartLemmas::All_whole))]
 fn past_products(products: &[Product]) -> u32
     ensures value { result ≡ past_of (product_qubits products.now) }
     ensures small { result ≤ 1024 }
+    ensures apart { All IsProductApart products.now }
 {
     let mut past = 0;
     for product in products {
@@ -175,6 +178,7 @@ fn past_products(products: &[Product]) -> u32
 fn past_pair(pair: &ControlledPair) -> u32
     ensures value { result ≡ past_of (controlled_qubits (pair.now ∷ [])) }
     ensures small { result ≤ 1024 }
+    ensures apart { IsPairApart pair.now }
 {
     match pair {
         ControlledPair::Qubits(pair) => {
@@ -185,10 +189,11 @@ fn past_pair(pair: &ControlledPair) -> u32
     }
 }
 
-#[tactic(auto, using(crate::proofs::SummaryLemmas::past_controlled_dropped))]
+#[tactic(auto, using(crate::proofs::SummaryLemmas::past_controlled_dropped, crate::proofs::StepApartLemmas::All_taken, crate::proofs::StepApartLemmas::All_whole))]
 fn past_controlled(pairs: &[ControlledPair]) -> u32
     ensures value { result ≡ past_of (controlled_qubits pairs.now) }
     ensures small { result ≤ 1024 }
+    ensures apart { All IsPairApart pairs.now }
 {
     let mut past = 0;
     for pair in pairs {
@@ -250,6 +255,7 @@ fn look(records: &Lookbacks, observables: u32) -> Summary
 /// The summary of the pairs of a controlled gate.
 fn controlled(pairs: &[ControlledPair]) -> Summary
     ensures value { result ≡ record { steps = min (length pairs.now) 1048577; records = 0; reach = furthest_of pairs.now; qubits = past_of (controlled_qubits pairs.now); observables = 0; depth = 0 } }
+    ensures apart { All IsPairApart pairs.now }
     ensures small { IsSummary result }
 {
     Summary {
@@ -271,9 +277,10 @@ fn measurement(steps: usize, qubits: u32) -> Summary
 }
 
 /// The summary of an instruction.
-#[tactic(auto, using(crate::proofs::SummaryLemmas::gate_summary, crate::proofs::SummaryLemmas::swap_summary, crate::proofs::SummaryLemmas::product_summary, crate::proofs::SummaryLemmas::measure_summary, crate::proofs::SummaryLemmas::reset_summary, crate::proofs::SummaryLemmas::detector_summary, crate::proofs::SummaryLemmas::observable_summary))]
+#[tactic(auto, using(crate::proofs::SummaryLemmas::gate_summary, crate::proofs::SummaryLemmas::swap_summary, crate::proofs::SummaryLemmas::product_summary, crate::proofs::SummaryLemmas::measure_summary, crate::proofs::SummaryLemmas::reset_summary, crate::proofs::SummaryLemmas::detector_summary, crate::proofs::SummaryLemmas::observable_summary, crate::proofs::StepApartLemmas::gate_apart, crate::proofs::StepApartLemmas::measure_apart, crate::proofs::StepApartLemmas::reset_apart, crate::proofs::StepApartLemmas::swap_apart, crate::proofs::StepApartLemmas::product_apart, crate::proofs::StepApartLemmas::controlled_apart, crate::proofs::StepApartLemmas::detector_apart, crate::proofs::StepApartLemmas::observable_apart, crate::proofs::StepApartLemmas::nothing_apart))]
 pub fn kind_summary(kind: &Kind) -> Summary
     ensures value { result ≡ kind_summary_of kind.now }
+    ensures apart { All IsApart (steps_of kind.now) }
     ensures small { IsSummary result }
 {
     match kind {

@@ -13,7 +13,7 @@ use Rattle.stab_cli.specs.declared.words.Usage.{Usage}
 use Rattle.stab_cli.specs.declared.words.Usage.TheVariants.{Help, Fault, Memory}
 use Rattle.stab_commands.specs.declared.job.Job.{Job}
 use Rattle.stab_commands.specs.declared.job.Command.{Command}
-use Rattle.stab_commands.specs.declared.job.Command.TheVariants.{Sample, Detect}
+use Rattle.stab_commands.specs.declared.job.Command.TheVariants.{Sample, Detect, Stabilisers}
 use Rattle.stab_commands.specs.declared.job.Source.{Source}
 use Rattle.stab_commands.specs.declared.job.Source.TheVariants.{Seed, List as Listed}
 
@@ -59,6 +59,7 @@ HasShots options format shots = IsNamed (first_of (codes "out_format") options) 
 abbrev pub IsCommand : Text → List Row → Command → Type 0
 IsCommand name options (Sample format shots) = (name ≡ codes "sample") × HasShots options format shots
 IsCommand name options (Detect format shots append) = (name ≡ codes "detect") × HasShots options format shots × IsSet (one_of (codes "append_observables") options) append
+IsCommand name options Stabilisers = name ≡ codes "stabilisers"
 
 -- a job is what a command's name and options say
 pub record IsJob (name : Text) (options : List Row) (job : Job) : Type 0 where

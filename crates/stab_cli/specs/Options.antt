@@ -38,11 +38,13 @@ most_shots = 1000000
 abbrev pub most_seed : ℕ
 most_seed = 18446744073709551615
 
+-- the options of every command: its coins and its files
+abbrev pub common_options : List Rule
+common_options = numbered (codes "seed") most_seed (codes "0") ∷ valued (codes "coins") ∷ valued (codes "in") ∷ valued (codes "out") ∷ []
+
 -- the options of a command that takes shots, in the order of the help
 abbrev pub shot_options : Kept → List Rule
-shot_options formats =
-    numbered (codes "shots") most_shots (codes "1") ∷ named (codes "out_format") formats (codes "01")
-    ∷ numbered (codes "seed") most_seed (codes "0") ∷ valued (codes "coins") ∷ valued (codes "in") ∷ valued (codes "out") ∷ []
+shot_options formats = numbered (codes "shots") most_shots (codes "1") ∷ named (codes "out_format") formats (codes "01") ∷ common_options
 
 -- a command that takes shots
 abbrev pub shot_command : Text → Kept → Shape
@@ -60,10 +62,14 @@ sample = shot_command (codes "sample")
 abbrev pub detect : Kept → Shape
 detect formats = let run = shot_command (codes "detect") formats in record run { rules = run.rules ++ flag (codes "append_observables") ∷ [] }
 
+-- the command `stabilisers`
+abbrev pub stabilisers : Shape
+stabilisers = record (new_shape (codes "stabilisers")) { rules = common_options }
+
 -- the program without its commands, of which some command is wanted, and which tells its version
 abbrev pub bare : App
 bare = on_top (λ s. record s { subcommand_required = true; has_version = true }) (new_app (codes "stabsim"))
 
 -- the program
 abbrev pub stabsim : Kept → App
-stabsim formats = with_subcommand (with_subcommand bare (sample formats)) (detect formats)
+stabsim formats = with_subcommand (with_subcommand (with_subcommand bare (sample formats)) (detect formats)) stabilisers

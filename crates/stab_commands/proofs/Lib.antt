@@ -1,6 +1,8 @@
 pub mod FaultLineLaws
 pub mod SendingLaws
 pub mod RunLaws
+pub mod RowLaws
+pub mod LineLaws
 pub mod PlaceLaws
 pub mod AnswerLaws
 pub mod ReadingLaws

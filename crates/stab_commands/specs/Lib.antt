@@ -1,5 +1,6 @@
 pub mod Endings
 pub mod Outputs
+pub mod Stabilisers
 pub mod Jobs
 pub mod ScriptWords
 pub mod Scripts

@@ -1,4 +1,4 @@
--- Outputs: what the commands write for the items of a circuit, and how a call of one ends.
+-- Outputs: what `sample` and `detect` write for the items of a circuit, and how a call of one ends.
 use Rattle.std.specs.Prelude.{◌≡◌, ℕ, zero, suc, Bool, true, false, List, [], ◌++◌, length, Result}
 use Rattle.stab_pauli.specs.Devices.{InputView, OutputView}
 use Rattle.stab_pauli.specs.declared.refusal.Fault.{Fault}
@@ -13,9 +13,6 @@ use Rattle.stab_results.specs.Formats.{shot_bytes}
 use Rattle.stab_commands.specs.Endings.{Ends, Sends}
 use Rattle.stab_commands.specs.declared.job.Source.{Source}
 use Rattle.stab_commands.specs.declared.job.Source.TheVariants.{Seed, List as Listed}
-use Rattle.stab_commands.specs.declared.job.Command.{Command}
-use Rattle.stab_commands.specs.declared.job.Command.TheVariants.{Sample, Detect}
-use Rattle.stab_commands.specs.declared.job.Job.{Job}
 
 -- the coins of a shot: those of the shot's own stream under the seed, or the whole list anew
 abbrev pub coins_of_shot : Source → ℕ → ℕ → Bool
@@ -44,21 +41,12 @@ detected format true run = shot_bytes format (Detectors (length run.detectors)) 
 abbrev pub detect_of : Format → (append : Bool) → ℕ → Source → Items → List ℕ
 detect_of format append shots source items = of_shots (λ shot. detected format append (run_of_shot source items shot)) shots
 
--- what a command writes for the items, with coins from the source
-abbrev pub written_by : Command → Source → Items → List ℕ
-written_by (Sample format shots) source items = sample_of format shots source items
-written_by (Detect format shots append) source items = detect_of format append shots source items
-
--- what a job writes for the items
-abbrev pub output_of : Job → Items → List ℕ
-output_of job items = written_by job.command job.source items
-
 -- The text stands for a circuit, and the output of it was sent.
 pub record SendsOutput {T : Type 0} (output : Items → List ℕ) (old new : OutputView) (text : List ℕ) (r : Result T Fault) : Type 0 where
   pub items : Items
   pub circuit : IsCircuit text items
   pub sends : Sends (output items) old new r
 
--- How a call of a command ends, over an input and an output, where the command writes this output for the items of a circuit.
+-- How a call of one of them ends, over an input and an output, where it writes this output for the items of a circuit.
 abbrev pub EndsRun : {T : Type 0} → (Items → List ℕ) → InputView → InputView → OutputView → OutputView → Result T Fault → Type 0
 EndsRun output i i' o o' r = Ends IsFaultOf (o' ≡ o) (SendsOutput output o o') i i' r

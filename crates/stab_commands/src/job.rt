@@ -66,6 +66,8 @@ pub enum Command {
         shots: Shots,
         append: bool,
     },
+    /// Writes the reduced rows of the strings that stabilise the state after shot 0.
+    Stabilisers,
 }
 
 /// What the words of a command line ask for: a command, and what every command has.

@@ -2,15 +2,21 @@
 //!
 //! - `job`: what a user can ask for.
 //! - `shots`: the shots of a circuit, written one after another.
-//! - `run`: the commands that run a circuit.
+//! - `run`: the commands that write the shots of a circuit.
+//! - `stabilisers`: the command that writes the stabilisers of the state after a run.
 //! - `status`: running a job, with the status of the program.
 //! - `fault_line`: the line that tells a fault.
+//! - `script`, `editor`: what a script asks for, and a script that is answered as it comes.
+//! - `session_answers`, `edit`: the command that edits a circuit by a script, on a session.
+//! - `laws`: what `stabilisers` writes tells the group; a script has one answer.
 //!
 //! Proved on `run_sample` and `run_detect`: a call ends by cases. The text was refused, by its own fault
 //! or unread, and the output is untouched; or it was given whole, and the output took what the
 //! stabiliser rules give for its circuit and the coins of each shot, in the format asked for, and one
-//! flush; or it failed once, or memory was refused, after a prefix. `run_job` carries the same for a
-//! job, with its status and the line that tells its fault.
+//! flush; or it failed once, or memory was refused, after a prefix. `run_stabilisers` ends by the
+//! same cases, over the reduced rows of the state after shot 0; memory is then refused before the
+//! first row. `run_edit` writes exactly the replies that `specs/Scripts.antt` gives for the script and
+//! the circuit's items, or ends by its own cases (`specs/ScriptEndings.antt`). `run_job` carries the same for a job, with its status and the line that tells its fault.
 #![tactic(auto)]
 
 mod edit;
@@ -22,10 +28,12 @@ mod run;
 mod script;
 mod session_answers;
 mod shots;
+mod stabilisers;
 mod status;
 
 pub use edit::run_edit;
 pub use fault_line::write_fault;
 pub use job::{Command, Job, Shots, Source};
 pub use run::{run_detect, run_sample};
+pub use stabilisers::run_stabilisers;
 pub use status::run_job;

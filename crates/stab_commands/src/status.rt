@@ -1,11 +1,11 @@
 //! Running a job, with the status of the program.
 ghost use Rattle.std.specs.Prelude.{◌≡◌};
-ghost use Rattle.stab_commands.specs.Jobs.{EndsJob};
-ghost use Rattle.stab_commands.specs.Outputs.{EndsRun, output_of};
+ghost use Rattle.stab_commands.specs.Jobs.{EndsCommand, EndsJob};
 
 use crate::fault_line::write_fault;
 use crate::job::{Command, Job};
 use crate::run::{run_detect, run_sample};
+use crate::stabilisers::run_stabilisers;
 use stab_pauli::{Fault, Input, Output};
 use std::alloc::Global;
 
@@ -16,7 +16,7 @@ fn run_command<I: Input, O: Output>(
     input: &mut I,
     out: &mut O,
 ) -> Result<(), Fault>
-    ensures ends { EndsRun (output_of job.now) (I.seen input.old) (I.seen input.new) (O.seen out.old) (O.seen out.new) result }
+    ensures ends { EndsCommand job.now.command job.now.source (I.seen input.old) (I.seen input.new) (O.seen out.old) (O.seen out.new) result }
 {
     let source = &job.source;
     match job.command {
@@ -28,6 +28,7 @@ fn run_command<I: Input, O: Output>(
             shots,
             append,
         } => run_detect(alloc, input, out, format, append, shots.number(), source),
+        Command::Stabilisers => run_stabilisers(alloc, input, out, source),
     }
 }
 
@@ -43,7 +44,7 @@ pub fn run_job<I: Input, S: Input, O: Output, E: Output>(
     out: &mut O,
     err: &mut E,
 ) -> u8
-    ensures ends { EndsJob (output_of job.now) (I.seen input.old) (I.seen input.new) (O.seen out.old) (O.seen out.new) (E.seen err.old) (E.seen err.new) result }
+    ensures ends { EndsJob job.now (I.seen input.old) (I.seen input.new) (O.seen out.old) (O.seen out.new) (E.seen err.old) (E.seen err.new) result }
     ensures script { script.new ≡ script.old }
 {
     let _ = script;

@@ -1,21 +1,19 @@
 -- Printed pairs of a control and a qubit are read again as what they were printed of.
-use Rattle.std.proofs.Common.{◌≡◌, ◌<◌, refl, ap, ◌∙◌, ℕ, ◌==◌, ◌&&◌, nat_eq, List, [], ◌∷◌, ◌++◌, true, false, map, append_assoc, arith, codes, Ok}
-use Rattle.std.specs.List.{list_all, starts_with}
+use Rattle.std.proofs.Common.{◌≡◌, ◌<◌, refl, ap, ◌∙◌, ℕ, ◌==◌, List, [], ◌∷◌, ◌++◌, map, append_assoc, arith, codes, Ok}
 use Rattle.std.specs.Fmt.{decimal}
-use Rattle.std.proofs.lemmas.Bool.Decides.{nat_tests}
 use Rattle.stab_lines.specs.declared.control.Control.{Control}
 use Rattle.stab_lines.specs.declared.control.Control.TheVariants as control
 use Rattle.stab_lines.specs.declared.control.ControlTarget.{ControlTarget}
 use Rattle.stab_lines.specs.declared.control.ControlledPair.{ControlledPair}
 use Rattle.stab_lines.specs.declared.control.ControlledPair.TheVariants as pair
 use Rattle.stab_lines.specs.Results.{◌>>=◌, each}
-use Rattle.stab_lines.specs.Lines.{is_digit, ends_with_byte}
-use Rattle.stab_lines.specs.Words.{words, is_number}
-use Rattle.stab_lines.specs.Targets.{qubit_of, lookback_digits, is_lookback}
+use Rattle.stab_lines.specs.Words.{words}
+use Rattle.stab_lines.specs.Targets.{qubit_of, is_lookback}
 use Rattle.stab_lines.specs.Controls.{control_of, by_turns, paired, controlled_of}
 use Rattle.stab_lines.specs.Prints.{spaced, lookback_text, controlled_text}
-use Rattle.stab_lines.proofs.BoolLemmas.{chosen, passed, and_left}
+use Rattle.stab_lines.proofs.BoolLemmas.{chosen, passed}
 use Rattle.stab_lines.proofs.TargetLemmas.{different}
+use Rattle.stab_lines.proofs.ControlLemmas.{no_record}
 use Rattle.stab_lines.proofs.FreeLemmas.{Each}
 use Rattle.stab_lines.proofs.SureLemmas.{IsControlled}
 use Rattle.stab_lines.proofs.AgainLemmas.{IsWord, AreWords, decimal_digits, decimal_word, lookback_word, lookback_written, lookback_again, qubit_again, each_again, words_again, same_map}
@@ -56,14 +54,6 @@ back_small (pair.Record k q) g = g.1
 pub flat_words : (xs : List ControlledPair) → Each IsControlled xs → AreWords (λ w. w) (flat xs)
 flat_words [] g = tt
 flat_words (x ∷ xs) g = (front_word x g.0, (decimal_word (back x) (omega (arith, back_small x g.0)), flat_words xs g.1))
-
--- digits are no record
-no_record : (ds : List ℕ) → list_all is_digit ds ≡ true → is_lookback ds ≡ false
-no_record [] h = refl
-no_record (d ∷ ds) h = ap (λ b. b && starts_with nat_eq ds (codes "ec[-") && ends_with_byte (d ∷ ds) 93 && is_number (lookback_digits (d ∷ ds))) (other d (and_left (is_digit d) (list_all is_digit ds) h))
-  where
-    other : (x : ℕ) → is_digit x ≡ true → nat_eq 114 x ≡ false
-    other x e = grind (arith, nat_tests)
 
 -- the control of a pair
 abbrev control_in : ControlledPair → Control

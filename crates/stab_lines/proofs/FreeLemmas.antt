@@ -87,7 +87,7 @@ drop_front [] (y ∷ ys) = refl
 drop_front (x ∷ xs) ys = drop_front xs ys
 
 -- where the first byte that passes stands, and what stands before and after it
-position_front : (p : ℕ → Bool) (xs : List ℕ) (y : ℕ) (ys : List ℕ) → Free p xs → p y ≡ true → position_or_len p (xs ++ y ∷ ys) ≡ length xs
+pub position_front : (p : ℕ → Bool) (xs : List ℕ) (y : ℕ) (ys : List ℕ) → Free p xs → p y ≡ true → position_or_len p (xs ++ y ∷ ys) ≡ length xs
 position_front p xs y ys f e = prefix_front (λ x. not (p x)) xs (y ∷ ys) (each_weaker (λ x. p x ≡ false) (λ x. not (p x) ≡ true) xs (λ x h. ap not h) f) (ap not e)
 
 pub before_front : (p : ℕ → Bool) (xs : List ℕ) (y : ℕ) (ys : List ℕ) → Free p xs → p y ≡ true → before_first p (xs ++ y ∷ ys) ≡ xs
@@ -115,7 +115,7 @@ has_front b xs ys f e =
     ap (λ n. nat_lt n (length (xs ++ b ∷ ys))) (position_front (is_byte b) xs b ys f e)
     ∙ lt_true (length xs) (length (xs ++ b ∷ ys)) (omega (arith, length-append xs (b ∷ ys)))
 
-free_position : (p : ℕ → Bool) (xs : List ℕ) → Free p xs → position_or_len p xs ≡ length xs
+pub free_position : (p : ℕ → Bool) (xs : List ℕ) → Free p xs → position_or_len p xs ≡ length xs
 free_position p [] f = refl
 free_position p (x ∷ xs) f = let rest = free_position p xs f.1 in let one = prefix_yes (λ y. not (p y)) x xs (ap not f.0) in omega (arith, rest, one)
 

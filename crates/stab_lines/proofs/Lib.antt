@@ -2,12 +2,17 @@ pub mod BoolLemmas
 mod ResultLemmas
 pub mod WriteLemmas
 mod PrintLemmas
+mod ArgumentLemmas
+mod SearchLemmas
 pub mod WordLemmas
 mod PieceLemmas
+mod NumberLemmas
 mod TargetLemmas
+mod CoordinateLemmas
 mod ProductLemmas
-mod ControlLemmas
 pub mod FreeLemmas
+mod SightLemmas
+mod ControlLemmas
 pub mod SureLemmas
 mod AgainLemmas
 mod FactorLemmas

@@ -1,12 +1,13 @@
 -- Laws of words and numbers.
-use Rattle.std.proofs.Common.{◌≡◌, ◌≤◌, ◌<◌, ◌^◌, ℕ, ◌+◌, ◌*◌, ◌-◌, true, List, [], ◌∷◌, length, arith, refl, get_or, add-one, rules}
+use Rattle.std.proofs.Common.{◌≡◌, ◌≤◌, ◌<◌, ◌^◌, ℕ, ◌+◌, ◌*◌, ◌-◌, true, List, [], ◌∷◌, ◌++◌, length, take, arith, refl, ap, ◌∙◌, get_or, add-one, rules}
+use Rattle.std.proofs.lemmas.List.{take_more}
 use Rattle.std.specs.List.{list_all}
 use Rattle.std.proofs.lemmas.Str.Parse.{IsNumeralModel, numerals_by_fold, IsDigitsTest, digits_value_short}
 use Rattle.std.proofs.Math.ListN.{drop}
 use Rattle.std.proofs.Math.Seq.{drop-cons}
 use Rattle.stab_lines.specs.Lines.{is_digit}
 use Rattle.stab_lines.specs.Words.{value_from, value, is_number, is_some_word}
-use Rattle.stab_lines.proofs.BoolLemmas.{and_right}
+use Rattle.stab_lines.proofs.BoolLemmas.{and_left, and_right, both}
 
 -- further digits don't make it smaller
 pub le_value_from : (n : ℕ) (ds : List ℕ) → n ≤ value_from n ds
@@ -30,3 +31,20 @@ digits_of word h = and_right (is_some_word word) (list_all is_digit word) h
 -- a number of at most 18 digits
 pub eighteen_digits : (word : List ℕ) → is_number word ≡ true → length word ≤ 18 → value word < 10 ^ 18
 eighteen_digits word h few = digits_value_short decimal_model word 18 (digits_of word h) few
+
+-- the digits before a place and the one there
+pub value-snoc : (n : ℕ) (ds : List ℕ) (d : ℕ) → value_from n (ds ++ d ∷ []) ≡ value_from n ds * 10 + (d - 48)
+value-snoc n [] d = refl
+value-snoc n (x ∷ ds) d = value-snoc (n * 10 + (x - 48)) ds d
+
+all-snoc : (ds : List ℕ) (d : ℕ) → list_all is_digit ds ≡ true → is_digit d ≡ true → list_all is_digit (ds ++ d ∷ []) ≡ true
+all-snoc [] d h k = both (is_digit d) true k refl
+all-snoc (x ∷ ds) d h k = both (is_digit x) (list_all is_digit (ds ++ d ∷ [])) (and_left (is_digit x) (list_all is_digit ds) h) (all-snoc ds d (and_right (is_digit x) (list_all is_digit ds) h) k)
+
+-- one digit more stays digits
+pub digits_more : (bs : List ℕ) (n : ℕ) → n < length bs → list_all is_digit (take n bs) ≡ true → is_digit (get_or bs n 0) ≡ true → list_all is_digit (take (n + 1) bs) ≡ true
+digits_more bs n lt h k = ap (list_all is_digit) (take_more bs n 0 lt) ∙ all-snoc (take n bs) (get_or bs n 0) h k
+
+-- one digit more in a number
+pub value_more : (bs : List ℕ) (n : ℕ) → n < length bs → value (take (n + 1) bs) ≡ value (take n bs) * 10 + (get_or bs n 0 - 48)
+value_more bs n lt = ap value (take_more bs n 0 lt) ∙ value-snoc 0 (take n bs) (get_or bs n 0)

@@ -1,14 +1,13 @@
-ghost use Rattle.std.specs.Prelude.{◌≡◌, List, [], Option};
+ghost use Rattle.std.specs.Prelude.{◌≡◌};
 ghost use Rattle.std.specs.List.{list_all};
 ghost use Rattle.stab_lines.specs.Results.{Gives, each};
-ghost use Rattle.stab_lines.specs.inner.Parts.{GivesBy};
+ghost use Rattle.stab_lines.specs.inner.Parts.{GivesBy, is_coordinate as is_coordinate_of};
 ghost use Rattle.stab_lines.specs.Words.{arguments_of};
 ghost use Rattle.stab_lines.specs.Targets.{is_coordinate_byte as coordinate_byte, coordinate_of, number_of, observable_of};
 
+use crate::coordinates::Coordinates;
 use crate::line::{is_digit, without_spacing};
-use crate::operation::Coordinates;
 use crate::range::Observable;
-use crate::sequence::Sequence;
 use crate::word::{capped_value, first_piece, is_blank, is_number};
 use stab_pauli::Refusal;
 use std::alloc::Global;
@@ -25,32 +24,40 @@ fn are_coordinate_bytes(bytes: &[u8]) -> bool
     bytes.iter().all(|b| is_coordinate_byte(*b))
 }
 
-/// A coordinate, as it is written.
-#[tactic(auto, unfolding(crate::specs::Targets::coordinate_of))]
-fn coordinate(alloc: Global, argument: &[u8]) -> Result<Sequence<u8>, Refusal>
-    ensures gives { Gives result (coordinate_of argument.now) }
+/// Whether it is written as a coordinate is.
+fn is_coordinate(argument: &[u8]) -> bool
+    ensures value { result ≡ is_coordinate_of argument.now }
 {
-    if !argument.is_empty() && are_coordinate_bytes(argument) {
-        Ok(Sequence::of_bytes(alloc, argument)?)
-    } else {
-        Err(Refusal::BadArguments)
-    }
+    !argument.is_empty() && are_coordinate_bytes(argument)
 }
 
-/// The coordinates among the arguments.
-pub fn coordinates(alloc: Global, arguments: &[u8]) -> Result<Coordinates, Refusal>
-    ensures gives { Gives result (each coordinate_of (arguments_of arguments.now)) }
+/// Whether each argument is written as a coordinate is.
+fn are_coordinates(arguments: &[u8]) -> bool
+    ensures value { result ≡ list_all is_coordinate_of (arguments_of arguments.now) }
 {
-    let mut found = Sequence::new(alloc);
     if is_blank(arguments) {
-        return Ok(found);
+        return true;
     }
     let mut rest = Some(arguments);
     while let Some(bytes) = rest {
         let (argument, after) = first_piece(bytes, b',');
-        found.push(coordinate(alloc, without_spacing(argument))?)?;
+        if !is_coordinate(without_spacing(argument)) {
+            return false;
+        }
         rest = after;
     }
+    true
+}
+
+/// The coordinates among the arguments.
+#[tactic(auto, using(crate::proofs::CoordinateLemmas::each_coordinate, crate::proofs::CoordinateLemmas::no_coordinate))]
+pub fn coordinates(alloc: Global, arguments: &[u8]) -> Result<Coordinates, Refusal>
+    ensures gives { Gives result (each coordinate_of (arguments_of arguments.now)) }
+{
+    if !are_coordinates(arguments) {
+        return Err(Refusal::BadArguments);
+    }
+    let found = Coordinates::of(alloc, arguments)?;
     Ok(found)
 }
 

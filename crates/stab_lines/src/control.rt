@@ -1,12 +1,13 @@
-ghost use Rattle.std.specs.Prelude.{◌≡◌};
+ghost use Rattle.std.specs.Prelude.{◌≡◌, ◌<◌, length, MatchOption};
 ghost use Rattle.stab_lines.specs.Results.{Gives, each};
+ghost use Rattle.stab_lines.specs.inner.Sights.{BeginsWith, begun_with, follows, second_of};
 ghost use Rattle.stab_lines.specs.Words.{words};
 ghost use Rattle.stab_lines.specs.declared.control.Control.TheVariants as by;
 ghost use Rattle.stab_lines.specs.Controls.{control_of, by_turns, pair_of, paired, controlled_of};
 
 use crate::range::{Lookback, Pair, Qubit};
 use crate::sequence::Sequence;
-use crate::target::{is_record, qubit, record};
+use crate::target::{is_record, qubit, qubit_at_sight, record};
 use crate::word::first_word;
 use stab_pauli::Refusal;
 use std::alloc::Global;
@@ -86,23 +87,64 @@ fn pair(target: ControlTarget) -> Result<ControlledPair, Refusal>
     }
 }
 
-fn pairs(alloc: Global, targets: &[ControlTarget]) -> Result<Sequence<ControlledPair>, Refusal>
-    ensures gives { Gives result (each paired targets.now) }
+/// The pairs, and those of more controls and qubits behind them.
+fn with_pairs(
+    mut found: Sequence<ControlledPair>,
+    targets: &[ControlTarget],
+) -> Result<Sequence<ControlledPair>, Refusal>
+    ensures gives { Gives result (follows found (each paired targets.now)) }
 {
-    let mut found = Sequence::new(alloc);
     for target in targets {
         found.push(pair(*target)?)?;
     }
     Ok(found)
 }
 
+/// The pair of a qubit and that which the first word is, and what follows the word, where this is
+/// another number in range.
+#[tactic(auto, using(crate::proofs::ControlLemmas::second_begins))]
+fn second_at_sight(first: Qubit, bytes: &[u8]) -> Option<(ControlledPair, &[u8])>
+    ensures value { MatchOption result (Unit {0}) (λ p. BeginsWith (second_of first) bytes.now p.0 p.1.now) }
+    ensures shorter { MatchOption result (Unit {0}) (λ p. length p.1.now < length bytes.now) }
+{
+    match qubit_at_sight(bytes) {
+        Some((second, rest)) => match qubit_pair(first, second) {
+            Ok(pair) => Some((pair, rest)),
+            Err(_) => None,
+        },
+        None => None,
+    }
+}
+
+/// The pair of different qubits that the first two words are, and what follows these, where they
+/// are numbers in range.
+#[tactic(auto, using(crate::proofs::ControlLemmas::pair_seen))]
+fn pair_at_sight(bytes: &[u8]) -> Option<(ControlledPair, &[u8])>
+    ensures value { MatchOption result (Unit {0}) (λ p. controlled_of (words bytes.now) ≡ begun_with p.0 (controlled_of (words p.1.now))) }
+    ensures shorter { MatchOption result (Unit {0}) (λ p. length p.1.now < length bytes.now) }
+{
+    match qubit_at_sight(bytes) {
+        Some(first) => second_at_sight(first.0, first.1),
+        None => None,
+    }
+}
+
 /// The pairs of a control and a qubit.
+///
+/// Pairs of qubits are taken as they are met. From the first that isn't one, all words are judged
+/// before the pairs are.
 pub fn controlled_pairs(
     alloc: Global,
     words_text: &[u8],
 ) -> Result<Sequence<ControlledPair>, Refusal>
     ensures gives { Gives result (controlled_of (words words_text.now)) }
 {
-    let targets = control_targets(alloc, words_text)?;
-    pairs(alloc, targets.as_slice())
+    let mut found = Sequence::new(alloc);
+    let mut rest = words_text;
+    while let Some((pair, after)) = pair_at_sight(rest) {
+        found.push(pair)?;
+        rest = after;
+    }
+    let targets = control_targets(alloc, rest)?;
+    with_pairs(found, targets.as_slice())
 }

@@ -9,7 +9,7 @@
 //! - `sequence`, `range`: lists, and numbers with their ranges.
 //! - `axis`, `product`: the letters X, Y and Z, and products of them on different qubits.
 //! - `operation`: instructions.
-//! - `name`, `target`, `argument`: the parts of an instruction.
+//! - `name`, `target`, `argument`, `coordinates`: the parts of an instruction.
 //! - `factor`, `control`: the targets that are products, and those of controlled gates.
 //! - `meanings`: what a line means, or why it is refused.
 //! - `print`: the one text of an instruction, and of the opening of a block.
@@ -26,6 +26,7 @@
 mod argument;
 mod axis;
 mod control;
+mod coordinates;
 mod factor;
 pub mod laws;
 mod line;
@@ -41,9 +42,10 @@ mod word;
 
 pub use axis::Axis;
 pub use control::ControlledPair;
+pub use coordinates::Coordinates;
 pub use line::{content, ends_with, is_spacing, without_spacing_in_front};
 pub use meanings::{Line, is_close, meaning};
-pub use operation::{Coordinates, Kind, Measurement, Operation};
+pub use operation::{Kind, Measurement, Operation};
 pub use print::{write_opening, write_operation};
 pub use product::{Factor, Product};
 pub use range::{Count, Lookback, Lookbacks, MeasureTarget, Observable, Pair, Qubit};

@@ -1,10 +1,13 @@
-ghost use Rattle.std.specs.Prelude.{IfErr, ◌≡◌, ◌≤◌, ◌<◌, IsTrue, ◌==◌, length, take, map, Option, None, Some, MatchOption, List, ◌∷◌, []};
+ghost use Rattle.std.specs.Prelude.{IfErr, false, ◌≡◌, ◌≤◌, ◌<◌, IsTrue, ◌==◌, length, take, map, Option, None, Some, MatchOption, List, ◌∷◌, []};
 ghost use Rattle.std.specs.List.{position_or_len, prefix_len, list_all, list_any, before_first, slice_split};
 ghost use Rattle.stab_pauli.specs.declared.refusal.Refusal.TheVariants.{BadLine};
 ghost use Rattle.stab_lines.specs.inner.Parts.{GivesBy};
 ghost use Rattle.stab_lines.specs.Lines.{is_spacing as spacing, is_letter as letter, is_digit as digit, is_name_byte as name_byte, is_brace as brace, trimmed_front, trimmed_end, trimmed, content_of, bracketed, is_byte, starts_with_byte, ends_with_byte, is_apart as apart};
 
 use stab_pauli::Refusal;
+
+// So many bytes are looked at at once.
+const RUN: usize = 32;
 
 /// Whether the byte is a space, a tab or a carriage return.
 pub fn is_spacing(byte: u8) -> bool
@@ -32,12 +35,6 @@ fn is_name_byte(byte: u8) -> bool
     is_letter(byte) || is_digit(byte) || byte == b'_'
 }
 
-fn is_brace(byte: u8) -> bool
-    ensures value { result ≡ brace byte }
-{
-    byte == b'{' || byte == b'}'
-}
-
 fn name_len(bytes: &[u8]) -> usize
     ensures value { result ≡ prefix_len name_byte bytes.now }
     ensures within { result ≤ length bytes.now }
@@ -52,10 +49,64 @@ fn spacing_len(bytes: &[u8]) -> usize
     bytes.iter().take_while(|b| is_spacing(**b)).count()
 }
 
+fn is_brace(byte: u8) -> bool
+    ensures value { result ≡ brace byte }
+{
+    byte == b'{' || byte == b'}'
+}
+
+// Looks at all bytes, also behind a brace: so the bytes of a run are looked at at once.
+fn run_has_brace(run: &[u8]) -> bool
+    ensures value { result ≡ list_any brace run.now }
+{
+    let mut found = false;
+    for byte in run {
+        found |= is_brace(*byte);
+    }
+    found
+}
+
+#[tactic(auto, using(crate::proofs::SearchLemmas::any_split))]
 fn has_brace(bytes: &[u8]) -> bool
     ensures value { result ≡ list_any brace bytes.now }
 {
-    bytes.iter().any(|b| is_brace(*b))
+    let mut rest = bytes;
+    while rest.len() >= RUN {
+        let (run, more) = rest.split_at(RUN);
+        if run_has_brace(run) {
+            return true;
+        }
+        rest = more;
+    }
+    run_has_brace(rest)
+}
+
+// Looks at all bytes, as `run_has_brace` does.
+fn run_has_byte(run: &[u8], byte: u8) -> bool
+    ensures value { result ≡ list_any (is_byte byte) run.now }
+{
+    let mut found = false;
+    for other in run {
+        found |= *other == byte;
+    }
+    found
+}
+
+/// How many bytes in front, by runs of 32, are all others.
+#[tactic(auto, using(crate::proofs::SearchLemmas::others_more))]
+fn others_in_front(bytes: &[u8], byte: u8) -> usize
+    ensures within { result ≤ length bytes.now }
+    ensures others { list_any (is_byte byte) (take result bytes.now) ≡ false }
+{
+    let mut length = 0;
+    while bytes.len() - length >= RUN {
+        let run = bytes.split_at(length).1.split_at(RUN).0;
+        if run_has_byte(run, byte) {
+            return length;
+        }
+        length += RUN;
+    }
+    length
 }
 
 /// The bytes without the spacing in front.
@@ -90,6 +141,15 @@ fn without_comment(line: &[u8]) -> &[u8]
 
 /// Where the byte first stands, or the length.
 pub fn position_of(bytes: &[u8], byte: u8) -> usize
+    ensures value { result ≡ position_or_len (is_byte byte) bytes.now }
+    ensures within { result ≤ length bytes.now }
+{
+    let start = others_in_front(bytes, byte);
+    let near = position_near(bytes.split_at(start).1, byte);
+    start + near
+}
+
+fn position_near(bytes: &[u8], byte: u8) -> usize
     ensures value { result ≡ position_or_len (is_byte byte) bytes.now }
     ensures within { result ≤ length bytes.now }
 {
@@ -165,7 +225,7 @@ fn is_apart(bytes: &[u8]) -> bool
 }
 
 impl<'a> Shape<'a> {
-    ghost use Rattle.std.specs.Prelude.{◌≡◌, IfErr};
+    ghost use Rattle.std.specs.Prelude.{false, ◌≡◌, IfErr};
     ghost use Rattle.stab_pauli.specs.declared.refusal.Refusal.TheVariants.{BadLine};
     ghost use Rattle.stab_lines.specs.inner.Parts.{GivesBy};
     ghost use Rattle.stab_lines.specs.Lines.{shape_of};

@@ -1,5 +1,6 @@
 use crate::axis::Axis;
 use crate::control::ControlledPair;
+use crate::coordinates::Coordinates;
 use crate::product::Product;
 use crate::range::{Lookbacks, MeasureTarget, Observable, Pair, Qubit};
 use crate::sequence::Sequence;
@@ -29,9 +30,6 @@ pub enum Kind {
     QubitCoords(Coordinates, Sequence<Qubit>),
     ShiftCoords(Coordinates),
 }
-
-/// Coordinates, each as it was written.
-pub type Coordinates = Sequence<Sequence<u8>>;
 
 /// One instruction.
 #[derive(Drop)]

@@ -1,14 +1,20 @@
-ghost use Rattle.std.specs.Prelude.{◌≡◌, ◌++◌, List, ℕ, Bool, [], ◌∷◌, codes};
+ghost use Rattle.std.specs.Prelude.{◌≡◌, ◌++◌, List, ℕ, Bool, [], ◌∷◌, codes, map};
 ghost use Rattle.std.specs.Fmt.{decimal};
+ghost use Rattle.std.specs.List.{slice_split};
+ghost use Rattle.std.specs.Option.{option_copied};
 ghost use Rattle.stab_pauli.specs.Devices.{WritesAll};
+ghost use Rattle.stab_lines.specs.Lines.{is_byte, trimmed};
+ghost use Rattle.stab_lines.specs.Words.{pieces_after};
 ghost use Rattle.stab_lines.specs.Prints.{gate_name as gate_name_of, controlled_name as controlled_name_of, measurement_name as measurement_name_of, reset_name as reset_name_of, axis_text as axis_text_of, kind_name as kind_name_of, tag_text, each_after, head_text, arguments_text, kind_arguments, pair_text, target_text, lookback_text, controlled_text, factor_text, product_text, targets_text, operation_text, open_text};
 
 use crate::axis::Axis;
 use crate::control::ControlledPair;
+use crate::coordinates::Coordinates;
+use crate::line::without_spacing;
 use crate::operation::{Kind, Measurement, Operation};
 use crate::product::{Factor, Product};
 use crate::range::{Count, Lookback, MeasureTarget, Pair, Qubit};
-use crate::sequence::Sequence;
+use crate::word::{first_piece, is_blank};
 use itoa::Buffer;
 use stab_pauli::{Output, Refusal, write_all};
 use stab_tableau::Gate;
@@ -226,14 +232,6 @@ fn write_factors<O: Output>(out: &mut O, first: Factor, more: &[Factor]) -> Resu
     write_each(out, b"*", more)
 }
 
-impl Word for Sequence<u8> {
-    ghost text = { λ bytes. bytes };
-
-    fn write<O: Output>(&self, out: &mut O) -> Result<(), Refusal> {
-        write_all(out, self.as_slice())
-    }
-}
-
 fn write_each<O: Output, W: Word>(out: &mut O, separator: &[u8], words: &[W]) -> Result<(), Refusal>
     ensures writes { WritesAll (O.seen out.old) (O.seen out.new) (each_after separator.now W.text words.now) result }
 {
@@ -262,41 +260,52 @@ fn write_head<O: Output>(out: &mut O, name: &[u8], tag: &[u8]) -> Result<(), Ref
     write_tag(out, tag)
 }
 
-/// Writes coordinates, at least one, in their brackets.
-fn write_bracketed<O: Output>(
-    out: &mut O,
-    first: &Sequence<u8>,
-    more: &[Sequence<u8>],
-) -> Result<(), Refusal>
-    ensures writes { WritesAll (O.seen out.old) (O.seen out.new) (arguments_text (first.now ∷ more.now)) result }
+/// Writes arguments, each after a comma and a space, as they stand between commas.
+fn write_more<O: Output>(out: &mut O, more: Option<&[u8]>) -> Result<(), Refusal>
+    ensures writes { WritesAll (O.seen out.old) (O.seen out.new) (each_after (codes ", ") (λ b. b) (map trimmed (pieces_after 44 (option_copied more.entry)))) result }
 {
-    write_parts(out, b"", b"(", first.as_slice())?;
-    write_each(out, b", ", more)?;
+    let mut rest = more;
+    while let Some(bytes) = rest {
+        let (argument, after) = first_piece(bytes, b',');
+        write_parts(out, b", ", b"", without_spacing(argument))?;
+        rest = after;
+    }
+    Ok(())
+}
+
+/// Writes arguments, at least one, in their brackets, as they stand between commas.
+fn write_bracketed<O: Output>(out: &mut O, arguments: &[u8]) -> Result<(), Refusal>
+    ensures writes { WritesAll (O.seen out.old) (O.seen out.new) (arguments_text (map trimmed (slice_split (is_byte 44) arguments.now))) result }
+{
+    let (first, more) = first_piece(arguments, b',');
+    write_parts(out, b"", b"(", without_spacing(first))?;
+    write_more(out, more)?;
     write_all(out, b")")
 }
 
-fn write_coordinates<O: Output>(out: &mut O, coordinates: &[Sequence<u8>]) -> Result<(), Refusal>
+fn write_coordinates<O: Output>(out: &mut O, coordinates: &Coordinates) -> Result<(), Refusal>
     ensures writes { WritesAll (O.seen out.old) (O.seen out.new) (arguments_text coordinates.now) result }
 {
-    match coordinates.split_first() {
-        None => Ok(()),
-        Some((first, more)) => write_bracketed(out, first, more),
+    let written = coordinates.written();
+    if is_blank(written) {
+        return Ok(());
     }
+    write_bracketed(out, written)
 }
 
 fn write_arguments<O: Output>(out: &mut O, kind: &Kind) -> Result<(), Refusal>
     ensures writes { WritesAll (O.seen out.old) (O.seen out.new) (arguments_text (kind_arguments kind.now)) result }
 {
     match kind {
-        Kind::Detector(coordinates, _) => write_coordinates(out, coordinates.as_slice()),
+        Kind::Detector(coordinates, _) => write_coordinates(out, coordinates),
         Kind::ObservableInclude(observable, _) => write_number(
             out,
             b"(",
             u64::from(observable.number()),
             b")",
         ),
-        Kind::QubitCoords(coordinates, _) => write_coordinates(out, coordinates.as_slice()),
-        Kind::ShiftCoords(coordinates) => write_coordinates(out, coordinates.as_slice()),
+        Kind::QubitCoords(coordinates, _) => write_coordinates(out, coordinates),
+        Kind::ShiftCoords(coordinates) => write_coordinates(out, coordinates),
         Kind::Gate(_, _)
         | Kind::Controlled(_, _)
         | Kind::Swap(_)

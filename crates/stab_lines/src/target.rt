@@ -1,16 +1,17 @@
-ghost use Rattle.std.specs.Prelude.{◌≡◌, ℕ, List, ◌≤◌, length, Result, IsTrue};
+ghost use Rattle.std.specs.Prelude.{◌≡◌, ℕ, List, ◌≤◌, ◌<◌, length, Result, IsTrue, MatchOption};
 ghost use Rattle.stab_pauli.specs.declared.refusal.Refusal.{Refusal};
 ghost use Rattle.stab_lines.specs.Results.{Gives, each};
 ghost use Rattle.stab_lines.specs.Words.{words};
+ghost use Rattle.stab_lines.specs.inner.Sights.{BeginsWith, GivesFirst, IsShorter};
 ghost use Rattle.stab_lines.specs.Products.{product_of};
 ghost use Rattle.stab_lines.specs.Targets.{qubit_of, measure_target_of, lookback_of, lookback_digits, is_lookback, count_of, pairs_of};
 
 use crate::factor::product;
-use crate::line::{ends_with, starts_with};
+use crate::line::{ends_with, starts_with, without_spacing_in_front};
 use crate::product::Product;
 use crate::range::{Count, Lookback, Lookbacks, MeasureTarget, Pair, Qubit};
 use crate::sequence::Sequence;
-use crate::word::{capped_value, first_word, is_number};
+use crate::word::{capped_value, digits_in_front, ends_word, first_number, first_word, is_number};
 use stab_pauli::Refusal;
 use std::alloc::Global;
 
@@ -25,6 +26,12 @@ pub trait Target {
     /// What the word means as such a target.
     fn of(alloc: Global, word: &[u8]) -> Result<Self::Kept, Refusal>
         ensures gives { Gives result (meaning word.now) };
+
+    /// What the first word means, and what follows it, where a look at its bytes is enough to tell.
+    /// Where it isn't, `of` tells what the word means, or why it means nothing.
+    fn at_sight(bytes: &[u8]) -> Option<(Self::Kept, &[u8])>
+        ensures value { MatchOption result (Unit {0}) (λ p. BeginsWith meaning bytes.now p.0 p.1.now) }
+        ensures shorter { MatchOption result (Unit {0}) (λ p. length p.1.now < length bytes.now) };
 }
 
 /// The qubit of a word.
@@ -54,6 +61,22 @@ impl Target for Qubits {
     fn of(_alloc: Global, word: &[u8]) -> Result<Qubit, Refusal> {
         qubit(word)
     }
+
+    fn at_sight(bytes: &[u8]) -> Option<(Qubit, &[u8])> {
+        qubit_at_sight(bytes)
+    }
+}
+
+/// The qubit that the first word is, and what follows it, where the word is a number in range.
+#[tactic(auto, using(crate::proofs::SightLemmas::qubit_begins))]
+pub fn qubit_at_sight(bytes: &[u8]) -> Option<(Qubit, &[u8])>
+    ensures value { MatchOption result (Unit {0}) (λ p. BeginsWith qubit_of bytes.now p.0 p.1.now) }
+    ensures shorter { MatchOption result (Unit {0}) (λ p. length p.1.now < length bytes.now) }
+{
+    match first_number(bytes, 1024) {
+        Some((number, rest)) => Some((Qubit::new(number as u16), rest)),
+        None => None,
+    }
 }
 
 /// The targets that are measured.
@@ -79,6 +102,20 @@ impl Target for MeasureTargets {
                 qubit,
                 inverted: false,
             })
+        }
+    }
+
+    #[tactic(auto, using(crate::proofs::SightLemmas::measure_target_begins))]
+    fn at_sight(bytes: &[u8]) -> Option<(MeasureTarget, &[u8])> {
+        match qubit_at_sight(bytes) {
+            Some((qubit, rest)) => {
+                let target = MeasureTarget {
+                    qubit,
+                    inverted: false,
+                };
+                Some((target, rest))
+            }
+            None => None,
         }
     }
 }
@@ -111,6 +148,34 @@ impl Target for Records {
         let lookback = record(word)?;
         Ok(lookback.number())
     }
+
+    fn at_sight(bytes: &[u8]) -> Option<(u32, &[u8])> {
+        record_at_sight(bytes)
+    }
+}
+
+/// How far back the record of the first word is looked for, and what follows the word, where it is
+/// written as a record in range is.
+fn record_at_sight(bytes: &[u8]) -> Option<(u32, &[u8])>
+    ensures value { MatchOption result (Unit {0}) (λ p. BeginsWith lookback_of bytes.now p.0 p.1.now) }
+    ensures shorter { MatchOption result (Unit {0}) (λ p. length p.1.now < length bytes.now) }
+{
+    let bytes = without_spacing_in_front(bytes);
+    if !bytes.starts_with(b"rec[-") {
+        return None;
+    }
+    let behind = bytes.split_at(5).1;
+    let (length, number) = digits_in_front(behind, 16_777_216);
+    let closing = behind.split_at(length).1;
+    if !starts_with(closing, b']') {
+        return None;
+    }
+    let rest = closing.split_at(1).1;
+    if 0 < number && number < 16_777_216 && ends_word(rest) {
+        Some((number as u32, rest))
+    } else {
+        None
+    }
 }
 
 /// The targets that are products.
@@ -123,6 +188,10 @@ impl Target for Products {
 
     fn of(alloc: Global, word: &[u8]) -> Result<Product, Refusal> {
         product(alloc, word)
+    }
+
+    fn at_sight(_bytes: &[u8]) -> Option<(Product, &[u8])> {
+        None
     }
 }
 
@@ -164,6 +233,27 @@ impl Target for Counts {
             Ok(Some(Count::new(number)))
         }
     }
+
+    fn at_sight(_bytes: &[u8]) -> Option<(Option<Count>, &[u8])> {
+        None
+    }
+}
+
+/// What the first word means, and what follows it; none where there is no word.
+fn first_target<T: Target>(alloc: Global, bytes: &[u8]) -> Result<Option<(T::Kept, &[u8])>, Refusal>
+    ensures gives { GivesFirst T.meaning bytes.now result }
+    ensures shorter { IsShorter bytes.now result }
+{
+    if let Some(first) = T::at_sight(bytes) {
+        return Ok(Some(first));
+    }
+    match first_word(bytes) {
+        None => Ok(None),
+        Some((word, after)) => {
+            let first = T::of(alloc, word)?;
+            Ok(Some((first, after)))
+        }
+    }
 }
 
 /// The targets of a word each.
@@ -172,8 +262,8 @@ pub fn targets<T: Target>(alloc: Global, words_text: &[u8]) -> Result<Sequence<T
 {
     let mut found = Sequence::new(alloc);
     let mut rest = words_text;
-    while let Some((word, after)) = first_word(rest) {
-        found.push(T::of(alloc, word)?)?;
+    while let Some((target, after)) = first_target::<T>(alloc, rest)? {
+        found.push(target)?;
         rest = after;
     }
     Ok(found)

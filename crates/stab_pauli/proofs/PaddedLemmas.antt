@@ -30,6 +30,9 @@ pub record IsView (n m : ℕ) (ws : List ℕ) (s : Bool) (v : Signed) : Type 0 w
   pub row : IsRow n m ws
   pub is : signed_row n s (row_letters m ws) ≡ v
 
+pub view_of : {n m : ℕ} {ws : List ℕ} {s : Bool} {v : Signed} → IsRow n m ws → signed_row n s (row_letters m ws) ≡ v → IsView n m ws s v
+view_of row is = record { row = row; is = is }
+
 pub length-view : {n m : ℕ} {ws : List ℕ} {s : Bool} {v : Signed} → IsView n m ws s v → length v.letters ≡ n
 length-view {n} {m} {ws} view = ap (λ (p : Signed). length p.letters) (sym view.is) ∙ length-string n m ws view.row
 

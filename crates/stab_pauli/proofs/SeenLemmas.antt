@@ -26,6 +26,9 @@ pub record IsSeen (n m : ℕ) (ws : List ℕ) (ss : List Bool) (v : Rows) : Type
   pub lies : IsTable n m ws ss
   pub is : table n m ws ss ≡ v
 
+pub seen_of : {n m : ℕ} {ws : List ℕ} {ss : List Bool} {v : Rows} → IsTable n m ws ss → table n m ws ss ≡ v → IsSeen n m ws ss v
+seen_of lies is = record { lies = lies; is = is }
+
 pub rows_seen : {n m : ℕ} {ws : List ℕ} {ss : List Bool} {v : Rows} → IsSeen n m ws ss v → length v.rows ≡ length ss
 rows_seen {n} {m} {ws} {ss} {v} seen = length-table n m ws ss v seen.is
 

@@ -1,5 +1,5 @@
 -- Sessions: the statement of a session, from what a run of its items left.
-use Rattle.std.proofs.Common.{◌≡◌, ℕ, sym, ap, subst, Bool}
+use Rattle.std.proofs.Common.{◌≡◌, ℕ, sym, subst, Bool}
 use Rattle.stab_tableau.specs.Tableaus.{TableauState, stabilises}
 use Rattle.stab_circuit.specs.Items.{Items}
 use Rattle.stab_session.specs.declared.run.Shot.{Shot}

@@ -9,6 +9,7 @@
 //! - `run`: one run of a circuit, and what it gives.
 //! - `whole`: a run of all steps, from the first on.
 //! - `sampler`: many runs of one circuit.
+//! - `pending`: edits of a circuit that can be taken back.
 //! - `session`: a circuit with what its run gives, to be read and edited.
 //! - `laws`: what a run depends on, and that what happens in it is sound.
 //!
@@ -17,8 +18,8 @@
 //! observables that the group rules of `specs/Runs.antt` give for the circuit's unrolled steps, and
 //! depends on no coin but those that decide; its trace is sound. Each shot of a sampler is such a
 //! run, whatever became of the shots before it. What a session shows is the run of its items from
-//! the first step on: `specs/Headline.antt` says so. `specs/inner/` has what only private contracts
-//! cite.
+//! the first step on, whatever edits it took: `specs/Headline.antt` says so. `specs/inner/` has what
+//! only private contracts cite.
 #![tactic(auto)]
 
 mod apply;
@@ -35,9 +36,9 @@ mod session;
 mod whole;
 
 pub use coins::{Coins, ListCoins, SeedCoins};
+pub use pending::Edit;
 pub use run::{Shot, run_once};
 pub use sampler::Sampler;
-pub use pending::Edit;
 pub use session::{OpenRefused, Report, Session};
 
 #[cfg(test)]

@@ -31,12 +31,7 @@ pub enum Pending {
 
 /// Makes an edit that can be taken back, where nothing refuses the edited circuit on n qubits. The
 /// circuit then has the runs of the edited one.
-pub fn begin(
-    alloc: Global,
-    circuit: &mut Circuit,
-    n: usize,
-    edit: Edit,
-) -> Result<Pending, Refused>
+pub fn begin(alloc: Global, circuit: &mut Circuit, n: usize, edit: Edit) -> Result<Pending, Refused>
     ensures begun { IfOk result (IsBegun n (change_of edit) (place_of edit) circuit.old circuit.new) }
     ensures unchanged { OnErr result (circuit.new ≡ circuit.old) }
     ensures refused { IfErr result (λ r. IsFaultOf (verdict n (edited (change_of edit) (place_of edit) circuit.old)) r.fault) }

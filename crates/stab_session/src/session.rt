@@ -1,10 +1,9 @@
 mod edits;
 
-pub use edits::Report;
-
 use crate::coins::Coins;
 use crate::run::Shot;
 use crate::whole::{Ran, run_circuit};
+pub use edits::Report;
 use stab_circuit::Circuit;
 use stab_pauli::{Fault, Pauli, Refusal};
 use stab_tableau::Tableau;

@@ -1,10 +1,12 @@
 -- Summaries: what checks need to know of items, in numbers that stop growing.
-use Rattle.std.specs.Prelude.{ℕ, ◌+◌, ◌*◌, ◌-◌, ◌≤◌, max, min, nat_lt, List, [], ◌∷◌, length, if◌then◌else◌, Option, Some, None}
+use Rattle.std.specs.Prelude.{◌≡◌, ◌≢◌, false, ℕ, ◌+◌, ◌*◌, ◌-◌, ◌≤◌, max, min, nat_lt, List, [], ◌∷◌, length, if◌then◌else◌, Option, Some, None}
 use Rattle.stab_pauli.specs.declared.refusal.Refusal.{Refusal}
 use Rattle.stab_pauli.specs.declared.refusal.Refusal.TheVariants.{LookbackTooFar, TooManySteps}
 use Rattle.stab_circuit.specs.declared.summary.Summary.{Summary}
 use Rattle.stab_lines.specs.declared.control.ControlledPair.{ControlledPair}
 use Rattle.stab_lines.specs.declared.control.ControlledPair.TheVariants as pair
+use Rattle.stab_lines.specs.declared.product.Factor.{Factor}
+use Rattle.stab_lines.specs.Products.{names_twice}
 use Rattle.stab_lines.specs.declared.operation.Kind.{Kind}
 use Rattle.stab_circuit.specs.Items.{Items, depth}
 use Rattle.stab_circuit.specs.Steps.{Step, makes, records_of, lookbacks, steps_of, unroll, past, named_qubits, named_observables, qubits_of, observables_of}
@@ -47,6 +49,19 @@ kind_summary_of kind = summed (steps_of kind) (past (named_qubits kind)) (past (
 -- the summary of items
 abbrev pub summary_of : Items → Summary
 summary_of items = summed (unroll items) (qubits_of items) (observables_of items) (depth items)
+
+-- the qubits of a pair of a controlled gate are different ones
+abbrev pub IsPairApart : ControlledPair → Type 0
+IsPairApart (pair.Qubits p) = p.1 ≢ p.0
+IsPairApart (pair.Record k q) = Unit {0}
+
+-- the qubits of an exchanged pair are different ones
+abbrev pub IsSwapApart : ℕ × ℕ → Type 0
+IsSwapApart p = p.1 ≢ p.0
+
+-- the qubits of a product are different ones
+abbrev pub IsProductApart : List Factor → Type 0
+IsProductApart factors = names_twice factors ≡ false
 
 -- a summary's numbers are within their bounds
 pub record IsSummary (s : Summary) : Type 0 where

@@ -8,7 +8,7 @@ use super::Circuit;
 use crate::change::{Change, Edited, Refused};
 use crate::commit::commit;
 use crate::edit::{Span, changed_span, edited_summary, judge, steps_in};
-use crate::item::Item;
+use crate::item::{Item, items_summary};
 use crate::path::Path;
 use crate::summary::Summary;
 use stab_pauli::{Fault, Refusal};
@@ -109,7 +109,7 @@ impl Circuit {
     {
         match commit(&mut self.items, path.blocks(), path.place(), change) {
             Ok(taken) => {
-                self.total = total;
+                self.total = items_summary(self.items.as_slice());
                 Ok(taken)
             }
             Err(change) => Err(refused(change, Refusal::OutOfMemory)),

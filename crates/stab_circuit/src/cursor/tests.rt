@@ -13,8 +13,11 @@ fn shown(alloc: Global, cursor: &mut Cursor, lines: usize) -> Result<String, Ref
     Ok(text)
 }
 
+// A thousand rounds of a thousand gates and a measurement.
+const ROUNDS_IN_ROUNDS: &str = "REPEAT 1000 {\nREPEAT 1000 {\nX 0\n}\nM 0\n}";
+
 // Texts, places among their unrolled steps, and the steps from there on.
-const CASES: [(&str, usize, &str); 9] = [
+const CASES: [(&str, usize, &str); 11] = [
     (
         "REPEAT 2 {\nX 0\nM 0 1\n}",
         3,
@@ -79,6 +82,14 @@ Some(Controlled(Y, 2, 0))
 Some(Controlled(Z, 1, 1))
 ",
     ),
+    ("REPEAT 1048576 {\nX 0\n}", 1_048_575, "Some(One(X, 0))\n"),
+    (
+        ROUNDS_IN_ROUNDS,
+        1_000_998,
+        "Some(One(X, 0))
+Some(Collapse { letter: Z, qubit: 0, recorded: true, inverted: false, reset: false })
+",
+    ),
     ("X 0", 1, ""),
     ("", 0, ""),
 ];
@@ -94,6 +105,21 @@ fn a_cursor_gives_the_unrolled_steps_from_a_place(rt: HostRuntime) -> Result<(),
         assert!(rt; cursor.next().is_none(), "{text:?} from step {step}");
         assert!(rt; cursor.next().is_none(), "{text:?} from step {step}");
     }
+    Ok(())
+}
+
+#[test]
+fn a_cursor_goes_on_with_the_next_round(rt: HostRuntime) -> Result<(), Fail> {
+    let text = ROUNDS_IN_ROUNDS.as_bytes();
+    let circuit = read_circuit(rt.alloc(), &mut MemoryInput::new(text))?;
+    assert!(rt; 1000 <= circuit.steps());
+    let mut cursor = Cursor::at(rt.alloc(), &circuit, 1000)?;
+    let steps =
+        "Some(Collapse { letter: Z, qubit: 0, recorded: true, inverted: false, reset: false })
+Some(One(X, 0))
+Some(One(X, 0))
+";
+    assert_eq!(rt; shown(rt.alloc(), &mut cursor, 3)?.as_str(), steps);
     Ok(())
 }
 

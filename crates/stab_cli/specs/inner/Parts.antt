@@ -1,9 +1,10 @@
 -- Parts: what the functions promise that build the commands for the command line reader, and that take a command's name from it.
-use Rattle.std.specs.Prelude.{◌≡◌, ◌⊎◌, false, codes}
-use Rattle.clap.specs.Words.{App, Rule, Text, app_of, rule_of}
+use Rattle.std.specs.Prelude.{◌≡◌, ◌⊎◌, false, List, [], ◌∷◌, codes}
+use Rattle.clap.specs.Words.{App, Rule, Text, app_of, rule_of, with_rule}
 use Rattle.clap.specs.declared.builder.arg.Arg.{Arg}
 use Rattle.clap.specs.declared.builder.command.Command.{Command}
 use Rattle.clap.specs.declared.builder.command.Command.TheViews.{out-Command}
+use Rattle.stab_cli.specs.Options.{common_options}
 
 -- an argument is this option of one command
 abbrev pub IsOption : Rule → Arg → Type 0
@@ -13,6 +14,24 @@ IsOption option arg = (rule_of arg ≡ option) × (arg.global ≡ false)
 abbrev pub IsApp : App → Command → Type 0
 IsApp app command = (app_of command ≡ app) × ((out-Command command).has_globals ≡ false)
 
--- a name is that of one of the program's commands
+-- a command with these options behind its own
+abbrev pub with_rules : App → List Rule → App
+with_rules app [] = app
+with_rules app (option ∷ options) = with_rules (with_rule app option) options
+
+-- a command with the options of every command
+abbrev pub with_common : App → App
+with_common app = with_rules app common_options
+
+-- a name is one of these
+abbrev pub IsOneOf : List Text → Text → Type 0
+IsOneOf [] name = ⊥
+IsOneOf (first ∷ rest) name = (name ≡ first) ⊎ IsOneOf rest name
+
+-- the names of the program's commands
+abbrev pub command_names : List Text
+command_names = codes "sample" ∷ codes "detect" ∷ codes "stabilisers" ∷ []
+
+-- a name is that of one of them
 abbrev pub IsCommandName : Text → Type 0
-IsCommandName name = (name ≡ codes "sample") ⊎ (name ≡ codes "detect")
+IsCommandName = IsOneOf command_names

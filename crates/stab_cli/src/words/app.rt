@@ -1,7 +1,8 @@
 //! The commands of the program and their options, as the command line reader is told of them.
 ghost use Rattle.std.specs.Prelude.{IfOk};
-ghost use Rattle.stab_cli.specs.Options.{alone, flag, named, numbered, shot_command, stabsim, valued};
-ghost use Rattle.stab_cli.specs.inner.Parts.{IsApp, IsOption};
+ghost use Rattle.clap.specs.Words.{App};
+ghost use Rattle.stab_cli.specs.Options.{alone, flag, named, numbered, shot_command, stabilisers, stabsim, valued};
+ghost use Rattle.stab_cli.specs.inner.Parts.{IsApp, IsOption, with_common};
 
 use clap::builder::ValueParser;
 use clap::{Arg, ArgAction, Command};
@@ -19,6 +20,8 @@ const ABOUT: &str = "Simulates Clifford circuits by the stabiliser rules";
 const ABOUT_SAMPLE: &str = "Writes the records of each shot of a circuit";
 
 const ABOUT_DETECT: &str = "Writes the detectors of each shot of a circuit";
+
+const ABOUT_STABILISERS: &str = "Writes the stabilisers of the state that a circuit leaves";
 
 const AFTER: &str = "\
 Example, at the top of the repository:
@@ -41,6 +44,14 @@ Example, at the top of the repository:
   ./stabsim detect --append_observables --out_format dets --in examples/repetition_code.stim
 
 Detectors and observables are raw parities of records: no reference sample is subtracted.
+Refusals, by number and name, are explained in docs/refusals.md, and coins in docs/coins.md.
+";
+
+const AFTER_STABILISERS: &str = "\
+Example, at the top of the repository:
+  ./stabsim stabilisers --in examples/steane_code.stim
+
+Rows are reduced: circuits that lead to the same state are written alike. See docs/stabilisers.md.
 Refusals, by number and name, are explained in docs/refusals.md, and coins in docs/coins.md.
 ";
 
@@ -99,6 +110,17 @@ fn flag<'a>(alloc: Global, id: &'a str, help: &'a str) -> Arg<'a>
         .help(help)
 }
 
+/// A command with the options of every command behind its own.
+fn with_common<'a>(alloc: Global, command: Command<'a>) -> Result<Command<'a>, AllocError>
+    ensures app { (app : App) → IsApp app command.entry → IfOk result (IsApp (with_common app)) }
+{
+    command
+        .arg(numbered(alloc, "seed", u64::MAX, "0", HELP_SEED))?
+        .arg(valued(alloc, "coins", "TEXT", HELP_COINS))?
+        .arg(valued(alloc, "in", "FILE", HELP_IN))?
+        .arg(valued(alloc, "out", "FILE", HELP_OUT))
+}
+
 /// A command that takes shots, with the options of all such commands.
 fn shot_command<'a>(
     alloc: Global,
@@ -109,15 +131,22 @@ fn shot_command<'a>(
 ) -> Result<Command<'a>, AllocError>
     ensures app { IfOk result (IsApp (alone (shot_command name.entry.now formats.entry))) }
 {
-    Command::new(alloc, name)
+    let command = Command::new(alloc, name)
         .about(about)
         .after_help(after_help)
         .arg(numbered(alloc, "shots", Shots::MOST as u64, "1", HELP_SHOTS))?
-        .arg(named(alloc, "out_format", formats, "01", HELP_FORMAT))?
-        .arg(numbered(alloc, "seed", u64::MAX, "0", HELP_SEED))?
-        .arg(valued(alloc, "coins", "TEXT", HELP_COINS))?
-        .arg(valued(alloc, "in", "FILE", HELP_IN))?
-        .arg(valued(alloc, "out", "FILE", HELP_OUT))
+        .arg(named(alloc, "out_format", formats, "01", HELP_FORMAT))?;
+    with_common(alloc, command)
+}
+
+/// The command `stabilisers`, which takes no shots.
+fn stabilisers_command<'a>(alloc: Global) -> Result<Command<'a>, AllocError>
+    ensures app { IfOk result (IsApp (alone stabilisers)) }
+{
+    let command = Command::new(alloc, "stabilisers")
+        .about(ABOUT_STABILISERS)
+        .after_help(AFTER_STABILISERS);
+    with_common(alloc, command)
 }
 
 /// The program with its commands.
@@ -127,11 +156,13 @@ pub(crate) fn app<'a>(alloc: Global, formats: &'a [&'a str]) -> Result<Command<'
     let sample = shot_command(alloc, "sample", ABOUT_SAMPLE, AFTER_SAMPLE, formats)?;
     let append = flag(alloc, "append_observables", HELP_APPEND);
     let detect = shot_command(alloc, "detect", ABOUT_DETECT, AFTER_DETECT, formats)?.arg(append)?;
+    let stabilisers = stabilisers_command(alloc)?;
     Command::new(alloc, "stabsim")
         .version(VERSION)
         .about(ABOUT)
         .after_help(AFTER)
         .subcommand_required(true)
         .subcommand(sample)?
-        .subcommand(detect)
+        .subcommand(detect)?
+        .subcommand(stabilisers)
 }

@@ -116,15 +116,17 @@ fn command(name: &str, options: &ArgMatches) -> Command
     requires named { IsCommandName name.now }
     ensures command { IsCommand name.now (rows_of (found_of options.now)) result }
 {
-    let format = format(options);
-    let shots = shots(options);
     match name {
-        "sample" => Command::Sample { format, shots },
-        _ => Command::Detect {
-            format,
-            shots,
+        "sample" => Command::Sample {
+            format: format(options),
+            shots: shots(options),
+        },
+        "detect" => Command::Detect {
+            format: format(options),
+            shots: shots(options),
             append: flag(options, "append_observables"),
         },
+        _ => Command::Stabilisers,
     }
 }
 

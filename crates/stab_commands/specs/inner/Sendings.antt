@@ -1,6 +1,9 @@
 -- Sendings: what is shown of a run, and what a call leaves of an output to which it sends bytes without a flush.
 use Rattle.std.specs.Prelude.{◌≡◌, ℕ, true, false, List, Result, Ok, Err}
 use Rattle.stab_pauli.specs.Devices.{OutputView, Took, CutOff}
+use Rattle.stab_pauli.specs.Paulis.{Signed}
+use Rattle.stab_pauli.specs.Refusals.{whole}
+use Rattle.stab_pauli.specs.declared.refusal.Refusal.TheVariants.{WriteFault}
 use Rattle.stab_pauli.specs.declared.refusal.Fault.{Fault}
 use Rattle.stab_session.specs.declared.run.Shot.{Shot}
 use Rattle.stab_session.specs.Runs.{State}
@@ -11,7 +14,9 @@ use Rattle.stab_results.specs.Formats.{shot_bytes}
 use Rattle.stab_commands.specs.declared.job.Source.{Source}
 use Rattle.stab_commands.specs.declared.shots.Shown.{Shown}
 use Rattle.stab_commands.specs.declared.shots.Shown.TheVariants.{Records, Detectors, DetectorsAndObservables}
+use Rattle.stab_commands.specs.Endings.{FailsToSend, TookAndFlushed}
 use Rattle.stab_commands.specs.Outputs.{detected, of_shots, run_of_shot}
+use Rattle.stab_commands.specs.Stabilisers.{lines_of}
 
 -- a shot has the records, detectors and observables of a run
 pub record IsShot (shot : Shot) (run : State) : Type 0 where
@@ -33,3 +38,8 @@ shots_of format shown shots source items = of_shots (λ shot. shown_bytes format
 abbrev pub SendsUnflushed : {T : Type 0} → List ℕ → OutputView → OutputView → Result T Fault → Type 0
 SendsUnflushed bytes old new (Ok x) = Took old new bytes
 SendsUnflushed bytes old new (Err f) = CutOff old new bytes f
+
+-- the lines of these strings were sent: all of them, with a flush behind them; or the output failed
+abbrev pub SendsLines : {T : Type 0} → List Signed → OutputView → OutputView → Result T Fault → Type 0
+SendsLines rows old new (Ok x) = TookAndFlushed old new (lines_of rows)
+SendsLines rows old new (Err f) = (f ≡ whole WriteFault) × FailsToSend old new (lines_of rows)

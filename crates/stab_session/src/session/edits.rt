@@ -61,3 +61,6 @@ impl<C: Coins> Session<C> {
         }
     }
 }
+
+#[cfg(test)]
+mod tests;

@@ -44,7 +44,7 @@ commit_within-invariant_of-item t c =
     let now : min (depth (listed c.commit-done.new.items.items)) 17 ≤ 15 =
     kept_shallow c.commit-done.result c.args.change c.args.place c.args.blocks.now c.args.item.now c.in-Repeat.head.value.count c.in-Repeat.head.value.tag c.in-Repeat.body.items c.commit-done.new.items.items
     (sym c.item.view_is ∙ ap shown c.in-Repeat.is) c.requires.allowed c.commit-done.ensures.ok c.commit-done.ensures.unchanged was in
-    (kept, c.items_summary.ensures.small, omega (arith, ap (λ s. s.depth) kept))
+    (kept, c.items_summary.ensures.small, omega (arith, ap (λ s. s.depth) kept), rw c.as_slice.ensures.value at c.items_summary.ensures.apart)
 
 pub commit_within-returns-clause-ok : goal.commit_within-returns-clause-ok
 commit_within-returns-clause-ok t c =

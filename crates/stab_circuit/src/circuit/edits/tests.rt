@@ -93,13 +93,13 @@ fn an_item_is_put_in_at_its_path(rt: HostRuntime) -> Result<(), Fail> {
             "REPEAT 3 {\n    X 0\n    X 0\n    M 0\n}\nM 0\n",
         ),
         (
-            &[0, 2],
+            Path::new(&[0, 2]),
             "REPEAT 2 {\nZ 0\n}",
             0,
             "REPEAT 3 {\n    X 0\n    M 0\n    REPEAT 2 {\n        Z 0\n    }\n}\nM 0\n",
         ),
         (
-            &[2],
+            Path::new(&[2]),
             "Y 0",
             0,
             "REPEAT 3 {\n    X 0\n    M 0\n}\nM 0\nY 0\n",

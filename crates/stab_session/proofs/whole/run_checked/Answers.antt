@@ -1,11 +1,11 @@
-use Rattle.std.proofs.Common.{ap, subst, sym, ◌∙◌, All}
+use Rattle.std.proofs.Common.{ap, subst, sym, All, length, arith}
 use Rattle.stab_tableau.specs.Tableaus.{stabilises}
 use Rattle.stab_circuit.specs.Views.{circuit_items}
 use Rattle.stab_circuit.specs.Cursors.{IsApart}
 use Rattle.stab_session.specs.Runs.{run, start}
 use Rattle.stab_session.specs.inner.Sights.{StepFits}
 use Rattle.stab_session.specs.inner.Shots.{IsShotOf}
-use Rattle.stab_session.proofs.FitLemmas.{check-fits}
+use Rattle.stab_session.proofs.FitLemmas.{check-fits, check-whole, check-steps}
 use Rattle.stab_session.proofs.ShotLemmas.{shot-of_items}
 use Rattle.stab_session.proofs.whole.run_checked.Goals as goal
 
@@ -25,3 +25,8 @@ returns-clause-run g c =
 
 pub returns-clause-apart : goal.returns-clause-apart
 returns-clause-apart g c = subst (All IsApart) c.in_ok-cursor.ensures.all c.in_ok-cursor.ensures.apart
+
+pub run_whole-requires-clause-few : goal.run_whole-requires-clause-few
+run_whole-requires-clause-few g c =
+    let items = circuit_items c.args.circuit.now in
+    omega (arith, ap length c.in_ok-cursor.ensures.all, check-steps items (check-whole c.args.n items c.requires.checked))

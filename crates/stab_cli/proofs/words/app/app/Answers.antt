@@ -10,4 +10,5 @@ returns c =
     let detect = with_option _ c.in_ok-detect.detect c.flag-append.result _ _ c.in_ok-detect.ensures c.flag-append.ensures.rule c.in_ok-shot_command.ensures.app in
     let none : IsApp bare c.subcommand_required.result = search rules in
     let first = with_command _ c.in_ok-subcommand.field-0 c.in_ok-sample.sample _ _ c.in_ok-subcommand.ensures c.in_ok-sample.ensures.app none in
-    record { app = IfOk-weaker c.subcommand-2.result _ _ (λ command adds. with_command _ command c.in_ok-detect.detect _ _ adds detect first) c.subcommand-2.ensures }
+    let second = with_command _ c.in_ok-subcommand-2.field-0 c.in_ok-detect.detect _ _ c.in_ok-subcommand-2.ensures detect first in
+    record { app = IfOk-weaker c.subcommand-3.result _ _ (λ command adds. with_command _ command c.in_ok-stabilisers.stabilisers _ _ adds c.in_ok-stabilisers.ensures.app second) c.subcommand-3.ensures }

@@ -1,9 +1,8 @@
-use Rattle.std.proofs.Common.{rules, arith, ap, subst, sym, All, length}
+use Rattle.std.proofs.Common.{rules, arith, ap, subst, sym, length}
 use Rattle.std.specs.Prelude.{IfOk}
 use Rattle.std.proofs.lemmas.Result.{IfOk-weaker}
 use Rattle.stab_tableau.specs.Tableaus.{stabilises}
 use Rattle.stab_circuit.specs.Views.{circuit_items}
-use Rattle.stab_circuit.specs.Cursors.{IsApart}
 use Rattle.stab_session.specs.Runs.{run_of}
 use Rattle.stab_session.specs.Laws.{DependsOnCoinsAt}
 use Rattle.stab_session.specs.Samplers.{SamplerState}

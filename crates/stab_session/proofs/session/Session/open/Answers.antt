@@ -2,8 +2,6 @@ use Rattle.std.proofs.Common.{◌∙◌, sym, subst, ◌≡◌, ◌≤◌}
 use Rattle.std.specs.Prelude.{None}
 use Rattle.stab_circuit.specs.Steps.{check_within}
 use Rattle.stab_circuit.specs.Views.{circuit_items}
-use Rattle.stab_session.specs.Headline.{IsRunOfItems}
-use Rattle.stab_session.specs.inner.KeptSessions.{session_of}
 use Rattle.stab_session.proofs.SessionLemmas.{statement}
 use Rattle.stab_session.proofs.session.Session.open.Goals as goal
 

@@ -1,0 +1,24 @@
+# Completes the words of stabsim in bash. The README says where to put it; to try it: . completions/stabsim.bash
+_stabsim() {
+    local word=${COMP_WORDS[COMP_CWORD]} before=${COMP_WORDS[COMP_CWORD-1]} command=${COMP_WORDS[1]} choices=
+    COMPREPLY=()
+    case $before in
+    --in | --out)
+        compopt -o filenames 2>/dev/null
+        mapfile -t COMPREPLY < <(compgen -f -- "$word")
+        return
+        ;;
+    --out_format) choices="01 b8 r8 hits dets" ;;
+    --shots | --seed | --coins) return ;;
+    *)
+        case $command in
+        sample) choices="--shots --out_format --seed --coins --in --out --help" ;;
+        detect) choices="--shots --out_format --seed --coins --in --out --append_observables --help" ;;
+        stabilisers) choices="--seed --coins --in --out --help" ;;
+        esac
+        [ "$COMP_CWORD" -eq 1 ] && choices="sample detect stabilisers help --help --version"
+        ;;
+    esac
+    mapfile -t COMPREPLY < <(compgen -W "$choices" -- "$word")
+}
+complete -F _stabsim stabsim ./stabsim

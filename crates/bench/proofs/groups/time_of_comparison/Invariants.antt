@@ -1,0 +1,8 @@
+use Rattle.std.proofs.Common.{◌≡◌}
+use Rattle.bench.proofs.groups.time_of_comparison.Given as goal
+
+abbrev pub invariant-loop : goal.invariant-loop
+invariant-loop g l = record {
+  first : l.first ≡ l.fn.first;
+  second : l.second ≡ l.fn.second;
+}

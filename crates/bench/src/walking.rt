@@ -1,0 +1,64 @@
+ghost use Rattle.std.specs.Prelude.{◌≡◌, None};
+ghost use Rattle.stab_circuit.specs.Steps.{check_of};
+ghost use Rattle.stab_circuit.specs.Views.{circuit_items};
+
+use super::failure::Failure;
+use stab_circuit::{Circuit, Cursor, Step};
+use std::num::nearest_usize_to_f64;
+use std::time::CpuClock;
+
+/// The best of so many walks over all steps counts, since other programs disturb the rest.
+const WALKS: u32 = 5;
+
+/// How many cursors are made, each at a step of its own.
+const CURSORS: u32 = 10_000;
+
+/// Prints how long a cursor takes for a step, and to begin at a random one.
+pub fn print_line<R: CpuClock + AllocGlobal + Print>(
+    rt: &R,
+    circuit: &Circuit,
+    path: &str,
+) -> Result<(), Failure>
+    requires checked { check_of (circuit_items circuit.now) ≡ None }
+{
+    let mut next = f64::INFINITY;
+    for _ in 0..WALKS {
+        next = next.min(time_of_next(rt, circuit)?);
+    }
+    let at = time_of_at(rt, circuit)?;
+    println!(rt; "a cursor: {next:.1} ns a step, {at:.0} ns to begin at a random step  {path}")?;
+    Ok(())
+}
+
+/// Nanoseconds a step, by a walk over all of them.
+fn time_of_next<R: CpuClock + AllocGlobal>(rt: &R, circuit: &Circuit) -> Result<f64, Failure>
+    requires checked { check_of (circuit_items circuit.now) ≡ None }
+{
+    let mut cursor = Cursor::at(rt.alloc(), circuit, 0)?;
+    let mut detectors: usize = 0;
+    let start = rt.thread_cpu_time()?;
+    while let Some(step) = cursor.next() {
+        detectors = detectors.wrapping_add(usize::from(matches!(step, Step::Detector(_))));
+    }
+    let time = rt.thread_cpu_time()?.saturating_sub(start);
+    let steps = circuit.steps().max(1).max(detectors);
+    Ok(time.as_secs_f64() * 1e9 / nearest_usize_to_f64(steps))
+}
+
+/// Nanoseconds to begin at a random step.
+fn time_of_at<R: CpuClock + AllocGlobal>(rt: &R, circuit: &Circuit) -> Result<f64, Failure>
+    requires checked { check_of (circuit_items circuit.now) ≡ None }
+{
+    let steps = circuit.steps();
+    let mut place: u64 = 1;
+    let start = rt.thread_cpu_time()?;
+    for _ in 0..CURSORS {
+        place = place
+            .wrapping_mul(6_364_136_223_846_793_005)
+            .wrapping_add(1_442_695_040_888_963_407);
+        let step = (place >> 33) as usize % (steps + 1);
+        let _ = Cursor::at(rt.alloc(), circuit, step)?;
+    }
+    let time = rt.thread_cpu_time()?.saturating_sub(start);
+    Ok(time.as_secs_f64() * 1e9 / f64::from(CURSORS))
+}

@@ -1,0 +1,202 @@
+ghost use Rattle.std.specs.Prelude.{◌≡◌, ◌<◌, ◌+◌, ◌^◌, [], ◌∷◌, true, false, length, map, slice_get, IfSome};
+ghost use Rattle.stab_tableau.specs.declared.gate.PairGate.TheVariants as gate;
+ghost use Rattle.stab_lines.specs.Axes.{letter_of};
+ghost use Rattle.stab_circuit.specs.Steps.{one, two, collapse, measured as measured_step, is_inverted as is_inverted_of, measured_product as measured_product_step, controlled_gate as controlled_gate_of, controlled_step, steps_of};
+ghost use Rattle.stab_circuit.specs.Cursors.{step_shown, IsApart};
+ghost use Rattle.stab_circuit.specs.inner.Walks.{shown_step};
+
+use crate::step::Step;
+use stab_lines::{
+    Axis, ControlledPair, Factor, Kind, MeasureTarget, Measurement, Pair, Product, Qubit,
+};
+use stab_tableau::{Gate, PairGate};
+
+/// The step of a measured target.
+fn measured(measurement: Measurement, target: MeasureTarget) -> Step<'static>
+    ensures value { step_shown result ≡ measured_step measurement target }
+{
+    Step::Collapse {
+        letter: measurement.axis.letter(),
+        qubit: target.qubit.number(),
+        recorded: true,
+        inverted: target.inverted,
+        reset: measurement.resets,
+    }
+}
+
+/// Whether the record of a product is inverted.
+fn is_inverted(factors: &[Factor]) -> bool
+    ensures value { result ≡ is_inverted_of factors.now }
+{
+    let mut inverted = false;
+    for factor in factors {
+        inverted ^= factor.inverted;
+    }
+    inverted
+}
+
+/// The step of a measured product.
+fn measured_product(product: &Product) -> Step
+    ensures value { step_shown result ≡ measured_product_step product.now }
+    ensures apart { IsApart (step_shown result) }
+{
+    let factors = product.as_slice();
+    Step::Product {
+        factors,
+        inverted: is_inverted(factors),
+    }
+}
+
+fn controlled_gate(axis: Axis) -> PairGate
+    ensures value { result ≡ controlled_gate_of axis }
+{
+    match axis {
+        Axis::X => PairGate::Cx,
+        Axis::Y => PairGate::Cy,
+        Axis::Z => PairGate::Cz,
+    }
+}
+
+/// The step of a pair of a controlled gate.
+fn controlled(axis: Axis, pair: &ControlledPair) -> Step<'static>
+    ensures value { step_shown result ≡ controlled_step axis pair.now }
+    ensures apart { IsApart (step_shown result) }
+{
+    match pair {
+        ControlledPair::Qubits(pair) => {
+            let first = pair.first().number();
+            Step::Two(controlled_gate(axis), first, pair.second().number())
+        }
+        ControlledPair::Record(lookback, qubit) => {
+            Step::Controlled(axis.letter(), lookback.number(), qubit.number())
+        }
+    }
+}
+
+fn gate_at(gate: Gate, qubits: &[Qubit], place: usize) -> Option<Step<'static>>
+    ensures value { shown_step result ≡ slice_get (map (one gate) qubits.now) place }
+    ensures apart { IfSome result (λ s. IsApart (step_shown s)) }
+    ensures room { IfSome result (λ s. place + 1 < 2 ^ 64) }
+{
+    match qubits.get(place) {
+        Some(qubit) => Some(Step::One(gate, qubit.number())),
+        None => None,
+    }
+}
+
+fn controlled_at(axis: Axis, pairs: &[ControlledPair], place: usize) -> Option<Step<'static>>
+    ensures value { shown_step result ≡ slice_get (map (controlled_step axis) pairs.now) place }
+    ensures apart { IfSome result (λ s. IsApart (step_shown s)) }
+    ensures room { IfSome result (λ s. place + 1 < 2 ^ 64) }
+{
+    match pairs.get(place) {
+        Some(pair) => Some(controlled(axis, pair)),
+        None => None,
+    }
+}
+
+fn swap_at(pairs: &[Pair], place: usize) -> Option<Step<'static>>
+    ensures value { shown_step result ≡ slice_get (map (λ pair. two gate.Swap pair.0 pair.1) pairs.now) place }
+    ensures apart { IfSome result (λ s. IsApart (step_shown s)) }
+    ensures room { IfSome result (λ s. place + 1 < 2 ^ 64) }
+{
+    match pairs.get(place) {
+        Some(pair) => {
+            let first = pair.first().number();
+            Some(Step::Two(PairGate::Swap, first, pair.second().number()))
+        }
+        None => None,
+    }
+}
+
+fn measurement_at(
+    measurement: Measurement,
+    targets: &[MeasureTarget],
+    place: usize,
+) -> Option<Step<'static>>
+    ensures value { shown_step result ≡ slice_get (map (measured_step measurement) targets.now) place }
+    ensures apart { IfSome result (λ s. IsApart (step_shown s)) }
+    ensures room { IfSome result (λ s. place + 1 < 2 ^ 64) }
+{
+    match targets.get(place) {
+        Some(target) => Some(measured(measurement, *target)),
+        None => None,
+    }
+}
+
+fn reset_at(axis: Axis, qubits: &[Qubit], place: usize) -> Option<Step<'static>>
+    ensures value { shown_step result ≡ slice_get (map (λ q. collapse (letter_of axis) q false false true) qubits.now) place }
+    ensures apart { IfSome result (λ s. IsApart (step_shown s)) }
+    ensures room { IfSome result (λ s. place + 1 < 2 ^ 64) }
+{
+    match qubits.get(place) {
+        Some(qubit) => Some(Step::Collapse {
+            letter: axis.letter(),
+            qubit: qubit.number(),
+            recorded: false,
+            inverted: false,
+            reset: true,
+        }),
+        None => None,
+    }
+}
+
+fn product_at(products: &[Product], place: usize) -> Option<Step<'_>>
+    ensures value { shown_step result ≡ slice_get (map measured_product_step products.now) place }
+    ensures apart { IfSome result (λ s. IsApart (step_shown s)) }
+    ensures room { IfSome result (λ s. place + 1 < 2 ^ 64) }
+{
+    match products.get(place) {
+        Some(product) => Some(measured_product(product)),
+        None => None,
+    }
+}
+
+/// The only step of an instruction, at the first place.
+fn only_at(step: Step<'_>, place: usize) -> Option<Step<'_>>
+    requires apart { IsApart (step_shown step) }
+    ensures value { shown_step result ≡ slice_get (step_shown step.entry ∷ []) place }
+    ensures apart { IfSome result (λ s. IsApart (step_shown s)) }
+    ensures room { IfSome result (λ s. place + 1 < 2 ^ 64) }
+{
+    if place == 0 { Some(step) } else { None }
+}
+
+/// The step of an instruction at a place among its steps.
+pub fn step_at(kind: &Kind, place: usize) -> Option<Step<'_>>
+    ensures value { shown_step result ≡ slice_get (steps_of kind.now) place }
+    ensures apart { IfSome result (λ s. IsApart (step_shown s)) }
+    ensures room { IfSome result (λ s. place + 1 < 2 ^ 64) }
+{
+    match kind {
+        Kind::Gate(gate, qubits) => gate_at(*gate, qubits.as_slice(), place),
+        Kind::Controlled(axis, pairs) => controlled_at(*axis, pairs.as_slice(), place),
+        Kind::Swap(pairs) => swap_at(pairs.as_slice(), place),
+        Kind::Measure(measurement, targets) => {
+            measurement_at(*measurement, targets.as_slice(), place)
+        }
+        Kind::Reset(axis, qubits) => reset_at(*axis, qubits.as_slice(), place),
+        Kind::MeasureProducts(products) => product_at(products.as_slice(), place),
+        Kind::Detector(_, records) => only_at(Step::Detector(records.as_slice()), place),
+        Kind::ObservableInclude(observable, records) => {
+            let number = observable.number();
+            only_at(Step::Observable(number, records.as_slice()), place)
+        }
+        Kind::Tick | Kind::QubitCoords(_, _) | Kind::ShiftCoords(_) => None,
+    }
+}
+
+/// How many steps an instruction has.
+pub fn step_count(kind: &Kind) -> usize
+    ensures value { result ≡ length (steps_of kind.now) }
+{
+    match kind {
+        Kind::Gate(_, qubits) | Kind::Reset(_, qubits) => qubits.as_slice().len(),
+        Kind::Controlled(_, pairs) => pairs.as_slice().len(),
+        Kind::Swap(pairs) => pairs.as_slice().len(),
+        Kind::Measure(_, targets) => targets.as_slice().len(),
+        Kind::MeasureProducts(products) => products.as_slice().len(),
+        Kind::Detector(_, _) | Kind::ObservableInclude(_, _) => 1,
+        Kind::Tick | Kind::QubitCoords(_, _) | Kind::ShiftCoords(_) => 0,
+    }
+}

@@ -1,0 +1,309 @@
+ghost use Rattle.std.specs.Prelude.{◌≡◌, ◌≤◌, ◌<◌, ◌+◌, ◌*◌, ◌^◌, slice_get, IfSome};
+ghost use Rattle.stab_circuit.specs.Cursors.{step_shown, IsApart};
+ghost use Rattle.stab_circuit.specs.inner.Walks.{shown_step, kind_steps};
+
+use crate::instruction::{step_at, step_count};
+use crate::item::{Item, Part};
+use crate::step::Step;
+use stab_lines::Kind;
+use std::alloc::{AllocError, Global};
+
+/// A place in a list of items, and how many rounds of the list come after this one.
+#[derive(Clone, Copy)]
+pub struct Level<'a> {
+    items: &'a [Item],
+    place: usize,
+    rounds: u64,
+}
+
+impl<'a> Level<'a> {
+    ghost use Rattle.stab_circuit.specs.inner.Walks.{IsItemOf};
+
+    /// The item at the place, unless the place is past the list.
+    fn item(self) -> Option<&'a Item>
+        ensures value { IsItemOf self.entry result }
+    {
+        self.items.get(self.place)
+    }
+}
+
+/// A place within nested blocks.
+#[derive(Drop)]
+pub struct Walk<'a> {
+    // The instruction that is under way, and how many of its steps were given.
+    kind: Option<&'a Kind>,
+    within: usize,
+    // The innermost block, beside those around it: so the common step leaves these alone.
+    top: Level<'a>,
+    // The outermost block first.
+    around: Vec<Level<'a>>,
+}
+
+impl<'a> Walk<'a> {
+    ghost use Rattle.std.specs.Prelude.{◌≡◌, ◌≤◌, ◌<◌, ◌+◌, ◌-◌, ◌*◌, ◌∷◌, ◌++◌, [], None, min, length, drop, IfOk, IfSome, IfNone};
+    ghost use Rattle.stab_circuit.specs.Items.{depth, listed};
+    ghost use Rattle.stab_circuit.specs.Steps.{unroll, steps_of, rounds as rounds_of};
+    ghost use Rattle.stab_circuit.specs.Cursors.{step_shown, IsApart};
+    ghost use Rattle.stab_circuit.specs.inner.Walks.{kind_steps, ahead, walk_left, walk_weight, weight, weight_at, IsWalk, SameKind, Takes, GoesOn, Passes};
+
+    /// A walk over the items from the first on, with room for every level.
+    pub fn new(alloc: Global, items: &'a [Item]) -> Result<Walk<'a>, AllocError>
+        requires shallow { depth (listed items.now) ≤ 16 }
+        ensures walks { IfOk result IsWalk }
+        ensures left { IfOk result (λ w. walk_left w ≡ unroll (listed items.now)) }
+        ensures none { IfOk result (λ w. w.kind ≡ None) }
+    {
+        let around = Vec::with_capacity(alloc, 16)?;
+        Ok(Walk {
+            kind: None,
+            within: 0,
+            top: Level {
+                items,
+                place: 0,
+                rounds: 0,
+            },
+            around,
+        })
+    }
+
+    /// Back to the first of the items that the walk is over.
+    pub fn restart(&mut self, items: &'a [Item])
+        requires shallow { depth (listed items.now) ≤ 16 }
+        requires walks { IsWalk self.old }
+        ensures walks { IsWalk self.new }
+        ensures left { walk_left self.new ≡ unroll (listed items.now) }
+    {
+        self.kind = None;
+        self.within = 0;
+        self.top = Level {
+            items,
+            place: 0,
+            rounds: 0,
+        };
+        self.around.clear();
+    }
+
+    /// The next step of the instruction under way, unless it has no more.
+    fn step(&mut self) -> Option<Step<'a>>
+        requires walks { IsWalk self.old }
+        ensures walks { IsWalk self.new }
+        ensures some { IfSome result (λ s. walk_left self.old ≡ step_shown s ∷ walk_left self.new) }
+        ensures apart { IfSome result (λ s. IsApart (step_shown s)) }
+        ensures none { IfNone result ((self.new ≡ self.old) × (drop self.old.within (kind_steps self.old.kind) ≡ [])) }
+    {
+        let step = current(self.kind, self.within)?;
+        self.within += 1;
+        Some(step)
+    }
+
+    /// The item at the place in the innermost block, which the walk goes past.
+    fn take(&mut self) -> Option<&'a Item>
+        requires walks { IsWalk self.old }
+        ensures walks { IsWalk self.new }
+        ensures same { SameKind self.old self.new }
+        ensures taken { Takes self.old self.new result }
+    {
+        let item = self.top.item()?;
+        self.top.place += 1;
+        Some(item)
+    }
+
+    /// Goes into a block, to the first of one round and so many more.
+    fn enter(&mut self, body: &'a [Item], more: u64)
+        requires walks { IsWalk self.old }
+        requires room { depth (listed body.now) + 1 + length self.old.around.items ≤ 16 }
+        ensures walks { IsWalk self.new }
+        ensures same { SameKind self.old self.new }
+        ensures ahead { ahead self.new ≡ (unroll (listed body.now) ++ rounds_of more (unroll (listed body.now))) ++ ahead self.old }
+        ensures weight { walk_weight self.new ≡ weight_at body.now 0 more + walk_weight self.old }
+    {
+        self.around.push_reserved(self.top);
+        self.top = Level {
+            items: body,
+            place: 0,
+            rounds: more,
+        };
+    }
+
+    /// Goes to the next round of the innermost block, or out of it. False at the end of all.
+    fn leave(&mut self) -> bool
+        requires walks { IsWalk self.old }
+        requires done { length self.old.top.items.now ≤ self.old.top.place }
+        ensures walks { IsWalk self.new }
+        ensures same { SameKind self.old self.new }
+        ensures goes { GoesOn (ahead self.old) (ahead self.new) self.old self.new result }
+    {
+        if self.top.rounds > 0 {
+            self.top.rounds -= 1;
+            self.top.place = 0;
+            return true;
+        }
+        match self.around.pop() {
+            Some(level) => {
+                self.top = level;
+                true
+            }
+            None => false,
+        }
+    }
+
+    /// Goes on to what comes after an instruction that has no more steps. False at the end of all.
+    fn go_on(&mut self) -> bool
+        requires walks { IsWalk self.old }
+        requires given { drop self.old.within (kind_steps self.old.kind) ≡ [] }
+        ensures walks { IsWalk self.new }
+        ensures goes { GoesOn (walk_left self.old) (walk_left self.new) self.old self.new result }
+    {
+        let Some(item) = self.take() else {
+            return self.leave();
+        };
+        match item.part() {
+            Part::Operation(operation) => {
+                self.kind = Some(&operation.kind);
+                self.within = 0;
+            }
+            Part::Block {
+                count,
+                kept,
+                body,
+                ..
+            } => {
+                // A block without steps is passed whole, however many its rounds.
+                if kept.steps > 0 {
+                    self.enter(body, count.number() - 1);
+                }
+            }
+        }
+        true
+    }
+
+    /// The next step, or `None` where none is left, and then for ever.
+    pub fn next(&mut self) -> Option<Step<'a>>
+        requires walks { IsWalk self.old }
+        ensures walks { IsWalk self.new }
+        ensures some { IfSome result (λ s. walk_left self.old ≡ step_shown s ∷ walk_left self.new) }
+        ensures apart { IfSome result (λ s. IsApart (step_shown s)) }
+        ensures none { IfNone result ((walk_left self.old ≡ []) × (walk_left self.new ≡ [])) }
+    {
+        'walk: loop {
+            match self.step() {
+                Some(step) => return Some(step),
+                None => {
+                    if !self.go_on() {
+                        return None;
+                    }
+                }
+            }
+        }
+    }
+
+    /// Leaves out steps of an instruction, and says how many are still to be left out.
+    fn pass_steps(&mut self, kind: &'a Kind, count: u32) -> u32
+        requires walks { IsWalk self.old }
+        requires free { self.old.kind ≡ None }
+        ensures walks { IsWalk self.new }
+        ensures left { drop result (walk_left self.new) ≡ drop count (steps_of kind.now ++ ahead self.old) }
+        ensures fewer { result ≤ count }
+        ensures free { 0 < result → self.new.kind ≡ None }
+        ensures weight { walk_weight self.new ≡ walk_weight self.old }
+    {
+        let steps = step_count(kind);
+        if (count as usize) < steps {
+            self.kind = Some(kind);
+            self.within = count as usize;
+            return 0;
+        }
+        count - steps as u32
+    }
+
+    /// Leaves out steps of a block, whole rounds at once, and says how many are still to be left
+    /// out.
+    fn pass_rounds(&mut self, rounds: u64, steps: u32, body: &'a [Item], count: u32) -> u32
+        requires walks { IsWalk self.old }
+        requires free { self.old.kind ≡ None }
+        requires room { depth (listed body.now) + 1 + length self.old.around.items ≤ 16 }
+        requires kept { steps ≡ min (length (unroll (listed body.now))) 1048577 }
+        requires few { count ≤ 1048576 }
+        ensures walks { IsWalk self.new }
+        ensures left { drop result (walk_left self.new) ≡ drop count (rounds_of rounds (unroll (listed body.now)) ++ ahead self.old) }
+        ensures fewer { result ≤ count }
+        ensures free { self.new.kind ≡ None }
+        ensures weight { walk_weight self.new ≤ rounds * (1 + weight (listed body.now)) + walk_weight self.old }
+    {
+        let (skipped, rest) = jump(count, steps, rounds);
+        if skipped < rounds {
+            self.enter(body, rounds - skipped - 1);
+        }
+        rest
+    }
+
+    /// Leaves out steps of what comes next, of which so many are to be left out; and says how many
+    /// still are, or that the walk stands at the end.
+    fn pass(&mut self, count: u32) -> Option<u32>
+        requires walks { IsWalk self.old }
+        requires free { self.old.kind ≡ None }
+        requires few { count ≤ 1048576 }
+        ensures walks { IsWalk self.new }
+        ensures passes { Passes count self.old self.new result }
+    {
+        let Some(item) = self.take() else {
+            return if self.leave() { Some(count) } else { None };
+        };
+        let rest = match item.part() {
+            Part::Operation(operation) => self.pass_steps(&operation.kind, count),
+            Part::Block {
+                count: rounds,
+                kept,
+                body,
+                ..
+            } => self.pass_rounds(rounds.number(), kept.steps, body, count),
+        };
+        Some(rest)
+    }
+
+    /// Leaves out so many steps from the first item on.
+    #[tactic(auto, using(crate::proofs::SkipLemmas::skipped, crate::proofs::SkipLemmas::skipped_all))]
+    pub fn skip(&mut self, count: u32)
+        requires walks { IsWalk self.old }
+        requires free { self.old.kind ≡ None }
+        requires few { count ≤ 1048576 }
+        ensures walks { IsWalk self.new }
+        ensures left { walk_left self.new ≡ drop count (walk_left self.old) }
+    {
+        let mut left = count;
+        'walk: while left > 0 {
+            match self.pass(left) {
+                Some(rest) => left = rest,
+                None => return,
+            }
+        }
+    }
+}
+
+/// The next step of an instruction of which so many were given.
+fn current(kind: Option<&Kind>, within: usize) -> Option<Step<'_>>
+    ensures value { shown_step result ≡ slice_get (kind_steps kind.entry) within }
+    ensures apart { IfSome result (λ s. IsApart (step_shown s)) }
+    ensures room { IfSome result (λ s. within + 1 < 2 ^ 64) }
+{
+    match kind {
+        Some(kind) => step_at(kind, within),
+        None => None,
+    }
+}
+
+/// How many of so many rounds are within a number of steps, and how many steps are left then.
+fn jump(count: u32, steps: u32, rounds: u64) -> (u64, u32)
+    ensures within { result.0 ≤ rounds }
+    ensures rest { count ≡ result.0 * steps + result.1 }
+{
+    if steps == 0 {
+        return (rounds, count);
+    }
+    let whole = count / steps;
+    if u64::from(whole) < rounds {
+        return (u64::from(whole), count % steps);
+    }
+    let all = rounds as u32;
+    (rounds, count - all * steps)
+}

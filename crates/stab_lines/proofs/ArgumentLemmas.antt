@@ -1,0 +1,25 @@
+-- Arguments as they are printed, one after another.
+use Rattle.std.proofs.Common.{◌≡◌, ℕ, List, ◌∷◌, ◌++◌, Option, Some, map, codes, ap, sym, ◌∙◌}
+use Rattle.std.specs.List.{slice_split}
+use Rattle.stab_lines.specs.Lines.{is_byte, trimmed}
+use Rattle.stab_lines.specs.Words.{pieces_after}
+use Rattle.stab_lines.specs.Prints.{each_after, arguments_text}
+
+-- the text of what stands between commas, each after a comma and a space
+abbrev pub more_text : List (List ℕ) → List ℕ
+more_text pieces = each_after (codes ", ") (λ b. b) (map trimmed pieces)
+
+-- one argument more
+pub more_left : (r : Option (List ℕ)) (bytes first argument : List ℕ) (more : List (List ℕ)) → r ≡ Some bytes → slice_split (is_byte 44) bytes ≡ first ∷ more → argument ≡ trimmed first
+    → more_text (pieces_after 44 r) ≡ (codes ", " ++ argument) ++ more_text more
+more_left r bytes first argument more e p t =
+    ap (λ x. more_text (pieces_after 44 x)) e
+    ∙ ap more_text p
+    ∙ ap (λ a. codes ", " ++ (a ++ more_text more)) (sym t)
+
+-- the arguments in their brackets
+pub arguments_are : (bytes first argument : List ℕ) (more : List (List ℕ)) → slice_split (is_byte 44) bytes ≡ first ∷ more → argument ≡ trimmed first
+    → arguments_text (map trimmed (slice_split (is_byte 44) bytes)) ≡ (codes "(" ++ argument) ++ (more_text more ++ codes ")")
+arguments_are bytes first argument more p t =
+    ap (λ l. arguments_text (map trimmed l)) p
+    ∙ ap (λ a. codes "(" ++ (a ++ (more_text more ++ codes ")"))) (sym t)

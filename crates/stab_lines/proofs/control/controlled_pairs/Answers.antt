@@ -1,0 +1,9 @@
+use Rattle.std.proofs.Common.{◌∙◌}
+use Rattle.stab_lines.specs.Words.{words}
+use Rattle.stab_lines.proofs.ControlLemmas.{pairs_next}
+use Rattle.stab_lines.proofs.control.controlled_pairs.Goals as goal
+
+pub loop-pair-preserved : goal.loop-pair-preserved
+loop-pair-preserved c =
+    pairs_next c.loop-pair.found c.push.new.self c.in-Some.pair (words c.loop-pair.rest.now) (words c.in-Some.after.now) c.in_ok-push.ensures.ok c.in-Some.ensures.value
+    ∙ c.loop-pair.invariant

@@ -1,0 +1,11 @@
+use Rattle.std.proofs.Common.{◌≡◌, length}
+use Rattle.stab_lines.specs.Words.{words}
+use Rattle.stab_lines.specs.Controls.{controlled_of}
+use Rattle.stab_lines.proofs.ResultLemmas.{behind}
+use Rattle.stab_lines.proofs.control.controlled_pairs.Given as goal
+
+abbrev pub invariant-loop-pair : goal.invariant-loop-pair
+invariant-loop-pair l = behind l.found (controlled_of (words l.rest)) ≡ controlled_of (words l.words_text)
+
+abbrev pub decreases-loop-pair : goal.decreases-loop-pair
+decreases-loop-pair l = length l.rest

@@ -1,0 +1,8 @@
+use Rattle.std.proofs.Common.{◌≡◌, drop}
+use Rattle.stab_lines.specs.Results.{each}
+use Rattle.stab_lines.specs.Controls.{paired}
+use Rattle.stab_lines.proofs.ResultLemmas.{behind}
+use Rattle.stab_lines.proofs.control.with_pairs.Given as goal
+
+abbrev pub invariant-loop-target : goal.invariant-loop-target
+invariant-loop-target l = behind l.found (each paired (drop l.target-index l.targets)) ≡ behind l.initial.found (each paired l.targets)

@@ -1,0 +1,16 @@
+use Rattle.std.proofs.Common.{map, codes}
+use Rattle.std.specs.Option.{option_copied}
+use Rattle.stab_lines.specs.Lines.{trimmed}
+use Rattle.stab_lines.specs.Words.{pieces_after}
+use Rattle.stab_lines.specs.Prints.{each_after}
+use Rattle.stab_lines.proofs.PieceLemmas.{left}
+use Rattle.stab_lines.proofs.WriteLemmas.{HasWritten}
+use Rattle.stab_lines.proofs.print.write_more.Given as goal
+
+abbrev pub invariant-loop-rest : goal.invariant-loop-rest
+invariant-loop-rest g l =
+    HasWritten (g.O.Output.seen l.initial.out) (g.O.Output.seen l.out) (each_after (codes ", ") (λ b. b) (map trimmed (pieces_after 44 (option_copied l.more))))
+    (each_after (codes ", ") (λ b. b) (map trimmed (pieces_after 44 (option_copied l.rest))))
+
+abbrev pub decreases-loop-rest : goal.decreases-loop-rest
+decreases-loop-rest g l = left (option_copied l.rest)

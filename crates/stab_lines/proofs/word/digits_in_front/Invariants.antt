@@ -1,0 +1,17 @@
+use Rattle.std.proofs.Common.{◌≡◌, ◌≤◌, ◌<◌, ◌-◌, true, length, take}
+use Rattle.std.specs.List.{list_all}
+use Rattle.stab_lines.specs.Lines.{is_digit}
+use Rattle.stab_lines.specs.Words.{value}
+use Rattle.stab_lines.proofs.word.digits_in_front.Given as goal
+
+abbrev pub invariant-loop-length : goal.invariant-loop-length
+invariant-loop-length l = record {
+  within : l.length ≤ length l.bytes;
+  digits : list_all is_digit (take l.length l.bytes) ≡ true;
+  small : l.number < l.cap → value (take l.length l.bytes) ≡ l.number;
+  large : l.cap ≤ l.number → l.cap ≤ value (take l.length l.bytes);
+  bound : l.number < 11000000000000000000;
+}
+
+abbrev pub decreases-loop-length : goal.decreases-loop-length
+decreases-loop-length l = length l.bytes - l.length

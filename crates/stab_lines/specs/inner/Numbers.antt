@@ -1,0 +1,13 @@
+-- Numbers: numbers that are the first of several words.
+use Rattle.std.specs.Prelude.{◌≡◌, ℕ, Bool, true, List, [], ◌∷◌}
+use Rattle.stab_lines.specs.Lines.{is_spacing}
+use Rattle.stab_lines.specs.Words.{words, is_number, value}
+
+-- whether a word ends where these bytes begin
+abbrev pub is_word_end : List ℕ → Bool
+is_word_end [] = true
+is_word_end (b ∷ bs) = is_spacing b
+
+-- the first word is this number, and these bytes follow it
+abbrev pub BeginsWithNumber : List ℕ → ℕ → List ℕ → Type 0
+BeginsWithNumber bs n rest = (word : List ℕ) × (words bs ≡ word ∷ words rest) × (is_number word ≡ true) × (value word ≡ n)

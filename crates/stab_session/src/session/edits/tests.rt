@@ -1,0 +1,117 @@
+use crate::{Edit, ListCoins, Session};
+use stab_circuit::{Item, Path, read_circuit, read_item};
+use stab_pauli::{Fault, MemoryInput, Refusal};
+use std::alloc::Global;
+use std::test::Fail;
+
+const BELL: &str = "H 0\nCX 0 1\nM 0 1";
+
+fn opened<'a>(
+    alloc: Global,
+    text: &str,
+    n: usize,
+    bits: &'a [bool],
+) -> Result<Session<ListCoins<'a>>, Fault> {
+    let circuit = read_circuit(alloc, &mut MemoryInput::new(text.as_bytes()))?;
+    match Session::open(alloc, circuit, n.min(1024), 8192, ListCoins::new(bits)) {
+        Ok(session) => Ok(session),
+        Err(refused) => Err(refused.fault),
+    }
+}
+
+fn item(alloc: Global, text: &str) -> Result<Item, Fault> {
+    read_item(alloc, text.as_bytes())
+}
+
+/// Puts an item in, in the stead of another, or takes one out where there is no text.
+fn edit(alloc: Global, place: usize, replaces: bool, text: &str) -> Result<Edit, Fault> {
+    let place = Path::new(&[place]);
+    if text.is_empty() {
+        return Ok(Edit::Delete { place });
+    }
+    let item = item(alloc, text)?;
+    if replaces {
+        Ok(Edit::Replace { place, item })
+    } else {
+        Ok(Edit::Insert { place, item })
+    }
+}
+
+/// What refuses an edit, with whether an item comes back, or `None`.
+fn refusal(session: &mut Session<ListCoins>, edit: Edit) -> Option<(Refusal, bool)> {
+    match session.apply(edit) {
+        Ok(_) => None,
+        Err(refused) => Some((refused.fault.refusal, refused.item.is_some())),
+    }
+}
+
+/// Whether a session shows these records, flags and detectors.
+fn shows(
+    session: &Session<ListCoins>,
+    records: &[bool],
+    free: &[bool],
+    detectors: &[bool],
+) -> bool {
+    session.records() == records && session.free() == free && session.detectors() == detectors
+}
+
+fn edited_once(
+    alloc: Global,
+    text: &str,
+    edit: Edit,
+    records: &[bool],
+    free: &[bool],
+) -> Result<Option<(Refusal, bool)>, Fail> {
+    let mut session = opened(alloc, text, 2, &[true, false])?;
+    let refusal = refusal(&mut session, edit);
+    if shows(&session, records, free, &[]) {
+        Ok(refusal)
+    } else {
+        Err("other lists")?
+    }
+}
+
+#[test]
+fn an_edit_shows_the_run_of_the_edited_circuit(rt: HostRuntime) -> Result<(), Fail> {
+    let cases: [(usize, bool, &str, &[bool], &[bool]); 4] = [
+        (2, false, "X 1", &[true, false], &[true, false]),
+        (0, false, "", &[false, false], &[false, false]),
+        (1, true, "X 1", &[true, true], &[true, false]),
+        (3, false, "MX 0", &[true, true, false], &[true, false, true]),
+    ];
+    for (place, replaces, text, records, free) in cases {
+        let edit = edit(rt.alloc(), place, replaces, text)?;
+        let refusal = edited_once(rt.alloc(), BELL, edit, records, free)?;
+        assert!(rt; refusal.is_none(), "{text}");
+    }
+    Ok(())
+}
+
+#[test]
+fn a_refused_edit_changes_nothing(rt: HostRuntime) -> Result<(), Fail> {
+    let cases = [
+        (9, false, "X 0", Refusal::PlaceOutOfRange, true),
+        (9, false, "", Refusal::PlaceOutOfRange, false),
+        (0, false, "X 2", Refusal::QubitOutOfRange, true),
+        (0, true, "DETECTOR rec[-1]", Refusal::LookbackTooFar, true),
+        (
+            0,
+            false,
+            "REPEAT 1048577 {\nX 0\n}",
+            Refusal::TooManySteps,
+            true,
+        ),
+    ];
+    for (place, replaces, text, wanted, item) in cases {
+        let edit = edit(rt.alloc(), place, replaces, text)?;
+        let refusal = edited_once(
+            rt.alloc(),
+            "X 0\nM 0 1",
+            edit,
+            &[true, false],
+            &[false, false],
+        )?;
+        assert_eq!(rt; refusal, Some((wanted, item)), "{text}");
+    }
+    Ok(())
+}

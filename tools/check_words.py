@@ -1,0 +1,76 @@
+#!/usr/bin/env python3
+"""Compares the commands and options of completions/ and man/ with those that the built program's --help names.
+
+    tools/check_words.py
+
+It ends with 1 where one is missing, or where one is named that the program doesn't have. The completion for bash is asked as
+bash asks it. It needs the program: build it by ./stabsim --help.
+"""
+
+import pathlib
+import re
+import subprocess
+import sys
+
+TOP = pathlib.Path(__file__).resolve().parent.parent
+PROGRAM = TOP / "crates" / "stabsim" / "out" / "stabsim"
+OPTION = re.compile(r"--[a-z_]+")
+
+ASK_BASH = """
+. completions/stabsim.bash
+COMP_WORDS=(stabsim {words} '') COMP_CWORD={place}
+_stabsim
+printf '%s\\n' "${{COMPREPLY[@]}}"
+"""
+
+
+def text_of(words, **more):
+    return subprocess.run(words, cwd=TOP, capture_output=True, text=True, check=True, **more).stdout
+
+
+def section(text, head):
+    """The indented lines below a head of a help text."""
+    lines = text.split(f"\n{head}:\n", 1)[1].split("\n\n", 1)[0].splitlines()
+    return [line.strip() for line in lines]
+
+
+def bash_words(words):
+    return set(text_of(["bash", "-c", ASK_BASH.format(words=" ".join(words), place=len(words) + 1)]).split())
+
+
+def zsh_words(command):
+    text = (TOP / "completions" / "_stabsim").read_text()
+    return set(OPTION.findall(text.split(f"_stabsim_{command}() {{", 1)[1].split("\n}\n", 1)[0]))
+
+
+def man_words(head, end):
+    text = (TOP / "man" / "stabsim.1").read_text().replace("\\-", "-")
+    return set(OPTION.findall(text.split(f"\n{head}\n", 1)[1].split(f"\n{end}", 1)[0]))
+
+
+def main():
+    told = text_of([PROGRAM, "--help"])
+    commands = {line.split()[0] for line in section(told, "Commands")}
+    wrong = []
+
+    def compare(where, has, wants):
+        if has != wants:
+            wrong.append(f"{where}: without {sorted(wants - has)}, with {sorted(has - wants)} besides")
+
+    compare("the commands in bash", bash_words([]), commands | {"--help", "--version"})
+    every = {"--version"}
+    for command in sorted(commands - {"help"}):
+        options = {OPTION.search(line)[0] for line in section(text_of([PROGRAM, command, "--help"]), "Options") if OPTION.search(line)}
+        every |= options
+        compare(f"{command} in bash", bash_words([command]), options)
+        compare(f"{command} in zsh", zsh_words(command), options)
+        compare(f"{command} in the manual", man_words(f".SS {command}", ".S"), options)
+    compare("the options of the manual", man_words(".SH OPTIONS", ".SH"), every)
+    for line in wrong:
+        print(line, file=sys.stderr)
+    print(f"{len(commands)} commands and {len(every)} options compared, {len(wrong)} wrong")
+    return 1 if wrong else 0
+
+
+if __name__ == "__main__":
+    sys.exit(main())
