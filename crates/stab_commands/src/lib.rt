@@ -16,7 +16,8 @@
 //! flush; or it failed once, or memory was refused, after a prefix. `run_stabilisers` ends by the
 //! same cases, over the reduced rows of the state after shot 0; memory is then refused before the
 //! first row. `run_edit` writes exactly the replies that `specs/Scripts.antt` gives for the script and
-//! the circuit's items, or ends by its own cases (`specs/ScriptEndings.antt`). `run_job` carries the same for a job, with its status and the line that tells its fault.
+//! the circuit's items, or ends by its own cases (`specs/ScriptEndings.antt`). `run_job` carries the
+//! same for a job of the other commands, with its status and the line that tells its fault.
 #![tactic(auto)]
 
 mod edit;
