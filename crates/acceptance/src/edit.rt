@@ -1,6 +1,6 @@
 //! Scripts that edit circuits, and the replies to them.
 use stab_cli::{Source, run_edit};
-use stab_pauli::{MemoryInput, MemoryOutput};
+use stab_pauli::{CutInput, Fault, MemoryInput, MemoryOutput, Refusal};
 use std::alloc::Global;
 use std::process::Abort;
 use std::test::Fail;
@@ -23,7 +23,7 @@ fn coins_of(alloc: Global, text: &str) -> Result<Source, Fail> {
     Ok(Source::List(coins))
 }
 
-/// Asserts that a script is answered with these replies, one of which is a refusal or none.
+/// Asserts that a script is answered with these replies, and whether one is a refusal.
 fn assert_replies(
     rt: &(impl Abort + AllocGlobal),
     edited: &Edited,
@@ -308,4 +308,62 @@ fn lines_that_are_no_commands_are_refused(rt: HostRuntime) -> Result<(), Fail> {
         assert_replies(&rt, &edited, script, replies, true)?;
     }
     assert_replies(&rt, &edited, " # nothing\n\n \t\r\n", "", false)
+}
+
+/// Edits `H 0` / `M 0` with coin 1 by a script that is read a byte at a time and fails at this read.
+fn edit_broken(
+    alloc: Global,
+    script: &str,
+    fail_at: u64,
+    out: &mut MemoryOutput,
+) -> Result<Result<bool, Fault>, Fail> {
+    Ok(run_edit(
+        alloc,
+        &mut MemoryInput::new(b"H 0\nM 0"),
+        &mut CutInput::new(script.as_bytes(), 1, fail_at),
+        out,
+        None,
+        8192,
+        &coins_of(alloc, "1")?,
+    ))
+}
+
+#[test]
+fn a_script_that_breaks_off_has_the_replies_to_whole_lines(rt: HostRuntime) -> Result<(), Fail> {
+    let script = "show measurements\ninsert 1 H 0\nshow measurements\n";
+    let rows = [
+        (1, ""),
+        (18, ""),
+        (19, "1\n"),
+        (31, "1\n"),
+        (32, "1\nok\n"),
+        (49, "1\nok\n"),
+        (50, "1\nok\n0\n"),
+    ];
+    for (fail_at, replies) in rows {
+        let mut out = MemoryOutput::new(rt.alloc(), 64)?;
+        let answer = edit_broken(rt.alloc(), script, fail_at, &mut out)?;
+        assert_eq!(rt;
+            answer,
+            Err(Fault::whole(Refusal::ReadFault)),
+            "at read {fail_at}"
+        );
+        assert!(rt; out.bytes() == replies.as_bytes(), "at read {fail_at}");
+    }
+    Ok(())
+}
+
+#[test]
+fn a_script_whose_output_fails_is_cut_off(rt: HostRuntime) -> Result<(), Fail> {
+    let script = "show measurements\nshow circuit\n";
+    let mut full = MemoryOutput::new(rt.alloc(), 5)?;
+    let answer = edit_broken(rt.alloc(), script, 0, &mut full)?;
+    assert_eq!(rt; answer, Err(Fault::whole(Refusal::WriteFault)));
+    assert!(rt; full.bytes() == b"1\nH 0".as_slice());
+    let mut unflushed = MemoryOutput::new(rt.alloc(), 64)?;
+    unflushed.fail_flush();
+    let answer = edit_broken(rt.alloc(), script, 0, &mut unflushed)?;
+    assert_eq!(rt; answer, Err(Fault::whole(Refusal::WriteFault)));
+    assert!(rt; unflushed.bytes() == b"1\nH 0\nM 0\n".as_slice());
+    Ok(())
 }
