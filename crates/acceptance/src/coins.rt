@@ -1,5 +1,5 @@
 //! What the coins of `--coins` decide, and what they don't.
-use crate::runs::assert_writes;
+use crate::runs::{assert_all_write, assert_writes};
 use std::test::Fail;
 
 const BELL: &str = "H 0\nCX 0 1\nM 0 1";
@@ -89,15 +89,12 @@ const DECIDED: [(&str, &str, &str); 34] = [
 
 #[test]
 fn a_coin_decides_a_free_outcome(rt: HostRuntime) -> Result<(), Fail> {
-    for (line, text, written) in DECIDED {
-        assert_writes(&rt, line, text, written.as_bytes())?;
-    }
-    Ok(())
+    assert_all_write(&rt, DECIDED.as_slice())
 }
 
 #[test]
 fn each_measured_target_has_the_next_coin(rt: HostRuntime) -> Result<(), Fail> {
-    let rows = [
+    const ROWS: &[(&str, &str, &str)] = &[
         ("stabsim sample --coins 01", "H 0\nM 0", "0\n"),
         ("stabsim sample --coins 01", "R 1\nH 0\nM 0", "1\n"),
         ("stabsim sample --coins 10", "R 1\nH 0\nM 0", "0\n"),
@@ -119,15 +116,12 @@ fn each_measured_target_has_the_next_coin(rt: HostRuntime) -> Result<(), Fail> {
             "1\n",
         ),
     ];
-    for (line, text, written) in rows {
-        assert_writes(&rt, line, text, written.as_bytes())?;
-    }
-    Ok(())
+    assert_all_write(&rt, ROWS)
 }
 
 #[test]
 fn no_coin_decides_a_fixed_outcome(rt: HostRuntime) -> Result<(), Fail> {
-    let rows = [
+    const ROWS: &[(&str, &str, &str)] = &[
         ("stabsim sample --coins 1", "M 0", "0\n"),
         ("stabsim sample --coins 0", "X 0\nM 0", "1\n"),
         ("stabsim sample --coins 10", "H 0\nM 0 0", "11\n"),
@@ -139,15 +133,12 @@ fn no_coin_decides_a_fixed_outcome(rt: HostRuntime) -> Result<(), Fail> {
         ),
         ("stabsim sample --coins 11", "MX 0\nR 0\nM 0", "10\n"),
     ];
-    for (line, text, written) in rows {
-        assert_writes(&rt, line, text, written.as_bytes())?;
-    }
-    Ok(())
+    assert_all_write(&rt, ROWS)
 }
 
 #[test]
 fn zeros_follow_the_last_coin(rt: HostRuntime) -> Result<(), Fail> {
-    let rows = [
+    const ROWS: &[(&str, &str, &str)] = &[
         ("stabsim sample --coins 1", "H 0 1\nM 0 1", "10\n"),
         ("stabsim sample --coins=", "H 0 1\nM 0 1", "00\n"),
         (
@@ -156,15 +147,12 @@ fn zeros_follow_the_last_coin(rt: HostRuntime) -> Result<(), Fail> {
             "1100\n",
         ),
     ];
-    for (line, text, written) in rows {
-        assert_writes(&rt, line, text, written.as_bytes())?;
-    }
-    Ok(())
+    assert_all_write(&rt, ROWS)
 }
 
 #[test]
 fn each_shot_has_the_list_anew(rt: HostRuntime) -> Result<(), Fail> {
-    let rows = [
+    const ROWS: &[(&str, &str, &str)] = &[
         ("stabsim sample --shots 2 --coins 10", "H 0\nM 0", "1\n1\n"),
         (
             "stabsim sample --shots 3 --coins 01",
@@ -177,15 +165,12 @@ fn each_shot_has_the_list_anew(rt: HostRuntime) -> Result<(), Fail> {
             "1\n1\n",
         ),
     ];
-    for (line, text, written) in rows {
-        assert_writes(&rt, line, text, written.as_bytes())?;
-    }
-    Ok(())
+    assert_all_write(&rt, ROWS)
 }
 
 #[test]
 fn a_list_stands_in_place_of_a_seed(rt: HostRuntime) -> Result<(), Fail> {
-    let rows = [
+    const ROWS: &[(&str, &str)] = &[
         ("stabsim sample --seed 0 --coins 01", "01\n"),
         ("stabsim sample --seed 0 --coins 10", "10\n"),
         ("stabsim sample --seed 7 --coins 01", "01\n"),
@@ -194,7 +179,7 @@ fn a_list_stands_in_place_of_a_seed(rt: HostRuntime) -> Result<(), Fail> {
         ("stabsim sample --coins 11 --seed 7", "11\n"),
         ("stabsim sample --seed 7 --coins=", "00\n"),
     ];
-    for (line, written) in rows {
+    for (line, written) in ROWS {
         assert_writes(&rt, line, "H 0 1\nM 0 1", written.as_bytes())?;
     }
     Ok(())

@@ -1,5 +1,5 @@
 //! The detectors and observables that `detect` writes: raw parities of records.
-use crate::runs::{assert_each_writes, assert_writes};
+use crate::runs::{assert_all_write, assert_each_writes};
 use std::test::Fail;
 
 // A repetition code's circuit, as Stim prints it: three data qubits, two measured between them.
@@ -33,7 +33,7 @@ const ROUNDS: &str = "REPEAT 3 {\nX 0\nM 0\nDETECTOR rec[-1]\nOBSERVABLE_INCLUDE
 
 #[test]
 fn a_detector_is_the_parity_of_its_records(rt: HostRuntime) -> Result<(), Fail> {
-    let rows = [
+    const ROWS: &[(&str, &str)] = &[
         ("", "\n"),
         ("X 0\nM 0", "\n"),
         ("DETECTOR", "0\n"),
@@ -54,12 +54,12 @@ fn a_detector_is_the_parity_of_its_records(rt: HostRuntime) -> Result<(), Fail> 
         (ROUNDS, "101\n"),
         ("X 0\nM 0\nOBSERVABLE_INCLUDE(0) rec[-1]", "\n"),
     ];
-    assert_each_writes(&rt, "stabsim detect", rows.as_slice())
+    assert_each_writes(&rt, "stabsim detect", ROWS)
 }
 
 #[test]
 fn observables_follow_the_detectors(rt: HostRuntime) -> Result<(), Fail> {
-    let rows = [
+    const ROWS: &[(&str, &str)] = &[
         ("", "\n"),
         (ROUNDS, "1010\n"),
         ("OBSERVABLE_INCLUDE(3)", "0000\n"),
@@ -85,7 +85,7 @@ fn observables_follow_the_detectors(rt: HostRuntime) -> Result<(), Fail> {
             "100\n",
         ),
     ];
-    assert_each_writes(&rt, "stabsim detect --append_observables", rows.as_slice())
+    assert_each_writes(&rt, "stabsim detect --append_observables", ROWS)
 }
 
 #[test]
@@ -103,8 +103,5 @@ fn a_flip_shows_in_the_first_detectors_of_a_code(rt: HostRuntime) -> Result<(), 
             "110000000\n",
         ),
     ];
-    for (line, text, written) in rows {
-        assert_writes(&rt, line, text, written.as_bytes())?;
-    }
-    Ok(())
+    assert_all_write(&rt, rows.as_slice())
 }

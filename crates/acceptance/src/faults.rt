@@ -18,7 +18,7 @@ fn assert_each_refused(
 
 #[test]
 fn a_line_without_the_shape_of_a_line_is_refused(rt: HostRuntime) -> Result<(), Fail> {
-    let texts = [
+    const TEXTS: &[&str] = &[
         "0",
         "_X 0",
         "\u{e9} 0",
@@ -45,11 +45,7 @@ fn a_line_without_the_shape_of_a_line_is_refused(rt: HostRuntime) -> Result<(), 
         "{",
         "0 NOPE",
     ];
-    assert_each_refused(
-        &rt,
-        texts.as_slice(),
-        "stabsim: line 1: refused 11 BadLine\n",
-    )
+    assert_each_refused(&rt, TEXTS, "stabsim: line 1: refused 11 BadLine\n")
 }
 
 // Instructions whose names are not read, most of them Stim's.
@@ -85,7 +81,7 @@ fn a_name_outside_the_table_is_refused(rt: HostRuntime) -> Result<(), Fail> {
 
 #[test]
 fn wrong_arguments_are_refused(rt: HostRuntime) -> Result<(), Fail> {
-    let texts = [
+    const TEXTS: &[&str] = &[
         "M(0.1) 0",
         "X(1) 0",
         "X(1) x {",
@@ -106,11 +102,7 @@ fn wrong_arguments_are_refused(rt: HostRuntime) -> Result<(), Fail> {
         "OBSERVABLE_INCLUDE(1.0)",
         "OBSERVABLE_INCLUDE(x) 0",
     ];
-    assert_each_refused(
-        &rt,
-        texts.as_slice(),
-        "stabsim: line 1: refused 2 BadArguments\n",
-    )
+    assert_each_refused(&rt, TEXTS, "stabsim: line 1: refused 2 BadArguments\n")
 }
 
 // Instructions of which a target is not what the name takes.
@@ -167,7 +159,7 @@ fn a_wrong_target_is_refused(rt: HostRuntime) -> Result<(), Fail> {
 
 #[test]
 fn targets_without_their_partners_are_refused(rt: HostRuntime) -> Result<(), Fail> {
-    let texts = [
+    const TEXTS: &[&str] = &[
         "CX 0 0",
         "CX 0 1 2",
         "CY 5",
@@ -179,16 +171,12 @@ fn targets_without_their_partners_are_refused(rt: HostRuntime) -> Result<(), Fai
         "CX rec[-1] 0 1",
         "CZ rec[-1]",
     ];
-    assert_each_refused(
-        &rt,
-        texts.as_slice(),
-        "stabsim: line 1: refused 4 BadPairing\n",
-    )
+    assert_each_refused(&rt, TEXTS, "stabsim: line 1: refused 4 BadPairing\n")
 }
 
 #[test]
 fn a_wrong_block_is_refused(rt: HostRuntime) -> Result<(), Fail> {
-    let texts = [
+    const TEXTS: &[&str] = &[
         "}",
         "X 0 {",
         "TICK {",
@@ -204,16 +192,12 @@ fn a_wrong_block_is_refused(rt: HostRuntime) -> Result<(), Fail> {
         "OBSERVABLE_INCLUDE(4096) {",
         "REPEAT 2 {\nREPEAT 3 {\nX 0\n}",
     ];
-    assert_each_refused(
-        &rt,
-        texts.as_slice(),
-        "stabsim: line 1: refused 5 BadBlock\n",
-    )
+    assert_each_refused(&rt, TEXTS, "stabsim: line 1: refused 5 BadBlock\n")
 }
 
 #[test]
 fn numbers_out_of_range_are_refused(rt: HostRuntime) -> Result<(), Fail> {
-    let qubits = [
+    const QUBITS: &[&str] = &[
         "M 1024",
         "M !1024",
         "X 1024 y {",
@@ -224,25 +208,21 @@ fn numbers_out_of_range_are_refused(rt: HostRuntime) -> Result<(), Fail> {
         "CX rec[-1] 1024",
         "R 99999999999999999999999999999999",
     ];
-    let observables = [
+    const OBSERVABLES: &[&str] = &[
         "OBSERVABLE_INCLUDE(4096)",
         "OBSERVABLE_INCLUDE(99999999999999999999999999) rec[-1]",
     ];
+    assert_each_refused(&rt, QUBITS, "stabsim: line 1: refused 6 QubitOutOfRange\n")?;
     assert_each_refused(
         &rt,
-        qubits.as_slice(),
-        "stabsim: line 1: refused 6 QubitOutOfRange\n",
-    )?;
-    assert_each_refused(
-        &rt,
-        observables.as_slice(),
+        OBSERVABLES,
         "stabsim: line 1: refused 7 ObservableOutOfRange\n",
     )
 }
 
 #[test]
 fn a_lookback_past_the_first_record_is_refused(rt: HostRuntime) -> Result<(), Fail> {
-    let texts = [
+    const TEXTS: &[&str] = &[
         "DETECTOR rec[-1]",
         "OBSERVABLE_INCLUDE(0) rec[-1]",
         "CX rec[-1] 0",
@@ -256,12 +236,12 @@ fn a_lookback_past_the_first_record_is_refused(rt: HostRuntime) -> Result<(), Fa
         "DETECTOR rec[-1]\nREPEAT 2000000 {\nX 0\n}",
         "REPEAT 16777214 {\nM 0\n}\nDETECTOR rec[-16777215]",
     ];
-    assert_each_refused(&rt, texts.as_slice(), "stabsim: refused 8 LookbackTooFar\n")
+    assert_each_refused(&rt, TEXTS, "stabsim: refused 8 LookbackTooFar\n")
 }
 
 #[test]
 fn the_first_faulty_line_is_told(rt: HostRuntime) -> Result<(), Fail> {
-    let rows = [
+    const ROWS: &[(&str, &str)] = &[
         ("X 0\n\n}", "stabsim: line 3: refused 5 BadBlock\n"),
         ("X 0\n}", "stabsim: line 2: refused 5 BadBlock\n"),
         (
@@ -291,8 +271,8 @@ fn the_first_faulty_line_is_told(rt: HostRuntime) -> Result<(), Fail> {
             "stabsim: line 4: refused 6 QubitOutOfRange\n",
         ),
     ];
-    for (text, fault) in rows {
-        assert_each_refused(&rt, &[text], fault)?;
+    for (text, fault) in ROWS {
+        assert_each_refused(&rt, &[*text], fault)?;
     }
     Ok(())
 }
@@ -301,7 +281,7 @@ fn the_first_faulty_line_is_told(rt: HostRuntime) -> Result<(), Fail> {
 fn a_text_is_refused_whatever_is_asked_for(rt: HostRuntime) -> Result<(), Fail> {
     let lookback = "stabsim: refused 8 LookbackTooFar\n";
     let qubit = "stabsim: line 2: refused 6 QubitOutOfRange\n";
-    let lines = [
+    const LINES: &[&str] = &[
         "stabsim sample --shots 0",
         "stabsim sample --shots 0 --out_format b8",
         "stabsim sample --shots 3 --out_format r8 --seed 7",
@@ -311,7 +291,7 @@ fn a_text_is_refused_whatever_is_asked_for(rt: HostRuntime) -> Result<(), Fail> 
         "stabsim detect --shots 0 --out_format r8",
         "stabsim detect --shots 1000000 --out_format b8 --append_observables",
     ];
-    for line in lines {
+    for line in LINES {
         assert_refuses(&rt, line, "M 0\nDETECTOR rec[-2]", lookback)?;
         assert_refuses(&rt, line, "M 0\nM 1024", qubit)?;
     }

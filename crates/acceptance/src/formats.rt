@@ -1,5 +1,5 @@
 //! The bytes of results in each format.
-use crate::runs::assert_writes;
+use crate::runs::{assert_all_write, assert_all_write_bytes, assert_writes};
 use std::test::Fail;
 
 const NINE: &str = "X 0\nM 0\nX 0\nREPEAT 7 {\nM 0\n}\nX 0\nM 0";
@@ -16,7 +16,7 @@ const ROUNDS: &str = "REPEAT 3 {\nX 0\nM 0\nDETECTOR rec[-1]\nOBSERVABLE_INCLUDE
 
 #[test]
 fn sample_writes_each_format(rt: HostRuntime) -> Result<(), Fail> {
-    let rows: [(&str, &str, &[u8]); 16] = [
+    const ROWS: &[(&str, &str, &[u8])] = &[
         ("stabsim sample", NINE, b"100000001\n"),
         ("stabsim sample --out_format 01", NINE, b"100000001\n"),
         ("stabsim sample --out_format b8", NINE, b"\x01\x01"),
@@ -34,15 +34,12 @@ fn sample_writes_each_format(rt: HostRuntime) -> Result<(), Fail> {
         ("stabsim sample --out_format hits", "M 0 0", b"\n"),
         ("stabsim sample --out_format dets", "M 0 0", b"shot\n"),
     ];
-    for (line, text, written) in rows {
-        assert_writes(&rt, line, text, written)?;
-    }
-    Ok(())
+    assert_all_write_bytes(&rt, ROWS)
 }
 
 #[test]
 fn detect_writes_each_format(rt: HostRuntime) -> Result<(), Fail> {
-    let rows: [(&str, &str, &[u8]); 13] = [
+    const ROWS: &[(&str, &str, &[u8])] = &[
         ("stabsim detect", MIXED, b"10\n"),
         ("stabsim detect --out_format 01", MIXED, b"10\n"),
         ("stabsim detect --out_format b8", MIXED, b"\x01"),
@@ -57,15 +54,12 @@ fn detect_writes_each_format(rt: HostRuntime) -> Result<(), Fail> {
         ("stabsim detect --out_format dets", ROUNDS, b"shot D0 D2\n"),
         ("stabsim detect --out_format r8", ROUNDS, b"\x00\x01\x00"),
     ];
-    for (line, text, written) in rows {
-        assert_writes(&rt, line, text, written)?;
-    }
-    Ok(())
+    assert_all_write_bytes(&rt, ROWS)
 }
 
 #[test]
 fn detectors_and_observables_are_one_list_in_each_format(rt: HostRuntime) -> Result<(), Fail> {
-    let rows: [(&str, &str, &[u8]); 13] = [
+    const ROWS: &[(&str, &str, &[u8])] = &[
         ("01", MIXED, b"1001\n"),
         ("b8", MIXED, b"\x09"),
         ("r8", MIXED, b"\x00\x02\x00"),
@@ -84,7 +78,7 @@ fn detectors_and_observables_are_one_list_in_each_format(rt: HostRuntime) -> Res
         ),
         ("hits", "X 0\nM 0\nOBSERVABLE_INCLUDE(12) rec[-1]", b"12\n"),
     ];
-    for (format, text, written) in rows {
+    for (format, text, written) in ROWS {
         let line = format!(in rt.alloc();
             "stabsim detect --append_observables --out_format {format}"
         )?;
@@ -95,7 +89,7 @@ fn detectors_and_observables_are_one_list_in_each_format(rt: HostRuntime) -> Res
 
 #[test]
 fn b8_fills_bytes_from_their_lowest_bit(rt: HostRuntime) -> Result<(), Fail> {
-    let rows: [(&str, &[u8]); 8] = [
+    const ROWS: &[(&str, &[u8])] = &[
         ("M 0", b"\x00"),
         ("M !0", b"\x01"),
         ("M 0 !0", b"\x02"),
@@ -105,7 +99,7 @@ fn b8_fills_bytes_from_their_lowest_bit(rt: HostRuntime) -> Result<(), Fail> {
         ("REPEAT 9 {\nM !0\n}", b"\xff\x01"),
         ("REPEAT 16 {\nM 0\n}\nM !0 0 !0", b"\x00\x00\x05"),
     ];
-    for (text, written) in rows {
+    for (text, written) in ROWS {
         assert_writes(&rt, "stabsim sample --out_format b8", text, written)?;
     }
     Ok(())
@@ -113,7 +107,7 @@ fn b8_fills_bytes_from_their_lowest_bit(rt: HostRuntime) -> Result<(), Fail> {
 
 #[test]
 fn r8_counts_runs_of_zeros(rt: HostRuntime) -> Result<(), Fail> {
-    let rows: [(&str, &[u8]); 9] = [
+    const ROWS: &[(&str, &[u8])] = &[
         ("M !0 !0 !0", b"\x00\x00\x00\x00"),
         ("M 0 !0 0 0 0", b"\x01\x03"),
         ("REPEAT 254 {\nM 0\n}", b"\xfe"),
@@ -124,7 +118,7 @@ fn r8_counts_runs_of_zeros(rt: HostRuntime) -> Result<(), Fail> {
         ("REPEAT 510 {\nM 0\n}", b"\xff\xff\x00"),
         ("REPEAT 600 {\nM 0\n}\nM !0", b"\xff\xff\x5a\x00"),
     ];
-    for (text, written) in rows {
+    for (text, written) in ROWS {
         assert_writes(&rt, "stabsim sample --out_format r8", text, written)?;
     }
     Ok(())
@@ -132,7 +126,7 @@ fn r8_counts_runs_of_zeros(rt: HostRuntime) -> Result<(), Fail> {
 
 #[test]
 fn places_are_written_in_decimal(rt: HostRuntime) -> Result<(), Fail> {
-    let rows: [(&str, &str, &str); 4] = [
+    const ROWS: &[(&str, &str, &str)] = &[
         (
             "stabsim sample --out_format hits",
             "REPEAT 100 {\nM 0\n}\nM !0 0 !0",
@@ -154,8 +148,5 @@ fn places_are_written_in_decimal(rt: HostRuntime) -> Result<(), Fail> {
             "shot M0 M1 M2 M3 M4 M5 M6 M7 M8 M9 M10\n",
         ),
     ];
-    for (line, text, written) in rows {
-        assert_writes(&rt, line, text, written.as_bytes())?;
-    }
-    Ok(())
+    assert_all_write(&rt, ROWS)
 }

@@ -1,5 +1,7 @@
 //! Circuits at their limits, and one past them.
-use crate::runs::{assert_each_writes, assert_refuses, assert_writes, run_program};
+use crate::runs::{
+    assert_all_write, assert_each_writes, assert_refuses, assert_writes, run_program,
+};
 use std::alloc::Global;
 use std::test::Fail;
 
@@ -52,7 +54,7 @@ fn sample_makes_steps_up_to_the_limit(rt: HostRuntime) -> Result<(), Fail> {
 
 #[test]
 fn steps_of_blocks_are_counted_round_by_round(rt: HostRuntime) -> Result<(), Fail> {
-    let rows = [
+    const ROWS: &[(&str, &str)] = &[
         ("REPEAT 100000000000000000 {\nTICK\n}", "\n"),
         (
             "REPEAT 999999999999999999 {\nREPEAT 999999999999999999 {\nX\n}\n}",
@@ -61,12 +63,12 @@ fn steps_of_blocks_are_counted_round_by_round(rt: HostRuntime) -> Result<(), Fai
         ("REPEAT 1048576 {\nX 0\n}", "\n"),
         ("REPEAT 1024 {\nREPEAT 1023 {\nX 0\n}\nDETECTOR\n}", "\n"),
     ];
-    assert_each_writes(&rt, "stabsim sample", rows.as_slice())
+    assert_each_writes(&rt, "stabsim sample", ROWS)
 }
 
 #[test]
 fn too_many_steps_are_refused_by_their_number(rt: HostRuntime) -> Result<(), Fail> {
-    let texts = [
+    const TEXTS: &[&str] = &[
         "REPEAT 2000000 {\nX 0\n}",
         "REPEAT 1048577 {\nX 0\n}",
         "REPEAT 1048577 {\nDETECTOR\n}",
@@ -75,7 +77,7 @@ fn too_many_steps_are_refused_by_their_number(rt: HostRuntime) -> Result<(), Fai
         "REPEAT 16777215 {\nM 0\n}\nDETECTOR rec[-16777215]",
         "REPEAT 999999999999999999 {\nM 0\n}\nDETECTOR rec[-16777215]",
     ];
-    for text in texts {
+    for text in TEXTS {
         assert_refuses(
             &rt,
             "stabsim sample",
@@ -104,7 +106,7 @@ fn blocks_are_nested_16_deep(rt: HostRuntime) -> Result<(), Fail> {
 
 #[test]
 fn qubits_and_observables_reach_their_greatest_numbers(rt: HostRuntime) -> Result<(), Fail> {
-    let rows = [
+    const ROWS: &[(&str, &str, &str)] = &[
         ("stabsim sample", "M 1023", "0\n"),
         ("stabsim sample", "X 1023\nM !1023 1023", "01\n"),
         (
@@ -130,8 +132,5 @@ fn qubits_and_observables_reach_their_greatest_numbers(rt: HostRuntime) -> Resul
         ),
         ("stabsim detect", "OBSERVABLE_INCLUDE(4095)", "\n"),
     ];
-    for (line, text, written) in rows {
-        assert_writes(&rt, line, text, written.as_bytes())?;
-    }
-    Ok(())
+    assert_all_write(&rt, ROWS)
 }

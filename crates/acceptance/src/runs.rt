@@ -77,6 +77,28 @@ pub(crate) fn assert_each_writes(
     Ok(())
 }
 
+/// Asserts that runs with these lines, each over the text beside it, write the text behind that.
+pub(crate) fn assert_all_write(
+    rt: &(impl Abort + AllocGlobal),
+    rows: &[(&str, &str, &str)],
+) -> Result<(), Fail> {
+    for (line, text, written) in rows {
+        assert_writes(rt, line, text, written.as_bytes())?;
+    }
+    Ok(())
+}
+
+/// The same where what is written is bytes.
+pub(crate) fn assert_all_write_bytes(
+    rt: &(impl Abort + AllocGlobal),
+    rows: &[(&str, &str, &[u8])],
+) -> Result<(), Fail> {
+    for (line, text, written) in rows {
+        assert_writes(rt, line, text, written)?;
+    }
+    Ok(())
+}
+
 /// Asserts that a run over this text tells this fault and writes nothing.
 pub(crate) fn assert_refuses(
     rt: &(impl Abort + AllocGlobal),

@@ -15,7 +15,7 @@ fn assert_each_is_fixed(
 
 #[test]
 fn measurements_record_the_outcome_or_its_inverse(rt: HostRuntime) -> Result<(), Fail> {
-    let rows = [
+    const ROWS: &[(&str, &str)] = &[
         ("", "\n"),
         ("X 0\nM 0 1\n", "10\n"),
         ("x 0 # a\r\nMZ[t] !0 1", "00\n"),
@@ -30,12 +30,12 @@ fn measurements_record_the_outcome_or_its_inverse(rt: HostRuntime) -> Result<(),
         ("X 0 1\nR 0\nM 0 1", "01\n"),
         ("R 0\nM 0", "0\n"),
     ];
-    assert_each_is_fixed(&rt, rows.as_slice())
+    assert_each_is_fixed(&rt, ROWS)
 }
 
 #[test]
 fn gates_act_as_the_gate_tables_say(rt: HostRuntime) -> Result<(), Fail> {
-    let rows = [
+    const ROWS: &[(&str, &str)] = &[
         // What each gate makes of Z, then of X, then of Y.
         ("I 0\nM 0", "0\n"),
         ("H 0\nI 0\nMX 0", "0\n"),
@@ -58,12 +58,12 @@ fn gates_act_as_the_gate_tables_say(rt: HostRuntime) -> Result<(), Fail> {
         ("H 0\nS_DAG 0\nS_DAG 0\nMX 0", "1\n"),
         ("H 0\nS 0\nS 0\nH 0\nM 0", "1\n"),
     ];
-    assert_each_is_fixed(&rt, rows.as_slice())
+    assert_each_is_fixed(&rt, ROWS)
 }
 
 #[test]
 fn pair_gates_act_as_the_gate_tables_say(rt: HostRuntime) -> Result<(), Fail> {
-    let rows = [
+    const ROWS: &[(&str, &str)] = &[
         ("CX 0 1\nM 0 1", "00\n"),
         ("X 0\nCX 0 1\nM 0 1", "11\n"),
         ("X 1\nCX 0 1\nM 0 1", "01\n"),
@@ -80,12 +80,12 @@ fn pair_gates_act_as_the_gate_tables_say(rt: HostRuntime) -> Result<(), Fail> {
         ("X 0\nSWAP 0 1 1 2\nM 0 1 2", "001\n"),
         ("H 0\nZ 0\nSWAP 0 1\nM 0\nMX 1", "01\n"),
     ];
-    assert_each_is_fixed(&rt, rows.as_slice())
+    assert_each_is_fixed(&rt, ROWS)
 }
 
 #[test]
 fn letters_are_exchanged_as_the_gate_tables_say(rt: HostRuntime) -> Result<(), Fail> {
-    let rows = [
+    const ROWS: &[(&str, &str)] = &[
         ("SQRT_X 0\nSQRT_X 0\nM 0", "1\n"),
         ("C_XYZ 0\nC_ZYX 0\nM 0", "0\n"),
         // What each gate makes of Z, then of X.
@@ -102,12 +102,12 @@ fn letters_are_exchanged_as_the_gate_tables_say(rt: HostRuntime) -> Result<(), F
         ("SQRT_Y_DAG 0\nMX 0", "1\n"),
         ("RX 0\nSQRT_Y_DAG 0\nM 0", "0\n"),
     ];
-    assert_each_is_fixed(&rt, rows.as_slice())
+    assert_each_is_fixed(&rt, ROWS)
 }
 
 #[test]
 fn products_and_records_that_control_act_as_the_format_says(rt: HostRuntime) -> Result<(), Fail> {
-    let rows = [
+    const ROWS: &[(&str, &str)] = &[
         ("X 0\nMPP Z0*Z1 Z1 !Z0*!Z1 !Z0*Z1", "1010\n"),
         ("H 0\nCX 0 1\nMPP X0*X1 Z0*Z1 Y0*Y1", "001\n"),
         ("H 0\nCX 0 1\nMPP Z1*Z0\nX 1\nMPP y0*y1", "00\n"),
@@ -118,12 +118,12 @@ fn products_and_records_that_control_act_as_the_format_says(rt: HostRuntime) -> 
         ("X 0\nM 0\nRX 1\nCZ rec[-1] 1\nMX 1", "11\n"),
         ("M !0\nREPEAT 3 {\nCX rec[-1] 0\nM 0\n}", "1100\n"),
     ];
-    assert_each_is_fixed(&rt, rows.as_slice())
+    assert_each_is_fixed(&rt, ROWS)
 }
 
 #[test]
 fn an_instruction_has_its_other_names(rt: HostRuntime) -> Result<(), Fail> {
-    let rows = [
+    const ROWS: &[(&str, &str)] = &[
         ("H_XZ 0\nMX 0", "0\n"),
         ("H 0\nSQRT_Z 0\nS_DAG 0\nMX 0", "0\n"),
         ("H 0\nSQRT_Z 0\nS 0\nMX 0", "1\n"),
@@ -144,12 +144,12 @@ fn an_instruction_has_its_other_names(rt: HostRuntime) -> Result<(), Fail> {
         ("x 0\ncnot 0 1\nsWaP 1 2\nm 0 1 2", "101\n"),
         ("h_xz 0\nsqrt_z_dag 0\ns_dag 0\nmx 0", "1\n"),
     ];
-    assert_each_is_fixed(&rt, rows.as_slice())
+    assert_each_is_fixed(&rt, ROWS)
 }
 
 #[test]
 fn blocks_repeat_their_bodies(rt: HostRuntime) -> Result<(), Fail> {
-    let rows = [
+    const ROWS: &[(&str, &str)] = &[
         ("REPEAT 3 {\nX 0\nM 0\n}", "101\n"),
         ("repeat 2{\nM 0\n}\nX 0\nM 0", "001\n"),
         ("REPEAT 2 {\n}\nM 0", "0\n"),
@@ -167,12 +167,12 @@ fn blocks_repeat_their_bodies(rt: HostRuntime) -> Result<(), Fail> {
             "101\n",
         ),
     ];
-    assert_each_is_fixed(&rt, rows.as_slice())
+    assert_each_is_fixed(&rt, ROWS)
 }
 
 #[test]
 fn lines_are_read_as_the_format_says(rt: HostRuntime) -> Result<(), Fail> {
-    let rows = [
+    const ROWS: &[(&str, &str)] = &[
         ("\t\r\n  # nothing\n\nM !5\n", "1\n"),
         ("X[a(b)]() 1\nm( \t) 1 1", "11\n"),
         ("X[{}()] 0\nM[\u{e9}] 0", "1\n"),
@@ -190,5 +190,5 @@ fn lines_are_read_as_the_format_says(rt: HostRuntime) -> Result<(), Fail> {
         ("QUBIT_COORDS 1023\nX 0\nM 0\nDETECTOR(1,2) rec[-1]", "1\n"),
         ("X 0\nM 0\nOBSERVABLE_INCLUDE( 0007\t) rec[-01]", "1\n"),
     ];
-    assert_each_is_fixed(&rt, rows.as_slice())
+    assert_each_is_fixed(&rt, ROWS)
 }

@@ -1,5 +1,5 @@
 //! The coins of `--seed`: each shot has those of the seed and its own number.
-use crate::runs::assert_writes;
+use crate::runs::{assert_all_write, assert_writes};
 use stab_circuit::read_circuit;
 use stab_pauli::MemoryInput;
 use stab_session::{SeedCoins, run_once};
@@ -55,7 +55,7 @@ fn shots_are_runs_with_the_coins_of_a_seed(rt: HostRuntime) -> Result<(), Fail> 
 // of ChaCha20 for a key and a nonce of zeros, 76b8e0ada0f13d90 and so on.
 #[test]
 fn a_seed_gives_bits_of_chacha8(rt: HostRuntime) -> Result<(), Fail> {
-    let rows = [
+    const ROWS: &[(&str, &str, &str)] = &[
         (
             "stabsim sample --shots 3",
             HALVES,
@@ -88,10 +88,7 @@ fn a_seed_gives_bits_of_chacha8(rt: HostRuntime) -> Result<(), Fail> {
              11001010110010001100111111010101\n",
         ),
     ];
-    for (line, text, written) in rows {
-        assert_writes(&rt, line, text, written.as_bytes())?;
-    }
-    Ok(())
+    assert_all_write(&rt, ROWS)
 }
 
 #[test]

@@ -1,5 +1,5 @@
 //! Several shots, and none.
-use crate::runs::{assert_writes, job_of};
+use crate::runs::{assert_all_write, assert_all_write_bytes, assert_writes, job_of};
 use stab_cli::run_job;
 use stab_pauli::{MemoryInput, MemoryOutput};
 use std::process::Abort;
@@ -60,15 +60,12 @@ const SHOTS: [(&str, &str, &[u8]); 13] = [
 
 #[test]
 fn shots_stand_one_after_another(rt: HostRuntime) -> Result<(), Fail> {
-    for (line, text, written) in SHOTS {
-        assert_writes(&rt, line, text, written)?;
-    }
-    Ok(())
+    assert_all_write_bytes(&rt, SHOTS.as_slice())
 }
 
 #[test]
 fn each_shot_begins_with_zeros(rt: HostRuntime) -> Result<(), Fail> {
-    let rows = [
+    const ROWS: &[(&str, &str, &str)] = &[
         ("stabsim sample --shots 3", "M 0\nX 0", "0\n0\n0\n"),
         (
             "stabsim sample --shots 3 --coins 110",
@@ -86,10 +83,7 @@ fn each_shot_begins_with_zeros(rt: HostRuntime) -> Result<(), Fail> {
             "11\n11\n11\n",
         ),
     ];
-    for (line, text, written) in rows {
-        assert_writes(&rt, line, text, written.as_bytes())?;
-    }
-    Ok(())
+    assert_all_write(&rt, ROWS)
 }
 
 /// Asserts that no shots of a command give no byte in any format.

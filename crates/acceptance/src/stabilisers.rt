@@ -24,7 +24,7 @@ const STEANE_ROWS: &str = "+X__X_XX_
 
 #[test]
 fn rows_are_reduced_and_ascend_by_their_leads(rt: HostRuntime) -> Result<(), Fail> {
-    let rows = [
+    const ROWS: &[(&str, &str)] = &[
         ("", ""),
         ("TICK\nDETECTOR", ""),
         ("H 0\nCX 0 1\nS_DAG 0 1", "-XX\n+ZZ\n"),
@@ -37,12 +37,12 @@ fn rows_are_reduced_and_ascend_by_their_leads(rt: HostRuntime) -> Result<(), Fai
         ("H 0\nCX 0 1\nX 0\nZ 1", "-XX\n-ZZ\n"),
         ("H 0\nCX 0 1 1 2", "+XXX\n+Z_Z\n+_ZZ\n"),
     ];
-    assert_each_writes(&rt, "stabsim stabilisers", rows.as_slice())
+    assert_each_writes(&rt, "stabsim stabilisers", ROWS)
 }
 
 #[test]
 fn states_known_by_heart_have_their_generators(rt: HostRuntime) -> Result<(), Fail> {
-    let rows = [
+    const ROWS: &[(&str, &str)] = &[
         (STEANE_CODE, STEANE_ROWS),
         (
             "H 0 1 2 3 4\nCZ 0 1 1 2 2 3 3 4 4 0",
@@ -53,12 +53,12 @@ fn states_known_by_heart_have_their_generators(rt: HostRuntime) -> Result<(), Fa
             STEANE_ROWS,
         ),
     ];
-    assert_each_writes(&rt, "stabsim stabilisers --coins 0", rows.as_slice())
+    assert_each_writes(&rt, "stabsim stabilisers --coins 0", ROWS)
 }
 
 #[test]
 fn the_coins_of_the_list_decide(rt: HostRuntime) -> Result<(), Fail> {
-    let rows = [
+    const ROWS: &[(&str, &str)] = &[
         ("H 0 1 2\nM 0 1 2", "+Z__\n-_Z_\n-__Z\n"),
         ("M 1\nH 0\nM 0", "-Z_\n+_Z\n"),
         ("M 1\nH 0\nM !0", "-Z_\n+_Z\n"),
@@ -67,7 +67,7 @@ fn the_coins_of_the_list_decide(rt: HostRuntime) -> Result<(), Fail> {
         ("M 2\nH 0\nM 0\nCX rec[-1] 1", "-Z__\n-_Z_\n+__Z\n"),
         ("M 0\nRX 0\nMY 0\nMR 0", "+Z\n"),
     ];
-    assert_each_writes(&rt, "stabsim stabilisers --coins 011", rows.as_slice())
+    assert_each_writes(&rt, "stabsim stabilisers --coins 011", ROWS)
 }
 
 #[test]
@@ -85,7 +85,7 @@ fn a_seed_has_the_coins_of_shot_0(rt: HostRuntime) -> Result<(), Fail> {
 
 #[test]
 fn refused_circuits_have_no_rows(rt: HostRuntime) -> Result<(), Fail> {
-    let rows = [
+    const ROWS: &[(&str, &str)] = &[
         ("X_ERROR 0", "stabsim: line 1: refused 1 UnsupportedName\n"),
         ("H 0\nCX 0 0", "stabsim: line 2: refused 4 BadPairing\n"),
         ("M 1024", "stabsim: line 1: refused 6 QubitOutOfRange\n"),
@@ -98,7 +98,7 @@ fn refused_circuits_have_no_rows(rt: HostRuntime) -> Result<(), Fail> {
             "stabsim: refused 9 TooManySteps\n",
         ),
     ];
-    for (text, fault) in rows {
+    for (text, fault) in ROWS {
         assert_refuses(&rt, "stabsim stabilisers", text, fault)?;
     }
     Ok(())
