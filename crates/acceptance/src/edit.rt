@@ -51,11 +51,14 @@ fn assert_replies(
     Ok(())
 }
 
-/// Asserts the same for each row: a circuit, coins, a script, its replies and whether one refuses.
+/// A circuit, coins, a script, its replies and whether one is a refusal.
+type Row = (&'static str, &'static str, &'static str, &'static str, bool);
+
+/// Asserts the same for each row.
 fn assert_each_replies(
     rt: &(impl Abort + AllocGlobal),
     stride: usize,
-    rows: &[(&str, &str, &str, &str, bool)],
+    rows: &[Row],
 ) -> Result<(), Fail> {
     for (circuit, coins, script, replies, refused) in rows {
         let edited = Edited {
@@ -194,7 +197,7 @@ M 0
 
 #[test]
 fn a_session_is_answered_line_by_line(rt: HostRuntime) -> Result<(), Fail> {
-    let rows = [
+    const ROWS: &[Row] = &[
         (CODE, "", CODE_SCRIPT, CODE_REPLIES, false),
         ("H 0\nM 0", "1", COIN_SCRIPT, COIN_REPLIES, true),
         (
@@ -205,13 +208,13 @@ fn a_session_is_answered_line_by_line(rt: HostRuntime) -> Result<(), Fail> {
             true,
         ),
     ];
-    assert_each_replies(&rt, 8192, rows.as_slice())?;
-    assert_each_replies(&rt, 1, rows.as_slice())
+    assert_each_replies(&rt, 8192, ROWS)?;
+    assert_each_replies(&rt, 1, ROWS)
 }
 
 #[test]
 fn bits_are_those_of_the_edited_circuit(rt: HostRuntime) -> Result<(), Fail> {
-    let rows = [
+    const ROWS: &[Row] = &[
         (
             "H 0\nCX 0 1\nM 0 1",
             "10",
@@ -241,12 +244,12 @@ fn bits_are_those_of_the_edited_circuit(rt: HostRuntime) -> Result<(), Fail> {
             true,
         ),
     ];
-    assert_each_replies(&rt, 1, rows.as_slice())
+    assert_each_replies(&rt, 1, ROWS)
 }
 
 #[test]
 fn a_circuit_is_shown_in_its_one_text(rt: HostRuntime) -> Result<(), Fail> {
-    let rows = [
+    const ROWS: &[Row] = &[
         (
             "M 0\nDETECTOR rec[-1]",
             "",
@@ -269,7 +272,7 @@ fn a_circuit_is_shown_in_its_one_text(rt: HostRuntime) -> Result<(), Fail> {
             false,
         ),
     ];
-    assert_each_replies(&rt, 8192, rows.as_slice())
+    assert_each_replies(&rt, 8192, ROWS)
 }
 
 #[test]
@@ -280,7 +283,7 @@ fn lines_that_are_no_commands_are_refused(rt: HostRuntime) -> Result<(), Fail> {
         qubits: Some(1),
         stride: 8192,
     };
-    let rows = [
+    const ROWS: &[(&str, &str)] = &[
         (
             "insert a REPEAT 2 {\nX 0\n}",
             "refused 13 BadCommand\nrefused 13 BadCommand\nrefused 13 BadCommand\n",
@@ -304,7 +307,7 @@ fn lines_that_are_no_commands_are_refused(rt: HostRuntime) -> Result<(), Fail> {
             "refused 13 BadCommand\n",
         ),
     ];
-    for (script, replies) in rows {
+    for (script, replies) in ROWS {
         assert_replies(&rt, &edited, script, replies, true)?;
     }
     assert_replies(&rt, &edited, " # nothing\n\n \t\r\n", "", false)
@@ -331,7 +334,7 @@ fn edit_broken(
 #[test]
 fn a_script_that_breaks_off_has_the_replies_to_whole_lines(rt: HostRuntime) -> Result<(), Fail> {
     let script = "show measurements\ninsert 1 H 0\nshow measurements\n";
-    let rows = [
+    const ROWS: &[(u64, &str)] = &[
         (1, ""),
         (18, ""),
         (19, "1\n"),
@@ -340,9 +343,9 @@ fn a_script_that_breaks_off_has_the_replies_to_whole_lines(rt: HostRuntime) -> R
         (49, "1\nok\n"),
         (50, "1\nok\n0\n"),
     ];
-    for (fail_at, replies) in rows {
+    for (fail_at, replies) in ROWS {
         let mut out = MemoryOutput::new(rt.alloc(), 64)?;
-        let answer = edit_broken(rt.alloc(), script, fail_at, &mut out)?;
+        let answer = edit_broken(rt.alloc(), script, *fail_at, &mut out)?;
         assert_eq!(rt;
             answer,
             Err(Fault::whole(Refusal::ReadFault)),
