@@ -8,6 +8,8 @@ mod detect;
 #[cfg(test)]
 mod devices;
 #[cfg(test)]
+mod edit;
+#[cfg(test)]
 mod faults;
 #[cfg(test)]
 mod formats;

@@ -3,3 +3,9 @@ pub mod SendingLaws
 pub mod RunLaws
 pub mod RowLaws
 pub mod LineLaws
+pub mod PlaceLaws
+pub mod AnswerLaws
+pub mod ReadingLaws
+pub mod TellingLaws
+pub mod ScriptRunLaws
+pub mod SessionAnswerLaws

@@ -1,2 +1,6 @@
 pub mod Texts
 pub mod Sendings
+pub mod Requests
+pub mod Replies
+pub mod Editors
+pub mod SessionAnswers

@@ -7,7 +7,7 @@ ghost use Rattle.stab_commands.specs.inner.Texts.{texts_joined};
 use stab_pauli::{Fault, Output, Refusal, write_all};
 
 /// Writes texts one after another.
-fn write_texts<O: Output>(out: &mut O, texts: &[&[u8]]) -> Result<(), Refusal>
+pub(crate) fn write_texts<O: Output>(out: &mut O, texts: &[&[u8]]) -> Result<(), Refusal>
     ensures writes { WritesAll (O.seen out.old) (O.seen out.new) (texts_joined (map (λ t. t.now) texts.now)) result }
 {
     for text in texts {

@@ -6,7 +6,10 @@
 //! - `stabilisers`: the command that writes the stabilisers of the state after a run.
 //! - `status`: running a job, with the status of the program.
 //! - `fault_line`: the line that tells a fault.
-//! - `laws`: what `stabilisers` writes tells the group.
+//! - `script`: what the lines of an edit script ask for, and how replies are gathered.
+//! - `editor`, `session_answers`: a script as it comes, each request answered from a session.
+//! - `edit`: the command that edits a circuit by a script.
+//! - `laws`: what `stabilisers` writes tells the group, and a script has one answer.
 //!
 //! Proved on `run_sample` and `run_detect`: a call ends by cases. The text was refused, by its own fault
 //! or unread, and the output is untouched; or it was given whole, and the output took what the
@@ -16,14 +19,19 @@
 //! first row. `run_job` carries the same for a job, with its status and the line that tells its fault.
 #![tactic(auto)]
 
+mod edit;
+mod editor;
 mod fault_line;
 mod job;
 pub mod laws;
 mod run;
+mod script;
+mod session_answers;
 mod shots;
 mod stabilisers;
 mod status;
 
+pub use edit::run_edit;
 pub use fault_line::write_fault;
 pub use job::{Command, Job, Shots, Source};
 pub use run::{run_detect, run_sample};

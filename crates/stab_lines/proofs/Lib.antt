@@ -4,7 +4,7 @@ pub mod WriteLemmas
 mod PrintLemmas
 mod ArgumentLemmas
 mod SearchLemmas
-mod WordLemmas
+pub mod WordLemmas
 mod PieceLemmas
 mod NumberLemmas
 mod TargetLemmas

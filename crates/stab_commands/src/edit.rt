@@ -1,0 +1,108 @@
+//! The command that edits a circuit by a script.
+ghost use Rattle.std.specs.Prelude.{◌≤◌, IfSome};
+ghost use Rattle.stab_circuit.specs.Views.{circuit_items};
+ghost use Rattle.stab_commands.specs.ScriptEndings.{EndsScript, EndsOn, EndsEdit};
+
+use crate::editor::{Answer, Editor};
+use crate::job::Source;
+use crate::session_answers::SessionAnswers;
+use stab_circuit::{Circuit, read_circuit};
+use stab_pauli::{DeviceFault, Fault, Input, Output, Refusal};
+use stab_session::{Coins, ListCoins, SeedCoins, Session};
+use std::alloc::Global;
+
+/// The most bytes of a script.
+const MOST_SCRIPT: usize = 67_108_864;
+
+/// Reads a script to its end, and writes the reply to each request before it reads on.
+pub(crate) fn run_script<A: Answer, S: Input, O: Output>(
+    alloc: Global,
+    answers: A,
+    script: &mut S,
+    out: &mut O,
+) -> Result<bool, Fault>
+    ensures ends { EndsScript (A.setting answers) (A.items answers) (S.seen script.old) (S.seen script.new) (O.seen out.old) (O.seen out.new) result }
+{
+    let mut editor = Editor::new(alloc, answers);
+    let mut buf = [0u8; 4096];
+    let mut taken = 0;
+    'reads: loop {
+        match script.read(&mut buf) {
+            Err(DeviceFault) => return Err(Fault::whole(Refusal::ReadFault)),
+            Ok(count) => {
+                if count == 0 {
+                    return editor.end(out);
+                }
+                let piece = buf.split_at(count).0;
+                if count > MOST_SCRIPT - taken {
+                    editor.take(out, piece.split_at(MOST_SCRIPT - taken).0)?;
+                    return Err(Fault::whole(Refusal::TooLong));
+                }
+                editor.take(out, piece)?;
+                taken += count;
+            }
+        }
+    }
+}
+
+/// Opens a session of the circuit, and answers the script on it.
+fn edit_circuit<C: Coins, S: Input, O: Output>(
+    alloc: Global,
+    circuit: Circuit,
+    n: usize,
+    stride: usize,
+    coins: C,
+    script: &mut S,
+    out: &mut O,
+) -> Result<bool, Fault>
+    requires in_range { n ≤ 1024 }
+    requires stride_above { 1 ≤ stride }
+    requires stride_within { stride ≤ 65536 }
+    ensures ends { EndsOn (record { qubits = n; coins = C.sequence coins }) (circuit_items circuit) (S.seen script.old) (S.seen script.new) (O.seen out.old) (O.seen out.new) result }
+{
+    match Session::open(alloc, circuit, n, stride, coins) {
+        Ok(session) => run_script(alloc, SessionAnswers::new(alloc, session), script, out),
+        Err(refused) => Err(refused.fault),
+    }
+}
+
+/// Reads a circuit, and edits it by a script: the reply to each line is written before the next
+/// line is read.
+///
+/// The circuit is read whole first; its faults, and `QubitOutOfRange` where it names a qubit past
+/// those asked for, leave the script unread and the output untouched. It has as many qubits as are
+/// asked for, at most 1,024, or as it names. The stride is from 1 to 65,536. Coins are those of shot
+/// 0. True where a line was refused. Faults: those of the circuit; `ReadFault` where an input
+/// failed and `TooLong` for a script of more than 67,108,864 bytes, both after exactly the replies
+/// to what was read whole; `WriteFault` where the output failed, and `OutOfMemory`, both after a
+/// prefix of all replies.
+pub fn run_edit<I: Input, S: Input, O: Output>(
+    alloc: Global,
+    circuit_input: &mut I,
+    script_input: &mut S,
+    out: &mut O,
+    qubits: Option<usize>,
+    stride: usize,
+    source: &Source,
+) -> Result<bool, Fault>
+    requires in_range { IfSome qubits (λ n. n ≤ 1024) }
+    requires stride_above { 1 ≤ stride }
+    requires stride_within { stride ≤ 65536 }
+    ensures ends { EndsEdit qubits source.now (I.seen circuit_input.old) (I.seen circuit_input.new) (S.seen script_input.old) (S.seen script_input.new) (O.seen out.old) (O.seen out.new) result }
+{
+    let circuit = read_circuit(alloc, circuit_input)?;
+    let n = match qubits {
+        Some(n) => n,
+        None => circuit.qubits(),
+    };
+    match source {
+        Source::Seed(seed) => {
+            let coins = SeedCoins::new(*seed, 0);
+            edit_circuit(alloc, circuit, n, stride, coins, script_input, out)
+        }
+        Source::List(list) => {
+            let coins = ListCoins::new(list.as_slice());
+            edit_circuit(alloc, circuit, n, stride, coins, script_input, out)
+        }
+    }
+}

@@ -1,0 +1,141 @@
+//! What a line of a script asks for.
+ghost use Rattle.std.specs.Prelude.{◌≡◌, IfOk, IfErr};
+ghost use Rattle.stab_pauli.specs.Refusals.{whole};
+ghost use Rattle.stab_pauli.specs.declared.refusal.Refusal.TheVariants.{OutOfMemory};
+ghost use Rattle.stab_commands.specs.ScriptWords.{first_word as first_of, behind_word, place_of};
+ghost use Rattle.stab_commands.specs.Scripts.{put_at as put_of, delete_at as delete_of, show_of, request_by as by_word, request_of};
+ghost use Rattle.stab_commands.specs.inner.Requests.{asked};
+
+use crate::script::place::{first_word, read_place};
+use stab_circuit::Path;
+use stab_pauli::{Fault, Refusal};
+use std::alloc::Global;
+
+/// An edit that puts an item in.
+#[derive(Clone, Copy, Debug, PartialEq, Eq)]
+pub(crate) enum ItemEdit {
+    /// Before the item at a place, or last in its list.
+    Insert,
+    /// In the stead of the item at a place.
+    Replace,
+}
+
+/// What `show` writes.
+#[derive(Clone, Copy, Debug, PartialEq, Eq)]
+pub(crate) enum Show {
+    /// The records.
+    Measurements,
+    /// Which coins decided.
+    Free,
+    /// The detectors.
+    Detectors,
+    /// The observables.
+    Observables,
+    /// The reduced rows of the group.
+    Stabilisers,
+    /// The printed circuit.
+    Circuit,
+}
+
+/// What a script asks for.
+#[derive(Drop)]
+pub(crate) enum Request {
+    /// That the item of a text is put in at a place.
+    Put {
+        edit: ItemEdit,
+        place: Path,
+        text: Vec<u8>,
+    },
+    /// That the item at a place is deleted.
+    Delete {
+        place: Path,
+    },
+    /// That something is shown.
+    Show(Show),
+    /// Nothing: a line is refused.
+    Refuse(Refusal),
+}
+
+/// An edit that puts an item in, by what follows its word: a place and a text.
+fn put_at(alloc: Global, edit: ItemEdit, rest: &[u8]) -> Result<Request, Fault>
+    ensures gives { IfOk result (λ r. asked r ≡ put_of edit (place_of (first_of rest.now)) (behind_word rest.now)) }
+    ensures err { IfErr result (λ f. f ≡ whole OutOfMemory) }
+{
+    let (word, text) = first_word(rest);
+    match read_place(word) {
+        None => Ok(Request::Refuse(Refusal::BadCommand)),
+        Some(place) => {
+            if text.is_empty() {
+                return Ok(Request::Refuse(Refusal::BadCommand));
+            }
+            let text = Vec::from_slice(alloc, text)?;
+            Ok(Request::Put { edit, place, text })
+        }
+    }
+}
+
+/// A deletion, by what follows its word: a place alone.
+fn delete_at(rest: &[u8]) -> Request
+    ensures value { asked result ≡ delete_of (place_of (first_of rest.now)) (behind_word rest.now) }
+{
+    let (word, text) = first_word(rest);
+    match read_place(word) {
+        None => Request::Refuse(Refusal::BadCommand),
+        Some(place) => {
+            if text.is_empty() {
+                Request::Delete { place }
+            } else {
+                Request::Refuse(Refusal::BadCommand)
+            }
+        }
+    }
+}
+
+/// What the word behind `show` asks for.
+fn read_show(word: &[u8]) -> Request
+    ensures value { asked result ≡ show_of word.now }
+{
+    if word == b"measurements".as_slice() {
+        Request::Show(Show::Measurements)
+    } else if word == b"free".as_slice() {
+        Request::Show(Show::Free)
+    } else if word == b"detectors".as_slice() {
+        Request::Show(Show::Detectors)
+    } else if word == b"observables".as_slice() {
+        Request::Show(Show::Observables)
+    } else if word == b"stabilisers".as_slice() {
+        Request::Show(Show::Stabilisers)
+    } else if word == b"circuit".as_slice() {
+        Request::Show(Show::Circuit)
+    } else {
+        Request::Refuse(Refusal::BadCommand)
+    }
+}
+
+/// What a first word and the rest behind it ask for.
+fn request_by(alloc: Global, word: &[u8], rest: &[u8]) -> Result<Request, Fault>
+    ensures gives { IfOk result (λ r. asked r ≡ by_word word.now rest.now) }
+    ensures err { IfErr result (λ f. f ≡ whole OutOfMemory) }
+{
+    if word == b"insert".as_slice() {
+        put_at(alloc, ItemEdit::Insert, rest)
+    } else if word == b"replace".as_slice() {
+        put_at(alloc, ItemEdit::Replace, rest)
+    } else if word == b"delete".as_slice() {
+        Ok(delete_at(rest))
+    } else if word == b"show".as_slice() {
+        Ok(read_show(rest))
+    } else {
+        Ok(Request::Refuse(Refusal::BadCommand))
+    }
+}
+
+/// What a content asks for that is not blank; fault `OutOfMemory` alone.
+#[tactic(auto, unfolding(crate::specs::Scripts::request_of))]
+pub(crate) fn read_request(alloc: Global, content: &[u8]) -> Result<Request, Fault>
+    ensures gives { IfOk result (λ r. asked r ≡ request_of content.now) }
+    ensures err { IfErr result (λ f. f ≡ whole OutOfMemory) }
+{
+    let (word, rest) = first_word(content);
+    request_by(alloc, word, rest)
+}
