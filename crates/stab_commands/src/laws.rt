@@ -1,5 +1,5 @@
-//! Laws of what `stabilisers` writes and of edit scripts. Each function does nothing: its contract is
-//! the law, and the check proves it.
+//! Laws of what commands write. Each function does nothing: its contract is the law, and the check
+//! proves it.
 ghost use Rattle.stab_commands.specs.Stabilisers.{SameGroupSameLines};
 ghost use Rattle.stab_commands.specs.ScriptLaws.{ScriptsHaveOneAnswer, FirstRepliesComeFirst};
 

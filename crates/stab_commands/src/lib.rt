@@ -6,9 +6,10 @@
 //! - `stabilisers`: the command that writes the stabilisers of the state after a run.
 //! - `status`: running a job, with the status of the program.
 //! - `fault_line`: the line that tells a fault.
-//! - `script`, `editor`: what a script asks for, and a script that is answered as it comes.
-//! - `session_answers`, `edit`: the command that edits a circuit by a script, on a session.
-//! - `laws`: what `stabilisers` writes tells the group; a script has one answer.
+//! - `script`: what the lines of an edit script ask for, and how replies are gathered.
+//! - `editor`, `session_answers`: a script as it comes, each request answered from a session.
+//! - `edit`: the command that edits a circuit by a script.
+//! - `laws`: what `stabilisers` writes tells the group, and a script has one answer.
 //!
 //! Proved on `run_sample` and `run_detect`: a call ends by cases. The text was refused, by its own fault
 //! or unread, and the output is untouched; or it was given whole, and the output took what the
