@@ -1,4 +1,6 @@
 //! Scripts that edit circuits, and the replies to them.
+ghost use Rattle.std.specs.Prelude.{◌≤◌, IfSome};
+
 use stab_cli::{Source, run_edit};
 use stab_pauli::{CutInput, Fault, MemoryInput, MemoryOutput, Refusal};
 use std::alloc::Global;
@@ -30,7 +32,11 @@ fn assert_replies(
     script: &str,
     replies: &str,
     refused: bool,
-) -> Result<(), Fail> {
+) -> Result<(), Fail>
+    requires in_range { IfSome edited.now.qubits (λ n. n ≤ 1024) }
+    requires stride_above { 1 ≤ edited.now.stride }
+    requires stride_within { edited.now.stride ≤ 65536 }
+{
     let mut out = MemoryOutput::new(rt.alloc(), 8192)?;
     let answer = run_edit(
         rt.alloc(),
@@ -59,7 +65,10 @@ fn assert_each_replies(
     rt: &(impl Abort + AllocGlobal),
     stride: usize,
     rows: &[Row],
-) -> Result<(), Fail> {
+) -> Result<(), Fail>
+    requires stride_above { 1 ≤ stride }
+    requires stride_within { stride ≤ 65536 }
+{
     for (circuit, coins, script, replies, refused) in rows {
         let edited = Edited {
             circuit,
