@@ -26,6 +26,7 @@ RUNS = [
     ["sample", "--shots", "3", "--in", str(CIRCUIT)],
     ["sample", "--out_format", "dets", "--coins", "0110", "--in", str(TOP / "examples" / "five_qubit_code.stim")],
     ["detect", "--append_observables", "--out_format", "hits", "--in", str(TOP / "examples" / "surface_code.stim")],
+    ["stabilisers", "--in", str(TOP / "examples" / "steane_code.stim")],
     ["sample", "--shots", "none"],
     ["--help"],
 ]
