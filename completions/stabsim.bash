@@ -9,14 +9,15 @@ _stabsim() {
         return
         ;;
     --out_format) choices="01 b8 r8 hits dets" ;;
-    --shots | --seed | --coins) return ;;
+    --shots | --seed | --coins | --qubits | --stride) return ;;
     *)
         case $command in
         sample) choices="--shots --out_format --seed --coins --in --out --help" ;;
         detect) choices="--shots --out_format --seed --coins --in --out --append_observables --help" ;;
         stabilisers) choices="--seed --coins --in --out --help" ;;
+        edit) choices="--qubits --stride --seed --coins --in --out --help" ;;
         esac
-        [ "$COMP_CWORD" -eq 1 ] && choices="sample detect stabilisers help --help --version"
+        [ "$COMP_CWORD" -eq 1 ] && choices="sample detect stabilisers edit help --help --version"
         ;;
     esac
     mapfile -t COMPREPLY < <(compgen -W "$choices" -- "$word")

@@ -1,5 +1,5 @@
 #!/bin/sh
-# Times the tableau, reading, and whole runs of circuits that tools/circuits.py makes in a temporary
+# Times the tableau, reading, whole runs and edits of circuits that tools/circuits.py makes in a temporary
 # folder, by the program of crates/bench, which is proved and built first, for this processor.
 # docs/benchmarks.md says what is printed. It takes about a minute on a machine that does nothing else.
 set -eu
@@ -25,8 +25,10 @@ for distance in 3 7 13 21; do
     python3 "$tools/circuits.py" surface_code --distance "$distance" --deepest \
         >"$folder/surface_code_$distance.stim"
 done
-python3 "$tools/circuits.py" surface_code --distance 21 --deepest --written-out \
-    >"$folder/surface_code_21_written_out.stim"
+for distance in 7 13 21; do
+    python3 "$tools/circuits.py" surface_code --distance "$distance" --deepest --written-out \
+        >"$folder/surface_code_${distance}_written_out.stim"
+done
 for distance in 7 21; do
     python3 "$tools/circuits.py" colour_code --distance "$distance" --deepest \
         >"$folder/colour_code_$distance.stim"
@@ -40,3 +42,10 @@ cd "$folder"
 "$bench/out/bench" run surface_code_3.stim surface_code_7.stim surface_code_13.stim \
     surface_code_21.stim surface_code_21_written_out.stim colour_code_7.stim \
     colour_code_21.stim bacon_shor_7.stim bacon_shor_21.stim dense_1024.stim
+# X on the qubit 2d + 3, which measures a check of Z, flips its next record and nothing else. Each
+# circuit has a process of its own, so that the memory that a session keeps is told.
+for distance in 7 13 21; do
+    for form in "" _written_out; do
+        "$bench/out/bench" edit $((2 * distance + 3)) "surface_code_$distance$form.stim"
+    done
+done

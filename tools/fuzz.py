@@ -1,12 +1,13 @@
 #!/usr/bin/env python3
-"""Runs the built program on random and damaged circuits, and compares it with an oracle of its own.
+"""Runs the built program on random and damaged circuits and edit scripts, and compares it with an oracle of its own.
 
     tools/fuzz.py --seconds 60
 
-The oracle (`tools/oracle`) is written from the definitions: it reads texts, asks backwards which strings stabilise a state
-of up to four qubits, and writes the result formats. Larger circuits are undone again and must measure zeros. The first
-difference is cut down to a small text and printed with its seed, and the status is then 1. The same seed makes the same
-cases. It needs the program: build it by `./stabsim --help`.
+The oracle (`tools/oracle`) is written from the definitions: it reads texts and scripts, asks backwards which strings stabilise
+a state of up to four qubits, and writes the result formats. Larger circuits are undone again and must measure zeros, are edited
+and compared with a session opened anew and with other strides, and are written in each format. The first difference is cut down
+to a small text and printed with its seed, and the status is then 1. The same seed makes the same cases. It needs the program:
+build it by `./stabsim --help`.
 """
 
 import argparse
@@ -16,10 +17,12 @@ import pathlib
 import random
 import subprocess
 import sys
+import tempfile
 import time
 
-from oracle import formats, making, numbers, states
+from oracle import formats, making, numbers, scripts, script_making, states
 from oracle.coins import seed_coins
+from oracle.laws import LAWS
 from oracle.reading import REFUSALS, Refused, items_of
 
 TOP = pathlib.Path(__file__).resolve().parent.parent
@@ -30,23 +33,43 @@ MOST_QUBITS = 4
 MOST_STEPS = 300
 
 
-class Case:
-    """A command's words and the circuit that it reads."""
+class TooLarge(Exception):
+    """A run that the oracle would not end."""
 
-    def __init__(self, kind, words, text, settings):
+
+class Case:
+    """A command's words, the circuit that it reads, and its script where it has one."""
+
+    def __init__(self, kind, words, text, settings, script=None):
         self.kind = kind
         self.words = words
         self.text = text
         self.settings = settings
+        self.script = script
 
-    def with_text(self, text):
-        return Case(self.kind, self.words, text, self.settings)
+    def with_parts(self, text, script):
+        return Case(self.kind, self.words, text, self.settings, script)
 
 
-def answer_of(program, case):
-    """The status, what was written, and what was told of a fault."""
-    done = subprocess.run([str(program), *case.words], input=case.text, capture_output=True, timeout=TIME_LIMIT, check=False)
-    return done.returncode, done.stdout, done.stderr
+class Program:
+    """The program, and a file for the circuits of its scripts."""
+
+    def __init__(self, path, folder):
+        self.path = str(path)
+        self.circuit = pathlib.Path(folder) / "circuit.stim"
+
+    def run(self, words, text, script=None):
+        """The status, what was written, and what was told of a fault."""
+        if script is not None:
+            self.circuit.write_bytes(text)
+            words, text = [*words, "--in", str(self.circuit)], script
+        done = subprocess.run([self.path, *words], input=text, capture_output=True, timeout=TIME_LIMIT, check=False)
+        return done.returncode, done.stdout, done.stderr
+
+    def kinds(self):
+        """The commands of the program that the oracle knows."""
+        told = subprocess.run([self.path, "--help"], capture_output=True, text=True, check=True).stdout
+        return [kind for kind in ("sample", "detect", "stabilisers", "edit") if f"\n  {kind} " in told]
 
 
 def refusal(refused):
@@ -60,19 +83,46 @@ def coins_of(settings, shot, count):
     return seed_coins(settings["seed"], shot, count)
 
 
+class SmallSession(scripts.Session):
+    """A session that is not run where that would take long."""
+
+    def run(self):
+        if self.qubits > MOST_QUBITS or numbers.summary(self.items)[0] > MOST_STEPS:
+            raise TooLarge
+        return super().run()
+
+
+def session_of(items, settings):
+    qubits = numbers.qubits(items) if settings["qubits"] is None else settings["qubits"]
+    if numbers.qubits(items) > qubits:
+        raise Refused(6)
+    return SmallSession(items, qubits, lambda steps: coins_of(settings, 0, steps))
+
+
 def expected(case):
-    """What the definitions give, or None where the circuit is too large for the oracle."""
+    """What the definitions give, or None where a run is too large for the oracle."""
     try:
         items = items_of(case.text)
         numbers.check(items)
+        return expected_edits(case, items) if case.kind == "edit" else expected_shots(case, items)
     except Refused as refused:
         return refusal(refused)
+    except TooLarge:
+        return None
+
+
+def expected_edits(case, items):
+    session = session_of(items, case.settings)
+    scripts.play(session, case.script)
+    return 3 if session.refused else 0, b"".join(session.replies), b""
+
+
+def expected_shots(case, items):
     n = numbers.qubits(items)
     steps = numbers.summary(items)[0]
     if n > MOST_QUBITS or steps > MOST_STEPS:
-        return None
-    written = b"".join(shot_of(case, items, n, steps, shot) for shot in range(case.settings["shots"]))
-    return 0, written, b""
+        raise TooLarge
+    return 0, b"".join(shot_of(case, items, n, steps, shot) for shot in range(case.settings["shots"])), b""
 
 
 def shot_of(case, items, n, steps, shot):
@@ -80,8 +130,7 @@ def shot_of(case, items, n, steps, shot):
     # No step uses up more than one coin number.
     run = states.Run(n, numbers.observables(items), list(numbers.unroll(items)), coins_of(settings, shot, steps))
     if case.kind == "stabilisers":
-        return b"".join(("-" if sign else "+").encode() + "".join(letters).replace("I", "_").encode() + b"\n"
-                        for sign, letters in run.reduced_rows() if n)
+        return states.rows_text(run)
     if case.kind == "sample":
         return formats.shot(settings["format"], run.records)
     bits = run.detectors + (run.observables if settings["append"] else [])
@@ -93,6 +142,7 @@ def settings_of(dice):
     return {
         "coins": coins, "seed": dice.choice((0, 1, dice.randrange(2**64))), "shots": dice.choice((0, 1, 1, 1, 2, 5)),
         "format": dice.choice(formats.FORMATS), "append": dice.random() < 0.5,
+        "qubits": dice.choice((None, None, 0, 1, 2, 3, 4)), "stride": dice.choice((1, 1, 2, 3, 7, 8192, 65536)),
     }
 
 
@@ -100,72 +150,109 @@ def words_of(kind, settings):
     words = [kind, "--seed", str(settings["seed"])]
     if settings["coins"] is not None:
         words += ["--coins", settings["coins"]]
-    if kind != "stabilisers":
+    if kind in ("sample", "detect"):
         words += ["--shots", str(settings["shots"]), "--out_format", settings["format"]]
     if kind == "detect" and settings["append"]:
         words.append("--append_observables")
+    if kind == "edit":
+        words += ["--stride", str(settings["stride"])]
+        words += [] if settings["qubits"] is None else ["--qubits", str(settings["qubits"])]
     return words
 
 
 def command_case(dice, kinds, text):
-    kind = dice.choice(kinds)
+    kind = dice.choice([kind for kind in kinds if kind != "edit"])
     settings = settings_of(dice)
     if kind == "stabilisers":
         settings["shots"] = 1
     return Case(kind, words_of(kind, settings), text, settings)
 
 
+def script_case(dice, text):
+    """A circuit with a script that suits it, which is sometimes damaged."""
+    settings = settings_of(dice)
+    try:
+        items = items_of(text)
+        numbers.check(items)
+        script = script_making.script(dice, session_of(items, settings))
+    except (Refused, TooLarge):
+        script = b"show circuit\n"
+    if dice.random() < 0.2:
+        script = making.damaged(dice, script, b"insert 0 REPEAT 2 {\nX 0\n}\nshow free\n")
+    return Case("edit", words_of("edit", settings), text, settings, script)
+
+
 def make_case(seed, kinds):
-    """The case of a seed: a circuit by the grammar, a damaged one, or one that is undone."""
+    """The case of a seed: a circuit by the grammar, a damaged one, one that is undone, a script, or a law."""
     dice = random.Random(seed)
     way = dice.random()
     text = making.small_circuit(dice)
-    if way < 0.55:
+    if "edit" in kinds and way < 0.35:
+        return "by a script", script_case(dice, text)
+    if "edit" in kinds and way < 0.38:
+        return dice.choice(list(LAWS)), Case("law", [], b"", dice)
+    if way < 0.65:
         return "by the grammar", command_case(dice, kinds, text)
-    if way < 0.95:
+    if way < 0.96:
         return "damaged", command_case(dice, kinds, making.damaged(dice, text, making.small_circuit(dice)))
     text = making.undone_circuit(dice, dice.randint(5, 80))
     return "undone", Case("sample", ["sample", "--seed", str(seed)], text, {"shots": 1})
 
 
+def right_answer(way, case):
+    if way == "undone":
+        qubits = case.text.rsplit(b"M ", 1)[1].split()
+        return 0, b"0" * len(qubits) + b"\n", b""
+    return expected(case)
+
+
 def difference(program, way, case, counts=None):
     """What is wrong with the program's answer, or None. Counts what was compared with what."""
     try:
-        answer = answer_of(program, case)
+        if way in LAWS:
+            return LAWS[way](case.settings, program.run)
+        answer = program.run(case.words, case.text, case.script)
     except subprocess.TimeoutExpired:
         return f"no answer within {TIME_LIMIT} seconds"
-    if way == "undone":
-        qubits = case.text.rsplit(b"M ", 1)[1].split()
-        right = (0, b"0" * len(qubits) + b"\n", b"")
-    else:
-        right = expected(case)
+    right = right_answer(way, case)
     if counts is not None:
         counts["too large for the oracle" if right is None else "refused" if right[0] else "run"] += 1
     if right is None:
-        return None if answer[0] in (0, 1) else f"status {answer[0]} for a circuit too large for the oracle"
+        return None if answer[0] in (0, 1, 3) else f"status {answer[0]} for a circuit too large for the oracle"
     return None if answer == right else f"the program: {answer}\nthe definitions: {right}"
 
 
-def cut_down(program, way, case):
-    """The case with as many lines left out as still differ. An undone circuit loses its reason, and stays."""
-    if way == "undone":
-        return case
-    lines = case.text.split(b"\n")
+def without_lines(text, differs):
+    """A text with as many lines left out as still differ."""
+    lines = text.split(b"\n")
     at = 0
     while at < len(lines):
-        fewer = case.with_text(b"\n".join(lines[:at] + lines[at + 1:]))
-        if difference(program, way, fewer):
-            lines = lines[:at] + lines[at + 1:]
-            case = fewer
+        fewer = lines[:at] + lines[at + 1:]
+        if differs(b"\n".join(fewer)):
+            lines = fewer
         else:
             at += 1
-    return case
+    return b"\n".join(lines)
 
 
-def kinds_of(program):
-    """The commands of the program that the oracle knows."""
-    told = subprocess.run([str(program), "--help"], capture_output=True, text=True, check=True).stdout
-    return [kind for kind in ("sample", "detect", "stabilisers") if f"\n  {kind} " in told]
+def cut_down(program, way, case):
+    """A small case that still differs. An undone circuit would lose its reason, and stays; so does a law."""
+    if way == "undone" or way in LAWS:
+        return case
+    if case.script is not None:
+        script = without_lines(case.script, lambda fewer: difference(program, way, case.with_parts(case.text, fewer)))
+        case = case.with_parts(case.text, script)
+    text = without_lines(case.text, lambda fewer: difference(program, way, case.with_parts(fewer, case.script)))
+    return case.with_parts(text, case.script)
+
+
+def report(program, seed, way, case, wrong):
+    if way in LAWS:
+        print(f"seed {seed}, {way}: {wrong}")
+        return
+    small = cut_down(program, way, case)
+    script = "" if small.script is None else f" with the script\n{small.script!r}"
+    print(f"seed {seed}, {way}: stabsim {' '.join(small.words)} on\n{small.text!r}{script}\n{difference(program, way, small)}")
 
 
 def main():
@@ -174,20 +261,21 @@ def main():
     words.add_argument("--seed", type=int, default=0, help="the seed of the first case (default 0)")
     words.add_argument("--program", default=PROGRAM, help="the program, where it is not the built one")
     asked = words.parse_args()
-    kinds = kinds_of(asked.program)
     counts = collections.Counter()
     end = time.monotonic() + asked.seconds
-    for seed in itertools.count(asked.seed):
-        if time.monotonic() > end:
-            break
-        way, case = make_case(seed, kinds)
-        wrong = difference(asked.program, way, case, counts)
-        if wrong:
-            small = cut_down(asked.program, way, case)
-            print(f"seed {seed}, {way}: stabsim {' '.join(small.words)} on\n{small.text!r}\n{difference(asked.program, way, small)}")
-            return 1
-        counts[way] += 1
-        counts[case.kind] += 1
+    with tempfile.TemporaryDirectory() as folder:
+        program = Program(asked.program, folder)
+        kinds = program.kinds()
+        for seed in itertools.count(asked.seed):
+            if time.monotonic() > end:
+                break
+            way, case = make_case(seed, kinds)
+            wrong = difference(program, way, case, counts)
+            if wrong:
+                report(program, seed, way, case, wrong)
+                return 1
+            counts[way] += 1
+            counts[case.kind] += 1
     print(", ".join(f"{count} {what}" for what, count in sorted(counts.items())) + ": no difference")
     return 0
 

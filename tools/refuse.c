@@ -1,41 +1,80 @@
 /* Lets requests for memory of a program fail: the Nth alone, N from the variable REFUSE, or that and all behind it where
-   REFUSE_ON is set. Where the variable TOLD names a file, it is made once a request was refused. Loaded by LD_PRELOAD, by
-   tools/refuse.sh alone. */
+   REFUSE_ON is set. Where the variable TOLD names a file, it is made once a request was refused.
+
+   Where the variable WINDOWS is set, the program says by requests of two sizes, which no other request has, where its
+   requests count: from behind one of OPENS bytes up to one of CLOSES bytes, anew each time. The file TOLD then gets a
+   character for each such window: r where a request in it was refused, else g.
+
+   Loaded by LD_PRELOAD, by tools/refuse.py alone. */
 #include <fcntl.h>
 #include <stdlib.h>
 #include <unistd.h>
+
+#define OPENS 999979
+#define CLOSES 999983
 
 extern void *__libc_malloc(size_t);
 extern void *__libc_calloc(size_t, size_t);
 extern void *__libc_realloc(void *, size_t);
 extern void *__libc_memalign(size_t, size_t);
 
-static long left = -1;
+static enum { UNREAD, COUNTING, REFUSING, GRANTING } state = UNREAD;
+static long left;
+static int in_windows, has_refused;
 
-static void tell(void)
+static void tell(const char *text, size_t length)
 {
     const char *name = getenv("TOLD");
-    if (name) {
-        int file = open(name, O_CREAT | O_WRONLY, 0600);
-        if (file >= 0)
-            close(file);
+    int file = name ? open(name, O_CREAT | O_WRONLY | O_APPEND, 0600) : -1;
+    if (file >= 0) {
+        if (write(file, text, length) < 0)
+            abort();
+        close(file);
     }
+}
+
+static void count_anew(void)
+{
+    const char *text = getenv("REFUSE");
+    left = text ? atol(text) : 0;
+    state = left > 0 ? COUNTING : GRANTING;
+    has_refused = 0;
 }
 
 static int refused(void)
 {
-    if (left < 0) {
-        const char *text = getenv("REFUSE");
-        left = text ? atol(text) : 0;
+    if (state == UNREAD) {
+        in_windows = getenv("WINDOWS") != 0;
+        if (in_windows)
+            state = GRANTING;
+        else
+            count_anew();
     }
-    if (left == 0 || --left > 0)
+    if (state == COUNTING && --left == 0)
+        state = REFUSING;
+    if (state != REFUSING)
         return 0;
-    left = getenv("REFUSE_ON") ? 1 : 0;
-    tell();
+    if (!getenv("REFUSE_ON"))
+        state = GRANTING;
+    if (!in_windows && !has_refused)
+        tell("", 0);
+    has_refused = 1;
     return 1;
 }
 
-void *malloc(size_t n) { return refused() ? 0 : __libc_malloc(n); }
+void *malloc(size_t n)
+{
+    if (in_windows && n == CLOSES) {
+        tell(has_refused ? "r" : "g", 1);
+        state = GRANTING;
+    }
+    if (refused())
+        return 0;
+    if (in_windows && n == OPENS)
+        count_anew();
+    return __libc_malloc(n);
+}
+
 void *calloc(size_t n, size_t m) { return refused() ? 0 : __libc_calloc(n, m); }
 void *realloc(void *p, size_t n) { return refused() ? 0 : __libc_realloc(p, n); }
 void *memalign(size_t a, size_t n) { return refused() ? 0 : __libc_memalign(a, n); }

@@ -1,15 +1,22 @@
 #!/usr/bin/env python3
-"""Runs the built program with requests for memory refused and with devices that fail, and looks at how it ends.
+"""Runs the built programs with requests for memory refused and with devices that fail, and looks at how they end.
 
-    tools/refuse.py
+    tools/refuse.py [--page]
 
-Memory: under tools/refuse.c the first request is refused, then the second and so on, until a run makes fewer requests; once
+Calls: crates/faults makes each call of the libraries that wants memory, and tells how it ended. Under tools/refuse.c the
+first request of each call is refused, then the second and so on, until no call makes so many; once so that this request
+alone fails, and once so that all behind it in the call do. A call that was refused one has to answer 20, to leave all as
+before, and to give what it gives when it is made again.
+
+The program: under tools/refuse.c the first request is refused, then the second and so on, until a run makes fewer requests; once
 so that this request alone fails, and once so that all behind it do. Devices: a full disk, a pipe that is closed, paths that
 can't be read or made, and little room for addresses. A run ends with a status of the program's own, never by a signal; what
 it wrote is a prefix of its whole output; and its fault line is one that docs/refusals.md has. It prints counts, made by the
-run, and ends with 1 where something is wrong. It needs cc, and the program: build it by ./stabsim --help.
+run, and ends with 1 where something is wrong; with --page it writes those of the calls into docs/robustness.md. It needs
+cc, and the programs: tools/refuse.sh builds them where they are missing.
 """
 
+import os
 import pathlib
 import re
 import resource
@@ -19,14 +26,20 @@ import tempfile
 
 TOP = pathlib.Path(__file__).resolve().parent.parent
 PROGRAM = TOP / "crates" / "stabsim" / "out" / "stabsim"
+CALLS = TOP / "crates" / "faults" / "out" / "faults"
+PAGE = TOP / "docs" / "robustness.md"
+TABLE = re.compile(r"(?<=<!-- counts -->\n).*(?=<!-- end of counts -->)", re.DOTALL)
 TIME_LIMIT = 60
 FAULT_LINE = re.compile(rb"stabsim: (line [1-9][0-9]*: )?refused [0-9]+ [A-Za-z]+\n")
 CIRCUIT = TOP / "examples" / "repetition_code.stim"
+# What standard input has; `edit` alone reads it, since the others have --in.
+SCRIPT = (TOP / "examples" / "inserted_x.script").read_bytes() + b"show stabilisers\nshow circuit\ninsert 0 REPEAT 2 {\nX 0\n}\n"
 RUNS = [
     ["sample", "--shots", "3", "--in", str(CIRCUIT)],
     ["sample", "--out_format", "dets", "--coins", "0110", "--in", str(TOP / "examples" / "five_qubit_code.stim")],
     ["detect", "--append_observables", "--out_format", "hits", "--in", str(TOP / "examples" / "surface_code.stim")],
     ["stabilisers", "--in", str(TOP / "examples" / "steane_code.stim")],
+    ["edit", "--stride", "4", "--in", str(CIRCUIT)],
     ["sample", "--shots", "none"],
     ["--help"],
 ]
@@ -36,7 +49,7 @@ wrong = []
 
 def run(words, **more):
     more.setdefault("stdout", subprocess.PIPE)
-    return subprocess.run([str(PROGRAM), *words], stderr=subprocess.PIPE, timeout=TIME_LIMIT, check=False, **more)
+    return subprocess.run([str(PROGRAM), *words], input=SCRIPT, stderr=subprocess.PIPE, timeout=TIME_LIMIT, check=False, **more)
 
 
 def expect(holds, what):
@@ -75,9 +88,62 @@ def refuse_each(library, folder, words, onwards):
     return refused, answered
 
 
-def try_memory(folder):
-    library = folder / "refuse.so"
-    subprocess.run(["cc", "-O2", "-shared", "-fPIC", "-o", library, TOP / "tools" / "refuse.c"], check=True)
+def run_calls(library, folder, number, onwards):
+    """What the program of calls tells where this request of each call is refused, and for each call whether one was."""
+    told = folder / "told"
+    told.unlink(missing_ok=True)
+    names = {"LD_PRELOAD": str(library), "WINDOWS": "1", "REFUSE": str(number), "TOLD": str(told)}
+    done = subprocess.run([str(CALLS)], env=names | ({"REFUSE_ON": "1"} if onwards else {}), capture_output=True,
+                          text=True, timeout=TIME_LIMIT, check=False)
+    expect(done.returncode == 0, f"the calls: status {done.returncode}, told {done.stderr!r}")
+    return done.stdout.splitlines(), [it == "r" for it in told.read_text()]
+
+
+def count_calls(library, folder, onwards):
+    """For each call, in how many runs it was refused a request; each time it has to end as a refused call does."""
+    whole, _ = run_calls(library, folder, 0, False)
+    counts = {}
+    for number in range(1, 100_000):
+        lines, refused = run_calls(library, folder, number, onwards)
+        expect(len(lines) == len(whole), f"the calls: {len(lines)} lines where there are to be {len(whole)}")
+        for line, is_refused in zip(lines, refused):
+            name, ending = line.rsplit(": ", 1)
+            wanted = "refused, as before, gave" if is_refused else "gave"
+            expect(ending == wanted, f"request {number}{' and on' * onwards}: {line}, and not {wanted}")
+            counts[name] = counts.get(name, 0) + is_refused
+        expect(lines[len(refused):] == whole[len(refused):], "the calls: other lines of devices")
+        if not any(refused):
+            return counts, whole[len(refused):]
+    expect(False, "the calls: no end of requests")
+    return counts, []
+
+
+def table_of(once, onwards, devices):
+    """The counts as a table of docs/robustness.md."""
+    rows = ["", "| Call | Runs with one request refused | Runs with all from one on refused |", "|---|---|---|"]
+    rows += [f"| {name} | {once[name]} | {onwards[name]} |" for name in once]
+    rows += ["", "| Call | Devices |", "|---|---|"]
+    rows += ["| {} | {} |".format(*line.rsplit(": ", 1)) for line in devices]
+    return "\n".join(rows) + "\n\n"
+
+
+def try_calls(library, folder, is_written):
+    once, devices = count_calls(library, folder, False)
+    onwards, _ = count_calls(library, folder, True)
+    for name in once:
+        expect(once[name] > 0 and onwards[name] > 0, f"{name}: no request was refused")
+        print(f"{name}: refused {once[name]} times one request, {onwards[name]} times all from one on; each answered 20")
+    for line in devices:
+        expect("WRONG" not in line and not line.endswith(": 0"), line)
+        print(line)
+    page, table = PAGE.read_text(), table_of(once, onwards, devices)
+    if is_written:
+        PAGE.write_text(TABLE.sub(lambda _: table, page))
+    elif table not in page:
+        print("docs/robustness.md shows other counts: tools/refuse.py --page renews them")
+
+
+def try_memory(library, folder):
     for words in RUNS:
         for onwards in (False, True):
             refused, answered = refuse_each(library, folder, words, onwards)
@@ -92,19 +158,33 @@ def expect_fault(what, done, number):
     expect(fault is not None and f"refused {number} ".encode() in done.stderr, f"{what}: told {done.stderr!r}")
 
 
+def failing_files(folder):
+    """What is wrong with a file, the words that name it, and the fault that it comes to."""
+    closed = folder / "closed.stim"
+    closed.write_text("M 0\n")
+    closed.chmod(0)
+    yield "a folder for --in", ["--in", str(folder)], 15
+    yield "no file for --in", ["--in", str(folder / "none")], 15
+    yield "a file whose reads fail", ["--in", "/proc/self/mem"], 15
+    if os.geteuid() != 0:  # who may read all files may read this one
+        yield "a file that may not be read", ["--in", str(closed)], 15
+    yield "a folder for --out", ["--in", str(CIRCUIT), "--out", str(folder)], 16
+    yield "no folder for --out", ["--in", str(CIRCUIT), "--out", str(folder / "none" / "shots")], 16
+
+
 def try_devices(folder):
     sample = ["sample", "--in", str(CIRCUIT)]
     many = sample + ["--shots", "100000"]
     with open("/dev/full", "wb") as full:
         expect_fault("a full disk", run(sample, stdout=full), 16)
         expect_fault("a full disk, many shots", run(many, stdout=full), 16)
+        expect_fault("a full disk, replies", run(["edit", "--in", str(CIRCUIT)], stdout=full), 16)
     with subprocess.Popen(["head", "-c", "5"], stdin=subprocess.PIPE, stdout=subprocess.DEVNULL) as reader:
         expect_fault("a closed pipe", run(many, stdout=reader.stdin), 16)
-    expect_fault("a folder for --in", run(["sample", "--in", str(folder)]), 15)
-    expect_fault("no file for --in", run(["sample", "--in", str(folder / "none")]), 15)
-    expect_fault("a folder for --out", run(sample + ["--out", str(folder)]), 16)
-    expect_fault("no folder for --out", run(sample + ["--out", str(folder / "none" / "shots")]), 16)
-    return 7
+    files = list(failing_files(folder))
+    for what, words, number in files:
+        expect_fault(what, run(["sample", *words]), number)
+    return 4 + len(files)
 
 
 def little_room():
@@ -125,7 +205,10 @@ def try_little_room(folder):
 def main():
     with tempfile.TemporaryDirectory() as made:
         folder = pathlib.Path(made)
-        try_memory(folder)
+        library = folder / "refuse.so"
+        subprocess.run(["cc", "-O2", "-shared", "-fPIC", "-o", library, TOP / "tools" / "refuse.c"], check=True)
+        try_calls(library, folder, "--page" in sys.argv[1:])
+        try_memory(library, folder)
         print(f"{try_devices(folder)} devices failed")
         try_little_room(folder)
     print(f"{len(wrong)} wrong")

@@ -19,7 +19,8 @@ MOST_COUNT_DIGITS = 18
 
 REFUSALS = {
     1: "UnsupportedName", 2: "BadArguments", 3: "BadTarget", 4: "BadPairing", 5: "BadBlock", 6: "QubitOutOfRange",
-    7: "ObservableOutOfRange", 8: "LookbackTooFar", 9: "TooManySteps", 10: "TooDeep", 11: "BadLine", 14: "TooLong",
+    7: "ObservableOutOfRange", 8: "LookbackTooFar", 9: "TooManySteps", 10: "TooDeep", 11: "BadLine",
+    12: "PlaceOutOfRange", 13: "BadCommand", 14: "TooLong", 17: "NotABlock",
 }
 
 ONE_QUBIT = ["I", "X", "Y", "Z", "H", "S", "S_DAG", "SQRT_X", "SQRT_X_DAG", "SQRT_Y", "SQRT_Y_DAG", "C_XYZ", "C_ZYX"]
@@ -50,11 +51,13 @@ class Refused(Exception):
 
 @dataclass
 class Operation:
-    """One instruction: its first name, the number of an observable, and its targets as tuples."""
+    """One instruction: its first name, the number of an observable, its targets as tuples, its tag and its arguments."""
 
     name: str
     number: Optional[int]
     targets: list
+    tag: bytes = b""
+    arguments: list = field(default_factory=list)
 
 
 @dataclass
@@ -63,6 +66,7 @@ class Block:
 
     count: int
     body: list = field(default_factory=list)
+    tag: bytes = b""
 
 
 def is_digits(text):
@@ -74,17 +78,19 @@ def content_of(line):
 
 
 def cut(content):
-    """The name, the arguments, the words of the targets and whether `{` ends it; 11 where it has no shape."""
+    """The name, the tag, the arguments, the words of the targets and whether `{` ends it; 11 where it has no shape."""
     if content[0] not in LETTERS:
         raise Refused(11)
     at = 0
     while at < len(content) and content[at] in NAME_BYTES:
         at += 1
     name = content[:at].decode().upper()
+    tag = b""
     if content[at:at + 1] == b"[":
         end = content.find(b"]", at)
         if end < 0:
             raise Refused(11)
+        tag = content[at + 1:end]
         at = end + 1
     arguments = b""
     rest = content[at:]
@@ -101,7 +107,7 @@ def cut(content):
     if rest and rest[0] not in SPACING:
         raise Refused(11)
     words = [word for word in rest.replace(b"\t", b" ").replace(b"\r", b" ").split(b" ") if word]
-    return name, split_arguments(arguments), words, opens
+    return name, tag, split_arguments(arguments), words, opens
 
 
 def split_arguments(text):
@@ -197,7 +203,7 @@ def meaning_of(content):
         return None
     if content == b"}":
         return "}"
-    spelled, arguments, words, opens = cut(content)
+    spelled, tag, arguments, words, opens = cut(content)
     name = ALIASES.get(spelled, spelled)
     if name not in NAMES:
         raise Refused(1)
@@ -207,18 +213,26 @@ def meaning_of(content):
     check_block(name, targets, opens)
     if number is not None and number >= MOST_OBSERVABLES:
         raise Refused(7)
-    return Block(int(targets[0])) if name == "REPEAT" else Operation(name, number, targets)
+    if name == "REPEAT":
+        return Block(int(targets[0]), tag=tag)
+    return Operation(name, number, targets, tag, arguments)
 
 
-def items_of(text):
-    """The items that a text stands for; its first fault, with its line, where it stands for none."""
+def items_of(text, alone=False):
+    """The items that a text stands for; its first fault, with its line, where it stands for none.
+
+    Where one item alone is asked for, a further one is refused where it begins, and so is a text without any.
+    """
     if len(text) > MOST_BYTES:
         raise Refused(14)
     items = []
     opened = []
     for number, line in enumerate(text.split(b"\n"), 1):
+        content = content_of(line)
+        if alone and items and not opened and content not in (b"", b"}"):
+            raise Refused(11, number)
         try:
-            meaning = meaning_of(content_of(line))
+            meaning = meaning_of(content)
         except Refused as refused:
             raise Refused(refused.number, number) from None
         if meaning is None:
@@ -236,4 +250,11 @@ def items_of(text):
         body.append(meaning)
     if opened:
         raise Refused(5, opened[-1][1])
+    if alone and not items:
+        raise Refused(11)
     return items
+
+
+def item_of(text):
+    """The one item that a text stands for."""
+    return items_of(text, alone=True)[0]

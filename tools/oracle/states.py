@@ -188,3 +188,9 @@ class Run:
 
 def bits_of(letters):
     return [int(x in "XY") for x in letters] + [int(x in "ZY") for x in letters]
+
+
+def rows_text(run):
+    """The reduced rows, one a line."""
+    lines = [("-" if sign else "+") + "".join(letters).replace("I", "_") + "\n" for sign, letters in run.reduced_rows()]
+    return "".join(lines).encode() if run.state.n else b""

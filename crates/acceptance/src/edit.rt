@@ -1,112 +1,55 @@
-//! Scripts that edit circuits, and the replies to them.
-ghost use Rattle.std.specs.Prelude.{◌≤◌, IfSome};
-
-use stab_cli::{Source, run_edit};
-use stab_pauli::{CutInput, Fault, MemoryInput, MemoryOutput, Refusal};
+//! Scripts that edit circuits, and what the program answers.
+use crate::runs::{CODE, Ended, job_of, run_scripted, words_of};
+use stab_cli::run_job;
+use stab_pauli::{CutInput, MemoryInput, MemoryOutput};
 use std::alloc::Global;
 use std::process::Abort;
 use std::test::Fail;
 
-/// A circuit, with how it is edited.
-#[derive(Clone, Copy)]
-struct Edited<'a> {
-    circuit: &'a str,
-    coins: &'a str,
-    qubits: Option<usize>,
-    stride: usize,
+/// Words, a circuit, a script, what is written of it, and the status.
+type Row = (&'static str, &'static str, &'static str, &'static str, u8);
+
+/// Asserts that the program answers each script so, and tells no fault.
+fn assert_answers(rt: &(impl Abort + AllocGlobal), rows: &[Row]) -> Result<(), Fail> {
+    assert_answers_with(rt, "", rows)
 }
 
-/// The coins that a text of 0 and 1 stands for.
-fn coins_of(alloc: Global, text: &str) -> Result<Source, Fail> {
-    let mut coins = Vec::new(alloc);
-    for byte in text.as_bytes() {
-        coins.push(*byte == b'1')?;
+/// Asserts the same, however far the states that are kept on the way are apart.
+fn assert_answers_at_strides(rt: &(impl Abort + AllocGlobal), rows: &[Row]) -> Result<(), Fail> {
+    const STRIDES: [&str; 5] = [
+        "",
+        " --stride 1",
+        " --stride 2",
+        " --stride 3",
+        " --stride 8192",
+    ];
+    for stride in STRIDES {
+        assert_answers_with(rt, stride, rows)?;
     }
-    Ok(Source::List(coins))
-}
-
-/// Asserts that a script is answered with these replies, and whether one is a refusal.
-fn assert_replies(
-    rt: &(impl Abort + AllocGlobal),
-    edited: &Edited,
-    script: &str,
-    replies: &str,
-    refused: bool,
-) -> Result<(), Fail>
-    requires in_range { IfSome edited.now.qubits (λ n. n ≤ 1024) }
-    requires stride_above { 1 ≤ edited.now.stride }
-    requires stride_within { edited.now.stride ≤ 65536 }
-{
-    let mut out = MemoryOutput::new(rt.alloc(), 8192)?;
-    let answer = run_edit(
-        rt.alloc(),
-        &mut MemoryInput::new(edited.circuit.as_bytes()),
-        &mut MemoryInput::new(script.as_bytes()),
-        &mut out,
-        edited.qubits,
-        edited.stride,
-        &coins_of(rt.alloc(), edited.coins)?,
-    );
-    assert!(rt;
-        out.bytes() == replies.as_bytes(),
-        "{script:?} on {:?} gives {:?}",
-        edited.circuit,
-        str::from_utf8(out.bytes())
-    );
-    assert_eq!(rt; answer, Ok(refused), "{script:?} on {:?}", edited.circuit);
     Ok(())
 }
 
-/// A circuit, coins, a script, its replies and whether one is a refusal.
-type Row = (&'static str, &'static str, &'static str, &'static str, bool);
-
-/// Asserts the same for each row.
-fn assert_each_replies(
+/// Asserts the same with further words.
+fn assert_answers_with(
     rt: &(impl Abort + AllocGlobal),
-    stride: usize,
+    more: &str,
     rows: &[Row],
-) -> Result<(), Fail>
-    requires stride_above { 1 ≤ stride }
-    requires stride_within { stride ≤ 65536 }
-{
-    for (circuit, coins, script, replies, refused) in rows {
-        let edited = Edited {
-            circuit,
-            coins,
-            qubits: None,
-            stride,
-        };
-        assert_replies(rt, &edited, script, replies, *refused)?;
+) -> Result<(), Fail> {
+    for (words, circuit, script, replies, status) in rows {
+        let mut line = String::from_str(rt.alloc(), words)?;
+        line.push_str(more)?;
+        let mut input = MemoryInput::new(script.as_bytes());
+        let run = run_scripted(rt.alloc(), line.as_str(), circuit.as_bytes(), &mut input)?;
+        assert!(rt;
+            run.out.bytes() == replies.as_bytes(),
+            "{line:?} with {script:?} writes {:?}",
+            str::from_utf8(run.out.bytes())
+        );
+        assert!(rt; run.err.bytes().is_empty(), "{line:?} with {script:?}");
+        assert_eq!(rt; run.status, *status, "{line:?} with {script:?}");
     }
     Ok(())
 }
-
-// A repetition code's circuit, as Stim prints it.
-const CODE: &str = "R 0 1 2 3 4
-TICK
-CX 0 1 2 3
-TICK
-CX 2 1 4 3
-TICK
-MR 1 3
-DETECTOR(1, 0) rec[-2]
-DETECTOR(3, 0) rec[-1]
-REPEAT 2 {
-    TICK
-    CX 0 1 2 3
-    TICK
-    CX 2 1 4 3
-    TICK
-    MR 1 3
-    SHIFT_COORDS(0, 1)
-    DETECTOR(1, 0) rec[-2] rec[-4]
-    DETECTOR(3, 0) rec[-1] rec[-3]
-}
-M 0 2 4
-DETECTOR(1, 1) rec[-2] rec[-3] rec[-5]
-DETECTOR(3, 1) rec[-1] rec[-2] rec[-4]
-OBSERVABLE_INCLUDE(0) rec[-1]
-";
 
 const CODE_SCRIPT: &str = "show detectors
 insert 1 X 2
@@ -204,178 +147,286 @@ REPEAT 3 {
 M 0
 ";
 
+const BLOCK: &str = "REPEAT 3 {\nX 0\nM 0\n}\nM 0";
+
+const TRANSCRIPTS: &[Row] = &[
+    ("stabsim edit", CODE, CODE_SCRIPT, CODE_REPLIES, 0),
+    (
+        "stabsim edit --coins 1",
+        "H 0\nM 0",
+        COIN_SCRIPT,
+        COIN_REPLIES,
+        3,
+    ),
+    ("stabsim edit", BLOCK, PATH_SCRIPT, PATH_REPLIES, 3),
+];
+
 #[test]
 fn a_session_is_answered_line_by_line(rt: HostRuntime) -> Result<(), Fail> {
-    const ROWS: &[Row] = &[
-        (CODE, "", CODE_SCRIPT, CODE_REPLIES, false),
-        ("H 0\nM 0", "1", COIN_SCRIPT, COIN_REPLIES, true),
-        (
-            "REPEAT 3 {\nX 0\nM 0\n}\nM 0",
-            "",
-            PATH_SCRIPT,
-            PATH_REPLIES,
-            true,
-        ),
-    ];
-    assert_each_replies(&rt, 8192, ROWS)?;
-    assert_each_replies(&rt, 1, ROWS)
+    assert_answers_at_strides(&rt, TRANSCRIPTS)
 }
+
+const BITS: &[Row] = &[
+    (
+        "stabsim edit --coins 10",
+        "H 0\nCX 0 1\nM 0 1",
+        "insert 2 X 1\nshow measurements\ndelete 0\nshow measurements\nshow free",
+        "ok\n10\nok\n01\n00\n",
+        0,
+    ),
+    (
+        "stabsim edit",
+        "X 0\nM 0\nR 0\nDETECTOR rec[-1]",
+        "show detectors\ninsert 0 X 0\nshow detectors",
+        "1\nok\n0\n",
+        0,
+    ),
+    (
+        "stabsim edit",
+        "X 0\nM 0\nOBSERVABLE_INCLUDE(0) rec[-1]",
+        "show observables\ninsert 3 I 0\nshow observables",
+        "1\nok\n1\n",
+        0,
+    ),
+    (
+        "stabsim edit",
+        "X 0\nM 0\nOBSERVABLE_INCLUDE(0) rec[-1]",
+        "insert 2 OBSERVABLE_INCLUDE(2) rec[-1]\nshow observables\ndelete 2\nshow observables",
+        "ok\n101\nok\n1\n",
+        0,
+    ),
+    (
+        "stabsim edit --qubits 2 --coins 01",
+        "H 0\nM 0",
+        "show measurements\ninsert 0 R 1\nshow measurements",
+        "0\nok\n1\n",
+        0,
+    ),
+    (
+        "stabsim edit",
+        "X 0\nM 0\nCX rec[-1] 1\nM 1",
+        "show measurements\ninsert 0 X 0\nshow measurements\ndelete 2",
+        "11\nok\n00\nrefused 8 LookbackTooFar\n",
+        3,
+    ),
+];
 
 #[test]
 fn bits_are_those_of_the_edited_circuit(rt: HostRuntime) -> Result<(), Fail> {
-    const ROWS: &[Row] = &[
-        (
-            "H 0\nCX 0 1\nM 0 1",
-            "10",
-            "insert 2 X 1\nshow measurements\ndelete 0\nshow measurements\nshow free",
-            "ok\n10\nok\n01\n00\n",
-            false,
-        ),
-        (
-            "X 0\nM 0\nR 0\nDETECTOR rec[-1]",
-            "",
-            "show detectors\ninsert 0 X 0\nshow detectors",
-            "1\nok\n0\n",
-            false,
-        ),
-        (
-            "X 0\nM 0\nOBSERVABLE_INCLUDE(0) rec[-1]",
-            "",
-            "show observables\ninsert 3 I 0\nshow observables",
-            "1\nok\n1\n",
-            false,
-        ),
-        (
-            "X 0\nM 0\nCX rec[-1] 1\nM 1",
-            "",
-            "show measurements\ninsert 0 X 0\nshow measurements\ndelete 2",
-            "11\nok\n00\nrefused 8 LookbackTooFar\n",
-            true,
-        ),
-    ];
-    assert_each_replies(&rt, 1, ROWS)
+    assert_answers_at_strides(&rt, BITS)
 }
+
+const SHOWN: &[Row] = &[
+    (
+        "stabsim edit",
+        "M 0\nDETECTOR rec[-1]",
+        "delete 0\ndelete 2\nshow circuit",
+        "refused 8 LookbackTooFar\nrefused 12 PlaceOutOfRange\nM 0\nDETECTOR rec[-1]\n",
+        3,
+    ),
+    (
+        "stabsim edit",
+        "h 0 # note\r\ncnot 0 1",
+        "show circuit",
+        "H 0\nCX 0 1\n",
+        0,
+    ),
+    (
+        "stabsim edit",
+        "mpp !x0*!x1 z0",
+        "show circuit",
+        "MPP !X0*!X1 Z0\n",
+        0,
+    ),
+];
 
 #[test]
 fn a_circuit_is_shown_in_its_one_text(rt: HostRuntime) -> Result<(), Fail> {
-    const ROWS: &[Row] = &[
-        (
-            "M 0\nDETECTOR rec[-1]",
-            "",
-            "delete 0\ndelete 2\nshow circuit",
-            "refused 8 LookbackTooFar\nrefused 12 PlaceOutOfRange\nM 0\nDETECTOR rec[-1]\n",
-            true,
-        ),
-        (
-            "h 0 # note\r\ncnot 0 1",
-            "",
-            "show circuit",
-            "H 0\nCX 0 1\n",
-            false,
-        ),
-        (
-            "mpp !x0*!x1 z0",
-            "",
-            "show circuit",
-            "MPP !X0*!X1 Z0\n",
-            false,
-        ),
-    ];
-    assert_each_replies(&rt, 8192, ROWS)
+    assert_answers(&rt, SHOWN)
 }
+
+// Scripts on the empty circuit with one qubit, of which each line is refused.
+const REFUSED: &[(&str, &str)] = &[
+    (
+        "insert a REPEAT 2 {\nX 0\n}",
+        "refused 13 BadCommand\nrefused 13 BadCommand\nrefused 13 BadCommand\n",
+    ),
+    ("insert 0 X 0 {\nshow free\n}", "refused 5 BadBlock\n"),
+    ("insert 0 REPEAT 2 {\nX 0", "refused 5 BadBlock\n"),
+    ("show", "refused 13 BadCommand\n"),
+    ("show circuits", "refused 13 BadCommand\n"),
+    ("Show circuit", "refused 13 BadCommand\n"),
+    ("show circuit now", "refused 13 BadCommand\n"),
+    ("insert 0", "refused 13 BadCommand\n"),
+    ("delete 0 0", "refused 13 BadCommand\n"),
+    ("delete 1000000000000000000", "refused 13 BadCommand\n"),
+    ("delete 999999999999999999", "refused 12 PlaceOutOfRange\n"),
+    (
+        "delete 0/0/0/0/0/0/0/0/0/0/0/0/0/0/0/0/0",
+        "refused 12 PlaceOutOfRange\n",
+    ),
+    (
+        "delete 0/0/0/0/0/0/0/0/0/0/0/0/0/0/0/0/0/0",
+        "refused 13 BadCommand\n",
+    ),
+];
 
 #[test]
 fn lines_that_are_no_commands_are_refused(rt: HostRuntime) -> Result<(), Fail> {
-    let edited = Edited {
-        circuit: "",
-        coins: "",
-        qubits: Some(1),
-        stride: 8192,
-    };
-    const ROWS: &[(&str, &str)] = &[
-        (
-            "insert a REPEAT 2 {\nX 0\n}",
-            "refused 13 BadCommand\nrefused 13 BadCommand\nrefused 13 BadCommand\n",
-        ),
-        ("insert 0 X 0 {\nshow free\n}", "refused 5 BadBlock\n"),
-        ("insert 0 REPEAT 2 {\nX 0", "refused 5 BadBlock\n"),
-        ("show", "refused 13 BadCommand\n"),
-        ("show circuits", "refused 13 BadCommand\n"),
-        ("Show circuit", "refused 13 BadCommand\n"),
-        ("show circuit now", "refused 13 BadCommand\n"),
-        ("insert 0", "refused 13 BadCommand\n"),
-        ("delete 0 0", "refused 13 BadCommand\n"),
-        ("delete 1000000000000000000", "refused 13 BadCommand\n"),
-        ("delete 999999999999999999", "refused 12 PlaceOutOfRange\n"),
-        (
-            "delete 0/0/0/0/0/0/0/0/0/0/0/0/0/0/0/0/0",
-            "refused 12 PlaceOutOfRange\n",
-        ),
-        (
-            "delete 0/0/0/0/0/0/0/0/0/0/0/0/0/0/0/0/0/0",
-            "refused 13 BadCommand\n",
-        ),
-    ];
-    for (script, replies) in ROWS {
-        assert_replies(&rt, &edited, script, replies, true)?;
+    for (script, replies) in REFUSED {
+        assert_answers(&rt, &[("stabsim edit --qubits 1", "", script, replies, 3)])?;
     }
-    assert_replies(&rt, &edited, " # nothing\n\n \t\r\n", "", false)
+    Ok(())
 }
 
-/// Edits `H 0` / `M 0` with coin 1 by a script that is read a byte at a time and fails at this read.
-fn edit_broken(
-    alloc: Global,
-    script: &str,
-    fail_at: u64,
-    out: &mut MemoryOutput,
-) -> Result<Result<bool, Fault>, Fail> {
-    Ok(run_edit(
-        alloc,
-        &mut MemoryInput::new(b"H 0\nM 0"),
-        &mut CutInput::new(script.as_bytes(), 1, fail_at),
-        out,
-        None,
-        8192,
-        &coins_of(alloc, "1")?,
-    ))
+const QUBITS: &[Row] = &[
+    (
+        "stabsim edit",
+        "",
+        "show stabilisers\ninsert 0 X 0",
+        "refused 6 QubitOutOfRange\n",
+        3,
+    ),
+    (
+        "stabsim edit --qubits 2",
+        "H 0",
+        "show stabilisers",
+        "+X_\n+_Z\n",
+        0,
+    ),
+    (
+        "stabsim edit --qubits 1024",
+        "",
+        "insert 0 M 1023\nshow measurements",
+        "ok\n0\n",
+        0,
+    ),
+    ("stabsim edit --seed 5", "", " # nothing\n\n \t\r\n", "", 0),
+];
+
+#[test]
+fn a_circuit_has_the_qubits_that_are_asked_for(rt: HostRuntime) -> Result<(), Fail> {
+    assert_answers(&rt, QUBITS)
 }
+
+#[test]
+fn an_edit_that_nothing_refuses_is_made(rt: HostRuntime) -> Result<(), Fail> {
+    assert_answers(
+        &rt,
+        &[(
+            "stabsim edit --qubits 1",
+            "",
+            "insert 0 X 0\nreplace 0 I 0\ndelete 0",
+            "ok\nok\nok\n",
+            0,
+        )],
+    )
+}
+
+// Circuits that are refused before their script is read, and the line that tells their fault.
+const FAULTS: &[(&str, &str, &str)] = &[
+    (
+        "stabsim edit",
+        "X 0\nM(0.1) 0",
+        "stabsim: line 2: refused 2 BadArguments\n",
+    ),
+    (
+        "stabsim edit --qubits 1",
+        "M 1",
+        "stabsim: refused 6 QubitOutOfRange\n",
+    ),
+    (
+        "stabsim edit --qubits 0",
+        "DETECTOR rec[-1]\nM 0",
+        "stabsim: refused 8 LookbackTooFar\n",
+    ),
+    (
+        "stabsim edit --qubits 0",
+        "REPEAT 1048577 {\nX 0\n}",
+        "stabsim: refused 9 TooManySteps\n",
+    ),
+];
+
+#[test]
+fn a_refused_circuit_leaves_its_script_unread(rt: HostRuntime) -> Result<(), Fail> {
+    for (line, circuit, fault) in FAULTS {
+        let mut script = CutInput::new(b"show circuit", 1, 1);
+        let run = run_scripted(rt.alloc(), line, circuit.as_bytes(), &mut script)?;
+        assert!(rt; run.out.bytes().is_empty(), "{circuit:?}");
+        assert!(rt; run.err.bytes() == fault.as_bytes(), "{circuit:?}");
+        assert_eq!(rt; run.status, 1, "{circuit:?}");
+    }
+    Ok(())
+}
+
+// At which read a script of three lines fails, which comes a byte at a time, and the replies until then.
+const BROKEN: &[(u64, &str)] = &[
+    (1, ""),
+    (18, ""),
+    (19, "1\n"),
+    (31, "1\n"),
+    (32, "1\nok\n"),
+    (49, "1\nok\n"),
+    (50, "1\nok\n0\n"),
+];
 
 #[test]
 fn a_script_that_breaks_off_has_the_replies_to_whole_lines(rt: HostRuntime) -> Result<(), Fail> {
-    let script = "show measurements\ninsert 1 H 0\nshow measurements\n";
-    const ROWS: &[(u64, &str)] = &[
-        (1, ""),
-        (18, ""),
-        (19, "1\n"),
-        (31, "1\n"),
-        (32, "1\nok\n"),
-        (49, "1\nok\n"),
-        (50, "1\nok\n0\n"),
-    ];
-    for (fail_at, replies) in ROWS {
-        let mut out = MemoryOutput::new(rt.alloc(), 64)?;
-        let answer = edit_broken(rt.alloc(), script, *fail_at, &mut out)?;
-        assert_eq!(rt;
-            answer,
-            Err(Fault::whole(Refusal::ReadFault)),
+    let lines = b"show measurements\ninsert 1 H 0\nshow measurements\n";
+    for (fail_at, replies) in BROKEN {
+        let mut script = CutInput::new(lines, 1, *fail_at);
+        let run = run_scripted(
+            rt.alloc(),
+            "stabsim edit --coins 1",
+            b"H 0\nM 0",
+            &mut script,
+        )?;
+        assert!(rt; run.out.bytes() == replies.as_bytes(), "at read {fail_at}");
+        assert!(rt;
+            run.err.bytes() == b"stabsim: refused 15 ReadFault\n".as_slice(),
             "at read {fail_at}"
         );
-        assert!(rt; out.bytes() == replies.as_bytes(), "at read {fail_at}");
+        assert_eq!(rt; run.status, 1, "at read {fail_at}");
     }
     Ok(())
 }
 
+/// What a session of two replies leaves of this output, and what it tells.
+fn run_into(alloc: Global, mut out: MemoryOutput) -> Result<Ended, Fail> {
+    let words = words_of(alloc, "stabsim edit --coins 1")?;
+    let job = job_of(alloc, words.as_slice())?;
+    let mut err = MemoryOutput::new(alloc, 64)?;
+    let status = run_job(
+        alloc,
+        &job,
+        &mut MemoryInput::new(b"H 0\nM 0"),
+        &mut MemoryInput::new(b"show measurements\nshow circuit\n"),
+        &mut out,
+        &mut err,
+    );
+    Ok(Ended { out, err, status })
+}
+
+/// Asserts that this output fails when it has these bytes, and that this is told.
+fn assert_cut_off(
+    rt: &(impl Abort + AllocGlobal),
+    out: MemoryOutput,
+    written: &str,
+) -> Result<(), Fail> {
+    let run = run_into(rt.alloc(), out)?;
+    assert!(rt; run.out.bytes() == written.as_bytes(), "{written:?}");
+    assert!(rt;
+        run.err.bytes() == b"stabsim: refused 16 WriteFault\n".as_slice(),
+        "{written:?}"
+    );
+    assert_eq!(rt; run.status, 1, "{written:?}");
+    Ok(())
+}
+
 #[test]
-fn a_script_whose_output_fails_is_cut_off(rt: HostRuntime) -> Result<(), Fail> {
-    let script = "show measurements\nshow circuit\n";
-    let mut full = MemoryOutput::new(rt.alloc(), 5)?;
-    let answer = edit_broken(rt.alloc(), script, 0, &mut full)?;
-    assert_eq!(rt; answer, Err(Fault::whole(Refusal::WriteFault)));
-    assert!(rt; full.bytes() == b"1\nH 0".as_slice());
+fn replies_are_cut_off_where_the_output_fails(rt: HostRuntime) -> Result<(), Fail> {
+    assert_cut_off(&rt, MemoryOutput::new(rt.alloc(), 5)?, "1\nH 0")?;
     let mut unflushed = MemoryOutput::new(rt.alloc(), 64)?;
     unflushed.fail_flush();
-    let answer = edit_broken(rt.alloc(), script, 0, &mut unflushed)?;
-    assert_eq!(rt; answer, Err(Fault::whole(Refusal::WriteFault)));
-    assert!(rt; unflushed.bytes() == b"1\nH 0\nM 0\n".as_slice());
-    Ok(())
+    assert_cut_off(&rt, unflushed, "1\nH 0\nM 0\n")
 }

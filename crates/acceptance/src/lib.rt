@@ -10,13 +10,19 @@ mod devices;
 #[cfg(test)]
 mod edit;
 #[cfg(test)]
+mod edit_words;
+#[cfg(test)]
 mod faults;
 #[cfg(test)]
 mod formats;
 #[cfg(test)]
 mod help;
 #[cfg(test)]
+mod hostile;
+#[cfg(test)]
 mod limits;
+#[cfg(test)]
+mod random_edits;
 #[cfg(test)]
 mod runs;
 #[cfg(test)]

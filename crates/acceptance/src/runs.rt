@@ -1,9 +1,36 @@
 //! Runs of the program over devices in memory.
 use stab_cli::{Job, parse_words, run_job};
-use stab_pauli::{MemoryInput, MemoryOutput};
+use stab_pauli::{Input, MemoryInput, MemoryOutput};
 use std::alloc::{AllocError, Global};
 use std::process::Abort;
 use std::test::Fail;
+
+/// A repetition code of distance 3 over three rounds, as Stim prints it.
+pub(crate) const CODE: &str = "R 0 1 2 3 4
+TICK
+CX 0 1 2 3
+TICK
+CX 2 1 4 3
+TICK
+MR 1 3
+DETECTOR(1, 0) rec[-2]
+DETECTOR(3, 0) rec[-1]
+REPEAT 2 {
+    TICK
+    CX 0 1 2 3
+    TICK
+    CX 2 1 4 3
+    TICK
+    MR 1 3
+    SHIFT_COORDS(0, 1)
+    DETECTOR(1, 0) rec[-2] rec[-4]
+    DETECTOR(3, 0) rec[-1] rec[-3]
+}
+M 0 2 4
+DETECTOR(1, 1) rec[-2] rec[-3] rec[-5]
+DETECTOR(3, 1) rec[-1] rec[-2] rec[-4]
+OBSERVABLE_INCLUDE(0) rec[-1]
+";
 
 /// What a run of the program wrote and answered.
 #[derive(Drop)]
@@ -28,6 +55,16 @@ pub(crate) fn job_of(alloc: Global, words: &[&str]) -> Result<Job, Fail> {
 
 /// Runs the program with the words of this line over this input.
 pub(crate) fn run_program(alloc: Global, line: &str, input: &[u8]) -> Result<Ended, Fail> {
+    run_scripted(alloc, line, input, &mut MemoryInput::new(&[]))
+}
+
+/// Runs the program with the words of this line over this input and this script.
+pub(crate) fn run_scripted<S: Input>(
+    alloc: Global,
+    line: &str,
+    input: &[u8],
+    script: &mut S,
+) -> Result<Ended, Fail> {
     let words = words_of(alloc, line)?;
     let job = job_of(alloc, words.as_slice())?;
     let mut out = MemoryOutput::new(alloc, 8192)?;
@@ -36,7 +73,7 @@ pub(crate) fn run_program(alloc: Global, line: &str, input: &[u8]) -> Result<End
         alloc,
         &job,
         &mut MemoryInput::new(input),
-        &mut MemoryInput::new(&[]),
+        script,
         &mut out,
         &mut err,
     );

@@ -3,7 +3,8 @@
 //! Without words it prints one fixed line. With the word `measure` it prints a table for each size,
 //! the time to read a long circuit text, and the times to edit one. With the word `run` and paths it
 //! prints, for the circuit in each of these files, the times to read it and to run it once, and those
-//! of a cursor over its steps.
+//! of a cursor over its steps. With the word `edit`, a qubit and paths it prints what edits of a
+//! session on each of these circuits take.
 //!
 //! - `work`: what is timed.
 //! - `state`: the states and the string that the works take.
@@ -15,6 +16,7 @@
 //! - `reading`: a long circuit text, and the time to read it.
 //! - `editing`: a circuit of many items, and the time to edit it.
 //! - `running`: circuits in files, and the times to read and to run them.
+//! - `replaying`: edits of a session on a circuit, each beside a whole run.
 //! - `walking`: the times of a cursor over the steps of a circuit.
 //!
 //! It is proved safe, and nothing is claimed of the times.
@@ -25,6 +27,7 @@ mod editing;
 mod failure;
 mod groups;
 mod reading;
+mod replaying;
 mod report;
 mod running;
 mod state;
@@ -62,6 +65,9 @@ fn measure<R: CpuClock + Files + AllocGlobal + Print>(
         }
         [word, paths @ ..] if word.as_str() == "run" && !paths.is_empty() => {
             running::print_table(rt, paths)?;
+        }
+        [word, qubit, paths @ ..] if word.as_str() == "edit" && !paths.is_empty() => {
+            replaying::print_table(rt, qubit.as_str(), paths)?;
         }
         _ => return Err(Failure::Words),
     }

@@ -65,11 +65,19 @@ fn print_walk<R: CpuClock + Files + AllocGlobal + Print>(
 }
 
 /// The bytes of a file.
-fn text_of_file<R: Files + AllocGlobal>(rt: &R, path: &str) -> Result<Vec<u8>, Failure> {
+pub fn text_of_file<R: Files + AllocGlobal>(rt: &R, path: &str) -> Result<Vec<u8>, Failure> {
     match fs::read(rt, path) {
         Ok(text) => Ok(text),
         Err(_) => Err(Failure::File(String::from_str(rt.alloc(), path)?)),
     }
+}
+
+/// The processor time of the best of several runs.
+pub fn best_time<R: CpuClock + AllocGlobal>(
+    rt: &R,
+    circuit: &Circuit,
+) -> Result<Duration, Failure> {
+    Ok(best_run(rt, circuit)?.time)
 }
 
 /// The best of several runs.

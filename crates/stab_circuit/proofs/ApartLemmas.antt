@@ -36,10 +36,10 @@ apart_kind (kind.Swap pairs) e = apart_each IsPair _ (λ p differ same. differ.2
 apart_kind (kind.Measure m targets) e = apart_each IsMeasured _ (λ t p. tt) targets e
 apart_kind (kind.Reset axis qubits) e = apart_each IsQubit _ (λ q p. tt) qubits e
 apart_kind (kind.MeasureProducts products) e = apart_each IsProduct _ (λ fs p. p.1) products e
-apart_kind (kind.Detector coordinates ks) e = All-cons IsApart _ [] tt (All-nil IsApart)
+apart_kind (kind.Detector located) e = All-cons IsApart _ [] tt (All-nil IsApart)
 apart_kind (kind.ObservableInclude j ks) e = All-cons IsApart _ [] tt (All-nil IsApart)
 apart_kind kind.Tick e = All-nil IsApart
-apart_kind (kind.QubitCoords coordinates qubits) e = All-nil IsApart
+apart_kind (kind.QubitCoords located) e = All-nil IsApart
 apart_kind (kind.ShiftCoords coordinates) e = All-nil IsApart
 
 apart_rounds : (n : ℕ) (ss : List Step) → All IsApart ss → All IsApart (rounds n ss)

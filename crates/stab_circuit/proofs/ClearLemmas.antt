@@ -1,22 +1,21 @@
 -- Deletions by way of an item that stands for nothing: it is put in the stead of the one to be deleted, and then deleted.
-use Rattle.std.proofs.Common.{◌≡◌, ◌≤◌, ◌<◌, refl, ap, sym, ◌∙◌, ℕ, ◌+◌, suc, max, Bool, true, false, List, [], ◌∷◌, ◌++◌, length, take, drop, set, arith, nat_lt, if◌then◌else◌, Option, Some, None, Result, Ok, Err, ◌⊎◌, inl, inr}
+use Rattle.std.proofs.Common.{◌≡◌, refl, ap, sym, ◌∙◌, ℕ, ◌+◌, suc, max, Bool, true, false, List, [], ◌∷◌, ◌++◌, length, take, drop, set, arith, nat_lt, if◌then◌else◌, Option, Some, None, Result, Ok, Err, ◌⊎◌, inl, inr}
 use Rattle.std.proofs.lemmas.List.{length-take-le}
 use Rattle.std.specs.List.{remove}
 use Rattle.std.specs.Prelude.{slice_get}
 use Rattle.stab_pauli.specs.declared.refusal.Refusal.{Refusal}
 use Rattle.stab_pauli.specs.declared.refusal.Refusal.TheVariants.{PlaceOutOfRange, NotABlock, QubitOutOfRange, LookbackTooFar, TooManySteps, TooDeep}
-use Rattle.stab_circuit.specs.declared.change.Change.{Change}
-use Rattle.stab_circuit.specs.declared.change.Change.TheVariants.{Insert, Replace, Delete}
+use Rattle.stab_circuit.specs.declared.change.Change.TheVariants.{Replace, Delete}
 use Rattle.stab_lines.specs.declared.operation.Kind.{Kind}
 use Rattle.stab_lines.specs.declared.operation.Kind.TheVariants.{Tick}
 use Rattle.stab_lines.specs.declared.operation.Operation.{Operation}
-use Rattle.stab_circuit.specs.Items.{Items, OneItem, operation, repeat, done, before, listed, entries, depth}
-use Rattle.stab_circuit.specs.Steps.{Step, steps_of, unroll, rounds, past, past_named, qubits_of, observables_of, named_qubits, named_observables, looks_too_far, most_steps, check_of, check_within}
-use Rattle.stab_circuit.specs.Edits.{put, rebuilt, edited_inside, changed, edited_in, inner, taken_in, verdict}
+use Rattle.stab_circuit.specs.Items.{OneItem, operation, repeat, done, before, listed, entries, depth}
+use Rattle.stab_circuit.specs.Steps.{steps_of, unroll, rounds, past, past_named, qubits_of, observables_of, named_qubits, named_observables, looks_too_far, most_steps, check_of, check_within}
+use Rattle.stab_circuit.specs.Edits.{put, rebuilt, edited_inside, changed, edited_in, taken_in, verdict}
 use Rattle.stab_circuit.specs.Nothings.{IsNothing}
 use Rattle.stab_circuit.proofs.ItemLemmas.{listed-append, depth-join}
 use Rattle.stab_circuit.proofs.SummaryLemmas.{past_named-join}
-use Rattle.stab_circuit.proofs.EditLemmas.{listed-entries, steps-append, if_ok, changed_split, got_split, Rebuilds, rebuilds}
+use Rattle.stab_circuit.proofs.EditLemmas.{listed-entries, steps-append, if_ok, changed_split, got_split, rebuilds}
 use Rattle.stab_circuit.proofs.UndoLemmas.{around, old_parts, new_parts, old_inner, edited_new, edited_old, deleted, replace-retaken}
 
 -- what is known of a list by its parts stays the same where an item is deleted that adds nothing to it

@@ -1,5 +1,5 @@
 -- What an edit comes to, by kept summaries.
-use Rattle.std.proofs.Common.{◌≡◌, ◌≤◌, ◌<◌, refl, ap, sym, ◌∙◌, subst, ℕ, ◌+◌, suc, zero, min, List, [], ◌∷◌, ◌++◌, length, take, drop, arith, append-nil, Option, Some, None, Result, Ok, Err}
+use Rattle.std.proofs.Common.{◌≡◌, ◌≤◌, ◌<◌, refl, ap, sym, ◌∙◌, subst, ℕ, ◌+◌, ◌*◌, suc, zero, min, List, [], ◌∷◌, ◌++◌, length, take, drop, arith, append-nil, Option, Some, None, Result, Ok, Err, IfOk}
 use Rattle.std.proofs.lemmas.List.{length-append}
 use Rattle.std.specs.Prelude.{slice_get}
 use Rattle.stab_pauli.specs.declared.refusal.Refusal.{Refusal}
@@ -12,8 +12,10 @@ use Rattle.stab_circuit.specs.Edits.{rebuilt, edited_inside, edited_in, inner, s
 use Rattle.stab_circuit.specs.inner.Summaries.{summary_of, followed_by, repeated, reach, IsSummary}
 use Rattle.stab_circuit.specs.inner.Splices.{Splice, splice_block, splice_of, spliced, IsWithin}
 use Rattle.stab_circuit.specs.inner.Judgements.{summed, judgement_of, block_refusal, BeginsWith}
+use Rattle.stab_circuit.specs.inner.Outcomes.{steps_within, PutsApart, AreApart}
 use Rattle.stab_circuit.proofs.ItemLemmas.{listed-append}
 use Rattle.stab_circuit.proofs.SummaryLemmas.{summary-join, block_summary}
+use Rattle.stab_circuit.proofs.StepApartLemmas.{block_apart}
 use Rattle.stab_circuit.proofs.EditLemmas.{entries-listed, got_split, steps-append, steps_split, begins_before, begins_behind}
 use Rattle.stab_circuit.proofs.SpliceLemmas.{edited_spliced, splice_within}
 
@@ -23,49 +25,69 @@ refused_inside edit (Some (operation op)) r e = cc
 refused_inside edit (Some (repeat n tag body)) r e = absurd (cc)
 
 -- no block
-pub judged_no_block : (change : Change) (b p : ℕ) (bs blocks : List ℕ) (xs : List OneItem) (r : Refusal) → blocks ≡ b ∷ bs → block_refusal (slice_get xs b) ≡ Some r
-    → Err r ≡ judgement_of (splice_of change blocks p xs)
-judged_no_block change b p bs blocks xs r e f =
-    sym (ap (λ l. judgement_of (splice_of change l p xs)) e ∙ ap (λ q. judgement_of (splice_block b q)) (refused_inside (edited_in change bs p) (slice_get xs b) r f))
+pub judged_no_block : (change : Change) (b p w : ℕ) (bs blocks : List ℕ) (xs : List OneItem) (r : Refusal) → blocks ≡ b ∷ bs → block_refusal (slice_get xs b) ≡ Some r
+    → Err r ≡ judgement_of w (splice_of change blocks p xs)
+judged_no_block change b p w bs blocks xs r e f =
+    sym (ap (λ l. judgement_of w (splice_of change l p xs)) e ∙ ap (λ q. judgement_of w (splice_block b q)) (refused_inside (edited_in change bs p) (slice_get xs b) r f))
 
 inside_is : (edit : List OneItem → Result (List OneItem) Refusal) (n : ℕ) (tag : List ℕ) (body : List OneItem) (g : Option OneItem) → g ≡ Some (repeat n tag (listed body)) → edited_inside edit g ≡ rebuilt n tag (edit body)
 inside_is edit n tag body g e = ap (edited_inside edit) e ∙ ap (λ l. rebuilt n tag (edit l)) (entries-listed body)
 
-err_rebuilt : (n b : ℕ) (tag : List ℕ) (q : Result (List OneItem) Refusal) (r : Refusal) → summed q ≡ Err r → judgement_of (splice_block b (rebuilt n tag q)) ≡ Err r
-err_rebuilt n b tag (Ok ys) r e = absurd (cc)
-err_rebuilt n b tag (Err s) r e = cc
+err_rebuilt : (n b w : ℕ) (tag : List ℕ) (q : Result (List OneItem) Refusal) (r : Refusal) → q ≡ Err r → judgement_of w (splice_block b (rebuilt n tag q)) ≡ Err r
+err_rebuilt n b w tag q r e = ap (λ t. judgement_of w (splice_block b (rebuilt n tag t))) e
 
-ok_rebuilt : (n b : ℕ) (tag : List ℕ) (q : Result (List OneItem) Refusal) (s : Summary) → 0 < n → summed q ≡ Ok s
-    → judgement_of (splice_block b (rebuilt n tag q)) ≡ Ok (record { first = b; behind = b + 1; put = repeated n s })
-ok_rebuilt n b tag (Ok ys) s h e =
+ok_rebuilt : (n b w : ℕ) (tag : List ℕ) (q : Result (List OneItem) Refusal) (s : Summary) → 0 < n → summed q ≡ Ok s
+    → judgement_of w (splice_block b (rebuilt n tag q)) ≡ Ok (record { first = b; behind = b + 1; put = repeated n s; within = w })
+ok_rebuilt n b w tag (Ok ys) s h e =
     let same : summary_of (listed ys) ≡ s = cc in
-    ap (λ t. Ok (record { first = b; behind = b + 1; put = t })) (block_summary n tag (listed ys) h ∙ ap (repeated n) same)
-ok_rebuilt n b tag (Err r) s h e = absurd (cc)
+    ap (λ t. Ok (record { first = b; behind = b + 1; put = t; within = w })) (block_summary n tag (listed ys) h ∙ ap (repeated n) same)
+ok_rebuilt n b w tag (Err r) s h e = absurd (cc)
 
 -- in a block
-judged_inside : (change : Change) (b p n : ℕ) (bs blocks tag : List ℕ) (xs body : List OneItem) → blocks ≡ b ∷ bs → slice_get xs b ≡ Some (repeat n tag (listed body))
-    → judgement_of (splice_of change blocks p xs) ≡ judgement_of (splice_block b (rebuilt n tag (edited_in change bs p body)))
-judged_inside change b p n bs blocks tag xs body e f =
-    ap (λ l. judgement_of (splice_of change l p xs)) e ∙ ap (λ q. judgement_of (splice_block b q)) (inside_is (edited_in change bs p) n tag body (slice_get xs b) f)
+splice_inside : (change : Change) (b p n : ℕ) (bs blocks tag : List ℕ) (xs body : List OneItem) → blocks ≡ b ∷ bs → slice_get xs b ≡ Some (repeat n tag (listed body))
+    → splice_of change blocks p xs ≡ splice_block b (rebuilt n tag (edited_in change bs p body))
+splice_inside change b p n bs blocks tag xs body e f =
+    ap (λ l. splice_of change l p xs) e ∙ ap (splice_block b) (inside_is (edited_in change bs p) n tag body (slice_get xs b) f)
 
-pub judged_err : (change : Change) (b p n : ℕ) (bs blocks tag : List ℕ) (xs body : List OneItem) (r : Refusal) → blocks ≡ b ∷ bs → slice_get xs b ≡ Some (repeat n tag (listed body)) → Err r ≡ summed (edited_in change bs p body)
-    → Err r ≡ judgement_of (splice_of change blocks p xs)
-judged_err change b p n bs blocks tag xs body r e f h = sym (judged_inside change b p n bs blocks tag xs body e f ∙ err_rebuilt n b tag (edited_in change bs p body) r (sym h))
+within_block : (b p n : ℕ) (bs blocks tag : List ℕ) (xs body : List OneItem) → blocks ≡ b ∷ bs → slice_get xs b ≡ Some (repeat n tag (listed body)) → steps_within blocks p xs ≡ steps_in bs p body
+within_block b p n bs blocks tag xs body e f = ap (λ l. steps_within l p xs) e ∙ ap (λ g. steps_in bs p (inner g)) f ∙ ap (steps_in bs p) (entries-listed body)
 
-pub judged_ok : (change : Change) (b p n : ℕ) (bs blocks tag : List ℕ) (xs body : List OneItem) (s : Summary) → blocks ≡ b ∷ bs → slice_get xs b ≡ Some (repeat n tag (listed body)) → 0 < n → Ok s ≡ summed (edited_in change bs p body)
-    → Ok (record { first = b; behind = b + 1; put = repeated n s }) ≡ judgement_of (splice_of change blocks p xs)
-judged_ok change b p n bs blocks tag xs body s e f pos h = sym (judged_inside change b p n bs blocks tag xs body e f ∙ ok_rebuilt n b tag (edited_in change bs p body) s pos (sym h))
+pub judged_err : (change : Change) (b p n w : ℕ) (bs blocks tag : List ℕ) (xs body : List OneItem) (r : Refusal) → blocks ≡ b ∷ bs → slice_get xs b ≡ Some (repeat n tag (listed body)) → edited_in change bs p body ≡ Err r
+    → Err r ≡ judgement_of w (splice_of change blocks p xs)
+judged_err change b p n w bs blocks tag xs body r e f h =
+    sym (ap (judgement_of w) (splice_inside change b p n bs blocks tag xs body e f) ∙ err_rebuilt n b w tag (edited_in change bs p body) r h)
+
+pub judged_ok : (change : Change) (b p n w : ℕ) (bs blocks tag : List ℕ) (xs body : List OneItem) (s : Summary) → blocks ≡ b ∷ bs → slice_get xs b ≡ Some (repeat n tag (listed body)) → 0 < n → Ok s ≡ summed (edited_in change bs p body)
+    → w ≡ min (length (steps_in bs p body)) 1048577
+    → Ok (record { first = b; behind = b + 1; put = repeated n s; within = w }) ≡ judgement_of (min (length (steps_within blocks p xs)) 1048577) (splice_of change blocks p xs)
+judged_ok change b p n w bs blocks tag xs body s e f pos h v =
+    sym (
+    ap (λ l. judgement_of (min (length l) 1048577) (splice_of change blocks p xs)) (within_block b p n bs blocks tag xs body e f)
+    ∙ ap (λ m. judgement_of m (splice_of change blocks p xs)) (sym v)
+    ∙ ap (judgement_of w) (splice_inside change b p n bs blocks tag xs body e f)
+    ∙ ok_rebuilt n b w tag (edited_in change bs p body) s pos (sym h)
+    )
+
+-- what is put in, where its steps are on different qubits
+rebuilt_apart : (n b : ℕ) (tag : List ℕ) (q : Result (List OneItem) Refusal) → IfOk q AreApart → IfOk (splice_block b (rebuilt n tag q)) PutsApart
+rebuilt_apart n b tag (Ok ys) a = block_apart (repeat n tag (listed ys)) n tag (listed ys) refl a
+rebuilt_apart n b tag (Err r) a = a
+
+pub judged_apart : (change : Change) (b p n : ℕ) (bs blocks tag : List ℕ) (xs body : List OneItem) → blocks ≡ b ∷ bs → slice_get xs b ≡ Some (repeat n tag (listed body)) → IfOk (edited_in change bs p body) AreApart
+    → IfOk (splice_of change blocks p xs) PutsApart
+judged_apart change b p n bs blocks tag xs body e f a =
+    subst (λ q. IfOk q PutsApart) (sym (splice_inside change b p n bs blocks tag xs body e f)) (rebuilt_apart n b tag (edited_in change bs p body) a)
 
 -- where a judgement lies in the list
-within_by : (q : Result Splice Refusal) (j : Judgement) (xs : List OneItem) → ((s : Splice) → q ≡ Ok s → IsWithin s xs) → Ok j ≡ judgement_of q → (j.first ≤ j.behind) × (j.behind ≤ length xs)
-within_by (Ok s) j xs f e =
+within_by : (q : Result Splice Refusal) (w : ℕ) (j : Judgement) (xs : List OneItem) → ((s : Splice) → q ≡ Ok s → IsWithin s xs) → Ok j ≡ judgement_of w q → (j.first ≤ j.behind) × (j.behind ≤ length xs)
+within_by (Ok s) v j xs f e =
     let w = f s refl in
-    let same : j ≡ record { first = s.first; behind = s.behind; put = summary_of (listed s.put) } = cc in
+    let same : j ≡ record { first = s.first; behind = s.behind; put = summary_of (listed s.put); within = v } = cc in
     (omega (arith, ap (λ t. t.first) same, ap (λ t. t.behind) same, w.order), omega (arith, ap (λ t. t.behind) same, w.end))
-within_by (Err r) j xs f e = absurd (cc)
+within_by (Err r) w j xs f e = absurd (cc)
 
-pub judged_within : (change : Change) (blocks : List ℕ) (p : ℕ) (xs : List OneItem) (j : Judgement) → Ok j ≡ judgement_of (splice_of change blocks p xs) → (j.first ≤ j.behind) × (j.behind ≤ length xs)
-judged_within change blocks p xs j e = within_by (splice_of change blocks p xs) j xs (λ s h. splice_within change blocks p xs s h) e
+pub judged_within : (change : Change) (blocks : List ℕ) (p w : ℕ) (xs : List OneItem) (j : Judgement) → Ok j ≡ judgement_of w (splice_of change blocks p xs) → (j.first ≤ j.behind) × (j.behind ≤ length xs)
+judged_within change blocks p w xs j e = within_by (splice_of change blocks p xs) w j xs (λ s h. splice_within change blocks p xs s h) e
 
 -- the summary of a list with items put into it
 put_summary : (front put back : List OneItem) → (summary_of (listed put)).reach ≤ 16777215 → (summary_of (listed back)).reach ≤ 16777215
@@ -75,10 +97,10 @@ put_summary front put back near far =
     let small : reach (unroll (listed (put ++ back))) ≤ 16777215 = omega (arith, ap (λ s. s.reach) inner, near, far) in
     ap summary_of (listed-append front (put ++ back)) ∙ summary-join (listed front) (listed (put ++ back)) small ∙ ap (followed_by (summary_of (listed front))) inner
 
-summed_by : (q : Result Splice Refusal) (j : Judgement) (xs : List OneItem) → Ok j ≡ judgement_of q → IsSummary j.put → (summary_of (listed (drop j.behind xs))).reach ≤ 16777215
+summed_by : (q : Result Splice Refusal) (w : ℕ) (j : Judgement) (xs : List OneItem) → Ok j ≡ judgement_of w q → IsSummary j.put → (summary_of (listed (drop j.behind xs))).reach ≤ 16777215
     → Ok (followed_by (summary_of (listed (take j.first xs))) (followed_by j.put (summary_of (listed (drop j.behind xs))))) ≡ summed (spliced xs q)
-summed_by (Ok s) j xs e small far =
-    let same : j ≡ record { first = s.first; behind = s.behind; put = summary_of (listed s.put) } = cc in
+summed_by (Ok s) w j xs e small far =
+    let same : j ≡ record { first = s.first; behind = s.behind; put = summary_of (listed s.put); within = w } = cc in
     let first : j.first ≡ s.first = ap (λ t. t.first) same in
     let behind : j.behind ≡ s.behind = ap (λ t. t.behind) same in
     let put : j.put ≡ summary_of (listed s.put) = ap (λ t. t.put) same in
@@ -88,27 +110,27 @@ summed_by (Ok s) j xs e small far =
     ∙ ap (λ n. Ok (followed_by (summary_of (listed (take s.first xs))) (followed_by j.put (summary_of (listed (drop n xs)))))) behind
     ∙ ap (λ t. Ok (followed_by (summary_of (listed (take s.first xs))) (followed_by t (summary_of (listed (drop s.behind xs)))))) put
     ∙ ap Ok (sym (put_summary (take s.first xs) s.put (drop s.behind xs) near far'))
-summed_by (Err r) j xs e small far = absurd (cc)
+summed_by (Err r) w j xs e small far = absurd (cc)
 
-summed_judged : (change : Change) (blocks : List ℕ) (p : ℕ) (xs : List OneItem) (j : Judgement) → Ok j ≡ judgement_of (splice_of change blocks p xs) → IsSummary j.put → (summary_of (listed (drop j.behind xs))).reach ≤ 16777215
+summed_judged : (change : Change) (blocks : List ℕ) (p w : ℕ) (xs : List OneItem) (j : Judgement) → Ok j ≡ judgement_of w (splice_of change blocks p xs) → IsSummary j.put → (summary_of (listed (drop j.behind xs))).reach ≤ 16777215
     → Ok (followed_by (summary_of (listed (take j.first xs))) (followed_by j.put (summary_of (listed (drop j.behind xs))))) ≡ summed (edited_in change blocks p xs)
-summed_judged change blocks p xs j e small far = summed_by (splice_of change blocks p xs) j xs e small far ∙ ap summed (sym (edited_spliced change blocks p xs))
+summed_judged change blocks p w xs j e small far = summed_by (splice_of change blocks p xs) w j xs e small far ∙ ap summed (sym (edited_spliced change blocks p xs))
 
-err_by : (q : Result Splice Refusal) (xs : List OneItem) (r : Refusal) → Err r ≡ judgement_of q → Err r ≡ summed (spliced xs q)
-err_by (Ok s) xs r e = absurd (cc)
-err_by (Err s) xs r e = cc
+err_by : (q : Result Splice Refusal) (w : ℕ) (xs : List OneItem) (r : Refusal) → Err r ≡ judgement_of w q → spliced xs q ≡ Err r
+err_by (Ok s) w xs r e = absurd (cc)
+err_by (Err s) w xs r e = cc
 
-pub summed_refused : (change : Change) (blocks : List ℕ) (p : ℕ) (xs : List OneItem) (r : Refusal) → Err r ≡ judgement_of (splice_of change blocks p xs) → Err r ≡ summed (edited_in change blocks p xs)
-summed_refused change blocks p xs r e = err_by (splice_of change blocks p xs) xs r e ∙ ap summed (sym (edited_spliced change blocks p xs))
+pub edit_refused : (change : Change) (blocks : List ℕ) (p w : ℕ) (xs : List OneItem) (r : Refusal) → Err r ≡ judgement_of w (splice_of change blocks p xs) → edited_in change blocks p xs ≡ Err r
+edit_refused change blocks p w xs r e = edited_spliced change blocks p xs ∙ err_by (splice_of change blocks p xs) w xs r e
 
-pub summed_around : (change : Change) (blocks : List ℕ) (p : ℕ) (xs front back : List OneItem) (j : Judgement) (s : Summary) → Ok j ≡ judgement_of (splice_of change blocks p xs) → IsSummary j.put
+pub summed_around : (change : Change) (blocks : List ℕ) (p w : ℕ) (xs front back : List OneItem) (j : Judgement) (s : Summary) → Ok j ≡ judgement_of w (splice_of change blocks p xs) → IsSummary j.put
     → front ≡ take j.first xs → back ≡ drop j.behind xs → (summary_of (listed back)).reach ≤ 16777215 → s ≡ followed_by (summary_of (listed front)) (followed_by j.put (summary_of (listed back)))
     → Ok s ≡ summed (edited_in change blocks p xs)
-summed_around change blocks p xs front back j s e small f g far h =
+summed_around change blocks p w xs front back j s e small f g far h =
     ap Ok h
     ∙ ap (λ l. Ok (followed_by (summary_of (listed l)) (followed_by j.put (summary_of (listed back))))) f
     ∙ ap (λ l. Ok (followed_by (summary_of (listed (take j.first xs))) (followed_by j.put (summary_of (listed l))))) g
-    ∙ summed_judged change blocks p xs j e small (subst (λ l. (summary_of (listed l)).reach ≤ 16777215) g far)
+    ∙ summed_judged change blocks p w xs j e small (subst (λ l. (summary_of (listed l)).reach ≤ 16777215) g far)
 
 -- the steps before a place in nested blocks
 no_steps : (bs : List ℕ) (p : ℕ) → steps_in bs p [] ≡ []
@@ -173,3 +195,31 @@ begins_block b p n bs blocks tag xs body e f h inside =
     let all : unroll (listed xs) ≡ front ++ (rounds n (unroll (listed body)) ++ unroll (listed (drop (suc b) xs))) =
     ap (λ l. unroll (listed l)) (got_split xs b (repeat n tag (listed body)) f) ∙ steps-append (take b xs) (repeat n tag (listed body) ∷ drop (suc b) xs) in
     subst (λ l. BeginsWith l (unroll (listed xs))) (sym (steps_block b p n bs blocks tag xs body e f)) (subst (BeginsWith (front ++ within)) (sym all) whole)
+
+-- what leaves a list where a block is edited is the block, with no fewer steps than stand before a place within it
+
+taken_one : (xs : List OneItem) (b : ℕ) (x : OneItem) → slice_get xs b ≡ Some x → drop b (take (suc b) xs) ≡ x ∷ []
+taken_one [] b x e = absurd (cc)
+taken_one (y ∷ ys) zero x e = cc
+taken_one (y ∷ ys) (suc b) x e = taken_one ys b x e
+
+begins_shorter : (front all : List Step) → BeginsWith front all → length front ≤ length all
+begins_shorter front all b = omega (arith, ap length b.1, length-append front b.0)
+
+pub gone_block : (b p n k : ℕ) (bs tag : List ℕ) (xs body : List OneItem) → slice_get xs b ≡ Some (repeat n tag (listed body)) → 0 < n → BeginsWith (steps_in bs p body) (unroll (listed body))
+    → k ≡ min (length (steps_in bs p body)) 1048577 → k ≤ length (unroll (listed (drop b (take (b + 1) xs))))
+gone_block b p n k bs tag xs body f h inside e =
+    let within = steps_in bs p body in
+    let block = repeat n tag (listed body) in
+    let more = begins_before within (rounds n (unroll (listed body))) [] (begins_rounds n within (unroll (listed body)) h inside) in
+    let long : length within ≤ length (unroll (listed (block ∷ []))) = begins_shorter within (unroll (listed (block ∷ []))) more in
+    let one : drop b (take (b + 1) xs) ≡ block ∷ [] = ap (λ m. drop b (take m xs)) next ∙ taken_one xs b block f in
+    omega (arith, e, long, ap (λ l. length (unroll (listed l))) one)
+  where
+    next : b + 1 ≡ suc b
+    next = omega arith
+
+-- a round has no more steps than all of them have
+pub put_block : (n s k : ℕ) → 0 < n → k ≤ s → k ≤ 1048577 → k ≤ min (n * s) 1048577
+put_block zero s k h less cap = absurd (omega arith)
+put_block (suc n) s k h less cap = omega (arith, less, cap)

@@ -21,6 +21,7 @@ mod CircuitFaultLemmas
 pub mod EditLemmas
 mod SpliceLemmas
 mod JudgementLemmas
+mod OutcomeLemmas
 mod CommitLemmas
 pub mod EditingLemmas
 pub mod UndoLemmas

@@ -54,8 +54,8 @@ pair_apart a (pair.Record k q) h = tt
 pub controlled_apart : (a : Axis) (ps seen : List ControlledPair) → seen ≡ ps → All IsPairApart seen → All IsApart (steps_of (kind.Controlled a ps))
 controlled_apart a ps seen e h = All-map IsApart (controlled_step a) ps (λ k d lt. pair_apart a (get_or ps k d) (subst (All IsPairApart) e h k d lt))
 
-pub detector_apart : (coordinates : List (List ℕ)) (ks : List ℕ) → All IsApart (steps_of (kind.Detector coordinates ks))
-detector_apart coordinates ks = All-one IsApart (detector ks) tt
+pub detector_apart : (located : List (List ℕ) × List ℕ) → All IsApart (steps_of (kind.Detector located))
+detector_apart located = All-one IsApart (detector located.1) tt
 
 pub observable_apart : (j : ℕ) (ks : List ℕ) → All IsApart (steps_of (kind.ObservableInclude j ks))
 observable_apart j ks = All-one IsApart (observable j ks) tt

@@ -151,8 +151,8 @@ pub product_summary : (ps : List (List Factor))
     → kind_summary_of (kind.MeasureProducts ps) ≡ record { steps = min (length ps) 1048577; records = min (length ps) 16777215; reach = 0; qubits = past (product_qubits ps); observables = 0; depth = 0 }
 product_summary ps = measured_summary measured_product ps (past (product_qubits ps)) (λ fs. (refl, refl))
 
-pub detector_summary : (coordinates : List (List ℕ)) (ks : List ℕ) → kind_summary_of (kind.Detector coordinates ks) ≡ record { steps = 1; records = 0; reach = greatest ks; qubits = 0; observables = 0; depth = 0 }
-detector_summary coordinates ks = same_summary _ _ _ _ _ _ _ _ _ _ _ _ refl refl (omega arith) refl refl refl
+pub detector_summary : (located : List (List ℕ) × List ℕ) → kind_summary_of (kind.Detector located) ≡ record { steps = 1; records = 0; reach = greatest located.1; qubits = 0; observables = 0; depth = 0 }
+detector_summary located = same_summary _ _ _ _ _ _ _ _ _ _ _ _ refl refl (omega arith) refl refl refl
 
 pub observable_summary : (j : ℕ) (ks : List ℕ) → kind_summary_of (kind.ObservableInclude j ks) ≡ record { steps = 1; records = 0; reach = greatest ks; qubits = 0; observables = j + 1; depth = 0 }
 observable_summary j ks = same_summary _ _ _ _ _ _ _ _ _ _ _ _ refl refl (omega arith) refl (omega arith) refl

@@ -1,15 +1,15 @@
 -- Edits taken back: the edit that undoes an edit, and a deletion by way of an item that stands for nothing.
-use Rattle.std.proofs.Common.{◌≡◌, ◌≤◌, ◌<◌, refl, ap, sym, ◌∙◌, subst, ℕ, ◌+◌, suc, zero, max, Bool, true, false, List, [], ◌∷◌, ◌++◌, length, take, drop, set, arith, nat_lt, if◌then◌else◌, Option, Some, None, Result, Ok, Err}
+use Rattle.std.proofs.Common.{◌≡◌, ◌<◌, refl, ap, sym, ◌∙◌, subst, ℕ, ◌+◌, suc, true, List, [], ◌∷◌, ◌++◌, length, take, drop, set, arith, nat_lt, if◌then◌else◌, Option, Some, None, Result, Ok, Err}
 use Rattle.std.proofs.lemmas.List.{set_split, take-append-drop, length-take-le, length-append}
 use Rattle.std.specs.List.{remove}
 use Rattle.std.specs.Prelude.{slice_get}
 use Rattle.std.proofs.lemmas.Option.{slice_get_within}
 use Rattle.stab_pauli.specs.declared.refusal.Refusal.{Refusal}
-use Rattle.stab_pauli.specs.declared.refusal.Refusal.TheVariants.{PlaceOutOfRange, NotABlock}
-use Rattle.stab_circuit.specs.Items.{Items, OneItem, operation, repeat, listed, entries}
+use Rattle.stab_pauli.specs.declared.refusal.Refusal.TheVariants.{PlaceOutOfRange}
+use Rattle.stab_circuit.specs.Items.{Items, OneItem, repeat, listed, entries}
 use Rattle.stab_circuit.specs.declared.change.Change.{Change}
 use Rattle.stab_circuit.specs.declared.change.Change.TheVariants.{Insert, Replace, Delete}
-use Rattle.stab_circuit.specs.Edits.{put, rebuilt, edited_inside, changed, edited_in, inner, taken_at, taken_in, put_item}
+use Rattle.stab_circuit.specs.Edits.{put, rebuilt, edited_inside, changed, edited_in, inner, taken_at, taken_in}
 use Rattle.stab_circuit.proofs.EditLemmas.{entries-listed, listed-entries, changed_split, got_split, Rebuilds, rebuilds}
 
 -- lists around a place
@@ -70,7 +70,7 @@ module _ (edit : List OneItem → Result (List OneItem) Refusal) (b : ℕ) (xs y
   within : b < length xs
   within = slice_get_within xs b (repeat is.count is.tag is.body) is.found
 
-  front_size : length (take b xs) ≡ b
+  pub front_size : length (take b xs) ≡ b
   front_size = length-take-le b xs (omega (arith, within))
 
   pub old_parts : xs ≡ take b xs ++ repeat is.count is.tag is.body ∷ drop (suc b) xs

@@ -19,9 +19,11 @@ IsVerdict refusal fault = (refusal ≡ Some fault.refusal) × (fault ≡ whole f
 abbrev pub WantsMemory : Change → Option Refusal → Fault → Type 0
 WantsMemory change refusal fault = IsInsert change × (refusal ≡ None) × (fault ≡ whole OutOfMemory)
 
--- an edit tells the first changed step and both ends of the outermost item, up to 1,048,577
+-- an edit tells the first changed step and both ends of the outermost item, up to 1,048,577; no end stands before the first
 pub record TellsSteps (change : Change) (path : Path) (old new : List OneItem) (told : Edited) : Type 0 where
   pub first : told.first ≡ min (first_changed path old) 1048577
   pub within : first_changed path old ≤ length (unroll (listed old))
   pub old_end : told.old_end ≡ min (old_end change path old) 1048577
   pub new_end : told.new_end ≡ min (new_end change path new) 1048577
+  pub old_order : told.first ≤ told.old_end
+  pub new_order : told.first ≤ told.new_end

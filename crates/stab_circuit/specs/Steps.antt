@@ -65,10 +65,10 @@ steps_of (kind.Swap pairs) = map (λ pair. two gate.Swap pair.0 pair.1) pairs
 steps_of (kind.Measure m targets) = map (measured m) targets
 steps_of (kind.Reset axis qubits) = map (λ q. collapse (letter_of axis) q false false true) qubits
 steps_of (kind.MeasureProducts products) = map measured_product products
-steps_of (kind.Detector coordinates ks) = detector ks ∷ []
+steps_of (kind.Detector located) = detector located.1 ∷ []
 steps_of (kind.ObservableInclude j ks) = observable j ks ∷ []
 steps_of kind.Tick = []
-steps_of (kind.QubitCoords coordinates qubits) = []
+steps_of (kind.QubitCoords located) = []
 steps_of (kind.ShiftCoords coordinates) = []
 
 -- so many rounds of steps
@@ -140,8 +140,8 @@ named_qubits (kind.Swap pairs) = pair_qubits pairs
 named_qubits (kind.Measure m targets) = target_qubits targets
 named_qubits (kind.Reset axis qubits) = qubits
 named_qubits (kind.MeasureProducts products) = product_qubits products
-named_qubits (kind.QubitCoords coordinates qubits) = qubits
-named_qubits (kind.Detector coordinates ks) = []
+named_qubits (kind.QubitCoords located) = located.1
+named_qubits (kind.Detector located) = []
 named_qubits (kind.ObservableInclude j ks) = []
 named_qubits kind.Tick = []
 named_qubits (kind.ShiftCoords coordinates) = []
@@ -155,9 +155,9 @@ named_observables (kind.Swap pairs) = []
 named_observables (kind.Measure m targets) = []
 named_observables (kind.Reset axis qubits) = []
 named_observables (kind.MeasureProducts products) = []
-named_observables (kind.Detector coordinates ks) = []
+named_observables (kind.Detector located) = []
 named_observables kind.Tick = []
-named_observables (kind.QubitCoords coordinates qubits) = []
+named_observables (kind.QubitCoords located) = []
 named_observables (kind.ShiftCoords coordinates) = []
 
 -- one more than the greatest of the numbers, or 0

@@ -10,3 +10,4 @@ pub mod Margins
 pub mod Places
 pub mod Splices
 pub mod Judgements
+pub mod Outcomes

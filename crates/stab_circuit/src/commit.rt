@@ -63,7 +63,7 @@ fn commit_within(
     ensures unchanged { OnErr result (item.new ≡ item.old) }
 {
     match &mut item.node {
-        Node::Operation(_) => unreachable!(),
+        Node::Plain(_) | Node::Tagged(_) => unreachable!(),
         Node::Repeat { head, body } => {
             let done = commit(body, blocks, place, change);
             head.kept = items_summary(body.as_slice());

@@ -1,10 +1,11 @@
-ghost use Rattle.std.specs.Prelude.{◌≡◌, ◌≤◌, ◌+◌, length, min, take, slice_get, IfOk};
+ghost use Rattle.std.specs.Prelude.{◌≡◌, ◌≤◌, length, min, take, drop, slice_get, Err, OnOk, IfOk, IfErr};
 ghost use Rattle.stab_circuit.specs.Items.{listed};
 ghost use Rattle.stab_circuit.specs.Steps.{unroll};
 ghost use Rattle.stab_circuit.specs.Edits.{edited_in, steps_in as steps_of_place};
-ghost use Rattle.stab_circuit.specs.inner.Summaries.{summary_of, followed_by, IsSummary};
+ghost use Rattle.stab_circuit.specs.inner.Summaries.{IsSummary};
 ghost use Rattle.stab_circuit.specs.inner.Splices.{splice_of, splice_at};
-ghost use Rattle.stab_circuit.specs.inner.Judgements.{judgement_of, summed, IsBlockAt, BeginsWith};
+ghost use Rattle.stab_circuit.specs.inner.Judgements.{judgement_of, IsBlockAt, BeginsWith};
+ghost use Rattle.stab_circuit.specs.inner.Outcomes.{steps_within, PutsApart, outcome_by, IsOutcome};
 
 use crate::change::Change;
 use crate::item::{Item, Part, items_summary};
@@ -12,13 +13,28 @@ use crate::summary::Summary;
 use stab_lines::Count;
 use stab_pauli::Refusal;
 
-/// What an edit comes to in the outermost list: which items leave it, from the first up to the
-/// one before `behind`, and the summary of what is put in their stead.
+/// What an edit comes to in a list of items: which items leave it, from the first up to the one
+/// before `behind`, the summary of what is put in their stead, and how many steps stand before the
+/// place within the first, counted up to 1,048,577.
 #[derive(Clone, Copy)]
 pub(crate) struct Judgement {
     pub(crate) first: usize,
     pub(crate) behind: usize,
     pub(crate) put: Summary,
+    pub(crate) within: u32,
+}
+
+/// What a list comes to by an edit: the summary of the items that the edit leaves, and which steps
+/// it changes.
+///
+/// Steps are counted up to 1,048,577: how many stand before the place, before the end of what
+/// leaves the list, and before the end of what is put in its stead.
+#[derive(Clone, Copy)]
+pub(crate) struct Outcome {
+    pub(crate) total: Summary,
+    pub(crate) first: u32,
+    pub(crate) old_end: u32,
+    pub(crate) new_end: u32,
 }
 
 /// A block: its count of rounds, and its items.
@@ -35,45 +51,41 @@ fn block_at(items: &[Item], place: usize) -> Result<Block<'_>, Refusal>
     match items.get(place) {
         None => Err(Refusal::PlaceOutOfRange),
         Some(item) => match item.part() {
-            Part::Operation(_) => Err(Refusal::NotABlock),
+            Part::Operation { .. } => Err(Refusal::NotABlock),
             Part::Block { count, body, .. } => Ok(Block { count, body }),
         },
     }
 }
 
 /// What a change comes to at a place of a list of so many items.
+#[tactic(auto, using(crate::proofs::StepApartLemmas::nothing_apart))]
 fn judge_at(len: usize, place: usize, change: &Change) -> Result<Judgement, Refusal>
-    ensures value { result ≡ judgement_of (splice_at change.now place len) }
+    ensures value { result ≡ judgement_of 0 (splice_at change.now place len) }
     ensures small { IfOk result (λ j. IsSummary j.put) }
+    ensures apart { OnOk result (IfOk (splice_at change.now place len) PutsApart) }
+    ensures nothing_within { IfOk result (λ j. j.within ≡ 0) }
 {
     match change {
         Change::Insert(item) if place <= len => Ok(Judgement {
             first: place,
             behind: place,
             put: item.summary(),
+            within: 0,
         }),
         Change::Replace(item) if place < len => Ok(Judgement {
             first: place,
             behind: place + 1,
             put: item.summary(),
+            within: 0,
         }),
         Change::Delete if place < len => Ok(Judgement {
             first: place,
             behind: place + 1,
             put: Summary::NONE,
+            within: 0,
         }),
         Change::Insert(_) | Change::Replace(_) | Change::Delete => Err(Refusal::PlaceOutOfRange),
     }
-}
-
-/// The summary of items around others of this summary.
-pub(crate) fn around(front: &[Item], put: Summary, back: &[Item]) -> Summary
-    requires small { IsSummary put }
-    ensures value { result ≡ followed_by (summary_of (listed front.now)) (followed_by put (summary_of (listed back.now))) }
-    ensures small { IsSummary result }
-    ensures far { (summary_of (listed back.now)).reach ≤ 16777215 }
-{
-    items_summary(front).then(put.then(items_summary(back)))
 }
 
 /// What a change at a place in nested blocks comes to in the outermost list, by the summaries that
@@ -85,88 +97,89 @@ pub(crate) fn judge(
     place: usize,
     change: &Change,
 ) -> Result<Judgement, Refusal>
-    ensures value { result ≡ judgement_of (splice_of change.now blocks.now place items.now) }
+    ensures value { result ≡ judgement_of (min (length (steps_within blocks.now place items.now)) 1048577) (splice_of change.now blocks.now place items.now) }
     ensures small { IfOk result (λ j. IsSummary j.put) }
-    ensures within { IfOk result (λ j. (j.first ≤ j.behind) × (j.behind ≤ length items.now)) }
+    ensures within { IfOk result (λ j. (j.first ≤ j.behind) × (j.behind ≤ length items.now) × (j.within ≤ 1048577)) }
+    ensures front { OnOk result (BeginsWith (steps_of_place blocks.now place items.now) (unroll (listed items.now))) }
+    ensures apart { OnOk result (IfOk (splice_of change.now blocks.now place items.now) PutsApart) }
+    ensures within_put { IfOk result (λ j. j.within ≤ j.put.steps) }
+    ensures within_gone { IfOk result (λ j. j.within ≤ length (unroll (listed (drop j.first (take j.behind items.now))))) }
 {
     match blocks.split_first() {
         None => judge_at(items.len(), place, change),
         Some((block, others)) => match block_at(items, *block) {
             Err(refusal) => Err(refusal),
-            Ok(inner) => match edited_summary(inner.body, others, place, change) {
+            Ok(inner) => match outcome_in(inner.body, others, place, change) {
                 Err(refusal) => Err(refusal),
                 Ok(round) => Ok(Judgement {
                     first: *block,
                     behind: *block + 1,
-                    put: round.repeated(inner.count.number()),
+                    put: round.total.repeated(inner.count.number()),
+                    within: round.first,
                 }),
             },
         },
     }
 }
 
-/// The summary of the items that a change leaves.
+/// What a list comes to by an edit that is judged like this, by the summaries of the items before
+/// those that leave it, of these, and of those behind them.
+fn outcome_of(judgement: Judgement, front: Summary, gone: Summary, back: Summary) -> Outcome
+    requires put { IsSummary judgement.put }
+    requires few { judgement.within ≤ 1048577 }
+    requires front { IsSummary front }
+    requires gone { IsSummary gone }
+    requires back { IsSummary back }
+    ensures value { result ≡ outcome_by judgement front gone back }
+    ensures small { IsSummary result.total }
+{
+    let first = front.steps + judgement.within;
+    let old_end = front.steps + gone.steps;
+    let new_end = front.steps + judgement.put.steps;
+    Outcome {
+        total: front.then(judgement.put.then(back)),
+        first: first.min(1_048_577),
+        old_end: old_end.min(1_048_577),
+        new_end: new_end.min(1_048_577),
+    }
+}
+
+/// What a list comes to by a change at a place in nested blocks. Each list on the way is added up
+/// once.
 #[cycle(judging)]
-pub(crate) fn edited_summary(
+pub(crate) fn outcome_in(
     items: &[Item],
     blocks: &[usize],
     place: usize,
     change: &Change,
-) -> Result<Summary, Refusal>
-    ensures value { result ≡ summed (edited_in change.now blocks.now place items.now) }
-    ensures small { IfOk result IsSummary }
+) -> Result<Outcome, Refusal>
+    ensures ok { IfOk result (IsOutcome change.now (record { blocks = blocks.now; place = place }) items.now) }
+    ensures refused { IfErr result (λ r. edited_in change.now blocks.now place items.now ≡ Err r) }
 {
     match judge(items, blocks, place, change) {
         Err(refusal) => Err(refusal),
         Ok(judgement) => {
-            let (front, _) = items.split_at(judgement.first);
-            let (_, back) = items.split_at(judgement.behind);
-            Ok(around(front, judgement.put, back))
+            let (taken, back) = items.split_at(judgement.behind);
+            let (front, gone) = taken.split_at(judgement.first);
+            Ok(outcome_of(
+                judgement,
+                items_summary(front),
+                items_summary(gone),
+                items_summary(back),
+            ))
         }
-    }
-}
-
-/// Which steps an edit changes, counted up to 1,048,577: how many stand before its place, before
-/// the end of what leaves the outermost list, and before the end of what is put in its stead.
-#[derive(Clone, Copy)]
-pub(crate) struct Span {
-    pub(crate) first: u32,
-    pub(crate) old_end: u32,
-    pub(crate) new_end: u32,
-}
-
-/// Which steps an edit changes that comes to this.
-pub(crate) fn changed_span(
-    items: &[Item],
-    blocks: &[usize],
-    place: usize,
-    judgement: Judgement,
-) -> Span
-    requires small { IsSummary judgement.put }
-    ensures first { result.first ≡ min (length (steps_of_place blocks.now place items.now)) 1048577 }
-    ensures front { BeginsWith (steps_of_place blocks.now place items.now) (unroll (listed items.now)) }
-    ensures old_end { result.old_end ≡ min (length (unroll (listed (take judgement.behind items.now)))) 1048577 }
-    ensures new_end { result.new_end ≡ min (min (length (unroll (listed (take judgement.first items.now)))) 1048577 + judgement.put.steps) 1048577 }
-{
-    let new_end = steps_up_to(items, judgement.first) + judgement.put.steps;
-    Span {
-        first: steps_in(items, blocks, place),
-        old_end: steps_up_to(items, judgement.behind),
-        new_end: new_end.min(1_048_577),
     }
 }
 
 /// How many steps stand before a place in nested blocks, or 1,048,577 where there are more.
 pub(crate) fn steps_in(items: &[Item], blocks: &[usize], place: usize) -> u32
     ensures value { result ≡ min (length (steps_of_place blocks.now place items.now)) 1048577 }
-    ensures front { BeginsWith (steps_of_place blocks.now place items.now) (unroll (listed items.now)) }
 {
     match blocks.split_first() {
         None => steps_up_to(items, place),
         Some((block, others)) => match block_at(items, *block) {
             Err(_) => steps_up_to(items, *block),
             Ok(inner) => {
-                let _ = inner.count.number();
                 let before = steps_up_to(items, *block);
                 (before + steps_in(inner.body, others, place)).min(1_048_577)
             }

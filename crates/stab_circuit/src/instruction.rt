@@ -177,12 +177,12 @@ pub fn step_at(kind: &Kind, place: usize) -> Option<Step<'_>>
         }
         Kind::Reset(axis, qubits) => reset_at(*axis, qubits.as_slice(), place),
         Kind::MeasureProducts(products) => product_at(products.as_slice(), place),
-        Kind::Detector(_, records) => only_at(Step::Detector(records.as_slice()), place),
+        Kind::Detector(located) => { only_at(Step::Detector(located.targets().as_slice()), place) },
         Kind::ObservableInclude(observable, records) => {
             let number = observable.number();
             only_at(Step::Observable(number, records.as_slice()), place)
         }
-        Kind::Tick | Kind::QubitCoords(_, _) | Kind::ShiftCoords(_) => None,
+        Kind::Tick | Kind::QubitCoords(_) | Kind::ShiftCoords(_) => None,
     }
 }
 
@@ -196,7 +196,7 @@ pub fn step_count(kind: &Kind) -> usize
         Kind::Swap(pairs) => pairs.as_slice().len(),
         Kind::Measure(_, targets) => targets.as_slice().len(),
         Kind::MeasureProducts(products) => products.as_slice().len(),
-        Kind::Detector(_, _) | Kind::ObservableInclude(_, _) => 1,
-        Kind::Tick | Kind::QubitCoords(_, _) | Kind::ShiftCoords(_) => 0,
+        Kind::Detector(_) | Kind::ObservableInclude(_, _) => 1,
+        Kind::Tick | Kind::QubitCoords(_) | Kind::ShiftCoords(_) => 0,
     }
 }

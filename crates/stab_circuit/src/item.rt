@@ -1,5 +1,5 @@
 use crate::summary::{Summary, kind_summary};
-use stab_lines::{Count, Operation, Sequence};
+use stab_lines::{Count, Kind, Operation, Sequence};
 use std::alloc::{AllocError, Global};
 use std::marker::Model;
 
@@ -16,7 +16,10 @@ pub struct Item {
 #[cycle(item)]
 #[derive(Drop)]
 pub(crate) enum Node {
-    Operation(Operation),
+    // An instruction without a tag.
+    Plain(Kind),
+    // One with a tag, which few have, has a box of its own.
+    Tagged(Box<Operation>),
     // What is known of a block has a box of its own, so that instructions stay small.
     Repeat { head: Box<Head>, body: Vec<Item> },
 }
@@ -29,6 +32,9 @@ pub(crate) struct Head {
     /// The summary of one round.
     pub(crate) kept: Summary,
 }
+
+// Long circuits are lists of items, which an edit moves.
+const _: () = prove!(size_of::<Item>() <= 40);
 
 impl Model for Item {
     ghost use Rattle.stab_circuit.specs.Items.{OneItem, depth_of};
@@ -54,7 +60,11 @@ impl Model for Item {
 /// What an item shows of itself.
 #[derive(Clone, Copy)]
 pub(crate) enum Part<'a> {
-    Operation(&'a Operation),
+    Operation {
+        kind: &'a Kind,
+        /// Empty where there is none.
+        tag: &'a [u8],
+    },
     Block {
         count: Count,
         tag: &'a [u8],
@@ -73,22 +83,28 @@ impl Item {
     ghost use Rattle.stab_circuit.specs.inner.Summaries.{summary_of, IsSummary};
     ghost use Rattle.stab_circuit.specs.inner.Parts.{part_of, IsPart};
 
-    /// The item that is one instruction.
-    pub(crate) fn operation(operation: Operation) -> Item
-        ensures value { result ≡ single operation }
+    /// The item that is one instruction. Without a tag it takes no memory.
+    #[tactic(auto, using(crate::proofs::ItemLemmas::untagged))]
+    pub(crate) fn operation(alloc: Global, operation: Operation) -> Result<Item, AllocError>
+        ensures ok { IfOk result (λ i. i ≡ single operation) }
     {
-        Item {
-            node: Node::Operation(operation),
-        }
+        let node = if operation.tag.as_slice().is_empty() {
+            Node::Plain(operation.kind)
+        } else {
+            Node::Tagged(Box::new(alloc, operation)?)
+        };
+        Ok(Item { node })
     }
 
     /// `TICK` without a tag, which stands for nothing: it has no step, and names no qubit and no
     /// observable. It takes no memory.
     #[tactic(auto, using(crate::proofs::ClearLemmas::tick_nothing))]
-    pub fn tick(alloc: Global) -> Item
+    pub fn tick(_alloc: Global) -> Item
         ensures nothing { IsNothing result }
     {
-        Item::operation(Operation::tick(alloc))
+        Item {
+            node: Node::Plain(Kind::Tick),
+        }
     }
 
     /// The item that is a block: its count of rounds, its tag, the items of one round.
@@ -114,7 +130,11 @@ impl Item {
         ensures kept { IsPart result }
     {
         match &self.node {
-            Node::Operation(operation) => Part::Operation(operation),
+            Node::Plain(kind) => Part::Operation { kind, tag: &[] },
+            Node::Tagged(operation) => Part::Operation {
+                kind: &operation.kind,
+                tag: operation.tag.as_slice(),
+            },
             Node::Repeat { head, body } => Part::Block {
                 count: head.count,
                 tag: head.tag.as_slice(),
@@ -132,7 +152,8 @@ impl Item {
         ensures apart { All IsApart (unroll (before self.now done)) }
     {
         match &self.node {
-            Node::Operation(operation) => kind_summary(&operation.kind),
+            Node::Plain(kind) => kind_summary(kind),
+            Node::Tagged(operation) => kind_summary(&operation.kind),
             Node::Repeat { head, .. } => head.kept.repeated(head.count.number()),
         }
     }

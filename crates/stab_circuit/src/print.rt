@@ -8,7 +8,7 @@ ghost use Rattle.stab_circuit.specs.Prints.{line_text, printed_in, printed};
 
 use crate::circuit::Circuit;
 use crate::item::{Item, Part};
-use stab_lines::{Count, Operation, write_opening, write_operation};
+use stab_lines::{Count, Kind, write_opening, write_operation};
 use stab_pauli::{Fault, Output, Refusal, write_all};
 
 /// The blocks round a line, from the innermost outwards.
@@ -34,12 +34,13 @@ fn write_margin<O: Output>(out: &mut O, margin: &Margin) -> Result<(), Refusal>
 fn write_operation_line<O: Output>(
     out: &mut O,
     margin: &Margin,
-    operation: &Operation,
+    kind: &Kind,
+    tag: &[u8],
 ) -> Result<(), Refusal>
-    ensures writes { WritesAll (O.seen out.old) (O.seen out.new) (line_text (record { depth = depth_of margin.now; content = operation_text operation.now })) result }
+    ensures writes { WritesAll (O.seen out.old) (O.seen out.new) (line_text (record { depth = depth_of margin.now; content = operation_text (record { kind = kind.now; tag = tag.now }) })) result }
 {
     write_margin(out, margin)?;
-    write_operation(out, operation)?;
+    write_operation(out, kind, tag)?;
     write_all(out, b"\n")
 }
 
@@ -69,7 +70,7 @@ fn write_item<O: Output>(out: &mut O, margin: &Margin, item: &Item) -> Result<()
     ensures writes { WritesAll (O.seen out.old) (O.seen out.new) (printed_in (depth_of margin.now) (before item.now done)) result }
 {
     match item.part() {
-        Part::Operation(operation) => write_operation_line(out, margin, operation),
+        Part::Operation { kind, tag } => write_operation_line(out, margin, kind, tag),
         Part::Block {
             count,
             tag,

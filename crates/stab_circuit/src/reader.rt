@@ -94,7 +94,7 @@ impl Reader {
         match found {
             Line::Blank => Ok(()),
             Line::Operation(operation) => {
-                self.items.push(Item::operation(operation))?;
+                self.items.push(Item::operation(self.alloc, operation)?)?;
                 Ok(())
             }
             Line::Open { count, tag } => self.open(line, count, tag),

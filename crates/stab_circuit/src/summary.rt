@@ -297,9 +297,9 @@ pub fn kind_summary(kind: &Kind) -> Summary
                 past_products(products.as_slice()),
             )
         }
-        Kind::Detector(_, records) => look(records, 0),
+        Kind::Detector(located) => look(located.targets(), 0),
         Kind::ObservableInclude(observable, records) => look(records, observable.number() + 1),
-        Kind::QubitCoords(_, qubits) => plain(0, past(qubits.as_slice())),
+        Kind::QubitCoords(located) => plain(0, past(located.targets().as_slice())),
         Kind::Tick | Kind::ShiftCoords(_) => Summary::NONE,
     }
 }

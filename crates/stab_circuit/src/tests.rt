@@ -249,6 +249,10 @@ fn a_circuit_is_printed_as_its_one_text(rt: HostRuntime) -> Result<(), Fail> {
             "cnot 0 01 # parity\nREPEAT[a] 2{\nmr !1\nDETECTOR(1,0)  rec[-1]\n}",
             "CX 0 1\nREPEAT[a] 2 {\n    MR !1\n    DETECTOR(1, 0) rec[-1]\n}\n",
         ),
+        (
+            "DETECTOR(-1.25, 3e10,+0.000000001 ,12345)",
+            "DETECTOR(-1.25, 3e10, +0.000000001, 12345)\n",
+        ),
         ("i 0\nX 0\ny 0\nZ 0", "I 0\nX 0\nY 0\nZ 0\n"),
         ("h 0\nH_xz 0\ns 0\nsqrt_Z 0", "H 0\nH 0\nS 0\nS 0\n"),
         ("s_dag 0\nSQRT_Z_dag 0", "S_DAG 0\nS_DAG 0\n"),

@@ -158,8 +158,8 @@ impl<'a> Walk<'a> {
             return self.leave();
         };
         match item.part() {
-            Part::Operation(operation) => {
-                self.kind = Some(&operation.kind);
+            Part::Operation { kind, .. } => {
+                self.kind = Some(kind);
                 self.within = 0;
             }
             Part::Block {
@@ -250,7 +250,7 @@ impl<'a> Walk<'a> {
             return if self.leave() { Some(count) } else { None };
         };
         let rest = match item.part() {
-            Part::Operation(operation) => self.pass_steps(&operation.kind, count),
+            Part::Operation { kind, .. } => self.pass_steps(kind, count),
             Part::Block {
                 count: rounds,
                 kept,

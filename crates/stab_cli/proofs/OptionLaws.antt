@@ -8,7 +8,7 @@ use Rattle.stab_cli.specs.Options.{most_seed}
 
 -- a number that `u64` reads is the written one
 pub written_number : {E : Type 0} (G : Text → Result ℕ E → Type 0) (text : Option Text) (r : Option ℕ) → ((t : Text) (x : Result ℕ E) → G t x → ParsesUnsigned 64 10 t x)
-    → ((t : Text) → text ≡ Some t → ReadsOne G t r) → IfSome r (λ n. IsWritten most_seed text n)
+    → ((t : Text) → text ≡ Some t → ReadsOne G t r) → IfSome r (λ n. IsWritten 0 most_seed text n)
 written_number G text None parses reads = tt
 written_number G None (Some n) parses reads = tt
 written_number G (Some t) (Some n) parses reads = λ within. (parses t (Ok n) (reads t refl)).1

@@ -8,12 +8,12 @@ use Rattle.clap.specs.Walk.{texts}
 use Rattle.clap.specs.Faults.{fault_of}
 use Rattle.clap.specs.declared.error.kind.ErrorKind.{ErrorKind}
 use Rattle.clap.specs.declared.error.kind.ErrorKind.TheVariants.{DisplayHelp, DisplayVersion}
-use Rattle.stab_cli.specs.Options.{Kept, format_names, most_seed, most_shots, stabsim}
+use Rattle.stab_cli.specs.Options.{Kept, format_names, most_qubits, most_seed, most_shots, most_stride, stabsim}
 use Rattle.stab_cli.specs.declared.words.Usage.{Usage}
 use Rattle.stab_cli.specs.declared.words.Usage.TheVariants.{Help, Fault, Memory}
 use Rattle.stab_commands.specs.declared.job.Job.{Job}
 use Rattle.stab_commands.specs.declared.job.Command.{Command}
-use Rattle.stab_commands.specs.declared.job.Command.TheVariants.{Sample, Detect, Stabilisers}
+use Rattle.stab_commands.specs.declared.job.Command.TheVariants.{Sample, Detect, Stabilisers, Edit}
 use Rattle.stab_commands.specs.declared.job.Source.{Source}
 use Rattle.stab_commands.specs.declared.job.Source.TheVariants.{Seed, List as Listed}
 
@@ -29,9 +29,14 @@ format_name Dets = codes "dets"
 abbrev pub IsNamed : Option Text → Format → Type 0
 IsNamed text format = IfSome text (λ t. (f : Format) → t ≡ format_name f → format ≡ f)
 
--- a number is the one that its option writes, where the text is that of a number up to the limit
-abbrev pub IsWritten : ℕ → Option Text → ℕ → Type 0
-IsWritten most text number = IfSome text (λ t. IsUnsignedIn 0 most t → number ≡ digits_value 10 (without_leading_plus t))
+-- a number is the one that its option writes, where the text is that of a number within the limits
+abbrev pub IsWritten : (least most : ℕ) → Option Text → ℕ → Type 0
+IsWritten least most text number = IfSome text (λ t. IsUnsignedIn least most t → number ≡ digits_value 10 (without_leading_plus t))
+
+-- a number that may be left out is the one that its option writes, and there is none where the option isn't given
+abbrev pub IsWrittenIfGiven : (least most : ℕ) → Option Text → Option ℕ → Type 0
+IsWrittenIfGiven least most None number = number ≡ None
+IsWrittenIfGiven least most (Some t) number = IsUnsignedIn least most t → number ≡ Some (digits_value 10 (without_leading_plus t))
 
 -- a flag is set where its text says so
 abbrev pub IsSet : Option Text → Bool → Type 0
@@ -48,18 +53,20 @@ coin_text = map coin_character
 -- the source of coins: the coins that are written, or, where none are given, the seed
 abbrev pub IsSource : Option Text → Option Text → Source → Type 0
 IsSource (Some coins) seed (Listed list) = coins ≡ coin_text list.items
-IsSource None seed (Seed number) = IsWritten most_seed seed number
+IsSource None seed (Seed number) = IsWritten 0 most_seed seed number
 IsSource coins seed source = ⊥
 
 -- the format and the number of shots are what their options say
 abbrev pub HasShots : List Row → Format → ℕ → Type 0
-HasShots options format shots = IsNamed (first_of (codes "out_format") options) format × IsWritten most_shots (one_of (codes "shots") options) shots
+HasShots options format shots = IsNamed (first_of (codes "out_format") options) format × IsWritten 0 most_shots (one_of (codes "shots") options) shots
 
 -- the command of a name, with what its options say
 abbrev pub IsCommand : Text → List Row → Command → Type 0
 IsCommand name options (Sample format shots) = (name ≡ codes "sample") × HasShots options format shots
 IsCommand name options (Detect format shots append) = (name ≡ codes "detect") × HasShots options format shots × IsSet (one_of (codes "append_observables") options) append
 IsCommand name options Stabilisers = name ≡ codes "stabilisers"
+IsCommand name options (Edit qubits stride) =
+    (name ≡ codes "edit") × IsWrittenIfGiven 0 most_qubits (one_of (codes "qubits") options) qubits × IsWritten 1 most_stride (one_of (codes "stride") options) stride
 
 -- a job is what a command's name and options say
 pub record IsJob (name : Text) (options : List Row) (job : Job) : Type 0 where

@@ -18,9 +18,13 @@ format_names = codes "01" ∷ codes "b8" ∷ codes "r8" ∷ codes "hits" ∷ cod
 abbrev pub valued : Text → Rule
 valued id = record (new_rule id) { long = Some id; value_names = 1 }
 
--- an option whose value is a number from 0 up to a limit, with its default
-abbrev pub numbered : Text → ℕ → Text → Rule
-numbered id most default = record (valued id) { parser = Some (Unsigned 0 most); defaults = default ∷ [] }
+-- an option whose value is a number within these limits
+abbrev pub ranged : Text → (least most : ℕ) → Rule
+ranged id least most = record (valued id) { parser = Some (Unsigned least most) }
+
+-- an option whose value is a number within these limits, with its default
+abbrev pub numbered : Text → (least most : ℕ) → Text → Rule
+numbered id least most default = record (ranged id least most) { defaults = default ∷ [] }
 
 -- an option whose value is one of these names, with its default
 abbrev pub named : Text → Kept → Text → Rule
@@ -38,13 +42,21 @@ most_shots = 1000000
 abbrev pub most_seed : ℕ
 most_seed = 18446744073709551615
 
+-- the greatest number of qubits
+abbrev pub most_qubits : ℕ
+most_qubits = 1024
+
+-- the greatest stride
+abbrev pub most_stride : ℕ
+most_stride = 65536
+
 -- the options of every command: its coins and its files
 abbrev pub common_options : List Rule
-common_options = numbered (codes "seed") most_seed (codes "0") ∷ valued (codes "coins") ∷ valued (codes "in") ∷ valued (codes "out") ∷ []
+common_options = numbered (codes "seed") 0 most_seed (codes "0") ∷ valued (codes "coins") ∷ valued (codes "in") ∷ valued (codes "out") ∷ []
 
 -- the options of a command that takes shots, in the order of the help
 abbrev pub shot_options : Kept → List Rule
-shot_options formats = numbered (codes "shots") most_shots (codes "1") ∷ named (codes "out_format") formats (codes "01") ∷ common_options
+shot_options formats = numbered (codes "shots") 0 most_shots (codes "1") ∷ named (codes "out_format") formats (codes "01") ∷ common_options
 
 -- a command that takes shots
 abbrev pub shot_command : Text → Kept → Shape
@@ -66,10 +78,14 @@ detect formats = let run = shot_command (codes "detect") formats in record run {
 abbrev pub stabilisers : Shape
 stabilisers = record (new_shape (codes "stabilisers")) { rules = common_options }
 
+-- the command `edit`
+abbrev pub edit : Shape
+edit = record (new_shape (codes "edit")) { rules = ranged (codes "qubits") 0 most_qubits ∷ numbered (codes "stride") 1 most_stride (codes "8192") ∷ common_options }
+
 -- the program without its commands, of which some command is wanted, and which tells its version
 abbrev pub bare : App
 bare = on_top (λ s. record s { subcommand_required = true; has_version = true }) (new_app (codes "stabsim"))
 
 -- the program
 abbrev pub stabsim : Kept → App
-stabsim formats = with_subcommand (with_subcommand (with_subcommand bare (sample formats)) (detect formats)) stabilisers
+stabsim formats = with_subcommand (with_subcommand (with_subcommand (with_subcommand bare (sample formats)) (detect formats)) stabilisers) edit

@@ -11,8 +11,8 @@ mod usage;
 mod words;
 
 pub use stab_commands::{
-    Command, Job, Shots, Source, run_detect, run_edit, run_job, run_sample, run_stabilisers,
-    write_fault,
+    Command, Job, Qubits, Shots, Source, Stride, run_detect, run_edit, run_job, run_sample,
+    run_stabilisers, write_fault,
 };
 pub use usage::write_usage;
 pub use words::{Usage, parse_words};

@@ -6,7 +6,8 @@ use Rattle.stab_circuit.specs.Items.{Items, OneItem}
 use Rattle.stab_circuit.specs.Circuits.{item_fault, StandsForOne}
 use Rattle.stab_circuit.specs.Laws.{ItemTextsHaveOneMeaning}
 use Rattle.stab_session.specs.Runs.{State, run_of}
-use Rattle.stab_commands.specs.Scripts.{Setting, Request, put, delete, show, refuse, Answer, IsPut, Shows, IsAnswer, IsAnswerToAll, both, decided, refusing, replying, change_of, edited_items, rows_text}
+use Rattle.stab_commands.specs.Scripts.{Setting, Request, put, delete, show, refuse, Answer, IsPut, Shows, IsAnswer, IsAnswerToAll, both, decided, refusing, replying, change_of, edited_items}
+use Rattle.stab_commands.specs.Stabilisers.{lines_of}
 use Rattle.stab_commands.specs.declared.script.request.Show.{Show}
 use Rattle.stab_commands.specs.declared.script.request.Show.TheVariants.{Measurements, Free, Detectors, Observables, Stabilisers, Circuit}
 
@@ -33,7 +34,7 @@ one_text n run items Measurements x y p q = q ∙ sym p
 one_text n run items Free x y p q = q ∙ sym p
 one_text n run items Detectors x y p q = q ∙ sym p
 one_text n run items Observables x y p q = q ∙ sym p
-one_text n run items Stabilisers x y p q = q.2 ∙ ap rows_text (p.1.1 q.0 q.1.0) ∙ sym p.2
+one_text n run items Stabilisers x y p q = q.2 ∙ ap lines_of (p.1.1 q.0 q.1.0) ∙ sym p.2
 one_text n run items Circuit x y p q = q ∙ sym p
 
 -- a request has one answer

@@ -6,7 +6,8 @@ use Rattle.stab_pauli.specs.Devices.{OutputView, WritesAll}
 use Rattle.stab_pauli.specs.declared.refusal.Refusal.{Refusal}
 use Rattle.stab_pauli.specs.declared.refusal.Fault.{Fault}
 use Rattle.stab_pauli.specs.Refusals.{number_of, name_of}
-use Rattle.stab_commands.specs.Jobs.{TellsFault, fault_line, refused_text}
+use Rattle.stab_commands.specs.FaultLines.{fault_line, refused_text}
+use Rattle.stab_commands.specs.Jobs.{TellsFault}
 use Rattle.stab_commands.specs.inner.Texts.{texts_joined}
 
 -- the text at a place, and those after it

@@ -10,7 +10,7 @@ use Rattle.stab_session.specs.declared.pending.Edit.{Edit}
 use Rattle.stab_session.specs.Sessions.{SessionState, IsFaultOf}
 use Rattle.stab_session.specs.SessionEdits.{edited_by, verdict_on, IsEditedBy, IsAsBefore}
 use Rattle.stab_circuit.specs.Readings.{ReadsItem}
-use Rattle.stab_commands.specs.Jobs.{refused_text}
+use Rattle.stab_commands.specs.FaultLines.{refused_text}
 use Rattle.stab_commands.specs.Scripts.{Setting, unless, judged, decided, refusing, IsPut}
 use Rattle.stab_commands.specs.inner.SessionAnswers.{setting_of, answered}
 

@@ -1,37 +1,41 @@
--- Jobs: how the command of a job ends, the status of a program's run, and the line that tells a fault.
-use Rattle.std.specs.Prelude.{◌≡◌, ℕ, List, [], ◌++◌, ◌⊎◌, codes, decimal, Result, Ok, Err, ◌==◌, if◌then◌else◌}
+-- Jobs: how the command of a job ends, the status of a program's run, and how its fault is told.
+use Rattle.std.specs.Prelude.{◌≡◌, ℕ, Bool, true, false, List, ◌⊎◌, Result, Ok, Err}
 use Rattle.stab_pauli.specs.Devices.{InputView, OutputView, Took, TookAndFailed}
-use Rattle.stab_pauli.specs.declared.refusal.Refusal.{Refusal}
 use Rattle.stab_pauli.specs.declared.refusal.Fault.{Fault}
-use Rattle.stab_pauli.specs.Refusals.{number_of, name_of}
+use Rattle.stab_commands.specs.FaultLines.{fault_line}
 use Rattle.stab_commands.specs.Outputs.{EndsRun, sample_of, detect_of}
 use Rattle.stab_commands.specs.Stabilisers.{EndsStabilisers}
+use Rattle.stab_commands.specs.ScriptEndings.{EndsEdit}
 use Rattle.stab_commands.specs.declared.job.Source.{Source}
 use Rattle.stab_commands.specs.declared.job.Command.{Command}
-use Rattle.stab_commands.specs.declared.job.Command.TheVariants.{Sample, Detect, Stabilisers}
+use Rattle.stab_commands.specs.declared.job.Command.TheVariants.{Sample, Detect, Stabilisers, Edit}
 use Rattle.stab_commands.specs.declared.job.Job.{Job}
 
--- how the call of a command ends, with coins from the source
-abbrev pub EndsCommand : {T : Type 0} → Command → Source → InputView → InputView → OutputView → OutputView → Result T Fault → Type 0
-EndsCommand (Sample format shots) source i i' o o' r = EndsRun (sample_of format shots source) i i' o o' r
-EndsCommand (Detect format shots append) source i i' o o' r = EndsRun (detect_of format append shots source) i i' o o' r
-EndsCommand Stabilisers source i i' o o' r = EndsStabilisers source i i' o o' r
+-- a call that reads no script refuses no line of it
+abbrev pub refusing_none : {T : Type 0} → Result T Fault → Result Bool Fault
+refusing_none (Ok x) = Ok false
+refusing_none (Err f) = Err f
 
--- where the fault is, as its line says it
-abbrev pub place_text : ℕ → List ℕ
-place_text line = if line == 0 then [] else codes "line " ++ (decimal line ++ codes ": ")
+-- no line of a script was refused, and the call ended so
+abbrev pub RefusesNone : (Result (Unit {0}) Fault → Type 0) → Result Bool Fault → Type 0
+RefusesNone ends r = (answer : Result (Unit {0}) Fault) × ends answer × (r ≡ refusing_none answer)
 
--- which refusal it is, as its line says it
-abbrev pub refused_text : Refusal → List ℕ
-refused_text r = codes "refused " ++ (decimal (number_of r) ++ (codes " " ++ (name_of r ++ codes "\n")))
+-- how the call of a command ends, with coins from the source, and whether a line of the script was refused
+abbrev pub EndsCommand : Command → Source → InputView → InputView → InputView → InputView → OutputView → OutputView → Result Bool Fault → Type 0
+EndsCommand (Sample format shots) source i i' s s' o o' = RefusesNone (EndsRun (sample_of format shots source) i i' o o')
+EndsCommand (Detect format shots append) source i i' s s' o o' = RefusesNone (EndsRun (detect_of format append shots source) i i' o o')
+EndsCommand Stabilisers source i i' s s' o o' = RefusesNone (EndsStabilisers source i i' o o')
+EndsCommand (Edit qubits stride) source i i' s s' o o' = EndsEdit qubits source i i' s s' o o'
 
--- the line that tells a fault
-abbrev pub fault_line : Fault → List ℕ
-fault_line f = codes "stabsim: " ++ (place_text f.line ++ refused_text f.refusal)
+-- whether a command reads a script
+abbrev pub reads_script : Command → Bool
+reads_script (Edit qubits stride) = true
+reads_script command = false
 
--- the status of a run: 0 without a fault, 1 with one
-abbrev pub status_of : {T : Type 0} → Result T Fault → ℕ
-status_of (Ok x) = 0
+-- the status of a run: 0 without a fault, 3 where a line of the script was refused, 1 with a fault
+abbrev pub status_of : Result Bool Fault → ℕ
+status_of (Ok false) = 0
+status_of (Ok true) = 3
 status_of (Err f) = 1
 
 -- the output took these bytes, or failed once after some first bytes of them
@@ -48,8 +52,8 @@ Tells (Ok x) old new = new ≡ old
 Tells (Err f) old new = TellsFault f old new
 
 -- How a run of a job ends: as the call of its command ends, with that call's status, and its fault told.
-pub record EndsJob (job : Job) (i i' : InputView) (o o' e e' : OutputView) (status : ℕ) : Type 0 where
-  pub answer : Result (Unit {0}) Fault
-  pub ends : EndsCommand job.command job.source i i' o o' answer
+pub record EndsJob (job : Job) (i i' s s' : InputView) (o o' e e' : OutputView) (status : ℕ) : Type 0 where
+  pub answer : Result Bool Fault
+  pub ends : EndsCommand job.command job.source i i' s s' o o' answer
   pub status_is : status ≡ status_of answer
   pub told : Tells answer e e'

@@ -1,9 +1,10 @@
 pub mod Endings
+pub mod FaultLines
 pub mod Outputs
 pub mod Stabilisers
-pub mod Jobs
 pub mod ScriptWords
 pub mod Scripts
 pub mod ScriptLaws
 pub mod ScriptEndings
+pub mod Jobs
 pub mod inner

@@ -1,11 +1,9 @@
 -- Scripts: what an edit script asks for, and what it is answered.
 use Rattle.std.specs.Prelude.{◌≡◌, ℕ, ◌+◌, ◌-◌, Bool, true, false, ◌||◌, ◌==◌, List, [], ◌∷◌, ◌++◌, length, codes, bytes_eq, Option, Some, None, Result, Ok, Err, if◌then◌else◌, ◌⊎◌}
-use Rattle.std.specs.List.{flat_map}
 use Rattle.stab_pauli.specs.declared.refusal.Refusal.{Refusal}
 use Rattle.stab_pauli.specs.declared.refusal.Refusal.TheVariants.{BadCommand, TooLong}
 use Rattle.stab_pauli.specs.declared.refusal.Fault.{Fault}
 use Rattle.stab_pauli.specs.Paulis.{Signed}
-use Rattle.stab_pauli.specs.Texts.{pauli_text}
 use Rattle.stab_tableau.specs.Traces.{member}
 use Rattle.stab_tableau.specs.Reduced.{AreReduced}
 use Rattle.stab_lines.specs.Lines.{content_of, ends_with_byte}
@@ -19,7 +17,8 @@ use Rattle.stab_circuit.specs.Circuits.{most_bytes, item_fault, StandsForOne}
 use Rattle.stab_circuit.specs.Prints.{printed}
 use Rattle.stab_session.specs.Runs.{State, run_of}
 use Rattle.stab_results.specs.Formats.{f01_bytes}
-use Rattle.stab_commands.specs.Jobs.{refused_text}
+use Rattle.stab_commands.specs.FaultLines.{refused_text}
+use Rattle.stab_commands.specs.Stabilisers.{lines_of}
 use Rattle.stab_commands.specs.ScriptWords.{first_word, behind_word, place_of, Gathered, more, is_nothing}
 use Rattle.stab_commands.specs.declared.script.request.ItemEdit.{ItemEdit}
 use Rattle.stab_commands.specs.declared.script.request.ItemEdit.TheVariants.{Insert, Replace}
@@ -231,10 +230,6 @@ IsPut items after text a =
     ((fault : Fault) × (item_fault text ≡ Some fault) × (a ≡ refusing items fault.refusal))
     ⊎ ((item : OneItem) × StandsForOne text item × (a ≡ decided items (after item)))
 
--- rows, one a line
-abbrev pub rows_text : List Signed → List ℕ
-rows_text rows = flat_map (λ row. pauli_text row ++ codes "\n") rows
-
 -- the one list of reduced rows of the group after a run
 abbrev pub AreRowsOf : ℕ → State → List Signed → Type 0
 AreRowsOf n run rows = AreReduced n (member run.trace) rows × ((other : List Signed) → AreReduced n (member run.trace) other → other ≡ rows)
@@ -245,7 +240,7 @@ Shows n run items Measurements reply = reply ≡ f01_bytes run.records
 Shows n run items Free reply = reply ≡ f01_bytes run.free
 Shows n run items Detectors reply = reply ≡ f01_bytes run.detectors
 Shows n run items Observables reply = reply ≡ f01_bytes run.observables
-Shows n run items Stabilisers reply = (rows : List Signed) × AreRowsOf n run rows × (reply ≡ rows_text rows)
+Shows n run items Stabilisers reply = (rows : List Signed) × AreRowsOf n run rows × (reply ≡ lines_of rows)
 Shows n run items Circuit reply = reply ≡ printed items
 
 -- the answer to a request, where the items are these

@@ -1,5 +1,6 @@
 -- Stabilisers: what `stabilisers` writes for the items of a circuit, and how a call of it ends.
-use Rattle.std.specs.Prelude.{◌≡◌, ℕ, Bool, List, [], ◌∷◌, ◌++◌, codes, ◌⊎◌, ◌↔◌, Result, Ok, Err}
+use Rattle.std.specs.Prelude.{◌≡◌, ℕ, Bool, List, ◌++◌, codes, ◌⊎◌, ◌↔◌, Result, Ok, Err}
+use Rattle.std.specs.List.{flat_map}
 use Rattle.stab_pauli.specs.Devices.{InputView, OutputView}
 use Rattle.stab_pauli.specs.declared.refusal.Refusal.TheVariants.{WriteFault, OutOfMemory}
 use Rattle.stab_pauli.specs.declared.refusal.Fault.{Fault}
@@ -26,8 +27,7 @@ line_of row = pauli_text row ++ codes "\n"
 
 -- lines one after another
 abbrev pub lines_of : List Signed → List ℕ
-lines_of [] = []
-lines_of (row ∷ rows) = line_of row ++ lines_of rows
+lines_of rows = flat_map line_of rows
 
 -- Rows were sent, a line each: all were written, and flushed once; or the output failed; or memory was refused before the first.
 abbrev pub SendsRows : {T : Type 0} → (List Signed → Type 0) → OutputView → OutputView → Result T Fault → Type 0

@@ -1,7 +1,7 @@
 //! The line that tells a fault.
 ghost use Rattle.std.specs.Prelude.{map};
 ghost use Rattle.stab_pauli.specs.Devices.{WritesAll};
-ghost use Rattle.stab_commands.specs.Jobs.{fault_line};
+ghost use Rattle.stab_commands.specs.FaultLines.{fault_line};
 ghost use Rattle.stab_commands.specs.inner.Texts.{texts_joined};
 
 use stab_pauli::{Fault, Output, Refusal, write_all};

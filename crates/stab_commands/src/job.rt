@@ -43,6 +43,91 @@ impl Shots {
     }
 }
 
+/// On how many qubits a circuit is edited, at most 1,024.
+#[derive(Clone, Copy, Debug, PartialEq, Eq)]
+pub struct Qubits {
+    number: usize,
+}
+
+impl Model for Qubits {
+    ghost use Rattle.std.specs.Prelude.{ℕ, ◌≤◌};
+
+    ghost Value = { ℕ };
+
+    ghost view = { λ q. q.number };
+
+    ghost invariant = { λ q. q.number ≤ 1024 };
+
+    ghost inverse = { λ n. record { number = n } };
+}
+
+impl Qubits {
+    ghost use Rattle.std.specs.Prelude.{◌≡◌, ◌≤◌};
+
+    /// The most qubits of a circuit.
+    pub const MOST: usize = 1024;
+
+    /// So many qubits, at most 1,024.
+    pub fn new(number: usize) -> Qubits
+        requires in_range { number ≤ 1024 }
+        ensures value { result ≡ number }
+    {
+        Qubits { number }
+    }
+
+    /// How many qubits.
+    pub fn number(self) -> usize
+        ensures value { result ≡ self }
+        ensures in_range { result ≤ 1024 }
+    {
+        self.number
+    }
+}
+
+/// After how many steps a session keeps a checkpoint, from 1 to 65,536. It changes how long edits take
+/// and how much memory they need, and nothing that is written.
+#[derive(Clone, Copy, Debug, PartialEq, Eq)]
+pub struct Stride {
+    steps: usize,
+}
+
+impl Model for Stride {
+    ghost use Rattle.std.specs.Prelude.{ℕ, ◌≤◌};
+
+    ghost Value = { ℕ };
+
+    ghost view = { λ s. s.steps };
+
+    ghost invariant = { λ s. (1 ≤ s.steps) × (s.steps ≤ 65536) };
+
+    ghost inverse = { λ n. record { steps = n } };
+}
+
+impl Stride {
+    ghost use Rattle.std.specs.Prelude.{◌≡◌, ◌≤◌};
+
+    /// The greatest stride.
+    pub const MOST: usize = 65_536;
+
+    /// So many steps, from 1 to 65,536.
+    pub fn new(steps: usize) -> Stride
+        requires above { 1 ≤ steps }
+        requires within { steps ≤ 65536 }
+        ensures value { result ≡ steps }
+    {
+        Stride { steps }
+    }
+
+    /// How many steps.
+    pub fn steps(self) -> usize
+        ensures value { result ≡ self }
+        ensures above { 1 ≤ result }
+        ensures within { result ≤ 65536 }
+    {
+        self.steps
+    }
+}
+
 /// Where coins come from: the outcomes of measurements that no stabiliser decides.
 #[derive(Debug, Drop, PartialEq, Eq)]
 pub enum Source {
@@ -68,6 +153,12 @@ pub enum Command {
     },
     /// Writes the reduced rows of the strings that stabilise the state after shot 0.
     Stabilisers,
+    /// Edits the circuit by a script, on so many qubits or on as many as it names, and writes the
+    /// replies.
+    Edit {
+        qubits: Option<Qubits>,
+        stride: Stride,
+    },
 }
 
 /// What the words of a command line ask for: a command, and what every command has.
@@ -81,4 +172,16 @@ pub struct Job {
     pub in_path: Option<String>,
     /// The file that is written in place of standard output.
     pub out_path: Option<String>,
+}
+
+impl Job {
+    ghost use Rattle.std.specs.Prelude.{◌≡◌};
+    ghost use Rattle.stab_commands.specs.Jobs.{reads_script};
+
+    /// Whether its command reads a script.
+    pub fn reads_script(&self) -> bool
+        ensures value { result ≡ reads_script self.now.command }
+    {
+        matches!(self.command, Command::Edit { .. })
+    }
 }

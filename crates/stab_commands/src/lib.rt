@@ -18,7 +18,7 @@
 //! same cases, over the reduced rows of the state after shot 0; memory is then refused before the
 //! first row. `run_edit` writes exactly the replies that `specs/Scripts.antt` gives for the script and
 //! the circuit's items, or ends by its own cases (`specs/ScriptEndings.antt`). `run_job` carries the
-//! same for a job of the other commands, with its status and the line that tells its fault.
+//! same for a job, with its status and the line that tells its fault.
 #![tactic(auto)]
 
 mod edit;
@@ -35,7 +35,7 @@ mod status;
 
 pub use edit::run_edit;
 pub use fault_line::write_fault;
-pub use job::{Command, Job, Shots, Source};
+pub use job::{Command, Job, Qubits, Shots, Source, Stride};
 pub use run::{run_detect, run_sample};
 pub use stabilisers::run_stabilisers;
 pub use status::run_job;

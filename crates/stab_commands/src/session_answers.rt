@@ -21,7 +21,7 @@ impl<C: Coins> SessionAnswers<C> {
     ghost use Rattle.stab_pauli.specs.declared.refusal.Refusal.TheVariants.{OutOfMemory};
     ghost use Rattle.stab_circuit.specs.Items.{entries};
     ghost use Rattle.stab_session.specs.SessionEdits.{edited_by};
-    ghost use Rattle.stab_commands.specs.Jobs.{refused_text};
+    ghost use Rattle.stab_commands.specs.FaultLines.{refused_text};
     ghost use Rattle.stab_commands.specs.Scripts.{IsPut, decided, judged, edited_items, change_of};
     ghost use Rattle.stab_commands.specs.inner.SessionAnswers.{ShowsOf, setting_of, answered};
     ghost use Rattle.stab_commands.specs.declared.script.request.Show.TheVariants.{Stabilisers};

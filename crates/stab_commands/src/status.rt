@@ -1,41 +1,77 @@
 //! Running a job, with the status of the program.
-ghost use Rattle.std.specs.Prelude.{◌≡◌};
-ghost use Rattle.stab_commands.specs.Jobs.{EndsCommand, EndsJob};
+ghost use Rattle.std.specs.Prelude.{◌≡◌, ◌≤◌, IfSome, false};
+ghost use Rattle.stab_commands.specs.Jobs.{EndsCommand, EndsJob, reads_script, refusing_none};
 
+use crate::edit::run_edit;
 use crate::fault_line::write_fault;
-use crate::job::{Command, Job};
+use crate::job::{Command, Job, Qubits};
 use crate::run::{run_detect, run_sample};
 use crate::stabilisers::run_stabilisers;
 use stab_pauli::{Fault, Input, Output};
 use std::alloc::Global;
 
-/// Runs the command of a job.
-fn run_command<I: Input, O: Output>(
+/// How many qubits, where so many are asked for.
+fn number_of(qubits: Option<Qubits>) -> Option<usize>
+    ensures value { result ≡ qubits }
+    ensures in_range { IfSome result (λ n. n ≤ 1024) }
+{
+    match qubits {
+        Some(qubits) => Some(qubits.number()),
+        None => None,
+    }
+}
+
+/// A call that reads no script refuses no line of it.
+fn refuses_none(answer: Result<(), Fault>) -> Result<bool, Fault>
+    ensures value { result ≡ refusing_none answer }
+{
+    match answer {
+        Ok(()) => Ok(false),
+        Err(fault) => Err(fault),
+    }
+}
+
+/// Runs the command of a job, and says whether a line of the script was refused.
+fn run_command<I: Input, S: Input, O: Output>(
     alloc: Global,
     job: &Job,
     input: &mut I,
+    script: &mut S,
     out: &mut O,
-) -> Result<(), Fault>
-    ensures ends { EndsCommand job.now.command job.now.source (I.seen input.old) (I.seen input.new) (O.seen out.old) (O.seen out.new) result }
+) -> Result<bool, Fault>
+    ensures ends { EndsCommand job.now.command job.now.source (I.seen input.old) (I.seen input.new) (S.seen script.old) (S.seen script.new) (O.seen out.old) (O.seen out.new) result }
+    ensures script { reads_script job.now.command ≡ false → script.new ≡ script.old }
 {
     let source = &job.source;
     match job.command {
         Command::Sample { format, shots } => {
-            run_sample(alloc, input, out, format, shots.number(), source)
+            refuses_none(run_sample(alloc, input, out, format, shots.number(), source))
         }
         Command::Detect {
             format,
             shots,
             append,
-        } => run_detect(alloc, input, out, format, append, shots.number(), source),
-        Command::Stabilisers => run_stabilisers(alloc, input, out, source),
+        } => refuses_none(run_detect(alloc, input, out, format, append, shots.number(), source)),
+        Command::Stabilisers => refuses_none(run_stabilisers(alloc, input, out, source)),
+        Command::Edit { qubits, stride } => {
+            run_edit(
+                alloc,
+                input,
+                script,
+                out,
+                number_of(qubits),
+                stride.steps(),
+                source,
+            )
+        }
     }
 }
 
 /// Runs a job over these devices, tells its fault on `err`, and answers the status of the program:
-/// 0 without a fault, 1 with one, whether or not `err` fails.
+/// 0 without a fault, 1 with one, and 3 where the script was read to its end and a line of it was
+/// refused, whether or not `err` fails.
 ///
-/// The paths of the job are the caller's to open. No command reads the script.
+/// The paths of the job are the caller's to open. No command but `edit` reads the script.
 pub fn run_job<I: Input, S: Input, O: Output, E: Output>(
     alloc: Global,
     job: &Job,
@@ -44,12 +80,12 @@ pub fn run_job<I: Input, S: Input, O: Output, E: Output>(
     out: &mut O,
     err: &mut E,
 ) -> u8
-    ensures ends { EndsJob job.now (I.seen input.old) (I.seen input.new) (O.seen out.old) (O.seen out.new) (E.seen err.old) (E.seen err.new) result }
-    ensures script { script.new ≡ script.old }
+    ensures ends { EndsJob job.now (I.seen input.old) (I.seen input.new) (S.seen script.old) (S.seen script.new) (O.seen out.old) (O.seen out.new) (E.seen err.old) (E.seen err.new) result }
+    ensures script { reads_script job.now.command ≡ false → script.new ≡ script.old }
 {
-    let _ = script;
-    match run_command(alloc, job, input, out) {
-        Ok(()) => 0,
+    match run_command(alloc, job, input, script, out) {
+        Ok(false) => 0,
+        Ok(true) => 3,
         Err(fault) => {
             let _ = write_fault(err, fault);
             1

@@ -68,10 +68,10 @@ kind_is (kind.Swap pairs) = name_is _ _ refl refl
 kind_is (kind.Measure m targets) = measured_is m.axis m.resets
 kind_is (kind.Reset axis qubits) = reset_is axis
 kind_is (kind.MeasureProducts products) = name_is _ _ refl refl
-kind_is (kind.Detector coordinates ks) = name_is _ _ refl refl
+kind_is (kind.Detector located) = name_is _ _ refl refl
 kind_is (kind.ObservableInclude j ks) = name_is _ _ refl refl
 kind_is kind.Tick = name_is _ _ refl refl
-kind_is (kind.QubitCoords coordinates qubits) = name_is _ _ refl refl
+kind_is (kind.QubitCoords located) = name_is _ _ refl refl
 kind_is (kind.ShiftCoords coordinates) = name_is _ _ refl refl
 
 pub repeat_is : IsName (codes "REPEAT")
@@ -175,10 +175,10 @@ kind_targets (kind.Measure m targets) g =
     (each_weaker IsMeasured (λ t. (p : ℕ → Bool) → IsClear p → Free p (target_text t)) targets target_clear g)
 kind_targets (kind.Reset axis qubits) g = qubit_targets qubits g
 kind_targets (kind.MeasureProducts products) g = product_targets products g
-kind_targets (kind.Detector coordinates ks) g = lookback_targets ks g.1
+kind_targets (kind.Detector located) g = lookback_targets located.1 g.1
 kind_targets (kind.ObservableInclude j ks) g = lookback_targets ks g.1
 kind_targets kind.Tick g = no_targets
-kind_targets (kind.QubitCoords coordinates qubits) g = qubit_targets qubits g.1
+kind_targets (kind.QubitCoords located) g = qubit_targets located.1 g.1
 kind_targets (kind.ShiftCoords coordinates) g = no_targets
 
 -- arguments are made of digits, and of a few other bytes
@@ -200,8 +200,8 @@ kind_coordinates (kind.Swap pairs) g = tt
 kind_coordinates (kind.Measure m targets) g = tt
 kind_coordinates (kind.Reset axis qubits) g = tt
 kind_coordinates (kind.MeasureProducts products) g = tt
-kind_coordinates (kind.Detector coordinates ks) g = g.0
+kind_coordinates (kind.Detector located) g = g.0
 kind_coordinates (kind.ObservableInclude j ks) g = (decimal_coordinate j (omega (arith, g.0)), tt)
 kind_coordinates kind.Tick g = tt
-kind_coordinates (kind.QubitCoords coordinates qubits) g = g.0
+kind_coordinates (kind.QubitCoords located) g = g.0
 kind_coordinates (kind.ShiftCoords coordinates) g = g

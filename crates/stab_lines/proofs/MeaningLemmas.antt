@@ -40,10 +40,10 @@ instruction_of (kind.Swap pairs) = instruction.Swap
 instruction_of (kind.Measure m targets) = instruction.Measure m
 instruction_of (kind.Reset axis qubits) = instruction.Reset axis
 instruction_of (kind.MeasureProducts products) = instruction.MeasureProducts
-instruction_of (kind.Detector coordinates ks) = instruction.Detector
+instruction_of (kind.Detector located) = instruction.Detector
 instruction_of (kind.ObservableInclude j ks) = instruction.ObservableInclude
 instruction_of kind.Tick = instruction.Tick
-instruction_of (kind.QubitCoords coordinates qubits) = instruction.QubitCoords
+instruction_of (kind.QubitCoords located) = instruction.QubitCoords
 instruction_of (kind.ShiftCoords coordinates) = instruction.ShiftCoords
 
 gate_again : (g : Gate) → name_of (gate_name g) ≡ Ok (name.Instruction (instruction.Gate g))
@@ -92,10 +92,10 @@ kind_name_again (kind.Swap pairs) = refl
 kind_name_again (kind.Measure m targets) = measured_again m.axis m.resets
 kind_name_again (kind.Reset axis qubits) = reset_again axis
 kind_name_again (kind.MeasureProducts products) = refl
-kind_name_again (kind.Detector coordinates ks) = refl
+kind_name_again (kind.Detector located) = refl
 kind_name_again (kind.ObservableInclude j ks) = refl
 kind_name_again kind.Tick = refl
-kind_name_again (kind.QubitCoords coordinates qubits) = refl
+kind_name_again (kind.QubitCoords located) = refl
 kind_name_again (kind.ShiftCoords coordinates) = refl
 
 repeat_again : name_of (codes "REPEAT") ≡ Ok name.Repeat
@@ -133,17 +133,17 @@ kind_again tag (kind.Swap pairs) g =
 kind_again tag (kind.Measure m targets) g = ap (λ r. r >>= λ ts. Ok (kind.Measure m ts)) (targets_again targets g)
 kind_again tag (kind.Reset axis qubits) g = ap (λ r. r >>= λ qs. Ok (kind.Reset axis qs)) (qubits_again qubits g)
 kind_again tag (kind.MeasureProducts products) g = ap (λ r. r >>= λ ps. Ok (kind.MeasureProducts ps)) (products_again products g)
-kind_again tag (kind.Detector coordinates ks) g =
-    ap (λ r. r >>= λ cs. each lookback_of (words (spaced lookback_text ks)) >>= λ ls. Ok (kind.Detector cs ls)) (coordinates_again coordinates g.0)
-    ∙ ap (λ r. r >>= λ ls. Ok (kind.Detector coordinates ls)) (lookbacks_again ks g.1)
+kind_again tag (kind.Detector located) g =
+    ap (λ r. r >>= λ cs. each lookback_of (words (spaced lookback_text located.1)) >>= λ ls. Ok (kind.Detector (cs, ls))) (coordinates_again located.0 g.0)
+    ∙ ap (λ r. r >>= λ ls. Ok (kind.Detector (located.0, ls))) (lookbacks_again located.1 g.1)
 kind_again tag (kind.ObservableInclude j ks) g =
     ap (λ r. r >>= λ digits. each lookback_of (words (spaced lookback_text ks)) >>= λ ls. observable_of digits >>= λ i. Ok (kind.ObservableInclude i ls)) (number_again j g.0)
     ∙ ap (λ r. r >>= λ ls. observable_of (decimal j) >>= λ i. Ok (kind.ObservableInclude i ls)) (lookbacks_again ks g.1)
     ∙ ap (λ r. r >>= λ i. Ok (kind.ObservableInclude i ks)) (observable_again j g.0)
 kind_again tag kind.Tick g = refl
-kind_again tag (kind.QubitCoords coordinates qubits) g =
-    ap (λ r. r >>= λ cs. each qubit_of (words (spaced decimal qubits)) >>= λ qs. Ok (kind.QubitCoords cs qs)) (coordinates_again coordinates g.0)
-    ∙ ap (λ r. r >>= λ qs. Ok (kind.QubitCoords coordinates qs)) (qubits_again qubits g.1)
+kind_again tag (kind.QubitCoords located) g =
+    ap (λ r. r >>= λ cs. each qubit_of (words (spaced decimal located.1)) >>= λ qs. Ok (kind.QubitCoords (cs, qs))) (coordinates_again located.0 g.0)
+    ∙ ap (λ r. r >>= λ qs. Ok (kind.QubitCoords (located.0, qs))) (qubits_again located.1 g.1)
 kind_again tag (kind.ShiftCoords coordinates) g = ap (λ r. r >>= λ cs. Ok (kind.ShiftCoords cs)) (coordinates_again coordinates g)
 
 -- a content that begins with a letter means what its shape means

@@ -245,10 +245,10 @@ IsGoodKind (kind.Swap pairs) = Each IsPair pairs
 IsGoodKind (kind.Measure m targets) = Each IsMeasured targets
 IsGoodKind (kind.Reset axis qubits) = Each IsQubit qubits
 IsGoodKind (kind.MeasureProducts products) = Each IsProduct products
-IsGoodKind (kind.Detector coordinates ks) = Each IsCoordinate coordinates × Each IsLookback ks
+IsGoodKind (kind.Detector located) = Each IsCoordinate located.0 × Each IsLookback located.1
 IsGoodKind (kind.ObservableInclude j ks) = IsObservable j × Each IsLookback ks
 IsGoodKind kind.Tick = Unit {0}
-IsGoodKind (kind.QubitCoords coordinates qubits) = Each IsCoordinate coordinates × Each IsQubit qubits
+IsGoodKind (kind.QubitCoords located) = Each IsCoordinate located.0 × Each IsQubit located.1
 IsGoodKind (kind.ShiftCoords coordinates) = Each IsCoordinate coordinates
 
 abbrev Anything : {A : Type 0} → A → Type 0
@@ -289,12 +289,12 @@ kind_sure (instruction.Reset axis) s = sure_bind (Each IsQubit) IsGoodKind _ _ (
 kind_sure instruction.MeasureProducts s = sure_bind (Each IsProduct) IsGoodKind _ _ (alone_sure IsProduct product_of s product_sure) (λ ps p. sure_ok IsGoodKind (kind.MeasureProducts ps) p)
 kind_sure instruction.Detector s =
     sure_bind (Each IsCoordinate) IsGoodKind (coordinates_of s) _ (coordinates_sure s)
-    (λ cs p. sure_bind (Each IsLookback) IsGoodKind (each lookback_of (words s.targets)) _ (lookbacks_sure s) (λ ks q. sure_ok IsGoodKind (kind.Detector cs ks) (p, q)))
+    (λ cs p. sure_bind (Each IsLookback) IsGoodKind (each lookback_of (words s.targets)) _ (lookbacks_sure s) (λ ks q. sure_ok IsGoodKind (kind.Detector (cs, ks)) (p, q)))
 kind_sure instruction.ObservableInclude s = include_sure s
 kind_sure instruction.Tick s = guard_sure IsGoodKind (is_blank s.arguments) _ BadArguments (guard_sure IsGoodKind (is_blank s.targets) (Ok kind.Tick) BadTarget (sure_ok IsGoodKind kind.Tick tt))
 kind_sure instruction.QubitCoords s =
     sure_bind (Each IsCoordinate) IsGoodKind (coordinates_of s) _ (coordinates_sure s)
-    (λ cs p. sure_bind (Each IsQubit) IsGoodKind (each qubit_of (words s.targets)) _ (sure_each IsQubit qubit_of qubit_sure (words s.targets)) (λ qs q. sure_ok IsGoodKind (kind.QubitCoords cs qs) (p, q)))
+    (λ cs p. sure_bind (Each IsQubit) IsGoodKind (each qubit_of (words s.targets)) _ (sure_each IsQubit qubit_of qubit_sure (words s.targets)) (λ qs q. sure_ok IsGoodKind (kind.QubitCoords (cs, qs)) (p, q)))
 kind_sure instruction.ShiftCoords s =
     sure_bind (Each IsCoordinate) IsGoodKind (coordinates_of s) _ (coordinates_sure s)
     (λ cs p. guard_sure IsGoodKind (is_blank s.targets) (Ok (kind.ShiftCoords cs)) BadTarget (sure_ok IsGoodKind (kind.ShiftCoords cs) p))

@@ -54,10 +54,10 @@ kind_of instruction.Swap s = targets_alone qubit_of s >>= λ qubits. pairs_of qu
 kind_of (instruction.Measure m) s = targets_alone measure_target_of s >>= λ targets. Ok (kind.Measure m targets)
 kind_of (instruction.Reset axis) s = targets_alone qubit_of s >>= λ qubits. Ok (kind.Reset axis qubits)
 kind_of instruction.MeasureProducts s = targets_alone product_of s >>= λ products. Ok (kind.MeasureProducts products)
-kind_of instruction.Detector s = coordinates_of s >>= λ coordinates. each lookback_of (words s.targets) >>= λ ks. Ok (kind.Detector coordinates ks)
+kind_of instruction.Detector s = coordinates_of s >>= λ coordinates. each lookback_of (words s.targets) >>= λ ks. Ok (kind.Detector (coordinates, ks))
 kind_of instruction.ObservableInclude s = observable_include_of s
 kind_of instruction.Tick s = without_arguments s (without_targets s (Ok kind.Tick))
-kind_of instruction.QubitCoords s = coordinates_of s >>= λ coordinates. each qubit_of (words s.targets) >>= λ qubits. Ok (kind.QubitCoords coordinates qubits)
+kind_of instruction.QubitCoords s = coordinates_of s >>= λ coordinates. each qubit_of (words s.targets) >>= λ qubits. Ok (kind.QubitCoords (coordinates, qubits))
 kind_of instruction.ShiftCoords s = coordinates_of s >>= λ coordinates. without_targets s (Ok (kind.ShiftCoords coordinates))
 
 -- the count, where there is one alone

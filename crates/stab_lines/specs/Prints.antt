@@ -64,10 +64,10 @@ kind_name (kind.Swap pairs) = codes "SWAP"
 kind_name (kind.Measure m targets) = measurement_name m
 kind_name (kind.Reset axis qubits) = reset_name axis
 kind_name (kind.MeasureProducts products) = codes "MPP"
-kind_name (kind.Detector coordinates ks) = codes "DETECTOR"
+kind_name (kind.Detector located) = codes "DETECTOR"
 kind_name (kind.ObservableInclude j ks) = codes "OBSERVABLE_INCLUDE"
 kind_name kind.Tick = codes "TICK"
-kind_name (kind.QubitCoords coordinates qubits) = codes "QUBIT_COORDS"
+kind_name (kind.QubitCoords located) = codes "QUBIT_COORDS"
 kind_name (kind.ShiftCoords coordinates) = codes "SHIFT_COORDS"
 
 -- a tag in its brackets, where there is one
@@ -87,9 +87,9 @@ arguments_text (a ∷ more) = codes "(" ++ (a ++ (each_after (codes ", ") (λ b.
 
 -- the arguments of an instruction
 abbrev pub kind_arguments : Kind → List (List ℕ)
-kind_arguments (kind.Detector coordinates ks) = coordinates
+kind_arguments (kind.Detector located) = located.0
 kind_arguments (kind.ObservableInclude j ks) = decimal j ∷ []
-kind_arguments (kind.QubitCoords coordinates qubits) = coordinates
+kind_arguments (kind.QubitCoords located) = located.0
 kind_arguments (kind.ShiftCoords coordinates) = coordinates
 kind_arguments (kind.Gate g qubits) = []
 kind_arguments (kind.Controlled axis pairs) = []
@@ -148,10 +148,10 @@ targets_text (kind.Swap pairs) = spaced pair_text pairs
 targets_text (kind.Measure m targets) = spaced target_text targets
 targets_text (kind.Reset axis qubits) = spaced decimal qubits
 targets_text (kind.MeasureProducts products) = spaced product_text products
-targets_text (kind.Detector coordinates ks) = spaced lookback_text ks
+targets_text (kind.Detector located) = spaced lookback_text located.1
 targets_text (kind.ObservableInclude j ks) = spaced lookback_text ks
 targets_text kind.Tick = []
-targets_text (kind.QubitCoords coordinates qubits) = spaced decimal qubits
+targets_text (kind.QubitCoords located) = spaced decimal located.1
 targets_text (kind.ShiftCoords coordinates) = []
 
 -- a name and its tag

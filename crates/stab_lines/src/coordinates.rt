@@ -2,12 +2,24 @@ use crate::sequence::Sequence;
 use std::alloc::{AllocError, Global};
 use std::marker::Model;
 
+/// How many bytes stand in place.
+const SHORT: usize = 22;
+
 /// Coordinates, each as it was written.
 ///
-/// They are kept in one piece, with what stood between them, so that they take one allocation.
+/// They are kept in one piece, with what stood between them. Few take no memory.
 #[derive(Drop)]
 pub struct Coordinates {
-    written: Sequence<u8>,
+    written: Written,
+}
+
+/// What brackets held.
+#[derive(Drop)]
+enum Written {
+    /// The first so many of the bytes.
+    Short { len: u8, bytes: [u8; 22] },
+    // In a box, so that coordinates stay small.
+    Long(Box<Sequence<u8>>),
 }
 
 impl Model for Coordinates {
@@ -16,7 +28,42 @@ impl Model for Coordinates {
 
     ghost Value = { List (List ℕ) };
 
-    ghost view = { λ c. arguments_of c.written };
+    ghost use Rattle.stab_lines.specs.inner.Writtens.{written_bytes, IsWritten};
+
+    ghost view = { λ c. arguments_of (written_bytes c.written) };
+
+    ghost invariant = { λ c. IsWritten c.written };
+}
+
+impl Written {
+    ghost use Rattle.std.specs.Prelude.{◌≡◌, ◌≤◌, length};
+    ghost use Rattle.stab_lines.specs.inner.Writtens.{written_bytes, IsWritten};
+
+    /// A copy of a few bytes.
+    fn short(text: &[u8]) -> Written
+        requires few { length text.now ≤ 22 }
+        ensures value { written_bytes result ≡ text.now }
+        ensures kept { IsWritten result }
+    {
+        let len = text.len();
+        let mut bytes = [0; SHORT];
+        bytes[..len].copy_from_slice(text);
+        Written::Short {
+            len: len as u8,
+            bytes,
+        }
+    }
+
+    /// The bytes.
+    fn bytes(&self) -> &[u8]
+        requires kept { IsWritten self.now }
+        ensures value { result.now ≡ written_bytes self.now }
+    {
+        match self {
+            Written::Short { len, bytes } => &bytes[..usize::from(*len)],
+            Written::Long(bytes) => bytes.as_slice(),
+        }
+    }
 }
 
 impl Coordinates {
@@ -27,7 +74,12 @@ impl Coordinates {
     pub(crate) fn of(alloc: Global, arguments: &[u8]) -> Result<Coordinates, AllocError>
         ensures ok { IfOk result (λ c. c ≡ arguments_of arguments.now) }
     {
-        let written = Sequence::of_bytes(alloc, arguments)?;
+        let written = if arguments.len() <= SHORT {
+            Written::short(arguments)
+        } else {
+            let bytes = Sequence::of_bytes(alloc, arguments)?;
+            Written::Long(Box::new(alloc, bytes)?)
+        };
         Ok(Coordinates { written })
     }
 
@@ -35,6 +87,6 @@ impl Coordinates {
     pub(crate) fn written(&self) -> &[u8]
         ensures value { arguments_of result.now ≡ self.now }
     {
-        self.written.as_slice()
+        self.written.bytes()
     }
 }

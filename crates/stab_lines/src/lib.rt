@@ -10,6 +10,7 @@
 //! - `axis`, `product`: the letters X, Y and Z, and products of them on different qubits.
 //! - `operation`: instructions.
 //! - `name`, `target`, `argument`, `coordinates`: the parts of an instruction.
+//! - `located`: targets behind coordinates.
 //! - `factor`, `control`: the targets that are products, and those of controlled gates.
 //! - `meanings`: what a line means, or why it is refused.
 //! - `print`: the one text of an instruction, and of the opening of a block.
@@ -30,6 +31,7 @@ mod coordinates;
 mod factor;
 pub mod laws;
 mod line;
+mod located;
 mod meanings;
 mod name;
 mod operation;
@@ -44,6 +46,7 @@ pub use axis::Axis;
 pub use control::ControlledPair;
 pub use coordinates::Coordinates;
 pub use line::{content, ends_with, is_spacing, without_spacing_in_front};
+pub use located::Located;
 pub use meanings::{Line, is_close, meaning};
 pub use operation::{Kind, Measurement, Operation};
 pub use print::{write_opening, write_operation};

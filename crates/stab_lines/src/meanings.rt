@@ -9,6 +9,7 @@ ghost use Rattle.stab_lines.specs.Meanings.{without_arguments, targets_alone as 
 use crate::argument::{coordinates, observable, only_number};
 use crate::control::{ControlledPair, controlled_pairs};
 use crate::line::{Shape, starts_with};
+use crate::located::Located;
 use crate::name::{Instruction, Name};
 use crate::operation::{Kind, Operation};
 use crate::range::Count;
@@ -82,7 +83,8 @@ fn kind(alloc: Global, instruction: Instruction, shape: &Shape) -> Result<Kind, 
         }
         Instruction::Detector => {
             let coordinates = coordinates(alloc, shape.arguments)?;
-            Ok(Kind::Detector(coordinates, lookbacks(alloc, shape.targets)?))
+            let records = lookbacks(alloc, shape.targets)?;
+            Ok(Kind::Detector(Located::new(alloc, coordinates, records)?))
         }
         Instruction::ObservableInclude => observable_include(alloc, shape),
         Instruction::Tick if !is_blank(shape.arguments) => Err(Refusal::BadArguments),
@@ -91,7 +93,7 @@ fn kind(alloc: Global, instruction: Instruction, shape: &Shape) -> Result<Kind, 
         Instruction::QubitCoords => {
             let coordinates = coordinates(alloc, shape.arguments)?;
             let qubits = targets::<Qubits>(alloc, shape.targets)?;
-            Ok(Kind::QubitCoords(coordinates, qubits))
+            Ok(Kind::QubitCoords(Located::new(alloc, coordinates, qubits)?))
         }
         Instruction::ShiftCoords => {
             let coordinates = coordinates(alloc, shape.arguments)?;

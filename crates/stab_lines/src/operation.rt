@@ -1,11 +1,11 @@
 use crate::axis::Axis;
 use crate::control::ControlledPair;
 use crate::coordinates::Coordinates;
+use crate::located::Located;
 use crate::product::Product;
 use crate::range::{Lookbacks, MeasureTarget, Observable, Pair, Qubit};
 use crate::sequence::Sequence;
 use stab_tableau::Gate;
-use std::alloc::Global;
 
 /// Which measurement: of which letter, and whether it resets the qubit.
 #[derive(Clone, Copy, Debug, PartialEq, Eq)]
@@ -24,10 +24,10 @@ pub enum Kind {
     Measure(Measurement, Sequence<MeasureTarget>),
     Reset(Axis, Sequence<Qubit>),
     MeasureProducts(Sequence<Product>),
-    Detector(Coordinates, Lookbacks),
+    Detector(Located<Lookbacks>),
     ObservableInclude(Observable, Lookbacks),
     Tick,
-    QubitCoords(Coordinates, Sequence<Qubit>),
+    QubitCoords(Located<Sequence<Qubit>>),
     ShiftCoords(Coordinates),
 }
 
@@ -36,20 +36,4 @@ pub enum Kind {
 pub struct Operation {
     pub kind: Kind,
     pub tag: Sequence<u8>,
-}
-
-impl Operation {
-    ghost use Rattle.std.specs.Prelude.{◌≡◌, []};
-    ghost use Rattle.stab_lines.specs.declared.operation.Kind.TheVariants.{Tick};
-
-    /// `TICK` without a tag. It takes no memory.
-    pub fn tick(alloc: Global) -> Operation
-        ensures kind { result.kind ≡ Tick }
-        ensures tag { result.tag ≡ [] }
-    {
-        Operation {
-            kind: Kind::Tick,
-            tag: Sequence::new(alloc),
-        }
-    }
 }

@@ -11,7 +11,7 @@ use crate::axis::Axis;
 use crate::control::ControlledPair;
 use crate::coordinates::Coordinates;
 use crate::line::without_spacing;
-use crate::operation::{Kind, Measurement, Operation};
+use crate::operation::{Kind, Measurement};
 use crate::product::{Factor, Product};
 use crate::range::{Count, Lookback, MeasureTarget, Pair, Qubit};
 use crate::word::{first_piece, is_blank};
@@ -92,10 +92,10 @@ fn kind_name(kind: &Kind) -> &'static [u8]
         Kind::Measure(measurement, _) => measurement_name(*measurement),
         Kind::Reset(axis, _) => reset_name(*axis),
         Kind::MeasureProducts(_) => b"MPP",
-        Kind::Detector(_, _) => b"DETECTOR",
+        Kind::Detector(_) => b"DETECTOR",
         Kind::ObservableInclude(_, _) => b"OBSERVABLE_INCLUDE",
         Kind::Tick => b"TICK",
-        Kind::QubitCoords(_, _) => b"QUBIT_COORDS",
+        Kind::QubitCoords(_) => b"QUBIT_COORDS",
         Kind::ShiftCoords(_) => b"SHIFT_COORDS",
     }
 }
@@ -297,14 +297,14 @@ fn write_arguments<O: Output>(out: &mut O, kind: &Kind) -> Result<(), Refusal>
     ensures writes { WritesAll (O.seen out.old) (O.seen out.new) (arguments_text (kind_arguments kind.now)) result }
 {
     match kind {
-        Kind::Detector(coordinates, _) => write_coordinates(out, coordinates),
+        Kind::Detector(located) => write_coordinates(out, located.coordinates()),
         Kind::ObservableInclude(observable, _) => write_number(
             out,
             b"(",
             u64::from(observable.number()),
             b")",
         ),
-        Kind::QubitCoords(coordinates, _) => write_coordinates(out, coordinates),
+        Kind::QubitCoords(located) => write_coordinates(out, located.coordinates()),
         Kind::ShiftCoords(coordinates) => write_coordinates(out, coordinates),
         Kind::Gate(_, _)
         | Kind::Controlled(_, _)
@@ -326,28 +326,30 @@ fn write_targets<O: Output>(out: &mut O, kind: &Kind) -> Result<(), Refusal>
         Kind::Measure(_, targets) => write_each(out, b" ", targets.as_slice()),
         Kind::Reset(_, qubits) => write_each(out, b" ", qubits.as_slice()),
         Kind::MeasureProducts(products) => write_each(out, b" ", products.as_slice()),
-        Kind::Detector(_, records) => write_each(out, b" ", records.as_slice()),
+        Kind::Detector(located) => write_each(out, b" ", located.targets().as_slice()),
         Kind::ObservableInclude(_, records) => write_each(out, b" ", records.as_slice()),
-        Kind::QubitCoords(_, qubits) => write_each(out, b" ", qubits.as_slice()),
+        Kind::QubitCoords(located) => write_each(out, b" ", located.targets().as_slice()),
         Kind::Tick | Kind::ShiftCoords(_) => Ok(()),
     }
 }
 
-fn write_name<O: Output>(out: &mut O, operation: &Operation) -> Result<(), Refusal>
-    ensures writes { WritesAll (O.seen out.old) (O.seen out.new) (head_text (kind_name_of operation.now.kind) operation.now.tag) result }
+/// Writes an instruction's name and its tag.
+fn write_name<O: Output>(out: &mut O, kind: &Kind, tag: &[u8]) -> Result<(), Refusal>
+    ensures writes { WritesAll (O.seen out.old) (O.seen out.new) (head_text (kind_name_of kind.now) tag.now) result }
 {
-    write_head(out, kind_name(&operation.kind), operation.tag.as_slice())
+    write_head(out, kind_name(kind), tag)
 }
 
-/// Writes the one text of an instruction, without a line feed, and does not flush.
+/// Writes the one text of an instruction with this tag, which is empty where it has none, without a
+/// line feed, and does not flush.
 ///
 /// Refusal `WriteFault` where a write failed; what was written is then a prefix of the text.
-pub fn write_operation<O: Output>(out: &mut O, operation: &Operation) -> Result<(), Refusal>
-    ensures writes { WritesAll (O.seen out.old) (O.seen out.new) (operation_text operation.now) result }
+pub fn write_operation<O: Output>(out: &mut O, kind: &Kind, tag: &[u8]) -> Result<(), Refusal>
+    ensures writes { WritesAll (O.seen out.old) (O.seen out.new) (operation_text (record { kind = kind.now; tag = tag.now })) result }
 {
-    write_name(out, operation)?;
-    write_arguments(out, &operation.kind)?;
-    write_targets(out, &operation.kind)
+    write_name(out, kind, tag)?;
+    write_arguments(out, kind)?;
+    write_targets(out, kind)
 }
 
 /// Writes the one text of a block's opening, without a line feed, and does not flush.

@@ -51,3 +51,6 @@ lowest_xor a b = low_xor (a % 2) (b % 2) (bit_xor a b % 2)
 pub lowest_and : (a b : ℕ) → lowest (bit_and a b) ≡ (lowest a && lowest b)
 lowest_and a b = low_and (a % 2) (b % 2) (bit_and a b % 2)
     (sym (bit_at_lowest (bit_and a b)) ∙ bit_at_and a b 0 ∙ ap (λ t. min t (bit_at b 0)) (bit_at_lowest a) ∙ ap (λ t. min (a % 2) t) (bit_at_lowest b)) (below_two a) (below_two b)
+
+pub lowest_add : (a b : ℕ) → lowest (a + b) ≡ lowest a ⊕ lowest b
+lowest_add a b = low_xor (a % 2) (b % 2) ((a + b) % 2) (omega arith) (below_two a) (below_two b)

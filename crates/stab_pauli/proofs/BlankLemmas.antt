@@ -1,14 +1,19 @@
 -- Words of zeros are letters I.
-use Rattle.std.proofs.Common.{◌≡◌, ℕ, zero, suc, ◌+◌, ◌-◌, ◌*◌, ◌≤◌, Bool, false, refl, sym, ◌∙◌, ap, List, ◌∷◌, ◌++◌, length, take, drop, replicate, arith, subst}
+use Rattle.std.proofs.Common.{◌≡◌, ℕ, zero, suc, ◌+◌, ◌-◌, ◌*◌, ◌≤◌, refl, sym, ◌∙◌, ap, List, ◌∷◌, ◌++◌, length, take, drop, replicate, arith, subst}
 use Rattle.std.specs.List.{All}
 use Rattle.std.specs.Simd.Lanes.{zip2}
 use Rattle.std.proofs.lemmas.List.{length-replicate}
 use Rattle.std.proofs.lemmas.List.Elements.{All-nil, All-cons}
 use Rattle.stab_pauli.specs.declared.letter.Letter.{Letter}
 use Rattle.stab_pauli.specs.declared.letter.Letter.TheVariants.{I}
-use Rattle.stab_pauli.specs.Paulis.{Signed, identity}
+use Rattle.stab_pauli.specs.declared.turn.Turn.{Turn}
+use Rattle.stab_pauli.specs.declared.turn.Turn.TheVariants.{Zero}
+use Rattle.stab_pauli.specs.Turns.{turn_add, is_even, sign_of_turn}
+use Rattle.stab_pauli.specs.Paulis.{identity}
+use Rattle.stab_pauli.specs.inner.Powers.{turn_back, sign_power, IsSign}
+use Rattle.stab_pauli.proofs.PowerLemmas.{string_power-blank}
 use Rattle.stab_pauli.specs.inner.Words.{word_letters, packed_letters}
-use Rattle.stab_pauli.specs.inner.Blocks.{row_letters, full_rows, AreBlocks, IsPadded, IsTable, table, signed_row}
+use Rattle.stab_pauli.specs.inner.Blocks.{row_letters, full_rows, AreBlocks, IsPadded, IsRow, IsSignedRow, IsTable, table, row_sign, signed_row}
 
 replicate-append : {A : Type 0} (a b : ℕ) (x : A) → replicate a x ++ replicate b x ≡ replicate (a + b) x
 replicate-append zero b x = let e : b ≡ 0 + b = omega arith in ap (λ n. replicate n x) e
@@ -72,30 +77,44 @@ zip2-replicate : {A B C : Type 0} (f : A → B → C) (n : ℕ) (a : A) (b : B) 
 zip2-replicate f zero a b = refl
 zip2-replicate f (suc n) a b = ap (λ t. f a b ∷ t) (zip2-replicate f n a b)
 
-all-replicate : (n m count : ℕ) → n ≤ 256 * m → All (IsPadded n m) (replicate count (replicate (256 * m) I))
-all-replicate n m zero le = All-nil (IsPadded n m)
-all-replicate n m (suc count) le =
-    All-cons (IsPadded n m) (replicate (256 * m) I) (replicate count (replicate (256 * m) I)) (drop-replicate n (256 * m) (256 * m - n) I (omega arith)) (all-replicate n m count le)
+all-replicate : {A : Type 0} (P : A → Type 0) (x : A) (count : ℕ) → P x → All P (replicate count x)
+all-replicate P x zero h = All-nil P
+all-replicate P x (suc count) h = All-cons P x (replicate count x) h (all-replicate P x count h)
 
-pub IsTable-none : (n m count : ℕ) (ws : List ℕ) (ss : List Bool) → AreBlocks n m → ws ≡ replicate (8 * m * count) 0 → ss ≡ replicate count false → IsTable n m ws ss
-IsTable-none n m count ws ss eb ew es = record {
+-- the power 1 before letters I is that of the sign +
+blank-sign : (n : ℕ) (letters : List Letter) → take n letters ≡ replicate n I → row_sign n Zero letters ≡ Zero
+blank-sign n letters e = ap (λ l. sign_power Zero l) e ∙ ap (λ t. turn_add (turn_back t) Zero) (string_power-blank n)
+
+pub IsSigned-none : (n m : ℕ) (ws : List ℕ) → IsRow n m ws → take n (row_letters m ws) ≡ replicate n I → IsSignedRow n m Zero ws
+IsSigned-none n m ws is e = record { row = is; sign = ap is_even (blank-sign n (row_letters m ws) e) }
+
+pub signed_row-none : (n : ℕ) (letters : List Letter) → take n letters ≡ replicate n I → signed_row n Zero letters ≡ identity n
+signed_row-none n letters e = λ i. record { negative = ap sign_of_turn (blank-sign n letters e) i; letters = e i }
+
+pub IsTable-none : (n m count : ℕ) (ws : List ℕ) (ps : List Turn) → AreBlocks n m → ws ≡ replicate (8 * m * count) 0 → ps ≡ replicate count Zero → IsTable n m ws ps
+IsTable-none n m count ws ps eb ew ep = record {
   blocks = eb;
-  size = ap length ew ∙ length-replicate (8 * m * count) 0 ∙ ap (λ c. 8 * m * c) (sym ls);
-  padded = subst (All (IsPadded n m)) (sym (ap (full_rows m ws) ls ∙ full_rows-none m count ws ew)) (all-replicate n m count (fits n m eb));
+  size = ap length ew ∙ length-replicate (8 * m * count) 0 ∙ ap (λ c. 8 * m * c) (sym lp);
+  padded = subst (All (IsPadded n m)) (sym rows) (all-replicate (IsPadded n m) blank count (drop-replicate n (256 * m) (256 * m - n) I (let le = fits n m eb in omega arith)));
+  signs = subst (All IsSign) (sym ((λ i. zip2 (row_sign n) (ep i) (rows i)) ∙ zip2-replicate (row_sign n) count Zero blank))
+      (all-replicate IsSign (row_sign n Zero blank) count (ap is_even (blank-sign n blank (take-replicate n (256 * m) I (fits n m eb)))));
 }
   where
-    ls : length ss ≡ count
-    ls = ap length es ∙ length-replicate count false
+    blank : List Letter
+    blank = replicate (256 * m) I
 
-pub table-none : (n m count : ℕ) (ws : List ℕ) (ss : List Bool) → n ≤ 256 * m → ws ≡ replicate (8 * m * count) 0 → ss ≡ replicate count false → table n m ws ss ≡ record { qubits = n; rows = replicate count (identity n) }
-table-none n m count ws ss le ew es =
+    lp : length ps ≡ count
+    lp = ap length ep ∙ length-replicate count Zero
+
+    rows : full_rows m ws (length ps) ≡ replicate count blank
+    rows = ap (full_rows m ws) lp ∙ full_rows-none m count ws ew
+
+pub table-none : (n m count : ℕ) (ws : List ℕ) (ps : List Turn) → n ≤ 256 * m → ws ≡ replicate (8 * m * count) 0 → ps ≡ replicate count Zero → table n m ws ps ≡ record { qubits = n; rows = replicate count (identity n) }
+table-none n m count ws ps le ew ep =
     λ i. record {
       qubits = n;
       rows =
-          ((λ j. zip2 (signed_row n) (es j) ((ap (full_rows m ws) (ap length es ∙ length-replicate count false) ∙ full_rows-none m count ws ew) j))
-          ∙ zip2-replicate (signed_row n) count false (replicate (256 * m) I)
-          ∙ ap (λ (l : List Letter). replicate count (the_row l)) (take-replicate n (256 * m) I le)) i;
+          ((λ j. zip2 (signed_row n) (ep j) ((ap (full_rows m ws) (ap length ep ∙ length-replicate count Zero) ∙ full_rows-none m count ws ew) j))
+          ∙ zip2-replicate (signed_row n) count Zero (replicate (256 * m) I)
+          ∙ ap (replicate count) (signed_row-none n (replicate (256 * m) I) (take-replicate n (256 * m) I le))) i;
     }
-  where
-    the_row : List Letter → Signed
-    the_row l = record { negative = false; letters = l }

@@ -1,17 +1,18 @@
 -- One block multiplied by another of the same slice of words.
-use Rattle.std.proofs.Common.{◌≡◌, ℕ, ◌+◌, ◌<◌, ◌≤◌, sym, ◌∙◌, ap, List, length, get_or, inl, inr, arith}
-use Rattle.std.specs.Prelude.{bit_xor}
-use Rattle.std.specs.Simd.Lanes.{chunk, put_chunk}
+use Rattle.std.proofs.Common.{◌≡◌, ℕ, ◌+◌, ◌<◌, ◌≤◌, refl, sym, ◌∙◌, ap, List, length, get_or, inl, inr, arith}
+use Rattle.std.specs.Prelude.{bit_xor, bit_and}
+use Rattle.std.specs.Simd.Lanes.{zip2, chunk, put_chunk}
 use Rattle.std.proofs.lemmas.List.{ext_get_or}
 use Rattle.std.proofs.lemmas.Simd.{get_or-zip2, length-zip2, length-chunk, get_or-chunk, length-put_chunk, get_or-put_chunk_below, get_or-put_chunk_at, get_or-put_chunk_above}
-use Rattle.stab_pauli.specs.declared.turn.Turn.{Turn}
 use Rattle.stab_pauli.specs.declared.turn.Turn.TheVariants.{Zero}
-use Rattle.stab_pauli.specs.Turns.{turn_add}
-use Rattle.stab_pauli.specs.Paulis.{string_turn}
-use Rattle.stab_pauli.specs.inner.Words.{packed_letters, xor_words}
+use Rattle.stab_pauli.specs.Turns.{sign_turn}
+use Rattle.stab_pauli.specs.inner.Words.{words_odd, xor_words}
+use Rattle.stab_pauli.specs.inner.Powers.{strings_meet}
 use Rattle.stab_pauli.specs.inner.Blocks.{row_letters}
+use Rattle.stab_pauli.proofs.TurnLemmas.{sign_turn-injective}
+use Rattle.stab_pauli.proofs.PackedLemmas.{packed_meet}
 use Rattle.stab_pauli.proofs.SwapLemmas.{Place, place}
-use Rattle.stab_pauli.proofs.RowLemmas.{IsRowTurnBefore-more, IsRowTurnBefore-all}
+use Rattle.stab_pauli.proofs.RowLemmas.{AddsUp-meet, IsTurnBefore-more, IsTurnBefore-all}
 
 -- a part of a part
 pub chunk-in : (a m i s : ℕ) (ws : List ℕ) → i + s ≤ m → a + m ≤ length ws → chunk i s (chunk a m ws) ≡ chunk (a + i) s ws
@@ -108,16 +109,17 @@ module _ (a b s : ℕ) (ws : List ℕ) (la : a + (s + s) ≤ length ws) (lb : b 
       (length-put_chunk (a + s) half second ∙ half_size ∙ sym (length-put_chunk a ws whole))
       (λ k lt. by_place k (place a s k) (place (a + s) s k))
 
--- the power of i of two blocks
-pub block-turn : (a b : ℕ) (ws x z other_x other_z : List ℕ) (start counted : Turn) → a + 8 ≤ length ws → b + 8 ≤ length ws
+-- whether the Z bits of a block meet the X bits of another
+pub block-meet : (a b : ℕ) (ws x z other_x other_z : List ℕ) → a + 8 ≤ length ws → b + 8 ≤ length ws
     → x ≡ chunk a 4 ws → z ≡ chunk (a + 4) 4 ws → other_x ≡ chunk b 4 ws → other_z ≡ chunk (b + 4) 4 ws
-    → start ≡ Zero → counted ≡ turn_add start (string_turn (packed_letters 64 x z) (packed_letters 64 other_x other_z))
-    → counted ≡ string_turn (row_letters 1 (chunk a 8 ws)) (row_letters 1 (chunk b 8 ws))
-block-turn a b ws x z other_x other_z start counted la lb ex ez eox eoz none e =
-    IsRowTurnBefore-all 1 (chunk a 8 ws) (chunk b 8 ws) 1 counted (omega arith)
-    (IsRowTurnBefore-more 1 (chunk a 8 ws) (chunk b 8 ws) 0 start counted x z other_x other_z (length-chunk a 8 ws la) (length-chunk b 8 ws lb) (omega arith)
-    (ex ∙ low a la) (ez ∙ sym (chunk-in a 8 4 4 ws (omega arith) la)) (eox ∙ low b lb) (eoz ∙ sym (chunk-in b 8 4 4 ws (omega arith) lb)) e
-    (record { whole = ap (λ t. turn_add t (string_turn (row_letters 1 (chunk a 8 ws)) (row_letters 1 (chunk b 8 ws)))) none }))
+    → words_odd 64 (zip2 bit_and z other_x) ≡ strings_meet (row_letters 1 (chunk a 8 ws)) (row_letters 1 (chunk b 8 ws))
+block-meet a b ws x z other_x other_z la lb ex ez eox eoz =
+    sign_turn-injective _ _
+    (IsTurnBefore-all AddsUp-meet 1 (chunk a 8 ws) (chunk b 8 ws) 1 (sign_turn (words_odd 64 (zip2 bit_and z other_x))) (omega arith)
+    (IsTurnBefore-more AddsUp-meet 1 (chunk a 8 ws) (chunk b 8 ws) 0 Zero (sign_turn (words_odd 64 (zip2 bit_and z other_x))) x z other_x other_z (length-chunk a 8 ws la) (length-chunk b 8 ws lb) (omega arith)
+    (ex ∙ low a la) (ez ∙ sym (chunk-in a 8 4 4 ws (omega arith) la)) (eox ∙ low b lb) (eoz ∙ sym (chunk-in b 8 4 4 ws (omega arith) lb))
+    (λ lx lz lox loz. ap sign_turn (packed_meet 64 x z other_x other_z (lx ∙ sym lz) (lx ∙ sym lox) (lx ∙ sym loz)))
+    (record { whole = refl })))
   where
     low : (c : ℕ) → c + 8 ≤ length ws → chunk c 4 ws ≡ chunk 0 4 (chunk c 8 ws)
     low c lc = let z : c + 0 ≡ c = omega arith in sym (chunk-in c 8 0 4 ws (omega arith) lc ∙ ap (λ k. chunk k 4 ws) z)

@@ -1,25 +1,23 @@
--- Packed strings: appended words, and products.
-use Rattle.std.proofs.Common.{◌≡◌, ℕ, zero, suc, ◌+◌, ◌*◌, ◌/◌, refl, sym, ◌∙◌, ap, arith, Bool, List, [], ◌∷◌, ◌++◌, append_assoc, length, length-append, get_or}
-use Rattle.std.specs.Prelude.{bit_xor, bit_and}
-use Rattle.std.specs.Simd.Lanes.{zip2, pick_l}
+-- Packed strings: appended words, products, and powers of i.
+use Rattle.std.proofs.Common.{◌≡◌, ℕ, zero, suc, ◌+◌, ◌*◌, ◌/◌, ◌%◌, ◌^◌, refl, sym, ◌∙◌, ap, arith, Bool, true, false, ◌&&◌, eqb, List, [], ◌∷◌, ◌++◌, append_assoc, length, length-append, inl, inr}
+use Rattle.std.specs.Prelude.{bit_xor, bit_and, ◌⊎◌}
+use Rattle.std.specs.Simd.Lanes.{zip2}
+use Rattle.std.proofs.lemmas.Nat.{and_comm}
+use Rattle.std.proofs.lemmas.Simd.{length-zip2}
 use Rattle.stab_pauli.specs.declared.letter.Letter.{Letter}
-use Rattle.stab_pauli.specs.declared.turn.Turn.TheVariants.{Zero}
-use Rattle.stab_pauli.specs.Turns.{turn_add}
-use Rattle.stab_pauli.specs.Letters.{◌⊕◌, letter_product, letter_turn}
-use Rattle.stab_pauli.specs.Paulis.{string_product, string_turn}
-use Rattle.stab_pauli.proofs.TurnLemmas.{turn_add-mid, turn_add-assoc, turn_add-zero}
-use Rattle.stab_pauli.specs.inner.Words.{lowest, letter_of_bits, word_letters, packed_letters, lanes_turn, counters_turn, xor_words}
-use Rattle.stab_pauli.proofs.BitLemmas.{half_xor, lowest_xor}
-use Rattle.stab_pauli.proofs.CounterLemmas.{lanes_step, lanes_sum}
+use Rattle.stab_pauli.specs.declared.turn.Turn.{Turn}
+use Rattle.stab_pauli.specs.declared.turn.Turn.TheVariants.{Zero, Quarter}
+use Rattle.stab_pauli.specs.Turns.{turn_add, sign_turn}
+use Rattle.stab_pauli.specs.Letters.{◌⊕◌, letter_product}
+use Rattle.stab_pauli.specs.Paulis.{string_product}
+use Rattle.stab_pauli.specs.inner.Words.{lowest, letter_of_bits, word_letters, packed_letters, word_odd, words_odd, word_ones, words_ones, xor_words}
+use Rattle.stab_pauli.specs.inner.Powers.{quarters, letter_power, string_power, letters_meet, strings_meet}
+use Rattle.stab_pauli.proofs.TurnLemmas.{turn_add-assoc, sign_turn-parity, quarters-add, quarters-mod}
+use Rattle.stab_pauli.proofs.PowerLemmas.{strings_meet-append, string_power-append}
+use Rattle.stab_pauli.proofs.BitLemmas.{half_xor, half_and, lowest_xor, lowest_and, two_cases, below_two}
+use Rattle.stab_pauli.proofs.OnesLemmas.{words_odd-xor}
 
 -- appended strings
-
-pub string_turn-append : (p q p' q' : List Letter) → length p ≡ length q → string_turn (p ++ p') (q ++ q') ≡ turn_add (string_turn p q) (string_turn p' q')
-string_turn-append [] [] p' q' e = refl
-string_turn-append [] (y ∷ q) p' q' e = absurd (omega arith)
-string_turn-append (x ∷ p) [] p' q' e = absurd (omega arith)
-string_turn-append (x ∷ p) (y ∷ q) p' q' e =
-    ap (turn_add (letter_turn x y)) (string_turn-append p q p' q' (omega arith)) ∙ sym (turn_add-assoc (letter_turn x y) (string_turn p q) (string_turn p' q'))
 
 pub string_product-append : (p q p' q' : List Letter) → length p ≡ length q → string_product (p ++ p') (q ++ q') ≡ string_product p q ++ string_product p' q'
 string_product-append [] [] p' q' e = refl
@@ -77,57 +75,100 @@ packed_product k (x1 ∷ x1s) (z1 ∷ z1s) (x2 ∷ x2s) (z2 ∷ z2s) a b c =
     (length-word_letters k x1 z1 ∙ sym (length-word_letters k x2 z2)))
 packed_product k x1 z1 x2 z2 a b c = absurd (omega arith)
 
--- the power of i of two pairs of words and what follows them
-pub packed_turn : (k x1 z1 x2 z2 : ℕ) (x1s z1s x2s z2s : List ℕ)
-    → string_turn (packed_letters k (x1 ∷ x1s) (z1 ∷ z1s)) (packed_letters k (x2 ∷ x2s) (z2 ∷ z2s))
-    ≡ turn_add (string_turn (word_letters k x1 z1) (word_letters k x2 z2)) (string_turn (packed_letters k x1s z1s) (packed_letters k x2s z2s))
-packed_turn k x1 z1 x2 z2 x1s z1s x2s z2s =
-    string_turn-append (word_letters k x1 z1) (word_letters k x2 z2) (packed_letters k x1s z1s) (packed_letters k x2s z2s) (length-word_letters k x1 z1 ∙ sym (length-word_letters k x2 z2))
+-- the Z bits of one string that meet X bits of another
 
--- several pairs of counters at a time
+letters_meet-bits : (a b c d : Bool) → (b && c) ≡ letters_meet (letter_of_bits a b) (letter_of_bits c d)
+letters_meet-bits a b c d = grind arith
 
-abbrev pub differing_all : List ℕ → List ℕ → List ℕ → List ℕ → List ℕ
-differing_all x1 z1 x2 z2 = zip2 bit_xor (zip2 bit_and x2 z1) (zip2 bit_and x1 z2)
+word_meet : (k x1 z1 x2 z2 : ℕ) → word_odd k (bit_and z1 x2) ≡ strings_meet (word_letters k x1 z1) (word_letters k x2 z2)
+unfolding word_odd word_letters
+word_meet zero x1 z1 x2 z2 = refl
+word_meet (suc k) x1 z1 x2 z2 =
+    (λ i. lowest_and z1 x2 i ⊕ word_odd k (half_and z1 x2 i))
+    ∙ (λ i. letters_meet-bits (lowest x1) (lowest z1) (lowest x2) (lowest z2) i ⊕ word_meet k (x1 / 2) (z1 / 2) (x2 / 2) (z2 / 2) i)
 
-abbrev pub next_ones_all : List ℕ → List ℕ → List ℕ → List ℕ → List ℕ → List ℕ
-next_ones_all o x1 z1 x2 z2 = zip2 bit_xor o (differing_all x1 z1 x2 z2)
+pub packed_meet : (k : ℕ) (x1 z1 x2 z2 : List ℕ) → length x1 ≡ length z1 → length x1 ≡ length x2 → length x1 ≡ length z2
+    → words_odd k (zip2 bit_and z1 x2) ≡ strings_meet (packed_letters k x1 z1) (packed_letters k x2 z2)
+packed_meet k [] [] [] [] a b c = refl
+packed_meet k (x1 ∷ x1s) (z1 ∷ z1s) (x2 ∷ x2s) (z2 ∷ z2s) a b c =
+    (λ i. word_meet k x1 z1 x2 z2 i ⊕ packed_meet k x1s z1s x2s z2s (omega arith) (omega arith) (omega arith) i)
+    ∙ sym (strings_meet-append (word_letters k x1 z1) (word_letters k x2 z2) (packed_letters k x1s z1s) (packed_letters k x2s z2s)
+    (length-word_letters k x1 z1 ∙ sym (length-word_letters k x2 z2)))
+packed_meet k x1 z1 x2 z2 a b c = absurd (omega arith)
 
-abbrev pub next_twos_all : List ℕ → List ℕ → List ℕ → List ℕ → List ℕ → List ℕ → List ℕ
-next_twos_all t o x1 z1 x2 z2 = zip2 bit_xor t (zip2 bit_and (zip2 bit_xor (zip2 bit_xor (zip2 bit_xor o (zip2 bit_xor x1 x2)) (zip2 bit_xor z1 z2)) (zip2 bit_and x1 z2)) (differing_all x1 z1 x2 z2))
+zip2-and_comm : (xs ys : List ℕ) → zip2 bit_and xs ys ≡ zip2 bit_and ys xs
+zip2-and_comm [] [] = refl
+zip2-and_comm [] (y ∷ ys) = refl
+zip2-and_comm (x ∷ xs) [] = refl
+zip2-and_comm (x ∷ xs) (y ∷ ys) = λ i. and_comm x y i ∷ zip2-and_comm xs ys i
 
-pub counters_step : (k : ℕ) (ts os x1 z1 x2 z2 : List ℕ) → length ts ≡ length os → length ts ≡ length x1 → length ts ≡ length z1 → length ts ≡ length x2 → length ts ≡ length z2
-    → counters_turn k (next_twos_all ts os x1 z1 x2 z2) (next_ones_all os x1 z1 x2 z2) ≡ turn_add (counters_turn k ts os) (string_turn (packed_letters k x1 z1) (packed_letters k x2 z2))
-counters_step k [] [] [] [] [] [] a b c d e = refl
-counters_step k (t ∷ ts) (o ∷ os) (x1 ∷ x1s) (z1 ∷ z1s) (x2 ∷ x2s) (z2 ∷ z2s) a b c d e =
-    (λ i. turn_add (lanes_step k t o x1 z1 x2 z2 i) (counters_step k ts os x1s z1s x2s z2s (omega arith) (omega arith) (omega arith) (omega arith) (omega arith) i))
-    ∙ turn_add-mid (lanes_turn k t o) (string_turn (word_letters k x1 z1) (word_letters k x2 z2)) (counters_turn k ts os) (string_turn (packed_letters k x1s z1s) (packed_letters k x2s z2s))
-    ∙ ap (turn_add (turn_add (lanes_turn k t o) (counters_turn k ts os))) (sym (packed_turn k x1 z1 x2 z2 x1s z1s x2s z2s))
-counters_step k ts os x1 z1 x2 z2 a b c d e = absurd (omega arith)
+-- added to those counted before, as signs
+pub meet_turn-step : (k n : ℕ) (ms x1 z1 x2 z2 : List ℕ) → length ms ≡ n → length x1 ≡ n → length z1 ≡ n → length x2 ≡ n → length z2 ≡ n
+    → sign_turn (words_odd k (zip2 bit_xor ms (zip2 bit_and z1 x2))) ≡ turn_add (sign_turn (words_odd k ms)) (sign_turn (strings_meet (packed_letters k x1 z1) (packed_letters k x2 z2)))
+meet_turn-step k n ms x1 z1 x2 z2 lm lx lz lx' lz' =
+    ap sign_turn
+    (words_odd-xor k ms (zip2 bit_and z1 x2) (lm ∙ sym (length-zip2 bit_and z1 x2 (lz ∙ sym lx') ∙ lz))
+    ∙ ap (λ t. words_odd k ms ⊕ t) (packed_meet k x1 z1 x2 z2 (lx ∙ sym lz) (lx ∙ sym lx') (lx ∙ sym lz')))
+    ∙ sign_turn-parity (words_odd k ms) (strings_meet (packed_letters k x1 z1) (packed_letters k x2 z2))
 
--- four pairs of counters: the first and third and the second and fourth summed, and then both
+-- and in both orders
+pub order_turn-step : (k n : ℕ) (ms x1 z1 x2 z2 : List ℕ) → length ms ≡ n → length x1 ≡ n → length z1 ≡ n → length x2 ≡ n → length z2 ≡ n
+    → sign_turn (words_odd k (zip2 bit_xor (zip2 bit_xor ms (zip2 bit_and z1 x2)) (zip2 bit_and x1 z2)))
+    ≡ turn_add (sign_turn (words_odd k ms)) (turn_add (sign_turn (strings_meet (packed_letters k x1 z1) (packed_letters k x2 z2))) (sign_turn (strings_meet (packed_letters k x2 z2) (packed_letters k x1 z1))))
+order_turn-step k n ms x1 z1 x2 z2 lm lx lz lx' lz' =
+    ap (λ t. sign_turn (words_odd k (zip2 bit_xor now t))) (zip2-and_comm x1 z2)
+    ∙ meet_turn-step k n now x2 z2 x1 z1 (length-zip2 bit_xor ms (zip2 bit_and z1 x2) (lm ∙ sym (length-zip2 bit_and z1 x2 (lz ∙ sym lx') ∙ lz)) ∙ lm) lx' lz' lx lz
+    ∙ ap (λ t. turn_add t second) (meet_turn-step k n ms x1 z1 x2 z2 lm lx lz lx' lz')
+    ∙ turn_add-assoc (sign_turn (words_odd k ms)) (sign_turn (strings_meet (packed_letters k x1 z1) (packed_letters k x2 z2))) second
+  where
+    now : List ℕ
+    now = zip2 bit_xor ms (zip2 bit_and z1 x2)
 
--- the lanes further on by two, and by one
-abbrev by_two : List ℕ → List ℕ
-by_two xs = pick_l 0 (xs ++ xs) (2 ∷ 3 ∷ 0 ∷ 1 ∷ [])
+    second : Turn
+    second = sign_turn (strings_meet (packed_letters k x2 z2) (packed_letters k x1 z1))
 
-abbrev by_one : List ℕ → List ℕ
-by_one xs = pick_l 0 (xs ++ xs) (1 ∷ 2 ∷ 3 ∷ 0 ∷ [])
+-- the powers of i before the bits
 
-abbrev half_ones_all : List ℕ → List ℕ
-half_ones_all os = zip2 bit_xor os (by_two os)
+bit_power : Bool → Turn
+bit_power false = Zero
+bit_power true = Quarter
 
-abbrev half_twos_all : List ℕ → List ℕ → List ℕ
-half_twos_all ts os = zip2 bit_xor (zip2 bit_xor ts (by_two ts)) (zip2 bit_and os (by_two os))
+power_bits : (a b : Bool) → bit_power (a && b) ≡ letter_power (letter_of_bits a b)
+unfolding bit_power
+power_bits false false = refl
+power_bits false true = refl
+power_bits true false = refl
+power_bits true true = refl
 
-pub counters_fold : (k : ℕ) (ts os : List ℕ) → length ts ≡ 4 → length os ≡ 4
-    → lanes_turn k
-    (get_or (zip2 bit_xor (zip2 bit_xor (half_twos_all ts os) (by_one (half_twos_all ts os))) (zip2 bit_and (half_ones_all os) (by_one (half_ones_all os)))) 0 0)
-    (get_or (zip2 bit_xor (half_ones_all os) (by_one (half_ones_all os))) 0 0)
-    ≡ counters_turn k ts os
-counters_fold k (t ∷ t' ∷ t'' ∷ t''' ∷ []) (o ∷ o' ∷ o'' ∷ o''' ∷ []) a b =
-    lanes_sum k (bit_xor (bit_xor t t'') (bit_and o o'')) (bit_xor o o'') (bit_xor (bit_xor t' t''') (bit_and o' o''')) (bit_xor o' o''')
-    ∙ (λ i. turn_add (lanes_sum k t o t'' o'' i) (lanes_sum k t' o' t''' o''' i))
-    ∙ turn_add-mid (lanes_turn k t o) (lanes_turn k t'' o'') (lanes_turn k t' o') (lanes_turn k t''' o''')
-    ∙ ap (λ y. turn_add (turn_add (lanes_turn k t o) (lanes_turn k t' o')) (turn_add (lanes_turn k t'' o'') y)) (sym (turn_add-zero (lanes_turn k t''' o''')))
-    ∙ turn_add-assoc (lanes_turn k t o) (lanes_turn k t' o') (turn_add (lanes_turn k t'' o'') (turn_add (lanes_turn k t''' o''') Zero))
-counters_fold k ts os a b = absurd (omega arith)
+lowest_power : (n : ℕ) → quarters (n % 2) ≡ bit_power (lowest n)
+unfolding bit_power
+lowest_power n = by_cases (two_cases (n % 2) (below_two n))
+  where
+    by_cases : (n % 2 ≡ 0) ⊎ (n % 2 ≡ 1) → quarters (n % 2) ≡ bit_power (eqb (n % 2) 1)
+    by_cases (inl e) = ap quarters e ∙ ap (λ m. bit_power (eqb m 1)) (sym e)
+    by_cases (inr e) = ap quarters e ∙ ap (λ m. bit_power (eqb m 1)) (sym e)
+
+word_power : (k x z : ℕ) → quarters (word_ones k (bit_and x z)) ≡ string_power (word_letters k x z)
+unfolding word_ones word_letters
+word_power zero x z = refl
+word_power (suc k) x z =
+    quarters-add (bit_and x z % 2) (word_ones k (bit_and x z / 2))
+    ∙ (λ i. turn_add
+    ((lowest_power (bit_and x z) ∙ ap bit_power (lowest_and x z) ∙ power_bits (lowest x) (lowest z)) i)
+    ((ap (λ n. quarters (word_ones k n)) (half_and x z) ∙ word_power k (x / 2) (z / 2)) i))
+
+pub packed_power : (k : ℕ) (xs zs : List ℕ) → length xs ≡ length zs → quarters (words_ones k (zip2 bit_and xs zs)) ≡ string_power (packed_letters k xs zs)
+packed_power k [] [] e = refl
+packed_power k [] (z ∷ zs) e = absurd (omega arith)
+packed_power k (x ∷ xs) [] e = absurd (omega arith)
+packed_power k (x ∷ xs) (z ∷ zs) e =
+    quarters-add (word_ones k (bit_and x z)) (words_ones k (zip2 bit_and xs zs))
+    ∙ (λ i. turn_add (word_power k x z i) (packed_power k xs zs (omega arith) i))
+    ∙ sym (string_power-append (word_letters k x z) (packed_letters k xs zs))
+
+-- added to those counted before, in a count that may wrap
+pub power_step : (count more n : ℕ) (x z x' z' : List ℕ) → more ≡ words_ones 64 (zip2 bit_and x z) → length x ≡ n → length z ≡ n → length x' ≡ n → length z' ≡ n
+    → quarters ((count + more) % 2 ^ 32) ≡ turn_add (quarters count) (string_power (packed_letters 64 x z))
+power_step count more n x z x' z' e lx lz lx' lz' =
+    quarters-mod (2 ^ 30) (count + more) ∙ quarters-add count more
+    ∙ ap (turn_add (quarters count)) (ap quarters e ∙ packed_power 64 x z (lx ∙ sym lz))

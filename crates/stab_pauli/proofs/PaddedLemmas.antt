@@ -1,19 +1,22 @@
 -- One string in its words: what stands past its last letter is I, which changes no product.
-use Rattle.std.proofs.Common.{◌≡◌, ℕ, zero, suc, [], ◌∷◌, ◌++◌, ◌-◌, ◌*◌, ◌<◌, Bool, true, false, not, refl, sym, ◌∙◌, ap, List, length, set, take, drop, replicate, arith, subst}
+use Rattle.std.proofs.Common.{◌≡◌, ℕ, zero, suc, [], ◌∷◌, ◌++◌, ◌-◌, ◌*◌, ◌<◌, refl, sym, ◌∙◌, ap, List, length, set, take, drop, replicate, arith, subst}
 use Rattle.std.specs.Prelude.{bit_xor}
 use Rattle.std.proofs.lemmas.List.{length-replicate, length-take-le, append-nil, drop-set-lt}
 use Rattle.std.proofs.Math.Seq.{take-length, drop-length}
 use Rattle.std.proofs.lemmas.Simd.{length-zip2}
 use Rattle.stab_pauli.specs.declared.letter.Letter.{Letter}
 use Rattle.stab_pauli.specs.declared.letter.Letter.TheVariants.{I}
-use Rattle.stab_pauli.specs.Turns.{is_even}
-use Rattle.stab_pauli.specs.Paulis.{Signed, string_product, string_turn, strings_anticommute}
+use Rattle.stab_pauli.specs.declared.turn.Turn.{Turn}
+use Rattle.stab_pauli.specs.Turns.{turn_add, sign_turn, sign_of_turn}
+use Rattle.stab_pauli.specs.Letters.{◌⊕◌}
+use Rattle.stab_pauli.specs.Paulis.{Signed, string_product, strings_anticommute}
 use Rattle.stab_pauli.specs.inner.Words.{xor_words}
-use Rattle.stab_pauli.specs.inner.Blocks.{row_letters, blocks_of, AreBlocks, IsPadded, IsRow, signed_row}
-use Rattle.stab_pauli.proofs.StringLemmas.{is_even-string_turn}
+use Rattle.stab_pauli.specs.inner.Powers.{turn_back, string_power, strings_meet, sign_power, power_of}
+use Rattle.stab_pauli.specs.inner.Blocks.{row_letters, blocks_of, AreBlocks, IsPadded, IsRow, IsSignedRow, signed_row}
+use Rattle.stab_pauli.proofs.PowerLemmas.{power_told, is_sign_left, sign_of_left, strings_anticommute-meet}
 use Rattle.stab_pauli.proofs.BlankLemmas.{fits, row-none, take-replicate, drop-replicate}
 use Rattle.stab_pauli.proofs.RowLemmas.{row_product, length-row}
-use Rattle.stab_pauli.proofs.TableLemmas.{take-product, padded-product, padded-turn}
+use Rattle.stab_pauli.proofs.TableLemmas.{take-product, padded-product, padded-meet, padded-power}
 
 -- the number of letters
 
@@ -22,51 +25,63 @@ length-string n m ws is =
     let f = fits n m is.blocks in
     length-take-le n (row_letters m ws) (rw (length-row m ws is.size) f)
 
-pub IsRow-same : (n m n' m' : ℕ) (ws : List ℕ) → n ≡ n' → m ≡ m' → IsRow n' m' ws → IsRow n m ws
-IsRow-same n m n' m' ws en em is = subst (λ k. IsRow k m ws) (sym en) (subst (λ k. IsRow n' k ws) (sym em) is)
-
--- the words, sign and number of qubits of a string that contracts see as v
-pub record IsView (n m : ℕ) (ws : List ℕ) (s : Bool) (v : Signed) : Type 0 where
+-- the words, power of i and number of qubits of a string that contracts see as v
+pub record IsView (n m : ℕ) (ws : List ℕ) (k : Turn) (v : Signed) : Type 0 where
   pub row : IsRow n m ws
-  pub is : signed_row n s (row_letters m ws) ≡ v
+  pub letters : take n (row_letters m ws) ≡ v.letters
+  pub power : k ≡ power_of v
 
-pub view_of : {n m : ℕ} {ws : List ℕ} {s : Bool} {v : Signed} → IsRow n m ws → signed_row n s (row_letters m ws) ≡ v → IsView n m ws s v
-view_of row is = record { row = row; is = is }
+pub view_of : {n m : ℕ} {ws : List ℕ} {k : Turn} {v : Signed} → IsSignedRow n m k ws → signed_row n k (row_letters m ws) ≡ v → IsView n m ws k v
+view_of {n} {m} {ws} {k} signed is = record {
+  row = signed.row;
+  letters = ap (λ (p : Signed). p.letters) is;
+  power = power_told k (take n (row_letters m ws)) signed.sign ∙ ap power_of is;
+}
 
-pub length-view : {n m : ℕ} {ws : List ℕ} {s : Bool} {v : Signed} → IsView n m ws s v → length v.letters ≡ n
-length-view {n} {m} {ws} view = ap (λ (p : Signed). length p.letters) (sym view.is) ∙ length-string n m ws view.row
+-- the words and the power of a string
+pub lies_of : {n m : ℕ} {ws : List ℕ} {k : Turn} {v : Signed} → IsView n m ws k v → IsSignedRow n m k ws
+lies_of {n} {m} {ws} {k} {v} view = record {
+  row = view.row;
+  sign = is_sign_left v.negative k (take n (row_letters m ws)) (view.power ∙ ap (λ l. turn_add (sign_turn v.negative) (string_power l)) (sym view.letters));
+}
 
--- what contracts see of the words
+-- and what contracts see of them
+pub is_of : {n m : ℕ} {ws : List ℕ} {k : Turn} {v : Signed} → IsView n m ws k v → signed_row n k (row_letters m ws) ≡ v
+is_of {n} {m} {ws} {k} {v} view = λ i. record {
+  negative = sign_of_left v.negative k (take n (row_letters m ws)) (view.power ∙ ap (λ l. turn_add (sign_turn v.negative) (string_power l)) (sym view.letters)) i;
+  letters = view.letters i;
+}
 
-pub letters_of : {n m : ℕ} {ws : List ℕ} {s : Bool} {v : Signed} → IsView n m ws s v → take n (row_letters m ws) ≡ v.letters
-letters_of view = ap (λ (p : Signed). p.letters) view.is
+pub length-view : {n m : ℕ} {ws : List ℕ} {k : Turn} {v : Signed} → IsView n m ws k v → length v.letters ≡ n
+length-view {n} {m} {ws} view = ap length (sym view.letters) ∙ length-string n m ws view.row
 
-pub sign_of : {n m : ℕ} {ws : List ℕ} {s : Bool} {v : Signed} → IsView n m ws s v → s ≡ v.negative
-sign_of view = ap (λ (p : Signed). p.negative) view.is
+-- the sign, by the power of i of all letters that lie in the words
+pub sign_read : {n m : ℕ} {ws : List ℕ} {k : Turn} {v : Signed} → IsView n m ws k v → sign_of_turn (sign_power k (row_letters m ws)) ≡ v.negative
+sign_read {n} {m} {ws} {k} view =
+    ap (λ t. sign_of_turn (turn_add (turn_back t) k)) (padded-power n m (row_letters m ws) view.row.padded)
+    ∙ ap (λ (p : Signed). p.negative) (is_of view)
 
--- two of one length have as many blocks and words
-pub record IsAlike (n m : ℕ) (ws : List ℕ) (n' m' : ℕ) (ws' : List ℕ) (v' : Signed) : Type 0 where
+-- the same words over the same numbers
+pub same_numbers : {n m : ℕ} {ws : List ℕ} {k : Turn} {v : Signed} (n' m' : ℕ) → n ≡ n' → m ≡ m' → IsView n m ws k v → IsView n' m' ws k v
+same_numbers {n} {m} {ws} {k} {v} n' m' en em view = subst (λ j. IsView j m' ws k v) en (subst (λ j. IsView n j ws k v) em view)
+
+-- a string of one length with another has as many blocks
+pub record IsFitting (n m n' m' : ℕ) (ws' : List ℕ) (k' : Turn) (v' : Signed) : Type 0 where
   pub qubits : n ≡ n'
   pub blocks : m ≡ m'
-  pub other : IsRow n m ws'
-  pub letters : take n (row_letters m ws') ≡ v'.letters
+  pub view : IsView n m ws' k' v'
 
-pub alike : {n m : ℕ} {ws : List ℕ} {s : Bool} {v : Signed} {n' m' : ℕ} {ws' : List ℕ} {s' : Bool} {v' : Signed}
-    → IsView n m ws s v → IsView n' m' ws' s' v' → length v.letters ≡ length v'.letters → IsAlike n m ws n' m' ws' v'
-alike {n} {m} {ws} {s} {v} {n'} {m'} {ws'} mine theirs l = record {
-  qubits = en;
-  blocks = em;
-  other = IsRow-same n m n' m' ws' en em theirs.row;
-  letters = (λ i. take (en i) (row_letters (em i) ws')) ∙ letters_of theirs;
-}
+pub fitting_numbers : {n m n' m' : ℕ} {ws' : List ℕ} {k' : Turn} {v' : Signed} → AreBlocks n m → n ≡ n' → IsView n' m' ws' k' v' → IsFitting n m n' m' ws' k' v'
+fitting_numbers {n} {m} {n'} {m'} are en theirs = record { qubits = en; blocks = em; view = same_numbers n m (sym en) (sym em) theirs }
   where
-    en : n ≡ n'
-    en = sym (length-view mine) ∙ l ∙ length-view theirs
-
     em : m ≡ m'
-    em = mine.row.blocks.count ∙ ap blocks_of en ∙ sym theirs.row.blocks.count
+    em = are.count ∙ ap blocks_of en ∙ sym theirs.row.blocks.count
 
-pub place_in_row : {n m : ℕ} {ws : List ℕ} {s : Bool} {v : Signed} → IsView n m ws s v → (q : ℕ) → q < length v.letters → q < 256 * m
+pub alike : {n m : ℕ} {ws : List ℕ} {k : Turn} {v : Signed} {n' m' : ℕ} {ws' : List ℕ} {k' : Turn} {v' : Signed}
+    → IsView n m ws k v → IsView n' m' ws' k' v' → length v.letters ≡ length v'.letters → IsFitting n m n' m' ws' k' v'
+alike mine theirs l = fitting_numbers mine.row.blocks (sym (length-view mine) ∙ l ∙ length-view theirs) theirs
+
+pub place_in_row : {n m : ℕ} {ws : List ℕ} {k : Turn} {v : Signed} → IsView n m ws k v → (q : ℕ) → q < length v.letters → q < 256 * m
 place_in_row {n} {m} view q lt =
     let f = fits n m view.row.blocks in
     let l = length-view view in
@@ -98,20 +113,15 @@ pub letters-product : (n m : ℕ) (p q : List ℕ) → IsRow n m p → IsRow n m
 letters-product n m p q ip iq =
     ap (take n) (row_product m p q ip.size iq.size) ∙ take-product n (row_letters m p) (row_letters m q) (length-row m p ip.size ∙ sym (length-row m q iq.size))
 
-pub turn-product : (n m : ℕ) (p q : List ℕ) → IsRow n m p → IsRow n m q → string_turn (row_letters m p) (row_letters m q) ≡ string_turn (take n (row_letters m p)) (take n (row_letters m q))
-turn-product n m p q ip iq = padded-turn n m (row_letters m p) (row_letters m q) (fits n m ip.blocks) (length-row m p ip.size) (length-row m q iq.size) ip.padded
+pub meet-product : (n m : ℕ) (p q : List ℕ) → IsRow n m p → IsRow n m q → strings_meet (row_letters m p) (row_letters m q) ≡ strings_meet (take n (row_letters m p)) (take n (row_letters m q))
+meet-product n m p q ip iq = padded-meet n m (row_letters m p) (row_letters m q) (fits n m ip.blocks) (length-row m p ip.size) (length-row m q iq.size) ip.padded
 
 pub anticommute-product : (n m : ℕ) (p q : List ℕ) → IsRow n m p → IsRow n m q
     → strings_anticommute (row_letters m p) (row_letters m q) ≡ strings_anticommute (take n (row_letters m p)) (take n (row_letters m q))
 anticommute-product n m p q ip iq =
-    by_turn (strings_anticommute (row_letters m p) (row_letters m q)) (strings_anticommute (take n (row_letters m p)) (take n (row_letters m q)))
-    (sym (is_even-string_turn (row_letters m p) (row_letters m q)) ∙ ap is_even (turn-product n m p q ip iq) ∙ is_even-string_turn (take n (row_letters m p)) (take n (row_letters m q)))
-  where
-    by_turn : (a b : Bool) → not a ≡ not b → a ≡ b
-    by_turn false false e = refl
-    by_turn false true e = cc
-    by_turn true false e = cc
-    by_turn true true e = refl
+    strings_anticommute-meet (row_letters m p) (row_letters m q)
+    ∙ (λ i. meet-product n m p q ip iq i ⊕ meet-product n m q p iq ip i)
+    ∙ sym (strings_anticommute-meet (take n (row_letters m p)) (take n (row_letters m q)))
 
 -- a letter that was put
 
@@ -154,12 +164,7 @@ pub letters-read : (n m : ℕ) (ws ws' new : List ℕ) → IsRow n m ws → IsRo
     → take n (row_letters m new) ≡ string_product (take n (row_letters m ws)) (take n (row_letters m ws'))
 letters-read n m ws ws' new is is' e = ap (λ w. take n (row_letters m w)) e ∙ letters-product n m ws ws' is is'
 
--- the same words over the same numbers
-
-pub same_numbers : {n m : ℕ} {ws : List ℕ} {s : Bool} {v : Signed} (n' m' : ℕ) → n ≡ n' → m ≡ m' → IsView n m ws s v → IsView n' m' ws s v
-same_numbers {n} {m} {ws} {s} {v} n' m' en em view = subst (λ k. IsView k m' ws s v) en (subst (λ k. IsView n k ws s v) em view)
-
-pub written_view : {n m : ℕ} {ws : List ℕ} {s : Bool} {v : Signed} {s' : Bool} {v' : Signed} (new : List ℕ) (len : ℕ) → IsView n m ws s v → len ≡ length ws
-    → IsView n m new s' v' → IsView n m (take len (new ++ drop (length new) ws)) s' v'
-written_view {n} {m} {ws} {s} {v} {s'} {v'} new len was l view =
-    subst (λ w. IsView n m w s' v') (sym (written_all ws new len (view.row.size ∙ sym was.row.size) l)) view
+pub written_view : {n m : ℕ} {ws : List ℕ} {k : Turn} {v : Signed} {k' : Turn} {v' : Signed} (new : List ℕ) (len : ℕ) → IsView n m ws k v → len ≡ length ws
+    → IsView n m new k' v' → IsView n m (take len (new ++ drop (length new) ws)) k' v'
+written_view {n} {m} {ws} {k} {v} {k'} {v'} new len was l view =
+    subst (λ w. IsView n m w k' v') (sym (written_all ws new len (view.row.size ∙ sym was.row.size) l)) view

@@ -1,9 +1,8 @@
 -- Rows one after another: what a row that was replaced does to their letters, and products of padded rows.
-use Rattle.std.proofs.Common.{◌≡◌, ℕ, zero, suc, ◌+◌, ◌-◌, ◌*◌, ◌<◌, ◌≤◌, Bool, true, false, refl, sym, ◌∙◌, ap, List, [], ◌∷◌, ◌++◌, length, get_or, set, take, drop, arith, subst, inl, inr, length-drop}
+use Rattle.std.proofs.Common.{◌≡◌, ℕ, zero, suc, ◌+◌, ◌-◌, ◌*◌, ◌<◌, ◌≤◌, refl, sym, ◌∙◌, ap, List, [], ◌∷◌, ◌++◌, length, get_or, set, take, drop, arith, subst, inl, inr, length-drop}
 use Rattle.std.specs.Prelude.{◌⊎◌, ◌≢◌}
 use Rattle.std.proofs.Math.Seq.{take-length, drop-length}
 use Rattle.std.proofs.lemmas.Bool.{cases_order}
-use Rattle.std.specs.Bool.{beq, Decides}
 use Rattle.std.specs.List.{All}
 use Rattle.std.specs.Simd.Lanes.{zip2, chunk, put_chunk}
 use Rattle.std.proofs.lemmas.List.{drop-drop, length-take-le, take-append-drop, length-set, append-nil}
@@ -11,14 +10,18 @@ use Rattle.std.proofs.lemmas.List.Elements.{All-set, All-get_or}
 use Rattle.std.proofs.lemmas.Simd.{get_or-zip2, length-zip2, length-chunk, length-put_chunk}
 use Rattle.std.proofs.Math.Nat.{mul-le-mul_left}
 use Rattle.stab_pauli.specs.declared.letter.Letter.{Letter}
+use Rattle.stab_pauli.specs.declared.turn.Turn.{Turn}
+use Rattle.stab_pauli.specs.declared.turn.Turn.TheVariants.{Zero}
 use Rattle.stab_pauli.specs.Turns.{turn_add}
-use Rattle.stab_pauli.specs.Letters.{letter_product}
-use Rattle.stab_pauli.specs.Paulis.{identity, string_product, string_turn}
+use Rattle.stab_pauli.specs.Letters.{◌⊕◌, letter_product}
+use Rattle.stab_pauli.specs.Paulis.{identity, string_product}
+use Rattle.stab_pauli.specs.inner.Powers.{string_power, strings_meet, IsSign}
+use Rattle.stab_pauli.proofs.ParityLemmas.{parity-false}
 use Rattle.stab_pauli.proofs.TurnLemmas.{turn_add-zero}
-use Rattle.stab_pauli.proofs.StringLemmas.{string_turn-blank, string_product-blank}
+use Rattle.stab_pauli.proofs.StringLemmas.{string_product-blank}
+use Rattle.stab_pauli.proofs.PowerLemmas.{strings_meet-append, strings_meet-blank, string_power-append, string_power-blank}
 use Rattle.stab_pauli.specs.Rows.{Rows, row_at, with_row}
-use Rattle.stab_pauli.specs.inner.Blocks.{row_letters, full_rows, IsPadded, IsTable, table, signed_row}
-use Rattle.stab_pauli.proofs.PackedLemmas.{string_turn-append}
+use Rattle.stab_pauli.specs.inner.Blocks.{row_letters, full_rows, IsPadded, IsSignedRow, IsTable, table, row_sign, signed_row}
 
 -- words that are replaced
 
@@ -105,15 +108,23 @@ padded-product n m p q lp lq hp hq =
     drop-product n p q (lp ∙ sym lq) ∙ ap (λ t. string_product t (drop n q)) hp
     ∙ string_product-blank (256 * m - n) (drop n q) (omega (arith, length-drop n q)) ∙ hq
 
--- and counts no power of i
-pub padded-turn : (n m : ℕ) (p q : List Letter) → n ≤ 256 * m → length p ≡ 256 * m → length q ≡ 256 * m → IsPadded n m p → string_turn p q ≡ string_turn (take n p) (take n q)
-padded-turn n m p q le lp lq hp =
-    (λ i. string_turn (sym (take-append-drop n p) i) (sym (take-append-drop n q) i))
-    ∙ string_turn-append (take n p) (take n q) (drop n p) (drop n q) (length-take-le n p (omega arith) ∙ sym (length-take-le n q (omega arith)))
-    ∙ ap (turn_add (string_turn (take n p) (take n q))) (ap (λ t. string_turn t (drop n q)) hp ∙ string_turn-blank (256 * m - n) (drop n q))
-    ∙ turn_add-zero (string_turn (take n p) (take n q))
+-- and its bits meet none
+pub padded-meet : (n m : ℕ) (p q : List Letter) → n ≤ 256 * m → length p ≡ 256 * m → length q ≡ 256 * m → IsPadded n m p → strings_meet p q ≡ strings_meet (take n p) (take n q)
+padded-meet n m p q le lp lq hp =
+    (λ i. strings_meet (sym (take-append-drop n p) i) (sym (take-append-drop n q) i))
+    ∙ strings_meet-append (take n p) (take n q) (drop n p) (drop n q) (length-take-le n p (omega arith) ∙ sym (length-take-le n q (omega arith)))
+    ∙ ap (λ t. strings_meet (take n p) (take n q) ⊕ t) (ap (λ t. strings_meet t (drop n q)) hp ∙ strings_meet-blank (256 * m - n) (drop n q))
+    ∙ parity-false (strings_meet (take n p) (take n q))
 
--- a sign and letters that are put together
+-- and take no power of i
+pub padded-power : (n m : ℕ) (p : List Letter) → IsPadded n m p → string_power p ≡ string_power (take n p)
+padded-power n m p hp =
+    ap string_power (sym (take-append-drop n p))
+    ∙ string_power-append (take n p) (drop n p)
+    ∙ ap (turn_add (string_power (take n p))) (ap string_power hp ∙ string_power-blank (256 * m - n))
+    ∙ turn_add-zero (string_power (take n p))
+
+-- a power and letters that are put together
 
 pub zip2-set : {A B C : Type 0} (f : A → B → C) (xs : List A) (ys : List B) (a : ℕ) (x : A) (y : B) → length xs ≡ length ys → zip2 f (set xs a x) (set ys a y) ≡ set (zip2 f xs ys) a (f x y)
 zip2-set f [] [] a x y e = refl
@@ -124,30 +135,32 @@ zip2-set f (x' ∷ xs) (y' ∷ ys) (suc a) x y e = ap (λ t. f x' y' ∷ t) (zip
 
 -- tables
 
-pub row_at-table : (n m : ℕ) (ws : List ℕ) (ss : List Bool) (a : ℕ) → a < length ss → row_at (table n m ws ss) a ≡ signed_row n (get_or ss a false) (row_letters m (chunk (8 * m * a) (8 * m) ws))
-row_at-table n m ws ss a lt =
-    get_or-zip2 (signed_row n) ss (full_rows m ws (length ss)) a false [] (identity n) lt (rw (length-full_rows m ws (length ss)) lt)
-    ∙ ap (signed_row n (get_or ss a false)) (get_or-full_rows m ws (length ss) a [] lt)
+pub row_at-table : (n m : ℕ) (ws : List ℕ) (ps : List Turn) (a : ℕ) → a < length ps → row_at (table n m ws ps) a ≡ signed_row n (get_or ps a Zero) (row_letters m (chunk (8 * m * a) (8 * m) ws))
+row_at-table n m ws ps a lt =
+    get_or-zip2 (signed_row n) ps (full_rows m ws (length ps)) a Zero [] (identity n) lt (rw (length-full_rows m ws (length ps)) lt)
+    ∙ ap (signed_row n (get_or ps a Zero)) (get_or-full_rows m ws (length ps) a [] lt)
 
-pub table-put : (n m : ℕ) (ws : List ℕ) (ss : List Bool) (a : ℕ) (new : List ℕ) (s : Bool) → IsTable n m ws ss → a < length ss → length new ≡ 8 * m
-    → table n m (put_chunk (8 * m * a) ws new) (set ss a s) ≡ with_row (table n m ws ss) a (signed_row n s (row_letters m new))
-table-put n m ws ss a new s is lt l =
-    λ i. record {
-      qubits = n;
-      rows =
-          (ap (λ c. zip2 (signed_row n) (set ss a s) (full_rows m (put_chunk (8 * m * a) ws new) c)) (length-set ss a s)
-          ∙ ap (zip2 (signed_row n) (set ss a s)) (full_rows-put m (length ss) ws a new lt (let z = is.size in omega arith) l)
-          ∙ zip2-set (signed_row n) ss (full_rows m ws (length ss)) a s (row_letters m new) (sym (length-full_rows m ws (length ss)))) i;
-    }
+zip2-put : {A : Type 0} (f : Turn → List Letter → A) (n m : ℕ) (ws : List ℕ) (ps : List Turn) (a : ℕ) (new : List ℕ) (k : Turn) → IsTable n m ws ps → a < length ps → length new ≡ 8 * m
+    → zip2 f (set ps a k) (full_rows m (put_chunk (8 * m * a) ws new) (length (set ps a k))) ≡ set (zip2 f ps (full_rows m ws (length ps))) a (f k (row_letters m new))
+zip2-put f n m ws ps a new k is lt l =
+    ap (λ c. zip2 f (set ps a k) (full_rows m (put_chunk (8 * m * a) ws new) c)) (length-set ps a k)
+    ∙ ap (zip2 f (set ps a k)) (full_rows-put m (length ps) ws a new lt (let z = is.size in omega arith) l)
+    ∙ zip2-set f ps (full_rows m ws (length ps)) a k (row_letters m new) (sym (length-full_rows m ws (length ps)))
 
-pub IsTable-put : (n m : ℕ) (ws : List ℕ) (ss : List Bool) (a : ℕ) (new : List ℕ) (s : Bool) → IsTable n m ws ss → a < length ss → length new ≡ 8 * m → IsPadded n m (row_letters m new)
-    → IsTable n m (put_chunk (8 * m * a) ws new) (set ss a s)
-IsTable-put n m ws ss a new s is lt l h = record {
+pub table-put : (n m : ℕ) (ws : List ℕ) (ps : List Turn) (a : ℕ) (new : List ℕ) (k : Turn) → IsTable n m ws ps → a < length ps → length new ≡ 8 * m
+    → table n m (put_chunk (8 * m * a) ws new) (set ps a k) ≡ with_row (table n m ws ps) a (signed_row n k (row_letters m new))
+table-put n m ws ps a new k is lt l = λ i. record { qubits = n; rows = zip2-put (signed_row n) n m ws ps a new k is lt l i }
+
+pub IsTable-put : (n m : ℕ) (ws : List ℕ) (ps : List Turn) (a : ℕ) (new : List ℕ) (k : Turn) → IsTable n m ws ps → a < length ps → IsSignedRow n m k new
+    → IsTable n m (put_chunk (8 * m * a) ws new) (set ps a k)
+IsTable-put n m ws ps a new k is lt put = record {
   blocks = is.blocks;
-  size = length-put_chunk (8 * m * a) ws new ∙ is.size ∙ ap (λ c. 8 * m * c) (sym (length-set ss a s));
+  size = length-put_chunk (8 * m * a) ws new ∙ is.size ∙ ap (λ c. 8 * m * c) (sym (length-set ps a k));
   padded = subst (All (IsPadded n m))
-      (sym (ap (full_rows m (put_chunk (8 * m * a) ws new)) (length-set ss a s) ∙ full_rows-put m (length ss) ws a new lt (let z = is.size in omega arith) l))
-      (All-set (IsPadded n m) (full_rows m ws (length ss)) a (row_letters m new) h is.padded);
+      (sym (ap (full_rows m (put_chunk (8 * m * a) ws new)) (length-set ps a k) ∙ full_rows-put m (length ps) ws a new lt (let z = is.size in omega arith) put.row.size))
+      (All-set (IsPadded n m) (full_rows m ws (length ps)) a (row_letters m new) put.row.padded is.padded);
+  signs = subst (All IsSign) (sym (zip2-put (row_sign n) n m ws ps a new k is lt put.row.size))
+      (All-set IsSign (zip2 (row_sign n) ps (full_rows m ws (length ps))) a (row_sign n k (row_letters m new)) put.sign is.signs);
 }
 
 -- a row's part of the words fits in
@@ -157,12 +170,19 @@ row_fits m count a size lt e =
     let one : 8 * m * suc a ≡ 8 * m * a + 8 * m = grind arith in
     omega arith
 
-pub padded-row : (n m : ℕ) (ws : List ℕ) (ss : List Bool) (a : ℕ) → IsTable n m ws ss → a < length ss → IsPadded n m (row_letters m (chunk (8 * m * a) (8 * m) ws))
-padded-row n m ws ss a is lt =
-    subst (IsPadded n m) (get_or-full_rows m ws (length ss) a [] lt)
-    (All-get_or (IsPadded n m) (full_rows m ws (length ss)) a [] (rw (length-full_rows m ws (length ss)) lt) is.padded)
+pub padded-row : (n m : ℕ) (ws : List ℕ) (ps : List Turn) (a : ℕ) → IsTable n m ws ps → a < length ps → IsPadded n m (row_letters m (chunk (8 * m * a) (8 * m) ws))
+padded-row n m ws ps a is lt =
+    subst (IsPadded n m) (get_or-full_rows m ws (length ps) a [] lt)
+    (All-get_or (IsPadded n m) (full_rows m ws (length ps)) a [] (rw (length-full_rows m ws (length ps)) lt) is.padded)
 
-pub length-row_at : (m : ℕ) (ws : List ℕ) (ss : List Bool) (a : ℕ) → length ws ≡ 8 * m * length ss → a < length ss → length (chunk (8 * m * a) (8 * m) ws) ≡ 8 * m
+pub sign-row : (n m : ℕ) (ws : List ℕ) (ps : List Turn) (a : ℕ) → IsTable n m ws ps → a < length ps → IsSign (row_sign n (get_or ps a Zero) (row_letters m (chunk (8 * m * a) (8 * m) ws)))
+sign-row n m ws ps a is lt =
+    subst IsSign
+    (get_or-zip2 (row_sign n) ps (full_rows m ws (length ps)) a Zero [] Zero lt (rw (length-full_rows m ws (length ps)) lt)
+    ∙ ap (row_sign n (get_or ps a Zero)) (get_or-full_rows m ws (length ps) a [] lt))
+    (All-get_or IsSign (zip2 (row_sign n) ps (full_rows m ws (length ps))) a Zero (rw (length-zip2 (row_sign n) ps (full_rows m ws (length ps)) (sym (length-full_rows m ws (length ps)))) lt) is.signs)
+
+pub length-row_at : (m : ℕ) (ws : List ℕ) (ss : List Turn) (a : ℕ) → length ws ≡ 8 * m * length ss → a < length ss → length (chunk (8 * m * a) (8 * m) ws) ≡ 8 * m
 length-row_at m ws ss a e lt = length-chunk (8 * m * a) (8 * m) ws (row_fits m (length ss) a (length ws) lt e)
 
 -- two rows do not overlap
@@ -175,7 +195,7 @@ rows_apart m a b h = by_order (cases_order a b)
     by_order (inr (inr lt)) = inr (row_fits m a b (8 * m * a) lt refl)
 
 -- what a caller sees of the number of rows
-pub length-table : (n m : ℕ) (ws : List ℕ) (ss : List Bool) (v : Rows) → table n m ws ss ≡ v → length v.rows ≡ length ss
+pub length-table : (n m : ℕ) (ws : List ℕ) (ss : List Turn) (v : Rows) → table n m ws ss ≡ v → length v.rows ≡ length ss
 length-table n m ws ss v e = ap (λ (r : Rows). length r.rows) (sym e) ∙ length-zip2 (signed_row n) ss (full_rows m ws (length ss)) (sym (length-full_rows m ws (length ss)))
 
 -- words of a vector that were written through a slice
@@ -193,9 +213,3 @@ pub get_or-any : {A : Type 0} (xs : List A) (k : ℕ) (d e : A) → k < length x
 get_or-any [] k d e lt = absurd (omega arith)
 get_or-any (x ∷ xs) zero d e lt = refl
 get_or-any (x ∷ xs) (suc k) d e lt = get_or-any xs k d e (omega arith)
-
-pub Decides-beq : (x y : Bool) → Decides (beq x y) (x ≡ y)
-Decides-beq false false = (λ e. refl, λ e. refl)
-Decides-beq false true = (λ e. cc, λ e. cc)
-Decides-beq true false = (λ e. cc, λ e. cc)
-Decides-beq true true = (λ e. refl, λ e. refl)

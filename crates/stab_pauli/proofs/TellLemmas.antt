@@ -9,11 +9,15 @@ use Rattle.std.proofs.lemmas.List.{take_at, drop_at, take-append-drop, drop-drop
 use Rattle.std.proofs.lemmas.List.Elements.{All-head, All-tail}
 use Rattle.stab_pauli.specs.declared.letter.Letter.{Letter}
 use Rattle.stab_pauli.specs.declared.letter.Letter.TheVariants.{I, X, Y, Z}
+use Rattle.stab_pauli.specs.declared.turn.Turn.{Turn}
+use Rattle.stab_pauli.specs.declared.turn.Turn.TheVariants.{Zero}
 use Rattle.stab_pauli.specs.Flips.{flips}
 use Rattle.stab_pauli.specs.Paulis.{Signed}
 use Rattle.stab_pauli.specs.Rows.{Rows, unsigned_rows}
 use Rattle.stab_pauli.specs.inner.Words.{lowest, letter_of_bits, word_letters, packed_letters, AreShort}
-use Rattle.stab_pauli.specs.inner.Blocks.{row_letters, blocks_of, full_rows, IsPadded, signed_row}
+use Rattle.stab_pauli.specs.inner.Blocks.{row_letters, blocks_of, full_rows, IsPadded, row_sign, signed_row}
+use Rattle.stab_pauli.specs.inner.Powers.{power_of, IsSign}
+use Rattle.stab_pauli.proofs.PowerLemmas.{power_told, power_of-tells}
 use Rattle.stab_pauli.proofs.BitLemmas.{two_cases, below_two}
 use Rattle.stab_pauli.proofs.PlaceLemmas.{flips_bits}
 use Rattle.stab_pauli.proofs.PackedLemmas.{length-word_letters}
@@ -177,82 +181,84 @@ padded_told n m (l ∷ ls) (l' ∷ ls') h h' e =
     back : drop n l ≡ drop n l'
     back = All-head (IsPadded n m) l ls h ∙ sym (All-head (IsPadded n m) l' ls' h')
 
--- what contracts see of letters and signs
+-- what contracts see of letters and powers
 
-letters_zip : (n : ℕ) (ss : List Bool) (ls : List (List Letter)) → length ss ≡ length ls → map (λ (p : Signed). p.letters) (zip2 (signed_row n) ss ls) ≡ map (take n) ls
+letters_zip : (n : ℕ) (ps : List Turn) (ls : List (List Letter)) → length ps ≡ length ls → map (λ (p : Signed). p.letters) (zip2 (signed_row n) ps ls) ≡ map (take n) ls
 letters_zip n [] [] e = refl
 letters_zip n [] (l ∷ ls) e = absurd (omega arith)
-letters_zip n (s ∷ ss) [] e = absurd (omega arith)
-letters_zip n (s ∷ ss) (l ∷ ls) e = ap (λ t. take n l ∷ t) (letters_zip n ss ls (omega arith))
+letters_zip n (s ∷ ps) [] e = absurd (omega arith)
+letters_zip n (s ∷ ps) (l ∷ ls) e = ap (λ t. take n l ∷ t) (letters_zip n ps ls (omega arith))
 
-signs_zip : (n : ℕ) (ss : List Bool) (ls : List (List Letter)) → length ss ≡ length ls → map (λ (p : Signed). p.negative) (zip2 (signed_row n) ss ls) ≡ ss
-signs_zip n [] [] e = refl
-signs_zip n [] (l ∷ ls) e = absurd (omega arith)
-signs_zip n (s ∷ ss) [] e = absurd (omega arith)
-signs_zip n (s ∷ ss) (l ∷ ls) e = ap (λ t. s ∷ t) (signs_zip n ss ls (omega arith))
+powers_zip : (n : ℕ) (ps : List Turn) (ls : List (List Letter)) → length ps ≡ length ls → All IsSign (zip2 (row_sign n) ps ls) → map power_of (zip2 (signed_row n) ps ls) ≡ ps
+powers_zip n [] [] e h = refl
+powers_zip n [] (l ∷ ls) e h = absurd (omega arith)
+powers_zip n (k ∷ ps) [] e h = absurd (omega arith)
+powers_zip n (k ∷ ps) (l ∷ ls) e h =
+    λ i. sym (power_told k (take n l) (All-head IsSign (row_sign n k l) (zip2 (row_sign n) ps ls) h)) i
+    ∷ powers_zip n ps ls (omega arith) (All-tail IsSign (row_sign n k l) (zip2 (row_sign n) ps ls) h) i
 
-pub letters_seen : {n m : ℕ} {ws : List ℕ} {ss : List Bool} {v : Rows} → IsSeen n m ws ss v → unsigned_rows v ≡ map (take n) (full_rows m ws (length ss))
-letters_seen {n} {m} {ws} {ss} seen = ap unsigned_rows (sym seen.is) ∙ letters_zip n ss (full_rows m ws (length ss)) (sym (length-full_rows m ws (length ss)))
+pub letters_seen : {n m : ℕ} {ws : List ℕ} {ps : List Turn} {v : Rows} → IsSeen n m ws ps v → unsigned_rows v ≡ map (take n) (full_rows m ws (length ps))
+letters_seen {n} {m} {ws} {ps} seen = ap unsigned_rows (sym seen.is) ∙ letters_zip n ps (full_rows m ws (length ps)) (sym (length-full_rows m ws (length ps)))
 
--- the signs of all
-abbrev pub signs_of : Rows → List Bool
-signs_of r = map (λ (p : Signed). p.negative) r.rows
+-- the powers of i before the bits of all
+abbrev pub powers_of : Rows → List Turn
+powers_of r = map power_of r.rows
 
-pub signs_seen : {n m : ℕ} {ws : List ℕ} {ss : List Bool} {v : Rows} → IsSeen n m ws ss v → signs_of v ≡ ss
-signs_seen {n} {m} {ws} {ss} seen = ap (λ (r : Rows). map (λ (p : Signed). p.negative) r.rows) (sym seen.is) ∙ signs_zip n ss (full_rows m ws (length ss)) (sym (length-full_rows m ws (length ss)))
+pub powers_seen : {n m : ℕ} {ws : List ℕ} {ps : List Turn} {v : Rows} → IsSeen n m ws ps v → powers_of v ≡ ps
+powers_seen {n} {m} {ws} {ps} seen = ap powers_of (sym seen.is) ∙ powers_zip n ps (full_rows m ws (length ps)) (sym (length-full_rows m ws (length ps))) seen.lies.signs
 
 length-unsigned : (v : Rows) → length (unsigned_rows v) ≡ length v.rows
 length-unsigned v = simp length-map
 
 -- equal letters are of equally many rows
-pub same_number : {n m : ℕ} {ws : List ℕ} {ss : List Bool} {v : Rows} {n' m' : ℕ} {ws' : List ℕ} {ss' : List Bool} {v' : Rows}
-    → IsSeen n m ws ss v → IsSeen n' m' ws' ss' v' → unsigned_rows v ≡ unsigned_rows v' → length ss ≡ length ss'
+pub same_number : {n m : ℕ} {ws : List ℕ} {ps : List Turn} {v : Rows} {n' m' : ℕ} {ws' : List ℕ} {ps' : List Turn} {v' : Rows}
+    → IsSeen n m ws ps v → IsSeen n' m' ws' ps' v' → unsigned_rows v ≡ unsigned_rows v' → length ps ≡ length ps'
 same_number {v = v} {v' = v'} mine theirs el = sym (rows_seen mine) ∙ sym (length-unsigned v) ∙ ap length el ∙ length-unsigned v' ∙ rows_seen theirs
 
 pub no_false : IsTrue false → ⊥
 no_false h = search rules
 
 -- equal letters lie in equal words
-pub words_told : {n m : ℕ} {ws : List ℕ} {ss : List Bool} {v : Rows} {n' m' : ℕ} {ws' : List ℕ} {ss' : List Bool} {v' : Rows}
-    → IsSeen n m ws ss v → IsSeen n' m' ws' ss' v' → AreShort 64 ws → AreShort 64 ws' → v.qubits ≡ v'.qubits → unsigned_rows v ≡ unsigned_rows v' → ws ≡ ws'
-words_told {n} {m} {ws} {ss} {v} {n'} {m'} {ws'} {ss'} {v'} mine theirs short short' eq el =
-    rows_told m (length ss) ws ws' mine.lies.size (sym both.words ∙ mine.lies.size) short short'
-    (padded_told n m (full_rows m ws (length ss)) (full_rows m ws' (length ss)) mine.lies.padded other
-    (sym (letters_seen mine) ∙ el ∙ letters_seen theirs ∙ (λ i. map (take (sym both.qubits i)) (full_rows (sym both.blocks i) ws' (sym both.signs i)))))
+pub words_told : {n m : ℕ} {ws : List ℕ} {ps : List Turn} {v : Rows} {n' m' : ℕ} {ws' : List ℕ} {ps' : List Turn} {v' : Rows}
+    → IsSeen n m ws ps v → IsSeen n' m' ws' ps' v' → AreShort 64 ws → AreShort 64 ws' → v.qubits ≡ v'.qubits → unsigned_rows v ≡ unsigned_rows v' → ws ≡ ws'
+words_told {n} {m} {ws} {ps} {v} {n'} {m'} {ws'} {ps'} {v'} mine theirs short short' eq el =
+    rows_told m (length ps) ws ws' mine.lies.size (sym both.words ∙ mine.lies.size) short short'
+    (padded_told n m (full_rows m ws (length ps)) (full_rows m ws' (length ps)) mine.lies.padded other
+    (sym (letters_seen mine) ∙ el ∙ letters_seen theirs ∙ (λ i. map (take (sym both.qubits i)) (full_rows (sym both.blocks i) ws' (sym both.powers i)))))
   where
     number : length v.rows ≡ length v'.rows
     number = sym (length-unsigned v) ∙ ap length el ∙ length-unsigned v'
 
-    both : AreAlike n m ws ss n' m' ws' ss'
+    both : AreAlike n m ws ps n' m' ws' ps'
     both = both_seen mine theirs eq number
 
-    other : All (IsPadded n m) (full_rows m ws' (length ss))
+    other : All (IsPadded n m) (full_rows m ws' (length ps))
     other =
-        subst (λ c. All (IsPadded n m) (full_rows m ws' c)) (sym both.signs)
-        (subst (λ k. All (IsPadded n k) (full_rows k ws' (length ss'))) (sym both.blocks) (subst (λ k. All (IsPadded k m') (full_rows m' ws' (length ss'))) (sym both.qubits) theirs.lies.padded))
+        subst (λ c. All (IsPadded n m) (full_rows m ws' c)) (sym both.powers)
+        (subst (λ k. All (IsPadded n k) (full_rows k ws' (length ps'))) (sym both.blocks) (subst (λ k. All (IsPadded k m') (full_rows m' ws' (length ps'))) (sym both.qubits) theirs.lies.padded))
 
 -- and equal words have equal letters
-pub letters_told : {n m : ℕ} {ws : List ℕ} {ss : List Bool} {v : Rows} {n' m' : ℕ} {ws' : List ℕ} {ss' : List Bool} {v' : Rows}
-    → IsSeen n m ws ss v → IsSeen n' m' ws' ss' v' → n ≡ n' → length ss ≡ length ss' → ws ≡ ws' → unsigned_rows v ≡ unsigned_rows v'
-letters_told {n} {m} {ws} {ss} {v} {n'} {m'} {ws'} {ss'} {v'} mine theirs en es ew =
+pub letters_told : {n m : ℕ} {ws : List ℕ} {ps : List Turn} {v : Rows} {n' m' : ℕ} {ws' : List ℕ} {ps' : List Turn} {v' : Rows}
+    → IsSeen n m ws ps v → IsSeen n' m' ws' ps' v' → n ≡ n' → length ps ≡ length ps' → ws ≡ ws' → unsigned_rows v ≡ unsigned_rows v'
+letters_told {n} {m} {ws} {ps} {v} {n'} {m'} {ws'} {ps'} {v'} mine theirs en es ew =
     letters_seen mine ∙ (λ i. map (take (en i)) (full_rows (em i) (ew i) (es i))) ∙ sym (letters_seen theirs)
   where
     em : m ≡ m'
     em = mine.lies.blocks.count ∙ ap blocks_of en ∙ sym theirs.lies.blocks.count
 
-rows_by : (ps qs : List Signed) → map (λ (p : Signed). p.negative) ps ≡ map (λ (p : Signed). p.negative) qs → map (λ (p : Signed). p.letters) ps ≡ map (λ (p : Signed). p.letters) qs → ps ≡ qs
-rows_by [] [] es el = refl
-rows_by [] (q ∷ qs) es el = absurd (let z = ap length es in omega arith)
-rows_by (p ∷ ps) [] es el = absurd (let z = ap length es in omega arith)
-rows_by (p ∷ ps) (q ∷ qs) es el = λ i. record { negative = sign i; letters = letters i } ∷ rows_by ps qs (ap (drop 1) es) (ap (drop 1) el) i
+rows_by : (us vs : List Signed) → map power_of us ≡ map power_of vs → map (λ (p : Signed). p.letters) us ≡ map (λ (p : Signed). p.letters) vs → us ≡ vs
+rows_by [] [] ep el = refl
+rows_by [] (v ∷ vs) ep el = absurd (let z = ap length ep in omega arith)
+rows_by (u ∷ us) [] ep el = absurd (let z = ap length ep in omega arith)
+rows_by (u ∷ us) (v ∷ vs) ep el = λ i. record { negative = power_of-tells u v letters power i; letters = letters i } ∷ rows_by us vs (ap (drop 1) ep) (ap (drop 1) el) i
   where
-    sign : p.negative ≡ q.negative
-    sign = ap (λ (l : List Bool). get_or l 0 false) es
+    power : power_of u ≡ power_of v
+    power = ap (λ (l : List Turn). get_or l 0 Zero) ep
 
-    letters : p.letters ≡ q.letters
+    letters : u.letters ≡ v.letters
     letters = ap (λ (l : List (List Letter)). get_or l 0 []) el
 
--- letters and signs tell the rows
-pub all_told : {n m : ℕ} {ws : List ℕ} {ss : List Bool} {v : Rows} {n' m' : ℕ} {ws' : List ℕ} {ss' : List Bool} {v' : Rows}
-    → IsSeen n m ws ss v → IsSeen n' m' ws' ss' v' → ss ≡ ss' → v.qubits ≡ v'.qubits → unsigned_rows v ≡ unsigned_rows v' → v ≡ v'
-all_told {v = v} {v' = v'} mine theirs es eq el = λ i. record { qubits = eq i; rows = rows_by v.rows v'.rows (signs_seen mine ∙ es ∙ sym (signs_seen theirs)) el i }
+-- letters and powers tell the rows
+pub all_told : {n m : ℕ} {ws : List ℕ} {ps : List Turn} {v : Rows} {n' m' : ℕ} {ws' : List ℕ} {ps' : List Turn} {v' : Rows}
+    → IsSeen n m ws ps v → IsSeen n' m' ws' ps' v' → ps ≡ ps' → v.qubits ≡ v'.qubits → unsigned_rows v ≡ unsigned_rows v' → v ≡ v'
+all_told {v = v} {v' = v'} mine theirs es eq el = λ i. record { qubits = eq i; rows = rows_by v.rows v'.rows (powers_seen mine ∙ es ∙ sym (powers_seen theirs)) el i }

@@ -1,3 +1,4 @@
 pub mod Told
 pub mod Words
+pub mod Powers
 pub mod Blocks

@@ -1,9 +1,9 @@
 //! Packed Pauli strings: 256 letters to a block of 8 words, 4 words with their X bits and then 4 with their Z bits.
 //!
-//! - `counters`: the powers of i of 256 products at a time.
-//! - `row`: the words of one string: their product with others, their letters.
+//! - `ones`: how many bits are set, and whether their number is odd.
+//! - `row`: the words of one string: their product with others, their power of i, their letters.
 //! - `flat`: rows that lie side by side in one slice.
 
-pub(crate) mod counters;
 pub(crate) mod flat;
+pub(crate) mod ones;
 pub(crate) mod row;

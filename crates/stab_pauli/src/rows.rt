@@ -2,17 +2,20 @@ use super::letter::Letter;
 use super::packed::{flat, row};
 use super::pauli::Pauli;
 use super::refusal::Refusal;
+use super::turn::Turn;
 use std::alloc::Global;
 use std::marker::Model;
 
-/// Signed Pauli strings of one length, side by side in one allocation, with their signs in another.
+/// Signed Pauli strings of one length, side by side in one allocation, with the powers of i that tell their signs in
+/// another.
 ///
 /// Contracts see the number of qubits and the list of the strings. No call takes memory but `new` and `copy`.
 pub struct PauliRows {
     qubits: usize,
     blocks: usize,
     words: Vec<u64>,
-    signs: Vec<bool>,
+    // The power of i before the X bits and then the Z bits of each.
+    powers: Vec<Turn>,
 }
 
 // Written out, so that to a proof rows that are let go are one call, and not one for each of their parts.
@@ -22,7 +25,7 @@ impl Drop for PauliRows {
             qubits: _,
             blocks: _,
             words: _,
-            signs: _,
+            powers: _,
         } = self;
     }
 }
@@ -33,9 +36,9 @@ impl Model for PauliRows {
 
     ghost Value = { Rows };
 
-    ghost view = { λ p. table p.qubits p.blocks p.words.items p.signs.items };
+    ghost view = { λ p. table p.qubits p.blocks p.words.items p.powers.items };
 
-    ghost invariant = { λ p. IsTable p.qubits p.blocks p.words.items p.signs.items };
+    ghost invariant = { λ p. IsTable p.qubits p.blocks p.words.items p.powers.items };
 }
 
 impl PauliRows {
@@ -60,12 +63,12 @@ impl PauliRows {
     {
         let blocks = row::blocks_of(qubits);
         let words = vec![in alloc; 0; 8 * blocks * rows]?;
-        let signs = vec![in alloc; false; rows]?;
+        let powers = vec![in alloc; Turn::Zero; rows]?;
         Ok(PauliRows {
             qubits,
             blocks,
             words,
-            signs,
+            powers,
         })
     }
 
@@ -80,7 +83,7 @@ impl PauliRows {
             qubits: self.qubits,
             blocks: self.blocks,
             words: Vec::from_slice(alloc, self.words.as_slice())?,
-            signs: Vec::from_slice(alloc, self.signs.as_slice())?,
+            powers: Vec::from_slice(alloc, self.powers.as_slice())?,
         })
     }
 
@@ -93,16 +96,16 @@ impl PauliRows {
         self.words
             .as_mut_slice()
             .copy_from_slice(other.words.as_slice());
-        self.signs
+        self.powers
             .as_mut_slice()
-            .copy_from_slice(other.signs.as_slice());
+            .copy_from_slice(other.powers.as_slice());
     }
 
     /// The number of strings.
     pub fn len(&self) -> usize
         ensures value { result ≡ length self.now.rows }
     {
-        self.signs.len()
+        self.powers.len()
     }
 
     /// The number of qubits.
@@ -126,7 +129,7 @@ impl PauliRows {
         requires qubit_in_range { qubit < self.now.qubits }
         ensures value { result ≡ slice_index_or (row_at self.now a).letters qubit I }
     {
-        let words = flat::row_of(self.words.as_slice(), self.signs.len(), self.blocks, a);
+        let words = flat::row_of(self.words.as_slice(), self.powers.len(), self.blocks, a);
         row::letter(self.blocks, words, qubit)
     }
 
@@ -137,7 +140,7 @@ impl PauliRows {
         requires qubit_in_range { qubit < self.now.qubits }
         ensures value { result ≡ flips (slice_index_or (row_at self.now a).letters qubit I) }
     {
-        let words = flat::row_of(self.words.as_slice(), self.signs.len(), self.blocks, a);
+        let words = flat::row_of(self.words.as_slice(), self.powers.len(), self.blocks, a);
         row::flips_at(self.blocks, words, qubit)
     }
 
@@ -147,7 +150,18 @@ impl PauliRows {
         requires in_range { a < length self.now.rows }
         ensures value { result ≡ (row_at self.now a).negative }
     {
-        self.signs[a]
+        let words = flat::row_of(self.words.as_slice(), self.powers.len(), self.blocks, a);
+        row::is_negative(self.blocks, words, self.powers[a])
+    }
+
+    /// Whether the sign of row a is -, where no letter of it flips a bit: then none has to be looked at.
+    #[inline(always)]
+    pub fn fixed_sign(&self, a: usize) -> bool
+        requires in_range { a < length self.now.rows }
+        requires fixed { list_any flips (row_at self.now a).letters ≡ false }
+        ensures value { result ≡ (row_at self.now a).negative }
+    {
+        self.powers[a].sign()
     }
 
     /// The first qubit whose letter in row a flips a bit.
@@ -159,7 +173,7 @@ impl PauliRows {
         ensures flips { IfSome result (λ k. flips (slice_index_or (row_at self.now a).letters k I) ≡ true) }
         ensures first { IfSome result (λ k. list_any flips (take k (row_at self.now a).letters) ≡ false) }
     {
-        let words = flat::row_of(self.words.as_slice(), self.signs.len(), self.blocks, a);
+        let words = flat::row_of(self.words.as_slice(), self.powers.len(), self.blocks, a);
         row::first_flip(self.blocks, words)
     }
 
@@ -170,7 +184,8 @@ impl PauliRows {
         requires qubit_in_range { qubit < self.old.qubits }
         ensures value { self.new ≡ with_row self.old a (with_letter qubit letter (row_at self.old a)) }
     {
-        let count = self.signs.len();
+        let count = self.powers.len();
+        let old = self.letter(a, qubit);
         flat::set(
             self.words.as_mut_slice(),
             count,
@@ -179,6 +194,7 @@ impl PauliRows {
             qubit,
             letter,
         );
+        self.powers[a] = row::power_with(self.powers[a], old, letter);
     }
 
     /// Turns the sign of row a where the bit is 1.
@@ -187,7 +203,7 @@ impl PauliRows {
         requires in_range { a < length self.old.rows }
         ensures value { self.new ≡ with_row self.old a (with_sign bit (row_at self.old a)) }
     {
-        self.signs[a] ^= bit;
+        self.powers[a] = self.powers[a].times(Turn::of_sign(bit));
     }
 
     /// Makes the letters of row a I and its sign +.
@@ -196,9 +212,9 @@ impl PauliRows {
         requires in_range { a < length self.old.rows }
         ensures value { self.new ≡ with_row self.old a (identity self.old.qubits) }
     {
-        let count = self.signs.len();
+        let count = self.powers.len();
         flat::clear(self.words.as_mut_slice(), count, self.blocks, a);
-        self.signs[a] = false;
+        self.powers[a] = Turn::Zero;
     }
 
     /// Exchanges row a and row b.
@@ -209,9 +225,9 @@ impl PauliRows {
         requires apart { a ≢ b }
         ensures value { self.new ≡ swapped_rows self.old a b }
     {
-        let count = self.signs.len();
+        let count = self.powers.len();
         flat::swap(self.words.as_mut_slice(), count, self.blocks, a, b);
-        self.signs.swap(a, b);
+        self.powers.swap(a, b);
     }
 
     /// Makes row a the product of itself and row b, with which it commutes, in this order.
@@ -223,9 +239,9 @@ impl PauliRows {
         requires commuting { anticommute (row_at self.old a) (row_at self.old b) ≡ false }
         ensures value { self.new ≡ with_row self.old a (product (row_at self.old a) (row_at self.old b)) }
     {
-        let count = self.signs.len();
-        let turn = flat::multiply(self.words.as_mut_slice(), count, self.blocks, a, b);
-        self.signs[a] = row::product_sign(self.signs[a], self.signs[b], turn);
+        let count = self.powers.len();
+        let meet = flat::multiply(self.words.as_mut_slice(), count, self.blocks, a, b);
+        self.powers[a] = row::product_power(self.powers[a], self.powers[b], meet);
     }
 
     /// Makes row a i times the product of itself and row b, with which it anticommutes, in this order, which has a sign
@@ -239,9 +255,9 @@ impl PauliRows {
         ensures value { self.new ≡ with_row self.old a (turned_product (row_at self.old a) (row_at self.old b)) }
         ensures phased { phased (row_at self.new a) ≡ turned Quarter (phased_product (phased (row_at self.old a)) (phased (row_at self.old b))) }
     {
-        let count = self.signs.len();
-        let turn = flat::multiply(self.words.as_mut_slice(), count, self.blocks, a, b);
-        self.signs[a] = row::product_sign(self.signs[a], self.signs[b], turn.times_i());
+        let count = self.powers.len();
+        let meet = flat::multiply(self.words.as_mut_slice(), count, self.blocks, a, b);
+        self.powers[a] = row::product_power(self.powers[a], self.powers[b], meet).times_i();
     }
 
     /// Makes row a the product of itself and another string, with which it commutes, in this order.
@@ -252,10 +268,10 @@ impl PauliRows {
         requires commuting { anticommute (row_at self.old a) other.now ≡ false }
         ensures value { self.new ≡ with_row self.old a (product (row_at self.old a) other.now) }
     {
-        let count = self.signs.len();
+        let count = self.powers.len();
         let words = self.words.as_mut_slice();
-        let turn = flat::multiply_by(words, count, self.blocks, a, other.words.as_slice());
-        self.signs[a] = row::product_sign(self.signs[a], other.negative, turn);
+        let meet = flat::multiply_by(words, count, self.blocks, a, other.words.as_slice());
+        self.powers[a] = row::product_power(self.powers[a], other.power, meet);
     }
 
     /// Makes row a i times the product of itself and another string, with which it anticommutes, in this order, which
@@ -268,10 +284,10 @@ impl PauliRows {
         ensures value { self.new ≡ with_row self.old a (turned_product (row_at self.old a) other.now) }
         ensures phased { phased (row_at self.new a) ≡ turned Quarter (phased_product (phased (row_at self.old a)) (phased other.now)) }
     {
-        let count = self.signs.len();
+        let count = self.powers.len();
         let words = self.words.as_mut_slice();
-        let turn = flat::multiply_by(words, count, self.blocks, a, other.words.as_slice());
-        self.signs[a] = row::product_sign(self.signs[a], other.negative, turn.times_i());
+        let meet = flat::multiply_by(words, count, self.blocks, a, other.words.as_slice());
+        self.powers[a] = row::product_power(self.powers[a], other.power, meet).times_i();
     }
 
     /// Makes a string the product of itself and row a, with which it commutes, in this order.
@@ -282,9 +298,9 @@ impl PauliRows {
         requires commuting { anticommute out.old (row_at self.now a) ≡ false }
         ensures value { out.new ≡ product out.old (row_at self.now a) }
     {
-        let words = flat::row_of(self.words.as_slice(), self.signs.len(), self.blocks, a);
-        let turn = row::multiply(self.blocks, out.words.as_mut_slice(), words);
-        out.negative = row::product_sign(out.negative, self.signs[a], turn);
+        let words = flat::row_of(self.words.as_slice(), self.powers.len(), self.blocks, a);
+        let meet = row::multiply(self.blocks, out.words.as_mut_slice(), words);
+        out.power = row::product_power(out.power, self.powers[a], meet);
     }
 
     /// Makes a string i times the product of itself and row a, with which it anticommutes, in this order, which has a
@@ -297,9 +313,9 @@ impl PauliRows {
         ensures value { out.new ≡ turned_product out.old (row_at self.now a) }
         ensures phased { phased out.new ≡ turned Quarter (phased_product (phased out.old) (phased (row_at self.now a))) }
     {
-        let words = flat::row_of(self.words.as_slice(), self.signs.len(), self.blocks, a);
-        let turn = row::multiply(self.blocks, out.words.as_mut_slice(), words);
-        out.negative = row::product_sign(out.negative, self.signs[a], turn.times_i());
+        let words = flat::row_of(self.words.as_slice(), self.powers.len(), self.blocks, a);
+        let meet = row::multiply(self.blocks, out.words.as_mut_slice(), words);
+        out.power = row::product_power(out.power, self.powers[a], meet).times_i();
     }
 
     /// Makes a string what row a is.
@@ -309,9 +325,9 @@ impl PauliRows {
         requires same_length { length out.old.letters ≡ self.now.qubits }
         ensures value { out.new ≡ row_at self.now a }
     {
-        let words = flat::row_of(self.words.as_slice(), self.signs.len(), self.blocks, a);
+        let words = flat::row_of(self.words.as_slice(), self.powers.len(), self.blocks, a);
         out.words.as_mut_slice().copy_from_slice(words);
-        out.negative = self.signs[a];
+        out.power = self.powers[a];
     }
 
     /// Makes row a another string.
@@ -321,17 +337,17 @@ impl PauliRows {
         requires same_length { length other.now.letters ≡ self.old.qubits }
         ensures value { self.new ≡ with_row self.old a other.now }
     {
-        let count = self.signs.len();
+        let count = self.powers.len();
         let words = self.words.as_mut_slice();
         flat::copy_from(words, count, self.blocks, a, other.words.as_slice());
-        self.signs[a] = other.negative;
+        self.powers[a] = other.power;
     }
 
     /// Whether both have the same strings.
     pub fn same(&self, other: &PauliRows) -> bool
         ensures value { IsTrue result ↔ (self.now ≡ other.now) }
     {
-        let same = self.signs.as_slice() == other.signs.as_slice();
+        let same = self.powers.as_slice() == other.powers.as_slice();
         if !same {
             return false;
         }
@@ -345,7 +361,7 @@ impl PauliRows {
         if self.qubits != other.qubits {
             return false;
         }
-        if self.signs.len() != other.signs.len() {
+        if self.powers.len() != other.powers.len() {
             return false;
         }
         let words = self.words.as_slice();

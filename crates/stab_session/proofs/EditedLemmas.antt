@@ -1,33 +1,31 @@
--- Edited sessions: from an edit that was begun, run and kept to the statement of the session.
-use Rattle.std.proofs.Common.{◌≡◌, ℕ, sym, ◌∙◌, ap, subst, Bool, List, All, Option, None, Result, Ok, Err}
+-- Edited sessions: from an edit that was begun and run to the statement of the session, and to what the edit cost.
+use Rattle.std.proofs.Common.{◌≡◌, ◌≤◌, ℕ, ◌+◌, ◌-◌, ◌*◌, sym, ◌∙◌, ap, subst, arith, Bool, List, [], ◌∷◌, length, take, All, None, Result, Ok}
+use Rattle.std.specs.Prelude.{slice_get}
 use Rattle.stab_pauli.specs.declared.refusal.Refusal.{Refusal}
 use Rattle.stab_pauli.specs.declared.refusal.Refusal.TheVariants.{OutOfMemory}
 use Rattle.stab_pauli.specs.declared.refusal.Fault.{Fault}
 use Rattle.stab_pauli.specs.Refusals.{whole}
-use Rattle.stab_tableau.specs.Tableaus.{TableauState, stabilises}
 use Rattle.stab_circuit.specs.Items.{OneItem, listed, entries}
-use Rattle.stab_circuit.specs.Steps.{unroll, check_within}
+use Rattle.stab_circuit.specs.Steps.{Step, unroll, observables_of, check_within}
 use Rattle.stab_circuit.specs.Cursors.{IsApart}
-use Rattle.stab_circuit.specs.Paths.{Path}
-use Rattle.stab_circuit.specs.Edits.{edited, verdict}
-use Rattle.stab_circuit.specs.declared.change.Change.{Change}
+use Rattle.stab_circuit.specs.Edits.{edited, verdict, put_item, first_changed, old_end, new_end}
 use Rattle.stab_circuit.proofs.EditLemmas.{entries-listed}
-use Rattle.stab_session.specs.declared.run.Shot.{Shot}
+use Rattle.stab_session.specs.declared.kept.KeptRun.{KeptRun}
+use Rattle.stab_session.specs.declared.kept.Span.{Span}
 use Rattle.stab_session.specs.declared.pending.Edit.{Edit}
 use Rattle.stab_session.specs.declared.pending.Pending.{Pending}
-use Rattle.stab_session.specs.Runs.{run, start, run_of, Refuses}
+use Rattle.stab_session.specs.Points.{origin, point_after}
+use Rattle.stab_session.specs.Laws.{AgreeAt}
 use Rattle.stab_session.specs.Sessions.{SessionState, IsFaultOf}
 use Rattle.stab_session.specs.SessionEdits.{change_of, place_of, edited_by, verdict_on, IsEditedBy}
-use Rattle.stab_session.specs.Headline.{IsRunOfItems}
-use Rattle.stab_session.specs.inner.Shots.{IsShotOf}
-use Rattle.stab_session.specs.inner.KeptSessions.{session_of}
-use Rattle.stab_session.specs.inner.Pendings.{kept, HaveSameRuns, IsBegun}
-use Rattle.stab_session.proofs.SessionLemmas.{statement}
+use Rattle.stab_session.specs.Bounds.{steps_of_item, steps_from_change, steps_put, steps_near_change, AgreeBehind}
+use Rattle.stab_session.specs.inner.KeptSessions.{session_of, IsKept}
+use Rattle.stab_session.specs.inner.Pendings.{kept, IsBegun}
+use Rattle.stab_session.specs.inner.Replays.{IsKeptRun}
+use Rattle.stab_session.specs.inner.Replays.{AgreeBehind as AgreeBehindSpan}
+use Rattle.stab_session.proofs.SessionLemmas.{session-kept}
 use Rattle.stab_session.proofs.PendingLemmas.{verdict-checked}
-
-same_run : (n : ℕ) (bits : ℕ → Bool) (xs ys : List OneItem) → HaveSameRuns xs ys → run_of n bits (listed xs) ≡ run_of n bits (listed ys)
-unfolding run_of
-same_run n bits xs ys h = λ i. run n bits (h.steps i) (start (h.observables i))
+use Rattle.stab_session.proofs.SpanLemmas.{put-within}
 
 ok_same : (xs ys : List OneItem) → ◌≡◌ {A = Result (List OneItem) Refusal} (Ok xs) (Ok ys) → xs ≡ ys
 ok_same xs ys e = cc
@@ -40,49 +38,96 @@ session-verdict s e n items is qubits = λ i. verdict (sym qubits i) (edited_by 
     same : items ≡ entries s.items
     same = sym (ap entries is ∙ entries-listed items)
 
-module _ (n : ℕ) (change : Change) (path : Path) (old mid : List OneItem) (pending : Pending) (b : IsBegun n change path old mid pending) (new : List OneItem) (ahead : kept pending mid ≡ Ok new) where
-  pub new-is : b.new ≡ new
-  new-is = ok_same b.new new (sym b.ahead ∙ ahead)
+-- points after so many steps agree, whichever way these are said
+moved_agree : (n m k : ℕ) (bits others : ℕ → Bool) (xs us ys vs : List Step) (i a j c : ℕ) → m ≡ n → k ≡ n → others ≡ bits → us ≡ xs → vs ≡ ys → a ≡ i → c ≡ j
+    → AgreeAt k (point_after m bits (take a us) origin) (point_after k others (take c vs) origin) → AgreeAt n (point_after n bits (take i xs) origin) (point_after n bits (take j ys) origin)
+moved_agree n m k bits others xs us ys vs i a j c em ek eb ex ey ei ej h =
+    subst (λ t. t) (λ p. AgreeAt (ek p) (point_after (em p) bits (take (ei p) (ex p)) origin) (point_after (ek p) (eb p) (take (ej p) (ey p)) origin)) h
 
-  pub new-checked : check_within n (listed new) ≡ None
-  new-checked = subst (λ xs. check_within n (listed xs) ≡ None) new-is (verdict-checked n b.new b.accepted)
+-- a run that is kept, and an agreement, on the same number of qubits with the same coins
 
-  pub new-apart : All IsApart (unroll (listed mid)) → All IsApart (unroll (listed new))
-  new-apart a = subst (All IsApart) (b.same_runs.steps ∙ ap (λ xs. unroll (listed xs)) new-is) a
+pub followed : (n m : ℕ) (bits others : ℕ → Bool) (K : ℕ) (xs : List Step) (count : ℕ) (r : KeptRun) → n ≡ m → bits ≡ others → IsKeptRun m bits K xs count r → IsKeptRun n others K xs count r
+followed n m bits others K xs count r e f is = subst (λ k. IsKeptRun k others K xs count r) (sym e) (subst (λ k. IsKeptRun m k K xs count r) f is)
 
-  pub new-statement : {C : Type 0} (sequence : C → ℕ → Bool) (stride : ℕ) (coins : C) (tableau : TableauState) (shot : Shot) (bits : ℕ → Bool)
-      → tableau.qubits ≡ n → sequence coins ≡ bits → IsShotOf n (run_of n bits (listed mid)) (stabilises tableau) shot
-      → IsRunOfItems sequence (session_of (listed new) stride coins tableau shot)
-  new-statement sequence stride coins tableau shot bits qubits same is =
-      statement sequence (listed new) stride coins tableau shot n bits qubits same
-      (subst (λ s. IsShotOf n s (stabilises tableau) shot) (same_run n bits mid b.new b.same_runs ∙ ap (λ xs. run_of n bits (listed xs)) new-is) is)
+pub agreed : (n m : ℕ) (bits others : ℕ → Bool) (xs ys : List Step) (s : Span) → n ≡ m → bits ≡ others → AgreeBehindSpan n others xs ys s → AgreeBehindSpan m bits xs ys s
+agreed n m bits others xs ys s e f is = subst (λ k. AgreeBehindSpan k bits xs ys s) e (subst (λ k. AgreeBehindSpan n k xs ys s) (sym f) is)
 
--- the session was edited by the edit that was begun
-pub session-edited : {C : Type 0} (sequence : C → ℕ → Bool) (e : Edit) (s : SessionState C) (n : ℕ) (old mid : List OneItem) (pending : Pending)
-    → IsBegun n (change_of e) (place_of e) old mid pending → (new : List OneItem) → kept pending mid ≡ Ok new → s.items ≡ listed old → s.qubits ≡ n
-    → (stride : ℕ) (coins : C) (tableau : TableauState) (shot : Shot) → stride ≡ s.stride → tableau.qubits ≡ n → sequence coins ≡ sequence s.coins
-    → IsEditedBy sequence e s (session_of (listed new) stride coins tableau shot)
-session-edited sequence e s n old mid pending b new ahead items qubits stride coins tableau shot same_stride same_qubits same_coins = record {
-  accepted = sym (session-verdict s e n old items qubits) ∙ ap (verdict n) b.edited ∙ b.accepted;
-  items =
-      ap (λ i. edited_by e (entries i)) items
-      ∙ ap (edited_by e) (entries-listed old)
-      ∙ b.edited
-      ∙ ap (λ xs. Ok xs) (new-is n (change_of e) (place_of e) old mid pending b new ahead ∙ sym (entries-listed new));
-  qubits = same_qubits ∙ sym qubits;
-  stride = same_stride;
-  coins = same_coins;
-}
+-- how many steps an edit puts in, by the items that it leaves
+abbrev steps_put_in : Edit → List OneItem → ℕ
+steps_put_in e new = steps_of_item (elim (place_of e).blocks [ [] ↦ put_item (change_of e) | b ∷ bs ↦ slice_get new b ])
 
--- a run of what was begun is refused memory alone, which is a fault of the edit
+-- an edit of a session that was begun, leads to other steps than its run is of, and was kept
+module _ {C : Type 0} (sequence : C → ℕ → Bool) (e : Edit) (s : SessionState C) (n : ℕ) (old mid : List OneItem) (pending : Pending) (span : Span)
+    (b : IsBegun n (change_of e) (place_of e) old mid pending span) (items : s.items ≡ listed old) (qubits : s.qubits ≡ n) where
+  accepted : verdict_on s.qubits e (entries s.items) ≡ None
+  accepted = sym (session-verdict s e n old items qubits) ∙ ap (verdict n) b.edited ∙ b.accepted
 
-refused_none : (v : Option Refusal) (f : Fault) → v ≡ None → f ≡ whole OutOfMemory → IsFaultOf v f
-refused_none v f e h = subst (λ w. IsFaultOf w f) (sym e) h
+  -- it is refused memory alone, which is a fault of the edit
+  pub run-fault : (f : Fault) → f ≡ whole OutOfMemory → IsFaultOf (verdict_on s.qubits e (entries s.items)) f
+  run-fault f h = subst (λ v. IsFaultOf v f) (sym accepted) h
 
-pub run-fault : {C : Type 0} (s : SessionState C) (e : Edit) (n : ℕ) (old mid : List OneItem) (pending : Pending) → IsBegun n (change_of e) (place_of e) old mid pending
-    → s.items ≡ listed old → s.qubits ≡ n → (f : Fault) → f ≡ whole OutOfMemory → IsFaultOf (verdict_on s.qubits e (entries s.items)) f
-run-fault s e n old mid pending b items qubits f h =
-    refused_none (verdict_on s.qubits e (entries s.items)) f (sym (session-verdict s e n old items qubits) ∙ ap (verdict n) b.edited ∙ b.accepted) h
+  module _ (new : List OneItem) (ahead : kept pending mid ≡ Ok new) (stride : ℕ) (coins : C) (run : KeptRun) (same_stride : stride ≡ s.stride) (same_coins : sequence coins ≡ sequence s.coins)
+      (is : IsKeptRun n (sequence s.coins) stride (unroll (listed mid)) (observables_of (listed mid)) run) where
+    new-is : b.new ≡ new
+    new-is = ok_same b.new new (sym b.ahead ∙ ahead)
 
-pub refused-memory : (A : Type 0) (v : Option Refusal) (f : Fault) → v ≡ None → Refuses {A = A} (Err f) v → f ≡ whole OutOfMemory
-refused-memory A v f e h = subst (λ w. Refuses {A = A} (Err f) w) e h
+    new_steps : unroll (listed mid) ≡ unroll (listed new)
+    new_steps = b.same_runs.steps ∙ ap (λ xs. unroll (listed xs)) new-is
+
+    new_observables : observables_of (listed mid) ≡ observables_of (listed new)
+    new_observables = b.same_runs.observables ∙ ap (λ xs. observables_of (listed xs)) new-is
+
+    pub new-run : IsKeptRun n (sequence s.coins) stride (unroll (listed new)) (observables_of (listed new)) run
+    new-run = subst (λ k. IsKeptRun n (sequence s.coins) stride (unroll (listed new)) k run) new_observables
+        (subst (λ xs. IsKeptRun n (sequence s.coins) stride xs (observables_of (listed mid)) run) new_steps is)
+
+    -- the session is kept again
+    pub edited-kept : All IsApart (unroll (listed mid)) → n ≤ 1024 → 1 ≤ stride → stride ≤ 65536 → IsKept sequence (session_of (listed new) stride coins run) run
+    edited-kept apart few above within =
+        session-kept sequence (listed new) stride coins run n (sequence s.coins) same_coins new-run
+        (subst (λ xs. check_within n (listed xs) ≡ None) new-is (verdict-checked n b.new b.accepted)) (subst (All IsApart) new_steps apart) few above within
+
+    -- it was edited by the edit
+    pub session-edited : IsEditedBy sequence e s (session_of (listed new) stride coins run)
+    session-edited = record {
+      accepted = accepted;
+      items =
+          ap (λ i. edited_by e (entries i)) items
+          ∙ ap (edited_by e) (entries-listed old)
+          ∙ b.edited
+          ∙ ap (λ xs. Ok xs) (new-is ∙ sym (entries-listed new));
+      qubits = is.qubits ∙ sym qubits;
+      stride = same_stride;
+      coins = same_coins;
+    }
+
+    old_items : entries s.items ≡ old
+    old_items = ap entries items ∙ entries-listed old
+
+    new_items : b.new ≡ entries (listed new)
+    new_items = new-is ∙ sym (entries-listed new)
+
+    first_is : span.first ≡ first_changed (place_of e) (entries s.items)
+    first_is = b.span.first ∙ sym (ap (first_changed (place_of e)) old_items)
+
+    -- it cost no more steps than stand behind the changed place, and a stride
+    pub edited-applied : (applied : ℕ) → applied ≤ (length (unroll (listed mid)) - span.first) + stride → applied ≤ steps_from_change e s (session_of (listed new) stride coins run)
+    edited-applied applied h = omega (arith, h, first_is, ap length new_steps)
+
+    -- where the runs agree behind what was changed, it cost no more than what was put in, and two strides
+
+    agree_inside : AgreeBehind sequence e s (session_of (listed new) stride coins run) → AgreeBehindSpan n (sequence s.coins) (unroll (listed old)) (unroll (listed mid)) span
+    agree_inside h =
+        moved_agree n s.qubits run.tableau.qubits (sequence s.coins) (sequence coins) (unroll (listed old)) (unroll s.items) (unroll (listed mid)) (unroll (listed new)) span.old_end
+        (old_end (change_of e) (place_of e) (entries s.items)) span.new_end (new_end (change_of e) (place_of e) (entries (listed new))) qubits is.qubits same_coins (ap unroll items)
+        (sym new_steps) (ap (old_end (change_of e) (place_of e)) old_items ∙ sym b.span.old_end) (ap (new_end (change_of e) (place_of e)) (sym new_items) ∙ sym b.span.new_end) h
+
+    put_is : span.new_end ≤ span.first + steps_put e (session_of (listed new) stride coins run)
+    put_is =
+        subst (λ xs. span.new_end ≤ span.first + steps_put_in e xs) new_items
+        (omega (arith, b.span.new_end, b.span.first, put-within (change_of e) (place_of e).blocks (place_of e).place old b.new b.edited))
+
+    pub edited-early : (applied : ℕ)
+        → (AgreeBehindSpan n (sequence s.coins) (unroll (listed old)) (unroll (listed mid)) span → applied ≤ (span.new_end - span.first) + 2 * stride)
+        → AgreeBehind sequence e s (session_of (listed new) stride coins run) → applied ≤ steps_near_change e (session_of (listed new) stride coins run)
+    edited-early applied near h = omega (arith, near (agree_inside h), put_is)

@@ -98,10 +98,10 @@ within-kind n (kind.Swap pairs) le = within-pairs n gate.Swap pairs le
 within-kind n (kind.Measure m targets) le = within-targets n m targets le
 within-kind n (kind.Reset axis qubits) le = within-qubits n (λ q. collapse (letter_of axis) q false false true) (λ q lt. lt) qubits le
 within-kind n (kind.MeasureProducts products) le = within-products n products le
-within-kind n (kind.Detector coordinates ks) le = within-one n (detector ks) tt
+within-kind n (kind.Detector located) le = within-one n (detector located.1) tt
 within-kind n (kind.ObservableInclude j ks) le = within-one n (observable j ks) tt
 within-kind n kind.Tick le = All-nil (IsWithin n)
-within-kind n (kind.QubitCoords coordinates qubits) le = All-nil (IsWithin n)
+within-kind n (kind.QubitCoords located) le = All-nil (IsWithin n)
 within-kind n (kind.ShiftCoords coordinates) le = All-nil (IsWithin n)
 
 within-rounds : (n count : ℕ) (xs : List Step) → All (IsWithin n) xs → All (IsWithin n) (rounds count xs)

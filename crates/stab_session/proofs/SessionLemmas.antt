@@ -1,29 +1,71 @@
--- Sessions: the statement of a session, from what a run of its items left.
-use Rattle.std.proofs.Common.{◌≡◌, ℕ, sym, subst, Bool}
-use Rattle.stab_tableau.specs.Tableaus.{TableauState, stabilises}
+-- Sessions: the statement of a session, from the run of its items that is kept.
+use Rattle.std.proofs.Common.{◌≡◌, ◌∙◌, ◌≤◌, ap, ℕ, sym, subst, Bool, false, All, None, arith, length, replicate}
+use Rattle.stab_tableau.specs.Traces.{member}
+use Rattle.stab_tableau.specs.Groups.{SameGroup}
+use Rattle.stab_tableau.specs.Tableaus.{stabilises}
 use Rattle.stab_circuit.specs.Items.{Items}
-use Rattle.stab_session.specs.declared.run.Shot.{Shot}
-use Rattle.stab_session.specs.Runs.{run_of}
+use Rattle.stab_circuit.specs.Steps.{unroll, observables_of, check_within}
+use Rattle.stab_circuit.specs.Cursors.{IsApart}
+use Rattle.stab_session.specs.declared.kept.KeptRun.{KeptRun}
+use Rattle.stab_session.specs.Runs.{State, start, run_of}
+use Rattle.stab_session.specs.Points.{Output, origin, point_after, outputs, with_additions, state_at}
 use Rattle.stab_session.specs.Laws.{DependsOnCoinsAt}
 use Rattle.stab_session.specs.Headline.{IsRunOfItems}
-use Rattle.stab_session.specs.inner.Shots.{IsShotOf}
-use Rattle.stab_session.specs.inner.KeptSessions.{session_of}
-use Rattle.stab_session.proofs.StateLemmas.{run_of-same}
+use Rattle.stab_session.specs.Bounds.{most_checkpoints}
+use Rattle.stab_session.specs.inner.Checkpoints.{steps_of}
+use Rattle.stab_session.specs.inner.Replays.{IsKeptRun}
+use Rattle.stab_session.specs.inner.KeptSessions.{session_of, IsKept}
+use Rattle.stab_session.proofs.StateLemmas.{run-state, run_of-same}
+use Rattle.stab_session.proofs.PointLemmas.{records-are-records}
+use Rattle.stab_session.proofs.SpacingLemmas.{count-spaced}
 
-module _ {C : Type 0} (sequence : C → ℕ → Bool) (items : Items) (stride : ℕ) (coins : C) (tableau : TableauState) (shot : Shot) where
-  same_statement : IsShotOf tableau.qubits (run_of tableau.qubits (sequence coins) items) (stabilises tableau) shot
-      → IsRunOfItems sequence (session_of items stride coins tableau shot)
-  same_statement is = record {
-    records = is.records;
-    free = is.free;
-    detectors = is.detectors;
-    observables = is.observables;
-    group = is.group;
-    decided = subst (λ flags. DependsOnCoinsAt flags tableau.qubits (sequence coins) items) (sym is.free) (run_of-same tableau.qubits (sequence coins) items);
-  }
+-- the state behind the run of items
+behind_all : (n : ℕ) (bits : ℕ → Bool) (items : Items)
+    → run_of n bits items ≡ state_at (point_after n bits (unroll items) origin) (outputs n bits (unroll items) origin) (start (observables_of items))
+unfolding run_of
+behind_all n bits items = run-state n bits (unroll items) (start (observables_of items))
 
-  pub statement : (n : ℕ) (bits : ℕ → Bool) → tableau.qubits ≡ n → sequence coins ≡ bits → IsShotOf n (run_of n bits items) (stabilises tableau) shot
-      → IsRunOfItems sequence (session_of items stride coins tableau shot)
-  statement n bits qubits same is =
-      same_statement (subst (λ m. IsShotOf m (run_of m (sequence coins) items) (stabilises tableau) shot) (sym qubits)
-      (subst (λ b. IsShotOf n (run_of n b items) (stabilises tableau) shot) (sym same) is))
+module _ {C : Type 0} (sequence : C → ℕ → Bool) (items : Items) (stride : ℕ) (coins : C) (kept : KeptRun) where
+  same_statement : IsKeptRun kept.tableau.qubits (sequence coins) stride (unroll items) (observables_of items) kept → IsRunOfItems sequence (session_of items stride coins kept)
+  same_statement is =
+      let n = kept.tableau.qubits in
+      let bits = sequence coins in
+      let all = behind_all n bits items in
+      let count = observables_of items in
+      let free : kept.outputs.free.items ≡ (run_of n bits items).free = ap (λ (o : Output). o.free) is.run.output ∙ sym (ap (λ (s : State). s.free) all) in
+      record {
+        records = ap (λ (o : Output). o.records) is.run.output ∙ records-are-records n bits (unroll items) ∙ sym (ap (λ (s : State). s.records) all);
+        free = free;
+        detectors = ap (λ (o : Output). o.detectors) is.run.output ∙ sym (ap (λ (s : State). s.detectors) all);
+        observables =
+            is.observables
+            ∙ ap (λ (o : Output). with_additions o.additions (replicate count false)) is.run.output
+            ∙ sym (ap (λ (s : State). s.observables) all);
+        group = subst (λ (s : State). SameGroup n (stabilises kept.tableau) (member s.trace)) (sym all) is.run.group;
+        decided = subst (λ flags. DependsOnCoinsAt flags n bits items) (sym free) (run_of-same n bits items);
+      }
+
+  -- it is kept, where the run of its items is kept with its coins on its qubits
+  module _ (n : ℕ) (bits : ℕ → Bool) (same : sequence coins ≡ bits) (is : IsKeptRun n bits stride (unroll items) (observables_of items) kept) where
+    moved_run : IsKeptRun kept.tableau.qubits (sequence coins) stride (unroll items) (observables_of items) kept
+    moved_run =
+        subst (λ b. IsKeptRun kept.tableau.qubits b stride (unroll items) (observables_of items) kept) (sym same)
+        (subst (λ m. IsKeptRun m bits stride (unroll items) (observables_of items) kept) (sym is.qubits) is)
+
+    pub statement : IsRunOfItems sequence (session_of items stride coins kept)
+    statement = same_statement moved_run
+
+    pub session-kept : check_within n items ≡ None → All IsApart (unroll items) → n ≤ 1024 → 1 ≤ stride → stride ≤ 65536
+        → IsKept sequence (session_of items stride coins kept) kept
+    session-kept checked apart few above within = record {
+      statement = statement;
+      run = moved_run;
+      checked = subst (λ m. check_within m items ≡ None) (sym is.qubits) checked;
+      apart = apart;
+      few = subst (λ m. m ≤ 1024) (sym is.qubits) few;
+      stride_above = above;
+      stride_within = within;
+    }
+
+    pub few-checkpoints : 1 ≤ stride → length (session_of items stride coins kept).checkpoints ≤ most_checkpoints (session_of items stride coins kept)
+    few-checkpoints above = count-spaced stride (length (unroll items)) (steps_of kept.checkpoints.items) (omega (arith, above)) is.spaced

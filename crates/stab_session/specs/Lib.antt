@@ -7,4 +7,5 @@ pub mod Samplers
 pub mod Sessions
 pub mod Headline
 pub mod SessionEdits
+pub mod Bounds
 pub mod inner

@@ -1,7 +1,7 @@
 -- Edits of sessions: what an edit is on the items, and what it leaves of a session.
 use Rattle.std.specs.Prelude.{◌≡◌, ℕ, Bool, List, Option, None, Result, Ok}
 use Rattle.stab_pauli.specs.declared.refusal.Refusal.{Refusal}
-use Rattle.stab_circuit.specs.Items.{Items, OneItem, entries}
+use Rattle.stab_circuit.specs.Items.{OneItem, entries}
 use Rattle.stab_circuit.specs.Paths.{Path}
 use Rattle.stab_circuit.specs.declared.change.Change.{Change}
 use Rattle.stab_circuit.specs.declared.change.Change.TheVariants as change
@@ -49,3 +49,4 @@ pub record IsAsBefore {C : Type 0} (sequence : C → ℕ → Bool) (old new : Se
   pub detectors : new.detectors ≡ old.detectors
   pub observables : new.observables ≡ old.observables
   pub tableau : new.tableau ≡ old.tableau
+  pub checkpoints : new.checkpoints ≡ old.checkpoints

@@ -7,7 +7,8 @@ use Rattle.stab_pauli.specs.Refusals.{whole}
 use Rattle.stab_tableau.specs.Tableaus.{TableauState}
 use Rattle.stab_circuit.specs.Items.{Items}
 
--- the items, the number of qubits, the stride, the source of coins, the four lists, and the state of the qubits
+-- the items, the number of qubits, the stride, the source of coins, the four lists, the state of the qubits, and the steps before
+-- which copies of the state are kept
 pub record SessionState (C : Type 0) : Type 0 where
   pub items : Items
   pub qubits : ℕ
@@ -18,6 +19,7 @@ pub record SessionState (C : Type 0) : Type 0 where
   pub detectors : List Bool
   pub observables : List Bool
   pub tableau : TableauState
+  pub checkpoints : List ℕ
 
 -- the fault of a call whose verdict is the definition's; where that refuses nothing, the call wanted memory
 abbrev pub IsFaultOf : Option Refusal → Fault → Type 0

@@ -3,3 +3,7 @@ pub mod ReadySamplers
 pub mod Shots
 pub mod KeptSessions
 pub mod Pendings
+pub mod Spacing
+pub mod Checkpoints
+pub mod Replays
+pub mod Prepared

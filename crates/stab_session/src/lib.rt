@@ -9,6 +9,9 @@
 //! - `run`: one run of a circuit, and what it gives.
 //! - `whole`: a run of all steps, from the first on.
 //! - `sampler`: many runs of one circuit.
+//! - `checkpoint`: copies of the state on the way through a run, and where they are kept.
+//! - `replay`: a run from a copy on, up to a copy of an older run that it meets.
+//! - `kept`: a run that is kept with its copies, and follows the edits of its circuit.
 //! - `pending`: edits of a circuit that can be taken back.
 //! - `session`: a circuit with what its run gives, to be read and edited.
 //! - `laws`: what a run depends on, and that what happens in it is sound.
@@ -18,18 +21,22 @@
 //! observables that the group rules of `specs/Runs.antt` give for the circuit's unrolled steps, and
 //! depends on no coin but those that decide; its trace is sound. Each shot of a sampler is such a
 //! run, whatever became of the shots before it. What a session shows is the run of its items from
-//! the first step on, whatever edits it took: `specs/Headline.antt` says so. `specs/inner/` has what
-//! only private contracts cite.
+//! the first step on, whatever edits it took: `specs/Headline.antt` says so. How many steps an edit
+//! carries out at most, and how many copies of the state a session keeps, stands in
+//! `specs/Bounds.antt`. `specs/inner/` has what only private contracts cite.
 #![tactic(auto)]
 
 mod apply;
+mod checkpoint;
 mod coins;
+mod kept;
 pub mod laws;
 mod letters;
 mod outputs;
 mod pending;
 mod products;
 mod records;
+mod replay;
 mod run;
 mod sampler;
 mod session;

@@ -1,6 +1,7 @@
-ghost use Rattle.std.specs.Prelude.{◌≡◌, Bool, false, replicate, IfOk};
+ghost use Rattle.std.specs.Prelude.{◌≡◌, ◌++◌, Bool, false, replicate, take, drop, IfOk, OnOk};
 ghost use Rattle.stab_session.specs.Points.{with_additions};
 
+use crate::checkpoint::Lengths;
 use std::alloc::{AllocError, Global};
 
 /// A bit that is added to an observable.
@@ -21,9 +22,22 @@ pub struct Outputs {
 }
 
 impl Outputs {
-    ghost use Rattle.std.specs.Prelude.{◌≡◌, IfOk};
-    ghost use Rattle.stab_session.specs.Points.{nothing};
+    ghost use Rattle.std.specs.Prelude.{◌≡◌, IfOk, OnOk};
+    ghost use Rattle.stab_session.specs.Points.{nothing, joined};
     ghost use Rattle.stab_session.specs.inner.Sights.{output_of};
+    ghost use Rattle.stab_session.specs.inner.Checkpoints.{lengths_of, front_of, rest_of};
+
+    /// Nothing yet, which takes no memory.
+    pub fn new(alloc: Global) -> Outputs
+        ensures value { output_of result ≡ nothing }
+    {
+        Outputs {
+            records: Vec::new(alloc),
+            free: Vec::new(alloc),
+            detectors: Vec::new(alloc),
+            additions: Vec::new(alloc),
+        }
+    }
 
     /// Nothing yet, with room for so many records and as many flags.
     pub fn with_capacity(alloc: Global, records: usize) -> Result<Outputs, AllocError>
@@ -36,6 +50,64 @@ impl Outputs {
             additions: Vec::new(alloc),
         })
     }
+
+    /// How long the lists are.
+    pub fn lengths(&self) -> Lengths
+        ensures value { result ≡ lengths_of (output_of self.now) }
+    {
+        Lengths {
+            records: self.records.len(),
+            free: self.free.len(),
+            detectors: self.detectors.len(),
+            additions: self.additions.len(),
+        }
+    }
+
+    /// A copy of the lists up to these lengths.
+    pub fn front(&self, alloc: Global, lengths: Lengths) -> Result<Outputs, AllocError>
+        ensures value { IfOk result (λ o. output_of o ≡ front_of lengths (output_of self.now)) }
+    {
+        Ok(Outputs {
+            records: front(alloc, self.records.as_slice(), lengths.records)?,
+            free: front(alloc, self.free.as_slice(), lengths.free)?,
+            detectors: front(alloc, self.detectors.as_slice(), lengths.detectors)?,
+            additions: front(alloc, self.additions.as_slice(), lengths.additions)?,
+        })
+    }
+
+    /// Appends what stands in other lists behind these lengths.
+    pub fn append_rest(&mut self, other: &Outputs, lengths: Lengths) -> Result<(), AllocError>
+        ensures value { OnOk result (output_of self.new ≡ joined (output_of self.old) (rest_of lengths (output_of other.now))) }
+    {
+        append_rest(&mut self.records, other.records.as_slice(), lengths.records)?;
+        append_rest(&mut self.free, other.free.as_slice(), lengths.free)?;
+        append_rest(
+            &mut self.detectors,
+            other.detectors.as_slice(),
+            lengths.detectors,
+        )?;
+        append_rest(
+            &mut self.additions,
+            other.additions.as_slice(),
+            lengths.additions,
+        )
+    }
+}
+
+/// The first elements of a list, up to so many.
+fn front<T: Copy>(alloc: Global, items: &[T], len: usize) -> Result<Vec<T>, AllocError>
+    ensures value { IfOk result (λ v. v.items ≡ take len items.now) }
+{
+    let (front, _) = items.split_at(len.min(items.len()));
+    Vec::from_slice(alloc, front)
+}
+
+/// Appends the elements of a list behind so many.
+fn append_rest<T: Copy>(to: &mut Vec<T>, items: &[T], len: usize) -> Result<(), AllocError>
+    ensures value { OnOk result (to.new.items ≡ to.old.items ++ drop len items.now) }
+{
+    let (_, rest) = items.split_at(len.min(items.len()));
+    to.extend_from_slice(rest)
 }
 
 /// So many observables with additions made, all 0 before.

@@ -1,10 +1,13 @@
 ghost use Rattle.std.specs.Prelude.{◌≡◌, ◌≤◌, Ok, None, OnErr, IfOk, IfErr};
 ghost use Rattle.stab_circuit.specs.declared.change.Change.TheVariants.{Insert as inserting, Replace as replacing, Delete as deleting};
+ghost use Rattle.stab_circuit.specs.Steps.{check_within};
+ghost use Rattle.stab_circuit.specs.Views.{circuit_items};
 ghost use Rattle.stab_circuit.specs.Edits.{edited, edit_refusal, verdict, put_item};
 ghost use Rattle.stab_session.specs.Sessions.{IsFaultOf};
 ghost use Rattle.stab_session.specs.SessionEdits.{change_of, place_of};
 ghost use Rattle.stab_session.specs.inner.Pendings.{taken_back, item_back, kept, IsBegun};
 
+use crate::kept::Span;
 use stab_circuit::{Change, Circuit, Edited, Item, Path, Refused};
 use std::alloc::Global;
 
@@ -29,10 +32,29 @@ pub enum Pending {
     Deleted(Path, Item),
 }
 
+/// Which steps an edit changed.
+fn span_of(edited: &Edited) -> Span
+    ensures first { result.first ≡ edited.now.first }
+    ensures old_end { result.old_end ≡ edited.now.old_end }
+    ensures new_end { result.new_end ≡ edited.now.new_end }
+{
+    Span {
+        first: edited.first,
+        old_end: edited.old_end,
+        new_end: edited.new_end,
+    }
+}
+
 /// Makes an edit that can be taken back, where nothing refuses the edited circuit on n qubits. The
 /// circuit then has the runs of the edited one.
-pub fn begin(alloc: Global, circuit: &mut Circuit, n: usize, edit: Edit) -> Result<Pending, Refused>
-    ensures begun { IfOk result (IsBegun n (change_of edit) (place_of edit) circuit.old circuit.new) }
+pub fn begin(
+    alloc: Global,
+    circuit: &mut Circuit,
+    n: usize,
+    edit: Edit,
+) -> Result<(Pending, Span), Refused>
+    requires old_checked { check_within n (circuit_items circuit.old) ≡ None }
+    ensures begun { IfOk result (λ b. IsBegun n (change_of edit) (place_of edit) circuit.old circuit.new b.0 b.1) }
     ensures unchanged { OnErr result (circuit.new ≡ circuit.old) }
     ensures refused { IfErr result (λ r. IsFaultOf (verdict n (edited (change_of edit) (place_of edit) circuit.old)) r.fault) }
     ensures item { IfErr result (λ r. r.item ≡ put_item (change_of edit)) }
@@ -44,21 +66,33 @@ pub fn begin(alloc: Global, circuit: &mut Circuit, n: usize, edit: Edit) -> Resu
     }
 }
 
-fn insert(circuit: &mut Circuit, n: usize, place: Path, item: Item) -> Result<Pending, Refused>
-    ensures begun { IfOk result (IsBegun n (inserting item) place circuit.old circuit.new) }
+fn insert(
+    circuit: &mut Circuit,
+    n: usize,
+    place: Path,
+    item: Item,
+) -> Result<(Pending, Span), Refused>
+    requires old_checked { check_within n (circuit_items circuit.old) ≡ None }
+    ensures begun { IfOk result (λ b. IsBegun n (inserting item) place circuit.old circuit.new b.0 b.1) }
     ensures unchanged { OnErr result (circuit.new ≡ circuit.old) }
     ensures refused { IfErr result (λ r. IsFaultOf (verdict n (edited (inserting item) place circuit.old)) r.fault) }
     ensures item { IfErr result (λ r. r.item ≡ put_item (inserting item)) }
 {
     let _ = circuit.items();
     match circuit.edit(n, place, Change::Insert(item)) {
-        Ok(_) => Ok(Pending::Inserted(place)),
+        Ok(edited) => Ok((Pending::Inserted(place), span_of(&edited))),
         Err(refused) => Err(refused),
     }
 }
 
-fn replace(circuit: &mut Circuit, n: usize, place: Path, item: Item) -> Result<Pending, Refused>
-    ensures begun { IfOk result (IsBegun n (replacing item) place circuit.old circuit.new) }
+fn replace(
+    circuit: &mut Circuit,
+    n: usize,
+    place: Path,
+    item: Item,
+) -> Result<(Pending, Span), Refused>
+    requires old_checked { check_within n (circuit_items circuit.old) ≡ None }
+    ensures begun { IfOk result (λ b. IsBegun n (replacing item) place circuit.old circuit.new b.0 b.1) }
     ensures unchanged { OnErr result (circuit.new ≡ circuit.old) }
     ensures refused { IfErr result (λ r. IsFaultOf (verdict n (edited (replacing item) place circuit.old)) r.fault) }
     ensures item { IfErr result (λ r. r.item ≡ put_item (replacing item)) }
@@ -66,9 +100,10 @@ fn replace(circuit: &mut Circuit, n: usize, place: Path, item: Item) -> Result<P
     let _ = circuit.items();
     match circuit.edit(n, place, Change::Replace(item)) {
         Ok(edited) => {
+            let span = span_of(&edited);
             let Edited { taken, .. } = edited;
             match taken {
-                Some(old) => Ok(Pending::Replaced(place, old)),
+                Some(old) => Ok((Pending::Replaced(place, old), span)),
                 None => unreachable!(),
             }
         }
@@ -76,8 +111,14 @@ fn replace(circuit: &mut Circuit, n: usize, place: Path, item: Item) -> Result<P
     }
 }
 
-fn delete(alloc: Global, circuit: &mut Circuit, n: usize, place: Path) -> Result<Pending, Refused>
-    ensures begun { IfOk result (IsBegun n deleting place circuit.old circuit.new) }
+fn delete(
+    alloc: Global,
+    circuit: &mut Circuit,
+    n: usize,
+    place: Path,
+) -> Result<(Pending, Span), Refused>
+    requires old_checked { check_within n (circuit_items circuit.old) ≡ None }
+    ensures begun { IfOk result (λ b. IsBegun n deleting place circuit.old circuit.new b.0 b.1) }
     ensures unchanged { OnErr result (circuit.new ≡ circuit.old) }
     ensures refused { IfErr result (λ r. IsFaultOf (verdict n (edited deleting place circuit.old)) r.fault) }
     ensures item { IfErr result (λ r. r.item ≡ None) }
@@ -85,9 +126,10 @@ fn delete(alloc: Global, circuit: &mut Circuit, n: usize, place: Path) -> Result
     let _ = circuit.items();
     match circuit.edit(n, place, Change::Replace(Item::tick(alloc))) {
         Ok(edited) => {
+            let span = span_of(&edited);
             let Edited { taken, .. } = edited;
             match taken {
-                Some(old) => Ok(Pending::Deleted(place, old)),
+                Some(old) => Ok((Pending::Deleted(place, old), span)),
                 None => unreachable!(),
             }
         }

@@ -1,4 +1,4 @@
-ghost use Rattle.std.specs.Prelude.{◌≡◌, ℕ, ◌+◌, ◌<◌, ◌≤◌, ◌^◌, Bool, All, length, OnOk, IfOk};
+ghost use Rattle.std.specs.Prelude.{◌≡◌, ℕ, ◌+◌, ◌<◌, ◌≤◌, ◌^◌, Bool, All, length, take, drop, OnOk, IfOk};
 ghost use Rattle.stab_circuit.specs.Steps.{unroll, check_within};
 ghost use Rattle.stab_circuit.specs.Views.{circuit_items};
 ghost use Rattle.stab_session.specs.Records.{ones};
@@ -29,32 +29,46 @@ pub struct Shot {
     pub observables: Vec<bool>,
 }
 
-/// Carries out the steps that a cursor has left, and counts them. The string is for products to be
-/// written into.
+/// Carries out the steps that a cursor has left, up to so many, and counts them. The string is for
+/// products to be written into.
 pub fn run_steps<C: Coins>(
     tableau: &mut Tableau,
     string: &mut Pauli,
     coins: &mut C,
     outputs: &mut Outputs,
     cursor: &mut Cursor,
+    most: usize,
     applied: &mut u64,
 ) -> Result<(), AllocError>
     requires same_length { length string.old.letters ≡ tableau.old.qubits }
     requires fits { All (StepFits tableau.old.qubits) cursor.old.left }
     requires few { applied.old + length cursor.old.left < 2 ^ 63 }
-    ensures counted { OnOk result (applied.new ≡ applied.old + length cursor.old.left) }
+    ensures counted { OnOk result (applied.new ≡ applied.old + length (take most cursor.old.left)) }
     ensures all { cursor.new.all ≡ cursor.old.all }
+    ensures left { OnOk result (cursor.new.left ≡ drop most cursor.old.left) }
     ensures qubits { tableau.new.qubits ≡ tableau.old.qubits }
     ensures string { length string.new.letters ≡ length string.old.letters }
     ensures same_coins { C.sequence coins.new ≡ C.sequence coins.old }
-    ensures asks { C.asks coins.new ≤ C.asks coins.old + all_coins_of cursor.old.left }
+    ensures asks { C.asks coins.new ≤ C.asks coins.old + all_coins_of (take most cursor.old.left) }
     ensures asks_free { OnOk result (C.asks coins.new + ones outputs.old.free.items ≤ C.asks coins.old + ones outputs.new.free.items) }
-    ensures run { OnOk result (IsRun tableau.old.qubits (C.sequence coins.old) cursor.old.left (sight tableau.old (output_of outputs.old)) (sight tableau.new (output_of outputs.new))) }
+    ensures run { OnOk result (IsRun tableau.old.qubits (C.sequence coins.old) (take most cursor.old.left) (sight tableau.old (output_of outputs.old)) (sight tableau.new (output_of outputs.new))) }
 {
-    while let Some(step) = cursor.next() {
-        apply_step(tableau, string, coins, outputs, step, applied)?;
+    let mut left = most;
+    while left > 0 {
+        match cursor.next() {
+            Some(step) => apply_step(tableau, string, coins, outputs, step, applied)?,
+            None => return Ok(()),
+        }
+        left -= 1;
     }
     Ok(())
+}
+
+/// More steps than any circuit has.
+pub fn unbounded() -> usize
+    ensures large { 2 ^ 63 ≤ result }
+{
+    usize::MAX
 }
 
 /// Runs a circuit once on n qubits, at most 1,024, that begin as zeros.

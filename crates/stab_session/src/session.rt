@@ -1,31 +1,26 @@
 mod edits;
 
 use crate::coins::Coins;
-use crate::run::Shot;
-use crate::whole::{Ran, run_circuit};
+use crate::kept::{KeptRun, run_kept};
 pub use edits::Report;
 use stab_circuit::Circuit;
 use stab_pauli::{Fault, Pauli, Refusal};
-use stab_tableau::Tableau;
 use std::alloc::Global;
 use std::marker::Model;
 
 /// A circuit with what its run gives, to be read and edited.
 ///
-/// Contracts see its items, its number of qubits, its stride, its coins, the four lists of bits and
-/// the state of its qubits. Of all of these the statement of `specs/Headline.antt` holds, which each
-/// call that gives or takes a session repeats: they are those of the run of the items from the first
-/// step on.
+/// Contracts see its items, its number of qubits, its stride, its coins, the four lists of bits, the
+/// state of its qubits, and the steps before which it keeps copies of that state. Of all of these the
+/// statement of `specs/Headline.antt` holds, which each call that gives or takes a session repeats:
+/// they are those of the run of the items from the first step on.
 #[derive(Drop)]
 pub struct Session<C: Coins> {
     alloc: Global,
     circuit: Circuit,
     stride: usize,
     coins: C,
-    tableau: Tableau,
-    // A string on the tableau's qubits, for products to be written into.
-    string: Pauli,
-    shot: Shot,
+    kept: KeptRun,
 }
 
 /// What a refused opening hands back: the fault, the circuit as it was, and the coins, which stand
@@ -46,9 +41,9 @@ impl<C: Coins> Model for Session<C> {
 
     ghost coded = { session_code C.code };
 
-    ghost view = { λ s. session_of (circuit_items s.circuit) s.stride s.coins s.tableau s.shot };
+    ghost view = { λ s. session_of (circuit_items s.circuit) s.stride s.coins s.kept };
 
-    ghost invariant = { λ s. IsKept C.sequence (session_of (circuit_items s.circuit) s.stride s.coins s.tableau s.shot) s.string };
+    ghost invariant = { λ s. IsKept C.sequence (session_of (circuit_items s.circuit) s.stride s.coins s.kept) s.kept };
 }
 
 impl<C: Coins> Session<C> {
@@ -66,6 +61,7 @@ impl<C: Coins> Session<C> {
     ghost use Rattle.stab_session.specs.Points.{all_coins_of};
     ghost use Rattle.stab_session.specs.Sessions.{IsFaultOf};
     ghost use Rattle.stab_session.specs.Laws.{IsSoundRun};
+    ghost use Rattle.stab_session.specs.Bounds.{most_checkpoints};
     ghost use Rattle.stab_session.specs.Headline.{IsRunOfItems};
 
     /// Runs a circuit once on n qubits, at most 1,024, and keeps it with what the run gives. The
@@ -90,6 +86,7 @@ impl<C: Coins> Session<C> {
         ensures coins { IfOk result (λ s. C.sequence s.coins ≡ C.sequence coins) }
         ensures asks { IfOk result (λ s. C.asks s.coins ≤ C.asks coins + all_coins_of (unroll (circuit_items circuit))) }
         ensures asks_free { IfOk result (λ s. C.asks s.coins ≤ C.asks coins + ones s.free) }
+        ensures checkpoints { IfOk result (λ s. length s.checkpoints ≤ most_checkpoints s) }
         ensures accepted { OnOk result (check_within n (circuit_items circuit) ≡ None) }
         ensures refused { IfErr result (λ r. IsFaultOf (check_within n (circuit_items circuit)) r.fault) }
         ensures refused_circuit { IfErr result (λ r. r.circuit ≡ circuit) }
@@ -97,23 +94,14 @@ impl<C: Coins> Session<C> {
         ensures refused_asks { IfErr result (λ r. C.asks r.coins ≤ C.asks coins + all_coins_of (unroll (circuit_items circuit))) }
     {
         let mut coins = coins;
-        match run_circuit(alloc, &circuit, n, &mut coins) {
-            Ok(ran) => {
-                let Ran {
-                    tableau,
-                    string,
-                    shot,
-                } = ran;
-                Ok(Session {
-                    alloc,
-                    circuit,
-                    stride,
-                    coins,
-                    tableau,
-                    string,
-                    shot,
-                })
-            }
+        match run_kept(alloc, &circuit, n, stride, &mut coins) {
+            Ok(kept) => Ok(Session {
+                alloc,
+                circuit,
+                stride,
+                coins,
+                kept,
+            }),
             Err(fault) => Err(OpenRefused {
                 fault,
                 circuit,
@@ -127,7 +115,7 @@ impl<C: Coins> Session<C> {
         ensures value { result.now ≡ self.now.records }
         ensures statement { IsRunOfItems C.sequence self.now }
     {
-        self.shot.records.as_slice()
+        self.kept.outputs.records.as_slice()
     }
 
     /// For each coin number, whether the coin decided the outcome.
@@ -135,7 +123,7 @@ impl<C: Coins> Session<C> {
         ensures value { result.now ≡ self.now.free }
         ensures statement { IsRunOfItems C.sequence self.now }
     {
-        self.shot.free.as_slice()
+        self.kept.outputs.free.as_slice()
     }
 
     /// The parity of each detector's records.
@@ -143,7 +131,7 @@ impl<C: Coins> Session<C> {
         ensures value { result.now ≡ self.now.detectors }
         ensures statement { IsRunOfItems C.sequence self.now }
     {
-        self.shot.detectors.as_slice()
+        self.kept.outputs.detectors.as_slice()
     }
 
     /// The parity of each observable's records, in the order of their numbers.
@@ -151,7 +139,7 @@ impl<C: Coins> Session<C> {
         ensures value { result.now ≡ self.now.observables }
         ensures statement { IsRunOfItems C.sequence self.now }
     {
-        self.shot.observables.as_slice()
+        self.kept.observables.as_slice()
     }
 
     /// The circuit as it is now.
@@ -167,7 +155,7 @@ impl<C: Coins> Session<C> {
         ensures value { result ≡ self.now.qubits }
         ensures in_range { result ≤ 1024 }
     {
-        self.tableau.len()
+        self.kept.tableau.len()
     }
 
     /// The sign with which a string stabilises the state after the run, true for -, or `None` where
@@ -181,7 +169,7 @@ impl<C: Coins> Session<C> {
         ensures none { (result ≡ None) ↔ (is_free_by (stabilises self.old.tableau) pauli.now ≡ true) }
         ensures statement { IsRunOfItems C.sequence self.old }
     {
-        self.tableau.sign_of(pauli)
+        self.kept.tableau.sign_of(pauli)
     }
 
     /// The reduced rows of the strings that stabilise the state after the run, in the order of
@@ -196,7 +184,7 @@ impl<C: Coins> Session<C> {
         ensures statement { IsRunOfItems C.sequence self.old }
         ensures err { IfErr result (λ r. r ≡ OutOfMemory) }
     {
-        self.tableau.reduced_rows(alloc)
+        self.kept.tableau.reduced_rows(alloc)
     }
 
     /// A law, and no work: whatever the coins, the trace of the run fits the qubits and is sound.

@@ -12,7 +12,7 @@ ghost use Rattle.stab_session.specs.inner.Shots.{IsShotOf};
 
 use crate::coins::Coins;
 use crate::outputs::{Outputs, observables as summed};
-use crate::run::{Shot, run_steps};
+use crate::run::{Shot, run_steps, unbounded};
 use stab_circuit::{Circuit, Cursor};
 use stab_pauli::{Fault, Pauli, Refusal};
 use stab_tableau::Tableau;
@@ -47,8 +47,17 @@ pub fn run_whole<C: Coins>(
     tableau.reset();
     cursor.restart();
     let mut outputs = Outputs::with_capacity(alloc, records)?;
+    let most = unbounded();
     let mut applied = 0;
-    run_steps(tableau, string, coins, &mut outputs, cursor, &mut applied)?;
+    run_steps(
+        tableau,
+        string,
+        coins,
+        &mut outputs,
+        cursor,
+        most,
+        &mut applied,
+    )?;
     let Outputs {
         records,
         free,
@@ -61,78 +70,5 @@ pub fn run_whole<C: Coins>(
         free,
         detectors,
         observables,
-    })
-}
-
-/// What the run of a circuit leaves: the state of its qubits, a string to work with, and what it
-/// gave.
-#[derive(Drop)]
-pub struct Ran {
-    pub tableau: Tableau,
-    pub string: Pauli,
-    pub shot: Shot,
-}
-
-/// Runs a circuit once on n qubits, at most 1,024, in memory of its own.
-///
-/// Refused as `Circuit::check` refuses, else `OutOfMemory`, always with line 0.
-pub fn run_circuit<C: Coins>(
-    alloc: Global,
-    circuit: &Circuit,
-    n: usize,
-    coins: &mut C,
-) -> Result<Ran, Fault>
-    requires in_range { n ≤ 1024 }
-    ensures run { IfOk result (λ r. IsShotOf n (run_of n (C.sequence coins.old) (circuit_items circuit.now)) (stabilises r.tableau) r.shot) }
-    ensures qubits { IfOk result (λ r. r.tableau.qubits ≡ n) }
-    ensures string { IfOk result (λ r. length r.string.letters ≡ n) }
-    ensures apart { OnOk result (All IsApart (unroll (circuit_items circuit.now))) }
-    ensures refused { Refuses result (check_within n (circuit_items circuit.now)) }
-    ensures same_coins { C.sequence coins.new ≡ C.sequence coins.old }
-    ensures asks { C.asks coins.new ≤ C.asks coins.old + all_coins_of (unroll (circuit_items circuit.now)) }
-    ensures asks_free { IfOk result (λ r. C.asks coins.new ≤ C.asks coins.old + ones r.shot.free.items) }
-{
-    circuit.check(n)?;
-    match run_checked(alloc, circuit, n, coins) {
-        Ok(ran) => Ok(ran),
-        Err(refusal) => Err(Fault::whole(refusal)),
-    }
-}
-
-/// Runs a circuit that was checked.
-#[tactic(auto, using(crate::proofs::ProductLemmas::length_identity))]
-fn run_checked<C: Coins>(
-    alloc: Global,
-    circuit: &Circuit,
-    n: usize,
-    coins: &mut C,
-) -> Result<Ran, Refusal>
-    requires in_range { n ≤ 1024 }
-    requires checked { check_within n (circuit_items circuit.now) ≡ None }
-    ensures run { IfOk result (λ r. IsShotOf n (run_of n (C.sequence coins.old) (circuit_items circuit.now)) (stabilises r.tableau) r.shot) }
-    ensures qubits { IfOk result (λ r. r.tableau.qubits ≡ n) }
-    ensures string { IfOk result (λ r. length r.string.letters ≡ n) }
-    ensures apart { OnOk result (All IsApart (unroll (circuit_items circuit.now))) }
-    ensures same_coins { C.sequence coins.new ≡ C.sequence coins.old }
-    ensures asks { C.asks coins.new ≤ C.asks coins.old + all_coins_of (unroll (circuit_items circuit.now)) }
-    ensures asks_free { IfOk result (λ r. C.asks coins.new ≤ C.asks coins.old + ones r.shot.free.items) }
-    ensures err { IfErr result (λ r. r ≡ OutOfMemory) }
-{
-    let mut tableau = Tableau::new(alloc, n)?;
-    let mut string = Pauli::identity(alloc, n)?;
-    let mut cursor = Cursor::at(alloc, circuit, 0)?;
-    let shot = run_whole(
-        alloc,
-        &mut tableau,
-        &mut string,
-        coins,
-        &mut cursor,
-        circuit.records(),
-        circuit.observables(),
-    )?;
-    Ok(Ran {
-        tableau,
-        string,
-        shot,
     })
 }

@@ -260,7 +260,7 @@ impl Table {
     {
         match self.rows.first_flip(row.place(qubit)) {
             Some(_) => None,
-            None => Some(self.rows.is_negative(row.place(qubit))),
+            None => Some(self.rows.fixed_sign(row.place(qubit))),
         }
     }
 }

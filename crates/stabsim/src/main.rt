@@ -7,8 +7,7 @@
 
 use stab_cli::{Job, Usage, parse_words, run_job, write_fault, write_usage};
 use stab_pauli::{Device, Fault, Input, MemoryInput, Output, Refusal};
-use std::alloc::Global;
-use std::io::{BufWriter, Read, Write};
+use std::io::{BufWriter, Write};
 use std::process::ExitCode;
 use std::rt::Env;
 use std::{env, fs, io};
@@ -40,48 +39,58 @@ fn words<R: Env + AllocGlobal>(rt: &R) -> Result<Vec<String>, Usage> {
     }
 }
 
-/// Runs a job on the file that it reads, or on standard input.
+/// Runs a job on the file that it reads. Where it names none, `edit` begins with the empty circuit,
+/// and any other command reads standard input.
 fn run_opened<E: Output>(rt: &HostRuntime, job: &Job, err: &mut E) -> u8 {
     match &job.in_path {
         Some(path) => match fs::open(rt, path.as_str()) {
-            Ok(file) => run_created(rt, job, file, err),
+            Ok(file) => run_created(rt, job, &mut Device::new(file), err),
             Err(_) => tell_fault(Refusal::ReadFault, err),
         },
-        None => run_created(rt, job, rt.stdin(), err),
+        None if job.reads_script() => run_created(rt, job, &mut MemoryInput::new(&[]), err),
+        None => run_created(rt, job, &mut Device::new(rt.stdin()), err),
     }
 }
 
 /// Runs a job on the file that it writes, or on standard output.
-fn run_created<I: Read + Drop, E: Output>(
-    rt: &HostRuntime,
-    job: &Job,
-    input: I,
-    err: &mut E,
-) -> u8 {
-    let mut input = Device::new(input);
+fn run_created<I: Input, E: Output>(rt: &HostRuntime, job: &Job, input: &mut I, err: &mut E) -> u8 {
     match &job.out_path {
         Some(path) => match fs::create(rt, path.as_str()) {
-            Ok(file) => run_buffered(rt.alloc(), job, &mut input, file, err),
+            Ok(file) => run_written(rt, job, input, file, err),
             Err(_) => tell_fault(Refusal::WriteFault, err),
         },
-        None => run_buffered(rt.alloc(), job, &mut input, rt.stdout(), err),
+        None => run_written(rt, job, input, rt.stdout(), err),
     }
 }
 
-/// Runs a job whose output is gathered into large writes.
-fn run_buffered<I: Input, W: Write + Drop, E: Output>(
-    alloc: Global,
+/// Runs a job: one that reads a script on standard input, each reply written at once, and any other
+/// with its output gathered into large writes.
+fn run_written<I: Input, W: Write + Drop, E: Output>(
+    rt: &HostRuntime,
     job: &Job,
     input: &mut I,
     writer: W,
     err: &mut E,
 ) -> u8 {
+    let alloc = rt.alloc();
+    if job.reads_script() {
+        let mut script = Device::new(rt.stdin());
+        return run_job(
+            alloc,
+            job,
+            input,
+            &mut script,
+            &mut Device::new(writer),
+            err,
+        );
+    }
+    let mut script = MemoryInput::new(&[]);
     match BufWriter::new(alloc, writer) {
         Ok(writer) => run_job(
             alloc,
             job,
             input,
-            &mut MemoryInput::new(&[]),
+            &mut script,
             &mut Device::new(writer),
             err,
         ),

@@ -15,10 +15,10 @@ abbrev pub summed : Result (List OneItem) Refusal → Result Summary Refusal
 summed (Ok ys) = Ok (summary_of (listed ys))
 summed (Err r) = Err r
 
--- a splice with the summary of what is put in, unless it is refused
-abbrev pub judgement_of : Result Splice Refusal → Result Judgement Refusal
-judgement_of (Ok s) = Ok (record { first = s.first; behind = s.behind; put = summary_of (listed s.put) })
-judgement_of (Err r) = Err r
+-- a splice with the summary of what is put in, and with so many steps before the place within the first item, unless it is refused
+abbrev pub judgement_of : ℕ → Result Splice Refusal → Result Judgement Refusal
+judgement_of within (Ok s) = Ok (record { first = s.first; behind = s.behind; put = summary_of (listed s.put); within = within })
+judgement_of within (Err r) = Err r
 
 -- why a number of a path leads into no block
 abbrev pub block_refusal : Option OneItem → Option Refusal

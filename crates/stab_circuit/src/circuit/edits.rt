@@ -7,8 +7,8 @@ ghost use Rattle.stab_circuit.specs.inner.Summaries.{judged};
 use super::Circuit;
 use crate::change::{Change, Edited, Refused};
 use crate::commit::commit;
-use crate::edit::{Span, changed_span, edited_summary, judge, steps_in};
-use crate::item::{Item, items_summary};
+use crate::edit::{Outcome, outcome_in, steps_in};
+use crate::item::Item;
 use crate::path::Path;
 use crate::summary::Summary;
 use stab_pauli::{Fault, Refusal};
@@ -40,16 +40,13 @@ fn refusal_on(total: Summary, n: usize) -> Option<Refusal>
 }
 
 impl Circuit {
-    ghost use Rattle.std.specs.Prelude.{◌≡◌, ◌≤◌, ◌⊎◌, Ok, Some, None, min, length, OnOk, OnErr, IfOk, IfErr, IsOk};
+    ghost use Rattle.std.specs.Prelude.{◌≡◌, ◌≤◌, ◌⊎◌, Ok, Some, None, min, OnOk, OnErr, IfOk, IfErr};
     ghost use Rattle.stab_pauli.specs.Refusals.{whole};
     ghost use Rattle.stab_pauli.specs.declared.refusal.Refusal.TheVariants.{OutOfMemory};
     ghost use Rattle.stab_circuit.specs.declared.change.Change.TheVariants.{Insert as inserting, Replace as replacing, Delete as deleting};
-    ghost use Rattle.stab_circuit.specs.Edits.{edited, edit_refusal, verdict, taken, put_item, first_changed, old_end, new_end, IsInsert};
-    ghost use Rattle.stab_circuit.specs.Items.{listed};
-    ghost use Rattle.stab_circuit.specs.Steps.{unroll};
+    ghost use Rattle.stab_circuit.specs.Edits.{edited, edit_refusal, verdict, taken, put_item, first_changed, IsInsert};
     ghost use Rattle.stab_circuit.specs.Editings.{TellsSteps, IsVerdict, WantsMemory};
-    ghost use Rattle.stab_circuit.specs.inner.Summaries.{IsSummary};
-    ghost use Rattle.stab_circuit.specs.inner.Judgements.{summed};
+    ghost use Rattle.stab_circuit.specs.inner.Outcomes.{IsOutcome};
 
     /// How many steps stand before the place of a path, in the first round of each block around it,
     /// or 1,048,577 where there are more.
@@ -59,47 +56,30 @@ impl Circuit {
         steps_in(self.items.as_slice(), path.blocks(), path.place()) as usize
     }
 
-    /// The summary of what a change at a path leaves.
-    fn judged(&self, path: Path, change: &Change) -> Result<Summary, Refusal>
-        ensures ok { IfOk result (λ total. Ok total ≡ summed (edited change.now path self.now)) }
-        ensures small { IfOk result IsSummary }
-        ensures shallow { IfOk result (λ total. total.depth ≤ 16) }
+    /// What the circuit comes to by a change at a path, where neither the path nor the depth of
+    /// blocks refuses it.
+    fn judged(&self, path: Path, change: &Change) -> Result<Outcome, Refusal>
+        ensures ok { IfOk result (IsOutcome change.now path self.now) }
+        ensures shallow { IfOk result (λ outcome. outcome.total.depth ≤ 16) }
         ensures allowed { OnOk result (edit_refusal (edited change.now path self.now) ≡ None) }
         ensures refused { IfErr result (λ r. edit_refusal (edited change.now path self.now) ≡ Some r) }
     {
-        match edited_summary(self.items.as_slice(), path.blocks(), path.place(), change) {
+        match outcome_in(self.items.as_slice(), path.blocks(), path.place(), change) {
             Err(refusal) => Err(refusal),
-            Ok(total) if total.depth > 16 => Err(Refusal::TooDeep),
-            Ok(total) => Ok(total),
+            Ok(outcome) if outcome.total.depth > 16 => Err(Refusal::TooDeep),
+            Ok(outcome) => Ok(outcome),
         }
     }
 
-    /// Which steps a change at a path would change, where its path leads to a place.
-    fn span(&self, path: Path, change: &Change) -> Span
-        requires leads { IsOk (edited change.now path self.now) }
-        ensures first { result.first ≡ min (first_changed path self.now) 1048577 }
-        ensures within { first_changed path self.now ≤ length (unroll (listed self.now)) }
-        ensures old_end { result.old_end ≡ min (old_end change.now path self.now) 1048577 }
-        ensures new_end { IfOk (edited change.now path self.now) (λ new. result.new_end ≡ min (new_end change.now path new) 1048577) }
-    {
-        match judge(self.items.as_slice(), path.blocks(), path.place(), change) {
-            Err(_) => unreachable!(),
-            Ok(judgement) => {
-                changed_span(
-                    self.items.as_slice(),
-                    path.blocks(),
-                    path.place(),
-                    judgement,
-                )
-            }
-        }
-    }
-
-    /// Makes a change that leaves items of this summary.
-    fn make(&mut self, path: Path, change: Change, total: Summary) -> Result<Option<Item>, Refused>
-        requires judged { Ok total ≡ summed (edited change path self.old) }
-        requires small { IsSummary total }
-        requires shallow { total.depth ≤ 16 }
+    /// Makes a change by which the circuit comes to this.
+    fn make(
+        &mut self,
+        path: Path,
+        change: Change,
+        outcome: Outcome,
+    ) -> Result<Option<Item>, Refused>
+        requires judged { IsOutcome change path self.old outcome }
+        requires shallow { outcome.total.depth ≤ 16 }
         ensures ok { OnOk result (edited change path self.old ≡ Ok self.new) }
         ensures taken { IfOk result (λ old. old ≡ taken change path self.old) }
         ensures unchanged { OnErr result (self.new ≡ self.old) }
@@ -109,7 +89,7 @@ impl Circuit {
     {
         match commit(&mut self.items, path.blocks(), path.place(), change) {
             Ok(taken) => {
-                self.total = items_summary(self.items.as_slice());
+                self.total = outcome.total;
                 Ok(taken)
             }
             Err(change) => Err(refused(change, Refusal::OutOfMemory)),
@@ -126,7 +106,7 @@ impl Circuit {
     {
         match self.judged(path, &change) {
             Err(refusal) => Err(refused(change, refusal)),
-            Ok(total) => self.make(path, change, total),
+            Ok(outcome) => self.make(path, change, outcome),
         }
     }
 
@@ -194,21 +174,20 @@ impl Circuit {
         ensures item { IfErr result (λ r. r.item ≡ put_item change) }
         ensures fault { IfErr result (λ r. IsVerdict (verdict n (edited change path self.old)) r.fault ⊎ WantsMemory change (verdict n (edited change path self.old)) r.fault) }
     {
-        let total = match self.judged(path, &change) {
+        let outcome = match self.judged(path, &change) {
             Err(refusal) => return Err(refused(change, refusal)),
-            Ok(total) => total,
+            Ok(outcome) => outcome,
         };
-        if let Some(refusal) = refusal_on(total, n) {
+        if let Some(refusal) = refusal_on(outcome.total, n) {
             return Err(refused(change, refusal));
         }
-        let span = self.span(path, &change);
-        match self.make(path, change, total) {
+        match self.make(path, change, outcome) {
             Err(refused) => Err(refused),
             Ok(taken) => Ok(Edited {
                 taken,
-                first: span.first as usize,
-                old_end: span.old_end as usize,
-                new_end: span.new_end as usize,
+                first: outcome.first as usize,
+                old_end: outcome.old_end as usize,
+                new_end: outcome.new_end as usize,
             }),
         }
     }

@@ -1,12 +1,12 @@
 //! The commands of the program and their options, as the command line reader is told of them.
 ghost use Rattle.std.specs.Prelude.{IfOk};
 ghost use Rattle.clap.specs.Words.{App};
-ghost use Rattle.stab_cli.specs.Options.{alone, flag, named, numbered, shot_command, stabilisers, stabsim, valued};
+ghost use Rattle.stab_cli.specs.Options.{alone, edit, flag, named, numbered, ranged, shot_command, stabilisers, stabsim, valued};
 ghost use Rattle.stab_cli.specs.inner.Parts.{IsApp, IsOption, with_common};
 
 use clap::builder::ValueParser;
 use clap::{Arg, ArgAction, Command};
-use stab_commands::Shots;
+use stab_commands::{Qubits, Shots, Stride};
 use std::alloc::{AllocError, Global};
 
 /// The names of the result formats.
@@ -22,6 +22,8 @@ const ABOUT_SAMPLE: &str = "Writes the records of each shot of a circuit";
 const ABOUT_DETECT: &str = "Writes the detectors of each shot of a circuit";
 
 const ABOUT_STABILISERS: &str = "Writes the stabilisers of the state that a circuit leaves";
+
+const ABOUT_EDIT: &str = "Edits a circuit by a script, and writes the reply to each line";
 
 const AFTER: &str = "\
 Example, at the top of the repository:
@@ -55,6 +57,16 @@ Rows are reduced: circuits that lead to the same state are written alike. See do
 Refusals, by number and name, are explained in docs/refusals.md, and coins in docs/coins.md.
 ";
 
+const AFTER_EDIT: &str = "\
+The script is read from standard input, and each reply is written before the next line is read.
+Without --in the circuit is empty. The status is 3 where a line of the script was refused.
+
+Example, at the top of the repository:
+  ./stabsim edit --in examples/repetition_code.stim < examples/inserted_x.script
+
+Scripts are explained in docs/editing.md, refusals in docs/refusals.md, and coins in docs/coins.md.
+";
+
 const HELP_SHOTS: &str = "How many shots, from 0 to 1000000";
 
 const HELP_FORMAT: &str = "The result format";
@@ -69,6 +81,11 @@ const HELP_OUT: &str = "Writes to a file in place of standard output";
 
 const HELP_APPEND: &str = "Appends the observables to the detectors";
 
+const HELP_QUBITS: &str =
+    "How many qubits, from 0 to 1024; those that the circuit names if not given";
+
+const HELP_STRIDE: &str = "How many steps lie between two checkpoints, from 1 to 65536";
+
 /// An option `--id` with a value.
 fn valued<'a>(alloc: Global, id: &'a str, value: &'a str, help: &'a str) -> Arg<'a>
     ensures rule { IsOption (valued id.entry.now) result }
@@ -76,13 +93,25 @@ fn valued<'a>(alloc: Global, id: &'a str, value: &'a str, help: &'a str) -> Arg<
     Arg::new(alloc, id).long(id).value_name(value).help(help)
 }
 
-/// An option `--id` with a number from 0 up to a limit.
-fn numbered<'a>(alloc: Global, id: &'a str, most: u64, default: &'a str, help: &'a str) -> Arg<'a>
-    ensures rule { IsOption (numbered id.entry.now most default.entry.now) result }
+/// An option `--id` with a number within these limits.
+fn ranged<'a>(alloc: Global, id: &'a str, least: u64, most: u64, help: &'a str) -> Arg<'a>
+    ensures rule { IsOption (ranged id.entry.now least most) result }
 {
-    valued(alloc, id, "NUMBER", help)
-        .value_parser(ValueParser::unsigned(0, most))
-        .default_value(default)
+    valued(alloc, id, "NUMBER", help).value_parser(ValueParser::unsigned(least, most))
+}
+
+/// The same with a default.
+fn numbered<'a>(
+    alloc: Global,
+    id: &'a str,
+    least: u64,
+    most: u64,
+    default: &'a str,
+    help: &'a str,
+) -> Arg<'a>
+    ensures rule { IsOption (numbered id.entry.now least most default.entry.now) result }
+{
+    ranged(alloc, id, least, most, help).default_value(default)
 }
 
 /// An option `--id` with one of these names.
@@ -115,7 +144,7 @@ fn with_common<'a>(alloc: Global, command: Command<'a>) -> Result<Command<'a>, A
     ensures app { (app : App) → IsApp app command.entry → IfOk result (IsApp (with_common app)) }
 {
     command
-        .arg(numbered(alloc, "seed", u64::MAX, "0", HELP_SEED))?
+        .arg(numbered(alloc, "seed", 0, u64::MAX, "0", HELP_SEED))?
         .arg(valued(alloc, "coins", "TEXT", HELP_COINS))?
         .arg(valued(alloc, "in", "FILE", HELP_IN))?
         .arg(valued(alloc, "out", "FILE", HELP_OUT))
@@ -134,7 +163,7 @@ fn shot_command<'a>(
     let command = Command::new(alloc, name)
         .about(about)
         .after_help(after_help)
-        .arg(numbered(alloc, "shots", Shots::MOST as u64, "1", HELP_SHOTS))?
+        .arg(numbered(alloc, "shots", 0, Shots::MOST as u64, "1", HELP_SHOTS))?
         .arg(named(alloc, "out_format", formats, "01", HELP_FORMAT))?;
     with_common(alloc, command)
 }
@@ -149,6 +178,18 @@ fn stabilisers_command<'a>(alloc: Global) -> Result<Command<'a>, AllocError>
     with_common(alloc, command)
 }
 
+/// The command `edit`.
+fn edit_command<'a>(alloc: Global) -> Result<Command<'a>, AllocError>
+    ensures app { IfOk result (IsApp (alone edit)) }
+{
+    let command = Command::new(alloc, "edit")
+        .about(ABOUT_EDIT)
+        .after_help(AFTER_EDIT)
+        .arg(ranged(alloc, "qubits", 0, Qubits::MOST as u64, HELP_QUBITS))?
+        .arg(numbered(alloc, "stride", 1, Stride::MOST as u64, "8192", HELP_STRIDE))?;
+    with_common(alloc, command)
+}
+
 /// The program with its commands.
 pub(crate) fn app<'a>(alloc: Global, formats: &'a [&'a str]) -> Result<Command<'a>, AllocError>
     ensures app { IfOk result (IsApp (stabsim formats.entry)) }
@@ -157,6 +198,7 @@ pub(crate) fn app<'a>(alloc: Global, formats: &'a [&'a str]) -> Result<Command<'
     let append = flag(alloc, "append_observables", HELP_APPEND);
     let detect = shot_command(alloc, "detect", ABOUT_DETECT, AFTER_DETECT, formats)?.arg(append)?;
     let stabilisers = stabilisers_command(alloc)?;
+    let edit = edit_command(alloc)?;
     Command::new(alloc, "stabsim")
         .version(VERSION)
         .about(ABOUT)
@@ -164,5 +206,6 @@ pub(crate) fn app<'a>(alloc: Global, formats: &'a [&'a str]) -> Result<Command<'
         .subcommand_required(true)
         .subcommand(sample)?
         .subcommand(detect)?
-        .subcommand(stabilisers)
+        .subcommand(stabilisers)?
+        .subcommand(edit)
 }

@@ -1,14 +1,14 @@
 //! What the words say to each option.
 ghost use Rattle.std.specs.Prelude.{◌≡◌, ℕ, Bool, true, List, Option, Some, None, IfOk, IfErr, IfSome, IfNone, option_map, codes, string_bytes};
 ghost use Rattle.clap.specs.Words.{IsUnsignedIn, first_of, found_of, has_subcommand, one_of, rows_of, subcommand_rows_of};
-ghost use Rattle.stab_cli.specs.Asked.{IsCommand, IsJob, IsNamed, IsSet, IsSource, IsWritten, RefusesCoins, coin_character, coin_text};
-ghost use Rattle.stab_cli.specs.Options.{most_seed, most_shots};
+ghost use Rattle.stab_cli.specs.Asked.{IsCommand, IsJob, IsNamed, IsSet, IsSource, IsWritten, IsWrittenIfGiven, RefusesCoins, coin_character, coin_text};
+ghost use Rattle.stab_cli.specs.Options.{most_qubits, most_seed, most_shots, most_stride};
 ghost use Rattle.stab_cli.specs.declared.words.Usage.{Usage};
 ghost use Rattle.stab_cli.specs.inner.Parts.{IsCommandName};
 
 use crate::words::Usage;
 use clap::ArgMatches;
-use stab_commands::{Command, Job, Shots, Source};
+use stab_commands::{Command, Job, Qubits, Shots, Source, Stride};
 use stab_results::Format;
 use std::alloc::{AllocError, Global};
 
@@ -24,7 +24,8 @@ fn text<'a>(options: &ArgMatches<'a>, id: &str) -> Option<&'a str>
 
 /// The number that the words give to an option, or its default.
 fn number(options: &ArgMatches, id: &str) -> Option<u64>
-    ensures number { IfSome result (λ n. IsWritten most_seed (one_of id.now (rows_of (found_of options.now))) n) }
+    ensures number { IfSome result (λ n. IsWritten 0 most_seed (one_of id.now (rows_of (found_of options.now))) n) }
+    ensures absent { one_of id.now (rows_of (found_of options.now)) ≡ None → result ≡ None }
     ensures none { IfNone result (IfSome (one_of id.now (rows_of (found_of options.now))) (λ t. IsUnsignedIn 0 most_seed t → ⊥)) }
 {
     options.get_one(id)
@@ -52,11 +53,33 @@ fn format(options: &ArgMatches) -> Format
 
 /// The number of `--shots`. The command line reader takes no other number.
 fn shots(options: &ArgMatches) -> Shots
-    ensures written { IsWritten most_shots (one_of (codes "shots") (rows_of (found_of options.now))) result }
+    ensures written { IsWritten 0 most_shots (one_of (codes "shots") (rows_of (found_of options.now))) result }
 {
     match number(options, "shots") {
         Some(number) if number <= Shots::MOST as u64 => Shots::new(number as usize),
         _ => Shots::new(1),
+    }
+}
+
+/// The number of `--qubits`, if it is given. The command line reader takes no other number.
+fn qubits(options: &ArgMatches) -> Option<Qubits>
+    ensures written { IsWrittenIfGiven 0 most_qubits (one_of (codes "qubits") (rows_of (found_of options.now))) result }
+{
+    match number(options, "qubits") {
+        Some(number) if number <= Qubits::MOST as u64 => Some(Qubits::new(number as usize)),
+        _ => None,
+    }
+}
+
+/// The number of `--stride`. The command line reader takes no other number.
+fn stride(options: &ArgMatches) -> Stride
+    ensures written { IsWritten 1 most_stride (one_of (codes "stride") (rows_of (found_of options.now))) result }
+{
+    match number(options, "stride") {
+        Some(number) if number >= 1 && number <= Stride::MOST as u64 => {
+            Stride::new(number as usize)
+        }
+        _ => Stride::new(Stride::MOST),
     }
 }
 
@@ -126,7 +149,11 @@ fn command(name: &str, options: &ArgMatches) -> Command
             shots: shots(options),
             append: flag(options, "append_observables"),
         },
-        _ => Command::Stabilisers,
+        "stabilisers" => Command::Stabilisers,
+        _ => Command::Edit {
+            qubits: qubits(options),
+            stride: stride(options),
+        },
     }
 }
 

@@ -7,8 +7,8 @@ ghost use Rattle.stab_pauli.specs.declared.refusal.Refusal.TheVariants.{OutOfMem
 ghost use Rattle.stab_circuit.specs.Views.{circuit_items};
 ghost use Rattle.stab_circuit.specs.Prints.{printed};
 ghost use Rattle.stab_results.specs.Formats.{f01_bytes};
-ghost use Rattle.stab_commands.specs.Jobs.{refused_text};
-ghost use Rattle.stab_commands.specs.Scripts.{rows_text};
+ghost use Rattle.stab_commands.specs.FaultLines.{refused_text};
+ghost use Rattle.stab_commands.specs.Stabilisers.{lines_of};
 ghost use Rattle.stab_commands.specs.inner.Replies.{ReplyBytes, no_reply, reply_output};
 
 use crate::fault_line::write_texts;
@@ -122,7 +122,7 @@ impl Reply {
 
     /// Rows, one a line.
     pub(crate) fn rows(alloc: Global, rows: &[Pauli]) -> Result<Reply, Fault>
-        ensures written { IfOk result (λ r. r.written ≡ rows_text rows.now) }
+        ensures written { IfOk result (λ r. r.written ≡ lines_of rows.now) }
         ensures err { IfErr result (λ f. f ≡ whole OutOfMemory) }
     {
         let mut reply = Reply::new(alloc);

@@ -1,13 +1,16 @@
 -- Rows of blocks: 256 letters to 8 words, four words with their X bits and then four with their Z bits.
 use Rattle.std.specs.List.{All}
 use Rattle.std.specs.Simd.Lanes.{zip2, chunk, put_chunk}
-use Rattle.std.specs.Prelude.{◌≡◌, ℕ, zero, suc, ◌+◌, ◌*◌, ◌-◌, ◌/◌, ◌^◌, ◌≤◌, length, Bool, List, [], ◌∷◌, ◌++◌, take, drop, replicate, slice_index_or, ◌<◌, true, false}
+use Rattle.std.specs.Prelude.{◌≡◌, ℕ, zero, suc, ◌+◌, ◌*◌, ◌-◌, ◌/◌, ◌^◌, ◌≤◌, length, List, [], ◌∷◌, ◌++◌, take, drop, replicate, slice_index_or, ◌<◌, true, false}
 use Rattle.stab_pauli.specs.declared.letter.Letter.{Letter}
 use Rattle.stab_pauli.specs.declared.letter.Letter.TheVariants.{I}
+use Rattle.stab_pauli.specs.declared.turn.Turn.{Turn}
+use Rattle.stab_pauli.specs.Turns.{sign_of_turn}
 use Rattle.stab_pauli.specs.Flips.{flips}
 use Rattle.stab_pauli.specs.Paulis.{Signed}
 use Rattle.stab_pauli.specs.Rows.{Rows}
 use Rattle.stab_pauli.specs.inner.Words.{packed_letters}
+use Rattle.stab_pauli.specs.inner.Powers.{sign_power, IsSign}
 
 -- how many blocks n letters take
 abbrev pub blocks_of : ℕ → ℕ
@@ -43,24 +46,34 @@ pub record IsRow (n m : ℕ) (row : List ℕ) : Type 0 where
   pub size : length row ≡ 8 * m
   pub padded : IsPadded n m (row_letters m row)
 
--- the first n letters, with a sign
-abbrev pub signed_row : ℕ → Bool → List Letter → Signed
-signed_row n negative letters = record { negative = negative; letters = take n letters }
+-- the power of i of the sign of the first n letters, by the one before their bits
+abbrev pub row_sign : ℕ → Turn → List Letter → Turn
+row_sign n power letters = sign_power power (take n letters)
+
+-- words that lie as one row of m blocks, for n letters, with the power of i before their bits, of which a sign is left
+pub record IsSignedRow (n m : ℕ) (power : Turn) (words : List ℕ) : Type 0 where
+  pub row : IsRow n m words
+  pub sign : IsSign (row_sign n power (row_letters m words))
+
+-- the first n letters, with their sign
+abbrev pub signed_row : ℕ → Turn → List Letter → Signed
+signed_row n power letters = record { negative = sign_of_turn (row_sign n power letters); letters = take n letters }
 
 -- the letters of the rows that lie in the words, one after another, each of m blocks
 abbrev pub full_rows : ℕ → List ℕ → ℕ → List (List Letter)
 full_rows m words zero = []
 full_rows m words (suc count) = row_letters m (take (8 * m) words) ∷ full_rows m (drop (8 * m) words) count
 
--- words and signs that lie as rows of m blocks, for n letters each
-pub record IsTable (n m : ℕ) (words : List ℕ) (signs : List Bool) : Type 0 where
+-- words and powers of i that lie as rows of m blocks, for n letters each
+pub record IsTable (n m : ℕ) (words : List ℕ) (powers : List Turn) : Type 0 where
   pub blocks : AreBlocks n m
-  pub size : length words ≡ 8 * m * length signs
-  pub padded : All (IsPadded n m) (full_rows m words (length signs))
+  pub size : length words ≡ 8 * m * length powers
+  pub padded : All (IsPadded n m) (full_rows m words (length powers))
+  pub signs : All IsSign (zip2 (row_sign n) powers (full_rows m words (length powers)))
 
 -- what they stand for
-abbrev pub table : ℕ → ℕ → List ℕ → List Bool → Rows
-table n m words signs = record { qubits = n; rows = zip2 (signed_row n) signs (full_rows m words (length signs)) }
+abbrev pub table : ℕ → ℕ → List ℕ → List Turn → Rows
+table n m words powers = record { qubits = n; rows = zip2 (signed_row n) powers (full_rows m words (length powers)) }
 
 -- the size words from k on are others, of which P holds, and all else is as it was
 pub record IsRewritten (k size : ℕ) (old new : List ℕ) (P : List ℕ → Type 0) : Type 0 where

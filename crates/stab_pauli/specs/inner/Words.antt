@@ -1,11 +1,9 @@
 -- Packed strings: k letters to a pair of words, one word for the X bits and one for the Z bits.
-use Rattle.std.specs.Prelude.{ℕ, zero, suc, ◌/◌, ◌%◌, ◌^◌, ◌<◌, slice_index, Bool, true, false, eqb, bit_xor, List, [], ◌∷◌, ◌++◌}
+use Rattle.std.specs.Prelude.{ℕ, zero, suc, ◌+◌, ◌/◌, ◌%◌, ◌^◌, ◌<◌, slice_index, Bool, true, false, eqb, bit_xor, List, [], ◌∷◌, ◌++◌}
 use Rattle.std.specs.Simd.Lanes.{zip2, chunk, put_chunk}
 use Rattle.stab_pauli.specs.declared.letter.Letter.{Letter}
 use Rattle.stab_pauli.specs.declared.letter.Letter.TheVariants.{I, X, Y, Z}
-use Rattle.stab_pauli.specs.declared.turn.Turn.{Turn}
-use Rattle.stab_pauli.specs.declared.turn.Turn.TheVariants.{Zero, Quarter, Half, ThreeQuarters}
-use Rattle.stab_pauli.specs.Turns.{turn_add}
+use Rattle.stab_pauli.specs.Letters.{◌⊕◌}
 
 -- the lowest bit
 abbrev pub lowest : ℕ → Bool
@@ -29,23 +27,25 @@ packed_letters k [] zs = []
 packed_letters k (x ∷ xs) [] = []
 packed_letters k (x ∷ xs) (z ∷ zs) = word_letters k x z ++ packed_letters k xs zs
 
--- the power of i of two bits, worth 2 and 1
-abbrev pub lane_turn : Bool → Bool → Turn
-lane_turn false false = Zero
-lane_turn false true = Quarter
-lane_turn true false = Half
-lane_turn true true = ThreeQuarters
+-- whether an odd number of the lowest k bits is set
+unfoldable pub word_odd : ℕ → ℕ → Bool
+word_odd zero word = false
+word_odd (suc k) word = lowest word ⊕ word_odd k (word / 2)
 
--- the product of the powers of i in k lanes of a pair of counters
-unfoldable pub lanes_turn : ℕ → ℕ → ℕ → Turn
-lanes_turn zero twos ones = Zero
-lanes_turn (suc k) twos ones = turn_add (lane_turn (lowest twos) (lowest ones)) (lanes_turn k (twos / 2) (ones / 2))
+-- the same of several words
+abbrev pub words_odd : ℕ → List ℕ → Bool
+words_odd k [] = false
+words_odd k (word ∷ words) = word_odd k word ⊕ words_odd k words
 
--- the same of several pairs of counters
-abbrev pub counters_turn : ℕ → List ℕ → List ℕ → Turn
-counters_turn k [] ones = Zero
-counters_turn k (t ∷ twos) [] = Zero
-counters_turn k (t ∷ twos) (o ∷ ones) = turn_add (lanes_turn k t o) (counters_turn k twos ones)
+-- how many of the lowest k bits are set
+unfoldable pub word_ones : ℕ → ℕ → ℕ
+word_ones zero word = 0
+word_ones (suc k) word = word % 2 + word_ones k (word / 2)
+
+-- the same of several words
+abbrev pub words_ones : ℕ → List ℕ → ℕ
+words_ones k [] = 0
+words_ones k (word ∷ words) = word_ones k word + words_ones k words
 
 -- the words of a product
 abbrev pub xor_words : List ℕ → List ℕ → List ℕ

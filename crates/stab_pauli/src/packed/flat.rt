@@ -2,14 +2,12 @@
 
 ghost use Rattle.std.specs.Prelude.{◌≡◌, ◌≢◌, ◌+◌, ◌*◌, ◌<◌, ◌≤◌, ◌⊎◌, ◌↔◌, IsTrue, length, replicate, slice_set};
 ghost use Rattle.std.specs.Simd.Lanes.{chunk, put_chunk};
-ghost use Rattle.stab_pauli.specs.Paulis.{string_turn};
 ghost use Rattle.stab_pauli.specs.inner.Words.{xor_words, swapped_words, AreShort};
+ghost use Rattle.stab_pauli.specs.inner.Powers.{strings_meet};
 ghost use Rattle.stab_pauli.specs.inner.Blocks.{row_letters, IsRewritten};
 
 use crate::letter::Letter;
-use crate::packed::counters::WideCounters;
-use crate::packed::row;
-use crate::turn::Turn;
+use crate::packed::{ones, row};
 use std::simd::u64x4;
 
 /// Where the words of row a of so many rows begin.
@@ -35,15 +33,16 @@ pub(crate) fn row_of(words: &[u64], count: usize, blocks: usize, a: usize) -> &[
     &words[at..at + 8 * blocks]
 }
 
-/// Multiplies row a of so many rows by row b.
+/// Multiplies row a of so many rows by row b, and tells whether its Z bits meet X bits of row b at an odd number of
+/// places, as all products here do.
 #[inline(always)]
-pub(crate) fn multiply(words: &mut [u64], count: usize, blocks: usize, a: usize, b: usize) -> Turn
+pub(crate) fn multiply(words: &mut [u64], count: usize, blocks: usize, a: usize, b: usize) -> bool
     requires all { length words.old ≡ 8 * blocks * count }
     requires a_in_range { a < count }
     requires b_in_range { b < count }
     requires apart { a ≢ b }
     ensures words { words.new ≡ put_chunk (8 * blocks * a) words.old (xor_words (chunk (8 * blocks * a) (8 * blocks) words.old) (chunk (8 * blocks * b) (8 * blocks) words.old)) }
-    ensures turn { result ≡ string_turn (row_letters blocks (chunk (8 * blocks * a) (8 * blocks) words.old)) (row_letters blocks (chunk (8 * blocks * b) (8 * blocks) words.old)) }
+    ensures meet { result ≡ strings_meet (row_letters blocks (chunk (8 * blocks * a) (8 * blocks) words.old)) (row_letters blocks (chunk (8 * blocks * b) (8 * blocks) words.old)) }
 {
     let size = words.len();
     if blocks == 1 {
@@ -58,11 +57,11 @@ pub(crate) fn multiply(words: &mut [u64], count: usize, blocks: usize, a: usize,
 
 /// Multiplies the block at word a by the one at word b. Up to 256 qubits it is the whole row, and takes no loop.
 #[inline(always)]
-fn multiply_block(words: &mut [u64], a: usize, b: usize) -> Turn
+fn multiply_block(words: &mut [u64], a: usize, b: usize) -> bool
     requires a_fits { a + 8 ≤ length words.old }
     requires b_fits { b + 8 ≤ length words.old }
     ensures words { words.new ≡ put_chunk a words.old (xor_words (chunk a 8 words.old) (chunk b 8 words.old)) }
-    ensures turn { result ≡ string_turn (row_letters 1 (chunk a 8 words.old)) (row_letters 1 (chunk b 8 words.old)) }
+    ensures meet { result ≡ strings_meet (row_letters 1 (chunk a 8 words.old)) (row_letters 1 (chunk b 8 words.old)) }
 {
     let x = u64x4::from_slice(&words[a..]);
     let z = u64x4::from_slice(&words[a + 4..]);
@@ -70,18 +69,17 @@ fn multiply_block(words: &mut [u64], a: usize, b: usize) -> Turn
     let other_z = u64x4::from_slice(&words[b + 4..]);
     (x ^ other_x).copy_to_slice(&mut words[a..]);
     (z ^ other_z).copy_to_slice(&mut words[a + 4..]);
-    let counters = WideCounters::new().after(x, z, other_x, other_z);
-    counters.turn()
+    ones::are_odd(z & other_x)
 }
 
 /// Multiplies the row of so many blocks at word a by the one at word b, which it does not overlap.
 #[inline(always)]
-fn multiply_at(words: &mut [u64], blocks: usize, a: usize, b: usize) -> Turn
+fn multiply_at(words: &mut [u64], blocks: usize, a: usize, b: usize) -> bool
     requires a_fits { a + 8 * blocks ≤ length words.old }
     requires b_fits { b + 8 * blocks ≤ length words.old }
     requires apart { (a + 8 * blocks ≤ b) ⊎ (b + 8 * blocks ≤ a) }
     ensures words { words.new ≡ put_chunk a words.old (xor_words (chunk a (8 * blocks) words.old) (chunk b (8 * blocks) words.old)) }
-    ensures turn { result ≡ string_turn (row_letters blocks (chunk a (8 * blocks) words.old)) (row_letters blocks (chunk b (8 * blocks) words.old)) }
+    ensures meet { result ≡ strings_meet (row_letters blocks (chunk a (8 * blocks) words.old)) (row_letters blocks (chunk b (8 * blocks) words.old)) }
 {
     let size = 8 * blocks;
     if a < b {
@@ -101,12 +99,12 @@ pub(crate) fn multiply_by(
     blocks: usize,
     a: usize,
     other: &[u64],
-) -> Turn
+) -> bool
     requires all { length words.old ≡ 8 * blocks * count }
     requires in_range { a < count }
     requires other_length { length other.now ≡ 8 * blocks }
     ensures words { words.new ≡ put_chunk (8 * blocks * a) words.old (xor_words (chunk (8 * blocks * a) (8 * blocks) words.old) other.now) }
-    ensures turn { result ≡ string_turn (row_letters blocks (chunk (8 * blocks * a) (8 * blocks) words.old)) (row_letters blocks other.now) }
+    ensures meet { result ≡ strings_meet (row_letters blocks (chunk (8 * blocks * a) (8 * blocks) words.old)) (row_letters blocks other.now) }
 {
     let at = place_of(words.len(), count, blocks, a);
     row::multiply(blocks, &mut words[at..at + 8 * blocks], other)

@@ -5,12 +5,13 @@ ghost use Rattle.std.specs.Int.{bit_at};
 ghost use Rattle.stab_pauli.specs.declared.letter.Letter.TheVariants.{I};
 ghost use Rattle.stab_pauli.specs.Turns.{turn_add, sign_turn, sign_of_turn};
 ghost use Rattle.stab_pauli.specs.Flips.{flips};
-ghost use Rattle.stab_pauli.specs.Paulis.{string_turn, strings_anticommute};
+ghost use Rattle.stab_pauli.specs.Paulis.{strings_anticommute};
 ghost use Rattle.stab_pauli.specs.inner.Words.{xor_words, letter_of_bits};
+ghost use Rattle.stab_pauli.specs.inner.Powers.{turn_back, letter_power, string_power, strings_meet, sign_power};
 ghost use Rattle.stab_pauli.specs.inner.Blocks.{row_letters, AreBlocks, FlipsNoneBefore, IsFirstFlip};
 
 use crate::letter::Letter;
-use crate::packed::counters::WideCounters;
+use crate::packed::ones;
 use crate::turn::Turn;
 use std::simd::u64x4;
 
@@ -22,34 +23,36 @@ pub(crate) fn blocks_of(n: usize) -> usize
     n / 256 + (n % 256 + 255) / 256
 }
 
-/// The sign of a product by the signs of both and the power of i of their letters.
+/// The power of i before the bits of a product, by those of both and whether Z bits of the first meet X bits of the
+/// second at an odd number of places.
 #[inline(always)]
-pub(crate) fn product_sign(first: bool, second: bool, turn: Turn) -> bool
-    ensures value { result ≡ sign_of_turn (turn_add (turn_add (sign_turn first) (sign_turn second)) turn) }
+pub(crate) fn product_power(first: Turn, second: Turn, meet: bool) -> Turn
+    ensures value { result ≡ turn_add (turn_add first second) (sign_turn meet) }
 {
-    first ^ second ^ turn.sign()
+    first.times(second).times(Turn::of_sign(meet))
 }
 
-/// Makes a row of so many blocks the product of itself and another, and gives its power of i.
+/// Makes a row of so many blocks the product of itself and another, and tells whether its Z bits meet X bits of the
+/// other at an odd number of places.
 #[inline(always)]
-pub(crate) fn multiply(blocks: usize, row: &mut [u64], other: &[u64]) -> Turn
+pub(crate) fn multiply(blocks: usize, row: &mut [u64], other: &[u64]) -> bool
     requires length { length row.old ≡ 8 * blocks }
     requires other_length { length other.now ≡ 8 * blocks }
     ensures words { row.new ≡ xor_words row.old other.now }
-    ensures turn { result ≡ string_turn (row_letters blocks row.old) (row_letters blocks other.now) }
+    ensures meet { result ≡ strings_meet (row_letters blocks row.old) (row_letters blocks other.now) }
 {
-    let mut counters = WideCounters::new();
+    let mut meets = u64x4::splat(0);
     for block in 0..blocks {
         let at = 8 * block;
         let x = u64x4::from_slice(&row[at..]);
         let z = u64x4::from_slice(&row[at + 4..]);
         let other_x = u64x4::from_slice(&other[at..]);
         let other_z = u64x4::from_slice(&other[at + 4..]);
-        counters = counters.after(x, z, other_x, other_z);
+        meets = meets ^ (z & other_x);
         (x ^ other_x).copy_to_slice(&mut row[at..]);
         (z ^ other_z).copy_to_slice(&mut row[at + 4..]);
     }
-    counters.turn()
+    ones::are_odd(meets)
 }
 
 /// Whether two rows of so many blocks anticommute.
@@ -59,16 +62,49 @@ pub(crate) fn anticommute(blocks: usize, row: &[u64], other: &[u64]) -> bool
     requires other_length { length other.now ≡ 8 * blocks }
     ensures value { result ≡ strings_anticommute (row_letters blocks row.now) (row_letters blocks other.now) }
 {
-    let mut counters = WideCounters::new();
+    let mut meets = u64x4::splat(0);
     for block in 0..blocks {
         let at = 8 * block;
         let x = u64x4::from_slice(&row[at..]);
         let z = u64x4::from_slice(&row[at + 4..]);
         let other_x = u64x4::from_slice(&other[at..]);
         let other_z = u64x4::from_slice(&other[at + 4..]);
-        counters = counters.after(x, z, other_x, other_z);
+        meets = (meets ^ (z & other_x)) ^ (x & other_z);
     }
-    !counters.turn().is_even()
+    ones::are_odd(meets)
+}
+
+/// The power of i of the letters of a row of so many blocks before their bits: one for each Y.
+#[inline(always)]
+pub(crate) fn power(blocks: usize, row: &[u64]) -> Turn
+    requires length { length row.now ≡ 8 * blocks }
+    ensures value { result ≡ string_power (row_letters blocks row.now) }
+{
+    let mut count = 0u32;
+    for block in 0..blocks {
+        let at = 8 * block;
+        let x = u64x4::from_slice(&row[at..]);
+        let z = u64x4::from_slice(&row[at + 4..]);
+        count = count.wrapping_add(ones::all_ones(x & z));
+    }
+    Turn::of_count(count)
+}
+
+/// Whether the sign of a row of so many blocks is -, by the power of i before its bits.
+#[inline(always)]
+pub(crate) fn is_negative(blocks: usize, row: &[u64], power_before: Turn) -> bool
+    requires length { length row.now ≡ 8 * blocks }
+    ensures value { result ≡ sign_of_turn (sign_power power_before (row_letters blocks row.now)) }
+{
+    power(blocks, row).inverse().times(power_before).sign()
+}
+
+/// The power of i before the bits of a string when one of its letters has become another and its sign is kept.
+#[inline(always)]
+pub(crate) fn power_with(power_before: Turn, old: Letter, new: Letter) -> Turn
+    ensures value { result ≡ turn_add (turn_back (letter_power old)) (turn_add (letter_power new) power_before) }
+{
+    old.power().inverse().times(new.power().times(power_before))
 }
 
 /// The letter at a place of a row of so many blocks.

@@ -1,30 +1,34 @@
 -- Kept sessions: how the logic stores what contracts see of one, and what it keeps beside the statement.
-use Rattle.std.specs.Prelude.{◌≡◌, ℕ, ◌≤◌, Bool, List, All, None, length, refl}
+use Rattle.std.specs.Prelude.{◌≡◌, ℕ, ◌≤◌, Bool, List, All, None, refl}
 use Rattle.std.specs.Coded.{Coded, code_by, coded×, coded_ℕ, coded_bool, coded_list}
-use Rattle.stab_pauli.specs.Paulis.{Signed}
 use Rattle.stab_tableau.specs.Tableaus.{TableauState}
 use Rattle.stab_tableau.specs.contracts.tableau.Tableau.{the_row}
 use Rattle.stab_circuit.specs.Items.{Items}
-use Rattle.stab_circuit.specs.Steps.{unroll, check_within}
+use Rattle.stab_circuit.specs.Steps.{unroll, observables_of, check_within}
 use Rattle.stab_circuit.specs.Cursors.{IsApart}
-use Rattle.stab_session.specs.declared.run.Shot.{Shot}
+use Rattle.stab_session.specs.declared.kept.KeptRun.{KeptRun}
 use Rattle.stab_session.specs.Sessions.{SessionState}
 use Rattle.stab_session.specs.Headline.{IsRunOfItems}
+use Rattle.stab_session.specs.inner.Checkpoints.{steps_of}
+use Rattle.stab_session.specs.inner.Replays.{IsKeptRun}
 use Rattle.stab_circuit.specs.inner.StoredItems.{items_code}
 
--- the four lists of bits of a session
+-- the four lists of bits of a session, and the steps of its copies
 abbrev pub Lists : Type 0
-Lists = List Bool × (List Bool × (List Bool × List Bool))
+Lists = List Bool × (List Bool × (List Bool × (List Bool × List ℕ)))
 
 abbrev bits_code : Coded (List Bool)
 bits_code = coded_list coded_bool
+
+abbrev lists_code : Coded Lists
+lists_code = coded× bits_code (coded× bits_code (coded× bits_code (coded× bits_code (coded_list coded_ℕ))))
 
 -- it is stored as the tuple of its fields
 abbrev pub session_code : {C : Type 0} → Coded C → Coded (SessionState C)
 session_code {C} coins =
     code_by (Items × (ℕ × (ℕ × (C × (TableauState × Lists)))))
-    (coded× items_code (coded× coded_ℕ (coded× coded_ℕ (coded× coins (coded× the_row.coded (coded× bits_code (coded× bits_code (coded× bits_code bits_code))))))))
-    (λ s. (s.items, (s.qubits, (s.stride, (s.coins, (s.tableau, (s.records, (s.free, (s.detectors, s.observables)))))))))
+    (coded× items_code (coded× coded_ℕ (coded× coded_ℕ (coded× coins (coded× the_row.coded lists_code)))))
+    (λ s. (s.items, (s.qubits, (s.stride, (s.coins, (s.tableau, (s.records, (s.free, (s.detectors, (s.observables, s.checkpoints))))))))))
     (λ p. record {
       items = p.0;
       qubits = p.1.0;
@@ -33,30 +37,34 @@ session_code {C} coins =
       records = p.1.1.1.1.1.0;
       free = p.1.1.1.1.1.1.0;
       detectors = p.1.1.1.1.1.1.1.0;
-      observables = p.1.1.1.1.1.1.1.1;
+      observables = p.1.1.1.1.1.1.1.1.0;
       tableau = p.1.1.1.1.0;
+      checkpoints = p.1.1.1.1.1.1.1.1.1;
     })
     (λ _. refl)
 
 -- what contracts see of a session with these parts
-abbrev pub session_of : {C : Type 0} → Items → ℕ → C → TableauState → Shot → SessionState C
-session_of items stride coins tableau shot = record {
+abbrev pub session_of : {C : Type 0} → Items → ℕ → C → KeptRun → SessionState C
+session_of items stride coins kept = record {
   items = items;
-  qubits = tableau.qubits;
+  qubits = kept.tableau.qubits;
   stride = stride;
   coins = coins;
-  records = shot.records.items;
-  free = shot.free.items;
-  detectors = shot.detectors.items;
-  observables = shot.observables.items;
-  tableau = tableau;
+  records = kept.outputs.records.items;
+  free = kept.outputs.free.items;
+  detectors = kept.outputs.detectors.items;
+  observables = kept.observables.items;
+  tableau = kept.tableau;
+  checkpoints = steps_of kept.checkpoints.items;
 }
 
--- the statement holds of it, nothing refuses its items on its qubits, which are at most 1,024, the qubits of each pair differ, and
--- the string to work with is on the qubits
-pub record IsKept {C : Type 0} (sequence : C → ℕ → Bool) (s : SessionState C) (string : Signed) : Type 0 where
+-- the statement holds of it; what is kept is the run of its items, with copies of the state that are spaced by its stride; nothing
+-- refuses its items on its qubits, which are at most 1,024; the qubits of each pair differ; and the stride is from 1 to 65,536
+pub record IsKept {C : Type 0} (sequence : C → ℕ → Bool) (s : SessionState C) (kept : KeptRun) : Type 0 where
   pub statement : IsRunOfItems sequence s
+  pub run : IsKeptRun s.qubits (sequence s.coins) s.stride (unroll s.items) (observables_of s.items) kept
   pub checked : check_within s.qubits s.items ≡ None
   pub apart : All IsApart (unroll s.items)
   pub few : s.qubits ≤ 1024
-  pub same_length : length string.letters ≡ s.qubits
+  pub stride_above : 1 ≤ s.stride
+  pub stride_within : s.stride ≤ 65536

@@ -4,11 +4,13 @@ use Rattle.stab_pauli.specs.declared.refusal.Refusal.{Refusal}
 use Rattle.stab_circuit.specs.Items.{OneItem, listed}
 use Rattle.stab_circuit.specs.Steps.{unroll, observables_of, check_within}
 use Rattle.stab_circuit.specs.Paths.{Path}
-use Rattle.stab_circuit.specs.Edits.{edited, edit_refusal, verdict, taken, put_item}
+use Rattle.stab_circuit.specs.Edits.{edited, edit_refusal, verdict, taken, put_item, first_changed, old_end, new_end}
 use Rattle.stab_circuit.specs.declared.change.Change.{Change}
 use Rattle.stab_circuit.specs.declared.change.Change.TheVariants.{Replace, Delete}
 use Rattle.stab_session.specs.declared.pending.Pending.{Pending}
 use Rattle.stab_session.specs.declared.pending.Pending.TheVariants.{Inserted, Replaced, Deleted}
+use Rattle.stab_session.specs.declared.kept.Span.{Span}
+use Rattle.stab_session.specs.inner.Replays.{IsSpan}
 
 -- the items after the edit is taken back
 abbrev pub taken_back : Pending → List OneItem → Result (List OneItem) Refusal
@@ -33,9 +35,17 @@ pub record HaveSameRuns (xs ys : List OneItem) : Type 0 where
   pub steps : unroll (listed xs) ≡ unroll (listed ys)
   pub observables : observables_of (listed xs) ≡ observables_of (listed ys)
 
+-- the span is where the steps that there are now differ from the old ones, and ends where the edit ends in the old items and in the
+-- new ones
+pub record IsSpanOf (change : Change) (path : Path) (old now new : List OneItem) (s : Span) : Type 0 where
+  pub span : IsSpan (unroll (listed old)) (unroll (listed now)) s
+  pub first : s.first ≡ first_changed path old
+  pub old_end : s.old_end ≡ old_end change path old
+  pub new_end : s.new_end ≡ new_end change path new
+
 -- an edit that nothing refuses on n qubits was begun: it leads back to the old items, with what it put in, and ahead to the new
 -- ones, which have the same runs as those that there are now
-pub record IsBegun (n : ℕ) (change : Change) (path : Path) (old now : List OneItem) (p : Pending) : Type 0 where
+pub record IsBegun (n : ℕ) (change : Change) (path : Path) (old now : List OneItem) (p : Pending) (s : Span) : Type 0 where
   pub new : List OneItem
   pub edited : edited change path old ≡ Ok new
   pub accepted : verdict n (Ok new) ≡ None
@@ -46,3 +56,4 @@ pub record IsBegun (n : ℕ) (change : Change) (path : Path) (old now : List One
   pub item : item_back p now ≡ put_item change
   pub same_runs : HaveSameRuns now new
   pub checked : check_within n (listed now) ≡ None
+  pub span : IsSpanOf change path old now new s

@@ -1,8 +1,8 @@
 use super::Session;
 use crate::coins::Coins;
 use crate::pending::{Edit, begin, finish, take_back};
-use crate::whole::{Ran, run_circuit};
 use stab_circuit::Refused;
+use stab_pauli::Fault;
 
 /// What an edit cost: the steps that were carried out for it, and the copies of the state that are
 /// kept afterwards.
@@ -13,11 +13,12 @@ pub struct Report {
 }
 
 impl<C: Coins> Session<C> {
-    ghost use Rattle.std.specs.Prelude.{◌≡◌, ◌+◌, ◌≤◌, IfOk, IfErr, OnOk, OnErr};
+    ghost use Rattle.std.specs.Prelude.{◌≡◌, ◌+◌, ◌≤◌, length, IfOk, IfErr, OnOk, OnErr};
     ghost use Rattle.stab_circuit.specs.Items.{entries};
     ghost use Rattle.stab_circuit.specs.Edits.{put_item};
     ghost use Rattle.stab_session.specs.Sessions.{IsFaultOf};
     ghost use Rattle.stab_session.specs.SessionEdits.{change_of, verdict_on, IsEditedBy, IsAsBefore};
+    ghost use Rattle.stab_session.specs.Bounds.{steps_from_change, steps_near_change, most_checkpoints, AgreeBehind};
     ghost use Rattle.stab_session.specs.Headline.{IsRunOfItems};
 
     /// Edits the circuit, and keeps what the edited one's run gives.
@@ -32,30 +33,33 @@ impl<C: Coins> Session<C> {
         ensures unchanged { OnErr result (IsAsBefore C.sequence self.old self.new) }
         ensures refused { IfErr result (λ r. IsFaultOf (verdict_on self.old.qubits edit (entries self.old.items)) r.fault) }
         ensures item { IfErr result (λ r. r.item ≡ put_item (change_of edit)) }
+        ensures applied { IfOk result (λ r. r.applied ≤ steps_from_change edit self.old self.new) }
+        ensures early { IfOk result (λ r. AgreeBehind C.sequence edit self.old self.new → r.applied ≤ steps_near_change edit self.new) }
+        ensures asks { IfOk result (λ r. C.asks self.new.coins ≤ C.asks self.old.coins + r.applied) }
+        ensures checkpoints { IfOk result (λ r. r.checkpoints ≡ length self.new.checkpoints) }
+        ensures few_checkpoints { OnOk result (length self.new.checkpoints ≤ most_checkpoints self.new) }
     {
-        let n = self.tableau.len();
-        let pending = match begin(self.alloc, &mut self.circuit, n, edit) {
-            Ok(pending) => pending,
+        let n = self.kept.tableau.len();
+        let (pending, span) = match begin(self.alloc, &mut self.circuit, n, edit) {
+            Ok(begun) => begun,
             Err(refused) => return Err(refused),
         };
-        match run_circuit(self.alloc, &self.circuit, n, &mut self.coins) {
-            Ok(ran) => {
+        match self.kept.follow(
+            self.alloc,
+            &self.circuit,
+            span,
+            self.stride,
+            &mut self.coins,
+        ) {
+            Ok(applied) => {
                 finish(&mut self.circuit, pending);
-                let Ran {
-                    tableau,
-                    string,
-                    shot,
-                } = ran;
-                self.tableau = tableau;
-                self.string = string;
-                self.shot = shot;
                 Ok(Report {
-                    applied: self.circuit.steps(),
-                    checkpoints: 0,
+                    applied: applied as usize,
+                    checkpoints: self.kept.checkpoints.len(),
                 })
             }
-            Err(fault) => Err(Refused {
-                fault,
+            Err(refusal) => Err(Refused {
+                fault: Fault::whole(refusal),
                 item: take_back(&mut self.circuit, pending),
             }),
         }

@@ -1,31 +1,68 @@
-use Rattle.std.proofs.Common.{◌≡◌, ◌∙◌, ap, Ok, ◌+◌, arith}
+use Rattle.std.proofs.Common.{◌≡◌, ◌∙◌, ap, Ok, ◌+◌, min, length, arith}
 use Rattle.std.proofs.lemmas.Option.{slice_get_within}
 use Rattle.stab_circuit.specs.Items.{repeat, listed}
 use Rattle.stab_circuit.specs.inner.Summaries.{repeated}
-use Rattle.stab_circuit.proofs.JudgementLemmas.{judged_err, judged_ok, summed_around}
+use Rattle.stab_circuit.specs.inner.Outcomes.{steps_within}
+use Rattle.stab_circuit.proofs.JudgementLemmas.{judged_err, judged_ok, judged_apart, begins_at, begins_block, gone_block, put_block}
+use Rattle.stab_circuit.proofs.OutcomeLemmas.{on_ok, outcome_is}
 use Rattle.stab_circuit.proofs.edit.+judging.Goals as goal
 
-pub edited_summary-returns-in-Ok-clause-value : goal.edited_summary-returns-in-Ok-clause-value
-edited_summary-returns-in-Ok-clause-value t c =
-    summed_around c.args.change.now c.args.blocks.now c.args.place c.args.items.now _ _ c.in-Ok.judgement c.around.result c.in-Ok.ensures.value c.in-Ok.ensures.small c.split_at.ensures.front c.split_at-in-Ok.ensures.back
-    c.around.ensures.far c.around.ensures.value
+pub judge-returns-in-None-clause-front : goal.judge-returns-in-None-clause-front
+judge-returns-in-None-clause-front t c = on_ok c.judge_at.result (begins_at c.args.place c.args.blocks.now c.args.items.now c.in-None.ensures.cases)
 
-pub judge-returns-in-Err-edited_summary-clause-value : goal.judge-returns-in-Err-edited_summary-clause-value
-judge-returns-in-Err-edited_summary-clause-value t c =
+pub judge-returns-in-Err-outcome_in-clause-value : goal.judge-returns-in-Err-outcome_in-clause-value
+judge-returns-in-Err-outcome_in-clause-value t c =
     let found = c.in-Ok.ensures.value in
-    judged_err c.args.change.now c.in-Some.block.now c.args.place c.in-Ok.inner.count c.in-Some.others.now c.args.blocks.now found.0 c.args.items.now c.in-Ok.inner.body.now c.in-Err-edited_summary.refusal c.in-Some.ensures.cases.0 found.1
-    c.in-Err-edited_summary.ensures.value
+    judged_err c.args.change.now c.in-Some.block.now c.args.place c.in-Ok.inner.count (min (length (steps_within c.args.blocks.now c.args.place c.args.items.now)) 1048577) c.in-Some.others.now c.args.blocks.now found.0 c.args.items.now
+    c.in-Ok.inner.body.now c.in-Err-outcome_in.refusal c.in-Some.ensures.cases.0 found.1 c.in-Err-outcome_in.ensures.refused
 
-pub judge-returns-in-Ok-edited_summary-clause-value : goal.judge-returns-in-Ok-edited_summary-clause-value
-judge-returns-in-Ok-edited_summary-clause-value t c =
+pub judge-returns-in-Ok-outcome_in-clause-value : goal.judge-returns-in-Ok-outcome_in-clause-value
+judge-returns-in-Ok-outcome_in-clause-value t c =
     let found = c.in-Ok.ensures.value in
     let count : c.number.result ≡ c.in-Ok.inner.count = c.number.ensures.value in
     let b = c.in-Some.block.now in
-    ap (λ s. Ok (record { first = b; behind = b + 1; put = s })) (c.repeated.ensures.value ∙ ap (λ n. repeated n c.in-Ok-edited_summary.round) count)
-    ∙ judged_ok c.args.change.now b c.args.place c.in-Ok.inner.count c.in-Some.others.now c.args.blocks.now found.0 c.args.items.now c.in-Ok.inner.body.now c.in-Ok-edited_summary.round c.in-Some.ensures.cases.0 found.1 (rw count at c.number.ensures.some)
-    c.in-Ok-edited_summary.ensures.value
+    let round = c.in-Ok-outcome_in.round in
+    let is = c.in-Ok-outcome_in.ensures.ok in
+    ap (λ s. Ok (record { first = b; behind = b + 1; put = s; within = round.first })) (c.repeated.ensures.value ∙ ap (λ n. repeated n round.total) count)
+    ∙ judged_ok c.args.change.now b c.args.place c.in-Ok.inner.count round.first c.in-Some.others.now c.args.blocks.now found.0 c.args.items.now c.in-Ok.inner.body.now round.total c.in-Some.ensures.cases.0 found.1
+    (rw count at c.number.ensures.some) is.total is.first
 
-pub judge-returns-in-Ok-edited_summary-clause-within : goal.judge-returns-in-Ok-edited_summary-clause-within
-judge-returns-in-Ok-edited_summary-clause-within t c =
+pub judge-returns-in-Ok-outcome_in-clause-within : goal.judge-returns-in-Ok-outcome_in-clause-within
+judge-returns-in-Ok-outcome_in-clause-within t c =
     let found = c.in-Ok.ensures.value in
-    (omega arith, omega (arith, slice_get_within c.args.items.now c.in-Some.block.now (repeat c.in-Ok.inner.count found.0 (listed c.in-Ok.inner.body.now)) found.1))
+    (omega arith, omega (arith, slice_get_within c.args.items.now c.in-Some.block.now (repeat c.in-Ok.inner.count found.0 (listed c.in-Ok.inner.body.now)) found.1), omega (arith, c.in-Ok-outcome_in.ensures.ok.first))
+
+pub judge-returns-in-Ok-outcome_in-clause-front : goal.judge-returns-in-Ok-outcome_in-clause-front
+judge-returns-in-Ok-outcome_in-clause-front t c =
+    let found = c.in-Ok.ensures.value in
+    let count : c.number.result ≡ c.in-Ok.inner.count = c.number.ensures.value in
+    begins_block c.in-Some.block.now c.args.place c.in-Ok.inner.count c.in-Some.others.now c.args.blocks.now found.0 c.args.items.now c.in-Ok.inner.body.now c.in-Some.ensures.cases.0 found.1 (rw count at c.number.ensures.some)
+    c.in-Ok-outcome_in.ensures.ok.front
+
+pub judge-returns-in-Ok-outcome_in-clause-apart : goal.judge-returns-in-Ok-outcome_in-clause-apart
+judge-returns-in-Ok-outcome_in-clause-apart t c =
+    let found = c.in-Ok.ensures.value in
+    judged_apart c.args.change.now c.in-Some.block.now c.args.place c.in-Ok.inner.count c.in-Some.others.now c.args.blocks.now found.0 c.args.items.now c.in-Ok.inner.body.now c.in-Some.ensures.cases.0 found.1
+    c.in-Ok-outcome_in.ensures.ok.apart
+
+pub judge-returns-in-Ok-outcome_in-clause-within_put : goal.judge-returns-in-Ok-outcome_in-clause-within_put
+judge-returns-in-Ok-outcome_in-clause-within_put t c =
+    let count : c.number.result ≡ c.in-Ok.inner.count = c.number.ensures.value in
+    let round = c.in-Ok-outcome_in.round in
+    let is = c.in-Ok-outcome_in.ensures.ok in
+    let long = put_block c.number.result round.total.steps round.first c.number.ensures.some is.order (omega (arith, is.first)) in
+    omega (arith, long, ap (λ s. s.steps) c.repeated.ensures.value)
+
+pub judge-returns-in-Ok-outcome_in-clause-within_gone : goal.judge-returns-in-Ok-outcome_in-clause-within_gone
+judge-returns-in-Ok-outcome_in-clause-within_gone t c =
+    let found = c.in-Ok.ensures.value in
+    let count : c.number.result ≡ c.in-Ok.inner.count = c.number.ensures.value in
+    gone_block c.in-Some.block.now c.args.place c.in-Ok.inner.count c.in-Ok-outcome_in.round.first c.in-Some.others.now found.0 c.args.items.now c.in-Ok.inner.body.now found.1 (rw count at c.number.ensures.some)
+    c.in-Ok-outcome_in.ensures.ok.front c.in-Ok-outcome_in.ensures.ok.first
+
+pub outcome_in-returns-in-Ok-clause-ok : goal.outcome_in-returns-in-Ok-clause-ok
+outcome_in-returns-in-Ok-clause-ok t c =
+    let j = c.in-Ok.ensures in
+    outcome_is c.args.change.now c.args.blocks.now c.args.place c.args.items.now _ _ _ _ c.in-Ok.judgement c.items_summary.result c.items_summary-in-Ok.result c.items_summary-in-Ok-2.result c.outcome_of.result j.value j.small j.front j.apart
+    c.split_at.ensures.front c.split_at.ensures.back c.split_at-in-Ok.ensures.front c.split_at-in-Ok.ensures.back c.items_summary.ensures.value c.items_summary-in-Ok.ensures.value c.items_summary-in-Ok-2.ensures.value
+    c.items_summary-in-Ok-2.ensures.small j.within_put j.within_gone c.items_summary.ensures.apart c.items_summary-in-Ok-2.ensures.apart c.outcome_of.ensures.value c.outcome_of.ensures.small

@@ -4,5 +4,5 @@ use Rattle.stab_circuit.proofs.edit.+judging.Given as goal
 abbrev pub decreases-judge : goal.decreases-judge
 decreases-judge l = 2 * length l.blocks.now
 
-abbrev pub decreases-edited_summary : goal.decreases-edited_summary
-decreases-edited_summary l = 2 * length l.blocks.now + 1
+abbrev pub decreases-outcome_in : goal.decreases-outcome_in
+decreases-outcome_in l = 2 * length l.blocks.now + 1

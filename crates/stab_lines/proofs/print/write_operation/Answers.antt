@@ -7,12 +7,12 @@ use Rattle.stab_lines.proofs.print.write_operation.Goals as goal
 pub returns-in_err-write_name : goal.returns-in_err-write_name
 returns-in_err-write_name g c =
     let p = err_from_is_err_and c.from_residual.result c.from_residual.ensures.1 in
-    record { writes = writes_failed (arguments_text (kind_arguments c.args.operation.now.kind) ++ targets_text c.args.operation.now.kind) p.1 p.2 c.in_err-write_name.ensures.writes }
+    record { writes = writes_failed (arguments_text (kind_arguments c.args.kind.now) ++ targets_text c.args.kind.now) p.1 p.2 c.in_err-write_name.ensures.writes }
 
 pub returns-in_err-write_arguments : goal.returns-in_err-write_arguments
 returns-in_err-write_arguments g c =
     let p = err_from_is_err_and c.from_residual-in_err-write_arguments.result c.from_residual-in_err-write_arguments.ensures.1 in
-    record { writes = writes_then _ _ _ c.in_ok-write_name.ensures.writes (writes_failed (targets_text c.args.operation.now.kind) p.1 p.2 c.in_err-write_arguments.ensures.writes) }
+    record { writes = writes_then _ _ _ c.in_ok-write_name.ensures.writes (writes_failed (targets_text c.args.kind.now) p.1 p.2 c.in_err-write_arguments.ensures.writes) }
 
 pub returns : goal.returns
 returns g c = record { writes = writes_then _ _ _ c.in_ok-write_name.ensures.writes (writes_then _ _ _ c.in_ok-write_arguments.ensures.writes c.write_targets.ensures.writes) }

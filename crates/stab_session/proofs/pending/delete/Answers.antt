@@ -14,7 +14,7 @@ unreachable-requires c =
 pub returns-in-Some-clause-begun : goal.returns-in-Some-clause-begun
 returns-in-Some-clause-begun c =
     let e = c.in-Ok.ensures {u = tt} in
-    begun-delete c.args.n c.args.place c.args.circuit.now c.edit.new.self c.items.ensures.shallow c.tick.result c.in-Some.old c.tick.ensures.nothing e.ok e.allowed
+    begun-delete c.args.n c.args.place c.args.circuit.now c.edit.new.self c.items.ensures.shallow c.requires.old_checked c.in-Ok.edited c.span_of-span.result c.span_of-span.ensures.first c.span_of-span.ensures.old_end c.span_of-span.ensures.new_end c.tick.result c.in-Some.old c.tick.ensures.nothing e.ok e.allowed e.steps
     (sym e.taken ∙ c.in-Some.is)
 
 pub returns-in-Err-clause-refused : goal.returns-in-Err-clause-refused

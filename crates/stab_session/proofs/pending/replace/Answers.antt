@@ -11,5 +11,5 @@ unreachable-requires c =
 pub returns-in-Some-clause-begun : goal.returns-in-Some-clause-begun
 returns-in-Some-clause-begun c =
     let e = c.in-Ok.ensures {u = tt} in
-    begun-replace c.args.n c.args.place c.args.circuit.now c.edit.new.self c.items.ensures.shallow c.args.item c.in-Some.old e.ok e.allowed
+    begun-replace c.args.n c.args.place c.args.circuit.now c.edit.new.self c.items.ensures.shallow c.requires.old_checked c.in-Ok.edited c.span_of-span.result c.span_of-span.ensures.first c.span_of-span.ensures.old_end c.span_of-span.ensures.new_end c.args.item c.in-Some.old e.ok e.allowed e.steps
     (sym e.taken ∙ c.in-Some.is)

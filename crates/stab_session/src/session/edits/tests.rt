@@ -1,4 +1,8 @@
-use crate::{Edit, ListCoins, Session};
+ghost use Rattle.std.specs.Prelude.{◌≡◌, ℕ, Bool, false};
+ghost use Rattle.stab_session.specs.Coins.{one_more};
+
+use super::Report;
+use crate::{Coins, Edit, ListCoins, Session};
 use stab_circuit::{Item, Path, read_circuit, read_item};
 use stab_pauli::{Fault, MemoryInput, Refusal};
 use std::alloc::Global;
@@ -113,5 +117,99 @@ fn a_refused_edit_changes_nothing(rt: HostRuntime) -> Result<(), Fail> {
         )?;
         assert_eq!(rt; refusal, Some((wanted, item)), "{text}");
     }
+    Ok(())
+}
+
+/// Coins that are all 0, and count how often they are asked for.
+#[derive(Drop)]
+struct CountedCoins {
+    asks: u64,
+}
+
+impl Coins for CountedCoins {
+    ghost sequence = { λ c t. false };
+
+    ghost asks = { λ c. c.asks };
+
+    fn coin(&mut self, _: u64) -> bool {
+        self.asks = self.asks.saturating_add(1);
+        false
+    }
+}
+
+/// A session on one qubit that keeps copies at most 10 steps apart.
+fn counted(alloc: Global, text: &str) -> Result<Session<CountedCoins>, Fault> {
+    let circuit = read_circuit(alloc, &mut MemoryInput::new(text.as_bytes()))?;
+    match Session::open(alloc, circuit, 1, 10, CountedCoins { asks: 0 }) {
+        Ok(session) => Ok(session),
+        Err(refused) => Err(refused.fault),
+    }
+}
+
+/// Puts `I 0` in at a place, and tells what that cost.
+fn put(alloc: Global, session: &mut Session<CountedCoins>, place: Path) -> Result<Report, Fault> {
+    let item = item(alloc, "I 0")?;
+    match session.apply(Edit::Insert { place, item }) {
+        Ok(report) => Ok(report),
+        Err(refused) => Err(refused.fault),
+    }
+}
+
+/// A place in the outermost list, or in a block of it.
+fn path(block: Option<usize>, place: usize) -> Path {
+    match block {
+        Some(block) => Path::new(&[block, place]),
+        None => Path::new(&[place]),
+    }
+}
+
+/// What it costs to put `I 0` in.
+fn cost(alloc: Global, text: &str, place: Path) -> Result<Report, Fault> {
+    let mut session = counted(alloc, text)?;
+    put(alloc, &mut session, place)
+}
+
+#[test]
+fn an_edit_costs_what_it_changes(rt: HostRuntime) -> Result<(), Fail> {
+    const ROWS: &[(&str, Option<usize>, usize, usize, usize)] = &[
+        ("REPEAT 100 {\nX 0\n}", None, 1, 11, 22),
+        ("X 0\nREPEAT 1000 {\nX 0\n}", None, 0, 21, 202),
+        (
+            "REPEAT 10 {\nX 0\nX 0\n}\nREPEAT 1000 {\nX 0\n}",
+            Some(0),
+            1,
+            50,
+            208,
+        ),
+    ];
+    for (text, block, place, applied, checkpoints) in ROWS {
+        let report = cost(rt.alloc(), text, path(*block, *place))?;
+        assert!(rt;
+            report.applied <= *applied,
+            "{} steps, {text}",
+            report.applied
+        );
+        assert!(rt;
+            report.checkpoints <= *checkpoints,
+            "{} copies, {text}",
+            report.checkpoints
+        );
+    }
+    Ok(())
+}
+
+/// How many coins a session asks for, and how many once `I 0` was put in first.
+fn asks(alloc: Global, text: &str) -> Result<(u64, u64), Fault> {
+    let mut session = counted(alloc, text)?;
+    let opened = session.coins.asks;
+    put(alloc, &mut session, path(None, 0))?;
+    Ok((opened, session.coins.asks))
+}
+
+#[test]
+fn an_edit_asks_for_the_coins_of_what_it_carries_out(rt: HostRuntime) -> Result<(), Fail> {
+    let (opened, edited) = asks(rt.alloc(), "REPEAT 1000 {\nMX 0\nM 0\n}")?;
+    assert_eq!(rt; opened, 2000);
+    assert!(rt; edited <= 2021, "{edited} coins");
     Ok(())
 }

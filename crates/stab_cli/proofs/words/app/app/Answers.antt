@@ -11,4 +11,5 @@ returns c =
     let none : IsApp bare c.subcommand_required.result = search rules in
     let first = with_command _ c.in_ok-subcommand.field-0 c.in_ok-sample.sample _ _ c.in_ok-subcommand.ensures c.in_ok-sample.ensures.app none in
     let second = with_command _ c.in_ok-subcommand-2.field-0 c.in_ok-detect.detect _ _ c.in_ok-subcommand-2.ensures detect first in
-    record { app = IfOk-weaker c.subcommand-3.result _ _ (λ command adds. with_command _ command c.in_ok-stabilisers.stabilisers _ _ adds c.in_ok-stabilisers.ensures.app second) c.subcommand-3.ensures }
+    let third = with_command _ c.in_ok-subcommand-3.field-0 c.in_ok-stabilisers.stabilisers _ _ c.in_ok-subcommand-3.ensures c.in_ok-stabilisers.ensures.app second in
+    record { app = IfOk-weaker c.subcommand-4.result _ _ (λ command adds. with_command _ command c.in_ok-edit.edit _ _ adds c.in_ok-edit.ensures.app third) c.subcommand-4.ensures }

@@ -1,6 +1,6 @@
 use Rattle.std.proofs.Common.{◌≡◌, ◌∙◌, ◌*◌, ap, sym}
 use Rattle.std.specs.Simd.Lanes.{chunk, put_chunk}
-use Rattle.stab_pauli.specs.Paulis.{string_turn}
+use Rattle.stab_pauli.specs.inner.Powers.{strings_meet}
 use Rattle.stab_pauli.specs.inner.Words.{xor_words}
 use Rattle.stab_pauli.specs.inner.Blocks.{row_letters}
 use Rattle.stab_pauli.proofs.TableLemmas.{rows_apart}
@@ -9,13 +9,13 @@ use Rattle.stab_pauli.proofs.packed.flat.multiply.Goals as goal
 pub multiply_at-requires-clause-apart : goal.multiply_at-requires-clause-apart
 multiply_at-requires-clause-apart c = rw (c.place_of-first-2.ensures.value, c.place_of-second-2.ensures.value) (rows_apart c.args.blocks c.args.a c.args.b c.requires.apart)
 
-pub returns-then-blocks-eq1-clause-turn : goal.returns-then-blocks-eq1-clause-turn
-returns-then-blocks-eq1-clause-turn c =
+pub returns-then-blocks-eq1-clause-meet : goal.returns-then-blocks-eq1-clause-meet
+returns-then-blocks-eq1-clause-meet c =
     let one : 1 ≡ c.args.blocks = sym c.if-blocks-eq1.true in
     let first : c.place_of-first.result ≡ 8 * c.args.blocks * c.args.a = c.place_of-first.ensures.value ∙ ap (λ m. 8 * m * c.args.a) one in
     let second : c.place_of-second.result ≡ 8 * c.args.blocks * c.args.b = c.place_of-second.ensures.value ∙ ap (λ m. 8 * m * c.args.b) one in
-    c.multiply_block.ensures.turn
-    ∙ (λ i. string_turn (row_letters (one i) (chunk (first i) (8 * one i) c.args.words.now)) (row_letters (one i) (chunk (second i) (8 * one i) c.args.words.now)))
+    c.multiply_block.ensures.meet
+    ∙ (λ i. strings_meet (row_letters (one i) (chunk (first i) (8 * one i) c.args.words.now)) (row_letters (one i) (chunk (second i) (8 * one i) c.args.words.now)))
 
 pub returns-then-blocks-eq1-clause-words : goal.returns-then-blocks-eq1-clause-words
 returns-then-blocks-eq1-clause-words c =

@@ -1,11 +1,9 @@
 use Rattle.std.proofs.Common.{arith, refl, ◌∙◌}
-use Rattle.stab_pauli.proofs.BlockLemmas.{product-halves, block-turn}
+use Rattle.stab_pauli.proofs.BlockLemmas.{product-halves, block-meet}
 use Rattle.stab_pauli.proofs.packed.flat.multiply_block.Goals as goal
 
 pub returns : goal.returns
 returns c = record {
   words = product-halves c.args.a c.args.b 4 c.args.words.now (omega arith) (omega arith);
-  turn = c.turn.ensures.value
-      ∙ block-turn c.args.a c.args.b c.args.words.now _ _ _ _ _ _ c.requires.a_fits c.requires.b_fits refl refl refl refl
-      c.new.ensures.value c.after-counters.ensures.value;
+  meet = c.are_odd.ensures.value ∙ block-meet c.args.a c.args.b c.args.words.now _ _ _ _ c.requires.a_fits c.requires.b_fits refl refl refl refl;
 }

@@ -1,6 +1,7 @@
-use Rattle.stab_pauli.specs.inner.Words.{counters_turn}
-use Rattle.stab_pauli.proofs.RowLemmas.{IsRowTurnBefore}
+use Rattle.stab_pauli.specs.Turns.{sign_turn}
+use Rattle.stab_pauli.specs.inner.Words.{words_odd}
+use Rattle.stab_pauli.proofs.RowLemmas.{IsTurnBefore, order_turn}
 use Rattle.stab_pauli.proofs.packed.row.anticommute.Given as goal
 
 abbrev pub invariant-loop-block : goal.invariant-loop-block
-invariant-loop-block l = IsRowTurnBefore l.blocks l.row l.other l.block (counters_turn 64 l.counters.twos l.counters.ones)
+invariant-loop-block l = IsTurnBefore order_turn l.blocks l.row l.other l.block (sign_turn (words_odd 64 l.meets))

@@ -1,6 +1,9 @@
-use Rattle.std.proofs.Common.{arith, ◌≡◌, ◌∙◌, sym, refl, length, ◌+◌, ◌*◌}
+use Rattle.std.proofs.Common.{arith, ◌≡◌, ◌∙◌, sym, refl, ap, length, ◌+◌, ◌*◌}
+use Rattle.stab_pauli.proofs.TurnLemmas.{sign_turn-injective}
+use Rattle.stab_pauli.specs.Turns.{sign_turn}
+use Rattle.stab_pauli.proofs.PackedLemmas.{meet_turn-step}
 use Rattle.stab_pauli.proofs.XorLemmas.{IsXorBefore-all, IsXorBefore-ahead_of}
-use Rattle.stab_pauli.proofs.RowLemmas.{IsXorBefore-two, IsRowTurnBefore-more}
+use Rattle.stab_pauli.proofs.RowLemmas.{IsXorBefore-two, AddsUp-meet, IsTurnBefore-more, IsTurnBefore-all}
 use Rattle.stab_pauli.proofs.packed.row.multiply.Goals as goal
 
 pub loop-block-preserved : goal.loop-block-preserved
@@ -9,11 +12,15 @@ loop-block-preserved c =
     let same : length c.args.row.now ≡ length c.args.other.now = c.requires.length ∙ sym c.requires.other_length in
     rw e record {
       words = IsXorBefore-two _ _ _ _ same (omega arith) c.loop-block.invariant.words;
-      turn = IsRowTurnBefore-more _ _ _ _ _ _ _ _ _ _ c.requires.length c.requires.other_length c.loop-block-test.true
+      meets = IsTurnBefore-more AddsUp-meet _ _ _ _ _ _ _ _ _ _ c.requires.length c.requires.other_length c.loop-block-test.true
           (IsXorBefore-ahead_of _ _ _ _ 4 _ (omega arith) (omega arith) c.loop-block.invariant.words)
           (IsXorBefore-ahead_of _ _ _ _ 4 _ (omega arith) (omega arith) c.loop-block.invariant.words) refl refl
-          c.after-counters.ensures.value c.loop-block.invariant.turn;
+          (meet_turn-step 64 4 c.loop-block.meets _ _ _ _ (omega arith)) c.loop-block.invariant.meets;
     }
 
 pub returns-clause-words : goal.returns-clause-words
 returns-clause-words c = IsXorBefore-all _ _ _ _ (c.requires.length ∙ sym c.requires.other_length) (omega arith) c.loop-block.invariant.words
+
+pub returns-clause-meet : goal.returns-clause-meet
+returns-clause-meet c =
+    sign_turn-injective _ _ (ap sign_turn c.are_odd.ensures.value ∙ IsTurnBefore-all AddsUp-meet _ _ _ _ _ c.loop-block-test.false c.loop-block.invariant.meets)

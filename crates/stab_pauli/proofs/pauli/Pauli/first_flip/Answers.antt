@@ -3,24 +3,24 @@ use Rattle.std.specs.List.{list_any}
 use Rattle.std.proofs.lemmas.Option.{IfSome_then}
 use Rattle.stab_pauli.specs.Flips.{flips}
 use Rattle.stab_pauli.specs.inner.Blocks.{row_letters, FlipsNoneBefore, IsFirstFlip}
-use Rattle.stab_pauli.proofs.PaddedLemmas.{IsView, length-view, letters_of}
+use Rattle.stab_pauli.proofs.PaddedLemmas.{view_of, length-view}
 use Rattle.stab_pauli.proofs.FlipLemmas.{none_here, none_in_row, found_in_row, any_none}
 use Rattle.stab_pauli.proofs.pauli.Pauli.first_flip.Goals as goal
 
 pub first_flip-requires-clause-few : goal.first_flip-requires-clause-few
-first_flip-requires-clause-few c = c.self.invariant.blocks.few
+first_flip-requires-clause-few c = c.self.invariant.row.blocks.few
 
 pub returns : goal.returns
 returns c =
-    let mine : IsView c.self.inside.qubits c.self.inside.blocks c.self.inside.words.items c.self.inside.negative c.args.self.now = record { row = c.self.invariant; is = c.self.view_is } in
+    let mine = view_of c.self.invariant c.self.view_is in
     let l = length-view mine in
-    let e = letters_of mine in
+    let e = mine.letters in
     let found = λ (k : ℕ) (f : IsFirstFlip (256 * c.self.inside.blocks) (row_letters c.self.inside.blocks c.as_slice.result.now) k).
     subst (λ p. IsFirstFlip c.self.inside.qubits p k) e
-    (found_in_row c.self.inside.qubits c.self.inside.blocks c.self.inside.words.items k c.self.invariant (subst (λ w. IsFirstFlip (256 * c.self.inside.blocks) (row_letters c.self.inside.blocks w) k) c.as_slice.ensures.value f)) in
+    (found_in_row c.self.inside.qubits c.self.inside.blocks c.self.inside.words.items k c.self.invariant.row (subst (λ w. IsFirstFlip (256 * c.self.inside.blocks) (row_letters c.self.inside.blocks w) k) c.as_slice.ensures.value f)) in
     record {
       none = none_here c.first_flip.result c.first_flip.ensures.none
-          (λ h. ap (list_any flips) (sym e) ∙ none_in_row c.self.inside.qubits c.self.inside.blocks c.self.inside.words.items c.self.invariant
+          (λ h. ap (list_any flips) (sym e) ∙ none_in_row c.self.inside.qubits c.self.inside.blocks c.self.inside.words.items c.self.invariant.row
           (subst (λ w. FlipsNoneBefore (256 * c.self.inside.blocks) (row_letters c.self.inside.blocks w)) c.as_slice.ensures.value h));
       in_range = IfSome_then c.first_flip.result c.first_flip.ensures.some (λ k f. rw l (found k f).in_range);
       flips = IfSome_then c.first_flip.result c.first_flip.ensures.some (λ k f. (found k f).flips_here);

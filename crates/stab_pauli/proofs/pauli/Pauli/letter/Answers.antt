@@ -2,22 +2,22 @@ use Rattle.std.proofs.Common.{arith, ◌<◌, get_or, sym, ◌∙◌, ap}
 use Rattle.std.proofs.lemmas.List.{get_or-take}
 use Rattle.stab_pauli.specs.declared.letter.Letter.TheVariants.{I}
 use Rattle.stab_pauli.specs.inner.Blocks.{row_letters}
-use Rattle.stab_pauli.proofs.PaddedLemmas.{IsView, length-view, place_in_row, letters_of}
+use Rattle.stab_pauli.proofs.PaddedLemmas.{view_of, length-view, place_in_row}
 use Rattle.stab_pauli.proofs.pauli.Pauli.letter.Goals as goal
 
 pub letter-requires-clause-in_range : goal.letter-requires-clause-in_range
 letter-requires-clause-in_range c =
-    let mine : IsView c.self.inside.qubits c.self.inside.blocks c.self.inside.words.items c.self.inside.negative c.args.self.now = record { row = c.self.invariant; is = c.self.view_is } in
+    let mine = view_of c.self.invariant c.self.view_is in
     place_in_row mine c.args.qubit c.requires.in_range
 
 pub returns : goal.returns
 returns c =
-    let mine : IsView c.self.inside.qubits c.self.inside.blocks c.self.inside.words.items c.self.inside.negative c.args.self.now = record { row = c.self.invariant; is = c.self.view_is } in
+    let mine = view_of c.self.invariant c.self.view_is in
     let l = length-view mine in
     let lt : c.args.qubit < c.self.inside.qubits = omega arith in
     record {
       value =
           c.letter.ensures.value ∙ ap (λ w. get_or (row_letters c.self.inside.blocks w) c.args.qubit I) c.as_slice.ensures.value
           ∙ sym (get_or-take c.self.inside.qubits (row_letters c.self.inside.blocks c.self.inside.words.items) c.args.qubit I lt)
-          ∙ ap (λ p. get_or p c.args.qubit I) (letters_of mine);
+          ∙ ap (λ p. get_or p c.args.qubit I) (mine.letters);
     }

@@ -1,17 +1,19 @@
-use Rattle.std.proofs.Common.{◌≡◌, ◌∙◌, ap}
-use Rattle.stab_pauli.specs.Paulis.{Signed}
-use Rattle.stab_pauli.specs.Turns.{turn_add, sign_turn, sign_of_turn}
+use Rattle.std.proofs.Common.{length, ◌∙◌, ap}
+use Rattle.stab_pauli.proofs.PaddedLemmas.{view_of, lies_of, is_of, alike}
+use Rattle.stab_pauli.proofs.RowProductLemmas.{product_of}
 use Rattle.stab_pauli.proofs.pauli.Pauli.multiply.Goals as goal
+
+pub multiply-meet-requires-clause-other_length : goal.multiply-meet-requires-clause-other_length
+multiply-meet-requires-clause-other_length c = ap length c.as_slice.ensures.value ∙ (alike (view_of c.self.invariant c.self.view_is) (view_of c.other.invariant c.other.view_is) c.requires.same_length).view.row.size
+
+pub invariant_of-self : goal.invariant_of-self
+invariant_of-self c =
+    let view = product_of (view_of c.self.invariant c.self.view_is) (view_of c.other.invariant c.other.view_is) c.requires.same_length c.requires.commuting c.multiply-meet.new.row c.self.inside.words.len c.product_power-self-inside.result c.multiply-meet.result
+    c.as_mut_slice-words.ensures.value c.as_slice.ensures.value (record { words_are = c.multiply-meet.ensures.words; meet_is = c.multiply-meet.ensures.meet }) c.product_power-self-inside.ensures.value c.self.inside.words.ok.0 in
+    lies_of view
 
 pub returns : goal.returns
 returns c =
-    let mine : c.self.inside.negative ≡ c.args.self.now.negative = ap (λ (p : Signed). p.negative) c.self.view_is ∙ ap (λ (p : Signed). p.negative) c.multiply_strings-turn.ensures.letters in
-    let theirs : c.other.inside.negative ≡ c.args.other.now.negative = ap (λ (p : Signed). p.negative) c.other.view_is in
-    record {
-      value = λ i. record {
-        negative =
-            (c.product_sign-self-inside.ensures.value
-            ∙ (λ j. sign_of_turn (turn_add (turn_add (sign_turn (mine j)) (sign_turn (theirs j))) (c.multiply_strings-turn.ensures.turn j)))) i;
-        letters = (ap (λ (p : Signed). p.letters) c.self.view_is ∙ ap (λ (p : Signed). p.letters) c.multiply_strings-turn.ensures.letters) i;
-      };
-    }
+    let view = product_of (view_of c.self.invariant c.self.view_is) (view_of c.other.invariant c.other.view_is) c.requires.same_length c.requires.commuting c.multiply-meet.new.row c.self.inside.words.len c.product_power-self-inside.result c.multiply-meet.result
+    c.as_mut_slice-words.ensures.value c.as_slice.ensures.value (record { words_are = c.multiply-meet.ensures.words; meet_is = c.multiply-meet.ensures.meet }) c.product_power-self-inside.ensures.value c.self.inside.words.ok.0 in
+    record { value = is_of view }

@@ -1,40 +1,33 @@
-use Rattle.std.proofs.Common.{arith, ◌≡◌, ◌*◌, subst, refl, false, replicate, ℕ, List}
+use Rattle.std.proofs.Common.{arith, ◌≡◌, ◌*◌, subst, refl, replicate, ℕ, List}
 use Rattle.std.specs.Simd.Lanes.{put_chunk}
+use Rattle.stab_pauli.specs.declared.turn.Turn.TheVariants.{Zero}
 use Rattle.stab_pauli.specs.Paulis.{identity}
 use Rattle.stab_pauli.proofs.PaddedLemmas.{IsView}
-use Rattle.stab_pauli.proofs.SeenLemmas.{IsSeen, qubits_seen, in_seen, put_seen, written_seen, blank_view}
+use Rattle.stab_pauli.proofs.SeenLemmas.{counted_seen, seen_of, qubits_seen, in_seen, put_seen, written_seen, blank_view}
 use Rattle.stab_pauli.proofs.rows.PauliRows.clear.Goals as goal
 
 pub clear-requires-clause-in_range : goal.clear-requires-clause-in_range
-clear-requires-clause-in_range c =
-    let mine : IsSeen c.self.inside.qubits c.self.inside.blocks c.self.inside.words.items c.self.inside.signs.items c.args.self.now = record { lies = c.self.invariant; is = c.self.view_is } in
-    let lt = in_seen mine c.args.a c.requires.in_range in
-    let k = c.self.inside.signs.ok.0 in
-    omega arith
+clear-requires-clause-in_range c = counted_seen (seen_of c.self.invariant c.self.view_is) c.args.a c.len-count.result c.requires.in_range (omega (arith, c.self.inside.powers.ok.0))
 
 pub index_mut-requires : goal.index_mut-requires
-index_mut-requires c =
-    let mine : IsSeen c.self.inside.qubits c.self.inside.blocks c.self.inside.words.items c.self.inside.signs.items c.args.self.now = record { lies = c.self.invariant; is = c.self.view_is } in
-    let lt = in_seen mine c.args.a c.requires.in_range in
-    let k = c.self.inside.signs.ok.0 in
-    omega arith
+index_mut-requires c = counted_seen (seen_of c.self.invariant c.self.view_is) c.args.a c.self.inside.powers.len c.requires.in_range c.self.inside.powers.ok.0
 
 pub invariant_of-self : goal.invariant_of-self
 invariant_of-self c =
-    let mine : IsSeen c.self.inside.qubits c.self.inside.blocks c.self.inside.words.items c.self.inside.signs.items c.args.self.now = record { lies = c.self.invariant; is = c.self.view_is } in
+    let mine = seen_of c.self.invariant c.self.view_is in
     let la = in_seen mine c.args.a c.requires.in_range in
     let words = subst (λ (w : List ℕ). c.clear.new.words ≡ put_chunk (8 * c.self.inside.blocks * c.args.a) w (replicate (8 * c.self.inside.blocks) 0)) c.as_mut_slice.ensures.value c.clear.ensures.words in
-    let blank : IsView c.self.inside.qubits c.self.inside.blocks (replicate (8 * c.self.inside.blocks) 0) false (identity c.args.self.now.qubits) =
-    subst (λ n. IsView c.self.inside.qubits c.self.inside.blocks (replicate (8 * c.self.inside.blocks) 0) false (identity n)) (qubits_seen mine) (blank_view c.self.inside.qubits c.self.inside.blocks (replicate (8 * c.self.inside.blocks) 0) c.self.invariant.blocks refl) in
+    let blank : IsView c.self.inside.qubits c.self.inside.blocks (replicate (8 * c.self.inside.blocks) 0) Zero (identity c.args.self.now.qubits) =
+    subst (λ n. IsView c.self.inside.qubits c.self.inside.blocks (replicate (8 * c.self.inside.blocks) 0) Zero (identity n)) (qubits_seen mine) (blank_view c.self.inside.qubits c.self.inside.blocks (replicate (8 * c.self.inside.blocks) 0) c.self.invariant.blocks refl) in
     let seen = written_seen c.self.inside.words.items c.clear.new.words (replicate (8 * c.self.inside.blocks) 0) (8 * c.self.inside.blocks * c.args.a) c.self.inside.words.len words c.self.inside.words.ok.0 (put_seen mine c.args.a la blank) in
     seen.lies
 
 pub returns : goal.returns
 returns c =
-    let mine : IsSeen c.self.inside.qubits c.self.inside.blocks c.self.inside.words.items c.self.inside.signs.items c.args.self.now = record { lies = c.self.invariant; is = c.self.view_is } in
+    let mine = seen_of c.self.invariant c.self.view_is in
     let la = in_seen mine c.args.a c.requires.in_range in
     let words = subst (λ (w : List ℕ). c.clear.new.words ≡ put_chunk (8 * c.self.inside.blocks * c.args.a) w (replicate (8 * c.self.inside.blocks) 0)) c.as_mut_slice.ensures.value c.clear.ensures.words in
-    let blank : IsView c.self.inside.qubits c.self.inside.blocks (replicate (8 * c.self.inside.blocks) 0) false (identity c.args.self.now.qubits) =
-    subst (λ n. IsView c.self.inside.qubits c.self.inside.blocks (replicate (8 * c.self.inside.blocks) 0) false (identity n)) (qubits_seen mine) (blank_view c.self.inside.qubits c.self.inside.blocks (replicate (8 * c.self.inside.blocks) 0) c.self.invariant.blocks refl) in
+    let blank : IsView c.self.inside.qubits c.self.inside.blocks (replicate (8 * c.self.inside.blocks) 0) Zero (identity c.args.self.now.qubits) =
+    subst (λ n. IsView c.self.inside.qubits c.self.inside.blocks (replicate (8 * c.self.inside.blocks) 0) Zero (identity n)) (qubits_seen mine) (blank_view c.self.inside.qubits c.self.inside.blocks (replicate (8 * c.self.inside.blocks) 0) c.self.invariant.blocks refl) in
     let seen = written_seen c.self.inside.words.items c.clear.new.words (replicate (8 * c.self.inside.blocks) 0) (8 * c.self.inside.blocks * c.args.a) c.self.inside.words.len words c.self.inside.words.ok.0 (put_seen mine c.args.a la blank) in
     record { value = seen.is }

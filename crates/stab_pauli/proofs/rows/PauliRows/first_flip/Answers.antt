@@ -6,29 +6,25 @@ use Rattle.stab_pauli.specs.Flips.{flips}
 use Rattle.stab_pauli.specs.Rows.{row_at}
 use Rattle.stab_pauli.specs.inner.Blocks.{row_letters, FlipsNoneBefore, IsFirstFlip}
 use Rattle.stab_pauli.proofs.FlipLemmas.{none_here, none_in_row, found_in_row, any_none}
-use Rattle.stab_pauli.proofs.PaddedLemmas.{length-view, letters_of}
-use Rattle.stab_pauli.proofs.SeenLemmas.{IsSeen, qubits_seen, in_seen, row_seen}
+use Rattle.stab_pauli.proofs.PaddedLemmas.{length-view}
+use Rattle.stab_pauli.proofs.SeenLemmas.{counted_seen, seen_of, qubits_seen, in_seen, row_seen}
 use Rattle.stab_pauli.proofs.rows.PauliRows.first_flip.Goals as goal
 
 pub row_of-words-requires-clause-in_range : goal.row_of-words-requires-clause-in_range
-row_of-words-requires-clause-in_range c =
-    let mine : IsSeen c.self.inside.qubits c.self.inside.blocks c.self.inside.words.items c.self.inside.signs.items c.args.self.now = record { lies = c.self.invariant; is = c.self.view_is } in
-    let lt = in_seen mine c.args.a c.requires.in_range in
-    let k = c.self.inside.signs.ok.0 in
-    omega arith
+row_of-words-requires-clause-in_range c = counted_seen (seen_of c.self.invariant c.self.view_is) c.args.a c.len.result c.requires.in_range (omega (arith, c.self.inside.powers.ok.0))
 
 pub first_flip-requires-clause-few : goal.first_flip-requires-clause-few
 first_flip-requires-clause-few c = c.self.invariant.blocks.few
 
 pub returns : goal.returns
 returns c =
-    let mine : IsSeen c.self.inside.qubits c.self.inside.blocks c.self.inside.words.items c.self.inside.signs.items c.args.self.now = record { lies = c.self.invariant; is = c.self.view_is } in
+    let mine = seen_of c.self.invariant c.self.view_is in
     let la = in_seen mine c.args.a c.requires.in_range in
     let row = row_seen mine c.args.a la in
     let read : c.row_of-words.result.now ≡ (chunk (8 * c.self.inside.blocks * c.args.a) (8 * c.self.inside.blocks) c.self.inside.words.items) = c.row_of-words.ensures.value ∙ ap (λ w. (chunk (8 * c.self.inside.blocks * c.args.a) (8 * c.self.inside.blocks) w)) c.as_slice.ensures.value in
     let l = length-view row in
     let n = qubits_seen mine in
-    let e = letters_of row in
+    let e = row.letters in
     let found = λ (k : ℕ) (f : IsFirstFlip (256 * c.self.inside.blocks) (row_letters c.self.inside.blocks c.row_of-words.result.now) k).
     subst (λ p. IsFirstFlip c.self.inside.qubits p k) e
     (found_in_row c.self.inside.qubits c.self.inside.blocks (chunk (8 * c.self.inside.blocks * c.args.a) (8 * c.self.inside.blocks) c.self.inside.words.items) k row.row (subst (λ w. IsFirstFlip (256 * c.self.inside.blocks) (row_letters c.self.inside.blocks w) k) read f)) in

@@ -1,48 +1,33 @@
 use Rattle.std.proofs.Common.{arith, ◌*◌, ap, ℕ, List}
 use Rattle.std.specs.Simd.Lanes.{chunk}
-use Rattle.stab_pauli.proofs.SeenLemmas.{seen_of, in_seen, row_seen, read_sign}
+use Rattle.stab_pauli.proofs.SeenLemmas.{read_power, counted_seen, seen_of, in_seen, row_seen}
 use Rattle.stab_pauli.proofs.RowProductLemmas.{product_seen}
 use Rattle.stab_pauli.proofs.rows.PauliRows.multiply.Goals as goal
 
-pub multiply-turn-requires-clause-a_in_range : goal.multiply-turn-requires-clause-a_in_range
-multiply-turn-requires-clause-a_in_range c =
-    let lt = in_seen (seen_of c.self.invariant c.self.view_is) c.args.a c.requires.a_in_range in
-    let k = c.self.inside.signs.ok.0 in
-    omega arith
+pub multiply-meet-requires-clause-a_in_range : goal.multiply-meet-requires-clause-a_in_range
+multiply-meet-requires-clause-a_in_range c = counted_seen (seen_of c.self.invariant c.self.view_is) c.args.a c.len-count.result c.requires.a_in_range (omega (arith, c.self.inside.powers.ok.0))
 
-pub multiply-turn-requires-clause-b_in_range : goal.multiply-turn-requires-clause-b_in_range
-multiply-turn-requires-clause-b_in_range c =
-    let lt = in_seen (seen_of c.self.invariant c.self.view_is) c.args.b c.requires.b_in_range in
-    let k = c.self.inside.signs.ok.0 in
-    omega arith
+pub multiply-meet-requires-clause-b_in_range : goal.multiply-meet-requires-clause-b_in_range
+multiply-meet-requires-clause-b_in_range c = counted_seen (seen_of c.self.invariant c.self.view_is) c.args.b c.len-count.result c.requires.b_in_range (omega (arith, c.self.inside.powers.ok.0))
 
 pub index-requires : goal.index-requires
-index-requires c =
-    let lt = in_seen (seen_of c.self.invariant c.self.view_is) c.args.a c.requires.a_in_range in
-    let k = c.self.inside.signs.ok.0 in
-    omega arith
+index-requires c = counted_seen (seen_of c.self.invariant c.self.view_is) c.args.a c.self.inside.powers.len c.requires.a_in_range c.self.inside.powers.ok.0
 
 pub index-requires-2 : goal.index-requires-2
-index-requires-2 c =
-    let lt = in_seen (seen_of c.self.invariant c.self.view_is) c.args.b c.requires.b_in_range in
-    let k = c.self.inside.signs.ok.0 in
-    omega arith
+index-requires-2 c = counted_seen (seen_of c.self.invariant c.self.view_is) c.args.b c.self.inside.powers.len c.requires.b_in_range c.self.inside.powers.ok.0
 
 pub index_mut-requires : goal.index_mut-requires
-index_mut-requires c =
-    let lt = in_seen (seen_of c.self.invariant c.self.view_is) c.args.a c.requires.a_in_range in
-    let k = c.self.inside.signs.ok.0 in
-    omega arith
+index_mut-requires c = counted_seen (seen_of c.self.invariant c.self.view_is) c.args.a c.self.inside.powers.len c.requires.a_in_range c.self.inside.powers.ok.0
 
 pub invariant_of-self : goal.invariant_of-self
 invariant_of-self c =
     let mine = seen_of c.self.invariant c.self.view_is in
     let la = in_seen mine c.args.a c.requires.a_in_range in
     let lb = in_seen mine c.args.b c.requires.b_in_range in
-    let sign = read_sign c.self.inside.signs.items c.args.b c.index-2.result.now lb c.index-2.ensures in
+    let power = read_power c.self.inside.powers.items c.args.b c.index-2.result.now lb c.index-2.ensures in
     let row = ap (λ (w : List ℕ). chunk (8 * c.self.inside.blocks * c.args.b) (8 * c.self.inside.blocks) w) c.as_mut_slice.ensures.value in
-    let seen = product_seen mine (row_seen mine c.args.b lb) c.args.a la c.multiply-turn.new.words c.self.inside.words.len c.index.result.now c.index-2.result.now c.product_sign.result c.multiply-turn.result c.as_mut_slice.ensures.value row
-    (record { words_are = c.multiply-turn.ensures.words; turn_is = c.multiply-turn.ensures.turn }) c.index.ensures sign c.product_sign.ensures.value c.self.inside.words.ok.0 in
+    let seen = product_seen mine (row_seen mine c.args.b lb) c.args.a la c.requires.commuting c.multiply-meet.new.words c.self.inside.words.len c.index.result.now c.index-2.result.now c.product_power.result c.multiply-meet.result c.as_mut_slice.ensures.value row
+    (record { words_are = c.multiply-meet.ensures.words; meet_is = c.multiply-meet.ensures.meet }) c.index.ensures power c.product_power.ensures.value c.self.inside.words.ok.0 in
     seen.lies
 
 pub returns : goal.returns
@@ -50,8 +35,8 @@ returns c =
     let mine = seen_of c.self.invariant c.self.view_is in
     let la = in_seen mine c.args.a c.requires.a_in_range in
     let lb = in_seen mine c.args.b c.requires.b_in_range in
-    let sign = read_sign c.self.inside.signs.items c.args.b c.index-2.result.now lb c.index-2.ensures in
+    let power = read_power c.self.inside.powers.items c.args.b c.index-2.result.now lb c.index-2.ensures in
     let row = ap (λ (w : List ℕ). chunk (8 * c.self.inside.blocks * c.args.b) (8 * c.self.inside.blocks) w) c.as_mut_slice.ensures.value in
-    let seen = product_seen mine (row_seen mine c.args.b lb) c.args.a la c.multiply-turn.new.words c.self.inside.words.len c.index.result.now c.index-2.result.now c.product_sign.result c.multiply-turn.result c.as_mut_slice.ensures.value row
-    (record { words_are = c.multiply-turn.ensures.words; turn_is = c.multiply-turn.ensures.turn }) c.index.ensures sign c.product_sign.ensures.value c.self.inside.words.ok.0 in
+    let seen = product_seen mine (row_seen mine c.args.b lb) c.args.a la c.requires.commuting c.multiply-meet.new.words c.self.inside.words.len c.index.result.now c.index-2.result.now c.product_power.result c.multiply-meet.result c.as_mut_slice.ensures.value row
+    (record { words_are = c.multiply-meet.ensures.words; meet_is = c.multiply-meet.ensures.meet }) c.index.ensures power c.product_power.ensures.value c.self.inside.words.ok.0 in
     record { value = seen.is }

@@ -2,40 +2,31 @@ use Rattle.std.proofs.Common.{arith, ◌∙◌, ap, refl, length}
 use Rattle.stab_pauli.specs.Phaseds.{phased}
 use Rattle.stab_pauli.specs.Rows.{row_at, turned_product}
 use Rattle.stab_pauli.proofs.PaddedLemmas.{view_of}
-use Rattle.stab_pauli.proofs.SeenLemmas.{seen_of, in_seen, fitting, phased_product-turned, row_at-with_row}
+use Rattle.stab_pauli.proofs.SeenLemmas.{counted_seen, seen_of, in_seen, fitting, phased_product-turned, row_at-with_row}
 use Rattle.stab_pauli.proofs.RowProductLemmas.{turned_seen}
 use Rattle.stab_pauli.proofs.rows.PauliRows.multiply_turned_by.Goals as goal
 
-pub multiply_by-turn-requires-clause-in_range : goal.multiply_by-turn-requires-clause-in_range
-multiply_by-turn-requires-clause-in_range c =
-    let lt = in_seen (seen_of c.self.invariant c.self.view_is) c.args.a c.requires.in_range in
-    let k = c.self.inside.signs.ok.0 in
-    omega arith
+pub multiply_by-meet-requires-clause-in_range : goal.multiply_by-meet-requires-clause-in_range
+multiply_by-meet-requires-clause-in_range c = counted_seen (seen_of c.self.invariant c.self.view_is) c.args.a c.len-count.result c.requires.in_range (omega (arith, c.self.inside.powers.ok.0))
 
-pub multiply_by-turn-requires-clause-other_length : goal.multiply_by-turn-requires-clause-other_length
-multiply_by-turn-requires-clause-other_length c =
+pub multiply_by-meet-requires-clause-other_length : goal.multiply_by-meet-requires-clause-other_length
+multiply_by-meet-requires-clause-other_length c =
     let fit = fitting (seen_of c.self.invariant c.self.view_is) (view_of c.other.invariant c.other.view_is) c.requires.same_length in
     ap length c.as_slice.ensures.value ∙ fit.view.row.size
 
 pub index-requires : goal.index-requires
-index-requires c =
-    let lt = in_seen (seen_of c.self.invariant c.self.view_is) c.args.a c.requires.in_range in
-    let k = c.self.inside.signs.ok.0 in
-    omega arith
+index-requires c = counted_seen (seen_of c.self.invariant c.self.view_is) c.args.a c.self.inside.powers.len c.requires.in_range c.self.inside.powers.ok.0
 
 pub index_mut-requires : goal.index_mut-requires
-index_mut-requires c =
-    let lt = in_seen (seen_of c.self.invariant c.self.view_is) c.args.a c.requires.in_range in
-    let k = c.self.inside.signs.ok.0 in
-    omega arith
+index_mut-requires c = counted_seen (seen_of c.self.invariant c.self.view_is) c.args.a c.self.inside.powers.len c.requires.in_range c.self.inside.powers.ok.0
 
 pub invariant_of-self : goal.invariant_of-self
 invariant_of-self c =
     let mine = seen_of c.self.invariant c.self.view_is in
     let la = in_seen mine c.args.a c.requires.in_range in
     let fit = fitting mine (view_of c.other.invariant c.other.view_is) c.requires.same_length in
-    let seen = turned_seen mine fit.view c.args.a la c.multiply_by-turn.new.words c.self.inside.words.len c.index.result.now c.other.inside.negative c.product_sign.result c.multiply_by-turn.result c.times_i.result c.as_mut_slice-words.ensures.value c.as_slice.ensures.value
-    (record { words_are = c.multiply_by-turn.ensures.words; turn_is = c.multiply_by-turn.ensures.turn }) c.index.ensures refl c.times_i.ensures.value c.product_sign.ensures.value c.self.inside.words.ok.0 in
+    let seen = turned_seen mine fit.view c.args.a la c.requires.anticommuting c.multiply_by-meet.new.words c.self.inside.words.len c.index.result.now c.other.inside.power c.product_power.result c.times_i.result c.multiply_by-meet.result c.as_mut_slice-words.ensures.value c.as_slice.ensures.value
+    (record { words_are = c.multiply_by-meet.ensures.words; meet_is = c.multiply_by-meet.ensures.meet }) c.index.ensures refl c.product_power.ensures.value c.times_i.ensures.value c.self.inside.words.ok.0 in
     seen.lies
 
 pub returns : goal.returns
@@ -43,8 +34,8 @@ returns c =
     let mine = seen_of c.self.invariant c.self.view_is in
     let la = in_seen mine c.args.a c.requires.in_range in
     let fit = fitting mine (view_of c.other.invariant c.other.view_is) c.requires.same_length in
-    let seen = turned_seen mine fit.view c.args.a la c.multiply_by-turn.new.words c.self.inside.words.len c.index.result.now c.other.inside.negative c.product_sign.result c.multiply_by-turn.result c.times_i.result c.as_mut_slice-words.ensures.value c.as_slice.ensures.value
-    (record { words_are = c.multiply_by-turn.ensures.words; turn_is = c.multiply_by-turn.ensures.turn }) c.index.ensures refl c.times_i.ensures.value c.product_sign.ensures.value c.self.inside.words.ok.0 in
+    let seen = turned_seen mine fit.view c.args.a la c.requires.anticommuting c.multiply_by-meet.new.words c.self.inside.words.len c.index.result.now c.other.inside.power c.product_power.result c.times_i.result c.multiply_by-meet.result c.as_mut_slice-words.ensures.value c.as_slice.ensures.value
+    (record { words_are = c.multiply_by-meet.ensures.words; meet_is = c.multiply_by-meet.ensures.meet }) c.index.ensures refl c.product_power.ensures.value c.times_i.ensures.value c.self.inside.words.ok.0 in
     record {
       value = seen.is;
       phased =

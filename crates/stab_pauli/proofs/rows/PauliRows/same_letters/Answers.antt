@@ -1,6 +1,6 @@
 use Rattle.std.proofs.Common.{arith, ◌≡◌, ◌∙◌, sym, length}
 use Rattle.stab_pauli.proofs.TellLemmas.{AreShort-same, words_told, letters_told, same_number, no_false}
-use Rattle.stab_pauli.proofs.SeenLemmas.{IsSeen, qubits_seen}
+use Rattle.stab_pauli.proofs.SeenLemmas.{seen_of, qubits_seen}
 use Rattle.stab_pauli.proofs.rows.PauliRows.same_letters.Goals as goal
 
 pub same-requires-clause-are_short : goal.same-requires-clause-are_short
@@ -11,25 +11,25 @@ same-requires-clause-others_are_short c = record { below = λ i. (c.type_inv.oth
 
 pub returns-then-self-other : goal.returns-then-self-other
 returns-then-self-other c =
-    let mine : IsSeen c.self.inside.qubits c.self.inside.blocks c.self.inside.words.items c.self.inside.signs.items c.args.self.now = record { lies = c.self.invariant; is = c.self.view_is } in
-    let theirs : IsSeen c.other.inside.qubits c.other.inside.blocks c.other.inside.words.items c.other.inside.signs.items c.args.other.now = record { lies = c.other.invariant; is = c.other.view_is } in
+    let mine = seen_of c.self.invariant c.self.view_is in
+    let theirs = seen_of c.other.invariant c.other.view_is in
     record { value = ((λ h. absurd (no_false h)), (λ both. absurd (c.if-self-other.true (qubits_seen mine ∙ both.0 ∙ sym (qubits_seen theirs))))) }
 
 pub returns-then-len : goal.returns-then-len
 returns-then-len c =
-    let mine : IsSeen c.self.inside.qubits c.self.inside.blocks c.self.inside.words.items c.self.inside.signs.items c.args.self.now = record { lies = c.self.invariant; is = c.self.view_is } in
-    let theirs : IsSeen c.other.inside.qubits c.other.inside.blocks c.other.inside.words.items c.other.inside.signs.items c.args.other.now = record { lies = c.other.invariant; is = c.other.view_is } in
-    let k = c.self.inside.signs.ok.0 in
-    let k' = c.other.inside.signs.ok.0 in
+    let mine = seen_of c.self.invariant c.self.view_is in
+    let theirs = seen_of c.other.invariant c.other.view_is in
+    let k = c.self.inside.powers.ok.0 in
+    let k' = c.other.inside.powers.ok.0 in
     record { value = ((λ h. absurd (no_false h)), (λ both. let l = same_number mine theirs both.1 in absurd (c.if-len.true (omega arith)))) }
 
 pub returns : goal.returns
 returns c =
-    let mine : IsSeen c.self.inside.qubits c.self.inside.blocks c.self.inside.words.items c.self.inside.signs.items c.args.self.now = record { lies = c.self.invariant; is = c.self.view_is } in
-    let theirs : IsSeen c.other.inside.qubits c.other.inside.blocks c.other.inside.words.items c.other.inside.signs.items c.args.other.now = record { lies = c.other.invariant; is = c.other.view_is } in
-    let k = c.self.inside.signs.ok.0 in
-    let k' = c.other.inside.signs.ok.0 in
-    let number : length c.self.inside.signs.items ≡ length c.other.inside.signs.items = omega arith in
+    let mine = seen_of c.self.invariant c.self.view_is in
+    let theirs = seen_of c.other.invariant c.other.view_is in
+    let k = c.self.inside.powers.ok.0 in
+    let k' = c.other.inside.powers.ok.0 in
+    let number : length c.self.inside.powers.items ≡ length c.other.inside.powers.items = omega arith in
     let short = AreShort-same 64 c.self.inside.words.items c.as_slice-words.result.now c.as_slice-words.ensures.value c.same.ensures.short in
     let shorts = AreShort-same 64 c.other.inside.words.items c.as_slice-others.result.now c.as_slice-others.ensures.value c.same.ensures.others_short in
     record {

@@ -1,34 +1,26 @@
 use Rattle.std.proofs.Common.{arith, ◌≡◌, ◌∙◌, ◌*◌, ap, subst, length, ℕ, List}
 use Rattle.std.specs.Simd.Lanes.{put_chunk}
-use Rattle.stab_pauli.proofs.PaddedLemmas.{IsView}
-use Rattle.stab_pauli.proofs.SeenLemmas.{IsSeen, in_seen, put_seen, written_seen, fitting}
+use Rattle.stab_pauli.proofs.PaddedLemmas.{view_of}
+use Rattle.stab_pauli.proofs.SeenLemmas.{counted_seen, seen_of, in_seen, put_seen, written_seen, fitting}
 use Rattle.stab_pauli.proofs.rows.PauliRows.set_row.Goals as goal
 
 pub copy_from-requires-clause-in_range : goal.copy_from-requires-clause-in_range
-copy_from-requires-clause-in_range c =
-    let mine : IsSeen c.self.inside.qubits c.self.inside.blocks c.self.inside.words.items c.self.inside.signs.items c.args.self.now = record { lies = c.self.invariant; is = c.self.view_is } in
-    let lt = in_seen mine c.args.a c.requires.in_range in
-    let k = c.self.inside.signs.ok.0 in
-    omega arith
+copy_from-requires-clause-in_range c = counted_seen (seen_of c.self.invariant c.self.view_is) c.args.a c.len-count.result c.requires.in_range (omega (arith, c.self.inside.powers.ok.0))
 
 pub copy_from-requires-clause-other_length : goal.copy_from-requires-clause-other_length
 copy_from-requires-clause-other_length c =
-    let mine : IsSeen c.self.inside.qubits c.self.inside.blocks c.self.inside.words.items c.self.inside.signs.items c.args.self.now = record { lies = c.self.invariant; is = c.self.view_is } in
-    let theirs : IsView c.other.inside.qubits c.other.inside.blocks c.other.inside.words.items c.other.inside.negative c.args.other.now = record { row = c.other.invariant; is = c.other.view_is } in
+    let mine = seen_of c.self.invariant c.self.view_is in
+    let theirs = view_of c.other.invariant c.other.view_is in
     let fit = fitting mine theirs c.requires.same_length in
     ap length c.as_slice.ensures.value ∙ fit.view.row.size
 
 pub index_mut-requires : goal.index_mut-requires
-index_mut-requires c =
-    let mine : IsSeen c.self.inside.qubits c.self.inside.blocks c.self.inside.words.items c.self.inside.signs.items c.args.self.now = record { lies = c.self.invariant; is = c.self.view_is } in
-    let lt = in_seen mine c.args.a c.requires.in_range in
-    let k = c.self.inside.signs.ok.0 in
-    omega arith
+index_mut-requires c = counted_seen (seen_of c.self.invariant c.self.view_is) c.args.a c.self.inside.powers.len c.requires.in_range c.self.inside.powers.ok.0
 
 pub invariant_of-self : goal.invariant_of-self
 invariant_of-self c =
-    let mine : IsSeen c.self.inside.qubits c.self.inside.blocks c.self.inside.words.items c.self.inside.signs.items c.args.self.now = record { lies = c.self.invariant; is = c.self.view_is } in
-    let theirs : IsView c.other.inside.qubits c.other.inside.blocks c.other.inside.words.items c.other.inside.negative c.args.other.now = record { row = c.other.invariant; is = c.other.view_is } in
+    let mine = seen_of c.self.invariant c.self.view_is in
+    let theirs = view_of c.other.invariant c.other.view_is in
     let fit = fitting mine theirs c.requires.same_length in
     let la = in_seen mine c.args.a c.requires.in_range in
     let words = subst (λ (w : List ℕ). c.copy_from.new.words ≡ put_chunk (8 * c.self.inside.blocks * c.args.a) w c.other.inside.words.items) c.as_mut_slice-words.ensures.value
@@ -38,8 +30,8 @@ invariant_of-self c =
 
 pub returns : goal.returns
 returns c =
-    let mine : IsSeen c.self.inside.qubits c.self.inside.blocks c.self.inside.words.items c.self.inside.signs.items c.args.self.now = record { lies = c.self.invariant; is = c.self.view_is } in
-    let theirs : IsView c.other.inside.qubits c.other.inside.blocks c.other.inside.words.items c.other.inside.negative c.args.other.now = record { row = c.other.invariant; is = c.other.view_is } in
+    let mine = seen_of c.self.invariant c.self.view_is in
+    let theirs = view_of c.other.invariant c.other.view_is in
     let fit = fitting mine theirs c.requires.same_length in
     let la = in_seen mine c.args.a c.requires.in_range in
     let words = subst (λ (w : List ℕ). c.copy_from.new.words ≡ put_chunk (8 * c.self.inside.blocks * c.args.a) w c.other.inside.words.items) c.as_mut_slice-words.ensures.value

@@ -1,10 +1,10 @@
-use Rattle.std.proofs.Common.{ap, sym, ◌∙◌, subst, ◌≤◌, ◌≡◌}
-use Rattle.std.specs.Prelude.{None}
+use Rattle.std.proofs.Common.{ap, sym, ◌∙◌, subst, ◌≤◌}
+use Rattle.stab_pauli.specs.Refusals.{whole}
 use Rattle.stab_circuit.specs.Items.{listed}
-use Rattle.stab_circuit.specs.Steps.{check_within}
+use Rattle.stab_circuit.specs.Steps.{unroll, observables_of}
 use Rattle.stab_session.specs.Sessions.{SessionState, IsFaultOf}
-use Rattle.stab_session.specs.SessionEdits.{change_of, place_of}
-use Rattle.stab_session.proofs.EditedLemmas.{session-verdict, new-checked, new-apart, new-statement, session-edited, run-fault, refused-memory}
+use Rattle.stab_session.proofs.SessionLemmas.{statement, few-checkpoints}
+use Rattle.stab_session.proofs.EditedLemmas.{session-verdict, run-fault, followed, agreed, new-run, edited-kept, session-edited, edited-applied, edited-early}
 use Rattle.stab_session.proofs.session.Session.apply.Goals as goal
 
 pub returns-in-Err-clause-refused : goal.returns-in-Err-clause-refused
@@ -16,58 +16,93 @@ returns-in-Err-clause-refused g c =
     (ap (λ (s : SessionState g.row.C.Denot). s.qubits) (sym c.self.view_is) ∙ sym c.len-n.ensures.value))
     refused.refused
 
-pub invariant_of-self-in-Ok-run_circuit : goal.invariant_of-self-in-Ok-run_circuit
-invariant_of-self-in-Ok-run_circuit g c =
-    let n = c.len-n.result in
-    let change = change_of c.args.edit in
-    let place = place_of c.args.edit in
-    let old = c.self.inside.circuit in
-    let mid = c.begin.new.circuit in
-    let new = c.finish.new.circuit in
+pub invariant_of-self-in-Ok-follow : goal.invariant_of-self-in-Ok-follow
+invariant_of-self-in-Ok-follow g c =
     let begun = c.in-Ok.ensures {u = tt} in
-    let b = begun.begun in
-    let ran = c.in-Ok-run_circuit.ensures {u = tt} in
-    record {
-      statement =
-          new-statement n change place old mid c.in-Ok.pending b new c.finish.ensures.value g.C.Coins.sequence c.self.inside.stride c.run_circuit.new.coins
-          c.in-Ok-run_circuit.ran.tableau c.in-Ok-run_circuit.ran.shot (g.C.Coins.sequence c.self.inside.coins) ran.qubits ran.same_coins ran.run;
-      checked =
-          subst (λ m. check_within m (listed new) ≡ None) (sym ran.qubits) (new-checked n change place old mid c.in-Ok.pending b new c.finish.ensures.value);
-      apart = new-apart n change place old mid c.in-Ok.pending b new c.finish.ensures.value ran.apart;
-      few = subst (λ m. m ≤ 1024) (sym (ran.qubits ∙ c.len-n.ensures.value)) c.self.invariant.few;
-      same_length = ran.string ∙ sym ran.qubits;
-    }
-
-pub returns-in-Ok-run_circuit-clause-statement : goal.returns-in-Ok-run_circuit-clause-statement
-returns-in-Ok-run_circuit-clause-statement g c =
-    let n = c.len-n.result in
-    let begun = c.in-Ok.ensures {u = tt} in
-    let ran = c.in-Ok-run_circuit.ensures {u = tt} in
-    new-statement n (change_of c.args.edit) (place_of c.args.edit) c.self.inside.circuit c.begin.new.circuit c.in-Ok.pending begun.begun c.finish.new.circuit
-    c.finish.ensures.value g.C.Coins.sequence c.self.inside.stride c.run_circuit.new.coins c.in-Ok-run_circuit.ran.tableau c.in-Ok-run_circuit.ran.shot
-    (g.C.Coins.sequence c.self.inside.coins) ran.qubits ran.same_coins ran.run
-
-pub returns-in-Ok-run_circuit-clause-edited : goal.returns-in-Ok-run_circuit-clause-edited
-returns-in-Ok-run_circuit-clause-edited g c =
-    let n = c.len-n.result in
-    let begun = c.in-Ok.ensures {u = tt} in
-    let ran = c.in-Ok-run_circuit.ensures {u = tt} in
-    session-edited g.C.Coins.sequence c.args.edit c.args.self.now n c.self.inside.circuit c.begin.new.circuit c.in-Ok.pending begun.begun c.finish.new.circuit
-    c.finish.ensures.value
+    let ran = c.in-Ok-follow.ensures {u = tt} in
+    let coins = ap (λ (s : SessionState g.row.C.Denot). g.C.Coins.sequence s.coins) c.self.view_is in
+    let run = followed c.len-n.result c.self.inside.kept.tableau.qubits _ _ c.self.inside.stride _ _ c.follow.new.self c.len-n.ensures.value coins ran.kept in
+    let kept = c.self.invariant in
+    edited-kept g.C.Coins.sequence c.args.edit c.args.self.now c.len-n.result c.self.inside.circuit c.begin.new.circuit c.in-Ok.begun.0 c.in-Ok.begun.1 begun.begun
     (ap (λ (s : SessionState g.row.C.Denot). s.items) (sym c.self.view_is))
     (ap (λ (s : SessionState g.row.C.Denot). s.qubits) (sym c.self.view_is) ∙ sym c.len-n.ensures.value)
-    c.self.inside.stride c.run_circuit.new.coins c.in-Ok-run_circuit.ran.tableau c.in-Ok-run_circuit.ran.shot
-    (ap (λ (s : SessionState g.row.C.Denot). s.stride) c.self.view_is)
-    ran.qubits
-    (ran.same_coins ∙ ap (λ (s : SessionState g.row.C.Denot). g.C.Coins.sequence s.coins) c.self.view_is)
+    c.finish.new.circuit c.finish.ensures.value c.self.inside.stride c.follow.new.coins c.follow.new.self
+    (ap (λ (s : SessionState g.row.C.Denot). s.stride) c.self.view_is) (ran.same_coins ∙ coins) run
+    ran.apart (subst (λ n. n ≤ 1024) (sym c.len-n.ensures.value) kept.few) kept.stride_above kept.stride_within
 
-pub returns-in-Err-run_circuit-clause-refused : goal.returns-in-Err-run_circuit-clause-refused
-returns-in-Err-run_circuit-clause-refused g c =
-    let n = c.len-n.result in
+pub returns-in-Ok-follow-clause-statement : goal.returns-in-Ok-follow-clause-statement
+returns-in-Ok-follow-clause-statement g c =
     let begun = c.in-Ok.ensures {u = tt} in
-    let ran = c.in-Err-run_circuit.ensures {u = tt} in
-    run-fault c.args.self.now c.args.edit n c.self.inside.circuit c.begin.new.circuit c.in-Ok.pending begun.begun
+    let ran = c.in-Ok-follow.ensures {u = tt} in
+    let coins = ap (λ (s : SessionState g.row.C.Denot). g.C.Coins.sequence s.coins) c.self.view_is in
+    let run = followed c.len-n.result c.self.inside.kept.tableau.qubits _ _ c.self.inside.stride _ _ c.follow.new.self c.len-n.ensures.value coins ran.kept in
+    statement g.C.Coins.sequence (listed c.finish.new.circuit) c.self.inside.stride c.follow.new.coins c.follow.new.self c.len-n.result (g.C.Coins.sequence c.args.self.now.coins) (ran.same_coins ∙ coins)
+    (new-run g.C.Coins.sequence c.args.edit c.args.self.now c.len-n.result c.self.inside.circuit c.begin.new.circuit c.in-Ok.begun.0 c.in-Ok.begun.1 begun.begun
     (ap (λ (s : SessionState g.row.C.Denot). s.items) (sym c.self.view_is))
     (ap (λ (s : SessionState g.row.C.Denot). s.qubits) (sym c.self.view_is) ∙ sym c.len-n.ensures.value)
-    c.in-Err-run_circuit.fault
-    (refused-memory (Unit {0}) (check_within n (listed c.begin.new.circuit)) c.in-Err-run_circuit.fault begun.begun.checked ran.refused)
+    c.finish.new.circuit c.finish.ensures.value c.self.inside.stride c.follow.new.coins c.follow.new.self
+    (ap (λ (s : SessionState g.row.C.Denot). s.stride) c.self.view_is) (ran.same_coins ∙ coins) run)
+
+pub returns-in-Ok-follow-clause-edited : goal.returns-in-Ok-follow-clause-edited
+returns-in-Ok-follow-clause-edited g c =
+    let begun = c.in-Ok.ensures {u = tt} in
+    let ran = c.in-Ok-follow.ensures {u = tt} in
+    let coins = ap (λ (s : SessionState g.row.C.Denot). g.C.Coins.sequence s.coins) c.self.view_is in
+    let run = followed c.len-n.result c.self.inside.kept.tableau.qubits _ _ c.self.inside.stride _ _ c.follow.new.self c.len-n.ensures.value coins ran.kept in
+    session-edited g.C.Coins.sequence c.args.edit c.args.self.now c.len-n.result c.self.inside.circuit c.begin.new.circuit c.in-Ok.begun.0 c.in-Ok.begun.1 begun.begun
+    (ap (λ (s : SessionState g.row.C.Denot). s.items) (sym c.self.view_is))
+    (ap (λ (s : SessionState g.row.C.Denot). s.qubits) (sym c.self.view_is) ∙ sym c.len-n.ensures.value)
+    c.finish.new.circuit c.finish.ensures.value c.self.inside.stride c.follow.new.coins c.follow.new.self
+    (ap (λ (s : SessionState g.row.C.Denot). s.stride) c.self.view_is) (ran.same_coins ∙ coins) run
+
+pub returns-in-Ok-follow-clause-applied : goal.returns-in-Ok-follow-clause-applied
+returns-in-Ok-follow-clause-applied g c =
+    let begun = c.in-Ok.ensures {u = tt} in
+    let ran = c.in-Ok-follow.ensures {u = tt} in
+    let coins = ap (λ (s : SessionState g.row.C.Denot). g.C.Coins.sequence s.coins) c.self.view_is in
+    let run = followed c.len-n.result c.self.inside.kept.tableau.qubits _ _ c.self.inside.stride _ _ c.follow.new.self c.len-n.ensures.value coins ran.kept in
+    edited-applied g.C.Coins.sequence c.args.edit c.args.self.now c.len-n.result c.self.inside.circuit c.begin.new.circuit c.in-Ok.begun.0 c.in-Ok.begun.1 begun.begun
+    (ap (λ (s : SessionState g.row.C.Denot). s.items) (sym c.self.view_is))
+    (ap (λ (s : SessionState g.row.C.Denot). s.qubits) (sym c.self.view_is) ∙ sym c.len-n.ensures.value)
+    c.finish.new.circuit c.finish.ensures.value c.self.inside.stride c.follow.new.coins c.follow.new.self
+    (ap (λ (s : SessionState g.row.C.Denot). s.stride) c.self.view_is) (ran.same_coins ∙ coins) run
+    c.in-Ok-follow.applied ran.applied
+
+pub returns-in-Ok-follow-clause-early : goal.returns-in-Ok-follow-clause-early
+returns-in-Ok-follow-clause-early g c =
+    let begun = c.in-Ok.ensures {u = tt} in
+    let ran = c.in-Ok-follow.ensures {u = tt} in
+    let coins = ap (λ (s : SessionState g.row.C.Denot). g.C.Coins.sequence s.coins) c.self.view_is in
+    let run = followed c.len-n.result c.self.inside.kept.tableau.qubits _ _ c.self.inside.stride _ _ c.follow.new.self c.len-n.ensures.value coins ran.kept in
+    edited-early g.C.Coins.sequence c.args.edit c.args.self.now c.len-n.result c.self.inside.circuit c.begin.new.circuit c.in-Ok.begun.0 c.in-Ok.begun.1 begun.begun
+    (ap (λ (s : SessionState g.row.C.Denot). s.items) (sym c.self.view_is))
+    (ap (λ (s : SessionState g.row.C.Denot). s.qubits) (sym c.self.view_is) ∙ sym c.len-n.ensures.value)
+    c.finish.new.circuit c.finish.ensures.value c.self.inside.stride c.follow.new.coins c.follow.new.self
+    (ap (λ (s : SessionState g.row.C.Denot). s.stride) c.self.view_is) (ran.same_coins ∙ coins) run
+    c.in-Ok-follow.applied
+    (λ agree.
+    ran.few (unroll (listed c.self.inside.circuit)) (observables_of (listed c.self.inside.circuit)) c.self.invariant.run begun.begun.span.span
+    (agreed c.len-n.result c.self.inside.kept.tableau.qubits _ _ (unroll (listed c.self.inside.circuit)) (unroll (listed c.begin.new.circuit)) c.in-Ok.begun.1 c.len-n.ensures.value coins agree))
+
+pub returns-in-Ok-follow-clause-few_checkpoints : goal.returns-in-Ok-follow-clause-few_checkpoints
+returns-in-Ok-follow-clause-few_checkpoints g c =
+    let begun = c.in-Ok.ensures {u = tt} in
+    let ran = c.in-Ok-follow.ensures {u = tt} in
+    let coins = ap (λ (s : SessionState g.row.C.Denot). g.C.Coins.sequence s.coins) c.self.view_is in
+    let run = followed c.len-n.result c.self.inside.kept.tableau.qubits _ _ c.self.inside.stride _ _ c.follow.new.self c.len-n.ensures.value coins ran.kept in
+    few-checkpoints g.C.Coins.sequence (listed c.finish.new.circuit) c.self.inside.stride c.follow.new.coins c.follow.new.self c.len-n.result (g.C.Coins.sequence c.args.self.now.coins) (ran.same_coins ∙ coins)
+    (new-run g.C.Coins.sequence c.args.edit c.args.self.now c.len-n.result c.self.inside.circuit c.begin.new.circuit c.in-Ok.begun.0 c.in-Ok.begun.1 begun.begun
+    (ap (λ (s : SessionState g.row.C.Denot). s.items) (sym c.self.view_is))
+    (ap (λ (s : SessionState g.row.C.Denot). s.qubits) (sym c.self.view_is) ∙ sym c.len-n.ensures.value)
+    c.finish.new.circuit c.finish.ensures.value c.self.inside.stride c.follow.new.coins c.follow.new.self
+    (ap (λ (s : SessionState g.row.C.Denot). s.stride) c.self.view_is) (ran.same_coins ∙ coins) run)
+    c.self.invariant.stride_above
+
+pub returns-in-Err-follow-clause-refused : goal.returns-in-Err-follow-clause-refused
+returns-in-Err-follow-clause-refused g c =
+    let begun = c.in-Ok.ensures {u = tt} in
+    let ran = c.in-Err-follow.ensures {u = tt} in
+    run-fault g.C.Coins.sequence c.args.edit c.args.self.now c.len-n.result c.self.inside.circuit c.begin.new.circuit c.in-Ok.begun.0 c.in-Ok.begun.1 begun.begun
+    (ap (λ (s : SessionState g.row.C.Denot). s.items) (sym c.self.view_is))
+    (ap (λ (s : SessionState g.row.C.Denot). s.qubits) (sym c.self.view_is) ∙ sym c.len-n.ensures.value)
+    c.whole.result (c.whole.ensures.value ∙ ap whole ran.err)

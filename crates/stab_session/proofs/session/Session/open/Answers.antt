@@ -1,25 +1,20 @@
-use Rattle.std.proofs.Common.{◌∙◌, sym, subst, ◌≡◌, ◌≤◌}
-use Rattle.std.specs.Prelude.{None}
-use Rattle.stab_circuit.specs.Steps.{check_within}
 use Rattle.stab_circuit.specs.Views.{circuit_items}
-use Rattle.stab_session.proofs.SessionLemmas.{statement}
+use Rattle.stab_session.proofs.SessionLemmas.{statement, session-kept, few-checkpoints}
 use Rattle.stab_session.proofs.session.Session.open.Goals as goal
 
 pub invariant_of-result : goal.invariant_of-result
 invariant_of-result g c =
     let ran = c.in-Ok.ensures in
-    record {
-      statement =
-          statement g.C.Coins.sequence (circuit_items c.args.circuit) c.args.stride c.run_circuit.new.coins c.in-Ok.ran.tableau c.in-Ok.ran.shot
-          c.args.n (g.C.Coins.sequence c.args.coins) ran.qubits ran.same_coins ran.run;
-      checked = subst (λ n. check_within n (circuit_items c.args.circuit) ≡ None) (sym ran.qubits) ran.refused;
-      apart = ran.apart;
-      few = subst (λ n. n ≤ 1024) (sym ran.qubits) c.requires.in_range;
-      same_length = ran.string ∙ sym ran.qubits;
-    }
+    session-kept g.C.Coins.sequence (circuit_items c.args.circuit) c.args.stride c.run_kept.new.coins c.in-Ok.kept c.args.n (g.C.Coins.sequence c.args.coins) ran.same_coins ran.kept
+    ran.refused ran.apart c.requires.in_range c.requires.stride_above c.requires.stride_within
 
 pub returns-in-Ok-clause-statement : goal.returns-in-Ok-clause-statement
 returns-in-Ok-clause-statement g c =
     let ran = c.in-Ok.ensures in
-    statement g.C.Coins.sequence (circuit_items c.args.circuit) c.args.stride c.run_circuit.new.coins c.in-Ok.ran.tableau c.in-Ok.ran.shot
-    c.args.n (g.C.Coins.sequence c.args.coins) ran.qubits ran.same_coins ran.run
+    statement g.C.Coins.sequence (circuit_items c.args.circuit) c.args.stride c.run_kept.new.coins c.in-Ok.kept c.args.n (g.C.Coins.sequence c.args.coins) ran.same_coins ran.kept
+
+pub returns-in-Ok-clause-checkpoints : goal.returns-in-Ok-clause-checkpoints
+returns-in-Ok-clause-checkpoints g c =
+    let ran = c.in-Ok.ensures in
+    few-checkpoints g.C.Coins.sequence (circuit_items c.args.circuit) c.args.stride c.run_kept.new.coins c.in-Ok.kept c.args.n (g.C.Coins.sequence c.args.coins) ran.same_coins ran.kept
+    c.requires.stride_above

@@ -10,5 +10,5 @@ returns g c = (let kept = c.self.invariant in
     record {
       law = λ coins.
           subst (λ (s : SessionState g.row.C.Denot). IsSoundRun s.qubits coins s.items) c.self.view_is
-          (sound-run c.self.inside.tableau.qubits coins (circuit_items c.self.inside.circuit) kept.checked kept.apart);
+          (sound-run c.self.inside.kept.tableau.qubits coins (circuit_items c.self.inside.circuit) kept.checked kept.apart);
     })

@@ -2,6 +2,7 @@ use Rattle.std.proofs.Common.{◌≡◌, ◌<◌, ◌∙◌, sym, ap, length, ar
 use Rattle.std.specs.List.{list_any}
 use Rattle.stab_pauli.specs.Flips.{flips}
 use Rattle.stab_pauli.specs.Paulis.{Signed}
+use Rattle.stab_pauli.specs.Rows.{row_at}
 use Rattle.stab_tableau.specs.Gates.{letter_at}
 use Rattle.stab_tableau.proofs.PairedRowsLemmas.{seen-few, seen-place, seen-length, seen-read}
 use Rattle.stab_tableau.proofs.table.Table.fixed_sign.Goals as goal
@@ -16,9 +17,11 @@ first_flip-requires c =
 pub place-requires-in-None : goal.place-requires-in-None
 place-requires-in-None c = record { few = seen-few c.self.inside.rows c.self.invariant c.args.self.now c.self.view_is c.args.qubit c.requires.in_range }
 
-pub is_negative-requires : goal.is_negative-requires
-is_negative-requires c =
-    record { in_range = seen-place c.self.inside.rows c.self.invariant c.args.self.now c.self.view_is c.args.row c.args.qubit c.place-in-None.result c.requires.in_range c.place-in-None.ensures.value }
+pub fixed_sign-requires : goal.fixed_sign-requires
+fixed_sign-requires c = record {
+  in_range = seen-place c.self.inside.rows c.self.invariant c.args.self.now c.self.view_is c.args.row c.args.qubit c.place-in-None.result c.requires.in_range c.place-in-None.ensures.value;
+  fixed = ap (λ k. list_any flips (row_at c.self.inside.rows k).letters) (c.place-in-None.ensures.value ∙ sym c.place.ensures.value) ∙ c.in-None.ensures.none;
+}
 
 pub returns-in-Some-clause-none : goal.returns-in-Some-clause-none
 returns-in-Some-clause-none c =
@@ -34,6 +37,6 @@ pub returns-in-None-clause-some : goal.returns-in-None-clause-some
 returns-in-None-clause-some c =
     let first = seen-read c.self.inside.rows c.self.invariant c.args.self.now c.self.view_is c.args.row c.args.qubit c.place.result c.requires.in_range c.place.ensures.value in
     let read = seen-read c.self.inside.rows c.self.invariant c.args.self.now c.self.view_is c.args.row c.args.qubit c.place-in-None.result c.requires.in_range c.place-in-None.ensures.value in (
-      c.is_negative.ensures.value ∙ ap (λ (p : Signed). p.negative) read,
+      c.fixed_sign.ensures.value ∙ ap (λ (p : Signed). p.negative) read,
       ap (λ (p : Signed). list_any flips p.letters) (sym first) ∙ c.in-None.ensures.none,
     )

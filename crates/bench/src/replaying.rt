@@ -1,0 +1,169 @@
+//! Edits of a session, each beside one whole run of the same circuit.
+use super::failure::Failure;
+use super::{reading, running};
+use stab_circuit::{Circuit, Item, Path, read_item};
+use stab_session::{Edit, Report, SeedCoins, Session};
+use std::num::nearest_usize_to_f64;
+use std::rt::Files;
+use std::time::{CpuClock, Duration};
+
+/// The best of so many edits counts, since other programs disturb the rest.
+const EDITS: u32 = 5;
+
+/// Copies of the state are kept at most so many steps apart.
+const STRIDE: usize = 8192;
+
+/// Which of the hundred parts of the outermost list an edit stands at the end of.
+const PARTS: [usize; 3] = [1, 50, 99];
+
+/// The processor times of a circuit without edits, in milliseconds.
+#[derive(Clone, Copy)]
+struct Whole {
+    read: f64,
+    run: f64,
+}
+
+/// Prints a table of the edits of the circuits in files. The qubit is one whose next record `X`
+/// flips, and nothing else; the qubit 1 is one whose state `H` changes.
+pub fn print_table<R: CpuClock + Files + AllocGlobal + Print>(
+    rt: &R,
+    qubit: &str,
+    paths: &[String],
+) -> Result<(), Failure> {
+    for path in paths {
+        print_circuit(rt, qubit, path.as_str())?;
+    }
+    Ok(())
+}
+
+/// Prints what reading a circuit, running it, opening a session on it and editing that take.
+fn print_circuit<R: CpuClock + Files + AllocGlobal + Print>(
+    rt: &R,
+    qubit: &str,
+    path: &str,
+) -> Result<(), Failure> {
+    let text = running::text_of_file(rt, path)?;
+    let read = reading::best_time(rt, text.as_slice())?.as_secs_f64() * 1e3;
+    let before = resident(rt)?;
+    let circuit = reading::circuit_of_text(rt.alloc(), text.as_slice())?;
+    let run = running::best_time(rt, &circuit)?.as_secs_f64() * 1e3;
+    let items = circuit.items().len();
+    let steps = circuit.steps();
+    let (mut session, open) = opened(rt, circuit)?;
+    let (open, kept) = (open.as_secs_f64() * 1e3, resident(rt)? - before);
+    println!(rt;
+        "{path}: {items} items, {steps} steps, read {read:.1} ms, run {run:.1} ms, open {open:.1} ms, {kept:.1} MiB"
+    )?;
+    println!(rt;
+        "     place  line      edit ms  of a run  faster than reading and running     steps"
+    )?;
+    print_edits(rt, &mut session, qubit, items, Whole { read, run })
+}
+
+/// Prints what edits of three kinds at three places take: nothing downstream changes, a record
+/// flips, the group changes.
+fn print_edits<R: CpuClock + AllocGlobal + Print>(
+    rt: &R,
+    session: &mut Session<SeedCoins>,
+    qubit: &str,
+    items: usize,
+    whole: Whole,
+) -> Result<(), Failure> {
+    let flip = format!(in rt.alloc(); "X {qubit}")?;
+    for part in PARTS {
+        let place = (items / 100).saturating_mul(part);
+        for line in ["I 1", flip.as_str(), "H 1"] {
+            print_edit(rt, session, place, line, whole)?;
+        }
+    }
+    Ok(())
+}
+
+/// Prints what putting the item of a line in at a place takes.
+fn print_edit<R: CpuClock + AllocGlobal + Print>(
+    rt: &R,
+    session: &mut Session<SeedCoins>,
+    place: usize,
+    line: &str,
+    whole: Whole,
+) -> Result<(), Failure> {
+    let mut least = Duration::MAX;
+    let mut applied = 0;
+    for _ in 0..EDITS {
+        let (time, report) = timed_edit(rt, session, Path::new(&[place]), line)?;
+        least = least.min(time);
+        applied = report.applied;
+    }
+    let edit = least.as_secs_f64() * 1e3;
+    let (of, faster) = (edit / whole.run, (whole.read + whole.run) / edit);
+    println!(rt; "{place:>10}  {line:<6} {edit:>10.3} {of:>9.4} {faster:>32.1} {applied:>9}")?;
+    Ok(())
+}
+
+/// A session on a circuit's own qubits, with the coins of seed 0 and shot 0, and the processor time
+/// to open it.
+fn opened<R: CpuClock + AllocGlobal>(
+    rt: &R,
+    circuit: Circuit,
+) -> Result<(Session<SeedCoins>, Duration), Failure> {
+    let qubits = circuit.qubits();
+    let start = rt.thread_cpu_time()?;
+    match Session::open(rt.alloc(), circuit, qubits, STRIDE, SeedCoins::new(0, 0)) {
+        Ok(session) => Ok((session, rt.thread_cpu_time()?.saturating_sub(start))),
+        Err(refused) => Err(Failure::Circuit(refused.fault)),
+    }
+}
+
+/// The processor time of putting the item of a line in at a place, and what it cost; the item is
+/// then taken out again.
+fn timed_edit<R: CpuClock + AllocGlobal>(
+    rt: &R,
+    session: &mut Session<SeedCoins>,
+    place: Path,
+    line: &str,
+) -> Result<(Duration, Report), Failure> {
+    let item = item_of(rt, line)?;
+    let start = rt.thread_cpu_time()?;
+    let report = apply(session, Edit::Insert { place, item })?;
+    let time = rt.thread_cpu_time()?.saturating_sub(start);
+    apply(session, Edit::Delete { place })?;
+    Ok((time, report))
+}
+
+/// The item of a line.
+fn item_of<R: AllocGlobal>(rt: &R, line: &str) -> Result<Item, Failure> {
+    match read_item(rt.alloc(), line.as_bytes()) {
+        Ok(item) => Ok(item),
+        Err(fault) => Err(Failure::Circuit(fault)),
+    }
+}
+
+/// Makes an edit.
+fn apply(session: &mut Session<SeedCoins>, edit: Edit) -> Result<Report, Failure> {
+    match session.apply(edit) {
+        Ok(report) => Ok(report),
+        Err(refused) => Err(Failure::Circuit(refused.fault)),
+    }
+}
+
+/// How many MiB of memory the program holds, as Linux tells.
+fn resident<R: Files + AllocGlobal>(rt: &R) -> Result<f64, Failure> {
+    let told = running::text_of_file(rt, "/proc/self/statm")?;
+    Ok(nearest_usize_to_f64(second_number(told.as_slice())) / 256.0)
+}
+
+/// The second of the numbers in a line.
+fn second_number(line: &[u8]) -> usize {
+    let mut field: usize = 0;
+    let mut number: usize = 0;
+    for byte in line {
+        if *byte == b' ' {
+            field = field.saturating_add(1);
+        } else if field == 1 {
+            number = number
+                .saturating_mul(10)
+                .saturating_add(usize::from(byte.wrapping_sub(b'0')));
+        }
+    }
+    number
+}

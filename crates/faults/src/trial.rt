@@ -1,0 +1,134 @@
+use crate::stop::Stop;
+use crate::window;
+use stab_pauli::MemoryOutput;
+use std::alloc::Global;
+use std::{fmt, io};
+
+/// A call with the values that it works on and those that it has given.
+pub trait Trial: Drop {
+    /// Which call it is.
+    type Call: Copy;
+
+    /// A call that is still to be made.
+    fn new(alloc: Global, call: Self::Call) -> Result<Self, Stop>;
+
+    /// Makes the call, and keeps what it gives.
+    fn call(&mut self, alloc: Global) -> Result<(), Stop>;
+
+    /// Writes all that contracts name of the values.
+    fn show(&mut self, alloc: Global, out: &mut MemoryOutput) -> Result<(), Stop>;
+
+    /// What the call leaves: by itself a call that was made, and refused nothing.
+    fn made(alloc: Global, call: Self::Call) -> Result<Self, Stop> {
+        let mut trial = Self::new(alloc, call)?;
+        trial.call(alloc)?;
+        Ok(trial)
+    }
+}
+
+/// How a call ended whose requests for memory may be refused.
+#[derive(Clone, Copy, Debug, PartialEq, Eq)]
+pub enum Ending {
+    /// It gave what it gives.
+    Gave,
+    /// It was refused memory and left all as before; made again, it gave what it gives.
+    Kept,
+    /// It did anything else.
+    Wrong,
+}
+
+impl Ending {
+    /// This ending where all is right.
+    pub fn if_right(self, right: bool) -> Ending {
+        if right { self } else { Ending::Wrong }
+    }
+}
+
+impl fmt::Display for Ending {
+    fn fmt<W: fmt::Write>(&self, f: &mut fmt::Formatter<W>) -> fmt::Result {
+        let text = match self {
+            Ending::Gave => "gave",
+            Ending::Kept => "refused, as before, gave",
+            Ending::Wrong => "WRONG",
+        };
+        write!(f, "{text}")
+    }
+}
+
+/// Room for all that a trial shows.
+const ROOM: usize = 65_536;
+
+/// What a trial shows.
+fn shown<T: Trial>(alloc: Global, trial: &mut T) -> Result<MemoryOutput, Stop> {
+    let mut out = MemoryOutput::new(alloc, ROOM)?;
+    trial.show(alloc, &mut out)?;
+    Ok(out)
+}
+
+/// Whether a trial shows these bytes.
+fn shows<T: Trial>(alloc: Global, trial: &mut T, bytes: &[u8]) -> Result<bool, Stop> {
+    let now = shown(alloc, trial)?;
+    Ok(now.bytes() == bytes)
+}
+
+/// Makes the call of a trial, where its requests may be refused.
+fn call_refused<T: Trial>(alloc: Global, trial: &mut T) -> Result<(), Stop> {
+    window::open(alloc);
+    let answer = trial.call(alloc);
+    window::close(alloc);
+    answer
+}
+
+/// Makes the call of a trial that shows these bytes, and makes it again where it was refused and left
+/// all as before.
+fn call_again<T: Trial>(alloc: Global, trial: &mut T, before: &[u8]) -> Result<Ending, Stop> {
+    let Err(stop) = call_refused(alloc, trial) else {
+        return Ok(Ending::Gave);
+    };
+    let kept = shows(alloc, trial, before)?;
+    trial.call(alloc)?;
+    Ok(Ending::Kept.if_right(kept && stop.is_memory()))
+}
+
+/// Tries a call, and compares what it shows in the end with these bytes.
+fn compare<T: Trial>(alloc: Global, call: T::Call, wanted: &[u8]) -> Result<Ending, Stop> {
+    let mut trial = T::new(alloc, call)?;
+    let before = shown(alloc, &mut trial)?;
+    let ending = call_again(alloc, &mut trial, before.bytes())?;
+    Ok(ending.if_right(shows(alloc, &mut trial, wanted)?))
+}
+
+/// What is to be shown in the end.
+fn wanted<T: Trial>(alloc: Global, call: T::Call) -> Result<MemoryOutput, Stop> {
+    let mut made = T::made(alloc, call)?;
+    shown(alloc, &mut made)
+}
+
+/// Tries a call, and compares what it gave with what the same call gives that is refused nothing.
+pub fn try_call<T: Trial>(alloc: Global, call: T::Call) -> Result<Ending, Stop> {
+    let wanted = wanted::<T>(alloc, call)?;
+    compare::<T>(alloc, call, wanted.bytes())
+}
+
+/// Prints how a call ended; of values that could not be made, which fault came up.
+pub fn print_ending<R: Print>(rt: &R, name: &str, ended: Result<Ending, Stop>) -> io::Result<()> {
+    match ended {
+        Ok(ending) => println!(rt; "{name}: {ending}"),
+        Err(Stop(fault)) => println!(rt; "{name}: WRONG, {fault:?}"),
+    }
+}
+
+/// Prints at how many places a device failed, where each time all was as it is to be.
+pub fn print_places<R: Print>(
+    rt: &R,
+    name: &str,
+    places: &str,
+    count: usize,
+    right: Result<bool, Stop>,
+) -> io::Result<()> {
+    match right {
+        Ok(true) => println!(rt; "{name}: {count} {places}"),
+        Ok(false) => println!(rt; "{name}: {places}: WRONG"),
+        Err(Stop(fault)) => println!(rt; "{name}: {places}: WRONG, {fault:?}"),
+    }
+}

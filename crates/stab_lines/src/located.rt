@@ -1,0 +1,65 @@
+use crate::coordinates::Coordinates;
+use std::alloc::{AllocError, Global};
+use std::marker::Model;
+
+/// Targets and the coordinates before them.
+///
+/// Both are long, so they stand in an allocation of their own, and instructions stay small.
+#[derive(Drop)]
+pub struct Located<T> {
+    parts: Box<Parts<T>>,
+}
+
+#[derive(Drop)]
+struct Parts<T> {
+    coordinates: Coordinates,
+    targets: T,
+}
+
+impl<T> Model for Located<T> {
+    ghost use Rattle.std.specs.Prelude.{ℕ, List};
+
+    ghost Value = { List (List ℕ) × T };
+
+    ghost view = { λ l. (l.parts.value.coordinates, l.parts.value.targets) };
+}
+
+impl<T> Located<T> {
+    ghost use Rattle.std.specs.Prelude.{◌≡◌};
+
+    /// The coordinates.
+    pub(crate) fn coordinates(&self) -> &Coordinates
+        ensures value { result.now ≡ self.now.0 }
+    {
+        &self.parts.coordinates
+    }
+
+    /// The targets.
+    pub fn targets(&self) -> &T
+        ensures value { result.now ≡ self.now.1 }
+    {
+        &self.parts.targets
+    }
+}
+
+impl<T: Drop> Located<T> {
+    ghost use Rattle.std.specs.Prelude.{◌≡◌, IfOk};
+
+    /// Targets behind coordinates.
+    pub(crate) fn new(
+        alloc: Global,
+        coordinates: Coordinates,
+        targets: T,
+    ) -> Result<Located<T>, AllocError>
+        ensures ok { IfOk result (λ l. l ≡ (coordinates, targets)) }
+    {
+        let parts = Box::new(
+            alloc,
+            Parts {
+                coordinates,
+                targets,
+            },
+        )?;
+        Ok(Located { parts })
+    }
+}

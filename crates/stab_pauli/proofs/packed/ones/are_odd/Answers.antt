@@ -1,0 +1,6 @@
+use Rattle.std.proofs.Common.{arith, ◌∙◌}
+use Rattle.stab_pauli.proofs.OnesLemmas.{words_odd-fold}
+use Rattle.stab_pauli.proofs.packed.ones.are_odd.Goals as goal
+
+pub returns : goal.returns
+returns c = record { value = c.is_odd.ensures.value ∙ words_odd-fold 64 c.args.words (omega arith) }

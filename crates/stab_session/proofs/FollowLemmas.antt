@@ -1,0 +1,421 @@
+-- Following an edit: where a replay of the new steps begins, which old copies it may meet, what is kept of its end, and how many
+-- steps it takes.
+use Rattle.std.proofs.Common.{◌≡◌, ℕ, ◌+◌, ◌-◌, ◌*◌, ◌^◌, ◌<◌, ◌≤◌, max, reverse, append_assoc, refl, sym, ◌∙◌, ap, subst, Bool, false, List, [], ◌∷◌, ◌++◌, length, take, drop, map, get_or, All, Option, Some, None, replicate, inl, inr, arith}
+use Rattle.std.specs.Prelude.{IfSome, IsSomeAnd, MatchOption, option_map, slice_get}
+use Rattle.std.proofs.lemmas.List.{take_all, take_min, take-map, drop-map, drop_more, drop-drop, map-append, length-take, length-drop, get_or-drop, take-append-drop}
+use Rattle.std.proofs.lemmas.List.Elements.{All-weaker, All-map, All-append, All-take, All-drop, All-nil}
+use Rattle.std.proofs.lemmas.Option.{get_or_from_slice_get, slice_get_within, slice_get-map, IfSome_then}
+use Rattle.std.proofs.lemmas.Bool.{cases_lt}
+use Rattle.stab_tableau.specs.Traces.{member}
+use Rattle.stab_tableau.specs.Groups.{SameGroup}
+use Rattle.stab_tableau.specs.Tableaus.{TableauState, stabilises}
+use Rattle.stab_circuit.specs.Steps.{Step}
+use Rattle.stab_session.specs.declared.checkpoint.Checkpoint.{Checkpoint}
+use Rattle.stab_session.specs.declared.checkpoint.Seam.{Seam}
+use Rattle.stab_session.specs.declared.replay.Replay.{Replay}
+use Rattle.stab_session.specs.declared.replay.Plan.{Plan}
+use Rattle.stab_session.specs.declared.replay.End.{End}
+use Rattle.stab_session.specs.declared.replay.End.TheVariants.{Last, Joined}
+use Rattle.stab_session.specs.declared.kept.KeptRun.{KeptRun}
+use Rattle.stab_session.specs.declared.kept.Span.{Span}
+use Rattle.stab_session.specs.declared.kept.Prepared.{Prepared}
+use Rattle.stab_session.specs.declared.kept.Rest.{Rest}
+use Rattle.stab_session.specs.Records.{ones}
+use Rattle.stab_session.specs.Points.{Output, origin, joined, point_after, outputs, all_coins_of, with_additions}
+use Rattle.stab_session.specs.Laws.{AgreeAt}
+use Rattle.stab_session.specs.inner.Sights.{sight, output_of}
+use Rattle.stab_session.specs.inner.Spacing.{Near, IsSpaced, last_of}
+use Rattle.stab_session.specs.inner.Checkpoints.{lengths_of, front_of, rest_of, IsRunFromStart, IsCheckpoint, steps_of, all_laid, moved, moved_copy}
+use Rattle.stab_session.specs.inner.Replays.{IsKeptRun, IsSameKept, IsSpan, AgreeBehind, IsReplay, Ascending, Meets, IsEnd, EndsSoon, place_of}
+use Rattle.stab_session.specs.inner.Prepared.{Begins, IsRest, IsOldRest, IsPrepared, IsCommitted, copies_behind, tableau_behind, seam_at}
+use Rattle.stab_session.proofs.RecordLemmas.{ones-append}
+use Rattle.stab_session.proofs.PointLemmas.{take-same, front-output, checkpoint-before, begun-from-start, meets-agree, agree-later, agree-end, kept-tail, checkpoint-moved}
+use Rattle.stab_session.proofs.SpacingLemmas.{IsBefore, before-near, behind-near, all-behind, ascending-behind, spaced-front, spaced-all, all-laid-all, all-laid-append, moved-within, moved-near, steps-moved, near-drop, near-join}
+
+-- lists and their elements
+
+pub at-get : {X : Type 0} (P : X → Type 0) (xs : List X) (k : ℕ) (x : X) → All P xs → slice_get xs k ≡ Some x → P x
+at-get P xs k x all e = subst P (get_or_from_slice_get xs k x x e) (all k x (slice_get_within xs k x e))
+
+pub some-at : {X : Type 0} (P : X → Type 0) (xs : List X) (k : ℕ) (x : X) → slice_get xs k ≡ Some x → IfSome (slice_get xs k) P → P x
+some-at P xs k x e h = subst (λ o. IfSome o P) e h
+
+if-some : {X : Type 0} (P : X → Type 0) (o : Option X) → ((x : X) → o ≡ Some x → P x) → IfSome o P
+if-some P None each = tt
+if-some P (Some x) each = each x refl
+
+pub some-and : {X : Type 0} (P : X → Type 0) (o : Option X) → IsSomeAnd o P → (x : X) × (o ≡ Some x) × P x
+some-and P None h = absurd h
+some-and P (Some x) h = (x, refl, h)
+
+-- what holds of all elements from one on holds of a later one
+from-drop : {X : Type 0} (P : X → Type 0) (xs : List X) (e k : ℕ) → e ≤ k → All P (drop e xs) → IfSome (slice_get xs k) P
+from-drop P xs e k le all = if-some P (slice_get xs k) (λ x is.
+    let within : k < length xs = slice_get_within xs k x is in
+    subst P (get_or-drop e xs (k - e) x ∙ ap (λ j. get_or xs j x) (omega arith) ∙ get_or_from_slice_get xs k x x is)
+    (all (k - e) x (omega (arith, length-drop e xs, within))))
+
+take-front : (k : ℕ) (bits : List Bool) → take (length (take k bits)) (take k bits) ≡ take (length (take k bits)) bits
+take-front k bits = take_all (length (take k bits)) (take k bits) (omega arith) ∙ sym (ap (λ j. take j bits) (length-take k bits) ∙ take_min k bits)
+
+match-weaker : {X : Type 0} (A B : Type 0) (P Q : X → Type 0) (o : Option X) → (A → B) → ((x : X) → P x → Q x) → MatchOption o A P → MatchOption o B Q
+match-weaker A B P Q None f g h = f h
+match-weaker A B P Q (Some x) f g h = g x h
+
+-- the same kept run
+
+rest-same : (a b : KeptRun) (t : TableauState) (o : Output) (step : ℕ) (end : End) (new : Output) (rest : Rest) → IsSameKept a b
+    → IsRest a t o step end new rest → IsRest b t o step end new rest
+rest-same a b t o step Last new rest same h = (
+  ap (copies_behind rest) (sym same.checkpoints) ∙ h.0,
+  ap (tableau_behind rest) (sym same.tableau) ∙ h.1,
+  h.2,
+)
+rest-same a b t o step (Joined number) new rest same h =
+    IfSome_then (slice_get b.checkpoints.items number)
+    (subst (λ cs. IfSome (slice_get cs number) (IsOldRest a o step number new rest)) same.checkpoints h)
+    (λ c is. record {
+      copies =
+          ap (copies_behind rest) (sym same.checkpoints)
+          ∙ is.copies
+          ∙ ap (λ cs. map (moved_copy (seam_at o step c)) (drop number cs)) same.checkpoints;
+      tableau = ap (tableau_behind rest) (sym same.tableau) ∙ is.tableau ∙ same.tableau;
+      output = is.output ∙ ap (λ given. joined o (rest_of c.lengths given)) same.output;
+    })
+
+pub prepared-same : (a b : KeptRun) (r : Replay) (count : ℕ) (end : End) (p : Prepared) → IsSameKept a b → IsPrepared a r count end p → IsPrepared b r count end p
+prepared-same a b r count end p same h = record {
+  rest = rest-same a b r.tableau (output_of r.outputs) r.step end (output_of p.outputs) p.rest same h.rest;
+  observables = h.observables;
+  laid = h.laid;
+}
+
+pub committed-same : (a b : KeptRun) (p : Prepared) (before K : ℕ) (new : KeptRun) → IsSameKept a b → IsCommitted a p before K new → IsCommitted b p before K new
+committed-same a b p before K new same h = record {
+  tableau = h.tableau ∙ ap (tableau_behind p.rest) same.tableau;
+  output = h.output;
+  observables = h.observables;
+  checkpoints = h.checkpoints ∙ ap (λ cs. all_laid K (copies_behind p.rest cs) (all_laid K (reverse p.laid.items) (take before cs))) same.checkpoints;
+}
+
+module _ (n : ℕ) (coins : ℕ → Bool) (K : ℕ) (xs : List Step) (count : ℕ) (old : KeptRun) (kept : IsKeptRun n coins K xs count old)
+    (ys : List Step) (s : Span) (span : IsSpan xs ys s) where
+  -- where it begins
+
+  pub before-first : (b : ℕ) → b ≤ length old.checkpoints.items → All (λ c. c.step < s.first + 1) (take b old.checkpoints.items)
+      → IfSome (slice_get old.checkpoints.items b) (λ c. s.first + 1 ≤ c.step) → IsBefore K (length xs) s.first b old.checkpoints.items
+  before-first b within front behind =
+      before-near K (length xs) s.first b old.checkpoints.items kept.spaced (let o = span.old_order in let w = span.old_within in omega arith) within front behind
+
+  copy-of-new : (c : Checkpoint) → c.step ≤ s.first → IsCheckpoint n coins xs c → IsCheckpoint n coins ys c
+  copy-of-new c le h = checkpoint-before n coins xs ys s.first c span.before le (let o = span.new_order in let w = span.new_within in omega arith) h
+
+  pub begun : (b : ℕ) (c : Checkpoint) (r : Replay) → slice_get old.checkpoints.items b ≡ Some c → c.step ≤ s.first → Begins ys old c r
+      → IsReplay n coins K r.step ys r
+  begun b c r here le begins = record {
+    at_step = record {
+      qubits = ap (λ (t : TableauState). t.qubits) begins.tableau ∙ is.qubits;
+      string = begins.string ∙ kept.qubits;
+      all = begins.all;
+      left = begins.left ∙ ap (λ k. drop k ys) (sym begins.step);
+      within = let w = is.within in omega (arith, begins.step);
+      run =
+          subst (λ k. IsRunFromStart n coins (take k ys) (sight r.tableau (output_of r.outputs))) (sym begins.step)
+          (begun-from-start n coins xs ys c r.tableau (output_of r.outputs) is (take-same c.step s.first xs ys le span.before) begins.tableau
+          (begins.output ∙ ap (front_of c.lengths) kept.run.output));
+    };
+    checkpoints = subst (All (IsCheckpoint n coins ys)) (sym begins.laid) (All-nil (IsCheckpoint n coins ys));
+    near = subst (λ cs. Near K (r.step ∷ steps_of cs ++ r.step ∷ [])) (sym begins.laid) (omega arith, omega arith, tt);
+  }
+    where
+      is : IsCheckpoint n coins ys c
+      is = copy-of-new c le (at-get (IsCheckpoint n coins xs) old.checkpoints.items b c kept.checkpoints here)
+
+  pub same-records : (c : Checkpoint) (r : Replay) → Begins ys old c r
+      → take (length r.outputs.records.items) r.outputs.records.items ≡ take (length r.outputs.records.items) old.outputs.records.items
+  same-records c r begins =
+      let is : r.outputs.records.items ≡ take c.lengths.records old.outputs.records.items = ap (λ (o : Output). o.records) begins.output in
+      subst (λ bits. take (length bits) bits ≡ take (length bits) old.outputs.records.items) (sym is) (take-front c.lengths.records old.outputs.records.items)
+
+  -- which old copies it may meet
+
+  same-rest : length ys ≡ s.new_end + (length xs - s.old_end)
+  same-rest = let a = span.old_within in let b = span.new_within in omega (arith, ap length span.behind, length-drop s.old_end xs, length-drop s.new_end ys)
+
+  pub next-behind : (e next : ℕ) → e ≤ next → IfSome (slice_get old.checkpoints.items e) (λ c. s.old_end ≤ c.step)
+      → IfSome (slice_get old.checkpoints.items next) (λ c. s.old_end ≤ c.step)
+  next-behind e next le behind =
+      from-drop (λ c. s.old_end ≤ c.step) old.checkpoints.items e next le
+      (All-weaker (λ c. (s.old_end ≤ c.step) × (c.step ≤ length xs)) (λ c. s.old_end ≤ c.step) (λ c p. p.0) (drop e old.checkpoints.items)
+      (all-behind K (length xs) s.old_end e old.checkpoints.items kept.spaced.near behind))
+
+  pub all-next : (next : ℕ) → IfSome (slice_get old.checkpoints.items next) (λ c. s.old_end ≤ c.step) → All (λ c. s.old_end ≤ c.step) (drop next old.checkpoints.items)
+  all-next next behind =
+      All-weaker (λ c. (s.old_end ≤ c.step) × (c.step ≤ length xs)) (λ c. s.old_end ≤ c.step) (λ c p. p.0) (drop next old.checkpoints.items)
+      (all-behind K (length xs) s.old_end next old.checkpoints.items kept.spaced.near behind)
+
+  pub all-ascending : (p : Plan) (step : ℕ) → p.old_end ≡ s.old_end → p.new_end ≡ s.new_end → p.total ≡ length ys → length ys < 2 ^ 64
+      → IfSome (slice_get old.checkpoints.items p.next) (λ c. s.old_end ≤ c.step) → step ≤ s.first → Ascending p step (drop p.next old.checkpoints.items)
+  all-ascending p step old_end new_end total few behind le =
+      ascending-behind p K (length xs) step p.next old.checkpoints.items kept.spaced.near
+      (subst (λ e. IfSome (slice_get old.checkpoints.items p.next) (λ c. e ≤ c.step)) (sym old_end) behind)
+      (let w = span.old_within in omega (arith, old_end))
+      (omega (arith, old_end, new_end, total, same-rest))
+      (omega (arith, total))
+      (let o = span.new_order in omega (arith, new_end))
+
+  pub all-qubits : (m : ℕ) → m ≡ n → All (λ c. c.tableau.qubits ≡ m) old.checkpoints.items
+  all-qubits m is = All-weaker (IsCheckpoint n coins xs) (λ c. c.tableau.qubits ≡ m) (λ c h. h.qubits ∙ sym is) old.checkpoints.items kept.checkpoints
+
+  -- how many steps it takes
+
+  pub applied-within : (m : ℕ) → IsBefore K (length xs) s.first m old.checkpoints.items → (begin end applied : ℕ)
+      → IfSome (slice_get old.checkpoints.items (m - 1)) (λ c. begin ≡ c.step) → applied + begin ≡ end → end ≤ length ys → applied ≤ (length ys - s.first) + K
+  applied-within m b begin end applied at counted within =
+      let here : begin ≡ b.copy.step = some-at (λ c. begin ≡ c.step) old.checkpoints.items (m - 1) b.copy b.here at in
+      let near = b.near in let o = span.new_order in let w = span.new_within in
+      omega (arith, here, near, counted, within)
+
+  next-near : (m e next : ℕ) → IsBefore K (length xs) s.first m old.checkpoints.items → e ≤ length old.checkpoints.items
+      → All (λ c. c.step < s.old_end) (take e old.checkpoints.items) → IfSome (slice_get old.checkpoints.items e) (λ c. s.old_end ≤ c.step) → next ≡ max e m
+      → MatchOption (slice_get old.checkpoints.items next) (length xs ≤ s.old_end + K) (λ c. c.step ≤ s.old_end + K)
+  next-near m e next b within front behind is =
+      elim (cases_lt m e) [
+        | inl lt ↦ subst (λ k. MatchOption (slice_get old.checkpoints.items k) (length xs ≤ s.old_end + K) (λ c. c.step ≤ s.old_end + K)) (omega (arith, is, lt))
+            (match-weaker (length xs ≤ s.old_end + K) (length xs ≤ s.old_end + K) (λ c. (s.old_end ≤ c.step) × (c.step ≤ s.old_end + K)) (λ c. c.step ≤ s.old_end + K)
+            (slice_get old.checkpoints.items e) (λ h. h) (λ c h. h.1)
+            (behind-near K (length xs) s.old_end e old.checkpoints.items kept.spaced within front behind))
+        | inr le ↦ subst (λ k. MatchOption (slice_get old.checkpoints.items k) (length xs ≤ s.old_end + K) (λ c. c.step ≤ s.old_end + K)) (omega (arith, is, le))
+            (match-weaker (length xs ≤ b.copy.step + K) (length xs ≤ s.old_end + K) (λ c. (b.copy.step ≤ c.step) × (c.step ≤ b.copy.step + K)) (λ c. c.step ≤ s.old_end + K)
+            (slice_get old.checkpoints.items m) (λ h. let w = b.within in let o = span.old_order in omega (arith, h)) (λ c h. let w = b.within in let o = span.old_order in let u = h.1 in omega (arith, u))
+            b.next)
+      ]
+
+  -- where both runs agree behind what was changed, it ends soon
+  ends-near : (p : Plan) → p.old_end ≡ s.old_end → p.new_end ≡ s.new_end → length ys < 2 ^ 64 → (r : Replay) (end : End)
+      → IfSome (slice_get old.checkpoints.items p.next) (λ c. s.old_end ≤ c.step) → AgreeBehind n coins xs ys s
+      → IsEnd n p r old.checkpoints.items old.outputs.records.items end → EndsSoon n coins p ys old.checkpoints.items old.outputs.records.items end
+      → r.step ≤ length ys → (o : Option Checkpoint) → slice_get old.checkpoints.items p.next ≡ o
+      → MatchOption o (length xs ≤ s.old_end + K) (λ c. c.step ≤ s.old_end + K) → r.step ≤ s.new_end + K
+  ends-near p old_end new_end few r end behind agree is_end soon within None is near = omega (arith, within, same-rest, near)
+  ends-near p old_end new_end few r end behind agree is_end soon within (Some c) is near =
+      let h : IsCheckpoint n coins xs c = at-get (IsCheckpoint n coins xs) old.checkpoints.items p.next c kept.checkpoints is in
+      let after : s.old_end ≤ c.step = some-at (λ c. s.old_end ≤ c.step) old.checkpoints.items p.next c is behind in
+      let inside = h.within in
+      let place : place_of p c ≡ s.new_end + (c.step - s.old_end) =
+      (λ i. moved (old_end i) (new_end i) c.step) ∙ moved-within s.old_end s.new_end c.step (length xs) inside (omega (arith, same-rest, few)) in
+      let same_step : s.old_end + (c.step - s.old_end) ≡ c.step = omega (arith, after) in
+      let agree_there : AgreeAt n (point_after n coins (take c.step xs) origin) (point_after n coins (take (place_of p c) ys) origin) =
+      subst (λ k. AgreeAt n (point_after n coins (take k xs) origin) (point_after n coins (take (place_of p c) ys) origin)) same_step
+      (subst (λ k. AgreeAt n (point_after n coins (take (s.old_end + (c.step - s.old_end)) xs) origin) (point_after n coins (take k ys) origin)) (sym place)
+      (agree-later n coins xs ys s.old_end s.new_end span.behind agree (c.step - s.old_end))) in
+      let records : take c.lengths.records old.outputs.records.items ≡ (outputs n coins (take c.step xs) origin).records =
+      (λ i. take (h.lengths i).records (kept.run.output i).records) ∙ ap (λ (o : Output). o.records) (front-output n coins xs c.step) in
+      let joined_here : end ≡ Joined p.next =
+      subst (λ o. IfSome o (λ c. (zs : List Step) → IsCheckpoint n coins zs c
+      → take c.lengths.records old.outputs.records.items ≡ (outputs n coins (take c.step zs) origin).records
+      → AgreeAt n (point_after n coins (take c.step zs) origin) (point_after n coins (take (place_of p c) ys) origin) → end ≡ Joined p.next)) is soon
+      xs h records agree_there in
+      let met = subst (IsEnd n p r old.checkpoints.items old.outputs.records.items) joined_here is_end in
+      let here : place_of p c ≡ r.step =
+      (subst (λ o. IsSomeAnd o (λ c. (place_of p c ≡ r.step) × Meets n r.tableau (output_of r.outputs) old.outputs.records.items c)) is met.1).0 in
+      omega (arith, here, place, near)
+
+  pub few-steps : (p : Plan) → p.old_end ≡ s.old_end → p.new_end ≡ s.new_end → length ys < 2 ^ 64 → (m e : ℕ) → IsBefore K (length xs) s.first m old.checkpoints.items
+      → e ≤ length old.checkpoints.items → All (λ c. c.step < s.old_end) (take e old.checkpoints.items)
+      → IfSome (slice_get old.checkpoints.items e) (λ c. s.old_end ≤ c.step) → p.next ≡ max e m → AgreeBehind n coins xs ys s → (r : Replay) (end : End)
+      → IsEnd n p r old.checkpoints.items old.outputs.records.items end → EndsSoon n coins p ys old.checkpoints.items old.outputs.records.items end
+      → r.step ≤ length ys → (begin applied : ℕ) → IfSome (slice_get old.checkpoints.items (m - 1)) (λ c. begin ≡ c.step) → applied + begin ≡ r.step
+      → applied ≤ (s.new_end - s.first) + 2 * K
+  few-steps p old_end new_end few m e b e_within front behind next agree r end is_end soon within begin applied at counted =
+      let here : begin ≡ b.copy.step = some-at (λ c. begin ≡ c.step) old.checkpoints.items (m - 1) b.copy b.here at in
+      let near = b.near in
+      let o = span.new_order in
+      let last : r.step ≤ s.new_end + K =
+      ends-near p old_end new_end few r end (next-behind e p.next (omega (arith, next)) behind) agree is_end soon within
+      (slice_get old.checkpoints.items p.next) refl (next-near m e p.next b e_within front behind next) in
+      omega (arith, here, near, counted, last)
+
+  -- what is kept of its end
+
+  front-copies : (m : ℕ) → All (λ c. c.step < s.first + 1) (take m old.checkpoints.items) → All (IsCheckpoint n coins ys) (take m old.checkpoints.items)
+  front-copies m front = λ k d lt.
+      copy-of-new (get_or (take m old.checkpoints.items) k d) (let l = front k d lt in omega arith)
+      (All-take (IsCheckpoint n coins xs) m old.checkpoints.items kept.checkpoints k d lt)
+
+  front-spaced : (m : ℕ) (b : IsBefore K (length xs) s.first m old.checkpoints.items)
+      → IsSpaced K b.copy.step (steps_of (take m old.checkpoints.items)) × (last_of 0 (steps_of (take m old.checkpoints.items)) ≡ b.copy.step)
+  front-spaced m b =
+      subst (λ steps. IsSpaced K b.copy.step steps × (last_of 0 steps ≡ b.copy.step)) same
+      (spaced-front K (length xs) (steps_of old.checkpoints.items) (m - 1) b.copy.step kept.spaced here)
+    where
+      same : take (m - 1 + 1) (steps_of old.checkpoints.items) ≡ steps_of (take m old.checkpoints.items)
+      same = ap (λ k. take k (steps_of old.checkpoints.items)) (let o = b.some in omega arith) ∙ take-map (λ c. c.step) m old.checkpoints.items
+
+      here : slice_get (steps_of old.checkpoints.items) (m - 1) ≡ Some b.copy.step
+      here = slice_get-map (λ c. c.step) old.checkpoints.items (m - 1) ∙ ap (option_map (λ c. c.step)) b.here
+
+  module _ (m : ℕ) (b : IsBefore K (length xs) s.first m old.checkpoints.items) (front : All (λ c. c.step < s.first + 1) (take m old.checkpoints.items))
+      (r : Replay) (replay : IsReplay n coins K b.copy.step ys r) (total : ℕ) (new : KeptRun)
+      (observables : new.observables.items ≡ with_additions new.outputs.additions.items (replicate total false)) where
+    -- behind the last step
+    kept-last : r.step ≡ length ys → new.tableau ≡ r.tableau → output_of new.outputs ≡ output_of r.outputs
+        → new.checkpoints.items ≡ all_laid K r.laid.items (take m old.checkpoints.items) → IsKeptRun n coins K ys total new
+    kept-last end tableau output copies = record {
+      qubits = ap (λ (t : TableauState). t.qubits) tableau ∙ replay.at_step.qubits;
+      run = record {
+        group = subst (λ t. SameGroup n (stabilises t) (member (point_after n coins ys origin).trace)) (sym tableau) whole.group;
+        output = output ∙ whole.output;
+      };
+      observables = observables;
+      checkpoints =
+          subst (All (IsCheckpoint n coins ys)) (sym copies)
+          (all-laid-all (IsCheckpoint n coins ys) K r.laid.items (take m old.checkpoints.items) replay.checkpoints (front-copies m front));
+      spaced =
+          subst (λ cs. IsSpaced K (length ys) (steps_of cs)) (sym copies)
+          (spaced-all K (length ys) b.copy.step r.laid.items (take m old.checkpoints.items)
+          (subst (λ k. Near K (b.copy.step ∷ steps_of r.laid.items ++ k ∷ [])) end replay.near)
+          (front-spaced m b).0 (front-spaced m b).1);
+    }
+      where
+        whole : IsRunFromStart n coins ys (sight r.tableau (output_of r.outputs))
+        whole =
+            subst (λ zs. IsRunFromStart n coins zs (sight r.tableau (output_of r.outputs))) (take_all r.step ys (omega (arith, end)))
+            replay.at_step.run
+
+    -- at an old copy that it meets
+    kept-joined : (j : ℕ) (d : Checkpoint) → slice_get old.checkpoints.items j ≡ Some d → s.old_end ≤ d.step → moved s.old_end s.new_end d.step ≡ r.step
+        → Meets n r.tableau (output_of r.outputs) old.outputs.records.items d → length ys < 2 ^ 64 → new.tableau ≡ old.tableau
+        → output_of new.outputs ≡ joined (output_of r.outputs) (rest_of d.lengths (output_of old.outputs))
+        → new.checkpoints.items
+        ≡ all_laid K (map (moved_copy (seam_at (output_of r.outputs) r.step d)) (drop j old.checkpoints.items)) (all_laid K r.laid.items (take m old.checkpoints.items))
+        → IsKeptRun n coins K ys total new
+    kept-joined j d here behind place meets few tableau output copies = record {
+      qubits = ap (λ (t : TableauState). t.qubits) tableau ∙ kept.qubits;
+      run = record {
+        group = λ p size. ap (λ t. stabilises t p) tableau ∙ kept.run.group p size ∙ (agree-end n coins xs ys d.step r.step same agree).group p size;
+        output =
+            output
+            ∙ (λ i. joined (replay.at_step.run.output i) (rest_of (is.lengths i) (kept.run.output i)))
+            ∙ sym (kept-tail n coins xs ys d.step r.step same agree);
+      };
+      observables = observables;
+      checkpoints =
+          subst (All (IsCheckpoint n coins ys)) (sym all_copies)
+          (all-laid-all (IsCheckpoint n coins ys) K (r.laid.items ++ behind_seam) (take m old.checkpoints.items)
+          (All-append (IsCheckpoint n coins ys) r.laid.items behind_seam replay.checkpoints
+          (All-map (IsCheckpoint n coins ys) (moved_copy seam) (drop j old.checkpoints.items) each_moved))
+          (front-copies m front));
+      spaced =
+          subst (λ cs. IsSpaced K (length ys) (steps_of cs)) (sym all_copies)
+          (spaced-all K (length ys) b.copy.step (r.laid.items ++ behind_seam) (take m old.checkpoints.items) (subst (Near K) steps_are near)
+          (front-spaced m b).0 (front-spaced m b).1);
+    }
+      where
+        is : IsCheckpoint n coins xs d
+        is = at-get (IsCheckpoint n coins xs) old.checkpoints.items j d kept.checkpoints here
+
+        step : r.step ≡ s.new_end + (d.step - s.old_end)
+        step =
+            sym place
+            ∙ moved-within s.old_end s.new_end d.step (length xs) is.within (omega (arith, same-rest, few))
+
+        same : drop d.step xs ≡ drop r.step ys
+        same =
+            ap (λ k. drop k xs) (omega (arith, behind))
+            ∙ sym (drop-drop (d.step - s.old_end) s.old_end xs)
+            ∙ ap (drop (d.step - s.old_end)) span.behind
+            ∙ drop-drop (d.step - s.old_end) s.new_end ys
+            ∙ ap (λ k. drop k ys) (sym step)
+
+        agree : AgreeAt n (point_after n coins (take d.step xs) origin) (point_after n coins (take r.step ys) origin)
+        agree =
+            meets-agree n coins xs (take r.step ys) d r.tableau (output_of r.outputs) old.outputs.records.items is
+            (ap (λ (o : Output). o.records) kept.run.output) replay.at_step.run meets
+
+        seam : Seam
+        seam = seam_at (output_of r.outputs) r.step d
+
+        behind_seam : List Checkpoint
+        behind_seam = map (moved_copy (seam_at (output_of r.outputs) r.step d)) (drop j old.checkpoints.items)
+
+        all_copies : new.checkpoints.items
+            ≡ all_laid K (r.laid.items ++ map (moved_copy (seam_at (output_of r.outputs) r.step d)) (drop j old.checkpoints.items)) (take m old.checkpoints.items)
+        all_copies =
+            copies
+            ∙ sym (all-laid-append K r.laid.items (map (moved_copy (seam_at (output_of r.outputs) r.step d)) (drop j old.checkpoints.items)) (take m old.checkpoints.items))
+
+        each_moved : All (λ c. IsCheckpoint n coins ys (moved_copy (seam_at (output_of r.outputs) r.step d) c)) (drop j old.checkpoints.items)
+        each_moved = λ k e lt.
+            checkpoint-moved n coins xs ys d.step r.step same agree (seam_at (output_of r.outputs) r.step d) (get_or (drop j old.checkpoints.items) k e) refl refl is.lengths
+            (ap lengths_of replay.at_step.run.output)
+            (all-behind K (length xs) d.step j old.checkpoints.items kept.spaced.near
+            (subst (λ o. IfSome o (λ c. d.step ≤ c.step)) (sym here) (omega arith)) k e lt).0
+            replay.at_step.within few (All-drop (IsCheckpoint n coins xs) j old.checkpoints.items kept.checkpoints k e lt)
+
+        near : Near K ((b.copy.step ∷ steps_of r.laid.items) ++ r.step ∷ (map (moved d.step r.step) (steps_of (drop (j + 1) old.checkpoints.items)) ++ length ys ∷ []))
+        near =
+            near-join K r.step (b.copy.step ∷ steps_of r.laid.items) (map (moved d.step r.step) (steps_of (drop (j + 1) old.checkpoints.items)) ++ length ys ∷ [])
+            replay.near
+            (subst (λ k. Near K (r.step ∷ map (moved d.step r.step) (steps_of (drop (j + 1) old.checkpoints.items)) ++ k ∷ []))
+            (let w = is.within in omega (arith, step, same-rest, behind))
+            (moved-near K d.step r.step (length xs) (steps_of (drop (j + 1) old.checkpoints.items))
+            (subst (λ steps. Near K (d.step ∷ steps ++ length xs ∷ [])) (drop-map (λ c. c.step) (j + 1) old.checkpoints.items)
+            (near-drop K (length xs) j d.step (steps_of old.checkpoints.items) kept.spaced.near
+            (slice_get-map (λ c. c.step) old.checkpoints.items j ∙ ap (option_map (λ c. c.step)) here)))
+            (let w = is.within in omega (arith, step, same-rest, behind, few))))
+
+        moved_steps : steps_of (map (moved_copy (seam_at (output_of r.outputs) r.step d)) (drop j old.checkpoints.items))
+            ≡ r.step ∷ map (moved d.step r.step) (steps_of (drop (j + 1) old.checkpoints.items))
+        moved_steps =
+            steps-moved (seam_at (output_of r.outputs) r.step d) (drop j old.checkpoints.items)
+            ∙ ap (λ cs. map (moved d.step r.step) (steps_of cs))
+            (drop_more old.checkpoints.items j d (slice_get_within old.checkpoints.items j d here)
+            ∙ ap (λ c. c ∷ drop (j + 1) old.checkpoints.items) (get_or_from_slice_get old.checkpoints.items j d d here))
+            ∙ ap (λ k. k ∷ map (moved d.step r.step) (steps_of (drop (j + 1) old.checkpoints.items)))
+            (let w = replay.at_step.within in omega (arith, w, few))
+
+        steps_are : (b.copy.step ∷ steps_of r.laid.items) ++ r.step ∷ (map (moved d.step r.step) (steps_of (drop (j + 1) old.checkpoints.items)) ++ length ys ∷ [])
+            ≡ b.copy.step ∷ steps_of (r.laid.items ++ map (moved_copy (seam_at (output_of r.outputs) r.step d)) (drop j old.checkpoints.items)) ++ length ys ∷ []
+        steps_are =
+            ap (λ steps. b.copy.step ∷ steps_of r.laid.items ++ (steps ++ length ys ∷ [])) (sym moved_steps)
+            ∙ ap (λ steps. b.copy.step ∷ steps)
+            (sym (append_assoc (steps_of r.laid.items) (steps_of (map (moved_copy (seam_at (output_of r.outputs) r.step d)) (drop j old.checkpoints.items))) (length ys ∷ []))
+            ∙ ap (λ steps. steps ++ length ys ∷ [])
+            (sym (map-append (λ c. c.step) r.laid.items (map (moved_copy (seam_at (output_of r.outputs) r.step d)) (drop j old.checkpoints.items)))))
+
+    -- however it ends
+    pub kept-end : (p : Plan) (end : End) (q : Prepared) → p.old_end ≡ s.old_end → p.new_end ≡ s.new_end → p.total ≡ length ys → length ys < 2 ^ 64
+        → IfSome (slice_get old.checkpoints.items p.next) (λ c. s.old_end ≤ c.step)
+        → IsEnd n p r old.checkpoints.items old.outputs.records.items end → IsRest old r.tableau (output_of r.outputs) r.step end (output_of q.outputs) q.rest
+        → reverse q.laid.items ≡ r.laid.items → IsCommitted old q m K new → IsKeptRun n coins K ys total new
+    kept-end p Last q old_end new_end total few next end rest laid committed =
+        kept-last (end ∙ total) (committed.tableau ∙ rest.1) (committed.output ∙ rest.2)
+        (committed.checkpoints ∙ (λ i. all_laid K (rest.0 i) (all_laid K (laid i) (take m old.checkpoints.items))))
+    kept-end p (Joined j) q old_end new_end total few next end rest laid committed =
+        let found = some-and (λ c. (place_of p c ≡ r.step) × Meets n r.tableau (output_of r.outputs) old.outputs.records.items c) (slice_get old.checkpoints.items j) end.1 in
+        let d = found.0 in
+        let is = some-at (IsOldRest old (output_of r.outputs) r.step j (output_of q.outputs) q.rest) old.checkpoints.items j d found.1 rest in
+        kept-joined j d found.1 (some-at (λ c. s.old_end ≤ c.step) old.checkpoints.items j d found.1 (from-drop (λ c. s.old_end ≤ c.step) old.checkpoints.items p.next j end.0 (all-next p.next next)))
+        ((λ i. moved (sym old_end i) (sym new_end i) d.step) ∙ found.2.0) found.2.1 few
+        (committed.tableau ∙ is.tableau) (committed.output ∙ is.output)
+        (committed.checkpoints ∙ (λ i. all_laid K (is.copies i) (all_laid K (laid i) (take m old.checkpoints.items))))
+
+-- flags and coins
+
+pub end-flags : (n : ℕ) (p : Plan) (r : Replay) (old : KeptRun) (end : End) (new : Output) (rest : Rest)
+    → IsEnd n p r old.checkpoints.items old.outputs.records.items end → IsRest old r.tableau (output_of r.outputs) r.step end new rest
+    → ones r.outputs.free.items ≤ ones new.free
+end-flags n p r old Last new rest end is = omega (arith, ap (λ (o : Output). ones o.free) is.2)
+end-flags n p r old (Joined j) new rest end is =
+    let found = some-and (λ c. (place_of p c ≡ r.step) × Meets n r.tableau (output_of r.outputs) old.outputs.records.items c) (slice_get old.checkpoints.items j) end.1 in
+    let d = found.0 in
+    let old_rest = some-at (IsOldRest old (output_of r.outputs) r.step j new rest) old.checkpoints.items j d found.1 is in
+    omega (arith, ap (λ (o : Output). ones o.free) old_rest.output, ones-append r.outputs.free.items (drop d.lengths.free old.outputs.free.items))
+
+coins-append : (xs ys : List Step) → all_coins_of (xs ++ ys) ≡ all_coins_of xs + all_coins_of ys
+coins-append [] ys = omega arith
+coins-append (x ∷ xs) ys = omega (arith, coins-append xs ys)
+
+pub coins-behind : (i : ℕ) (xs : List Step) → all_coins_of (drop i xs) ≤ all_coins_of xs
+coins-behind i xs = omega (arith, ap all_coins_of (take-append-drop i xs), coins-append (take i xs) (drop i xs))

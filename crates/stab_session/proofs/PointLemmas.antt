@@ -1,0 +1,295 @@
+-- Points: what runs from the start give, copies of their state, and seams, where two runs come to points of one future.
+use Rattle.std.proofs.Common.{◌≡◌, ℕ, ◌+◌, ◌-◌, ◌^◌, ◌<◌, ◌≤◌, refl, sym, ◌∙◌, ap, subst, Bool, true, false, List, [], ◌∷◌, ◌++◌, append_assoc, append-nil, length, take, drop, arith}
+use Rattle.std.proofs.lemmas.List.{length-append, length-take-le, length-drop, take-append-drop, take-take, take_at, drop_at, drop-take}
+use Rattle.stab_tableau.specs.Traces.{member}
+use Rattle.stab_tableau.specs.Groups.{SameGroup}
+use Rattle.stab_tableau.specs.Tableaus.{TableauState, stabilises}
+use Rattle.stab_circuit.specs.Steps.{Step, one, two, controlled, collapse, product, detector, observable}
+use Rattle.stab_session.specs.declared.checkpoint.Lengths.{Lengths}
+use Rattle.stab_session.specs.declared.checkpoint.Checkpoint.{Checkpoint}
+use Rattle.stab_session.specs.declared.checkpoint.Seam.{Seam}
+use Rattle.stab_session.specs.Points.{Point, Output, origin, joined, given, coins_of, next_point, point_after, outputs}
+use Rattle.stab_session.specs.Laws.{AgreeAt}
+use Rattle.stab_session.specs.inner.Sights.{Sight, Shows, IsRun, sight}
+use Rattle.stab_session.specs.inner.Checkpoints.{lengths_of, front_of, rest_of, IsRunFromStart, IsCheckpoint, moved, moved_lengths, moved_copy}
+use Rattle.stab_session.specs.inner.Replays.{Meets}
+use Rattle.stab_session.proofs.RunLemmas.{after-append, outputs-append}
+use Rattle.stab_session.proofs.FutureLemmas.{same-future}
+
+-- the flags and records behind some steps
+
+flags-given : (n : ℕ) (coins : ℕ → Bool) (x : Step) (p : Point) → length (given n coins x p).free ≡ coins_of x
+flags-given n coins (one g q) p = refl
+flags-given n coins (two g a b) p = refl
+flags-given n coins (controlled l k q) p = refl
+flags-given n coins (collapse l q recorded inverted resets) p = refl
+flags-given n coins (product factors inverted) p = refl
+flags-given n coins (detector ks) p = refl
+flags-given n coins (observable j ks) p = refl
+
+flags-counted : (n : ℕ) (coins : ℕ → Bool) (xs : List Step) (p : Point) → (point_after n coins xs p).coin ≡ p.coin + length (outputs n coins xs p).free
+flags-counted n coins [] p = omega arith
+flags-counted n coins (x ∷ xs) p =
+    let next = next_point n coins x p in
+    let later : (point_after n coins xs next).coin ≡ (p.coin + coins_of x) + length (outputs n coins xs next).free = flags-counted n coins xs next in
+    omega (arith, later, flags-given n coins x p, length-append (given n coins x p).free (outputs n coins xs next).free)
+
+records-gathered : (n : ℕ) (coins : ℕ → Bool) (xs : List Step) (p : Point) → (point_after n coins xs p).records ≡ p.records ++ (outputs n coins xs p).records
+records-gathered n coins [] p = sym (append-nil p.records)
+records-gathered n coins (x ∷ xs) p =
+    records-gathered n coins xs (next_point n coins x p)
+    ∙ append_assoc p.records (given n coins x p).records (outputs n coins xs (next_point n coins x p)).records
+
+pub flags-are-coins : (n : ℕ) (coins : ℕ → Bool) (xs : List Step) → length (outputs n coins xs origin).free ≡ (point_after n coins xs origin).coin
+flags-are-coins n coins xs = omega (arith, flags-counted n coins xs origin)
+
+pub records-are-records : (n : ℕ) (coins : ℕ → Bool) (xs : List Step) → (outputs n coins xs origin).records ≡ (point_after n coins xs origin).records
+records-are-records n coins xs = sym (records-gathered n coins xs origin)
+
+-- a run that goes on from a state of a run from the start
+
+pub shows-from-start : (n : ℕ) (coins : ℕ → Bool) (xs : List Step) (a : Sight) → IsRunFromStart n coins xs a → Shows n a (point_after n coins xs origin)
+shows-from-start n coins xs a h = record {
+  group = h.group;
+  coin = ap (λ (o : Output). length o.free) h.output ∙ flags-are-coins n coins xs;
+  records = ap (λ (o : Output). o.records) h.output ∙ records-are-records n coins xs;
+}
+
+pub resumed : (n : ℕ) (coins : ℕ → Bool) (xs zs : List Step) (a b : Sight) → IsRunFromStart n coins xs a → IsRun n coins zs a b → IsRunFromStart n coins (xs ++ zs) b
+resumed n coins xs zs a b h run =
+    let p = point_after n coins xs origin in
+    let led = run p (shows-from-start n coins xs a h) in
+    record {
+      group = subst (λ (q : Point). SameGroup n b.stabilised (member q.trace)) (sym (after-append n coins xs zs origin)) led.shows.group;
+      output =
+          led.output
+          ∙ ap (λ o. joined o (outputs n coins zs p)) h.output
+          ∙ sym (outputs-append n coins xs zs origin);
+    }
+
+-- what is given in two parts
+
+front-joined : (a b : Output) → front_of (lengths_of a) (joined a b) ≡ a
+front-joined a b = λ i. record {
+  records = take_at a.records b.records (length a.records) refl i;
+  free = take_at a.free b.free (length a.free) refl i;
+  detectors = take_at a.detectors b.detectors (length a.detectors) refl i;
+  additions = take_at a.additions b.additions (length a.additions) refl i;
+}
+
+rest-joined : (a b : Output) → rest_of (lengths_of a) (joined a b) ≡ b
+rest-joined a b = λ i. record {
+  records = drop_at a.records b.records (length a.records) refl i;
+  free = drop_at a.free b.free (length a.free) refl i;
+  detectors = drop_at a.detectors b.detectors (length a.detectors) refl i;
+  additions = drop_at a.additions b.additions (length a.additions) refl i;
+}
+
+cut : (n : ℕ) (coins : ℕ → Bool) (xs : List Step) (i : ℕ)
+    → outputs n coins xs origin ≡ joined (outputs n coins (take i xs) origin) (outputs n coins (drop i xs) (point_after n coins (take i xs) origin))
+cut n coins xs i = ap (λ ys. outputs n coins ys origin) (sym (take-append-drop i xs)) ∙ outputs-append n coins (take i xs) (drop i xs) origin
+
+pub front-output : (n : ℕ) (coins : ℕ → Bool) (xs : List Step) (i : ℕ)
+    → front_of (lengths_of (outputs n coins (take i xs) origin)) (outputs n coins xs origin) ≡ outputs n coins (take i xs) origin
+front-output n coins xs i =
+    let a = outputs n coins (take i xs) origin in
+    let b = outputs n coins (drop i xs) (point_after n coins (take i xs) origin) in
+    ap (front_of (lengths_of a)) (cut n coins xs i) ∙ front-joined a b
+
+rest-output : (n : ℕ) (coins : ℕ → Bool) (xs : List Step) (i : ℕ)
+    → rest_of (lengths_of (outputs n coins (take i xs) origin)) (outputs n coins xs origin) ≡ outputs n coins (drop i xs) (point_after n coins (take i xs) origin)
+rest-output n coins xs i =
+    let a = outputs n coins (take i xs) origin in
+    let b = outputs n coins (drop i xs) (point_after n coins (take i xs) origin) in
+    ap (rest_of (lengths_of a)) (cut n coins xs i) ∙ rest-joined a b
+
+-- each list of an output has at most so many elements
+pub record HasAtMost (k : ℕ) (o : Output) : Type 0 where
+  pub records : length o.records ≤ k
+  pub free : length o.free ≤ k
+  pub detectors : length o.detectors ≤ k
+  pub additions : length o.additions ≤ k
+
+given-short : (n : ℕ) (coins : ℕ → Bool) (x : Step) (p : Point) → HasAtMost 1 (given n coins x p)
+given-short n coins (one g q) p = record { records = omega arith; free = omega arith; detectors = omega arith; additions = omega arith }
+given-short n coins (two g a b) p = record { records = omega arith; free = omega arith; detectors = omega arith; additions = omega arith }
+given-short n coins (controlled l k q) p = record { records = omega arith; free = omega arith; detectors = omega arith; additions = omega arith }
+given-short n coins (collapse l q true inverted resets) p = record { records = omega arith; free = omega arith; detectors = omega arith; additions = omega arith }
+given-short n coins (collapse l q false inverted resets) p = record { records = omega arith; free = omega arith; detectors = omega arith; additions = omega arith }
+given-short n coins (product factors inverted) p = record { records = omega arith; free = omega arith; detectors = omega arith; additions = omega arith }
+given-short n coins (detector ks) p = record { records = omega arith; free = omega arith; detectors = omega arith; additions = omega arith }
+given-short n coins (observable j ks) p = record { records = omega arith; free = omega arith; detectors = omega arith; additions = omega arith }
+
+append-short : {X : Type 0} (xs ys : List X) (k : ℕ) → length xs ≤ 1 → length ys ≤ k → length (xs ++ ys) ≤ k + 1
+append-short xs ys k a b = omega (arith, length-append xs ys)
+
+joined-short : (k : ℕ) (a b : Output) → HasAtMost 1 a → HasAtMost k b → HasAtMost (k + 1) (joined a b)
+joined-short k a b s t = record {
+  records = append-short a.records b.records k s.records t.records;
+  free = append-short a.free b.free k s.free t.free;
+  detectors = append-short a.detectors b.detectors k s.detectors t.detectors;
+  additions = append-short a.additions b.additions k s.additions t.additions;
+}
+
+pub outputs-short : (n : ℕ) (coins : ℕ → Bool) (xs : List Step) (p : Point) → HasAtMost (length xs) (outputs n coins xs p)
+outputs-short n coins [] p = record { records = omega arith; free = omega arith; detectors = omega arith; additions = omega arith }
+outputs-short n coins (x ∷ xs) p =
+    let next = next_point n coins x p in
+    subst (λ k. HasAtMost k (outputs n coins (x ∷ xs) p)) (omega arith)
+    (joined-short (length xs) (given n coins x p) (outputs n coins xs next) (given-short n coins x p) (outputs-short n coins xs next))
+
+-- lengths that move with others
+
+moved-length : {X : Type 0} (xs ys zs : List X) → length (ys ++ zs) < 2 ^ 64 → moved (length xs) (length ys) (length (xs ++ zs)) ≡ length (ys ++ zs)
+moved-length xs ys zs few = omega (arith, length-append xs zs, length-append ys zs)
+
+moved-joined : (k : ℕ) (a b o : Output) → k < 2 ^ 64 → HasAtMost k (joined b o) → moved_lengths (lengths_of a) (lengths_of b) (lengths_of (joined a o)) ≡ lengths_of (joined b o)
+moved-joined k a b o few short = λ i. record {
+  records = moved-length a.records b.records o.records (let s = short.records in omega arith) i;
+  free = moved-length a.free b.free o.free (let s = short.free in omega arith) i;
+  detectors = moved-length a.detectors b.detectors o.detectors (let s = short.detectors in omega arith) i;
+  additions = moved-length a.additions b.additions o.additions (let s = short.additions in omega arith) i;
+}
+
+-- a copy before the first step that differs is one of both runs
+
+pub take-same : {X : Type 0} (i m : ℕ) (xs ys : List X) → i ≤ m → take m xs ≡ take m ys → take i xs ≡ take i ys
+take-same i m xs ys le same = sym (take-take i m xs le) ∙ ap (take i) same ∙ take-take i m ys le
+
+pub checkpoint-before : (n : ℕ) (coins : ℕ → Bool) (xs ys : List Step) (first : ℕ) (c : Checkpoint) → take first xs ≡ take first ys → c.step ≤ first → first ≤ length ys
+    → IsCheckpoint n coins xs c → IsCheckpoint n coins ys c
+checkpoint-before n coins xs ys first c same before within h = record {
+  within = omega arith;
+  qubits = h.qubits;
+  group = subst (λ zs. SameGroup n (stabilises c.tableau) (member (point_after n coins zs origin).trace)) (take-same c.step first xs ys before same) h.group;
+  lengths = h.lengths ∙ ap (λ zs. lengths_of (outputs n coins zs origin)) (take-same c.step first xs ys before same);
+}
+
+-- a run that begins at a copy
+pub begun-from-start : (n : ℕ) (coins : ℕ → Bool) (xs ys : List Step) (c : Checkpoint) (t : TableauState) (o : Output) → IsCheckpoint n coins ys c → take c.step xs ≡ take c.step ys
+    → t ≡ c.tableau → o ≡ front_of c.lengths (outputs n coins xs origin) → IsRunFromStart n coins (take c.step ys) (sight t o)
+begun-from-start n coins xs ys c t o h same tableau front = record {
+  group = subst (λ u. SameGroup n (stabilises u) (member (point_after n coins (take c.step ys) origin).trace)) (sym tableau) h.group;
+  output =
+      front
+      ∙ (λ i. front_of (lengths i) (outputs n coins xs origin))
+      ∙ front-output n coins xs c.step
+      ∙ ap (λ zs. outputs n coins zs origin) same;
+}
+  where
+    lengths : c.lengths ≡ lengths_of (outputs n coins (take c.step xs) origin)
+    lengths = h.lengths ∙ ap (λ zs. lengths_of (outputs n coins zs origin)) (sym same)
+
+-- a copy of one run that the other meets is at a point of the same future
+pub meets-agree : (n : ℕ) (coins : ℕ → Bool) (xs zs : List Step) (c : Checkpoint) (t : TableauState) (o : Output) (records : List Bool)
+    → IsCheckpoint n coins xs c → records ≡ (outputs n coins xs origin).records → IsRunFromStart n coins zs (sight t o) → Meets n t o records c
+    → AgreeAt n (point_after n coins (take c.step xs) origin) (point_after n coins zs origin)
+meets-agree n coins xs zs c t o records h kept run meets = record {
+  group = λ p size. sym (h.group p size) ∙ sym (meets.group p size) ∙ run.group p size;
+  coin =
+      sym (flags-are-coins n coins (take c.step xs))
+      ∙ sym (ap (λ (l : Lengths). l.free) h.lengths)
+      ∙ sym meets.coin
+      ∙ shown.coin;
+  records =
+      sym (records-are-records n coins (take c.step xs))
+      ∙ sym (ap (λ (q : Output). q.records) (front-output n coins xs c.step))
+      ∙ (λ i. take (sym (ap (λ (l : Lengths). l.records) h.lengths) i) (sym kept i))
+      ∙ sym meets.records
+      ∙ shown.records;
+}
+  where
+    shown : Shows n (sight t o) (point_after n coins zs origin)
+    shown = shows-from-start n coins zs (sight t o) run
+
+-- two runs that come to points of one future before step i of one and step k of the other, and have the same steps from there on
+
+pub take-more : {X : Type 0} (i m : ℕ) (xs : List X) → take (i + m) xs ≡ take i xs ++ take m (drop i xs)
+take-more i m xs = sym (take-append-drop i (take (i + m) xs)) ∙ (λ j. take-take i (i + m) xs (omega arith) j ++ drop-take i m xs j)
+
+module _ (n : ℕ) (coins : ℕ → Bool) (xs ys : List Step) (i k : ℕ) (same : drop i xs ≡ drop k ys)
+    (agree : AgreeAt n (point_after n coins (take i xs) origin) (point_after n coins (take k ys) origin)) where
+  old_later : (m : ℕ) → point_after n coins (take (i + m) xs) origin ≡ point_after n coins (take m (drop i xs)) (point_after n coins (take i xs) origin)
+  old_later m = ap (λ zs. point_after n coins zs origin) (take-more i m xs) ∙ after-append n coins (take i xs) (take m (drop i xs)) origin
+
+  new_later : (m : ℕ) → point_after n coins (take (k + m) ys) origin ≡ point_after n coins (take m (drop i xs)) (point_after n coins (take k ys) origin)
+  new_later m =
+      ap (λ zs. point_after n coins zs origin) (take-more k m ys ∙ ap (λ zs. take k ys ++ take m zs) (sym same))
+      ∙ after-append n coins (take k ys) (take m (drop i xs)) origin
+
+  old_outputs : (m : ℕ) → outputs n coins (take (i + m) xs) origin
+      ≡ joined (outputs n coins (take i xs) origin) (outputs n coins (take m (drop i xs)) (point_after n coins (take i xs) origin))
+  old_outputs m = ap (λ zs. outputs n coins zs origin) (take-more i m xs) ∙ outputs-append n coins (take i xs) (take m (drop i xs)) origin
+
+  new_outputs : (m : ℕ) → outputs n coins (take (k + m) ys) origin
+      ≡ joined (outputs n coins (take k ys) origin) (outputs n coins (take m (drop i xs)) (point_after n coins (take i xs) origin))
+  new_outputs m =
+      ap (λ zs. outputs n coins zs origin) (take-more k m ys ∙ ap (λ zs. take k ys ++ take m zs) (sym same))
+      ∙ outputs-append n coins (take k ys) (take m (drop i xs)) origin
+      ∙ ap (joined (outputs n coins (take k ys) origin)) (sym (same-future n coins (take m (drop i xs)) _ _ agree).0)
+
+  -- so many steps on they are at points of one future again
+  pub agree-later : (m : ℕ) → AgreeAt n (point_after n coins (take (i + m) xs) origin) (point_after n coins (take (k + m) ys) origin)
+  agree-later m =
+      subst (λ p. AgreeAt n p (point_after n coins (take (k + m) ys) origin)) (sym (old_later m))
+      (subst (AgreeAt n (point_after n coins (take m (drop i xs)) (point_after n coins (take i xs) origin))) (sym (new_later m))
+      (same-future n coins (take m (drop i xs)) _ _ agree).1)
+
+  -- and so they are behind the last step
+  pub agree-end : AgreeAt n (point_after n coins xs origin) (point_after n coins ys origin)
+  agree-end =
+      subst (λ zs. AgreeAt n (point_after n coins zs origin) (point_after n coins ys origin)) (take-append-drop i xs)
+      (subst (λ zs. AgreeAt n (point_after n coins (take i xs ++ drop i xs) origin) (point_after n coins zs origin))
+      (ap (λ zs. take k ys ++ zs) same ∙ take-append-drop k ys)
+      (subst (λ p. AgreeAt n p (point_after n coins (take k ys ++ drop i xs) origin)) (sym (after-append n coins (take i xs) (drop i xs) origin))
+      (subst (AgreeAt n (point_after n coins (drop i xs) (point_after n coins (take i xs) origin))) (sym (after-append n coins (take k ys) (drop i xs) origin))
+      (same-future n coins (drop i xs) _ _ agree).1)))
+
+  -- what the one gives from there on is what the other gives
+  pub kept-tail : outputs n coins ys origin
+      ≡ joined (outputs n coins (take k ys) origin) (rest_of (lengths_of (outputs n coins (take i xs) origin)) (outputs n coins xs origin))
+  kept-tail =
+      cut n coins ys k
+      ∙ ap (joined (outputs n coins (take k ys) origin))
+      (ap (λ zs. outputs n coins zs (point_after n coins (take k ys) origin)) (sym same)
+      ∙ sym (same-future n coins (drop i xs) _ _ agree).0
+      ∙ sym (rest-output n coins xs i))
+
+  -- a copy of the one from there on, moved, is a copy of the other
+  pub checkpoint-moved : (s : Seam) (c : Checkpoint) → s.old_step ≡ i → s.new_step ≡ k → s.old_lengths ≡ lengths_of (outputs n coins (take i xs) origin)
+      → s.new_lengths ≡ lengths_of (outputs n coins (take k ys) origin) → i ≤ c.step → k ≤ length ys → length ys < 2 ^ 64
+      → IsCheckpoint n coins xs c → IsCheckpoint n coins ys (moved_copy s c)
+  checkpoint-moved s c old new old_lengths new_lengths behind within few h = record {
+    within = omega (arith, place, inside);
+    qubits = h.qubits;
+    group =
+        subst (λ j. SameGroup n (stabilises c.tableau) (member (point_after n coins (take j ys) origin).trace)) (sym place)
+        (λ p size. old_group p size ∙ (agree-later (c.step - i)).group p size);
+    lengths =
+        (λ j. moved_lengths (old_lengths j) (new_lengths j) (shown j))
+        ∙ moved-joined (length (take (k + (c.step - i)) ys)) (outputs n coins (take i xs) origin) (outputs n coins (take k ys) origin)
+        (outputs n coins (take (c.step - i) (drop i xs)) (point_after n coins (take i xs) origin))
+        (omega (arith, length-take-le (k + (c.step - i)) ys inside, inside)) short
+        ∙ ap lengths_of (sym (new_outputs (c.step - i)))
+        ∙ ap (λ j. lengths_of (outputs n coins (take j ys) origin)) (sym place);
+  }
+    where
+      at : c.step ≡ i + (c.step - i)
+      at = omega arith
+
+      inside : k + (c.step - i) ≤ length ys
+      inside = let w = h.within in omega (arith, ap length same, length-drop i xs, length-drop k ys)
+
+      place : moved s.old_step s.new_step c.step ≡ k + (c.step - i)
+      place = omega (arith, inside)
+
+      old_group : SameGroup n (stabilises c.tableau) (member (point_after n coins (take (i + (c.step - i)) xs) origin).trace)
+      old_group = subst (λ j. SameGroup n (stabilises c.tableau) (member (point_after n coins (take j xs) origin).trace)) at h.group
+
+      shown : c.lengths
+          ≡ lengths_of (joined (outputs n coins (take i xs) origin) (outputs n coins (take (c.step - i) (drop i xs)) (point_after n coins (take i xs) origin)))
+      shown = h.lengths ∙ ap (λ j. lengths_of (outputs n coins (take j xs) origin)) at ∙ ap lengths_of (old_outputs (c.step - i))
+
+      short : HasAtMost (length (take (k + (c.step - i)) ys))
+          (joined (outputs n coins (take k ys) origin) (outputs n coins (take (c.step - i) (drop i xs)) (point_after n coins (take i xs) origin)))
+      short = subst (HasAtMost (length (take (k + (c.step - i)) ys))) (new_outputs (c.step - i)) (outputs-short n coins (take (k + (c.step - i)) ys) origin)

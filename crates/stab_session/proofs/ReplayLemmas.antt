@@ -1,0 +1,377 @@
+-- Replays: a run that goes on from a copy of an earlier one, what it asks of coins, and where it meets another copy.
+use Rattle.std.proofs.Common.{◌≡◌, ℕ, zero, suc, ◌+◌, ◌-◌, ◌<◌, ◌≤◌, ◌↔◌, refl, sym, ◌∙◌, ap, subst, Bool, ◌⊎◌, inl, inr, List, [], ◌∷◌, ◌++◌, All, IfSome, IsSomeAnd, Option, None, Some, slice_get, length, take, drop, arith}
+use Rattle.std.specs.Option.{option_map}
+use Rattle.std.proofs.lemmas.List.{length-take, length-drop, take-append-drop, take_at, take-take, drop-drop, drop-take, map-append}
+use Rattle.std.proofs.lemmas.List.Elements.{All-push}
+use Rattle.std.proofs.lemmas.Option.{IfSome_then, none-some, same_Some}
+use Rattle.stab_tableau.specs.Tableaus.{TableauState}
+use Rattle.stab_circuit.specs.Steps.{Step, one, two, controlled, collapse, product, detector, observable}
+use Rattle.stab_session.specs.declared.checkpoint.Lengths.{Lengths}
+use Rattle.stab_session.specs.declared.checkpoint.Checkpoint.{Checkpoint}
+use Rattle.stab_session.specs.declared.replay.Replay.{Replay}
+use Rattle.stab_session.specs.declared.replay.Plan.{Plan}
+use Rattle.stab_session.specs.declared.replay.End.TheVariants.{Last}
+use Rattle.stab_session.specs.declared.replay.Arrival.TheVariants.{Behind, Between}
+use Rattle.stab_session.specs.Points.{Output, origin, coins_of, all_coins_of, point_after, outputs}
+use Rattle.stab_session.specs.Laws.{AgreeAt}
+use Rattle.stab_session.specs.inner.Sights.{Sight, Shows, IsRun, sight, output_of}
+use Rattle.stab_session.specs.inner.Spacing.{Near, last_of}
+use Rattle.stab_session.specs.inner.Checkpoints.{IsRunFromStart, IsCheckpoint, lengths_of, steps_of}
+use Rattle.stab_session.specs.inner.Replays.{IsAtStep, IsReplay, Ascending, Meets, MeetsAt, IsPlacedAt, IsArrival, EndsSoon, place_of, copy_of}
+use Rattle.stab_session.proofs.PointLemmas.{resumed, shows-from-start, take-more, flags-are-coins, records-are-records}
+
+-- two lists that are the same up to a place: one begins the other where it does behind that place
+pub begins-behind : {X : Type 0} (xs ys : List X) (b : ℕ) → b ≤ length xs → take b xs ≡ take b ys
+    → (drop b xs ≡ take (length (drop b xs)) (drop b ys)) ↔ (xs ≡ take (length xs) ys)
+begins-behind xs ys b le same = (to, from)
+  where
+    rest : length xs ≡ b + length (drop b xs)
+    rest = omega (arith, length-drop b xs)
+
+    to : drop b xs ≡ take (length (drop b xs)) (drop b ys) → xs ≡ take (length xs) ys
+    to e =
+        sym (take-append-drop b xs)
+        ∙ (λ i. same i ++ e i)
+        ∙ sym (take-more b (length (drop b xs)) ys)
+        ∙ ap (λ k. take k ys) (sym rest)
+
+    from : xs ≡ take (length xs) ys → drop b xs ≡ take (length (drop b xs)) (drop b ys)
+    from e = ap (drop b) (e ∙ ap (λ k. take k ys) rest) ∙ drop-take b (length (drop b xs)) ys
+
+-- the coins that steps use up
+
+coins-one : (x : Step) → coins_of x ≤ 1
+coins-one (one g q) = omega arith
+coins-one (two g a b) = omega arith
+coins-one (controlled l k q) = omega arith
+coins-one (collapse l q recorded inverted resets) = omega arith
+coins-one (product factors inverted) = omega arith
+coins-one (detector ks) = omega arith
+coins-one (observable j ks) = omega arith
+
+coins-steps : (xs : List Step) → all_coins_of xs ≤ length xs
+coins-steps [] = omega arith
+coins-steps (x ∷ xs) = omega (arith, coins-one x, coins-steps xs)
+
+coins-append : (xs ys : List Step) → all_coins_of (xs ++ ys) ≡ all_coins_of xs + all_coins_of ys
+coins-append [] ys = omega arith
+coins-append (x ∷ xs) ys = omega (arith, coins-append xs ys)
+
+-- those from one step to another are no more than the steps
+pub coins-few : (k : ℕ) (xs : List Step) → all_coins_of (take k xs) ≤ k
+coins-few k xs = omega (arith, coins-steps (take k xs), length-take k xs)
+
+-- and with those behind the other they are all behind the one
+pub coins-cut : (i j : ℕ) (ys xs : List Step) → i ≤ j → xs ≡ drop i ys
+    → all_coins_of (take (j - i) xs) + all_coins_of (drop j ys) ≡ all_coins_of (drop i ys)
+coins-cut i j ys xs le left =
+    (λ k. all_coins_of (take (j - i) (left k)) + all_coins_of (behind k))
+    ∙ sym (coins-append (take (j - i) (drop i ys)) (drop (j - i) (drop i ys)))
+    ∙ ap all_coins_of (take-append-drop (j - i) (drop i ys))
+  where
+    behind : drop j ys ≡ drop (j - i) (drop i ys)
+    behind = ap (λ k. drop k ys) (omega arith) ∙ sym (drop-drop (j - i) i ys)
+
+-- a run on from a step
+
+-- it leaves the records that there were
+pub records-stay : (n : ℕ) (coins : ℕ → Bool) (xs zs : List Step) (old new : Sight) → IsRunFromStart n coins xs old → IsRun n coins zs old new
+    → old.output.records ≡ take (length old.output.records) new.output.records
+records-stay n coins xs zs old new h run =
+    let p = point_after n coins xs origin in
+    let led = run p (shows-from-start n coins xs old h) in
+    sym
+    (ap (λ (o : Output). take (length old.output.records) o.records) led.output
+    ∙ take_at old.output.records (outputs n coins zs p).records (length old.output.records) refl)
+
+-- and comes to the other
+pub run-on : (n : ℕ) (coins : ℕ → Bool) (ys : List Step) (old new : Replay) → IsAtStep n coins ys old → old.step ≤ new.step → new.step ≤ length ys
+    → new.tableau.qubits ≡ old.tableau.qubits → length new.string.letters ≡ length old.string.letters
+    → new.cursor.all ≡ old.cursor.all → new.cursor.left ≡ drop (new.step - old.step) old.cursor.left
+    → IsRun n coins (take (new.step - old.step) old.cursor.left) (sight old.tableau (output_of old.outputs)) (sight new.tableau (output_of new.outputs))
+    → IsAtStep n coins ys new
+run-on n coins ys old new h order within qubits string all left run = record {
+  qubits = qubits ∙ h.qubits;
+  string = string ∙ h.string;
+  all = all ∙ h.all;
+  left = left ∙ ap (drop (new.step - old.step)) h.left ∙ drop-drop (new.step - old.step) old.step ys ∙ ap (λ k. drop k ys) further;
+  within = within;
+  run =
+      subst (λ xs. IsRunFromStart n coins xs now) (sym (take-more old.step (new.step - old.step) ys) ∙ ap (λ k. take k ys) further)
+      (resumed n coins (take old.step ys) (take (new.step - old.step) (drop old.step ys)) before now h.run
+      (subst (λ xs. IsRun n coins (take (new.step - old.step) xs) before now) h.left run));
+}
+  where
+    before : Sight
+    before = sight old.tableau (output_of old.outputs)
+
+    now : Sight
+    now = sight new.tableau (output_of new.outputs)
+
+    further : old.step + (new.step - old.step) ≡ new.step
+    further = omega arith
+
+-- copies laid on the way
+
+copy-laid : (n : ℕ) (coins : ℕ → Bool) (ys : List Step) (r : Replay) → IsAtStep n coins ys r → IsCheckpoint n coins ys (copy_of r)
+copy-laid n coins ys r h = record {
+  within = h.within;
+  qubits = h.qubits;
+  group = h.run.group;
+  lengths = ap lengths_of h.run.output;
+}
+
+near-end : (K a e d : ℕ) (xs : List ℕ) → Near K (a ∷ xs ++ d ∷ []) → last_of a xs ≤ e → e ≤ last_of a xs + K → Near K (a ∷ xs ++ e ∷ [])
+near-end K a e d [] h le near = (le, near, tt)
+near-end K a e d (b ∷ xs) h le near = (h.0, h.1, near-end K b e d xs h.2 le near)
+
+last-more : (a e : ℕ) (xs : List ℕ) → last_of a (xs ++ e ∷ []) ≡ e
+last-more a e [] = refl
+last-more a e (b ∷ xs) = last-more b e xs
+
+near-more : (K a e : ℕ) (xs : List ℕ) → Near K (a ∷ xs ++ e ∷ []) → Near K (a ∷ (xs ++ e ∷ []) ++ e ∷ [])
+near-more K a e [] h = (h.0, h.1, (omega arith, omega arith, tt))
+near-more K a e (b ∷ xs) h = (h.0, h.1, near-more K b e xs h.2)
+
+-- where a run agrees with an old one at a copy, it meets that copy
+
+agree-meets : (n : ℕ) (coins : ℕ → Bool) (xs zs : List Step) (c : Checkpoint) (t : TableauState) (o : Output) (records : List Bool) → IsRunFromStart n coins zs (sight t o)
+    → IsCheckpoint n coins xs c → take c.lengths.records records ≡ (outputs n coins (take c.step xs) origin).records
+    → AgreeAt n (point_after n coins (take c.step xs) origin) (point_after n coins zs origin) → Meets n t o records c
+agree-meets n coins xs zs c t o records run h kept agree = record {
+  group = λ p size. run.group p size ∙ sym (agree.group p size) ∙ sym (h.group p size);
+  coin =
+      now.coin
+      ∙ sym agree.coin
+      ∙ sym (flags-are-coins n coins (take c.step xs))
+      ∙ sym (ap (λ (l : Lengths). l.free) h.lengths);
+  count = ap length same ∙ sym (ap (λ (l : Lengths). l.records) h.lengths);
+  records = same ∙ sym kept;
+}
+  where
+    now : Shows n (sight t o) (point_after n coins zs origin)
+    now = shows-from-start n coins zs (sight t o) run
+
+    same : o.records ≡ (outputs n coins (take c.step xs) origin).records
+    same = now.records ∙ sym agree.records ∙ sym (records-are-records n coins (take c.step xs))
+
+-- a replay on its way
+
+-- the old run does not agree with the new one at a copy
+abbrev pub Misses : ℕ → (ℕ → Bool) → Plan → List Step → List Bool → Checkpoint → Type 0
+Misses n coins p ys records c =
+    (xs : List Step) → IsCheckpoint n coins xs c → take c.lengths.records records ≡ (outputs n coins (take c.step xs) origin).records
+    → AgreeAt n (point_after n coins (take c.step xs) origin) (point_after n coins (take (place_of p c) ys) origin) → ⊥
+
+-- at a step where it stops, with this old copy to be met next: those before it were not met
+pub record IsAtStop (n : ℕ) (coins : ℕ → Bool) (begin : ℕ) (p : Plan) (ys : List Step) (copies : List Checkpoint) (old : List Bool) (next : ℕ) (r : Replay) : Type 0 where
+  pub replay : IsReplay n coins p.stride begin ys r
+  pub counted : r.applied + begin ≡ r.step
+  pub order : p.next ≤ next
+  pub within : next ≤ length copies
+  pub ascending : Ascending p r.step (drop next copies)
+  pub base : p.base ≤ length r.outputs.records.items
+  pub same : take p.base r.outputs.records.items ≡ take p.base old
+  pub first : (next ≡ p.next) ⊎ IfSome (slice_get copies p.next) (Misses n coins p ys old)
+
+-- and about to go on from there, with the last copy laid there
+pub record IsOnWay (n : ℕ) (coins : ℕ → Bool) (begin : ℕ) (p : Plan) (ys : List Step) (copies : List Checkpoint) (old : List Bool) (next : ℕ) (r : Replay) : Type 0 where
+  pub stop : IsAtStop n coins begin p ys copies old next r
+  pub last : last_of begin (steps_of r.laid.items) ≡ r.step
+
+-- where the next copy stands
+
+ascending-end : (p : Plan) (step : ℕ) (cs : List Checkpoint) → Ascending p step cs → step ≤ p.total
+ascending-end p step [] h = h
+ascending-end p step (c ∷ cs) h = let le = ascending-end p (place_of p c) cs h.1 in omega arith
+
+pub place-among : (p : Plan) (next : ℕ) (cs ds : List Checkpoint) (place : Option ℕ) → place ≡ option_map (place_of p) (slice_get cs next) → cs ≡ ds
+    → place ≡ option_map (place_of p) (slice_get ds next)
+place-among p next cs ds place e same = e ∙ ap (λ xs. option_map (place_of p) (slice_get xs next)) same
+
+-- a replay at a step is not behind the place of the next copy
+pub next-behind : (p : Plan) (step k : ℕ) (cs : List Checkpoint) → Ascending p step (drop k cs) → IfSome (option_map (place_of p) (slice_get cs k)) (λ q. step ≤ q)
+next-behind p step zero [] h = tt
+next-behind p step (suc k) [] h = tt
+next-behind p step zero (c ∷ cs) h = h.0
+next-behind p step (suc k) (c ∷ cs) h = next-behind p step k cs h
+
+-- and may stop there at the latest
+ascending-stop : (p : Plan) (step stop k : ℕ) (cs : List Checkpoint) → Ascending p step (drop k cs) → stop ≤ p.total
+    → IfSome (option_map (place_of p) (slice_get cs k)) (λ q. stop ≤ q) → Ascending p stop (drop k cs)
+ascending-stop p step stop zero [] h within before = within
+ascending-stop p step stop (suc k) [] h within before = within
+ascending-stop p step stop zero (c ∷ cs) h within before = (before, h.1)
+ascending-stop p step stop (suc k) (c ∷ cs) h within before = ascending-stop p step stop k cs h within before
+
+-- and at the last step that place is where it is
+placed-last : (p : Plan) (step k : ℕ) (cs : List Checkpoint) → Ascending p step (drop k cs) → step ≡ p.total → IfSome (slice_get cs k) (λ c. place_of p c ≡ step)
+placed-last p step zero [] h e = tt
+placed-last p step (suc k) [] h e = tt
+placed-last p step zero (c ∷ cs) h e = let le = h.0 in let within = ascending-end p (place_of p c) cs h.1 in omega arith
+placed-last p step (suc k) (c ∷ cs) h e = placed-last p step k cs h e
+
+-- behind the place of the next copy the one after it comes next
+later-within : (copies : List Checkpoint) (k : ℕ) (P : Checkpoint → Type 0) → IsSomeAnd (slice_get copies k) P → k < length copies
+later-within [] k P h = absurd h
+later-within (c ∷ cs) zero P h = omega arith
+later-within (c ∷ cs) (suc k) P h = let le = later-within cs k P h in omega arith
+
+later-ascending : (p : Plan) (step k : ℕ) (cs : List Checkpoint) → Ascending p step (drop k cs) → IsPlacedAt p cs k step → Ascending p step (drop (k + 1) cs)
+later-ascending p step zero [] h place = absurd place
+later-ascending p step (suc k) [] h place = absurd place
+later-ascending p step zero (c ∷ cs) h place = subst (λ m. Ascending p m cs) place h.1
+later-ascending p step (suc k) (c ∷ cs) h place =
+    let e : suc (k + 1) ≡ suc k + 1 = omega arith in
+    subst (λ m. Ascending p step (drop m (c ∷ cs))) e (later-ascending p step k cs h place)
+
+if-some : {X : Type 0} (o : Option X) (P : X → Type 0) → IsSomeAnd o P → IfSome o P
+if-some None P h = tt
+if-some (Some x) P h = h
+
+module _ (n : ℕ) (coins : ℕ → Bool) (begin : ℕ) (p : Plan) (ys : List Step) (copies : List Checkpoint) (old : List Bool) where
+  -- at the next stop
+  pub on-stop : (others : ℕ → Bool) (next stop : ℕ) (place : Option ℕ) (r s : Replay) → IsOnWay n coins begin p ys copies old next r → others ≡ coins
+      → IsAtStep r.tableau.qubits others r.cursor.all s → s.laid.items ≡ r.laid.items
+      → r.outputs.records.items ≡ take (length r.outputs.records.items) s.outputs.records.items → s.applied + r.step ≡ r.applied + stop → s.step ≡ stop
+      → r.step ≤ stop → stop ≤ p.total → stop ≤ r.step + p.stride → place ≡ option_map (place_of p) (slice_get copies next) → IfSome place (λ q. stop ≤ q)
+      → IsAtStop n coins begin p ys copies old next s
+  on-stop others next stop place r s h same_coins at laid records counted step order within near place_is before = record {
+    replay = record {
+      at_step =
+          subst (λ m. IsAtStep m coins ys s) was.qubits
+          (subst (λ xs. IsAtStep r.tableau.qubits coins xs s) was.all (subst (λ c. IsAtStep r.tableau.qubits c r.cursor.all s) same_coins at));
+      checkpoints = subst (All (IsCheckpoint n coins ys)) (sym laid) h.stop.replay.checkpoints;
+      near =
+          subst (λ cs. Near p.stride (begin ∷ steps_of cs ++ s.step ∷ [])) (sym laid)
+          (near-end p.stride begin s.step r.step (steps_of r.laid.items) h.stop.replay.near (let e = h.last in omega arith) (let e = h.last in omega arith));
+    };
+    counted = let e = h.stop.counted in omega arith;
+    order = h.stop.order;
+    within = h.stop.within;
+    ascending =
+        subst (λ k. Ascending p k (drop next copies)) (sym step)
+        (ascending-stop p r.step stop next copies h.stop.ascending within (subst (λ o. IfSome o (λ q. stop ≤ q)) place_is before));
+    base = let e = h.stop.base in omega (arith, ap length records, length-take (length r.outputs.records.items) s.outputs.records.items);
+    same =
+        sym (take-take p.base (length r.outputs.records.items) s.outputs.records.items h.stop.base)
+        ∙ ap (take p.base) (sym records)
+        ∙ h.stop.same;
+    first = h.stop.first;
+  }
+    where
+      was : IsAtStep n coins ys r
+      was = h.stop.replay.at_step
+
+  -- where it does not meet a copy at its place, the runs do not agree there
+  misses : (r : Replay) (c : Checkpoint) → IsAtStep n coins ys r → place_of p c ≡ r.step → (MeetsAt n p r old c → ⊥) → Misses n coins p ys old c
+  misses r c h place apart xs is_copy kept agree =
+      apart (
+        place,
+        agree-meets n coins xs (take r.step ys) c r.tableau (output_of r.outputs) old h.run is_copy kept
+            (subst (λ k. AgreeAt n (point_after n coins (take c.step xs) origin) (point_after n coins (take k ys) origin)) place agree),
+      )
+
+  missed : (r : Replay) (o : Option Checkpoint) → IsAtStep n coins ys r → IfSome o (λ c. place_of p c ≡ r.step) → IfSome o (λ c. MeetsAt n p r old c → ⊥)
+      → IfSome o (Misses n coins p ys old)
+  missed r None h place apart = tt
+  missed r (Some c) h place apart = misses r c h place apart
+
+  -- so the first copy was missed where it is missed now, or was before
+  first-missed : (next : ℕ) (r : Replay) → IsAtStop n coins begin p ys copies old next r → IfSome (slice_get copies next) (λ c. place_of p c ≡ r.step)
+      → IfSome (slice_get copies next) (λ c. MeetsAt n p r old c → ⊥) → IfSome (slice_get copies p.next) (Misses n coins p ys old)
+  first-missed next r h place apart =
+      elim h.first [
+        | inl e ↦ subst (λ k. IfSome (slice_get copies k) (Misses n coins p ys old)) e (missed r (slice_get copies next) h.replay.at_step place apart)
+        | inr before ↦ before
+      ]
+
+  -- and no early end is due behind the last step
+  pub soon-last : (next : ℕ) (r : Replay) → IsAtStop n coins begin p ys copies old next r → IsArrival n p r copies old next Behind
+      → EndsSoon n coins p ys copies old Last
+  soon-last next r h arrival =
+      IfSome_then (slice_get copies p.next) (first-missed next r h (placed-last p r.step next copies h.ascending arrival.0) arrival.1)
+      (λ c miss xs is_copy kept agree. absurd (miss xs is_copy kept agree))
+
+  -- before it the replay goes on, where it passed a copy with the one after it next
+  past : (next : ℕ) (r : Replay) → IsAtStop n coins begin p ys copies old next r → IsPlacedAt p copies next r.step
+      → IfSome (slice_get copies next) (λ c. MeetsAt n p r old c → ⊥) → IsAtStop n coins begin p ys copies old (next + 1) r
+  past next r h placed apart = record {
+    replay = h.replay;
+    counted = h.counted;
+    order = let le = h.order in omega arith;
+    within = let le = later-within copies next (λ c. place_of p c ≡ r.step) placed in omega arith;
+    ascending = later-ascending p r.step next copies h.ascending placed;
+    base = h.base;
+    same = h.same;
+    first = inr (first-missed next r h (if-some (slice_get copies next) (λ c. place_of p c ≡ r.step) placed) apart);
+  }
+
+  -- with a copy laid at its step
+  with-laid : (next : ℕ) (r s : Replay) → IsAtStop n coins begin p ys copies old next r → s.laid.items ≡ r.laid.items ++ copy_of r ∷ []
+      → IsOnWay n coins begin p ys copies old next (record r { laid = s.laid })
+  with-laid next r s h laid = record {
+    stop = record {
+      replay = record {
+        at_step = record {
+          qubits = h.replay.at_step.qubits;
+          string = h.replay.at_step.string;
+          all = h.replay.at_step.all;
+          left = h.replay.at_step.left;
+          within = h.replay.at_step.within;
+          run = h.replay.at_step.run;
+        };
+        checkpoints =
+            subst (All (IsCheckpoint n coins ys)) (sym laid)
+            (All-push (IsCheckpoint n coins ys) r.laid.items (copy_of r) h.replay.checkpoints (copy-laid n coins ys r h.replay.at_step));
+        near =
+            subst (λ ks. Near p.stride (begin ∷ ks ++ r.step ∷ [])) (sym steps)
+            (near-more p.stride begin r.step (steps_of r.laid.items) h.replay.near);
+      };
+      counted = h.counted;
+      order = h.order;
+      within = h.within;
+      ascending = h.ascending;
+      base = h.base;
+      same = h.same;
+      first = h.first;
+    };
+    last = ap (last_of begin) steps ∙ last-more begin r.step (steps_of r.laid.items);
+  }
+    where
+      steps : steps_of s.laid.items ≡ steps_of r.laid.items ++ r.step ∷ []
+      steps = ap steps_of laid ∙ map-append (λ (c : Checkpoint). c.step) r.laid.items (copy_of r ∷ [])
+
+  pub on-further : (next later : ℕ) (r s : Replay) → IsAtStop n coins begin p ys copies old next r → IsArrival n p r copies old next (Between later)
+      → s ≡ record r { laid = s.laid } → s.laid.items ≡ r.laid.items ++ copy_of r ∷ [] → IsOnWay n coins begin p ys copies old later s
+  on-further next later r s h arrival unchanged laid = subst (IsOnWay n coins begin p ys copies old later) (sym unchanged) (with-laid later r s there laid)
+    where
+      there : IsAtStop n coins begin p ys copies old later r
+      there =
+          elim arrival.2 [
+            | inl same ↦ subst (λ k. IsAtStop n coins begin p ys copies old k r) (sym same.0) h
+            | inr placed ↦ subst (λ k. IsAtStop n coins begin p ys copies old k r) (sym placed.0) (past next r h placed.1 arrival.1)
+          ]
+
+-- and fewer steps or fewer copies are left
+
+placed-at : (p : Plan) (o : Option Checkpoint) (step : ℕ) → option_map (place_of p) o ≡ Some step → IsSomeAnd o (λ c. place_of p c ≡ step)
+placed-at p None step e = absurd (none-some step e)
+placed-at p (Some c) step e = same_Some (place_of p c) step e
+
+pub fewer-left : (n : ℕ) (p : Plan) (copies : List Checkpoint) (old : List Bool) (next later step stop : ℕ) (place : Option ℕ) (r : Replay) → r.step ≡ stop → step ≤ stop
+    → stop ≤ p.total → place ≡ option_map (place_of p) (slice_get copies next) → (step < stop) ⊎ ((stop ≡ p.total) ⊎ (place ≡ Some stop))
+    → IsArrival n p r copies old next (Between later) → (p.total - r.step) + (length copies - later) < (p.total - step) + (length copies - next)
+fewer-left n p copies old next later step stop place r at order within place_is further arrival =
+    elim arrival.2 [
+      | inl same ↦
+          elim further [
+            | inl less ↦ let e = same.0 in omega arith
+            | inr other ↦
+                elim other [
+                  | inl e ↦ absurd (arrival.0 (at ∙ e))
+                  | inr e ↦ absurd (same.1 (placed-at p (slice_get copies next) r.step (sym place_is ∙ e ∙ ap Some (sym at))))
+                ]
+          ]
+      | inr placed ↦ let e = placed.0 in let le = later-within copies next (λ c. place_of p c ≡ r.step) placed.1 in omega arith
+    ]

@@ -1,0 +1,98 @@
+use Rattle.std.proofs.Common.{◌≡◌, ◌≤◌, [], ◌∷◌, ◌++◌, IfSome, sym, ◌∙◌, ap, subst, length, drop, arith}
+use Rattle.stab_session.specs.declared.replay.Replay.{Replay}
+use Rattle.stab_session.specs.declared.replay.Arrival.{Arrival}
+use Rattle.stab_session.specs.declared.replay.Arrival.TheVariants.{Behind, Between}
+use Rattle.stab_session.specs.Records.{ones}
+use Rattle.stab_session.specs.Points.{all_coins_of}
+use Rattle.stab_session.specs.inner.Replays.{IsReplay, IsArrival, copy_of}
+use Rattle.stab_session.proofs.ReplayLemmas.{IsAtStop, next-behind, place-among, on-stop, soon-last, on-further, fewer-left}
+use Rattle.stab_session.proofs.replay.Replay.follow.Given.{Over}
+use Rattle.stab_session.proofs.replay.Replay.follow.Goals as goal
+use Rattle.stab_session.proofs.replay.Replay.follow.Goals.{In_ok-run_to}
+
+stopped : (g : Over) (c : In_ok-run_to g) → IsAtStop c.args.self.now.tableau.qubits (g.C.Coins.sequence c.args.coins.now) c.args.self.now.step c.args.plan
+    c.args.self.now.cursor.all c.args.copies.now c.args.records.now c.loop-self.next c.run_to.new.self
+stopped g c =
+    let inv = c.loop-self.invariant in
+    let done = c.in_ok-run_to.ensures in
+    let stop = c.stop-stop.ensures in
+    on-stop c.args.self.now.tableau.qubits (g.C.Coins.sequence c.args.coins.now) c.args.self.now.step c.args.plan c.args.self.now.cursor.all
+    c.args.copies.now c.args.records.now (g.C.Coins.sequence c.loop-self.coins) c.loop-self.next c.stop-stop.result c.place.result c.loop-self.self c.run_to.new.self
+    inv.way inv.same_coins done.at_step done.laid done.records done.counted done.step stop.order stop.within stop.near
+    (place-among c.args.plan c.loop-self.next c.loop-self.copies c.args.copies.now c.place.result c.place.ensures.value inv.copies) stop.before
+
+arrived : (g : Over) (c : In_ok-run_to g) (a : Arrival)
+    → IsArrival c.run_to.new.self.tableau.qubits c.args.plan c.run_to.new.self c.loop-self.copies c.args.records.now c.loop-self.next a
+    → IsArrival c.args.self.now.tableau.qubits c.args.plan c.run_to.new.self c.args.copies.now c.args.records.now c.loop-self.next a
+arrived g c a h =
+    subst (λ n. IsArrival n c.args.plan c.run_to.new.self c.args.copies.now c.args.records.now c.loop-self.next a) (stopped g c).replay.at_step.qubits
+    (subst (λ cs. IsArrival c.run_to.new.self.tableau.qubits c.args.plan c.run_to.new.self cs c.args.records.now c.loop-self.next a) c.loop-self.invariant.copies h)
+
+replayed : (g : Over) (c : In_ok-run_to g) (r : Replay) → r ≡ c.run_to.new.self
+    → IsReplay c.args.self.now.tableau.qubits (g.C.Coins.sequence c.args.coins.now) c.args.plan.stride c.args.self.now.step c.args.self.now.cursor.all r
+replayed g c r same =
+    subst (IsReplay c.args.self.now.tableau.qubits (g.C.Coins.sequence c.args.coins.now) c.args.plan.stride c.args.self.now.step c.args.self.now.cursor.all) (sym same)
+    (stopped g c).replay
+
+pub stop-stop-requires-clause-behind : goal.stop-stop-requires-clause-behind
+stop-stop-requires-clause-behind g c =
+    let inv = c.loop-self.invariant in
+    subst (λ o. IfSome o (λ q. c.loop-self.self.step ≤ q))
+    (sym (place-among c.args.plan c.loop-self.next c.loop-self.copies c.args.copies.now c.place.result c.place.ensures.value inv.copies))
+    (next-behind c.args.plan c.loop-self.self.step c.loop-self.next c.args.copies.now inv.way.stop.ascending)
+
+pub returns-in-Met-clause-replay : goal.returns-in-Met-clause-replay
+returns-in-Met-clause-replay g c =
+    replayed g ((goal.at.returns-in-Met-clause-replay g c).In_ok-run_to) c.arrive.new.self c.arrive.ensures.unchanged
+
+pub returns-in-Behind-clause-replay : goal.returns-in-Behind-clause-replay
+returns-in-Behind-clause-replay g c =
+    replayed g ((goal.at.returns-in-Behind-clause-replay g c).In_ok-run_to) c.arrive.new.self c.arrive.ensures.unchanged
+
+pub returns-in-Behind-clause-soon : goal.returns-in-Behind-clause-soon
+returns-in-Behind-clause-soon g c =
+    let at = (goal.at.returns-in-Behind-clause-soon g c).In_ok-run_to in
+    soon-last c.args.self.now.tableau.qubits (g.C.Coins.sequence c.args.coins.now) c.args.self.now.step c.args.plan c.args.self.now.cursor.all c.args.copies.now
+    c.args.records.now c.loop-self.next c.run_to.new.self (stopped g at) (arrived g at Behind (c.in-Behind.ensures {u = tt}).value)
+
+pub loop-self-smaller : goal.loop-self-smaller
+loop-self-smaller g c =
+    let inv = c.loop-self.invariant in
+    let stop = c.stop-stop.ensures in
+    let at = (goal.at.loop-self-smaller g c).In_ok-run_to in
+    let fewer = fewer-left c.args.self.now.tableau.qubits c.args.plan c.args.copies.now c.args.records.now c.loop-self.next c.in-Between.later c.loop-self.self.step
+    c.stop-stop.result c.place.result c.run_to.new.self (c.in_ok-run_to.ensures {u = tt}).step stop.order stop.within
+    (place-among c.args.plan c.loop-self.next c.loop-self.copies c.args.copies.now c.place.result c.place.ensures.value inv.copies) stop.further
+    (arrived g at (Between c.in-Between.later) (c.in-Between.ensures {u = tt}).value) in
+    omega (arith, fewer, ap length inv.copies, ap length c.arrive.ensures.copies, ap (λ (r : Replay). r.step) c.lay.ensures.unchanged, ap (λ (r : Replay). r.step) c.arrive.ensures.unchanged)
+
+pub loop-self-preserved : goal.loop-self-preserved
+loop-self-preserved g c =
+    let inv = c.loop-self.invariant in
+    let done = c.in_ok-run_to.ensures {u = tt} in
+    let at = (goal.at.loop-self-preserved g c).In_ok-run_to in
+    let same : c.lay.new.self ≡ record c.run_to.new.self { laid = c.lay.new.self.laid } =
+    c.lay.ensures.unchanged ∙ ap (λ (r : Replay). record r { laid = c.lay.new.self.laid }) c.arrive.ensures.unchanged in
+    let step : c.lay.new.self.step ≡ c.stop-stop.result = ap (λ (r : Replay). r.step) same ∙ done.step in
+    record {
+      copies = c.arrive.ensures.copies ∙ inv.copies;
+      all = ap (λ (r : Replay). r.cursor.all) same ∙ done.all ∙ inv.all;
+      qubits = ap (λ (r : Replay). r.tableau.qubits) same ∙ done.qubits ∙ inv.qubits;
+      same_coins = done.same_coins ∙ inv.same_coins;
+      asks = omega (arith, done.asks, inv.asks, step);
+      asks_free = omega (arith, done.asks_free, inv.asks_free, ap (λ (r : Replay). ones r.outputs.free.items) same);
+      asked =
+          omega (
+            arith,
+            done.asked,
+            inv.asked,
+            ap (λ k. all_coins_of (drop k c.args.self.now.cursor.all)) step,
+            ap (λ xs. all_coins_of (drop c.stop-stop.result xs)) inv.all,
+            ap (λ xs. all_coins_of (drop c.loop-self.self.step xs)) inv.all,
+          );
+      way =
+          on-further c.args.self.now.tableau.qubits (g.C.Coins.sequence c.args.coins.now) c.args.self.now.step c.args.plan c.args.self.now.cursor.all
+          c.args.copies.now c.args.records.now c.loop-self.next c.in-Between.later c.run_to.new.self c.lay.new.self (stopped g at)
+          (arrived g at (Between c.in-Between.later) (c.in-Between.ensures {u = tt}).value) same
+          ((c.in_ok-lay.ensures {u = tt}).laid ∙ ap (λ (r : Replay). r.laid.items ++ copy_of r ∷ []) c.arrive.ensures.unchanged);
+    }

@@ -1,0 +1,45 @@
+-- Bounds: what an edit of a session may cost, in steps that are carried out and copies of the state that are kept.
+use Rattle.std.specs.Prelude.{ℕ, ◌+◌, ◌-◌, ◌*◌, ◌/◌, Bool, [], ◌∷◌, Option, Some, None, length, take, slice_get}
+use Rattle.stab_circuit.specs.Items.{OneItem, entries, listed}
+use Rattle.stab_circuit.specs.Steps.{unroll}
+use Rattle.stab_circuit.specs.Edits.{first_changed, old_end, new_end, put_item}
+use Rattle.stab_session.specs.declared.pending.Edit.{Edit}
+use Rattle.stab_session.specs.Points.{Point, origin, point_after}
+use Rattle.stab_session.specs.Laws.{AgreeAt}
+use Rattle.stab_session.specs.Sessions.{SessionState}
+use Rattle.stab_session.specs.SessionEdits.{change_of, place_of}
+
+-- how many steps a session's circuit has
+abbrev pub number_of_steps : {C : Type 0} → SessionState C → ℕ
+number_of_steps s = length (unroll s.items)
+
+-- at most so many copies are kept: two for each stride of steps, and two more
+abbrev pub most_checkpoints : {C : Type 0} → SessionState C → ℕ
+most_checkpoints s = 2 * (number_of_steps s / s.stride) + 2
+
+-- the steps behind the changed place, and a stride before it: an edit carries out no more of them
+abbrev pub steps_from_change : {C : Type 0} → Edit → SessionState C → SessionState C → ℕ
+steps_from_change e old new = (number_of_steps new - first_changed (place_of e) (entries old.items)) + new.stride
+
+-- how many steps an item has, or none where there is no item
+abbrev pub steps_of_item : Option OneItem → ℕ
+steps_of_item None = 0
+steps_of_item (Some x) = length (unroll (listed (x ∷ [])))
+
+-- how many steps an edit puts in: those of its item, none where it takes one out; inside blocks, those of the outermost block
+-- around its place, as the edit leaves it
+abbrev pub steps_put : {C : Type 0} → Edit → SessionState C → ℕ
+steps_put e new = steps_of_item (elim (place_of e).blocks [ [] ↦ put_item (change_of e) | b ∷ bs ↦ slice_get (entries new.items) b ])
+
+-- these steps, and two strides: where the runs agree behind the changed place, an edit carries out no more
+abbrev pub steps_near_change : {C : Type 0} → Edit → SessionState C → ℕ
+steps_near_change e new = steps_put e new + 2 * new.stride
+
+-- where a session's run is after so many steps
+abbrev pub point_at : {C : Type 0} → (C → ℕ → Bool) → SessionState C → ℕ → Point
+point_at sequence s k = point_after s.qubits (sequence s.coins) (take k (unroll s.items)) origin
+
+-- behind the changed place the old run and the new one have the same group, number of the next coin and records
+abbrev pub AgreeBehind : {C : Type 0} → (C → ℕ → Bool) → Edit → SessionState C → SessionState C → Type 0
+AgreeBehind sequence e old new =
+    AgreeAt new.qubits (point_at sequence old (old_end (change_of e) (place_of e) (entries old.items))) (point_at sequence new (new_end (change_of e) (place_of e) (entries new.items)))

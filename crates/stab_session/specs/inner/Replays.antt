@@ -1,0 +1,120 @@
+-- Replays: a run that is kept with copies of its state, and how another one that begins and may end like it is made from it.
+use Rattle.std.specs.Prelude.{◌≡◌, ◌≢◌, ℕ, ◌+◌, ◌≤◌, Bool, false, ◌⊎◌, List, [], ◌∷◌, ◌++◌, All, IfSome, IsSomeAnd, length, take, drop, replicate, slice_get}
+use Rattle.stab_tableau.specs.Tableaus.{TableauState, stabilises}
+use Rattle.stab_tableau.specs.Groups.{SameGroup}
+use Rattle.stab_circuit.specs.Steps.{Step}
+use Rattle.stab_session.specs.declared.checkpoint.Checkpoint.{Checkpoint}
+use Rattle.stab_session.specs.declared.replay.Replay.{Replay}
+use Rattle.stab_session.specs.declared.replay.Plan.{Plan}
+use Rattle.stab_session.specs.declared.replay.End.{End}
+use Rattle.stab_session.specs.declared.replay.End.TheVariants.{Last, Joined}
+use Rattle.stab_session.specs.declared.replay.Arrival.{Arrival}
+use Rattle.stab_session.specs.declared.replay.Arrival.TheVariants.{Behind, Met, Between}
+use Rattle.stab_session.specs.declared.kept.KeptRun.{KeptRun}
+use Rattle.stab_session.specs.declared.kept.Span.{Span}
+use Rattle.stab_session.specs.Points.{Output, origin, point_after, outputs, with_additions}
+use Rattle.stab_session.specs.Laws.{AgreeAt}
+use Rattle.stab_session.specs.inner.Sights.{sight, output_of}
+use Rattle.stab_session.specs.inner.Spacing.{IsSpaced, Near}
+use Rattle.stab_session.specs.inner.Checkpoints.{IsRunFromStart, IsCheckpoint, lengths_of, steps_of, moved}
+
+-- what is kept is the run of these steps, with so many observables, and copies at most K steps apart
+pub record IsKeptRun (n : ℕ) (coins : ℕ → Bool) (K : ℕ) (xs : List Step) (count : ℕ) (r : KeptRun) : Type 0 where
+  pub qubits : r.tableau.qubits ≡ n
+  pub run : IsRunFromStart n coins xs (sight r.tableau (output_of r.outputs))
+  pub observables : r.observables.items ≡ with_additions r.outputs.additions.items (replicate count false)
+  pub checkpoints : All (IsCheckpoint n coins xs) r.checkpoints.items
+  pub spaced : IsSpaced K (length xs) (steps_of r.checkpoints.items)
+
+-- contracts see the same of both
+pub record IsSameKept (a b : KeptRun) : Type 0 where
+  pub tableau : a.tableau ≡ b.tableau
+  pub output : output_of a.outputs ≡ output_of b.outputs
+  pub observables : a.observables.items ≡ b.observables.items
+  pub checkpoints : a.checkpoints.items ≡ b.checkpoints.items
+
+-- two lists of steps are the same before one step, and behind another of each
+pub record IsSpan (xs ys : List Step) (s : Span) : Type 0 where
+  pub old_order : s.first ≤ s.old_end
+  pub new_order : s.first ≤ s.new_end
+  pub old_within : s.old_end ≤ length xs
+  pub new_within : s.new_end ≤ length ys
+  pub before : take s.first xs ≡ take s.first ys
+  pub behind : drop s.old_end xs ≡ drop s.new_end ys
+
+-- what is kept is the run of other steps, from which these differ within the span
+pub record Follows (n : ℕ) (coins : ℕ → Bool) (K : ℕ) (ys : List Step) (s : Span) (r : KeptRun) : Type 0 where
+  pub old : List Step
+  pub count : ℕ
+  pub kept : IsKeptRun n coins K old count r
+  pub span : IsSpan old ys s
+
+-- behind what was changed both runs have the same group, number of the next coin and records
+abbrev pub AgreeBehind : ℕ → (ℕ → Bool) → List Step → List Step → Span → Type 0
+AgreeBehind n coins xs ys s = AgreeAt n (point_after n coins (take s.old_end xs) origin) (point_after n coins (take s.new_end ys) origin)
+
+-- where an old copy stands among the new steps
+abbrev pub place_of : Plan → Checkpoint → ℕ
+place_of p c = moved p.old_end p.new_end c.step
+
+-- what a replay holds is the run of the steps behind it, and its cursor has the others left
+pub record IsAtStep (n : ℕ) (coins : ℕ → Bool) (ys : List Step) (r : Replay) : Type 0 where
+  pub qubits : r.tableau.qubits ≡ n
+  pub string : length r.string.letters ≡ n
+  pub all : r.cursor.all ≡ ys
+  pub left : r.cursor.left ≡ drop r.step ys
+  pub within : r.step ≤ length ys
+  pub run : IsRunFromStart n coins (take r.step ys) (sight r.tableau (output_of r.outputs))
+
+-- a replay that began at a step has come so far, and laid copies on its way
+pub record IsReplay (n : ℕ) (coins : ℕ → Bool) (K begin : ℕ) (ys : List Step) (r : Replay) : Type 0 where
+  pub at_step : IsAtStep n coins ys r
+  pub checkpoints : All (IsCheckpoint n coins ys) r.laid.items
+  pub near : Near K (begin ∷ steps_of r.laid.items ++ r.step ∷ [])
+
+-- the places of old copies, the first at or behind a step, in order, and within the new steps
+abbrev pub Ascending : Plan → ℕ → List Checkpoint → Type 0
+Ascending p step [] = step ≤ p.total
+Ascending p step (c ∷ more) = (step ≤ place_of p c) × Ascending p (place_of p c) more
+
+-- where an old copy is of a state that a replay has come to: the same strings stabilise, and the number of the next coin and the
+-- records are the same
+pub record Meets (n : ℕ) (t : TableauState) (o : Output) (old : List Bool) (c : Checkpoint) : Type 0 where
+  pub group : SameGroup n (stabilises t) (stabilises c.tableau)
+  pub coin : length o.free ≡ c.lengths.free
+  pub count : length o.records ≡ c.lengths.records
+  pub records : o.records ≡ take c.lengths.records old
+
+-- an old copy stands at this step among the new ones
+abbrev pub IsPlacedAt : Plan → List Checkpoint → ℕ → ℕ → Type 0
+IsPlacedAt p copies number step = IsSomeAnd (slice_get copies number) (λ c. place_of p c ≡ step)
+
+-- a copy of the state that a replay has come to
+abbrev pub copy_of : Replay → Checkpoint
+copy_of r = record { step = r.step; lengths = lengths_of (output_of r.outputs); tableau = r.tableau }
+
+-- a replay is at the place of an old copy, and meets it
+abbrev pub MeetsAt : ℕ → Plan → Replay → List Bool → Checkpoint → Type 0
+MeetsAt n p r records c = (place_of p c ≡ r.step) × Meets n r.tableau (output_of r.outputs) records c
+
+-- what a replay comes to at the step where it stops: the old copy that may be met next, or the last step, or neither, and which copy
+-- may be met then
+abbrev pub IsArrival : ℕ → Plan → Replay → List Checkpoint → List Bool → ℕ → Arrival → Type 0
+IsArrival n p r copies records next Met = IsSomeAnd (slice_get copies next) (MeetsAt n p r records)
+IsArrival n p r copies records next Behind = (r.step ≡ p.total) × IfSome (slice_get copies next) (λ c. MeetsAt n p r records c → ⊥)
+IsArrival n p r copies records next (Between later) =
+    (r.step ≢ p.total)
+    × IfSome (slice_get copies next) (λ c. MeetsAt n p r records c → ⊥)
+    × ((later ≡ next) × (IsPlacedAt p copies next r.step → ⊥) ⊎ (later ≡ next + 1) × IsPlacedAt p copies next r.step)
+
+-- how a replay ended: behind the last step, or at the place of an old copy that it meets
+abbrev pub IsEnd : ℕ → Plan → Replay → List Checkpoint → List Bool → End → Type 0
+IsEnd n p r copies records Last = r.step ≡ p.total
+IsEnd n p r copies records (Joined j) = (p.next ≤ j) × IsSomeAnd (slice_get copies j) (MeetsAt n p r records)
+
+-- where the old run of some steps agrees with the new one at the first copy that may be met, the replay ended there
+abbrev pub EndsSoon : ℕ → (ℕ → Bool) → Plan → List Step → List Checkpoint → List Bool → End → Type 0
+EndsSoon n coins p ys copies records end =
+    IfSome (slice_get copies p.next) (λ c. (xs : List Step) → IsCheckpoint n coins xs c
+    → take c.lengths.records records ≡ (outputs n coins (take c.step xs) origin).records
+    → AgreeAt n (point_after n coins (take c.step xs) origin) (point_after n coins (take (place_of p c) ys) origin) → end ≡ Joined p.next)

@@ -1,0 +1,322 @@
+ghost use Rattle.std.specs.Prelude.{◌≡◌, ℕ, ◌+◌, ◌-◌, ◌*◌, ◌<◌, ◌≤◌, Bool, [], None, List, All, length, take, reverse, slice_get, vec_capacity, IfSome, OnOk, OnErr, IfOk, IfErr};
+ghost use Rattle.stab_pauli.specs.declared.refusal.Refusal.TheVariants.{OutOfMemory};
+ghost use Rattle.stab_circuit.specs.Steps.{Step, unroll, observables_of, check_of, check_within};
+ghost use Rattle.stab_circuit.specs.Views.{circuit_items};
+ghost use Rattle.stab_circuit.specs.Cursors.{IsApart};
+ghost use Rattle.stab_session.specs.Records.{ones};
+ghost use Rattle.stab_session.specs.Runs.{Refuses};
+ghost use Rattle.stab_session.specs.Points.{all_coins_of};
+ghost use Rattle.stab_session.specs.inner.Sights.{output_of};
+ghost use Rattle.stab_session.specs.inner.Checkpoints.{all_laid};
+ghost use Rattle.stab_session.specs.inner.Replays.{IsKeptRun, IsSameKept, IsSpan, Follows, AgreeBehind};
+ghost use Rattle.stab_session.specs.inner.Prepared.{Begins, HasCopy, IsRest, HasRoom, IsPrepared, copies_behind, IsCommitted};
+
+use crate::checkpoint::{Checkpoint, Seam, count_before, lay_all, take_moved};
+use crate::coins::Coins;
+use crate::outputs::{Outputs, observables};
+use crate::replay::{End, Plan, Replay};
+use stab_circuit::{Circuit, Cursor};
+use stab_pauli::{Fault, Pauli, Refusal};
+use stab_tableau::Tableau;
+use std::alloc::{AllocError, Global};
+
+/// A run that is kept: the state behind the last step, what the steps gave, and copies of the
+/// state on the way, the first before the first step.
+#[derive(Drop)]
+pub struct KeptRun {
+    pub tableau: Tableau,
+    pub outputs: Outputs,
+    pub observables: Vec<bool>,
+    pub checkpoints: Vec<Checkpoint>,
+}
+
+/// Which steps an edit changed: those from the first up to the one before the end, in the old
+/// steps and in the new ones.
+#[derive(Clone, Copy)]
+pub struct Span {
+    pub first: usize,
+    pub old_end: usize,
+    pub new_end: usize,
+}
+
+/// What a replay leaves, in memory of its own.
+#[derive(Drop)]
+struct Prepared {
+    outputs: Outputs,
+    observables: Vec<bool>,
+    // The copies laid on the way, the last first.
+    laid: Vec<Checkpoint>,
+    rest: Rest,
+}
+
+/// What comes behind the steps of a replay.
+#[derive(Drop)]
+enum Rest {
+    /// Nothing: this is the state behind the last step.
+    Nothing(Tableau),
+    /// The old run from the copy with this number on, which moves at the seam into the room.
+    Old(usize, Seam, Vec<Checkpoint>),
+}
+
+impl KeptRun {
+    /// The run of no steps.
+    pub fn new(alloc: Global, n: usize) -> Result<KeptRun, Refusal>
+        requires in_range { n ≤ 1024 }
+        ensures kept { (coins : ℕ → Bool) (K : ℕ) → IfOk result (IsKeptRun n coins K [] 0) }
+        ensures err { IfErr result (λ r. r ≡ OutOfMemory) }
+    {
+        let tableau = Tableau::new(alloc, n)?;
+        let outputs = Outputs::new(alloc);
+        let first = Checkpoint {
+            step: 0,
+            lengths: outputs.lengths(),
+            tableau: tableau.copy(alloc)?,
+        };
+        let checkpoints = vec![in alloc; first]?;
+        Ok(KeptRun {
+            tableau,
+            outputs,
+            observables: Vec::new(alloc),
+            checkpoints,
+        })
+    }
+
+    /// A replay from the copy with a number on.
+    fn resume<'a>(
+        &self,
+        alloc: Global,
+        circuit: &'a Circuit,
+        number: usize,
+    ) -> Result<Replay<'a>, Refusal>
+        requires in_range { number < length self.now.checkpoints.items }
+        requires checked { check_of (circuit_items circuit.now) ≡ None }
+        requires within { IfSome (slice_get self.now.checkpoints.items number) (λ copy. copy.step ≤ length (unroll (circuit_items circuit.now))) }
+        ensures begins { IfOk result (λ replay. IfSome (slice_get self.now.checkpoints.items number) (λ copy. Begins (unroll (circuit_items circuit.now)) self.now copy replay)) }
+        ensures err { IfErr result (λ r. r ≡ OutOfMemory) }
+    {
+        let copy = &self.checkpoints[number];
+        let string = Pauli::identity(alloc, self.tableau.len())?;
+        let tableau = copy.tableau.copy(alloc)?;
+        let outputs = self.outputs.front(alloc, copy.lengths)?;
+        let cursor = Cursor::at(alloc, circuit, copy.step)?;
+        Ok(Replay {
+            tableau,
+            string,
+            outputs,
+            cursor,
+            step: copy.step,
+            applied: 0,
+            laid: Vec::new(alloc),
+        })
+    }
+
+    /// Makes this the run of an edited circuit, whose steps differ within the span, and tells how
+    /// many steps were carried out for it. The run is as before where memory is refused.
+    pub fn follow<C: Coins>(
+        &mut self,
+        alloc: Global,
+        circuit: &Circuit,
+        span: Span,
+        stride: usize,
+        coins: &mut C,
+    ) -> Result<u64, Refusal>
+        requires checked { check_within self.old.tableau.qubits (circuit_items circuit.now) ≡ None }
+        requires stride { 1 ≤ stride }
+        requires follows { Follows self.old.tableau.qubits (C.sequence coins.old) stride (unroll (circuit_items circuit.now)) span self.old }
+        ensures kept { OnOk result (IsKeptRun self.old.tableau.qubits (C.sequence coins.old) stride (unroll (circuit_items circuit.now)) (observables_of (circuit_items circuit.now)) self.new) }
+        ensures apart { OnOk result (All IsApart (unroll (circuit_items circuit.now))) }
+        ensures qubits { self.new.tableau.qubits ≡ self.old.tableau.qubits }
+        ensures unchanged { OnErr result (IsSameKept self.new self.old) }
+        ensures same_coins { C.sequence coins.new ≡ C.sequence coins.old }
+        ensures asks { IfOk result (λ applied. C.asks coins.new ≤ C.asks coins.old + applied) }
+        ensures asks_free { OnOk result (C.asks coins.new ≤ C.asks coins.old + ones self.new.outputs.free.items) }
+        ensures asked { C.asks coins.new ≤ C.asks coins.old + all_coins_of (unroll (circuit_items circuit.now)) }
+        ensures applied { IfOk result (λ applied. applied ≤ (length (unroll (circuit_items circuit.now)) - span.first) + stride) }
+        ensures few { IfOk result (λ applied. (xs : List Step) (count : ℕ) → IsKeptRun self.old.tableau.qubits (C.sequence coins.old) stride xs count self.old → IsSpan xs (unroll (circuit_items circuit.now)) span → AgreeBehind self.old.tableau.qubits (C.sequence coins.old) xs (unroll (circuit_items circuit.now)) span → applied ≤ (span.new_end - span.first) + 2 * stride) }
+        ensures err { IfErr result (λ r. r ≡ OutOfMemory) }
+    {
+        let before = count_before(self.checkpoints.as_slice(), span.first + 1);
+        let mut replay = self.resume(alloc, circuit, before - 1)?;
+        let plan = Plan {
+            total: circuit.steps(),
+            stride,
+            old_end: span.old_end,
+            new_end: span.new_end,
+            next: count_before(self.checkpoints.as_slice(), span.old_end).max(before),
+            base: replay.outputs.records.len(),
+        };
+        let end = replay.follow(
+            alloc,
+            self.checkpoints.as_mut_slice(),
+            self.outputs.records.as_slice(),
+            plan,
+            coins,
+        )?;
+        let applied = replay.applied;
+        let prepared = self.prepare(alloc, replay, end, circuit.observables())?;
+        self.commit(prepared, before, stride);
+        Ok(applied)
+    }
+
+    /// Gathers what the run of the edited circuit is made of, and takes all memory for it.
+    fn prepare(
+        &mut self,
+        alloc: Global,
+        replay: Replay,
+        end: End,
+        count: usize,
+    ) -> Result<Prepared, Refusal>
+        requires in_range { HasCopy self.old.checkpoints.items end }
+        ensures unchanged { IsSameKept self.new self.old }
+        ensures prepared { IfOk result (IsPrepared self.old replay.entry count end) }
+        ensures room { IfOk result (λ p. HasRoom p.rest self.new.checkpoints.items) }
+        ensures capacity { IfOk result (λ p. length self.new.checkpoints.items + length p.laid.items ≤ vec_capacity self.new.checkpoints) }
+        ensures err { IfErr result (λ r. r ≡ OutOfMemory) }
+    {
+        let Replay {
+            tableau,
+            mut outputs,
+            mut laid,
+            step,
+            ..
+        } = replay;
+        let rest = self.rest(alloc, tableau, &mut outputs, step, end)?;
+        let observables = observables(alloc, count, outputs.additions.as_slice())?;
+        self.checkpoints.reserve(laid.len())?;
+        laid.reverse();
+        Ok(Prepared {
+            outputs,
+            observables,
+            laid,
+            rest,
+        })
+    }
+
+    /// What comes behind a replay that ended before a step with this tableau and these outputs, to
+    /// which the outputs behind it are appended.
+    fn rest(
+        &self,
+        alloc: Global,
+        tableau: Tableau,
+        outputs: &mut Outputs,
+        step: usize,
+        end: End,
+    ) -> Result<Rest, AllocError>
+        requires in_range { HasCopy self.now.checkpoints.items end }
+        ensures rest { IfOk result (IsRest self.now tableau (output_of outputs.old) step end (output_of outputs.new)) }
+        ensures room { IfOk result (λ rest. HasRoom rest self.now.checkpoints.items) }
+    {
+        match end {
+            End::Last => Ok(Rest::Nothing(tableau)),
+            End::Joined(number) => {
+                let copy = &self.checkpoints[number];
+                let seam = Seam {
+                    old_step: copy.step,
+                    new_step: step,
+                    old_lengths: copy.lengths,
+                    new_lengths: outputs.lengths(),
+                };
+                outputs.append_rest(&self.outputs, copy.lengths)?;
+                let room = Vec::with_capacity(alloc, self.checkpoints.len() - number)?;
+                Ok(Rest::Old(number, seam, room))
+            }
+        }
+    }
+
+    /// Puts what was prepared in place. It takes no memory.
+    fn commit(&mut self, prepared: Prepared, before: usize, stride: usize)
+        requires room { HasRoom prepared.rest self.old.checkpoints.items }
+        requires capacity { length self.old.checkpoints.items + length prepared.laid.items ≤ vec_capacity self.old.checkpoints }
+        requires behind { before + length (copies_behind prepared.rest self.old.checkpoints.items) ≤ length self.old.checkpoints.items }
+        ensures committed { IsCommitted self.old prepared before stride self.new }
+    {
+        let Prepared {
+            outputs,
+            observables,
+            mut laid,
+            rest,
+        } = prepared;
+        self.outputs = outputs;
+        self.observables = observables;
+        match rest {
+            Rest::Nothing(tableau) => {
+                self.tableau = tableau;
+                self.lay_behind(before, &mut laid, stride);
+            }
+            Rest::Old(number, seam, mut room) => {
+                take_moved(&mut self.checkpoints, number, seam, &mut room);
+                self.lay_behind(before, &mut laid, stride);
+                lay_all(&mut self.checkpoints, &mut room, stride);
+            }
+        }
+    }
+
+    /// Lays copies, the last of them first, behind so many of those that are kept. It takes no
+    /// memory.
+    fn lay_behind(&mut self, before: usize, laid: &mut Vec<Checkpoint>, stride: usize)
+        requires room { before + length laid.old.items ≤ vec_capacity self.old.checkpoints }
+        ensures tableau { self.new.tableau ≡ self.old.tableau }
+        ensures output { output_of self.new.outputs ≡ output_of self.old.outputs }
+        ensures observables { self.new.observables.items ≡ self.old.observables.items }
+        ensures checkpoints { self.new.checkpoints.items ≡ all_laid stride (reverse laid.old.items) (take before self.old.checkpoints.items) }
+        ensures shorter { length self.new.checkpoints.items ≤ before + length laid.old.items }
+        ensures capacity { vec_capacity self.new.checkpoints ≡ vec_capacity self.old.checkpoints }
+    {
+        self.checkpoints.truncate(before);
+        lay_all(&mut self.checkpoints, laid, stride);
+    }
+}
+
+/// Runs a circuit once on n qubits, at most 1,024, and keeps the run.
+///
+/// Refused as `Circuit::check` refuses, else `OutOfMemory`, always with line 0.
+pub fn run_kept<C: Coins>(
+    alloc: Global,
+    circuit: &Circuit,
+    n: usize,
+    stride: usize,
+    coins: &mut C,
+) -> Result<KeptRun, Fault>
+    requires in_range { n ≤ 1024 }
+    requires stride { 1 ≤ stride }
+    ensures kept { IfOk result (IsKeptRun n (C.sequence coins.old) stride (unroll (circuit_items circuit.now)) (observables_of (circuit_items circuit.now))) }
+    ensures apart { OnOk result (All IsApart (unroll (circuit_items circuit.now))) }
+    ensures refused { Refuses result (check_within n (circuit_items circuit.now)) }
+    ensures same_coins { C.sequence coins.new ≡ C.sequence coins.old }
+    ensures asks { C.asks coins.new ≤ C.asks coins.old + all_coins_of (unroll (circuit_items circuit.now)) }
+    ensures asks_free { IfOk result (λ r. C.asks coins.new ≤ C.asks coins.old + ones r.outputs.free.items) }
+{
+    circuit.check(n)?;
+    match run_checked(alloc, circuit, n, stride, coins) {
+        Ok(kept) => Ok(kept),
+        Err(refusal) => Err(Fault::whole(refusal)),
+    }
+}
+
+/// Runs a circuit that was checked: an edit that puts all of its steps in.
+fn run_checked<C: Coins>(
+    alloc: Global,
+    circuit: &Circuit,
+    n: usize,
+    stride: usize,
+    coins: &mut C,
+) -> Result<KeptRun, Refusal>
+    requires in_range { n ≤ 1024 }
+    requires stride { 1 ≤ stride }
+    requires checked { check_within n (circuit_items circuit.now) ≡ None }
+    ensures kept { IfOk result (IsKeptRun n (C.sequence coins.old) stride (unroll (circuit_items circuit.now)) (observables_of (circuit_items circuit.now))) }
+    ensures apart { OnOk result (All IsApart (unroll (circuit_items circuit.now))) }
+    ensures same_coins { C.sequence coins.new ≡ C.sequence coins.old }
+    ensures asks { C.asks coins.new ≤ C.asks coins.old + all_coins_of (unroll (circuit_items circuit.now)) }
+    ensures asks_free { IfOk result (λ r. C.asks coins.new ≤ C.asks coins.old + ones r.outputs.free.items) }
+    ensures err { IfErr result (λ r. r ≡ OutOfMemory) }
+{
+    let span = Span {
+        first: 0,
+        old_end: 0,
+        new_end: circuit.steps(),
+    };
+    let mut kept = KeptRun::new(alloc, n)?;
+    kept.follow(alloc, circuit, span, stride, coins)?;
+    Ok(kept)
+}

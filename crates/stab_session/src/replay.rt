@@ -1,0 +1,249 @@
+ghost use Rattle.std.specs.Prelude.{◌≡◌, ◌+◌, ◌<◌, ◌≤◌, ◌^◌, ◌↔◌, [], ◌∷◌, ◌++◌, All, IsTrue, OnOk, IfOk, IfErr, length, take, drop};
+ghost use Rattle.stab_pauli.specs.declared.refusal.Refusal.TheVariants.{OutOfMemory};
+ghost use Rattle.stab_session.specs.Records.{ones};
+ghost use Rattle.stab_session.specs.Points.{all_coins_of};
+ghost use Rattle.stab_session.specs.inner.Sights.{StepFits, output_of};
+ghost use Rattle.stab_session.specs.inner.Replays.{IsAtStep, IsReplay, Ascending, Meets, copy_of, IsArrival, IsEnd, EndsSoon};
+
+use crate::checkpoint::{Checkpoint, shifted};
+use crate::coins::Coins;
+use crate::outputs::Outputs;
+use crate::run::run_steps;
+use stab_circuit::Cursor;
+use stab_pauli::{Pauli, Refusal};
+use stab_tableau::Tableau;
+use std::alloc::{AllocError, Global};
+
+/// A run from some step on, on its way.
+#[derive(Drop)]
+pub struct Replay<'a> {
+    pub tableau: Tableau,
+    // A string on the tableau's qubits, for products to be written into.
+    pub string: Pauli,
+    pub outputs: Outputs,
+    pub cursor: Cursor<'a>,
+    /// How many steps of the circuit are behind.
+    pub step: usize,
+    /// How many steps were carried out.
+    pub applied: u64,
+    /// The copies laid on the way.
+    pub laid: Vec<Checkpoint>,
+}
+
+/// How far a replay may go, and what it may meet.
+#[derive(Clone, Copy)]
+pub struct Plan {
+    /// The number of steps of the circuit.
+    pub total: usize,
+    pub stride: usize,
+    /// The end of what was changed, in the old steps and in the new ones.
+    pub old_end: usize,
+    pub new_end: usize,
+    /// The first old copy that may be met.
+    pub next: usize,
+    /// So many records are those of the old run.
+    pub base: usize,
+}
+
+/// How a replay ended.
+#[derive(Clone, Copy, Debug, PartialEq, Eq)]
+pub enum End {
+    /// Behind the last step.
+    Last,
+    /// At the old copy with this number, from which on the old run went on as the new one would.
+    Joined(usize),
+}
+
+/// What a replay comes to where it stops.
+enum Arrival {
+    /// The old copy that might be met next, and it meets it.
+    Met,
+    /// The end: it is behind the last step.
+    Behind,
+    /// Neither, and the old copy with this number may be met next.
+    Between(usize),
+}
+
+impl Plan {
+    ghost use Rattle.std.specs.Prelude.{◌≡◌, ◌+◌, ◌≤◌, ◌<◌, ◌⊎◌, Option, Some, IfSome, slice_get};
+    ghost use Rattle.std.specs.Option.{option_map};
+    ghost use Rattle.stab_session.specs.inner.Replays.{place_of};
+
+    /// Where the old copy with a number stands among the new steps, if there is one.
+    fn place(self, copies: &[Checkpoint], number: usize) -> Option<usize>
+        ensures value { result ≡ option_map (place_of self) (slice_get copies.now number) }
+    {
+        match copies.get(number) {
+            Some(copy) => Some(shifted(self.old_end, self.new_end, copy.step)),
+            None => None,
+        }
+    }
+
+    /// Where a replay that is at a step stops next, before the place of an old copy or at it.
+    fn stop(self, step: usize, place: Option<usize>) -> usize
+        requires stride { 1 ≤ self.stride }
+        requires within { step ≤ self.total }
+        requires behind { IfSome place (λ p. step ≤ p) }
+        ensures order { step ≤ result }
+        ensures within { result ≤ self.total }
+        ensures near { result ≤ step + self.stride }
+        ensures before { IfSome place (λ p. result ≤ p) }
+        ensures further { (step < result) ⊎ ((result ≡ self.total) ⊎ (place ≡ Some result)) }
+    {
+        let stop = step.saturating_add(self.stride).min(self.total);
+        match place {
+            Some(place) => stop.min(place),
+            None => stop,
+        }
+    }
+}
+
+impl<'a> Replay<'a> {
+    /// Carries out the steps up to one.
+    fn run_to<C: Coins>(&mut self, coins: &mut C, stop: usize) -> Result<(), AllocError>
+        requires begun { IsAtStep self.old.tableau.qubits (C.sequence coins.old) self.old.cursor.all self.old }
+        requires fits { All (StepFits self.old.tableau.qubits) self.old.cursor.all }
+        requires order { self.old.step ≤ stop }
+        requires within { stop ≤ length self.old.cursor.all }
+        requires few { self.old.applied + length self.old.cursor.all < 2 ^ 63 }
+        ensures all { self.new.cursor.all ≡ self.old.cursor.all }
+        ensures qubits { self.new.tableau.qubits ≡ self.old.tableau.qubits }
+        ensures laid { self.new.laid.items ≡ self.old.laid.items }
+        ensures same_coins { C.sequence coins.new ≡ C.sequence coins.old }
+        ensures at_step { OnOk result (IsAtStep self.old.tableau.qubits (C.sequence coins.old) self.old.cursor.all self.new) }
+        ensures step { OnOk result (self.new.step ≡ stop) }
+        ensures records { OnOk result (self.old.outputs.records.items ≡ take (length self.old.outputs.records.items) self.new.outputs.records.items) }
+        ensures counted { OnOk result (self.new.applied + self.old.step ≡ self.old.applied + stop) }
+        ensures asks { C.asks coins.new + self.old.step ≤ C.asks coins.old + stop }
+        ensures asks_free { OnOk result (C.asks coins.new + ones self.old.outputs.free.items ≤ C.asks coins.old + ones self.new.outputs.free.items) }
+        ensures asked { C.asks coins.new + all_coins_of (drop stop self.old.cursor.all) ≤ C.asks coins.old + all_coins_of (drop self.old.step self.old.cursor.all) }
+    {
+        run_steps(
+            &mut self.tableau,
+            &mut self.string,
+            coins,
+            &mut self.outputs,
+            &mut self.cursor,
+            stop - self.step,
+            &mut self.applied,
+        )?;
+        self.step = stop;
+        Ok(())
+    }
+
+    /// Lays a copy of the state.
+    fn lay(&mut self, alloc: Global) -> Result<(), Refusal>
+        ensures unchanged { self.new ≡ record self.old { laid = self.new.laid } }
+        ensures laid { OnOk result (self.new.laid.items ≡ self.old.laid.items ++ copy_of self.old ∷ []) }
+        ensures err { IfErr result (λ r. r ≡ OutOfMemory) }
+    {
+        let copy = Checkpoint {
+            step: self.step,
+            lengths: self.outputs.lengths(),
+            tableau: self.tableau.copy(alloc)?,
+        };
+        self.laid.push(copy)?;
+        Ok(())
+    }
+
+    /// Whether the replay meets an old copy, whose run has these records, the first of which are
+    /// the same: what is cheap to compare comes first.
+    fn meets(&mut self, copy: &mut Checkpoint, records: &[bool], base: usize) -> bool
+        requires same_qubits { copy.old.tableau.qubits ≡ self.old.tableau.qubits }
+        requires base { base ≤ length self.old.outputs.records.items }
+        requires same_records { take base self.old.outputs.records.items ≡ take base records.now }
+        ensures unchanged { self.new ≡ self.old }
+        ensures copy { copy.new ≡ copy.old }
+        ensures value { IsTrue result ↔ Meets self.old.tableau.qubits self.old.tableau (output_of self.old.outputs) records.now copy.old }
+    {
+        self.outputs.free.len() == copy.lengths.free
+            && self.outputs.records.len() == copy.lengths.records
+            && same_behind(self.outputs.records.as_slice(), records, base)
+            && self.tableau.same_group(&mut copy.tableau)
+    }
+
+    /// What the replay comes to at its step, where this old copy may be met next.
+    fn arrive(
+        &mut self,
+        copies: &mut [Checkpoint],
+        records: &[bool],
+        plan: Plan,
+        next: usize,
+    ) -> Arrival
+        requires same_qubits { All (λ c. c.tableau.qubits ≡ self.old.tableau.qubits) copies.old }
+        requires base { plan.base ≤ length self.old.outputs.records.items }
+        requires same_records { take plan.base self.old.outputs.records.items ≡ take plan.base records.now }
+        requires next { next ≤ length copies.old }
+        ensures unchanged { self.new ≡ self.old }
+        ensures copies { copies.new ≡ copies.old }
+        ensures value { IsArrival self.old.tableau.qubits plan self.old copies.old records.now next result }
+    {
+        let placed = plan.place(copies, next) == Some(self.step);
+        if placed && self.meets(&mut copies[next], records, plan.base) {
+            Arrival::Met
+        } else if self.step == plan.total {
+            Arrival::Behind
+        } else {
+            Arrival::Between(next + usize::from(placed))
+        }
+    }
+
+    /// Carries out steps until the replay meets an old copy or is behind the last step, and lays
+    /// copies on the way.
+    pub fn follow<C: Coins>(
+        &mut self,
+        alloc: Global,
+        copies: &mut [Checkpoint],
+        records: &[bool],
+        plan: Plan,
+        coins: &mut C,
+    ) -> Result<End, Refusal>
+        requires begun { IsReplay self.old.tableau.qubits (C.sequence coins.old) plan.stride self.old.step self.old.cursor.all self.old }
+        requires nothing_laid { self.old.laid.items ≡ [] }
+        requires fits { All (StepFits self.old.tableau.qubits) self.old.cursor.all }
+        requires total { plan.total ≡ length self.old.cursor.all }
+        requires few { plan.total ≤ 1048576 }
+        requires stride { 1 ≤ plan.stride }
+        requires nothing_applied { self.old.applied ≡ 0 }
+        requires next { plan.next ≤ length copies.old }
+        requires ascending { Ascending plan self.old.step (drop plan.next copies.old) }
+        requires same_qubits { All (λ c. c.tableau.qubits ≡ self.old.tableau.qubits) copies.old }
+        requires base { plan.base ≤ length self.old.outputs.records.items }
+        requires same_records { take plan.base self.old.outputs.records.items ≡ take plan.base records.now }
+        ensures copies { copies.new ≡ copies.old }
+        ensures same_coins { C.sequence coins.new ≡ C.sequence coins.old }
+        ensures all { self.new.cursor.all ≡ self.old.cursor.all }
+        ensures qubits { self.new.tableau.qubits ≡ self.old.tableau.qubits }
+        ensures replay { OnOk result (IsReplay self.old.tableau.qubits (C.sequence coins.old) plan.stride self.old.step self.old.cursor.all self.new) }
+        ensures counted { OnOk result (self.new.applied + self.old.step ≡ self.new.step) }
+        ensures asks { OnOk result (C.asks coins.new + self.old.step ≤ C.asks coins.old + self.new.step) }
+        ensures asks_free { OnOk result (C.asks coins.new + ones self.old.outputs.free.items ≤ C.asks coins.old + ones self.new.outputs.free.items) }
+        ensures asked { C.asks coins.new ≤ C.asks coins.old + all_coins_of (drop self.old.step self.old.cursor.all) }
+        ensures end { IfOk result (IsEnd self.old.tableau.qubits plan self.new copies.old records.now) }
+        ensures soon { IfOk result (EndsSoon self.old.tableau.qubits (C.sequence coins.old) plan self.old.cursor.all copies.old records.now) }
+        ensures err { IfErr result (λ r. r ≡ OutOfMemory) }
+    {
+        let mut next = plan.next;
+        loop {
+            let stop = plan.stop(self.step, plan.place(copies, next));
+            self.run_to(coins, stop)?;
+            match self.arrive(copies, records, plan, next) {
+                Arrival::Met => return Ok(End::Joined(next)),
+                Arrival::Behind => return Ok(End::Last),
+                Arrival::Between(later) => next = later,
+            }
+            self.lay(alloc)?;
+        }
+    }
+}
+
+/// Whether a list goes on behind so many bits, which are the same, as another one begins.
+fn same_behind(bits: &[bool], others: &[bool], base: usize) -> bool
+    requires base { base ≤ length bits.now }
+    requires same { take base bits.now ≡ take base others.now }
+    ensures value { IsTrue result ↔ (bits.now ≡ take (length bits.now) others.now) }
+{
+    let (_, rest) = bits.split_at(base);
+    let (_, others) = others.split_at(base);
+    others.starts_with(rest)
+}

@@ -1,0 +1,48 @@
+//! The program `tour`: what a program of your own does with these crates, to be read first.
+//!
+//! It reads a circuit, runs it, opens a session on it, edits it, and prints what each step gives.
+//! `docs/library.md` goes through it, call by call.
+#![tactic(auto)]
+
+mod failure;
+mod shown;
+
+use failure::Failure;
+use shown::{Bits, Row};
+use stab_circuit::{Path, read_circuit, read_item};
+use stab_pauli::MemoryInput;
+use stab_session::{Edit, ListCoins, Session, run_once};
+
+/// A Bell pair, and a detector that compares its two measurements.
+const TEXT: &[u8] = b"H 0\nCX 0 1\nM 0 1\nDETECTOR rec[-1] rec[-2]\n";
+
+fn main(rt: HostRuntime) -> Result<(), Failure> {
+    let alloc = rt.alloc();
+    let circuit = read_circuit(alloc, &mut MemoryInput::new(TEXT))?;
+    let qubits = circuit.qubits();
+    println!(rt; "{} steps on {qubits} qubits", circuit.steps())?;
+
+    // Coin 0 is 1: it decides the first outcome. The second is fixed by then.
+    let shot = run_once(alloc, &circuit, qubits, &mut ListCoins::new(&[true]))?;
+    println!(rt; "records {}, of which coins decided {}", Bits(shot.records.as_slice()), Bits(shot.free.as_slice()))?;
+
+    let mut session = match Session::open(alloc, circuit, qubits, 8192, ListCoins::new(&[true])) {
+        Ok(session) => session,
+        Err(refused) => return Err(refused.fault.into()),
+    };
+    for row in session.reduced_rows(alloc)? {
+        println!(rt; "stabilised by {}", Row(&row))?;
+    }
+
+    // An error on qubit 1 before the measurements: which detectors tell of it?
+    let edit = Edit::Insert {
+        place: Path::new(&[2]),
+        item: read_item(alloc, b"X 1")?,
+    };
+    match session.apply(edit) {
+        Ok(report) => println!(rt; "edited, by {} steps", report.applied)?,
+        Err(refused) => return Err(refused.fault.into()),
+    }
+    println!(rt; "records {}, detectors {}", Bits(session.records()), Bits(session.detectors()))?;
+    Ok(())
+}

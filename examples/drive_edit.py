@@ -1,0 +1,60 @@
+#!/usr/bin/env python3
+"""Drives `stabsim edit` from a program: it sends a line, reads the reply, and decides what to send next.
+
+    python3 examples/drive_edit.py
+
+It asks a repetition code which detectors and observables an X on each qubit flips. Where an observable flips, it puts a
+second X behind the first and looks whether that undoes it. It needs Python alone.
+"""
+
+import pathlib
+import subprocess
+
+TOP = pathlib.Path(__file__).resolve().parent.parent
+CIRCUIT = TOP / "examples" / "repetition_code.stim"
+ERROR = 9  # the item that is an X on the way
+QUBITS = 5
+
+
+class Session:
+    """An editing session: each line that is sent has a reply of one line."""
+
+    def __init__(self, circuit):
+        words = [TOP / "stabsim", "edit", "--in", circuit]
+        self.program = subprocess.Popen(words, stdin=subprocess.PIPE, stdout=subprocess.PIPE, text=True, bufsize=1)
+
+    def ask(self, line):
+        self.program.stdin.write(line + "\n")
+        self.program.stdin.flush()
+        return self.program.stdout.readline().rstrip("\n")
+
+    def edit(self, line):
+        reply = self.ask(line)
+        if reply != "ok":
+            raise SystemExit(f"{line}: {reply}")
+
+    def close(self):
+        self.program.stdin.close()
+        return self.program.wait()
+
+
+def ones(bits):
+    return [place for place, bit in enumerate(bits) if bit == "1"]
+
+
+def main():
+    session = Session(CIRCUIT)
+    for qubit in range(QUBITS):
+        session.edit(f"replace {ERROR} X {qubit}")
+        detectors = ones(session.ask("show detectors"))
+        observables = ones(session.ask("show observables"))
+        print(f"X {qubit} flips detectors {detectors} and observables {observables}")
+        if observables:
+            session.edit(f"insert {ERROR} X {qubit}")
+            print(f"a second X {qubit} leaves detectors {ones(session.ask('show detectors'))}")
+            session.edit(f"delete {ERROR}")
+    print(f"status {session.close()}")
+
+
+if __name__ == "__main__":
+    main()

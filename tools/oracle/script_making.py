@@ -1,0 +1,73 @@
+"""Random edit scripts: each line suits the items that the lines before it left, or nearly."""
+
+from .making import Maker
+from .reading import Block
+from .scripts import Script
+
+SHOWN = ("measurements", "free", "detectors", "observables", "stabilisers", "circuit")
+
+
+def path_to(random, items, past_end):
+    """A path into the items; often into a block, seldom past a list or through something that is no block."""
+    path = []
+    while True:
+        blocks = [place for place, item in enumerate(items) if isinstance(item, Block)]
+        if blocks and len(path) < 17 and random.random() < 0.5:
+            place = random.choice(blocks)
+            path.append(place)
+            items = items[place].body
+            continue
+        path.append(random.randint(0, len(items) + (random.random() < 0.1) - (not past_end and bool(items))))
+        if random.random() < 0.03:
+            path.append(random.randint(0, 2))
+        return "/".join(map(str, path))
+
+
+def item_lines(random, maker):
+    if random.random() < 0.25:
+        return maker.block(1)
+    return [maker.line()]
+
+
+def edit_lines(random, session):
+    """The lines of one edit."""
+    kind = random.choice(("insert", "insert", "replace", "delete"))
+    path = path_to(random, session.items, kind == "insert")
+    if kind == "delete":
+        return [f"delete {path}"]
+    maker = Maker(random, max(1, session.qubits + (random.random() < 0.05)))
+    maker.records = random.randint(0, 4)
+    first, *more = item_lines(random, maker)
+    return [f"{kind} {path} {first}", *more]
+
+
+def spoilt(random, line):
+    """A line with a word too many, a word misspelt, or spacing and a comment round it."""
+    return random.choice((line + " 0", line.upper(), line[1:], "  " + line + "\t# why", line.replace(" ", "  ", 1), ""))
+
+
+def script(random, session):
+    """A script for a session, which is played on the way so that its lines suit what they meet."""
+    played = Script(session)
+    lines = []
+    for _ in range(random.randint(1, 12)):
+        more = edit_lines(random, session) if random.random() < 0.6 else ["show " + random.choice(SHOWN)]
+        if random.random() < 0.06:
+            more[0] = spoilt(random, more[0])
+        lines += more
+        for line in more:
+            played.line(line.encode())
+    return "\n".join(lines).encode() + (b"\n" if random.random() < 0.8 else b"")
+
+
+def edits(random, session, count):
+    """So many edits and nothing else, none of them shown: of a session too large to be run by the oracle."""
+    lines = []
+    played = Script(session)
+    for _ in range(count):
+        more = edit_lines(random, session)
+        lines += more
+        for line in more:
+            played.line(line.encode())
+    played.end()
+    return "\n".join(lines).encode() + b"\n"

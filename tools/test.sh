@@ -1,0 +1,33 @@
+#!/bin/sh
+# Runs all tests: the gate, `rt ci`, and then, on the programs that it built, each further step. It ends
+# with the gate's last line, and with status 0 where the gate and each step passed.
+set -u
+top=$(CDPATH='' cd -- "$(dirname -- "$0")/.." && pwd) || exit 2
+cd "$top" || exit 2
+
+# The steps behind the gate, a line each: a command, from the top of the repository.
+steps="tools/check_version.sh tools/check_words.py tools/refuse.sh tools/try_drive.sh tools/try_docs.sh"
+
+told=$(mktemp -d) || exit 2
+trap 'rm -rf "$told"' EXIT
+(
+    rt ci
+    echo $? >"$told/status"
+) | tee "$told/gate"
+status=$(cat "$told/status" 2>/dev/null || echo 2)
+if [ "$status" -ne 0 ]; then
+    echo "test: the gate failed, and the steps behind it were not run" >&2
+    tail -n 1 "$told/gate"
+    exit "$status"
+fi
+for step in $steps; do
+    echo "== $step"
+    if "$step"; then
+        echo "$step passed"
+    else
+        echo "$step FAILED"
+        status=1
+    fi
+done
+tail -n 1 "$told/gate"
+exit "$status"
