@@ -24,7 +24,11 @@ fn main(rt: HostRuntime) -> Result<(), Failure> {
 
     // Coin 0 is 1: it decides the first outcome. The second is fixed by then.
     let shot = run_once(alloc, &circuit, qubits, &mut ListCoins::new(&[true]))?;
-    println!(rt; "records {}, of which coins decided {}", Bits(shot.records.as_slice()), Bits(shot.free.as_slice()))?;
+    println!(rt;
+        "records {}, of which coins decided {}",
+        Bits(shot.records.as_slice()),
+        Bits(shot.free.as_slice())
+    )?;
 
     let mut session = match Session::open(alloc, circuit, qubits, 8192, ListCoins::new(&[true])) {
         Ok(session) => session,
@@ -43,6 +47,10 @@ fn main(rt: HostRuntime) -> Result<(), Failure> {
         Ok(report) => println!(rt; "edited, by {} steps", report.applied)?,
         Err(refused) => return Err(refused.fault.into()),
     }
-    println!(rt; "records {}, detectors {}", Bits(session.records()), Bits(session.detectors()))?;
+    println!(rt;
+        "records {}, detectors {}",
+        Bits(session.records()),
+        Bits(session.detectors())
+    )?;
     Ok(())
 }
