@@ -15,6 +15,9 @@ mod OneItemLemmas
 mod TextLemmas
 mod BlankLemmas
 mod RoundLemmas
+mod RunLemmas
+mod RunSumLemmas
+mod RunPartLemmas
 pub mod ApartLemmas
 mod ItemTextLemmas
 mod CircuitFaultLemmas
@@ -22,6 +25,7 @@ pub mod EditLemmas
 mod SpliceLemmas
 mod JudgementLemmas
 mod OutcomeLemmas
+mod RunEditLemmas
 mod CommitLemmas
 pub mod EditingLemmas
 pub mod UndoLemmas

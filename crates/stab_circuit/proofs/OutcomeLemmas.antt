@@ -72,7 +72,7 @@ taken_block b (Ok x) s e =
     (ap (λ t. t.behind) same, ap (λ t. t.first) same)
 taken_block b (Err r) s e = absurd (cc)
 
-taken_is : (change : Change) (bs : List ℕ) (p : ℕ) (xs : List OneItem) (s : Splice) → splice_of change bs p xs ≡ Ok s → outermost (behind_taken change) (record { blocks = bs; place = p }) ≡ s.behind
+pub taken_is : (change : Change) (bs : List ℕ) (p : ℕ) (xs : List OneItem) (s : Splice) → splice_of change bs p xs ≡ Ok s → outermost (behind_taken change) (record { blocks = bs; place = p }) ≡ s.behind
 taken_is change [] p xs s e = (taken_at change p (length xs) s e).0
 taken_is change (b ∷ bs) p xs s e = (taken_block b (edited_inside (edited_in change bs p) (slice_get xs b)) s e).0
 
@@ -87,7 +87,7 @@ judged_splice (Ok s) w j e = (s, refl, cc)
 judged_splice (Err r) w j e = absurd (cc)
 
 -- the steps of lists that are on different qubits
-apart_append : (xs ys : List OneItem) → AreApart xs → AreApart ys → AreApart (xs ++ ys)
+pub apart_append : (xs ys : List OneItem) → AreApart xs → AreApart ys → AreApart (xs ++ ys)
 apart_append xs ys a b = subst (All IsApart) (sym (steps-append xs ys)) (All-append IsApart (unroll (listed xs)) (unroll (listed ys)) a b)
 
 sum_of : (a b n m k : ℕ) → n ≡ min a 1048577 → m ≡ min b 1048577 → k ≡ min (n + m) 1048577 → k ≡ min (a + b) 1048577
@@ -180,6 +180,7 @@ outcome_is change blocks p xs taken front gone back j before of behind o e small
       total = summed_around change blocks p w xs front back j o.total e small first b (omega (arith, far.reach, ap (λ v. v.reach) hb))
           (ap (λ v. v.total) is ∙ ap (λ v. followed_by v (followed_by j.put behind)) hf ∙ ap (λ v. followed_by (summary_of (listed front)) (followed_by j.put v)) hb);
       small = all;
+      behind = ap (λ v. v.behind) is ∙ ap (λ v. v.behind) same ∙ sym (taken_is change blocks p xs s found.1);
       first = ends_first change blocks p xs front s before.steps j.within o.first found.1 first' (ap (λ v. v.steps) hf) (ap (λ v. v.within) same) (ap (λ v. v.first) is);
       front = begins;
       old_end = ends_old change blocks p xs front gone s before.steps of.steps o.old_end found.1 whole (ap (λ v. v.steps) hf) (ap (λ v. v.steps) hg) (ap (λ v. v.old_end) is);

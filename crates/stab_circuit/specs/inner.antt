@@ -11,3 +11,4 @@ pub mod Places
 pub mod Splices
 pub mod Judgements
 pub mod Outcomes
+pub mod Runs

@@ -8,8 +8,9 @@ ghost use Rattle.stab_circuit.specs.inner.Texts.{ReadsCircuit};
 mod edits;
 
 use crate::input::read_text;
-use crate::item::{Item, items_summary};
+use crate::item::Item;
 use crate::reader::read_lines;
+use crate::runs::{Run, Skipped, cut, front_summary, skip_runs};
 use crate::summary::Summary;
 use stab_pauli::{Fault, Input, Refusal};
 use std::alloc::Global;
@@ -21,6 +22,8 @@ use std::marker::Model;
 #[derive(Drop)]
 pub struct Circuit {
     items: Vec<Item>,
+    /// The items in runs.
+    runs: Vec<Run>,
     total: Summary,
 }
 
@@ -36,10 +39,11 @@ impl Model for Circuit {
     ghost coded = { entries_code };
 
     ghost use Rattle.stab_circuit.specs.inner.Summaries.{summary_of, IsSummary};
+    ghost use Rattle.stab_circuit.specs.inner.Runs.{AreCut};
 
     ghost view = { λ c. c.items.items };
 
-    ghost invariant = { λ c. (c.total ≡ summary_of (listed c.items.items)) × IsSummary c.total × (c.total.depth ≤ 16) × All IsApart (unroll (listed c.items.items)) };
+    ghost invariant = { λ c. (c.total ≡ summary_of (listed c.items.items)) × IsSummary c.total × (c.total.depth ≤ 16) × All IsApart (unroll (listed c.items.items)) × AreCut c.runs.items c.items.items };
 }
 
 impl Circuit {
@@ -48,6 +52,7 @@ impl Circuit {
     ghost use Rattle.stab_circuit.specs.Steps.{unroll, records_of, qubits_of, observables_of, check_of, check_within, Checks};
     ghost use Rattle.stab_circuit.specs.Cursors.{IsApart};
     ghost use Rattle.stab_circuit.specs.Views.{circuit_items};
+    ghost use Rattle.stab_circuit.specs.inner.Runs.{AreCut, Skips};
 
     /// The empty circuit, which takes no memory.
     #[tactic(auto, using(crate::proofs::StepApartLemmas::nothing_apart))]
@@ -56,21 +61,24 @@ impl Circuit {
     {
         Circuit {
             items: Vec::new(alloc),
+            runs: Vec::new(alloc),
             total: Summary::NONE,
         }
     }
 
-    /// The circuit of these items, where nothing refuses it as a whole.
-    #[tactic(auto, using(crate::proofs::SummaryLemmas::check_judged))]
-    fn of_items(items: Vec<Item>) -> Result<Circuit, Fault>
+    /// The circuit of these items, which are cut into runs, where nothing refuses it as a whole.
+    #[tactic(auto, using(crate::proofs::RunPartLemmas::check_taken))]
+    fn of_items(items: Vec<Item>, runs: Vec<Run>) -> Result<Circuit, Fault>
         requires shallow { depth (listed items.items) ≤ 16 }
+        requires cut { AreCut runs.items items.items }
+        requires apart { All IsApart (unroll (listed items.items)) }
         ensures value { IfOk result (λ c. c ≡ items.items) }
         ensures checked { Checks result (check_of (listed items.items)) }
     {
-        let total = items_summary(items.as_slice());
+        let total = front_summary(items.as_slice(), runs.as_slice(), items.len());
         match total.refusal() {
             Some(refusal) => Err(Fault::whole(refusal)),
-            None => Ok(Circuit { items, total }),
+            None => Ok(Circuit { items, runs, total }),
         }
     }
 
@@ -82,6 +90,14 @@ impl Circuit {
     {
         let _ = &self.total;
         self.items.as_slice()
+    }
+
+    /// Leaves out steps from the first on, by whole runs of items.
+    pub(crate) fn skip(&self, steps: u32) -> Skipped
+        requires few { steps ≤ 1048576 }
+        ensures skips { Skips steps self.now result }
+    {
+        skip_runs(self.items.as_slice(), self.runs.as_slice(), steps)
     }
 
     /// One more than the greatest qubit named anywhere, by QUBIT_COORDS too, or 0. It is at most
@@ -137,7 +153,8 @@ fn circuit_of_text(alloc: Global, text: &[u8]) -> Result<Circuit, Fault>
     ensures only { IfErr result (IsPlaced is_of_circuit) }
 {
     let items = read_lines(alloc, false, text)?;
-    Circuit::of_items(items)
+    let runs = cut(alloc, items.as_slice())?;
+    Circuit::of_items(items, runs)
 }
 
 /// Reads the circuit that the input's text stands for.

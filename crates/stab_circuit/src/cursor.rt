@@ -52,8 +52,9 @@ impl<'a> Cursor<'a> {
         ensures err { IfErr result (λ r. r ≡ OutOfMemory) }
     {
         let items = circuit.items();
-        let mut walk = Walk::new(alloc, items)?;
-        walk.skip(step as u32);
+        let skipped = circuit.skip(step as u32);
+        let mut walk = Walk::new(alloc, items, skipped.items)?;
+        walk.skip(skipped.rest);
         Ok(Cursor { items, walk })
     }
 

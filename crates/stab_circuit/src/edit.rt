@@ -5,10 +5,12 @@ ghost use Rattle.stab_circuit.specs.Edits.{edited_in, steps_in as steps_of_place
 ghost use Rattle.stab_circuit.specs.inner.Summaries.{IsSummary};
 ghost use Rattle.stab_circuit.specs.inner.Splices.{splice_of, splice_at};
 ghost use Rattle.stab_circuit.specs.inner.Judgements.{judgement_of, IsBlockAt, BeginsWith};
-ghost use Rattle.stab_circuit.specs.inner.Outcomes.{steps_within, PutsApart, outcome_by, IsOutcome};
+ghost use Rattle.stab_circuit.specs.inner.Outcomes.{steps_within, PutsApart, AreApart, outcome_by, IsOutcome};
+ghost use Rattle.stab_circuit.specs.inner.Runs.{AreCut};
 
 use crate::change::Change;
 use crate::item::{Item, Part, items_summary};
+use crate::runs::{Run, back_summary, front_summary};
 use crate::summary::Summary;
 use stab_lines::Count;
 use stab_pauli::Refusal;
@@ -24,14 +26,15 @@ pub(crate) struct Judgement {
     pub(crate) within: u32,
 }
 
-/// What a list comes to by an edit: the summary of the items that the edit leaves, and which steps
-/// it changes.
+/// What a list comes to by an edit: the summary of the items that the edit leaves, the place behind
+/// those that leave the list, and which steps it changes.
 ///
 /// Steps are counted up to 1,048,577: how many stand before the place, before the end of what
 /// leaves the list, and before the end of what is put in its stead.
 #[derive(Clone, Copy)]
 pub(crate) struct Outcome {
     pub(crate) total: Summary,
+    pub(crate) behind: usize,
     pub(crate) first: u32,
     pub(crate) old_end: u32,
     pub(crate) new_end: u32,
@@ -138,6 +141,7 @@ fn outcome_of(judgement: Judgement, front: Summary, gone: Summary, back: Summary
     let new_end = front.steps + judgement.put.steps;
     Outcome {
         total: front.then(judgement.put.then(back)),
+        behind: judgement.behind,
         first: first.min(1_048_577),
         old_end: old_end.min(1_048_577),
         new_end: new_end.min(1_048_577),
@@ -168,6 +172,30 @@ pub(crate) fn outcome_in(
                 items_summary(back),
             ))
         }
+    }
+}
+
+/// What a list that is cut into runs comes to by a change at a place in nested blocks.
+pub(crate) fn outcome_by_runs(
+    items: &[Item],
+    runs: &[Run],
+    blocks: &[usize],
+    place: usize,
+    change: &Change,
+) -> Result<Outcome, Refusal>
+    requires cut { AreCut runs.now items.now }
+    requires apart { AreApart items.now }
+    ensures ok { IfOk result (IsOutcome change.now (record { blocks = blocks.now; place = place }) items.now) }
+    ensures refused { IfErr result (λ r. edited_in change.now blocks.now place items.now ≡ Err r) }
+{
+    match judge(items, blocks, place, change) {
+        Err(refusal) => Err(refusal),
+        Ok(judgement) => Ok(outcome_of(
+            judgement,
+            front_summary(items, runs, judgement.first),
+            items_summary(&items[judgement.first..judgement.behind]),
+            back_summary(items, runs, judgement.behind),
+        )),
     }
 }
 

@@ -6,6 +6,7 @@
 //! - `reader`: the items of a text's lines, with the blocks that are open.
 //! - `input`: reading an input whole.
 //! - `summary`: the numbers that are kept.
+//! - `runs`: those of runs of a circuit's items, so that a long circuit is added up fast.
 //! - `path`, `change`: where a circuit is edited, and what for.
 //! - `edit`, `commit`: judging an edit by what items keep, and making it.
 //! - `circuit`: circuits, reading one, and editing one.
@@ -40,6 +41,7 @@ pub mod laws;
 mod path;
 mod print;
 mod reader;
+mod runs;
 mod step;
 mod summary;
 mod walk;

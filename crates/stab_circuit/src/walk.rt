@@ -46,11 +46,11 @@ impl<'a> Walk<'a> {
     ghost use Rattle.stab_circuit.specs.Cursors.{step_shown, IsApart};
     ghost use Rattle.stab_circuit.specs.inner.Walks.{kind_steps, ahead, walk_left, walk_weight, weight, weight_at, IsWalk, SameKind, Takes, GoesOn, Passes};
 
-    /// A walk over the items from the first on, with room for every level.
-    pub fn new(alloc: Global, items: &'a [Item]) -> Result<Walk<'a>, AllocError>
+    /// A walk over the items from a place on, with room for every level.
+    pub fn new(alloc: Global, items: &'a [Item], place: usize) -> Result<Walk<'a>, AllocError>
         requires shallow { depth (listed items.now) ≤ 16 }
         ensures walks { IfOk result IsWalk }
-        ensures left { IfOk result (λ w. walk_left w ≡ unroll (listed items.now)) }
+        ensures left { IfOk result (λ w. walk_left w ≡ unroll (listed (drop place items.now))) }
         ensures none { IfOk result (λ w. w.kind ≡ None) }
     {
         let around = Vec::with_capacity(alloc, 16)?;
@@ -59,7 +59,7 @@ impl<'a> Walk<'a> {
             within: 0,
             top: Level {
                 items,
-                place: 0,
+                place,
                 rounds: 0,
             },
             around,

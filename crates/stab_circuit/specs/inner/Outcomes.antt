@@ -8,7 +8,7 @@ use Rattle.stab_circuit.specs.Items.{OneItem, listed}
 use Rattle.stab_circuit.specs.Steps.{Step, unroll}
 use Rattle.stab_circuit.specs.Cursors.{IsApart}
 use Rattle.stab_circuit.specs.Paths.{Path}
-use Rattle.stab_circuit.specs.Edits.{edited, inner, steps_in, steps_before, first_changed, old_end, new_end}
+use Rattle.stab_circuit.specs.Edits.{edited, inner, steps_in, steps_before, first_changed, behind_taken, outermost, old_end, new_end}
 use Rattle.stab_circuit.specs.inner.Summaries.{followed_by, IsSummary}
 use Rattle.stab_circuit.specs.inner.Splices.{Splice}
 use Rattle.stab_circuit.specs.inner.Judgements.{summed, BeginsWith}
@@ -30,6 +30,7 @@ AreApart xs = All IsApart (unroll (listed xs))
 abbrev pub outcome_by : Judgement → Summary → Summary → Summary → Outcome
 outcome_by j front gone back = record {
   total = followed_by front (followed_by j.put back);
+  behind = j.behind;
   first = min (front.steps + j.within) 1048577;
   old_end = min (front.steps + gone.steps) 1048577;
   new_end = min (front.steps + j.put.steps) 1048577;
@@ -39,6 +40,7 @@ outcome_by j front gone back = record {
 pub record IsOutcome (change : Change) (path : Path) (xs : List OneItem) (o : Outcome) : Type 0 where
   pub total : Ok o.total ≡ summed (edited change path xs)
   pub small : IsSummary o.total
+  pub behind : o.behind ≡ outermost (behind_taken change) path
   pub first : o.first ≡ min (first_changed path xs) 1048577
   pub front : BeginsWith (steps_before path xs) (unroll (listed xs))
   pub old_end : o.old_end ≡ min (old_end change path xs) 1048577

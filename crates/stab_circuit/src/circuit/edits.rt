@@ -1,17 +1,20 @@
-ghost use Rattle.std.specs.Prelude.{◌≡◌, Some, None, if◌then◌else◌, nat_lt};
+ghost use Rattle.std.specs.Prelude.{◌≡◌, ◌≤◌, ◌<◌, ◌+◌, length, Some, None, OnOk, OnErr, if◌then◌else◌, nat_lt};
 ghost use Rattle.stab_pauli.specs.Refusals.{whole};
 ghost use Rattle.stab_pauli.specs.declared.refusal.Refusal.TheVariants.{QubitOutOfRange};
-ghost use Rattle.stab_circuit.specs.Edits.{put_item};
+ghost use Rattle.stab_circuit.specs.Edits.{put_item, IsInsert};
 ghost use Rattle.stab_circuit.specs.inner.Summaries.{judged};
+ghost use Rattle.stab_circuit.specs.inner.Runs.{AreCut};
 
 use super::Circuit;
 use crate::change::{Change, Edited, Refused};
 use crate::commit::commit;
-use crate::edit::{Outcome, outcome_in, steps_in};
+use crate::edit::{Outcome, outcome_by_runs, steps_in};
 use crate::item::Item;
 use crate::path::Path;
+use crate::runs::{Run, find, make_room, renew};
 use crate::summary::Summary;
 use stab_pauli::{Fault, Refusal};
+use std::alloc::AllocError;
 
 /// A change that is refused, with the item that it would have put in.
 fn refused(change: Change, refusal: Refusal) -> Refused
@@ -36,6 +39,26 @@ fn refusal_on(total: Summary, n: usize) -> Option<Refusal>
         Some(Refusal::QubitOutOfRange)
     } else {
         total.refusal()
+    }
+}
+
+/// Sees to it that there is a run for what a change puts in at a place. An insertion alone may
+/// want memory for that.
+fn make_room_for(
+    change: &Change,
+    runs: &mut Vec<Run>,
+    items: &[Item],
+    place: usize,
+) -> Result<(), AllocError>
+    requires cut { AreCut runs.old.items items.now }
+    requires within { place ≤ length items.now }
+    ensures cut { AreCut runs.new.items items.now }
+    ensures some { OnOk result (IsInsert change.now → 0 < length runs.new.items) }
+    ensures memory { OnErr result (IsInsert change.now) }
+{
+    match change {
+        Change::Insert(_) => make_room(runs, items, place),
+        Change::Replace(_) | Change::Delete => Ok(()),
     }
 }
 
@@ -64,7 +87,9 @@ impl Circuit {
         ensures allowed { OnOk result (edit_refusal (edited change.now path self.now) ≡ None) }
         ensures refused { IfErr result (λ r. edit_refusal (edited change.now path self.now) ≡ Some r) }
     {
-        match outcome_in(self.items.as_slice(), path.blocks(), path.place(), change) {
+        let items = self.items.as_slice();
+        let runs = self.runs.as_slice();
+        match outcome_by_runs(items, runs, path.blocks(), path.place(), change) {
             Err(refusal) => Err(refusal),
             Ok(outcome) if outcome.total.depth > 16 => Err(Refusal::TooDeep),
             Ok(outcome) => Ok(outcome),
@@ -87,8 +112,20 @@ impl Circuit {
         ensures fault { IfErr result (λ r. r.fault ≡ whole OutOfMemory) }
         ensures memory { OnErr result (IsInsert change) }
     {
+        let items = self.items.len();
+        let Ok(()) = make_room_for(
+            &change,
+            &mut self.runs,
+            self.items.as_slice(),
+            outcome.behind,
+        ) else {
+            return Err(refused(change, Refusal::OutOfMemory));
+        };
+        let found = find(self.runs.as_slice(), outcome.behind);
+        let behind = items - found.end;
         match commit(&mut self.items, path.blocks(), path.place(), change) {
             Ok(taken) => {
+                renew(&mut self.runs, self.items.as_slice(), found, behind);
                 self.total = outcome.total;
                 Ok(taken)
             }
