@@ -76,7 +76,7 @@ fault_blank : (n : ℕ) (opened : List ℕ) (ms : List Meaning) → fault_from n
 fault_blank n [] ms = refl
 fault_blank n (at ∷ outer) ms = refl
 
-fault_operation : (n : ℕ) (opened : List ℕ) (op : Operation) (ms : List Meaning) → fault_from n opened (Ok (line.Operation op) ∷ ms) ≡ fault_from (n + 1) opened ms
+pub fault_operation : (n : ℕ) (opened : List ℕ) (op : Operation) (ms : List Meaning) → fault_from n opened (Ok (line.Operation op) ∷ ms) ≡ fault_from (n + 1) opened ms
 fault_operation n [] op ms = refl
 fault_operation n (at ∷ outer) op ms = refl
 

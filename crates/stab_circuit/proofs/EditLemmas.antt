@@ -44,7 +44,7 @@ steps_dropped : (n : ℕ) (xs : List OneItem) → drop (length (steps (take n xs
 steps_dropped n xs = ap (drop (length (steps (take n xs)))) (steps_split n xs) ∙ drop_at (steps (take n xs)) (steps (drop n xs)) _ refl
 
 -- what a change takes out and puts in
-abbrev put_in : Change → List OneItem
+abbrev pub put_in : Change → List OneItem
 put_in (Insert x) = x ∷ []
 put_in (Replace x) = x ∷ []
 put_in Delete = []

@@ -1,16 +1,17 @@
 -- One item's text without a fault stands for one item, and for no other.
 use Rattle.std.proofs.Common.{◌≡◌, ◌≤◌, ap, refl, sym, ◌∙◌, subst, ℕ, List, [], Bool, true, false, nat_lt, length, Option, None, Some, Ok, arith, if◌then◌else◌}
-use Rattle.std.specs.List.{list_all}
+use Rattle.std.specs.List.{list_all, slice_split}
 use Rattle.stab_pauli.specs.declared.refusal.Refusal.TheVariants.{BadLine}
 use Rattle.stab_pauli.specs.declared.refusal.Fault.{Fault}
 use Rattle.stab_pauli.specs.Refusals.{whole}
+use Rattle.stab_lines.specs.Lines.{is_byte}
 use Rattle.stab_circuit.specs.Items.{Items, OneItem, operation, repeat, before, done, next, block}
-use Rattle.stab_circuit.specs.Circuits.{Joins, most_bytes, contents, meanings, fault_from, one_item, is_empty, item_fault}
+use Rattle.stab_circuit.specs.Circuits.{Joins, most_bytes, contents, meanings, fault_from, one_item, is_empty, item_fault, StandsForOne}
 use Rattle.stab_circuit.specs.inner.Readers.{start, read_on}
-use Rattle.stab_circuit.specs.Laws.{StandsForOneOnly}
+use Rattle.stab_circuit.specs.Laws.{StandsForOneOnly, AreLinesOf}
 use Rattle.stab_circuit.proofs.ReadingLemmas.{one_list, some_list, read_joined}
 use Rattle.stab_circuit.proofs.OneItemLemmas.{read_blank, read_one, same_meanings, size}
-use Rattle.stab_circuit.proofs.RoundLemmas.{limit_case}
+use Rattle.stab_circuit.proofs.RoundLemmas.{limit_case, text_lines, parts_free}
 
 -- a text without a fault has a line that is not blank, and its lines have no fault
 some_line : (b : Bool) (f : Option Fault) → (if b then Some (whole BadLine) else f) ≡ None → (b ≡ false) × (f ≡ None)
@@ -48,6 +49,18 @@ same_item item other e = sym (first_before item other) ∙ ap (first_or item) e 
 item_found : (text : List ℕ) (item : OneItem) → item_fault text ≡ None → fault_from 1 [] (meanings text) ≡ None → Joins (meanings text) (before item done) → StandsForOneOnly text item
 item_found text item e none j = ((e, j), λ other s. same_item item other (one_list (meanings text) (before other done) (before item done) none s.1 j))
 
+-- the lines mean what they mean in a circuit, and have no fault
+lines_same : (text : List ℕ) → item_fault text ≡ None → one_item 0 (contents text) ≡ meanings text
+lines_same text e = same_meanings (contents text) 1 [] (item_lines text e).1
+
+lines_clean : (text : List ℕ) → item_fault text ≡ None → fault_from 1 [] (meanings text) ≡ None
+lines_clean text e = ap (fault_from 1 []) (sym (lines_same text e)) ∙ (item_lines text e).1
+
+-- the lines of one item's text
+pub item_is_lines : (text : List ℕ) (item : OneItem) → StandsForOne text item → AreLinesOf (slice_split (is_byte 10) text) (before item done)
+item_is_lines text item s =
+    record { each = text_lines (slice_split (is_byte 10) text) (parts_free (is_byte 10) text); faultless = lines_clean text s.0; joined = s.1 }
+
 pub one_item_text : (text : List ℕ) → item_fault text ≡ None → (item : OneItem) × StandsForOneOnly text item
 one_item_text text e =
     let cs = contents text in
@@ -56,6 +69,4 @@ one_item_text text e =
     let read : read_on 1 start (one_item 0 cs) ≡ Ok found.0 = read_joined (one_item 0 cs) found.0 found.1 lines.1 in
     let some : found.0 ≡ done → ⊥ = λ d. (let blank : list_all is_empty cs ≡ true = read_blank cs (read ∙ ap Ok d) in cc) in
     let one = one_alone found.0 some (read_one cs found.0 read) in
-    let same : one_item 0 cs ≡ meanings text = same_meanings cs 1 [] lines.1 in
-    let none : fault_from 1 [] (meanings text) ≡ None = ap (fault_from 1 []) (sym same) ∙ lines.1 in
-    (one.0, item_found text one.0 e none (subst (λ ms. Joins ms (before one.0 done)) same (subst (Joins (one_item 0 cs)) one.1 found.1)))
+    (one.0, item_found text one.0 e (lines_clean text e) (subst (λ ms. Joins ms (before one.0 done)) (lines_same text e) (subst (Joins (one_item 0 cs)) one.1 found.1)))

@@ -22,6 +22,7 @@ pub mod ApartLemmas
 mod ItemTextLemmas
 mod CircuitFaultLemmas
 pub mod EditLemmas
+mod LineItemLemmas
 mod SpliceLemmas
 mod JudgementLemmas
 mod OutcomeLemmas

@@ -84,6 +84,17 @@ pub fault_opens : (n : ℕ) (opened : List ℕ) (c : ℕ) (t : List ℕ) (ms : L
 fault_opens n [] c t ms = refl
 fault_opens n (at ∷ outer) c t ms = refl
 
+-- where there is no fault, few blocks are open, and it is looked for inside the next
+pub few_open : (n : ℕ) (opened : List ℕ) (c : ℕ) (t : List ℕ) (ms : List Meaning) → fault_from n opened (Ok (Open c t) ∷ ms) ≡ None → nat_lt (length opened) 16 ≡ true
+few_open n opened c t ms e = choice_none (nat_lt (length opened) 16) _ _ (sym (fault_opens n opened c t ms) ∙ e)
+
+pub fault_inside : (n : ℕ) (opened : List ℕ) (c : ℕ) (t : List ℕ) (inner after more : List Meaning) → nat_lt (length opened) 16 ≡ true
+    → fault_from n opened (Ok (Open c t) ∷ ((inner ++ Ok Close ∷ after) ++ more)) ≡ fault_from (n + 1) (n ∷ opened) (inner ++ Ok Close ∷ (after ++ more))
+fault_inside n opened c t inner after more few =
+    fault_opens n opened c t ((inner ++ Ok Close ∷ after) ++ more)
+    ∙ chosen (nat_lt (length opened) 16) _ _ few
+    ∙ ap (fault_from (n + 1) (n ∷ opened)) (append_assoc inner (Ok Close ∷ after) more)
+
 read_opens : (n : ℕ) (fs : List Frame) (now : Items) (c : ℕ) (t : List ℕ) (ms : List Meaning) → nat_lt (length (lines_of fs)) 16 ≡ true
     → read_on n (state fs now) (Ok (Open c t) ∷ ms) ≡ read_on (n + 1) (state (frame n c t now ∷ fs) done) ms
 read_opens n fs now c t ms h =
@@ -97,20 +108,14 @@ IsRead inner body = (n : ℕ) (fs : List Frame) (now : Items) (more : List Meani
 block_read : (c : ℕ) (t : List ℕ) (inner after : List Meaning) (body rest : Items) → IsRead inner body → IsRead after rest → IsRead (Ok (Open c t) ∷ (inner ++ Ok Close ∷ after)) (block c t body rest)
 block_read c t inner after body rest first second n fs now more e =
     let held : Frame = frame n c t now in
-    let flat : (inner ++ Ok Close ∷ after) ++ more ≡ inner ++ (Ok Close ∷ (after ++ more)) = append_assoc inner (Ok Close ∷ after) more in
-    let opened : (if nat_lt (length (lines_of fs)) 16 then fault_from (n + 1) (n ∷ lines_of fs) ((inner ++ Ok Close ∷ after) ++ more) else Some (at_line n TooDeep)) ≡ None =
-    sym (fault_opens n (lines_of fs) c t ((inner ++ Ok Close ∷ after) ++ more)) ∙ e in
-    let few : nat_lt (length (lines_of fs)) 16 ≡ true = choice_none (nat_lt (length (lines_of fs)) 16) _ _ opened in
-    let goes : fault_from n (lines_of fs) (Ok (Open c t) ∷ ((inner ++ Ok Close ∷ after) ++ more)) ≡ fault_from (n + 1) (n ∷ lines_of fs) (inner ++ (Ok Close ∷ (after ++ more))) =
-    fault_opens n (lines_of fs) c t ((inner ++ Ok Close ∷ after) ++ more)
-    ∙ chosen (nat_lt (length (lines_of fs)) 16) _ _ few
-    ∙ ap (fault_from (n + 1) (n ∷ lines_of fs)) flat in
+    let few : nat_lt (length (lines_of fs)) 16 ≡ true = few_open n (lines_of fs) c t ((inner ++ Ok Close ∷ after) ++ more) e in
+    let goes = fault_inside n (lines_of fs) c t inner after more few in
     let r = first (n + 1) (held ∷ fs) done (Ok Close ∷ (after ++ more)) (sym goes ∙ e) in
     let q = second (r.at + 1) fs (closed held body) more (sym r.fault ∙ sym goes ∙ e) in
     record {
       at = q.at;
       read = read_opens n fs now c t ((inner ++ Ok Close ∷ after) ++ more) few
-          ∙ ap (read_on (n + 1) (state (held ∷ fs) done)) flat
+          ∙ ap (read_on (n + 1) (state (held ∷ fs) done)) (append_assoc inner (Ok Close ∷ after) more)
           ∙ r.read
           ∙ q.read
           ∙ ap (λ z. read_on q.at (state fs z) more) (join_assoc now (block c t body done) rest);

@@ -41,22 +41,22 @@ parts_more : (p : ℕ → Bool) (x : ℕ) (xs : List ℕ) (b : Bool) → p x ≡
 parts_more p x xs true e f = subst (Each (Free p)) (sym (slice_split-cons_yes p x xs e)) (tt, f)
 parts_more p x xs false e f = subst (Each (Free p)) (sym (slice_split-cons_no p x xs e)) (onto_free p x (slice_split p xs) e f)
 
-parts_free : (p : ℕ → Bool) (xs : List ℕ) → Each (Free p) (slice_split p xs)
+pub parts_free : (p : ℕ → Bool) (xs : List ℕ) → Each (Free p) (slice_split p xs)
 parts_free p [] = (tt, tt)
 parts_free p (x ∷ xs) = parts_more p x xs (p x) refl (parts_free p xs)
 
-text_lines : (parts : List (List ℕ)) → Each (Free (is_byte 10)) parts → All IsLine parts
+pub text_lines : (parts : List (List ℕ)) → Each (Free (is_byte 10)) parts → All IsLine parts
 text_lines [] f = All-nil IsLine
 text_lines (part ∷ parts) f = All-cons IsLine part parts (any_free (is_byte 10) part f.0) (text_lines parts f.1)
 
 -- each meaning is that of some line
-abbrev IsOfLine : Meaning → Type 0
+abbrev pub IsOfLine : Meaning → Type 0
 IsOfLine m = (line : List ℕ) × IsLine line × (m ≡ meaning_of (content_of line))
 
-abbrev AreOfLines : List Meaning → Type 0
-AreOfLines ms = Each IsOfLine ms
+abbrev pub AreMeant : List Meaning → Type 0
+AreMeant ms = Each IsOfLine ms
 
-lines_meant : (lines : List (List ℕ)) → All IsLine lines → AreOfLines (line_meanings lines)
+lines_meant : (lines : List (List ℕ)) → All IsLine lines → AreMeant (line_meanings lines)
 lines_meant [] a = tt
 lines_meant (l ∷ ls) a = ((l, All-head IsLine l ls a, refl), lines_meant ls (All-tail IsLine l ls a))
 
@@ -75,7 +75,7 @@ close_said : Says (codes "}") Close
 unfolding meaning_of content_of
 close_said = says Close (codes "}", refl, refl)
 
-written_said : (d : ℕ) (xs : Items) → AreOfLines (lines_of xs) → AreSaid (printed_lines d xs)
+written_said : (d : ℕ) (xs : Items) → AreMeant (lines_of xs) → AreSaid (printed_lines d xs)
 written_said d done g = tt
 written_said d (next op rest) g = ((line.Operation op, says (line.Operation op) g.0), written_said d rest g.1)
 written_said d (block count tag body rest) g = (
@@ -84,7 +84,7 @@ written_said d (block count tag body rest) g = (
       ((Close, close_said), written_said d rest (each_right IsOfLine (lines_of body) _ g.1).1),
 )
 
-written_means : (d : ℕ) (xs : Items) → AreOfLines (lines_of xs) → map meaning_written (printed_lines d xs) ≡ lines_of xs
+written_means : (d : ℕ) (xs : Items) → AreMeant (lines_of xs) → map meaning_written (printed_lines d xs) ≡ lines_of xs
 written_means d done g = refl
 written_means d (next op rest) g = ap (λ m. m ∷ map meaning_written (printed_lines d rest)) (says (line.Operation op) g.0).means ∙ ap (λ l. Ok (line.Operation op) ∷ l) (written_means d rest g.1)
 written_means d (block count tag body rest) g =
@@ -127,10 +127,14 @@ pub text_is_lines : (text : List ℕ) (items : Items) → StandsFor text items �
 text_is_lines text items s =
     record { each = text_lines (slice_split (is_byte 10) text) (parts_free (is_byte 10) text); faultless = lines_faultless text s.0; joined = s.1 }
 
+-- what lines mean that stand for items
+pub items_meant : (lines : List (List ℕ)) (items : Items) → AreLinesOf lines items → AreMeant (lines_of items)
+items_meant lines items s = subst AreMeant (unblank_joined s.joined) (unblank_each IsOfLine (line_meanings lines) (lines_meant lines s.each))
+
 -- what is printed of the items of lines is read back
 pub round_trip : (lines : List (List ℕ)) (items : Items) → AreLinesOf lines items → length (printed items) ≤ most_bytes → StandsFor (printed items) items
 round_trip lines items s h =
-    let meant : AreOfLines (lines_of items) = subst AreOfLines (unblank_joined s.joined) (unblank_each IsOfLine (line_meanings lines) (lines_meant lines s.each)) in
+    let meant : AreMeant (lines_of items) = items_meant lines items s in
     let means : meanings (printed items) ≡ lines_of items ++ Ok Blank ∷ [] =
     text_means (printed_lines 0 items) (written_said 0 items meant) ∙ ap (λ l. l ++ Ok Blank ∷ []) (written_means 0 items meant) in
     let joins : Joins (meanings (printed items)) items = subst (λ ms. Joins ms items) (sym means) (joins_end (lines_join items)) in

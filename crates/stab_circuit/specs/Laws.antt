@@ -1,11 +1,11 @@
 -- Laws: what holds between all texts and all items.
-use Rattle.std.specs.Prelude.{◌≡◌, ◌≤◌, ◌⊎◌, ℕ, List, [], All, length, take, drop, None, Ok}
+use Rattle.std.specs.Prelude.{◌≡◌, ◌≤◌, ◌⊎◌, ℕ, List, [], All, length, take, drop, Some, None, Ok}
 use Rattle.std.specs.List.{slice_split}
 use Rattle.stab_pauli.specs.declared.refusal.Fault.{Fault}
 use Rattle.stab_lines.specs.Lines.{is_byte}
 use Rattle.stab_lines.specs.Laws.{IsLine}
 use Rattle.stab_circuit.specs.declared.change.Change.{Change}
-use Rattle.stab_circuit.specs.Items.{Items, OneItem, listed}
+use Rattle.stab_circuit.specs.Items.{Items, OneItem, done, before, listed, depth}
 use Rattle.stab_circuit.specs.Circuits.{most_bytes, line_meanings, fault_from, Joins, text_fault, item_fault, StandsFor, StandsForOne}
 use Rattle.stab_circuit.specs.Prints.{printed}
 use Rattle.stab_circuit.specs.Steps.{unroll}
@@ -13,7 +13,7 @@ use Rattle.stab_circuit.specs.Cursors.{IsApart}
 use Rattle.stab_circuit.specs.Readings.{IsCircuit, IsFaultOf}
 use Rattle.stab_circuit.specs.Steps.{unroll}
 use Rattle.stab_circuit.specs.Paths.{Path}
-use Rattle.stab_circuit.specs.Edits.{edited, first_changed, old_end, new_end}
+use Rattle.stab_circuit.specs.Edits.{edited, taken, put_item, first_changed, old_end, new_end}
 
 -- the text stands for the items, and for no others
 abbrev pub StandsForOnly : List ℕ → Items → Type 0
@@ -37,6 +37,10 @@ TextsAreLines = (text : List ℕ) (items : Items) → StandsFor text items → A
 abbrev pub PrintedItemsAreReadBack : Type 0
 PrintedItemsAreReadBack = (lines : List (List ℕ)) (items : Items) → AreLinesOf lines items → length (printed items) ≤ most_bytes → StandsForOnly (printed items) items
 
+-- some lines stand for the items
+abbrev pub AreOfLines : Items → Type 0
+AreOfLines items = (lines : List (List ℕ)) × AreLinesOf lines items
+
 -- in their steps the two qubits of each pair differ, and so do those of each product
 abbrev pub LinesKeepQubitsApart : Type 0
 LinesKeepQubitsApart = (lines : List (List ℕ)) (items : Items) → AreLinesOf lines items → All IsApart (unroll items)
@@ -48,6 +52,10 @@ StandsForOneOnly text item = StandsForOne text item × ((other : OneItem) → St
 -- one item's text without a fault stands for one item
 abbrev pub ItemTextsHaveOneMeaning : Type 0
 ItemTextsHaveOneMeaning = (text : List ℕ) → item_fault text ≡ None → (item : OneItem) × StandsForOneOnly text item
+
+-- the lines of one item's text stand for the item
+abbrev pub ItemTextsAreLines : Type 0
+ItemTextsAreLines = (text : List ℕ) (item : OneItem) → StandsForOne text item → AreLinesOf (slice_split (is_byte 10) text) (before item done)
 
 -- every text is that of a circuit or has a fault
 abbrev pub EachTextHasAMeaning : Type 0
@@ -73,3 +81,15 @@ pub record LeavesTheRest (change : Change) (path : Path) (old new : List OneItem
 -- each edit leaves the rest of the steps
 abbrev pub EditsLeaveTheRest : Type 0
 EditsLeaveTheRest = (change : Change) (path : Path) (old new : List OneItem) → edited change path old ≡ Ok new → LeavesTheRest change path old new
+
+-- the item that the change puts in, if there is one, is of lines
+abbrev pub PutsLines : Change → Type 0
+PutsLines change = (item : OneItem) → put_item change ≡ Some item → AreOfLines (before item done)
+
+-- items of lines are so after each edit that puts in such an item, and nests no block too deep
+abbrev pub EditedItemsAreOfLines : Type 0
+EditedItemsAreOfLines = (change : Change) (path : Path) (old new : List OneItem) → AreOfLines (listed old) → PutsLines change → edited change path old ≡ Ok new → depth (listed new) ≤ 16 → AreOfLines (listed new)
+
+-- an item that is taken out of items of lines is of lines
+abbrev pub TakenItemsAreOfLines : Type 0
+TakenItemsAreOfLines = (change : Change) (path : Path) (old : List OneItem) (item : OneItem) → AreOfLines (listed old) → taken change path old ≡ Some item → AreOfLines (before item done)

@@ -1,7 +1,7 @@
 //! Laws of circuit texts. Each function does nothing: its contract is the law, and the check
 //! proves it.
 
-ghost use Rattle.stab_circuit.specs.Laws.{CircuitsHaveNoFault, EachTextHasAMeaning, EditsLeaveTheRest, ItemTextsHaveOneMeaning, LinesKeepQubitsApart, PrintedItemsAreReadBack, TextsAreLines, TextsAreOfOneCircuit, TextsHaveOneFault, TextsHaveOneMeaning};
+ghost use Rattle.stab_circuit.specs.Laws.{CircuitsHaveNoFault, EachTextHasAMeaning, EditedItemsAreOfLines, EditsLeaveTheRest, ItemTextsAreLines, ItemTextsHaveOneMeaning, LinesKeepQubitsApart, PrintedItemsAreReadBack, TakenItemsAreOfLines, TextsAreLines, TextsAreOfOneCircuit, TextsHaveOneFault, TextsHaveOneMeaning};
 
 /// A text without a faulty line stands for one list of items, and for no other.
 pub fn texts_have_one_meaning()
@@ -32,6 +32,11 @@ pub fn item_texts_have_one_meaning()
     ensures law { ItemTextsHaveOneMeaning }
 {}
 
+/// The lines of one item's text stand for the item: so the item that `read_item` gives is of lines.
+pub fn item_texts_are_lines()
+    ensures law { ItemTextsAreLines }
+{}
+
 /// Every text is that of a circuit or has a fault.
 pub fn each_text_has_a_meaning()
     ensures law { EachTextHasAMeaning }
@@ -57,4 +62,16 @@ pub fn circuits_have_no_fault()
 /// or taken out of it.
 pub fn edits_leave_the_rest()
     ensures law { EditsLeaveTheRest }
+{}
+
+/// An edit of items of lines that puts in an item of lines, and nests no block too deep, leaves
+/// items of lines. So what is printed of a circuit after any edits is read back as that circuit
+/// (`printed_items_are_read_back`), where it is no longer than a circuit text may be.
+pub fn edited_items_are_of_lines()
+    ensures law { EditedItemsAreOfLines }
+{}
+
+/// An item that an edit takes out of items of lines is of lines, so that it may be put in again.
+pub fn taken_items_are_of_lines()
+    ensures law { TakenItemsAreOfLines }
 {}

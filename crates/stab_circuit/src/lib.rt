@@ -24,9 +24,10 @@
 //! nothing is read but what one read brings; qubits and observables are those of its items, and
 //! steps, records and what refuses a whole circuit those of its unrolled steps; one item's text
 //! without a fault stands for one item; what is printed of the items of any lines stands for these
-//! items and no others, within the limit of a text; an edit leaves exactly the items that its path
-//! and its change give, and the steps before the first changed one and behind the outermost item
-//! around its place, or is refused by what refuses it first and leaves the circuit as it was.
+//! items and no others, within the limit of a text, and edits of items of lines leave such items; an
+//! edit leaves exactly the items that its path and its change give, and the steps before the first
+//! changed one and behind the outermost item around its place, or is refused by what refuses it first
+//! and leaves the circuit as it was.
 #![tactic(auto)]
 
 mod change;
