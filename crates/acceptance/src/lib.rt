@@ -22,6 +22,8 @@ mod hostile;
 #[cfg(test)]
 mod limits;
 #[cfg(test)]
+mod long_edits;
+#[cfg(test)]
 mod random_edits;
 #[cfg(test)]
 mod runs;
