@@ -22,7 +22,7 @@ use Rattle.stab_session.specs.inner.Checkpoints.{moved_copy}
 use Rattle.stab_session.specs.inner.Replays.{IsKeptRun, IsSameKept, Follows, AgreeBehind, IsReplay, Ascending, Meets, IsEnd, EndsSoon, place_of}
 use Rattle.stab_session.specs.inner.Prepared.{Begins, HasCopy, IsRest, IsOldRest, IsPrepared, IsCommitted, copies_behind, seam_at}
 use Rattle.stab_session.proofs.SpacingLemmas.{IsBefore}
-use Rattle.stab_session.proofs.FollowLemmas.{some-at, some-and, prepared-same, committed-same, before-first, begun, same-records, next-behind, all-next, all-ascending, all-qubits, applied-within, few-steps, kept-end, end-flags}
+use Rattle.stab_session.proofs.FollowLemmas.{some-at, some-and, prepared-same, committed-same, before-first, begun, same-records, next-behind, all-ascending, all-qubits, applied-within, few-steps, kept-end, end-flags}
 
 -- so many of the first copies are before a step
 pub record IsCount (step : ℕ) (copies : List Checkpoint) (m : ℕ) : Type 0 where
@@ -149,11 +149,6 @@ module _ {n : ℕ} {coins : ℕ → Bool} {K : ℕ} {ys : List Step} {s : Span} 
     ascending-here =
         all-ascending n coins K f.old f.count old f.kept ys s f.span p r0.step old_end new_end total (omega (arith, few)) next-there
         (let w = near.within in omega (arith, step_is))
-
-    pub behind-here : All (λ c. p.old_end ≤ c.step) (drop p.next old.checkpoints.items)
-    behind-here =
-        subst (λ k. All (λ c. k ≤ c.step) (drop p.next old.checkpoints.items)) (sym old_end)
-        (all-next n coins K f.old f.count old f.kept ys s f.span p.next next-there)
 
     module _ (r : Replay) (end : End) (replay : IsReplay r0.tableau.qubits coins K r0.step r0.cursor.all r)
         (is_end : IsEnd r0.tableau.qubits p r old.checkpoints.items old.outputs.records.items end) where

@@ -26,7 +26,7 @@ use Rattle.stab_session.specs.Laws.{AgreeAt}
 use Rattle.stab_session.specs.inner.Sights.{sight, output_of}
 use Rattle.stab_session.specs.inner.Spacing.{Near, IsSpaced, last_of}
 use Rattle.stab_session.specs.inner.Checkpoints.{lengths_of, front_of, rest_of, IsRunFromStart, IsCheckpoint, steps_of, all_laid, moved, moved_copy}
-use Rattle.stab_session.specs.inner.Replays.{IsKeptRun, IsSameKept, IsSpan, AgreeBehind, IsReplay, Ascending, Meets, IsEnd, EndsSoon, place_of}
+use Rattle.stab_session.specs.inner.Replays.{IsKeptRun, IsSameKept, IsSpan, AgreeBehind, IsReplay, Ascending, Meets, IsEnd, Misses, EndsSoon, place_of}
 use Rattle.stab_session.specs.inner.Prepared.{Begins, IsRest, IsOldRest, IsPrepared, IsCommitted, copies_behind, tableau_behind, seam_at}
 use Rattle.stab_session.proofs.RecordLemmas.{ones-append}
 use Rattle.stab_session.proofs.PointLemmas.{take-same, front-output, checkpoint-before, begun-from-start, meets-agree, agree-later, agree-end, kept-tail, checkpoint-moved}
@@ -149,7 +149,7 @@ module _ (n : ℕ) (coins : ℕ → Bool) (K : ℕ) (xs : List Step) (count : �
       (All-weaker (λ c. (s.old_end ≤ c.step) × (c.step ≤ length xs)) (λ c. s.old_end ≤ c.step) (λ c p. p.0) (drop e old.checkpoints.items)
       (all-behind K (length xs) s.old_end e old.checkpoints.items kept.spaced.near behind))
 
-  pub all-next : (next : ℕ) → IfSome (slice_get old.checkpoints.items next) (λ c. s.old_end ≤ c.step) → All (λ c. s.old_end ≤ c.step) (drop next old.checkpoints.items)
+  all-next : (next : ℕ) → IfSome (slice_get old.checkpoints.items next) (λ c. s.old_end ≤ c.step) → All (λ c. s.old_end ≤ c.step) (drop next old.checkpoints.items)
   all-next next behind =
       All-weaker (λ c. (s.old_end ≤ c.step) × (c.step ≤ length xs)) (λ c. s.old_end ≤ c.step) (λ c p. p.0) (drop next old.checkpoints.items)
       (all-behind K (length xs) s.old_end next old.checkpoints.items kept.spaced.near behind)
@@ -212,10 +212,10 @@ module _ (n : ℕ) (coins : ℕ → Bool) (K : ℕ) (xs : List Step) (count : �
       let records : take c.lengths.records old.outputs.records.items ≡ (outputs n coins (take c.step xs) origin).records =
       (λ i. take (h.lengths i).records (kept.run.output i).records) ∙ ap (λ (o : Output). o.records) (front-output n coins xs c.step) in
       let joined_here : end ≡ Joined p.next =
-      subst (λ o. IfSome o (λ c. (zs : List Step) → IsCheckpoint n coins zs c
-      → take c.lengths.records old.outputs.records.items ≡ (outputs n coins (take c.step zs) origin).records
-      → AgreeAt n (point_after n coins (take c.step zs) origin) (point_after n coins (take (place_of p c) ys) origin) → end ≡ Joined p.next)) is soon
-      xs h records agree_there in
+      elim soon [
+        | inl e ↦ e
+        | inr missed ↦ absurd (some-at (Misses n coins p ys old.outputs.records.items) old.checkpoints.items p.next c is missed xs h records agree_there)
+      ] in
       let met = subst (IsEnd n p r old.checkpoints.items old.outputs.records.items) joined_here is_end in
       let here : place_of p c ≡ r.step =
       (subst (λ o. IsSomeAnd o (λ c. (place_of p c ≡ r.step) × Meets n r.tableau (output_of r.outputs) old.outputs.records.items c)) is met.1).0 in

@@ -3,21 +3,21 @@ use Rattle.std.proofs.Common.{◌≡◌, ℕ, zero, suc, ◌+◌, ◌-◌, ◌<�
 use Rattle.std.specs.Option.{option_map}
 use Rattle.std.proofs.lemmas.List.{length-take, length-drop, take-append-drop, take_at, take-take, drop-drop, drop-take, map-append}
 use Rattle.std.proofs.lemmas.List.Elements.{All-push}
-use Rattle.std.proofs.lemmas.Option.{IfSome_then, none-some, same_Some}
+use Rattle.std.proofs.lemmas.Option.{none-some, same_Some}
 use Rattle.stab_tableau.specs.Tableaus.{TableauState}
 use Rattle.stab_circuit.specs.Steps.{Step, one, two, controlled, collapse, product, detector, observable}
 use Rattle.stab_session.specs.declared.checkpoint.Lengths.{Lengths}
 use Rattle.stab_session.specs.declared.checkpoint.Checkpoint.{Checkpoint}
 use Rattle.stab_session.specs.declared.replay.Replay.{Replay}
 use Rattle.stab_session.specs.declared.replay.Plan.{Plan}
-use Rattle.stab_session.specs.declared.replay.End.TheVariants.{Last}
+use Rattle.stab_session.specs.declared.replay.End.TheVariants.{Last, Joined}
 use Rattle.stab_session.specs.declared.replay.Arrival.TheVariants.{Behind, Between}
 use Rattle.stab_session.specs.Points.{Output, origin, coins_of, all_coins_of, point_after, outputs}
 use Rattle.stab_session.specs.Laws.{AgreeAt}
 use Rattle.stab_session.specs.inner.Sights.{Sight, Shows, IsRun, sight, output_of}
 use Rattle.stab_session.specs.inner.Spacing.{Near, last_of}
 use Rattle.stab_session.specs.inner.Checkpoints.{IsRunFromStart, IsCheckpoint, lengths_of, steps_of}
-use Rattle.stab_session.specs.inner.Replays.{IsAtStep, IsReplay, Ascending, Meets, MeetsAt, IsPlacedAt, IsArrival, EndsSoon, place_of, copy_of}
+use Rattle.stab_session.specs.inner.Replays.{IsAtStep, IsReplay, Ascending, Meets, MeetsAt, IsPlacedAt, IsArrival, Misses, EndsSoon, place_of, copy_of}
 use Rattle.stab_session.proofs.PointLemmas.{resumed, shows-from-start, take-more, flags-are-coins, records-are-records}
 
 -- two lists that are the same up to a place: one begins the other where it does behind that place
@@ -157,12 +157,6 @@ agree-meets n coins xs zs c t o records run h kept agree = record {
 
 -- a replay on its way
 
--- the old run does not agree with the new one at a copy
-abbrev pub Misses : ℕ → (ℕ → Bool) → Plan → List Step → List Bool → Checkpoint → Type 0
-Misses n coins p ys records c =
-    (xs : List Step) → IsCheckpoint n coins xs c → take c.lengths.records records ≡ (outputs n coins (take c.step xs) origin).records
-    → AgreeAt n (point_after n coins (take c.step xs) origin) (point_after n coins (take (place_of p c) ys) origin) → ⊥
-
 -- at a step where it stops, with this old copy to be met next: those before it were not met
 pub record IsAtStop (n : ℕ) (coins : ℕ → Bool) (begin : ℕ) (p : Plan) (ys : List Step) (copies : List Checkpoint) (old : List Bool) (next : ℕ) (r : Replay) : Type 0 where
   pub replay : IsReplay n coins p.stride begin ys r
@@ -289,9 +283,15 @@ module _ (n : ℕ) (coins : ℕ → Bool) (begin : ℕ) (p : Plan) (ys : List St
   -- and no early end is due behind the last step
   pub soon-last : (next : ℕ) (r : Replay) → IsAtStop n coins begin p ys copies old next r → IsArrival n p r copies old next Behind
       → EndsSoon n coins p ys copies old Last
-  soon-last next r h arrival =
-      IfSome_then (slice_get copies p.next) (first-missed next r h (placed-last p r.step next copies h.ascending arrival.0) arrival.1)
-      (λ c miss xs is_copy kept agree. absurd (miss xs is_copy kept agree))
+  soon-last next r h arrival = inr (first-missed next r h (placed-last p r.step next copies h.ascending arrival.0) arrival.1)
+
+  -- and where it meets another copy than the first, it missed that
+  pub soon-met : (next : ℕ) (r : Replay) → IsAtStop n coins begin p ys copies old next r → EndsSoon n coins p ys copies old (Joined next)
+  soon-met next r h =
+      elim h.first [
+        | inl e ↦ inl (ap Joined e)
+        | inr missed ↦ inr missed
+      ]
 
   -- before it the replay goes on, where it passed a copy with the one after it next
   past : (next : ℕ) (r : Replay) → IsAtStop n coins begin p ys copies old next r → IsPlacedAt p copies next r.step

@@ -46,7 +46,6 @@ pub struct Plan {
 }
 
 /// How a replay ended.
-#[derive(Clone, Copy, Debug, PartialEq, Eq)]
 pub enum End {
     /// Behind the last step.
     Last,

@@ -112,9 +112,12 @@ abbrev pub IsEnd : ℕ → Plan → Replay → List Checkpoint → List Bool →
 IsEnd n p r copies records Last = r.step ≡ p.total
 IsEnd n p r copies records (Joined j) = (p.next ≤ j) × IsSomeAnd (slice_get copies j) (MeetsAt n p r records)
 
--- where the old run of some steps agrees with the new one at the first copy that may be met, the replay ended there
+-- no old run with these records agrees with the new one at a copy
+abbrev pub Misses : ℕ → (ℕ → Bool) → Plan → List Step → List Bool → Checkpoint → Type 0
+Misses n coins p ys records c =
+    (xs : List Step) → IsCheckpoint n coins xs c → take c.lengths.records records ≡ (outputs n coins (take c.step xs) origin).records
+    → AgreeAt n (point_after n coins (take c.step xs) origin) (point_after n coins (take (place_of p c) ys) origin) → ⊥
+
+-- the replay ended at the first copy that may be met, or the runs do not agree there
 abbrev pub EndsSoon : ℕ → (ℕ → Bool) → Plan → List Step → List Checkpoint → List Bool → End → Type 0
-EndsSoon n coins p ys copies records end =
-    IfSome (slice_get copies p.next) (λ c. (xs : List Step) → IsCheckpoint n coins xs c
-    → take c.lengths.records records ≡ (outputs n coins (take c.step xs) origin).records
-    → AgreeAt n (point_after n coins (take c.step xs) origin) (point_after n coins (take (place_of p c) ys) origin) → end ≡ Joined p.next)
+EndsSoon n coins p ys copies records end = (end ≡ Joined p.next) ⊎ IfSome (slice_get copies p.next) (Misses n coins p ys records)

@@ -5,7 +5,7 @@ use Rattle.stab_session.specs.declared.replay.Arrival.TheVariants.{Behind, Betwe
 use Rattle.stab_session.specs.Records.{ones}
 use Rattle.stab_session.specs.Points.{all_coins_of}
 use Rattle.stab_session.specs.inner.Replays.{IsReplay, IsArrival, copy_of}
-use Rattle.stab_session.proofs.ReplayLemmas.{IsAtStop, next-behind, place-among, on-stop, soon-last, on-further, fewer-left}
+use Rattle.stab_session.proofs.ReplayLemmas.{IsAtStop, next-behind, place-among, on-stop, soon-last, soon-met, on-further, fewer-left}
 use Rattle.stab_session.proofs.replay.Replay.follow.Given.{Over}
 use Rattle.stab_session.proofs.replay.Replay.follow.Goals as goal
 use Rattle.stab_session.proofs.replay.Replay.follow.Goals.{In_ok-run_to}
@@ -48,6 +48,12 @@ returns-in-Met-clause-replay g c =
 pub returns-in-Behind-clause-replay : goal.returns-in-Behind-clause-replay
 returns-in-Behind-clause-replay g c =
     replayed g ((goal.at.returns-in-Behind-clause-replay g c).In_ok-run_to) c.arrive.new.self c.arrive.ensures.unchanged
+
+pub returns-in-Met-clause-soon : goal.returns-in-Met-clause-soon
+returns-in-Met-clause-soon g c =
+    let at = (goal.at.returns-in-Met-clause-soon g c).In_ok-run_to in
+    soon-met c.args.self.now.tableau.qubits (g.C.Coins.sequence c.args.coins.now) c.args.self.now.step c.args.plan c.args.self.now.cursor.all c.args.copies.now
+    c.args.records.now c.loop-self.next c.run_to.new.self (stopped g at)
 
 pub returns-in-Behind-clause-soon : goal.returns-in-Behind-clause-soon
 returns-in-Behind-clause-soon g c =
