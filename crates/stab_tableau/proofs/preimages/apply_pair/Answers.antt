@@ -1,4 +1,4 @@
-use Rattle.std.proofs.Common.{◌∙◌, ap, refl, length}
+use Rattle.std.proofs.Common.{◌∙◌, refl, length}
 use Rattle.stab_pauli.specs.Paulis.{anticommute, product}
 use Rattle.stab_pauli.specs.Rows.{turned_product}
 use Rattle.stab_pauli.proofs.SeenLemmas.{phased_product-turned}

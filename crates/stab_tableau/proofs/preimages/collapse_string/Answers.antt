@@ -1,4 +1,3 @@
-use Rattle.std.proofs.Common.{◌≡◌, ◌∙◌, ap}
 use Rattle.stab_pauli.specs.declared.letter.Letter.TheVariants.{Z}
 use Rattle.stab_pauli.specs.Letters.{letters_anticommute}
 use Rattle.stab_tableau.specs.Gates.{letter_at}

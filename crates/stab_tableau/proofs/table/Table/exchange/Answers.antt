@@ -1,4 +1,3 @@
-use Rattle.std.proofs.Common.{◌∙◌}
 use Rattle.stab_tableau.proofs.PairedRowsLemmas.{seen-few, seen-place, seen-apart, seen-exchanged}
 use Rattle.stab_tableau.proofs.table.Table.exchange.Goals as goal
 

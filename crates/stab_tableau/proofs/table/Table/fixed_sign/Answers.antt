@@ -1,4 +1,4 @@
-use Rattle.std.proofs.Common.{◌≡◌, ◌<◌, ◌∙◌, sym, ap, length, arith}
+use Rattle.std.proofs.Common.{◌∙◌, sym, ap, arith}
 use Rattle.std.specs.List.{list_any}
 use Rattle.stab_pauli.specs.Flips.{flips}
 use Rattle.stab_pauli.specs.Paulis.{Signed}
