@@ -33,11 +33,21 @@ OBSERVABLE_INCLUDE(0) rec[-1]
 ";
 
 /// What a run of the program wrote and answered.
-#[derive(Drop)]
 pub(crate) struct Ended {
     pub out: MemoryOutput,
     pub err: MemoryOutput,
     pub status: u8,
+}
+
+// Written out, so that to a proof a value that is let go is one call, and not one for each of its parts.
+impl Drop for Ended {
+    fn drop(self) {
+        let Ended {
+            out: _,
+            err: _,
+            status: _,
+        } = self;
+    }
 }
 
 /// The words of a line.

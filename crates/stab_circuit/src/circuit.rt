@@ -19,12 +19,22 @@ use std::marker::Model;
 /// A list of items. Contracts see them one by one.
 ///
 /// What is known of them all is kept, so that no call walks over them for it.
-#[derive(Drop)]
 pub struct Circuit {
     items: Vec<Item>,
     /// The items in runs.
     runs: Vec<Run>,
     total: Summary,
+}
+
+// Written out, so that to a proof a value that is let go is one call, and not one for each of its parts.
+impl Drop for Circuit {
+    fn drop(self) {
+        let Circuit {
+            items: _,
+            runs: _,
+            total: _,
+        } = self;
+    }
 }
 
 impl Model for Circuit {

@@ -76,6 +76,3 @@ impl<'a> Cursor<'a> {
         self.walk.restart(self.items);
     }
 }
-
-#[cfg(test)]
-mod tests;

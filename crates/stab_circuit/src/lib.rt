@@ -55,6 +55,3 @@ pub use path::Path;
 pub use print::write_circuit;
 pub use stab_lines::{Axis, Factor, Qubit};
 pub use step::Step;
-
-#[cfg(test)]
-mod tests;

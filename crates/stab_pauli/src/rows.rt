@@ -369,6 +369,3 @@ impl PauliRows {
         flat::same(words, others)
     }
 }
-
-#[cfg(test)]
-mod tests;

@@ -18,6 +18,3 @@ mod shot;
 
 pub use format::{Format, Kinds};
 pub use shot::write_shot;
-
-#[cfg(test)]
-mod tests;

@@ -26,10 +26,16 @@ pub trait Coins: Drop {
 
 /// The coins of a list, and 0 past its end. It borrows the list and takes no memory. Contracts see
 /// the list and the count of asks.
-#[derive(Drop)]
 pub struct ListCoins<'a> {
     bits: &'a [bool],
     asks: u64,
+}
+
+// Written out, so that to a proof a value that is let go is one call, and not one for each of its parts.
+impl Drop for ListCoins<'_> {
+    fn drop(self) {
+        let ListCoins { bits: _, asks: _ } = self;
+    }
 }
 
 impl<'a> Model for ListCoins<'a> {
@@ -67,7 +73,6 @@ impl Coins for ListCoins<'_> {
 /// behind them, and the shot is its stream. The lowest bit of each 32-bit word is the coin of the
 /// word's number. Coins are made 64 at a time, in four blocks of sixteen words, and the last 64 are
 /// kept; so in ascending order each block is made once.
-#[derive(Drop)]
 pub struct SeedCoins {
     seed: u64,
     shot: u64,
@@ -75,6 +80,19 @@ pub struct SeedCoins {
     // The last 64 coins begin at 64 times this number.
     group: Option<u64>,
     coins: [bool; 64],
+}
+
+// Written out, so that to a proof a value that is let go is one call, and not one for each of its parts.
+impl Drop for SeedCoins {
+    fn drop(self) {
+        let SeedCoins {
+            seed: _,
+            shot: _,
+            asks: _,
+            group: _,
+            coins: _,
+        } = self;
+    }
 }
 
 impl Model for SeedCoins {

@@ -47,6 +47,3 @@ pub use pending::Edit;
 pub use run::{Shot, run_once};
 pub use sampler::Sampler;
 pub use session::{OpenRefused, Report, Session};
-
-#[cfg(test)]
-mod tests;

@@ -100,6 +100,3 @@ pub fn run_once<C: Coins>(
         Err(refusal) => Err(Fault::whole(refusal)),
     }
 }
-
-#[cfg(test)]
-mod tests;

@@ -14,13 +14,25 @@ use std::marker::Model;
 /// state of its qubits, and the steps before which it keeps copies of that state. Of all of these the
 /// statement of `specs/Headline.antt` holds, which each call that gives or takes a session repeats:
 /// they are those of the run of the items from the first step on.
-#[derive(Drop)]
 pub struct Session<C: Coins> {
     alloc: Global,
     circuit: Circuit,
     stride: usize,
     coins: C,
     kept: KeptRun,
+}
+
+// Written out, so that to a proof a value that is let go is one call, and not one for each of its parts.
+impl<C: Coins> Drop for Session<C> {
+    fn drop(self) {
+        let Session {
+            alloc: _,
+            circuit: _,
+            stride: _,
+            coins: _,
+            kept: _,
+        } = self;
+    }
 }
 
 /// What a refused opening hands back: the fault, the circuit as it was, and the coins, which stand
@@ -194,6 +206,3 @@ impl<C: Coins> Session<C> {
         let _ = &self.circuit;
     }
 }
-
-#[cfg(test)]
-mod tests;

@@ -35,6 +35,3 @@ mod tableau;
 pub use collapse::Collapse;
 pub use gate::{Gate, PairGate};
 pub use tableau::Tableau;
-
-#[cfg(test)]
-mod tests;

@@ -229,6 +229,3 @@ impl Circuit {
         }
     }
 }
-
-#[cfg(test)]
-mod tests;

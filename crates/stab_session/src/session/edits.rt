@@ -65,6 +65,3 @@ impl<C: Coins> Session<C> {
         }
     }
 }
-
-#[cfg(test)]
-mod tests;

@@ -1,4 +1,5 @@
-use crate::{Cursor, read_circuit};
+//! Cursors over the unrolled steps of a circuit.
+use stab_circuit::{Cursor, read_circuit};
 use stab_pauli::{MemoryInput, Refusal};
 use std::alloc::Global;
 use std::test::Fail;

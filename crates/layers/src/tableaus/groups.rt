@@ -1,6 +1,7 @@
-use super::{MISUSED, apply, apply_pair, bell, collapse, prints, read, spread, zeros};
-use crate::{Collapse, Gate, PairGate, Tableau};
+use super::{MISUSED, apply, apply_pair, bell, collapse, spread, zeros};
+use crate::texts::{prints, read};
 use stab_pauli::Pauli;
+use stab_tableau::{Collapse, Gate, PairGate, Tableau};
 use std::alloc::Global;
 use std::test::Fail;
 

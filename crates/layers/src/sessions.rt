@@ -1,6 +1,7 @@
-use crate::{Coins, ListCoins, OpenRefused, Session};
+//! Sessions: opened, read, refused.
 use stab_circuit::{Circuit, read_circuit};
 use stab_pauli::{Fault, Letter, MemoryInput, MemoryOutput, Pauli, Refusal};
+use stab_session::{Coins, ListCoins, OpenRefused, Session};
 use std::alloc::{AllocError, Global};
 use std::test::Fail;
 

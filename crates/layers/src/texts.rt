@@ -1,6 +1,6 @@
 //! Pauli strings from texts and printed, for tests.
 
-use crate::{Letter, MemoryOutput, Pauli, Refusal};
+use stab_pauli::{Letter, MemoryOutput, Pauli, Refusal};
 use std::alloc::Global;
 
 /// The Pauli that a text such as `-_XZ` stands for.

@@ -1,8 +1,10 @@
+//! Shots in each result format.
+
 ghost use Rattle.std.specs.Prelude.{◌≤◌, length};
 ghost use Rattle.stab_results.specs.Formats.{detectors_of};
 
-use crate::{Format, Kinds, write_shot};
 use stab_pauli::{Fault, MemoryOutput, Refusal};
+use stab_results::{Format, Kinds, write_shot};
 use std::process::Abort;
 use std::test::Fail;
 

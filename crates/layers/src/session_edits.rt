@@ -1,14 +1,36 @@
+//! Edits of sessions.
+
 ghost use Rattle.std.specs.Prelude.{◌≡◌, ℕ, Bool, false};
 ghost use Rattle.stab_session.specs.Coins.{one_more};
 
-use super::Report;
-use crate::{Coins, Edit, ListCoins, Session};
 use stab_circuit::{Item, Path, read_circuit, read_item};
 use stab_pauli::{Fault, MemoryInput, Refusal};
+use stab_session::{Coins, Edit, ListCoins, Report, Session};
 use std::alloc::Global;
 use std::test::Fail;
 
 const BELL: &str = "H 0\nCX 0 1\nM 0 1";
+
+/// A session with copies of its state at most so many steps apart.
+fn opened_with<C: Coins>(
+    alloc: Global,
+    text: &str,
+    n: usize,
+    stride: usize,
+    coins: C,
+) -> Result<Session<C>, Fault> {
+    let circuit = read_circuit(alloc, &mut MemoryInput::new(text.as_bytes()))?;
+    match Session::open(
+        alloc,
+        circuit,
+        n.min(1024),
+        stride.clamp(1, 1_048_576),
+        coins,
+    ) {
+        Ok(session) => Ok(session),
+        Err(refused) => Err(refused.fault),
+    }
+}
 
 fn opened<'a>(
     alloc: Global,
@@ -16,11 +38,7 @@ fn opened<'a>(
     n: usize,
     bits: &'a [bool],
 ) -> Result<Session<ListCoins<'a>>, Fault> {
-    let circuit = read_circuit(alloc, &mut MemoryInput::new(text.as_bytes()))?;
-    match Session::open(alloc, circuit, n.min(1024), 8192, ListCoins::new(bits)) {
-        Ok(session) => Ok(session),
-        Err(refused) => Err(refused.fault),
-    }
+    opened_with(alloc, text, n, 8192, ListCoins::new(bits))
 }
 
 fn item(alloc: Global, text: &str) -> Result<Item, Fault> {
@@ -122,32 +140,23 @@ fn a_refused_edit_changes_nothing(rt: HostRuntime) -> Result<(), Fail> {
 
 /// Coins that are all 0, and count how often they are asked for.
 #[derive(Drop)]
-struct CountedCoins {
-    asks: u64,
+struct CountedCoins<'a> {
+    asks: &'a mut u64,
 }
 
-impl Coins for CountedCoins {
+impl Coins for CountedCoins<'_> {
     ghost sequence = { λ c t. false };
 
-    ghost asks = { λ c. c.asks };
+    ghost asks = { λ c. c.asks.now };
 
     fn coin(&mut self, _: u64) -> bool {
-        self.asks = self.asks.saturating_add(1);
+        *self.asks = self.asks.saturating_add(1);
         false
     }
 }
 
-/// A session on one qubit that keeps copies at most 10 steps apart.
-fn counted(alloc: Global, text: &str) -> Result<Session<CountedCoins>, Fault> {
-    let circuit = read_circuit(alloc, &mut MemoryInput::new(text.as_bytes()))?;
-    match Session::open(alloc, circuit, 1, 10, CountedCoins { asks: 0 }) {
-        Ok(session) => Ok(session),
-        Err(refused) => Err(refused.fault),
-    }
-}
-
 /// Puts `I 0` in at a place, and tells what that cost.
-fn put(alloc: Global, session: &mut Session<CountedCoins>, place: Path) -> Result<Report, Fault> {
+fn put<C: Coins>(alloc: Global, session: &mut Session<C>, place: Path) -> Result<Report, Fault> {
     let item = item(alloc, "I 0")?;
     match session.apply(Edit::Insert { place, item }) {
         Ok(report) => Ok(report),
@@ -165,7 +174,7 @@ fn path(block: Option<usize>, place: usize) -> Path {
 
 /// What it costs to put `I 0` in.
 fn cost(alloc: Global, text: &str, place: Path) -> Result<Report, Fault> {
-    let mut session = counted(alloc, text)?;
+    let mut session = opened_with(alloc, text, 1, 10, ListCoins::new(&[]))?;
     put(alloc, &mut session, place)
 }
 
@@ -198,18 +207,24 @@ fn an_edit_costs_what_it_changes(rt: HostRuntime) -> Result<(), Fail> {
     Ok(())
 }
 
-/// How many coins a session asks for, and how many once `I 0` was put in first.
-fn asks(alloc: Global, text: &str) -> Result<(u64, u64), Fault> {
-    let mut session = counted(alloc, text)?;
-    let opened = session.coins.asks;
-    put(alloc, &mut session, path(None, 0))?;
-    Ok((opened, session.coins.asks))
+/// How many coins a session asks for while it is opened, and then, where it is edited, while `I 0`
+/// is put in first.
+fn asks(alloc: Global, text: &str, is_edited: bool) -> Result<u64, Fault> {
+    let mut asks = 0;
+    {
+        let mut session = opened_with(alloc, text, 1, 10, CountedCoins { asks: &mut asks })?;
+        if is_edited {
+            put(alloc, &mut session, path(None, 0))?;
+        }
+    }
+    Ok(asks)
 }
 
 #[test]
 fn an_edit_asks_for_the_coins_of_what_it_carries_out(rt: HostRuntime) -> Result<(), Fail> {
-    let (opened, edited) = asks(rt.alloc(), "REPEAT 1000 {\nMX 0\nM 0\n}")?;
-    assert_eq!(rt; opened, 2000);
+    let text = "REPEAT 1000 {\nMX 0\nM 0\n}";
+    assert_eq!(rt; asks(rt.alloc(), text, false)?, 2000);
+    let edited = asks(rt.alloc(), text, true)?;
     assert!(rt; edited <= 2021, "{edited} coins");
     Ok(())
 }

@@ -1,6 +1,7 @@
-use crate::{ListCoins, SeedCoins, Shot, run_once};
+//! Single runs of circuits.
 use stab_circuit::{Circuit, read_circuit};
 use stab_pauli::{Fault, MemoryInput, Refusal};
+use stab_session::{ListCoins, SeedCoins, Shot, run_once};
 use std::alloc::{AllocError, Global};
 use std::test::Fail;
 

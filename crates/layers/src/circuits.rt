@@ -1,4 +1,5 @@
-use crate::{Circuit, read_circuit, read_item, write_circuit};
+//! Texts of circuits: read, refused, printed.
+use stab_circuit::{Circuit, Path, read_circuit, read_item, write_circuit};
 use stab_pauli::{CutInput, EndlessInput, Fault, MemoryInput, MemoryOutput, Refusal};
 use std::alloc::Global;
 use std::test::Fail;
@@ -192,6 +193,16 @@ fn a_circuit_has_its_numbers(rt: HostRuntime) -> Result<(), Fail> {
     Ok(())
 }
 
+/// How many steps a circuit has that is one item.
+fn steps_of(alloc: Global, text: &str) -> Result<usize, Fault> {
+    let item = read_item(alloc, text.as_bytes())?;
+    let mut circuit = Circuit::new(alloc);
+    match circuit.insert(Path::new(&[0]), item) {
+        Ok(()) => Ok(circuit.steps()),
+        Err(refused) => Err(refused.fault),
+    }
+}
+
 #[test]
 fn an_item_is_read_alone(rt: HostRuntime) -> Result<(), Fail> {
     for (text, number, line, steps) in [
@@ -208,8 +219,8 @@ fn an_item_is_read_alone(rt: HostRuntime) -> Result<(), Fail> {
         ("", 11, 0, 0),
         (" \n# note", 11, 0, 0),
     ] {
-        let found = match read_item(rt.alloc(), text.as_bytes()) {
-            Ok(item) => (0, 0, item.summary().steps),
+        let found = match steps_of(rt.alloc(), text) {
+            Ok(steps) => (0, 0, steps),
             Err(fault) => (fault.refusal.number(), fault.line, 0),
         };
         assert_eq!(rt; found, (number, line, steps), "at {text}");

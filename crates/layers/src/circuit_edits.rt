@@ -1,4 +1,7 @@
-use crate::{Change, Circuit, Edited, Item, Path, Refused, read_circuit, read_item, write_circuit};
+//! Edits of circuits at paths.
+use stab_circuit::{
+    Change, Circuit, Edited, Item, Path, Refused, read_circuit, read_item, write_circuit,
+};
 use stab_pauli::{Fault, MemoryInput, MemoryOutput};
 use std::alloc::Global;
 use std::test::Fail;

@@ -1,6 +1,6 @@
 use super::{apply, collapse, collapse_letter, sign, zeros};
-use crate::{Collapse, Gate, Tableau};
 use stab_pauli::{Letter, Pauli, Refusal};
+use stab_tableau::{Collapse, Gate, Tableau};
 use std::alloc::Global;
 use std::test::Fail;
 

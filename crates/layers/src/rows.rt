@@ -1,5 +1,6 @@
+//! Rows of signed Pauli strings: made, changed, multiplied.
 use crate::texts::{prints, read, repeated};
-use crate::{Letter, Pauli, PauliRows, Refusal};
+use stab_pauli::{Letter, Pauli, PauliRows, Refusal};
 use std::alloc::Global;
 use std::test::Fail;
 

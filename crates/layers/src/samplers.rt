@@ -1,6 +1,7 @@
-use crate::{Coins, ListCoins, Sampler, SeedCoins, Shot, run_once};
+//! Many shots of one circuit.
 use stab_circuit::{Circuit, read_circuit};
 use stab_pauli::{Fault, MemoryInput, Refusal};
+use stab_session::{Coins, ListCoins, Sampler, SeedCoins, Shot, run_once};
 use std::alloc::Global;
 use std::test::Fail;
 

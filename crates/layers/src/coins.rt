@@ -1,4 +1,5 @@
-use crate::{Coins, ListCoins, SeedCoins};
+//! Coins of lists and of seeds.
+use stab_session::{Coins, ListCoins, SeedCoins};
 
 /// Whether these characters are the coins from 0 on.
 fn begins_with(coins: &mut impl Coins, digits: &[u8]) -> bool {
