@@ -20,13 +20,7 @@ fn opened_with<C: Coins>(
     coins: C,
 ) -> Result<Session<C>, Fault> {
     let circuit = read_circuit(alloc, &mut MemoryInput::new(text.as_bytes()))?;
-    match Session::open(
-        alloc,
-        circuit,
-        n.min(1024),
-        stride.clamp(1, 1_048_576),
-        coins,
-    ) {
+    match Session::open(alloc, circuit, n.min(1024), stride.clamp(1, 65_536), coins) {
         Ok(session) => Ok(session),
         Err(refused) => Err(refused.fault),
     }
