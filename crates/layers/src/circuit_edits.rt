@@ -19,6 +19,15 @@ fn read(alloc: Global, text: &str) -> Result<Circuit, Fault> {
     read_circuit(alloc, &mut MemoryInput::new(text.as_bytes()))
 }
 
+/// The path of these numbers, which are 1 to 17; else that of the first item.
+fn path_of(numbers: &[usize]) -> Path {
+    if numbers.is_empty() || numbers.len() > 17 {
+        Path::new(&[0])
+    } else {
+        Path::new(numbers)
+    }
+}
+
 /// Whether the circuit is printed as this text.
 fn is_printed(alloc: Global, circuit: &Circuit, text: &str) -> Result<bool, Fail> {
     let mut out = MemoryOutput::new(alloc, 2000)?;
@@ -86,70 +95,76 @@ fn deleted(alloc: Global, path: Path, text: &str) -> Result<(u8, bool), Fail> {
 
 const KEPT: &str = "REPEAT 3 {\n    X 0\n    M 0\n}\nM 0\n";
 
+const INSERTED: &[(&[usize], &str, u8, &str)] = &[
+    (
+        &[0, 1],
+        "X 0",
+        0,
+        "REPEAT 3 {\n    X 0\n    X 0\n    M 0\n}\nM 0\n",
+    ),
+    (
+        &[0, 2],
+        "REPEAT 2 {\nZ 0\n}",
+        0,
+        "REPEAT 3 {\n    X 0\n    M 0\n    REPEAT 2 {\n        Z 0\n    }\n}\nM 0\n",
+    ),
+    (
+        &[2],
+        "Y 0",
+        0,
+        "REPEAT 3 {\n    X 0\n    M 0\n}\nM 0\nY 0\n",
+    ),
+    (&[3], "X 0", 12, KEPT),
+    (&[0, 3], "X 0", 12, KEPT),
+    (&[2, 0], "X 0", 12, KEPT),
+    (&[1, 0], "X 0", 17, KEPT),
+    (&[0, 1, 9], "X 0", 17, KEPT),
+];
+
 #[test]
 fn an_item_is_put_in_at_its_path(rt: HostRuntime) -> Result<(), Fail> {
-    for (path, item, number, text) in [
-        (
-            Path::new(&[0, 1]),
-            "X 0",
-            0,
-            "REPEAT 3 {\n    X 0\n    X 0\n    M 0\n}\nM 0\n",
-        ),
-        (
-            Path::new(&[0, 2]),
-            "REPEAT 2 {\nZ 0\n}",
-            0,
-            "REPEAT 3 {\n    X 0\n    M 0\n    REPEAT 2 {\n        Z 0\n    }\n}\nM 0\n",
-        ),
-        (
-            Path::new(&[2]),
-            "Y 0",
-            0,
-            "REPEAT 3 {\n    X 0\n    M 0\n}\nM 0\nY 0\n",
-        ),
-        (Path::new(&[3]), "X 0", 12, KEPT),
-        (Path::new(&[0, 3]), "X 0", 12, KEPT),
-        (Path::new(&[2, 0]), "X 0", 12, KEPT),
-        (Path::new(&[1, 0]), "X 0", 17, KEPT),
-        (Path::new(&[0, 1, 9]), "X 0", 17, KEPT),
-    ] {
-        let found = inserted(rt.alloc(), ROUNDS, path, item, text)?;
+    for &(path, item, number, text) in INSERTED {
+        let found = inserted(rt.alloc(), ROUNDS, path_of(path), item, text)?;
         assert_eq!(rt; found, ((number, 0, number != 0), true), "at {text}");
     }
     Ok(())
 }
+
+const REPLACED: &[(&[usize], &str, u8, &str)] = &[
+    (
+        &[0, 1],
+        "DETECTOR rec[-1]",
+        0,
+        "REPEAT 3 {\n    X 0\n    DETECTOR rec[-1]\n}\nM 0\n",
+    ),
+    (&[0], "TICK", 0, "TICK\nM 0\n"),
+    (&[2], "X 0", 12, KEPT),
+    (&[0, 2], "X 0", 12, KEPT),
+    (&[1, 0], "X 0", 17, KEPT),
+];
 
 #[test]
 fn an_item_is_exchanged_at_its_path(rt: HostRuntime) -> Result<(), Fail> {
-    for (path, item, number, text) in [
-        (
-            Path::new(&[0, 1]),
-            "DETECTOR rec[-1]",
-            0,
-            "REPEAT 3 {\n    X 0\n    DETECTOR rec[-1]\n}\nM 0\n",
-        ),
-        (Path::new(&[0]), "TICK", 0, "TICK\nM 0\n"),
-        (Path::new(&[2]), "X 0", 12, KEPT),
-        (Path::new(&[0, 2]), "X 0", 12, KEPT),
-        (Path::new(&[1, 0]), "X 0", 17, KEPT),
-    ] {
-        let found = replaced(rt.alloc(), ROUNDS, path, item, text)?;
+    for &(path, item, number, text) in REPLACED {
+        let found = replaced(rt.alloc(), ROUNDS, path_of(path), item, text)?;
         assert_eq!(rt; found, ((number, 0, number != 0), true), "at {text}");
     }
     Ok(())
 }
 
+const DELETED: &[(&[usize], u8, &str)] = &[
+    (&[0, 0], 0, "REPEAT 3 {\n    M 0\n}\nM 0\n"),
+    (&[1], 0, "REPEAT 3 {\n    X 0\n    M 0\n}\n"),
+    (&[1, 0], 17, KEPT),
+    (&[0, 2], 12, KEPT),
+    (&[2, 0], 12, KEPT),
+    (&[2], 12, KEPT),
+];
+
 #[test]
 fn an_item_is_taken_out_at_its_path(rt: HostRuntime) -> Result<(), Fail> {
-    for (path, number, text) in [
-        (Path::new(&[0, 0]), 0, "REPEAT 3 {\n    M 0\n}\nM 0\n"),
-        (Path::new(&[1]), 0, "REPEAT 3 {\n    X 0\n    M 0\n}\n"),
-        (Path::new(&[1, 0]), 17, KEPT),
-        (Path::new(&[0, 2]), 12, KEPT),
-        (Path::new(&[2, 0]), 12, KEPT),
-        (Path::new(&[2]), 12, KEPT),
-    ] {
-        let found = deleted(rt.alloc(), path, text)?;
+    for &(path, number, text) in DELETED {
+        let found = deleted(rt.alloc(), path_of(path), text)?;
         assert_eq!(rt; found, (number, true), "at {text}");
     }
     Ok(())
@@ -184,17 +199,19 @@ fn told(answer: Result<Edited, Refused>) -> (u8, usize, usize, usize) {
     }
 }
 
+const JUDGED: &[(&str, usize, (u8, usize, usize, usize))] = &[
+    ("DETECTOR rec[-1]", 1, (8, 0, 0, 0)),
+    ("X 1", 1, (6, 0, 0, 0)),
+    ("X 1", 2, (0, 1, 6, 9)),
+    ("REPEAT 1048576 {\nX 0\n}", 2, (9, 0, 0, 0)),
+    ("Y 0 1", 2, (0, 1, 9, 15)),
+];
+
 #[test]
 fn an_edit_is_judged_on_its_qubits(rt: HostRuntime) -> Result<(), Fail> {
     let mut circuit = read(rt.alloc(), ROUNDS)?;
     let path = Path::new(&[0, 1]);
-    for (item, n, answer) in [
-        ("DETECTOR rec[-1]", 1, (8, 0, 0, 0)),
-        ("X 1", 1, (6, 0, 0, 0)),
-        ("X 1", 2, (0, 1, 6, 9)),
-        ("REPEAT 1048576 {\nX 0\n}", 2, (9, 0, 0, 0)),
-        ("Y 0 1", 2, (0, 1, 9, 15)),
-    ] {
+    for &(item, n, answer) in JUDGED {
         let change = Change::Insert(read_item(rt.alloc(), item.as_bytes())?);
         assert_eq!(rt; told(circuit.edit(n, path, change)), answer, "at {item}");
     }

@@ -22,10 +22,8 @@ impl Read for Reader {
         if self.calls == self.fails_at {
             return Err(io::ErrorKind::Interrupted.into());
         }
-        let count = self.bytes.len().min(buf.len()).min(2);
-        buf[..count].copy_from_slice(&self.bytes[..count]);
-        self.bytes = &self.bytes[count..];
-        Ok(count)
+        let most = buf.len().min(2);
+        self.bytes.read(&mut buf[..most])
     }
 }
 

@@ -32,30 +32,36 @@ fn check(
     Ok(())
 }
 
+const NINE: &[bool] = &[true, false, false, false, false, false, false, false, true];
+
+const SHOTS: &[(Format, &[bool], &[u8])] = &[
+    (Format::F01, &[], b"\n"),
+    (Format::B8, &[], b""),
+    (Format::R8, &[], b"\0"),
+    (Format::Hits, &[], b"\n"),
+    (Format::Dets, &[], b"shot\n"),
+    (Format::F01, NINE, b"100000001\n"),
+    (Format::B8, NINE, b"\x01\x01"),
+    (Format::R8, NINE, b"\x00\x07\x00"),
+    (Format::Hits, NINE, b"0,8\n"),
+    (Format::Dets, NINE, b"shot M0 M8\n"),
+];
+
 #[test]
 fn a_shot_has_the_bytes_of_its_format(rt: HostRuntime) -> Result<(), Fail> {
-    let nine = [true, false, false, false, false, false, false, false, true];
-    let mut many = [false; 256];
-    many[255] = true;
-    let cases: [(Format, &[bool], &[u8]); 13] = [
-        (Format::F01, &[], b"\n"),
-        (Format::B8, &[], b""),
-        (Format::R8, &[], b"\0"),
-        (Format::Hits, &[], b"\n"),
-        (Format::Dets, &[], b"shot\n"),
-        (Format::F01, &nine, b"100000001\n"),
-        (Format::B8, &nine, b"\x01\x01"),
-        (Format::R8, &nine, b"\x00\x07\x00"),
-        (Format::Hits, &nine, b"0,8\n"),
-        (Format::Dets, &nine, b"shot M0 M8\n"),
-        (Format::R8, &many[..254], b"\xfe"),
-        (Format::R8, &many[..255], b"\xff\x00"),
-        (Format::R8, &many, b"\xff\x00\x00"),
-    ];
-    for (format, bits, bytes) in cases {
+    for &(format, bits, bytes) in SHOTS {
         check(&rt, format, Kinds::Measurements, bits, bytes)?;
     }
     Ok(())
+}
+
+#[test]
+fn runs_of_zeros_are_counted_up_to_255(rt: HostRuntime) -> Result<(), Fail> {
+    let (kinds, mut many) = (Kinds::Measurements, [false; 256]);
+    many[255] = true;
+    check(&rt, Format::R8, kinds, &many[..254], b"\xfe")?;
+    check(&rt, Format::R8, kinds, &many[..255], b"\xff\x00")?;
+    check(&rt, Format::R8, kinds, &many, b"\xff\x00\x00")
 }
 
 #[test]

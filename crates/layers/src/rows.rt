@@ -4,17 +4,21 @@ use stab_pauli::{Letter, Pauli, PauliRows, Refusal};
 use std::alloc::Global;
 use std::test::Fail;
 
+// Sets a row, where there is one of that length.
+fn set_row(rows: &mut PauliRows, a: usize, pauli: &Pauli) {
+    if a < rows.len() && pauli.len() == rows.qubits() {
+        rows.set_row(a, pauli);
+    }
+}
+
 // The rows that texts of n letters each stand for.
 fn rows_of(alloc: Global, n: usize, texts: &[&str]) -> Result<PauliRows, Fail> {
     if n > 1024 || texts.len() > 16 {
         return Err(Fail::from(Refusal::OutOfMemory));
     }
     let mut rows = PauliRows::new(alloc, texts.len(), n)?;
-    for a in 0..texts.len() {
-        let pauli = read(alloc, texts[a])?;
-        if a < rows.len() && pauli.len() == rows.qubits() {
-            rows.set_row(a, &pauli);
-        }
+    for (a, text) in texts.iter().enumerate() {
+        set_row(&mut rows, a, &read(alloc, text)?);
     }
     Ok(rows)
 }
@@ -42,20 +46,38 @@ fn rows_are_made_and_changed(rt: HostRuntime) -> Result<(), Fail> {
     rows.negate_if(1, true);
     rows.negate_if(0, false);
     assert!(rt; are(rt.alloc(), &rows, &["+X_", "-_Z", "+__"])?);
-    assert!(rt; rows.len() == 3 && rows.qubits() == 2);
+    Ok(())
+}
+
+#[test]
+fn rows_show_their_letters(rt: HostRuntime) -> Result<(), Fail> {
+    let rows = rows_of(rt.alloc(), 2, &["+X_", "-_Z"])?;
+    assert!(rt; rows.len() == 2 && rows.qubits() == 2);
     assert!(rt; rows.letter(1, 1) == Letter::Z && rows.is_negative(1) && !rows.is_negative(0));
     assert!(rt; rows.flips(0, 0) && !rows.flips(1, 1) && !rows.flips(0, 1));
     assert!(rt; rows.first_flip(0) == Some(0) && rows.first_flip(1) == None);
+    Ok(())
+}
+
+#[test]
+fn rows_are_swapped_and_cleared(rt: HostRuntime) -> Result<(), Fail> {
+    let mut rows = rows_of(rt.alloc(), 2, &["+X_", "-_Z", "+Y_"])?;
     let copy = rows.copy(rt.alloc())?;
-    rows.swap(0, 1);
-    assert!(rt; are(rt.alloc(), &rows, &["-_Z", "+X_", "+__"])?);
     assert!(rt; rows.len() == 3);
-    rows.clear(0);
-    assert!(rt; are(rt.alloc(), &rows, &["+__", "+X_", "+__"])?);
-    assert!(rt; are(rt.alloc(), &copy, &["+X_", "-_Z", "+__"])?);
-    assert!(rt; rows.len() == copy.len() && rows.qubits() == copy.qubits());
-    rows.copy_from(&copy);
-    assert!(rt; are(rt.alloc(), &rows, &["+X_", "-_Z", "+__"])?);
+    rows.swap(0, 1);
+    rows.clear(2);
+    assert!(rt; are(rt.alloc(), &rows, &["-_Z", "+X_", "+__"])?);
+    assert!(rt; are(rt.alloc(), &copy, &["+X_", "-_Z", "+Y_"])?);
+    Ok(())
+}
+
+#[test]
+fn rows_are_made_others(rt: HostRuntime) -> Result<(), Fail> {
+    let mut rows = rows_of(rt.alloc(), 2, &["+YY", "-ZX"])?;
+    let other = rows_of(rt.alloc(), 2, &["+X_", "-_Z"])?;
+    assert!(rt; rows.len() == other.len() && rows.qubits() == other.qubits());
+    rows.copy_from(&other);
+    assert!(rt; are(rt.alloc(), &rows, &["+X_", "-_Z"])?);
     Ok(())
 }
 
@@ -90,16 +112,18 @@ fn multiply_string(rows: &mut PauliRows, string: &mut Pauli, other: &Pauli) {
     }
 }
 
+const PRODUCTS: &[(&str, &str, &str)] = &[
+    ("+XX", "+ZZ", "-YY"),
+    ("-XX", "+ZZ", "+YY"),
+    ("+XY", "-YX", "-ZZ"),
+    ("+X_", "+Y_", "-Z_"),
+    ("+Y_", "+X_", "+Z_"),
+    ("-X_", "+Z_", "-Y_"),
+];
+
 #[test]
 fn rows_multiply_as_strings_do(rt: HostRuntime) -> Result<(), Fail> {
-    for (first, second, product) in [
-        ("+XX", "+ZZ", "-YY"),
-        ("-XX", "+ZZ", "+YY"),
-        ("+XY", "-YX", "-ZZ"),
-        ("+X_", "+Y_", "-Z_"),
-        ("+Y_", "+X_", "+Z_"),
-        ("-X_", "+Z_", "-Y_"),
-    ] {
+    for (first, second, product) in PRODUCTS {
         let mut rows = PauliRows::new(rt.alloc(), 3, 2)?;
         let mut string = read(rt.alloc(), first)?;
         let other = read(rt.alloc(), second)?;
@@ -142,9 +166,7 @@ fn a_row_behind_many_keeps_the_others(rt: HostRuntime) -> Result<(), Fail> {
     for n in [1, 255, 256, 257, 1024] {
         let mut rows = PauliRows::new(rt.alloc(), 4, n)?;
         let other = repeated(rt.alloc(), n, Letter::Y)?;
-        if rows.len() == 4 && other.len() == rows.qubits() {
-            rows.set_row(2, &other);
-        }
+        set_row(&mut rows, 2, &other);
         rows.negate_if(2, true);
         let mut string = Pauli::identity(rt.alloc(), n)?;
         for a in 0..4 {

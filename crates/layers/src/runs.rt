@@ -75,163 +75,163 @@ const PRODUCTS: &str = "MPP X0*X1 Z0*Z1 Y0*Y1";
 
 const ROUNDS: &str = "REPEAT 3 {\nX 0\nM 0\nDETECTOR rec[-1]\nOBSERVABLE_INCLUDE(0) rec[-1]\n}";
 
+const LISTS: &[(&str, usize, &[bool], &str)] = &[
+    ("", 0, &[], "records  free  detectors  observables "),
+    (
+        BELL,
+        2,
+        &[true, false],
+        "records 11 free 10 detectors  observables ",
+    ),
+    (
+        BELL,
+        2,
+        &[false, true],
+        "records 00 free 10 detectors  observables ",
+    ),
+    (
+        "H 0\nS 0\nS 0\nH 0\nM 0",
+        1,
+        &[],
+        "records 1 free 0 detectors  observables ",
+    ),
+    (
+        TURNED_BELL,
+        2,
+        &[false],
+        "records 01 free 10 detectors  observables ",
+    ),
+    (
+        TURNED_BELL,
+        2,
+        &[true],
+        "records 10 free 10 detectors  observables ",
+    ),
+    (
+        "X 0\nMR !0\nM 0",
+        1,
+        &[],
+        "records 00 free 00 detectors  observables ",
+    ),
+    (
+        "H 0\nCX 0 1\nR 0\nM 0 1",
+        2,
+        &[true],
+        "records 01 free 100 detectors  observables ",
+    ),
+    (
+        "H 0 1\nCZ 0 1\nZ 0\nMX 0 0",
+        2,
+        &[false],
+        "records 00 free 10 detectors  observables ",
+    ),
+    (
+        "H 0\nM 0",
+        1,
+        &[false, true],
+        "records 0 free 1 detectors  observables ",
+    ),
+    (
+        "R 1\nH 0\nM 0",
+        2,
+        &[false, true],
+        "records 1 free 01 detectors  observables ",
+    ),
+    (
+        "H 0\nMX !0\nMR 0 0",
+        1,
+        &[true],
+        "records 100 free 010 detectors  observables ",
+    ),
+    (
+        "H 0\nMX !0\nMR 0 0",
+        1,
+        &[true, true],
+        "records 110 free 010 detectors  observables ",
+    ),
+    (
+        "X 0\nM 0\nDETECTOR rec[-1] rec[-1]\nDETECTOR",
+        1,
+        &[],
+        "records 1 free 0 detectors 00 observables ",
+    ),
+    (
+        ROUNDS,
+        1,
+        &[],
+        "records 101 free 000 detectors 101 observables 0",
+    ),
+    (
+        "X 0\nM 0\nOBSERVABLE_INCLUDE(2) rec[-1]\nM 1\nOBSERVABLE_INCLUDE(2) rec[-1] rec[-2]\nOBSERVABLE_INCLUDE(1) rec[-2]",
+        3,
+        &[],
+        "records 10 free 00 detectors  observables 010",
+    ),
+    (
+        CODE,
+        5,
+        &[],
+        "records 000000000 free 00000000000000 detectors 00000000 observables 0",
+    ),
+    (
+        PRODUCTS,
+        2,
+        &[false, false, false],
+        "records 001 free 100 detectors  observables ",
+    ),
+    (
+        PRODUCTS,
+        2,
+        &[true, false, false],
+        "records 100 free 100 detectors  observables ",
+    ),
+    (
+        "H 0\nMPP X0 !Z1 X0*!Z1*X2",
+        3,
+        &[false, false, true],
+        "records 010 free 001 detectors  observables ",
+    ),
+    (
+        TELEPORTATION,
+        3,
+        &[true, true],
+        "records 111 free 110 detectors  observables ",
+    ),
+    (
+        TELEPORTATION,
+        3,
+        &[false, true],
+        "records 011 free 110 detectors  observables ",
+    ),
+    (
+        "X 0\nMY 0\nMRY !0\nMY 0",
+        1,
+        &[true],
+        "records 100 free 100 detectors  observables ",
+    ),
+    (
+        "RX 0\nMRX 0\nZ 0\nMX 0",
+        1,
+        &[true],
+        "records 01 free 100 detectors  observables ",
+    ),
+    (
+        "SQRT_X 0\nSQRT_X 0\nM 0",
+        1,
+        &[],
+        "records 1 free 0 detectors  observables ",
+    ),
+    (
+        "C_XYZ 0\nC_ZYX 0\nM 0",
+        1,
+        &[],
+        "records 0 free 0 detectors  observables ",
+    ),
+];
+
 #[test]
 fn a_run_gives_the_lists_of_its_circuit(rt: HostRuntime) -> Result<(), Fail> {
-    let none: [bool; 0] = [];
-    let cases: [(&str, usize, &[bool], &str); 26] = [
-        ("", 0, &none, "records  free  detectors  observables "),
-        (
-            BELL,
-            2,
-            &[true, false],
-            "records 11 free 10 detectors  observables ",
-        ),
-        (
-            BELL,
-            2,
-            &[false, true],
-            "records 00 free 10 detectors  observables ",
-        ),
-        (
-            "H 0\nS 0\nS 0\nH 0\nM 0",
-            1,
-            &none,
-            "records 1 free 0 detectors  observables ",
-        ),
-        (
-            TURNED_BELL,
-            2,
-            &[false],
-            "records 01 free 10 detectors  observables ",
-        ),
-        (
-            TURNED_BELL,
-            2,
-            &[true],
-            "records 10 free 10 detectors  observables ",
-        ),
-        (
-            "X 0\nMR !0\nM 0",
-            1,
-            &none,
-            "records 00 free 00 detectors  observables ",
-        ),
-        (
-            "H 0\nCX 0 1\nR 0\nM 0 1",
-            2,
-            &[true],
-            "records 01 free 100 detectors  observables ",
-        ),
-        (
-            "H 0 1\nCZ 0 1\nZ 0\nMX 0 0",
-            2,
-            &[false],
-            "records 00 free 10 detectors  observables ",
-        ),
-        (
-            "H 0\nM 0",
-            1,
-            &[false, true],
-            "records 0 free 1 detectors  observables ",
-        ),
-        (
-            "R 1\nH 0\nM 0",
-            2,
-            &[false, true],
-            "records 1 free 01 detectors  observables ",
-        ),
-        (
-            "H 0\nMX !0\nMR 0 0",
-            1,
-            &[true],
-            "records 100 free 010 detectors  observables ",
-        ),
-        (
-            "H 0\nMX !0\nMR 0 0",
-            1,
-            &[true, true],
-            "records 110 free 010 detectors  observables ",
-        ),
-        (
-            "X 0\nM 0\nDETECTOR rec[-1] rec[-1]\nDETECTOR",
-            1,
-            &none,
-            "records 1 free 0 detectors 00 observables ",
-        ),
-        (
-            ROUNDS,
-            1,
-            &none,
-            "records 101 free 000 detectors 101 observables 0",
-        ),
-        (
-            "X 0\nM 0\nOBSERVABLE_INCLUDE(2) rec[-1]\nM 1\nOBSERVABLE_INCLUDE(2) rec[-1] rec[-2]\nOBSERVABLE_INCLUDE(1) rec[-2]",
-            3,
-            &none,
-            "records 10 free 00 detectors  observables 010",
-        ),
-        (
-            CODE,
-            5,
-            &none,
-            "records 000000000 free 00000000000000 detectors 00000000 observables 0",
-        ),
-        (
-            PRODUCTS,
-            2,
-            &[false, false, false],
-            "records 001 free 100 detectors  observables ",
-        ),
-        (
-            PRODUCTS,
-            2,
-            &[true, false, false],
-            "records 100 free 100 detectors  observables ",
-        ),
-        (
-            "H 0\nMPP X0 !Z1 X0*!Z1*X2",
-            3,
-            &[false, false, true],
-            "records 010 free 001 detectors  observables ",
-        ),
-        (
-            TELEPORTATION,
-            3,
-            &[true, true],
-            "records 111 free 110 detectors  observables ",
-        ),
-        (
-            TELEPORTATION,
-            3,
-            &[false, true],
-            "records 011 free 110 detectors  observables ",
-        ),
-        (
-            "X 0\nMY 0\nMRY !0\nMY 0",
-            1,
-            &[true],
-            "records 100 free 100 detectors  observables ",
-        ),
-        (
-            "RX 0\nMRX 0\nZ 0\nMX 0",
-            1,
-            &[true],
-            "records 01 free 100 detectors  observables ",
-        ),
-        (
-            "SQRT_X 0\nSQRT_X 0\nM 0",
-            1,
-            &none,
-            "records 1 free 0 detectors  observables ",
-        ),
-        (
-            "C_XYZ 0\nC_ZYX 0\nM 0",
-            1,
-            &none,
-            "records 0 free 0 detectors  observables ",
-        ),
-    ];
-    for (text, n, coins, lists) in cases {
+    for &(text, n, coins, lists) in LISTS {
         let circuit = read(rt.alloc(), text)?;
         assert!(rt; n <= 1024);
         let shot = run_once(rt.alloc(), &circuit, n, &mut ListCoins::new(coins))?;

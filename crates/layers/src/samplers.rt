@@ -50,15 +50,16 @@ fn shots_are_runs_of_their_own(rt: HostRuntime) -> Result<(), Fail> {
     Ok(())
 }
 
+const SHOTS: &[(&str, &[bool], [bool; 2], bool)] = &[
+    ("H 0\nM 0 0", &[true], [true, true], true),
+    ("H 0\nM 0 0", &[false], [false, false], true),
+    ("X 0\nM 0 !0", &[], [true, false], false),
+    ("X 0\nMR 0\nM 0", &[], [true, false], false),
+];
+
 #[test]
 fn no_shot_leaves_anything_to_the_next(rt: HostRuntime) -> Result<(), Fail> {
-    let cases: [(&str, &[bool], [bool; 2], bool); 4] = [
-        ("H 0\nM 0 0", &[true], [true, true], true),
-        ("H 0\nM 0 0", &[false], [false, false], true),
-        ("X 0\nM 0 !0", &[], [true, false], false),
-        ("X 0\nMR 0\nM 0", &[], [true, false], false),
-    ];
-    for (text, bits, records, free) in cases {
+    for &(text, bits, records, free) in SHOTS {
         let circuit = read(rt.alloc(), text)?;
         let mut sampler = Sampler::new(rt.alloc(), &circuit, 1)?;
         for _shot in 0..3 {

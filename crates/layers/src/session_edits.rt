@@ -87,15 +87,16 @@ fn edited_once(
     }
 }
 
+const EDITS: &[(usize, bool, &str, &[bool], &[bool])] = &[
+    (2, false, "X 1", &[true, false], &[true, false]),
+    (0, false, "", &[false, false], &[false, false]),
+    (1, true, "X 1", &[true, true], &[true, false]),
+    (3, false, "MX 0", &[true, true, false], &[true, false, true]),
+];
+
 #[test]
 fn an_edit_shows_the_run_of_the_edited_circuit(rt: HostRuntime) -> Result<(), Fail> {
-    let cases: [(usize, bool, &str, &[bool], &[bool]); 4] = [
-        (2, false, "X 1", &[true, false], &[true, false]),
-        (0, false, "", &[false, false], &[false, false]),
-        (1, true, "X 1", &[true, true], &[true, false]),
-        (3, false, "MX 0", &[true, true, false], &[true, false, true]),
-    ];
-    for (place, replaces, text, records, free) in cases {
+    for &(place, replaces, text, records, free) in EDITS {
         let edit = edit(rt.alloc(), place, replaces, text)?;
         let refusal = edited_once(rt.alloc(), BELL, edit, records, free)?;
         assert!(rt; refusal.is_none(), "{text}");
@@ -103,22 +104,23 @@ fn an_edit_shows_the_run_of_the_edited_circuit(rt: HostRuntime) -> Result<(), Fa
     Ok(())
 }
 
+const REFUSED: &[(usize, bool, &str, Refusal, bool)] = &[
+    (9, false, "X 0", Refusal::PlaceOutOfRange, true),
+    (9, false, "", Refusal::PlaceOutOfRange, false),
+    (0, false, "X 2", Refusal::QubitOutOfRange, true),
+    (0, true, "DETECTOR rec[-1]", Refusal::LookbackTooFar, true),
+    (
+        0,
+        false,
+        "REPEAT 1048577 {\nX 0\n}",
+        Refusal::TooManySteps,
+        true,
+    ),
+];
+
 #[test]
 fn a_refused_edit_changes_nothing(rt: HostRuntime) -> Result<(), Fail> {
-    let cases = [
-        (9, false, "X 0", Refusal::PlaceOutOfRange, true),
-        (9, false, "", Refusal::PlaceOutOfRange, false),
-        (0, false, "X 2", Refusal::QubitOutOfRange, true),
-        (0, true, "DETECTOR rec[-1]", Refusal::LookbackTooFar, true),
-        (
-            0,
-            false,
-            "REPEAT 1048577 {\nX 0\n}",
-            Refusal::TooManySteps,
-            true,
-        ),
-    ];
-    for (place, replaces, text, wanted, item) in cases {
+    for &(place, replaces, text, wanted, item) in REFUSED {
         let edit = edit(rt.alloc(), place, replaces, text)?;
         let refusal = edited_once(
             rt.alloc(),

@@ -60,30 +60,31 @@ fn shown_of(alloc: Global, text: &str, n: usize, bits: &[bool]) -> Result<String
     Ok(shown(alloc, &session)?)
 }
 
+const SHOWN: &[(&str, usize, &[bool], &str)] = &[
+    ("", 0, &[], "records  free  detectors  observables "),
+    (
+        MEASURED,
+        2,
+        &[true],
+        "records 11 free 10 detectors 01 observables 01",
+    ),
+    (
+        MEASURED,
+        3,
+        &[false, true],
+        "records 00 free 10 detectors 00 observables 00",
+    ),
+    (
+        "X 0\nMR !0\nM 0",
+        1,
+        &[true, true],
+        "records 00 free 00 detectors  observables ",
+    ),
+];
+
 #[test]
 fn a_session_shows_the_run_of_its_circuit(rt: HostRuntime) -> Result<(), Fail> {
-    let cases: [(&str, usize, &[bool], &str); 4] = [
-        ("", 0, &[], "records  free  detectors  observables "),
-        (
-            MEASURED,
-            2,
-            &[true],
-            "records 11 free 10 detectors 01 observables 01",
-        ),
-        (
-            MEASURED,
-            3,
-            &[false, true],
-            "records 00 free 10 detectors 00 observables 00",
-        ),
-        (
-            "X 0\nMR !0\nM 0",
-            1,
-            &[true, true],
-            "records 00 free 00 detectors  observables ",
-        ),
-    ];
-    for (text, n, bits, wanted) in cases {
+    for &(text, n, bits, wanted) in SHOWN {
         let shown = shown_of(rt.alloc(), text, n, bits)?;
         assert_eq!(rt; shown.as_str(), wanted, "{text}");
     }
@@ -107,21 +108,22 @@ fn shown_after(alloc: Global, refused: OpenRefused<ListCoins>) -> Result<String,
     }
 }
 
+const REFUSED: &[(&str, &[bool], &str)] = &[
+    (
+        "REPEAT 2 {\nTICK\nM 0\n}",
+        &[],
+        "records 00 free 00 detectors  observables ",
+    ),
+    (
+        "H 0\nM 0\nMX 0",
+        &[true, true],
+        "records 11 free 11 detectors  observables ",
+    ),
+];
+
 #[test]
 fn a_refused_opening_hands_circuit_and_coins_back(rt: HostRuntime) -> Result<(), Fail> {
-    let cases: [(&str, &[bool], &str); 2] = [
-        (
-            "REPEAT 2 {\nTICK\nM 0\n}",
-            &[],
-            "records 00 free 00 detectors  observables ",
-        ),
-        (
-            "H 0\nM 0\nMX 0",
-            &[true, true],
-            "records 11 free 11 detectors  observables ",
-        ),
-    ];
-    for (text, bits, wanted) in cases {
+    for &(text, bits, wanted) in REFUSED {
         let (fault, shown) = opened_again(rt.alloc(), text, bits)?;
         assert_eq!(rt; fault.refusal, Refusal::QubitOutOfRange, "{text}");
         assert_eq!(rt; fault.line, 0);
@@ -151,16 +153,17 @@ fn sign(alloc: Global, text: &str, letters: &[Letter]) -> Result<Option<bool>, F
     Ok(session.sign_of(&pauli))
 }
 
+const SIGNS: &[(&str, [Letter; 2], Option<bool>)] = &[
+    (BELL, [Letter::X, Letter::X], Some(false)),
+    (BELL, [Letter::Y, Letter::Y], Some(true)),
+    (BELL, [Letter::Z, Letter::I], None),
+    (MEASURED, [Letter::Z, Letter::I], Some(true)),
+    (MEASURED, [Letter::X, Letter::X], None),
+];
+
 #[test]
 fn a_session_tells_the_strings_that_stabilise(rt: HostRuntime) -> Result<(), Fail> {
-    let cases: [(&str, [Letter; 2], Option<bool>); 5] = [
-        (BELL, [Letter::X, Letter::X], Some(false)),
-        (BELL, [Letter::Y, Letter::Y], Some(true)),
-        (BELL, [Letter::Z, Letter::I], None),
-        (MEASURED, [Letter::Z, Letter::I], Some(true)),
-        (MEASURED, [Letter::X, Letter::X], None),
-    ];
-    for (text, letters, wanted) in cases {
+    for &(text, letters, wanted) in SIGNS {
         let sign = sign(rt.alloc(), text, letters.as_slice())?;
         assert_eq!(rt; sign, wanted, "{text}");
     }

@@ -1,7 +1,10 @@
-//! Pauli strings from texts and printed, for tests.
+//! Pauli strings from texts and printed, and calls that check what they ask for.
 
 use stab_pauli::{Letter, MemoryOutput, Pauli, Refusal};
 use std::alloc::Global;
+
+/// A call that a test was not allowed to make.
+pub const MISUSED: &str = "the call asks for more";
 
 /// The Pauli that a text such as `-_XZ` stands for.
 pub fn read(alloc: Global, text: &str) -> Result<Pauli, Refusal> {
@@ -9,20 +12,74 @@ pub fn read(alloc: Global, text: &str) -> Result<Pauli, Refusal> {
     for (place, byte) in text.as_bytes().iter().enumerate() {
         match *byte {
             b'-' => pauli.negate(),
-            b'X' => put(&mut pauli, place, Letter::X),
-            b'Y' => put(&mut pauli, place, Letter::Y),
-            b'Z' => put(&mut pauli, place, Letter::Z),
+            // Letters stand behind the sign.
+            b'X' => set(&mut pauli, place.wrapping_sub(1), Letter::X),
+            b'Y' => set(&mut pauli, place.wrapping_sub(1), Letter::Y),
+            b'Z' => set(&mut pauli, place.wrapping_sub(1), Letter::Z),
             _ => {}
         }
     }
     Ok(pauli)
 }
 
-// Puts a letter where its character stands in the text, behind the sign.
-fn put(pauli: &mut Pauli, place: usize, letter: Letter) {
-    if place > 0 && place <= pauli.len() {
-        pauli.set(place - 1, letter);
+/// Sets a letter, where there is that qubit.
+pub fn set(pauli: &mut Pauli, qubit: usize, letter: Letter) {
+    if qubit < pauli.len() {
+        pauli.set(qubit, letter);
     }
+}
+
+/// The string with one letter, at a qubit among n; without a letter where there is no such qubit.
+pub fn single(alloc: Global, n: usize, qubit: usize, letter: Letter) -> Result<Pauli, Refusal> {
+    if qubit < n {
+        Pauli::single(alloc, n, qubit, letter)
+    } else {
+        Pauli::identity(alloc, n)
+    }
+}
+
+/// Makes a string another one.
+pub fn copy_from(pauli: &mut Pauli, other: &Pauli) -> Result<(), &'static str> {
+    if pauli.len() != other.len() {
+        return Err(MISUSED);
+    }
+    pauli.copy_from(other);
+    Ok(())
+}
+
+/// Multiplies a string by one that commutes with it.
+pub fn multiply(pauli: &mut Pauli, other: &Pauli) -> Result<(), &'static str> {
+    if pauli.len() != other.len() || !pauli.commutes(other) {
+        return Err(MISUSED);
+    }
+    pauli.multiply(other);
+    Ok(())
+}
+
+/// Multiplies a string by one that anticommutes with it, and by i.
+pub fn multiply_turned(pauli: &mut Pauli, other: &Pauli) -> Result<(), &'static str> {
+    if pauli.len() != other.len() || pauli.commutes(other) {
+        return Err(MISUSED);
+    }
+    pauli.multiply_turned(other);
+    Ok(())
+}
+
+/// Multiplies the letters of a string by those of another.
+pub fn multiply_letters(pauli: &mut Pauli, other: &Pauli) -> Result<(), &'static str> {
+    if pauli.len() != other.len() {
+        return Err(MISUSED);
+    }
+    pauli.multiply_letters(other);
+    Ok(())
+}
+
+/// Whether two strings commute.
+pub fn commute(pauli: &Pauli, other: &Pauli) -> Result<bool, &'static str> {
+    if pauli.len() != other.len() {
+        return Err(MISUSED);
+    }
+    Ok(pauli.commutes(other))
 }
 
 /// Whether the Pauli is printed as the text.
@@ -36,9 +93,7 @@ pub fn prints(alloc: Global, pauli: &Pauli, text: &str) -> Result<bool, Refusal>
 pub fn repeated(alloc: Global, n: usize, letter: Letter) -> Result<Pauli, Refusal> {
     let mut pauli = Pauli::identity(alloc, n)?;
     for qubit in 0..n {
-        if qubit < pauli.len() {
-            pauli.set(qubit, letter);
-        }
+        set(&mut pauli, qubit, letter);
     }
     Ok(pauli)
 }

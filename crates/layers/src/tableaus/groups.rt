@@ -1,5 +1,5 @@
-use super::{MISUSED, apply, apply_pair, bell, collapse, spread, zeros};
-use crate::texts::{prints, read};
+use super::{apply, apply_pair, bell, collapse, spread, zeros};
+use crate::texts::{MISUSED, prints, read};
 use stab_pauli::Pauli;
 use stab_tableau::{Collapse, Gate, PairGate, Tableau};
 use std::alloc::Global;

@@ -1,20 +1,12 @@
 use super::{apply, collapse, collapse_letter, sign, zeros};
-use stab_pauli::{Letter, Pauli, Refusal};
+use crate::texts::single;
+use stab_pauli::Letter;
 use stab_tableau::{Collapse, Gate, Tableau};
 use std::alloc::Global;
 use std::test::Fail;
 
 // One qubit alone, and sizes round those at which words and blocks of words end.
 const SIZES: [usize; 12] = [1, 63, 64, 65, 127, 128, 129, 255, 256, 257, 1023, 1024];
-
-// The string with one letter, at a qubit among n; past the last qubit without a letter.
-fn single(alloc: Global, n: usize, qubit: usize, letter: Letter) -> Result<Pauli, Refusal> {
-    if qubit < n {
-        Pauli::single(alloc, n, qubit, letter)
-    } else {
-        Pauli::identity(alloc, n)
-    }
-}
 
 // The sign of one letter on a qubit.
 fn sign_on(
