@@ -80,7 +80,30 @@ impl Trial for ReadItem {
     }
 }
 
-/// `Circuit::insert` at a path, with the item while it is not put in.
+/// Into which circuit an item is put.
+#[derive(Clone, Copy)]
+enum Place {
+    /// Into `NESTED`, at a path.
+    Nested(Path),
+    /// To the front of a circuit whose first items stand in one run, which is halved for it.
+    FullRun,
+}
+
+/// A circuit whose first 512 items stand in one run: 256 of 257 that were read, which are a run, with
+/// as many more put before them.
+fn full_run(alloc: Global) -> Result<Held<Circuit>, Stop> {
+    let text = "X 0\n".repeat(alloc, 257)?;
+    let mut circuit = circuit_of(alloc, text.as_bytes())?;
+    for _ in 0..256 {
+        let item = read_item(alloc, b"X 0")?;
+        if let Err(refused) = circuit.0.insert(Path::new(&[0]), item) {
+            return Err(Stop(refused.fault));
+        }
+    }
+    Ok(circuit)
+}
+
+/// `Circuit::insert`, with the item while it is not put in.
 #[derive(Drop)]
 struct Insertion {
     path: Path,
@@ -89,12 +112,16 @@ struct Insertion {
 }
 
 impl Trial for Insertion {
-    type Call = Path;
+    type Call = Place;
 
-    fn new(alloc: Global, path: Path) -> Result<Insertion, Stop> {
+    fn new(alloc: Global, place: Place) -> Result<Insertion, Stop> {
+        let (circuit, path) = match place {
+            Place::Nested(path) => (circuit_of(alloc, NESTED)?, path),
+            Place::FullRun => (full_run(alloc)?, Path::new(&[0])),
+        };
         Ok(Insertion {
             path,
-            circuit: circuit_of(alloc, NESTED)?,
+            circuit,
             item: Shelf::new(alloc, BLOCK)?,
         })
     }
@@ -171,7 +198,13 @@ pub fn print_all<R: AllocGlobal + Print>(rt: &R) -> io::Result<()> {
     print_ending(rt, "read_circuit", try_call::<ReadCircuit>(alloc, ()))?;
     print_ending(rt, "read_item", try_call::<ReadItem>(alloc, ()))?;
     for path in [Path::new(&[1]), Path::new(&[2, 1, 4])] {
-        print_ending(rt, "Circuit::insert", try_call::<Insertion>(alloc, path))?;
+        let place = Place::Nested(path);
+        print_ending(rt, "Circuit::insert", try_call::<Insertion>(alloc, place))?;
     }
+    print_ending(
+        rt,
+        "Circuit::insert, a full run",
+        try_call::<Insertion>(alloc, Place::FullRun),
+    )?;
     print_ending(rt, "Cursor::at", try_cursor(alloc))
 }
