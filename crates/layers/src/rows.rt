@@ -81,7 +81,7 @@ fn rows_are_made_others(rt: HostRuntime) -> Result<(), Fail> {
     Ok(())
 }
 
-// Multiplies row 0 by row 1, and row 2, which is a string, by another.
+// Multiplies the first of three rows by the second, and the third, which is a string, by another.
 fn multiply_rows(rows: &mut PauliRows, string: &Pauli, other: &Pauli) {
     let n = rows.qubits();
     if rows.len() != 3 || string.len() != n || other.len() != n || string.len() != other.len() {
@@ -99,7 +99,7 @@ fn multiply_rows(rows: &mut PauliRows, string: &Pauli, other: &Pauli) {
     }
 }
 
-// Multiplies a string by row 1, which is another string.
+// Multiplies a string by the second of three rows, which is another string.
 fn multiply_string(rows: &mut PauliRows, string: &mut Pauli, other: &Pauli) {
     if rows.len() != 3 || other.len() != rows.qubits() || string.len() != other.len() {
         return;

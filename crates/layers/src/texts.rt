@@ -4,10 +4,10 @@ use stab_pauli::{Letter, MemoryOutput, Pauli, Refusal};
 use std::alloc::Global;
 
 /// A call that a test was not allowed to make.
-pub const MISUSED: &str = "the call asks for more";
+pub(crate) const MISUSED: &str = "the call asks for more";
 
 /// The Pauli that a text such as `-_XZ` stands for.
-pub fn read(alloc: Global, text: &str) -> Result<Pauli, Refusal> {
+pub(crate) fn read(alloc: Global, text: &str) -> Result<Pauli, Refusal> {
     let mut pauli = Pauli::identity(alloc, text.len().saturating_sub(1))?;
     for (place, byte) in text.as_bytes().iter().enumerate() {
         match *byte {
@@ -23,14 +23,19 @@ pub fn read(alloc: Global, text: &str) -> Result<Pauli, Refusal> {
 }
 
 /// Sets a letter, where there is that qubit.
-pub fn set(pauli: &mut Pauli, qubit: usize, letter: Letter) {
+pub(crate) fn set(pauli: &mut Pauli, qubit: usize, letter: Letter) {
     if qubit < pauli.len() {
         pauli.set(qubit, letter);
     }
 }
 
 /// The string with one letter, at a qubit among n; without a letter where there is no such qubit.
-pub fn single(alloc: Global, n: usize, qubit: usize, letter: Letter) -> Result<Pauli, Refusal> {
+pub(crate) fn single(
+    alloc: Global,
+    n: usize,
+    qubit: usize,
+    letter: Letter,
+) -> Result<Pauli, Refusal> {
     if qubit < n {
         Pauli::single(alloc, n, qubit, letter)
     } else {
@@ -39,7 +44,7 @@ pub fn single(alloc: Global, n: usize, qubit: usize, letter: Letter) -> Result<P
 }
 
 /// Makes a string another one.
-pub fn copy_from(pauli: &mut Pauli, other: &Pauli) -> Result<(), &'static str> {
+pub(crate) fn copy_from(pauli: &mut Pauli, other: &Pauli) -> Result<(), &'static str> {
     if pauli.len() != other.len() {
         return Err(MISUSED);
     }
@@ -48,7 +53,7 @@ pub fn copy_from(pauli: &mut Pauli, other: &Pauli) -> Result<(), &'static str> {
 }
 
 /// Multiplies a string by one that commutes with it.
-pub fn multiply(pauli: &mut Pauli, other: &Pauli) -> Result<(), &'static str> {
+pub(crate) fn multiply(pauli: &mut Pauli, other: &Pauli) -> Result<(), &'static str> {
     if pauli.len() != other.len() || !pauli.commutes(other) {
         return Err(MISUSED);
     }
@@ -57,7 +62,7 @@ pub fn multiply(pauli: &mut Pauli, other: &Pauli) -> Result<(), &'static str> {
 }
 
 /// Multiplies a string by one that anticommutes with it, and by i.
-pub fn multiply_turned(pauli: &mut Pauli, other: &Pauli) -> Result<(), &'static str> {
+pub(crate) fn multiply_turned(pauli: &mut Pauli, other: &Pauli) -> Result<(), &'static str> {
     if pauli.len() != other.len() || pauli.commutes(other) {
         return Err(MISUSED);
     }
@@ -66,7 +71,7 @@ pub fn multiply_turned(pauli: &mut Pauli, other: &Pauli) -> Result<(), &'static 
 }
 
 /// Multiplies the letters of a string by those of another.
-pub fn multiply_letters(pauli: &mut Pauli, other: &Pauli) -> Result<(), &'static str> {
+pub(crate) fn multiply_letters(pauli: &mut Pauli, other: &Pauli) -> Result<(), &'static str> {
     if pauli.len() != other.len() {
         return Err(MISUSED);
     }
@@ -75,7 +80,7 @@ pub fn multiply_letters(pauli: &mut Pauli, other: &Pauli) -> Result<(), &'static
 }
 
 /// Whether two strings commute.
-pub fn commute(pauli: &Pauli, other: &Pauli) -> Result<bool, &'static str> {
+pub(crate) fn commute(pauli: &Pauli, other: &Pauli) -> Result<bool, &'static str> {
     if pauli.len() != other.len() {
         return Err(MISUSED);
     }
@@ -83,14 +88,14 @@ pub fn commute(pauli: &Pauli, other: &Pauli) -> Result<bool, &'static str> {
 }
 
 /// Whether the Pauli is printed as the text.
-pub fn prints(alloc: Global, pauli: &Pauli, text: &str) -> Result<bool, Refusal> {
+pub(crate) fn prints(alloc: Global, pauli: &Pauli, text: &str) -> Result<bool, Refusal> {
     let mut out = MemoryOutput::new(alloc, 2048)?;
     pauli.write_text(&mut out)?;
     Ok(out.bytes() == text.as_bytes())
 }
 
 /// n times one letter.
-pub fn repeated(alloc: Global, n: usize, letter: Letter) -> Result<Pauli, Refusal> {
+pub(crate) fn repeated(alloc: Global, n: usize, letter: Letter) -> Result<Pauli, Refusal> {
     let mut pauli = Pauli::identity(alloc, n)?;
     for qubit in 0..n {
         set(&mut pauli, qubit, letter);
