@@ -9,6 +9,8 @@ mod circuit_edits;
 #[cfg(test)]
 mod circuits;
 #[cfg(test)]
+mod codes;
+#[cfg(test)]
 mod coins;
 #[cfg(test)]
 mod cursors;

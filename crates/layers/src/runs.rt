@@ -1,36 +1,10 @@
 //! Single runs of circuits.
+use crate::codes::CODE;
 use stab_circuit::{Circuit, read_circuit};
 use stab_pauli::{Fault, MemoryInput, Refusal};
 use stab_session::{ListCoins, SeedCoins, Shot, run_once};
 use std::alloc::{AllocError, Global};
 use std::test::Fail;
-
-/// A code's circuit, as Stim prints it: five qubits, two rounds in a block.
-const CODE: &str = "R 0 1 2 3 4
-TICK
-CX 0 1 2 3
-TICK
-CX 2 1 4 3
-TICK
-MR 1 3
-DETECTOR(1, 0) rec[-2]
-DETECTOR(3, 0) rec[-1]
-REPEAT 2 {
-    TICK
-    CX 0 1 2 3
-    TICK
-    CX 2 1 4 3
-    TICK
-    MR 1 3
-    SHIFT_COORDS(0, 1)
-    DETECTOR(1, 0) rec[-2] rec[-4]
-    DETECTOR(3, 0) rec[-1] rec[-3]
-}
-M 0 2 4
-DETECTOR(1, 1) rec[-2] rec[-3] rec[-5]
-DETECTOR(3, 1) rec[-1] rec[-2] rec[-4]
-OBSERVABLE_INCLUDE(0) rec[-1]
-";
 
 fn read(alloc: Global, text: &str) -> Result<Circuit, Fault> {
     read_circuit(alloc, &mut MemoryInput::new(text.as_bytes()))
