@@ -151,10 +151,6 @@ steps_no_block b p bs blocks xs r e f =
     ∙ ap (λ l. unroll (listed (take b xs)) ++ l) (no_steps bs p)
     ∙ append-nil (unroll (listed (take b xs)))
 
-pub few_no_block : (b p : ℕ) (bs blocks : List ℕ) (xs : List OneItem) (r : Refusal) (n : ℕ) → blocks ≡ b ∷ bs → block_refusal (slice_get xs b) ≡ Some r → n ≡ min (length (unroll (listed (take b xs)))) 1048577
-    → n ≡ min (length (steps_in blocks p xs)) 1048577
-few_no_block b p bs blocks xs r n e f h = h ∙ ap (λ l. min (length l) 1048577) (sym (steps_no_block b p bs blocks xs r e f))
-
 -- the steps of the first items
 pub begins_up_to : (n : ℕ) (xs : List OneItem) → BeginsWith (unroll (listed (take n xs))) (unroll (listed xs))
 begins_up_to n xs = (unroll (listed (drop n xs)), steps_split n xs)
@@ -172,13 +168,11 @@ steps_block b p n bs blocks tag xs body e f =
     ∙ ap (λ g. unroll (listed (take b xs)) ++ steps_in bs p (inner g)) f
     ∙ ap (λ l. unroll (listed (take b xs)) ++ steps_in bs p l) (entries-listed body)
 
-few_more : (a b : List Step) (m k n : ℕ) → m ≡ min (length a) 1048577 → k ≡ min (length b) 1048577 → n ≡ min (m + k) 1048577 → n ≡ min (length (a ++ b)) 1048577
-few_more a b m k n e f g = omega (arith, e, f, g, length-append a b)
+pub none_inside : (g : Option OneItem) (bs : List ℕ) (p : ℕ) (r : Refusal) → block_refusal g ≡ Some r → 0 ≡ min (length (steps_in bs p (inner g))) 1048577
+none_inside g bs p r e = sym (ap (λ l. min (length (steps_in bs p l)) 1048577) (nothing_in g r e) ∙ ap (λ l. min (length l) 1048577) (no_steps bs p))
 
-pub few_block : (b p n : ℕ) (bs blocks tag : List ℕ) (xs body : List OneItem) (m k s : ℕ) → blocks ≡ b ∷ bs → slice_get xs b ≡ Some (repeat n tag (listed body))
-    → m ≡ min (length (unroll (listed (take b xs)))) 1048577 → k ≡ min (length (steps_in bs p body)) 1048577 → s ≡ min (m + k) 1048577 → s ≡ min (length (steps_in blocks p xs)) 1048577
-few_block b p n bs blocks tag xs body m k s e f g h i =
-    few_more (unroll (listed (take b xs))) (steps_in bs p body) m k s g h i ∙ ap (λ l. min (length l) 1048577) (sym (steps_block b p n bs blocks tag xs body e f))
+pub inside_block : (g : Option OneItem) (bs : List ℕ) (p n k : ℕ) (tag : List ℕ) (body : List OneItem) → g ≡ Some (repeat n tag (listed body)) → k ≡ min (length (steps_in bs p body)) 1048577 → k ≡ min (length (steps_in bs p (inner g))) 1048577
+inside_block g bs p n k tag body e f = f ∙ sym (ap (λ q. min (length (steps_in bs p (inner q))) 1048577) e ∙ ap (λ l. min (length (steps_in bs p l)) 1048577) (entries-listed body))
 
 begins_rounds : (n : ℕ) (front body : List Step) → 0 < n → BeginsWith front body → BeginsWith front (rounds n body)
 begins_rounds zero front body h b = absurd (omega arith)

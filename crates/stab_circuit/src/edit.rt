@@ -1,7 +1,7 @@
 ghost use Rattle.std.specs.Prelude.{◌≡◌, ◌≤◌, length, min, take, drop, slice_get, Err, OnOk, IfOk, IfErr};
 ghost use Rattle.stab_circuit.specs.Items.{listed};
 ghost use Rattle.stab_circuit.specs.Steps.{unroll};
-ghost use Rattle.stab_circuit.specs.Edits.{edited_in, steps_in as steps_of_place};
+ghost use Rattle.stab_circuit.specs.Edits.{edited_in, inner, steps_in as steps_of_place};
 ghost use Rattle.stab_circuit.specs.inner.Summaries.{IsSummary};
 ghost use Rattle.stab_circuit.specs.inner.Splices.{splice_of, splice_at};
 ghost use Rattle.stab_circuit.specs.inner.Judgements.{judgement_of, IsBlockAt, BeginsWith};
@@ -200,18 +200,28 @@ pub(crate) fn outcome_by_runs(
 }
 
 /// How many steps stand before a place in nested blocks, or 1,048,577 where there are more.
-pub(crate) fn steps_in(items: &[Item], blocks: &[usize], place: usize) -> u32
+#[cycle(counting)]
+fn steps_in(items: &[Item], blocks: &[usize], place: usize) -> u32
     ensures value { result ≡ min (length (steps_of_place blocks.now place items.now)) 1048577 }
 {
     match blocks.split_first() {
         None => steps_up_to(items, place),
-        Some((block, others)) => match block_at(items, *block) {
-            Err(_) => steps_up_to(items, *block),
-            Ok(inner) => {
-                let before = steps_up_to(items, *block);
-                (before + steps_in(inner.body, others, place)).min(1_048_577)
-            }
-        },
+        Some((block, others)) => {
+            let front = steps_up_to(items, *block);
+            (front + steps_inside(items, *block, others, place)).min(1_048_577)
+        }
+    }
+}
+
+/// How many steps stand before a place in a block of a list and the blocks in it, or 1,048,577
+/// where there are more; none where the list has no block there.
+#[cycle(counting)]
+fn steps_inside(items: &[Item], block: usize, others: &[usize], place: usize) -> u32
+    ensures value { result ≡ min (length (steps_of_place others.now place (inner (slice_get items.now block)))) 1048577 }
+{
+    match block_at(items, block) {
+        Err(_) => 0,
+        Ok(found) => steps_in(found.body, others, place),
     }
 }
 
@@ -221,4 +231,28 @@ fn steps_up_to(items: &[Item], place: usize) -> u32
 {
     let (front, _) = items.split_at(place.min(items.len()));
     items_summary(front).steps
+}
+
+/// How many steps stand before a place in nested blocks of a list that is cut into runs, or
+/// 1,048,577 where there are more.
+pub(crate) fn steps_by_runs(items: &[Item], runs: &[Run], blocks: &[usize], place: usize) -> u32
+    requires cut { AreCut runs.now items.now }
+    ensures value { result ≡ min (length (steps_of_place blocks.now place items.now)) 1048577 }
+{
+    match blocks.split_first() {
+        None => steps_up_to_by_runs(items, runs, place),
+        Some((block, others)) => {
+            let front = steps_up_to_by_runs(items, runs, *block);
+            (front + steps_inside(items, *block, others, place)).min(1_048_577)
+        }
+    }
+}
+
+/// How many steps the items before a place make in a list that is cut into runs, or 1,048,577
+/// where they make more.
+fn steps_up_to_by_runs(items: &[Item], runs: &[Run], place: usize) -> u32
+    requires cut { AreCut runs.now items.now }
+    ensures value { result ≡ min (length (unroll (listed (take place items.now)))) 1048577 }
+{
+    front_summary(items, runs, place.min(items.len())).steps
 }

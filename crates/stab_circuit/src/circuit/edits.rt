@@ -8,7 +8,7 @@ ghost use Rattle.stab_circuit.specs.inner.Runs.{AreCut};
 use super::Circuit;
 use crate::change::{Change, Edited, Refused};
 use crate::commit::commit;
-use crate::edit::{Outcome, outcome_by_runs, steps_in};
+use crate::edit::{Outcome, outcome_by_runs, steps_by_runs};
 use crate::item::Item;
 use crate::path::Path;
 use crate::runs::{Run, find, make_room, renew};
@@ -76,7 +76,9 @@ impl Circuit {
     pub fn steps_before(&self, path: Path) -> usize
         ensures value { result ≡ min (first_changed path self.now) 1048577 }
     {
-        steps_in(self.items.as_slice(), path.blocks(), path.place()) as usize
+        let items = self.items.as_slice();
+        let runs = self.runs.as_slice();
+        steps_by_runs(items, runs, path.blocks(), path.place()) as usize
     }
 
     /// What the circuit comes to by a change at a path, where neither the path nor the depth of
