@@ -175,18 +175,35 @@ fn sixteen_blocks_take_an_instruction_and_no_block(rt: HostRuntime) -> Result<()
     let mut circuit = read(rt.alloc(), NEST)?;
     let path = Path::new(&[0; 17]);
     let block = read_item(rt.alloc(), b"REPEAT 1 {\n}")?;
-    assert_eq!(rt; refusal_of(circuit.insert(path, block)), (10, 0, true));
+    let refused = refusal_of(circuit.insert(path, block));
     let step = read_item(rt.alloc(), b"X 0")?;
-    assert_eq!(rt; refusal_of(circuit.insert(path, step)), (0, 0, false));
-    assert_eq!(rt; circuit.steps(), 1);
+    let taken = refusal_of(circuit.insert(path, step));
+    assert_eq!(rt;
+        (refused, taken, circuit.steps()),
+        ((10, 0, true), (0, 0, false), 1)
+    );
     Ok(())
 }
+
+// Paths, and how many steps stand before their places; past the end of a list all its steps do.
+const STEPS_BEFORE: &[(&[usize], usize)] = &[
+    (&[0], 0),
+    (&[1], 2),
+    (&[1, 0], 2),
+    (&[1, 2], 5),
+    (&[1, 9], 6),
+    (&[2], 22),
+    (&[9], 22),
+    (&[9, 1], 22),
+    (&[0, 1], 0),
+];
 
 #[test]
 fn steps_are_counted_up_to_a_place(rt: HostRuntime) -> Result<(), Fail> {
     let circuit = read(rt.alloc(), "X 0 1\nREPEAT 5 {\nH 0\nCX 0 1 2 3\nM 0\n}")?;
-    assert_eq!(rt; circuit.steps_before(Path::new(&[1])), 2);
-    assert_eq!(rt; circuit.steps_before(Path::new(&[1, 2])), 5);
+    for &(path, steps) in STEPS_BEFORE {
+        assert_eq!(rt; circuit.steps_before(path_of(path)), steps, "{path:?}");
+    }
     assert_eq!(rt; Path::new(&[1, 2]).first(), 1);
     Ok(())
 }
@@ -215,8 +232,9 @@ fn an_edit_is_judged_on_its_qubits(rt: HostRuntime) -> Result<(), Fail> {
         let change = Change::Insert(read_item(rt.alloc(), item.as_bytes())?);
         assert_eq!(rt; told(circuit.edit(n, path, change)), answer, "at {item}");
     }
-    assert_eq!(rt; told(circuit.edit(2, path, Change::Delete)), (0, 1, 15, 9));
+    let deleted = told(circuit.edit(2, path, Change::Delete));
     let tick = Change::Replace(read_item(rt.alloc(), b"TICK")?);
-    assert_eq!(rt; told(circuit.edit(2, Path::new(&[1]), tick)), (0, 9, 10, 9));
+    let replaced = told(circuit.edit(2, Path::new(&[1]), tick));
+    assert_eq!(rt; (deleted, replaced), ((0, 1, 15, 9), (0, 9, 10, 9)));
     Ok(())
 }

@@ -146,25 +146,56 @@ fn each_one_byte_text_has_its_answer(rt: HostRuntime) -> Result<(), Fail> {
     Ok(())
 }
 
+/// How many items, steps, records, qubits and observables a circuit has.
+fn numbers_of(circuit: &Circuit) -> [usize; 5] {
+    [
+        circuit.items().len(),
+        circuit.steps(),
+        circuit.records(),
+        circuit.qubits(),
+        circuit.observables(),
+    ]
+}
+
+const NUMBERS: &[(&str, [usize; 5])] = &[
+    ("", [0, 0, 0, 0, 0]),
+    (CODE, [14, 35, 9, 5, 1]),
+    (
+        "REPEAT 1048576 {\nm 5\n}\nQUBIT_COORDS 1023",
+        [2, 1_048_576, 1_048_576, 1024, 0],
+    ),
+    ("MPP X0*X7 !Z1\nM 0\nCX rec[-2] 9", [3, 4, 3, 10, 0]),
+];
+
 #[test]
 fn a_circuit_has_its_numbers(rt: HostRuntime) -> Result<(), Fail> {
+    for &(text, numbers) in NUMBERS {
+        let circuit = read(rt.alloc(), text.as_bytes())?;
+        assert_eq!(rt; numbers_of(&circuit), numbers, "at {text}");
+    }
+    Ok(())
+}
+
+#[test]
+fn a_new_circuit_is_empty(rt: HostRuntime) -> Result<(), Fail> {
     let empty = Circuit::new(rt.alloc());
-    assert!(rt; empty.items().is_empty() && empty.steps() == 0 && empty.qubits() == 0);
+    assert_eq!(rt; numbers_of(&empty), [0, 0, 0, 0, 0]);
+    Ok(())
+}
+
+#[test]
+fn a_circuit_is_checked_on_its_qubits(rt: HostRuntime) -> Result<(), Fail> {
     let code = read(rt.alloc(), CODE.as_bytes())?;
-    assert_eq!(rt; code.items().len(), 14);
-    assert_eq!(rt; (code.steps(), code.records()), (35, 9));
-    assert_eq!(rt; (code.qubits(), code.observables()), (5, 1));
-    assert_eq!(rt; fault_of(code.check(4)), (6, 0));
-    assert!(rt; code.check(5).is_ok());
-    let many = read(rt.alloc(), b"REPEAT 1048576 {\nm 5\n}\nQUBIT_COORDS 1023")?;
-    assert_eq!(rt; (many.steps(), many.records()), (1_048_576, 1_048_576));
-    assert_eq!(rt; (many.qubits(), many.observables()), (1024, 0));
-    let products = read(rt.alloc(), b"MPP X0*X7 !Z1\nM 0\nCX rec[-2] 9")?;
-    assert_eq!(rt; (products.steps(), products.records()), (4, 3));
-    assert_eq!(rt; (products.qubits(), products.observables()), (10, 0));
+    let found = (fault_of(code.check(4)), fault_of(code.check(5)));
+    assert_eq!(rt; found, ((6, 0), (0, 0)));
+    Ok(())
+}
+
+#[test]
+fn each_text_that_is_cut_short_has_its_answer(rt: HostRuntime) -> Result<(), Fail> {
     for cut in 0..CODE.len() {
         let found = fault_of(read(rt.alloc(), CODE.as_bytes().split_at(cut).0));
-        assert!(rt; found.0 <= 11);
+        assert!(rt; found.0 <= 11, "at {cut}");
     }
     Ok(())
 }

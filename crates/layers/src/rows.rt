@@ -128,36 +128,32 @@ fn rows_multiply_as_strings_do(rt: HostRuntime) -> Result<(), Fail> {
         let mut string = read(rt.alloc(), first)?;
         let other = read(rt.alloc(), second)?;
         multiply_rows(&mut rows, &string, &other);
-        assert!(rt;
-            are(rt.alloc(), &rows, &[product, second, product])?,
-            "{first} {second}"
-        );
         multiply_string(&mut rows, &mut string, &other);
-        assert!(rt;
-            are(rt.alloc(), &rows, &[product, second, product])?,
-            "{first} {second}"
-        );
-        assert!(rt; prints(rt.alloc(), &string, product)?, "{first} {second}");
+        let holds = are(rt.alloc(), &rows, &[product, second, product])?
+            && prints(rt.alloc(), &string, product)?;
+        assert!(rt; holds, "{first} {second}");
     }
     Ok(())
 }
 
+// Rows of so many letters, and whether they are those of the test, with their signs and without.
+const OTHERS: &[(usize, &[&str], bool, bool)] = &[
+    (3, &["+X_Z", "-_YZ"], true, true),
+    (3, &["+X_Z", "+_YZ"], false, true),
+    (3, &["+X_Z", "-_YY"], false, false),
+    (3, &["-_YZ", "+X_Z"], false, false),
+    (3, &["+X_Z"], false, false),
+    (2, &["+X_", "-_Y"], false, false),
+];
+
 #[test]
 fn rows_are_compared_with_and_without_signs(rt: HostRuntime) -> Result<(), Fail> {
     let rows = rows_of(rt.alloc(), 3, &["+X_Z", "-_YZ"])?;
-    for (texts, same, letters) in [
-        (["+X_Z", "-_YZ"], true, true),
-        (["+X_Z", "+_YZ"], false, true),
-        (["+X_Z", "-_YY"], false, false),
-        (["-_YZ", "+X_Z"], false, false),
-    ] {
-        let others = rows_of(rt.alloc(), 3, &texts)?;
-        assert_eq!(rt; rows.same(&others), same);
-        assert_eq!(rt; rows.same_letters(&others), letters);
+    for &(qubits, texts, same, letters) in OTHERS {
+        let others = rows_of(rt.alloc(), qubits, texts)?;
+        let found = (rows.same(&others), rows.same_letters(&others));
+        assert_eq!(rt; found, (same, letters), "{texts:?}");
     }
-    let fewer = rows_of(rt.alloc(), 3, &["+X_Z"])?;
-    let shorter = rows_of(rt.alloc(), 2, &["+X_", "-_Y"])?;
-    assert!(rt; !rows.same(&fewer) && !rows.same_letters(&shorter));
     Ok(())
 }
 
@@ -173,8 +169,8 @@ fn a_row_behind_many_keeps_the_others(rt: HostRuntime) -> Result<(), Fail> {
             if a < rows.len() && string.len() == rows.qubits() {
                 rows.copy_row(a, &mut string);
             }
-            assert_eq!(rt; string.is_negative(), a == 2);
-            assert_eq!(rt; string.first_flip().is_some(), a == 2);
+            let found = (string.is_negative(), string.first_flip().is_some());
+            assert_eq!(rt; found, (a == 2, a == 2), "{a} of {n}");
         }
     }
     Ok(())
