@@ -4,7 +4,6 @@ use stab_cli::{Source, run_detect, run_job, run_sample};
 use stab_pauli::{CutInput, EndlessInput, Fault, Input, MemoryInput, MemoryOutput, Refusal};
 use stab_results::Format;
 use std::alloc::Global;
-use std::process::Abort;
 use std::test::Fail;
 
 const TEXT: &[u8] =
@@ -41,34 +40,28 @@ const TWO_SHOTS: [(bool, Format, &[u8]); 10] = [
     (true, Format::Dets, b"shot D0 L0\nshot D0 L0\n"),
 ];
 
-/// Asserts that an output with less room than is needed gets as much as it has room for.
-fn assert_prefixes(
-    rt: &(impl Abort + AllocGlobal),
-    detect: bool,
-    format: Format,
-    whole: &[u8],
-) -> Result<(), Fail> {
+/// Whether a run is refused as a whole, for this.
+fn is_refused(ended: Result<(), Fault>, refusal: Refusal) -> bool {
+    ended == Err(Fault::whole(refusal))
+}
+
+/// Whether an output with less room than is needed gets as much as it has room for.
+fn has_prefixes(alloc: Global, detect: bool, format: Format, whole: &[u8]) -> Result<bool, Fail> {
+    let mut holds = true;
     for room in 0..whole.len() {
-        let mut out = MemoryOutput::new(rt.alloc(), room)?;
+        let mut out = MemoryOutput::new(alloc, room)?;
         let mut input = MemoryInput::new(TEXT);
-        let ended = run_two_shots(rt.alloc(), detect, format, &mut input, &mut out);
-        assert_eq!(rt;
-            ended,
-            Err(Fault::whole(Refusal::WriteFault)),
-            "{format:?}, detect {detect}, room {room}"
-        );
-        assert!(rt;
-            out.bytes() == whole.split_at(room).0,
-            "{format:?}, detect {detect}, room {room}"
-        );
+        let ended = run_two_shots(alloc, detect, format, &mut input, &mut out);
+        holds &= is_refused(ended, Refusal::WriteFault) && out.bytes() == whole.split_at(room).0;
     }
-    Ok(())
+    Ok(holds)
 }
 
 #[test]
 fn a_failing_output_has_a_prefix(rt: HostRuntime) -> Result<(), Fail> {
     for (detect, format, whole) in TWO_SHOTS {
-        assert_prefixes(&rt, detect, format, whole)?;
+        let cut = has_prefixes(rt.alloc(), detect, format, whole)?;
+        assert!(rt; cut, "{format:?}, detect {detect}");
     }
     Ok(())
 }
@@ -79,8 +72,8 @@ fn an_output_that_has_room_is_written_whole(rt: HostRuntime) -> Result<(), Fail>
         let mut out = MemoryOutput::new(rt.alloc(), whole.len())?;
         let mut input = MemoryInput::new(TEXT);
         let ended = run_two_shots(rt.alloc(), detect, format, &mut input, &mut out);
-        assert_eq!(rt; ended, Ok(()), "{format:?}, detect {detect}");
-        assert!(rt; out.bytes() == whole, "{format:?}, detect {detect}");
+        let written = ended == Ok(()) && out.bytes() == whole;
+        assert!(rt; written, "{format:?}, detect {detect}");
     }
     Ok(())
 }
@@ -105,12 +98,8 @@ fn an_output_may_fail_within_a_shot(rt: HostRuntime) -> Result<(), Fail> {
             shots,
             &source,
         );
-        assert_eq!(rt;
-            ended,
-            Err(Fault::whole(Refusal::WriteFault)),
-            "{shots} shots, room {room}"
-        );
-        assert!(rt; out.bytes() == written, "{shots} shots, room {room}");
+        let cut = is_refused(ended, Refusal::WriteFault) && out.bytes() == written;
+        assert!(rt; cut, "{shots} shots, room {room}");
     }
     Ok(())
 }
@@ -122,12 +111,8 @@ fn a_failing_flush_follows_the_whole_output(rt: HostRuntime) -> Result<(), Fail>
         out.fail_flush();
         let mut input = MemoryInput::new(TEXT);
         let ended = run_two_shots(rt.alloc(), detect, format, &mut input, &mut out);
-        assert_eq!(rt;
-            ended,
-            Err(Fault::whole(Refusal::WriteFault)),
-            "{format:?}, detect {detect}"
-        );
-        assert!(rt; out.bytes() == whole, "{format:?}, detect {detect}");
+        let told = is_refused(ended, Refusal::WriteFault) && out.bytes() == whole;
+        assert!(rt; told, "{format:?}, detect {detect}");
     }
     Ok(())
 }
@@ -139,7 +124,6 @@ fn no_shots_are_flushed_too(rt: HostRuntime) -> Result<(), Fail> {
     out.fail_flush();
     let mut input = MemoryInput::new(TEXT);
     let sampled = run_sample(rt.alloc(), &mut input, &mut out, Format::F01, 0, &source);
-    assert_eq!(rt; sampled, Err(Fault::whole(Refusal::WriteFault)));
     let mut input = MemoryInput::new(TEXT);
     let detected = run_detect(
         rt.alloc(),
@@ -150,33 +134,33 @@ fn no_shots_are_flushed_too(rt: HostRuntime) -> Result<(), Fail> {
         0,
         &source,
     );
-    assert_eq!(rt; detected, Err(Fault::whole(Refusal::WriteFault)));
-    assert!(rt; out.bytes().is_empty());
+    let told = is_refused(sampled, Refusal::WriteFault)
+        && is_refused(detected, Refusal::WriteFault);
+    assert!(rt; told && out.bytes().is_empty());
     Ok(())
 }
 
-/// Asserts that nothing is written where any one read fails.
-fn assert_each_read_is_needed(rt: &(impl Abort + AllocGlobal), detect: bool) -> Result<(), Fail> {
+/// Whether nothing is written where any one read fails.
+fn needs_each_read(alloc: Global, detect: bool) -> Result<bool, Fail> {
+    let mut needed = true;
     // Each read gives one byte, and one more finds the end of the text.
     let reads = TEXT.len() as u64 + 1;
     for fail_at in 1..=reads {
-        let mut out = MemoryOutput::new(rt.alloc(), 99)?;
+        let mut out = MemoryOutput::new(alloc, 99)?;
         let mut input = CutInput::new(TEXT, 1, fail_at);
-        let ended = run_two_shots(rt.alloc(), detect, Format::Hits, &mut input, &mut out);
-        assert_eq!(rt;
-            ended,
-            Err(Fault::whole(Refusal::ReadFault)),
-            "read {fail_at}, detect {detect}"
-        );
-        assert!(rt; out.bytes().is_empty(), "read {fail_at}, detect {detect}");
+        let ended = run_two_shots(alloc, detect, Format::Hits, &mut input, &mut out);
+        needed &= is_refused(ended, Refusal::ReadFault) && out.bytes().is_empty();
     }
-    Ok(())
+    Ok(needed)
 }
 
 #[test]
 fn a_failing_input_leaves_the_output_empty(rt: HostRuntime) -> Result<(), Fail> {
-    assert_each_read_is_needed(&rt, false)?;
-    assert_each_read_is_needed(&rt, true)
+    for detect in [false, true] {
+        let needed = needs_each_read(rt.alloc(), detect)?;
+        assert!(rt; needed, "detect {detect}");
+    }
+    Ok(())
 }
 
 #[test]
@@ -185,12 +169,8 @@ fn an_input_may_fail_within_a_line(rt: HostRuntime) -> Result<(), Fail> {
         let mut out = MemoryOutput::new(rt.alloc(), 99)?;
         let mut input = CutInput::new(b"M 0", 1, 2);
         let ended = run_two_shots(rt.alloc(), detect, Format::F01, &mut input, &mut out);
-        assert_eq!(rt;
-            ended,
-            Err(Fault::whole(Refusal::ReadFault)),
-            "detect {detect}"
-        );
-        assert!(rt; out.bytes().is_empty(), "detect {detect}");
+        let refused = is_refused(ended, Refusal::ReadFault) && out.bytes().is_empty();
+        assert!(rt; refused, "detect {detect}");
     }
     Ok(())
 }
@@ -201,11 +181,8 @@ fn an_input_may_come_in_pieces(rt: HostRuntime) -> Result<(), Fail> {
         let mut out = MemoryOutput::new(rt.alloc(), 99)?;
         let mut input = CutInput::new(TEXT, piece, 0);
         let ended = run_two_shots(rt.alloc(), true, Format::Hits, &mut input, &mut out);
-        assert_eq!(rt; ended, Ok(()), "pieces of {piece}");
-        assert!(rt;
-            out.bytes() == b"0,2\n0,2\n".as_slice(),
-            "pieces of {piece}"
-        );
+        let written = ended == Ok(()) && out.bytes() == b"0,2\n0,2\n".as_slice();
+        assert!(rt; written, "pieces of {piece}");
     }
     Ok(())
 }
@@ -216,12 +193,8 @@ fn an_endless_input_is_too_long(rt: HostRuntime) -> Result<(), Fail> {
         let mut out = MemoryOutput::new(rt.alloc(), 9)?;
         let mut input = EndlessInput::new(byte);
         let ended = run_two_shots(rt.alloc(), detect, Format::F01, &mut input, &mut out);
-        assert_eq!(rt;
-            ended,
-            Err(Fault::whole(Refusal::TooLong)),
-            "byte {byte}, detect {detect}"
-        );
-        assert!(rt; out.bytes().is_empty(), "byte {byte}, detect {detect}");
+        let refused = is_refused(ended, Refusal::TooLong) && out.bytes().is_empty();
+        assert!(rt; refused, "byte {byte}, detect {detect}");
     }
     Ok(())
 }
@@ -248,50 +221,36 @@ fn a_failing_device_is_told_on_the_error_output(rt: HostRuntime) -> Result<(), F
             &mut out,
             &mut err,
         );
-        assert_eq!(rt; status, 1, "{command}, read {fail_at}, room {room}");
-        assert!(rt;
-            out.bytes() == written,
-            "{command}, read {fail_at}, room {room}"
-        );
-        assert!(rt;
-            err.bytes() == told,
-            "{command}, read {fail_at}, room {room}"
-        );
+        let ended = status == 1 && out.bytes() == written && err.bytes() == told;
+        assert!(rt; ended, "{command}, read {fail_at}, room {room}");
     }
     Ok(())
 }
 
-/// Asserts that the status tells a fault, however little of its line is written.
-fn assert_status_stays(rt: &(impl Abort + AllocGlobal), command: &str) -> Result<(), Fail> {
+/// Whether the status tells a fault, however little of its line is written.
+fn status_stays(alloc: Global, command: &str) -> Result<bool, Fail> {
     let line: &[u8] = b"stabsim: line 1: refused 11 BadLine\n";
-    let job = job_of(rt.alloc(), &["stabsim", command])?;
+    let job = job_of(alloc, &["stabsim", command])?;
+    let mut stays = true;
     for room in 0..line.len() {
-        let mut out = MemoryOutput::new(rt.alloc(), 9)?;
-        let mut err = MemoryOutput::new(rt.alloc(), room)?;
+        let mut out = MemoryOutput::new(alloc, 9)?;
+        let mut err = MemoryOutput::new(alloc, room)?;
         err.fail_flush();
         let mut script = MemoryInput::new(&[]);
         let mut input = MemoryInput::new(b"X!");
-        let status = run_job(
-            rt.alloc(),
-            &job,
-            &mut input,
-            &mut script,
-            &mut out,
-            &mut err,
-        );
-        assert_eq!(rt; status, 1, "{command}, room {room}");
-        assert!(rt;
-            err.bytes() == line.split_at(room).0,
-            "{command}, room {room}"
-        );
+        let status = run_job(alloc, &job, &mut input, &mut script, &mut out, &mut err);
+        stays &= status == 1 && err.bytes() == line.split_at(room).0;
     }
-    Ok(())
+    Ok(stays)
 }
 
 #[test]
 fn a_failing_error_output_changes_no_status(rt: HostRuntime) -> Result<(), Fail> {
-    assert_status_stays(&rt, "sample")?;
-    assert_status_stays(&rt, "detect")
+    for command in ["sample", "detect"] {
+        let stays = status_stays(rt.alloc(), command)?;
+        assert!(rt; stays, "{command}");
+    }
+    Ok(())
 }
 
 #[test]
@@ -310,11 +269,10 @@ fn no_command_reads_the_script(rt: HostRuntime) -> Result<(), Fail> {
             &mut out,
             &mut err,
         );
-        assert_eq!(rt; status, 0, "{command}");
-        assert!(rt; out.bytes() == written.as_bytes(), "{command}");
+        let ended = status == 0 && out.bytes() == written.as_bytes();
         let mut left = [0; 9];
-        assert_eq!(rt; script.read(left.as_mut_slice()), Ok(1), "{command}");
-        assert_eq!(rt; left[0], b'x', "{command}");
+        let unread = script.read(left.as_mut_slice()) == Ok(1) && left[0] == b'x';
+        assert!(rt; ended && unread, "{command}");
     }
     Ok(())
 }

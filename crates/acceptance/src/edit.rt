@@ -40,13 +40,8 @@ fn assert_answers_with(
         line.push_str(more)?;
         let mut input = MemoryInput::new(script.as_bytes());
         let run = run_scripted(rt.alloc(), line.as_str(), circuit.as_bytes(), &mut input)?;
-        assert!(rt;
-            run.out.bytes() == replies.as_bytes(),
-            "{line:?} with {script:?} writes {:?}",
-            str::from_utf8(run.out.bytes())
-        );
-        assert!(rt; run.err.bytes().is_empty(), "{line:?} with {script:?}");
-        assert_eq!(rt; run.status, *status, "{line:?} with {script:?}");
+        let answered = run.is(*status, replies.as_bytes(), b"");
+        assert!(rt; answered, "{line:?} with {script:?} has {run:?}");
     }
     Ok(())
 }
@@ -352,9 +347,8 @@ fn a_refused_circuit_leaves_its_script_unread(rt: HostRuntime) -> Result<(), Fai
     for (line, circuit, fault) in FAULTS {
         let mut script = CutInput::new(b"show circuit", 1, 1);
         let run = run_scripted(rt.alloc(), line, circuit.as_bytes(), &mut script)?;
-        assert!(rt; run.out.bytes().is_empty(), "{circuit:?}");
-        assert!(rt; run.err.bytes() == fault.as_bytes(), "{circuit:?}");
-        assert_eq!(rt; run.status, 1, "{circuit:?}");
+        let refused = run.is(1, b"", fault.as_bytes());
+        assert!(rt; refused, "{circuit:?} has {run:?}");
     }
     Ok(())
 }
@@ -381,12 +375,9 @@ fn a_script_that_breaks_off_has_the_replies_to_whole_lines(rt: HostRuntime) -> R
             b"H 0\nM 0",
             &mut script,
         )?;
-        assert!(rt; run.out.bytes() == replies.as_bytes(), "at read {fail_at}");
-        assert!(rt;
-            run.err.bytes() == b"stabsim: refused 15 ReadFault\n".as_slice(),
-            "at read {fail_at}"
-        );
-        assert_eq!(rt; run.status, 1, "at read {fail_at}");
+        let told = b"stabsim: refused 15 ReadFault\n";
+        let cut = run.is(1, replies.as_bytes(), told.as_slice());
+        assert!(rt; cut, "at read {fail_at}: {run:?}");
     }
     Ok(())
 }
@@ -414,12 +405,9 @@ fn assert_cut_off(
     written: &str,
 ) -> Result<(), Fail> {
     let run = run_into(rt.alloc(), out)?;
-    assert!(rt; run.out.bytes() == written.as_bytes(), "{written:?}");
-    assert!(rt;
-        run.err.bytes() == b"stabsim: refused 16 WriteFault\n".as_slice(),
-        "{written:?}"
-    );
-    assert_eq!(rt; run.status, 1, "{written:?}");
+    let told = b"stabsim: refused 16 WriteFault\n";
+    let cut = run.is(1, written.as_bytes(), told.as_slice());
+    assert!(rt; cut, "{written:?}: {run:?}");
     Ok(())
 }
 

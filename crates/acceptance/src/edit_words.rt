@@ -1,6 +1,6 @@
 //! What words ask `edit` for, and its help.
-use crate::runs::{job_of, words_of};
-use stab_cli::{Command, Job, Qubits, Source, Stride, Usage, parse_words};
+use crate::runs::{is_from, job_of, paths_of, words_of};
+use stab_cli::{Command, Job, Qubits, Stride, Usage, parse_words};
 use std::alloc::Global;
 use std::test::Fail;
 
@@ -26,32 +26,33 @@ fn qubits_and_stride_stand_in_the_job(rt: HostRuntime) -> Result<(), Fail> {
     ];
     for (line, qubits, stride) in rows {
         let job = job(rt.alloc(), line)?;
-        assert_eq!(rt; job.command, Command::Edit { qubits, stride }, "{line}");
-        assert!(rt; job.reads_script(), "{line}");
+        let edits = job.command == Command::Edit { qubits, stride };
+        assert!(rt; edits && job.reads_script(), "{line}");
     }
     Ok(())
 }
 
 #[test]
 fn edit_has_the_options_of_every_command(rt: HostRuntime) -> Result<(), Fail> {
-    let plain = job(rt.alloc(), "stabsim edit")?;
-    assert_eq!(rt; plain.source, Source::Seed(0));
-    assert!(rt; plain.in_path.is_none());
-    assert!(rt; plain.out_path.is_none());
-    let full = job(
-        rt.alloc(),
-        "stabsim edit --seed=34 --out b/c.01 --in a.stim",
-    )?;
-    assert_eq!(rt; full.source, Source::Seed(34));
-    assert_eq!(rt; full.in_path.ok_or("--in")?.as_str(), "a.stim");
-    assert_eq!(rt; full.out_path.ok_or("--out")?.as_str(), "b/c.01");
+    for (line, seed, paths) in [
+        ("stabsim edit", 0, (None, None)),
+        (
+            "stabsim edit --seed=34 --out b/c.01 --in a.stim",
+            34,
+            (Some("a.stim"), Some("b/c.01")),
+        ),
+    ] {
+        let job = job(rt.alloc(), line)?;
+        assert!(rt; is_from(&job, seed) && paths_of(&job) == paths, "{line}");
+    }
     Ok(())
 }
 
 #[test]
 fn no_other_command_reads_a_script(rt: HostRuntime) -> Result<(), Fail> {
     for line in ["stabsim sample", "stabsim detect", "stabsim stabilisers"] {
-        assert!(rt; !job(rt.alloc(), line)?.reads_script(), "{line}");
+        let reads = job(rt.alloc(), line)?.reads_script();
+        assert!(rt; !reads, "{line}");
     }
     Ok(())
 }

@@ -13,17 +13,8 @@ fn assert_ended(
     told: &str,
     status: u8,
 ) -> Result<(), Fail> {
-    assert!(rt;
-        run.out.bytes() == written.as_bytes(),
-        "writes {:?}",
-        run.out.bytes()
-    );
-    assert!(rt;
-        run.err.bytes() == told.as_bytes(),
-        "tells {:?}",
-        run.err.bytes()
-    );
-    assert_eq!(rt; run.status, status);
+    let ended = run.is(status, written.as_bytes(), told.as_bytes());
+    assert!(rt; ended, "{run:?}");
     Ok(())
 }
 
@@ -149,32 +140,17 @@ const CUTS: &[(usize, usize, &str)] = &[
     (391, 392, ""),
 ];
 
-/// Asserts how the circuit ends when it is cut off after so many bytes.
-fn assert_cut(rt: &(impl Abort + AllocGlobal), len: usize, told: &str) -> Result<(), Fail> {
+/// Whether the circuit ends like this when it is cut off after so many bytes.
+fn ends_cut(alloc: Global, len: usize, told: &str) -> Result<bool, Fail> {
     let bytes = CODE.as_bytes();
     let (text, _) = bytes.split_at(len.min(bytes.len()));
-    let run = run_program(rt.alloc(), "stabsim stabilisers", text)?;
+    let run = run_program(alloc, "stabsim stabilisers", text)?;
     let line = if told.is_empty() {
-        String::new(rt.alloc())
+        String::new(alloc)
     } else {
-        format!(in rt.alloc(); "stabsim: {told}\n")?
+        format!(in alloc; "stabsim: {told}\n")?
     };
-    assert!(rt; run.err.bytes() == line.as_bytes(), "cut after {len} bytes");
-    assert_eq!(rt; run.status == 0, told.is_empty(), "cut after {len} bytes");
-    Ok(())
-}
-
-/// Asserts the same for each number of bytes in a row of the table.
-fn assert_cuts(
-    rt: &(impl Abort + AllocGlobal),
-    first: usize,
-    last: usize,
-    told: &str,
-) -> Result<(), Fail> {
-    for len in first..=last {
-        assert_cut(rt, len, told)?;
-    }
-    Ok(())
+    Ok(run.err.bytes() == line.as_bytes() && (run.status == 0) == told.is_empty())
 }
 
 #[test]
@@ -182,7 +158,10 @@ fn a_circuit_that_is_cut_is_read_or_refused(rt: HostRuntime) -> Result<(), Fail>
     let mut next = 0;
     for (first, last, told) in CUTS {
         assert_eq!(rt; *first, next, "no number of bytes is left out");
-        assert_cuts(&rt, *first, *last, told)?;
+        for len in *first..=*last {
+            let ends = ends_cut(rt.alloc(), len, told)?;
+            assert!(rt; ends, "cut after {len} bytes");
+        }
         next = last.saturating_add(1);
     }
     assert_eq!(rt; next, CODE.len() + 1, "up to the whole circuit");

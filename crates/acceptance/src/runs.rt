@@ -1,7 +1,8 @@
 //! Runs of the program over devices in memory.
-use stab_cli::{Job, parse_words, run_job};
+use stab_cli::{Job, Source, parse_words, run_job};
 use stab_pauli::{Input, MemoryInput, MemoryOutput};
 use std::alloc::{AllocError, Global};
+use std::fmt::{self, Debug, Formatter, Write};
 use std::process::Abort;
 use std::test::Fail;
 
@@ -50,6 +51,26 @@ impl Drop for Ended {
     }
 }
 
+impl Ended {
+    /// Whether this is the status, and these bytes were written to the output and told of a fault.
+    pub(crate) fn is(&self, status: u8, out: &[u8], err: &[u8]) -> bool {
+        self.status == status && self.out.bytes() == out && self.err.bytes() == err
+    }
+}
+
+impl Debug for Ended {
+    fn fmt<W: Write>(&self, f: &mut Formatter<W>) -> fmt::Result {
+        let (out, err) = (self.out.bytes(), self.err.bytes());
+        write!(
+            f,
+            "status {}, {:?} and {:?}",
+            self.status,
+            str::from_utf8(out),
+            str::from_utf8(err)
+        )
+    }
+}
+
 /// The words of a line.
 pub(crate) fn words_of(alloc: Global, line: &str) -> Result<Vec<&str>, AllocError> {
     line.split_whitespace().collect(alloc)
@@ -60,6 +81,26 @@ pub(crate) fn job_of(alloc: Global, words: &[&str]) -> Result<Job, Fail> {
     match parse_words(alloc, words) {
         Ok(job) => Ok(job),
         Err(usage) => Err(Fail::new(format_args!("{words:?} gives {usage:?}"))),
+    }
+}
+
+/// Whether a job takes its coins from this seed.
+pub(crate) fn is_from(job: &Job, seed: u64) -> bool {
+    match &job.source {
+        Source::Seed(own) => *own == seed,
+        Source::List(_) => false,
+    }
+}
+
+/// The paths of a job's input and output.
+pub(crate) fn paths_of(job: &Job) -> (Option<&str>, Option<&str>) {
+    (text_of(&job.in_path), text_of(&job.out_path))
+}
+
+fn text_of(path: &Option<String>) -> Option<&str> {
+    match path {
+        Some(path) => Some(path.as_str()),
+        None => None,
     }
 }
 
@@ -98,17 +139,8 @@ pub(crate) fn assert_writes(
     bytes: &[u8],
 ) -> Result<(), Fail> {
     let run = run_program(rt.alloc(), line, text.as_bytes())?;
-    assert!(rt;
-        run.err.bytes().is_empty(),
-        "{line:?} on {text:?} tells {:?}",
-        str::from_utf8(run.err.bytes())
-    );
-    assert!(rt;
-        run.out.bytes() == bytes,
-        "{line:?} on {text:?} writes {:?}",
-        run.out.bytes()
-    );
-    assert_eq!(rt; run.status, 0, "status of {line:?} on {text:?}");
+    let ended = run.is(0, bytes, b"");
+    assert!(rt; ended, "{line:?} on {text:?} has {run:?}");
     Ok(())
 }
 
@@ -154,16 +186,7 @@ pub(crate) fn assert_refuses(
     fault: &str,
 ) -> Result<(), Fail> {
     let run = run_program(rt.alloc(), line, text.as_bytes())?;
-    assert!(rt;
-        run.out.bytes().is_empty(),
-        "{line:?} on {text:?} writes {:?}",
-        run.out.bytes()
-    );
-    assert!(rt;
-        run.err.bytes() == fault.as_bytes(),
-        "{line:?} on {text:?} tells {:?}",
-        str::from_utf8(run.err.bytes())
-    );
-    assert_eq!(rt; run.status, 1, "status of {line:?} on {text:?}");
+    let refused = run.is(1, b"", fault.as_bytes());
+    assert!(rt; refused, "{line:?} on {text:?} has {run:?}");
     Ok(())
 }

@@ -1,5 +1,5 @@
 //! What words ask `stabilisers` for, and its help.
-use crate::runs::{job_of, words_of};
+use crate::runs::{is_from, job_of, paths_of, words_of};
 use stab_cli::{Command, Job, Source, Usage, parse_words};
 use std::alloc::Global;
 use std::test::Fail;
@@ -12,19 +12,21 @@ fn job(alloc: Global, line: &str) -> Result<Job, Fail> {
 
 #[test]
 fn the_options_of_stabilisers_stand_in_the_job(rt: HostRuntime) -> Result<(), Fail> {
-    let plain = job(rt.alloc(), "stabsim stabilisers")?;
-    assert_eq!(rt; plain.command, Command::Stabilisers);
-    assert_eq!(rt; plain.source, Source::Seed(0));
-    assert!(rt; plain.in_path.is_none());
-    assert!(rt; plain.out_path.is_none());
-    let full = job(
-        rt.alloc(),
-        "stabsim stabilisers --seed=34 --out b/c.rows --in a.stim",
-    )?;
-    assert_eq!(rt; full.command, Command::Stabilisers);
-    assert_eq!(rt; full.source, Source::Seed(34));
-    assert_eq!(rt; full.in_path.ok_or("--in")?.as_str(), "a.stim");
-    assert_eq!(rt; full.out_path.ok_or("--out")?.as_str(), "b/c.rows");
+    for (line, seed, paths) in [
+        ("stabsim stabilisers", 0, (None, None)),
+        (
+            "stabsim stabilisers --seed=34 --out b/c.rows --in a.stim",
+            34,
+            (Some("a.stim"), Some("b/c.rows")),
+        ),
+    ] {
+        let job = job(rt.alloc(), line)?;
+        let stabilisers = job.command == Command::Stabilisers;
+        assert!(rt;
+            stabilisers && is_from(&job, seed) && paths_of(&job) == paths,
+            "{line}"
+        );
+    }
     Ok(())
 }
 
