@@ -86,13 +86,13 @@ AreShort-same k ws now e s = subst (AreShort k) e s
 short_head : (k w : ℕ) (ws : List ℕ) → AreShort k (w ∷ ws) → w < 2 ^ k
 short_head k w ws s = s.below 0
 
-short_tail : (k w : ℕ) (ws : List ℕ) → AreShort k (w ∷ ws) → AreShort k ws
+pub short_tail : (k w : ℕ) (ws : List ℕ) → AreShort k (w ∷ ws) → AreShort k ws
 short_tail k w ws s = record { below = λ i. s.below (suc i) }
 
 short_drop : (k n : ℕ) (ws : List ℕ) → AreShort k ws → AreShort k (drop n ws)
 short_drop k n ws s = record { below = λ i. rw (get_or-drop n ws i 0) (s.below (n + i)) }
 
-short_more : (k w : ℕ) (ws : List ℕ) → w < 2 ^ k → AreShort k ws → AreShort k (w ∷ ws)
+pub short_more : (k w : ℕ) (ws : List ℕ) → w < 2 ^ k → AreShort k ws → AreShort k (w ∷ ws)
 short_more k w ws h s = record { below = at }
   where
     at : (i : ℕ) → get_or (w ∷ ws) i 0 < 2 ^ k

@@ -2,3 +2,4 @@ pub mod Told
 pub mod Words
 pub mod Powers
 pub mod Blocks
+pub mod Sparse

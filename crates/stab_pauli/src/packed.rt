@@ -3,7 +3,9 @@
 //! - `ones`: how many bits are set, and whether their number is odd.
 //! - `row`: the words of one string: their product with others, their power of i, their letters.
 //! - `flat`: rows that lie side by side in one slice.
+//! - `sparse`: words of which most are 0, kept without these.
 
 pub(crate) mod flat;
 pub(crate) mod ones;
 pub(crate) mod row;
+pub(crate) mod sparse;

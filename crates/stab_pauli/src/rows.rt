@@ -1,8 +1,11 @@
+mod compact;
+
 use super::letter::Letter;
 use super::packed::{flat, row};
 use super::pauli::Pauli;
 use super::refusal::Refusal;
 use super::turn::Turn;
+pub use compact::CompactRows;
 use std::alloc::Global;
 use std::marker::Model;
 

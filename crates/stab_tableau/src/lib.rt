@@ -34,4 +34,4 @@ mod tableau;
 
 pub use collapse::Collapse;
 pub use gate::{Gate, PairGate};
-pub use tableau::Tableau;
+pub use tableau::{CompactTableau, Tableau};

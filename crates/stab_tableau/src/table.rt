@@ -1,3 +1,6 @@
+mod compact;
+
+pub use compact::CompactTable;
 use stab_pauli::{Letter, Pauli, PauliRows, Refusal};
 use std::alloc::Global;
 use std::marker::Model;

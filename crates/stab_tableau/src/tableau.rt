@@ -1,3 +1,5 @@
+mod compact;
+
 ghost use Rattle.std.specs.Prelude.{◌≡◌, IfOk, IfErr};
 ghost use Rattle.stab_pauli.specs.declared.refusal.Refusal.TheVariants.{OutOfMemory};
 
@@ -7,6 +9,7 @@ use super::gate::{Gate, PairGate};
 use super::observable::Observable;
 use super::table::{Row, Table};
 use super::{group, preimages, rows};
+pub use compact::CompactTableau;
 use stab_pauli::{Letter, Pauli, PauliRows, Refusal};
 use std::alloc::Global;
 use std::marker::Model;

@@ -1,0 +1,244 @@
+-- Words of which most are 0: what a word behind them makes, how they are written over words 0, and how they are compared.
+use Rattle.std.proofs.Common.{◌≡◌, ℕ, zero, suc, ◌+◌, ◌-◌, ◌*◌, ◌<◌, ◌≤◌, refl, sym, ◌∙◌, ap, arith, append_assoc, length-append, length-drop, List, [], ◌∷◌, ◌++◌, length, get_or, set, take, drop, replicate, ◌↔◌}
+use Rattle.std.proofs.lemmas.List.{length-replicate, replicate-append-replicate, set-append_right, set_at, drop_more, take_more, length-set, get_or_at, take_at, drop_at, drop_all, take_all, drop-drop, take-append-drop}
+use Rattle.std.specs.Prelude.{bit_or}
+use Rattle.std.proofs.lemmas.Nat.{le_or_l, le_or_r}
+use Rattle.stab_pauli.specs.inner.Words.{AreShort}
+use Rattle.stab_pauli.specs.inner.Sparse.{spread, IsSparse}
+use Rattle.stab_pauli.proofs.TellLemmas.{short_more, short_tail}
+
+-- behind them
+
+pub spread-zeros : (gs ks : List ℕ) (b m : ℕ) → spread gs ks b ++ replicate m 0 ≡ spread gs ks (b + m)
+spread-zeros [] ks b m = replicate-append-replicate b m 0
+spread-zeros (g ∷ gs) [] b m = replicate-append-replicate b m 0
+spread-zeros (g ∷ gs) (w ∷ ks) b m = append_assoc (replicate g 0) (w ∷ spread gs ks b) (replicate m 0) ∙ ap (λ t. replicate g 0 ++ w ∷ t) (spread-zeros gs ks b m)
+
+spread-kept : (gs ks : List ℕ) (b w : ℕ) → length gs ≡ length ks → spread (gs ++ b ∷ []) (ks ++ w ∷ []) 0 ≡ spread gs ks b ++ w ∷ []
+spread-kept [] [] b w e = refl
+spread-kept [] (k ∷ ks) b w e = absurd (omega arith)
+spread-kept (g ∷ gs) [] b w e = absurd (omega arith)
+spread-kept (g ∷ gs) (k ∷ ks) b w e = ap (λ t. replicate g 0 ++ k ∷ t) (spread-kept gs ks b w (omega arith)) ∙ sym (append_assoc (replicate g 0) (k ∷ spread gs ks b) (w ∷ []))
+
+pub sparse-none : (gs ks : List ℕ) → gs ≡ [] → ks ≡ [] → IsSparse gs ks 0 []
+sparse-none gs ks eg ek = record { even = ap length eg ∙ sym (ap length ek); words_are = λ i. spread (eg i) (ek i) 0 }
+
+pub sparse-zeros : (gs ks : List ℕ) (b m : ℕ) → length gs ≡ length ks → IsSparse gs ks (b + m) (spread gs ks b ++ replicate m 0)
+sparse-zeros gs ks b m e = record { even = e; words_are = sym (spread-zeros gs ks b m) }
+
+pub sparse-kept : (gs ks : List ℕ) (b w : ℕ) → length gs ≡ length ks → IsSparse (gs ++ b ∷ []) (ks ++ w ∷ []) 0 (spread gs ks b ++ w ∷ [])
+sparse-kept gs ks b w e = record { even = length-append gs (b ∷ []) ∙ ap (λ n. n + 1) e ∙ sym (length-append ks (w ∷ [])); words_are = spread-kept gs ks b w e }
+
+-- one by one, four words are put behind others
+pub four-behind : (xs us vs ws : List ℕ) (a b c d : ℕ) → us ≡ xs ++ a ∷ [] → vs ≡ us ++ b ∷ [] → ws ≡ vs ++ c ∷ [] → ws ++ d ∷ [] ≡ xs ++ a ∷ b ∷ c ∷ d ∷ []
+four-behind xs us vs ws a b c d ea eb ec =
+    ap (λ t. t ++ d ∷ []) (ec ∙ ap (λ t. t ++ c ∷ []) (eb ∙ ap (λ t. t ++ b ∷ []) ea))
+    ∙ append_assoc ((xs ++ a ∷ []) ++ b ∷ []) (c ∷ []) (d ∷ [])
+    ∙ append_assoc (xs ++ a ∷ []) (b ∷ []) (c ∷ d ∷ [])
+    ∙ append_assoc xs (a ∷ []) (b ∷ c ∷ d ∷ [])
+
+four-zeros : (a b c d : ℕ) → bit_or (bit_or a b) (bit_or c d) ≡ 0 → a ∷ b ∷ c ∷ d ∷ [] ≡ 0 ∷ 0 ∷ 0 ∷ 0 ∷ []
+four-zeros a b c d none =
+    let a0 = le_or_l a b in
+    let b0 = le_or_r a b in
+    let c0 = le_or_l c d in
+    let d0 = le_or_r c d in
+    let l = le_or_l (bit_or a b) (bit_or c d) in
+    let r = le_or_r (bit_or a b) (bit_or c d) in
+    let za : a ≡ 0 = omega arith in
+    let zb : b ≡ 0 = omega arith in
+    let zc : c ≡ 0 = omega arith in
+    let zd : d ≡ 0 = omega arith in
+    λ i. za i ∷ zb i ∷ zc i ∷ zd i ∷ []
+
+-- four words 0
+pub sparse-half : (gs ks : List ℕ) (n a b c d : ℕ) → length gs ≡ length ks → bit_or (bit_or a b) (bit_or c d) ≡ 0 → IsSparse gs ks (n + 4) (spread gs ks n ++ a ∷ b ∷ c ∷ d ∷ [])
+sparse-half gs ks n a b c d e none = record { even = e; words_are = sym (spread-zeros gs ks n 4) ∙ ap (λ t. spread gs ks n ++ t) (sym (four-zeros a b c d none)) }
+
+take-half : (xs : List ℕ) (half : ℕ) → 4 * half + 4 ≤ length xs
+    → take (4 * (half + 1)) xs ≡ take (4 * half) xs ++ get_or xs (4 * half) 0 ∷ get_or xs (4 * half + 1) 0 ∷ get_or xs (4 * half + 2) 0 ∷ get_or xs (4 * half + 3) 0 ∷ []
+take-half xs half le =
+    ap (λ n. take n xs) (omega arith)
+    ∙ take_more xs (4 * half + 3) 0 (omega arith)
+    ∙ four-behind (take (4 * half) xs) (take (4 * half + 1) xs) (take (4 * half + 2) xs) (take (4 * half + 3) xs) _ _ _ _
+    (take_more xs (4 * half) 0 (omega arith))
+    (ap (λ n. take n xs) (omega arith) ∙ take_more xs (4 * half + 1) 0 (omega arith))
+    (ap (λ n. take n xs) (omega arith) ∙ take_more xs (4 * half + 2) 0 (omega arith))
+
+-- four words more
+pub half-more : (xs : List ℕ) (half : ℕ) (old new : List ℕ) → 4 * half + 4 ≤ length xs → old ≡ take (4 * half) xs
+    → new ≡ old ++ get_or xs (4 * half) 0 ∷ get_or xs (4 * half + 1) 0 ∷ get_or xs (4 * half + 2) 0 ∷ get_or xs (4 * half + 3) 0 ∷ [] → new ≡ take (4 * (half + 1)) xs
+half-more xs half old new le eo en = en ∙ ap (λ t. t ++ get_or xs (4 * half) 0 ∷ get_or xs (4 * half + 1) 0 ∷ get_or xs (4 * half + 2) 0 ∷ get_or xs (4 * half + 3) 0 ∷ []) eo ∙ sym (take-half xs half le)
+
+-- one of a list, and those behind it
+drop_here : (xs : List ℕ) (k x : ℕ) → k < length xs → x ≡ get_or xs k x → drop k xs ≡ x ∷ drop (k + 1) xs
+drop_here xs k x lt e = drop_more xs k x lt ∙ ap (λ y. y ∷ drop (k + 1) xs) (sym e)
+
+-- the words from one of those that are kept on
+pub spread-from : (gs ks : List ℕ) (b k g w : ℕ) → length gs ≡ length ks → k < length ks → g ≡ get_or gs k g → w ≡ get_or ks k w
+    → spread (drop k gs) (drop k ks) b ≡ replicate g 0 ++ w ∷ spread (drop (k + 1) gs) (drop (k + 1) ks) b
+spread-from gs ks b k g w e lt eg ew = λ i. spread (drop_here gs k g (omega arith) eg i) (drop_here ks k w lt ew i) b
+
+length-from : (g w : ℕ) (rest : List ℕ) → length (replicate g 0 ++ w ∷ rest) ≡ g + 1 + length rest
+length-from g w rest = length-append (replicate g 0) (w ∷ rest) ∙ (λ i. length-replicate {A = ℕ} g 0 i + suc (length rest)) ∙ omega arith
+
+-- how many are left
+pub room-from : (gs ks : List ℕ) (b k at g w size : ℕ) → length gs ≡ length ks → k < length ks → g ≡ get_or gs k g → w ≡ get_or ks k w
+    → at + length (spread (drop k gs) (drop k ks) b) ≡ size → at + g + 1 + length (spread (drop (k + 1) gs) (drop (k + 1) ks) b) ≡ size
+room-from gs ks b k at g w size e lt eg ew room =
+    let l : length (spread (drop k gs) (drop k ks) b) ≡ g + 1 + length (spread (drop (k + 1) gs) (drop (k + 1) ks) b) =
+    ap length (spread-from gs ks b k g w e lt eg ew) ∙ length-from g w (spread (drop (k + 1) gs) (drop (k + 1) ks) b) in
+    omega (arith, l, room)
+
+-- written over words 0, from a place on
+abbrev pub written : List ℕ → List ℕ → ℕ → List ℕ → List ℕ
+written [] ks at words = words
+written (g ∷ gs) [] at words = words
+written (g ∷ gs) (w ∷ ks) at words = written gs ks (at + g + 1) (set words (at + g) w)
+
+-- so many are written, up to a place
+pub record IsWriting (gs ks : List ℕ) (b : ℕ) (k at : ℕ) (initial words : List ℕ) : Type 0 where
+  pub writes : written (drop k gs) (drop k ks) at words ≡ written gs ks 0 initial
+  pub room : at + length (spread (drop k gs) (drop k ks) b) ≡ length words
+
+pub writing-none : (gs ks : List ℕ) (b : ℕ) (words : List ℕ) → length words ≡ length (spread gs ks b) → IsWriting gs ks b 0 0 words words
+writing-none gs ks b words size = record { writes = refl; room = omega (arith, size) }
+
+pub writing-on : (gs ks : List ℕ) (b k at g w : ℕ) (initial words : List ℕ) → length gs ≡ length ks → k < length ks → g ≡ get_or gs k g → w ≡ get_or ks k w
+    → IsWriting gs ks b k at initial words → IsWriting gs ks b (k + 1) (at + g + 1) initial (set words (at + g) w)
+writing-on gs ks b k at g w initial words e lt eg ew is = record {
+  writes = sym (λ i. written (drop_here gs k g (omega arith) eg i) (drop_here ks k w lt ew i) at words) ∙ is.writes;
+  room = room-from gs ks b k at g w (length words) e lt eg ew is.room ∙ sym (length-set words (at + g) w);
+}
+
+written-zeros : (gs ks front : List ℕ) (b at m : ℕ) → length gs ≡ length ks → length front ≡ at → m ≡ length (spread gs ks b)
+    → written gs ks at (front ++ replicate m 0) ≡ front ++ spread gs ks b
+written-zeros [] ks front b at m e l em = ap (λ n. front ++ replicate n 0) (em ∙ length-replicate b 0)
+written-zeros (g ∷ gs) [] front b at m e l em = absurd (omega arith)
+written-zeros (g ∷ gs) (w ∷ ks) front b at m e l em =
+    ap (written gs ks (at + g + 1)) here
+    ∙ written-zeros gs ks (front ++ (replicate g 0 ++ w ∷ [])) b (at + g + 1) rest (omega arith) long refl
+    ∙ append_assoc front (replicate g 0 ++ w ∷ []) (spread gs ks b)
+    ∙ ap (λ t. front ++ t) (append_assoc (replicate g 0) (w ∷ []) (spread gs ks b))
+  where
+    rest : ℕ
+    rest = length (spread gs ks b)
+
+    whole : m ≡ g + suc rest
+    whole = em ∙ length-from g w (spread gs ks b) ∙ omega arith
+
+    long : length (front ++ (replicate g 0 ++ w ∷ [])) ≡ at + g + 1
+    long = length-append front (replicate g 0 ++ w ∷ []) ∙ (let n = length-from g w [] in omega arith)
+
+    cut : replicate {A = ℕ} m 0 ≡ replicate {A = ℕ} g 0 ++ 0 ∷ replicate {A = ℕ} rest 0
+    cut = ap (λ n. replicate {A = ℕ} n 0) whole ∙ sym (replicate-append-replicate g (suc rest) 0)
+
+    here : set (front ++ replicate m 0) (at + g) w ≡ (front ++ (replicate g 0 ++ w ∷ [])) ++ replicate rest 0
+    here =
+        set-append_right front (replicate m 0) at (at + g) w l (omega arith)
+        ∙ ap (λ n. front ++ set (replicate m 0) n w) (omega arith)
+        ∙ ap (λ t. front ++ set t g w) cut
+        ∙ ap (λ t. front ++ t) (set_at (replicate g 0) 0 (replicate rest 0) w g (length-replicate g 0))
+        ∙ ap (λ t. front ++ t) (sym (append_assoc (replicate g 0) (w ∷ []) (replicate rest 0)))
+        ∙ sym (append_assoc front (replicate g 0 ++ w ∷ []) (replicate rest 0))
+
+pub written-all : (gs ks words : List ℕ) (b : ℕ) → length gs ≡ length ks → words ≡ replicate (length words) 0 → length words ≡ length (spread gs ks b)
+    → written gs ks 0 words ≡ spread gs ks b
+written-all gs ks words b e zeros size = ap (written gs ks 0) zeros ∙ written-zeros gs ks [] b 0 (length words) e refl size
+
+pub writing-end : (gs ks : List ℕ) (b k at : ℕ) (initial words : List ℕ) → length gs ≡ length ks → length ks ≤ k → initial ≡ replicate (length initial) 0
+    → length initial ≡ length (spread gs ks b) → IsWriting gs ks b k at initial words → words ≡ spread gs ks b
+writing-end gs ks b k at initial words e le zeros size is =
+    sym (λ i. written (drop_all k gs (omega (arith, e, le)) i) (drop k ks) at words) ∙ is.writes ∙ written-all gs ks initial b e zeros size
+
+-- compared with words, so many are the same, up to a place
+pub record IsMatching (gs ks : List ℕ) (b : ℕ) (k at : ℕ) (words : List ℕ) : Type 0 where
+  pub told : (spread gs ks b ≡ words) ↔ (spread (drop k gs) (drop k ks) b ≡ drop at words)
+  pub room : at + length (spread (drop k gs) (drop k ks) b) ≡ length words
+
+pub matching-none : (gs ks words : List ℕ) (b : ℕ) → length words ≡ length (spread gs ks b) → IsMatching gs ks b 0 0 words
+matching-none gs ks words b size = record { told = ((λ e. e), (λ e. e)); room = omega (arith, size) }
+
+-- words that begin with so many words 0 and go on with another
+split-told : (g w : ℕ) (rest xs : List ℕ) → length xs ≡ g + 1 + length rest → take g xs ≡ replicate g 0 → get_or xs g w ≡ w
+    → xs ≡ replicate g 0 ++ w ∷ drop (g + 1) xs
+split-told g w rest xs l front here =
+    sym (take-append-drop g xs) ∙ (λ i. front i ++ (drop_more xs g w (omega (arith, l)) ∙ ap (λ y. y ∷ drop (g + 1) xs) here) i)
+
+pub matching-on : (gs ks : List ℕ) (b k at g w : ℕ) (words : List ℕ) → length gs ≡ length ks → k < length ks → g ≡ get_or gs k g → w ≡ get_or ks k w
+    → take g (drop at words) ≡ replicate g 0 → get_or (drop at words) g w ≡ w → IsMatching gs ks b k at words → IsMatching gs ks b (k + 1) (at + g + 1) words
+matching-on gs ks b k at g w words e lt eg ew front here is = record {
+  told = (
+    (λ h. same (sym from ∙ is.told.0 h ∙ split)),
+    (λ h. is.told.1 (from ∙ ap (λ t. replicate g 0 ++ w ∷ t) (h ∙ behind) ∙ sym split)),
+  );
+  room = room-from gs ks b k at g w (length words) e lt eg ew is.room;
+}
+  where
+    rest : List ℕ
+    rest = spread (drop (k + 1) gs) (drop (k + 1) ks) b
+
+    from : spread (drop k gs) (drop k ks) b ≡ replicate g 0 ++ w ∷ rest
+    from = spread-from gs ks b k g w e lt eg ew
+
+    long : length (drop at words) ≡ g + 1 + length rest
+    long =
+        let r = room-from gs ks b k at g w (length words) e lt eg ew is.room in
+        omega (arith, r, length-drop at words)
+
+    split : drop at words ≡ replicate g 0 ++ w ∷ drop (g + 1) (drop at words)
+    split = split-told g w rest (drop at words) long front here
+
+    behind : drop (at + g + 1) words ≡ drop (g + 1) (drop at words)
+    behind = sym (drop-drop (g + 1) at words ∙ ap (λ n. drop n words) (omega arith))
+
+    same : replicate g 0 ++ w ∷ rest ≡ replicate g 0 ++ w ∷ drop (g + 1) (drop at words) → rest ≡ drop (at + g + 1) words
+    same h = ap (λ t. drop 1 t) (sym (drop_at (replicate g 0) (w ∷ rest) g (length-replicate g 0)) ∙ ap (drop g) h ∙ drop_at (replicate g 0) (w ∷ drop (g + 1) (drop at words)) g (length-replicate g 0)) ∙ sym behind
+
+-- all from a place on
+pub all-behind : (at : ℕ) (words : List ℕ) → take (length words - at) (drop at words) ≡ drop at words
+all-behind at words = take_all (length words - at) (drop at words) (omega (arith, length-drop at words))
+
+-- a difference
+pub matching-not : (gs ks : List ℕ) (b k at g w : ℕ) (words : List ℕ) → length gs ≡ length ks → k < length ks → g ≡ get_or gs k g → w ≡ get_or ks k w
+    → IsMatching gs ks b k at words → spread gs ks b ≡ words → (take g (drop at words) ≡ replicate g 0) × (get_or (drop at words) g w ≡ w)
+matching-not gs ks b k at g w words e lt eg ew is h = (
+  ap (take g) whole ∙ take_at (replicate g 0) (w ∷ rest) g (length-replicate g 0),
+  ap (λ t. get_or t g w) whole ∙ get_or_at (replicate g 0) w rest w g (length-replicate g 0),
+)
+  where
+    rest : List ℕ
+    rest = spread (drop (k + 1) gs) (drop (k + 1) ks) b
+
+    whole : drop at words ≡ replicate g 0 ++ w ∷ rest
+    whole = sym (is.told.0 h) ∙ spread-from gs ks b k g w e lt eg ew
+
+-- what is kept behind the last
+pub matching-end : (gs ks : List ℕ) (b k at : ℕ) (words : List ℕ) → length gs ≡ length ks → length ks ≤ k → IsMatching gs ks b k at words
+    → (spread gs ks b ≡ words) ↔ (drop at words ≡ replicate (length (drop at words)) 0)
+matching-end gs ks b k at words e le is = (
+  (λ h. sym (is.told.0 h) ∙ none ∙ ap (λ n. replicate n 0) (sym number)),
+  (λ h. is.told.1 (none ∙ ap (λ n. replicate n 0) (sym number) ∙ sym h)),
+)
+  where
+    none : spread (drop k gs) (drop k ks) b ≡ replicate b 0
+    none = ap (λ t. spread t (drop k ks) b) (drop_all k gs (omega (arith, e, le)))
+
+    number : length (drop at words) ≡ b
+    number =
+        let l : length (spread (drop k gs) (drop k ks) b) ≡ b = ap length none ∙ length-replicate b 0 in
+        omega (arith, l, is.room, length-drop at words)
+
+-- words of so many bits stay such
+short-blank : (n : ℕ) → AreShort 64 (replicate n 0)
+short-blank zero = record { below = λ i. omega arith }
+short-blank (suc n) = short_more 64 0 (replicate n 0) (omega arith) (short-blank n)
+
+short-behind : (n : ℕ) (ws : List ℕ) → AreShort 64 ws → AreShort 64 (replicate n 0 ++ ws)
+short-behind zero ws short = short
+short-behind (suc n) ws short = short_more 64 0 (replicate n 0 ++ ws) (omega arith) (short-behind n ws short)
+
+pub short-spread : (gs ks : List ℕ) (b : ℕ) → AreShort 64 ks → AreShort 64 (spread gs ks b)
+short-spread [] ks b short = short-blank b
+short-spread (g ∷ gs) [] b short = short-blank b
+short-spread (g ∷ gs) (w ∷ ks) b short = short-behind g (w ∷ spread gs ks b) (short_more 64 w (spread gs ks b) (short.below 0) (short-spread gs ks b (short_tail 64 w ks short)))

@@ -1,0 +1,5 @@
+use Rattle.stab_pauli.proofs.SparseLemmas.{IsWriting}
+use Rattle.stab_pauli.proofs.packed.sparse.SparseWords.write_into.Given as goal
+
+abbrev pub invariant-loop-k : goal.invariant-loop-k
+invariant-loop-k l = IsWriting l.self.gaps.items l.self.kept.items l.self.behind l.k l.at l.initial.words l.words

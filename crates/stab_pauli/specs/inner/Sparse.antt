@@ -1,0 +1,21 @@
+-- Words of which most are 0.
+use Rattle.std.specs.Prelude.{ℕ, ◌≡◌, List, [], ◌∷◌, ◌++◌, length, replicate}
+use Rattle.stab_pauli.specs.declared.turn.Turn.{Turn}
+use Rattle.stab_pauli.specs.inner.Blocks.{IsTable}
+
+-- words, each behind so many that are 0, and behind the last so many more
+abbrev pub spread : List ℕ → List ℕ → ℕ → List ℕ
+spread [] kept behind = replicate behind 0
+spread (gap ∷ gaps) [] behind = replicate behind 0
+spread (gap ∷ gaps) (word ∷ kept) behind = replicate gap 0 ++ word ∷ spread gaps kept behind
+
+-- what is kept of words: as many gaps as words, from which they can be told
+pub record IsSparse (gaps kept : List ℕ) (behind : ℕ) (words : List ℕ) : Type 0 where
+  pub even : length gaps ≡ length kept
+  pub words_are : spread gaps kept behind ≡ words
+
+-- what is kept of so many words, with powers of i, that lie as rows of m blocks, for n letters each
+pub record IsCompact (n m : ℕ) (gaps kept : List ℕ) (behind size : ℕ) (powers : List Turn) : Type 0 where
+  pub even : length gaps ≡ length kept
+  pub size_is : size ≡ length (spread gaps kept behind)
+  pub lies : IsTable n m (spread gaps kept behind) powers

@@ -1,0 +1,125 @@
+use super::PauliRows;
+use crate::packed::sparse::{SparseWords, are_short};
+use crate::refusal::Refusal;
+use crate::turn::Turn;
+use std::alloc::Global;
+use std::marker::Model;
+
+/// Signed Pauli strings of one length that are kept in little memory, to be gone back to: words that are 0 take none.
+///
+/// Contracts see of them what they see of `PauliRows`.
+pub struct CompactRows {
+    qubits: usize,
+    blocks: usize,
+    // How many words the rows have.
+    size: usize,
+    words: SparseWords,
+    powers: Vec<Turn>,
+}
+
+// Written out, so that to a proof rows that are let go are one call, and not one for each of their parts.
+impl Drop for CompactRows {
+    fn drop(self) {
+        let CompactRows {
+            qubits: _,
+            blocks: _,
+            size: _,
+            words: _,
+            powers: _,
+        } = self;
+    }
+}
+
+impl Model for CompactRows {
+    ghost use Rattle.stab_pauli.specs.Rows.{Rows};
+    ghost use Rattle.stab_pauli.specs.inner.Blocks.{table};
+    ghost use Rattle.stab_pauli.specs.inner.Sparse.{spread, IsCompact};
+
+    ghost Value = { Rows };
+
+    ghost view = { λ p. table p.qubits p.blocks (spread p.words.gaps.items p.words.kept.items p.words.behind) p.powers.items };
+
+    ghost invariant = { λ p. IsCompact p.qubits p.blocks p.words.gaps.items p.words.kept.items p.words.behind p.size p.powers.items };
+}
+
+impl PauliRows {
+    ghost use Rattle.std.specs.Prelude.{◌≡◌, IfOk, IfErr};
+    ghost use Rattle.stab_pauli.specs.declared.refusal.Refusal.TheVariants.{OutOfMemory};
+
+    /// The same strings, kept in little memory.
+    ///
+    /// Refusal `OutOfMemory` alone.
+    pub fn compact(&self, alloc: Global) -> Result<CompactRows, Refusal>
+        ensures ok { IfOk result (λ r. r ≡ self.now) }
+        ensures err { IfErr result (λ r. r ≡ OutOfMemory) }
+    {
+        let words = self.words.as_slice();
+        Ok(CompactRows {
+            qubits: self.qubits,
+            blocks: self.blocks,
+            size: words.len(),
+            words: SparseWords::of(alloc, words, words.len() / 4)?,
+            powers: Vec::from_slice(alloc, self.powers.as_slice())?,
+        })
+    }
+}
+
+impl CompactRows {
+    ghost use Rattle.std.specs.Prelude.{◌≡◌, ◌↔◌, IsTrue, IfOk, IfErr, length};
+    ghost use Rattle.stab_pauli.specs.declared.refusal.Refusal.TheVariants.{OutOfMemory};
+
+    /// The number of qubits.
+    pub fn qubits(&self) -> usize
+        ensures value { result ≡ self.now.qubits }
+    {
+        self.qubits
+    }
+
+    /// The strings again, in memory of their own.
+    ///
+    /// Refusal `OutOfMemory` alone.
+    pub fn rows(&self, alloc: Global) -> Result<PauliRows, Refusal>
+        ensures ok { IfOk result (λ r. r ≡ self.now) }
+        ensures err { IfErr result (λ r. r ≡ OutOfMemory) }
+    {
+        let mut words = vec![in alloc; 0; self.size]?;
+        self.words.write_into(words.as_mut_slice());
+        Ok(PauliRows {
+            qubits: self.qubits,
+            blocks: self.blocks,
+            words,
+            powers: Vec::from_slice(alloc, self.powers.as_slice())?,
+        })
+    }
+
+    /// Makes rows these strings, in the memory that they have.
+    pub fn write_into(&self, rows: &mut PauliRows)
+        requires same_qubits { rows.old.qubits ≡ self.now.qubits }
+        requires same_number { length rows.old.rows ≡ length self.now.rows }
+        ensures value { rows.new ≡ self.now }
+    {
+        let words = rows.words.as_mut_slice();
+        words.fill(0);
+        self.words.write_into(words);
+        rows.powers
+            .as_mut_slice()
+            .copy_from_slice(self.powers.as_slice());
+    }
+
+    /// Whether both are the same strings.
+    pub fn are(&self, rows: &PauliRows) -> bool
+        ensures value { IsTrue result ↔ (self.now ≡ rows.now) }
+    {
+        let same = self.powers.as_slice() == rows.powers.as_slice();
+        if !same {
+            return false;
+        }
+        if self.qubits != rows.qubits {
+            return false;
+        }
+        let words = rows.words.as_slice();
+        are_short(words);
+        are_short(self.words.kept.as_slice());
+        self.words.are(words)
+    }
+}

@@ -1,0 +1,83 @@
+use super::Tableau;
+use crate::table::CompactTable;
+use stab_pauli::{Pauli, Refusal};
+use std::alloc::Global;
+use std::marker::Model;
+
+/// A state that is kept in little memory, to be gone back to.
+///
+/// What contracts see of it is the value of the tableau that it was made of.
+pub struct CompactTableau {
+    table: CompactTable,
+}
+
+// Written out, so that to a proof a state that is let go is one call, and not one for each of its parts.
+impl Drop for CompactTableau {
+    fn drop(self) {
+        let CompactTableau { table: _ } = self;
+    }
+}
+
+impl Model for CompactTableau {
+    ghost use Rattle.std.specs.Prelude.{length};
+    ghost use Rattle.stab_tableau.specs.Tableaus.{TableauState};
+    ghost use Rattle.stab_tableau.specs.inner.Preimages.{Preimages, IsOver};
+    ghost use Rattle.stab_tableau.specs.inner.Tables.{IsTableau};
+
+    ghost Value = { TableauState };
+
+    ghost view = { λ t. record { qubits = length t.table; rows = t.table } };
+
+    ghost invariant = { λ t. (scratch : Preimages) → IsOver (length t.table) scratch → IsTableau (length t.table) t.table scratch };
+}
+
+impl Tableau {
+    ghost use Rattle.std.specs.Prelude.{◌≡◌, IfOk, IfErr};
+    ghost use Rattle.stab_pauli.specs.declared.refusal.Refusal.TheVariants.{OutOfMemory};
+
+    /// The same state, kept in little memory: a code's tableau takes a fifth, since most of its words are 0.
+    ///
+    /// Refusal `OutOfMemory` alone.
+    pub fn compact(&self, alloc: Global) -> Result<CompactTableau, Refusal>
+        ensures ok { IfOk result (λ t. t ≡ self.now) }
+        ensures err { IfErr result (λ r. r ≡ OutOfMemory) }
+    {
+        let table = self.table.compact(alloc)?;
+        Ok(CompactTableau { table })
+    }
+}
+
+impl CompactTableau {
+    ghost use Rattle.std.specs.Prelude.{◌≡◌, ◌↔◌, IsTrue, IfOk, IfErr};
+    ghost use Rattle.stab_pauli.specs.declared.refusal.Refusal.TheVariants.{OutOfMemory};
+
+    /// The same state as a tableau, in the memory of a spare one that has as many qubits, else in memory of its own.
+    ///
+    /// Refusal `OutOfMemory` alone, and none where the spare one serves.
+    pub fn tableau(&self, alloc: Global, spare: Option<Tableau>) -> Result<Tableau, Refusal>
+        ensures ok { IfOk result (λ t. t ≡ self.now) }
+        ensures err { IfErr result (λ r. r ≡ OutOfMemory) }
+    {
+        if let Some(mut tableau) = spare {
+            if tableau.table.len() == self.table.len() {
+                self.table.write_into(&mut tableau.table);
+                return Ok(tableau);
+            }
+        }
+        let table = self.table.table(alloc)?;
+        let preimage = Pauli::identity(alloc, table.len())?;
+        let turning = Pauli::identity(alloc, table.len())?;
+        Ok(Tableau {
+            table,
+            preimage,
+            turning,
+        })
+    }
+
+    /// Whether this is a copy of that very state.
+    pub fn is_of(&self, tableau: &Tableau) -> bool
+        ensures value { IsTrue result ↔ (self.now ≡ tableau.now) }
+    {
+        self.table.are(&tableau.table)
+    }
+}
