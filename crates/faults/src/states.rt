@@ -4,7 +4,7 @@ use crate::sheet::{State, show_signs, show_string, show_strings};
 use crate::stop::Stop;
 use crate::trial::{Trial, print_ending, try_call};
 use stab_pauli::{Letter, MemoryOutput, Pauli};
-use stab_tableau::{Gate, PairGate, Tableau};
+use stab_tableau::{CompactTableau, Gate, PairGate, Tableau};
 use std::alloc::Global;
 use std::io;
 
@@ -16,6 +16,8 @@ const QUBITS: usize = 5;
 enum Call {
     New,
     Copy,
+    Compact,
+    Tableau,
     ReducedRows,
     Stabiliser,
     Destabiliser,
@@ -27,6 +29,7 @@ struct TableauCall {
     call: Call,
     tableau: Tableau,
     state: Tableau,
+    compact: CompactTableau,
     string: Pauli,
     strings: Held<Vec<Pauli>>,
 }
@@ -68,10 +71,18 @@ impl Trial for TableauCall {
     type Call = Call;
 
     fn new(alloc: Global, call: Call) -> Result<TableauCall, Stop> {
+        let tableau = joined(alloc)?;
+        let state = Tableau::new(alloc, 0)?;
+        // What is to be gone back to has to be there before the call.
+        let compact = match call {
+            Call::Tableau => tableau.compact(alloc)?,
+            _ => state.compact(alloc)?,
+        };
         Ok(TableauCall {
             call,
-            tableau: joined(alloc)?,
-            state: Tableau::new(alloc, 0)?,
+            tableau,
+            state,
+            compact,
             string: Pauli::identity(alloc, 0)?,
             strings: Held(Vec::new(alloc)),
         })
@@ -84,6 +95,8 @@ impl Trial for TableauCall {
         match self.call {
             Call::New => self.state = Tableau::new(alloc, QUBITS)?,
             Call::Copy => self.state = self.tableau.copy(alloc)?,
+            Call::Compact => self.compact = self.tableau.compact(alloc)?,
+            Call::Tableau => self.state = self.compact.tableau(alloc, None)?,
             Call::ReducedRows => self.strings = Held(self.tableau.reduced_rows(alloc)?),
             Call::Stabiliser => self.string = self.tableau.stabiliser(alloc, 1)?,
             Call::Destabiliser => self.string = self.tableau.destabiliser(alloc, 1)?,
@@ -94,6 +107,8 @@ impl Trial for TableauCall {
     fn show(&mut self, alloc: Global, out: &mut MemoryOutput) -> Result<(), Stop> {
         show_tableau(alloc, out, &mut self.tableau)?;
         show_tableau(alloc, out, &mut self.state)?;
+        let mut kept = self.compact.tableau(alloc, None)?;
+        show_tableau(alloc, out, &mut kept)?;
         show_string(out, &self.string)?;
         show_strings(out, self.strings.0.as_slice())
     }
@@ -104,6 +119,8 @@ pub fn print_all<R: AllocGlobal + Print>(rt: &R) -> io::Result<()> {
     let calls = [
         ("Tableau::new", Call::New),
         ("Tableau::copy", Call::Copy),
+        ("Tableau::compact", Call::Compact),
+        ("CompactTableau::tableau", Call::Tableau),
         ("Tableau::reduced_rows", Call::ReducedRows),
         ("Tableau::stabiliser", Call::Stabiliser),
         ("Tableau::destabiliser", Call::Destabiliser),

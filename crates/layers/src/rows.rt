@@ -81,6 +81,37 @@ fn rows_are_made_others(rt: HostRuntime) -> Result<(), Fail> {
     Ok(())
 }
 
+#[test]
+fn rows_come_back_from_little_memory(rt: HostRuntime) -> Result<(), Fail> {
+    let other = rows_of(rt.alloc(), 2, &["+X_", "-_Z"])?;
+    let mut rows = rows_of(rt.alloc(), 2, &["+YY", "-ZX"])?;
+    assert!(rt; rows.len() == other.len() && rows.qubits() == other.qubits());
+    let compact = other.compact(rt.alloc())?;
+    assert!(rt; compact.qubits() == 2 && compact.are(&other) && !compact.are(&rows));
+    compact.write_into(&mut rows);
+    let again = compact.rows(rt.alloc())?;
+    let written = are(rt.alloc(), &rows, &["+X_", "-_Z"])?;
+    assert!(rt; written && are(rt.alloc(), &again, &["+X_", "-_Z"])?);
+    Ok(())
+}
+
+// Between these letters lie 791 words 0, more than one gap can tell, and behind them 403.
+#[test]
+fn letters_far_apart_come_back_from_little_memory(rt: HostRuntime) -> Result<(), Fail> {
+    let mut rows = PauliRows::new(rt.alloc(), 150, 2)?;
+    rows.set(0, 0, Letter::X);
+    rows.set(99, 1, Letter::Y);
+    rows.negate_if(99, true);
+    let compact = rows.compact(rt.alloc())?;
+    let again = compact.rows(rt.alloc())?;
+    assert!(rt; again.len() == 150 && again.qubits() == 2);
+    assert!(rt; again.letter(0, 0) == Letter::X && again.letter(99, 1) == Letter::Y);
+    assert!(rt; again.first_flip(98) == None && again.is_negative(99) && again.same(&rows));
+    rows.set(149, 1, Letter::Z);
+    assert!(rt; compact.are(&again) && !compact.are(&rows));
+    Ok(())
+}
+
 // Multiplies the first of three rows by the second, and the third, which is a string, by another.
 fn multiply_rows(rows: &mut PauliRows, string: &Pauli, other: &Pauli) {
     let n = rows.qubits();
