@@ -1,7 +1,8 @@
 //! Stabiliser states: gates, measurements, and what both make of a state.
 //!
 //! - `gate`: the gates on one and on two qubits.
-//! - `tableau`: a state, its gates, the sign of any Pauli, measurements, stabilisers and destabilisers.
+//! - `tableau`: a state, its gates, the sign of any Pauli, measurements, stabilisers and destabilisers, and states
+//!   that are kept in little memory.
 //! - `collapse`: what a measurement answers, and what it does to the rows of a state.
 //! - `table`: the two rows that a state keeps for each qubit, all in one allocation.
 //! - `preimages`: how gates and measurements change the rows of a qubit.
