@@ -1,9 +1,8 @@
 -- The course of an edit that is followed: from what each call ensures to what is kept at the end.
-use Rattle.std.proofs.Common.{◌≡◌, ℕ, ◌+◌, ◌-◌, ◌*◌, ◌<◌, ◌≤◌, max, sym, ◌∙◌, ap, subst, Bool, false, List, [], ◌++◌, length, take, drop, All, replicate, arith}
+use Rattle.std.proofs.Common.{◌≡◌, ℕ, ◌+◌, ◌-◌, ◌*◌, ◌<◌, ◌≤◌, max, sym, ◌∙◌, ap, subst, Bool, false, List, [], length, take, drop, All, replicate, arith}
 use Rattle.std.specs.Prelude.{IfSome, slice_get}
 use Rattle.std.proofs.lemmas.List.{length-map, length-drop}
 use Rattle.std.proofs.lemmas.Option.{slice_get_within, IfSome_then}
-use Rattle.stab_pauli.proofs.PaddedLemmas.{written_all}
 use Rattle.stab_circuit.specs.Steps.{Step}
 use Rattle.stab_circuit.specs.Cursors.{IsApart}
 use Rattle.stab_session.specs.declared.checkpoint.Checkpoint.{Checkpoint}
@@ -34,11 +33,7 @@ pub count-of : (step : ℕ) (seen copies : List Checkpoint) (m : ℕ) → seen �
     → IfSome (slice_get seen m) (λ c. step ≤ c.step) → IsCount step copies m
 count-of step seen copies m is within before behind = subst (λ cs. IsCount step cs m) is (record { within = within; before = before; behind = behind })
 
--- a list that was handed out whole and is the same behind it
-pub handed-back : {X : Type 0} (items seen new : List X) (len : ℕ) → seen ≡ items → new ≡ seen → len ≡ length items → take len (new ++ drop (length new) items) ≡ items
-handed-back items seen new len e same is = written_all items new len (ap length (same ∙ e)) is ∙ same ∙ e
-
-pub same-trans : (a b c : KeptRun) → IsSameKept a b → IsSameKept b c → IsSameKept a c
+same-trans : (a b c : KeptRun) → IsSameKept a b → IsSameKept b c → IsSameKept a c
 same-trans a b c f g = record {
   tableau = f.tableau ∙ g.tableau;
   output = f.output ∙ g.output;

@@ -179,16 +179,16 @@ ascending-end : (p : Plan) (step : ℕ) (cs : List Checkpoint) → Ascending p s
 ascending-end p step [] h = h
 ascending-end p step (c ∷ cs) h = let le = ascending-end p (place_of p c) cs h.1 in omega arith
 
-pub place-among : (p : Plan) (next : ℕ) (cs ds : List Checkpoint) (place : Option ℕ) → place ≡ option_map (place_of p) (slice_get cs next) → cs ≡ ds
-    → place ≡ option_map (place_of p) (slice_get ds next)
-place-among p next cs ds place e same = e ∙ ap (λ xs. option_map (place_of p) (slice_get xs next)) same
-
 -- a replay at a step is not behind the place of the next copy
-pub next-behind : (p : Plan) (step k : ℕ) (cs : List Checkpoint) → Ascending p step (drop k cs) → IfSome (option_map (place_of p) (slice_get cs k)) (λ q. step ≤ q)
+next-behind : (p : Plan) (step k : ℕ) (cs : List Checkpoint) → Ascending p step (drop k cs) → IfSome (option_map (place_of p) (slice_get cs k)) (λ q. step ≤ q)
 next-behind p step zero [] h = tt
 next-behind p step (suc k) [] h = tt
 next-behind p step zero (c ∷ cs) h = h.0
 next-behind p step (suc k) (c ∷ cs) h = next-behind p step k cs h
+
+pub place-behind : (p : Plan) (step k : ℕ) (cs : List Checkpoint) (place : Option ℕ) → place ≡ option_map (place_of p) (slice_get cs k) → Ascending p step (drop k cs)
+    → IfSome place (λ q. step ≤ q)
+place-behind p step k cs place e h = subst (λ o. IfSome o (λ q. step ≤ q)) (sym e) (next-behind p step k cs h)
 
 -- and may stop there at the latest
 ascending-stop : (p : Plan) (step stop k : ℕ) (cs : List Checkpoint) → Ascending p step (drop k cs) → stop ≤ p.total

@@ -1,7 +1,7 @@
 ghost use Rattle.std.specs.Prelude.{◌≡◌, ◌+◌, ◌<◌, ◌≤◌, All, IfSome, length, take, drop, map, reverse, slice_get, ◌++◌, vec_capacity};
 ghost use Rattle.stab_session.specs.inner.Checkpoints.{laid, all_laid, moved, moved_lengths, moved_copy};
 
-use stab_tableau::Tableau;
+use stab_tableau::CompactTableau;
 
 /// How long the lists of a run were at some step.
 #[derive(Clone, Copy, Debug, PartialEq, Eq)]
@@ -17,7 +17,7 @@ pub struct Lengths {
 pub struct Checkpoint {
     pub step: usize,
     pub lengths: Lengths,
-    pub tableau: Tableau,
+    pub tableau: CompactTableau,
 }
 
 /// Where a replay met a copy of the old run: from there on the old run moves to behind the new one.

@@ -70,7 +70,7 @@ impl KeptRun {
         let first = Checkpoint {
             step: 0,
             lengths: outputs.lengths(),
-            tableau: tableau.copy(alloc)?,
+            tableau: tableau.compact(alloc)?,
         };
         let checkpoints = vec![in alloc; first]?;
         Ok(KeptRun {
@@ -96,7 +96,7 @@ impl KeptRun {
     {
         let copy = &self.checkpoints[number];
         let string = Pauli::identity(alloc, self.tableau.len())?;
-        let tableau = copy.tableau.copy(alloc)?;
+        let tableau = copy.tableau.tableau(alloc, None)?;
         let outputs = self.outputs.front(alloc, copy.lengths)?;
         let cursor = Cursor::at(alloc, circuit, copy.step)?;
         Ok(Replay {
@@ -147,7 +147,7 @@ impl KeptRun {
         };
         let end = replay.follow(
             alloc,
-            self.checkpoints.as_mut_slice(),
+            self.checkpoints.as_slice(),
             self.outputs.records.as_slice(),
             plan,
             coins,

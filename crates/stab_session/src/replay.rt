@@ -1,5 +1,7 @@
 ghost use Rattle.std.specs.Prelude.{◌≡◌, ◌+◌, ◌<◌, ◌≤◌, ◌^◌, ◌↔◌, [], ◌∷◌, ◌++◌, All, IsTrue, OnOk, IfOk, IfErr, length, take, drop};
 ghost use Rattle.stab_pauli.specs.declared.refusal.Refusal.TheVariants.{OutOfMemory};
+ghost use Rattle.stab_tableau.specs.Groups.{SameGroup};
+ghost use Rattle.stab_tableau.specs.Tableaus.{stabilises};
 ghost use Rattle.stab_session.specs.Records.{ones};
 ghost use Rattle.stab_session.specs.Points.{all_coins_of};
 ghost use Rattle.stab_session.specs.inner.Sights.{StepFits, output_of};
@@ -11,7 +13,7 @@ use crate::outputs::Outputs;
 use crate::run::run_steps;
 use stab_circuit::Cursor;
 use stab_pauli::{Pauli, Refusal};
-use stab_tableau::Tableau;
+use stab_tableau::{CompactTableau, Tableau};
 use std::alloc::{AllocError, Global};
 
 /// A run from some step on, on its way.
@@ -139,7 +141,7 @@ impl<'a> Replay<'a> {
         let copy = Checkpoint {
             step: self.step,
             lengths: self.outputs.lengths(),
-            tableau: self.tableau.copy(alloc)?,
+            tableau: self.tableau.compact(alloc)?,
         };
         self.laid.push(copy)?;
         Ok(())
@@ -147,43 +149,59 @@ impl<'a> Replay<'a> {
 
     /// Whether the replay meets an old copy, whose run has these records, the first of which are
     /// the same: what is cheap to compare comes first.
-    fn meets(&mut self, copy: &mut Checkpoint, records: &[bool], base: usize) -> bool
-        requires same_qubits { copy.old.tableau.qubits ≡ self.old.tableau.qubits }
+    ///
+    /// Refusal `OutOfMemory` alone.
+    fn meets(
+        &mut self,
+        alloc: Global,
+        copy: &Checkpoint,
+        records: &[bool],
+        base: usize,
+        spare: &mut Option<Tableau>,
+    ) -> Result<bool, Refusal>
+        requires same_qubits { copy.now.tableau.qubits ≡ self.old.tableau.qubits }
         requires base { base ≤ length self.old.outputs.records.items }
         requires same_records { take base self.old.outputs.records.items ≡ take base records.now }
         ensures unchanged { self.new ≡ self.old }
-        ensures copy { copy.new ≡ copy.old }
-        ensures value { IsTrue result ↔ Meets self.old.tableau.qubits self.old.tableau (output_of self.old.outputs) records.now copy.old }
+        ensures value { IfOk result (λ meets. IsTrue meets ↔ Meets self.old.tableau.qubits self.old.tableau (output_of self.old.outputs) records.now copy.now) }
+        ensures err { IfErr result (λ r. r ≡ OutOfMemory) }
     {
-        self.outputs.free.len() == copy.lengths.free
+        let alike = self.outputs.free.len() == copy.lengths.free
             && self.outputs.records.len() == copy.lengths.records
-            && same_behind(self.outputs.records.as_slice(), records, base)
-            && self.tableau.same_group(&mut copy.tableau)
+            && same_behind(self.outputs.records.as_slice(), records, base);
+        if !alike {
+            return Ok(false);
+        }
+        has_group_of(&mut self.tableau, alloc, &copy.tableau, spare)
     }
 
     /// What the replay comes to at its step, where this old copy may be met next.
+    ///
+    /// Refusal `OutOfMemory` alone.
     fn arrive(
         &mut self,
-        copies: &mut [Checkpoint],
+        alloc: Global,
+        copies: &[Checkpoint],
         records: &[bool],
         plan: Plan,
         next: usize,
-    ) -> Arrival
-        requires same_qubits { All (λ c. c.tableau.qubits ≡ self.old.tableau.qubits) copies.old }
+        spare: &mut Option<Tableau>,
+    ) -> Result<Arrival, Refusal>
+        requires same_qubits { All (λ c. c.tableau.qubits ≡ self.old.tableau.qubits) copies.now }
         requires base { plan.base ≤ length self.old.outputs.records.items }
         requires same_records { take plan.base self.old.outputs.records.items ≡ take plan.base records.now }
-        requires next { next ≤ length copies.old }
+        requires next { next ≤ length copies.now }
         ensures unchanged { self.new ≡ self.old }
-        ensures copies { copies.new ≡ copies.old }
-        ensures value { IsArrival self.old.tableau.qubits plan self.old copies.old records.now next result }
+        ensures value { IfOk result (IsArrival self.old.tableau.qubits plan self.old copies.now records.now next) }
+        ensures err { IfErr result (λ r. r ≡ OutOfMemory) }
     {
         let placed = plan.place(copies, next) == Some(self.step);
-        if placed && self.meets(&mut copies[next], records, plan.base) {
-            Arrival::Met
+        if placed && self.meets(alloc, &copies[next], records, plan.base, spare)? {
+            Ok(Arrival::Met)
         } else if self.step == plan.total {
-            Arrival::Behind
+            Ok(Arrival::Behind)
         } else {
-            Arrival::Between(next + usize::from(placed))
+            Ok(Arrival::Between(next + usize::from(placed)))
         }
     }
 
@@ -192,7 +210,7 @@ impl<'a> Replay<'a> {
     pub fn follow<C: Coins>(
         &mut self,
         alloc: Global,
-        copies: &mut [Checkpoint],
+        copies: &[Checkpoint],
         records: &[bool],
         plan: Plan,
         coins: &mut C,
@@ -204,12 +222,11 @@ impl<'a> Replay<'a> {
         requires few { plan.total ≤ 1048576 }
         requires stride { 1 ≤ plan.stride }
         requires nothing_applied { self.old.applied ≡ 0 }
-        requires next { plan.next ≤ length copies.old }
-        requires ascending { Ascending plan self.old.step (drop plan.next copies.old) }
-        requires same_qubits { All (λ c. c.tableau.qubits ≡ self.old.tableau.qubits) copies.old }
+        requires next { plan.next ≤ length copies.now }
+        requires ascending { Ascending plan self.old.step (drop plan.next copies.now) }
+        requires same_qubits { All (λ c. c.tableau.qubits ≡ self.old.tableau.qubits) copies.now }
         requires base { plan.base ≤ length self.old.outputs.records.items }
         requires same_records { take plan.base self.old.outputs.records.items ≡ take plan.base records.now }
-        ensures copies { copies.new ≡ copies.old }
         ensures same_coins { C.sequence coins.new ≡ C.sequence coins.old }
         ensures all { self.new.cursor.all ≡ self.old.cursor.all }
         ensures qubits { self.new.tableau.qubits ≡ self.old.tableau.qubits }
@@ -218,15 +235,17 @@ impl<'a> Replay<'a> {
         ensures asks { OnOk result (C.asks coins.new + self.old.step ≤ C.asks coins.old + self.new.step) }
         ensures asks_free { OnOk result (C.asks coins.new + ones self.old.outputs.free.items ≤ C.asks coins.old + ones self.new.outputs.free.items) }
         ensures asked { C.asks coins.new ≤ C.asks coins.old + all_coins_of (drop self.old.step self.old.cursor.all) }
-        ensures end { IfOk result (IsEnd self.old.tableau.qubits plan self.new copies.old records.now) }
-        ensures soon { IfOk result (EndsSoon self.old.tableau.qubits (C.sequence coins.old) plan self.old.cursor.all copies.old records.now) }
+        ensures end { IfOk result (IsEnd self.old.tableau.qubits plan self.new copies.now records.now) }
+        ensures soon { IfOk result (EndsSoon self.old.tableau.qubits (C.sequence coins.old) plan self.old.cursor.all copies.now records.now) }
         ensures err { IfErr result (λ r. r ≡ OutOfMemory) }
     {
         let mut next = plan.next;
+        // What copies are expanded into, so that memory for it is asked for once at most.
+        let mut spare: Option<Tableau> = None;
         loop {
             let stop = plan.stop(self.step, plan.place(copies, next));
             self.run_to(coins, stop)?;
-            match self.arrive(copies, records, plan, next) {
+            match self.arrive(alloc, copies, records, plan, next, &mut spare)? {
                 Arrival::Met => return Ok(End::Joined(next)),
                 Arrival::Behind => return Ok(End::Last),
                 Arrival::Between(later) => next = later,
@@ -234,6 +253,30 @@ impl<'a> Replay<'a> {
             self.lay(alloc)?;
         }
     }
+}
+
+/// Whether the same strings stabilise a state and a copy, which is expanded into the spare tableau
+/// where it is not a copy of that very state.
+///
+/// Refusal `OutOfMemory` alone.
+fn has_group_of(
+    tableau: &mut Tableau,
+    alloc: Global,
+    copy: &CompactTableau,
+    spare: &mut Option<Tableau>,
+) -> Result<bool, Refusal>
+    requires same_qubits { copy.now.qubits ≡ tableau.old.qubits }
+    ensures unchanged { tableau.new ≡ tableau.old }
+    ensures value { IfOk result (λ same. IsTrue same ↔ SameGroup tableau.old.qubits (stabilises tableau.old) (stabilises copy.now)) }
+    ensures err { IfErr result (λ r. r ≡ OutOfMemory) }
+{
+    if copy.is_of(tableau) {
+        return Ok(true);
+    }
+    let mut other = copy.tableau(alloc, spare.take())?;
+    let same = tableau.same_group(&mut other);
+    *spare = Some(other);
+    Ok(same)
 }
 
 /// Whether a list goes on behind so many bits, which are the same, as another one begins.

@@ -1,4 +1,4 @@
-use Rattle.std.proofs.Common.{◌≡◌, ℕ, ◌+◌, ◌≤◌, refl, sym, ◌∙◌, ap, subst, length, take, drop, ◌++◌, All, arith}
+use Rattle.std.proofs.Common.{◌≡◌, ℕ, ◌+◌, ◌≤◌, refl, sym, ◌∙◌, ap, subst, length, take, drop, All, arith}
 use Rattle.std.specs.Prelude.{Result, Ok, Err, OnErr}
 use Rattle.stab_circuit.specs.Steps.{unroll}
 use Rattle.stab_circuit.specs.Views.{circuit_items}
@@ -8,10 +8,9 @@ use Rattle.stab_session.specs.declared.kept.Span.{Span}
 use Rattle.stab_session.specs.Points.{all_coins_of}
 use Rattle.stab_session.specs.inner.Sights.{StepFits}
 use Rattle.stab_session.specs.inner.Replays.{IsKeptRun, Follows, Ascending}
-use Rattle.stab_session.specs.inner.Prepared.{HasCopy}
 use Rattle.stab_session.proofs.FitLemmas.{check-fits, check-whole, check-steps}
 use Rattle.stab_session.proofs.FollowLemmas.{coins-behind}
-use Rattle.stab_session.proofs.CourseLemmas.{IsCount, HasBegun, HasEnded, count-of, handed-back, same-trans, seen-end, seen-soon, some-before, copy-within, has-begun, ascending-here, has-ended}
+use Rattle.stab_session.proofs.CourseLemmas.{IsCount, HasBegun, HasEnded, count-of, seen-end, seen-soon, some-before, copy-within, has-begun, ascending-here, has-ended}
 use Rattle.stab_session.proofs.kept.KeptRun.follow.Given.{Over}
 use Rattle.stab_session.proofs.kept.KeptRun.follow.Goals as goal
 use Rattle.stab_session.proofs.kept.KeptRun.follow.Goals.{After-as_slice, After-count_before-before, In_ok-replay, After-as_slice-3, After-follow, In_ok-end}
@@ -67,14 +66,7 @@ end_of g c f few first begins behind =
     let plan = planned c.steps.result c.args.stride c.args.span c.max.result c.len.result in
     has-ended f few first begins behind plan refl refl (omega (arith, c.steps.ensures.value, few)) c.max.ensures c.follow.new.self c.in_ok-end.end
     c.in_ok-end.ensures.replay
-    (seen-end c.in_ok-replay.replay.tableau.qubits plan c.follow.new.self c.in_ok-end.end c.as_mut_slice.ensures.value c.as_slice-3.ensures.value c.in_ok-end.ensures.end)
-
--- the copies are those that were kept, once the replay has handed them back
-handed : (g : Over) (c : After-follow g) → take c.args.self.now.checkpoints.len (c.follow.new.copies ++ drop (length c.follow.new.copies) c.args.self.now.checkpoints.items)
-    ≡ c.args.self.now.checkpoints.items
-handed g c =
-    handed-back c.args.self.now.checkpoints.items c.as_mut_slice.result.now c.follow.new.copies c.args.self.now.checkpoints.len c.as_mut_slice.ensures.value
-    c.follow.ensures.copies (sym c.as_slice.ensures.len ∙ ap length c.as_slice.ensures.value)
+    (seen-end c.in_ok-replay.replay.tableau.qubits plan c.follow.new.self c.in_ok-end.end c.as_slice-3.ensures.value c.as_slice-4.ensures.value c.in_ok-end.ensures.end)
 
 pub overflow_add-span : goal.overflow_add-span
 overflow_add-span g c =
@@ -135,22 +127,22 @@ pub follow-requires-clause-ascending : goal.follow-requires-clause-ascending
 follow-requires-clause-ascending g c =
     let at = goal.at.follow-requires-clause-ascending g c in
     let begins = begun g at.In_ok-replay (few g at.After-as_slice) (first g at.After-count_before-before) in
-    subst (λ cs. Ascending (planned c.steps.result c.args.stride c.args.span c.max.result c.len.result) c.in_ok-replay.replay.step (drop c.max.result cs)) (sym c.as_mut_slice.ensures.value)
+    subst (λ cs. Ascending (planned c.steps.result c.args.stride c.args.span c.max.result c.len.result) c.in_ok-replay.replay.step (drop c.max.result cs)) (sym c.as_slice-3.ensures.value)
     (ascending-here c.requires.follows (few g at.After-as_slice) (first g at.After-count_before-before) begins (behind g at.After-as_slice-3) (planned c.steps.result c.args.stride c.args.span c.max.result c.len.result) refl refl (omega (arith, c.steps.ensures.value, few g at.After-as_slice)) c.max.ensures)
 
 pub follow-requires-clause-same_qubits : goal.follow-requires-clause-same_qubits
 follow-requires-clause-same_qubits g c =
     let at = goal.at.follow-requires-clause-same_qubits g c in
     let begins = begun g at.In_ok-replay (few g at.After-as_slice) (first g at.After-count_before-before) in
-    subst (All (λ d. d.tableau.qubits ≡ c.in_ok-replay.replay.tableau.qubits)) (sym c.as_mut_slice.ensures.value) begins.copies
+    subst (All (λ d. d.tableau.qubits ≡ c.in_ok-replay.replay.tableau.qubits)) (sym c.as_slice-3.ensures.value) begins.copies
 
 pub follow-requires-clause-same_records : goal.follow-requires-clause-same_records
 follow-requires-clause-same_records g c =
     let at = goal.at.follow-requires-clause-same_records g c in
     let begins = begun g at.In_ok-replay (few g at.After-as_slice) (first g at.After-count_before-before) in
-    subst (λ k. take k c.in_ok-replay.replay.outputs.records.items ≡ take k c.as_slice-3.result.now)
+    subst (λ k. take k c.in_ok-replay.replay.outputs.records.items ≡ take k c.as_slice-4.result.now)
     (sym (c.len.ensures ∙ c.in_ok-replay.replay.outputs.records.ok.0))
-    (begins.records ∙ ap (take (length c.in_ok-replay.replay.outputs.records.items)) (sym c.as_slice-3.ensures.value))
+    (begins.records ∙ ap (take (length c.in_ok-replay.replay.outputs.records.items)) (sym c.as_slice-4.ensures.value))
 
 pub returns-in_err-end-clause-asked : goal.returns-in_err-end-clause-asked
 returns-in_err-end-clause-asked g c =
@@ -175,22 +167,19 @@ prepare-requires g c =
     let at = goal.at.prepare-requires g c in
     let begins = begun g at.In_ok-replay (few g at.After-as_slice) (first g at.After-count_before-before) in
     let ended = end_of g at.In_ok-end c.requires.follows (few g at.After-as_slice) (first g at.After-count_before-before) begins (behind g at.After-as_slice-3) in
-    let back = handed g at.After-follow in
-    record { in_range = subst (λ copies. HasCopy copies c.in_ok-end.end) (sym back) ended.copy }
+    record { in_range = ended.copy }
 
 pub returns-in_err-prepared-clause-unchanged : goal.returns-in_err-prepared-clause-unchanged
 returns-in_err-prepared-clause-unchanged g c =
     let at = goal.at.returns-in_err-prepared-clause-unchanged g c in
-    let back = handed g at.After-follow in
-    on-err c.from_residual-in_err-prepared.result _ (same-trans c.prepare.new.self _ c.args.self.now c.prepare.ensures.unchanged (record { tableau = refl; output = refl; observables = refl; checkpoints = back }))
+    on-err c.from_residual-in_err-prepared.result _ c.prepare.ensures.unchanged
 
 pub commit-requires-clause-behind : goal.commit-requires-clause-behind
 commit-requires-clause-behind g c =
     let at = goal.at.commit-requires-clause-behind g c in
     let begins = begun g at.In_ok-replay (few g at.After-as_slice) (first g at.After-count_before-before) in
     let ended = end_of g at.In_ok-end c.requires.follows (few g at.After-as_slice) (first g at.After-count_before-before) begins (behind g at.After-as_slice-3) in
-    let back = handed g at.After-follow in
-    let ready = ended.ready _ (record { tableau = refl; output = refl; observables = refl; checkpoints = back }) c.observables.result c.in_ok-prepared.prepared c.in_ok-prepared.ensures.prepared in
+    let ready = ended.ready _ (record { tableau = refl; output = refl; observables = refl; checkpoints = refl }) c.observables.result c.in_ok-prepared.prepared c.in_ok-prepared.ensures.prepared in
     ready.behind c.prepare.new.self c.prepare.ensures.unchanged
 
 pub returns-clause-kept : goal.returns-clause-kept
@@ -198,8 +187,7 @@ returns-clause-kept g c =
     let at = goal.at.returns-clause-kept g c in
     let begins = begun g at.In_ok-replay (few g at.After-as_slice) (first g at.After-count_before-before) in
     let ended = end_of g at.In_ok-end c.requires.follows (few g at.After-as_slice) (first g at.After-count_before-before) begins (behind g at.After-as_slice-3) in
-    let back = handed g at.After-follow in
-    let ready = ended.ready _ (record { tableau = refl; output = refl; observables = refl; checkpoints = back }) c.observables.result c.in_ok-prepared.prepared c.in_ok-prepared.ensures.prepared in
+    let ready = ended.ready _ (record { tableau = refl; output = refl; observables = refl; checkpoints = refl }) c.observables.result c.in_ok-prepared.prepared c.in_ok-prepared.ensures.prepared in
     subst (λ count. IsKeptRun c.args.self.now.tableau.qubits (g.C.Coins.sequence c.args.coins.now) c.args.stride (unroll (circuit_items c.args.circuit.now)) count c.commit.new.self)
     c.observables.ensures.value
     (ready.kept c.prepare.new.self c.prepare.ensures.unchanged c.commit.new.self c.commit.ensures.committed)
@@ -215,8 +203,7 @@ returns-clause-qubits g c =
     let at = goal.at.returns-clause-qubits g c in
     let begins = begun g at.In_ok-replay (few g at.After-as_slice) (first g at.After-count_before-before) in
     let ended = end_of g at.In_ok-end c.requires.follows (few g at.After-as_slice) (first g at.After-count_before-before) begins (behind g at.After-as_slice-3) in
-    let back = handed g at.After-follow in
-    let ready = ended.ready _ (record { tableau = refl; output = refl; observables = refl; checkpoints = back }) c.observables.result c.in_ok-prepared.prepared c.in_ok-prepared.ensures.prepared in
+    let ready = ended.ready _ (record { tableau = refl; output = refl; observables = refl; checkpoints = refl }) c.observables.result c.in_ok-prepared.prepared c.in_ok-prepared.ensures.prepared in
     (ready.kept c.prepare.new.self c.prepare.ensures.unchanged c.commit.new.self c.commit.ensures.committed).qubits
 
 pub returns-clause-asks_free : goal.returns-clause-asks_free
@@ -224,8 +211,7 @@ returns-clause-asks_free g c =
     let at = goal.at.returns-clause-asks_free g c in
     let begins = begun g at.In_ok-replay (few g at.After-as_slice) (first g at.After-count_before-before) in
     let ended = end_of g at.In_ok-end c.requires.follows (few g at.After-as_slice) (first g at.After-count_before-before) begins (behind g at.After-as_slice-3) in
-    let back = handed g at.After-follow in
-    let ready = ended.ready _ (record { tableau = refl; output = refl; observables = refl; checkpoints = back }) c.observables.result c.in_ok-prepared.prepared c.in_ok-prepared.ensures.prepared in
+    let ready = ended.ready _ (record { tableau = refl; output = refl; observables = refl; checkpoints = refl }) c.observables.result c.in_ok-prepared.prepared c.in_ok-prepared.ensures.prepared in
     let asks = c.in_ok-end.ensures.asks_free in
     omega (arith, asks, ready.flags c.prepare.new.self c.prepare.ensures.unchanged c.commit.new.self c.commit.ensures.committed)
 
@@ -242,4 +228,4 @@ returns-clause-few g c =
     let begins = begun g at.In_ok-replay (few g at.After-as_slice) (first g at.After-count_before-before) in
     λ xs count kept span agree.
     let ended = end_of g at.In_ok-end (record { old = xs; count = count; kept = kept; span = span }) (few g at.After-as_slice) (first g at.After-count_before-before) begins (behind g at.After-as_slice-3) in
-    ended.few c.follow.new.self.applied c.in_ok-end.ensures.counted (seen-soon (g.C.Coins.sequence c.args.coins.now) (planned c.steps.result c.args.stride c.args.span c.max.result c.len.result) c.in_ok-end.end begins.qubits begins.all c.as_mut_slice.ensures.value c.as_slice-3.ensures.value c.in_ok-end.ensures.soon) agree
+    ended.few c.follow.new.self.applied c.in_ok-end.ensures.counted (seen-soon (g.C.Coins.sequence c.args.coins.now) (planned c.steps.result c.args.stride c.args.span c.max.result c.len.result) c.in_ok-end.end begins.qubits begins.all c.as_slice-3.ensures.value c.as_slice-4.ensures.value c.in_ok-end.ensures.soon) agree

@@ -1,32 +1,32 @@
-use Rattle.std.proofs.Common.{◌≡◌, ◌≤◌, [], ◌∷◌, ◌++◌, IfSome, sym, ◌∙◌, ap, subst, length, drop, arith}
+use Rattle.std.proofs.Common.{◌≡◌, [], ◌∷◌, ◌++◌, sym, ◌∙◌, ap, subst, drop, arith}
 use Rattle.stab_session.specs.declared.replay.Replay.{Replay}
 use Rattle.stab_session.specs.declared.replay.Arrival.{Arrival}
 use Rattle.stab_session.specs.declared.replay.Arrival.TheVariants.{Behind, Between}
 use Rattle.stab_session.specs.Records.{ones}
 use Rattle.stab_session.specs.Points.{all_coins_of}
 use Rattle.stab_session.specs.inner.Replays.{IsReplay, IsArrival, copy_of}
-use Rattle.stab_session.proofs.ReplayLemmas.{IsAtStop, next-behind, place-among, on-stop, soon-last, soon-met, on-further, fewer-left}
+use Rattle.stab_session.proofs.ReplayLemmas.{IsAtStop, place-behind, on-stop, soon-last, soon-met, on-further, fewer-left}
 use Rattle.stab_session.proofs.replay.Replay.follow.Given.{Over}
 use Rattle.stab_session.proofs.replay.Replay.follow.Goals as goal
 use Rattle.stab_session.proofs.replay.Replay.follow.Goals.{In_ok-run_to}
 
 stopped : (g : Over) (c : In_ok-run_to g) → IsAtStop c.args.self.now.tableau.qubits (g.C.Coins.sequence c.args.coins.now) c.args.self.now.step c.args.plan
-    c.args.self.now.cursor.all c.args.copies.now c.args.records.now c.loop-self.next c.run_to.new.self
+    c.args.self.now.cursor.all c.args.copies.now c.args.records.now c.loop-spare.next c.run_to.new.self
 stopped g c =
-    let inv = c.loop-self.invariant in
+    let inv = c.loop-spare.invariant in
     let done = c.in_ok-run_to.ensures in
     let stop = c.stop-stop.ensures in
     on-stop c.args.self.now.tableau.qubits (g.C.Coins.sequence c.args.coins.now) c.args.self.now.step c.args.plan c.args.self.now.cursor.all
-    c.args.copies.now c.args.records.now (g.C.Coins.sequence c.loop-self.coins) c.loop-self.next c.stop-stop.result c.place.result c.loop-self.self c.run_to.new.self
+    c.args.copies.now c.args.records.now (g.C.Coins.sequence c.loop-spare.coins) c.loop-spare.next c.stop-stop.result c.place.result c.loop-spare.self c.run_to.new.self
     inv.way inv.same_coins done.at_step done.laid done.records done.counted done.step stop.order stop.within stop.near
-    (place-among c.args.plan c.loop-self.next c.loop-self.copies c.args.copies.now c.place.result c.place.ensures.value inv.copies) stop.before
+    c.place.ensures.value stop.before
 
-arrived : (g : Over) (c : In_ok-run_to g) (a : Arrival)
-    → IsArrival c.run_to.new.self.tableau.qubits c.args.plan c.run_to.new.self c.loop-self.copies c.args.records.now c.loop-self.next a
-    → IsArrival c.args.self.now.tableau.qubits c.args.plan c.run_to.new.self c.args.copies.now c.args.records.now c.loop-self.next a
-arrived g c a h =
-    subst (λ n. IsArrival n c.args.plan c.run_to.new.self c.args.copies.now c.args.records.now c.loop-self.next a) (stopped g c).replay.at_step.qubits
-    (subst (λ cs. IsArrival c.run_to.new.self.tableau.qubits c.args.plan c.run_to.new.self cs c.args.records.now c.loop-self.next a) c.loop-self.invariant.copies h)
+arrived : (g : Over) (c : In_ok-run_to g) (a b : Arrival) → a ≡ b
+    → IsArrival c.run_to.new.self.tableau.qubits c.args.plan c.run_to.new.self c.args.copies.now c.args.records.now c.loop-spare.next a
+    → IsArrival c.args.self.now.tableau.qubits c.args.plan c.run_to.new.self c.args.copies.now c.args.records.now c.loop-spare.next b
+arrived g c a b same h =
+    subst (λ n. IsArrival n c.args.plan c.run_to.new.self c.args.copies.now c.args.records.now c.loop-spare.next b) (stopped g c).replay.at_step.qubits
+    (subst (IsArrival c.run_to.new.self.tableau.qubits c.args.plan c.run_to.new.self c.args.copies.now c.args.records.now c.loop-spare.next) same h)
 
 replayed : (g : Over) (c : In_ok-run_to g) (r : Replay) → r ≡ c.run_to.new.self
     → IsReplay c.args.self.now.tableau.qubits (g.C.Coins.sequence c.args.coins.now) c.args.plan.stride c.args.self.now.step c.args.self.now.cursor.all r
@@ -36,10 +36,8 @@ replayed g c r same =
 
 pub stop-stop-requires-clause-behind : goal.stop-stop-requires-clause-behind
 stop-stop-requires-clause-behind g c =
-    let inv = c.loop-self.invariant in
-    subst (λ o. IfSome o (λ q. c.loop-self.self.step ≤ q))
-    (sym (place-among c.args.plan c.loop-self.next c.loop-self.copies c.args.copies.now c.place.result c.place.ensures.value inv.copies))
-    (next-behind c.args.plan c.loop-self.self.step c.loop-self.next c.args.copies.now inv.way.stop.ascending)
+    let inv = c.loop-spare.invariant in
+    place-behind c.args.plan c.loop-spare.self.step c.loop-spare.next c.args.copies.now c.place.result c.place.ensures.value inv.way.stop.ascending
 
 pub returns-in-Met-clause-replay : goal.returns-in-Met-clause-replay
 returns-in-Met-clause-replay g c =
@@ -53,35 +51,34 @@ pub returns-in-Met-clause-soon : goal.returns-in-Met-clause-soon
 returns-in-Met-clause-soon g c =
     let at = (goal.at.returns-in-Met-clause-soon g c).In_ok-run_to in
     soon-met c.args.self.now.tableau.qubits (g.C.Coins.sequence c.args.coins.now) c.args.self.now.step c.args.plan c.args.self.now.cursor.all c.args.copies.now
-    c.args.records.now c.loop-self.next c.run_to.new.self (stopped g at)
+    c.args.records.now c.loop-spare.next c.run_to.new.self (stopped g at)
 
 pub returns-in-Behind-clause-soon : goal.returns-in-Behind-clause-soon
 returns-in-Behind-clause-soon g c =
     let at = (goal.at.returns-in-Behind-clause-soon g c).In_ok-run_to in
     soon-last c.args.self.now.tableau.qubits (g.C.Coins.sequence c.args.coins.now) c.args.self.now.step c.args.plan c.args.self.now.cursor.all c.args.copies.now
-    c.args.records.now c.loop-self.next c.run_to.new.self (stopped g at) (arrived g at Behind (c.in-Behind.ensures {u = tt}).value)
+    c.args.records.now c.loop-spare.next c.run_to.new.self (stopped g at) (arrived g at _ Behind c.in-Behind.is c.in_ok-arrive.ensures.value)
 
-pub loop-self-smaller : goal.loop-self-smaller
-loop-self-smaller g c =
-    let inv = c.loop-self.invariant in
+pub loop-spare-smaller : goal.loop-spare-smaller
+loop-spare-smaller g c =
+    let inv = c.loop-spare.invariant in
     let stop = c.stop-stop.ensures in
-    let at = (goal.at.loop-self-smaller g c).In_ok-run_to in
-    let fewer = fewer-left c.args.self.now.tableau.qubits c.args.plan c.args.copies.now c.args.records.now c.loop-self.next c.in-Between.later c.loop-self.self.step
+    let at = (goal.at.loop-spare-smaller g c).In_ok-run_to in
+    let fewer = fewer-left c.args.self.now.tableau.qubits c.args.plan c.args.copies.now c.args.records.now c.loop-spare.next c.in-Between.later c.loop-spare.self.step
     c.stop-stop.result c.place.result c.run_to.new.self (c.in_ok-run_to.ensures {u = tt}).step stop.order stop.within
-    (place-among c.args.plan c.loop-self.next c.loop-self.copies c.args.copies.now c.place.result c.place.ensures.value inv.copies) stop.further
-    (arrived g at (Between c.in-Between.later) (c.in-Between.ensures {u = tt}).value) in
-    omega (arith, fewer, ap length inv.copies, ap length c.arrive.ensures.copies, ap (λ (r : Replay). r.step) c.lay.ensures.unchanged, ap (λ (r : Replay). r.step) c.arrive.ensures.unchanged)
+    c.place.ensures.value stop.further
+    (arrived g at _ (Between c.in-Between.later) c.in-Between.is c.in_ok-arrive.ensures.value) in
+    omega (arith, fewer, ap (λ (r : Replay). r.step) {y = record c.arrive.new.self { laid = c.lay.new.self.laid }} c.lay.ensures.unchanged, ap (λ (r : Replay). r.step) c.arrive.ensures.unchanged)
 
-pub loop-self-preserved : goal.loop-self-preserved
-loop-self-preserved g c =
-    let inv = c.loop-self.invariant in
+pub loop-spare-preserved : goal.loop-spare-preserved
+loop-spare-preserved g c =
+    let inv = c.loop-spare.invariant in
     let done = c.in_ok-run_to.ensures {u = tt} in
-    let at = (goal.at.loop-self-preserved g c).In_ok-run_to in
+    let at = (goal.at.loop-spare-preserved g c).In_ok-run_to in
     let same : c.lay.new.self ≡ record c.run_to.new.self { laid = c.lay.new.self.laid } =
     c.lay.ensures.unchanged ∙ ap (λ (r : Replay). record r { laid = c.lay.new.self.laid }) c.arrive.ensures.unchanged in
     let step : c.lay.new.self.step ≡ c.stop-stop.result = ap (λ (r : Replay). r.step) same ∙ done.step in
     record {
-      copies = c.arrive.ensures.copies ∙ inv.copies;
       all = ap (λ (r : Replay). r.cursor.all) same ∙ done.all ∙ inv.all;
       qubits = ap (λ (r : Replay). r.tableau.qubits) same ∙ done.qubits ∙ inv.qubits;
       same_coins = done.same_coins ∙ inv.same_coins;
@@ -94,11 +91,11 @@ loop-self-preserved g c =
             inv.asked,
             ap (λ k. all_coins_of (drop k c.args.self.now.cursor.all)) step,
             ap (λ xs. all_coins_of (drop c.stop-stop.result xs)) inv.all,
-            ap (λ xs. all_coins_of (drop c.loop-self.self.step xs)) inv.all,
+            ap (λ xs. all_coins_of (drop c.loop-spare.self.step xs)) inv.all,
           );
       way =
           on-further c.args.self.now.tableau.qubits (g.C.Coins.sequence c.args.coins.now) c.args.self.now.step c.args.plan c.args.self.now.cursor.all
-          c.args.copies.now c.args.records.now c.loop-self.next c.in-Between.later c.run_to.new.self c.lay.new.self (stopped g at)
-          (arrived g at (Between c.in-Between.later) (c.in-Between.ensures {u = tt}).value) same
+          c.args.copies.now c.args.records.now c.loop-spare.next c.in-Between.later c.run_to.new.self c.lay.new.self (stopped g at)
+          (arrived g at _ (Between c.in-Between.later) c.in-Between.is c.in_ok-arrive.ensures.value) same
           ((c.in_ok-lay.ensures {u = tt}).laid ∙ ap (λ (r : Replay). r.laid.items ++ copy_of r ∷ []) c.arrive.ensures.unchanged);
     }

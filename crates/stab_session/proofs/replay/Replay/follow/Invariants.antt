@@ -4,9 +4,8 @@ use Rattle.stab_session.specs.Points.{all_coins_of}
 use Rattle.stab_session.proofs.ReplayLemmas.{IsOnWay}
 use Rattle.stab_session.proofs.replay.Replay.follow.Given as goal
 
-abbrev pub invariant-loop-self : goal.invariant-loop-self
-invariant-loop-self g l = record {
-  copies : l.copies ≡ l.initial.copies;
+abbrev pub invariant-loop-spare : goal.invariant-loop-spare
+invariant-loop-spare g l = record {
   all : l.self.cursor.all ≡ l.initial.self.cursor.all;
   qubits : l.self.tableau.qubits ≡ l.initial.self.tableau.qubits;
   same_coins : g.C.Coins.sequence l.coins ≡ g.C.Coins.sequence l.initial.coins;
@@ -14,8 +13,8 @@ invariant-loop-self g l = record {
   asks_free : g.C.Coins.asks l.coins + ones l.initial.self.outputs.free.items ≤ g.C.Coins.asks l.initial.coins + ones l.self.outputs.free.items;
   asked : g.C.Coins.asks l.coins + all_coins_of (drop l.self.step l.initial.self.cursor.all)
       ≤ g.C.Coins.asks l.initial.coins + all_coins_of (drop l.initial.self.step l.initial.self.cursor.all);
-  way : IsOnWay l.initial.self.tableau.qubits (g.C.Coins.sequence l.initial.coins) l.initial.self.step l.plan l.initial.self.cursor.all l.initial.copies l.records l.next l.self;
+  way : IsOnWay l.initial.self.tableau.qubits (g.C.Coins.sequence l.initial.coins) l.initial.self.step l.plan l.initial.self.cursor.all l.copies l.records l.next l.self;
 }
 
-abbrev pub decreases-loop-self : goal.decreases-loop-self
-decreases-loop-self g l = (l.plan.total - l.self.step) + (length l.copies - l.next)
+abbrev pub decreases-loop-spare : goal.decreases-loop-spare
+decreases-loop-spare g l = (l.plan.total - l.self.step) + (length l.copies - l.next)
