@@ -35,7 +35,7 @@ impl Tableau {
     ghost use Rattle.std.specs.Prelude.{◌≡◌, IfOk, IfErr};
     ghost use Rattle.stab_pauli.specs.declared.refusal.Refusal.TheVariants.{OutOfMemory};
 
-    /// The same state, kept in little memory: a code's tableau takes a fifth, since most of its words are 0.
+    /// The same state, kept in little memory, where most of its words are 0, as for codes.
     ///
     /// Refusal `OutOfMemory` alone.
     pub fn compact(&self, alloc: Global) -> Result<CompactTableau, Refusal>
@@ -53,7 +53,7 @@ impl CompactTableau {
 
     /// The same state as a tableau, in the memory of a spare one that has as many qubits, else in memory of its own.
     ///
-    /// Refusal `OutOfMemory` alone, and none where the spare one serves.
+    /// Refusal `OutOfMemory` alone.
     pub fn tableau(&self, alloc: Global, spare: Option<Tableau>) -> Result<Tableau, Refusal>
         ensures ok { IfOk result (λ t. t ≡ self.now) }
         ensures err { IfErr result (λ r. r ≡ OutOfMemory) }
