@@ -99,7 +99,7 @@ impl Item {
     /// `TICK` without a tag, which stands for nothing: it has no step, and names no qubit and no
     /// observable. It takes no memory.
     #[tactic(auto, using(crate::proofs::ClearLemmas::tick_nothing))]
-    pub fn tick() -> Item
+    pub fn tick(_alloc: Global) -> Item
         ensures nothing { IsNothing result }
     {
         Item {

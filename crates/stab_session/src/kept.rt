@@ -81,13 +81,12 @@ impl KeptRun {
         })
     }
 
-    /// A replay from the copy with a number on, in the memory of a spare tableau if there is one.
+    /// A replay from the copy with a number on.
     fn resume<'a>(
         &self,
         alloc: Global,
         circuit: &'a Circuit,
         number: usize,
-        spare: Option<Tableau>,
     ) -> Result<Replay<'a>, Refusal>
         requires in_range { number < length self.now.checkpoints.items }
         requires checked { check_of (circuit_items circuit.now) ≡ None }
@@ -97,7 +96,7 @@ impl KeptRun {
     {
         let copy = &self.checkpoints[number];
         let string = Pauli::identity(alloc, self.tableau.len())?;
-        let tableau = copy.tableau.tableau(alloc, spare)?;
+        let tableau = copy.tableau.tableau(alloc, None)?;
         let outputs = self.outputs.front(alloc, copy.lengths)?;
         let cursor = Cursor::at(alloc, circuit, copy.step)?;
         Ok(Replay {
@@ -113,9 +112,6 @@ impl KeptRun {
 
     /// Makes this the run of an edited circuit, whose steps differ within the span, and tells how
     /// many steps were carried out for it. The run is as before where memory is refused.
-    ///
-    /// The replay goes on in the memory of a spare tableau if there is one, and one of the two
-    /// that are then at hand is the next spare.
     pub fn follow<C: Coins>(
         &mut self,
         alloc: Global,
@@ -123,7 +119,6 @@ impl KeptRun {
         span: Span,
         stride: usize,
         coins: &mut C,
-        spare: &mut Option<Tableau>,
     ) -> Result<u64, Refusal>
         requires checked { check_within self.old.tableau.qubits (circuit_items circuit.now) ≡ None }
         requires stride { 1 ≤ stride }
@@ -141,7 +136,7 @@ impl KeptRun {
         ensures err { IfErr result (λ r. r ≡ OutOfMemory) }
     {
         let before = count_before(self.checkpoints.as_slice(), span.first + 1);
-        let mut replay = self.resume(alloc, circuit, before - 1, spare.take())?;
+        let mut replay = self.resume(alloc, circuit, before - 1)?;
         let plan = Plan {
             total: circuit.steps(),
             stride,
@@ -158,8 +153,8 @@ impl KeptRun {
             coins,
         )?;
         let applied = replay.applied;
-        let prepared = self.prepare(alloc, replay, end, circuit.observables(), spare)?;
-        self.commit(prepared, before, stride, spare);
+        let prepared = self.prepare(alloc, replay, end, circuit.observables())?;
+        self.commit(prepared, before, stride);
         Ok(applied)
     }
 
@@ -170,7 +165,6 @@ impl KeptRun {
         replay: Replay,
         end: End,
         count: usize,
-        spare: &mut Option<Tableau>,
     ) -> Result<Prepared, Refusal>
         requires in_range { HasCopy self.old.checkpoints.items end }
         ensures unchanged { IsSameKept self.new self.old }
@@ -186,7 +180,7 @@ impl KeptRun {
             step,
             ..
         } = replay;
-        let rest = self.rest(alloc, tableau, &mut outputs, step, end, spare)?;
+        let rest = self.rest(alloc, tableau, &mut outputs, step, end)?;
         let observables = observables(alloc, count, outputs.additions.as_slice())?;
         self.checkpoints.reserve(laid.len())?;
         laid.reverse();
@@ -199,7 +193,7 @@ impl KeptRun {
     }
 
     /// What comes behind a replay that ended before a step with this tableau and these outputs, to
-    /// which the outputs behind it are appended. A tableau that is not needed is the next spare.
+    /// which the outputs behind it are appended.
     fn rest(
         &self,
         alloc: Global,
@@ -207,7 +201,6 @@ impl KeptRun {
         outputs: &mut Outputs,
         step: usize,
         end: End,
-        spare: &mut Option<Tableau>,
     ) -> Result<Rest, AllocError>
         requires in_range { HasCopy self.now.checkpoints.items end }
         ensures rest { IfOk result (IsRest self.now tableau (output_of outputs.old) step end (output_of outputs.new)) }
@@ -225,21 +218,13 @@ impl KeptRun {
                 };
                 outputs.append_rest(&self.outputs, copy.lengths)?;
                 let room = Vec::with_capacity(alloc, self.checkpoints.len() - number)?;
-                *spare = Some(tableau);
                 Ok(Rest::Old(number, seam, room))
             }
         }
     }
 
-    /// Puts what was prepared in place. It takes no memory. A tableau that is replaced is the next
-    /// spare.
-    fn commit(
-        &mut self,
-        prepared: Prepared,
-        before: usize,
-        stride: usize,
-        spare: &mut Option<Tableau>,
-    )
+    /// Puts what was prepared in place. It takes no memory.
+    fn commit(&mut self, prepared: Prepared, before: usize, stride: usize)
         requires room { HasRoom prepared.rest self.old.checkpoints.items }
         requires capacity { length self.old.checkpoints.items + length prepared.laid.items ≤ vec_capacity self.old.checkpoints }
         requires behind { before + length (copies_behind prepared.rest self.old.checkpoints.items) ≤ length self.old.checkpoints.items }
@@ -255,7 +240,7 @@ impl KeptRun {
         self.observables = observables;
         match rest {
             Rest::Nothing(tableau) => {
-                *spare = Some(std::mem::replace(&mut self.tableau, tableau));
+                self.tableau = tableau;
                 self.lay_behind(before, &mut laid, stride);
             }
             Rest::Old(number, seam, mut room) => {
@@ -332,6 +317,6 @@ fn run_checked<C: Coins>(
         new_end: circuit.steps(),
     };
     let mut kept = KeptRun::new(alloc, n)?;
-    kept.follow(alloc, circuit, span, stride, coins, &mut None)?;
+    kept.follow(alloc, circuit, span, stride, coins)?;
     Ok(kept)
 }

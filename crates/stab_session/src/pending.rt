@@ -9,6 +9,7 @@ ghost use Rattle.stab_session.specs.inner.Pendings.{taken_back, item_back, kept,
 
 use crate::kept::Span;
 use stab_circuit::{Change, Circuit, Edited, Item, Path, Refused};
+use std::alloc::Global;
 
 /// An edit of a session's circuit, at a path.
 #[derive(Drop)]
@@ -46,7 +47,12 @@ fn span_of(edited: &Edited) -> Span
 
 /// Makes an edit that can be taken back, where nothing refuses the edited circuit on n qubits. The
 /// circuit then has the runs of the edited one.
-pub fn begin(circuit: &mut Circuit, n: usize, edit: Edit) -> Result<(Pending, Span), Refused>
+pub fn begin(
+    alloc: Global,
+    circuit: &mut Circuit,
+    n: usize,
+    edit: Edit,
+) -> Result<(Pending, Span), Refused>
     requires old_checked { check_within n (circuit_items circuit.old) ≡ None }
     ensures begun { IfOk result (λ b. IsBegun n (change_of edit) (place_of edit) circuit.old circuit.new b.0 b.1) }
     ensures unchanged { OnErr result (circuit.new ≡ circuit.old) }
@@ -56,7 +62,7 @@ pub fn begin(circuit: &mut Circuit, n: usize, edit: Edit) -> Result<(Pending, Sp
     match edit {
         Edit::Insert { place, item } => insert(circuit, n, place, item),
         Edit::Replace { place, item } => replace(circuit, n, place, item),
-        Edit::Delete { place } => delete(circuit, n, place),
+        Edit::Delete { place } => delete(alloc, circuit, n, place),
     }
 }
 
@@ -105,7 +111,12 @@ fn replace(
     }
 }
 
-fn delete(circuit: &mut Circuit, n: usize, place: Path) -> Result<(Pending, Span), Refused>
+fn delete(
+    alloc: Global,
+    circuit: &mut Circuit,
+    n: usize,
+    place: Path,
+) -> Result<(Pending, Span), Refused>
     requires old_checked { check_within n (circuit_items circuit.old) ≡ None }
     ensures begun { IfOk result (λ b. IsBegun n deleting place circuit.old circuit.new b.0 b.1) }
     ensures unchanged { OnErr result (circuit.new ≡ circuit.old) }
@@ -113,7 +124,7 @@ fn delete(circuit: &mut Circuit, n: usize, place: Path) -> Result<(Pending, Span
     ensures item { IfErr result (λ r. r.item ≡ None) }
 {
     let _ = circuit.items();
-    match circuit.edit(n, place, Change::Replace(Item::tick())) {
+    match circuit.edit(n, place, Change::Replace(Item::tick(alloc))) {
         Ok(edited) => {
             let span = span_of(&edited);
             let Edited { taken, .. } = edited;

@@ -5,7 +5,6 @@ use crate::kept::{KeptRun, run_kept};
 pub use edits::Report;
 use stab_circuit::Circuit;
 use stab_pauli::{Fault, Pauli, Refusal};
-use stab_tableau::Tableau;
 use std::alloc::Global;
 use std::marker::Model;
 
@@ -21,8 +20,6 @@ pub struct Session<C: Coins> {
     stride: usize,
     coins: C,
     kept: KeptRun,
-    // What the last edit left over, for the next one to go on in its memory.
-    spare: Option<Tableau>,
 }
 
 // Written out, so that to a proof a value that is let go is one call, and not one for each of its parts.
@@ -34,7 +31,6 @@ impl<C: Coins> Drop for Session<C> {
             stride: _,
             coins: _,
             kept: _,
-            spare: _,
         } = self;
     }
 }
@@ -117,7 +113,6 @@ impl<C: Coins> Session<C> {
                 stride,
                 coins,
                 kept,
-                spare: None,
             }),
             Err(fault) => Err(OpenRefused {
                 fault,

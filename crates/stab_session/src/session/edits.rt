@@ -40,7 +40,7 @@ impl<C: Coins> Session<C> {
         ensures few_checkpoints { OnOk result (length self.new.checkpoints ≤ most_checkpoints self.new) }
     {
         let n = self.kept.tableau.len();
-        let (pending, span) = match begin(&mut self.circuit, n, edit) {
+        let (pending, span) = match begin(self.alloc, &mut self.circuit, n, edit) {
             Ok(begun) => begun,
             Err(refused) => return Err(refused),
         };
@@ -50,7 +50,6 @@ impl<C: Coins> Session<C> {
             span,
             self.stride,
             &mut self.coins,
-            &mut self.spare,
         ) {
             Ok(applied) => {
                 finish(&mut self.circuit, pending);
