@@ -16,12 +16,13 @@ pub enum Row {
 
 impl Row {
     ghost use Rattle.std.specs.Prelude.{◌≡◌, ◌≤◌};
+    ghost use Rattle.stab_tableau.specs.Limits.{most_qubits};
     ghost use Rattle.stab_tableau.specs.inner.Pairs.{place_of};
 
     /// Where the string lies among those of all qubits.
     #[inline(always)]
     fn place(self, qubit: usize) -> usize
-        requires few { qubit ≤ 1024 }
+        requires few { qubit ≤ most_qubits }
         ensures value { result ≡ place_of self qubit }
     {
         match self {
@@ -59,6 +60,7 @@ impl Table {
     ghost use Rattle.stab_pauli.specs.Letters.{letters_anticommute};
     ghost use Rattle.stab_pauli.specs.Paulis.{single, anticommute, product, with_sign};
     ghost use Rattle.stab_pauli.specs.Rows.{turned_product};
+    ghost use Rattle.stab_tableau.specs.Limits.{most_qubits};
     ghost use Rattle.stab_tableau.specs.Gates.{letter_at};
     ghost use Rattle.stab_tableau.specs.inner.Preimages.{row_at, zeros_row, IsOver};
     ghost use Rattle.stab_tableau.specs.inner.Frames.{SameLetters};
@@ -66,7 +68,7 @@ impl Table {
 
     /// Rows of letters I alone, for n qubits.
     pub fn new(alloc: Global, n: usize) -> Result<Table, Refusal>
-        requires few { n ≤ 1024 }
+        requires few { n ≤ most_qubits }
         ensures size { IfOk result (λ t. length t ≡ n) }
         ensures over { IfOk result (λ t. (q : ℕ) → q < n → IsOver n (row_at t q)) }
         ensures err { IfErr result (λ r. r ≡ OutOfMemory) }
@@ -110,7 +112,7 @@ impl Table {
     #[inline(always)]
     pub fn len(&self) -> usize
         ensures value { result ≡ length self.now }
-        ensures few { result ≤ 1024 }
+        ensures few { result ≤ most_qubits }
     {
         self.rows.qubits()
     }

@@ -54,6 +54,7 @@ impl Tableau {
     ghost use Rattle.std.specs.Prelude.{◌≡◌, ◌≢◌, ℕ, ◌<◌, ◌≤◌, ◌↔◌, Bool, true, false, [], length, IfOk, IfErr, IfSome};
     ghost use Rattle.stab_pauli.specs.Paulis.{Signed, single, with_sign};
     ghost use Rattle.stab_pauli.specs.declared.refusal.Refusal.TheVariants.{OutOfMemory};
+    ghost use Rattle.stab_tableau.specs.Limits.{most_qubits};
     ghost use Rattle.stab_tableau.specs.Gates.{back, back_pair};
     ghost use Rattle.stab_tableau.specs.Traces.{member};
     ghost use Rattle.stab_tableau.specs.Tableaus.{stabilises};
@@ -67,7 +68,7 @@ impl Tableau {
     ///
     /// Refusal `OutOfMemory` alone.
     pub fn new(alloc: Global, n: usize) -> Result<Tableau, Refusal>
-        requires in_range { n ≤ 1024 }
+        requires in_range { n ≤ most_qubits }
         ensures qubits { IfOk result (λ t. t.qubits ≡ n) }
         ensures members { IfOk result (λ t. (p : Signed) → length p.letters ≡ n → stabilises t p ≡ member [] p) }
         ensures err { IfErr result (λ r. r ≡ OutOfMemory) }

@@ -6,6 +6,7 @@ use Rattle.stab_tableau.specs.declared.table.Row.{Row}
 use Rattle.stab_tableau.specs.declared.table.Row.TheVariants.{OfX, OfZ}
 use Rattle.stab_tableau.specs.declared.gate.Gate.{Gate}
 use Rattle.stab_tableau.specs.declared.gate.PairGate.{PairGate}
+use Rattle.stab_tableau.specs.Limits.{most_qubits}
 use Rattle.stab_tableau.specs.inner.Preimages.{Preimages, row_at, GateRow, PairRows}
 
 -- strings taken two by two; a last one alone is left out
@@ -44,7 +45,7 @@ turned_if true p j = turned_product p j
 
 -- two strings for each of at most 1,024 qubits
 pub record IsPaired (r : Rows) : Type 0 where
-  pub few : r.qubits ≤ 1024
+  pub few : r.qubits ≤ most_qubits
   pub size : length r.rows ≡ 2 * r.qubits
 
 -- rows after a gate on a qubit

@@ -1,0 +1,6 @@
+-- Limits: how many qubits a state has at most.
+use Rattle.std.specs.Prelude.{ℕ}
+
+-- the greatest number of qubits
+abbrev pub most_qubits : ℕ
+most_qubits = 1024
