@@ -1,5 +1,5 @@
 -- Printed targets and arguments are read again as what they were printed of.
-use Rattle.std.proofs.Common.{◌≡◌, ◌<◌, ◌≤◌, ◌^◌, refl, ap, sym, ◌∙◌, subst, ℕ, ◌-◌, ◌==◌, ◌&&◌, ◌||◌, nat_lt, nat_eq, List, [], ◌∷◌, ◌++◌, Bool, true, false, not, length, take, filter, map, append_assoc, append-nil, arith, codes, if◌then◌else◌, Some, Result, Ok}
+use Rattle.std.proofs.Common.{◌≡◌, ◌<◌, ◌≤◌, ◌^◌, refl, ap, sym, ◌∙◌, subst, ℕ, ◌-◌, ◌==◌, ◌&&◌, ◌||◌, nat_le, nat_lt, nat_eq, List, [], ◌∷◌, ◌++◌, Bool, true, false, not, length, take, filter, map, append_assoc, append-nil, arith, codes, if◌then◌else◌, Some, Result, Ok}
 use Rattle.std.specs.List.{slice_split, list_all, starts_with}
 use Rattle.std.specs.Fmt.{decimal}
 use Rattle.std.proofs.lemmas.List.{length-append}
@@ -7,6 +7,8 @@ use Rattle.std.proofs.lemmas.List.Splits.{slice_split-cons_yes}
 use Rattle.std.proofs.lemmas.Fmt.{digits_decimal, digits_value-decimal, decimal_nonempty, length-decimal-le}
 use Rattle.std.proofs.lemmas.Bool.Decides.{nat_tests}
 use Rattle.stab_pauli.specs.declared.refusal.Refusal.{Refusal}
+use Rattle.stab_tableau.specs.Limits.{most_qubits}
+use Rattle.stab_lines.specs.Limits.{most_observables, most_lookback}
 use Rattle.stab_lines.specs.declared.range.MeasureTarget.{MeasureTarget}
 use Rattle.stab_lines.specs.Results.{◌>>=◌, each}
 use Rattle.stab_lines.specs.Lines.{is_byte, is_digit, is_spacing, trimmed, starts_with_byte, ends_with_byte}
@@ -42,12 +44,15 @@ decimal_number n wide = both (is_some_word (decimal n)) (list_all is_digit (deci
 lt_true : (a b : ℕ) → a < b → nat_lt a b ≡ true
 lt_true a b h = grind (arith, nat_tests)
 
+le_true : (a b : ℕ) → a ≤ b → nat_le a b ≡ true
+le_true a b h = grind (arith, nat_tests)
+
 pub qubit_again : (q : ℕ) → IsQubit q → qubit_of (decimal q) ≡ Ok q
 unfolding qubit_of
 qubit_again q small =
     let wide : q < 2 ^ 64 = omega (arith, small) in
     passed (not (is_number (decimal q))) _ _ (ap not (decimal_number q wide))
-    ∙ chosen (nat_lt (value (decimal q)) 1024) _ _ (ap (λ v. nat_lt v 1024) (decimal_value q wide) ∙ lt_true q 1024 small)
+    ∙ chosen (nat_lt (value (decimal q)) most_qubits) _ _ (ap (λ v. nat_lt v most_qubits) (decimal_value q wide) ∙ lt_true q most_qubits small)
     ∙ ap Ok (decimal_value q wide)
 
 pub digit_no : (b : ℕ) → b < 48 → (d : ℕ) → is_digit d ≡ true → (d == b) ≡ false
@@ -87,9 +92,9 @@ lookback_again k p =
     let v : value (lookback_digits w) ≡ k = ap value (digits_again k) ∙ decimal_value k wide in
     let written : is_lookback w ≡ true = lookback_written k wide in
     let low : nat_lt 0 (value (lookback_digits w)) ≡ true = ap (nat_lt 0) v ∙ lt_true 0 k p.0 in
-    let high : nat_lt (value (lookback_digits w)) 16777216 ≡ true = ap (λ n. nat_lt n 16777216) v ∙ lt_true k 16777216 p.1 in
-    chosen (is_lookback w && nat_lt 0 (value (lookback_digits w)) && nat_lt (value (lookback_digits w)) 16777216) _ _
-    (both (is_lookback w && nat_lt 0 (value (lookback_digits w))) (nat_lt (value (lookback_digits w)) 16777216) (both (is_lookback w) (nat_lt 0 (value (lookback_digits w))) written low) high)
+    let high : nat_le (value (lookback_digits w)) most_lookback ≡ true = ap (λ n. nat_le n most_lookback) v ∙ le_true k most_lookback p.1 in
+    chosen (is_lookback w && nat_lt 0 (value (lookback_digits w)) && nat_le (value (lookback_digits w)) most_lookback) _ _
+    (both (is_lookback w && nat_lt 0 (value (lookback_digits w))) (nat_le (value (lookback_digits w)) most_lookback) (both (is_lookback w) (nat_lt 0 (value (lookback_digits w))) written low) high)
     ∙ ap Ok v
 
 pub count_again : (n : ℕ) → IsCount n → count_of (decimal n) ≡ Ok (Some n)
@@ -117,7 +122,7 @@ pub observable_again : (j : ℕ) → IsObservable j → observable_of (decimal j
 unfolding observable_of
 observable_again j small =
     let wide : j < 2 ^ 64 = omega (arith, small) in
-    chosen (nat_lt (value (decimal j)) 4096) _ _ (ap (λ v. nat_lt v 4096) (decimal_value j wide) ∙ lt_true j 4096 small) ∙ ap Ok (decimal_value j wide)
+    chosen (nat_lt (value (decimal j)) most_observables) _ _ (ap (λ v. nat_lt v most_observables) (decimal_value j wide) ∙ lt_true j most_observables small) ∙ ap Ok (decimal_value j wide)
 
 -- what each is read as
 pub each_again : {A X : Type 0} (f : A → Result X Refusal) (text : X → A) (P : X → Type 0) → ((x : X) → P x → f (text x) ≡ Ok x) → (xs : List X) → Each P xs → each f (map text xs) ≡ Ok xs

@@ -1,6 +1,7 @@
 -- Printed pairs of a control and a qubit are read again as what they were printed of.
 use Rattle.std.proofs.Common.{◌≡◌, ◌<◌, refl, ap, ◌∙◌, ℕ, ◌==◌, List, [], ◌∷◌, ◌++◌, map, append_assoc, arith, codes, Ok}
 use Rattle.std.specs.Fmt.{decimal}
+use Rattle.stab_tableau.specs.Limits.{most_qubits}
 use Rattle.stab_lines.specs.declared.control.Control.{Control}
 use Rattle.stab_lines.specs.declared.control.Control.TheVariants as control
 use Rattle.stab_lines.specs.declared.control.ControlTarget.{ControlTarget}
@@ -47,7 +48,7 @@ front_word : (x : ControlledPair) → IsControlled x → IsWord (front x)
 front_word (pair.Qubits p) g = decimal_word p.0 (omega (arith, g.0))
 front_word (pair.Record k q) g = lookback_word k g.0
 
-back_small : (x : ControlledPair) → IsControlled x → back x < 1024
+back_small : (x : ControlledPair) → IsControlled x → back x < most_qubits
 back_small (pair.Qubits p) g = g.1
 back_small (pair.Record k q) g = g.1
 

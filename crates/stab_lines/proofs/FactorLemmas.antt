@@ -3,6 +3,7 @@ use Rattle.std.proofs.Common.{◌≡◌, ◌<◌, refl, ap, ◌∙◌, ℕ, List
 use Rattle.std.specs.List.{slice_split, list_all}
 use Rattle.std.specs.Fmt.{decimal}
 use Rattle.stab_pauli.specs.declared.refusal.Refusal.TheVariants.{BadTarget}
+use Rattle.stab_tableau.specs.Limits.{most_qubits}
 use Rattle.stab_lines.specs.declared.axis.Axis.{Axis}
 use Rattle.stab_lines.specs.declared.axis.Axis.TheVariants as axis
 use Rattle.stab_lines.specs.declared.product.Factor.{Factor}
@@ -51,7 +52,7 @@ digits_behind b a ds = ap (drop 1) (unmarked_again b a ds) ∙ behind_axis a ds
 letter_behind : (b : Bool) (a : Axis) (ds : List ℕ) → first_axis (unmarked (marked_text b a ds)) ≡ Some a
 letter_behind b a ds = ap first_axis (unmarked_again b a ds) ∙ axis_again a ds
 
-factor_case : (b : Bool) (a : Axis) (q : ℕ) → q < 1024 → factor_of (marked_text b a (decimal q)) ≡ Ok (record { letter = a; qubit = q; inverted = b })
+factor_case : (b : Bool) (a : Axis) (q : ℕ) → q < most_qubits → factor_of (marked_text b a (decimal q)) ≡ Ok (record { letter = a; qubit = q; inverted = b })
 unfolding factor_of
 factor_case b a q small =
     let w = marked_text b a (decimal q) in

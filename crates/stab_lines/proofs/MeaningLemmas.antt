@@ -5,6 +5,7 @@ use Rattle.std.proofs.lemmas.List.Splits.{slice_split-cons_yes}
 use Rattle.std.proofs.lemmas.Bool.Decides.{nat_tests}
 use Rattle.stab_tableau.specs.declared.gate.Gate.{Gate}
 use Rattle.stab_tableau.specs.declared.gate.Gate.TheVariants as one
+use Rattle.stab_lines.specs.Limits.{most_observables}
 use Rattle.stab_lines.specs.declared.axis.Axis.{Axis}
 use Rattle.stab_lines.specs.declared.axis.Axis.TheVariants as axis
 use Rattle.stab_lines.specs.declared.name.Instruction.{Instruction}
@@ -114,7 +115,7 @@ coordinates_again : (arguments : List (List ℕ)) → Each IsCoordinate argument
 coordinates_again arguments c =
     ap (each coordinate_of) (all_again arguments c ∙ sym (same_map arguments)) ∙ each_again coordinate_of (λ a. a) IsCoordinate coordinate_again arguments c
 
-number_again : (j : ℕ) → j < 4096 → number_of (arguments_of (inner_of (decimal j ∷ []))) ≡ Ok (decimal j)
+number_again : (j : ℕ) → j < most_observables → number_of (arguments_of (inner_of (decimal j ∷ []))) ≡ Ok (decimal j)
 unfolding number_of
 number_again j small =
     let wide : j < 2 ^ 64 = omega (arith, small) in

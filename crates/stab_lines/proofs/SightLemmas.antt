@@ -1,10 +1,12 @@
 -- Targets that are read off the front of several words.
-use Rattle.std.proofs.Common.{◌≡◌, ◌<◌, ℕ, ◌-◌, Bool, true, false, ◌&&◌, not, ◌==◌, nat_lt, nat_eq, List, [], ◌∷◌, length, take, drop, ◌++◌, append_assoc, append-nil, length-drop, min, refl, sym, ap, ◌∙◌, arith, Ok, Err, if◌then◌else◌, codes}
+use Rattle.std.proofs.Common.{◌≡◌, ◌<◌, ◌≤◌, ℕ, ◌-◌, ◌+◌, Bool, true, false, ◌&&◌, not, ◌==◌, nat_le, nat_lt, nat_eq, List, [], ◌∷◌, length, take, drop, ◌++◌, append_assoc, append-nil, length-drop, min, refl, sym, ap, ◌∙◌, arith, Ok, Err, if◌then◌else◌, codes}
 use Rattle.std.specs.List.{list_all, starts_with, position_or_len, prefix_len}
 use Rattle.std.specs.Cmp.Lexicographic.{pointwise}
 use Rattle.std.proofs.lemmas.List.{length-append, take-append-drop}
 use Rattle.std.proofs.lemmas.Bool.Decides.{nat_tests}
 use Rattle.stab_pauli.specs.declared.refusal.Refusal.TheVariants.{BadTarget, QubitOutOfRange}
+use Rattle.stab_tableau.specs.Limits.{most_qubits}
+use Rattle.stab_lines.specs.Limits.{most_lookback}
 use Rattle.stab_lines.specs.Lines.{is_spacing, is_digit, starts_with_byte, ends_with_byte, trimmed_front}
 use Rattle.stab_lines.specs.Words.{words, is_number, is_some_word, value}
 use Rattle.stab_lines.specs.Results.{◌>>=◌}
@@ -19,16 +21,19 @@ use Rattle.stab_lines.proofs.BoolLemmas.{both, chosen, passed, and_left, and_rig
 below_is : (n m : ℕ) → n < m → nat_lt n m ≡ true
 below_is n m h = grind (arith, nat_tests)
 
+within_is : (n m : ℕ) → n ≤ m → nat_le n m ≡ true
+within_is n m h = grind (arith, nat_tests)
+
 -- a number below 1,024 is a qubit
-number_qubit : (word : List ℕ) (n : ℕ) → is_number word ≡ true → value word ≡ n → n < 1024 → qubit_of word ≡ Ok n
+number_qubit : (word : List ℕ) (n : ℕ) → is_number word ≡ true → value word ≡ n → n < most_qubits → qubit_of word ≡ Ok n
 unfolding qubit_of
 number_qubit word n number same small =
     passed (not (is_number word)) _ _ (ap not number)
-    ∙ chosen (nat_lt (value word) 1024) _ _ (ap (λ v. nat_lt v 1024) same ∙ below_is n 1024 small)
+    ∙ chosen (nat_lt (value word) most_qubits) _ _ (ap (λ v. nat_lt v most_qubits) same ∙ below_is n most_qubits small)
     ∙ ap Ok same
 
 -- a number in front is a qubit in front
-pub qubit_begins : (bs rest : List ℕ) (n : ℕ) → BeginsWithNumber bs n rest → n < 1024 → BeginsWith qubit_of bs n rest
+pub qubit_begins : (bs rest : List ℕ) (n : ℕ) → BeginsWithNumber bs n rest → n < most_qubits → BeginsWith qubit_of bs n rest
 qubit_begins bs rest n h small = (h.0, h.1, number_qubit h.0 n h.2 h.3 small)
 
 digit_unmarked : (b : ℕ) → is_digit b ≡ true → (b == 33) ≡ false
@@ -38,7 +43,7 @@ number_unmarked : (word : List ℕ) → is_number word ≡ true → starts_with_
 number_unmarked [] h = refl
 number_unmarked (b ∷ bs) h = digit_unmarked b (and_left (is_digit b) (list_all is_digit bs) (and_right (is_some_word (b ∷ bs)) _ h))
 
-qubit_number : (word : List ℕ) (n : ℕ) (b : Bool) → is_number word ≡ b → (if not b then Err BadTarget else if nat_lt (value word) 1024 then Ok (value word) else Err QubitOutOfRange) ≡ Ok n → b ≡ true
+qubit_number : (word : List ℕ) (n : ℕ) (b : Bool) → is_number word ≡ b → (if not b then Err BadTarget else if nat_lt (value word) most_qubits then Ok (value word) else Err QubitOutOfRange) ≡ Ok n → b ≡ true
 qubit_number word n true e h = refl
 qubit_number word n false e h = cc
 
@@ -110,13 +115,13 @@ record_written ds h =
     let ends : ends_with_byte w 93 ≡ true = ends_with_last 93 (codes "rec[-" ++ ds) refl in
     both (starts_with nat_eq w (codes "rec[-") && ends_with_byte w 93) (is_number (lookback_digits w)) (both (starts_with nat_eq w (codes "rec[-")) (ends_with_byte w 93) refl ends) (ap is_number (record_digits ds) ∙ h)
 
-record_read : (ds : List ℕ) (k : ℕ) → is_number ds ≡ true → value ds ≡ k → 0 < k → k < 16777216 → lookback_of (record_word ds) ≡ Ok k
+record_read : (ds : List ℕ) (k : ℕ) → is_number ds ≡ true → value ds ≡ k → 0 < k → k ≤ most_lookback → lookback_of (record_word ds) ≡ Ok k
 unfolding lookback_of
 record_read ds k h v low high =
     let w : List ℕ = record_word ds in
     let same : value (lookback_digits w) ≡ k = ap value (record_digits ds) ∙ v in
-    chosen (is_lookback w && nat_lt 0 (value (lookback_digits w)) && nat_lt (value (lookback_digits w)) 16777216) _ _
-    (both (is_lookback w && nat_lt 0 (value (lookback_digits w))) _ (both (is_lookback w) _ (record_written ds h) (ap (nat_lt 0) same ∙ below_is 0 k low)) (ap (λ n. nat_lt n 16777216) same ∙ below_is k 16777216 high))
+    chosen (is_lookback w && nat_lt 0 (value (lookback_digits w)) && nat_le (value (lookback_digits w)) most_lookback) _ _
+    (both (is_lookback w && nat_lt 0 (value (lookback_digits w))) _ (both (is_lookback w) _ (record_written ds h) (ap (nat_lt 0) same ∙ below_is 0 k low)) (ap (λ n. nat_le n most_lookback) same ∙ within_is k most_lookback high))
     ∙ ap Ok same
 
 digits_solid : (ds : List ℕ) → list_all is_digit ds ≡ true → Free is_spacing ds
@@ -148,7 +153,7 @@ record_parts front behind closing rest n s b c e r =
 
 -- a record in front
 pub record_begins : (bs front behind rest : List ℕ) (n k : ℕ) → front ≡ trimmed_front bs → front ≡ record_word (take n behind) ++ rest → list_all is_digit (take n behind) ≡ true
-    → k ≡ min (value (take n behind)) 16777216 → 0 < k → k < 16777216 → is_word_end rest ≡ true → BeginsWith lookback_of bs k rest
+    → k ≡ min (value (take n behind)) (most_lookback + 1) → 0 < k → k ≤ most_lookback → is_word_end rest ≡ true → BeginsWith lookback_of bs k rest
 record_begins bs front behind rest n k e parts digits same low high end =
     let v : value (take n behind) ≡ k = omega (arith, same, high) in (
       record_word (take n behind),

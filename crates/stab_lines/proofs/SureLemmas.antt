@@ -4,6 +4,8 @@ use Rattle.std.specs.List.{list_all, list_any, prefix_len, slice_split, take_whi
 use Rattle.std.proofs.lemmas.Bool.Decides.{nat_tests}
 use Rattle.stab_pauli.specs.declared.refusal.Refusal.{Refusal}
 use Rattle.stab_pauli.specs.declared.refusal.Refusal.TheVariants.{BadArguments, BadTarget, BadLine}
+use Rattle.stab_tableau.specs.Limits.{most_qubits}
+use Rattle.stab_lines.specs.Limits.{most_observables}
 use Rattle.stab_lines.specs.declared.range.MeasureTarget.{MeasureTarget}
 use Rattle.stab_lines.specs.declared.axis.Axis.{Axis}
 use Rattle.stab_lines.specs.declared.product.Factor.{Factor}
@@ -78,16 +80,16 @@ lt_of a b h = grind (arith, nat_tests)
 
 -- ranges
 abbrev pub IsQubit : ℕ → Type 0
-IsQubit q = q < 1024
+IsQubit q = q < most_qubits
 
 qubit_sure : (word : List ℕ) → IsSure IsQubit (qubit_of word)
 unfolding qubit_of
 qubit_sure word =
     sure_if IsQubit (not (is_number word)) _ _ (λ e. sure_err IsQubit _)
-    (λ e. sure_if IsQubit (nat_lt (value word) 1024) _ _ (λ h. sure_ok IsQubit (value word) (lt_of (value word) 1024 h)) (λ h. sure_err IsQubit _))
+    (λ e. sure_if IsQubit (nat_lt (value word) most_qubits) _ _ (λ h. sure_ok IsQubit (value word) (lt_of (value word) most_qubits h)) (λ h. sure_err IsQubit _))
 
 abbrev pub IsMeasured : MeasureTarget → Type 0
-IsMeasured t = t.qubit < 1024
+IsMeasured t = t.qubit < most_qubits
 
 measure_sure : (word : List ℕ) → IsSure IsMeasured (measure_target_of word)
 unfolding measure_target_of
@@ -126,7 +128,7 @@ count_sure word =
     count_range true false true n l z e h = cc
 
 abbrev pub IsPair : ℕ × ℕ → Type 0
-IsPair p = (p.0 < 1024) × (p.1 < 1024) × (p.0 ≢ p.1)
+IsPair p = (p.0 < most_qubits) × (p.1 < most_qubits) × (p.0 ≢ p.1)
 
 differ : (a b : ℕ) → (a == b) ≡ false → a ≢ b
 differ a b e = grind (arith, nat_tests)
@@ -140,7 +142,7 @@ pairs_sure (a ∷ b ∷ rest) f =
 
 -- factors on qubits in range
 abbrev pub IsFactor : Factor → Type 0
-IsFactor f = f.qubit < 1024
+IsFactor f = f.qubit < most_qubits
 
 factor_on_sure : (inverted : Bool) (digits : List ℕ) (axis : Option Axis) → IsSure IsFactor (factor_on inverted digits axis)
 factor_on_sure inverted digits None = sure_err IsFactor _
@@ -231,11 +233,11 @@ coordinate_sure argument =
     (λ e. sure_err IsCoordinate _)
 
 abbrev pub IsObservable : ℕ → Type 0
-IsObservable j = j < 4096
+IsObservable j = j < most_observables
 
 observable_sure : (digits : List ℕ) → IsSure IsObservable (observable_of digits)
 unfolding observable_of
-observable_sure digits = sure_if IsObservable (nat_lt (value digits) 4096) _ _ (λ e. sure_ok IsObservable (value digits) (lt_of (value digits) 4096 e)) (λ e. sure_err IsObservable _)
+observable_sure digits = sure_if IsObservable (nat_lt (value digits) most_observables) _ _ (λ e. sure_ok IsObservable (value digits) (lt_of (value digits) most_observables e)) (λ e. sure_err IsObservable _)
 
 -- an instruction's numbers are in range, and its coordinates made of the bytes that they may have
 abbrev pub IsGoodKind : Kind → Type 0

@@ -1,10 +1,11 @@
 -- Targets: their ranges, and pairs.
-use Rattle.std.proofs.Common.{◌≡◌, ◌≢◌, ◌<◌, ℕ, ◌==◌, Bool, true, false, List, [], ◌∷◌, length, drop, get_or, Result, Ok, Err, refl, ap, subst, arith, nat_lt, ◌&&◌, All, map, if◌then◌else◌}
+use Rattle.std.proofs.Common.{◌≡◌, ◌≢◌, ◌<◌, ℕ, ◌==◌, Bool, true, false, List, [], ◌∷◌, length, drop, get_or, Result, Ok, Err, refl, ap, subst, arith, nat_le, nat_lt, ◌&&◌, All, map, if◌then◌else◌}
 use Rattle.std.specs.List.{slice_split, onto_first}
 use Rattle.std.proofs.lemmas.List.Elements.{All-cons}
 use Rattle.std.proofs.lemmas.Bool.Decides.{nat_tests}
 use Rattle.stab_pauli.specs.declared.refusal.Refusal.{Refusal}
 use Rattle.stab_pauli.specs.declared.refusal.Refusal.TheVariants.{BadArguments, BadPairing, BadTarget}
+use Rattle.stab_lines.specs.Limits.{most_lookback}
 use Rattle.stab_lines.specs.Results.{◌>>=◌, each}
 use Rattle.stab_lines.specs.Words.{value}
 use Rattle.stab_lines.specs.Lookbacks.{IsLookback}
@@ -17,7 +18,7 @@ different a b ne = grind arith
 same : (a b : ℕ) → a ≡ b → (a == b) ≡ true
 same a b e = grind arith
 
-lookback_small : (v k : ℕ) (b c d : Bool) → c ≡ nat_lt 0 v → d ≡ nat_lt v 16777216 → (if b && c && d then Ok v else Err BadTarget) ≡ Ok k → IsLookback k
+lookback_small : (v k : ℕ) (b c d : Bool) → c ≡ nat_lt 0 v → d ≡ nat_le v most_lookback → (if b && c && d then Ok v else Err BadTarget) ≡ Ok k → IsLookback k
 lookback_small v k true true true c d e = let same : v ≡ k = cc in (grind (arith, nat_tests), grind (arith, nat_tests))
 lookback_small v k true true false c d e = cc
 lookback_small v k true false d' c d e = cc

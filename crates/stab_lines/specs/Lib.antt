@@ -1,3 +1,4 @@
+pub mod Limits
 pub mod Results
 pub mod Lines
 pub mod Words

@@ -1,6 +1,7 @@
 -- Lookbacks: how far back a record may be looked for.
-use Rattle.std.specs.Prelude.{ℕ, ◌<◌}
+use Rattle.std.specs.Prelude.{ℕ, ◌<◌, ◌≤◌}
+use Rattle.stab_lines.specs.Limits.{most_lookback}
 
 -- a k of rec[-k]
 abbrev pub IsLookback : ℕ → Type 0
-IsLookback k = (0 < k) × (k < 16777216)
+IsLookback k = (0 < k) × (k ≤ most_lookback)

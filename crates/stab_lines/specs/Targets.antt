@@ -1,9 +1,11 @@
 -- Targets: what a word means as a target of each kind.
-use Rattle.std.specs.Prelude.{ℕ, ◌-◌, Bool, true, false, ◌&&◌, ◌||◌, not, nat_lt, nat_eq, ◌==◌, List, [], ◌∷◌, length, drop, take, if◌then◌else◌, Option, Some, None, Result, Ok, Err, codes}
+use Rattle.std.specs.Prelude.{ℕ, ◌-◌, Bool, true, false, ◌&&◌, ◌||◌, not, nat_le, nat_lt, nat_eq, ◌==◌, List, [], ◌∷◌, length, drop, take, if◌then◌else◌, Option, Some, None, Result, Ok, Err, codes}
 use Rattle.std.specs.List.{list_all, starts_with}
 use Rattle.stab_pauli.specs.declared.refusal.Refusal.{Refusal}
 use Rattle.stab_pauli.specs.declared.refusal.Refusal.TheVariants.{BadArguments, BadTarget, BadPairing, QubitOutOfRange, ObservableOutOfRange}
+use Rattle.stab_tableau.specs.Limits.{most_qubits}
 use Rattle.stab_lines.specs.declared.range.MeasureTarget.{MeasureTarget}
+use Rattle.stab_lines.specs.Limits.{most_observables, most_lookback}
 use Rattle.stab_lines.specs.Results.{◌>>=◌}
 use Rattle.stab_lines.specs.Lines.{is_digit, starts_with_byte, ends_with_byte}
 use Rattle.stab_lines.specs.Words.{is_some_word, is_number, value}
@@ -12,7 +14,7 @@ use Rattle.stab_lines.specs.Words.{is_some_word, is_number, value}
 unfoldable pub qubit_of : List ℕ → Result ℕ Refusal
 qubit_of word =
     if not (is_number word) then Err BadTarget
-    else if nat_lt (value word) 1024 then Ok (value word)
+    else if nat_lt (value word) most_qubits then Ok (value word)
     else Err QubitOutOfRange
 
 -- a qubit, perhaps with ! before it
@@ -32,7 +34,7 @@ is_lookback word = starts_with nat_eq word (codes "rec[-") && ends_with_byte wor
 -- a record: rec[-k] with k from 1 to 16,777,215
 unfoldable pub lookback_of : List ℕ → Result ℕ Refusal
 lookback_of word =
-    if is_lookback word && nat_lt 0 (value (lookback_digits word)) && nat_lt (value (lookback_digits word)) 16777216 then Ok (value (lookback_digits word))
+    if is_lookback word && nat_lt 0 (value (lookback_digits word)) && nat_le (value (lookback_digits word)) most_lookback then Ok (value (lookback_digits word))
     else Err BadTarget
 
 -- a count of rounds, at least one and of at most 18 digits; or digits that are none
@@ -72,4 +74,4 @@ number_of arguments = one_argument arguments >>= λ argument. if is_number argum
 
 -- an observable: a number below 4,096
 unfoldable pub observable_of : List ℕ → Result ℕ Refusal
-observable_of digits = if nat_lt (value digits) 4096 then Ok (value digits) else Err ObservableOutOfRange
+observable_of digits = if nat_lt (value digits) most_observables then Ok (value digits) else Err ObservableOutOfRange

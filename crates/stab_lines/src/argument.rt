@@ -12,6 +12,9 @@ use crate::word::{capped_value, first_piece, is_blank, is_number};
 use stab_pauli::Refusal;
 use std::alloc::Global;
 
+/// The greatest number of observables.
+const MOST_OBSERVABLES: u64 = 4096;
+
 fn is_coordinate_byte(byte: u8) -> bool
     ensures value { result ≡ coordinate_byte byte }
 {
@@ -82,8 +85,8 @@ pub fn only_number(arguments: &[u8]) -> Result<&[u8], Refusal>
 pub fn observable(digits: &[u8]) -> Result<Observable, Refusal>
     ensures value { result ≡ observable_of digits.now }
 {
-    let number = capped_value(digits, 4096);
-    if number < 4096 {
+    let number = capped_value(digits, MOST_OBSERVABLES);
+    if number < MOST_OBSERVABLES {
         Ok(Observable::new(number as u16))
     } else {
         Err(Refusal::ObservableOutOfRange)

@@ -1,4 +1,6 @@
 ghost use Rattle.std.specs.Prelude.{◌≡◌, ◌<◌, ◌≤◌, ◌^◌};
+ghost use Rattle.stab_tableau.specs.Limits.{most_qubits};
+ghost use Rattle.stab_lines.specs.Limits.{most_observables};
 
 use crate::sequence::Sequence;
 use std::marker::Model;
@@ -11,19 +13,20 @@ pub struct Qubit {
 
 impl Model for Qubit {
     ghost use Rattle.std.specs.Prelude.{ℕ, ◌<◌};
+    ghost use Rattle.stab_tableau.specs.Limits.{most_qubits};
 
     ghost Value = { ℕ };
 
     ghost view = { λ q. q.number };
 
-    ghost invariant = { λ q. q.number < 1024 };
+    ghost invariant = { λ q. q.number < most_qubits };
 
     ghost inverse = { λ n. record { number = n } };
 }
 
 impl Qubit {
     pub(crate) fn new(number: u16) -> Qubit
-        requires small { number < 1024 }
+        requires small { number < most_qubits }
         ensures value { result ≡ number }
     {
         Qubit { number }
@@ -32,7 +35,7 @@ impl Qubit {
     /// The number.
     pub fn number(self) -> usize
         ensures value { result ≡ self }
-        ensures small { result < 1024 }
+        ensures small { result < most_qubits }
     {
         usize::from(self.number)
     }
@@ -92,19 +95,20 @@ pub struct Observable {
 
 impl Model for Observable {
     ghost use Rattle.std.specs.Prelude.{ℕ, ◌<◌};
+    ghost use Rattle.stab_lines.specs.Limits.{most_observables};
 
     ghost Value = { ℕ };
 
     ghost view = { λ o. o.number };
 
-    ghost invariant = { λ o. o.number < 4096 };
+    ghost invariant = { λ o. o.number < most_observables };
 
     ghost inverse = { λ n. record { number = n } };
 }
 
 impl Observable {
     pub(crate) fn new(number: u16) -> Observable
-        requires small { number < 4096 }
+        requires small { number < most_observables }
         ensures value { result ≡ number }
     {
         Observable { number }
@@ -113,7 +117,7 @@ impl Observable {
     /// The number.
     pub fn number(self) -> u32
         ensures value { result ≡ self }
-        ensures small { result < 4096 }
+        ensures small { result < most_observables }
     {
         u32::from(self.number)
     }

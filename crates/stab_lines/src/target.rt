@@ -15,6 +15,12 @@ use crate::word::{capped_value, digits_in_front, ends_word, first_number, first_
 use stab_pauli::Refusal;
 use std::alloc::Global;
 
+/// The greatest number of qubits.
+const MOST_QUBITS: u64 = 1024;
+
+/// The greatest k of `rec[-k]`.
+const MOST_LOOKBACK: u64 = 16_777_215;
+
 /// A kind of target, which a word may mean.
 pub trait Target {
     /// What is kept of a target.
@@ -42,8 +48,8 @@ pub fn qubit(word: &[u8]) -> Result<Qubit, Refusal>
     if !is_number(word) {
         return Err(Refusal::BadTarget);
     }
-    let number = capped_value(word, 1024);
-    if number < 1024 {
+    let number = capped_value(word, MOST_QUBITS);
+    if number < MOST_QUBITS {
         Ok(Qubit::new(number as u16))
     } else {
         Err(Refusal::QubitOutOfRange)
@@ -73,7 +79,7 @@ pub fn qubit_at_sight(bytes: &[u8]) -> Option<(Qubit, &[u8])>
     ensures value { MatchOption result (Unit {0}) (λ p. BeginsWith qubit_of bytes.now p.0 p.1.now) }
     ensures shorter { MatchOption result (Unit {0}) (λ p. length p.1.now < length bytes.now) }
 {
-    match first_number(bytes, 1024) {
+    match first_number(bytes, MOST_QUBITS) {
         Some((number, rest)) => Some((Qubit::new(number as u16), rest)),
         None => None,
     }
@@ -128,8 +134,8 @@ pub fn record(word: &[u8]) -> Result<Lookback, Refusal>
     if !is_record(word) {
         return Err(Refusal::BadTarget);
     }
-    let number = capped_value(record_digits(word), 16_777_216);
-    if 0 < number && number < 16_777_216 {
+    let number = capped_value(record_digits(word), MOST_LOOKBACK + 1);
+    if 0 < number && number <= MOST_LOOKBACK {
         Ok(Lookback::new(number as u32))
     } else {
         Err(Refusal::BadTarget)
@@ -165,13 +171,13 @@ fn record_at_sight(bytes: &[u8]) -> Option<(u32, &[u8])>
         return None;
     }
     let behind = bytes.split_at(5).1;
-    let (length, number) = digits_in_front(behind, 16_777_216);
+    let (length, number) = digits_in_front(behind, MOST_LOOKBACK + 1);
     let closing = behind.split_at(length).1;
     if !starts_with(closing, b']') {
         return None;
     }
     let rest = closing.split_at(1).1;
-    if 0 < number && number < 16_777_216 && ends_word(rest) {
+    if 0 < number && number <= MOST_LOOKBACK && ends_word(rest) {
         Some((number as u32, rest))
     } else {
         None
