@@ -7,7 +7,7 @@ use Rattle.stab_pauli.specs.Refusals.{whole}
 use Rattle.stab_circuit.specs.declared.change.Change.{Change}
 use Rattle.stab_circuit.specs.declared.change.Edited.{Edited}
 use Rattle.stab_circuit.specs.Items.{OneItem, listed}
-use Rattle.stab_circuit.specs.Steps.{unroll}
+use Rattle.stab_circuit.specs.Steps.{unroll, steps_cap}
 use Rattle.stab_circuit.specs.Paths.{Path}
 use Rattle.stab_circuit.specs.Edits.{first_changed, old_end, new_end, IsInsert}
 
@@ -21,9 +21,9 @@ WantsMemory change refusal fault = IsInsert change × (refusal ≡ None) × (fau
 
 -- an edit tells the first changed step and both ends of the outermost item, up to 1,048,577; no end stands before the first
 pub record TellsSteps (change : Change) (path : Path) (old new : List OneItem) (told : Edited) : Type 0 where
-  pub first : told.first ≡ min (first_changed path old) 1048577
+  pub first : told.first ≡ min (first_changed path old) steps_cap
   pub within : first_changed path old ≤ length (unroll (listed old))
-  pub old_end : told.old_end ≡ min (old_end change path old) 1048577
-  pub new_end : told.new_end ≡ min (new_end change path new) 1048577
+  pub old_end : told.old_end ≡ min (old_end change path old) steps_cap
+  pub new_end : told.new_end ≡ min (new_end change path new) steps_cap
   pub old_order : told.first ≤ told.old_end
   pub new_order : told.first ≤ told.new_end

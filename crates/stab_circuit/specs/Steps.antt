@@ -183,6 +183,10 @@ observables_of items = past_named named_observables items
 abbrev pub most_steps : ℕ
 most_steps = 1048576
 
+-- where a count of steps stops: one more than the most
+abbrev pub steps_cap : ℕ
+steps_cap = most_steps + 1
+
 -- what refuses a whole circuit: a lookback, or else the number of steps
 unfoldable pub check_of : Items → Option Refusal
 check_of items =

@@ -1,5 +1,6 @@
 ghost use Rattle.std.specs.Prelude.{◌≡◌, ◌≤◌, length, None, IfOk, IfErr};
 ghost use Rattle.stab_circuit.specs.Items.{depth, listed};
+ghost use Rattle.stab_circuit.specs.Circuits.{most_bytes};
 ghost use Rattle.stab_circuit.specs.Steps.{check_of, Checks};
 ghost use Rattle.stab_circuit.specs.Views.{circuit_items};
 ghost use Rattle.stab_circuit.specs.Readings.{ReadsInput, ReadsItem, IsPlaced, is_of_circuit, is_of_item};
@@ -7,11 +8,11 @@ ghost use Rattle.stab_circuit.specs.inner.Texts.{ReadsCircuit};
 
 mod edits;
 
-use crate::input::read_text;
+use crate::input::{MOST_BYTES, read_text};
 use crate::item::Item;
 use crate::reader::read_lines;
 use crate::runs::{Run, Skipped, cut, front_summary, skip_runs};
-use crate::summary::Summary;
+use crate::summary::{STEPS_CAP, Summary};
 use stab_pauli::{Fault, Input, Refusal};
 use std::alloc::Global;
 use std::marker::Model;
@@ -59,7 +60,8 @@ impl Model for Circuit {
 impl Circuit {
     ghost use Rattle.std.specs.Prelude.{◌≡◌, ◌≤◌, [], All, min, length, IfOk};
     ghost use Rattle.stab_circuit.specs.Items.{listed, depth};
-    ghost use Rattle.stab_circuit.specs.Steps.{unroll, records_of, qubits_of, observables_of, check_of, check_within, Checks};
+    ghost use Rattle.stab_tableau.specs.Limits.{most_qubits};
+    ghost use Rattle.stab_circuit.specs.Steps.{unroll, records_of, qubits_of, observables_of, most_steps, steps_cap, check_of, check_within, Checks};
     ghost use Rattle.stab_circuit.specs.Cursors.{IsApart};
     ghost use Rattle.stab_circuit.specs.Views.{circuit_items};
     ghost use Rattle.stab_circuit.specs.inner.Runs.{AreCut, Skips};
@@ -104,7 +106,7 @@ impl Circuit {
 
     /// Leaves out steps from the first on, by whole runs of items.
     pub(crate) fn skip(&self, steps: u32) -> Skipped
-        requires few { steps ≤ 1048576 }
+        requires few { steps ≤ most_steps }
         ensures skips { Skips steps self.now result }
     {
         skip_runs(self.items.as_slice(), self.runs.as_slice(), steps)
@@ -114,7 +116,7 @@ impl Circuit {
     /// 1,024.
     pub fn qubits(&self) -> usize
         ensures value { result ≡ qubits_of (circuit_items self.now) }
-        ensures in_range { result ≤ 1024 }
+        ensures in_range { result ≤ most_qubits }
     {
         self.total.qubits as usize
     }
@@ -128,16 +130,16 @@ impl Circuit {
 
     /// The number of unrolled steps, or 1,048,577 where there are more.
     pub fn steps(&self) -> usize
-        ensures value { result ≡ min (length (unroll (circuit_items self.now))) 1048577 }
+        ensures value { result ≡ min (length (unroll (circuit_items self.now))) steps_cap }
     {
         self.total.steps as usize
     }
 
     /// The number of records, or 1,048,577 where there are more.
     pub fn records(&self) -> usize
-        ensures value { result ≡ min (records_of (unroll (circuit_items self.now))) 1048577 }
+        ensures value { result ≡ min (records_of (unroll (circuit_items self.now))) steps_cap }
     {
-        self.total.records.min(1_048_577) as usize
+        self.total.records.min(STEPS_CAP) as usize
     }
 
     /// Whether nothing refuses the circuit on n qubits: a qubit that isn't below n, then a
@@ -158,7 +160,7 @@ impl Circuit {
 
 /// The circuit that a text stands for.
 fn circuit_of_text(alloc: Global, text: &[u8]) -> Result<Circuit, Fault>
-    requires small { length text.now ≤ 16777216 }
+    requires small { length text.now ≤ most_bytes }
     ensures gives { ReadsCircuit text.now result }
     ensures only { IfErr result (IsPlaced is_of_circuit) }
 {
@@ -188,7 +190,7 @@ pub fn read_item(alloc: Global, text: &[u8]) -> Result<Item, Fault>
     ensures gives { ReadsItem text.now result }
     ensures only { IfErr result (IsPlaced is_of_item) }
 {
-    if text.len() > 16_777_216 {
+    if text.len() > MOST_BYTES {
         return Err(Fault::whole(Refusal::TooLong));
     }
     let mut items = read_lines(alloc, true, text)?;

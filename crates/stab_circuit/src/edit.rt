@@ -1,6 +1,6 @@
 ghost use Rattle.std.specs.Prelude.{◌≡◌, ◌≤◌, length, min, take, drop, slice_get, Err, OnOk, IfOk, IfErr};
 ghost use Rattle.stab_circuit.specs.Items.{listed};
-ghost use Rattle.stab_circuit.specs.Steps.{unroll};
+ghost use Rattle.stab_circuit.specs.Steps.{unroll, steps_cap};
 ghost use Rattle.stab_circuit.specs.Edits.{edited_in, inner, steps_in as steps_of_place};
 ghost use Rattle.stab_circuit.specs.inner.Summaries.{IsSummary};
 ghost use Rattle.stab_circuit.specs.inner.Splices.{splice_of, splice_at};
@@ -11,7 +11,7 @@ ghost use Rattle.stab_circuit.specs.inner.Runs.{AreCut};
 use crate::change::Change;
 use crate::item::{Item, Part, items_summary};
 use crate::runs::{Run, back_summary, front_summary};
-use crate::summary::Summary;
+use crate::summary::{STEPS_CAP, Summary};
 use stab_lines::Count;
 use stab_pauli::Refusal;
 
@@ -100,9 +100,9 @@ pub(crate) fn judge(
     place: usize,
     change: &Change,
 ) -> Result<Judgement, Refusal>
-    ensures value { result ≡ judgement_of (min (length (steps_within blocks.now place items.now)) 1048577) (splice_of change.now blocks.now place items.now) }
+    ensures value { result ≡ judgement_of (min (length (steps_within blocks.now place items.now)) steps_cap) (splice_of change.now blocks.now place items.now) }
     ensures small { IfOk result (λ j. IsSummary j.put) }
-    ensures within { IfOk result (λ j. (j.first ≤ j.behind) × (j.behind ≤ length items.now) × (j.within ≤ 1048577)) }
+    ensures within { IfOk result (λ j. (j.first ≤ j.behind) × (j.behind ≤ length items.now) × (j.within ≤ steps_cap)) }
     ensures front { OnOk result (BeginsWith (steps_of_place blocks.now place items.now) (unroll (listed items.now))) }
     ensures apart { OnOk result (IfOk (splice_of change.now blocks.now place items.now) PutsApart) }
     ensures within_put { IfOk result (λ j. j.within ≤ j.put.steps) }
@@ -129,7 +129,7 @@ pub(crate) fn judge(
 /// those that leave it, of these, and of those behind them.
 fn outcome_of(judgement: Judgement, front: Summary, gone: Summary, back: Summary) -> Outcome
     requires put { IsSummary judgement.put }
-    requires few { judgement.within ≤ 1048577 }
+    requires few { judgement.within ≤ steps_cap }
     requires front { IsSummary front }
     requires gone { IsSummary gone }
     requires back { IsSummary back }
@@ -142,9 +142,9 @@ fn outcome_of(judgement: Judgement, front: Summary, gone: Summary, back: Summary
     Outcome {
         total: front.then(judgement.put.then(back)),
         behind: judgement.behind,
-        first: first.min(1_048_577),
-        old_end: old_end.min(1_048_577),
-        new_end: new_end.min(1_048_577),
+        first: first.min(STEPS_CAP),
+        old_end: old_end.min(STEPS_CAP),
+        new_end: new_end.min(STEPS_CAP),
     }
 }
 
@@ -202,13 +202,13 @@ pub(crate) fn outcome_by_runs(
 /// How many steps stand before a place in nested blocks, or 1,048,577 where there are more.
 #[cycle(counting)]
 fn steps_in(items: &[Item], blocks: &[usize], place: usize) -> u32
-    ensures value { result ≡ min (length (steps_of_place blocks.now place items.now)) 1048577 }
+    ensures value { result ≡ min (length (steps_of_place blocks.now place items.now)) steps_cap }
 {
     match blocks.split_first() {
         None => steps_up_to(items, place),
         Some((block, others)) => {
             let front = steps_up_to(items, *block);
-            (front + steps_inside(items, *block, others, place)).min(1_048_577)
+            (front + steps_inside(items, *block, others, place)).min(STEPS_CAP)
         }
     }
 }
@@ -217,7 +217,7 @@ fn steps_in(items: &[Item], blocks: &[usize], place: usize) -> u32
 /// where there are more; none where the list has no block there.
 #[cycle(counting)]
 fn steps_inside(items: &[Item], block: usize, others: &[usize], place: usize) -> u32
-    ensures value { result ≡ min (length (steps_of_place others.now place (inner (slice_get items.now block)))) 1048577 }
+    ensures value { result ≡ min (length (steps_of_place others.now place (inner (slice_get items.now block)))) steps_cap }
 {
     match block_at(items, block) {
         Err(_) => 0,
@@ -227,7 +227,7 @@ fn steps_inside(items: &[Item], block: usize, others: &[usize], place: usize) ->
 
 /// How many steps the items before a place make, or 1,048,577 where they make more.
 fn steps_up_to(items: &[Item], place: usize) -> u32
-    ensures value { result ≡ min (length (unroll (listed (take place items.now)))) 1048577 }
+    ensures value { result ≡ min (length (unroll (listed (take place items.now)))) steps_cap }
 {
     let (front, _) = items.split_at(place.min(items.len()));
     items_summary(front).steps
@@ -237,13 +237,13 @@ fn steps_up_to(items: &[Item], place: usize) -> u32
 /// 1,048,577 where there are more.
 pub(crate) fn steps_by_runs(items: &[Item], runs: &[Run], blocks: &[usize], place: usize) -> u32
     requires cut { AreCut runs.now items.now }
-    ensures value { result ≡ min (length (steps_of_place blocks.now place items.now)) 1048577 }
+    ensures value { result ≡ min (length (steps_of_place blocks.now place items.now)) steps_cap }
 {
     match blocks.split_first() {
         None => steps_up_to_by_runs(items, runs, place),
         Some((block, others)) => {
             let front = steps_up_to_by_runs(items, runs, *block);
-            (front + steps_inside(items, *block, others, place)).min(1_048_577)
+            (front + steps_inside(items, *block, others, place)).min(STEPS_CAP)
         }
     }
 }
@@ -252,7 +252,7 @@ pub(crate) fn steps_by_runs(items: &[Item], runs: &[Run], blocks: &[usize], plac
 /// where they make more.
 fn steps_up_to_by_runs(items: &[Item], runs: &[Run], place: usize) -> u32
     requires cut { AreCut runs.now items.now }
-    ensures value { result ≡ min (length (unroll (listed (take place items.now)))) 1048577 }
+    ensures value { result ≡ min (length (unroll (listed (take place items.now)))) steps_cap }
 {
     front_summary(items, runs, place.min(items.len())).steps
 }

@@ -4,7 +4,8 @@ ghost use Rattle.stab_circuit.specs.inner.Texts.{ReadsText};
 use stab_pauli::{DeviceFault, Input, Refusal};
 use std::alloc::Global;
 
-const MOST_BYTES: usize = 16_777_216;
+/// The most bytes of a text.
+pub const MOST_BYTES: usize = 16_777_216;
 
 /// Reads all of the input. Behind the limit of a text it reads no further.
 pub fn read_text<I: Input>(alloc: Global, input: &mut I) -> Result<Vec<u8>, Refusal>

@@ -1,5 +1,5 @@
 ghost use Rattle.std.specs.Prelude.{◌≡◌, ◌≤◌, length, IfOk};
-ghost use Rattle.stab_circuit.specs.Circuits.{meaning_after as meaning_after_of};
+ghost use Rattle.stab_circuit.specs.Circuits.{most_bytes, meaning_after as meaning_after_of};
 ghost use Rattle.stab_circuit.specs.Items.{listed, depth};
 ghost use Rattle.stab_circuit.specs.inner.Readers.{ReadsItems, reading, line_fault};
 
@@ -167,7 +167,7 @@ fn fault_at(refusal: Refusal, line: u64) -> Fault
 /// The items that a text stands for, perhaps as one item's text.
 #[tactic(auto, using(crate::proofs::ReaderLemmas::lines_taken, crate::proofs::ReaderLemmas::lines_ended, crate::proofs::ReaderLemmas::stepped_shallow, crate::proofs::ReaderLemmas::finished_shallow))]
 pub fn read_lines(alloc: Global, single: bool, text: &[u8]) -> Result<Vec<Item>, Fault>
-    requires small { length text.now ≤ 16777216 }
+    requires small { length text.now ≤ most_bytes }
     ensures gives { ReadsItems result (reading single text.now) }
     ensures shallow { IfOk result (λ v. depth (listed v.items) ≤ 16) }
 {

@@ -1,6 +1,6 @@
 ghost use Rattle.std.specs.Prelude.{◌≡◌, ◌≤◌, ◌<◌, ◌+◌, ◌-◌, ◌^◌, ℕ, List, All, length, take, drop, slice_set, IfOk, OnOk};
 ghost use Rattle.stab_circuit.specs.Items.{OneItem, listed};
-ghost use Rattle.stab_circuit.specs.Steps.{unroll};
+ghost use Rattle.stab_circuit.specs.Steps.{unroll, most_steps};
 ghost use Rattle.stab_circuit.specs.Cursors.{IsApart};
 ghost use Rattle.stab_circuit.specs.inner.Summaries.{summary_of, IsSummary};
 ghost use Rattle.stab_circuit.specs.inner.Runs.{run_of as run_value, run_items, AreRuns, AreCut, IsRun, IsFound, Skips};
@@ -132,7 +132,7 @@ pub(crate) fn back_summary(items: &[Item], runs: &[Run], place: usize) -> Summar
 /// Leaves out steps, by whole runs.
 pub(crate) fn skip_runs(items: &[Item], runs: &[Run], steps: u32) -> Skipped
     requires cut { AreCut runs.now items.now }
-    requires few { steps ≤ 1048576 }
+    requires few { steps ≤ most_steps }
     ensures skips { Skips steps items.now result }
 {
     let mut skipped = Skipped {

@@ -1,7 +1,9 @@
 ghost use Rattle.std.specs.Prelude.{◌≡◌, ◌≤◌, ◌*◌, min, length, ◌∷◌, [], All};
+ghost use Rattle.stab_tableau.specs.Limits.{most_qubits};
+ghost use Rattle.stab_lines.specs.Limits.{most_lookback};
 ghost use Rattle.stab_lines.specs.Targets.{pair_qubits};
 ghost use Rattle.stab_circuit.specs.Cursors.{IsApart};
-ghost use Rattle.stab_circuit.specs.Steps.{steps_of, past as past_of, target_qubits, factor_qubits, product_qubits, controlled_qubits};
+ghost use Rattle.stab_circuit.specs.Steps.{steps_of, past as past_of, target_qubits, factor_qubits, product_qubits, controlled_qubits, steps_cap};
 ghost use Rattle.stab_circuit.specs.inner.Summaries.{greatest as greatest_of, looks_back, furthest as furthest_of, kind_summary_of, IsPairApart, IsSwapApart, IsProductApart, IsSummary};
 
 use stab_lines::{ControlledPair, Factor, Kind, Lookbacks, MeasureTarget, Pair, Product, Qubit};
@@ -20,10 +22,16 @@ pub struct Summary {
     pub depth: u32,
 }
 
-const MOST_STEPS: u32 = 1_048_577;
+/// The most steps of a circuit.
+const MOST_STEPS: u32 = 1_048_576;
 
+/// Where a count of steps stops: one more than the most.
+pub const STEPS_CAP: u32 = 1_048_577;
+
+/// Where a count of records stops: the furthest that one is looked for.
 const MOST_RECORDS: u32 = 16_777_215;
 
+/// Where a count of nested blocks stops: one more than the most.
 const MOST_DEPTH: u32 = 17;
 
 impl Summary {
@@ -45,7 +53,7 @@ impl Summary {
     {
         if self.reach > 0 {
             Some(Refusal::LookbackTooFar)
-        } else if self.steps > 1_048_576 {
+        } else if self.steps > MOST_STEPS {
             Some(Refusal::TooManySteps)
         } else {
             None
@@ -60,7 +68,7 @@ impl Summary {
         ensures small { IsSummary result }
     {
         Summary {
-            steps: (self.steps + next.steps).min(MOST_STEPS),
+            steps: (self.steps + next.steps).min(STEPS_CAP),
             records: (self.records + next.records).min(MOST_RECORDS),
             reach: self.reach.max(next.reach.saturating_sub(self.records)),
             qubits: self.qubits.max(next.qubits),
@@ -76,7 +84,7 @@ impl Summary {
         ensures small { IsSummary result }
     {
         Summary {
-            steps: capped_product(count, self.steps, MOST_STEPS),
+            steps: capped_product(count, self.steps, STEPS_CAP),
             records: capped_product(count, self.records, MOST_RECORDS),
             depth: (self.depth + 1).min(MOST_DEPTH),
             ..self
@@ -114,7 +122,7 @@ fn greatest(numbers: &[u32]) -> u32
 #[tactic(auto, using(crate::proofs::SummaryLemmas::past_dropped))]
 fn past(qubits: &[Qubit]) -> u32
     ensures value { result ≡ past_of qubits.now }
-    ensures small { result ≤ 1024 }
+    ensures small { result ≤ most_qubits }
 {
     let mut past = 0;
     for qubit in qubits {
@@ -126,7 +134,7 @@ fn past(qubits: &[Qubit]) -> u32
 #[tactic(auto, using(crate::proofs::SummaryLemmas::past_pairs_dropped, crate::proofs::StepApartLemmas::All_taken, crate::proofs::StepApartLemmas::All_whole))]
 fn past_pairs(pairs: &[Pair]) -> u32
     ensures value { result ≡ past_of (pair_qubits pairs.now) }
-    ensures small { result ≤ 1024 }
+    ensures small { result ≤ most_qubits }
     ensures apart { All IsSwapApart pairs.now }
 {
     let mut past = 0;
@@ -140,7 +148,7 @@ fn past_pairs(pairs: &[Pair]) -> u32
 #[tactic(auto, using(crate::proofs::SummaryLemmas::past_targets_dropped))]
 fn past_targets(targets: &[MeasureTarget]) -> u32
     ensures value { result ≡ past_of (target_qubits targets.now) }
-    ensures small { result ≤ 1024 }
+    ensures small { result ≤ most_qubits }
 {
     let mut past = 0;
     for target in targets {
@@ -152,7 +160,7 @@ fn past_targets(targets: &[MeasureTarget]) -> u32
 #[tactic(auto, using(crate::proofs::SummaryLemmas::past_factors_dropped))]
 fn past_factors(factors: &[Factor]) -> u32
     ensures value { result ≡ past_of (factor_qubits factors.now) }
-    ensures small { result ≤ 1024 }
+    ensures small { result ≤ most_qubits }
 {
     let mut past = 0;
     for factor in factors {
@@ -164,7 +172,7 @@ fn past_factors(factors: &[Factor]) -> u32
 #[tactic(auto, using(crate::proofs::SummaryLemmas::past_products_dropped, crate::proofs::StepApartLemmas::All_taken, crate::proofs::StepApartLemmas::All_whole))]
 fn past_products(products: &[Product]) -> u32
     ensures value { result ≡ past_of (product_qubits products.now) }
-    ensures small { result ≤ 1024 }
+    ensures small { result ≤ most_qubits }
     ensures apart { All IsProductApart products.now }
 {
     let mut past = 0;
@@ -177,7 +185,7 @@ fn past_products(products: &[Product]) -> u32
 /// How many qubits a pair of a controlled gate names, up to the greatest.
 fn past_pair(pair: &ControlledPair) -> u32
     ensures value { result ≡ past_of (controlled_qubits (pair.now ∷ [])) }
-    ensures small { result ≤ 1024 }
+    ensures small { result ≤ most_qubits }
     ensures apart { IsPairApart pair.now }
 {
     match pair {
@@ -192,7 +200,7 @@ fn past_pair(pair: &ControlledPair) -> u32
 #[tactic(auto, using(crate::proofs::SummaryLemmas::past_controlled_dropped, crate::proofs::StepApartLemmas::All_taken, crate::proofs::StepApartLemmas::All_whole))]
 fn past_controlled(pairs: &[ControlledPair]) -> u32
     ensures value { result ≡ past_of (controlled_qubits pairs.now) }
-    ensures small { result ≤ 1024 }
+    ensures small { result ≤ most_qubits }
     ensures apart { All IsPairApart pairs.now }
 {
     let mut past = 0;
@@ -205,7 +213,7 @@ fn past_controlled(pairs: &[ControlledPair]) -> u32
 /// How far back a pair of a controlled gate looks, or 0.
 fn reach_of_pair(pair: &ControlledPair) -> u32
     ensures value { result ≡ looks_back pair.now }
-    ensures small { result ≤ 16777215 }
+    ensures small { result ≤ most_lookback }
 {
     match pair {
         ControlledPair::Qubits(_) => 0,
@@ -216,7 +224,7 @@ fn reach_of_pair(pair: &ControlledPair) -> u32
 #[tactic(auto, using(crate::proofs::SummaryLemmas::furthest_dropped))]
 fn furthest(pairs: &[ControlledPair]) -> u32
     ensures value { result ≡ furthest_of pairs.now }
-    ensures small { result ≤ 16777215 }
+    ensures small { result ≤ most_lookback }
 {
     let mut furthest = 0;
     for pair in pairs {
@@ -227,12 +235,12 @@ fn furthest(pairs: &[ControlledPair]) -> u32
 
 /// The summary of so many steps on so many qubits that make no records.
 fn plain(steps: usize, qubits: u32) -> Summary
-    requires few { qubits ≤ 1024 }
-    ensures value { result ≡ record { steps = min steps 1048577; records = 0; reach = 0; qubits = qubits; observables = 0; depth = 0 } }
+    requires few { qubits ≤ most_qubits }
+    ensures value { result ≡ record { steps = min steps steps_cap; records = 0; reach = 0; qubits = qubits; observables = 0; depth = 0 } }
     ensures small { IsSummary result }
 {
     Summary {
-        steps: capped(steps, MOST_STEPS),
+        steps: capped(steps, STEPS_CAP),
         qubits,
         ..Summary::NONE
     }
@@ -254,7 +262,7 @@ fn look(records: &Lookbacks, observables: u32) -> Summary
 
 /// The summary of the pairs of a controlled gate.
 fn controlled(pairs: &[ControlledPair]) -> Summary
-    ensures value { result ≡ record { steps = min (length pairs.now) 1048577; records = 0; reach = furthest_of pairs.now; qubits = past_of (controlled_qubits pairs.now); observables = 0; depth = 0 } }
+    ensures value { result ≡ record { steps = min (length pairs.now) steps_cap; records = 0; reach = furthest_of pairs.now; qubits = past_of (controlled_qubits pairs.now); observables = 0; depth = 0 } }
     ensures apart { All IsPairApart pairs.now }
     ensures small { IsSummary result }
 {
@@ -266,8 +274,8 @@ fn controlled(pairs: &[ControlledPair]) -> Summary
 
 /// The summary of so many steps on so many qubits that make a record each.
 fn measurement(steps: usize, qubits: u32) -> Summary
-    requires few { qubits ≤ 1024 }
-    ensures value { result ≡ record { steps = min steps 1048577; records = min steps 16777215; reach = 0; qubits = qubits; observables = 0; depth = 0 } }
+    requires few { qubits ≤ most_qubits }
+    ensures value { result ≡ record { steps = min steps steps_cap; records = min steps most_lookback; reach = 0; qubits = qubits; observables = 0; depth = 0 } }
     ensures small { IsSummary result }
 {
     Summary {

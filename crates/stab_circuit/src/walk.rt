@@ -42,7 +42,7 @@ pub struct Walk<'a> {
 impl<'a> Walk<'a> {
     ghost use Rattle.std.specs.Prelude.{◌≡◌, ◌≤◌, ◌<◌, ◌+◌, ◌-◌, ◌*◌, ◌∷◌, ◌++◌, [], None, min, length, drop, IfOk, IfSome, IfNone};
     ghost use Rattle.stab_circuit.specs.Items.{depth, listed};
-    ghost use Rattle.stab_circuit.specs.Steps.{unroll, steps_of, rounds as rounds_of};
+    ghost use Rattle.stab_circuit.specs.Steps.{unroll, steps_of, rounds as rounds_of, most_steps, steps_cap};
     ghost use Rattle.stab_circuit.specs.Cursors.{step_shown, IsApart};
     ghost use Rattle.stab_circuit.specs.inner.Walks.{kind_steps, ahead, walk_left, walk_weight, weight, weight_at, IsWalk, SameKind, Takes, GoesOn, Passes};
 
@@ -222,8 +222,8 @@ impl<'a> Walk<'a> {
         requires walks { IsWalk self.old }
         requires free { self.old.kind ≡ None }
         requires room { depth (listed body.now) + 1 + length self.old.around.items ≤ 16 }
-        requires kept { steps ≡ min (length (unroll (listed body.now))) 1048577 }
-        requires few { count ≤ 1048576 }
+        requires kept { steps ≡ min (length (unroll (listed body.now))) steps_cap }
+        requires few { count ≤ most_steps }
         ensures walks { IsWalk self.new }
         ensures left { drop result (walk_left self.new) ≡ drop count (rounds_of rounds (unroll (listed body.now)) ++ ahead self.old) }
         ensures fewer { result ≤ count }
@@ -242,7 +242,7 @@ impl<'a> Walk<'a> {
     fn pass(&mut self, count: u32) -> Option<u32>
         requires walks { IsWalk self.old }
         requires free { self.old.kind ≡ None }
-        requires few { count ≤ 1048576 }
+        requires few { count ≤ most_steps }
         ensures walks { IsWalk self.new }
         ensures passes { Passes count self.old self.new result }
     {
@@ -266,7 +266,7 @@ impl<'a> Walk<'a> {
     pub fn skip(&mut self, count: u32)
         requires walks { IsWalk self.old }
         requires free { self.old.kind ≡ None }
-        requires few { count ≤ 1048576 }
+        requires few { count ≤ most_steps }
         ensures walks { IsWalk self.new }
         ensures left { walk_left self.new ≡ drop count (walk_left self.old) }
     {

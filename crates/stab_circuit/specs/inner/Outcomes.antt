@@ -5,7 +5,7 @@ use Rattle.stab_circuit.specs.declared.summary.Summary.{Summary}
 use Rattle.stab_circuit.specs.declared.edit.Judgement.{Judgement}
 use Rattle.stab_circuit.specs.declared.edit.Outcome.{Outcome}
 use Rattle.stab_circuit.specs.Items.{OneItem, listed}
-use Rattle.stab_circuit.specs.Steps.{Step, unroll}
+use Rattle.stab_circuit.specs.Steps.{Step, unroll, steps_cap}
 use Rattle.stab_circuit.specs.Cursors.{IsApart}
 use Rattle.stab_circuit.specs.Paths.{Path}
 use Rattle.stab_circuit.specs.Edits.{edited, inner, steps_in, steps_before, first_changed, behind_taken, outermost, old_end, new_end}
@@ -31,9 +31,9 @@ abbrev pub outcome_by : Judgement → Summary → Summary → Summary → Outcom
 outcome_by j front gone back = record {
   total = followed_by front (followed_by j.put back);
   behind = j.behind;
-  first = min (front.steps + j.within) 1048577;
-  old_end = min (front.steps + gone.steps) 1048577;
-  new_end = min (front.steps + j.put.steps) 1048577;
+  first = min (front.steps + j.within) steps_cap;
+  old_end = min (front.steps + gone.steps) steps_cap;
+  new_end = min (front.steps + j.put.steps) steps_cap;
 }
 
 -- this is what a list comes to by a change at a path, which leads to a place
@@ -41,10 +41,10 @@ pub record IsOutcome (change : Change) (path : Path) (xs : List OneItem) (o : Ou
   pub total : Ok o.total ≡ summed (edited change path xs)
   pub small : IsSummary o.total
   pub behind : o.behind ≡ outermost (behind_taken change) path
-  pub first : o.first ≡ min (first_changed path xs) 1048577
+  pub first : o.first ≡ min (first_changed path xs) steps_cap
   pub front : BeginsWith (steps_before path xs) (unroll (listed xs))
-  pub old_end : o.old_end ≡ min (old_end change path xs) 1048577
-  pub new_end : IfOk (edited change path xs) (λ new. o.new_end ≡ min (new_end change path new) 1048577)
+  pub old_end : o.old_end ≡ min (old_end change path xs) steps_cap
+  pub new_end : IfOk (edited change path xs) (λ new. o.new_end ≡ min (new_end change path new) steps_cap)
   pub apart : IfOk (edited change path xs) AreApart
   pub old_order : o.first ≤ o.old_end
   pub new_order : o.first ≤ o.new_end

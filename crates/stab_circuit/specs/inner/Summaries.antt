@@ -2,14 +2,16 @@
 use Rattle.std.specs.Prelude.{◌≡◌, ◌≢◌, false, ℕ, ◌+◌, ◌*◌, ◌-◌, ◌≤◌, max, min, nat_lt, List, [], ◌∷◌, length, if◌then◌else◌, Option, Some, None}
 use Rattle.stab_pauli.specs.declared.refusal.Refusal.{Refusal}
 use Rattle.stab_pauli.specs.declared.refusal.Refusal.TheVariants.{LookbackTooFar, TooManySteps}
+use Rattle.stab_tableau.specs.Limits.{most_qubits}
 use Rattle.stab_circuit.specs.declared.summary.Summary.{Summary}
 use Rattle.stab_lines.specs.declared.control.ControlledPair.{ControlledPair}
 use Rattle.stab_lines.specs.declared.control.ControlledPair.TheVariants as pair
 use Rattle.stab_lines.specs.declared.product.Factor.{Factor}
+use Rattle.stab_lines.specs.Limits.{most_lookback}
 use Rattle.stab_lines.specs.Products.{names_twice}
 use Rattle.stab_lines.specs.declared.operation.Kind.{Kind}
 use Rattle.stab_circuit.specs.Items.{Items, depth}
-use Rattle.stab_circuit.specs.Steps.{Step, makes, records_of, lookbacks, steps_of, unroll, past, named_qubits, named_observables, qubits_of, observables_of}
+use Rattle.stab_circuit.specs.Steps.{Step, makes, records_of, lookbacks, steps_of, unroll, past, named_qubits, named_observables, qubits_of, observables_of, most_steps, steps_cap}
 
 -- the greatest number, or 0
 abbrev pub greatest : List ℕ → ℕ
@@ -34,8 +36,8 @@ reach (s ∷ ss) = max (greatest (lookbacks s)) (reach ss - makes s)
 -- the summary of steps that name so many qubits and observables, in so many blocks: up to 1,048,577 steps, 16,777,215 records and 17 blocks
 abbrev pub summed : List Step → ℕ → ℕ → ℕ → Summary
 summed steps qubits observables deep = record {
-  steps = min (length steps) 1048577;
-  records = min (records_of steps) 16777215;
+  steps = min (length steps) steps_cap;
+  records = min (records_of steps) most_lookback;
   reach = reach steps;
   qubits = qubits;
   observables = observables;
@@ -65,17 +67,17 @@ IsProductApart factors = names_twice factors ≡ false
 
 -- a summary's numbers are within their bounds
 pub record IsSummary (s : Summary) : Type 0 where
-  pub steps : s.steps ≤ 1048577
-  pub records : s.records ≤ 16777215
-  pub reach : s.reach ≤ 16777215
-  pub qubits : s.qubits ≤ 1024
+  pub steps : s.steps ≤ steps_cap
+  pub records : s.records ≤ most_lookback
+  pub reach : s.reach ≤ most_lookback
+  pub qubits : s.qubits ≤ most_qubits
   pub depth : s.depth ≤ 17
 
 -- the summary of items with others after them
 abbrev pub followed_by : Summary → Summary → Summary
 followed_by s t = record {
-  steps = min (s.steps + t.steps) 1048577;
-  records = min (s.records + t.records) 16777215;
+  steps = min (s.steps + t.steps) steps_cap;
+  records = min (s.records + t.records) most_lookback;
   reach = max s.reach (t.reach - s.records);
   qubits = max s.qubits t.qubits;
   observables = max s.observables t.observables;
@@ -84,8 +86,8 @@ followed_by s t = record {
 
 -- the summary of so many rounds, of which the first reaches furthest
 abbrev pub repeated : ℕ → Summary → Summary
-repeated count s = record s { steps = min (count * s.steps) 1048577; records = min (count * s.records) 16777215; depth = min (s.depth + 1) 17 }
+repeated count s = record s { steps = min (count * s.steps) steps_cap; records = min (count * s.records) most_lookback; depth = min (s.depth + 1) 17 }
 
 -- what refuses a whole circuit of this summary
 abbrev pub judged : Summary → Option Refusal
-judged s = if nat_lt 0 s.reach then Some LookbackTooFar else if nat_lt 1048576 s.steps then Some TooManySteps else None
+judged s = if nat_lt 0 s.reach then Some LookbackTooFar else if nat_lt most_steps s.steps then Some TooManySteps else None

@@ -67,6 +67,7 @@ impl Circuit {
     ghost use Rattle.stab_pauli.specs.Refusals.{whole};
     ghost use Rattle.stab_pauli.specs.declared.refusal.Refusal.TheVariants.{OutOfMemory};
     ghost use Rattle.stab_circuit.specs.declared.change.Change.TheVariants.{Insert as inserting, Replace as replacing, Delete as deleting};
+    ghost use Rattle.stab_circuit.specs.Steps.{steps_cap};
     ghost use Rattle.stab_circuit.specs.Edits.{edited, edit_refusal, verdict, taken, put_item, first_changed, IsInsert};
     ghost use Rattle.stab_circuit.specs.Editings.{TellsSteps, IsVerdict, WantsMemory};
     ghost use Rattle.stab_circuit.specs.inner.Outcomes.{IsOutcome};
@@ -74,7 +75,7 @@ impl Circuit {
     /// How many steps stand before the place of a path, in the first round of each block around it,
     /// or 1,048,577 where there are more.
     pub fn steps_before(&self, path: Path) -> usize
-        ensures value { result ≡ min (first_changed path self.now) 1048577 }
+        ensures value { result ≡ min (first_changed path self.now) steps_cap }
     {
         let items = self.items.as_slice();
         let runs = self.runs.as_slice();

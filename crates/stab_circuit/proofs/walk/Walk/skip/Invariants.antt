@@ -1,11 +1,12 @@
 use Rattle.std.proofs.Common.{◌≡◌, ◌≤◌, ◌<◌, None, drop}
+use Rattle.stab_circuit.specs.Steps.{most_steps}
 use Rattle.stab_circuit.specs.inner.Walks.{walk_left, walk_weight, IsWalk}
 use Rattle.stab_circuit.proofs.walk.Walk.skip.Given as goal
 
 abbrev pub invariant-walk : goal.invariant-walk
 invariant-walk l = record {
   walks : IsWalk l.self;
-  few : l.left ≤ 1048576;
+  few : l.left ≤ most_steps;
   free : 0 < l.left → l.self.kind ≡ None;
   jumped : drop l.left (walk_left l.self) ≡ drop l.count (walk_left l.initial.self);
 }
