@@ -35,6 +35,8 @@ pub mod TableauColumnLemmas
 pub mod BitLemmas
 pub mod ReducedLemmas
 pub mod RowsTellLemmas
+pub mod SearchLemmas
+pub mod RowsExistLemmas
 pub mod ExchangeLemmas
 pub mod EliminationStepLemmas
 pub mod EliminationEndLemmas

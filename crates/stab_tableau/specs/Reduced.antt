@@ -49,6 +49,14 @@ TracesHaveOneList =
     (n : ℕ) (trace : List Happening) → Fits n trace → IsSound trace → (a b : List Signed) →
     AreReduced n (member trace) a → AreReduced n (member trace) b → a ≡ b
 
+-- a stabiliser group has a list of reduced rows
+abbrev pub GroupsHaveReducedRows : Type 0
+GroupsHaveReducedRows = (n : ℕ) (member : Signed → Bool) → IsStabiliserGroup n member → (rows : List Signed) × AreReduced n member rows
+
+-- so has the group of a sound trace
+abbrev pub TracesHaveReducedRows : Type 0
+TracesHaveReducedRows = (n : ℕ) (trace : List Happening) → Fits n trace → IsSound trace → (rows : List Signed) × AreReduced n (member trace) rows
+
 -- two stabiliser groups are one exactly where their reduced rows are the same
 abbrev pub SameGroupSameRows : Type 0
 SameGroupSameRows =
