@@ -5,6 +5,7 @@ pub mod RowLaws
 pub mod LineLaws
 pub mod PlaceLaws
 pub mod AnswerLaws
+pub mod AnswerExistLaws
 pub mod ReadingLaws
 pub mod TellingLaws
 pub mod ScriptRunLaws

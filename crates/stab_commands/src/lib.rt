@@ -9,7 +9,7 @@
 //! - `script`: what the lines of an edit script ask for, and how replies are gathered.
 //! - `editor`, `session_answers`: a script as it comes, each request answered from a session.
 //! - `edit`: the command that edits a circuit by a script.
-//! - `laws`: what `stabilisers` writes tells the group, and a script has one answer.
+//! - `laws`: what `stabilisers` writes tells the group, and a script has one answer and no other.
 //!
 //! Proved on `run_sample` and `run_detect`: a call ends by cases. The text was refused, by its own fault
 //! or unread, and the output is untouched; or it was given whole, and the output took what the

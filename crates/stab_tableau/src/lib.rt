@@ -10,8 +10,8 @@
 //! - `group`: whether two states have one group, and reading stabilisers.
 //! - `elimination`: rows that generate a group are made its reduced rows.
 //! - `gate_laws`: a gate is undone by its way back, and keeps products and commuting.
-//! - `laws`: the members of a sound trace are a group, outcomes keep it sound, and what is free; a group has at most one
-//!   list of reduced rows, which tells it.
+//! - `laws`: the members of a sound trace are a group, outcomes keep it sound, and what is free; a group has one
+//!   list of reduced rows and no other, which tells it.
 //!
 //! `specs/` says by the stabiliser rules which signed Pauli strings stabilise a state; `specs/inner/` has what only private
 //! contracts cite.

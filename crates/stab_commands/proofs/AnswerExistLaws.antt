@@ -1,0 +1,118 @@
+-- Laws of answers: on items that can be edited each request has one, which leaves such items; so have requests one after another.
+use Rattle.std.proofs.Common.{◌≡◌, ◌≤◌, ℕ, Bool, true, false, nat_lt, List, [], ◌∷◌, refl, sym, subst, Option, Some, None, Result, Ok, Err, inl, inr, if◌then◌else◌, arith}
+use Rattle.std.specs.List.{slice_split}
+use Rattle.std.proofs.lemmas.Bool.{ltb-true, ltb-false}
+use Rattle.stab_pauli.specs.declared.refusal.Refusal.{Refusal}
+use Rattle.stab_pauli.specs.declared.refusal.Refusal.TheVariants.{TooDeep, QubitOutOfRange}
+use Rattle.stab_pauli.specs.declared.refusal.Fault.{Fault}
+use Rattle.stab_tableau.specs.Reduced.{TracesHaveOneList, TracesHaveReducedRows}
+use Rattle.stab_lines.specs.Lines.{is_byte}
+use Rattle.stab_circuit.specs.Items.{Items, OneItem, done, before, listed, entries, depth}
+use Rattle.stab_circuit.specs.Paths.{Path}
+use Rattle.stab_circuit.specs.declared.change.Change.{Change}
+use Rattle.stab_circuit.specs.declared.change.Change.TheVariants as change
+use Rattle.stab_circuit.specs.Edits.{edited, verdict}
+use Rattle.stab_circuit.specs.Steps.{qubits_of, check_of, check_within}
+use Rattle.stab_circuit.specs.Circuits.{item_fault, StandsForOne}
+use Rattle.stab_circuit.specs.Readings.{IsCircuit}
+use Rattle.stab_circuit.specs.Laws.{AreOfLines, PutsLines, TextsAreLines, ItemTextsAreLines, ItemTextsHaveOneMeaning, EditedItemsAreOfLines}
+use Rattle.stab_circuit.proofs.EditLemmas.{listed-entries}
+use Rattle.stab_session.specs.Runs.{run_of}
+use Rattle.stab_session.specs.Laws.{IsSoundRun, RunsAreSound}
+use Rattle.stab_results.specs.Formats.{f01_bytes}
+use Rattle.stab_circuit.specs.Prints.{printed}
+use Rattle.stab_commands.specs.Stabilisers.{lines_of}
+use Rattle.stab_commands.specs.Scripts.{Setting, Request, put, delete, show, refuse, Answer, IsPut, Shows, IsAnswer, IsAnswerToAll, both, unless, judged, decided, refusing, replying, change_of, edited_items}
+use Rattle.stab_commands.specs.ScriptLaws.{CanBeEdited}
+use Rattle.stab_commands.specs.declared.script.request.ItemEdit.{ItemEdit}
+use Rattle.stab_commands.specs.declared.script.request.ItemEdit.TheVariants.{Insert, Replace}
+use Rattle.stab_commands.specs.declared.script.request.Show.{Show}
+use Rattle.stab_commands.specs.declared.script.request.Show.TheVariants.{Measurements, Free, Detectors, Observables, Stabilisers, Circuit}
+
+-- the items of a circuit's text can be edited
+pub circuit_can : TextsAreLines → (n : ℕ) (text : List ℕ) (items : Items) → IsCircuit text items → qubits_of items ≤ n → CanBeEdited n items
+circuit_can lines n text items is le = ((slice_split (is_byte 10) text, lines text items is.0), by_test (nat_lt n (qubits_of items)) refl)
+  where
+    by_test : (b : Bool) → nat_lt n (qubits_of items) ≡ b → (if b then Some QubitOutOfRange else check_of items) ≡ None
+    by_test false e = is.1
+    by_test true e = let lt = ltb-true n (qubits_of items) e in absurd (omega arith)
+
+-- a verdict that lets an edit pass
+verdict_passed : (n : ℕ) (ys : List OneItem) → verdict n (Ok ys) ≡ None → (depth (listed ys) ≤ 16) × (check_within n (listed ys) ≡ None)
+verdict_passed n ys e = by_test (nat_lt 16 (depth (listed ys))) refl e
+  where
+    by_test : (b : Bool) → nat_lt 16 (depth (listed ys)) ≡ b → (if b then Some TooDeep else check_within n (listed ys)) ≡ None
+        → (depth (listed ys) ≤ 16) × (check_within n (listed ys) ≡ None)
+    by_test true t v = absurd (cc)
+    by_test false t v = ((let le = ltb-false 16 (depth (listed ys)) t in omega arith), v)
+
+-- an edit that puts in an item of lines leaves items that can be edited, made or refused
+edit_keeps : EditedItemsAreOfLines → (n : ℕ) (what : Change) (place : Path) (items : Items) → PutsLines what → CanBeEdited n items
+    → CanBeEdited n (decided items (edited_items n what place items)).items
+edit_keeps edits n what place items puts can = by_result (edited what place (entries items)) refl
+  where
+    by_verdict : (list : List OneItem) → edited what place (entries items) ≡ Ok list → (v : Option Refusal) → verdict n (Ok list) ≡ v
+        → CanBeEdited n (decided items (unless v (listed list))).items
+    by_verdict list e (Some r) given = can
+    by_verdict list e None given =
+        let passed = verdict_passed n list given in
+        (edits what place (entries items) list (subst AreOfLines (sym (listed-entries items)) can.0) puts e passed.0, passed.1)
+
+    by_result : (r : Result (List OneItem) Refusal) → edited what place (entries items) ≡ r → CanBeEdited n (decided items (judged n r)).items
+    by_result (Ok list) e = by_verdict list e (verdict n (Ok list)) refl
+    by_result (Err r) e = can
+
+-- the item of a text is of lines
+puts_lines : ItemTextsAreLines → (text : List ℕ) (x : OneItem) → StandsForOne text x → (edit : ItemEdit) → PutsLines (change_of edit x)
+puts_lines lines text x stands Insert y e = let same : x ≡ y = cc in subst (λ z. AreOfLines (before z done)) same (slice_split (is_byte 10) text, lines text x stands)
+puts_lines lines text x stands Replace y e = let same : x ≡ y = cc in subst (λ z. AreOfLines (before z done)) same (slice_split (is_byte 10) text, lines text x stands)
+
+puts_none : PutsLines change.Delete
+puts_none y e = absurd (cc)
+
+-- something is shown, whatever is asked for
+text_shown : TracesHaveReducedRows → TracesHaveOneList → (n : ℕ) (coins : ℕ → Bool) (items : Items) → IsSoundRun n coins items → (what : Show)
+    → (reply : List ℕ) × Shows n (run_of n coins items) items what reply
+text_shown some one n coins items sound Measurements = (f01_bytes (run_of n coins items).records, refl)
+text_shown some one n coins items sound Free = (f01_bytes (run_of n coins items).free, refl)
+text_shown some one n coins items sound Detectors = (f01_bytes (run_of n coins items).detectors, refl)
+text_shown some one n coins items sound Observables = (f01_bytes (run_of n coins items).observables, refl)
+text_shown some one n coins items sound Stabilisers =
+    let rows = some n (run_of n coins items).trace sound.0 sound.1 in
+    (lines_of rows.0, (rows.0, (rows.1, λ other are. one n (run_of n coins items).trace sound.0 sound.1 other rows.0 are rows.1), refl))
+text_shown some one n coins items sound Circuit = (printed items, refl)
+
+module _ (meanings : ItemTextsHaveOneMeaning) (lines : ItemTextsAreLines) (edits : EditedItemsAreOfLines) (sound : RunsAreSound)
+    (some : TracesHaveReducedRows) (one : TracesHaveOneList) where
+  -- an edit that puts in the item of a text has an answer
+  put_answered : (s : Setting) (items : Items) (edit : ItemEdit) (place : Path) (text : List ℕ) → CanBeEdited s.qubits items
+      → (a : Answer) × IsPut items (λ item. edited_items s.qubits (change_of edit item) place items) text a × CanBeEdited s.qubits a.items
+  put_answered s items edit place text can = by_fault (item_fault text) refl
+    where
+      by_fault : (f : Option Fault) → item_fault text ≡ f
+          → (a : Answer) × IsPut items (λ item. edited_items s.qubits (change_of edit item) place items) text a × CanBeEdited s.qubits a.items
+      by_fault (Some f) e = (refusing items f.refusal, inl (f, e, refl), can)
+      by_fault None e =
+          let m = meanings text e in (
+            decided items (edited_items s.qubits (change_of edit m.0) place items),
+            inr (m.0, m.1.0, refl),
+            edit_keeps edits s.qubits (change_of edit m.0) place items (puts_lines lines text m.0 m.1.0 edit) can,
+          )
+
+  -- a request has an answer
+  request_answered : (s : Setting) (items : Items) (r : Request) → CanBeEdited s.qubits items → (a : Answer) × IsAnswer s items r a × CanBeEdited s.qubits a.items
+  request_answered s items (put edit place text) can = put_answered s items edit place text can
+  request_answered s items (delete place) can =
+      (decided items (edited_items s.qubits change.Delete place items), refl, edit_keeps edits s.qubits change.Delete place items puts_none can)
+  request_answered s items (show what) can =
+      let shown = text_shown some one s.qubits s.coins items (sound s.qubits s.coins can.0.0 items can.0.1 can.1) what in
+      (replying items shown.0, (shown.0, shown.1, refl), can)
+  request_answered s items (refuse r) can = (refusing items r, refl, can)
+
+  -- requests, however many, have an answer
+  pub all_answered : (s : Setting) (items : Items) (rs : List Request) → CanBeEdited s.qubits items → (a : Answer) × IsAnswerToAll s items rs a × CanBeEdited s.qubits a.items
+  all_answered s items [] can = (replying items [], refl, can)
+  all_answered s items (r ∷ rs) can =
+      let first = request_answered s items r can in
+      let rest = all_answered s first.0.items rs first.2 in
+      (both first.0 rest.0, (first.0, rest.0, first.1, rest.1, refl), rest.2)
