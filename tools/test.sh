@@ -6,7 +6,7 @@ top=$(CDPATH='' cd -- "$(dirname -- "$0")/.." && pwd) || exit 2
 cd "$top" || exit 2
 
 # The steps behind the gate, a line each: a command, from the top of the repository.
-steps="tools/check_version.sh tools/check_words.py tools/refuse.sh tools/try_drive.sh tools/try_docs.sh"
+steps="tools/check_version.sh tools/check_words.py tools/refuse.sh tools/try_files.py tools/try_drive.sh tools/try_docs.sh"
 
 told=$(mktemp -d) || exit 2
 trap 'rm -rf "$told"' EXIT

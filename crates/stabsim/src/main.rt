@@ -1,12 +1,17 @@
 //! The program `stabsim`: reads its words, opens the files that they name, runs the job that they
 //! ask for, and ends with its status.
 //!
+//! - `files`: the files that a run reads and writes.
+//!
 //! All that a job does is in `stab_commands`, and what words ask for in `stab_cli`; here the words,
 //! files, standard streams and the status meet.
 #![tactic(auto)]
 
+mod files;
+
+use files::{Replaced, STANDARD_INPUT, are_one_file};
 use stab_cli::{Job, Usage, parse_words, run_job, write_fault, write_usage};
-use stab_pauli::{Device, Fault, Input, MemoryInput, Output, Refusal};
+use stab_pauli::{Device, Fault, Input, MemoryInput, Output, Refusal, write_all};
 use std::io::{BufWriter, Write};
 use std::process::ExitCode;
 use std::rt::Env;
@@ -14,10 +19,17 @@ use std::{env, fs, io};
 
 const NOT_TEXT: &str = "stabsim: a word is not UTF-8\n";
 
+const ONE_FILE: &str = "stabsim: --in and --out are one file\n";
+
+const ONE_INPUT: &str = "stabsim: standard input and --out are one file\n";
+
 fn main(rt: HostRuntime) -> ExitCode {
+    // A standard stream that is closed would leave its number to the next file that is opened. A
+    // directory takes it, which can be neither read nor written: that stream then fails, and no other.
+    let _held = [fs::open(&rt, "/"), fs::open(&rt, "/"), fs::open(&rt, "/")];
     let mut err = Device::new(rt.stderr());
     let status = match job(&rt) {
-        Ok(job) => run_opened(&rt, &job, &mut err),
+        Ok(job) => run_apart(&rt, &job, &mut err),
         Err(usage) => write_usage(&usage, &mut Device::new(rt.stdout()), &mut err),
     };
     ExitCode::from(status)
@@ -39,13 +51,35 @@ fn words<R: Env + AllocGlobal>(rt: &R) -> Result<Vec<String>, Usage> {
     }
 }
 
+/// Runs a job, unless it would write the file that it reads.
+fn run_apart<E: Output>(rt: &HostRuntime, job: &Job, err: &mut E) -> u8 {
+    match shared_file(rt, job) {
+        Some(told) => {
+            let _ = write_all(err, told.as_bytes());
+            2
+        }
+        None => run_opened(rt, job, err),
+    }
+}
+
+/// What is told of a job that would write a file that it reads.
+fn shared_file(rt: &HostRuntime, job: &Job) -> Option<&'static str> {
+    let out = job.out_path.as_ref()?;
+    let reads_input = job.in_path.is_none() || job.reads_script();
+    match &job.in_path {
+        Some(path) if are_one_file(rt, path.as_str(), out.as_str()) => Some(ONE_FILE),
+        _ if reads_input && are_one_file(rt, STANDARD_INPUT, out.as_str()) => Some(ONE_INPUT),
+        _ => None,
+    }
+}
+
 /// Runs a job on the file that it reads. Where it names none, `edit` begins with the empty circuit,
 /// and any other command reads standard input.
 fn run_opened<E: Output>(rt: &HostRuntime, job: &Job, err: &mut E) -> u8 {
     match &job.in_path {
         Some(path) => match fs::open(rt, path.as_str()) {
             Ok(file) => run_created(rt, job, &mut Device::new(file), err),
-            Err(_) => tell_fault(Refusal::ReadFault, err),
+            Err(error) => tell_path(rt, Refusal::ReadFault, path.as_str(), &error, err),
         },
         None if job.reads_script() => run_created(rt, job, &mut MemoryInput::new(&[]), err),
         None => run_created(rt, job, &mut Device::new(rt.stdin()), err),
@@ -55,9 +89,9 @@ fn run_opened<E: Output>(rt: &HostRuntime, job: &Job, err: &mut E) -> u8 {
 /// Runs a job on the file that it writes, or on standard output.
 fn run_created<I: Input, E: Output>(rt: &HostRuntime, job: &Job, input: &mut I, err: &mut E) -> u8 {
     match &job.out_path {
-        Some(path) => match fs::create(rt, path.as_str()) {
+        Some(path) => match Replaced::open(rt, path.as_str()) {
             Ok(file) => run_written(rt, job, input, file, err),
-            Err(_) => tell_fault(Refusal::WriteFault, err),
+            Err(error) => tell_path(rt, Refusal::WriteFault, path.as_str(), &error, err),
         },
         None => run_written(rt, job, input, rt.stdout(), err),
     }
@@ -102,4 +136,20 @@ fn run_written<I: Input, W: Write + Drop, E: Output>(
 fn tell_fault<E: Output>(refusal: Refusal, err: &mut E) -> u8 {
     let _ = write_fault(err, Fault::whole(refusal));
     1
+}
+
+/// Writes the line of a fault of a file that can't be opened, and behind it the file's name and what the
+/// system said, where memory suffices; and answers the status.
+fn tell_path<E: Output>(
+    rt: &HostRuntime,
+    refusal: Refusal,
+    path: &str,
+    error: &io::Error,
+    err: &mut E,
+) -> u8 {
+    let status = tell_fault(refusal, err);
+    if let Ok(line) = format!(in rt.alloc(); "stabsim: {path}: {error}\n") {
+        let _ = write_all(err, line.as_bytes());
+    }
+    status
 }

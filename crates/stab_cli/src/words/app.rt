@@ -59,9 +59,19 @@ Refusals, by number and name, are explained in docs/refusals.md, and coins in do
 
 const AFTER_EDIT: &str = "\
 The script is read from standard input, and each reply is written before the next line is read.
-Without --in the circuit is empty. The status is 3 where a line of the script was refused.
+Without --in the circuit is empty. It has the qubits that it names and no more: to put in a gate on
+another one, or into the empty circuit, ask for them by --qubits, or it is refused 6. The status is 3
+where a line of the script was refused.
 
-Example, at the top of the repository:
+  insert 0 H 0          puts an item in before item 0; behind all where the place is their number
+  replace 3 CX 0 1      puts an item in the stead of item 3
+  delete 2/0            takes out item 0 of the block that is item 2
+  show measurements     the records; also: show free, show detectors, show observables
+  show stabilisers      the reduced rows, one a line
+  show circuit          the circuit as it is now
+
+Examples, at the top of the repository:
+  ./stabsim edit --qubits 2
   ./stabsim edit --in examples/repetition_code.stim < examples/inserted_x.script
 
 Scripts are explained in docs/editing.md, refusals in docs/refusals.md, and coins in docs/coins.md.
@@ -73,18 +83,20 @@ const HELP_FORMAT: &str = "The result format";
 
 const HELP_SEED: &str = "The seed of the coins that decide free outcomes";
 
-const HELP_COINS: &str = "The coins of each shot in place of a seed, as characters 0 and 1";
+const HELP_COINS: &str = "The coins of each shot, as characters 0 and 1; the seed is then ignored";
 
 const HELP_IN: &str = "Reads the circuit from a file in place of standard input";
 
-const HELP_OUT: &str = "Writes to a file in place of standard output";
+const HELP_OUT: &str =
+    "Writes to a file in place of standard output; an older one is kept until there is output";
 
 const HELP_APPEND: &str = "Appends the observables to the detectors";
 
 const HELP_QUBITS: &str =
     "How many qubits, from 0 to 1024; those that the circuit names if not given";
 
-const HELP_STRIDE: &str = "How many steps lie between two checkpoints, from 1 to 65536";
+const HELP_STRIDE: &str = "How many steps lie between two checkpoints, from 1 to 65536: \
+    fewer take more memory and make edits shorter, and change no reply";
 
 /// An option `--id` with a value.
 fn valued<'a>(alloc: Global, id: &'a str, value: &'a str, help: &'a str) -> Arg<'a>
