@@ -188,12 +188,14 @@ def added(outcomes):
 class Run:
     """What a circuit's steps give: records, detectors, and observables by their numbers."""
 
+    State = State
+
     def __init__(self, items):
         steps = list(unrolled(items))
         self.records, self.detectors, self.observables = [], [], {}
         self.steps = 0
         named = [qubit for name, _, targets in steps for qubit in qubits_of(name, targets)]
-        self.state = State(max(named, default=-1) + 1)
+        self.state = self.State(max(named, default=-1) + 1)
         for name, argument, targets in steps:
             self.step(name, argument, targets)
 

@@ -2,12 +2,14 @@
 """Runs the built program on random and damaged circuits and edit scripts, and compares it with an oracle of its own.
 
     tools/fuzz.py --seconds 60
+    tools/fuzz.py --laws --seconds 20
 
 The oracle (`tools/oracle`) is written from the definitions: it reads texts and scripts, asks backwards which strings stabilise
 a state of up to four qubits, and writes the result formats. Larger circuits are undone again and must measure zeros, are edited
 and compared with a session opened anew and with other strides, and are written in each format. The first difference is cut down
-to a small text and printed with its seed, and the status is then 1. The same seed makes the same cases. It needs the program:
-build it by `./stabsim --help`.
+to a small text and printed with its seed, and the status is then 1. So it is where some way of comparing was never taken, also in
+a minute more. With `--laws` those of `tools/oracle/laws.py` are tried alone, which ask no oracle of states. The same seed makes the
+same cases. It needs the program: build it by `./stabsim --help`.
 """
 
 import argparse
@@ -28,6 +30,8 @@ from oracle.reading import REFUSALS, Refused, items_of
 TOP = pathlib.Path(__file__).resolve().parent.parent
 PROGRAM = TOP / "crates" / "stabsim" / "out" / "stabsim"
 TIME_LIMIT = 20
+# How many seconds more there are until each way of comparing was taken once.
+MOST_OVER = 60
 # What the oracle goes through in a moment: more is run, and only its status is looked at.
 MOST_QUBITS = 4
 MOST_STEPS = 300
@@ -182,6 +186,14 @@ def script_case(dice, text):
     return Case("edit", words_of("edit", settings), text, settings, script)
 
 
+WAYS = ["by a script", "by the grammar", "damaged", "undone", *LAWS]
+
+
+def law_case(seed, _):
+    """The laws one after another, each with random numbers of its own."""
+    return list(LAWS)[seed % len(LAWS)], Case("law", [], b"", random.Random(seed))
+
+
 def make_case(seed, kinds):
     """The case of a seed: a circuit by the grammar, a damaged one, one that is undone, a script, or a law."""
     dice = random.Random(seed)
@@ -206,11 +218,21 @@ def right_answer(way, case):
     return expected(case)
 
 
+def broken_law(program, way, case, counts):
+    """What is wrong with the program's answers, or None, as where the law's circuit is refused. Counts those that were compared."""
+    try:
+        wrong = LAWS[way](case.settings, program.run)
+    except Refused:
+        return None
+    counts[way] += 1
+    return wrong
+
+
 def difference(program, way, case, counts=None):
     """What is wrong with the program's answer, or None. Counts what was compared with what."""
     try:
         if way in LAWS:
-            return LAWS[way](case.settings, program.run)
+            return broken_law(program, way, case, counts)
         answer = program.run(case.words, case.text, case.script)
     except subprocess.TimeoutExpired:
         return f"no answer within {TIME_LIMIT} seconds"
@@ -259,25 +281,32 @@ def main():
     words = argparse.ArgumentParser(description=__doc__, formatter_class=argparse.RawDescriptionHelpFormatter)
     words.add_argument("--seconds", type=float, default=60, help="how long to go on (default 60)")
     words.add_argument("--seed", type=int, default=0, help="the seed of the first case (default 0)")
+    words.add_argument("--laws", action="store_true", help="try the laws alone")
     words.add_argument("--program", default=PROGRAM, help="the program, where it is not the built one")
     asked = words.parse_args()
+    make, ways = (law_case, LAWS) if asked.laws else (make_case, WAYS)
     counts = collections.Counter()
     end = time.monotonic() + asked.seconds
     with tempfile.TemporaryDirectory() as folder:
         program = Program(asked.program, folder)
         kinds = program.kinds()
         for seed in itertools.count(asked.seed):
-            if time.monotonic() > end:
+            over = time.monotonic() - end
+            if over > (0 if all(counts[way] for way in ways) else MOST_OVER):
                 break
-            way, case = make_case(seed, kinds)
+            way, case = make(seed, kinds)
             wrong = difference(program, way, case, counts)
             if wrong:
                 report(program, seed, way, case, wrong)
                 return 1
-            counts[way] += 1
             counts[case.kind] += 1
+            if way not in LAWS:
+                counts[way] += 1
     print(", ".join(f"{count} {what}" for what, count in sorted(counts.items())) + ": no difference")
-    return 0
+    idle = [way for way in ways if not counts[way]]
+    for way in idle:
+        print(f"nothing was compared: {way}", file=sys.stderr)
+    return 1 if idle else 0
 
 
 if __name__ == "__main__":
