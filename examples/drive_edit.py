@@ -4,7 +4,8 @@
     python3 examples/drive_edit.py
 
 It asks a repetition code which detectors and observables an X on each qubit flips. Where an observable flips, it puts a
-second X behind the first and looks whether that undoes it. It needs Python alone.
+second X behind the first and looks whether that undoes it. A reply that is refused, or is missing since the program ended,
+ends the driver with what was asked and replied: it is never taken for bits. It needs Python alone.
 """
 
 import pathlib
@@ -16,6 +17,10 @@ ERROR = 9  # the item that is an X on the way
 QUBITS = 5
 
 
+class Refused(Exception):
+    """A line that was refused, or had no reply."""
+
+
 class Session:
     """An editing session: each line that is sent has a reply of one line."""
 
@@ -24,34 +29,41 @@ class Session:
         self.program = subprocess.Popen(words, stdin=subprocess.PIPE, stdout=subprocess.PIPE, text=True, bufsize=1)
 
     def ask(self, line):
+        """The reply to a line, without its line end."""
         self.program.stdin.write(line + "\n")
         self.program.stdin.flush()
-        return self.program.stdout.readline().rstrip("\n")
+        reply = self.program.stdout.readline()
+        if not reply.endswith("\n"):
+            raise Refused(f"{line}: no whole reply, status {self.close()}")
+        return reply[:-1]
 
     def edit(self, line):
         reply = self.ask(line)
         if reply != "ok":
-            raise SystemExit(f"{line}: {reply}")
+            raise Refused(f"{line}: {reply}")
+
+    def bits(self, what):
+        """The places of the ones in what `show` tells of measurements, free, detectors or observables."""
+        reply = self.ask(f"show {what}")
+        if reply.strip("01"):
+            raise Refused(f"show {what}: {reply}")
+        return [place for place, bit in enumerate(reply) if bit == "1"]
 
     def close(self):
         self.program.stdin.close()
         return self.program.wait()
 
 
-def ones(bits):
-    return [place for place, bit in enumerate(bits) if bit == "1"]
-
-
 def main():
     session = Session(CIRCUIT)
     for qubit in range(QUBITS):
         session.edit(f"replace {ERROR} X {qubit}")
-        detectors = ones(session.ask("show detectors"))
-        observables = ones(session.ask("show observables"))
+        detectors = session.bits("detectors")
+        observables = session.bits("observables")
         print(f"X {qubit} flips detectors {detectors} and observables {observables}")
         if observables:
             session.edit(f"insert {ERROR} X {qubit}")
-            print(f"a second X {qubit} leaves detectors {ones(session.ask('show detectors'))}")
+            print(f"a second X {qubit} leaves detectors {session.bits('detectors')}")
             session.edit(f"delete {ERROR}")
     print(f"status {session.close()}")
 

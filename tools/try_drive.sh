@@ -1,6 +1,7 @@
 #!/bin/sh
 # Runs examples/drive_edit.py over the built program and compares what it prints. The driver waits for each reply before it sends
-# the next line, so a reply that is held back would keep it waiting: it has 60 seconds. It needs python3.
+# the next line, so a reply that is held back would keep it waiting: it has 60 seconds. Then it looks that the driver takes no
+# refusal for bits. It needs python3.
 set -eu
 top=$(CDPATH='' cd -- "$(dirname -- "$0")/.." && pwd)
 "$top/stabsim" --version >/dev/null
@@ -19,4 +20,23 @@ if [ "$printed" != "$wanted" ]; then
     printf 'try_drive: the driver printed\n%s\nand not\n%s\n' "$printed" "$wanted" >&2
     exit 1
 fi
-echo "the driver got each reply before it sent the next line"
+refusals=$(cd "$top/examples" && timeout 60 python3 -B - <<'END'
+import drive_edit
+
+session = drive_edit.Session(drive_edit.CIRCUIT)
+for ask in (lambda: session.bits("nothing"), lambda: session.edit("delete 99")):
+    try:
+        print(ask())
+    except drive_edit.Refused as refused:
+        print(refused)
+print(session.bits("observables"), session.close())
+END
+) || exit 1
+wanted="show nothing: refused 13 BadCommand
+delete 99: refused 12 PlaceOutOfRange
+[] 3"
+if [ "$refusals" != "$wanted" ]; then
+    printf 'try_drive: where lines are refused the driver said\n%s\nand not\n%s\n' "$refusals" "$wanted" >&2
+    exit 1
+fi
+echo "the driver got each reply before it sent the next line, and took no refusal for bits"
