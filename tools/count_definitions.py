@@ -1,0 +1,101 @@
+#!/usr/bin/env python3
+"""Counts the lines of the definitions that each theorem rests on: those that docs/believe.md leads through.
+
+    tools/count_definitions.py [--names]
+
+It begins with what a theorem's clause names and goes on to all that this uses in the folders specs/ of the crates, but not into
+specs/inner/. A line is one of a definition, without comments, imports and blank ones. The first figure of a theorem is all that it
+rests on, the second what no theorem above it has; with --names each definition is printed below its theorem.
+"""
+import pathlib
+import re
+import sys
+
+TOP = pathlib.Path(__file__).resolve().parent.parent
+# What is proved, and the definitions that its clauses name.
+THEOREMS = {
+    "sample and detect": ["stab_commands.Outputs.EndsRun", "stab_commands.Outputs.sample_of", "stab_commands.Outputs.detect_of"],
+    "stabilisers": ["stab_commands.Stabilisers.EndsStabilisers"],
+    "edit": ["stab_commands.ScriptEndings.EndsEdit"],
+    "a job and its status": ["stab_commands.Jobs.EndsJob"],
+    "what a session is": ["stab_session.Headline.IsRunOfItems"],
+    "an edit of a session": ["stab_session.SessionEdits.IsEditedBy", "stab_session.SessionEdits.IsAsBefore"],
+}
+HEAD = re.compile(r"(?:abbrev|unfoldable|opaque)?\s*(?:pub\s+)?(?:abbrev\s+|unfoldable\s+)?(?:pub\s+)?(record|data)?\s*([^\s:({]+)")
+USE = re.compile(r"use Rattle\.(\w+)\.specs\.([\w.]+)\.\{([^}]*)\}")
+NAME = re.compile(r"[^\s()\[\]{},;:.λ→×⊎≡∷]+")
+
+
+class Definition:
+    """The lines of one definition, and the names in them."""
+
+    def __init__(self, file, name):
+        self.file, self.name = file, name
+        self.lines = []
+
+    def words(self):
+        """The names in it, those of operators as they are defined: with a place for what stands on each side."""
+        words = {word for line in self.lines for word in NAME.findall(line)}
+        return words | {f"◌{word}◌" for word in words}
+
+
+def definitions_of(path, file):
+    """The definitions of a file, by each name that they make, and the names that it imports, by their files."""
+    made, imported, current = {}, {}, None
+    for line in path.read_text().splitlines():
+        used = USE.match(line)
+        if used:
+            crate, module, names = used.groups()
+            imported.update({name.strip().split(" as ")[-1]: (f"{crate}.{module}", name.strip().split(" as ")[0]) for name in names.split(",")})
+        elif line.strip() and not line.lstrip().startswith("--") and not line.startswith("use "):
+            if re.match(r"(abbrev|unfoldable|opaque|pub|record|data)\b", line):
+                current = Definition(file, HEAD.match(line)[2])
+                made[current.name] = current
+            elif current is not None and line.startswith(" ") and (case := re.match(r"  (?:pub )?(\S+) :", line)):
+                made.setdefault(case[1], current)
+            if current is not None:
+                current.lines.append(line)
+    return made, imported
+
+
+def all_definitions():
+    found = {}
+    for path in sorted(TOP.glob("crates/*/specs/*.antt")):
+        file = f"{path.parent.parent.name}.{path.stem}"
+        found[file] = definitions_of(path, file)
+    return found
+
+
+def reached(found, roots):
+    """All definitions that these use, themselves among them."""
+    seen, left = {}, [tuple(root.rsplit(".", 1)) for root in roots]
+    while left:
+        file, name = left.pop()
+        made, imported = found.get(file, ({}, {}))
+        if name not in made:
+            continue
+        it = made[name]
+        if (it.file, it.name) not in seen:
+            seen[it.file, it.name] = it
+            left += [(file, word) if word in made else imported[word] for word in it.words() if word in made or word in imported]
+    return seen
+
+
+def main():
+    found = all_definitions()
+    so_far = {}
+    for theorem, roots in THEOREMS.items():
+        its = reached(found, roots)
+        if not its:
+            sys.exit(f"no definition is named {roots}")
+        new = {key: it for key, it in its.items() if key not in so_far}
+        so_far |= new
+        print(f"{theorem}: {sum(len(it.lines) for it in its.values())} lines, {sum(len(it.lines) for it in new.values())} of them new")
+        if "--names" in sys.argv[1:]:
+            for (file, name), it in sorted(new.items()):
+                print(f"    {file} {name}: {len(it.lines)}")
+    print(f"all: {sum(len(it.lines) for it in so_far.values())} lines")
+
+
+if __name__ == "__main__":
+    main()
