@@ -6,7 +6,16 @@ top=$(CDPATH='' cd -- "$(dirname -- "$0")/.." && pwd) || exit 2
 cd "$top" || exit 2
 
 # The steps behind the gate, a line each: a command, from the top of the repository.
-steps="tools/check_version.sh tools/check_words.py tools/refuse.sh tools/try_files.py tools/try_drive.sh tools/try_docs.sh"
+steps='tools/check_version.sh
+tools/check_words.py
+tools/check_circuits.py
+tools/check_program.py --seconds 3
+tools/fuzz.py --seconds 8
+tools/fuzz.py --laws --seconds 5
+tools/refuse.sh
+tools/try_files.py tools/try_drive.sh
+tools/try_docs.sh
+tools/try_first_look.sh'
 
 told=$(mktemp -d) || exit 2
 trap 'rm -rf "$told"' EXIT
@@ -20,9 +29,11 @@ if [ "$status" -ne 0 ]; then
     tail -n 1 "$told/gate"
     exit "$status"
 fi
+IFS='
+'
 for step in $steps; do
     echo "== $step"
-    if "$step"; then
+    if sh -c "$step"; then
         echo "$step passed"
     else
         echo "$step FAILED"
