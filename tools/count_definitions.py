@@ -1,17 +1,20 @@
 #!/usr/bin/env python3
 """Counts the lines of the definitions that each theorem rests on: those that docs/believe.md leads through.
 
-    tools/count_definitions.py [--names]
+    tools/count_definitions.py [--names] [--page]
 
 It begins with what a theorem's clause names and goes on to all that this uses in the folders specs/ of the crates, but not into
 specs/inner/. A line is one of a definition, without comments, imports and blank ones. The first figure of a theorem is all that it
-rests on, the second what no theorem above it has; with --names each definition is printed below its theorem.
+rests on, the second what no theorem above it has; with --names each definition is printed below its theorem. With --page the
+counts are written into docs/believe.md too, whose output tools/try_docs.sh compares with them.
 """
 import pathlib
 import re
 import sys
 
 TOP = pathlib.Path(__file__).resolve().parent.parent
+PAGE = TOP / "docs" / "believe.md"
+SHOWN = re.compile(r"(?<=```sh\ntools/count_definitions.py\n```\n\n```output\n).*?(?=```\n)", re.DOTALL)
 # What is proved, and the definitions that its clauses name.
 THEOREMS = {
     "sample and detect": ["stab_commands.Outputs.EndsRun", "stab_commands.Outputs.sample_of", "stab_commands.Outputs.detect_of"],
@@ -81,8 +84,8 @@ def reached(found, roots):
     return seen
 
 
-def main():
-    found = all_definitions()
+def counted(found, names):
+    """The lines that are printed."""
     so_far = {}
     for theorem, roots in THEOREMS.items():
         its = reached(found, roots)
@@ -90,11 +93,23 @@ def main():
             sys.exit(f"no definition is named {roots}")
         new = {key: it for key, it in its.items() if key not in so_far}
         so_far |= new
-        print(f"{theorem}: {sum(len(it.lines) for it in its.values())} lines, {sum(len(it.lines) for it in new.values())} of them new")
-        if "--names" in sys.argv[1:]:
-            for (file, name), it in sorted(new.items()):
-                print(f"    {file} {name}: {len(it.lines)}")
-    print(f"all: {sum(len(it.lines) for it in so_far.values())} lines")
+        yield f"{theorem}: {lines_of(its)} lines, {lines_of(new)} of them new"
+        if names:
+            yield from (f"    {file} {name}: {len(it.lines)}" for (file, name), it in sorted(new.items()))
+    yield f"all: {lines_of(so_far)} lines"
+
+
+def lines_of(definitions):
+    return sum(len(it.lines) for it in definitions.values())
+
+
+def main():
+    found = all_definitions()
+    for line in counted(found, "--names" in sys.argv[1:]):
+        print(line)
+    if "--page" in sys.argv[1:]:
+        shown = "\n".join(counted(found, False)) + "\n"
+        PAGE.write_text(SHOWN.sub(lambda _: shown, PAGE.read_text()))
 
 
 if __name__ == "__main__":
