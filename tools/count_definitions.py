@@ -26,7 +26,19 @@ THEOREMS = {
 }
 HEAD = re.compile(r"(?:abbrev|unfoldable|opaque)?\s*(?:pub\s+)?(?:abbrev\s+|unfoldable\s+)?(?:pub\s+)?(record|data)?\s*([^\s:({]+)")
 USE = re.compile(r"use Rattle\.(\w+)\.specs\.([\w.]+)\.\{([^}]*)\}")
+USE_AS = re.compile(r"use Rattle\.(\w+)\.specs\.([\w.]+) as (\w+)")
 NAME = re.compile(r"[^\s()\[\]{},;:.λ→×⊎≡∷]+")
+
+
+def imports_of(lines):
+    """The names that a file imports, by the file and the name there; `a.name` stands for each name of a file that is used as a."""
+    for line in lines:
+        if used := USE.match(line):
+            for name in used[3].split(","):
+                there, _, here = name.strip().partition(" as ")
+                yield here or there, (f"{used[1]}.{used[2]}", there)
+        elif used := USE_AS.match(line):
+            yield f"{used[3]}.", (f"{used[1]}.{used[2]}", "")
 
 
 class Definition:
@@ -41,31 +53,41 @@ class Definition:
         words = {word for line in self.lines for word in NAME.findall(line)}
         return words | {f"◌{word}◌" for word in words}
 
+    def uses(self, made, imported):
+        """The definitions that it names, by their files."""
+        for word in self.words():
+            if word in made:
+                yield self.file, word
+            elif word in imported:
+                yield imported[word]
+        for line in self.lines:
+            for used, name in re.findall(r"(\w+\.)(\w+)", line):
+                if used in imported:
+                    yield imported[used][0], name
 
-def definitions_of(path, file):
-    """The definitions of a file, by each name that they make, and the names that it imports, by their files."""
-    made, imported, current = {}, {}, None
-    for line in path.read_text().splitlines():
-        used = USE.match(line)
-        if used:
-            crate, module, names = used.groups()
-            imported.update({name.strip().split(" as ")[-1]: (f"{crate}.{module}", name.strip().split(" as ")[0]) for name in names.split(",")})
-        elif line.strip() and not line.lstrip().startswith("--") and not line.startswith("use "):
-            if re.match(r"(abbrev|unfoldable|opaque|pub|record|data)\b", line):
-                current = Definition(file, HEAD.match(line)[2])
-                made[current.name] = current
-            elif current is not None and line.startswith(" ") and (case := re.match(r"  (?:pub )?(\S+) :", line)):
-                made.setdefault(case[1], current)
-            if current is not None:
-                current.lines.append(line)
-    return made, imported
+
+def definitions_of(lines, file):
+    """The definitions of a file, by each name that they make."""
+    made, current = {}, None
+    for line in lines:
+        if not line.strip() or line.lstrip().startswith("--") or line.startswith("use "):
+            continue
+        if re.match(r"(abbrev|unfoldable|opaque|pub|record|data)\b", line):
+            current = Definition(file, HEAD.match(line)[2])
+            made[current.name] = current
+        elif current is not None and (case := re.match(r"  (?:pub )?(\S+) :", line)):
+            made.setdefault(case[1], current)
+        if current is not None:
+            current.lines.append(line)
+    return made
 
 
 def all_definitions():
     found = {}
     for path in sorted(TOP.glob("crates/*/specs/*.antt")):
         file = f"{path.parent.parent.name}.{path.stem}"
-        found[file] = definitions_of(path, file)
+        lines = path.read_text().splitlines()
+        found[file] = definitions_of(lines, file), dict(imports_of(lines))
     return found
 
 
@@ -80,7 +102,7 @@ def reached(found, roots):
         it = made[name]
         if (it.file, it.name) not in seen:
             seen[it.file, it.name] = it
-            left += [(file, word) if word in made else imported[word] for word in it.words() if word in made or word in imported]
+            left += it.uses(made, imported)
     return seen
 
 
