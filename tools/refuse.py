@@ -59,13 +59,14 @@ def expect(holds, what):
 
 
 def look(done, words, whole, line):
-    """A run that was refused memory: it ended as if nothing had been refused, or with 1 and a prefix."""
+    """A run that was refused memory: it ended as if nothing had been refused, or with 1, a prefix and the line that tells of it."""
     expect(done.returncode in (whole.returncode, 1), f"{words}: status {done.returncode}")
     if done.returncode == whole.returncode:
-        expect(done.stdout == whole.stdout, f"{words}: other bytes, though the status tells of no refusal")
+        same = (done.stdout, done.stderr) == (whole.stdout, whole.stderr)
+        expect(same, f"{words}: other bytes, though the status tells of no refusal")
     else:
         expect(whole.stdout.startswith(done.stdout), f"{words}: what was written is no prefix")
-        expect(done.stderr in (line, b""), f"{words}: told {done.stderr!r}")
+        expect(done.stderr == line, f"{words}: told {done.stderr!r}")
 
 
 def refuse_each(library, folder, words, onwards):
@@ -148,6 +149,7 @@ def try_memory(library, folder):
         for onwards in (False, True):
             refused, answered = refuse_each(library, folder, words, onwards)
             expect(refused > 0, f"{words}: no request was refused")
+            expect(answered > 0, f"{words}: no run answered 20")
             how = "from one on" if onwards else "one"
             print(f"{words[0]} {how}: {refused} runs with memory refused, {answered} answered 20")
 
