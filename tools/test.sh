@@ -13,7 +13,8 @@ tools/check_program.py --seconds 3
 tools/fuzz.py --seconds 8
 tools/fuzz.py --laws --seconds 5
 tools/refuse.sh
-tools/try_files.py tools/try_drive.sh
+tools/try_files.py
+tools/try_drive.sh
 tools/try_docs.sh
 tools/try_first_look.sh'
 
