@@ -22,20 +22,27 @@ class Refused(Exception):
 
 
 class Session:
-    """An editing session: each line that is sent has a reply of one line."""
+    """An editing session: the reply to each line is read before another one is sent."""
 
     def __init__(self, circuit):
         words = [TOP / "stabsim", "edit", "--in", circuit]
         self.program = subprocess.Popen(words, stdin=subprocess.PIPE, stdout=subprocess.PIPE, text=True, bufsize=1)
 
-    def ask(self, line):
-        """The reply to a line, without its line end."""
-        self.program.stdin.write(line + "\n")
+    def send(self, *lines):
+        for line in lines:
+            self.program.stdin.write(line + "\n")
         self.program.stdin.flush()
+
+    def read(self, line):
         reply = self.program.stdout.readline()
         if not reply.endswith("\n"):
             raise Refused(f"{line}: no whole reply, status {self.close()}")
         return reply[:-1]
+
+    def ask(self, line):
+        """The reply of one line to a line."""
+        self.send(line)
+        return self.read(line)
 
     def edit(self, line):
         reply = self.ask(line)
@@ -48,6 +55,17 @@ class Session:
         if reply.strip("01"):
             raise Refused(f"show {what}: {reply}")
         return [place for place, bit in enumerate(reply) if bit == "1"]
+
+    def lines(self, what):
+        """What `show` tells of the circuit or its stabilisers, perhaps no line at all: what comes before the bits that are asked next."""
+        line = f"show {what}"
+        self.send(line, "show observables")
+        shown = [self.read(line)]
+        while shown[-1].strip("01"):
+            shown.append(self.read(line))
+        if shown[0].startswith("refused"):
+            raise Refused(f"{line}: {shown[0]}")
+        return shown[:-1]
 
     def close(self):
         self.program.stdin.close()
@@ -65,6 +83,7 @@ def main():
             session.edit(f"insert {ERROR} X {qubit}")
             print(f"a second X {qubit} leaves detectors {session.bits('detectors')}")
             session.edit(f"delete {ERROR}")
+    print(f"the circuit has {len(session.lines('circuit'))} lines, and the group {len(session.lines('stabilisers'))} rows")
     print(f"status {session.close()}")
 
 

@@ -11,6 +11,7 @@ X 2 flips detectors [2, 3] and observables []
 X 3 flips detectors [3, 5] and observables []
 X 4 flips detectors [3] and observables [0]
 a second X 4 leaves detectors []
+the circuit has 25 lines, and the group 5 rows
 status 0"
 printed=$(timeout 60 python3 "$top/examples/drive_edit.py") || {
     echo "try_drive: the driver ended with status $?" >&2
@@ -24,17 +25,21 @@ refusals=$(cd "$top/examples" && timeout 60 python3 -B - <<'END'
 import drive_edit
 
 session = drive_edit.Session(drive_edit.CIRCUIT)
-for ask in (lambda: session.bits("nothing"), lambda: session.edit("delete 99")):
+for ask in (lambda: session.bits("nothing"), lambda: session.edit("delete 99"), lambda: session.lines("nothing")):
     try:
         print(ask())
     except drive_edit.Refused as refused:
         print(refused)
 print(session.bits("observables"), session.close())
+empty = drive_edit.Session("/dev/null")
+print(empty.lines("circuit"), empty.lines("stabilisers"), empty.close())
 END
 ) || exit 1
 wanted="show nothing: refused 13 BadCommand
 delete 99: refused 12 PlaceOutOfRange
-[] 3"
+show nothing: refused 13 BadCommand
+[] 3
+[] [] 0"
 if [ "$refusals" != "$wanted" ]; then
     printf 'try_drive: where lines are refused the driver said\n%s\nand not\n%s\n' "$refusals" "$wanted" >&2
     exit 1
