@@ -1,8 +1,10 @@
 -- Sessions: the statement of a session, from the run of its items that is kept.
-use Rattle.std.proofs.Common.{◌≡◌, ◌∙◌, ◌≤◌, ap, ℕ, sym, subst, Bool, false, All, None, arith, length, replicate}
+use Rattle.std.proofs.Common.{◌≡◌, ◌∙◌, ◌≤◌, ap, ℕ, sym, subst, Bool, false, Option, All, None, arith, length, replicate}
+use Rattle.stab_pauli.specs.Paulis.{Signed, with_sign}
 use Rattle.stab_tableau.specs.Traces.{member}
 use Rattle.stab_tableau.specs.Groups.{SameGroup}
 use Rattle.stab_tableau.specs.Tableaus.{stabilises}
+use Rattle.stab_tableau.proofs.MemberLemmas.{same-free}
 use Rattle.stab_circuit.specs.Items.{Items}
 use Rattle.stab_circuit.specs.Steps.{unroll, observables_of, check_within}
 use Rattle.stab_circuit.specs.Cursors.{IsApart}
@@ -11,6 +13,7 @@ use Rattle.stab_session.specs.Runs.{State, start, run_of}
 use Rattle.stab_session.specs.Points.{Output, origin, point_after, outputs, with_additions, state_at}
 use Rattle.stab_session.specs.Laws.{DependsOnCoinsAt}
 use Rattle.stab_session.specs.Headline.{IsRunOfItems}
+use Rattle.stab_session.specs.Sessions.{IsSignIn}
 use Rattle.stab_session.specs.Bounds.{most_checkpoints}
 use Rattle.stab_session.specs.inner.Checkpoints.{steps_of}
 use Rattle.stab_session.specs.inner.Replays.{IsKeptRun}
@@ -18,6 +21,13 @@ use Rattle.stab_session.specs.inner.KeptSessions.{session_of, IsKept}
 use Rattle.stab_session.proofs.StateLemmas.{run-state, run_of-same}
 use Rattle.stab_session.proofs.PointLemmas.{records-are-records}
 use Rattle.stab_session.proofs.SpacingLemmas.{count-spaced}
+
+-- in the same group a string has the same sign
+pub same-sign : (n : ℕ) (u v : Signed → Bool) (p : Signed) (sign : Option Bool) → length p.letters ≡ n → SameGroup n u v → IsSignIn u p sign → IsSignIn v p sign
+same-sign n u v p sign size same h = (
+  (λ b. ((λ e. sym (same (with_sign b p) size) ∙ (h.0 b).0 e), (λ e. (h.0 b).1 (same (with_sign b p) size ∙ e)))),
+  ((λ e. sym (same-free n u v p size same) ∙ h.1.0 e), (λ e. h.1.1 (same-free n u v p size same ∙ e))),
+)
 
 -- the state behind the run of items
 behind_all : (n : ℕ) (bits : ℕ → Bool) (items : Items)

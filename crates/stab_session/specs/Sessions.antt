@@ -1,10 +1,12 @@
 -- Sessions: what contracts see of one, and what a refused opening answers.
-use Rattle.std.specs.Prelude.{◌≡◌, ℕ, Bool, List, Option, Some, None}
+use Rattle.std.specs.Prelude.{◌≡◌, ◌↔◌, ℕ, Bool, true, List, Option, Some, None}
 use Rattle.stab_pauli.specs.declared.refusal.Refusal.{Refusal}
 use Rattle.stab_pauli.specs.declared.refusal.Refusal.TheVariants.{OutOfMemory}
 use Rattle.stab_pauli.specs.declared.refusal.Fault.{Fault}
 use Rattle.stab_pauli.specs.Refusals.{whole}
+use Rattle.stab_pauli.specs.Paulis.{Signed, with_sign}
 use Rattle.stab_tableau.specs.Tableaus.{TableauState}
+use Rattle.stab_tableau.specs.Rules.{is_free_by}
 use Rattle.stab_circuit.specs.Items.{Items}
 
 -- the items, the number of qubits, the stride, the source of coins, the four lists, the state of the qubits, and the steps before
@@ -25,3 +27,7 @@ pub record SessionState (C : Type 0) : Type 0 where
 abbrev pub IsFaultOf : Option Refusal → Fault → Type 0
 IsFaultOf (Some refusal) fault = fault ≡ whole refusal
 IsFaultOf None fault = fault ≡ whole OutOfMemory
+
+-- the sign of a string in a group: the bit with which it is a member, 1 for -, or none where it is a member with neither
+abbrev pub IsSignIn : (Signed → Bool) → Signed → Option Bool → Type 0
+IsSignIn group p sign = ((b : Bool) → (sign ≡ Some b) ↔ (group (with_sign b p) ≡ true)) × ((sign ≡ None) ↔ (is_free_by group p ≡ true))

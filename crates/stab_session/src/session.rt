@@ -59,19 +59,17 @@ impl<C: Coins> Model for Session<C> {
 }
 
 impl<C: Coins> Session<C> {
-    ghost use Rattle.std.specs.Prelude.{◌≡◌, ℕ, ◌+◌, ◌≤◌, ◌↔◌, Bool, true, Some, None, length, IfOk, IfErr, OnOk};
+    ghost use Rattle.std.specs.Prelude.{◌≡◌, ℕ, ◌+◌, ◌≤◌, Bool, None, length, IfOk, IfErr, OnOk};
     ghost use Rattle.stab_pauli.specs.declared.refusal.Refusal.TheVariants.{OutOfMemory};
-    ghost use Rattle.stab_pauli.specs.Paulis.{with_sign};
     ghost use Rattle.stab_tableau.specs.Traces.{member};
     ghost use Rattle.stab_tableau.specs.Tableaus.{stabilises};
-    ghost use Rattle.stab_tableau.specs.Rules.{is_free_by};
     ghost use Rattle.stab_tableau.specs.Reduced.{AreReduced};
     ghost use Rattle.stab_circuit.specs.Steps.{unroll, check_within};
     ghost use Rattle.stab_circuit.specs.Views.{circuit_items};
     ghost use Rattle.stab_session.specs.Records.{ones};
     ghost use Rattle.stab_session.specs.Runs.{run_of};
     ghost use Rattle.stab_session.specs.Points.{all_coins_of};
-    ghost use Rattle.stab_session.specs.Sessions.{IsFaultOf};
+    ghost use Rattle.stab_session.specs.Sessions.{IsFaultOf, IsSignIn};
     ghost use Rattle.stab_session.specs.Laws.{IsSoundRun};
     ghost use Rattle.stab_session.specs.Bounds.{most_checkpoints};
     ghost use Rattle.stab_session.specs.Headline.{IsRunOfItems};
@@ -177,8 +175,7 @@ impl<C: Coins> Session<C> {
     pub fn sign_of(&mut self, pauli: &Pauli) -> Option<bool>
         requires same_length { length pauli.now.letters ≡ self.old.qubits }
         ensures unchanged { self.new ≡ self.old }
-        ensures some { (b : Bool) → (result ≡ Some b) ↔ (stabilises self.old.tableau (with_sign b pauli.now) ≡ true) }
-        ensures none { (result ≡ None) ↔ (is_free_by (stabilises self.old.tableau) pauli.now ≡ true) }
+        ensures sign { IsSignIn (member (run_of self.old.qubits (C.sequence self.old.coins) self.old.items).trace) pauli.now result }
         ensures statement { IsRunOfItems C.sequence self.old }
     {
         self.kept.tableau.sign_of(pauli)
