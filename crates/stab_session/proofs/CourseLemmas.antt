@@ -15,11 +15,12 @@ use Rattle.stab_session.specs.declared.kept.Span.{Span}
 use Rattle.stab_session.specs.declared.kept.Prepared.{Prepared}
 use Rattle.stab_session.specs.declared.kept.Rest.{Rest}
 use Rattle.stab_session.specs.Records.{ones}
-use Rattle.stab_session.specs.Points.{Output, with_additions}
+use Rattle.stab_session.specs.Points.{Output, all_coins_of, with_additions}
 use Rattle.stab_session.specs.inner.Sights.{output_of}
 use Rattle.stab_session.specs.inner.Checkpoints.{moved_copy}
 use Rattle.stab_session.specs.inner.Replays.{IsKeptRun, IsSameKept, Follows, AgreeBehind, IsReplay, Ascending, Meets, IsEnd, EndsSoon, place_of}
 use Rattle.stab_session.specs.inner.Prepared.{Begins, HasCopy, IsRest, IsOldRest, IsPrepared, IsCommitted, copies_behind, seam_at}
+use Rattle.stab_session.proofs.ReplayLemmas.{coins-steps}
 use Rattle.stab_session.proofs.SpacingLemmas.{IsBefore}
 use Rattle.stab_session.proofs.FollowLemmas.{some-at, some-and, prepared-same, committed-same, before-first, begun, same-records, next-behind, all-ascending, all-qubits, applied-within, few-steps, kept-end, end-flags}
 
@@ -131,6 +132,14 @@ module _ {n : ℕ} {coins : ℕ → Bool} {K : ℕ} {ys : List Step} {s : Span} 
         records = same-records n coins K f.old f.count old f.kept ys s f.span near.copy r here;
         copies = all-qubits n coins K f.old f.count old f.kept ys s f.span r.tableau.qubits at_first.at_step.qubits;
       }
+
+  -- and asks for no more coins than there are steps from the copy on, which is a stride before the change at most
+  pub asked-behind : (r : Replay) → HasBegun n coins K ys old m r → (asks new : ℕ) → new ≤ asks + all_coins_of (drop r.step r.cursor.all)
+      → new ≤ asks + ((length ys - s.first) + K)
+  asked-behind r begins asks new asked =
+      let step : r.step ≡ near.copy.step = some-at (λ c. r.step ≡ c.step) old.checkpoints.items (m - 1) near.copy near.here begins.at in
+      let from = near.near in
+      omega (arith, asked, step, from, coins-steps (drop r.step r.cursor.all), length-drop r.step r.cursor.all, ap length begins.all)
 
   module _ {r0 : Replay} (begins : HasBegun n coins K ys old m r0) {e : ℕ} (behind : IsCount s.old_end old.checkpoints.items e) (p : Plan)
       (old_end : p.old_end ≡ s.old_end) (new_end : p.new_end ≡ s.new_end) (total : p.total ≡ length ys) (next : p.next ≡ max e m) where

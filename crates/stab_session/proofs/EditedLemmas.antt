@@ -18,7 +18,7 @@ use Rattle.stab_session.specs.Points.{origin, point_after}
 use Rattle.stab_session.specs.Laws.{AgreeAt}
 use Rattle.stab_session.specs.Sessions.{SessionState, IsFaultOf}
 use Rattle.stab_session.specs.SessionEdits.{change_of, place_of, edited_by, verdict_on, IsEditedBy}
-use Rattle.stab_session.specs.Bounds.{steps_of_item, steps_from_change, steps_put, steps_near_change, AgreeBehind}
+use Rattle.stab_session.specs.Bounds.{steps_of_item, steps_from_change, steps_behind, unless_refused, most_refused_asks, steps_put, steps_near_change, AgreeBehind}
 use Rattle.stab_session.specs.inner.KeptSessions.{session_of, IsKept}
 use Rattle.stab_session.specs.inner.Pendings.{kept, IsBegun}
 use Rattle.stab_session.specs.inner.Replays.{IsKeptRun}
@@ -66,6 +66,17 @@ module _ {C : Type 0} (sequence : C → ℕ → Bool) (e : Edit) (s : SessionSta
   pub run-fault : (f : Fault) → f ≡ whole OutOfMemory → IsFaultOf (verdict_on s.qubits e (entries s.items)) f
   run-fault f h = subst (λ v. IsFaultOf v f) (sym accepted) h
 
+  old_items : entries s.items ≡ old
+  old_items = ap entries items ∙ entries-listed old
+
+  -- and asked for no more coins before that than there are steps behind the changed place, and a stride of them
+  pub refused-asks : (K before after : ℕ) → K ≡ s.stride → after ≤ before + ((length (unroll (listed mid)) - span.first) + K) → after ≤ before + most_refused_asks e s
+  refused-asks K before after stride asked =
+      let most : most_refused_asks e s ≡ (length (unroll (listed b.new)) - first_changed (place_of e) old) + s.stride =
+      (λ i. unless_refused (accepted i) (steps_behind (first_changed (place_of e) (old_items i)) s.stride (edited_by e (old_items i))))
+      ∙ ap (steps_behind (first_changed (place_of e) old) s.stride) b.edited in
+      omega (arith, asked, most, stride, b.span.first, ap length b.same_runs.steps)
+
   module _ (new : List OneItem) (ahead : kept pending mid ≡ Ok new) (stride : ℕ) (coins : C) (run : KeptRun) (same_stride : stride ≡ s.stride) (same_coins : sequence coins ≡ sequence s.coins)
       (is : IsKeptRun n (sequence s.coins) stride (unroll (listed mid)) (observables_of (listed mid)) run) where
     new-is : b.new ≡ new
@@ -100,9 +111,6 @@ module _ {C : Type 0} (sequence : C → ℕ → Bool) (e : Edit) (s : SessionSta
       stride = same_stride;
       coins = same_coins;
     }
-
-    old_items : entries s.items ≡ old
-    old_items = ap entries items ∙ entries-listed old
 
     new_items : b.new ≡ entries (listed new)
     new_items = new-is ∙ sym (entries-listed new)

@@ -49,7 +49,7 @@ coins-one (product factors inverted) = omega arith
 coins-one (detector ks) = omega arith
 coins-one (observable j ks) = omega arith
 
-coins-steps : (xs : List Step) → all_coins_of xs ≤ length xs
+pub coins-steps : (xs : List Step) → all_coins_of xs ≤ length xs
 coins-steps [] = omega arith
 coins-steps (x ∷ xs) = omega (arith, coins-one x, coins-steps xs)
 

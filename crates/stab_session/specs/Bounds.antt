@@ -1,5 +1,6 @@
 -- Bounds: what an edit of a session may cost, in steps that are carried out and copies of the state that are kept.
-use Rattle.std.specs.Prelude.{ℕ, ◌+◌, ◌-◌, ◌*◌, ◌/◌, Bool, [], ◌∷◌, Option, Some, None, length, take, slice_get}
+use Rattle.std.specs.Prelude.{ℕ, ◌+◌, ◌-◌, ◌*◌, ◌/◌, Bool, List, [], ◌∷◌, Option, Some, None, Result, Ok, Err, length, take, slice_get}
+use Rattle.stab_pauli.specs.declared.refusal.Refusal.{Refusal}
 use Rattle.stab_circuit.specs.Items.{OneItem, entries, listed}
 use Rattle.stab_circuit.specs.Steps.{unroll}
 use Rattle.stab_circuit.specs.Edits.{first_changed, old_end, new_end, put_item}
@@ -7,7 +8,7 @@ use Rattle.stab_session.specs.declared.pending.Edit.{Edit}
 use Rattle.stab_session.specs.Points.{Point, origin, point_after}
 use Rattle.stab_session.specs.Laws.{AgreeAt}
 use Rattle.stab_session.specs.Sessions.{SessionState}
-use Rattle.stab_session.specs.SessionEdits.{change_of, place_of}
+use Rattle.stab_session.specs.SessionEdits.{change_of, place_of, edited_by, verdict_on}
 
 -- how many steps a session's circuit has
 abbrev pub number_of_steps : {C : Type 0} → SessionState C → ℕ
@@ -20,6 +21,23 @@ most_checkpoints s = 2 * (number_of_steps s / s.stride) + 2
 -- the steps behind the changed place, and a stride before it: an edit carries out no more of them
 abbrev pub steps_from_change : {C : Type 0} → Edit → SessionState C → SessionState C → ℕ
 steps_from_change e old new = (number_of_steps new - first_changed (place_of e) (entries old.items)) + new.stride
+
+-- the steps of an edited list behind its first so many, and a stride; none where there is no such list
+abbrev pub steps_behind : ℕ → ℕ → Result (List OneItem) Refusal → ℕ
+steps_behind first K (Ok items) = (length (unroll (listed items)) - first) + K
+steps_behind first K (Err refusal) = 0
+
+-- so many, and none where a verdict refuses
+abbrev pub unless_refused : Option Refusal → ℕ → ℕ
+unless_refused None count = count
+unless_refused (Some refusal) count = 0
+
+-- a refused edit asks for no more coins: for none where the verdict refuses it; where it is refused memory, for as many as the
+-- edited circuit has steps behind the changed place, and a stride of them
+abbrev pub most_refused_asks : {C : Type 0} → Edit → SessionState C → ℕ
+most_refused_asks e s =
+    unless_refused (verdict_on s.qubits e (entries s.items))
+    (steps_behind (first_changed (place_of e) (entries s.items)) s.stride (edited_by e (entries s.items)))
 
 -- how many steps an item has, or none where there is no item
 abbrev pub steps_of_item : Option OneItem → ℕ

@@ -131,6 +131,7 @@ impl KeptRun {
         ensures asks { IfOk result (λ applied. C.asks coins.new ≤ C.asks coins.old + applied) }
         ensures asks_free { OnOk result (C.asks coins.new ≤ C.asks coins.old + ones self.new.outputs.free.items) }
         ensures asked { C.asks coins.new ≤ C.asks coins.old + all_coins_of (unroll (circuit_items circuit.now)) }
+        ensures asked_behind { C.asks coins.new ≤ C.asks coins.old + ((length (unroll (circuit_items circuit.now)) - span.first) + stride) }
         ensures applied { IfOk result (λ applied. applied ≤ (length (unroll (circuit_items circuit.now)) - span.first) + stride) }
         ensures few { IfOk result (λ applied. (xs : List Step) (count : ℕ) → IsKeptRun self.old.tableau.qubits (C.sequence coins.old) stride xs count self.old → IsSpan xs (unroll (circuit_items circuit.now)) span → AgreeBehind self.old.tableau.qubits (C.sequence coins.old) xs (unroll (circuit_items circuit.now)) span → applied ≤ (span.new_end - span.first) + 2 * stride) }
         ensures err { IfErr result (λ r. r ≡ OutOfMemory) }

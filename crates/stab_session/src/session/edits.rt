@@ -18,7 +18,7 @@ impl<C: Coins> Session<C> {
     ghost use Rattle.stab_circuit.specs.Edits.{put_item};
     ghost use Rattle.stab_session.specs.Sessions.{IsFaultOf};
     ghost use Rattle.stab_session.specs.SessionEdits.{change_of, verdict_on, IsEditedBy, IsAsBefore};
-    ghost use Rattle.stab_session.specs.Bounds.{steps_from_change, steps_near_change, most_checkpoints, AgreeBehind};
+    ghost use Rattle.stab_session.specs.Bounds.{steps_from_change, steps_near_change, most_refused_asks, most_checkpoints, AgreeBehind};
     ghost use Rattle.stab_session.specs.Headline.{IsRunOfItems};
 
     /// Edits the circuit, and keeps what the edited one's run gives.
@@ -36,6 +36,7 @@ impl<C: Coins> Session<C> {
         ensures applied { IfOk result (λ r. r.applied ≤ steps_from_change edit self.old self.new) }
         ensures early { IfOk result (λ r. AgreeBehind C.sequence edit self.old self.new → r.applied ≤ steps_near_change edit self.new) }
         ensures asks { IfOk result (λ r. C.asks self.new.coins ≤ C.asks self.old.coins + r.applied) }
+        ensures refused_asks { OnErr result (C.asks self.new.coins ≤ C.asks self.old.coins + most_refused_asks edit self.old) }
         ensures checkpoints { IfOk result (λ r. r.checkpoints ≡ length self.new.checkpoints) }
         ensures few_checkpoints { OnOk result (length self.new.checkpoints ≤ most_checkpoints self.new) }
     {

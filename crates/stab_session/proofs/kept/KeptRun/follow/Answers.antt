@@ -10,7 +10,7 @@ use Rattle.stab_session.specs.inner.Sights.{StepFits}
 use Rattle.stab_session.specs.inner.Replays.{IsKeptRun, Follows, Ascending}
 use Rattle.stab_session.proofs.FitLemmas.{check-fits, check-whole, check-steps}
 use Rattle.stab_session.proofs.FollowLemmas.{coins-behind}
-use Rattle.stab_session.proofs.CourseLemmas.{IsCount, HasBegun, HasEnded, count-of, seen-end, seen-soon, some-before, copy-within, has-begun, ascending-here, has-ended}
+use Rattle.stab_session.proofs.CourseLemmas.{IsCount, HasBegun, HasEnded, count-of, seen-end, seen-soon, some-before, copy-within, has-begun, asked-behind, ascending-here, has-ended}
 use Rattle.stab_session.proofs.kept.KeptRun.follow.Given.{Over}
 use Rattle.stab_session.proofs.kept.KeptRun.follow.Goals as goal
 use Rattle.stab_session.proofs.kept.KeptRun.follow.Goals.{After-as_slice, After-count_before-before, In_ok-replay, After-as_slice-3, After-follow, In_ok-end}
@@ -161,6 +161,24 @@ returns-clause-asked g c =
     let at = goal.at.returns-clause-asked g c in
     let begins = begun g at.In_ok-replay (few g at.After-as_slice) (first g at.After-count_before-before) in
     asked g at.After-follow begins.all
+
+pub returns-in_err-end-clause-asked_behind : goal.returns-in_err-end-clause-asked_behind
+returns-in_err-end-clause-asked_behind g c =
+    let at = goal.at.returns-in_err-end-clause-asked_behind g c in
+    let begins = begun g at.In_ok-replay (few g at.After-as_slice) (first g at.After-count_before-before) in
+    asked-behind c.requires.follows (few g at.After-as_slice) (first g at.After-count_before-before) c.in_ok-replay.replay begins _ _ c.follow.ensures.asked
+
+pub returns-in_err-prepared-clause-asked_behind : goal.returns-in_err-prepared-clause-asked_behind
+returns-in_err-prepared-clause-asked_behind g c =
+    let at = goal.at.returns-in_err-prepared-clause-asked_behind g c in
+    let begins = begun g at.In_ok-replay (few g at.After-as_slice) (first g at.After-count_before-before) in
+    asked-behind c.requires.follows (few g at.After-as_slice) (first g at.After-count_before-before) c.in_ok-replay.replay begins _ _ c.follow.ensures.asked
+
+pub returns-clause-asked_behind : goal.returns-clause-asked_behind
+returns-clause-asked_behind g c =
+    let at = goal.at.returns-clause-asked_behind g c in
+    let begins = begun g at.In_ok-replay (few g at.After-as_slice) (first g at.After-count_before-before) in
+    asked-behind c.requires.follows (few g at.After-as_slice) (first g at.After-count_before-before) c.in_ok-replay.replay begins _ _ c.follow.ensures.asked
 
 pub prepare-requires : goal.prepare-requires
 prepare-requires g c =

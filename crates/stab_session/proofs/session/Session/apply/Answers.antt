@@ -1,10 +1,10 @@
-use Rattle.std.proofs.Common.{ap, sym, ◌∙◌, subst, ◌≤◌}
+use Rattle.std.proofs.Common.{ap, sym, ◌∙◌, subst, ◌+◌, ◌≤◌, arith}
 use Rattle.stab_pauli.specs.Refusals.{whole}
 use Rattle.stab_circuit.specs.Items.{listed}
 use Rattle.stab_circuit.specs.Steps.{unroll, observables_of}
 use Rattle.stab_session.specs.Sessions.{SessionState, IsFaultOf}
 use Rattle.stab_session.proofs.SessionLemmas.{statement, few-checkpoints}
-use Rattle.stab_session.proofs.EditedLemmas.{session-verdict, run-fault, followed, agreed, new-run, edited-kept, session-edited, edited-applied, edited-early}
+use Rattle.stab_session.proofs.EditedLemmas.{session-verdict, run-fault, followed, agreed, new-run, edited-kept, session-edited, edited-applied, edited-early, refused-asks}
 use Rattle.stab_session.proofs.session.Session.apply.Goals as goal
 
 pub returns-in-Err-clause-refused : goal.returns-in-Err-clause-refused
@@ -106,3 +106,16 @@ returns-in-Err-follow-clause-refused g c =
     (ap (λ (s : SessionState g.row.C.Denot). s.items) (sym c.self.view_is))
     (ap (λ (s : SessionState g.row.C.Denot). s.qubits) (sym c.self.view_is) ∙ sym c.len-n.ensures.value)
     c.whole.result (c.whole.ensures.value ∙ ap whole ran.err)
+
+pub returns-in-Err-follow-clause-refused_asks : goal.returns-in-Err-follow-clause-refused_asks
+returns-in-Err-follow-clause-refused_asks g c =
+    let begun = c.in-Ok.ensures {u = tt} in
+    let asks = ap (λ (s : SessionState g.row.C.Denot). g.C.Coins.asks s.coins) c.self.view_is in
+    omega (
+      arith,
+      asks,
+      refused-asks g.C.Coins.sequence c.args.edit c.args.self.now c.len-n.result c.self.inside.circuit c.begin.new.circuit c.in-Ok.begun.0 c.in-Ok.begun.1 begun.begun
+          (ap (λ (s : SessionState g.row.C.Denot). s.items) (sym c.self.view_is))
+          (ap (λ (s : SessionState g.row.C.Denot). s.qubits) (sym c.self.view_is) ∙ sym c.len-n.ensures.value)
+          c.self.inside.stride _ _ (ap (λ (s : SessionState g.row.C.Denot). s.stride) c.self.view_is) c.follow.ensures.asked_behind,
+    )
