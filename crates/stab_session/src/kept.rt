@@ -81,12 +81,13 @@ impl KeptRun {
         })
     }
 
-    /// A replay from the copy with a number on.
+    /// A replay from the copy with a number on, in the memory of a spare tableau if there is one.
     fn resume<'a>(
         &self,
         alloc: Global,
         circuit: &'a Circuit,
         number: usize,
+        spare: Option<Tableau>,
     ) -> Result<Replay<'a>, Refusal>
         requires in_range { number < length self.now.checkpoints.items }
         requires checked { check_of (circuit_items circuit.now) ≡ None }
@@ -96,7 +97,7 @@ impl KeptRun {
     {
         let copy = &self.checkpoints[number];
         let string = Pauli::identity(alloc, self.tableau.len())?;
-        let tableau = copy.tableau.tableau(alloc, None)?;
+        let tableau = copy.tableau.tableau(alloc, spare)?;
         let outputs = self.outputs.front(alloc, copy.lengths)?;
         let cursor = Cursor::at(alloc, circuit, copy.step)?;
         Ok(Replay {
@@ -112,6 +113,9 @@ impl KeptRun {
 
     /// Makes this the run of an edited circuit, whose steps differ within the span, and tells how
     /// many steps were carried out for it. The run is as before where memory is refused.
+    ///
+    /// The replay goes on in the memory of a spare tableau if there is one, and one of the two
+    /// that are then at hand is the next spare.
     pub fn follow<C: Coins>(
         &mut self,
         alloc: Global,
@@ -119,6 +123,7 @@ impl KeptRun {
         span: Span,
         stride: usize,
         coins: &mut C,
+        spare: &mut Option<Tableau>,
     ) -> Result<u64, Refusal>
         requires checked { check_within self.old.tableau.qubits (circuit_items circuit.now) ≡ None }
         requires stride { 1 ≤ stride }
@@ -137,7 +142,7 @@ impl KeptRun {
         ensures err { IfErr result (λ r. r ≡ OutOfMemory) }
     {
         let before = count_before(self.checkpoints.as_slice(), span.first + 1);
-        let mut replay = self.resume(alloc, circuit, before - 1)?;
+        let mut replay = self.resume(alloc, circuit, before - 1, spare.take())?;
         let plan = Plan {
             total: circuit.steps(),
             stride,
@@ -154,8 +159,8 @@ impl KeptRun {
             coins,
         )?;
         let applied = replay.applied;
-        let prepared = self.prepare(alloc, replay, end, circuit.observables())?;
-        self.commit(prepared, before, stride);
+        let prepared = self.prepare(alloc, replay, end, circuit.observables(), spare)?;
+        self.commit(prepared, before, stride, spare);
         Ok(applied)
     }
 
@@ -166,6 +171,7 @@ impl KeptRun {
         replay: Replay,
         end: End,
         count: usize,
+        spare: &mut Option<Tableau>,
     ) -> Result<Prepared, Refusal>
         requires in_range { HasCopy self.old.checkpoints.items end }
         ensures unchanged { IsSameKept self.new self.old }
@@ -181,7 +187,7 @@ impl KeptRun {
             step,
             ..
         } = replay;
-        let rest = self.rest(alloc, tableau, &mut outputs, step, end)?;
+        let rest = self.rest(alloc, tableau, &mut outputs, step, end, spare)?;
         let observables = observables(alloc, count, outputs.additions.as_slice())?;
         self.checkpoints.reserve(laid.len())?;
         laid.reverse();
@@ -194,7 +200,7 @@ impl KeptRun {
     }
 
     /// What comes behind a replay that ended before a step with this tableau and these outputs, to
-    /// which the outputs behind it are appended.
+    /// which the outputs behind it are appended. A tableau that is not needed is the next spare.
     fn rest(
         &self,
         alloc: Global,
@@ -202,6 +208,7 @@ impl KeptRun {
         outputs: &mut Outputs,
         step: usize,
         end: End,
+        spare: &mut Option<Tableau>,
     ) -> Result<Rest, AllocError>
         requires in_range { HasCopy self.now.checkpoints.items end }
         ensures rest { IfOk result (IsRest self.now tableau (output_of outputs.old) step end (output_of outputs.new)) }
@@ -219,13 +226,21 @@ impl KeptRun {
                 };
                 outputs.append_rest(&self.outputs, copy.lengths)?;
                 let room = Vec::with_capacity(alloc, self.checkpoints.len() - number)?;
+                *spare = Some(tableau);
                 Ok(Rest::Old(number, seam, room))
             }
         }
     }
 
-    /// Puts what was prepared in place. It takes no memory.
-    fn commit(&mut self, prepared: Prepared, before: usize, stride: usize)
+    /// Puts what was prepared in place. It takes no memory. A tableau that is replaced is the next
+    /// spare.
+    fn commit(
+        &mut self,
+        prepared: Prepared,
+        before: usize,
+        stride: usize,
+        spare: &mut Option<Tableau>,
+    )
         requires room { HasRoom prepared.rest self.old.checkpoints.items }
         requires capacity { length self.old.checkpoints.items + length prepared.laid.items ≤ vec_capacity self.old.checkpoints }
         requires behind { before + length (copies_behind prepared.rest self.old.checkpoints.items) ≤ length self.old.checkpoints.items }
@@ -241,7 +256,7 @@ impl KeptRun {
         self.observables = observables;
         match rest {
             Rest::Nothing(tableau) => {
-                self.tableau = tableau;
+                *spare = Some(std::mem::replace(&mut self.tableau, tableau));
                 self.lay_behind(before, &mut laid, stride);
             }
             Rest::Old(number, seam, mut room) => {
@@ -318,6 +333,6 @@ fn run_checked<C: Coins>(
         new_end: circuit.steps(),
     };
     let mut kept = KeptRun::new(alloc, n)?;
-    kept.follow(alloc, circuit, span, stride, coins)?;
+    kept.follow(alloc, circuit, span, stride, coins, &mut None)?;
     Ok(kept)
 }

@@ -5,6 +5,7 @@ use crate::kept::{KeptRun, run_kept};
 pub use edits::Report;
 use stab_circuit::Circuit;
 use stab_pauli::{Fault, Pauli, Refusal};
+use stab_tableau::Tableau;
 use std::alloc::Global;
 use std::marker::Model;
 
@@ -20,6 +21,8 @@ pub struct Session<C: Coins> {
     stride: usize,
     coins: C,
     kept: KeptRun,
+    // What the last edit left over, for the next one to go on in its memory.
+    spare: Option<Tableau>,
 }
 
 // Written out, so that to a proof a value that is let go is one call, and not one for each of its parts.
@@ -31,6 +34,7 @@ impl<C: Coins> Drop for Session<C> {
             stride: _,
             coins: _,
             kept: _,
+            spare: _,
         } = self;
     }
 }
@@ -111,6 +115,7 @@ impl<C: Coins> Session<C> {
                 stride,
                 coins,
                 kept,
+                spare: None,
             }),
             Err(fault) => Err(OpenRefused {
                 fault,

@@ -51,6 +51,7 @@ impl<C: Coins> Session<C> {
             span,
             self.stride,
             &mut self.coins,
+            &mut self.spare,
         ) {
             Ok(applied) => {
                 finish(&mut self.circuit, pending);

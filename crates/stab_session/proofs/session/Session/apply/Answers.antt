@@ -1,4 +1,4 @@
-use Rattle.std.proofs.Common.{ap, sym, ◌∙◌, subst, ◌+◌, ◌≤◌, arith}
+use Rattle.std.proofs.Common.{ap, sym, ◌∙◌, subst, ◌≤◌, arith}
 use Rattle.stab_pauli.specs.Refusals.{whole}
 use Rattle.stab_circuit.specs.Items.{listed}
 use Rattle.stab_circuit.specs.Steps.{unroll, observables_of}
