@@ -16,13 +16,15 @@ use Rattle.stab_session.specs.declared.kept.Prepared.{Prepared}
 use Rattle.stab_session.specs.declared.kept.Rest.{Rest}
 use Rattle.stab_session.specs.Records.{ones}
 use Rattle.stab_session.specs.Points.{Output, all_coins_of, with_additions}
+use Rattle.stab_session.specs.Bounds.{EndsAt, IsCounted}
 use Rattle.stab_session.specs.inner.Sights.{output_of}
-use Rattle.stab_session.specs.inner.Checkpoints.{moved_copy}
+use Rattle.stab_session.specs.inner.Checkpoints.{steps_of, moved_copy}
 use Rattle.stab_session.specs.inner.Replays.{IsKeptRun, IsSameKept, Follows, AgreeBehind, IsReplay, Ascending, Meets, IsEnd, EndsSoon, place_of}
 use Rattle.stab_session.specs.inner.Prepared.{Begins, HasCopy, IsRest, IsOldRest, IsPrepared, IsCommitted, copies_behind, seam_at}
 use Rattle.stab_session.proofs.ReplayLemmas.{coins-steps}
 use Rattle.stab_session.proofs.SpacingLemmas.{IsBefore}
-use Rattle.stab_session.proofs.FollowLemmas.{some-at, some-and, prepared-same, committed-same, before-first, begun, same-records, next-behind, all-ascending, all-qubits, applied-within, few-steps, kept-end, end-flags}
+use Rattle.stab_session.proofs.FollowLemmas.{some-at, some-and, prepared-same, committed-same, before-first, begun, same-records, next-behind, all-ascending, all-qubits, kept-end, end-flags}
+use Rattle.stab_session.proofs.CountLemmas.{applied-within, few-steps, ends-at, at-least, is-counted}
 
 -- so many of the first copies are before a step
 pub record IsCount (step : ℕ) (copies : List Checkpoint) (m : ℕ) : Type 0 where
@@ -54,7 +56,7 @@ pub seen-end : (n : ℕ) (p : Plan) (r : Replay) {seen copies : List Checkpoint}
 seen-end n p r {seen} {copies} {bits} end same also is =
     subst (λ records. IsEnd n p r copies records end) also (subst (λ cs. IsEnd n p r cs bits end) same is)
 
-pub seen-soon : {n k : ℕ} (coins : ℕ → Bool) (p : Plan) {zs ys : List Step} {seen copies : List Checkpoint} {bits records : List Bool} (end : End) → k ≡ n → zs ≡ ys
+pub seen-soon : {n k : ℕ} (coins : ℕ → Bool) (p : Plan) {zs ys : List Step} {seen copies : List Checkpoint} {bits records : List Bool} (end : ℕ) → k ≡ n → zs ≡ ys
     → seen ≡ copies → bits ≡ records → EndsSoon k coins p zs seen bits end → EndsSoon n coins p ys copies records end
 seen-soon {n} {k} coins p {zs} {ys} {seen} {copies} {bits} end qubits all same also is =
     subst (λ records. EndsSoon n coins p ys copies records end) also
@@ -98,8 +100,10 @@ pub record HasEnded (n : ℕ) (coins : ℕ → Bool) (K : ℕ) (ys : List Step) 
     : Type 0 where
   pub copy : HasCopy old.checkpoints.items end
   pub applied : (applied : ℕ) → applied + begin ≡ r.step → applied ≤ (length ys - s.first) + K
-  pub few : (applied : ℕ) → applied + begin ≡ r.step → EndsSoon n coins p ys old.checkpoints.items old.outputs.records.items end → AgreeBehind n coins xs ys s
-      → applied ≤ (s.new_end - s.first) + 2 * K
+  pub few : (applied : ℕ) → applied + begin ≡ r.step → EndsSoon n coins p ys old.checkpoints.items old.outputs.records.items r.step → (far : ℕ)
+      → AgreeBehind n coins xs ys s far → applied ≤ ((s.new_end - s.first) + 2 * K) + far
+  pub at_least : (applied : ℕ) → applied + begin ≡ r.step → s.new_end ≤ s.first + applied
+  pub counted : (applied : ℕ) → applied + begin ≡ r.step → IsCounted (steps_of old.checkpoints.items) s.first s.old_end s.new_end (length ys) applied
   pub ready : (mid : KeptRun) → IsSameKept mid old → (observables : ℕ) (q : Prepared) → IsPrepared mid r observables end q → IsReady n coins K ys m r mid observables q
 
 module _ {n : ℕ} {coins : ℕ → Bool} {K : ℕ} {ys : List Step} {s : Span} {old : KeptRun} (f : Follows n coins K ys s old) (few : length ys ≤ 1048576)
@@ -165,6 +169,9 @@ module _ {n : ℕ} {coins : ℕ → Bool} {K : ℕ} {ys : List Step} {s : Span} 
       end_here : IsEnd n p r old.checkpoints.items old.outputs.records.items end
       end_here = subst (λ k. IsEnd k p r old.checkpoints.items old.outputs.records.items end) begins.qubits is_end
 
+      ends-here : EndsAt (steps_of old.checkpoints.items) s.old_end s.new_end (length ys) r.step
+      ends-here = ends-at n coins K f.old f.count old f.kept ys s f.span p old_end new_end total (omega (arith, few)) next-there r end end_here
+
       module _ (mid : KeptRun) (same : IsSameKept mid old) (observables : ℕ) (q : Prepared) (prepared : IsPrepared mid r observables end q) where
         prepared_here : IsPrepared old r observables end q
         prepared_here = prepared-same mid old r observables end q same prepared
@@ -198,8 +205,11 @@ module _ {n : ℕ} {coins : ℕ → Bool} {K : ℕ} {ys : List Step} {s : Span} 
         copy = has-copy n p r old.checkpoints.items old.outputs.records.items end end_here;
         applied = λ applied counted.
             applied-within n coins K f.old f.count old f.kept ys s f.span m near r0.step r.step applied begins.at counted done.at_step.within;
-        few = λ applied counted soon agree.
-            few-steps n coins K f.old f.count old f.kept ys s f.span p old_end new_end (omega (arith, few)) m e near behind.within behind.before behind.behind next agree r end
-            end_here soon done.at_step.within r0.step applied begins.at counted;
+        few = λ applied counted soon far agree.
+            few-steps n coins K f.old f.count old f.kept ys s f.span p old_end new_end (omega (arith, few)) m e near behind.within behind.before behind.behind next far agree r0.step
+            r.step applied soon done.at_step.within begins.at counted;
+        at_least = λ applied counted. at-least n coins K f.old f.count old f.kept ys s f.span m near r0.step r.step applied begins.at counted ends-here;
+        counted = λ applied counted.
+            is-counted n coins K f.old f.count old f.kept ys s f.span m near r0.step r.step applied begins.at counted ends-here count.within count.before count.behind;
         ready = is-ready;
       }

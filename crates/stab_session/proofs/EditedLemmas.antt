@@ -18,7 +18,7 @@ use Rattle.stab_session.specs.Points.{origin, point_after}
 use Rattle.stab_session.specs.Laws.{AgreeAt}
 use Rattle.stab_session.specs.Sessions.{SessionState, IsFaultOf}
 use Rattle.stab_session.specs.SessionEdits.{change_of, place_of, edited_by, verdict_on, IsEditedBy}
-use Rattle.stab_session.specs.Bounds.{steps_of_item, steps_from_change, steps_behind, unless_refused, most_refused_asks, steps_put, steps_near_change, AgreeBehind}
+use Rattle.stab_session.specs.Bounds.{steps_of_item, steps_from_change, steps_behind, unless_refused, most_refused_asks, steps_put, steps_near_change, steps_changed, IsCounted, IsCountOf, AgreeBehind}
 use Rattle.stab_session.specs.inner.KeptSessions.{session_of, IsKept}
 use Rattle.stab_session.specs.inner.Pendings.{kept, IsBegun}
 use Rattle.stab_session.specs.inner.Replays.{IsKeptRun}
@@ -49,8 +49,8 @@ moved_agree n m k bits others xs us ys vs i a j c em ek eb ex ey ei ej h =
 pub followed : (n m : ℕ) (bits others : ℕ → Bool) (K : ℕ) (xs : List Step) (count : ℕ) (r : KeptRun) → n ≡ m → bits ≡ others → IsKeptRun m bits K xs count r → IsKeptRun n others K xs count r
 followed n m bits others K xs count r e f is = subst (λ k. IsKeptRun k others K xs count r) (sym e) (subst (λ k. IsKeptRun m k K xs count r) f is)
 
-pub agreed : (n m : ℕ) (bits others : ℕ → Bool) (xs ys : List Step) (s : Span) → n ≡ m → bits ≡ others → AgreeBehindSpan n others xs ys s → AgreeBehindSpan m bits xs ys s
-agreed n m bits others xs ys s e f is = subst (λ k. AgreeBehindSpan k bits xs ys s) e (subst (λ k. AgreeBehindSpan n k xs ys s) (sym f) is)
+pub agreed : (n m : ℕ) (bits others : ℕ → Bool) (xs ys : List Step) (s : Span) (far : ℕ) → n ≡ m → bits ≡ others → AgreeBehindSpan n others xs ys s far → AgreeBehindSpan m bits xs ys s far
+agreed n m bits others xs ys s far e f is = subst (λ k. AgreeBehindSpan k bits xs ys s far) e (subst (λ k. AgreeBehindSpan n k xs ys s far) (sym f) is)
 
 -- how many steps an edit puts in, by the items that it leaves
 abbrev steps_put_in : Edit → List OneItem → ℕ
@@ -122,20 +122,36 @@ module _ {C : Type 0} (sequence : C → ℕ → Bool) (e : Edit) (s : SessionSta
     pub edited-applied : (applied : ℕ) → applied ≤ (length (unroll (listed mid)) - span.first) + stride → applied ≤ steps_from_change e s (session_of (listed new) stride coins run)
     edited-applied applied h = omega (arith, h, first_is, ap length new_steps)
 
-    -- where the runs agree behind what was changed, it cost no more than what was put in, and two strides
+    old_end_is : span.old_end ≡ old_end (change_of e) (place_of e) (entries s.items)
+    old_end_is = b.span.old_end ∙ sym (ap (old_end (change_of e) (place_of e)) old_items)
 
-    agree_inside : AgreeBehind sequence e s (session_of (listed new) stride coins run) → AgreeBehindSpan n (sequence s.coins) (unroll (listed old)) (unroll (listed mid)) span
-    agree_inside h =
-        moved_agree n s.qubits run.tableau.qubits (sequence s.coins) (sequence coins) (unroll (listed old)) (unroll s.items) (unroll (listed mid)) (unroll (listed new)) span.old_end
-        (old_end (change_of e) (place_of e) (entries s.items)) span.new_end (new_end (change_of e) (place_of e) (entries (listed new))) qubits is.qubits same_coins (ap unroll items)
-        (sym new_steps) (ap (old_end (change_of e) (place_of e)) old_items ∙ sym b.span.old_end) (ap (new_end (change_of e) (place_of e)) (sym new_items) ∙ sym b.span.new_end) h
+    new_end_is : span.new_end ≡ new_end (change_of e) (place_of e) (entries (listed new))
+    new_end_is = b.span.new_end ∙ ap (new_end (change_of e) (place_of e)) new_items
+
+    -- it cost those from the first changed step to the end of what was put in at least
+    pub edited-at-least : (applied : ℕ) → span.new_end ≤ span.first + applied → steps_changed e s (session_of (listed new) stride coins run) ≤ applied
+    edited-at-least applied h = omega (arith, h, first_is, new_end_is)
+
+    -- and just so many
+    pub edited-counted : (applied : ℕ) (copies : List ℕ) → copies ≡ s.checkpoints
+        → IsCounted copies span.first span.old_end span.new_end (length (unroll (listed mid))) applied → IsCountOf e s (session_of (listed new) stride coins run) applied
+    edited-counted applied copies same h = subst (λ t. t) (λ i. IsCounted (same i) (first_is i) (old_end_is i) (new_end_is i) (length (new_steps i)) applied) h
+
+    -- where the runs agree so many steps behind what was changed, it cost no more than what was put in, two strides, and as many
+
+    agree_inside : (far : ℕ) → AgreeBehind sequence e s (session_of (listed new) stride coins run) far
+        → AgreeBehindSpan n (sequence s.coins) (unroll (listed old)) (unroll (listed mid)) span far
+    agree_inside far h =
+        moved_agree n s.qubits run.tableau.qubits (sequence s.coins) (sequence coins) (unroll (listed old)) (unroll s.items) (unroll (listed mid)) (unroll (listed new)) (span.old_end + far)
+        (old_end (change_of e) (place_of e) (entries s.items) + far) (span.new_end + far) (new_end (change_of e) (place_of e) (entries (listed new)) + far) qubits is.qubits same_coins (ap unroll items)
+        (sym new_steps) (ap (λ k. k + far) (sym old_end_is)) (ap (λ k. k + far) (sym new_end_is)) h
 
     put_is : span.new_end ≤ span.first + steps_put e (session_of (listed new) stride coins run)
     put_is =
         subst (λ xs. span.new_end ≤ span.first + steps_put_in e xs) new_items
         (omega (arith, b.span.new_end, b.span.first, put-within (change_of e) (place_of e).blocks (place_of e).place old b.new b.edited))
 
-    pub edited-early : (applied : ℕ)
-        → (AgreeBehindSpan n (sequence s.coins) (unroll (listed old)) (unroll (listed mid)) span → applied ≤ (span.new_end - span.first) + 2 * stride)
-        → AgreeBehind sequence e s (session_of (listed new) stride coins run) → applied ≤ steps_near_change e (session_of (listed new) stride coins run)
-    edited-early applied near h = omega (arith, near (agree_inside h), put_is)
+    pub edited-early : (applied far : ℕ)
+        → (AgreeBehindSpan n (sequence s.coins) (unroll (listed old)) (unroll (listed mid)) span far → applied ≤ ((span.new_end - span.first) + 2 * stride) + far)
+        → AgreeBehind sequence e s (session_of (listed new) stride coins run) far → applied ≤ steps_near_change e (session_of (listed new) stride coins run) + far
+    edited-early applied far near h = omega (arith, near (agree_inside far h), put_is)

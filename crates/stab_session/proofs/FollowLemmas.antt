@@ -1,11 +1,9 @@
--- Following an edit: where a replay of the new steps begins, which old copies it may meet, what is kept of its end, and how many
--- steps it takes.
-use Rattle.std.proofs.Common.{◌≡◌, ℕ, ◌+◌, ◌-◌, ◌*◌, ◌^◌, ◌<◌, ◌≤◌, max, reverse, append_assoc, refl, sym, ◌∙◌, ap, subst, Bool, false, List, [], ◌∷◌, ◌++◌, length, take, drop, map, get_or, All, Option, Some, None, replicate, inl, inr, arith}
-use Rattle.std.specs.Prelude.{IfSome, IsSomeAnd, MatchOption, option_map, slice_get}
+-- Following an edit: where a replay of the new steps begins, which old copies it may meet, and what is kept of its end.
+use Rattle.std.proofs.Common.{◌≡◌, ℕ, ◌+◌, ◌-◌, ◌^◌, ◌<◌, ◌≤◌, reverse, append_assoc, refl, sym, ◌∙◌, ap, subst, Bool, false, List, [], ◌∷◌, ◌++◌, length, take, drop, map, get_or, All, Option, Some, None, replicate, arith}
+use Rattle.std.specs.Prelude.{IfSome, IsSomeAnd, option_map, slice_get}
 use Rattle.std.proofs.lemmas.List.{take_all, take_min, take-map, drop-map, drop_more, drop-drop, map-append, length-take, length-drop, get_or-drop, take-append-drop}
 use Rattle.std.proofs.lemmas.List.Elements.{All-weaker, All-map, All-append, All-take, All-drop, All-nil}
 use Rattle.std.proofs.lemmas.Option.{get_or_from_slice_get, slice_get_within, slice_get-map, IfSome_then}
-use Rattle.std.proofs.lemmas.Bool.{cases_lt}
 use Rattle.stab_tableau.specs.Traces.{member}
 use Rattle.stab_tableau.specs.Groups.{SameGroup}
 use Rattle.stab_tableau.specs.Tableaus.{TableauState, stabilises}
@@ -21,16 +19,16 @@ use Rattle.stab_session.specs.declared.kept.Span.{Span}
 use Rattle.stab_session.specs.declared.kept.Prepared.{Prepared}
 use Rattle.stab_session.specs.declared.kept.Rest.{Rest}
 use Rattle.stab_session.specs.Records.{ones}
-use Rattle.stab_session.specs.Points.{Output, origin, joined, point_after, outputs, all_coins_of, with_additions}
+use Rattle.stab_session.specs.Points.{Output, origin, joined, point_after, all_coins_of, with_additions}
 use Rattle.stab_session.specs.Laws.{AgreeAt}
 use Rattle.stab_session.specs.inner.Sights.{sight, output_of}
 use Rattle.stab_session.specs.inner.Spacing.{Near, IsSpaced, last_of}
 use Rattle.stab_session.specs.inner.Checkpoints.{lengths_of, front_of, rest_of, IsRunFromStart, IsCheckpoint, steps_of, all_laid, moved, moved_copy}
-use Rattle.stab_session.specs.inner.Replays.{IsKeptRun, IsSameKept, IsSpan, AgreeBehind, IsReplay, Ascending, Meets, IsEnd, Misses, EndsSoon, place_of}
+use Rattle.stab_session.specs.inner.Replays.{IsKeptRun, IsSameKept, IsSpan, IsReplay, Ascending, Meets, IsEnd, place_of}
 use Rattle.stab_session.specs.inner.Prepared.{Begins, IsRest, IsOldRest, IsPrepared, IsCommitted, copies_behind, tableau_behind, seam_at}
 use Rattle.stab_session.proofs.RecordLemmas.{ones-append}
-use Rattle.stab_session.proofs.PointLemmas.{take-same, front-output, checkpoint-before, begun-from-start, meets-agree, agree-later, agree-end, kept-tail, checkpoint-moved}
-use Rattle.stab_session.proofs.SpacingLemmas.{IsBefore, before-near, behind-near, all-behind, ascending-behind, spaced-front, spaced-all, all-laid-all, all-laid-append, moved-within, moved-near, steps-moved, near-drop, near-join}
+use Rattle.stab_session.proofs.PointLemmas.{take-same, checkpoint-before, begun-from-start, meets-agree, agree-end, kept-tail, checkpoint-moved}
+use Rattle.stab_session.proofs.SpacingLemmas.{IsBefore, before-near, all-behind, ascending-behind, spaced-front, spaced-all, all-laid-all, all-laid-append, moved-within, moved-near, steps-moved, near-drop, near-join}
 
 -- lists and their elements
 
@@ -49,7 +47,7 @@ some-and P None h = absurd h
 some-and P (Some x) h = (x, refl, h)
 
 -- what holds of all elements from one on holds of a later one
-from-drop : {X : Type 0} (P : X → Type 0) (xs : List X) (e k : ℕ) → e ≤ k → All P (drop e xs) → IfSome (slice_get xs k) P
+pub from-drop : {X : Type 0} (P : X → Type 0) (xs : List X) (e k : ℕ) → e ≤ k → All P (drop e xs) → IfSome (slice_get xs k) P
 from-drop P xs e k le all = if-some P (slice_get xs k) (λ x is.
     let within : k < length xs = slice_get_within xs k x is in
     subst P (get_or-drop e xs (k - e) x ∙ ap (λ j. get_or xs j x) (omega arith) ∙ get_or_from_slice_get xs k x x is)
@@ -57,10 +55,6 @@ from-drop P xs e k le all = if-some P (slice_get xs k) (λ x is.
 
 take-front : (k : ℕ) (bits : List Bool) → take (length (take k bits)) (take k bits) ≡ take (length (take k bits)) bits
 take-front k bits = take_all (length (take k bits)) (take k bits) (omega arith) ∙ sym (ap (λ j. take j bits) (length-take k bits) ∙ take_min k bits)
-
-match-weaker : {X : Type 0} (A B : Type 0) (P Q : X → Type 0) (o : Option X) → (A → B) → ((x : X) → P x → Q x) → MatchOption o A P → MatchOption o B Q
-match-weaker A B P Q None f g h = f h
-match-weaker A B P Q (Some x) f g h = g x h
 
 -- the same kept run
 
@@ -139,7 +133,7 @@ module _ (n : ℕ) (coins : ℕ → Bool) (K : ℕ) (xs : List Step) (count : �
 
   -- which old copies it may meet
 
-  same-rest : length ys ≡ s.new_end + (length xs - s.old_end)
+  pub same-rest : length ys ≡ s.new_end + (length xs - s.old_end)
   same-rest = let a = span.old_within in let b = span.new_within in omega (arith, ap length span.behind, length-drop s.old_end xs, length-drop s.new_end ys)
 
   pub next-behind : (e next : ℕ) → e ≤ next → IfSome (slice_get old.checkpoints.items e) (λ c. s.old_end ≤ c.step)
@@ -149,7 +143,7 @@ module _ (n : ℕ) (coins : ℕ → Bool) (K : ℕ) (xs : List Step) (count : �
       (All-weaker (λ c. (s.old_end ≤ c.step) × (c.step ≤ length xs)) (λ c. s.old_end ≤ c.step) (λ c p. p.0) (drop e old.checkpoints.items)
       (all-behind K (length xs) s.old_end e old.checkpoints.items kept.spaced.near behind))
 
-  all-next : (next : ℕ) → IfSome (slice_get old.checkpoints.items next) (λ c. s.old_end ≤ c.step) → All (λ c. s.old_end ≤ c.step) (drop next old.checkpoints.items)
+  pub all-next : (next : ℕ) → IfSome (slice_get old.checkpoints.items next) (λ c. s.old_end ≤ c.step) → All (λ c. s.old_end ≤ c.step) (drop next old.checkpoints.items)
   all-next next behind =
       All-weaker (λ c. (s.old_end ≤ c.step) × (c.step ≤ length xs)) (λ c. s.old_end ≤ c.step) (λ c p. p.0) (drop next old.checkpoints.items)
       (all-behind K (length xs) s.old_end next old.checkpoints.items kept.spaced.near behind)
@@ -167,75 +161,6 @@ module _ (n : ℕ) (coins : ℕ → Bool) (K : ℕ) (xs : List Step) (count : �
   pub all-qubits : (m : ℕ) → m ≡ n → All (λ c. c.tableau.qubits ≡ m) old.checkpoints.items
   all-qubits m is = All-weaker (IsCheckpoint n coins xs) (λ c. c.tableau.qubits ≡ m) (λ c h. h.qubits ∙ sym is) old.checkpoints.items kept.checkpoints
 
-  -- how many steps it takes
-
-  pub applied-within : (m : ℕ) → IsBefore K (length xs) s.first m old.checkpoints.items → (begin end applied : ℕ)
-      → IfSome (slice_get old.checkpoints.items (m - 1)) (λ c. begin ≡ c.step) → applied + begin ≡ end → end ≤ length ys → applied ≤ (length ys - s.first) + K
-  applied-within m b begin end applied at counted within =
-      let here : begin ≡ b.copy.step = some-at (λ c. begin ≡ c.step) old.checkpoints.items (m - 1) b.copy b.here at in
-      let near = b.near in let o = span.new_order in let w = span.new_within in
-      omega (arith, here, near, counted, within)
-
-  next-near : (m e next : ℕ) → IsBefore K (length xs) s.first m old.checkpoints.items → e ≤ length old.checkpoints.items
-      → All (λ c. c.step < s.old_end) (take e old.checkpoints.items) → IfSome (slice_get old.checkpoints.items e) (λ c. s.old_end ≤ c.step) → next ≡ max e m
-      → MatchOption (slice_get old.checkpoints.items next) (length xs ≤ s.old_end + K) (λ c. c.step ≤ s.old_end + K)
-  next-near m e next b within front behind is =
-      elim (cases_lt m e) [
-        | inl lt ↦ subst (λ k. MatchOption (slice_get old.checkpoints.items k) (length xs ≤ s.old_end + K) (λ c. c.step ≤ s.old_end + K)) (omega (arith, is, lt))
-            (match-weaker (length xs ≤ s.old_end + K) (length xs ≤ s.old_end + K) (λ c. (s.old_end ≤ c.step) × (c.step ≤ s.old_end + K)) (λ c. c.step ≤ s.old_end + K)
-            (slice_get old.checkpoints.items e) (λ h. h) (λ c h. h.1)
-            (behind-near K (length xs) s.old_end e old.checkpoints.items kept.spaced within front behind))
-        | inr le ↦ subst (λ k. MatchOption (slice_get old.checkpoints.items k) (length xs ≤ s.old_end + K) (λ c. c.step ≤ s.old_end + K)) (omega (arith, is, le))
-            (match-weaker (length xs ≤ b.copy.step + K) (length xs ≤ s.old_end + K) (λ c. (b.copy.step ≤ c.step) × (c.step ≤ b.copy.step + K)) (λ c. c.step ≤ s.old_end + K)
-            (slice_get old.checkpoints.items m) (λ h. let w = b.within in let o = span.old_order in omega (arith, h)) (λ c h. let w = b.within in let o = span.old_order in let u = h.1 in omega (arith, u))
-            b.next)
-      ]
-
-  -- where both runs agree behind what was changed, it ends soon
-  ends-near : (p : Plan) → p.old_end ≡ s.old_end → p.new_end ≡ s.new_end → length ys < 2 ^ 64 → (r : Replay) (end : End)
-      → IfSome (slice_get old.checkpoints.items p.next) (λ c. s.old_end ≤ c.step) → AgreeBehind n coins xs ys s
-      → IsEnd n p r old.checkpoints.items old.outputs.records.items end → EndsSoon n coins p ys old.checkpoints.items old.outputs.records.items end
-      → r.step ≤ length ys → (o : Option Checkpoint) → slice_get old.checkpoints.items p.next ≡ o
-      → MatchOption o (length xs ≤ s.old_end + K) (λ c. c.step ≤ s.old_end + K) → r.step ≤ s.new_end + K
-  ends-near p old_end new_end few r end behind agree is_end soon within None is near = omega (arith, within, same-rest, near)
-  ends-near p old_end new_end few r end behind agree is_end soon within (Some c) is near =
-      let h : IsCheckpoint n coins xs c = at-get (IsCheckpoint n coins xs) old.checkpoints.items p.next c kept.checkpoints is in
-      let after : s.old_end ≤ c.step = some-at (λ c. s.old_end ≤ c.step) old.checkpoints.items p.next c is behind in
-      let inside = h.within in
-      let place : place_of p c ≡ s.new_end + (c.step - s.old_end) =
-      (λ i. moved (old_end i) (new_end i) c.step) ∙ moved-within s.old_end s.new_end c.step (length xs) inside (omega (arith, same-rest, few)) in
-      let same_step : s.old_end + (c.step - s.old_end) ≡ c.step = omega (arith, after) in
-      let agree_there : AgreeAt n (point_after n coins (take c.step xs) origin) (point_after n coins (take (place_of p c) ys) origin) =
-      subst (λ k. AgreeAt n (point_after n coins (take k xs) origin) (point_after n coins (take (place_of p c) ys) origin)) same_step
-      (subst (λ k. AgreeAt n (point_after n coins (take (s.old_end + (c.step - s.old_end)) xs) origin) (point_after n coins (take k ys) origin)) (sym place)
-      (agree-later n coins xs ys s.old_end s.new_end span.behind agree (c.step - s.old_end))) in
-      let records : take c.lengths.records old.outputs.records.items ≡ (outputs n coins (take c.step xs) origin).records =
-      (λ i. take (h.lengths i).records (kept.run.output i).records) ∙ ap (λ (o : Output). o.records) (front-output n coins xs c.step) in
-      let joined_here : end ≡ Joined p.next =
-      elim soon [
-        | inl e ↦ e
-        | inr missed ↦ absurd (some-at (Misses n coins p ys old.outputs.records.items) old.checkpoints.items p.next c is missed xs h records agree_there)
-      ] in
-      let met = subst (IsEnd n p r old.checkpoints.items old.outputs.records.items) joined_here is_end in
-      let here : place_of p c ≡ r.step =
-      (subst (λ o. IsSomeAnd o (λ c. (place_of p c ≡ r.step) × Meets n r.tableau (output_of r.outputs) old.outputs.records.items c)) is met.1).0 in
-      omega (arith, here, place, near)
-
-  pub few-steps : (p : Plan) → p.old_end ≡ s.old_end → p.new_end ≡ s.new_end → length ys < 2 ^ 64 → (m e : ℕ) → IsBefore K (length xs) s.first m old.checkpoints.items
-      → e ≤ length old.checkpoints.items → All (λ c. c.step < s.old_end) (take e old.checkpoints.items)
-      → IfSome (slice_get old.checkpoints.items e) (λ c. s.old_end ≤ c.step) → p.next ≡ max e m → AgreeBehind n coins xs ys s → (r : Replay) (end : End)
-      → IsEnd n p r old.checkpoints.items old.outputs.records.items end → EndsSoon n coins p ys old.checkpoints.items old.outputs.records.items end
-      → r.step ≤ length ys → (begin applied : ℕ) → IfSome (slice_get old.checkpoints.items (m - 1)) (λ c. begin ≡ c.step) → applied + begin ≡ r.step
-      → applied ≤ (s.new_end - s.first) + 2 * K
-  few-steps p old_end new_end few m e b e_within front behind next agree r end is_end soon within begin applied at counted =
-      let here : begin ≡ b.copy.step = some-at (λ c. begin ≡ c.step) old.checkpoints.items (m - 1) b.copy b.here at in
-      let near = b.near in
-      let o = span.new_order in
-      let last : r.step ≤ s.new_end + K =
-      ends-near p old_end new_end few r end (next-behind e p.next (omega (arith, next)) behind) agree is_end soon within
-      (slice_get old.checkpoints.items p.next) refl (next-near m e p.next b e_within front behind next) in
-      omega (arith, here, near, counted, last)
-
   -- what is kept of its end
 
   front-copies : (m : ℕ) → All (λ c. c.step < s.first + 1) (take m old.checkpoints.items) → All (IsCheckpoint n coins ys) (take m old.checkpoints.items)
@@ -243,7 +168,7 @@ module _ (n : ℕ) (coins : ℕ → Bool) (K : ℕ) (xs : List Step) (count : �
       copy-of-new (get_or (take m old.checkpoints.items) k d) (let l = front k d lt in omega arith)
       (All-take (IsCheckpoint n coins xs) m old.checkpoints.items kept.checkpoints k d lt)
 
-  front-spaced : (m : ℕ) (b : IsBefore K (length xs) s.first m old.checkpoints.items)
+  pub front-spaced : (m : ℕ) (b : IsBefore K (length xs) s.first m old.checkpoints.items)
       → IsSpaced K b.copy.step (steps_of (take m old.checkpoints.items)) × (last_of 0 (steps_of (take m old.checkpoints.items)) ≡ b.copy.step)
   front-spaced m b =
       subst (λ steps. IsSpaced K b.copy.step steps × (last_of 0 steps ≡ b.copy.step)) same

@@ -5,8 +5,10 @@ mod StateLemmas
 mod FutureLemmas
 mod PointLemmas
 mod ReplayLemmas
+mod LaidLemmas
 mod KeptLemmas
 mod FollowLemmas
+mod CountLemmas
 mod CourseLemmas
 mod FitLemmas
 mod SoundLemmas

@@ -3,15 +3,15 @@ use Rattle.std.proofs.Common.{◌≡◌, ℕ, zero, suc, ◌+◌, ◌-◌, ◌<�
 use Rattle.std.specs.Option.{option_map}
 use Rattle.std.proofs.lemmas.List.{length-take, length-drop, take-append-drop, take_at, take-take, drop-drop, drop-take, map-append}
 use Rattle.std.proofs.lemmas.List.Elements.{All-push}
-use Rattle.std.proofs.lemmas.Option.{none-some, same_Some}
+use Rattle.std.proofs.lemmas.Bool.{cases_lt}
+use Rattle.std.proofs.lemmas.Option.{none-some, same_Some, IfSome_then}
 use Rattle.stab_tableau.specs.Tableaus.{TableauState}
 use Rattle.stab_circuit.specs.Steps.{Step, one, two, controlled, collapse, product, detector, observable}
 use Rattle.stab_session.specs.declared.checkpoint.Lengths.{Lengths}
 use Rattle.stab_session.specs.declared.checkpoint.Checkpoint.{Checkpoint}
 use Rattle.stab_session.specs.declared.replay.Replay.{Replay}
 use Rattle.stab_session.specs.declared.replay.Plan.{Plan}
-use Rattle.stab_session.specs.declared.replay.End.TheVariants.{Last, Joined}
-use Rattle.stab_session.specs.declared.replay.Arrival.TheVariants.{Behind, Between}
+use Rattle.stab_session.specs.declared.replay.Arrival.TheVariants.{Between}
 use Rattle.stab_session.specs.Points.{Output, origin, coins_of, all_coins_of, point_after, outputs}
 use Rattle.stab_session.specs.Laws.{AgreeAt}
 use Rattle.stab_session.specs.inner.Sights.{Sight, Shows, IsRun, sight, output_of}
@@ -166,7 +166,7 @@ pub record IsAtStop (n : ℕ) (coins : ℕ → Bool) (begin : ℕ) (p : Plan) (y
   pub ascending : Ascending p r.step (drop next copies)
   pub base : p.base ≤ length r.outputs.records.items
   pub same : take p.base r.outputs.records.items ≡ take p.base old
-  pub first : (next ≡ p.next) ⊎ IfSome (slice_get copies p.next) (Misses n coins p ys old)
+  pub missed : (number : ℕ) → p.next ≤ number → number < next → IfSome (slice_get copies number) (Misses n coins p ys old)
 
 -- and about to go on from there, with the last copy laid there
 pub record IsOnWay (n : ℕ) (coins : ℕ → Bool) (begin : ℕ) (p : Plan) (ys : List Step) (copies : List Checkpoint) (old : List Bool) (next : ℕ) (r : Replay) : Type 0 where
@@ -198,12 +198,20 @@ ascending-stop p step stop (suc k) [] h within before = within
 ascending-stop p step stop zero (c ∷ cs) h within before = (before, h.1)
 ascending-stop p step stop (suc k) (c ∷ cs) h within before = ascending-stop p step stop k cs h within before
 
--- and at the last step that place is where it is
-placed-last : (p : Plan) (step k : ℕ) (cs : List Checkpoint) → Ascending p step (drop k cs) → step ≡ p.total → IfSome (slice_get cs k) (λ c. place_of p c ≡ step)
-placed-last p step zero [] h e = tt
-placed-last p step (suc k) [] h e = tt
-placed-last p step zero (c ∷ cs) h e = let le = h.0 in let within = ascending-end p (place_of p c) cs h.1 in omega arith
-placed-last p step (suc k) (c ∷ cs) h e = placed-last p step k cs h e
+-- nor is it behind those of later ones
+later-places : (p : Plan) (step k : ℕ) (cs : List Checkpoint) → Ascending p step cs → IfSome (slice_get cs k) (λ c. step ≤ place_of p c)
+later-places p step zero [] h = tt
+later-places p step (suc k) [] h = tt
+later-places p step zero (c ∷ cs) h = h.0
+later-places p step (suc k) (c ∷ cs) h =
+    IfSome_then (slice_get cs k) (later-places p (place_of p c) k cs h.1) (λ d le. let first = h.0 in omega (arith, first, le))
+
+all-later : (p : Plan) (step next k : ℕ) (cs : List Checkpoint) → Ascending p step (drop next cs) → next ≤ k
+    → IfSome (slice_get cs k) (λ c. step ≤ place_of p c)
+all-later p step zero k cs h le = later-places p step k cs h
+all-later p step (suc next) zero cs h le = absurd (omega arith)
+all-later p step (suc next) (suc k) [] h le = tt
+all-later p step (suc next) (suc k) (c ∷ cs) h le = all-later p step next k cs h (omega arith)
 
 -- behind the place of the next copy the one after it comes next
 later-within : (copies : List Checkpoint) (k : ℕ) (P : Checkpoint → Type 0) → IsSomeAnd (slice_get copies k) P → k < length copies
@@ -251,7 +259,7 @@ module _ (n : ℕ) (coins : ℕ → Bool) (begin : ℕ) (p : Plan) (ys : List St
         sym (take-take p.base (length r.outputs.records.items) s.outputs.records.items h.stop.base)
         ∙ ap (take p.base) (sym records)
         ∙ h.stop.same;
-    first = h.stop.first;
+    missed = h.stop.missed;
   }
     where
       was : IsAtStep n coins ys r
@@ -271,26 +279,23 @@ module _ (n : ℕ) (coins : ℕ → Bool) (begin : ℕ) (p : Plan) (ys : List St
   missed r None h place apart = tt
   missed r (Some c) h place apart = misses r c h place apart
 
-  -- so the first copy was missed where it is missed now, or was before
-  first-missed : (next : ℕ) (r : Replay) → IsAtStop n coins begin p ys copies old next r → IfSome (slice_get copies next) (λ c. place_of p c ≡ r.step)
-      → IfSome (slice_get copies next) (λ c. MeetsAt n p r old c → ⊥) → IfSome (slice_get copies p.next) (Misses n coins p ys old)
-  first-missed next r h place apart =
-      elim h.first [
-        | inl e ↦ subst (λ k. IfSome (slice_get copies k) (Misses n coins p ys old)) e (missed r (slice_get copies next) h.replay.at_step place apart)
-        | inr before ↦ before
+  -- so that one was missed as those before it were
+  all-missed : (next : ℕ) (r : Replay) → IsAtStop n coins begin p ys copies old next r → IfSome (slice_get copies next) (λ c. place_of p c ≡ r.step)
+      → IfSome (slice_get copies next) (λ c. MeetsAt n p r old c → ⊥) → (number : ℕ) → p.next ≤ number → number < next + 1
+      → IfSome (slice_get copies number) (Misses n coins p ys old)
+  all-missed next r h place apart number from before =
+      elim (cases_lt number next) [
+        | inl lt ↦ h.missed number from lt
+        | inr le ↦ subst (λ k. IfSome (slice_get copies k) (Misses n coins p ys old)) (omega (arith, le, before))
+            (missed r (slice_get copies next) h.replay.at_step place apart)
       ]
 
-  -- and no early end is due behind the last step
-  pub soon-last : (next : ℕ) (r : Replay) → IsAtStop n coins begin p ys copies old next r → IsArrival n p r copies old next Behind
-      → EndsSoon n coins p ys copies old Last
-  soon-last next r h arrival = inr (first-missed next r h (placed-last p r.step next copies h.ascending arrival.0) arrival.1)
-
-  -- and where it meets another copy than the first, it missed that
-  pub soon-met : (next : ℕ) (r : Replay) → IsAtStop n coins begin p ys copies old next r → EndsSoon n coins p ys copies old (Joined next)
-  soon-met next r h =
-      elim h.first [
-        | inl e ↦ inl (ap Joined e)
-        | inr missed ↦ inr missed
+  -- and wherever it ends, it missed each copy that stands before its step
+  pub ends-soon : (next : ℕ) (r : Replay) → IsAtStop n coins begin p ys copies old next r → EndsSoon n coins p ys copies old r.step
+  ends-soon next r h number from =
+      elim (cases_lt number next) [
+        | inl lt ↦ IfSome_then (slice_get copies number) (h.missed number from lt) (λ c missed before. missed)
+        | inr le ↦ IfSome_then (slice_get copies number) (all-later p r.step next number copies h.ascending le) (λ c later before. absurd (omega (arith, later, before)))
       ]
 
   -- before it the replay goes on, where it passed a copy with the one after it next
@@ -304,7 +309,7 @@ module _ (n : ℕ) (coins : ℕ → Bool) (begin : ℕ) (p : Plan) (ys : List St
     ascending = later-ascending p r.step next copies h.ascending placed;
     base = h.base;
     same = h.same;
-    first = inr (first-missed next r h (if-some (slice_get copies next) (λ c. place_of p c ≡ r.step) placed) apart);
+    missed = all-missed next r h (if-some (slice_get copies next) (λ c. place_of p c ≡ r.step) placed) apart;
   }
 
   -- with a copy laid at its step
@@ -334,7 +339,7 @@ module _ (n : ℕ) (coins : ℕ → Bool) (begin : ℕ) (p : Plan) (ys : List St
       ascending = h.ascending;
       base = h.base;
       same = h.same;
-      first = h.first;
+      missed = h.missed;
     };
     last = ap (last_of begin) steps ∙ last-more begin r.step (steps_of r.laid.items);
   }
@@ -355,7 +360,7 @@ module _ (n : ℕ) (coins : ℕ → Bool) (begin : ℕ) (p : Plan) (ys : List St
 
 -- and fewer steps or fewer copies are left
 
-placed-at : (p : Plan) (o : Option Checkpoint) (step : ℕ) → option_map (place_of p) o ≡ Some step → IsSomeAnd o (λ c. place_of p c ≡ step)
+pub placed-at : (p : Plan) (o : Option Checkpoint) (step : ℕ) → option_map (place_of p) o ≡ Some step → IsSomeAnd o (λ c. place_of p c ≡ step)
 placed-at p None step e = absurd (none-some step e)
 placed-at p (Some c) step e = same_Some (place_of p c) step e
 

@@ -1,7 +1,8 @@
 -- Spacing: what laying copies keeps, how many copies there are, and how near to a step the next of them is.
-use Rattle.std.proofs.Common.{◌≡◌, ℕ, zero, suc, ◌+◌, ◌-◌, ◌*◌, ◌/◌, ◌^◌, ◌<◌, ◌≤◌, refl, sym, ap, subst, arith, add-one, List, [], ◌∷◌, ◌++◌, length, take, drop, map, All, Option, Some, None, inl, inr}
+use Rattle.std.proofs.Common.{◌≡◌, ℕ, zero, suc, ◌+◌, ◌-◌, ◌*◌, ◌/◌, ◌^◌, ◌<◌, ◌≤◌, refl, sym, ap, subst, arith, add-one, List, [], ◌∷◌, ◌++◌, length, take, drop, map, All, Option, Some, None, ◌⊎◌, inl, inr}
 use Rattle.std.specs.Prelude.{IfSome, MatchOption, if◌then◌else◌, nat_le, slice_get}
 use Rattle.std.proofs.Math.Nat.{le-div_iff_mul-le}
+use Rattle.std.proofs.lemmas.Bool.{cases_lt}
 use Rattle.std.proofs.lemmas.Bool.Decides.{leb_tells}
 use Rattle.std.proofs.lemmas.List.Elements.{All-nil, All-cons, All-head, All-tail}
 use Rattle.stab_session.specs.declared.checkpoint.Checkpoint.{Checkpoint}
@@ -248,6 +249,40 @@ behind-near K L e (suc m) [] s w f g = absurd (omega arith)
 behind-near K L e (suc m) (a ∷ cs) s w f g =
     let last = last-before e m a (a ∷ cs) (omega arith) f in
     near-behind K L e last.0.step (slice_get (a ∷ cs) (suc m)) last.2 g (next-near K L m last.0 (a ∷ cs) s.near last.1)
+
+-- from one on a copy stands at or behind a step, and at most K steps behind it
+pub record IsNearCopy (K t n : ℕ) (cs : List Checkpoint) : Type 0 where
+  pub number : ℕ
+  pub copy : Checkpoint
+  pub from : n ≤ number
+  pub here : slice_get cs number ≡ Some copy
+  pub behind : t ≤ copy.step
+  pub near : copy.step ≤ t + K
+
+one-further : (K L t m n : ℕ) (c : Checkpoint) (cs : List Checkpoint) → m ≤ n + 1 → (L ≤ t + K) ⊎ IsNearCopy K t n cs → (L ≤ t + K) ⊎ IsNearCopy K t m (c ∷ cs)
+one-further K L t m n c cs le h =
+    elim h [
+      | inl end ↦ inl end
+      | inr found ↦ let from = found.from in
+          inr (record { number = suc found.number; copy = found.copy; from = omega (arith, le, from); here = found.here; behind = found.behind; near = found.near })
+    ]
+
+-- or the end does, where the first of them, or else the end, is at most so far behind it
+pub near-copy : (K L t n : ℕ) (cs : List Checkpoint) → Near K (steps_of cs ++ L ∷ []) → MatchOption (slice_get cs n) (L ≤ t + K) (λ c. c.step ≤ t + K)
+    → (L ≤ t + K) ⊎ IsNearCopy K t n cs
+near-copy K L t zero [] near h = inl h
+near-copy K L t (suc n) [] near h = inl h
+near-copy K L t (suc n) (c ∷ cs) near h = one-further K L t (suc n) n c cs (omega arith) (near-copy K L t n cs (near-tail K L c.step (steps_of cs) near) h)
+near-copy K L t zero (c ∷ []) near h =
+    elim (cases_lt c.step t) [
+      | inl lt ↦ let end = near.1 in inl (omega (arith, lt, end))
+      | inr le ↦ inr (record { number = 0; copy = c; from = omega arith; here = refl; behind = le; near = h })
+    ]
+near-copy K L t zero (c ∷ d ∷ cs) near h =
+    elim (cases_lt c.step t) [
+      | inl lt ↦ let next = near.1 in one-further K L t zero zero c (d ∷ cs) (omega arith) (near-copy K L t zero (d ∷ cs) near.2 (omega (arith, lt, next)))
+      | inr le ↦ inr (record { number = 0; copy = c; from = omega arith; here = refl; behind = le; near = h })
+    ]
 
 -- copies from one at or behind a step on
 

@@ -1,5 +1,5 @@
 -- Bounds: what an edit of a session may cost, in steps that are carried out and copies of the state that are kept.
-use Rattle.std.specs.Prelude.{ℕ, ◌+◌, ◌-◌, ◌*◌, ◌/◌, Bool, List, [], ◌∷◌, Option, Some, None, Result, Ok, Err, length, take, slice_get}
+use Rattle.std.specs.Prelude.{◌≡◌, ◌⊎◌, ℕ, ◌+◌, ◌-◌, ◌*◌, ◌/◌, ◌≤◌, nat_le, if◌then◌else◌, Bool, List, [], ◌∷◌, Option, Some, None, IsSomeAnd, Result, Ok, Err, length, take, slice_get}
 use Rattle.stab_pauli.specs.declared.refusal.Refusal.{Refusal}
 use Rattle.stab_circuit.specs.Items.{OneItem, entries, listed}
 use Rattle.stab_circuit.specs.Steps.{unroll}
@@ -49,7 +49,8 @@ steps_of_item (Some x) = length (unroll (listed (x ∷ [])))
 abbrev pub steps_put : {C : Type 0} → Edit → SessionState C → ℕ
 steps_put e new = steps_of_item (elim (place_of e).blocks [ [] ↦ put_item (change_of e) | b ∷ bs ↦ slice_get (entries new.items) b ])
 
--- these steps, and two strides: where the runs agree behind the changed place, an edit carries out no more
+-- these steps, and two strides: where the runs agree so many steps behind the changed place, an edit carries out no more than these
+-- and as many
 abbrev pub steps_near_change : {C : Type 0} → Edit → SessionState C → ℕ
 steps_near_change e new = steps_put e new + 2 * new.stride
 
@@ -57,7 +58,32 @@ steps_near_change e new = steps_put e new + 2 * new.stride
 abbrev pub point_at : {C : Type 0} → (C → ℕ → Bool) → SessionState C → ℕ → Point
 point_at sequence s k = point_after s.qubits (sequence s.coins) (take k (unroll s.items)) origin
 
--- behind the changed place the old run and the new one have the same group, number of the next coin and records
-abbrev pub AgreeBehind : {C : Type 0} → (C → ℕ → Bool) → Edit → SessionState C → SessionState C → Type 0
-AgreeBehind sequence e old new =
-    AgreeAt new.qubits (point_at sequence old (old_end (change_of e) (place_of e) (entries old.items))) (point_at sequence new (new_end (change_of e) (place_of e) (entries new.items)))
+-- so many steps behind the changed place the old run and the new one have the same group, number of the next coin and records
+abbrev pub AgreeBehind : {C : Type 0} → (C → ℕ → Bool) → Edit → SessionState C → SessionState C → ℕ → Type 0
+AgreeBehind sequence e old new far =
+    AgreeAt new.qubits (point_at sequence old (old_end (change_of e) (place_of e) (entries old.items) + far))
+    (point_at sequence new (new_end (change_of e) (place_of e) (entries new.items) + far))
+
+-- from the first changed step to the end of what an edit put in: it carries out at least so many
+abbrev pub steps_changed : {C : Type 0} → Edit → SessionState C → SessionState C → ℕ
+steps_changed e old new = new_end (change_of e) (place_of e) (entries new.items) - first_changed (place_of e) (entries old.items)
+
+-- of steps in order the last that is not behind a place, and the given one where none is
+abbrev pub last_until : ℕ → ℕ → List ℕ → ℕ
+last_until place a [] = a
+last_until place a (b ∷ more) = if nat_le b place then last_until place b more else a
+
+-- a step is the end of the new steps, or where one of the old copies at or behind the end of what was taken out stands among them
+abbrev pub EndsAt : List ℕ → ℕ → ℕ → ℕ → ℕ → Type 0
+EndsAt copies old_end new_end total step =
+    (step ≡ total) ⊎ (number : ℕ) × IsSomeAnd (slice_get copies number) (λ c. (old_end ≤ c) × (step ≡ new_end + (c - old_end)))
+
+-- so many steps were carried out, from the last old copy at or before the first changed step to such an end
+abbrev pub IsCounted : List ℕ → ℕ → ℕ → ℕ → ℕ → ℕ → Type 0
+IsCounted copies first old_end new_end total applied = EndsAt copies old_end new_end total (applied + last_until first 0 copies)
+
+-- and so many by an edit of a session
+abbrev pub IsCountOf : {C : Type 0} → Edit → SessionState C → SessionState C → ℕ → Type 0
+IsCountOf e old new applied =
+    IsCounted old.checkpoints (first_changed (place_of e) (entries old.items)) (old_end (change_of e) (place_of e) (entries old.items))
+    (new_end (change_of e) (place_of e) (entries new.items)) (number_of_steps new) applied

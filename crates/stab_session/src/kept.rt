@@ -6,8 +6,9 @@ ghost use Rattle.stab_circuit.specs.Cursors.{IsApart};
 ghost use Rattle.stab_session.specs.Records.{ones};
 ghost use Rattle.stab_session.specs.Runs.{Refuses};
 ghost use Rattle.stab_session.specs.Points.{all_coins_of};
+ghost use Rattle.stab_session.specs.Bounds.{IsCounted};
 ghost use Rattle.stab_session.specs.inner.Sights.{output_of};
-ghost use Rattle.stab_session.specs.inner.Checkpoints.{all_laid};
+ghost use Rattle.stab_session.specs.inner.Checkpoints.{steps_of, all_laid};
 ghost use Rattle.stab_session.specs.inner.Replays.{IsKeptRun, IsSameKept, IsSpan, Follows, AgreeBehind};
 ghost use Rattle.stab_session.specs.inner.Prepared.{Begins, HasCopy, IsRest, HasRoom, IsPrepared, copies_behind, IsCommitted};
 
@@ -138,7 +139,9 @@ impl KeptRun {
         ensures asked { C.asks coins.new ≤ C.asks coins.old + all_coins_of (unroll (circuit_items circuit.now)) }
         ensures asked_behind { C.asks coins.new ≤ C.asks coins.old + ((length (unroll (circuit_items circuit.now)) - span.first) + stride) }
         ensures applied { IfOk result (λ applied. applied ≤ (length (unroll (circuit_items circuit.now)) - span.first) + stride) }
-        ensures few { IfOk result (λ applied. (xs : List Step) (count : ℕ) → IsKeptRun self.old.tableau.qubits (C.sequence coins.old) stride xs count self.old → IsSpan xs (unroll (circuit_items circuit.now)) span → AgreeBehind self.old.tableau.qubits (C.sequence coins.old) xs (unroll (circuit_items circuit.now)) span → applied ≤ (span.new_end - span.first) + 2 * stride) }
+        ensures few { IfOk result (λ applied. (xs : List Step) (count far : ℕ) → IsKeptRun self.old.tableau.qubits (C.sequence coins.old) stride xs count self.old → IsSpan xs (unroll (circuit_items circuit.now)) span → AgreeBehind self.old.tableau.qubits (C.sequence coins.old) xs (unroll (circuit_items circuit.now)) span far → applied ≤ ((span.new_end - span.first) + 2 * stride) + far) }
+        ensures at_least { IfOk result (λ applied. span.new_end ≤ span.first + applied) }
+        ensures counted { IfOk result (IsCounted (steps_of self.old.checkpoints.items) span.first span.old_end span.new_end (length (unroll (circuit_items circuit.now)))) }
         ensures err { IfErr result (λ r. r ≡ OutOfMemory) }
     {
         let before = count_before(self.checkpoints.as_slice(), span.first + 1);

@@ -1,11 +1,11 @@
-ghost use Rattle.std.specs.Prelude.{◌≡◌, ◌+◌, ◌<◌, ◌≤◌, ◌^◌, ◌↔◌, [], ◌∷◌, ◌++◌, All, IsTrue, OnOk, IfOk, IfErr, length, take, drop};
+ghost use Rattle.std.specs.Prelude.{◌≡◌, ◌+◌, ◌*◌, ◌<◌, ◌≤◌, ◌^◌, ◌↔◌, [], ◌∷◌, ◌++◌, All, IsTrue, OnOk, IfOk, IfErr, length, take, drop};
 ghost use Rattle.stab_pauli.specs.declared.refusal.Refusal.TheVariants.{OutOfMemory};
 ghost use Rattle.stab_tableau.specs.Groups.{SameGroup};
 ghost use Rattle.stab_tableau.specs.Tableaus.{stabilises};
 ghost use Rattle.stab_session.specs.Records.{ones};
 ghost use Rattle.stab_session.specs.Points.{all_coins_of};
 ghost use Rattle.stab_session.specs.inner.Sights.{StepFits, output_of};
-ghost use Rattle.stab_session.specs.inner.Replays.{IsAtStep, IsReplay, Ascending, Meets, copy_of, IsArrival, IsEnd, EndsSoon};
+ghost use Rattle.stab_session.specs.inner.Replays.{IsAtStep, IsReplay, Ascending, Meets, copy_of, IsArrival, IsEnd, EndsSoon, copies_passed};
 
 use crate::checkpoint::{Checkpoint, shifted};
 use crate::coins::Coins;
@@ -68,7 +68,7 @@ enum Arrival {
 impl Plan {
     ghost use Rattle.std.specs.Prelude.{◌≡◌, ◌+◌, ◌≤◌, ◌<◌, ◌⊎◌, Option, Some, IfSome, slice_get};
     ghost use Rattle.std.specs.Option.{option_map};
-    ghost use Rattle.stab_session.specs.inner.Replays.{place_of};
+    ghost use Rattle.stab_session.specs.inner.Replays.{place_of, next_stop};
 
     /// Where the old copy with a number stands among the new steps, if there is one.
     fn place(self, copies: &[Checkpoint], number: usize) -> Option<usize>
@@ -85,6 +85,7 @@ impl Plan {
         requires stride { 1 ≤ self.stride }
         requires within { step ≤ self.total }
         requires behind { IfSome place (λ p. step ≤ p) }
+        ensures value { result ≡ next_stop self step place }
         ensures order { step ≤ result }
         ensures within { result ≤ self.total }
         ensures near { result ≤ step + self.stride }
@@ -206,7 +207,7 @@ impl<'a> Replay<'a> {
     }
 
     /// Carries out steps until the replay meets an old copy or is behind the last step, and lays
-    /// copies on the way.
+    /// copies on the way: one for each stride, and one for each old copy that it passes, at most.
     pub fn follow<C: Coins>(
         &mut self,
         alloc: Global,
@@ -236,7 +237,8 @@ impl<'a> Replay<'a> {
         ensures asks_free { OnOk result (C.asks coins.new + ones self.old.outputs.free.items ≤ C.asks coins.old + ones self.new.outputs.free.items) }
         ensures asked { C.asks coins.new ≤ C.asks coins.old + all_coins_of (drop self.old.step self.old.cursor.all) }
         ensures end { IfOk result (IsEnd self.old.tableau.qubits plan self.new copies.now records.now) }
-        ensures soon { IfOk result (EndsSoon self.old.tableau.qubits (C.sequence coins.old) plan self.old.cursor.all copies.now records.now) }
+        ensures soon { OnOk result (EndsSoon self.old.tableau.qubits (C.sequence coins.old) plan self.old.cursor.all copies.now records.now self.new.step) }
+        ensures few_laid { IfOk result (λ end. plan.stride * length self.new.laid.items + self.old.step ≤ self.new.step + plan.stride * copies_passed plan (length copies.now) end) }
         ensures err { IfErr result (λ r. r ≡ OutOfMemory) }
     {
         let mut next = plan.next;

@@ -1,5 +1,5 @@
 -- Replays: a run that is kept with copies of its state, and how another one that begins and may end like it is made from it.
-use Rattle.std.specs.Prelude.{◌≡◌, ◌≢◌, ℕ, ◌+◌, ◌≤◌, Bool, false, ◌⊎◌, List, [], ◌∷◌, ◌++◌, All, IfSome, IsSomeAnd, length, take, drop, replicate, slice_get}
+use Rattle.std.specs.Prelude.{◌≡◌, ◌≢◌, ℕ, ◌+◌, ◌-◌, ◌<◌, ◌≤◌, min, Bool, false, ◌⊎◌, Option, Some, None, List, [], ◌∷◌, ◌++◌, All, IfSome, IsSomeAnd, length, take, drop, replicate, slice_get}
 use Rattle.stab_tableau.specs.Tableaus.{TableauState, stabilises}
 use Rattle.stab_tableau.specs.Groups.{SameGroup}
 use Rattle.stab_circuit.specs.Steps.{Step}
@@ -49,13 +49,20 @@ pub record Follows (n : ℕ) (coins : ℕ → Bool) (K : ℕ) (ys : List Step) (
   pub kept : IsKeptRun n coins K old count r
   pub span : IsSpan old ys s
 
--- behind what was changed both runs have the same group, number of the next coin and records
-abbrev pub AgreeBehind : ℕ → (ℕ → Bool) → List Step → List Step → Span → Type 0
-AgreeBehind n coins xs ys s = AgreeAt n (point_after n coins (take s.old_end xs) origin) (point_after n coins (take s.new_end ys) origin)
+-- so many steps behind what was changed both runs have the same group, number of the next coin and records
+abbrev pub AgreeBehind : ℕ → (ℕ → Bool) → List Step → List Step → Span → ℕ → Type 0
+AgreeBehind n coins xs ys s far =
+    AgreeAt n (point_after n coins (take (s.old_end + far) xs) origin) (point_after n coins (take (s.new_end + far) ys) origin)
 
 -- where an old copy stands among the new steps
 abbrev pub place_of : Plan → Checkpoint → ℕ
 place_of p c = moved p.old_end p.new_end c.step
+
+-- where a replay stops next: a stride further, or behind the last step, or at the place of the old copy that may be met next,
+-- whichever comes first
+abbrev pub next_stop : Plan → ℕ → Option ℕ → ℕ
+next_stop p step None = min (step + p.stride) p.total
+next_stop p step (Some place) = min (min (step + p.stride) p.total) place
 
 -- what a replay holds is the run of the steps behind it, and its cursor has the others left
 pub record IsAtStep (n : ℕ) (coins : ℕ → Bool) (ys : List Step) (r : Replay) : Type 0 where
@@ -118,6 +125,12 @@ Misses n coins p ys records c =
     (xs : List Step) → IsCheckpoint n coins xs c → take c.lengths.records records ≡ (outputs n coins (take c.step xs) origin).records
     → AgreeAt n (point_after n coins (take c.step xs) origin) (point_after n coins (take (place_of p c) ys) origin) → ⊥
 
--- the replay ended at the first copy that may be met, or the runs do not agree there
-abbrev pub EndsSoon : ℕ → (ℕ → Bool) → Plan → List Step → List Checkpoint → List Bool → End → Type 0
-EndsSoon n coins p ys copies records end = (end ≡ Joined p.next) ⊎ IfSome (slice_get copies p.next) (Misses n coins p ys records)
+-- each old copy that may be met, and stands before the step where the replay ended, was missed
+abbrev pub EndsSoon : ℕ → (ℕ → Bool) → Plan → List Step → List Checkpoint → List Bool → ℕ → Type 0
+EndsSoon n coins p ys copies records end =
+    (number : ℕ) → p.next ≤ number → IfSome (slice_get copies number) (λ c. place_of p c < end → Misses n coins p ys records c)
+
+-- how many of so many old copies a replay passed
+abbrev pub copies_passed : Plan → ℕ → End → ℕ
+copies_passed p count Last = count - p.next
+copies_passed p count (Joined j) = j - p.next

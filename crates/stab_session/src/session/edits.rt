@@ -13,12 +13,12 @@ pub struct Report {
 }
 
 impl<C: Coins> Session<C> {
-    ghost use Rattle.std.specs.Prelude.{◌≡◌, ◌+◌, ◌≤◌, length, IfOk, IfErr, OnOk, OnErr};
+    ghost use Rattle.std.specs.Prelude.{◌≡◌, ℕ, ◌+◌, ◌≤◌, length, IfOk, IfErr, OnOk, OnErr};
     ghost use Rattle.stab_circuit.specs.Items.{entries};
     ghost use Rattle.stab_circuit.specs.Edits.{put_item};
     ghost use Rattle.stab_session.specs.Sessions.{IsFaultOf};
     ghost use Rattle.stab_session.specs.SessionEdits.{change_of, verdict_on, IsEditedBy, IsAsBefore};
-    ghost use Rattle.stab_session.specs.Bounds.{steps_from_change, steps_near_change, most_refused_asks, most_checkpoints, AgreeBehind};
+    ghost use Rattle.stab_session.specs.Bounds.{steps_from_change, steps_near_change, steps_changed, most_refused_asks, most_checkpoints, AgreeBehind, IsCountOf};
     ghost use Rattle.stab_session.specs.Headline.{IsRunOfItems};
 
     /// Edits the circuit, and keeps what the edited one's run gives.
@@ -34,7 +34,9 @@ impl<C: Coins> Session<C> {
         ensures refused { IfErr result (λ r. IsFaultOf (verdict_on self.old.qubits edit (entries self.old.items)) r.fault) }
         ensures item { IfErr result (λ r. r.item ≡ put_item (change_of edit)) }
         ensures applied { IfOk result (λ r. r.applied ≤ steps_from_change edit self.old self.new) }
-        ensures early { IfOk result (λ r. AgreeBehind C.sequence edit self.old self.new → r.applied ≤ steps_near_change edit self.new) }
+        ensures early { IfOk result (λ r. (far : ℕ) → AgreeBehind C.sequence edit self.old self.new far → r.applied ≤ steps_near_change edit self.new + far) }
+        ensures at_least { IfOk result (λ r. steps_changed edit self.old self.new ≤ r.applied) }
+        ensures counted { IfOk result (λ r. IsCountOf edit self.old self.new r.applied) }
         ensures asks { IfOk result (λ r. C.asks self.new.coins ≤ C.asks self.old.coins + r.applied) }
         ensures refused_asks { OnErr result (C.asks self.new.coins ≤ C.asks self.old.coins + most_refused_asks edit self.old) }
         ensures checkpoints { IfOk result (λ r. r.checkpoints ≡ length self.new.checkpoints) }

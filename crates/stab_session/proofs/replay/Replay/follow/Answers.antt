@@ -1,11 +1,12 @@
-use Rattle.std.proofs.Common.{◌≡◌, [], ◌∷◌, ◌++◌, sym, ◌∙◌, ap, subst, drop, arith}
+use Rattle.std.proofs.Common.{◌≡◌, ◌+◌, ◌-◌, ◌*◌, ◌≤◌, [], ◌∷◌, ◌++◌, sym, ◌∙◌, ap, subst, length, length-append, drop, arith}
 use Rattle.stab_session.specs.declared.replay.Replay.{Replay}
 use Rattle.stab_session.specs.declared.replay.Arrival.{Arrival}
-use Rattle.stab_session.specs.declared.replay.Arrival.TheVariants.{Behind, Between}
+use Rattle.stab_session.specs.declared.replay.Arrival.TheVariants.{Between}
 use Rattle.stab_session.specs.Records.{ones}
 use Rattle.stab_session.specs.Points.{all_coins_of}
-use Rattle.stab_session.specs.inner.Replays.{IsReplay, IsArrival, copy_of}
-use Rattle.stab_session.proofs.ReplayLemmas.{IsAtStop, place-behind, on-stop, soon-last, soon-met, on-further, fewer-left}
+use Rattle.stab_session.specs.inner.Replays.{IsReplay, IsArrival, EndsSoon, copy_of}
+use Rattle.stab_session.proofs.ReplayLemmas.{IsAtStop, place-behind, on-stop, ends-soon, on-further, fewer-left}
+use Rattle.stab_session.proofs.LaidLemmas.{laid-more, laid-end}
 use Rattle.stab_session.proofs.replay.Replay.follow.Given.{Over}
 use Rattle.stab_session.proofs.replay.Replay.follow.Goals as goal
 use Rattle.stab_session.proofs.replay.Replay.follow.Goals.{In_ok-run_to}
@@ -34,6 +35,14 @@ replayed g c r same =
     subst (IsReplay c.args.self.now.tableau.qubits (g.C.Coins.sequence c.args.coins.now) c.args.plan.stride c.args.self.now.step c.args.self.now.cursor.all) (sym same)
     (stopped g c).replay
 
+ended : (g : Over) (c : In_ok-run_to g) (r : Replay) → r ≡ c.run_to.new.self
+    → EndsSoon c.args.self.now.tableau.qubits (g.C.Coins.sequence c.args.coins.now) c.args.plan c.args.self.now.cursor.all c.args.copies.now c.args.records.now r.step
+ended g c r same =
+    subst (λ (r : Replay). EndsSoon c.args.self.now.tableau.qubits (g.C.Coins.sequence c.args.coins.now) c.args.plan c.args.self.now.cursor.all c.args.copies.now c.args.records.now r.step)
+    (sym same)
+    (ends-soon c.args.self.now.tableau.qubits (g.C.Coins.sequence c.args.coins.now) c.args.self.now.step c.args.plan c.args.self.now.cursor.all c.args.copies.now c.args.records.now
+    c.loop-spare.next c.run_to.new.self (stopped g c))
+
 pub stop-stop-requires-clause-behind : goal.stop-stop-requires-clause-behind
 stop-stop-requires-clause-behind g c =
     let inv = c.loop-spare.invariant in
@@ -48,16 +57,28 @@ returns-in-Behind-clause-replay g c =
     replayed g ((goal.at.returns-in-Behind-clause-replay g c).In_ok-run_to) c.arrive.new.self c.arrive.ensures.unchanged
 
 pub returns-in-Met-clause-soon : goal.returns-in-Met-clause-soon
-returns-in-Met-clause-soon g c =
-    let at = (goal.at.returns-in-Met-clause-soon g c).In_ok-run_to in
-    soon-met c.args.self.now.tableau.qubits (g.C.Coins.sequence c.args.coins.now) c.args.self.now.step c.args.plan c.args.self.now.cursor.all c.args.copies.now
-    c.args.records.now c.loop-spare.next c.run_to.new.self (stopped g at)
+returns-in-Met-clause-soon g c = ended g ((goal.at.returns-in-Met-clause-soon g c).In_ok-run_to) c.arrive.new.self c.arrive.ensures.unchanged
 
 pub returns-in-Behind-clause-soon : goal.returns-in-Behind-clause-soon
-returns-in-Behind-clause-soon g c =
-    let at = (goal.at.returns-in-Behind-clause-soon g c).In_ok-run_to in
-    soon-last c.args.self.now.tableau.qubits (g.C.Coins.sequence c.args.coins.now) c.args.self.now.step c.args.plan c.args.self.now.cursor.all c.args.copies.now
-    c.args.records.now c.loop-spare.next c.run_to.new.self (stopped g at) (arrived g at _ Behind c.in-Behind.is c.in_ok-arrive.ensures.value)
+returns-in-Behind-clause-soon g c = ended g ((goal.at.returns-in-Behind-clause-soon g c).In_ok-run_to) c.arrive.new.self c.arrive.ensures.unchanged
+
+pub returns-in-Met-clause-few_laid : goal.returns-in-Met-clause-few_laid
+returns-in-Met-clause-few_laid g c =
+    let inv = c.loop-spare.invariant in
+    let done = c.in_ok-run_to.ensures in
+    let stop = c.stop-stop.ensures in
+    laid-end c.args.plan.stride (length c.loop-spare.self.laid.items) (length c.arrive.new.self.laid.items) (c.loop-spare.next - c.args.plan.next) (c.loop-spare.next - c.args.plan.next)
+    c.args.self.now.step c.loop-spare.self.step c.arrive.new.self.step inv.few_laid (ap (λ (r : Replay). length r.laid.items) c.arrive.ensures.unchanged ∙ ap length done.laid)
+    (omega (arith, stop.order, done.step, ap (λ (r : Replay). r.step) c.arrive.ensures.unchanged)) (omega arith)
+
+pub returns-in-Behind-clause-few_laid : goal.returns-in-Behind-clause-few_laid
+returns-in-Behind-clause-few_laid g c =
+    let inv = c.loop-spare.invariant in
+    let done = c.in_ok-run_to.ensures in
+    let stop = c.stop-stop.ensures in
+    laid-end c.args.plan.stride (length c.loop-spare.self.laid.items) (length c.arrive.new.self.laid.items) (c.loop-spare.next - c.args.plan.next) (length c.args.copies.now - c.args.plan.next)
+    c.args.self.now.step c.loop-spare.self.step c.arrive.new.self.step inv.few_laid (ap (λ (r : Replay). length r.laid.items) c.arrive.ensures.unchanged ∙ ap length done.laid)
+    (omega (arith, stop.order, done.step, ap (λ (r : Replay). r.step) c.arrive.ensures.unchanged)) (let within = inv.way.stop.within in omega (arith, within))
 
 pub loop-spare-smaller : goal.loop-spare-smaller
 loop-spare-smaller g c =
@@ -93,6 +114,15 @@ loop-spare-preserved g c =
             ap (λ xs. all_coins_of (drop c.stop-stop.result xs)) inv.all,
             ap (λ xs. all_coins_of (drop c.loop-spare.self.step xs)) inv.all,
           );
+      few_laid =
+          subst (λ k. c.args.plan.stride * length c.lay.new.self.laid.items + c.args.self.now.step ≤ k + c.args.plan.stride * (c.in-Between.later - c.args.plan.next)) (sym step)
+          (laid-more c.args.self.now.tableau.qubits c.args.plan c.args.copies.now c.args.records.now c.loop-spare.next c.in-Between.later c.loop-spare.self.step c.stop-stop.result
+          c.args.self.now.step (length c.loop-spare.self.laid.items) (length c.lay.new.self.laid.items) c.place.result c.run_to.new.self inv.few_laid
+          (ap length (c.in_ok-lay.ensures {u = tt}).laid
+          ∙ length-append c.arrive.new.self.laid.items (copy_of c.arrive.new.self ∷ [])
+          ∙ ap (λ k. k + 1) (ap (λ (r : Replay). length r.laid.items) c.arrive.ensures.unchanged ∙ ap length done.laid))
+          inv.way.stop.order c.stop-stop.ensures.order done.step c.stop-stop.ensures.value c.place.ensures.value
+          (arrived g at _ (Between c.in-Between.later) c.in-Between.is c.in_ok-arrive.ensures.value));
       way =
           on-further c.args.self.now.tableau.qubits (g.C.Coins.sequence c.args.coins.now) c.args.self.now.step c.args.plan c.args.self.now.cursor.all
           c.args.copies.now c.args.records.now c.loop-spare.next c.in-Between.later c.run_to.new.self c.lay.new.self (stopped g at)
