@@ -4,7 +4,7 @@ use Rattle.std.specs.Prelude.{IfSome, IsSomeAnd, MatchOption, option_map, slice_
 use Rattle.std.proofs.lemmas.Bool.{cases_lt}
 use Rattle.std.proofs.lemmas.Bool.Decides.{leb_tells}
 use Rattle.std.proofs.lemmas.List.{drop-drop}
-use Rattle.std.proofs.lemmas.List.Elements.{All-head, All-tail}
+use Rattle.std.proofs.lemmas.List.Elements.{All-head, All-tail, All-weaker}
 use Rattle.std.proofs.lemmas.Option.{slice_get-map}
 use Rattle.stab_circuit.specs.Steps.{Step}
 use Rattle.stab_session.specs.declared.checkpoint.Checkpoint.{Checkpoint}
@@ -16,14 +16,14 @@ use Rattle.stab_session.specs.declared.kept.KeptRun.{KeptRun}
 use Rattle.stab_session.specs.declared.kept.Span.{Span}
 use Rattle.stab_session.specs.Points.{Output, origin, point_after, outputs}
 use Rattle.stab_session.specs.Laws.{AgreeAt}
-use Rattle.stab_session.specs.Bounds.{last_until, EndsAt, IsCounted}
-use Rattle.stab_session.specs.inner.Sights.{output_of}
+use Rattle.stab_session.specs.Bounds.{last_until, MayBeMet, EndsAt, NoneBefore, IsCounted}
+use Rattle.stab_session.specs.inner.Sights.{sight, output_of}
 use Rattle.stab_session.specs.inner.Spacing.{last_of}
-use Rattle.stab_session.specs.inner.Checkpoints.{IsCheckpoint, steps_of, moved}
+use Rattle.stab_session.specs.inner.Checkpoints.{IsRunFromStart, IsCheckpoint, steps_of, moved}
 use Rattle.stab_session.specs.inner.Replays.{IsKeptRun, IsSpan, AgreeBehind, Meets, IsEnd, Misses, EndsSoon, place_of}
-use Rattle.stab_session.proofs.PointLemmas.{front-output, agree-later}
-use Rattle.stab_session.proofs.SpacingLemmas.{IsBefore, IsNearCopy, near-copy, behind-near, moved-within}
-use Rattle.stab_session.proofs.FollowLemmas.{at-get, some-at, some-and, from-drop, same-rest, all-next, front-spaced}
+use Rattle.stab_session.proofs.PointLemmas.{front-output, meets-agree, agree-later}
+use Rattle.stab_session.proofs.SpacingLemmas.{IsBefore, IsNearCopy, near-copy, behind-near, all-behind, moved-within}
+use Rattle.stab_session.proofs.FollowLemmas.{at-get, some-at, if-some, some-and, from-drop, same-rest, all-next, front-spaced}
 
 match-weaker : {X : Type 0} (A B : Type 0) (P Q : X → Type 0) (o : Option X) → (A → B) → ((x : X) → P x → Q x) → MatchOption o A P → MatchOption o B Q
 match-weaker A B P Q None f g h = f h
@@ -48,9 +48,22 @@ last-is p (suc m) a (c ∷ cs) within front behind =
     ]
 
 -- a step where the new ones end, or an old copy stands, is not before the end of what was put in
-not-before : (old_end new_end step : ℕ) (o : Option ℕ) → IsSomeAnd o (λ c. (old_end ≤ c) × (step ≡ new_end + (c - old_end))) → new_end ≤ step
-not-before old_end new_end step None h = absurd h
-not-before old_end new_end step (Some c) h = let is = h.1 in omega (arith, is)
+not-before : (agree : ℕ → Type 0) (first old_end new_end step : ℕ) (o : Option ℕ)
+    → IsSomeAnd o (λ c. MayBeMet first old_end c × (step ≡ new_end + (c - old_end)) × agree (c - old_end)) → new_end ≤ step
+not-before agree first old_end new_end step None h = absurd h
+not-before agree first old_end new_end step (Some c) h = let is = h.1 in omega (arith, is)
+
+-- copies and their steps
+
+in-front : {X : Type 0} (P : X → Type 0) (m k : ℕ) (xs : List X) (x : X) → All P (take m xs) → slice_get xs k ≡ Some x → k < m → P x
+in-front P zero k xs x all is lt = absurd (omega arith)
+in-front P (suc m) k [] x all is lt = absurd (cc)
+in-front P (suc m) zero (y ∷ ys) x all is lt = let same : y ≡ x = cc in subst P same (All-head P y (take m ys) all)
+in-front P (suc m) (suc k) (y ∷ ys) x all is lt = in-front P m k ys x (All-tail P y (take m ys) all) is (omega arith)
+
+step-of-copy : (Q : ℕ → Type 0) (o : Option Checkpoint) → IfSome o (λ c. Q c.step) → IfSome (option_map (λ c. c.step) o) Q
+step-of-copy Q None h = tt
+step-of-copy Q (Some c) h = h
 
 module _ (n : ℕ) (coins : ℕ → Bool) (K : ℕ) (xs : List Step) (count : ℕ) (old : KeptRun) (kept : IsKeptRun n coins K xs count old)
     (ys : List Step) (s : Span) (span : IsSpan xs ys s) where
@@ -86,6 +99,29 @@ module _ (n : ℕ) (coins : ℕ → Bool) (K : ℕ) (xs : List Step) (count : �
             b.next)
       ]
 
+  -- where both runs agree they agree at each copy behind
+  agree-at : (far : ℕ) → AgreeBehind n coins xs ys s far → (c : Checkpoint) → s.old_end + far ≤ c.step → AgreeBehind n coins xs ys s (c.step - s.old_end)
+  agree-at far agree c after =
+      let same : drop (s.old_end + far) xs ≡ drop (s.new_end + far) ys =
+      sym (drop-drop far s.old_end xs) ∙ ap (drop far) span.behind ∙ drop-drop far s.new_end ys in
+      subst (λ k. AgreeAt n (point_after n coins (take k xs) origin) (point_after n coins (take (s.new_end + (c.step - s.old_end)) ys) origin)) (omega (arith, after))
+      (subst (λ k. AgreeAt n (point_after n coins (take ((s.old_end + far) + (c.step - (s.old_end + far))) xs) origin) (point_after n coins (take k ys) origin)) (omega (arith, after))
+      (agree-later n coins xs ys (s.old_end + far) (s.new_end + far) same agree (c.step - (s.old_end + far))))
+
+  -- and such a copy is not missed
+  not-missed : (p : Plan) → p.old_end ≡ s.old_end → p.new_end ≡ s.new_end → length ys < 2 ^ 64 → (number : ℕ) (c : Checkpoint)
+      → slice_get old.checkpoints.items number ≡ Some c → s.old_end ≤ c.step → AgreeBehind n coins xs ys s (c.step - s.old_end)
+      → Misses n coins p ys old.outputs.records.items c → ⊥
+  not-missed p old_end new_end few number c here after agree missed =
+      let h : IsCheckpoint n coins xs c = at-get (IsCheckpoint n coins xs) old.checkpoints.items number c kept.checkpoints here in
+      let agree_there : AgreeAt n (point_after n coins (take c.step xs) origin) (point_after n coins (take (place_of p c) ys) origin) =
+      subst (λ k. AgreeAt n (point_after n coins (take k xs) origin) (point_after n coins (take (place_of p c) ys) origin)) (omega (arith, after))
+      (subst (λ k. AgreeAt n (point_after n coins (take (s.old_end + (c.step - s.old_end)) xs) origin) (point_after n coins (take k ys) origin))
+      (sym (placed p old_end new_end few c h)) agree) in
+      let records : take c.lengths.records old.outputs.records.items ≡ (outputs n coins (take c.step xs) origin).records =
+      (λ i. take (h.lengths i).records (kept.run.output i).records) ∙ ap (λ (o : Output). o.records) (front-output n coins xs c.step) in
+      missed xs h records agree_there
+
   -- where both runs agree so many steps behind what was changed, it ends at most a stride behind that
   ends-near : (p : Plan) → p.old_end ≡ s.old_end → p.new_end ≡ s.new_end → length ys < 2 ^ 64 → (far : ℕ) → AgreeBehind n coins xs ys s far → (end : ℕ)
       → EndsSoon n coins p ys old.checkpoints.items old.outputs.records.items end → end ≤ length ys
@@ -101,20 +137,12 @@ module _ (n : ℕ) (coins : ℕ → Bool) (K : ℕ) (xs : List Step) (count : �
           let c = found.copy in
           let after = found.behind in
           let near = found.near in
-          let h : IsCheckpoint n coins xs c = at-get (IsCheckpoint n coins xs) old.checkpoints.items found.number c kept.checkpoints found.here in
-          let place = placed p old_end new_end few c h in
-          let same : drop (s.old_end + far) xs ≡ drop (s.new_end + far) ys =
-          sym (drop-drop far s.old_end xs) ∙ ap (drop far) span.behind ∙ drop-drop far s.new_end ys in
-          let agree_there : AgreeAt n (point_after n coins (take c.step xs) origin) (point_after n coins (take (place_of p c) ys) origin) =
-          subst (λ k. AgreeAt n (point_after n coins (take k xs) origin) (point_after n coins (take (place_of p c) ys) origin)) (omega (arith, after))
-          (subst (λ k. AgreeAt n (point_after n coins (take ((s.old_end + far) + (c.step - (s.old_end + far))) xs) origin) (point_after n coins (take k ys) origin)) (omega (arith, after, place))
-          (agree-later n coins xs ys (s.old_end + far) (s.new_end + far) same agree (c.step - (s.old_end + far)))) in
-          let records : take c.lengths.records old.outputs.records.items ≡ (outputs n coins (take c.step xs) origin).records =
-          (λ i. take (h.lengths i).records (kept.run.output i).records) ∙ ap (λ (o : Output). o.records) (front-output n coins xs c.step) in
+          let place = placed p old_end new_end few c (at-get (IsCheckpoint n coins xs) old.checkpoints.items found.number c kept.checkpoints found.here) in
           elim (cases_lt (place_of p c) end) [
             | inl lt ↦
-                absurd (some-at (λ c. place_of p c < end → Misses n coins p ys old.outputs.records.items c) old.checkpoints.items found.number c found.here
-                (soon found.number found.from) lt xs h records agree_there)
+                absurd (not-missed p old_end new_end few found.number c found.here (omega (arith, after)) (agree-at far agree c after)
+                (some-at (λ c. place_of p c < end → Misses n coins p ys old.outputs.records.items c) old.checkpoints.items found.number c found.here
+                (soon found.number found.from) lt))
             | inr le ↦ omega (arith, le, place, near, after)
           ]
 
@@ -136,38 +164,82 @@ module _ (n : ℕ) (coins : ℕ → Bool) (K : ℕ) (xs : List Step) (count : �
 
   -- where it ends
   pub ends-at : (p : Plan) → p.old_end ≡ s.old_end → p.new_end ≡ s.new_end → p.total ≡ length ys → length ys < 2 ^ 64
-      → IfSome (slice_get old.checkpoints.items p.next) (λ c. s.old_end ≤ c.step) → (r : Replay) (end : End)
-      → IsEnd n p r old.checkpoints.items old.outputs.records.items end → EndsAt (steps_of old.checkpoints.items) s.old_end s.new_end (length ys) r.step
-  ends-at p old_end new_end total few behind r Last is = inl (is ∙ total)
-  ends-at p old_end new_end total few behind r (Joined j) is =
+      → IfSome (slice_get old.checkpoints.items p.next) (λ c. s.old_end ≤ c.step) → (m : ℕ) → m ≤ p.next
+      → IfSome (slice_get old.checkpoints.items m) (λ c. s.first + 1 ≤ c.step) → (r : Replay) (end : End)
+      → IsRunFromStart n coins (take r.step ys) (sight r.tableau (output_of r.outputs)) → IsEnd n p r old.checkpoints.items old.outputs.records.items end
+      → EndsAt (AgreeBehind n coins xs ys s) (steps_of old.checkpoints.items) s.first s.old_end s.new_end (length ys) r.step
+  ends-at p old_end new_end total few behind m le later r Last run is = inl (is ∙ total)
+  ends-at p old_end new_end total few behind m le later r (Joined j) run is =
       let found = some-and (λ c. (place_of p c ≡ r.step) × Meets n r.tableau (output_of r.outputs) old.outputs.records.items c) (slice_get old.checkpoints.items j) is.1 in
       let d = found.0 in
+      let from = is.0 in
       let after : s.old_end ≤ d.step =
       some-at (λ c. s.old_end ≤ c.step) old.checkpoints.items j d found.1
-      (from-drop (λ c. s.old_end ≤ c.step) old.checkpoints.items p.next j is.0 (all-next n coins K xs count old kept ys s span p.next behind)) in
+      (from-drop (λ c. s.old_end ≤ c.step) old.checkpoints.items p.next j from (all-next n coins K xs count old kept ys s span p.next behind)) in
+      let beyond : s.first + 1 ≤ d.step =
+      some-at (λ c. s.first + 1 ≤ c.step) old.checkpoints.items j d found.1
+      (from-drop (λ c. s.first + 1 ≤ c.step) old.checkpoints.items m j (omega (arith, le, from))
+      (All-weaker (λ c. (s.first + 1 ≤ c.step) × (c.step ≤ length xs)) (λ c. s.first + 1 ≤ c.step) (λ c h. h.0) (drop m old.checkpoints.items)
+      (all-behind K (length xs) (s.first + 1) m old.checkpoints.items kept.spaced.near later))) in
       let h : IsCheckpoint n coins xs d = at-get (IsCheckpoint n coins xs) old.checkpoints.items j d kept.checkpoints found.1 in
+      let step : r.step ≡ s.new_end + (d.step - s.old_end) = sym found.2.0 ∙ placed p old_end new_end few d h in
+      let agree : AgreeBehind n coins xs ys s (d.step - s.old_end) =
+      subst (λ k. AgreeAt n (point_after n coins (take k xs) origin) (point_after n coins (take (s.new_end + (d.step - s.old_end)) ys) origin)) (omega (arith, after))
+      (subst (λ k. AgreeAt n (point_after n coins (take d.step xs) origin) (point_after n coins (take k ys) origin)) step
+      (meets-agree n coins xs (take r.step ys) d r.tableau (output_of r.outputs) old.outputs.records.items h (ap (λ (o : Output). o.records) kept.run.output) run found.2.1)) in
       let here : slice_get (steps_of old.checkpoints.items) j ≡ Some d.step =
       slice_get-map (λ c. c.step) old.checkpoints.items j ∙ ap (option_map (λ c. c.step)) found.1 in
       inr (
         j,
-        subst (λ o. IsSomeAnd o (λ c. (s.old_end ≤ c) × (r.step ≡ s.new_end + (c - s.old_end)))) (sym here)
-            (after, sym found.2.0 ∙ placed p old_end new_end few d h),
+        subst (λ o. IsSomeAnd o (λ c. MayBeMet s.first s.old_end c × (r.step ≡ s.new_end + (c - s.old_end)) × AgreeBehind n coins xs ys s (c - s.old_end)))
+            (sym here) ((omega (arith, beyond), after), step, agree),
       )
+
+  -- and it ended at no copy before that, since the runs do not agree there
+  pub none-before : (p : Plan) → p.old_end ≡ s.old_end → p.new_end ≡ s.new_end → length ys < 2 ^ 64 → (m e : ℕ)
+      → All (λ c. c.step < s.first + 1) (take m old.checkpoints.items) → All (λ c. c.step < s.old_end) (take e old.checkpoints.items) → p.next ≡ max e m → (end : ℕ)
+      → EndsSoon n coins p ys old.checkpoints.items old.outputs.records.items end
+      → NoneBefore (AgreeBehind n coins xs ys s) (steps_of old.checkpoints.items) s.first s.old_end s.new_end end
+  none-before p old_end new_end few m e front taken next end soon number =
+      subst (λ o. IfSome o NotThere) (sym (slice_get-map (λ c. c.step) old.checkpoints.items number))
+      (step-of-copy NotThere (slice_get old.checkpoints.items number) (if-some (λ c. NotThere c.step) (slice_get old.checkpoints.items number) not-there))
+    where
+      NotThere : ℕ → Type 0
+      NotThere c = MayBeMet s.first s.old_end c → s.new_end + (c - s.old_end) < end → AgreeBehind n coins xs ys s (c - s.old_end) → ⊥
+
+      may-meet : (c : Checkpoint) → slice_get old.checkpoints.items number ≡ Some c → s.first < c.step → s.old_end ≤ c.step → p.next ≤ number
+      may-meet c is beyond after =
+          elim (cases_lt number m) [
+            | inl lt ↦ let at = in-front (λ c. c.step < s.first + 1) m number old.checkpoints.items c front is lt in absurd (omega (arith, at, beyond))
+            | inr le ↦
+                elim (cases_lt number e) [
+                  | inl lt ↦ let at = in-front (λ c. c.step < s.old_end) e number old.checkpoints.items c taken is lt in absurd (omega (arith, at, after))
+                  | inr more ↦ omega (arith, next, le, more)
+                ]
+          ]
+
+      not-there : (c : Checkpoint) → slice_get old.checkpoints.items number ≡ Some c → NotThere c.step
+      not-there c is may before agree =
+          let place = placed p old_end new_end few c (at-get (IsCheckpoint n coins xs) old.checkpoints.items number c kept.checkpoints is) in
+          not-missed p old_end new_end few number c is may.1 agree
+          (some-at (λ c. place_of p c < end → Misses n coins p ys old.outputs.records.items c) old.checkpoints.items number c is
+          (soon number (may-meet c is may.0 may.1)) (omega (arith, place, before)))
 
   module _ (m : ℕ) (b : IsBefore K (length xs) s.first m old.checkpoints.items) (begin end applied : ℕ)
       (at : IfSome (slice_get old.checkpoints.items (m - 1)) (λ c. begin ≡ c.step)) (counted : applied + begin ≡ end)
-      (ends : EndsAt (steps_of old.checkpoints.items) s.old_end s.new_end (length ys) end) where
+      (ends : EndsAt (AgreeBehind n coins xs ys s) (steps_of old.checkpoints.items) s.first s.old_end s.new_end (length ys) end) where
     here : begin ≡ b.copy.step
     here = some-at (λ c. begin ≡ c.step) old.checkpoints.items (m - 1) b.copy b.here at
 
     -- so it took just so many steps
     pub is-counted : m ≤ length old.checkpoints.items → All (λ c. c.step < s.first + 1) (take m old.checkpoints.items)
         → IfSome (slice_get old.checkpoints.items m) (λ c. s.first + 1 ≤ c.step)
-        → IsCounted (steps_of old.checkpoints.items) s.first s.old_end s.new_end (length ys) applied
-    is-counted within front behind =
+        → NoneBefore (AgreeBehind n coins xs ys s) (steps_of old.checkpoints.items) s.first s.old_end s.new_end end
+        → IsCounted (AgreeBehind n coins xs ys s) (steps_of old.checkpoints.items) s.first s.old_end s.new_end (length ys) applied
+    is-counted within front behind none =
         let last : last_until s.first 0 (steps_of old.checkpoints.items) ≡ b.copy.step =
         last-is s.first m 0 old.checkpoints.items within front behind ∙ (front-spaced n coins K xs count old kept ys s span m b).1 in
-        subst (EndsAt (steps_of old.checkpoints.items) s.old_end s.new_end (length ys)) (omega (arith, here, last, counted)) ends
+        record { end = end; count = omega (arith, here, last, counted); ends = ends; none_before = none }
 
     -- and at least those to the end of what was put in
     pub at-least : s.new_end ≤ s.first + applied
@@ -176,5 +248,11 @@ module _ (n : ℕ) (coins : ℕ → Bool) (K : ℕ) (xs : List Step) (count : �
         elim ends [
           | inl e ↦ let w = span.new_within in omega (arith, here, from, counted, e, w)
           | inr stands ↦
-              omega (arith, here, from, counted, not-before s.old_end s.new_end end (slice_get (steps_of old.checkpoints.items) stands.0) stands.1)
+              omega (
+                arith,
+                here,
+                from,
+                counted,
+                not-before (AgreeBehind n coins xs ys s) s.first s.old_end s.new_end end (slice_get (steps_of old.checkpoints.items) stands.0) stands.1,
+              )
         ]

@@ -24,7 +24,7 @@ use Rattle.stab_session.specs.inner.Prepared.{Begins, HasCopy, IsRest, IsOldRest
 use Rattle.stab_session.proofs.ReplayLemmas.{coins-steps}
 use Rattle.stab_session.proofs.SpacingLemmas.{IsBefore}
 use Rattle.stab_session.proofs.FollowLemmas.{some-at, some-and, prepared-same, committed-same, before-first, begun, same-records, next-behind, all-ascending, all-qubits, kept-end, end-flags}
-use Rattle.stab_session.proofs.CountLemmas.{applied-within, few-steps, ends-at, at-least, is-counted}
+use Rattle.stab_session.proofs.CountLemmas.{applied-within, few-steps, ends-at, none-before, at-least, is-counted}
 
 -- so many of the first copies are before a step
 pub record IsCount (step : ℕ) (copies : List Checkpoint) (m : ℕ) : Type 0 where
@@ -103,7 +103,8 @@ pub record HasEnded (n : ℕ) (coins : ℕ → Bool) (K : ℕ) (ys : List Step) 
   pub few : (applied : ℕ) → applied + begin ≡ r.step → EndsSoon n coins p ys old.checkpoints.items old.outputs.records.items r.step → (far : ℕ)
       → AgreeBehind n coins xs ys s far → applied ≤ ((s.new_end - s.first) + 2 * K) + far
   pub at_least : (applied : ℕ) → applied + begin ≡ r.step → s.new_end ≤ s.first + applied
-  pub counted : (applied : ℕ) → applied + begin ≡ r.step → IsCounted (steps_of old.checkpoints.items) s.first s.old_end s.new_end (length ys) applied
+  pub counted : (applied : ℕ) → applied + begin ≡ r.step → EndsSoon n coins p ys old.checkpoints.items old.outputs.records.items r.step
+      → IsCounted (AgreeBehind n coins xs ys s) (steps_of old.checkpoints.items) s.first s.old_end s.new_end (length ys) applied
   pub ready : (mid : KeptRun) → IsSameKept mid old → (observables : ℕ) (q : Prepared) → IsPrepared mid r observables end q → IsReady n coins K ys m r mid observables q
 
 module _ {n : ℕ} {coins : ℕ → Bool} {K : ℕ} {ys : List Step} {s : Span} {old : KeptRun} (f : Follows n coins K ys s old) (few : length ys ≤ 1048576)
@@ -169,8 +170,10 @@ module _ {n : ℕ} {coins : ℕ → Bool} {K : ℕ} {ys : List Step} {s : Span} 
       end_here : IsEnd n p r old.checkpoints.items old.outputs.records.items end
       end_here = subst (λ k. IsEnd k p r old.checkpoints.items old.outputs.records.items end) begins.qubits is_end
 
-      ends-here : EndsAt (steps_of old.checkpoints.items) s.old_end s.new_end (length ys) r.step
-      ends-here = ends-at n coins K f.old f.count old f.kept ys s f.span p old_end new_end total (omega (arith, few)) next-there r end end_here
+      ends-here : EndsAt (AgreeBehind n coins f.old ys s) (steps_of old.checkpoints.items) s.first s.old_end s.new_end (length ys) r.step
+      ends-here =
+          ends-at n coins K f.old f.count old f.kept ys s f.span p old_end new_end total (omega (arith, few)) next-there m (omega (arith, next)) count.behind r end done.at_step.run
+          end_here
 
       module _ (mid : KeptRun) (same : IsSameKept mid old) (observables : ℕ) (q : Prepared) (prepared : IsPrepared mid r observables end q) where
         prepared_here : IsPrepared old r observables end q
@@ -209,7 +212,8 @@ module _ {n : ℕ} {coins : ℕ → Bool} {K : ℕ} {ys : List Step} {s : Span} 
             few-steps n coins K f.old f.count old f.kept ys s f.span p old_end new_end (omega (arith, few)) m e near behind.within behind.before behind.behind next far agree r0.step
             r.step applied soon done.at_step.within begins.at counted;
         at_least = λ applied counted. at-least n coins K f.old f.count old f.kept ys s f.span m near r0.step r.step applied begins.at counted ends-here;
-        counted = λ applied counted.
-            is-counted n coins K f.old f.count old f.kept ys s f.span m near r0.step r.step applied begins.at counted ends-here count.within count.before count.behind;
+        counted = λ applied counted soon.
+            is-counted n coins K f.old f.count old f.kept ys s f.span m near r0.step r.step applied begins.at counted ends-here count.within count.before count.behind
+            (none-before n coins K f.old f.count old f.kept ys s f.span p old_end new_end (omega (arith, few)) m e count.before behind.before next r.step soon);
         ready = is-ready;
       }

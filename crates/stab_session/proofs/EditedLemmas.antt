@@ -39,10 +39,10 @@ session-verdict s e n items is qubits = λ i. verdict (sym qubits i) (edited_by 
     same = sym (ap entries is ∙ entries-listed items)
 
 -- points after so many steps agree, whichever way these are said
-moved_agree : (n m k : ℕ) (bits others : ℕ → Bool) (xs us ys vs : List Step) (i a j c : ℕ) → m ≡ n → k ≡ n → others ≡ bits → us ≡ xs → vs ≡ ys → a ≡ i → c ≡ j
-    → AgreeAt k (point_after m bits (take a us) origin) (point_after k others (take c vs) origin) → AgreeAt n (point_after n bits (take i xs) origin) (point_after n bits (take j ys) origin)
-moved_agree n m k bits others xs us ys vs i a j c em ek eb ex ey ei ej h =
-    subst (λ t. t) (λ p. AgreeAt (ek p) (point_after (em p) bits (take (ei p) (ex p)) origin) (point_after (ek p) (eb p) (take (ej p) (ey p)) origin)) h
+same_agree : (n m k : ℕ) (bits others : ℕ → Bool) (xs us ys vs : List Step) (i a j c : ℕ) → m ≡ n → k ≡ n → others ≡ bits → us ≡ xs → vs ≡ ys → a ≡ i → c ≡ j
+    → AgreeAt k (point_after m bits (take a us) origin) (point_after k others (take c vs) origin) ≡ AgreeAt n (point_after n bits (take i xs) origin) (point_after n bits (take j ys) origin)
+same_agree n m k bits others xs us ys vs i a j c em ek eb ex ey ei ej =
+    λ p. AgreeAt (ek p) (point_after (em p) bits (take (ei p) (ex p)) origin) (point_after (ek p) (eb p) (take (ej p) (ey p)) origin)
 
 -- a run that is kept, and an agreement, on the same number of qubits with the same coins
 
@@ -51,6 +51,12 @@ followed n m bits others K xs count r e f is = subst (λ k. IsKeptRun k others K
 
 pub agreed : (n m : ℕ) (bits others : ℕ → Bool) (xs ys : List Step) (s : Span) (far : ℕ) → n ≡ m → bits ≡ others → AgreeBehindSpan n others xs ys s far → AgreeBehindSpan m bits xs ys s far
 agreed n m bits others xs ys s far e f is = subst (λ k. AgreeBehindSpan k bits xs ys s far) e (subst (λ k. AgreeBehindSpan n k xs ys s far) (sym f) is)
+
+pub counted_same : (n m : ℕ) (bits others : ℕ → Bool) (xs ys : List Step) (s : Span) (copies : List ℕ) (total applied : ℕ) → n ≡ m → bits ≡ others
+    → IsCounted (AgreeBehindSpan m bits xs ys s) copies s.first s.old_end s.new_end total applied
+    → IsCounted (AgreeBehindSpan n others xs ys s) copies s.first s.old_end s.new_end total applied
+counted_same n m bits others xs ys s copies total applied e f h =
+    subst (λ t. t) (λ i. IsCounted (AgreeBehindSpan (sym e i) (f i) xs ys s) copies s.first s.old_end s.new_end total applied) h
 
 -- how many steps an edit puts in, by the items that it leaves
 abbrev steps_put_in : Edit → List OneItem → ℕ
@@ -132,19 +138,22 @@ module _ {C : Type 0} (sequence : C → ℕ → Bool) (e : Edit) (s : SessionSta
     pub edited-at-least : (applied : ℕ) → span.new_end ≤ span.first + applied → steps_changed e s (session_of (listed new) stride coins run) ≤ applied
     edited-at-least applied h = omega (arith, h, first_is, new_end_is)
 
-    -- and just so many
+    -- it agrees with the old run behind what was changed, whichever way this is said
+    agreement : (far : ℕ) → AgreeBehind sequence e s (session_of (listed new) stride coins run) far
+        ≡ AgreeBehindSpan n (sequence s.coins) (unroll (listed old)) (unroll (listed mid)) span far
+    agreement far =
+        same_agree n s.qubits run.tableau.qubits (sequence s.coins) (sequence coins) (unroll (listed old)) (unroll s.items) (unroll (listed mid)) (unroll (listed new)) (span.old_end + far)
+        (old_end (change_of e) (place_of e) (entries s.items) + far) (span.new_end + far) (new_end (change_of e) (place_of e) (entries (listed new)) + far) qubits is.qubits same_coins (ap unroll items)
+        (sym new_steps) (ap (λ k. k + far) (sym old_end_is)) (ap (λ k. k + far) (sym new_end_is))
+
+    -- so it cost just so many
     pub edited-counted : (applied : ℕ) (copies : List ℕ) → copies ≡ s.checkpoints
-        → IsCounted copies span.first span.old_end span.new_end (length (unroll (listed mid))) applied → IsCountOf e s (session_of (listed new) stride coins run) applied
-    edited-counted applied copies same h = subst (λ t. t) (λ i. IsCounted (same i) (first_is i) (old_end_is i) (new_end_is i) (length (new_steps i)) applied) h
+        → IsCounted (AgreeBehindSpan n (sequence s.coins) (unroll (listed old)) (unroll (listed mid)) span) copies span.first span.old_end span.new_end (length (unroll (listed mid))) applied
+        → IsCountOf sequence e s (session_of (listed new) stride coins run) applied
+    edited-counted applied copies same h =
+        subst (λ t. t) (λ i. IsCounted (λ far. sym (agreement far) i) (same i) (first_is i) (old_end_is i) (new_end_is i) (length (new_steps i)) applied) h
 
     -- where the runs agree so many steps behind what was changed, it cost no more than what was put in, two strides, and as many
-
-    agree_inside : (far : ℕ) → AgreeBehind sequence e s (session_of (listed new) stride coins run) far
-        → AgreeBehindSpan n (sequence s.coins) (unroll (listed old)) (unroll (listed mid)) span far
-    agree_inside far h =
-        moved_agree n s.qubits run.tableau.qubits (sequence s.coins) (sequence coins) (unroll (listed old)) (unroll s.items) (unroll (listed mid)) (unroll (listed new)) (span.old_end + far)
-        (old_end (change_of e) (place_of e) (entries s.items) + far) (span.new_end + far) (new_end (change_of e) (place_of e) (entries (listed new)) + far) qubits is.qubits same_coins (ap unroll items)
-        (sym new_steps) (ap (λ k. k + far) (sym old_end_is)) (ap (λ k. k + far) (sym new_end_is)) h
 
     put_is : span.new_end ≤ span.first + steps_put e (session_of (listed new) stride coins run)
     put_is =
@@ -154,4 +163,4 @@ module _ {C : Type 0} (sequence : C → ℕ → Bool) (e : Edit) (s : SessionSta
     pub edited-early : (applied far : ℕ)
         → (AgreeBehindSpan n (sequence s.coins) (unroll (listed old)) (unroll (listed mid)) span far → applied ≤ ((span.new_end - span.first) + 2 * stride) + far)
         → AgreeBehind sequence e s (session_of (listed new) stride coins run) far → applied ≤ steps_near_change e (session_of (listed new) stride coins run) + far
-    edited-early applied far near h = omega (arith, near (agree_inside far h), put_is)
+    edited-early applied far near h = omega (arith, near (subst (λ t. t) (agreement far) h), put_is)

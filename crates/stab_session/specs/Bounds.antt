@@ -1,5 +1,5 @@
 -- Bounds: what an edit of a session may cost, in steps that are carried out and copies of the state that are kept.
-use Rattle.std.specs.Prelude.{◌≡◌, ◌⊎◌, ℕ, ◌+◌, ◌-◌, ◌*◌, ◌/◌, ◌≤◌, nat_le, if◌then◌else◌, Bool, List, [], ◌∷◌, Option, Some, None, IsSomeAnd, Result, Ok, Err, length, take, slice_get}
+use Rattle.std.specs.Prelude.{◌≡◌, ◌⊎◌, ℕ, ◌+◌, ◌-◌, ◌*◌, ◌/◌, ◌<◌, ◌≤◌, nat_le, if◌then◌else◌, Bool, List, [], ◌∷◌, Option, Some, None, IfSome, IsSomeAnd, Result, Ok, Err, length, take, slice_get}
 use Rattle.stab_pauli.specs.declared.refusal.Refusal.{Refusal}
 use Rattle.stab_circuit.specs.Items.{OneItem, entries, listed}
 use Rattle.stab_circuit.specs.Steps.{unroll}
@@ -73,17 +73,31 @@ abbrev pub last_until : ℕ → ℕ → List ℕ → ℕ
 last_until place a [] = a
 last_until place a (b ∷ more) = if nat_le b place then last_until place b more else a
 
--- a step is the end of the new steps, or where one of the old copies at or behind the end of what was taken out stands among them
-abbrev pub EndsAt : List ℕ → ℕ → ℕ → ℕ → ℕ → Type 0
-EndsAt copies old_end new_end total step =
-    (step ≡ total) ⊎ (number : ℕ) × IsSomeAnd (slice_get copies number) (λ c. (old_end ≤ c) × (step ≡ new_end + (c - old_end)))
+-- an old copy that an edit may come to: behind the first changed step, and not before the end of what was taken out
+abbrev pub MayBeMet : ℕ → ℕ → ℕ → Type 0
+MayBeMet first old_end c = (first < c) × (old_end ≤ c)
 
--- so many steps were carried out, from the last old copy at or before the first changed step to such an end
-abbrev pub IsCounted : List ℕ → ℕ → ℕ → ℕ → ℕ → ℕ → Type 0
-IsCounted copies first old_end new_end total applied = EndsAt copies old_end new_end total (applied + last_until first 0 copies)
+-- a step is the end of the new steps, or where such a copy stands among them, and the runs agree there
+abbrev pub EndsAt : (ℕ → Type 0) → List ℕ → ℕ → ℕ → ℕ → ℕ → ℕ → Type 0
+EndsAt agree copies first old_end new_end total step =
+    (step ≡ total)
+    ⊎ (number : ℕ) × IsSomeAnd (slice_get copies number) (λ c. MayBeMet first old_end c × (step ≡ new_end + (c - old_end)) × agree (c - old_end))
+
+-- where such copies stand before a step, the runs do not agree
+abbrev pub NoneBefore : (ℕ → Type 0) → List ℕ → ℕ → ℕ → ℕ → ℕ → Type 0
+NoneBefore agree copies first old_end new_end step =
+    (number : ℕ) → IfSome (slice_get copies number) (λ c. MayBeMet first old_end c → new_end + (c - old_end) < step → agree (c - old_end) → ⊥)
+
+-- so many steps were carried out: from the last old copy at or before the first changed step to the first that may be met and
+-- where the runs agree, or to the end where they agree at none
+pub record IsCounted (agree : ℕ → Type 0) (copies : List ℕ) (first old_end new_end total applied : ℕ) : Type 0 where
+  pub end : ℕ
+  pub count : applied + last_until first 0 copies ≡ end
+  pub ends : EndsAt agree copies first old_end new_end total end
+  pub none_before : NoneBefore agree copies first old_end new_end end
 
 -- and so many by an edit of a session
-abbrev pub IsCountOf : {C : Type 0} → Edit → SessionState C → SessionState C → ℕ → Type 0
-IsCountOf e old new applied =
-    IsCounted old.checkpoints (first_changed (place_of e) (entries old.items)) (old_end (change_of e) (place_of e) (entries old.items))
-    (new_end (change_of e) (place_of e) (entries new.items)) (number_of_steps new) applied
+abbrev pub IsCountOf : {C : Type 0} → (C → ℕ → Bool) → Edit → SessionState C → SessionState C → ℕ → Type 0
+IsCountOf sequence e old new applied =
+    IsCounted (AgreeBehind sequence e old new) old.checkpoints (first_changed (place_of e) (entries old.items))
+    (old_end (change_of e) (place_of e) (entries old.items)) (new_end (change_of e) (place_of e) (entries new.items)) (number_of_steps new) applied

@@ -141,7 +141,7 @@ impl KeptRun {
         ensures applied { IfOk result (λ applied. applied ≤ (length (unroll (circuit_items circuit.now)) - span.first) + stride) }
         ensures few { IfOk result (λ applied. (xs : List Step) (count far : ℕ) → IsKeptRun self.old.tableau.qubits (C.sequence coins.old) stride xs count self.old → IsSpan xs (unroll (circuit_items circuit.now)) span → AgreeBehind self.old.tableau.qubits (C.sequence coins.old) xs (unroll (circuit_items circuit.now)) span far → applied ≤ ((span.new_end - span.first) + 2 * stride) + far) }
         ensures at_least { IfOk result (λ applied. span.new_end ≤ span.first + applied) }
-        ensures counted { IfOk result (IsCounted (steps_of self.old.checkpoints.items) span.first span.old_end span.new_end (length (unroll (circuit_items circuit.now)))) }
+        ensures counted { IfOk result (λ applied. (xs : List Step) (count : ℕ) → IsKeptRun self.old.tableau.qubits (C.sequence coins.old) stride xs count self.old → IsSpan xs (unroll (circuit_items circuit.now)) span → IsCounted (AgreeBehind self.old.tableau.qubits (C.sequence coins.old) xs (unroll (circuit_items circuit.now)) span) (steps_of self.old.checkpoints.items) span.first span.old_end span.new_end (length (unroll (circuit_items circuit.now))) applied) }
         ensures err { IfErr result (λ r. r ≡ OutOfMemory) }
     {
         let before = count_before(self.checkpoints.as_slice(), span.first + 1);

@@ -36,7 +36,7 @@ impl<C: Coins> Session<C> {
         ensures applied { IfOk result (λ r. r.applied ≤ steps_from_change edit self.old self.new) }
         ensures early { IfOk result (λ r. (far : ℕ) → AgreeBehind C.sequence edit self.old self.new far → r.applied ≤ steps_near_change edit self.new + far) }
         ensures at_least { IfOk result (λ r. steps_changed edit self.old self.new ≤ r.applied) }
-        ensures counted { IfOk result (λ r. IsCountOf edit self.old self.new r.applied) }
+        ensures counted { IfOk result (λ r. IsCountOf C.sequence edit self.old self.new r.applied) }
         ensures asks { IfOk result (λ r. C.asks self.new.coins ≤ C.asks self.old.coins + r.applied) }
         ensures refused_asks { OnErr result (C.asks self.new.coins ≤ C.asks self.old.coins + most_refused_asks edit self.old) }
         ensures checkpoints { IfOk result (λ r. r.checkpoints ≡ length self.new.checkpoints) }

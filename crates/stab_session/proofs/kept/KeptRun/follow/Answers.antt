@@ -259,5 +259,6 @@ pub returns-clause-counted : goal.returns-clause-counted
 returns-clause-counted g c =
     let at = goal.at.returns-clause-counted g c in
     let begins = begun g at.In_ok-replay (few g at.After-as_slice) (first g at.After-count_before-before) in
-    let ended = end_of g at.In_ok-end c.requires.follows (few g at.After-as_slice) (first g at.After-count_before-before) begins (behind g at.After-as_slice-3) in
-    ended.counted c.follow.new.self.applied c.in_ok-end.ensures.counted
+    λ xs count kept span.
+    let ended = end_of g at.In_ok-end (record { old = xs; count = count; kept = kept; span = span }) (few g at.After-as_slice) (first g at.After-count_before-before) begins (behind g at.After-as_slice-3) in
+    ended.counted c.follow.new.self.applied c.in_ok-end.ensures.counted (seen-soon (g.C.Coins.sequence c.args.coins.now) (planned c.steps.result c.args.stride c.args.span c.max.result c.len.result) c.follow.new.self.step begins.qubits begins.all c.as_slice-3.ensures.value c.as_slice-4.ensures.value c.in_ok-end.ensures.soon)

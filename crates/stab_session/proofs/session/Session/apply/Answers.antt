@@ -5,7 +5,7 @@ use Rattle.stab_circuit.specs.Steps.{unroll, observables_of}
 use Rattle.stab_session.specs.Sessions.{SessionState, IsFaultOf}
 use Rattle.stab_session.specs.inner.Checkpoints.{steps_of}
 use Rattle.stab_session.proofs.SessionLemmas.{statement, few-checkpoints}
-use Rattle.stab_session.proofs.EditedLemmas.{session-verdict, run-fault, followed, agreed, new-run, edited-kept, session-edited, edited-applied, edited-at-least, edited-counted, edited-early, refused-asks}
+use Rattle.stab_session.proofs.EditedLemmas.{session-verdict, run-fault, followed, agreed, counted_same, new-run, edited-kept, session-edited, edited-applied, edited-at-least, edited-counted, edited-early, refused-asks}
 use Rattle.stab_session.proofs.session.Session.apply.Goals as goal
 
 pub returns-in-Err-clause-refused : goal.returns-in-Err-clause-refused
@@ -93,7 +93,9 @@ returns-in-Ok-follow-clause-counted g c =
     (ap (λ (s : SessionState g.row.C.Denot). s.qubits) (sym c.self.view_is) ∙ sym c.len-n.ensures.value)
     c.finish.new.circuit c.finish.ensures.value c.self.inside.stride c.follow.new.coins c.follow.new.self
     (ap (λ (s : SessionState g.row.C.Denot). s.stride) c.self.view_is) (ran.same_coins ∙ coins) run
-    c.in-Ok-follow.applied (steps_of c.self.inside.kept.checkpoints.items) (ap (λ (s : SessionState g.row.C.Denot). s.checkpoints) c.self.view_is) ran.counted
+    c.in-Ok-follow.applied (steps_of c.self.inside.kept.checkpoints.items) (ap (λ (s : SessionState g.row.C.Denot). s.checkpoints) c.self.view_is)
+    (counted_same c.len-n.result c.self.inside.kept.tableau.qubits _ _ (unroll (listed c.self.inside.circuit)) (unroll (listed c.begin.new.circuit)) c.in-Ok.begun.1 _ _ _ c.len-n.ensures.value coins
+    (ran.counted (unroll (listed c.self.inside.circuit)) (observables_of (listed c.self.inside.circuit)) c.self.invariant.run begun.begun.span.span))
 
 pub returns-in-Ok-follow-clause-early : goal.returns-in-Ok-follow-clause-early
 returns-in-Ok-follow-clause-early g c =
