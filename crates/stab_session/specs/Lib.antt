@@ -1,3 +1,4 @@
+pub mod Limits
 pub mod Coins
 pub mod Records
 pub mod Runs

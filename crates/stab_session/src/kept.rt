@@ -1,5 +1,6 @@
 ghost use Rattle.std.specs.Prelude.{◌≡◌, ℕ, ◌+◌, ◌-◌, ◌*◌, ◌<◌, ◌≤◌, Bool, [], None, List, All, length, take, reverse, slice_get, vec_capacity, IfSome, OnOk, OnErr, IfOk, IfErr};
 ghost use Rattle.stab_pauli.specs.declared.refusal.Refusal.TheVariants.{OutOfMemory};
+ghost use Rattle.stab_tableau.specs.Limits.{most_qubits};
 ghost use Rattle.stab_circuit.specs.Steps.{Step, unroll, observables_of, check_of, check_within};
 ghost use Rattle.stab_circuit.specs.Views.{circuit_items};
 ghost use Rattle.stab_circuit.specs.Cursors.{IsApart};
@@ -62,7 +63,7 @@ enum Rest {
 impl KeptRun {
     /// The run of no steps.
     pub fn new(alloc: Global, n: usize) -> Result<KeptRun, Refusal>
-        requires in_range { n ≤ 1024 }
+        requires in_range { n ≤ most_qubits }
         ensures kept { (coins : ℕ → Bool) (K : ℕ) → IfOk result (IsKeptRun n coins K [] 0) }
         ensures err { IfErr result (λ r. r ≡ OutOfMemory) }
     {
@@ -296,7 +297,7 @@ pub fn run_kept<C: Coins>(
     stride: usize,
     coins: &mut C,
 ) -> Result<KeptRun, Fault>
-    requires in_range { n ≤ 1024 }
+    requires in_range { n ≤ most_qubits }
     requires stride { 1 ≤ stride }
     ensures kept { IfOk result (IsKeptRun n (C.sequence coins.old) stride (unroll (circuit_items circuit.now)) (observables_of (circuit_items circuit.now))) }
     ensures apart { OnOk result (All IsApart (unroll (circuit_items circuit.now))) }
@@ -320,7 +321,7 @@ fn run_checked<C: Coins>(
     stride: usize,
     coins: &mut C,
 ) -> Result<KeptRun, Refusal>
-    requires in_range { n ≤ 1024 }
+    requires in_range { n ≤ most_qubits }
     requires stride { 1 ≤ stride }
     requires checked { check_within n (circuit_items circuit.now) ≡ None }
     ensures kept { IfOk result (IsKeptRun n (C.sequence coins.old) stride (unroll (circuit_items circuit.now)) (observables_of (circuit_items circuit.now))) }

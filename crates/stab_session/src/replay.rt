@@ -2,6 +2,7 @@ ghost use Rattle.std.specs.Prelude.{◌≡◌, ◌+◌, ◌*◌, ◌<◌, ◌≤
 ghost use Rattle.stab_pauli.specs.declared.refusal.Refusal.TheVariants.{OutOfMemory};
 ghost use Rattle.stab_tableau.specs.Groups.{SameGroup};
 ghost use Rattle.stab_tableau.specs.Tableaus.{stabilises};
+ghost use Rattle.stab_circuit.specs.Steps.{most_steps};
 ghost use Rattle.stab_session.specs.Records.{ones};
 ghost use Rattle.stab_session.specs.Points.{all_coins_of};
 ghost use Rattle.stab_session.specs.inner.Sights.{StepFits, output_of};
@@ -220,7 +221,7 @@ impl<'a> Replay<'a> {
         requires nothing_laid { self.old.laid.items ≡ [] }
         requires fits { All (StepFits self.old.tableau.qubits) self.old.cursor.all }
         requires total { plan.total ≡ length self.old.cursor.all }
-        requires few { plan.total ≤ 1048576 }
+        requires few { plan.total ≤ most_steps }
         requires stride { 1 ≤ plan.stride }
         requires nothing_applied { self.old.applied ≡ 0 }
         requires next { plan.next ≤ length copies.now }

@@ -53,6 +53,7 @@ impl<'a> Model for Sampler<'a> {
 impl<'a> Sampler<'a> {
     ghost use Rattle.std.specs.Prelude.{◌≡◌, ℕ, ◌+◌, ◌≤◌, Bool, None, IfOk, IfErr};
     ghost use Rattle.stab_pauli.specs.declared.refusal.Refusal.TheVariants.{OutOfMemory};
+    ghost use Rattle.stab_tableau.specs.Limits.{most_qubits};
     ghost use Rattle.stab_circuit.specs.Steps.{unroll, check_within};
     ghost use Rattle.stab_circuit.specs.Views.{circuit_items};
     ghost use Rattle.stab_session.specs.Records.{ones};
@@ -64,7 +65,7 @@ impl<'a> Sampler<'a> {
     ///
     /// Refused as `Circuit::check` refuses, else `OutOfMemory`, always with line 0.
     pub fn new(alloc: Global, circuit: &'a Circuit, n: usize) -> Result<Sampler<'a>, Fault>
-        requires in_range { n ≤ 1024 }
+        requires in_range { n ≤ most_qubits }
         ensures state { IfOk result (λ s. s ≡ record { qubits = n; items = circuit_items circuit.now }) }
         ensures refused { Refuses result (check_within n (circuit_items circuit.now)) }
     {
@@ -78,7 +79,7 @@ impl<'a> Sampler<'a> {
     // Makes a circuit ready that was checked.
     #[tactic(auto, using(crate::proofs::ProductLemmas::length_identity))]
     fn of_checked(alloc: Global, circuit: &'a Circuit, n: usize) -> Result<Sampler<'a>, Refusal>
-        requires in_range { n ≤ 1024 }
+        requires in_range { n ≤ most_qubits }
         requires checked { check_within n (circuit_items circuit.now) ≡ None }
         ensures state { IfOk result (λ s. s ≡ record { qubits = n; items = circuit_items circuit.now }) }
         ensures err { IfErr result (λ r. r ≡ OutOfMemory) }

@@ -65,11 +65,13 @@ impl<C: Coins> Model for Session<C> {
 impl<C: Coins> Session<C> {
     ghost use Rattle.std.specs.Prelude.{◌≡◌, ℕ, ◌+◌, ◌≤◌, Bool, None, length, IfOk, IfErr, OnOk};
     ghost use Rattle.stab_pauli.specs.declared.refusal.Refusal.TheVariants.{OutOfMemory};
+    ghost use Rattle.stab_tableau.specs.Limits.{most_qubits};
     ghost use Rattle.stab_tableau.specs.Traces.{member};
     ghost use Rattle.stab_tableau.specs.Tableaus.{stabilises};
     ghost use Rattle.stab_tableau.specs.Reduced.{AreReduced};
     ghost use Rattle.stab_circuit.specs.Steps.{unroll, check_within};
     ghost use Rattle.stab_circuit.specs.Views.{circuit_items};
+    ghost use Rattle.stab_session.specs.Limits.{most_stride};
     ghost use Rattle.stab_session.specs.Records.{ones};
     ghost use Rattle.stab_session.specs.Runs.{run_of};
     ghost use Rattle.stab_session.specs.Points.{all_coins_of};
@@ -90,9 +92,9 @@ impl<C: Coins> Session<C> {
         stride: usize,
         coins: C,
     ) -> Result<Session<C>, OpenRefused<C>>
-        requires in_range { n ≤ 1024 }
+        requires in_range { n ≤ most_qubits }
         requires stride_above { 1 ≤ stride }
-        requires stride_within { stride ≤ 65536 }
+        requires stride_within { stride ≤ most_stride }
         ensures statement { IfOk result (IsRunOfItems C.sequence) }
         ensures items { IfOk result (λ s. s.items ≡ circuit_items circuit) }
         ensures qubits { IfOk result (λ s. s.qubits ≡ n) }
@@ -168,7 +170,7 @@ impl<C: Coins> Session<C> {
     /// The number of qubits.
     pub fn qubits(&self) -> usize
         ensures value { result ≡ self.now.qubits }
-        ensures in_range { result ≤ 1024 }
+        ensures in_range { result ≤ most_qubits }
     {
         self.kept.tableau.len()
     }

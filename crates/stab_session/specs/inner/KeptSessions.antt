@@ -1,12 +1,14 @@
 -- Kept sessions: how the logic stores what contracts see of one, and what it keeps beside the statement.
 use Rattle.std.specs.Prelude.{◌≡◌, ℕ, ◌≤◌, Bool, List, All, None, refl}
 use Rattle.std.specs.Coded.{Coded, code_by, coded×, coded_ℕ, coded_bool, coded_list}
+use Rattle.stab_tableau.specs.Limits.{most_qubits}
 use Rattle.stab_tableau.specs.Tableaus.{TableauState}
 use Rattle.stab_tableau.specs.contracts.tableau.Tableau.{the_row}
 use Rattle.stab_circuit.specs.Items.{Items}
 use Rattle.stab_circuit.specs.Steps.{unroll, observables_of, check_within}
 use Rattle.stab_circuit.specs.Cursors.{IsApart}
 use Rattle.stab_session.specs.declared.kept.KeptRun.{KeptRun}
+use Rattle.stab_session.specs.Limits.{most_stride}
 use Rattle.stab_session.specs.Sessions.{SessionState}
 use Rattle.stab_session.specs.Headline.{IsRunOfItems}
 use Rattle.stab_session.specs.inner.Checkpoints.{steps_of}
@@ -65,6 +67,6 @@ pub record IsKept {C : Type 0} (sequence : C → ℕ → Bool) (s : SessionState
   pub run : IsKeptRun s.qubits (sequence s.coins) s.stride (unroll s.items) (observables_of s.items) kept
   pub checked : check_within s.qubits s.items ≡ None
   pub apart : All IsApart (unroll s.items)
-  pub few : s.qubits ≤ 1024
+  pub few : s.qubits ≤ most_qubits
   pub stride_above : 1 ≤ s.stride
-  pub stride_within : s.stride ≤ 65536
+  pub stride_within : s.stride ≤ most_stride

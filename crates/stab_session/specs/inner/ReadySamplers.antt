@@ -3,7 +3,7 @@ use Rattle.std.specs.Prelude.{◌≡◌, ℕ, min, List, All, None, length, refl
 use Rattle.std.specs.Coded.{Coded, code_by, coded×, coded_ℕ}
 use Rattle.stab_pauli.specs.Paulis.{Signed}
 use Rattle.stab_circuit.specs.Items.{Items}
-use Rattle.stab_circuit.specs.Steps.{Step, unroll, records_of, observables_of, check_within}
+use Rattle.stab_circuit.specs.Steps.{Step, unroll, records_of, observables_of, steps_cap, check_within}
 use Rattle.stab_circuit.specs.Cursors.{IsApart}
 use Rattle.stab_session.specs.Samplers.{SamplerState}
 use Rattle.stab_circuit.specs.inner.StoredItems.{items_code}
@@ -19,5 +19,5 @@ pub record IsReady (n : ℕ) (items : Items) (steps : List Step) (string : Signe
   pub unrolled : steps ≡ unroll items
   pub apart : All IsApart steps
   pub same_length : length string.letters ≡ n
-  pub records_are : records ≡ min (records_of (unroll items)) 1048577
+  pub records_are : records ≡ min (records_of (unroll items)) steps_cap
   pub observables_are : observables ≡ observables_of items
