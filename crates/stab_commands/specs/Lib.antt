@@ -1,3 +1,4 @@
+pub mod Limits
 pub mod Endings
 pub mod FaultLines
 pub mod Outputs

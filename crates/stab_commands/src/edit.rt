@@ -1,6 +1,8 @@
 //! The command that edits a circuit by a script.
 ghost use Rattle.std.specs.Prelude.{◌≤◌, IfSome};
+ghost use Rattle.stab_tableau.specs.Limits.{most_qubits};
 ghost use Rattle.stab_circuit.specs.Views.{circuit_items};
+ghost use Rattle.stab_session.specs.Limits.{most_stride};
 ghost use Rattle.stab_commands.specs.ScriptEndings.{EndsScript, EndsOn, EndsEdit};
 
 use crate::editor::{Answer, Editor};
@@ -55,9 +57,9 @@ fn edit_circuit<C: Coins, S: Input, O: Output>(
     script: &mut S,
     out: &mut O,
 ) -> Result<bool, Fault>
-    requires in_range { n ≤ 1024 }
+    requires in_range { n ≤ most_qubits }
     requires stride_above { 1 ≤ stride }
-    requires stride_within { stride ≤ 65536 }
+    requires stride_within { stride ≤ most_stride }
     ensures ends { EndsOn (record { qubits = n; coins = C.sequence coins }) (circuit_items circuit) (S.seen script.old) (S.seen script.new) (O.seen out.old) (O.seen out.new) result }
 {
     match Session::open(alloc, circuit, n, stride, coins) {
@@ -85,9 +87,9 @@ pub fn run_edit<I: Input, S: Input, O: Output>(
     stride: usize,
     source: &Source,
 ) -> Result<bool, Fault>
-    requires in_range { IfSome qubits (λ n. n ≤ 1024) }
+    requires in_range { IfSome qubits (λ n. n ≤ most_qubits) }
     requires stride_above { 1 ≤ stride }
-    requires stride_within { stride ≤ 65536 }
+    requires stride_within { stride ≤ most_stride }
     ensures ends { EndsEdit qubits source.now (I.seen circuit_input.old) (I.seen circuit_input.new) (S.seen script_input.old) (S.seen script_input.new) (O.seen out.old) (O.seen out.new) result }
 {
     let circuit = read_circuit(alloc, circuit_input)?;

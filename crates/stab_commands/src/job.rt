@@ -10,25 +10,27 @@ pub struct Shots {
 
 impl Model for Shots {
     ghost use Rattle.std.specs.Prelude.{ℕ, ◌≤◌};
+    ghost use Rattle.stab_commands.specs.Limits.{most_shots};
 
     ghost Value = { ℕ };
 
     ghost view = { λ s. s.number };
 
-    ghost invariant = { λ s. s.number ≤ 1000000 };
+    ghost invariant = { λ s. s.number ≤ most_shots };
 
     ghost inverse = { λ n. record { number = n } };
 }
 
 impl Shots {
     ghost use Rattle.std.specs.Prelude.{◌≡◌, ◌≤◌};
+    ghost use Rattle.stab_commands.specs.Limits.{most_shots};
 
     /// The most shots that a command takes.
     pub const MOST: usize = 1_000_000;
 
     /// So many shots, at most 1,000,000.
     pub fn new(number: usize) -> Shots
-        requires in_range { number ≤ 1000000 }
+        requires in_range { number ≤ most_shots }
         ensures value { result ≡ number }
     {
         Shots { number }
@@ -37,7 +39,7 @@ impl Shots {
     /// How many shots.
     pub fn number(self) -> usize
         ensures value { result ≡ self }
-        ensures in_range { result ≤ 1000000 }
+        ensures in_range { result ≤ most_shots }
     {
         self.number
     }
@@ -51,25 +53,27 @@ pub struct Qubits {
 
 impl Model for Qubits {
     ghost use Rattle.std.specs.Prelude.{ℕ, ◌≤◌};
+    ghost use Rattle.stab_tableau.specs.Limits.{most_qubits};
 
     ghost Value = { ℕ };
 
     ghost view = { λ q. q.number };
 
-    ghost invariant = { λ q. q.number ≤ 1024 };
+    ghost invariant = { λ q. q.number ≤ most_qubits };
 
     ghost inverse = { λ n. record { number = n } };
 }
 
 impl Qubits {
     ghost use Rattle.std.specs.Prelude.{◌≡◌, ◌≤◌};
+    ghost use Rattle.stab_tableau.specs.Limits.{most_qubits};
 
     /// The most qubits of a circuit.
     pub const MOST: usize = 1024;
 
     /// So many qubits, at most 1,024.
     pub fn new(number: usize) -> Qubits
-        requires in_range { number ≤ 1024 }
+        requires in_range { number ≤ most_qubits }
         ensures value { result ≡ number }
     {
         Qubits { number }
@@ -78,7 +82,7 @@ impl Qubits {
     /// How many qubits.
     pub fn number(self) -> usize
         ensures value { result ≡ self }
-        ensures in_range { result ≤ 1024 }
+        ensures in_range { result ≤ most_qubits }
     {
         self.number
     }
@@ -93,18 +97,20 @@ pub struct Stride {
 
 impl Model for Stride {
     ghost use Rattle.std.specs.Prelude.{ℕ, ◌≤◌};
+    ghost use Rattle.stab_session.specs.Limits.{most_stride};
 
     ghost Value = { ℕ };
 
     ghost view = { λ s. s.steps };
 
-    ghost invariant = { λ s. (1 ≤ s.steps) × (s.steps ≤ 65536) };
+    ghost invariant = { λ s. (1 ≤ s.steps) × (s.steps ≤ most_stride) };
 
     ghost inverse = { λ n. record { steps = n } };
 }
 
 impl Stride {
     ghost use Rattle.std.specs.Prelude.{◌≡◌, ◌≤◌};
+    ghost use Rattle.stab_session.specs.Limits.{most_stride};
 
     /// The greatest stride.
     pub const MOST: usize = 65_536;
@@ -112,7 +118,7 @@ impl Stride {
     /// So many steps, from 1 to 65,536.
     pub fn new(steps: usize) -> Stride
         requires above { 1 ≤ steps }
-        requires within { steps ≤ 65536 }
+        requires within { steps ≤ most_stride }
         ensures value { result ≡ steps }
     {
         Stride { steps }
@@ -122,7 +128,7 @@ impl Stride {
     pub fn steps(self) -> usize
         ensures value { result ≡ self }
         ensures above { 1 ≤ result }
-        ensures within { result ≤ 65536 }
+        ensures within { result ≤ most_stride }
     {
         self.steps
     }

@@ -2,6 +2,7 @@
 ghost use Rattle.std.specs.Prelude.{◌≡◌, ◌≤◌, None};
 ghost use Rattle.stab_circuit.specs.Steps.{check_of};
 ghost use Rattle.stab_circuit.specs.Views.{circuit_items};
+ghost use Rattle.stab_commands.specs.Limits.{most_shots};
 ghost use Rattle.stab_commands.specs.Endings.{Sends};
 ghost use Rattle.stab_commands.specs.Outputs.{EndsRun, sample_of, detect_of};
 ghost use Rattle.stab_commands.specs.inner.Sendings.{shots_of};
@@ -67,7 +68,7 @@ pub fn run_sample<I: Input, O: Output>(
     shots: usize,
     source: &Source,
 ) -> Result<(), Fault>
-    requires few { shots ≤ 1000000 }
+    requires few { shots ≤ most_shots }
     ensures ends { EndsRun (sample_of format shots source.now) (I.seen input.old) (I.seen input.new) (O.seen out.old) (O.seen out.new) result }
 {
     run_circuit(alloc, input, out, format, Shown::Records, shots, source)
@@ -87,7 +88,7 @@ pub fn run_detect<I: Input, O: Output>(
     shots: usize,
     source: &Source,
 ) -> Result<(), Fault>
-    requires few { shots ≤ 1000000 }
+    requires few { shots ≤ most_shots }
     ensures ends { EndsRun (detect_of format append shots source.now) (I.seen input.old) (I.seen input.new) (O.seen out.old) (O.seen out.new) result }
 {
     if append {

@@ -1,5 +1,6 @@
 //! Running a job, with the status of the program.
 ghost use Rattle.std.specs.Prelude.{◌≡◌, ◌≤◌, IfSome, false};
+ghost use Rattle.stab_tableau.specs.Limits.{most_qubits};
 ghost use Rattle.stab_commands.specs.Jobs.{EndsCommand, EndsJob, reads_script, refusing_none};
 
 use crate::edit::run_edit;
@@ -13,7 +14,7 @@ use std::alloc::Global;
 /// How many qubits, where so many are asked for.
 fn number_of(qubits: Option<Qubits>) -> Option<usize>
     ensures value { result ≡ qubits }
-    ensures in_range { IfSome result (λ n. n ≤ 1024) }
+    ensures in_range { IfSome result (λ n. n ≤ most_qubits) }
 {
     match qubits {
         Some(qubits) => Some(qubits.number()),

@@ -1,0 +1,6 @@
+-- Limits: how many shots a command takes at most.
+use Rattle.std.specs.Prelude.{ℕ}
+
+-- the greatest number of shots
+abbrev pub most_shots : ℕ
+most_shots = 1000000
