@@ -9,4 +9,5 @@ pub mod AnswerExistLaws
 pub mod ReadingLaws
 pub mod TellingLaws
 pub mod ScriptRunLaws
+pub mod ScriptTurnLaws
 pub mod SessionAnswerLaws

@@ -28,7 +28,7 @@ pub record AnsweredSoFar (setting : Setting) (items : Items) (now : Sitting) (de
   pub told : Told (before_script setting items) now (read empty_desk bytes).requests o o'
 
 -- nothing was read yet
-pub so_far_none : (setting : Setting) (items : Items) (now : Sitting) (desk : Desk) (s : InputView) (o : OutputView) → now ≡ before_script setting items → desk ≡ empty_desk
+unfoldable pub so_far_none : (setting : Setting) (items : Items) (now : Sitting) (desk : Desk) (s : InputView) (o : OutputView) → now ≡ before_script setting items → desk ≡ empty_desk
     → AnsweredSoFar setting items now desk 0 s s o o
 so_far_none setting items now desk s o is e = record {
   bytes = [];
@@ -44,7 +44,7 @@ behind_requests : (bytes piece : List ℕ) → (read empty_desk (bytes ++ piece)
 behind_requests bytes piece = ap (λ (r : Reading). r.requests) (read_append empty_desk bytes piece)
 
 -- a piece more was read and answered
-told_more : {setting : Setting} {items : Items} {mid new : Sitting} {desk : Desk} {o o' o'' : OutputView} (bytes piece : List ℕ)
+pub told_more : {setting : Setting} {items : Items} {mid new : Sitting} {desk : Desk} {o o' o'' : OutputView} (bytes piece : List ℕ)
     → desk ≡ (read empty_desk bytes).desk → Told (before_script setting items) mid (read empty_desk bytes).requests o o' → Told mid new (read desk piece).requests o' o''
     → Told (before_script setting items) new (read empty_desk (bytes ++ piece)).requests o o''
 told_more {setting} {items} {mid} {new} {desk} {o} {o'} {o''} bytes piece e before more =
@@ -52,7 +52,7 @@ told_more {setting} {items} {mid} {new} {desk} {o} {o'} {o''} bytes piece e befo
     subst (λ (l : List Request). Told (before_script setting items) new l o o'') (sym (behind_requests bytes piece))
     (told_then (read empty_desk bytes).requests (read (read empty_desk bytes).desk piece).requests before here)
 
-pub so_far_more : {setting : Setting} {items : Items} {mid new : Sitting} {desk desk' : Desk} {taken : ℕ} {s s' s'' : InputView} {o o' o'' : OutputView} (piece : List ℕ) (taken' : ℕ)
+unfoldable pub so_far_more : {setting : Setting} {items : Items} {mid new : Sitting} {desk desk' : Desk} {taken : ℕ} {s s' s'' : InputView} {o o' o'' : OutputView} (piece : List ℕ) (taken' : ℕ)
     → AnsweredSoFar setting items mid desk taken s s' o o' → Gave s' s'' piece → taken' ≡ taken + length piece
     → desk' ≡ (read desk piece).desk → Told mid new (read desk piece).requests o' o''
     → AnsweredSoFar setting items new desk' taken' s s'' o o''

@@ -7,5 +7,8 @@ pub mod ScriptWords
 pub mod Scripts
 pub mod ScriptLaws
 pub mod ScriptEndings
+pub mod Watchers
+pub mod LoggedInputs
+pub mod ScriptTurns
 pub mod Jobs
 pub mod inner

@@ -8,6 +8,8 @@
 //! - `fault_line`: the line that tells a fault.
 //! - `script`: what the lines of an edit script ask for, and how replies are gathered.
 //! - `editor`, `session_answers`: a script as it comes, each request answered from a session.
+//! - `watcher`: how a script is read beside the output of its replies.
+//! - `logged_input`: an input in memory that keeps a log of such reads.
 //! - `edit`: the command that edits a circuit by a script.
 //! - `laws`: what `stabilisers` writes tells the group, and a script has one answer and no other.
 //!
@@ -18,7 +20,9 @@
 //! same cases, over the reduced rows of the state after shot 0; memory is then refused before the
 //! first row. `run_edit` writes exactly the replies that `specs/Scripts.antt` gives for the script and
 //! the circuit's items, or ends by its own cases (`specs/ScriptEndings.antt`). `run_job` carries the
-//! same for a job, with its status and the line that tells its fault.
+//! same for a job, with its status and the line that tells its fault. `run_edit_watched` and
+//! `run_job_watched` say too that the reply to each line stands written before more of the script is
+//! asked for (`specs/ScriptTurns.antt`).
 #![tactic(auto)]
 
 mod edit;
@@ -26,16 +30,20 @@ mod editor;
 mod fault_line;
 mod job;
 pub mod laws;
+mod logged_input;
 mod run;
 mod script;
 mod session_answers;
 mod shots;
 mod stabilisers;
 mod status;
+mod watcher;
 
-pub use edit::run_edit;
+pub use edit::{run_edit, run_edit_watched};
 pub use fault_line::write_fault;
 pub use job::{Command, Job, Qubits, Shots, Source, Stride};
+pub use logged_input::{KeepsLog, LoggedInput, LoggedRead};
 pub use run::{run_detect, run_sample};
 pub use stabilisers::run_stabilisers;
-pub use status::run_job;
+pub use status::{run_job, run_job_watched};
+pub use watcher::{NoWatcher, Watcher};

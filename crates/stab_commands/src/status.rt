@@ -2,12 +2,14 @@
 ghost use Rattle.std.specs.Prelude.{◌≡◌, ◌≤◌, IfSome, false};
 ghost use Rattle.stab_tableau.specs.Limits.{most_qubits};
 ghost use Rattle.stab_commands.specs.Jobs.{EndsCommand, EndsJob, reads_script, refusing_none};
+ghost use Rattle.stab_commands.specs.ScriptTurns.{CommandInTurn};
 
-use crate::edit::run_edit;
+use crate::edit::run_edit_watched;
 use crate::fault_line::write_fault;
 use crate::job::{Command, Job, Qubits};
 use crate::run::{run_detect, run_sample};
 use crate::stabilisers::run_stabilisers;
+use crate::watcher::{NoWatcher, Watcher};
 use stab_pauli::{Fault, Input, Output};
 use std::alloc::Global;
 
@@ -33,7 +35,7 @@ fn refuses_none(answer: Result<(), Fault>) -> Result<bool, Fault>
 }
 
 /// Runs the command of a job, and says whether a line of the script was refused.
-fn run_command<I: Input, S: Input, O: Output>(
+fn run_command<I: Input, S: Input, O: Output, W: Watcher<S, O>>(
     alloc: Global,
     job: &Job,
     input: &mut I,
@@ -42,6 +44,7 @@ fn run_command<I: Input, S: Input, O: Output>(
 ) -> Result<bool, Fault>
     ensures ends { EndsCommand job.now.command job.now.source (I.seen input.old) (I.seen input.new) (S.seen script.old) (S.seen script.new) (O.seen out.old) (O.seen out.new) result }
     ensures script { reads_script job.now.command ≡ false → script.new ≡ script.old }
+    ensures turns { CommandInTurn job.now.command job.now.source (I.seen input.old) (I.seen input.new) (S.seen script.old) (S.seen script.new) (O.seen out.old) (W.log script.old) (W.log script.new) }
 {
     let source = &job.source;
     match job.command {
@@ -55,7 +58,7 @@ fn run_command<I: Input, S: Input, O: Output>(
         } => refuses_none(run_detect(alloc, input, out, format, append, shots.number(), source)),
         Command::Stabilisers => refuses_none(run_stabilisers(alloc, input, out, source)),
         Command::Edit { qubits, stride } => {
-            run_edit(
+            run_edit_watched::<I, S, O, W>(
                 alloc,
                 input,
                 script,
@@ -64,6 +67,33 @@ fn run_command<I: Input, S: Input, O: Output>(
                 stride.steps(),
                 source,
             )
+        }
+    }
+}
+
+/// Runs a job as `run_job` does, with each read of a script made by a watcher, which is shown the
+/// output as it then stands.
+///
+/// Where the script's input keeps a log, each read of it found exactly the replies written to what
+/// was handed over before, in whole lines, behind what the output held at first.
+pub fn run_job_watched<I: Input, S: Input, O: Output, E: Output, W: Watcher<S, O>>(
+    alloc: Global,
+    job: &Job,
+    input: &mut I,
+    script: &mut S,
+    out: &mut O,
+    err: &mut E,
+) -> u8
+    ensures ends { EndsJob job.now (I.seen input.old) (I.seen input.new) (S.seen script.old) (S.seen script.new) (O.seen out.old) (O.seen out.new) (E.seen err.old) (E.seen err.new) result }
+    ensures script { reads_script job.now.command ≡ false → script.new ≡ script.old }
+    ensures turns { CommandInTurn job.now.command job.now.source (I.seen input.old) (I.seen input.new) (S.seen script.old) (S.seen script.new) (O.seen out.old) (W.log script.old) (W.log script.new) }
+{
+    match run_command::<I, S, O, W>(alloc, job, input, script, out) {
+        Ok(false) => 0,
+        Ok(true) => 3,
+        Err(fault) => {
+            let _ = write_fault(err, fault);
+            1
         }
     }
 }
@@ -84,12 +114,5 @@ pub fn run_job<I: Input, S: Input, O: Output, E: Output>(
     ensures ends { EndsJob job.now (I.seen input.old) (I.seen input.new) (S.seen script.old) (S.seen script.new) (O.seen out.old) (O.seen out.new) (E.seen err.old) (E.seen err.new) result }
     ensures script { reads_script job.now.command ≡ false → script.new ≡ script.old }
 {
-    match run_command(alloc, job, input, script, out) {
-        Ok(false) => 0,
-        Ok(true) => 3,
-        Err(fault) => {
-            let _ = write_fault(err, fault);
-            1
-        }
-    }
+    run_job_watched::<I, S, O, E, NoWatcher>(alloc, job, input, script, out, err)
 }
