@@ -40,6 +40,8 @@ mod stabiliser_words;
 #[cfg(test)]
 mod stabilisers;
 #[cfg(test)]
+mod turns;
+#[cfg(test)]
 mod usage;
 #[cfg(test)]
 mod words;

@@ -11,7 +11,8 @@ mod usage;
 mod words;
 
 pub use stab_commands::{
-    Command, Job, Qubits, Shots, Source, Stride, run_detect, run_edit, run_job, run_sample,
+    Command, Job, KeepsLog, LoggedInput, LoggedRead, NoWatcher, Qubits, Shots, Source, Stride,
+    Watcher, run_detect, run_edit, run_edit_watched, run_job, run_job_watched, run_sample,
     run_stabilisers, write_fault,
 };
 pub use usage::write_usage;

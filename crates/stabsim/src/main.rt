@@ -10,7 +10,9 @@
 mod files;
 
 use files::{Replaced, STANDARD_INPUT, are_one_file};
-use stab_cli::{Job, Usage, parse_words, run_job, write_fault, write_usage};
+use stab_cli::{
+    Job, NoWatcher, Usage, parse_words, run_job, run_job_watched, write_fault, write_usage,
+};
 use stab_pauli::{Device, Fault, Input, MemoryInput, Output, Refusal, write_all};
 use std::io::{BufWriter, Write};
 use std::process::ExitCode;
@@ -109,12 +111,13 @@ fn run_written<I: Input, W: Write + Drop, E: Output>(
     let alloc = rt.alloc();
     if job.reads_script() {
         let mut script = Device::new(rt.stdin());
-        return run_job(
+        let mut out = Device::new(writer);
+        return run_job_watched::<_, _, _, _, NoWatcher>(
             alloc,
             job,
             input,
             &mut script,
-            &mut Device::new(writer),
+            &mut out,
             err,
         );
     }
