@@ -154,24 +154,30 @@ def try_memory(library, folder):
             print(f"{words[0]} {how}: {refused} runs with memory refused, {answered} answered 20")
 
 
-def expect_fault(what, done, number):
-    fault = FAULT_LINE.fullmatch(done.stderr)
+def expect_fault(what, done, number, path=None):
+    """A run that ended with this fault: its line, and a second one of a path that can't be opened or made."""
+    first, *more = done.stderr.splitlines(keepends=True) or [b""]
     expect(done.returncode == 1, f"{what}: status {done.returncode}")
-    expect(fault is not None and f"refused {number} ".encode() in done.stderr, f"{what}: told {done.stderr!r}")
+    expect(FAULT_LINE.fullmatch(first) is not None and f"refused {number} ".encode() in first, f"{what}: told {done.stderr!r}")
+    if path is None:
+        expect(not more, f"{what}: told more: {done.stderr!r}")
+    else:
+        is_named = len(more) == 1 and more[0].startswith(f"stabsim: {path}: ".encode())
+        expect(is_named, f"{what}: told {done.stderr!r}, and not of {path}")
 
 
 def failing_files(folder):
-    """What is wrong with a file, the words that name it, and the fault that it comes to."""
-    closed = folder / "closed.stim"
+    """What is wrong with a file, the words that name it, the fault that it comes to, and the path that is told where it is none."""
+    closed, missing, inside = folder / "closed.stim", folder / "none", folder / "none" / "shots"
     closed.write_text("M 0\n")
     closed.chmod(0)
-    yield "a folder for --in", ["--in", str(folder)], 15
-    yield "no file for --in", ["--in", str(folder / "none")], 15
-    yield "a file whose reads fail", ["--in", "/proc/self/mem"], 15
+    yield "a folder for --in", ["--in", str(folder)], 15, None
+    yield "no file for --in", ["--in", str(missing)], 15, missing
+    yield "a file whose reads fail", ["--in", "/proc/self/mem"], 15, None
     if os.geteuid() != 0:  # who may read all files may read this one
-        yield "a file that may not be read", ["--in", str(closed)], 15
-    yield "a folder for --out", ["--in", str(CIRCUIT), "--out", str(folder)], 16
-    yield "no folder for --out", ["--in", str(CIRCUIT), "--out", str(folder / "none" / "shots")], 16
+        yield "a file that may not be read", ["--in", str(closed)], 15, closed
+    yield "a folder for --out", ["--in", str(CIRCUIT), "--out", str(folder)], 16, folder
+    yield "no folder for --out", ["--in", str(CIRCUIT), "--out", str(inside)], 16, inside
 
 
 def try_devices(folder):
@@ -184,8 +190,8 @@ def try_devices(folder):
     with subprocess.Popen(["head", "-c", "5"], stdin=subprocess.PIPE, stdout=subprocess.DEVNULL) as reader:
         expect_fault("a closed pipe", run(many, stdout=reader.stdin), 16)
     files = list(failing_files(folder))
-    for what, words, number in files:
-        expect_fault(what, run(["sample", *words]), number)
+    for what, words, number, path in files:
+        expect_fault(what, run(["sample", *words]), number, path)
     return 4 + len(files)
 
 
