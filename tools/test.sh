@@ -5,8 +5,10 @@ set -u
 top=$(CDPATH='' cd -- "$(dirname -- "$0")/.." && pwd) || exit 2
 cd "$top" || exit 2
 
-# The steps behind the gate, a line each: a command, from the top of the repository.
-steps='tools/check_version.sh
+# The steps behind the gate, a line each: a command, from the top of the repository. What the gate printed is
+# in the file $told/gate.
+steps='tools/wrong_bodies.py "$told/gate"
+tools/check_version.sh
 tools/check_words.py
 tools/check_circuits.py
 tools/check_program.py --seconds 3
@@ -19,6 +21,7 @@ tools/try_docs.sh
 tools/try_first_look.sh'
 
 told=$(mktemp -d) || exit 2
+export told
 trap 'rm -rf "$told"' EXIT
 (
     rt ci
