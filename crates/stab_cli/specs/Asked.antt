@@ -8,7 +8,10 @@ use Rattle.clap.specs.Walk.{texts}
 use Rattle.clap.specs.Faults.{fault_of}
 use Rattle.clap.specs.declared.error.kind.ErrorKind.{ErrorKind}
 use Rattle.clap.specs.declared.error.kind.ErrorKind.TheVariants.{DisplayHelp, DisplayVersion}
-use Rattle.stab_cli.specs.Options.{Kept, format_names, most_qubits, most_seed, most_shots, most_stride, stabsim}
+use Rattle.stab_tableau.specs.Limits.{most_qubits}
+use Rattle.stab_session.specs.Limits.{most_stride}
+use Rattle.stab_commands.specs.Limits.{most_shots}
+use Rattle.stab_cli.specs.Options.{Kept, format_names, most_seed, stabsim}
 use Rattle.stab_cli.specs.declared.words.Usage.{Usage}
 use Rattle.stab_cli.specs.declared.words.Usage.TheVariants.{Help, Fault, Memory}
 use Rattle.stab_commands.specs.declared.job.Job.{Job}

@@ -5,6 +5,9 @@ use Rattle.clap.specs.Words.{App, Rule, Shape, Text, new_app, new_rule, with_sub
 use Rattle.clap.specs.Simple.{new_shape, on_top}
 use Rattle.clap.specs.declared.builder.action.ArgAction.TheVariants.{SetTrue}
 use Rattle.clap.specs.declared.builder.value_parser.ValueParser.TheVariants.{Names, Unsigned}
+use Rattle.stab_tableau.specs.Limits.{most_qubits}
+use Rattle.stab_session.specs.Limits.{most_stride}
+use Rattle.stab_commands.specs.Limits.{most_shots}
 
 -- names where the reader keeps them
 abbrev pub Kept : Type 0
@@ -34,21 +37,9 @@ named id names default = record (valued id) { parser = Some (Names names); defau
 abbrev pub flag : Text → Rule
 flag id = record (new_rule id) { long = Some id; action = Some SetTrue }
 
--- the greatest number of shots
-abbrev pub most_shots : ℕ
-most_shots = 1000000
-
 -- the greatest seed
 abbrev pub most_seed : ℕ
 most_seed = 18446744073709551615
-
--- the greatest number of qubits
-abbrev pub most_qubits : ℕ
-most_qubits = 1024
-
--- the greatest stride
-abbrev pub most_stride : ℕ
-most_stride = 65536
 
 -- the options of every command: its coins and its files
 abbrev pub common_options : List Rule

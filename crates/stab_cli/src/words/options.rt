@@ -1,8 +1,11 @@
 //! What the words say to each option.
 ghost use Rattle.std.specs.Prelude.{◌≡◌, ℕ, Bool, true, List, Option, Some, None, IfOk, IfErr, IfSome, IfNone, option_map, codes, string_bytes};
 ghost use Rattle.clap.specs.Words.{IsUnsignedIn, first_of, found_of, has_subcommand, one_of, rows_of, subcommand_rows_of};
+ghost use Rattle.stab_tableau.specs.Limits.{most_qubits};
+ghost use Rattle.stab_session.specs.Limits.{most_stride};
+ghost use Rattle.stab_commands.specs.Limits.{most_shots};
 ghost use Rattle.stab_cli.specs.Asked.{IsCommand, IsJob, IsNamed, IsSet, IsSource, IsWritten, IsWrittenIfGiven, RefusesCoins, coin_character, coin_text};
-ghost use Rattle.stab_cli.specs.Options.{most_qubits, most_seed, most_shots, most_stride};
+ghost use Rattle.stab_cli.specs.Options.{most_seed};
 ghost use Rattle.stab_cli.specs.declared.words.Usage.{Usage};
 ghost use Rattle.stab_cli.specs.inner.Parts.{IsCommandName};
 
