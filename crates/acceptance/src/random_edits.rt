@@ -1,6 +1,7 @@
 //! Random edits of random circuits: after each the session shows what one does that is opened anew
 //! on the same circuit, whatever the stride.
 ghost use Rattle.std.specs.Prelude.{◌≤◌, ◌<◌, length};
+ghost use Rattle.stab_session.specs.Limits.{most_stride};
 
 use stab_circuit::{Circuit, Path, read_circuit, read_item, write_circuit};
 use stab_pauli::{Fault, MemoryInput, MemoryOutput, write_all};
@@ -116,7 +117,7 @@ fn random_edit(alloc: Global, numbers: &mut Numbers, items: usize) -> Result<Edi
 /// A session on the circuit that a text stands for.
 fn opened(alloc: Global, text: &[u8], stride: usize) -> Result<Session<SeedCoins>, Fault>
     requires stride_above { 1 ≤ stride }
-    requires stride_within { stride ≤ 65536 }
+    requires stride_within { stride ≤ most_stride }
 {
     let circuit = read_circuit(alloc, &mut MemoryInput::new(text))?;
     match Session::open(alloc, circuit, QUBITS, stride, SeedCoins::new(3, 0)) {
@@ -171,7 +172,7 @@ fn shown_anew(
     stride: usize,
 ) -> Result<MemoryOutput, Fail>
     requires stride_above { 1 ≤ stride }
-    requires stride_within { stride ≤ 65536 }
+    requires stride_within { stride ≤ most_stride }
 {
     let text = printed(alloc, session.circuit())?;
     let mut anew = opened(alloc, text.bytes(), stride)?;
@@ -191,7 +192,7 @@ fn assert_edits(
     stride: usize,
 ) -> Result<usize, Fail>
     requires stride_above { 1 ≤ stride }
-    requires stride_within { stride ≤ 65536 }
+    requires stride_within { stride ≤ most_stride }
 {
     let text = random_text(rt.alloc(), numbers)?;
     let mut session = opened(rt.alloc(), text.as_bytes(), stride)?;
@@ -213,7 +214,7 @@ fn assert_edits(
 /// Asserts the same of many circuits, of whose edits at least half are made.
 fn assert_all_edits(rt: &(impl Abort + AllocGlobal), stride: usize) -> Result<(), Fail>
     requires stride_above { 1 ≤ stride }
-    requires stride_within { stride ≤ 65536 }
+    requires stride_within { stride ≤ most_stride }
 {
     let mut made: usize = 0;
     for circuit in 0..CIRCUITS {

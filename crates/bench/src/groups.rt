@@ -1,6 +1,7 @@
 //! Comparing the groups of two states, and the reduced rows of one.
 ghost use Rattle.std.specs.Prelude.{◌≡◌, ◌<◌, ◌≤◌, IfOk, IfErr};
 ghost use Rattle.stab_pauli.specs.declared.refusal.Refusal.TheVariants.{OutOfMemory};
+ghost use Rattle.stab_tableau.specs.Limits.{most_qubits};
 
 use super::failure::Failure;
 use super::state;
@@ -40,7 +41,7 @@ impl Difference {
     /// How many comparisons make a round that takes about a millisecond or more.
     fn calls(self, n: u32) -> u32
         requires above_zero { 0 < n }
-        requires in_range { n ≤ 1024 }
+        requires in_range { n ≤ most_qubits }
         ensures calls { 0 < result }
     {
         match self {
@@ -70,7 +71,7 @@ pub fn print_lines<R: CpuClock + AllocGlobal + Print>(
     cx: f64,
 ) -> Result<(), Failure>
     requires several { 1 < n }
-    requires in_range { n ≤ 1024 }
+    requires in_range { n ≤ most_qubits }
 {
     let mut first = state::scrambled(rt.alloc(), n)?;
     for difference in Difference::ALL {
@@ -94,7 +95,7 @@ fn state_with(
     difference: Difference,
 ) -> Result<Tableau, Refusal>
     requires several { 1 < first.old.qubits }
-    requires in_range { first.old.qubits ≤ 1024 }
+    requires in_range { first.old.qubits ≤ most_qubits }
     ensures unchanged { first.new ≡ first.old }
     ensures qubits { IfOk result (λ t. t.qubits ≡ first.old.qubits) }
     ensures err { IfErr result (λ r. r ≡ OutOfMemory) }
@@ -138,7 +139,7 @@ fn gate_of(letter: Letter) -> Gate {
 /// The scrambled state of n qubits, from zeros to which a gate CX was applied.
 fn with_other_rows(alloc: Global, n: usize) -> Result<Tableau, Refusal>
     requires several { 1 < n }
-    requires in_range { n ≤ 1024 }
+    requires in_range { n ≤ most_qubits }
     ensures qubits { IfOk result (λ t. t.qubits ≡ n) }
     ensures err { IfErr result (λ r. r ≡ OutOfMemory) }
 {

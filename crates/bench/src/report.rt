@@ -1,4 +1,5 @@
 ghost use Rattle.std.specs.Prelude.{◌≡◌, ◌<◌, ◌≤◌};
+ghost use Rattle.stab_tableau.specs.Limits.{most_qubits};
 
 use super::failure::Failure;
 use super::subject::Subject;
@@ -13,7 +14,7 @@ pub(super) fn print_table<R: CpuClock + AllocGlobal + Print>(
     n: usize,
 ) -> Result<(), Failure>
     requires several { 1 < n }
-    requires in_range { n ≤ 1024 }
+    requires in_range { n ≤ most_qubits }
 {
     let mut subject = Subject::new(rt.alloc(), n)?;
     let xor = timing::nanoseconds(rt, &mut subject, Work::Xor)?;

@@ -1,5 +1,6 @@
 ghost use Rattle.std.specs.Prelude.{◌≡◌, ◌≢◌, ◌<◌, ◌≤◌, length, IfOk, IfErr};
 ghost use Rattle.stab_pauli.specs.declared.refusal.Refusal.TheVariants.{OutOfMemory};
+ghost use Rattle.stab_tableau.specs.Limits.{most_qubits};
 
 use stab_pauli::{Letter, Pauli, Refusal};
 use stab_tableau::{Gate, PairGate, Tableau};
@@ -7,7 +8,7 @@ use std::alloc::Global;
 
 /// A state of n qubits in which gates have joined each qubit with all others.
 pub fn scrambled(alloc: Global, n: usize) -> Result<Tableau, Refusal>
-    requires in_range { n ≤ 1024 }
+    requires in_range { n ≤ most_qubits }
     ensures qubits { IfOk result (λ t. t.qubits ≡ n) }
     ensures err { IfErr result (λ r. r ≡ OutOfMemory) }
 {
@@ -18,7 +19,7 @@ pub fn scrambled(alloc: Global, n: usize) -> Result<Tableau, Refusal>
 
 /// Joins each qubit with all others by gates.
 pub fn scramble(tableau: &mut Tableau)
-    requires in_range { tableau.old.qubits ≤ 1024 }
+    requires in_range { tableau.old.qubits ≤ most_qubits }
     ensures qubits { tableau.new.qubits ≡ tableau.old.qubits }
 {
     let mut stride = 1;

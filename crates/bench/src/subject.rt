@@ -1,5 +1,6 @@
 ghost use Rattle.std.specs.Prelude.{◌≡◌, ◌<◌, ◌≤◌, length, IfOk, IfErr, OnOk, if◌then◌else◌};
 ghost use Rattle.stab_pauli.specs.declared.refusal.Refusal.TheVariants.{OutOfMemory};
+ghost use Rattle.stab_tableau.specs.Limits.{most_qubits};
 ghost use Rattle.bench.specs.Works.{starts_from_zeros};
 
 use super::bytes::{self, BytePair};
@@ -21,7 +22,7 @@ pub struct Subject {
     free_outcomes: u64,
     ghost zeros_fit: { zeros.qubits ≡ tableau.qubits },
     ghost scrambled_fits: { scrambled.qubits ≡ tableau.qubits },
-    ghost in_range: { tableau.qubits ≤ 1024 },
+    ghost in_range: { tableau.qubits ≤ most_qubits },
     ghost letters: { length observable.letters ≡ tableau.qubits },
     ghost lines: { length pairs.items ≡ tableau.qubits },
     ghost several: { 1 < tableau.qubits },
@@ -31,7 +32,7 @@ impl Subject {
     /// A subject with the state of n qubits, all zero.
     pub fn new(alloc: Global, n: usize) -> Result<Subject, Refusal>
         requires several { 1 < n }
-        requires in_range { n ≤ 1024 }
+        requires in_range { n ≤ most_qubits }
         ensures qubits { IfOk result (λ s. s.tableau.qubits ≡ n) }
         ensures err { IfErr result (λ r. r ≡ OutOfMemory) }
     {
@@ -54,7 +55,7 @@ impl Subject {
     pub fn len(&self) -> usize
         ensures value { result ≡ self.now.tableau.qubits }
         ensures several { 1 < result }
-        ensures in_range { result ≤ 1024 }
+        ensures in_range { result ≤ most_qubits }
     {
         self.tableau.len()
     }

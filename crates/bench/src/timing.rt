@@ -1,4 +1,5 @@
 ghost use Rattle.std.specs.Prelude.{◌≡◌, ◌<◌, ◌≤◌};
+ghost use Rattle.stab_tableau.specs.Limits.{most_qubits};
 
 use super::failure::Failure;
 use super::subject::Subject;
@@ -19,7 +20,7 @@ struct Round {
 /// alone, since a second would find fixed outcomes.
 fn round_of(work: Work, n: u32) -> Round
     requires above_zero { 0 < n }
-    requires in_range { n ≤ 1024 }
+    requires in_range { n ≤ most_qubits }
     ensures passes { 0 < result.passes }
     ensures calls { 0 < result.calls }
     ensures in_range { result.calls ≤ n }
