@@ -49,8 +49,8 @@ steps_of_item (Some x) = length (unroll (listed (x ∷ [])))
 abbrev pub steps_put : {C : Type 0} → Edit → SessionState C → ℕ
 steps_put e new = steps_of_item (elim (place_of e).blocks [ [] ↦ put_item (change_of e) | b ∷ bs ↦ slice_get (entries new.items) b ])
 
--- these steps, and two strides: where the runs agree so many steps behind the changed place, an edit carries out no more than these
--- and as many
+-- these steps, and two strides: where the runs agree behind what an edit changed, it carries out no more than these and the steps
+-- that stand between
 abbrev pub steps_near_change : {C : Type 0} → Edit → SessionState C → ℕ
 steps_near_change e new = steps_put e new + 2 * new.stride
 
@@ -58,7 +58,8 @@ steps_near_change e new = steps_put e new + 2 * new.stride
 abbrev pub point_at : {C : Type 0} → (C → ℕ → Bool) → SessionState C → ℕ → Point
 point_at sequence s k = point_after s.qubits (sequence s.coins) (take k (unroll s.items)) origin
 
--- so many steps behind the changed place the old run and the new one have the same group, number of the next coin and records
+-- so many steps behind what an edit took out and what it put in, the old run and the new one have the same group, number of the next
+-- coin and records
 abbrev pub AgreeBehind : {C : Type 0} → (C → ℕ → Bool) → Edit → SessionState C → SessionState C → ℕ → Type 0
 AgreeBehind sequence e old new far =
     AgreeAt new.qubits (point_at sequence old (old_end (change_of e) (place_of e) (entries old.items) + far))
@@ -88,8 +89,8 @@ abbrev pub NoneBefore : (ℕ → Type 0) → List ℕ → ℕ → ℕ → ℕ �
 NoneBefore agree copies first old_end new_end step =
     (number : ℕ) → IfSome (slice_get copies number) (λ c. MayBeMet first old_end c → new_end + (c - old_end) < step → agree (c - old_end) → ⊥)
 
--- so many steps were carried out: from the last old copy at or before the first changed step to the first that may be met and
--- where the runs agree, or to the end where they agree at none
+-- so many steps were carried out: from the last old copy at or before the first changed step to the first that may be met at which
+-- the runs agree, or to the end where they agree at none
 pub record IsCounted (agree : ℕ → Type 0) (copies : List ℕ) (first old_end new_end total applied : ℕ) : Type 0 where
   pub end : ℕ
   pub count : applied + last_until first 0 copies ≡ end

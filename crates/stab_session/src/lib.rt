@@ -22,8 +22,8 @@
 //! depends on no coin but those that decide; its trace is sound. Each shot of a sampler is such a
 //! run, whatever became of the shots before it. What a session shows is the run of its items from
 //! the first step on, whatever edits it took: `specs/Headline.antt` says so. How many steps an edit
-//! carries out at most, and how many copies of the state a session keeps, stands in
-//! `specs/Bounds.antt`. `specs/inner/` has what only private contracts cite.
+//! carries out, how many coins it may ask for where it is refused, and how many copies of the state a
+//! session keeps, stands in `specs/Bounds.antt`. `specs/inner/` has what only private contracts cite.
 #![tactic(auto)]
 
 mod apply;
