@@ -1,0 +1,80 @@
+//! The files of a folder, and the sums of their rows.
+use crate::format::{Unread, Wrong, read_rows};
+use crate::row::Row;
+use crate::run::first_difference;
+use std::fmt::{self, Display, Formatter, Write};
+use std::fs::DirEntry;
+use std::{fs, io};
+
+/// What became of the files of a folder and of their rows.
+#[derive(Clone, Copy)]
+pub struct Sums {
+    files: usize,
+    rows: usize,
+    failed: usize,
+}
+
+impl Sums {
+    /// Whether there were rows, and nothing failed.
+    pub fn is_good(self) -> bool {
+        self.rows > 0 && self.failed == 0
+    }
+
+    fn count_failure(&mut self) {
+        self.failed = self.failed.saturating_add(1);
+    }
+}
+
+impl Display for Sums {
+    fn fmt<W: Write>(&self, f: &mut Formatter<W>) -> fmt::Result {
+        let Sums {
+            files,
+            rows,
+            failed,
+        } = *self;
+        write!(f, "{rows} rows of {files} files, of which {failed} failed")
+    }
+}
+
+/// Runs the rows of each file of a folder whose name ends in `.rows`, and tells of those that fail.
+pub fn run_folder(rt: &HostRuntime, folder: &str) -> io::Result<Sums> {
+    let mut sums = Sums {
+        files: 0,
+        rows: 0,
+        failed: 0,
+    };
+    for entry in fs::read_dir(rt, folder)? {
+        let entry = entry?;
+        if entry.file_name().ends_with(".rows") {
+            run_file(rt, &entry, &mut sums)?;
+        }
+    }
+    Ok(sums)
+}
+
+/// Runs the rows of a file.
+fn run_file(rt: &HostRuntime, entry: &DirEntry, sums: &mut Sums) -> io::Result<()> {
+    sums.files = sums.files.saturating_add(1);
+    let name = entry.file_name();
+    let text = fs::read_to_string(rt, entry.path())?;
+    match read_rows(rt.alloc(), text.as_str()) {
+        Ok(rows) => run_rows(rt, name, rows.as_slice(), sums),
+        Err(unread) => {
+            sums.count_failure();
+            let Unread { line, wrong: Wrong(why) } = unread;
+            eprintln!(rt; "{name}, line {line}: {why}")
+        }
+    }
+}
+
+/// Runs rows, which stand in a file of this name.
+fn run_rows(rt: &HostRuntime, name: &str, rows: &[Row], sums: &mut Sums) -> io::Result<()> {
+    for row in rows {
+        sums.rows = sums.rows.saturating_add(1);
+        if let Some(difference) = first_difference(rt.alloc(), row)? {
+            sums.count_failure();
+            eprintln!(rt; "{name}, {difference}")?;
+        }
+    }
+    Ok(())
+}

@@ -1,0 +1,154 @@
+//! Rows as they stand in a file.
+ghost use Rattle.std.specs.Prelude.{◌<◌, vec_len, IfOk, All};
+
+use crate::row::Row;
+use crate::text::{push_bytes, push_line};
+use std::alloc::{AllocError, AllocFailed, Global};
+
+/// Why a line is not read, or memory was refused.
+#[derive(Clone, Copy)]
+pub struct Wrong(pub &'static str);
+
+impl From<AllocError> for Wrong {
+    fn from(_error: AllocError) -> Wrong {
+        Wrong("memory was refused")
+    }
+}
+
+impl<T: Drop> From<AllocFailed<T>> for Wrong {
+    fn from(_error: AllocFailed<T>) -> Wrong {
+        Wrong("memory was refused")
+    }
+}
+
+/// The line of a file, from 1, at which it is not rows, and why.
+#[derive(Clone, Copy)]
+pub struct Unread {
+    pub line: usize,
+    pub wrong: Wrong,
+}
+
+/// What an indented line belongs to.
+#[derive(Clone, Copy, PartialEq, Eq)]
+enum Place {
+    /// Nothing: no row is open.
+    Between,
+    /// The row, none of whose texts is open.
+    Row,
+    Circuit,
+    Script,
+    Output,
+    Error,
+}
+
+/// The rows of a text.
+pub fn read_rows(alloc: Global, text: &str) -> Result<Vec<Row>, Unread>
+    ensures with_words { IfOk result (λ rows. All (λ row. 0 < vec_len row.words) rows.items) }
+{
+    let mut rows = Vec::new(alloc);
+    let mut place = Place::Between;
+    let mut number: usize = 0;
+    for line in text.lines() {
+        number = number.saturating_add(1);
+        match take_line(alloc, &mut rows, place, number, line) {
+            Ok(next) => place = next,
+            Err(wrong) => return Err(Unread {
+                line: number,
+                wrong,
+            }),
+        }
+    }
+    with_words(rows)
+}
+
+/// The rows, if each of them has words.
+fn with_words(rows: Vec<Row>) -> Result<Vec<Row>, Unread>
+    ensures with_words { IfOk result (λ rows. All (λ row. 0 < vec_len row.words) rows.items) }
+{
+    match rows.iter().find(|row| row.words.is_empty()) {
+        Some(row) => Err(Unread {
+            line: row.line,
+            wrong: Wrong("this row has no words"),
+        }),
+        None => Ok(rows),
+    }
+}
+
+/// Takes a line into the rows, and says what an indented line behind it belongs to.
+fn take_line(
+    alloc: Global,
+    rows: &mut Vec<Row>,
+    place: Place,
+    number: usize,
+    line: &str,
+) -> Result<Place, Wrong> {
+    if line.is_empty() {
+        return Ok(Place::Between);
+    }
+    if line.starts_with('#') {
+        return Ok(place);
+    }
+    if let Some(name) = line.strip_prefix("row ") {
+        rows.push(Row::new(alloc, number, String::from_str(alloc, name)?))?;
+        return Ok(Place::Row);
+    }
+    match rows.last_mut() {
+        Some(row) if place != Place::Between => take_into(alloc, row, place, line),
+        _ => Err(Wrong("a row begins with `row` and its name")),
+    }
+}
+
+/// Takes a line into a row.
+fn take_into(alloc: Global, row: &mut Row, place: Place, line: &str) -> Result<Place, Wrong> {
+    if let Some(text) = line.strip_prefix("    ") {
+        push_text(row, place, text)?;
+        return Ok(place);
+    }
+    let (field, value) = line.split_once(' ').unwrap_or((line, ""));
+    let next = take_field(alloc, row, field, value)?;
+    if next != Place::Row && !value.is_empty() {
+        push_text(row, next, value)?;
+    }
+    Ok(next)
+}
+
+/// Takes a field into a row, but for the texts that it may have.
+fn take_field(alloc: Global, row: &mut Row, field: &str, value: &str) -> Result<Place, Wrong> {
+    match field {
+        "words" => row.words.push(String::from_str(alloc, value)?)?,
+        "shows" => row.output.parts.push(String::from_str(alloc, value)?)?,
+        "tells" => row.error.parts.push(String::from_str(alloc, value)?)?,
+        "bytes" => push_bytes(&mut row.output.bytes, value)?,
+        "status" => row.status = status_of(value)?,
+        "circuit" => {
+            row.circuits.push(Vec::new(alloc))?;
+            return Ok(Place::Circuit);
+        }
+        "script" => return Ok(Place::Script),
+        "output" => return Ok(Place::Output),
+        "error" => return Ok(Place::Error),
+        _ => return Err(Wrong("no field has this name")),
+    }
+    Ok(Place::Row)
+}
+
+fn status_of(digits: &str) -> Result<u8, Wrong> {
+    match digits.parse::<u8>() {
+        Ok(status) => Ok(status),
+        Err(_) => Err(Wrong("a status is a number up to 255")),
+    }
+}
+
+/// Puts a line behind the text that is open.
+fn push_text(row: &mut Row, place: Place, line: &str) -> Result<(), Wrong> {
+    match place {
+        Place::Circuit => match row.circuits.last_mut() {
+            Some(circuit) => push_line(circuit, line),
+            None => Err(Wrong("an indented line belongs to no text")),
+        },
+        Place::Script => push_line(&mut row.script, line),
+        Place::Output => push_line(&mut row.output.bytes, line),
+        Place::Error => push_line(&mut row.error.bytes, line),
+        Place::Between | Place::Row => Err(Wrong("an indented line belongs to no text")),
+    }
+}
