@@ -1,34 +1,43 @@
 //! Coins of lists and of seeds.
 use stab_session::{Coins, ListCoins, SeedCoins};
 
-/// Whether these characters are the coins from 0 on.
-fn begins_with(coins: &mut impl Coins, digits: &[u8]) -> bool {
-    for (t, digit) in digits.iter().enumerate() {
-        if coins.coin(t as u64) != (*digit == b'1') {
-            return false;
-        }
+/// Whether the coins of these numbers, asked for in this order, are these.
+fn are<C: Coins>(mut coins: C, asked: &[(u64, bool)]) -> bool {
+    let mut same = true;
+    for &(t, bit) in asked {
+        same &= coins.coin(t) == bit;
     }
-    true
+    same
 }
+
+const OF_A_LIST: &[(u64, bool)] = &[
+    (0, true),
+    (1, false),
+    (2, true),
+    (3, false),
+    (4, false),
+    (5, false),
+    (u64::MAX, false),
+    (2, true),
+];
+
+const OF_NO_LIST: &[(u64, bool)] = &[(0, false), (1, false)];
 
 #[test]
 fn zeros_follow_a_list(rt: HostRuntime) {
-    let bits = [true, false, true];
-    let mut coins = ListCoins::new(&bits);
-    assert!(rt; begins_with(&mut coins, b"101000"));
-    assert!(rt; !coins.coin(u64::MAX));
-    assert!(rt; coins.coin(2));
-    assert!(rt; begins_with(&mut ListCoins::new(&[]), b"00"));
+    let listed = are(ListCoins::new(&[true, false, true]), OF_A_LIST);
+    let empty = are(ListCoins::new(&[]), OF_NO_LIST);
+    assert_eq!(rt; (listed, empty), (true, true));
 }
 
-#[test]
-fn a_coin_stays_the_same(rt: HostRuntime) {
-    let mut coins = SeedCoins::new(7, 2);
-    let fifth = coins.coin(5);
-    coins.coin(0);
-    assert_eq!(rt; coins.coin(5), fifth);
-    coins.coin(100);
-    assert_eq!(rt; coins.coin(5), fifth);
+/// Whether these characters are the coins of a seed and a shot from 0 on.
+fn begins_with(seed: u64, shot: u64, digits: &[u8]) -> bool {
+    let mut coins = SeedCoins::new(seed, shot);
+    let mut same = true;
+    for (t, digit) in digits.iter().enumerate() {
+        same &= coins.coin(t as u64) == (*digit == b'1');
+    }
+    same
 }
 
 // The digits and bits of the next two tests come from a script in Python that follows Bernstein's
@@ -66,25 +75,37 @@ const WORDS: &[(u64, u64, &[u8])] = &[
 #[test]
 fn a_seed_and_a_shot_give_words_of_chacha8(rt: HostRuntime) {
     for &(seed, shot, digits) in WORDS {
-        let mut coins = SeedCoins::new(seed, shot);
-        assert!(rt; begins_with(&mut coins, digits), "seed {seed}, shot {shot}");
+        assert!(rt; begins_with(seed, shot, digits), "seed {seed}, shot {shot}");
     }
 }
 
-const COINS: &[(u64, bool)] = &[
-    (u64::MAX, true),
-    (u64::MAX - 1, false),
-    ((1 << 40) + 5, true),
-    ((1 << 36) + 17, true),
-    (0xffff_ffff, false),
-    (79, true),
-    (0, false),
+const ASKED: &[(u64, u64, &[(u64, bool)])] = &[
+    (
+        0x0123_4567_89ab_cdef,
+        0xfedc_ba98_7654_3210,
+        &[
+            (u64::MAX, true),
+            (u64::MAX - 1, false),
+            ((1 << 40) + 5, true),
+            ((1 << 36) + 17, true),
+            (0xffff_ffff, false),
+            (79, true),
+            (0, false),
+        ],
+    ),
+    (
+        7,
+        2,
+        &[(5, false), (0, true), (5, false), (100, false), (5, false)],
+    ),
 ];
 
 #[test]
-fn any_coin_may_be_asked_for(rt: HostRuntime) {
-    let mut coins = SeedCoins::new(0x0123_4567_89ab_cdef, 0xfedc_ba98_7654_3210);
-    for &(t, bit) in COINS {
-        assert_eq!(rt; coins.coin(t), bit, "coin {t}");
+fn any_coin_may_be_asked_for_and_stays_the_same(rt: HostRuntime) {
+    for &(seed, shot, asked) in ASKED {
+        assert!(rt;
+            are(SeedCoins::new(seed, shot), asked),
+            "seed {seed}, shot {shot}"
+        );
     }
 }

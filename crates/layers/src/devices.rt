@@ -60,6 +60,21 @@ impl Write for Writer<'_> {
     }
 }
 
+// What five reads of a text of five bytes answer.
+fn reads(fails_at: usize) -> [Result<usize, DeviceFault>; 5] {
+    let mut input = Device::new(Reader {
+        bytes: b"abcde",
+        calls: 0,
+        fails_at,
+    });
+    let mut buf = [0u8; 4];
+    let mut answers = [Ok(0); 5];
+    for answer in answers.iter_mut() {
+        *answer = input.read(&mut buf);
+    }
+    answers
+}
+
 #[test]
 fn a_failed_read_is_told(rt: HostRuntime) {
     let fault = Err(DeviceFault);
@@ -69,75 +84,75 @@ fn a_failed_read_is_told(rt: HostRuntime) {
         (3, [Ok(2), Ok(2), fault, Ok(1), Ok(0)]),
         (4, [Ok(2), Ok(2), Ok(1), fault, Ok(0)]),
     ] {
-        let mut input = Device::new(Reader {
-            bytes: b"abcde",
-            calls: 0,
-            fails_at,
-        });
-        for answer in answers {
-            let mut buf = [0u8; 4];
-            assert_eq!(rt; input.read(&mut buf), answer, "{fails_at}");
-        }
+        assert_eq!(rt; reads(fails_at), answers, "{fails_at}");
     }
 }
 
-// Where a writer fails, and what it was given before.
-const FAILURES: [(usize, Option<io::ErrorKind>, &str); 3] = [
-    (1, Some(io::ErrorKind::Interrupted), ""),
-    (2, Some(io::ErrorKind::BrokenPipe), "ab"),
-    (3, None, "abcd"),
-];
-
-#[test]
-fn a_failed_write_is_told_and_not_tried_again(rt: HostRuntime) -> Result<(), Fail> {
-    for (fails_at, kind, before) in FAILURES {
-        let (mut written, mut calls) = (Vec::new(rt.alloc()), 0);
-        let answer = write_all(
-            &mut Device::new(Writer {
-                written: &mut written,
-                calls: &mut calls,
-                fails_at,
-                kind,
-            }),
-            b"abcde",
-        );
-        assert_eq!(rt; answer, Err(Refusal::WriteFault));
-        assert!(rt; written.as_slice() == before.as_bytes());
-        assert_eq!(rt; calls, fails_at);
-    }
-    Ok(())
-}
-
-#[test]
-fn a_device_goes_on_after_a_failure(rt: HostRuntime) -> Result<(), Fail> {
-    let (mut written, mut calls) = (Vec::new(rt.alloc()), 0);
-    {
+// What the writing of two texts, one behind the other, answers where a call fails; whether the writer then
+// has these bytes; and how many calls were made.
+fn writes(
+    alloc: Global,
+    fails_at: usize,
+    kind: Option<io::ErrorKind>,
+    texts: [&str; 2],
+    bytes: &str,
+) -> ([Result<(), Refusal>; 2], bool, usize) {
+    let (mut written, mut calls) = (Vec::new(alloc), 0);
+    let [first, second] = texts;
+    let answers = {
         let mut out = Device::new(Writer {
             written: &mut written,
             calls: &mut calls,
-            fails_at: 2,
-            kind: Some(io::ErrorKind::Interrupted),
+            fails_at,
+            kind,
         });
-        assert_eq!(rt; write_all(&mut out, b"abc"), Err(Refusal::WriteFault));
-        assert_eq!(rt; write_all(&mut out, b"xyz"), Ok(()));
-        assert_eq!(rt; out.write(b""), Ok(0));
-    }
-    assert!(rt; written.as_slice() == b"abxyz".as_slice());
-    Ok(())
+        [
+            write_all(&mut out, first.as_bytes()),
+            write_all(&mut out, second.as_bytes()),
+        ]
+    };
+    (answers, written.as_slice() == bytes.as_bytes(), calls)
 }
 
+// Where a writer fails, what it is given, what it then has, and how often it was called.
+const FAILURES: &[(usize, Option<io::ErrorKind>, [&str; 2], &str, usize)] = &[
+    (1, Some(io::ErrorKind::Interrupted), ["abcde", ""], "", 1),
+    (2, Some(io::ErrorKind::BrokenPipe), ["abcde", ""], "ab", 2),
+    (3, None, ["abcde", ""], "abcd", 3),
+    (
+        2,
+        Some(io::ErrorKind::Interrupted),
+        ["abc", "xyz"],
+        "abxyz",
+        4,
+    ),
+];
+
 #[test]
-fn a_failed_flush_is_told(rt: HostRuntime) -> Result<(), Fail> {
-    let (mut written, mut calls) = (Vec::new(rt.alloc()), 0);
+fn a_failed_write_is_told_and_not_tried_again(rt: HostRuntime) {
+    for &(fails_at, kind, texts, bytes, calls) in FAILURES {
+        let found = writes(rt.alloc(), fails_at, kind, texts, bytes);
+        let answers = [Err(Refusal::WriteFault), Ok(())];
+        assert_eq!(rt; found, (answers, true, calls), "{bytes}");
+    }
+}
+
+// What two flushes answer, of which the first fails, and a write of nothing.
+fn flushes(alloc: Global) -> ([Result<(), DeviceFault>; 2], Result<usize, DeviceFault>) {
+    let (mut written, mut calls) = (Vec::new(alloc), 0);
     let mut out = Device::new(Writer {
         written: &mut written,
         calls: &mut calls,
         fails_at: 1,
         kind: Some(io::ErrorKind::Interrupted),
     });
-    assert_eq!(rt; out.flush(), Err(DeviceFault));
-    assert_eq!(rt; out.flush(), Ok(()));
-    Ok(())
+    ([out.flush(), out.flush()], out.write(b""))
+}
+
+#[test]
+fn a_failed_flush_is_told(rt: HostRuntime) {
+    let found = flushes(rt.alloc());
+    assert_eq!(rt; found, ([Err(DeviceFault), Ok(())], Ok(0)));
 }
 
 // Reads once from a text through a device.
@@ -148,29 +163,27 @@ fn read_through(text: &[u8], buf: &mut [u8]) -> Result<usize, DeviceFault>
 }
 
 #[test]
-fn what_is_written_passes_through_a_device(rt: HostRuntime) {
-    let mut room = [0u8; 4];
-    assert_eq!(rt;
-        write_all(&mut Device::new(room.as_mut_slice()), b"well"),
-        Ok(())
-    );
-    assert!(rt; room.as_slice() == b"well".as_slice());
+fn bytes_pass_through_a_device(rt: HostRuntime) {
+    let (mut room, mut buf) = ([0u8; 4], [0u8; 4]);
+    let written = write_all(&mut Device::new(room.as_mut_slice()), b"well");
+    let read = read_through(b"xyz", &mut buf);
+    assert_eq!(rt; (written, read), (Ok(()), Ok(3)));
+    assert!(rt; room == *b"well" && buf == *b"xyz\0");
 }
 
-#[test]
-fn what_is_read_passes_through_a_device(rt: HostRuntime) -> Result<(), Fail> {
-    let mut buf = [0u8; 4];
-    assert_eq!(rt; read_through(b"xyz", &mut buf), Ok(3));
-    assert!(rt; &buf[..3] == b"xyz".as_slice());
-    Ok(())
+// What the writing of four bytes into a room for three answers, and whether three are kept; and what a
+// flush answers that is to fail.
+fn fills(alloc: Global) -> Result<(Result<(), Refusal>, bool, Result<(), DeviceFault>), Refusal> {
+    let mut out = MemoryOutput::new(alloc, 3)?;
+    let answer = write_all(&mut out, b"abcd");
+    let kept = out.bytes() == b"abc".as_slice();
+    out.fail_flush();
+    Ok((answer, kept, out.flush()))
 }
 
 #[test]
 fn a_full_output_is_told(rt: HostRuntime) -> Result<(), Fail> {
-    let mut out = MemoryOutput::new(rt.alloc(), 3)?;
-    assert_eq!(rt; write_all(&mut out, b"abcd"), Err(Refusal::WriteFault));
-    assert!(rt; out.bytes() == b"abc".as_slice());
-    out.fail_flush();
-    assert_eq!(rt; out.flush(), Err(DeviceFault));
+    let found = fills(rt.alloc())?;
+    assert_eq!(rt; found, (Err(Refusal::WriteFault), true, Err(DeviceFault)));
     Ok(())
 }

@@ -25,8 +25,6 @@ mod results;
 #[cfg(test)]
 mod rows;
 #[cfg(test)]
-mod runs;
-#[cfg(test)]
 mod samplers;
 #[cfg(test)]
 mod session_edits;

@@ -11,104 +11,182 @@ fn set_row(rows: &mut PauliRows, a: usize, pauli: &Pauli) {
     }
 }
 
-// The rows that texts of n letters each stand for.
-fn rows_of(alloc: Global, n: usize, texts: &[&str]) -> Result<PauliRows, Fail> {
-    if n > 1024 || texts.len() > 16 {
-        return Err(Fail::from(Refusal::OutOfMemory));
-    }
-    let mut rows = PauliRows::new(alloc, texts.len(), n)?;
+// The rows that texts of n letters each stand for, of which there are 16 at most.
+fn rows_of(alloc: Global, n: usize, texts: &[&str]) -> Result<PauliRows, Refusal> {
+    let mut rows = PauliRows::new(alloc, texts.len().min(16), n.min(1024))?;
     for (a, text) in texts.iter().enumerate() {
         set_row(&mut rows, a, &read(alloc, text)?);
     }
     Ok(rows)
 }
 
+// Whether a row is printed as a text.
+fn is(alloc: Global, rows: &PauliRows, a: usize, text: &str) -> Result<bool, Refusal> {
+    let mut pauli = Pauli::identity(alloc, rows.qubits())?;
+    if a < rows.len() && pauli.len() == rows.qubits() {
+        rows.copy_row(a, &mut pauli);
+        prints(alloc, &pauli, text)
+    } else {
+        Ok(false)
+    }
+}
+
 // Whether the rows are printed as the texts.
 fn are(alloc: Global, rows: &PauliRows, texts: &[&str]) -> Result<bool, Refusal> {
     let mut same = rows.len() == texts.len();
-    let mut pauli = Pauli::identity(alloc, rows.qubits())?;
-    for a in 0..rows.len() {
-        if a < texts.len() && pauli.len() == rows.qubits() {
-            rows.copy_row(a, &mut pauli);
-            same &= prints(alloc, &pauli, texts[a])?;
-        }
+    for (a, text) in texts.iter().enumerate() {
+        same &= is(alloc, rows, a, text)?;
     }
     Ok(same)
 }
 
+// A change of rows.
+#[derive(Clone, Copy, Debug)]
+enum Change {
+    Set(usize, usize, Letter),
+    NegateIf(usize, bool),
+    Swap(usize, usize),
+    Clear(usize),
+}
+
+fn make(rows: &mut PauliRows, change: Change) {
+    match change {
+        Change::Set(a, qubit, letter) => {
+            if a < rows.len() && qubit < rows.qubits() {
+                rows.set(a, qubit, letter);
+            }
+        }
+        Change::NegateIf(a, bit) => {
+            if a < rows.len() {
+                rows.negate_if(a, bit);
+            }
+        }
+        Change::Swap(a, b) => {
+            if a != b && a < rows.len() && b < rows.len() {
+                rows.swap(a, b);
+            }
+        }
+        Change::Clear(a) => {
+            if a < rows.len() {
+                rows.clear(a);
+            }
+        }
+    }
+}
+
+const CHANGES: &[(Change, [&str; 3])] = &[
+    (Change::Set(0, 0, Letter::X), ["+X_", "+__", "+__"]),
+    (Change::Set(1, 1, Letter::Z), ["+X_", "+_Z", "+__"]),
+    (Change::NegateIf(1, true), ["+X_", "-_Z", "+__"]),
+    (Change::NegateIf(0, false), ["+X_", "-_Z", "+__"]),
+    (Change::Set(2, 0, Letter::Y), ["+X_", "-_Z", "+Y_"]),
+    (Change::Swap(0, 1), ["-_Z", "+X_", "+Y_"]),
+    (Change::Clear(2), ["-_Z", "+X_", "+__"]),
+];
+
 #[test]
 fn rows_are_made_and_changed(rt: HostRuntime) -> Result<(), Fail> {
     let mut rows = PauliRows::new(rt.alloc(), 3, 2)?;
-    assert!(rt; are(rt.alloc(), &rows, &["+__", "+__", "+__"])?);
-    assert!(rt; rows.len() == 3 && rows.qubits() == 2);
-    rows.set(0, 0, Letter::X);
-    rows.set(1, 1, Letter::Z);
-    rows.negate_if(1, true);
-    rows.negate_if(0, false);
-    assert!(rt; are(rt.alloc(), &rows, &["+X_", "-_Z", "+__"])?);
+    let made = are(rt.alloc(), &rows, &["+__", "+__", "+__"])?;
+    assert_eq!(rt; (made, rows.len(), rows.qubits()), (true, 3, 2));
+    for &(next, texts) in CHANGES {
+        make(&mut rows, next);
+        assert!(rt; are(rt.alloc(), &rows, &texts)?, "{next:?}");
+    }
     Ok(())
+}
+
+// The letter at a qubit of a row, and whether it flips, whether the row is negative, and its first flip.
+fn seen(rows: &PauliRows, a: usize, qubit: usize) -> Option<(Letter, bool, bool, Option<usize>)> {
+    if a < rows.len() && qubit < rows.qubits() {
+        let (letter, flips) = (rows.letter(a, qubit), rows.flips(a, qubit));
+        Some((letter, flips, rows.is_negative(a), rows.first_flip(a)))
+    } else {
+        None
+    }
 }
 
 #[test]
 fn rows_show_their_letters(rt: HostRuntime) -> Result<(), Fail> {
     let rows = rows_of(rt.alloc(), 2, &["+X_", "-_Z"])?;
-    assert!(rt; rows.len() == 2 && rows.qubits() == 2);
-    assert!(rt; rows.letter(1, 1) == Letter::Z && rows.is_negative(1) && !rows.is_negative(0));
-    assert!(rt; rows.flips(0, 0) && !rows.flips(1, 1) && !rows.flips(0, 1));
-    assert!(rt; rows.first_flip(0) == Some(0) && rows.first_flip(1) == None);
+    let found = [
+        seen(&rows, 0, 0),
+        seen(&rows, 0, 1),
+        seen(&rows, 1, 0),
+        seen(&rows, 1, 1),
+    ];
+    let wanted = [
+        Some((Letter::X, true, false, Some(0))),
+        Some((Letter::I, false, false, Some(0))),
+        Some((Letter::I, false, true, None)),
+        Some((Letter::Z, false, true, None)),
+    ];
+    assert!(rt; found == wanted);
     Ok(())
 }
 
-#[test]
-fn rows_are_swapped_and_cleared(rt: HostRuntime) -> Result<(), Fail> {
-    let mut rows = rows_of(rt.alloc(), 2, &["+X_", "-_Z", "+Y_"])?;
-    let copy = rows.copy(rt.alloc())?;
-    assert!(rt; rows.len() == 3);
-    rows.swap(0, 1);
-    rows.clear(2);
-    assert!(rt; are(rt.alloc(), &rows, &["-_Z", "+X_", "+__"])?);
-    assert!(rt; are(rt.alloc(), &copy, &["+X_", "-_Z", "+Y_"])?);
-    Ok(())
-}
-
-#[test]
-fn rows_are_made_others(rt: HostRuntime) -> Result<(), Fail> {
-    let mut rows = rows_of(rt.alloc(), 2, &["+YY", "-ZX"])?;
-    let other = rows_of(rt.alloc(), 2, &["+X_", "-_Z"])?;
-    assert!(rt; rows.len() == other.len() && rows.qubits() == other.qubits());
+// Whether rows are printed as texts after they were made those, and a copy that was made before is not
+// changed.
+fn are_made_others(alloc: Global, texts: &[&str], others: &[&str]) -> Result<bool, Refusal> {
+    let mut rows = rows_of(alloc, 2, texts)?;
+    let copy = rows.copy(alloc)?;
+    let other = rows_of(alloc, 2, others)?;
+    if rows.len() != other.len() || rows.qubits() != other.qubits() {
+        return Ok(false);
+    }
     rows.copy_from(&other);
-    assert!(rt; are(rt.alloc(), &rows, &["+X_", "-_Z"])?);
-    Ok(())
+    Ok(are(alloc, &rows, others)? && are(alloc, &copy, texts)?)
+}
+
+// Whether rows come back from little memory, in other rows and in rows of their own, and are told from
+// those others.
+fn come_back(alloc: Global, texts: &[&str], others: &[&str]) -> Result<bool, Refusal> {
+    let other = rows_of(alloc, 2, texts)?;
+    let mut rows = rows_of(alloc, 2, others)?;
+    let compact = other.compact(alloc)?;
+    let told = compact.qubits() == 2 && compact.are(&other) && !compact.are(&rows);
+    if rows.len() != other.len() || rows.qubits() != other.qubits() {
+        return Ok(false);
+    }
+    compact.write_into(&mut rows);
+    let again = compact.rows(alloc)?;
+    Ok(told && are(alloc, &rows, texts)? && are(alloc, &again, texts)?)
 }
 
 #[test]
-fn rows_come_back_from_little_memory(rt: HostRuntime) -> Result<(), Fail> {
-    let other = rows_of(rt.alloc(), 2, &["+X_", "-_Z"])?;
-    let mut rows = rows_of(rt.alloc(), 2, &["+YY", "-ZX"])?;
-    assert!(rt; rows.len() == other.len() && rows.qubits() == other.qubits());
-    let compact = other.compact(rt.alloc())?;
-    assert!(rt; compact.qubits() == 2 && compact.are(&other) && !compact.are(&rows));
-    compact.write_into(&mut rows);
-    let again = compact.rows(rt.alloc())?;
-    let written = are(rt.alloc(), &rows, &["+X_", "-_Z"])?;
-    assert!(rt; written && are(rt.alloc(), &again, &["+X_", "-_Z"])?);
+fn rows_are_made_others_and_come_back_from_little_memory(rt: HostRuntime) -> Result<(), Fail> {
+    let (texts, others) = (&["+X_", "-_Z"], &["+YY", "-ZX"]);
+    let made = are_made_others(rt.alloc(), others, texts)?;
+    let back = come_back(rt.alloc(), texts, others)?;
+    assert_eq!(rt; (made, back), (true, true));
     Ok(())
 }
 
-// Between these letters lie 791 words 0, more than one gap can tell, and behind them 403.
+// Rows with two letters, of which the second is negated; between them lie 791 words 0, more than one gap can
+// tell, and behind them 403.
+fn far_apart(alloc: Global) -> Result<PauliRows, Refusal> {
+    let mut rows = PauliRows::new(alloc, 150, 2)?;
+    make(&mut rows, Change::Set(0, 0, Letter::X));
+    make(&mut rows, Change::Set(99, 1, Letter::Y));
+    make(&mut rows, Change::NegateIf(99, true));
+    Ok(rows)
+}
+
 #[test]
 fn letters_far_apart_come_back_from_little_memory(rt: HostRuntime) -> Result<(), Fail> {
-    let mut rows = PauliRows::new(rt.alloc(), 150, 2)?;
-    rows.set(0, 0, Letter::X);
-    rows.set(99, 1, Letter::Y);
-    rows.negate_if(99, true);
+    let mut rows = far_apart(rt.alloc())?;
     let compact = rows.compact(rt.alloc())?;
     let again = compact.rows(rt.alloc())?;
-    assert!(rt; again.len() == 150 && again.qubits() == 2);
-    assert!(rt; again.letter(0, 0) == Letter::X && again.letter(99, 1) == Letter::Y);
-    assert!(rt; again.first_flip(98) == None && again.is_negative(99) && again.same(&rows));
-    rows.set(149, 1, Letter::Z);
-    assert!(rt; compact.are(&again) && !compact.are(&rows));
+    let sizes = (again.len(), again.qubits(), again.same(&rows));
+    let found = [seen(&again, 0, 0), seen(&again, 98, 0), seen(&again, 99, 1)];
+    let wanted = [
+        Some((Letter::X, true, false, Some(0))),
+        Some((Letter::I, false, false, None)),
+        Some((Letter::Y, true, true, Some(1))),
+    ];
+    make(&mut rows, Change::Set(149, 1, Letter::Z));
+    let told = compact.are(&again) && !compact.are(&rows);
+    assert!(rt; sizes == (150, 2, true) && found == wanted && told);
     Ok(())
 }
 
@@ -143,6 +221,16 @@ fn multiply_string(rows: &mut PauliRows, string: &mut Pauli, other: &Pauli) {
     }
 }
 
+// Whether the product of two strings is this, row by row, row by string, and string by row.
+fn are_products(alloc: Global, first: &str, second: &str, product: &str) -> Result<bool, Refusal> {
+    let mut rows = PauliRows::new(alloc, 3, 2)?;
+    let mut string = read(alloc, first)?;
+    let other = read(alloc, second)?;
+    multiply_rows(&mut rows, &string, &other);
+    multiply_string(&mut rows, &mut string, &other);
+    Ok(are(alloc, &rows, &[product, second, product])? && prints(alloc, &string, product)?)
+}
+
 const PRODUCTS: &[(&str, &str, &str)] = &[
     ("+XX", "+ZZ", "-YY"),
     ("-XX", "+ZZ", "+YY"),
@@ -155,14 +243,8 @@ const PRODUCTS: &[(&str, &str, &str)] = &[
 #[test]
 fn rows_multiply_as_strings_do(rt: HostRuntime) -> Result<(), Fail> {
     for (first, second, product) in PRODUCTS {
-        let mut rows = PauliRows::new(rt.alloc(), 3, 2)?;
-        let mut string = read(rt.alloc(), first)?;
-        let other = read(rt.alloc(), second)?;
-        multiply_rows(&mut rows, &string, &other);
-        multiply_string(&mut rows, &mut string, &other);
-        let holds = are(rt.alloc(), &rows, &[product, second, product])?
-            && prints(rt.alloc(), &string, product)?;
-        assert!(rt; holds, "{first} {second}");
+        let hold = are_products(rt.alloc(), first, second, product)?;
+        assert!(rt; hold, "{first} {second}");
     }
     Ok(())
 }
@@ -177,32 +259,51 @@ const OTHERS: &[(usize, &[&str], bool, bool)] = &[
     (2, &["+X_", "-_Y"], false, false),
 ];
 
+// Whether rows are those of the test, with their signs and without.
+fn compared(alloc: Global, n: usize, texts: &[&str]) -> Result<(bool, bool), Refusal> {
+    let rows = rows_of(alloc, 3, &["+X_Z", "-_YZ"])?;
+    let others = rows_of(alloc, n, texts)?;
+    Ok((rows.same(&others), rows.same_letters(&others)))
+}
+
 #[test]
 fn rows_are_compared_with_and_without_signs(rt: HostRuntime) -> Result<(), Fail> {
-    let rows = rows_of(rt.alloc(), 3, &["+X_Z", "-_YZ"])?;
-    for &(qubits, texts, same, letters) in OTHERS {
-        let others = rows_of(rt.alloc(), qubits, texts)?;
-        let found = (rows.same(&others), rows.same_letters(&others));
+    for &(n, texts, same, letters) in OTHERS {
+        let found = compared(rt.alloc(), n, texts)?;
         assert_eq!(rt; found, (same, letters), "{texts:?}");
     }
     Ok(())
 }
 
+// Four rows of n letters, the third with Y everywhere and the sign -; and what is seen of each of them.
+fn seen_behind(alloc: Global, n: usize) -> Result<[Option<(bool, bool)>; 4], Refusal> {
+    let mut rows = PauliRows::new(alloc, 4, n.min(1024))?;
+    let mut other = repeated(alloc, n, Letter::Y)?;
+    other.negate();
+    set_row(&mut rows, 2, &other);
+    let mut found = [None; 4];
+    for (a, place) in found.iter_mut().enumerate() {
+        *place = copied(alloc, &rows, a)?;
+    }
+    Ok(found)
+}
+
+// Whether a row that is copied is negative, and whether it flips.
+fn copied(alloc: Global, rows: &PauliRows, a: usize) -> Result<Option<(bool, bool)>, Refusal> {
+    let mut string = Pauli::identity(alloc, rows.qubits())?;
+    if a >= rows.len() || string.len() != rows.qubits() {
+        return Ok(None);
+    }
+    rows.copy_row(a, &mut string);
+    Ok(Some((string.is_negative(), string.first_flip().is_some())))
+}
+
 #[test]
 fn a_row_behind_many_keeps_the_others(rt: HostRuntime) -> Result<(), Fail> {
+    let (no, yes) = (Some((false, false)), Some((true, true)));
     for n in [1, 255, 256, 257, 1024] {
-        let mut rows = PauliRows::new(rt.alloc(), 4, n)?;
-        let mut other = repeated(rt.alloc(), n, Letter::Y)?;
-        other.negate();
-        set_row(&mut rows, 2, &other);
-        let mut string = Pauli::identity(rt.alloc(), n)?;
-        for a in 0..4 {
-            if a < rows.len() && string.len() == rows.qubits() {
-                rows.copy_row(a, &mut string);
-            }
-            let found = (string.is_negative(), string.first_flip().is_some());
-            assert_eq!(rt; found, (a == 2, a == 2), "{a} of {n}");
-        }
+        let found = seen_behind(rt.alloc(), n)?;
+        assert_eq!(rt; found, [no, no, yes, no], "{n}");
     }
     Ok(())
 }

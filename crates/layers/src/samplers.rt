@@ -1,7 +1,7 @@
-//! Many shots of one circuit.
+//! Single runs of circuits, and many shots of one.
 use stab_circuit::{Circuit, read_circuit};
 use stab_pauli::{Fault, MemoryInput, Refusal};
-use stab_session::{Coins, ListCoins, Sampler, SeedCoins, Shot, run_once};
+use stab_session::{ListCoins, Sampler, SeedCoins, Shot, run_once};
 use std::alloc::Global;
 use std::test::Fail;
 
@@ -27,67 +27,132 @@ fn read(alloc: Global, text: &str) -> Result<Circuit, Fault> {
     read_circuit(alloc, &mut MemoryInput::new(text.as_bytes()))
 }
 
-/// The next shot, tried once more where memory was refused.
-fn shot_of<C: Coins>(alloc: Global, sampler: &mut Sampler, coins: &mut C) -> Result<Shot, Refusal> {
-    match sampler.shot(alloc, coins) {
-        Ok(shot) => Ok(shot),
-        Err(_) => sampler.shot(alloc, coins),
+/// Whether a shot has these records, flags, detectors and observables.
+fn has(shot: &Shot, lists: [&[bool]; 4]) -> bool {
+    let [records, free, detectors, observables] = lists;
+    shot.records.as_slice() == records
+        && shot.free.as_slice() == free
+        && shot.detectors.as_slice() == detectors
+        && shot.observables.as_slice() == observables
+}
+
+/// Whether one run has these lists, and three shots, one behind the other, too.
+fn give(
+    alloc: Global,
+    circuit: &Circuit,
+    n: usize,
+    bits: &[bool],
+    lists: [&[bool]; 4],
+) -> Result<bool, Fail> {
+    let n = n.min(1024);
+    let mut coins = ListCoins::new(bits);
+    let mut same = has(&run_once(alloc, circuit, n, &mut coins)?, lists);
+    let mut sampler = Sampler::new(alloc, circuit, n)?;
+    for _shot in 0..3 {
+        same &= has(&sampler.shot(alloc, &mut coins)?, lists);
     }
+    Ok(same)
+}
+
+/// Circuits, how many qubits and which coins they have, and their lists.
+const RUNS: &[(&str, usize, &[bool], [&[bool]; 4])] = &[
+    (
+        "H 0\nCX 0 1\nM 0 1",
+        2,
+        &[true, false],
+        [&[true, true], &[true, false], &[], &[]],
+    ),
+    (
+        "H 0\nCX 0 1\nM 0 1",
+        2,
+        &[false, true],
+        [&[false, false], &[true, false], &[], &[]],
+    ),
+    (
+        "X 0\nM 0\nDETECTOR rec[-1]\nOBSERVABLE_INCLUDE(1) rec[-1]",
+        1,
+        &[],
+        [&[true], &[false], &[true], &[false, true]],
+    ),
+    (
+        "H 0\nM 0 0",
+        1,
+        &[true],
+        [&[true, true], &[true, false], &[], &[]],
+    ),
+    (
+        "H 0\nM 0 0",
+        1,
+        &[false],
+        [&[false, false], &[true, false], &[], &[]],
+    ),
+    (
+        "X 0\nM 0 !0",
+        1,
+        &[],
+        [&[true, false], &[false, false], &[], &[]],
+    ),
+    (
+        "X 0\nMR 0\nM 0",
+        1,
+        &[],
+        [&[true, false], &[false, false], &[], &[]],
+    ),
+];
+
+#[test]
+fn no_shot_leaves_anything_to_the_next(rt: HostRuntime) -> Result<(), Fail> {
+    for &(text, n, bits, lists) in RUNS {
+        let same = give(rt.alloc(), &read(rt.alloc(), text)?, n, bits, lists)?;
+        assert!(rt; same, "{text}");
+    }
+    Ok(())
+}
+
+/// Whether the next shot has the lists of a run of its own with the coins of its number.
+fn agrees(
+    alloc: Global,
+    circuit: &Circuit,
+    sampler: &mut Sampler,
+    number: u64,
+) -> Result<bool, Fail> {
+    let shot = sampler.shot(alloc, &mut SeedCoins::new(7, number))?;
+    let run = run_once(alloc, circuit, 4, &mut SeedCoins::new(7, number))?;
+    let lists = [
+        run.records.as_slice(),
+        run.free.as_slice(),
+        run.detectors.as_slice(),
+        run.observables.as_slice(),
+    ];
+    Ok(has(&shot, lists))
 }
 
 #[test]
 fn shots_are_runs_of_their_own(rt: HostRuntime) -> Result<(), Fail> {
     let circuit = read(rt.alloc(), ROUNDS)?;
     let mut sampler = Sampler::new(rt.alloc(), &circuit, 4)?;
+    let mut same = true;
     for number in 0..3 {
-        let shot = shot_of(rt.alloc(), &mut sampler, &mut SeedCoins::new(7, number))?;
-        let run = run_once(rt.alloc(), &circuit, 4, &mut SeedCoins::new(7, number))?;
-        let same = shot.records.as_slice() == run.records.as_slice()
-            && shot.free.as_slice() == run.free.as_slice()
-            && shot.detectors.as_slice() == run.detectors.as_slice()
-            && shot.observables.as_slice() == run.observables.as_slice();
-        assert!(rt; same, "shot {number}");
+        same &= agrees(rt.alloc(), &circuit, &mut sampler, number)?;
     }
+    assert!(rt; same);
     Ok(())
 }
 
-const SHOTS: &[(&str, &[bool], [bool; 2], bool)] = &[
-    ("H 0\nM 0 0", &[true], [true, true], true),
-    ("H 0\nM 0 0", &[false], [false, false], true),
-    ("X 0\nM 0 !0", &[], [true, false], false),
-    ("X 0\nMR 0\nM 0", &[], [true, false], false),
-];
-
-#[test]
-fn no_shot_leaves_anything_to_the_next(rt: HostRuntime) -> Result<(), Fail> {
-    for &(text, bits, records, free) in SHOTS {
-        let circuit = read(rt.alloc(), text)?;
-        let mut sampler = Sampler::new(rt.alloc(), &circuit, 1)?;
-        for _shot in 0..3 {
-            let shot = shot_of(rt.alloc(), &mut sampler, &mut ListCoins::new(bits))?;
-            let found = (shot.records.as_slice(), shot.free.as_slice());
-            assert_eq!(rt;
-                found,
-                (records.as_slice(), [free, false].as_slice()),
-                "{text}"
-            );
-        }
-    }
-    Ok(())
+/// What refuses a run on one qubit, and shots, where something does.
+fn refusals(alloc: Global, circuit: &Circuit) -> [Option<Fault>; 2] {
+    [
+        run_once(alloc, circuit, 1, &mut ListCoins::new(&[])).err(),
+        Sampler::new(alloc, circuit, 1).err(),
+    ]
 }
 
 #[test]
-fn a_sampler_on_too_few_qubits_is_refused(rt: HostRuntime) -> Result<(), Fail> {
-    let circuit = read(rt.alloc(), "QUBIT_COORDS(0) 1")?;
-    match Sampler::new(rt.alloc(), &circuit, 1) {
-        Ok(_) => assert!(rt; false),
-        Err(fault) => assert_eq!(rt;
-            fault,
-            Fault {
-                refusal: Refusal::QubitOutOfRange,
-                line: 0
-            }
-        ),
+fn too_few_qubits_are_refused(rt: HostRuntime) -> Result<(), Fail> {
+    let fault = Some(Fault::whole(Refusal::QubitOutOfRange));
+    for text in ["M 1", "QUBIT_COORDS(0) 1", "REPEAT 2 {\nCX 0 1\n}"] {
+        let found = refusals(rt.alloc(), &read(rt.alloc(), text)?);
+        assert_eq!(rt; found, [fault, fault], "{text}");
     }
     Ok(())
 }

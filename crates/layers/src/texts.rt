@@ -3,9 +3,6 @@
 use stab_pauli::{Letter, MemoryOutput, Pauli, Refusal};
 use std::alloc::Global;
 
-/// A call that a test was not allowed to make.
-pub(crate) const MISUSED: &str = "the call asks for more";
-
 /// The Pauli that a text such as `-_XZ` stands for.
 pub(crate) fn read(alloc: Global, text: &str) -> Result<Pauli, Refusal> {
     let mut pauli = Pauli::identity(alloc, text.len().saturating_sub(1))?;
@@ -43,48 +40,41 @@ pub(crate) fn single(
     }
 }
 
-/// Makes a string another one.
-pub(crate) fn copy_from(pauli: &mut Pauli, other: &Pauli) -> Result<(), &'static str> {
-    if pauli.len() != other.len() {
-        return Err(MISUSED);
+/// Makes a string another one, where they have one length.
+pub(crate) fn copy_from(pauli: &mut Pauli, other: &Pauli) -> bool {
+    let allowed = pauli.len() == other.len();
+    if allowed {
+        pauli.copy_from(other);
     }
-    pauli.copy_from(other);
-    Ok(())
+    allowed
 }
 
-/// Multiplies a string by one that commutes with it.
-pub(crate) fn multiply(pauli: &mut Pauli, other: &Pauli) -> Result<(), &'static str> {
-    if pauli.len() != other.len() || !pauli.commutes(other) {
-        return Err(MISUSED);
-    }
-    pauli.multiply(other);
-    Ok(())
+/// Whether two strings have one length and commute.
+pub(crate) fn commute(pauli: &Pauli, other: &Pauli) -> bool {
+    pauli.len() == other.len() && pauli.commutes(other)
 }
 
-/// Multiplies a string by one that anticommutes with it, and by i.
-pub(crate) fn multiply_turned(pauli: &mut Pauli, other: &Pauli) -> Result<(), &'static str> {
-    if pauli.len() != other.len() || pauli.commutes(other) {
-        return Err(MISUSED);
+/// Multiplies a string by one that commutes with it, or by one that anticommutes with it and by i, where
+/// they have one length.
+pub(crate) fn multiply(pauli: &mut Pauli, other: &Pauli) -> bool {
+    let allowed = pauli.len() == other.len();
+    if allowed {
+        if pauli.commutes(other) {
+            pauli.multiply(other);
+        } else {
+            pauli.multiply_turned(other);
+        }
     }
-    pauli.multiply_turned(other);
-    Ok(())
+    allowed
 }
 
-/// Multiplies the letters of a string by those of another.
-pub(crate) fn multiply_letters(pauli: &mut Pauli, other: &Pauli) -> Result<(), &'static str> {
-    if pauli.len() != other.len() {
-        return Err(MISUSED);
+/// Multiplies the letters of a string by those of another, where they have one length.
+pub(crate) fn multiply_letters(pauli: &mut Pauli, other: &Pauli) -> bool {
+    let allowed = pauli.len() == other.len();
+    if allowed {
+        pauli.multiply_letters(other);
     }
-    pauli.multiply_letters(other);
-    Ok(())
-}
-
-/// Whether two strings commute.
-pub(crate) fn commute(pauli: &Pauli, other: &Pauli) -> Result<bool, &'static str> {
-    if pauli.len() != other.len() {
-        return Err(MISUSED);
-    }
-    Ok(pauli.commutes(other))
+    allowed
 }
 
 /// Whether the Pauli is printed as the text.

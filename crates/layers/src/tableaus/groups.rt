@@ -1,137 +1,177 @@
-use super::{apply, apply_pair, bell, collapse, spread, zeros};
-use crate::texts::{MISUSED, prints, read};
-use stab_pauli::Pauli;
-use stab_tableau::{Collapse, Gate, PairGate, Tableau};
+//! Groups that are the same, and their reduced rows.
+use super::calls::Asked::{self, Apply, Pair, Rows};
+use super::calls::Place::{First, Last};
+use super::{BELL, hold, state, zeros};
+use stab_pauli::{Letter, Pauli};
+use stab_tableau::{Gate, PairGate, Tableau};
 use std::alloc::Global;
 use std::test::Fail;
 
-fn same(first: &mut Tableau, second: &mut Tableau) -> Result<bool, &'static str> {
-    if second.len() != first.len() {
-        return Err(MISUSED);
+// Whether two states have one group, asked of either.
+pub(super) fn same(first: &mut Tableau, second: &mut Tableau) -> (bool, bool) {
+    if first.len() == second.len() {
+        (first.same_group(second), second.same_group(first))
+    } else {
+        (false, false)
     }
-    Ok(first.same_group(second))
 }
 
-// Whether the reduced rows are printed as the texts.
-fn has_reduced(tableau: &mut Tableau, alloc: Global, texts: &[&str]) -> Result<bool, Fail> {
-    let rows = tableau.reduced_rows(alloc)?;
-    let mut all = rows.len() == texts.len();
-    for (row, text) in rows.iter().zip(texts) {
-        all &= prints(alloc, row, text)?;
+// Whether states of n qubits after these calls and after those have one group.
+fn same_after(
+    alloc: Global,
+    n: usize,
+    calls: &[Asked],
+    others: &[Asked],
+) -> Result<(bool, bool), Fail> {
+    let mut first = state(alloc, n, calls)?;
+    let mut second = state(alloc, n, others)?;
+    Ok(same(&mut first, &mut second))
+}
+
+const GROUPS: &[(usize, &[Asked], &[Asked], bool)] = &[
+    (2, BELL, BELL, true),
+    // Signs alone tell groups apart where they are the signs of members.
+    (1, &[], &[Apply(Gate::Z, First)], true),
+    (
+        1,
+        &[],
+        &[Apply(Gate::Z, First), Apply(Gate::X, First)],
+        false,
+    ),
+    // A phase flip on a qubit that is zero keeps the group.
+    (
+        2,
+        &[Apply(Gate::H, First)],
+        &[Apply(Gate::H, First), Apply(Gate::Z, Last)],
+        true,
+    ),
+    (
+        2,
+        &[Apply(Gate::H, First)],
+        &[
+            Apply(Gate::H, First),
+            Apply(Gate::Z, Last),
+            Apply(Gate::Z, First),
+        ],
+        false,
+    ),
+    // States of one group may have other rows.
+    (
+        2,
+        BELL,
+        &[Apply(Gate::H, Last), Pair(PairGate::Cx, Last, First)],
+        true,
+    ),
+    (
+        2,
+        BELL,
+        &[
+            Apply(Gate::H, Last),
+            Pair(PairGate::Cx, Last, First),
+            Apply(Gate::X, Last),
+        ],
+        false,
+    ),
+];
+
+#[test]
+fn groups_are_compared(rt: HostRuntime) -> Result<(), Fail> {
+    for &(n, calls, others, wanted) in GROUPS {
+        let found = same_after(rt.alloc(), n, calls, others)?;
+        assert_eq!(rt; found, (wanted, wanted), "{others:?}");
     }
-    Ok(all)
-}
-
-#[test]
-fn a_collapse_leaves_the_group_of_its_copy(rt: HostRuntime) -> Result<(), Fail> {
-    let mut tableau = bell(rt.alloc(), 2)?;
-    let mut copy = tableau.copy(rt.alloc())?;
-    assert!(rt; same(&mut tableau, &mut copy)?);
-    let z = read(rt.alloc(), "+Z_")?;
-    let answer = collapse(&mut tableau, &z, true)?;
-    assert!(rt;
-        answer
-            == Collapse {
-                outcome: true,
-                free: true
-            }
-    );
-    assert!(rt; !same(&mut tableau, &mut copy)?);
-    assert!(rt; !same(&mut copy, &mut tableau)?);
-    assert!(rt; has_reduced(&mut tableau, rt.alloc(), &["-Z_", "-_Z"])?);
-    assert!(rt; has_reduced(&mut copy, rt.alloc(), &["+XX", "+ZZ"])?);
     Ok(())
 }
 
-#[test]
-fn signs_alone_tell_groups_apart_where_they_are_the_signs_of_members(
-    rt: HostRuntime,
-) -> Result<(), Fail> {
-    let mut zero = zeros(rt.alloc(), 1)?;
-    let mut other = zero.copy(rt.alloc())?;
-    apply(&mut other, Gate::Z, 0)?;
-    assert!(rt; same(&mut zero, &mut other)?);
-    apply(&mut other, Gate::X, 0)?;
-    assert!(rt; !same(&mut zero, &mut other)?);
-    Ok(())
-}
-
-#[test]
-fn a_sign_on_another_qubit_keeps_the_group(rt: HostRuntime) -> Result<(), Fail> {
-    let mut plus = zeros(rt.alloc(), 2)?;
-    apply(&mut plus, Gate::H, 0)?;
-    let mut other = plus.copy(rt.alloc())?;
-    apply(&mut other, Gate::Z, 1)?;
-    assert!(rt; same(&mut plus, &mut other)?);
-    apply(&mut other, Gate::Z, 0)?;
-    assert!(rt; !same(&mut plus, &mut other)?);
-    Ok(())
-}
-
-#[test]
-fn states_of_one_group_may_have_other_rows(rt: HostRuntime) -> Result<(), Fail> {
-    let mut first = bell(rt.alloc(), 2)?;
-    let mut second = zeros(rt.alloc(), 2)?;
-    apply(&mut second, Gate::H, 1)?;
-    apply_pair(&mut second, PairGate::Cx, 1, 0)?;
-    assert!(rt; same(&mut first, &mut second)?);
-    apply(&mut second, Gate::X, 1)?;
-    assert!(rt; !same(&mut first, &mut second)?);
-    Ok(())
-}
+const ROWS: &[(usize, &[Asked], &[&str])] = &[
+    (0, &[], &[]),
+    (2, &[], &["+Z_", "+_Z"]),
+    (
+        2,
+        &[Apply(Gate::H, First), Apply(Gate::H, Last)],
+        &["+X_", "+_X"],
+    ),
+    (
+        2,
+        &[Apply(Gate::SqrtX, First), Apply(Gate::CXyz, Last)],
+        &["-Y_", "+_X"],
+    ),
+    (2, BELL, &["+XX", "+ZZ"]),
+    // The group with members -XX, +ZZ and +YY: rows are cleared at the leads of others.
+    (
+        2,
+        &[
+            Apply(Gate::H, First),
+            Pair(PairGate::Cx, First, Last),
+            Apply(Gate::SDag, First),
+            Apply(Gate::SDag, Last),
+        ],
+        &["-XX", "+ZZ"],
+    ),
+];
 
 #[test]
 fn reduced_rows_are_printed_by_ascending_lead(rt: HostRuntime) -> Result<(), Fail> {
-    let mut nothing = zeros(rt.alloc(), 0)?;
-    assert!(rt; has_reduced(&mut nothing, rt.alloc(), &[])?);
-    let mut tableau = zeros(rt.alloc(), 2)?;
-    assert!(rt; has_reduced(&mut tableau, rt.alloc(), &["+Z_", "+_Z"])?);
-    apply(&mut tableau, Gate::H, 0)?;
-    apply(&mut tableau, Gate::H, 1)?;
-    assert!(rt; has_reduced(&mut tableau, rt.alloc(), &["+X_", "+_X"])?);
-    Ok(())
-}
-
-#[test]
-fn reduced_rows_have_their_signs(rt: HostRuntime) -> Result<(), Fail> {
-    let mut tableau = zeros(rt.alloc(), 2)?;
-    apply(&mut tableau, Gate::SqrtX, 0)?;
-    apply(&mut tableau, Gate::CXyz, 1)?;
-    assert!(rt; has_reduced(&mut tableau, rt.alloc(), &["-Y_", "+_X"])?);
-    Ok(())
-}
-
-#[test]
-fn rows_are_cleared_at_the_leads_of_others(rt: HostRuntime) -> Result<(), Fail> {
-    // The group with members -XX, +ZZ and +YY.
-    let mut tableau = bell(rt.alloc(), 2)?;
-    apply(&mut tableau, Gate::SDag, 0)?;
-    apply(&mut tableau, Gate::SDag, 1)?;
-    assert!(rt; has_reduced(&mut tableau, rt.alloc(), &["-XX", "+ZZ"])?);
-    Ok(())
-}
-
-// Whether row k is the Pauli that a text such as `+XX` puts on qubit 0 and the last.
-fn is_row(alloc: Global, rows: &[Pauli], k: usize, text: &str) -> Result<bool, Fail> {
-    let Some(row) = rows.get(k) else {
-        return Ok(false);
-    };
-    let wanted = spread(alloc, row.len(), text)?;
-    let mut same = row.is_negative() == wanted.is_negative();
-    for qubit in 0..row.len() {
-        same &= qubit < wanted.len() && row.letter(qubit) == wanted.letter(qubit);
+    for &(n, calls, texts) in ROWS {
+        assert!(rt; hold(rt.alloc(), n, calls, &[Rows(texts)])?, "{calls:?}");
     }
-    Ok(same)
+    Ok(())
 }
 
+// A state of n qubits: all in X together, but for a phase flip on the first and a flip of the second.
+fn together(alloc: Global, n: usize) -> Result<Tableau, Fail> {
+    let mut tableau = zeros(alloc, n)?;
+    if 1 < tableau.len() {
+        tableau.apply(Gate::H, 0);
+    }
+    for qubit in 1..n {
+        if qubit < tableau.len() {
+            tableau.apply_pair(PairGate::Cx, 0, qubit);
+        }
+    }
+    if 1 < tableau.len() {
+        tableau.apply(Gate::Z, 0);
+        tableau.apply(Gate::X, 1);
+    }
+    Ok(tableau)
+}
+
+// Whether row k is the one that such a state has: first -XX..X, and then Z on qubit k - 1 and on the
+// last one, with the sign - for the flipped qubit alone.
+fn is_row(row: &Pauli, k: usize) -> bool {
+    let last = row.len().saturating_sub(1);
+    let mut same = row.is_negative() == (k == 0 || k == 2);
+    for qubit in 0..row.len() {
+        let letter = if k == 0 {
+            Letter::X
+        } else if qubit + 1 == k || qubit == last {
+            Letter::Z
+        } else {
+            Letter::I
+        };
+        same &= row.letter(qubit) == letter;
+    }
+    same
+}
+
+// How many reduced rows such a state has, and how many of them are as they must be.
+fn rows_of(alloc: Global, n: usize) -> Result<(usize, usize), Fail> {
+    let mut tableau = together(alloc, n)?;
+    let rows = tableau.reduced_rows(alloc)?;
+    let mut right: usize = 0;
+    for (k, row) in rows.iter().enumerate() {
+        if row.len() == n && is_row(row, k) {
+            right = right.saturating_add(1);
+        }
+    }
+    Ok((rows.len(), right))
+}
+
+// The leads are the place of X on the first qubit, and those of Z on all qubits but the last.
 #[test]
-fn reduced_rows_cross_words(rt: HostRuntime) -> Result<(), Fail> {
-    for n in [65, 257] {
-        let mut tableau = bell(rt.alloc(), n)?;
-        let rows = tableau.reduced_rows(rt.alloc())?;
-        assert_eq!(rt; rows.len(), n);
-        assert!(rt; is_row(rt.alloc(), rows.as_slice(), 0, "+XX")?);
-        assert!(rt; is_row(rt.alloc(), rows.as_slice(), 1, "+ZZ")?);
+fn reduced_rows_cross_words_up_to_1024_qubits(rt: HostRuntime) -> Result<(), Fail> {
+    for n in [3, 64, 65, 257, 1024] {
+        assert_eq!(rt; rows_of(rt.alloc(), n)?, (n, n));
     }
     Ok(())
 }
