@@ -2,7 +2,6 @@
 use crate::runs::{job_of, words_of};
 use stab_cli::{KeepsLog, LoggedInput, run_job_watched};
 use stab_pauli::{MemoryInput, MemoryOutput};
-use std::process::Abort;
 use std::test::Fail;
 
 /// Lines of 13, 13 and 18 bytes, whose replies have 3, 3 and 2.
@@ -13,9 +12,7 @@ const SCRIPT: &[u8] = b"insert 0 X 0\ninsert 1 M 0\nshow measurements\n";
 const READS: [(usize, usize); 5] = [(13, 0), (13, 3), (13, 6), (5, 6), (0, 8)];
 
 #[test]
-fn each_reply_stands_before_more_of_the_script_is_asked_for(
-    rt: &(impl Abort + AllocGlobal),
-) -> Result<(), Fail> {
+fn each_reply_stands_before_more_of_the_script_is_asked_for(rt: HostRuntime) -> Result<(), Fail> {
     let alloc = rt.alloc();
     let words = words_of(alloc, "stabsim edit --qubits 1")?;
     let job = job_of(alloc, words.as_slice())?;
@@ -36,7 +33,9 @@ fn each_reply_stands_before_more_of_the_script_is_asked_for(
             reads.push((read.given().len(), read.written()))?;
         }
     }
-    let in_turn = status == 0 && out.bytes() == b"ok\nok\n1\n".as_slice() && reads.as_slice() == READS.as_slice();
+    let in_turn = status == 0
+        && out.bytes() == b"ok\nok\n1\n".as_slice()
+        && reads.as_slice() == READS.as_slice();
     assert!(rt; in_turn, "status {status}, reads {reads:?}");
     Ok(())
 }
