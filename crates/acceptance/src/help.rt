@@ -34,22 +34,6 @@ const LAST: [(&str, &str); 5] = [
     ("Example", "at the top of the repository:"),
 ];
 
-/// Asserts that these words give help which shows each of these parts.
-fn assert_shows(
-    rt: &(impl Abort + AllocGlobal),
-    words: &[&str],
-    parts: &[&str],
-) -> Result<(), Fail> {
-    let text = help_of(parse_words(rt.alloc(), words)).ok_or(words)?;
-    for part in parts {
-        assert!(rt;
-            text.as_str().contains(*part),
-            "{words:?} shows no {part:?}"
-        );
-    }
-    Ok(())
-}
-
 /// Asserts that the help of these words ends with an example and with where to read on.
 fn assert_ends(rt: &(impl Abort + AllocGlobal), words: &[&str]) -> Result<(), Fail> {
     let text = help_of(parse_words(rt.alloc(), words)).ok_or(words)?;
@@ -85,40 +69,15 @@ fn the_example_of_help_is_a_job(rt: HostRuntime) -> Result<(), Fail> {
 }
 
 #[test]
-fn help_names_each_option(rt: HostRuntime) -> Result<(), Fail> {
-    let options = [
-        "--shots ",
-        "--out_format ",
-        "--seed ",
-        "--coins ",
-        "--in ",
-        "--out ",
-        "01, b8, r8, hits, dets",
-    ];
-    assert_shows(&rt, &["stabsim", "sample", "--help"], &options)?;
-    assert_shows(&rt, &["stabsim", "detect", "--help"], &options)
-}
-
-#[test]
-fn detect_alone_appends_observables(rt: HostRuntime) -> Result<(), Fail> {
-    for (command, appends) in [("sample", false), ("detect", true)] {
-        let words = ["stabsim", command, "--help"];
-        let text = help_of(parse_words(rt.alloc(), &words)).ok_or(command)?;
-        assert_eq!(rt;
-            text.as_str().contains("--append_observables"),
-            appends,
-            "{command}"
-        );
-    }
-    Ok(())
-}
-
-#[test]
-fn the_version_names_the_logic_that_proved_it(rt: HostRuntime) -> Result<(), Fail> {
-    let told = "stabsim 0.1.0\nproved with rattle-kit-13b logic dac8208d650f15bf\n";
-    for word in ["--version", "-V"] {
-        let text = help_of(parse_words(rt.alloc(), &["stabsim", word])).ok_or(word)?;
-        assert_eq!(rt; text.as_str(), told, "{word}");
+fn help_names_no_option_of_another_command(rt: HostRuntime) -> Result<(), Fail> {
+    for (command, option) in [
+        ("sample", "--append_observables"),
+        ("stabilisers", "--shots"),
+    ] {
+        for words in [["stabsim", command, "--help"], ["stabsim", "help", command]] {
+            let text = help_of(parse_words(rt.alloc(), &words)).ok_or(command)?;
+            assert!(rt; !text.as_str().contains(option), "{words:?}");
+        }
     }
     Ok(())
 }

@@ -1,42 +1,8 @@
-//! Texts and scripts that are cut, overlong or without end.
-use crate::runs::{CODE, Ended, run_program, run_scripted};
-use stab_pauli::{EndlessInput, MemoryInput};
+//! Texts and scripts that are cut, overlong, without end, or break off.
+use crate::runs::{CODE, run_over, run_program};
+use stab_pauli::{CutInput, EndlessInput, MemoryInput};
 use std::alloc::Global;
-use std::process::Abort;
 use std::test::Fail;
-
-/// Asserts what a run wrote, told of a fault, and answered.
-fn assert_ended(
-    rt: &(impl Abort + AllocGlobal),
-    run: &Ended,
-    written: &str,
-    told: &str,
-    status: u8,
-) -> Result<(), Fail> {
-    let ended = run.is(status, written.as_bytes(), told.as_bytes());
-    assert!(rt; ended, "{run:?}");
-    Ok(())
-}
-
-/// Asserts the replies to a script for the empty circuit on one qubit.
-fn assert_replies(
-    rt: &(impl Abort + AllocGlobal),
-    script: &[u8],
-    replies: &str,
-    status: u8,
-) -> Result<(), Fail> {
-    let words = "stabsim edit --qubits 1";
-    let run = run_scripted(rt.alloc(), words, b"", &mut MemoryInput::new(script))?;
-    assert_ended(rt, &run, replies, "", status)
-}
-
-/// A line of so many bytes: these, and then one byte again and again.
-fn filled(alloc: Global, front: &[u8], byte: u8, len: usize) -> Result<Vec<u8>, Fail> {
-    let mut line = Vec::new(alloc);
-    line.extend_from_slice(front)?;
-    line.resize(len, byte)?;
-    Ok(line)
-}
 
 // How a code's circuit ends that is cut off after from so many bytes up to so many.
 const CUTS: &[(usize, usize, &str)] = &[
@@ -168,43 +134,95 @@ fn a_circuit_that_is_cut_is_read_or_refused(rt: HostRuntime) -> Result<(), Fail>
     Ok(())
 }
 
+/// A script: a front, a byte again and again until it has so many, and an end.
+fn filled(alloc: Global, front: &[u8], byte: u8, len: usize, end: &[u8]) -> Result<Vec<u8>, Fail> {
+    let mut script = Vec::new(alloc);
+    script.extend_from_slice(front)?;
+    script.resize(len, byte)?;
+    script.extend_from_slice(end)?;
+    Ok(script)
+}
+
+// How scripts for the empty circuit on one qubit begin, the byte that fills them up to a length, how they
+// end, and the one reply.
+const LONG_LINES: [(&str, u8, usize, &str, &str); 3] = [
+    ("delete 0", b' ', 65_536, "", "refused 12 PlaceOutOfRange\n"),
+    ("delete 0", b' ', 65_537, "", "refused 14 TooLong\n"),
+    (
+        "insert 0 REPEAT 2 {\n",
+        b'X',
+        65_557,
+        "\n}\nshow circuit\n",
+        "refused 14 TooLong\n",
+    ),
+];
+
 #[test]
 fn a_script_line_has_at_most_65536_bytes(rt: HostRuntime) -> Result<(), Fail> {
-    let longest = filled(rt.alloc(), b"delete 0", b' ', 65_536)?;
-    assert_replies(&rt, longest.as_slice(), "refused 12 PlaceOutOfRange\n", 3)?;
-    let longer = filled(rt.alloc(), b"delete 0", b' ', 65_537)?;
-    assert_replies(&rt, longer.as_slice(), "refused 14 TooLong\n", 3)
+    for (front, byte, len, end, reply) in LONG_LINES {
+        let script = filled(rt.alloc(), front.as_bytes(), byte, len, end.as_bytes())?;
+        let run = run_over(
+            rt.alloc(),
+            "stabsim edit --qubits 1",
+            &mut MemoryInput::new(&[]),
+            &mut MemoryInput::new(script.as_slice()),
+            99,
+        )?;
+        let replied = run.is(3, reply.as_bytes(), b"");
+        assert!(rt; replied, "{front:?} with {len}: {run:?}");
+    }
+    Ok(())
 }
 
 #[test]
-fn an_overlong_line_spoils_the_item_that_it_is_in(rt: HostRuntime) -> Result<(), Fail> {
-    let mut script = filled(rt.alloc(), b"insert 0 REPEAT 2 {\n", b'X', 65_557)?;
-    script.extend_from_slice(b"\n}\nshow circuit\n")?;
-    assert_replies(&rt, script.as_slice(), "refused 14 TooLong\n", 3)
+fn a_circuit_without_end_is_too_long(rt: HostRuntime) -> Result<(), Fail> {
+    for (line, byte) in [
+        ("stabsim sample --shots 2", b'#'),
+        ("stabsim sample --shots 2", b'\n'),
+        ("stabsim detect --append_observables --shots 2", b'#'),
+        ("stabsim detect --append_observables --shots 2", b'}'),
+        ("stabsim stabilisers", b'#'),
+    ] {
+        let mut circuit = EndlessInput::new(byte);
+        let mut script = MemoryInput::new(&[]);
+        let run = run_over(rt.alloc(), line, &mut circuit, &mut script, 9)?;
+        let refused = run.is(1, b"", b"stabsim: refused 14 TooLong\n");
+        assert!(rt; refused, "{line}, byte {byte}: {run:?}");
+    }
+    Ok(())
 }
 
 #[test]
 fn a_script_without_end_is_too_long(rt: HostRuntime) -> Result<(), Fail> {
-    let mut endless = EndlessInput::new(b' ');
-    let run = run_scripted(rt.alloc(), "stabsim edit", b"", &mut endless)?;
-    assert_ended(&rt, &run, "", "stabsim: refused 14 TooLong\n", 1)
+    let mut circuit = MemoryInput::new(&[]);
+    let mut script = EndlessInput::new(b' ');
+    let run = run_over(rt.alloc(), "stabsim edit", &mut circuit, &mut script, 9)?;
+    let refused = run.is(1, b"", b"stabsim: refused 14 TooLong\n");
+    assert!(rt; refused, "{run:?}");
+    Ok(())
 }
 
+// At which read a script of three lines fails, which comes a byte at a time, and the replies until then.
+const BROKEN: [(u64, &str); 7] = [
+    (1, ""),
+    (18, ""),
+    (19, "1\n"),
+    (31, "1\n"),
+    (32, "1\nok\n"),
+    (49, "1\nok\n"),
+    (50, "1\nok\n0\n"),
+];
+
 #[test]
-fn an_edit_nests_blocks_16_deep(rt: HostRuntime) -> Result<(), Fail> {
-    let opened = "REPEAT 1 {\n".repeat(rt.alloc(), 16)?;
-    let closed = "}\n".repeat(rt.alloc(), 16)?;
-    let circuit = format!(in rt.alloc(); "{opened}{closed}")?;
-    let path = "0/".repeat(rt.alloc(), 16)?;
-    let script = format!(in rt.alloc();
-        "insert {path}0 X 0\ninsert {path}0 REPEAT 1 {{\n}}\ndelete {path}0/0\n"
-    )?;
-    let run = run_scripted(
-        rt.alloc(),
-        "stabsim edit --qubits 1",
-        circuit.as_bytes(),
-        &mut MemoryInput::new(script.as_bytes()),
-    )?;
-    let replies = "ok\nrefused 10 TooDeep\nrefused 13 BadCommand\n";
-    assert_ended(&rt, &run, replies, "", 3)
+fn a_script_that_breaks_off_has_the_replies_to_whole_lines(rt: HostRuntime) -> Result<(), Fail> {
+    let lines = b"show measurements\ninsert 1 H 0\nshow measurements\n";
+    for (fail_at, replies) in BROKEN {
+        let mut circuit = MemoryInput::new(b"H 0\nM 0");
+        let mut script = CutInput::new(lines, 1, fail_at);
+        let line = "stabsim edit --coins 1";
+        let run = run_over(rt.alloc(), line, &mut circuit, &mut script, 99)?;
+        let cut = run.is(1, replies.as_bytes(), b"stabsim: refused 15 ReadFault\n");
+        assert!(rt; cut, "at read {fail_at}: {run:?}");
+    }
+    Ok(())
 }

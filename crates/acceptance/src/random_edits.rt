@@ -1,9 +1,9 @@
-//! Random edits of random circuits: after each the session shows what one does that is opened anew
-//! on the same circuit, whatever the stride.
+//! Random edits of random circuits: after each the session shows what one does that is opened anew on
+//! the text that the test keeps by edits of its own, whatever the stride.
 ghost use Rattle.std.specs.Prelude.{◌≤◌, ◌<◌, length};
 ghost use Rattle.stab_session.specs.Limits.{most_stride};
 
-use stab_circuit::{Circuit, Path, read_circuit, read_item, write_circuit};
+use stab_circuit::{Path, read_circuit, read_item, write_circuit};
 use stab_pauli::{Fault, MemoryInput, MemoryOutput, write_all};
 use stab_session::{Edit, SeedCoins, Session};
 use std::alloc::{AllocError, Global};
@@ -19,37 +19,47 @@ const CIRCUITS: u64 = 10;
 const EDITS: usize = 20;
 
 // Lookbacks reach three records back, which the first line of each circuit gives.
-const FIRST: &str = "M 0 1 2\n";
+const FIRST: Lines = ("M 0 1 2", &[]);
 
-const ITEMS: &[&str] = &[
-    "I 0",
-    "TICK",
-    "X 0",
-    "Z 3",
-    "H 0",
-    "H 1 2",
-    "S 1 3",
-    "SQRT_X 2",
-    "CX 0 1 2 3",
-    "CZ 1 2",
-    "SWAP 0 3",
-    "M 0",
-    "M !1 2",
-    "MX 3",
-    "MR 0",
-    "MRX !2",
-    "R 1",
-    "RY 3",
-    "MPP X0*X1 !Z2*Z3",
-    "CX rec[-1] 2",
-    "CZ rec[-2] 0",
-    "DETECTOR rec[-1]",
-    "DETECTOR rec[-1] rec[-3]",
-    "OBSERVABLE_INCLUDE(0) rec[-1]",
-    "OBSERVABLE_INCLUDE(2) rec[-2]",
-    "REPEAT 3 {\nH 0\nM 0\nDETECTOR rec[-1]\n}",
-    "REPEAT 5 {\nCX 0 1\nX 1\nREPEAT 2 {\nMR 1\nOBSERVABLE_INCLUDE(1) rec[-1]\n}\n}",
-    "REPEAT 70 {\nX 3\nM 3\n}",
+/// The first line of an item and, where it is a block, the items in it.
+type Lines = (&'static str, &'static [&'static str]);
+
+const ITEMS: [Lines; 28] = [
+    ("I 0", &[]),
+    ("TICK", &[]),
+    ("X 0", &[]),
+    ("Z 3", &[]),
+    ("H 0", &[]),
+    ("H 1 2", &[]),
+    ("S 1 3", &[]),
+    ("SQRT_X 2", &[]),
+    ("CX 0 1 2 3", &[]),
+    ("CZ 1 2", &[]),
+    ("SWAP 0 3", &[]),
+    ("M 0", &[]),
+    ("M !1 2", &[]),
+    ("MX 3", &[]),
+    ("MR 0", &[]),
+    ("MRX !2", &[]),
+    ("R 1", &[]),
+    ("RY 3", &[]),
+    ("MPP X0*X1 !Z2*Z3", &[]),
+    ("CX rec[-1] 2", &[]),
+    ("CZ rec[-2] 0", &[]),
+    ("DETECTOR rec[-1]", &[]),
+    ("DETECTOR rec[-1] rec[-3]", &[]),
+    ("OBSERVABLE_INCLUDE(0) rec[-1]", &[]),
+    ("OBSERVABLE_INCLUDE(2) rec[-2]", &[]),
+    ("REPEAT 3 {", &["H 0", "M 0", "DETECTOR rec[-1]"]),
+    (
+        "REPEAT 5 {",
+        &[
+            "CX 0 1",
+            "X 1",
+            "REPEAT 2 {\nMR 1\nOBSERVABLE_INCLUDE(1) rec[-1]\n}",
+        ],
+    ),
+    ("REPEAT 70 {", &["X 3", "M 3"]),
 ];
 
 /// Numbers that look random, and are the same in each run of the tests.
@@ -73,45 +83,158 @@ impl Numbers {
         (self.state >> 33) as usize % bound
     }
 
-    /// One of the items.
-    fn item(&mut self) -> &'static str {
-        match ITEMS.get(self.below(28)) {
-            Some(text) => text,
-            None => "TICK",
-        }
+    /// The lines of one of the items.
+    fn item(&mut self) -> Lines {
+        ITEMS[self.below(28)]
     }
 }
 
-/// The text of a random circuit.
-fn random_text(alloc: Global, numbers: &mut Numbers) -> Result<String, AllocError> {
+/// An item as the test keeps it.
+#[derive(Drop)]
+struct Kept {
+    head: &'static str,
+    body: Vec<String>,
+}
+
+impl Kept {
+    fn new(alloc: Global, lines: Lines) -> Result<Kept, AllocError> {
+        let mut body = Vec::new(alloc);
+        for item in lines.1 {
+            body.push(String::from_str(alloc, item)?)?;
+        }
+        Ok(Kept {
+            head: lines.0,
+            body,
+        })
+    }
+
+    fn is_block(&self) -> bool {
+        self.head.ends_with('{')
+    }
+
+    /// Puts its text behind another.
+    fn push_to(&self, text: &mut String) -> Result<(), AllocError> {
+        text.push_str(self.head)?;
+        for item in &self.body {
+            text.push('\n')?;
+            text.push_str(item.as_str())?;
+        }
+        text.push_str(if self.is_block() { "\n}\n" } else { "\n" })
+    }
+}
+
+/// The text of an item, without a line end behind it.
+fn item_text(alloc: Global, lines: Lines) -> Result<String, AllocError> {
     let mut text = String::new(alloc);
-    text.push_str(FIRST)?;
-    for _ in 0..12 {
-        text.push_str(numbers.item())?;
-        text.push('\n')?;
+    Kept::new(alloc, lines)?.push_to(&mut text)?;
+    text.pop();
+    Ok(text)
+}
+
+/// The text of a circuit.
+fn circuit_text(alloc: Global, items: &[Kept]) -> Result<String, AllocError> {
+    let mut text = String::new(alloc);
+    for item in items {
+        item.push_to(&mut text)?;
     }
     Ok(text)
 }
 
-/// A random place in a list of so many items, or in one of its blocks.
-fn random_place(numbers: &mut Numbers, items: usize) -> Path {
+/// The items of a random circuit.
+fn random_items(alloc: Global, numbers: &mut Numbers) -> Result<Vec<Kept>, AllocError> {
+    let mut items = Vec::new(alloc);
+    items.push(Kept::new(alloc, FIRST)?)?;
+    for _ in 0..12 {
+        items.push(Kept::new(alloc, numbers.item())?)?;
+    }
+    Ok(items)
+}
+
+#[derive(Clone, Copy)]
+enum Kind {
+    Insert,
+    Replace,
+    Delete,
+}
+
+/// What is done at a place of a circuit, or within the block at that place, with these lines.
+#[derive(Clone, Copy)]
+struct Change {
+    kind: Kind,
+    place: usize,
+    within: Option<usize>,
+    lines: Lines,
+}
+
+/// A random change of so many items.
+fn random_change(numbers: &mut Numbers, items: usize) -> Change {
     let place = numbers.below(items.saturating_add(1).max(1));
-    if numbers.below(3) == 0 {
-        Path::new(&[place, numbers.below(4)])
+    let within = if numbers.below(3) == 0 {
+        Some(numbers.below(4))
     } else {
-        Path::new(&[place])
+        None
+    };
+    let kind = match numbers.below(3) {
+        0 => Kind::Insert,
+        1 => Kind::Replace,
+        _ => Kind::Delete,
+    };
+    Change {
+        kind,
+        place,
+        within,
+        lines: numbers.item(),
     }
 }
 
-/// A random edit of so many items.
-fn random_edit(alloc: Global, numbers: &mut Numbers, items: usize) -> Result<Edit, Fault> {
-    let place = random_place(numbers, items);
-    let item = read_item(alloc, numbers.item().as_bytes())?;
-    Ok(match numbers.below(3) {
-        0 => Edit::Insert { place, item },
-        1 => Edit::Replace { place, item },
-        _ => Edit::Delete { place },
+/// The edit that asks a session for a change.
+fn edit_of(alloc: Global, change: Change) -> Result<Edit, Fault> {
+    let place = match change.within {
+        Some(within) => Path::new(&[change.place, within]),
+        None => Path::new(&[change.place]),
+    };
+    let text = item_text(alloc, change.lines)?;
+    let item = read_item(alloc, text.as_str().as_bytes())?;
+    Ok(match change.kind {
+        Kind::Insert => Edit::Insert { place, item },
+        Kind::Replace => Edit::Replace { place, item },
+        Kind::Delete => Edit::Delete { place },
     })
+}
+
+/// Makes a change in the items that the test keeps, and says whether there is such a place.
+fn change_kept(alloc: Global, items: &mut Vec<Kept>, change: Change) -> Result<bool, AllocError> {
+    match change.within {
+        None => {
+            let item = Kept::new(alloc, change.lines)?;
+            change_list(items, change.kind, change.place, item)
+        }
+        Some(within) => match items.get_mut(change.place) {
+            Some(block) if block.is_block() => {
+                let text = item_text(alloc, change.lines)?;
+                change_list(&mut block.body, change.kind, within, text)
+            }
+            _ => Ok(false),
+        },
+    }
+}
+
+/// Makes a change in a list, and says whether it has such a place.
+fn change_list<T: Drop>(
+    list: &mut Vec<T>,
+    kind: Kind,
+    place: usize,
+    item: T,
+) -> Result<bool, AllocError> {
+    match kind {
+        Kind::Insert if place <= list.len() => list.insert(place, item)?,
+        Kind::Replace if place < list.len() => list[place] = item,
+        Kind::Delete if place < list.len() => {
+            list.remove(place);
+        }
+        _ => return Ok(false),
+    }
+    Ok(true)
 }
 
 /// A session on the circuit that a text stands for.
@@ -132,13 +255,6 @@ fn write_bits(out: &mut MemoryOutput, bits: &[bool]) -> Result<(), Fail> {
         write_all(out, if *bit { b"1" } else { b"0" })?;
     }
     Ok(write_all(out, b"\n")?)
-}
-
-/// The text of a circuit.
-fn printed(alloc: Global, circuit: &Circuit) -> Result<MemoryOutput, Fail> {
-    let mut out = MemoryOutput::new(alloc, 16_384)?;
-    write_circuit(&mut out, circuit)?;
-    Ok(out)
 }
 
 /// Writes all that a session shows: its lists, its reduced rows and its circuit.
@@ -165,17 +281,13 @@ fn write_rows(
     Ok(())
 }
 
-/// What a session shows that is opened anew on the circuit of another.
-fn shown_anew(
-    alloc: Global,
-    session: &Session<SeedCoins>,
-    stride: usize,
-) -> Result<MemoryOutput, Fail>
+/// What a session shows that is opened anew on the items that the test keeps.
+fn shown_anew(alloc: Global, items: &[Kept], stride: usize) -> Result<MemoryOutput, Fail>
     requires stride_above { 1 ≤ stride }
     requires stride_within { stride ≤ most_stride }
 {
-    let text = printed(alloc, session.circuit())?;
-    let mut anew = opened(alloc, text.bytes(), stride)?;
+    let text = circuit_text(alloc, items)?;
+    let mut anew = opened(alloc, text.as_str().as_bytes(), stride)?;
     shown(alloc, &mut anew)
 }
 
@@ -184,8 +296,24 @@ fn makes(session: &mut Session<SeedCoins>, edit: Edit) -> bool {
     session.apply(edit).is_ok()
 }
 
-/// Asserts of the edits of one circuit that after each the session shows what one opened anew does,
-/// and gives how many were made.
+/// Makes a change in a session and, where it is made there, in the items that the test keeps. It says
+/// whether it was made.
+fn change_both(
+    rt: &(impl Abort + AllocGlobal),
+    session: &mut Session<SeedCoins>,
+    items: &mut Vec<Kept>,
+    change: Change,
+) -> Result<bool, Fail> {
+    let made = makes(session, edit_of(rt.alloc(), change)?);
+    if made {
+        let kept = change_kept(rt.alloc(), items, change)?;
+        assert!(rt; kept, "an edit is made where there is no place");
+    }
+    Ok(made)
+}
+
+/// Asserts of the edits of one circuit that after each the session shows what one does that is opened
+/// anew on the items that the test keeps, and gives how many were made.
 fn assert_edits(
     rt: &(impl Abort + AllocGlobal),
     numbers: &mut Numbers,
@@ -194,15 +322,16 @@ fn assert_edits(
     requires stride_above { 1 ≤ stride }
     requires stride_within { stride ≤ most_stride }
 {
-    let text = random_text(rt.alloc(), numbers)?;
-    let mut session = opened(rt.alloc(), text.as_bytes(), stride)?;
+    let mut items = random_items(rt.alloc(), numbers)?;
+    let text = circuit_text(rt.alloc(), items.as_slice())?;
+    let mut session = opened(rt.alloc(), text.as_str().as_bytes(), stride)?;
     let mut made: usize = 0;
     for number in 0..EDITS {
-        let items = session.circuit().items().len();
-        let edit = random_edit(rt.alloc(), numbers, items)?;
-        made = made.saturating_add(usize::from(makes(&mut session, edit)));
+        let change = random_change(numbers, items.len());
+        let changed = change_both(rt, &mut session, &mut items, change)?;
+        made = made.saturating_add(usize::from(changed));
         let shown = shown(rt.alloc(), &mut session)?;
-        let anew = shown_anew(rt.alloc(), &session, stride)?;
+        let anew = shown_anew(rt.alloc(), items.as_slice(), stride)?;
         assert!(rt;
             shown.bytes() == anew.bytes(),
             "stride {stride}, edit {number} of {text}"

@@ -1,9 +1,8 @@
 //! Runs of the program over devices in memory.
-use stab_cli::{Job, Source, parse_words, run_job};
+use stab_cli::{Job, parse_words, run_job};
 use stab_pauli::{Input, MemoryInput, MemoryOutput};
 use std::alloc::{AllocError, Global};
 use std::fmt::{self, Debug, Formatter, Write};
-use std::process::Abort;
 use std::test::Fail;
 
 /// A repetition code of distance 3 over three rounds, as Stim prints it.
@@ -84,109 +83,30 @@ pub(crate) fn job_of(alloc: Global, words: &[&str]) -> Result<Job, Fail> {
     }
 }
 
-/// Whether a job takes its coins from this seed.
-pub(crate) fn is_from(job: &Job, seed: u64) -> bool {
-    match &job.source {
-        Source::Seed(own) => *own == seed,
-        Source::List(_) => false,
-    }
+/// Runs the program with the words of this line over this circuit.
+pub(crate) fn run_program(alloc: Global, line: &str, circuit: &[u8]) -> Result<Ended, Fail> {
+    run_over(
+        alloc,
+        line,
+        &mut MemoryInput::new(circuit),
+        &mut MemoryInput::new(&[]),
+        8192,
+    )
 }
 
-/// The paths of a job's input and output.
-pub(crate) fn paths_of(job: &Job) -> (Option<&str>, Option<&str>) {
-    (text_of(&job.in_path), text_of(&job.out_path))
-}
-
-fn text_of(path: &Option<String>) -> Option<&str> {
-    match path {
-        Some(path) => Some(path.as_str()),
-        None => None,
-    }
-}
-
-/// Runs the program with the words of this line over this input.
-pub(crate) fn run_program(alloc: Global, line: &str, input: &[u8]) -> Result<Ended, Fail> {
-    run_scripted(alloc, line, input, &mut MemoryInput::new(&[]))
-}
-
-/// Runs the program with the words of this line over this input and this script.
-pub(crate) fn run_scripted<S: Input>(
+/// Runs the program with the words of this line over this circuit, this script and an output that takes
+/// so many bytes.
+pub(crate) fn run_over<C: Input, S: Input>(
     alloc: Global,
     line: &str,
-    input: &[u8],
+    circuit: &mut C,
     script: &mut S,
+    room: usize,
 ) -> Result<Ended, Fail> {
     let words = words_of(alloc, line)?;
     let job = job_of(alloc, words.as_slice())?;
-    let mut out = MemoryOutput::new(alloc, 8192)?;
-    let mut err = MemoryOutput::new(alloc, 8192)?;
-    let status = run_job(
-        alloc,
-        &job,
-        &mut MemoryInput::new(input),
-        script,
-        &mut out,
-        &mut err,
-    );
+    let mut out = MemoryOutput::new(alloc, room)?;
+    let mut err = MemoryOutput::new(alloc, 99)?;
+    let status = run_job(alloc, &job, circuit, script, &mut out, &mut err);
     Ok(Ended { out, err, status })
-}
-
-/// Asserts that a run over this text writes these bytes and tells no fault.
-pub(crate) fn assert_writes(
-    rt: &(impl Abort + AllocGlobal),
-    line: &str,
-    text: &str,
-    bytes: &[u8],
-) -> Result<(), Fail> {
-    let run = run_program(rt.alloc(), line, text.as_bytes())?;
-    let ended = run.is(0, bytes, b"");
-    assert!(rt; ended, "{line:?} on {text:?} has {run:?}");
-    Ok(())
-}
-
-/// Asserts that runs over these texts write what stands beside them.
-pub(crate) fn assert_each_writes(
-    rt: &(impl Abort + AllocGlobal),
-    line: &str,
-    rows: &[(&str, &str)],
-) -> Result<(), Fail> {
-    for (text, written) in rows {
-        assert_writes(rt, line, text, written.as_bytes())?;
-    }
-    Ok(())
-}
-
-/// Asserts that runs with these lines, each over the text beside it, write the text behind that.
-pub(crate) fn assert_all_write(
-    rt: &(impl Abort + AllocGlobal),
-    rows: &[(&str, &str, &str)],
-) -> Result<(), Fail> {
-    for (line, text, written) in rows {
-        assert_writes(rt, line, text, written.as_bytes())?;
-    }
-    Ok(())
-}
-
-/// The same where what is written is bytes.
-pub(crate) fn assert_all_write_bytes(
-    rt: &(impl Abort + AllocGlobal),
-    rows: &[(&str, &str, &[u8])],
-) -> Result<(), Fail> {
-    for (line, text, written) in rows {
-        assert_writes(rt, line, text, written)?;
-    }
-    Ok(())
-}
-
-/// Asserts that a run over this text tells this fault and writes nothing.
-pub(crate) fn assert_refuses(
-    rt: &(impl Abort + AllocGlobal),
-    line: &str,
-    text: &str,
-    fault: &str,
-) -> Result<(), Fail> {
-    let run = run_program(rt.alloc(), line, text.as_bytes())?;
-    let refused = run.is(1, b"", fault.as_bytes());
-    assert!(rt; refused, "{line:?} on {text:?} has {run:?}");
-    Ok(())
 }

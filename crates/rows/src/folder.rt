@@ -1,14 +1,16 @@
 //! The files of a folder, and the sums of their rows.
+ghost use Rattle.std.specs.Prelude.{◌≡◌, ◌<◌, IsTrue};
+
 use crate::format::{Unread, Wrong, read_rows};
 use crate::row::Row;
-use crate::run::first_difference;
+use crate::trial::first_difference;
 use std::fmt::{self, Display, Formatter, Write};
 use std::fs::DirEntry;
 use std::{fs, io};
 
 /// What became of the files of a folder and of their rows.
 #[derive(Clone, Copy)]
-pub struct Sums {
+pub(crate) struct Sums {
     files: usize,
     rows: usize,
     failed: usize,
@@ -16,7 +18,10 @@ pub struct Sums {
 
 impl Sums {
     /// Whether there were rows, and nothing failed.
-    pub fn is_good(self) -> bool {
+    pub(crate) fn is_good(self) -> bool
+        ensures ran { IsTrue result → 0 < self.rows }
+        ensures passed { IsTrue result → self.failed ≡ 0 }
+    {
         self.rows > 0 && self.failed == 0
     }
 
@@ -37,7 +42,7 @@ impl Display for Sums {
 }
 
 /// Runs the rows of each file of a folder whose name ends in `.rows`, and tells of those that fail.
-pub fn run_folder(rt: &HostRuntime, folder: &str) -> io::Result<Sums> {
+pub(crate) fn run_folder(rt: &HostRuntime, folder: &str) -> io::Result<Sums> {
     let mut sums = Sums {
         files: 0,
         rows: 0,
@@ -61,7 +66,10 @@ fn run_file(rt: &HostRuntime, entry: &DirEntry, sums: &mut Sums) -> io::Result<(
         Ok(rows) => run_rows(rt, name, rows.as_slice(), sums),
         Err(unread) => {
             sums.count_failure();
-            let Unread { line, wrong: Wrong(why) } = unread;
+            let Unread {
+                line,
+                wrong: Wrong(why),
+            } = unread;
             eprintln!(rt; "{name}, line {line}: {why}")
         }
     }

@@ -7,7 +7,7 @@ use std::alloc::{AllocError, AllocFailed, Global};
 
 /// Why a line is not read, or memory was refused.
 #[derive(Clone, Copy)]
-pub struct Wrong(pub &'static str);
+pub(crate) struct Wrong(pub(crate) &'static str);
 
 impl From<AllocError> for Wrong {
     fn from(_error: AllocError) -> Wrong {
@@ -23,9 +23,9 @@ impl<T: Drop> From<AllocFailed<T>> for Wrong {
 
 /// The line of a file, from 1, at which it is not rows, and why.
 #[derive(Clone, Copy)]
-pub struct Unread {
-    pub line: usize,
-    pub wrong: Wrong,
+pub(crate) struct Unread {
+    pub(crate) line: usize,
+    pub(crate) wrong: Wrong,
 }
 
 /// What an indented line belongs to.
@@ -42,7 +42,7 @@ enum Place {
 }
 
 /// The rows of a text.
-pub fn read_rows(alloc: Global, text: &str) -> Result<Vec<Row>, Unread>
+pub(crate) fn read_rows(alloc: Global, text: &str) -> Result<Vec<Row>, Unread>
     ensures with_words { IfOk result (λ rows. All (λ row. 0 < vec_len row.words) rows.items) }
 {
     let mut rows = Vec::new(alloc);
@@ -120,6 +120,7 @@ fn take_field(alloc: Global, row: &mut Row, field: &str, value: &str) -> Result<
         "tells" => row.error.parts.push(String::from_str(alloc, value)?)?,
         "bytes" => push_bytes(&mut row.output.bytes, value)?,
         "status" => row.status = status_of(value)?,
+        "devices" => row.on_failing_devices = on_failing(value)?,
         "circuit" => {
             row.circuits.push(Vec::new(alloc))?;
             return Ok(Place::Circuit);
@@ -137,6 +138,13 @@ fn status_of(digits: &str) -> Result<u8, Wrong> {
         Ok(status) => Ok(status),
         Err(_) => Err(Wrong("a status is a number up to 255")),
     }
+}
+
+fn on_failing(value: &str) -> Result<bool, Wrong> {
+    if value == "failing" {
+        return Ok(true);
+    }
+    Err(Wrong("the devices of a row are `failing`, or not told"))
 }
 
 /// Puts a line behind the text that is open.

@@ -4,14 +4,15 @@
 //! - `row`: a row, and whether bytes are what it wants.
 //! - `text`: the texts of a row, with escapes, and bytes in hexadecimal.
 //! - `format`: rows as they stand in a file.
-//! - `run`: a run of stabsim over devices in memory, and where it differs from its row.
+//! - `run`: a run of stabsim over devices in memory, and whether it is what a row wants.
+//! - `trial`: all the runs of a row, and where one differs from it.
 //! - `folder`: the files of a folder, and the sums of their rows.
 //!
 //! All is told on standard error. The status is 1 where a row failed, a file is not rows, or there
 //! was no row at all.
 //!
-//! Proved: a run with no difference has the status, the output and the error output of its row, and
-//! each row that is read is run at least once.
+//! Proved: a run that is taken for what its row wants has its status, and its bytes where the row tells
+//! them and not parts alone; each row that is read has words, so it is run.
 #![tactic(auto)]
 
 mod folder;
@@ -19,6 +20,7 @@ mod format;
 mod row;
 mod run;
 mod text;
+mod trial;
 
 use folder::{Sums, run_folder};
 use std::process::ExitCode;

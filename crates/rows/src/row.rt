@@ -5,18 +5,20 @@ use std::alloc::Global;
 use std::fmt::{self, Display, Formatter, Write};
 
 /// A worked example: what stabsim is asked, in one or several ways, and what it writes each time.
-pub struct Row {
+pub(crate) struct Row {
     /// The line of its file at which it begins, from 1.
-    pub line: usize,
-    pub name: String,
+    pub(crate) line: usize,
+    pub(crate) name: String,
     /// The words of each command line, without the program's name.
-    pub words: Vec<String>,
+    pub(crate) words: Vec<String>,
     /// The circuits, each of which has the same outcome; with none, it is the empty circuit.
-    pub circuits: Vec<Vec<u8>>,
-    pub script: Vec<u8>,
-    pub output: Wanted,
-    pub error: Wanted,
-    pub status: u8,
+    pub(crate) circuits: Vec<Vec<u8>>,
+    pub(crate) script: Vec<u8>,
+    pub(crate) output: Wanted,
+    pub(crate) error: Wanted,
+    pub(crate) status: u8,
+    /// Whether it is run over devices that fail, too.
+    pub(crate) on_failing_devices: bool,
 }
 
 // Written out, so that to a proof a row that is let go is one call, and not one for each of its parts.
@@ -31,13 +33,14 @@ impl Drop for Row {
             output: _,
             error: _,
             status: _,
+            on_failing_devices: _,
         } = self;
     }
 }
 
 impl Row {
     /// A row that begins at this line, on which nothing else is said yet.
-    pub fn new(alloc: Global, line: usize, name: String) -> Row {
+    pub(crate) fn new(alloc: Global, line: usize, name: String) -> Row {
         Row {
             line,
             name,
@@ -47,20 +50,21 @@ impl Row {
             output: Wanted::new(alloc),
             error: Wanted::new(alloc),
             status: 0,
+            on_failing_devices: false,
         }
     }
 }
 
 /// What an output must have: exactly these bytes, or only these texts somewhere in it.
 #[derive(Drop)]
-pub struct Wanted {
-    pub bytes: Vec<u8>,
-    pub parts: Vec<String>,
+pub(crate) struct Wanted {
+    pub(crate) bytes: Vec<u8>,
+    pub(crate) parts: Vec<String>,
 }
 
 impl Wanted {
     /// Nothing.
-    pub fn new(alloc: Global) -> Wanted {
+    pub(crate) fn new(alloc: Global) -> Wanted {
         Wanted {
             bytes: Vec::new(alloc),
             parts: Vec::new(alloc),
@@ -68,7 +72,7 @@ impl Wanted {
     }
 
     /// Whether an output has what is wanted. The bytes may differ only where parts are told alone.
-    pub fn is_met(&self, found: &[u8]) -> bool
+    pub(crate) fn is_met(&self, found: &[u8]) -> bool
         ensures same { IsTrue result → vec_len self.now.parts ≡ 0 → found.now ≡ self.now.bytes.items }
     {
         self.has_bytes(found) && self.has_parts(found)

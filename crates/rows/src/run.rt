@@ -1,21 +1,63 @@
 //! Runs of stabsim over devices in memory.
 ghost use Rattle.std.specs.Prelude.{◌≡◌, vec_len, IsTrue};
 
-use crate::row::{Row, Wanted};
-use crate::text::Shown;
-use stab_cli::{Job, Usage, parse_words, run_job, write_usage};
-use stab_pauli::{MemoryInput, MemoryOutput};
+use crate::row::Row;
+use stab_cli::{Job, Usage, run_job, write_usage};
+use stab_pauli::{CutInput, MemoryOutput};
 use std::alloc::{AllocError, Global};
 use std::fmt::{self, Display, Formatter, Write};
 
-/// The room of each output, in bytes: more than any row writes.
-const ROOM: usize = 65_536;
+/// The devices of a run.
+#[derive(Clone, Copy)]
+pub(crate) struct Devices {
+    /// How many bytes a read of the circuit gives at most.
+    pub(crate) piece: usize,
+    /// From which read on the circuit fails, from 1; 0 is for never.
+    pub(crate) circuit_fails: u64,
+    /// From which read on the script fails.
+    pub(crate) script_fails: u64,
+    /// How many bytes standard output takes before it fails.
+    pub(crate) room: usize,
+    /// How many bytes standard error takes.
+    pub(crate) error_room: usize,
+    /// Whether both fail to flush.
+    pub(crate) flush_fails: bool,
+}
+
+impl Devices {
+    /// Devices that never fail, with more room than any row needs.
+    pub(crate) const GOOD: Devices = Devices {
+        piece: 65_536,
+        circuit_fails: 0,
+        script_fails: 0,
+        room: 65_536,
+        error_room: 65_536,
+        flush_fails: false,
+    };
+}
+
+impl Display for Devices {
+    fn fmt<W: Write>(&self, f: &mut Formatter<W>) -> fmt::Result {
+        let Devices {
+            piece,
+            circuit_fails,
+            script_fails,
+            room,
+            error_room,
+            flush_fails,
+        } = *self;
+        write!(
+            f,
+            "pieces of {piece}, failing reads {circuit_fails} and {script_fails}, room {room} and {error_room}, failing flush {flush_fails}"
+        )
+    }
+}
 
 /// What a run wrote, and its status.
-pub struct Ended {
-    out: MemoryOutput,
-    err: MemoryOutput,
-    status: u8,
+pub(crate) struct Ended {
+    pub(crate) out: MemoryOutput,
+    pub(crate) err: MemoryOutput,
+    pub(crate) status: u8,
 }
 
 // Written out, so that to a proof a value that is let go is one call, and not one for each of its parts.
@@ -31,7 +73,7 @@ impl Drop for Ended {
 
 impl Ended {
     /// Whether this is what a row wants.
-    fn meets(&self, row: &Row) -> bool
+    pub(crate) fn meets(&self, row: &Row) -> bool
         ensures status { IsTrue result → self.now.status ≡ row.now.status }
         ensures output { IsTrue result → vec_len row.now.output.parts ≡ 0 → self.now.out.written ≡ row.now.output.bytes.items }
         ensures error { IsTrue result → vec_len row.now.error.parts ≡ 0 → self.now.err.written ≡ row.now.error.bytes.items }
@@ -40,139 +82,53 @@ impl Ended {
             && row.error.is_met(self.err.bytes())
             && row.status == self.status
     }
-}
 
-/// A run that is not what its row wants.
-#[derive(Drop)]
-pub struct Difference<'a> {
-    row: &'a Row,
-    words: &'a str,
-    circuit: &'a [u8],
-    ended: Ended,
-}
+    /// Whether this is what the same run must come to over these devices, where it came to `whole` over
+    /// good ones: refusal 15 with nothing written where a read fails, 16 with as much as there is room for
+    /// where the output does, and the same status however little is told.
+    pub(crate) fn follows(&self, whole: &Ended, devices: Devices) -> bool {
+        let (out, err) = (whole.out.bytes(), whole.err.bytes());
+        let written = begin_of(out, devices.room);
+        let output_fails = devices.flush_fails || devices.room < out.len();
+        let (written, told, status): (&[u8], &[u8], u8) = if devices.circuit_fails > 0 {
+            (b"", b"stabsim: refused 15 ReadFault\n", 1)
+        } else if output_fails && err.is_empty() {
+            (written, b"stabsim: refused 16 WriteFault\n", 1)
+        } else {
+            (written, err, whole.status)
+        };
+        self.is(written, begin_of(told, devices.error_room), status)
+    }
 
-impl<'a> Display for Difference<'a> {
-    fn fmt<W: Write>(&self, f: &mut Formatter<W>) -> fmt::Result {
-        let (row, ended) = (self.row, &self.ended);
-        writeln!(f, "line {}: {}", row.line, row.name)?;
-        writeln!(f, "  words   {}", self.words)?;
-        writeln!(f, "  circuit {}", Shown(self.circuit))?;
-        if row.status != ended.status {
-            return write!(
-                f,
-                "  status, wanted and found\n    {}\n    {}",
-                row.status, ended.status
-            );
-        }
-        if row.output.is_met(ended.out.bytes()) {
-            return write_difference(f, "error", &row.error, ended.err.bytes());
-        }
-        write_difference(f, "output", &row.output, ended.out.bytes())
+    /// Whether these bytes were written, and this is the status.
+    fn is(&self, out: &[u8], err: &[u8], status: u8) -> bool
+        ensures same { IsTrue result → self.now.out.written ≡ out.now }
+    {
+        self.out.bytes() == out && self.err.bytes() == err && self.status == status
     }
 }
 
-fn write_difference<W: Write>(
-    f: &mut Formatter<W>,
-    name: &str,
-    wanted: &Wanted,
-    found: &[u8],
-) -> fmt::Result {
-    write!(
-        f,
-        "  {name}, wanted and found\n    {wanted}\n    {}",
-        Shown(found)
-    )
-}
-
-/// Runs a row until a run is not what it wants.
-///
-/// There are runs for each line of words and each circuit, or on the empty circuit where there is
-/// none: with and without the last line end of the circuit, and of the script.
-pub fn first_difference(alloc: Global, row: &Row) -> Result<Option<Difference<'_>>, AllocError> {
-    for words in &row.words {
-        if let Some(difference) = difference_with(alloc, row, words.as_str())? {
-            return Ok(Some(difference));
-        }
-    }
-    Ok(None)
-}
-
-/// The same with these words.
-fn difference_with<'a>(
-    alloc: Global,
-    row: &'a Row,
-    words: &'a str,
-) -> Result<Option<Difference<'a>>, AllocError> {
-    let all = words_of(alloc, words)?;
-    let asked = parse_words(alloc, all.as_slice());
-    if row.circuits.is_empty() {
-        return difference_on(alloc, row, words, &asked, &[]);
-    }
-    for circuit in &row.circuits {
-        let circuit = circuit.as_slice();
-        if let Some(difference) = difference_on(alloc, row, words, &asked, circuit)? {
-            return Ok(Some(difference));
-        }
-    }
-    Ok(None)
-}
-
-/// The words of a command line, the program's name first.
-fn words_of(alloc: Global, words: &str) -> Result<Vec<&str>, AllocError> {
-    let mut all = Vec::new(alloc);
-    all.push("stabsim")?;
-    all.extend(words.split_whitespace())?;
-    Ok(all)
-}
-
-/// The same with these words, and what they ask for, on this circuit.
-fn difference_on<'a>(
-    alloc: Global,
-    row: &'a Row,
-    words: &'a str,
-    asked: &Result<Job, Usage>,
-    circuit: &'a [u8],
-) -> Result<Option<Difference<'a>>, AllocError> {
-    let script = row.script.as_slice();
-    for (circuit, script) in [
-        (circuit, script),
-        (without_end(circuit), script),
-        (circuit, without_end(script)),
-        (without_end(circuit), without_end(script)),
-    ] {
-        let ended = run(alloc, asked, circuit, script)?;
-        if !ended.meets(row) {
-            return Ok(Some(Difference {
-                row,
-                words,
-                circuit,
-                ended,
-            }));
-        }
-    }
-    Ok(None)
-}
-
-/// A text without its last line end.
-fn without_end(text: &[u8]) -> &[u8] {
-    text.strip_suffix(b"\n").unwrap_or(text)
+/// At most so many bytes from the front.
+fn begin_of(bytes: &[u8], count: usize) -> &[u8] {
+    bytes.split_at(count.min(bytes.len())).0
 }
 
 /// Runs stabsim with what its words ask for, on this circuit and this script.
-fn run(
+pub(crate) fn run(
     alloc: Global,
     asked: &Result<Job, Usage>,
     circuit: &[u8],
     script: &[u8],
+    devices: Devices,
 ) -> Result<Ended, AllocError> {
-    let mut out = output(alloc)?;
-    let mut err = output(alloc)?;
+    let mut out = output(alloc, devices.room, devices.flush_fails)?;
+    let mut err = output(alloc, devices.error_room, devices.flush_fails)?;
     let status = match asked {
         Ok(job) => run_job(
             alloc,
             job,
-            &mut MemoryInput::new(circuit),
-            &mut MemoryInput::new(script),
+            &mut CutInput::new(circuit, devices.piece.max(1), devices.circuit_fails),
+            &mut CutInput::new(script, 65_536, devices.script_fails),
             &mut out,
             &mut err,
         ),
@@ -181,7 +137,11 @@ fn run(
     Ok(Ended { out, err, status })
 }
 
-/// An output in memory with room for all that a row may write.
-fn output(alloc: Global) -> Result<MemoryOutput, AllocError> {
-    MemoryOutput::new(alloc, ROOM).map_err(|_| AllocError)
+/// An output in memory with this room.
+fn output(alloc: Global, room: usize, flush_fails: bool) -> Result<MemoryOutput, AllocError> {
+    let mut output = MemoryOutput::new(alloc, room).map_err(|_| AllocError)?;
+    if flush_fails {
+        output.fail_flush();
+    }
+    Ok(output)
 }

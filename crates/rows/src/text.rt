@@ -4,7 +4,7 @@ use hex::FromHex;
 use std::fmt::{self, Display, Formatter, Write};
 
 /// Puts a line behind a text: `\` and two hexadecimal digits stand for a byte, and all else for itself.
-pub fn push_line(text: &mut Vec<u8>, line: &str) -> Result<(), Wrong> {
+pub(crate) fn push_line(text: &mut Vec<u8>, line: &str) -> Result<(), Wrong> {
     let mut pieces = line.split('\\');
     if let Some(first) = pieces.next() {
         text.extend_from_slice(first.as_bytes())?;
@@ -25,7 +25,7 @@ fn push_escaped(text: &mut Vec<u8>, piece: &[u8]) -> Result<(), Wrong> {
 }
 
 /// Puts the bytes that pairs of hexadecimal digits stand for behind others.
-pub fn push_bytes(bytes: &mut Vec<u8>, digits: &str) -> Result<(), Wrong> {
+pub(crate) fn push_bytes(bytes: &mut Vec<u8>, digits: &str) -> Result<(), Wrong> {
     for pair in digits.split_whitespace() {
         bytes.push(byte_of(pair.as_bytes())?)?;
     }
@@ -42,7 +42,7 @@ fn byte_of(digits: &[u8]) -> Result<u8, Wrong> {
 
 /// Bytes as a text of rows: those that are no printed characters of ASCII as `\` and two digits.
 #[derive(Drop)]
-pub struct Shown<'a>(pub &'a [u8]);
+pub(crate) struct Shown<'a>(pub(crate) &'a [u8]);
 
 impl<'a> Display for Shown<'a> {
     fn fmt<W: Write>(&self, f: &mut Formatter<W>) -> fmt::Result {
