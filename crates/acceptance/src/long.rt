@@ -39,7 +39,13 @@ fn a_long_circuit_is_edited_in_its_middle(rt: HostRuntime) -> Result<(), Fail> {
     push_lines(&mut circuit, b"X 0\n", 700)?;
     let (script, replies) = (script(rt.alloc())?, replies(rt.alloc())?);
     for line in ["stabsim edit", "stabsim edit --stride 64"] {
-        let run = run_edit(rt.alloc(), line, circuit.as_slice(), script.as_slice(), 8192)?;
+        let run = run_edit(
+            rt.alloc(),
+            line,
+            circuit.as_slice(),
+            script.as_slice(),
+            8192,
+        )?;
         let edited = run.is(0, replies.as_slice(), b"");
         assert!(rt; edited, "{line}");
     }
@@ -133,7 +139,13 @@ fn a_million_shots_are_written(rt: HostRuntime) -> Result<(), Fail> {
 fn there_are_as_many_rows_as_qubits(rt: HostRuntime) -> Result<(), Fail> {
     // A row has a sign, a letter for each qubit and a line end.
     let length = 1026;
-    let run = run_edit(rt.alloc(), "stabsim stabilisers", b"H 1023", &[], 1024 * length)?;
+    let run = run_edit(
+        rt.alloc(),
+        "stabsim stabilisers",
+        b"H 1023",
+        &[],
+        1024 * length,
+    )?;
     let bytes = run.out.bytes();
     // The one lead among the bits of X is that of the last qubit, and comes first.
     let reduced = bytes.starts_with(b"+_")

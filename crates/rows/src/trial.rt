@@ -19,9 +19,22 @@ pub(crate) struct Difference<'a> {
 impl<'a> Display for Difference<'a> {
     fn fmt<W: Write>(&self, f: &mut Formatter<W>) -> fmt::Result {
         let (row, ended) = (self.row, &self.ended);
-        write!(f, "line {}: {}\n  words   {}\n", row.line, row.name, self.words)?;
-        write!(f, "  circuit {}\n  devices {}\n", Shown(self.circuit), self.devices)?;
-        write!(f, "  wanted  {}, {}, {}\n", row.status, row.output, row.error)?;
+        write!(
+            f,
+            "line {}: {}\n  words   {}\n",
+            row.line, row.name, self.words
+        )?;
+        write!(
+            f,
+            "  circuit {}\n  devices {}\n",
+            Shown(self.circuit),
+            self.devices
+        )?;
+        write!(
+            f,
+            "  wanted  {}, {}, {}\n",
+            row.status, row.output, row.error
+        )?;
         let (out, err) = (Shown(ended.out.bytes()), Shown(ended.err.bytes()));
         write!(f, "  found   {}, {out}, {err}", ended.status)
     }
@@ -43,7 +56,10 @@ struct Trial<'a, 'b> {
 /// There are runs for each line of words and each circuit, or on the empty circuit where there is
 /// none: with and without the last line end of the circuit, and of the script, and where the row says
 /// so over devices that fail.
-pub(crate) fn first_difference(alloc: Global, row: &Row) -> Result<Option<Difference<'_>>, AllocError> {
+pub(crate) fn first_difference(
+    alloc: Global,
+    row: &Row,
+) -> Result<Option<Difference<'_>>, AllocError> {
     for words in &row.words {
         if let Some(difference) = difference_with(alloc, row, words.as_str())? {
             return Ok(Some(difference));

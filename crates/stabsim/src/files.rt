@@ -9,21 +9,21 @@ use std::rt::Files;
 use std::{fs, io};
 
 /// By which path the standard input is found among the files.
-pub const STANDARD_INPUT: &str = "/dev/stdin";
+pub(crate) const STANDARD_INPUT: &str = "/dev/stdin";
 
 /// A file that is written from its beginning, in the stead of what it held.
 ///
 /// It is cut at the first byte that is written to it, or at a flush, which comes behind a run without a
 /// fault. What is no regular file, such as a pipe or a terminal, is never cut.
 #[derive(Drop)]
-pub struct Replaced {
+pub(crate) struct Replaced {
     file: File,
     is_to_be_cut: bool,
 }
 
 impl Replaced {
     /// Opens a file to be written, and makes it where there is none.
-    pub fn open<R: Files<File = File>>(files: &R, path: &str) -> io::Result<Replaced> {
+    pub(crate) fn open<R: Files<File = File>>(files: &R, path: &str) -> io::Result<Replaced> {
         let file = OpenOptions::new()
             .write(true)
             .create(true)
@@ -57,7 +57,7 @@ impl Write for Replaced {
 }
 
 /// Whether two paths lead to one regular file, by links too.
-pub fn are_one_file<R: Files>(files: &R, path: &str, other: &str) -> bool {
+pub(crate) fn are_one_file<R: Files>(files: &R, path: &str, other: &str) -> bool {
     match (fs::metadata(files, path), fs::metadata(files, other)) {
         (Ok(one), Ok(two)) => is_node_of(&one, &two),
         _ => false,
