@@ -2,7 +2,7 @@
 ghost use Rattle.std.specs.Prelude.{◌<◌, vec_len, IfOk, All};
 
 use crate::row::Row;
-use crate::text::{push_bytes, push_line};
+use crate::text::{number_of, push_bytes, push_line};
 use std::alloc::{AllocError, AllocFailed, Global};
 
 /// Why a line is not read, or memory was refused.
@@ -101,13 +101,13 @@ fn take_line(
 /// Takes a line into a row.
 fn take_into(alloc: Global, row: &mut Row, place: Place, line: &str) -> Result<Place, Wrong> {
     if let Some(text) = line.strip_prefix("    ") {
-        push_text(row, place, text)?;
+        push_text(alloc, row, place, text)?;
         return Ok(place);
     }
     let (field, value) = line.split_once(' ').unwrap_or((line, ""));
     let next = take_field(alloc, row, field, value)?;
     if next != Place::Row && !value.is_empty() {
-        push_text(row, next, value)?;
+        push_text(alloc, row, next, value)?;
     }
     Ok(next)
 }
@@ -120,6 +120,7 @@ fn take_field(alloc: Global, row: &mut Row, field: &str, value: &str) -> Result<
         "tells" => row.error.parts.push(String::from_str(alloc, value)?)?,
         "bytes" => push_bytes(&mut row.output.bytes, value)?,
         "status" => row.status = status_of(value)?,
+        "room" => row.room = number_of(value)?,
         "devices" => row.on_failing_devices = on_failing(value)?,
         "circuit" => {
             row.circuits.push(Vec::new(alloc))?;
@@ -134,10 +135,7 @@ fn take_field(alloc: Global, row: &mut Row, field: &str, value: &str) -> Result<
 }
 
 fn status_of(digits: &str) -> Result<u8, Wrong> {
-    match digits.parse::<u8>() {
-        Ok(status) => Ok(status),
-        Err(_) => Err(Wrong("a status is a number up to 255")),
-    }
+    u8::try_from(number_of(digits)?).map_err(|_| Wrong("a status is at most 255"))
 }
 
 fn on_failing(value: &str) -> Result<bool, Wrong> {
@@ -148,15 +146,15 @@ fn on_failing(value: &str) -> Result<bool, Wrong> {
 }
 
 /// Puts a line behind the text that is open.
-fn push_text(row: &mut Row, place: Place, line: &str) -> Result<(), Wrong> {
+fn push_text(alloc: Global, row: &mut Row, place: Place, line: &str) -> Result<(), Wrong> {
     match place {
         Place::Circuit => match row.circuits.last_mut() {
-            Some(circuit) => push_line(circuit, line),
+            Some(circuit) => push_line(alloc, circuit, line),
             None => Err(Wrong("an indented line belongs to no text")),
         },
-        Place::Script => push_line(&mut row.script, line),
-        Place::Output => push_line(&mut row.output.bytes, line),
-        Place::Error => push_line(&mut row.error.bytes, line),
+        Place::Script => push_line(alloc, &mut row.script, line),
+        Place::Output => push_line(alloc, &mut row.output.bytes, line),
+        Place::Error => push_line(alloc, &mut row.error.bytes, line),
         Place::Between | Place::Row => Err(Wrong("an indented line belongs to no text")),
     }
 }

@@ -17,6 +17,8 @@ pub(crate) struct Row {
     pub(crate) output: Wanted,
     pub(crate) error: Wanted,
     pub(crate) status: u8,
+    /// How many bytes standard output takes before it fails.
+    pub(crate) room: usize,
     /// Whether it is run over devices that fail, too.
     pub(crate) on_failing_devices: bool,
 }
@@ -33,6 +35,7 @@ impl Drop for Row {
             output: _,
             error: _,
             status: _,
+            room: _,
             on_failing_devices: _,
         } = self;
     }
@@ -50,6 +53,7 @@ impl Row {
             output: Wanted::new(alloc),
             error: Wanted::new(alloc),
             status: 0,
+            room: 65_536,
             on_failing_devices: false,
         }
     }

@@ -1,18 +1,47 @@
 //! The texts of a row.
 use crate::format::Wrong;
 use hex::FromHex;
+use std::alloc::Global;
 use std::fmt::{self, Display, Formatter, Write};
 
-/// Puts a line behind a text: `\` and two hexadecimal digits stand for a byte, and all else for itself.
-pub(crate) fn push_line(text: &mut Vec<u8>, line: &str) -> Result<(), Wrong> {
-    let mut pieces = line.split('\\');
+/// Puts a line and its line end behind a text, or where it begins with `\*` and a number its rest so many
+/// times.
+pub(crate) fn push_line(alloc: Global, text: &mut Vec<u8>, line: &str) -> Result<(), Wrong> {
+    if let Some(repeated) = line.strip_prefix("\\*") {
+        return push_repeated(alloc, text, repeated);
+    }
+    push_part(text, line)?;
+    text.push(b'\n')?;
+    Ok(())
+}
+
+/// Puts what stands behind a number so many times behind a text.
+fn push_repeated(alloc: Global, text: &mut Vec<u8>, repeated: &str) -> Result<(), Wrong> {
+    let (digits, part) = repeated.split_once(' ').unwrap_or((repeated, ""));
+    let mut bytes = Vec::new(alloc);
+    push_part(&mut bytes, part)?;
+    for _ in 0..number_of(digits)? {
+        text.extend_from_slice(bytes.as_slice())?;
+    }
+    Ok(())
+}
+
+/// The number of these digits.
+pub(crate) fn number_of(digits: &str) -> Result<usize, Wrong> {
+    digits
+        .parse::<usize>()
+        .map_err(|_| Wrong("this is no number"))
+}
+
+/// Puts a part behind a text: `\` and two hexadecimal digits stand for a byte, and all else for itself.
+fn push_part(text: &mut Vec<u8>, part: &str) -> Result<(), Wrong> {
+    let mut pieces = part.split('\\');
     if let Some(first) = pieces.next() {
         text.extend_from_slice(first.as_bytes())?;
     }
     for piece in pieces {
         push_escaped(text, piece.as_bytes())?;
     }
-    text.push(b'\n')?;
     Ok(())
 }
 

@@ -124,12 +124,20 @@ impl<'a, 'b> Trial<'a, 'b> {
             (self.circuit, without_end(script)),
             (without_end(self.circuit), without_end(script)),
         ] {
-            let ended = run(self.alloc, self.asked, circuit, script, Devices::GOOD)?;
+            let ended = run(self.alloc, self.asked, circuit, script, self.good())?;
             if !ended.meets(self.row) {
-                return Ok(Some(self.differs(Devices::GOOD, ended)));
+                return Ok(Some(self.differs(self.good(), ended)));
             }
         }
         Ok(None)
+    }
+
+    /// Devices that never fail, but for an output whose room the row tells.
+    fn good(self) -> Devices {
+        Devices {
+            room: self.row.room,
+            ..Devices::GOOD
+        }
     }
 
     fn differs(self, devices: Devices, ended: Ended) -> Difference<'a> {
@@ -144,7 +152,7 @@ impl<'a, 'b> Trial<'a, 'b> {
 
     /// The same among those over devices that fail at each place in turn.
     fn difference_on_devices(self) -> Result<Option<Difference<'a>>, AllocError> {
-        let whole = self.run_over(Devices::GOOD)?;
+        let whole = self.run_over(self.good())?;
         let written = whole.out.bytes().len().max(whole.err.bytes().len());
         let places = self.circuit.len().max(written).saturating_add(1);
         for place in 0..=places {
@@ -165,7 +173,7 @@ impl<'a, 'b> Trial<'a, 'b> {
         let reads_fail = place <= reads && whole.err.bytes().is_empty();
         let good = Devices {
             script_fails: u64::from(self.row.script.is_empty()),
-            ..Devices::GOOD
+            ..self.good()
         };
         for devices in [
             Devices {
