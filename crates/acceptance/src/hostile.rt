@@ -1,4 +1,4 @@
-//! Texts and scripts that are cut, overlong, without end, or break off.
+//! Texts and scripts that are cut, without end or break off, and rows of as many qubits as there may be.
 use crate::runs::{CODE, run_over, run_program};
 use stab_pauli::{CutInput, EndlessInput, MemoryInput};
 use std::alloc::Global;
@@ -134,46 +134,6 @@ fn a_circuit_that_is_cut_is_read_or_refused(rt: HostRuntime) -> Result<(), Fail>
     Ok(())
 }
 
-/// A script: a front, a byte again and again until it has so many, and an end.
-fn filled(alloc: Global, front: &[u8], byte: u8, len: usize, end: &[u8]) -> Result<Vec<u8>, Fail> {
-    let mut script = Vec::new(alloc);
-    script.extend_from_slice(front)?;
-    script.resize(len, byte)?;
-    script.extend_from_slice(end)?;
-    Ok(script)
-}
-
-// How scripts for the empty circuit on one qubit begin, the byte that fills them up to a length, how they
-// end, and the one reply.
-const LONG_LINES: [(&str, u8, usize, &str, &str); 3] = [
-    ("delete 0", b' ', 65_536, "", "refused 12 PlaceOutOfRange\n"),
-    ("delete 0", b' ', 65_537, "", "refused 14 TooLong\n"),
-    (
-        "insert 0 REPEAT 2 {\n",
-        b'X',
-        65_557,
-        "\n}\nshow circuit\n",
-        "refused 14 TooLong\n",
-    ),
-];
-
-#[test]
-fn a_script_line_has_at_most_65536_bytes(rt: HostRuntime) -> Result<(), Fail> {
-    for (front, byte, len, end, reply) in LONG_LINES {
-        let script = filled(rt.alloc(), front.as_bytes(), byte, len, end.as_bytes())?;
-        let run = run_over(
-            rt.alloc(),
-            "stabsim edit --qubits 1",
-            &mut MemoryInput::new(&[]),
-            &mut MemoryInput::new(script.as_slice()),
-            99,
-        )?;
-        let replied = run.is(3, reply.as_bytes(), b"");
-        assert!(rt; replied, "{front:?} with {len}: {run:?}");
-    }
-    Ok(())
-}
-
 #[test]
 fn a_circuit_without_end_is_too_long(rt: HostRuntime) -> Result<(), Fail> {
     for (line, byte) in [
@@ -224,5 +184,22 @@ fn a_script_that_breaks_off_has_the_replies_to_whole_lines(rt: HostRuntime) -> R
         let cut = run.is(1, replies.as_bytes(), b"stabsim: refused 15 ReadFault\n");
         assert!(rt; cut, "at read {fail_at}: {run:?}");
     }
+    Ok(())
+}
+
+#[test]
+fn there_are_as_many_rows_as_qubits(rt: HostRuntime) -> Result<(), Fail> {
+    // A row has a sign, a letter for each qubit and a line end.
+    let length = 1026;
+    let mut circuit = MemoryInput::new(b"H 1023");
+    let mut script = MemoryInput::new(&[]);
+    let line = "stabsim stabilisers";
+    let run = run_over(rt.alloc(), line, &mut circuit, &mut script, 1024 * length)?;
+    let bytes = run.out.bytes();
+    // The one lead among the bits of X is that of the last qubit, and comes first.
+    let reduced = bytes.starts_with(b"+_")
+        && bytes.iter().position(|byte| *byte == b'X') == Some(1024)
+        && bytes.iter().position(|byte| *byte == b'Z') == Some(length + 1);
+    assert!(rt; reduced && run.status == 0 && bytes.len() == 1024 * length);
     Ok(())
 }

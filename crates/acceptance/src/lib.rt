@@ -1,13 +1,11 @@
-//! Tests of whole runs of the program, over devices in memory: what needs a text of many bytes, a loop
-//! or a computed expectation. Worked examples stand as rows in `crates/rows`.
+//! Tests of whole runs of the program, over devices in memory: what needs an input without end, a loop or
+//! a computed expectation. Worked examples stand as rows in `crates/rows`.
 #![tactic(auto)]
 
 #[cfg(test)]
 mod help;
 #[cfg(test)]
 mod hostile;
-#[cfg(test)]
-mod long;
 #[cfg(test)]
 mod random_edits;
 #[cfg(test)]

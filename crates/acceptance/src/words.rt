@@ -1,6 +1,7 @@
 //! What the words of the command line ask for.
 use crate::runs::job_of;
-use stab_cli::{Job, Usage, parse_words};
+use stab_cli::{Job, Usage, parse_words, write_usage};
+use stab_pauli::MemoryOutput;
 use std::alloc::Global;
 use std::test::Fail;
 
@@ -227,5 +228,41 @@ fn coins_are_characters_0_and_1(rt: HostRuntime) -> Result<(), Fail> {
         };
         assert_eq!(rt; text.as_str(), "stabsim: coins are 0 and 1\n", "{coins:?}");
     }
+    Ok(())
+}
+
+#[test]
+fn words_that_are_refused_memory_have_status_1(rt: HostRuntime) -> Result<(), Fail> {
+    let mut out = MemoryOutput::new(rt.alloc(), 99)?;
+    let mut err = MemoryOutput::new(rt.alloc(), 99)?;
+    let status = write_usage(&Usage::Memory, &mut out, &mut err);
+    let told = out.bytes().is_empty()
+        && err.bytes() == b"stabsim: refused 20 OutOfMemory\n".as_slice();
+    assert!(rt; told && status == 1);
+    Ok(())
+}
+
+#[test]
+fn help_that_cannot_be_written_has_status_1(rt: HostRuntime) -> Result<(), Fail> {
+    let help = Usage::Help(String::from_str(rt.alloc(), "help")?);
+    let mut out = MemoryOutput::new(rt.alloc(), 3)?;
+    let mut err = MemoryOutput::new(rt.alloc(), 99)?;
+    let status = write_usage(&help, &mut out, &mut err);
+    let told = out.bytes() == b"hel".as_slice()
+        && err.bytes() == b"stabsim: refused 16 WriteFault\n".as_slice();
+    assert!(rt; told && status == 1);
+    Ok(())
+}
+
+#[test]
+fn help_that_cannot_be_flushed_has_status_1(rt: HostRuntime) -> Result<(), Fail> {
+    let help = Usage::Help(String::from_str(rt.alloc(), "help")?);
+    let mut out = MemoryOutput::new(rt.alloc(), 99)?;
+    out.fail_flush();
+    let mut err = MemoryOutput::new(rt.alloc(), 99)?;
+    let status = write_usage(&help, &mut out, &mut err);
+    let told = out.bytes() == b"help".as_slice()
+        && err.bytes() == b"stabsim: refused 16 WriteFault\n".as_slice();
+    assert!(rt; told && status == 1);
     Ok(())
 }
