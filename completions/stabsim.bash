@@ -3,7 +3,7 @@ _stabsim() {
     local word=${COMP_WORDS[COMP_CWORD]} before=${COMP_WORDS[COMP_CWORD-1]} command=${COMP_WORDS[1]} choices=
     COMPREPLY=()
     case $before in
-    --in | --out)
+    --in | --out | --coins_in)
         compopt -o filenames 2>/dev/null
         mapfile -t COMPREPLY < <(compgen -f -- "$word")
         return
@@ -12,12 +12,13 @@ _stabsim() {
     --shots | --seed | --coins | --qubits | --stride) return ;;
     *)
         case $command in
-        sample) choices="--shots --out_format --seed --coins --in --out --help" ;;
-        detect) choices="--shots --out_format --seed --coins --in --out --append_observables --help" ;;
-        stabilisers) choices="--seed --coins --in --out --help" ;;
-        edit) choices="--qubits --stride --seed --coins --in --out --help" ;;
+        sample) choices="--shots --out_format --seed --coins --coins_in --in --out --help" ;;
+        detect) choices="--shots --out_format --seed --coins --coins_in --in --out --append_observables --help" ;;
+        stabilisers | stabilizers) choices="--seed --coins --coins_in --in --out --help" ;;
+        edit) choices="--qubits --stride --seed --coins --coins_in --in --out --help" ;;
+        check) choices="--in --out --help" ;;
         esac
-        [ "$COMP_CWORD" -eq 1 ] && choices="sample detect stabilisers edit help --help --version"
+        [ "$COMP_CWORD" -eq 1 ] && choices="sample detect stabilisers edit check help --help --version"
         ;;
     esac
     mapfile -t COMPREPLY < <(compgen -W "$choices" -- "$word")

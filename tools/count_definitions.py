@@ -19,7 +19,7 @@ SHOWN = re.compile(r"(?<=```sh\ntools/count_definitions.py\n```\n\n```output\n).
 THEOREMS = {
     "sample and detect": ["stab_commands.Outputs.EndsRun", "stab_commands.Outputs.sample_of", "stab_commands.Outputs.detect_of"],
     "stabilisers": ["stab_commands.Stabilisers.EndsStabilisers"],
-    "edit": ["stab_commands.ScriptEndings.EndsEdit"],
+    "edit": ["stab_commands.script.ScriptEndings.EndsEdit"],
     "a job and its status": ["stab_commands.Jobs.EndsJob"],
     "what a session is": ["stab_session.Headline.IsRunOfItems"],
     "an edit of a session": ["stab_session.SessionEdits.IsEditedBy", "stab_session.SessionEdits.IsAsBefore"],
@@ -84,8 +84,11 @@ def definitions_of(lines, file):
 
 def all_definitions():
     found = {}
-    for path in sorted(TOP.glob("crates/*/specs/*.antt")):
-        file = f"{path.parent.parent.name}.{path.stem}"
+    for path in sorted(TOP.glob("crates/*/specs/**/*.antt")):
+        crate, _, *folders = path.relative_to(TOP / "crates").with_suffix("").parts
+        if folders[0] == "inner":
+            continue
+        file = ".".join([crate, *folders])
         lines = path.read_text().splitlines()
         found[file] = definitions_of(lines, file), dict(imports_of(lines))
     return found

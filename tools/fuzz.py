@@ -6,10 +6,11 @@
 
 The oracle (`tools/oracle`) is written from the definitions: it reads texts and scripts, asks backwards which strings stabilise
 a state of up to four qubits, and writes the result formats. Larger circuits are undone again and must measure zeros, are edited
-and compared with a session opened anew and with other strides, and are written in each format. The first difference is cut down
-to a small text and printed with its seed, and the status is then 1. So it is where some way of comparing was never taken, also in
-a minute more. With `--laws` those of `tools/oracle/laws.py` are tried alone, which ask no oracle of states. The same seed makes the
-same cases. It needs the program: build it by `./stabsim --help`.
+and compared with a session opened anew and with other strides, and are written in each format; what `check` counts is compared
+with what a run writes, and the fault that it tells with that of a run. The first difference is cut down to a small text and
+printed with its seed, and the status is then 1. So it is where some way of comparing was never taken, also in a minute more.
+With `--laws` those of `tools/oracle/laws.py` are tried alone, which ask no oracle of states. The same seed makes the same
+cases. It needs the program: build it by `./stabsim --help`.
 """
 
 import argparse

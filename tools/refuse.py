@@ -3,7 +3,7 @@
 
     tools/refuse.py [--page]
 
-Calls: crates/faults makes each call of the libraries that wants memory, and tells how it ended. Under tools/refuse.c the
+Calls: crates/tests_refusals makes each call of the libraries that wants memory, and tells how it ended. Under tools/refuse.c the
 first request of each call is refused, then the second and so on, until no call makes so many; once so that this request
 alone fails, and once so that all behind it in the call do. A call that was refused one has to answer 20, to leave all as
 before, and to give what it gives when it is made again.
@@ -26,7 +26,7 @@ import tempfile
 
 TOP = pathlib.Path(__file__).resolve().parent.parent
 PROGRAM = TOP / "crates" / "stabsim" / "out" / "stabsim"
-CALLS = TOP / "crates" / "faults" / "out" / "faults"
+CALLS = TOP / "crates" / "tests_refusals" / "out" / "tests_refusals"
 PAGE = TOP / "docs" / "robustness.md"
 TABLE = re.compile(r"(?<=<!-- counts -->\n).*(?=<!-- end of counts -->)", re.DOTALL)
 TIME_LIMIT = 60
@@ -39,6 +39,7 @@ RUNS = [
     ["sample", "--out_format", "dets", "--coins", "0110", "--in", str(TOP / "examples" / "five_qubit_code.stim")],
     ["detect", "--append_observables", "--out_format", "hits", "--in", str(TOP / "examples" / "surface_code.stim")],
     ["stabilisers", "--in", str(TOP / "examples" / "steane_code.stim")],
+    ["check", "--in", str(CIRCUIT)],
     ["edit", "--stride", "4", "--in", str(CIRCUIT)],
     ["sample", "--shots", "none"],
     ["--help"],

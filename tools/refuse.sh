@@ -4,7 +4,7 @@
 set -eu
 top=$(CDPATH='' cd -- "$(dirname -- "$0")/.." && pwd)
 "$top/stabsim" --version >/dev/null
-program=$top/crates/faults/out/faults
+program=$top/crates/tests_refusals/out/tests_refusals
 newer=$program
 if [ -x "$program" ]; then
     newer=$(find "$top/crates" "$top/crates.txt" -name out -prune -o -name must-fail -prune -o \
@@ -12,7 +12,7 @@ if [ -x "$program" ]; then
 fi
 if [ -n "$newer" ]; then
     echo "refuse: proves and builds the program of calls first" >&2
-    (cd "$top/crates/faults" && rt run >&2)
+    (cd "$top/crates/tests_refusals" && rt run >&2)
     touch "$program"
 fi
 exec python3 "$top/tools/refuse.py" "$@"

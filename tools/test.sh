@@ -10,6 +10,7 @@ cd "$top" || exit 2
 steps='tools/wrong_bodies.py "$told/gate"
 tools/check_version.sh
 tools/check_words.py
+tools/check_gates.py
 tools/check_circuits.py
 tools/check_program.py --seconds 3
 tools/fuzz.py --seconds 8

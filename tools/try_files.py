@@ -4,12 +4,14 @@
     tools/try_files.py
 
 An older file of --out keeps what it held until there is something to write; a file that is read is never
-written; a closed stream fails by itself and hands its number to no file. It prints the cases that went
+written; a closed stream fails by itself and hands its number to no file; coins come from a file; and a
+terminal is told which command says more of a circuit that is refused. It prints the cases that went
 wrong, and ends with 1 where there is one. It needs the program: tools/refuse.sh builds it.
 """
 
 import os
 import pathlib
+import pty
 import subprocess
 import sys
 import tempfile
@@ -21,6 +23,13 @@ TIME_LIMIT = 60
 CIRCUIT = "X 0\nM 0 1\n"
 SHARED = "stabsim: --in and --out are one file\n"
 SHARED_INPUT = "stabsim: standard input and --out are one file\n"
+SHARED_COINS = "stabsim: --coins_in and --out are one file\n"
+COINS_TWICE = "stabsim: coins are given by --coins or by --coins_in, and not by both\n"
+WRONG_COINS = "stabsim: coins are 0 and 1\n"
+HINT = "stabsim: what is wrong and where: give the same circuit to `stabsim check`\n"
+TOO_LONG = "stabsim: refused 14 TooLong\n"
+MOST_BYTES = 16_777_216
+LONGEST_WORD = 131_072
 READ_FAULT = "stabsim: refused 15 ReadFault\n"
 WRITE_FAULT = "stabsim: refused 16 WriteFault\n"
 OLD = "what was there before\n"
@@ -60,7 +69,7 @@ def try_shared(folder: pathlib.Path) -> None:
     soft.symlink_to(circuit)
     hard.hardlink_to(circuit)
     for out in (circuit, soft, hard):
-        for command in ("sample", "detect", "stabilisers", "edit"):
+        for command in ("sample", "detect", "stabilisers", "edit", "check"):
             told = run([command, "--in", str(circuit), "--out", str(out)])
             expect(f"{command} into {out.name}", told, (2, "", SHARED))
     with circuit.open("rb") as given:
@@ -125,10 +134,83 @@ def try_closed(folder: pathlib.Path) -> None:
     expect("a circuit read with streams closed", circuit.read_text(), CIRCUIT)
 
 
+def try_coins(folder: pathlib.Path) -> None:
+    """Coins come from a file, also a list that no word can hold; else it is told why not, and nothing is written."""
+    circuit, file, out = folder / "free.stim", folder / "free.coins", folder / "coins.out"
+    circuit.write_text("H 0 1\nM 0 1\n")
+    words = ["--in", str(circuit), "--coins_in", str(file)]
+    for text in ("01", "01\n", "01\r\n", "0111"):
+        file.write_text(text)
+        expect(f"coins {text!r} of a file", run(["sample", "--shots", "2", *words]), (0, "01\n01\n", ""))
+        expect(f"coins {text!r} beside a seed", run(["sample", "--seed", "5", *words]), (0, "01\n", ""))
+    expect("coins of a file for rows", run(["stabilizers", *words]), (0, "+Z_\n-_Z\n", ""))
+    expect("coins of a file for a session", run(["edit", *words], b"show measurements\n"), (0, "01\n", ""))
+    expect("coins of a file and of a word", run(["sample", "--coins", "1", *words]), (2, "", COINS_TWICE))
+    expect("coins that are to be written", run(["sample", *words, "--out", str(file)]), (2, "", SHARED_COINS))
+    for text in ("012", "0 1", "01\n\n", "01\r"):
+        file.write_text(text)
+        expect(f"{text!r} as coins", run(["sample", *words]), (2, "", WRONG_COINS))
+        expect(f"a file written with {text!r} as coins", left_in(out, ["sample", *words]), (2, OLD))
+    said = "No such file or directory (os error 2)"
+    missing = folder / "no.coins"
+    told = run(["sample", "--coins_in", str(missing)], b"M 0\n")
+    expect("a missing file of coins", told, (1, "", f"{READ_FAULT}stabsim: {missing}: {said}\n"))
+    told = run(["sample", "--coins_in", str(folder)], b"M 0\n")
+    expect("a folder as coins", told, (1, "", f"{READ_FAULT}stabsim: {folder}: Is a directory (os error 21)\n"))
+    file.write_text("0" * (MOST_BYTES - 1) + "\n")
+    expect("coins up to the limit", run(["sample", *words]), (0, "00\n", ""))
+    file.write_text("1" * (MOST_BYTES + 1))
+    expect("coins over the limit", run(["sample", *words]), (1, "", f"{TOO_LONG}stabsim: {file}\n"))
+
+
+def try_many_coins(folder: pathlib.Path) -> None:
+    """A file gives more coins than a word may have, each to its own outcome."""
+    coins = "".join("01"[at % 7 == 0] for at in range(LONGEST_WORD + 5))
+    circuit, file = folder / "many.stim", folder / "many.coins"
+    circuit.write_text(f"REPEAT {len(coins)} {{\n    H 0\n    M 0\n}}\n")
+    file.write_text(coins + "\n")
+    told = run(["sample", "--in", str(circuit), "--coins_in", str(file)])
+    expect("more coins than a word may have", told == (0, coins + "\n", ""), True)
+
+
+def on_terminal(words: list[str], given: bytes) -> str:
+    """What a run tells on a terminal as its error output."""
+    held, end = pty.openpty()
+    try:
+        subprocess.run([str(PROGRAM), *words], input=given, stdout=subprocess.DEVNULL, stderr=end, timeout=TIME_LIMIT, check=False)
+        os.write(end, b"\4")
+        told = b""
+        while b"\4" not in told:
+            told += os.read(held, 4096)
+    finally:
+        os.close(held)
+        os.close(end)
+    return told.split(b"\4")[0].decode().replace("\r\n", "\n")
+
+
+def try_hint(folder: pathlib.Path) -> None:
+    """On a terminal a circuit that is refused is followed by a line that names `check`; elsewhere, and behind other faults, not."""
+    refused = "stabsim: line 2: refused 1 UnsupportedName\n"
+    wrong_circuit = b"M 0\nFOO 0\n"
+    for command in ("sample", "detect", "stabilisers"):
+        expect(f"{command} on a terminal", on_terminal([command], wrong_circuit), refused + HINT)
+        expect(f"{command} without a terminal", run([command], wrong_circuit), (1, "", refused))
+    too_far = "stabsim: refused 8 LookbackTooFar\n"
+    expect("a fault without a line", on_terminal(["detect"], b"DETECTOR rec[-1]\n"), too_far + HINT)
+    expect("check on a terminal", HINT in on_terminal(["check"], wrong_circuit), False)
+    missing = folder / "none.stim"
+    said = "No such file or directory (os error 2)"
+    told = on_terminal(["sample", "--in", str(missing)], b"")
+    expect("a missing file on a terminal", told, f"{READ_FAULT}stabsim: {missing}: {said}\n")
+    expect("a full disk on a terminal", on_terminal(["sample", "--out", "/dev/full"], b"M 0\n"), WRITE_FAULT)
+    expect("wrong coins on a terminal", on_terminal(["sample", "--coins", "2"], b"M 0\n"), WRONG_COINS)
+    expect("a good circuit on a terminal", on_terminal(["sample"], b"M 0\n"), "")
+
+
 def main() -> int:
     with tempfile.TemporaryDirectory() as name:
         folder = pathlib.Path(name)
-        for case in (try_shared, try_older_file, try_paths, try_closed):
+        for case in (try_shared, try_older_file, try_paths, try_closed, try_coins, try_many_coins, try_hint):
             case(folder)
     print(f"files and streams: {len(wrong)} cases went wrong")
     return 1 if wrong else 0

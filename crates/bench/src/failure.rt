@@ -17,5 +17,5 @@ pub enum Failure {
     #[error("memory was refused")]
     Memory(#[from(alloc)] AllocError),
     #[error("the circuit was refused, at line {}: {}", .0.line, .0.refusal)]
-    Circuit(Fault),
+    Circuit(#[from] Fault),
 }

@@ -1,14 +1,13 @@
 //! Comparing the groups of two states, and the reduced rows of one.
-ghost use Rattle.std.specs.Prelude.{◌≡◌, ◌<◌, ◌≤◌, IfOk, IfErr};
-ghost use Rattle.stab_pauli.specs.declared.refusal.Refusal.TheVariants.{OutOfMemory};
+ghost use Rattle.std.specs.Prelude.{◌≡◌, ◌<◌, ◌≤◌, IfOk};
 ghost use Rattle.stab_tableau.specs.Limits.{most_qubits};
 
 use super::failure::Failure;
-use super::state;
+use super::{report, state};
 use stab_pauli::{Letter, Refusal};
 use stab_tableau::{Gate, PairGate, Tableau};
 use std::alloc::Global;
-use std::fmt;
+use std::num::nearest_usize_to_f64;
 use std::time::{CpuClock, Duration};
 
 /// The best of so many rounds counts, since other programs disturb the rest.
@@ -28,36 +27,23 @@ enum Difference {
 }
 
 impl Difference {
-    ghost use Rattle.std.specs.Prelude.{◌<◌, ◌≤◌};
+    ghost use Rattle.std.specs.Prelude.{◌<◌};
 
-    /// All differences, in the order of the table.
-    const ALL: [Difference; 4] = [
-        Difference::Nothing,
-        Difference::Signs,
-        Difference::Rows,
-        Difference::Group,
+    /// All differences, in the order of the table, with what it calls their comparisons.
+    const ALL: [(Difference, &'static str); 4] = [
+        (Difference::Nothing, "same group, same words"),
+        (Difference::Signs, "same group, other signs"),
+        (Difference::Rows, "same group, other rows"),
+        (Difference::Group, "same group, another group"),
     ];
 
     /// How many comparisons make a round that takes about a millisecond or more.
-    fn calls(self, n: u32) -> u32
+    fn calls(self, n: usize) -> usize
         requires above_zero { 0 < n }
-        requires in_range { n ≤ most_qubits }
-        ensures calls { 0 < result }
     {
         match self {
             Difference::Rows => 1,
-            _ => 65536 / n,
-        }
-    }
-}
-
-impl fmt::Display for Difference {
-    fn fmt<W: fmt::Write>(&self, f: &mut fmt::Formatter<W>) -> fmt::Result {
-        match self {
-            Difference::Nothing => write!(f, "same words"),
-            Difference::Signs => write!(f, "other signs"),
-            Difference::Rows => write!(f, "other rows"),
-            Difference::Group => write!(f, "another group"),
+            _ => 65_536 / n,
         }
     }
 }
@@ -74,18 +60,28 @@ pub fn print_lines<R: CpuClock + AllocGlobal + Print>(
     requires in_range { n ≤ most_qubits }
 {
     let mut first = state::scrambled(rt.alloc(), n)?;
-    for difference in Difference::ALL {
-        let mut second = state_with(rt.alloc(), &mut first, difference)?;
-        let same = is_same(&mut first, &mut second);
-        let calls = difference.calls(n as u32);
-        let time = time_of_comparison(rt, &mut first, &mut second, calls)?;
-        let (to_xor, to_cx) = (time / xor, time / cx);
-        println!(rt; "{time:>12.1} {to_xor:>10.2} {to_cx:>8.2}  same group, {difference}: {same}")?;
+    for (difference, name) in Difference::ALL {
+        let time = time_of_difference(rt, &mut first, difference)?;
+        report::print_line(rt, name, time, xor, cx)?;
     }
     let time = time_of_rows(rt, &mut first)?;
-    let (to_xor, to_cx) = (time / xor, time / cx);
-    println!(rt; "{time:>12.1} {to_xor:>10.2} {to_cx:>8.2}  reduced rows")?;
-    Ok(())
+    report::print_line(rt, "reduced rows", time, xor, cx)
+}
+
+/// How many nanoseconds of processor time it takes to compare the scrambled state with one that
+/// differs from it in this way.
+fn time_of_difference<R: CpuClock + AllocGlobal>(
+    rt: &R,
+    first: &mut Tableau,
+    difference: Difference,
+) -> Result<f64, Failure>
+    requires several { 1 < first.old.qubits }
+    requires in_range { first.old.qubits ≤ most_qubits }
+    ensures qubits { first.new.qubits ≡ first.old.qubits }
+{
+    let calls = difference.calls(first.len());
+    let mut second = state_with(rt.alloc(), first, difference)?;
+    time_of_comparison(rt, first, &mut second, calls)
 }
 
 /// A state that differs from the scrambled one in this way.
@@ -96,9 +92,8 @@ fn state_with(
 ) -> Result<Tableau, Refusal>
     requires several { 1 < first.old.qubits }
     requires in_range { first.old.qubits ≤ most_qubits }
-    ensures unchanged { first.new ≡ first.old }
-    ensures qubits { IfOk result (λ t. t.qubits ≡ first.old.qubits) }
-    ensures err { IfErr result (λ r. r ≡ OutOfMemory) }
+    ensures qubits { first.new.qubits ≡ first.old.qubits }
+    ensures qubits_of_result { IfOk result (λ t. t.qubits ≡ first.old.qubits) }
 {
     match difference {
         Difference::Nothing => first.copy(alloc),
@@ -115,9 +110,8 @@ fn state_with(
 /// A state to which a stabiliser of its own was applied, letter by letter.
 fn with_other_signs(alloc: Global, first: &mut Tableau) -> Result<Tableau, Refusal>
     requires several { 1 < first.old.qubits }
-    ensures unchanged { first.new ≡ first.old }
-    ensures qubits { IfOk result (λ t. t.qubits ≡ first.old.qubits) }
-    ensures err { IfErr result (λ r. r ≡ OutOfMemory) }
+    ensures qubits { first.new.qubits ≡ first.old.qubits }
+    ensures qubits_of_result { IfOk result (λ t. t.qubits ≡ first.old.qubits) }
 {
     let stabiliser = first.stabiliser(alloc, 0)?;
     let mut second = first.copy(alloc)?;
@@ -141,7 +135,6 @@ fn with_other_rows(alloc: Global, n: usize) -> Result<Tableau, Refusal>
     requires several { 1 < n }
     requires in_range { n ≤ most_qubits }
     ensures qubits { IfOk result (λ t. t.qubits ≡ n) }
-    ensures err { IfErr result (λ r. r ≡ OutOfMemory) }
 {
     let mut tableau = Tableau::new(alloc, n)?;
     tableau.apply_pair(PairGate::Cx, 0, 1);
@@ -153,8 +146,8 @@ fn with_other_rows(alloc: Global, n: usize) -> Result<Tableau, Refusal>
 #[inline(never)]
 fn is_same(first: &mut Tableau, second: &mut Tableau) -> bool
     requires same_qubits { second.old.qubits ≡ first.old.qubits }
-    ensures unchanged { first.new ≡ first.old }
-    ensures second_unchanged { second.new ≡ second.old }
+    ensures qubits { first.new.qubits ≡ first.old.qubits }
+    ensures second_qubits { second.new.qubits ≡ second.old.qubits }
 {
     first.same_group(second)
 }
@@ -164,17 +157,16 @@ fn time_of_comparison<R: CpuClock>(
     rt: &R,
     first: &mut Tableau,
     second: &mut Tableau,
-    calls: u32,
+    calls: usize,
 ) -> Result<f64, Failure>
     requires same_qubits { second.old.qubits ≡ first.old.qubits }
-    requires calls { 0 < calls }
-    ensures unchanged { first.new ≡ first.old }
+    ensures qubits { first.new.qubits ≡ first.old.qubits }
 {
     let mut least = Duration::MAX;
     for _ in 0..ROUNDS {
         least = least.min(time_of_round(rt, first, second, calls)?);
     }
-    Ok(least.as_secs_f64() * 1e9 / f64::from(calls))
+    Ok(least.as_secs_f64() * 1e9 / nearest_usize_to_f64(calls))
 }
 
 /// The processor time of so many comparisons.
@@ -182,11 +174,11 @@ fn time_of_round<R: CpuClock>(
     rt: &R,
     first: &mut Tableau,
     second: &mut Tableau,
-    calls: u32,
+    calls: usize,
 ) -> Result<Duration, Failure>
     requires same_qubits { second.old.qubits ≡ first.old.qubits }
-    ensures unchanged { first.new ≡ first.old }
-    ensures second_unchanged { second.new ≡ second.old }
+    ensures qubits { first.new.qubits ≡ first.old.qubits }
+    ensures second_qubits { second.new.qubits ≡ second.old.qubits }
 {
     let start = rt.thread_cpu_time()?;
     for _ in 0..calls {

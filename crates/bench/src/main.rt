@@ -56,20 +56,43 @@ fn measure<R: CpuClock + Files + AllocGlobal + Print>(
 ) -> Result<(), Failure> {
     match words {
         [] => println!(rt; "bench: the word measure times what a tableau does")?,
-        [word] if word.as_str() == "measure" => {
-            for qubits in SIZES {
-                report::print_table(rt, qubits)?;
-            }
-            reading::print_time(rt)?;
-            editing::print_times(rt)?;
-        }
-        [word, paths @ ..] if word.as_str() == "run" && !paths.is_empty() => {
-            running::print_table(rt, paths)?;
-        }
-        [word, qubit, paths @ ..] if word.as_str() == "edit" && !paths.is_empty() => {
-            replaying::print_table(rt, qubit.as_str(), paths)?;
-        }
-        _ => return Err(Failure::Words),
+        [word, rest @ ..] => measure_by(rt, word.as_str(), rest)?,
     }
     Ok(())
+}
+
+/// Measures what a word asks for, with the words behind it.
+fn measure_by<R: CpuClock + Files + AllocGlobal + Print>(
+    rt: &R,
+    word: &str,
+    rest: &[String],
+) -> Result<(), Failure> {
+    match word {
+        "measure" if rest.is_empty() => measure_layers(rt),
+        "run" if !rest.is_empty() => running::print_table(rt, rest),
+        "edit" => measure_edits(rt, rest),
+        _ => Err(Failure::Words),
+    }
+}
+
+/// Measures the tableau, reading, and edits of a circuit.
+fn measure_layers<R: CpuClock + AllocGlobal + Print>(rt: &R) -> Result<(), Failure> {
+    for qubits in SIZES {
+        report::print_table(rt, qubits)?;
+    }
+    reading::print_time(rt)?;
+    editing::print_times(rt)
+}
+
+/// Measures edits of sessions, by the words for a qubit and for files.
+fn measure_edits<R: CpuClock + Files + AllocGlobal + Print>(
+    rt: &R,
+    words: &[String],
+) -> Result<(), Failure> {
+    match words {
+        [qubit, paths @ ..] if !paths.is_empty() => {
+            replaying::print_table(rt, qubit.as_str(), paths)
+        }
+        _ => Err(Failure::Words),
+    }
 }

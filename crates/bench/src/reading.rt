@@ -60,8 +60,5 @@ fn time_of_reading<R: CpuClock + AllocGlobal>(rt: &R, text: &[u8]) -> Result<Dur
 pub fn circuit_of_text(alloc: Global, text: &[u8]) -> Result<Circuit, Failure>
     ensures checked { IfOk result (λ c. check_of (circuit_items c) ≡ None) }
 {
-    match read_circuit(alloc, &mut MemoryInput::new(text)) {
-        Ok(circuit) => Ok(circuit),
-        Err(fault) => Err(Failure::Circuit(fault)),
-    }
+    Ok(read_circuit(alloc, &mut MemoryInput::new(text))?)
 }

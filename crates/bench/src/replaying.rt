@@ -1,8 +1,10 @@
 //! Edits of a session, each beside one whole run of the same circuit.
 use super::failure::Failure;
-use super::{reading, running};
-use stab_circuit::{Circuit, Item, Path, read_item};
+use super::reading;
+use super::running::{self, Whole};
+use stab_circuit::{Circuit, Path, read_item};
 use stab_session::{Edit, Report, SeedCoins, Session};
+use std::alloc::Global;
 use std::num::nearest_usize_to_f64;
 use std::rt::Files;
 use std::time::{CpuClock, Duration};
@@ -15,13 +17,6 @@ const STRIDE: usize = 8192;
 
 /// Which of the hundred parts of the outermost list an edit stands at the end of.
 const PARTS: [usize; 3] = [1, 50, 99];
-
-/// The processor times of a circuit without edits, in milliseconds.
-#[derive(Clone, Copy)]
-struct Whole {
-    read: f64,
-    run: f64,
-}
 
 /// Prints a table of the edits of the circuits in files. The qubit is one whose next record `X`
 /// flips, and nothing else; the qubit 1 is one whose state `H` changes.
@@ -43,21 +38,45 @@ fn print_circuit<R: CpuClock + Files + AllocGlobal + Print>(
     path: &str,
 ) -> Result<(), Failure> {
     let text = running::text_of_file(rt, path)?;
-    let read = reading::best_time(rt, text.as_slice())?.as_secs_f64() * 1e3;
-    let before = resident(rt)?;
-    let circuit = reading::circuit_of_text(rt.alloc(), text.as_slice())?;
-    let run = running::best_time(rt, &circuit)?.as_secs_f64() * 1e3;
-    let items = circuit.items().len();
-    let steps = circuit.steps();
-    let (mut session, open) = opened(rt, circuit)?;
-    let (open, kept) = (open.as_secs_f64() * 1e3, resident(rt)? - before);
+    let whole = running::whole_of(rt, text.as_slice())?;
     println!(rt;
-        "{path}: {items} items, {steps} steps, read {read:.1} ms, run {run:.1} ms, open {open:.1} ms, {kept:.1} MiB"
+        "{path}: read {:.1} ms, run {:.1} ms",
+        whole.read, whole.run
     )?;
+    print_session(rt, qubit, text.as_slice(), whole)
+}
+
+/// Opens a session on a circuit, and prints what that and edits of it take.
+fn print_session<R: CpuClock + Files + AllocGlobal + Print>(
+    rt: &R,
+    qubit: &str,
+    text: &[u8],
+    whole: Whole,
+) -> Result<(), Failure> {
+    let before = resident(rt)?;
+    let circuit = reading::circuit_of_text(rt.alloc(), text)?;
+    let start = rt.thread_cpu_time()?;
+    let mut session = opened(rt.alloc(), circuit)?;
+    print_opening(rt, &session, start, before)?;
+    print_edits(rt, &mut session, qubit, whole)
+}
+
+/// Prints what it took to open a session, which was begun at a time with so many MiB held.
+fn print_opening<R: CpuClock + Files + AllocGlobal + Print>(
+    rt: &R,
+    session: &Session<SeedCoins>,
+    start: Duration,
+    before: f64,
+) -> Result<(), Failure> {
+    let open = rt.thread_cpu_time()?.saturating_sub(start).as_secs_f64() * 1e3;
+    let kept = resident(rt)? - before;
+    let circuit = session.circuit();
+    let (items, steps) = (circuit.items().len(), circuit.steps());
+    println!(rt; "{items} items, {steps} steps, open {open:.1} ms, {kept:.1} MiB")?;
     println!(rt;
         "     place  line      edit ms  of a run  faster than reading and running     steps"
     )?;
-    print_edits(rt, &mut session, qubit, items, Whole { read, run })
+    Ok(())
 }
 
 /// Prints what edits of three kinds at three places take: nothing downstream changes, a record
@@ -66,9 +85,9 @@ fn print_edits<R: CpuClock + AllocGlobal + Print>(
     rt: &R,
     session: &mut Session<SeedCoins>,
     qubit: &str,
-    items: usize,
     whole: Whole,
 ) -> Result<(), Failure> {
+    let items = session.circuit().items().len();
     let flip = format!(in rt.alloc(); "X {qubit}")?;
     for part in PARTS {
         let place = (items / 100).saturating_mul(part);
@@ -100,16 +119,11 @@ fn print_edit<R: CpuClock + AllocGlobal + Print>(
     Ok(())
 }
 
-/// A session on a circuit's own qubits, with the coins of seed 0 and shot 0, and the processor time
-/// to open it.
-fn opened<R: CpuClock + AllocGlobal>(
-    rt: &R,
-    circuit: Circuit,
-) -> Result<(Session<SeedCoins>, Duration), Failure> {
+/// A session on a circuit's own qubits, with the coins of seed 0 and shot 0.
+fn opened(alloc: Global, circuit: Circuit) -> Result<Session<SeedCoins>, Failure> {
     let qubits = circuit.qubits();
-    let start = rt.thread_cpu_time()?;
-    match Session::open(rt.alloc(), circuit, qubits, STRIDE, SeedCoins::new(0, 0)) {
-        Ok(session) => Ok((session, rt.thread_cpu_time()?.saturating_sub(start))),
+    match Session::open(alloc, circuit, qubits, STRIDE, SeedCoins::new(0, 0)) {
+        Ok(session) => Ok(session),
         Err(refused) => Err(Failure::Circuit(refused.fault)),
     }
 }
@@ -122,20 +136,12 @@ fn timed_edit<R: CpuClock + AllocGlobal>(
     place: Path,
     line: &str,
 ) -> Result<(Duration, Report), Failure> {
-    let item = item_of(rt, line)?;
-    let start = rt.thread_cpu_time()?;
+    let item = read_item(rt.alloc(), line.as_bytes())?;
+    let start = rt.thread_cpu_time();
     let report = apply(session, Edit::Insert { place, item })?;
-    let time = rt.thread_cpu_time()?.saturating_sub(start);
+    let end = rt.thread_cpu_time();
     apply(session, Edit::Delete { place })?;
-    Ok((time, report))
-}
-
-/// The item of a line.
-fn item_of<R: AllocGlobal>(rt: &R, line: &str) -> Result<Item, Failure> {
-    match read_item(rt.alloc(), line.as_bytes()) {
-        Ok(item) => Ok(item),
-        Err(fault) => Err(Failure::Circuit(fault)),
-    }
+    Ok((end?.saturating_sub(start?), report))
 }
 
 /// Makes an edit.

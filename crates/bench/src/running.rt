@@ -1,12 +1,7 @@
-ghost use Rattle.std.specs.Prelude.{◌≡◌, length, IfOk};
-ghost use Rattle.stab_circuit.specs.Views.{circuit_items};
-ghost use Rattle.bench.specs.Runs.{records_of_run};
-
 use super::failure::Failure;
 use super::{reading, walking};
 use stab_circuit::Circuit;
-use stab_session::{SeedCoins, Shot, run_once};
-use std::alloc::Global;
+use stab_session::{SeedCoins, run_once};
 use std::fs;
 use std::num::nearest_usize_to_f64;
 use std::rt::Files;
@@ -15,11 +10,13 @@ use std::time::{CpuClock, Duration};
 /// The best of so many runs counts, since other programs disturb the rest.
 const RUNS: u32 = 5;
 
-/// The processor time of a run, and how many records it gave.
+/// The numbers of a circuit without edits, and its processor times in milliseconds.
 #[derive(Clone, Copy)]
-struct Timed {
-    time: Duration,
-    records: usize,
+pub struct Whole {
+    pub steps: usize,
+    pub records: usize,
+    pub read: f64,
+    pub run: f64,
 }
 
 /// Prints a table with the times of the circuits in files, a line for each.
@@ -43,15 +40,33 @@ fn print_line<R: CpuClock + Files + AllocGlobal + Print>(
     path: &str,
 ) -> Result<(), Failure> {
     let text = text_of_file(rt, path)?;
-    let read = reading::best_time(rt, text.as_slice())?.as_secs_f64() * 1e3;
-    let circuit = reading::circuit_of_text(rt.alloc(), text.as_slice())?;
-    let Timed { time, records } = best_run(rt, &circuit)?;
-    let (bytes, steps, run) = (text.len(), circuit.steps(), time.as_secs_f64() * 1e3);
-    let each = run * 1e6 / nearest_usize_to_f64(steps.max(1));
+    let whole = whole_of(rt, text.as_slice())?;
+    print_whole(rt, whole, text.len(), path)
+}
+
+/// Prints what reading a circuit and running it take, with the bytes of its text and its path.
+fn print_whole<R: Print>(rt: &R, whole: Whole, bytes: usize, path: &str) -> Result<(), Failure> {
+    let (steps, records) = (whole.steps, whole.records);
     println!(rt;
-        "{bytes:>9} {steps:>8} {records:>8} {read:>10.3} {run:>10.3} {each:>10.1}  {path}"
+        "{bytes:>9} {steps:>8} {records:>8} {:>10.3} {:>10.3} {:>10.1}  {path}",
+        whole.read,
+        whole.run,
+        whole.run * 1e6 / nearest_usize_to_f64(steps.max(1))
     )?;
     Ok(())
+}
+
+/// The numbers of a text's circuit, and the times that reading and running it take.
+pub fn whole_of<R: CpuClock + AllocGlobal>(rt: &R, text: &[u8]) -> Result<Whole, Failure> {
+    let read = reading::best_time(rt, text)?.as_secs_f64() * 1e3;
+    let circuit = reading::circuit_of_text(rt.alloc(), text)?;
+    let run = best_time(rt, &circuit)?.as_secs_f64() * 1e3;
+    Ok(Whole {
+        steps: circuit.steps(),
+        records: circuit.records(),
+        read,
+        run,
+    })
 }
 
 /// Prints what a cursor takes over the steps of the circuit in a file.
@@ -72,48 +87,25 @@ pub fn text_of_file<R: Files + AllocGlobal>(rt: &R, path: &str) -> Result<Vec<u8
     }
 }
 
-/// The processor time of the best of several runs.
+/// The processor time of a run, by the best of several.
 pub fn best_time<R: CpuClock + AllocGlobal>(
     rt: &R,
     circuit: &Circuit,
 ) -> Result<Duration, Failure> {
-    Ok(best_run(rt, circuit)?.time)
-}
-
-/// The best of several runs.
-fn best_run<R: CpuClock + AllocGlobal>(rt: &R, circuit: &Circuit) -> Result<Timed, Failure>
-    ensures records { IfOk result (λ t. t.records ≡ length (records_of_run (circuit_items circuit.now))) }
-{
-    let mut best = timed_run(rt, circuit)?;
-    for _ in 1..RUNS {
-        let next = timed_run(rt, circuit)?;
-        best.time = best.time.min(next.time);
+    let mut least = Duration::MAX;
+    for _ in 0..RUNS {
+        least = least.min(time_of_run(rt, circuit)?);
     }
-    Ok(best)
+    Ok(least)
 }
 
-/// The processor time of a run, without that of letting go what it gave.
-fn timed_run<R: CpuClock + AllocGlobal>(rt: &R, circuit: &Circuit) -> Result<Timed, Failure>
-    ensures records { IfOk result (λ t. t.records ≡ length (records_of_run (circuit_items circuit.now))) }
-{
-    let start = rt.thread_cpu_time()?;
-    let shot = shot_of(rt.alloc(), circuit)?;
-    let end = rt.thread_cpu_time();
-    let records = shot.records.len();
-    drop(shot);
-    Ok(Timed {
-        time: end?.saturating_sub(start),
-        records,
-    })
-}
-
-/// Runs a circuit once on its own qubits, with the coins of seed 0 and shot 0.
-fn shot_of(alloc: Global, circuit: &Circuit) -> Result<Shot, Failure>
-    ensures records { IfOk result (λ s. length s.records.items ≡ length (records_of_run (circuit_items circuit.now))) }
-{
+/// The processor time of a run on the circuit's own qubits, with the coins of seed 0 and shot 0,
+/// without that of letting go what it gave.
+fn time_of_run<R: CpuClock + AllocGlobal>(rt: &R, circuit: &Circuit) -> Result<Duration, Failure> {
     let mut coins = SeedCoins::new(0, 0);
-    match run_once(alloc, circuit, circuit.qubits(), &mut coins) {
-        Ok(shot) => Ok(shot),
-        Err(fault) => Err(Failure::Circuit(fault)),
-    }
+    let start = rt.thread_cpu_time()?;
+    let shot = run_once(rt.alloc(), circuit, circuit.qubits(), &mut coins)?;
+    let end = rt.thread_cpu_time();
+    drop(shot);
+    Ok(end?.saturating_sub(start))
 }

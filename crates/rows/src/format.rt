@@ -1,7 +1,7 @@
 //! Rows as they stand in a file.
 ghost use Rattle.std.specs.Prelude.{◌<◌, vec_len, IfOk, All};
 
-use crate::row::Row;
+use crate::row::WorkedRow;
 use crate::text::{number_of, push_bytes, push_line};
 use std::alloc::{AllocError, AllocFailed, Global};
 
@@ -34,7 +34,7 @@ enum Place {
     /// Nothing: no row is open.
     Between,
     /// The row, none of whose texts is open.
-    Row,
+    WorkedRow,
     Circuit,
     Script,
     Output,
@@ -42,7 +42,7 @@ enum Place {
 }
 
 /// The rows of a text.
-pub(crate) fn read_rows(alloc: Global, text: &str) -> Result<Vec<Row>, Unread>
+pub(crate) fn read_rows(alloc: Global, text: &str) -> Result<Vec<WorkedRow>, Unread>
     ensures with_words { IfOk result (λ rows. All (λ row. 0 < vec_len row.words) rows.items) }
 {
     let mut rows = Vec::new(alloc);
@@ -62,7 +62,7 @@ pub(crate) fn read_rows(alloc: Global, text: &str) -> Result<Vec<Row>, Unread>
 }
 
 /// The rows, if each of them has words.
-fn with_words(rows: Vec<Row>) -> Result<Vec<Row>, Unread>
+fn with_words(rows: Vec<WorkedRow>) -> Result<Vec<WorkedRow>, Unread>
     ensures with_words { IfOk result (λ rows. All (λ row. 0 < vec_len row.words) rows.items) }
 {
     match rows.iter().find(|row| row.words.is_empty()) {
@@ -77,7 +77,7 @@ fn with_words(rows: Vec<Row>) -> Result<Vec<Row>, Unread>
 /// Takes a line into the rows, and says what an indented line behind it belongs to.
 fn take_line(
     alloc: Global,
-    rows: &mut Vec<Row>,
+    rows: &mut Vec<WorkedRow>,
     place: Place,
     number: usize,
     line: &str,
@@ -89,8 +89,8 @@ fn take_line(
         return Ok(place);
     }
     if let Some(name) = line.strip_prefix("row ") {
-        rows.push(Row::new(alloc, number, String::from_str(alloc, name)?))?;
-        return Ok(Place::Row);
+        rows.push(WorkedRow::new(alloc, number, String::from_str(alloc, name)?))?;
+        return Ok(Place::WorkedRow);
     }
     match rows.last_mut() {
         Some(row) if place != Place::Between => take_into(alloc, row, place, line),
@@ -99,21 +99,26 @@ fn take_line(
 }
 
 /// Takes a line into a row.
-fn take_into(alloc: Global, row: &mut Row, place: Place, line: &str) -> Result<Place, Wrong> {
+fn take_into(alloc: Global, row: &mut WorkedRow, place: Place, line: &str) -> Result<Place, Wrong> {
     if let Some(text) = line.strip_prefix("    ") {
         push_text(alloc, row, place, text)?;
         return Ok(place);
     }
     let (field, value) = line.split_once(' ').unwrap_or((line, ""));
     let next = take_field(alloc, row, field, value)?;
-    if next != Place::Row && !value.is_empty() {
+    if next != Place::WorkedRow && !value.is_empty() {
         push_text(alloc, row, next, value)?;
     }
     Ok(next)
 }
 
 /// Takes a field into a row, but for the texts that it may have.
-fn take_field(alloc: Global, row: &mut Row, field: &str, value: &str) -> Result<Place, Wrong> {
+fn take_field(
+    alloc: Global,
+    row: &mut WorkedRow,
+    field: &str,
+    value: &str,
+) -> Result<Place, Wrong> {
     match field {
         "words" => row.words.push(String::from_str(alloc, value)?)?,
         "shows" => row.output.parts.push(String::from_str(alloc, value)?)?,
@@ -131,7 +136,7 @@ fn take_field(alloc: Global, row: &mut Row, field: &str, value: &str) -> Result<
         "error" => return Ok(Place::Error),
         _ => return Err(Wrong("no field has this name")),
     }
-    Ok(Place::Row)
+    Ok(Place::WorkedRow)
 }
 
 fn status_of(digits: &str) -> Result<u8, Wrong> {
@@ -146,7 +151,7 @@ fn on_failing(value: &str) -> Result<bool, Wrong> {
 }
 
 /// Puts a line behind the text that is open.
-fn push_text(alloc: Global, row: &mut Row, place: Place, line: &str) -> Result<(), Wrong> {
+fn push_text(alloc: Global, row: &mut WorkedRow, place: Place, line: &str) -> Result<(), Wrong> {
     match place {
         Place::Circuit => match row.circuits.last_mut() {
             Some(circuit) => push_line(alloc, circuit, line),
@@ -155,6 +160,6 @@ fn push_text(alloc: Global, row: &mut Row, place: Place, line: &str) -> Result<(
         Place::Script => push_line(alloc, &mut row.script, line),
         Place::Output => push_line(alloc, &mut row.output.bytes, line),
         Place::Error => push_line(alloc, &mut row.error.bytes, line),
-        Place::Between | Place::Row => Err(Wrong("an indented line belongs to no text")),
+        Place::Between | Place::WorkedRow => Err(Wrong("an indented line belongs to no text")),
     }
 }

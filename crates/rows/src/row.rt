@@ -5,7 +5,7 @@ use std::alloc::Global;
 use std::fmt::{self, Display, Formatter, Write};
 
 /// A worked example: what stabsim is asked, in one or several ways, and what it writes each time.
-pub(crate) struct Row {
+pub(crate) struct WorkedRow {
     /// The line of its file at which it begins, from 1.
     pub(crate) line: usize,
     pub(crate) name: String,
@@ -24,9 +24,9 @@ pub(crate) struct Row {
 }
 
 // Written out, so that to a proof a row that is let go is one call, and not one for each of its parts.
-impl Drop for Row {
+impl Drop for WorkedRow {
     fn drop(self) {
-        let Row {
+        let WorkedRow {
             line: _,
             name: _,
             words: _,
@@ -41,10 +41,10 @@ impl Drop for Row {
     }
 }
 
-impl Row {
+impl WorkedRow {
     /// A row that begins at this line, on which nothing else is said yet.
-    pub(crate) fn new(alloc: Global, line: usize, name: String) -> Row {
-        Row {
+    pub(crate) fn new(alloc: Global, line: usize, name: String) -> WorkedRow {
+        WorkedRow {
             line,
             name,
             words: Vec::new(alloc),

@@ -1,7 +1,7 @@
 //! Runs of stabsim over devices in memory.
 ghost use Rattle.std.specs.Prelude.{◌≡◌, vec_len, IsTrue};
 
-use crate::row::Row;
+use crate::row::WorkedRow;
 use stab_cli::{Job, Usage, run_job, write_usage};
 use stab_pauli::{CutInput, MemoryOutput};
 use std::alloc::{AllocError, Global};
@@ -73,7 +73,7 @@ impl Drop for Ended {
 
 impl Ended {
     /// Whether this is what a row wants.
-    pub(crate) fn meets(&self, row: &Row) -> bool
+    pub(crate) fn meets(&self, row: &WorkedRow) -> bool
         ensures status { IsTrue result → self.now.status ≡ row.now.status }
         ensures output { IsTrue result → vec_len row.now.output.parts ≡ 0 → self.now.out.written ≡ row.now.output.bytes.items }
         ensures error { IsTrue result → vec_len row.now.error.parts ≡ 0 → self.now.err.written ≡ row.now.error.bytes.items }

@@ -1,5 +1,5 @@
 //! The trial of a row: all its runs.
-use crate::row::Row;
+use crate::row::WorkedRow;
 use crate::run::{Devices, Ended, run};
 use crate::text::Shown;
 use stab_cli::{Job, Usage, parse_words};
@@ -9,7 +9,7 @@ use std::fmt::{self, Display, Formatter, Write};
 /// A run that is not what its row wants.
 #[derive(Drop)]
 pub(crate) struct Difference<'a> {
-    row: &'a Row,
+    row: &'a WorkedRow,
     words: &'a str,
     circuit: &'a [u8],
     devices: Devices,
@@ -45,7 +45,7 @@ impl<'a> Display for Difference<'a> {
 #[derive(Clone, Copy)]
 struct Trial<'a, 'b> {
     alloc: Global,
-    row: &'a Row,
+    row: &'a WorkedRow,
     words: &'a str,
     circuit: &'a [u8],
     asked: &'b Result<Job, Usage>,
@@ -58,7 +58,7 @@ struct Trial<'a, 'b> {
 /// so over devices that fail.
 pub(crate) fn first_difference(
     alloc: Global,
-    row: &Row,
+    row: &WorkedRow,
 ) -> Result<Option<Difference<'_>>, AllocError> {
     for words in &row.words {
         if let Some(difference) = difference_with(alloc, row, words.as_str())? {
@@ -71,7 +71,7 @@ pub(crate) fn first_difference(
 /// The same with these words.
 fn difference_with<'a>(
     alloc: Global,
-    row: &'a Row,
+    row: &'a WorkedRow,
     words: &'a str,
 ) -> Result<Option<Difference<'a>>, AllocError> {
     let all = words_of(alloc, words)?;

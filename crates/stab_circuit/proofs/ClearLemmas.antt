@@ -3,15 +3,16 @@ use Rattle.std.proofs.Common.{◌≡◌, refl, ap, sym, ◌∙◌, ℕ, ◌+◌,
 use Rattle.std.proofs.lemmas.List.{length-take-le}
 use Rattle.std.specs.List.{remove}
 use Rattle.std.specs.Prelude.{slice_get}
-use Rattle.stab_pauli.specs.declared.refusal.Refusal.{Refusal}
-use Rattle.stab_pauli.specs.declared.refusal.Refusal.TheVariants.{PlaceOutOfRange, NotABlock, QubitOutOfRange, LookbackTooFar, TooManySteps, TooDeep}
-use Rattle.stab_circuit.specs.declared.change.Change.TheVariants.{Replace, Delete}
+use Rattle.stab_io.specs.declared.refusal.Refusal.{Refusal}
+use Rattle.stab_io.specs.declared.refusal.Refusal.TheVariants.{PlaceOutOfRange, NotABlock, QubitOutOfRange, LookbackTooFar, TooManySteps, TooDeep}
+use Rattle.stab_circuit.specs.declared.edit.Edit.TheVariants.{Replace, Delete}
 use Rattle.stab_lines.specs.declared.operation.Kind.{Kind}
 use Rattle.stab_lines.specs.declared.operation.Kind.TheVariants.{Tick}
 use Rattle.stab_lines.specs.declared.operation.Operation.{Operation}
 use Rattle.stab_circuit.specs.Items.{OneItem, operation, repeat, done, before, listed, entries, depth}
 use Rattle.stab_circuit.specs.Steps.{steps_of, unroll, rounds, past, past_named, qubits_of, observables_of, named_qubits, named_observables, looks_too_far, most_steps, check_of, check_within}
-use Rattle.stab_circuit.specs.Edits.{put, rebuilt, edited_inside, changed, edited_in, taken_in, verdict}
+use Rattle.stab_circuit.specs.Edits.{with_item, rebuilt, edited_inside, changed, edited_in, edited, taken_in, taken, list_verdict, verdict}
+use Rattle.stab_circuit.specs.Paths.{Path}
 use Rattle.stab_circuit.specs.Nothings.{IsNothing}
 use Rattle.stab_circuit.proofs.ItemLemmas.{listed-append, depth-join}
 use Rattle.stab_circuit.proofs.SummaryLemmas.{past_named-join}
@@ -28,23 +29,23 @@ module _ {A : Type 0} (known : List OneItem → A) (plus : A → A → A) (parts
       ∙ ap (plus (known f)) (parts us r ∙ ap (λ a. plus a (known r)) e ∙ sym (parts vs r))
       ∙ sym (parts f (vs ++ r))
 
-  known-cleared : (bs : List ℕ) (p : ℕ) (ys zs : List OneItem) → edited_in Delete bs p ys ≡ Ok zs → taken_in Delete bs p ys ≡ Some x → known ys ≡ known zs
-  known-cleared [] p ys zs e h =
-      let s = changed_split Delete p ys zs e in
-      ap known (got_split ys p x h)
-      ∙ parts (take p ys) (x ∷ drop (suc p) ys)
-      ∙ ap (plus (known (take p ys))) (parts (x ∷ []) (drop (suc p) ys) ∙ adds_nothing (known (drop (suc p) ys)))
-      ∙ sym (parts (take p ys) (drop (suc p) ys))
-      ∙ ap (λ n. known (take p ys ++ drop n ys)) next
+  known-cleared : (bs : List ℕ) (at : Path) (ys zs : List OneItem) → edited_in (Delete at) bs ys ≡ Ok zs → taken_in (Delete at) bs ys ≡ Some x → known ys ≡ known zs
+  known-cleared [] at ys zs e h =
+      let s = changed_split (Delete at) ys zs e in
+      ap known (got_split ys at.place x h)
+      ∙ parts (take at.place ys) (x ∷ drop (suc at.place) ys)
+      ∙ ap (plus (known (take at.place ys))) (parts (x ∷ []) (drop (suc at.place) ys) ∙ adds_nothing (known (drop (suc at.place) ys)))
+      ∙ sym (parts (take at.place ys) (drop (suc at.place) ys))
+      ∙ ap (λ n. known (take at.place ys ++ drop n ys)) next
       ∙ sym (ap known s.1)
     where
-      next : suc p ≡ p + 1
+      next : suc at.place ≡ at.place + 1
       next = omega arith
-  known-cleared (b ∷ bs) p ys zs e h =
-      let edit = edited_in Delete bs p in
+  known-cleared (b ∷ bs) at ys zs e h =
+      let edit = edited_in (Delete at) bs in
       let is = rebuilds edit b ys zs (slice_get ys b) refl e in
       let inside : known (entries is.body) ≡ known is.within =
-      known-cleared bs p (entries is.body) is.within is.edited (sym (ap (taken_in Delete bs p) (old_inner edit b ys zs is)) ∙ h) in
+      known-cleared bs at (entries is.body) is.within is.edited (sym (ap (taken_in (Delete at) bs) (old_inner edit b ys zs is)) ∙ h) in
       ap known (old_parts edit b ys zs is)
       ∙ ap (λ i. known (take b ys ++ repeat is.count is.tag i ∷ drop (suc b) ys)) (sym (listed-entries is.body))
       ∙ same_around (take b ys) (repeat is.count is.tag (listed (entries is.body)) ∷ []) (repeat is.count is.tag (listed is.within) ∷ []) (drop (suc b) ys)
@@ -55,17 +56,17 @@ max_nothing : (m a : ℕ) → m ≡ 0 → max m a ≡ a
 max_nothing m a e = omega (arith, e)
 
 -- so the steps, the numbers of qubits and observables and the depth stay the same
-module _ (x : OneItem) (is : IsNothing x) (bs : List ℕ) (p : ℕ) (ys zs : List OneItem) (e : edited_in Delete bs p ys ≡ Ok zs) (h : taken_in Delete bs p ys ≡ Some x) where
+module _ (x : OneItem) (is : IsNothing x) (at : Path) (ys zs : List OneItem) (e : edited (Delete at) ys ≡ Ok zs) (h : taken (Delete at) ys ≡ Some x) where
   pub steps-cleared : unroll (listed ys) ≡ unroll (listed zs)
   steps-cleared =
       known-cleared (λ xs. unroll (listed xs)) (λ a b. a ++ b) steps-append x (λ a. ap (λ l. l ++ a) is.steps)
-      (λ count tag us vs same. ap (λ l. rounds count l ++ []) same) bs p ys zs e h
+      (λ count tag us vs same. ap (λ l. rounds count l ++ []) same) at.blocks at ys zs e h
 
   named-cleared : (named : Kind → List ℕ) → past_named named (before x done) ≡ 0 → past_named named (listed ys) ≡ past_named named (listed zs)
   named-cleared named none =
       known-cleared (λ xs. past_named named (listed xs)) max (λ us vs. ap (past_named named) (listed-append us vs) ∙ past_named-join named (listed us) (listed vs)) x
       (λ a. max_nothing _ a none)
-      (λ count tag us vs same. ap (λ n. max n 0) same) bs p ys zs e h
+      (λ count tag us vs same. ap (λ n. max n 0) same) at.blocks at ys zs e h
 
   pub qubits-cleared : qubits_of (listed ys) ≡ qubits_of (listed zs)
   qubits-cleared = named-cleared named_qubits is.qubits
@@ -77,7 +78,7 @@ module _ (x : OneItem) (is : IsNothing x) (bs : List ℕ) (p : ℕ) (ys zs : Lis
   depth-cleared =
       known-cleared (λ xs. depth (listed xs)) max (λ us vs. ap depth (listed-append us vs) ∙ depth-join (listed us) (listed vs)) x
       (λ a. max_nothing _ a is.depth)
-      (λ count tag us vs same. ap (λ n. max (n + 1) 0) same) bs p ys zs e h
+      (λ count tag us vs same. ap (λ n. max (n + 1) 0) same) at.blocks at ys zs e h
 
   same_check : check_of (listed ys) ≡ check_of (listed zs)
   unfolding check_of
@@ -89,7 +90,7 @@ module _ (x : OneItem) (is : IsNothing x) (bs : List ℕ) (p : ℕ) (ys zs : Lis
   pub check-cleared : (n : ℕ) → check_within n (listed ys) ≡ check_within n (listed zs)
   check-cleared n = λ i. if nat_lt n (qubits-cleared i) then Some QubitOutOfRange else same_check i
 
-  pub verdict-cleared : (n : ℕ) → verdict n (Ok ys) ≡ verdict n (Ok zs)
+  pub verdict-cleared : (n : ℕ) → list_verdict n (Ok ys) ≡ list_verdict n (Ok zs)
   verdict-cleared n = λ i. if nat_lt 16 (depth-cleared i) then Some TooDeep else check-cleared n i
 
 -- a replacement and a deletion at one place are both made, or refused alike
@@ -101,21 +102,21 @@ alike_if : (c : Bool) (ys zs : List OneItem) → Alike (if c then Ok ys else Err
 alike_if true ys zs = inl (ys, zs, refl, refl)
 alike_if false ys zs = inr (PlaceOutOfRange, refl, refl)
 
-alike_rebuilt : (b count : ℕ) (tag : List ℕ) (xs : List OneItem) (r s : Result (List OneItem) Refusal) → Alike r s → Alike (put b xs (rebuilt count tag r)) (put b xs (rebuilt count tag s))
+alike_rebuilt : (b count : ℕ) (tag : List ℕ) (xs : List OneItem) (r s : Result (List OneItem) Refusal) → Alike r s → Alike (with_item b xs (rebuilt count tag r)) (with_item b xs (rebuilt count tag s))
 alike_rebuilt b count tag xs r s (inl h) =
-    inl (set xs b (repeat count tag (listed h.0)), set xs b (repeat count tag (listed h.1)), ap (λ q. put b xs (rebuilt count tag q)) h.2, ap (λ q. put b xs (rebuilt count tag q)) h.3)
-alike_rebuilt b count tag xs r s (inr h) = inr (h.0, ap (λ q. put b xs (rebuilt count tag q)) h.1, ap (λ q. put b xs (rebuilt count tag q)) h.2)
+    inl (set xs b (repeat count tag (listed h.0)), set xs b (repeat count tag (listed h.1)), ap (λ q. with_item b xs (rebuilt count tag q)) h.2, ap (λ q. with_item b xs (rebuilt count tag q)) h.3)
+alike_rebuilt b count tag xs r s (inr h) = inr (h.0, ap (λ q. with_item b xs (rebuilt count tag q)) h.1, ap (λ q. with_item b xs (rebuilt count tag q)) h.2)
 
-alike_inside : (x : OneItem) (bs : List ℕ) (p b : ℕ) (xs : List OneItem) (g : Option OneItem)
-    → ((ys : List OneItem) → Alike (edited_in (Replace x) bs p ys) (edited_in Delete bs p ys))
-    → Alike (put b xs (edited_inside (edited_in (Replace x) bs p) g)) (put b xs (edited_inside (edited_in Delete bs p) g))
-alike_inside x bs p b xs None f = inr (PlaceOutOfRange, refl, refl)
-alike_inside x bs p b xs (Some (operation op)) f = inr (NotABlock, refl, refl)
-alike_inside x bs p b xs (Some (repeat count tag body)) f = alike_rebuilt b count tag xs _ _ (f (entries body))
+alike_inside : (x : OneItem) (bs : List ℕ) (at : Path) (b : ℕ) (xs : List OneItem) (g : Option OneItem)
+    → ((ys : List OneItem) → Alike (edited_in (Replace at x) bs ys) (edited_in (Delete at) bs ys))
+    → Alike (with_item b xs (edited_inside (edited_in (Replace at x) bs) g)) (with_item b xs (edited_inside (edited_in (Delete at) bs) g))
+alike_inside x bs at b xs None f = inr (PlaceOutOfRange, refl, refl)
+alike_inside x bs at b xs (Some (operation op)) f = inr (NotABlock, refl, refl)
+alike_inside x bs at b xs (Some (repeat count tag body)) f = alike_rebuilt b count tag xs _ _ (f (entries body))
 
-alike : (x : OneItem) (bs : List ℕ) (p : ℕ) (xs : List OneItem) → Alike (edited_in (Replace x) bs p xs) (edited_in Delete bs p xs)
-alike x [] p xs = alike_if (nat_lt p (length xs)) (set xs p x) (remove xs p)
-alike x (b ∷ bs) p xs = alike_inside x bs p b xs (slice_get xs b) (alike x bs p)
+alike : (x : OneItem) (bs : List ℕ) (at : Path) (xs : List OneItem) → Alike (edited_in (Replace at x) bs xs) (edited_in (Delete at) bs xs)
+alike x [] at xs = alike_if (nat_lt at.place (length xs)) (set xs at.place x) (remove xs at.place)
+alike x (b ∷ bs) at xs = alike_inside x bs at b xs (slice_get xs b) (alike x bs at)
 
 -- an item that was put in the stead of another is deleted as the other would have been
 
@@ -123,39 +124,42 @@ if_true : {A : Type 0} (c : Bool) (a b : A) → c ≡ true → (if c then a else
 if_true true a b e = refl
 if_true false a b e = absurd (cc)
 
-deleted_instead : (x : OneItem) (p : ℕ) (xs ys : List OneItem) → changed (Replace x) p xs ≡ Ok ys → changed Delete p ys ≡ changed Delete p xs
-deleted_instead x p xs ys e =
-    let s = changed_split (Replace x) p xs ys e in
-    let h = if_ok (nat_lt p (length xs)) (set xs p x) ys PlaceOutOfRange e in
-    ap (changed Delete p) s.1
-    ∙ deleted (take p xs) x (drop (p + 1) xs) p (length-take-le p xs s.0)
-    ∙ ap (λ n. Ok (take p xs ++ drop n xs)) next
-    ∙ sym (if_true (nat_lt p (length xs)) (Ok (remove xs p)) (Err PlaceOutOfRange) h.0)
+deleted_instead : (x : OneItem) (at : Path) (xs ys : List OneItem) → changed (Replace at x) xs ≡ Ok ys → changed (Delete at) ys ≡ changed (Delete at) xs
+deleted_instead x at xs ys e =
+    let s = changed_split (Replace at x) xs ys e in
+    let h = if_ok (nat_lt at.place (length xs)) (set xs at.place x) ys PlaceOutOfRange e in
+    ap (changed (Delete at)) s.1
+    ∙ deleted (take at.place xs) x (drop (at.place + 1) xs) at (length-take-le at.place xs s.0)
+    ∙ ap (λ n. Ok (take at.place xs ++ drop n xs)) next
+    ∙ sym (if_true (nat_lt at.place (length xs)) (Ok (remove xs at.place)) (Err PlaceOutOfRange) h.0)
   where
-    next : p + 1 ≡ suc p
+    next : at.place + 1 ≡ suc at.place
     next = omega arith
 
-pub delete-instead : (x : OneItem) (bs : List ℕ) (p : ℕ) (xs ys : List OneItem) → edited_in (Replace x) bs p xs ≡ Ok ys → edited_in Delete bs p ys ≡ edited_in Delete bs p xs
-delete-instead x [] p xs ys e = deleted_instead x p xs ys e
-delete-instead x (b ∷ bs) p xs ys e =
-    let edit = edited_in (Replace x) bs p in
+delete-instead_in : (x : OneItem) (bs : List ℕ) (at : Path) (xs ys : List OneItem) → edited_in (Replace at x) bs xs ≡ Ok ys → edited_in (Delete at) bs ys ≡ edited_in (Delete at) bs xs
+delete-instead_in x [] at xs ys e = deleted_instead x at xs ys e
+delete-instead_in x (b ∷ bs) at xs ys e =
+    let edit = edited_in (Replace at x) bs in
     let is = rebuilds edit b xs ys (slice_get xs b) refl e in
-    edited_new edit b xs ys is Delete bs p
-    ∙ ap (around (take b xs) is.count is.tag (drop (suc b) xs)) (delete-instead x bs p (entries is.body) is.within is.edited)
-    ∙ sym (edited_old edit b xs ys is Delete bs p)
+    edited_new edit b xs ys is (Delete at) bs
+    ∙ ap (around (take b xs) is.count is.tag (drop (suc b) xs)) (delete-instead_in x bs at (entries is.body) is.within is.edited)
+    ∙ sym (edited_old edit b xs ys is (Delete at) bs)
+
+pub delete-instead : (x : OneItem) (at : Path) (xs ys : List OneItem) → edited (Replace at x) xs ≡ Ok ys → edited (Delete at) ys ≡ edited (Delete at) xs
+delete-instead x at xs ys e = delete-instead_in x at.blocks at xs ys e
 
 -- so the verdict on a deletion is that on putting an item that stands for nothing in the other's stead
 
-verdict_alike : (n : ℕ) (x : OneItem) → IsNothing x → (bs : List ℕ) (p : ℕ) (xs : List OneItem) (a b : Result (List OneItem) Refusal)
-    → edited_in (Replace x) bs p xs ≡ a → edited_in Delete bs p xs ≡ b → Alike a b → verdict n a ≡ verdict n b
-verdict_alike n x is bs p xs a b ea eb (inl h) =
-    ap (verdict n) h.2
-    ∙ verdict-cleared x is bs p h.0 h.1 (delete-instead x bs p xs h.0 (ea ∙ h.2) ∙ eb ∙ h.3) (replace-retaken x x bs p xs h.0 (ea ∙ h.2)) n
-    ∙ sym (ap (verdict n) h.3)
-verdict_alike n x is bs p xs a b ea eb (inr h) = ap (verdict n) h.1 ∙ sym (ap (verdict n) h.2)
+verdict_alike : (n : ℕ) (x : OneItem) → IsNothing x → (at : Path) (xs : List OneItem) (a b : Result (List OneItem) Refusal)
+    → edited (Replace at x) xs ≡ a → edited (Delete at) xs ≡ b → Alike a b → list_verdict n a ≡ list_verdict n b
+verdict_alike n x is at xs a b ea eb (inl h) =
+    ap (list_verdict n) h.2
+    ∙ verdict-cleared x is at h.0 h.1 (delete-instead x at xs h.0 (ea ∙ h.2) ∙ eb ∙ h.3) (replace-retaken at x x xs h.0 (ea ∙ h.2)) n
+    ∙ sym (ap (list_verdict n) h.3)
+verdict_alike n x is at xs a b ea eb (inr h) = ap (list_verdict n) h.1 ∙ sym (ap (list_verdict n) h.2)
 
-pub verdict-instead : (n : ℕ) (x : OneItem) → IsNothing x → (bs : List ℕ) (p : ℕ) (xs : List OneItem) → verdict n (edited_in (Replace x) bs p xs) ≡ verdict n (edited_in Delete bs p xs)
-verdict-instead n x is bs p xs = verdict_alike n x is bs p xs _ _ refl refl (alike x bs p xs)
+pub verdict-instead : (n : ℕ) (x : OneItem) → IsNothing x → (at : Path) (xs : List OneItem) → verdict n (Replace at x) xs ≡ verdict n (Delete at) xs
+verdict-instead n x is at xs = verdict_alike n x is at xs _ _ refl refl (alike x at.blocks at xs)
 
 not_both : (zs : List OneItem) (r : Refusal) → ◌≡◌ {A = Result (List OneItem) Refusal} (Ok zs) (Err r) → ⊥
 not_both zs r q = absurd (cc)
@@ -164,8 +168,8 @@ ok_alike : (ys : List OneItem) (a b : Result (List OneItem) Refusal) → a ≡ O
 ok_alike ys a b e (inl h) = (h.1, h.3)
 ok_alike ys a b e (inr h) = absurd (not_both ys h.0 (sym e ∙ h.1))
 
-pub deleted-ok : (x : OneItem) (bs : List ℕ) (p : ℕ) (xs ys : List OneItem) → edited_in (Replace x) bs p xs ≡ Ok ys → (zs : List OneItem) × (edited_in Delete bs p xs ≡ Ok zs)
-deleted-ok x bs p xs ys e = ok_alike ys _ _ e (alike x bs p xs)
+pub deleted-ok : (x : OneItem) (at : Path) (xs ys : List OneItem) → edited (Replace at x) xs ≡ Ok ys → (zs : List OneItem) × (edited (Delete at) xs ≡ Ok zs)
+deleted-ok x at xs ys e = ok_alike ys _ _ e (alike x at.blocks at xs)
 
 -- TICK stands for nothing
 

@@ -4,14 +4,13 @@ use Rattle.std.proofs.lemmas.List.{set_split, take-append-drop, drop_at, take_at
 use Rattle.std.specs.List.{insert, remove}
 use Rattle.std.specs.Prelude.{slice_get}
 use Rattle.std.proofs.lemmas.Option.{slice_get_within}
-use Rattle.stab_pauli.specs.declared.refusal.Refusal.{Refusal}
-use Rattle.stab_pauli.specs.declared.refusal.Refusal.TheVariants.{PlaceOutOfRange}
-use Rattle.stab_circuit.specs.declared.change.Change.{Change}
-use Rattle.stab_circuit.specs.declared.change.Change.TheVariants.{Insert, Replace, Delete}
+use Rattle.stab_io.specs.declared.refusal.Refusal.{Refusal}
+use Rattle.stab_io.specs.declared.refusal.Refusal.TheVariants.{PlaceOutOfRange}
+use Rattle.stab_circuit.specs.declared.edit.Edit.{Edit}
+use Rattle.stab_circuit.specs.declared.edit.Edit.TheVariants.{Insert, Replace, Delete}
 use Rattle.stab_circuit.specs.Items.{Items, OneItem, operation, repeat, done, next, block, before, listed, entries}
 use Rattle.stab_circuit.specs.Steps.{Step, unroll, rounds}
-use Rattle.stab_circuit.specs.Paths.{Path}
-use Rattle.stab_circuit.specs.Edits.{put, rebuilt, edited_inside, changed, edited_in, edited, inner, steps_in, steps_before, behind_taken, behind_put, outermost, first_changed, old_end, new_end}
+use Rattle.stab_circuit.specs.Edits.{with_item, rebuilt, edited_inside, edit_path, changed, edited_in, edited, inner, steps_in, steps_before, behind_taken, behind_put, outermost, first_changed, old_end, new_end}
 use Rattle.stab_circuit.specs.inner.Judgements.{BeginsWith}
 use Rattle.stab_circuit.specs.Laws.{LeavesTheRest}
 use Rattle.stab_circuit.proofs.ItemLemmas.{listed-append}
@@ -43,16 +42,16 @@ steps_split n xs = sym (ap steps (take-append-drop n xs)) ∙ steps-append (take
 steps_dropped : (n : ℕ) (xs : List OneItem) → drop (length (steps (take n xs))) (steps xs) ≡ steps (drop n xs)
 steps_dropped n xs = ap (drop (length (steps (take n xs)))) (steps_split n xs) ∙ drop_at (steps (take n xs)) (steps (drop n xs)) _ refl
 
--- what a change takes out and puts in
-abbrev pub put_in : Change → List OneItem
-put_in (Insert x) = x ∷ []
-put_in (Replace x) = x ∷ []
-put_in Delete = []
+-- what an edit puts in
+abbrev pub put_in : Edit → List OneItem
+put_in (Insert at x) = x ∷ []
+put_in (Replace at x) = x ∷ []
+put_in (Delete at) = []
 
-behind_put_is : (change : Change) (p : ℕ) → behind_put change p ≡ p + length (put_in change)
-behind_put_is (Insert x) p = refl
-behind_put_is (Replace x) p = refl
-behind_put_is Delete p = omega arith
+behind_put_is : (edit : Edit) → behind_put edit ≡ (edit_path edit).place + length (put_in edit)
+behind_put_is (Insert at x) = refl
+behind_put_is (Replace at x) = refl
+behind_put_is (Delete at) = omega arith
 
 pub if_ok : {A B : Type 0} (c : Bool) (a b : A) (r : B) → (if c then Ok a else Err r) ≡ Ok b → (c ≡ true) × (a ≡ b)
 if_ok true a b r e = (refl, cc)
@@ -68,32 +67,32 @@ pub next_place : (p : ℕ) → suc p ≡ p + 1
 next_place p = omega arith
 
 -- a list that is changed, in parts
-pub changed_split : (change : Change) (p : ℕ) (xs ys : List OneItem) → changed change p xs ≡ Ok ys
-    → (p ≤ length xs) × (ys ≡ take p xs ++ (put_in change ++ drop (behind_taken change p) xs))
-changed_split (Insert x) p xs ys e =
-    let h = if_ok (nat_le p (length xs)) (insert xs p x) ys PlaceOutOfRange e in
-    (le_holds p (length xs) h.0, sym h.1)
-changed_split (Replace x) p xs ys e =
-    let h = if_ok (nat_lt p (length xs)) (set xs p x) ys PlaceOutOfRange e in
-    let within = lt_holds p (length xs) h.0 in
-    (omega arith, sym h.1 ∙ set_split xs p x within ∙ ap (λ n. take p xs ++ x ∷ drop n xs) (next_place p))
-changed_split Delete p xs ys e =
-    let h = if_ok (nat_lt p (length xs)) (remove xs p) ys PlaceOutOfRange e in
-    let within = lt_holds p (length xs) h.0 in
-    (omega arith, sym h.1 ∙ ap (λ n. take p xs ++ drop n xs) (next_place p))
+pub changed_split : (edit : Edit) (xs ys : List OneItem) → changed edit xs ≡ Ok ys
+    → ((edit_path edit).place ≤ length xs) × (ys ≡ take (edit_path edit).place xs ++ (put_in edit ++ drop (behind_taken edit) xs))
+changed_split (Insert at x) xs ys e =
+    let h = if_ok (nat_le at.place (length xs)) (insert xs at.place x) ys PlaceOutOfRange e in
+    (le_holds at.place (length xs) h.0, sym h.1)
+changed_split (Replace at x) xs ys e =
+    let h = if_ok (nat_lt at.place (length xs)) (set xs at.place x) ys PlaceOutOfRange e in
+    let within = lt_holds at.place (length xs) h.0 in
+    (omega arith, sym h.1 ∙ set_split xs at.place x within ∙ ap (λ n. take at.place xs ++ x ∷ drop n xs) (next_place at.place))
+changed_split (Delete at) xs ys e =
+    let h = if_ok (nat_lt at.place (length xs)) (remove xs at.place) ys PlaceOutOfRange e in
+    let within = lt_holds at.place (length xs) h.0 in
+    (omega arith, sym h.1 ∙ ap (λ n. take at.place xs ++ drop n xs) (next_place at.place))
 
-changed_before : (change : Change) (p : ℕ) (xs ys : List OneItem) → changed change p xs ≡ Ok ys → take p ys ≡ take p xs
-changed_before change p xs ys e =
-    let s = changed_split change p xs ys e in
-    ap (take p) s.1 ∙ take_at (take p xs) (put_in change ++ drop (behind_taken change p) xs) p (length-take-le p xs s.0)
+changed_before : (edit : Edit) (xs ys : List OneItem) → changed edit xs ≡ Ok ys → take (edit_path edit).place ys ≡ take (edit_path edit).place xs
+changed_before edit xs ys e =
+    let s = changed_split edit xs ys e in
+    ap (take (edit_path edit).place) s.1 ∙ take_at (take (edit_path edit).place xs) (put_in edit ++ drop (behind_taken edit) xs) (edit_path edit).place (length-take-le (edit_path edit).place xs s.0)
 
-changed_behind : (change : Change) (p : ℕ) (xs ys : List OneItem) → changed change p xs ≡ Ok ys → drop (behind_taken change p) xs ≡ drop (behind_put change p) ys
-changed_behind change p xs ys e =
-    let s = changed_split change p xs ys e in
-    let front = take p xs ++ put_in change in
-    let rest = drop (behind_taken change p) xs in
-    let long : length front ≡ behind_put change p = length-append (take p xs) (put_in change) ∙ ap (λ n. n + length (put_in change)) (length-take-le p xs s.0) ∙ sym (behind_put_is change p) in
-    sym (ap (drop (behind_put change p)) (s.1 ∙ sym (append_assoc (take p xs) (put_in change) rest)) ∙ drop_at front rest (behind_put change p) long)
+changed_behind : (edit : Edit) (xs ys : List OneItem) → changed edit xs ≡ Ok ys → drop (behind_taken edit) xs ≡ drop (behind_put edit) ys
+changed_behind edit xs ys e =
+    let s = changed_split edit xs ys e in
+    let front = take (edit_path edit).place xs ++ put_in edit in
+    let rest = drop (behind_taken edit) xs in
+    let long : length front ≡ behind_put edit = length-append (take (edit_path edit).place xs) (put_in edit) ∙ ap (λ n. n + length (put_in edit)) (length-take-le (edit_path edit).place xs s.0) ∙ sym (behind_put_is edit) in
+    sym (ap (drop (behind_put edit)) (s.1 ∙ sym (append_assoc (take (edit_path edit).place xs) (put_in edit) rest)) ∙ drop_at front rest (behind_put edit) long)
 
 -- a list with an item rebuilt in it
 pub record Rebuilds (edit : List OneItem → Result (List OneItem) Refusal) (b : ℕ) (xs ys : List OneItem) : Type 0 where
@@ -106,12 +105,12 @@ pub record Rebuilds (edit : List OneItem → Result (List OneItem) Refusal) (b :
   pub same : ys ≡ set xs b (repeat count tag (listed within))
 
 rebuilds_by : (edit : List OneItem → Result (List OneItem) Refusal) (b : ℕ) (xs ys : List OneItem) (count : ℕ) (tag : List ℕ) (body : Items) (r : Result (List OneItem) Refusal)
-    → slice_get xs b ≡ Some (repeat count tag body) → edit (entries body) ≡ r → put b xs (rebuilt count tag r) ≡ Ok ys → Rebuilds edit b xs ys
+    → slice_get xs b ≡ Some (repeat count tag body) → edit (entries body) ≡ r → with_item b xs (rebuilt count tag r) ≡ Ok ys → Rebuilds edit b xs ys
 rebuilds_by edit b xs ys count tag body (Err r) f g e = absurd (cc)
 rebuilds_by edit b xs ys count tag body (Ok zs) f g e = record { count = count; tag = tag; body = body; within = zs; found = f; edited = g; same = cc }
 
 pub rebuilds : (edit : List OneItem → Result (List OneItem) Refusal) (b : ℕ) (xs ys : List OneItem) (g : Option OneItem)
-    → slice_get xs b ≡ g → put b xs (edited_inside edit g) ≡ Ok ys → Rebuilds edit b xs ys
+    → slice_get xs b ≡ g → with_item b xs (edited_inside edit g) ≡ Ok ys → Rebuilds edit b xs ys
 rebuilds edit b xs ys None f e = absurd (cc)
 rebuilds edit b xs ys (Some (operation op)) f e = absurd (cc)
 rebuilds edit b xs ys (Some (repeat count tag body)) f e = rebuilds_by edit b xs ys count tag body (edit (entries body)) f refl e
@@ -153,43 +152,43 @@ steps_around : (front back : List OneItem) (x : OneItem) → steps (front ++ x �
 steps_around front back x = steps-append front (x ∷ back)
 
 -- an edit leaves the steps before its place
-edit_same : (change : Change) (bs : List ℕ) (p : ℕ) (xs ys : List OneItem) → edited_in change bs p xs ≡ Ok ys → AreSame (steps_in bs p xs) (steps xs) (steps ys)
-edit_same change [] p xs ys e =
-    inr ((steps (drop p xs), steps_split p xs), (steps (drop p ys), steps_split p ys ∙ ap (λ l. steps l ++ steps (drop p ys)) (changed_before change p xs ys e)))
-edit_same change (b ∷ bs) p xs ys e =
-    let r = rebuilds (edited_in change bs p) b xs ys (slice_get xs b) refl e in
+edit_same : (edit : Edit) (bs : List ℕ) (xs ys : List OneItem) → edited_in edit bs xs ≡ Ok ys → AreSame (steps_in bs (edit_path edit).place xs) (steps xs) (steps ys)
+edit_same edit [] xs ys e =
+    inr ((steps (drop (edit_path edit).place xs), steps_split (edit_path edit).place xs), (steps (drop (edit_path edit).place ys), steps_split (edit_path edit).place ys ∙ ap (λ l. steps l ++ steps (drop (edit_path edit).place ys)) (changed_before edit xs ys e)))
+edit_same edit (b ∷ bs) xs ys e =
+    let r = rebuilds (edited_in edit bs) b xs ys (slice_get xs b) refl e in
     let front = steps (take b xs) in
     let back = steps (drop (suc b) xs) in
-    let within = steps_in bs p (entries r.body) in
-    let inside : AreSame within (steps (entries r.body)) (steps r.within) = edit_same change bs p (entries r.body) r.within r.edited in
+    let within = steps_in bs (edit_path edit).place (entries r.body) in
+    let inside : AreSame within (steps (entries r.body)) (steps r.within) = edit_same edit bs (entries r.body) r.within r.edited in
     let body : steps (entries r.body) ≡ unroll r.body = ap unroll (listed-entries r.body) in
     let turns = same_rounds r.count within (unroll r.body) (steps r.within) (subst (λ l. AreSame within l (steps r.within)) body inside) in
     let old : steps xs ≡ front ++ (rounds r.count (unroll r.body) ++ back) = ap steps (got_split xs b (repeat r.count r.tag r.body) r.found) ∙ steps_around (take b xs) (drop (suc b) xs) (repeat r.count r.tag r.body) in
     let new : steps ys ≡ front ++ (rounds r.count (steps r.within) ++ back) =
     ap steps (r.same ∙ set_split xs b (repeat r.count r.tag (listed r.within)) (slice_get_within xs b (repeat r.count r.tag r.body) r.found))
     ∙ steps_around (take b xs) (drop (suc b) xs) (repeat r.count r.tag (listed r.within)) in
-    let first : steps_in (b ∷ bs) p xs ≡ front ++ within = ap (λ g. front ++ steps_in bs p (inner g)) r.found in
+    let first : steps_in (b ∷ bs) (edit_path edit).place xs ≡ front ++ within = ap (λ g. front ++ steps_in bs (edit_path edit).place (inner g)) r.found in
     same_as _ _ _ _ _ _ first old new (same_around front back within (rounds r.count (unroll r.body)) (rounds r.count (steps r.within)) turns)
   where
     same_as : (s t old other new later : List Step) → s ≡ t → old ≡ other → new ≡ later → AreSame t other later → AreSame s old new
     same_as s t old other new later e f g h = subst (λ l. AreSame l old new) (sym e) (subst (λ l. AreSame t l new) (sym f) (subst (λ l. AreSame t other l) (sym g) h))
 
-edit_before : (change : Change) (path : Path) (old new : List OneItem) → edited change path old ≡ Ok new → take (first_changed path old) (steps old) ≡ take (first_changed path old) (steps new)
-edit_before change path old new e = same_taken (steps_before path old) (steps old) (steps new) (edit_same change path.blocks path.place old new e)
+edit_before : (edit : Edit) (old new : List OneItem) → edited edit old ≡ Ok new → take (first_changed edit old) (steps old) ≡ take (first_changed edit old) (steps new)
+edit_before edit old new e = same_taken (steps_before (edit_path edit) old) (steps old) (steps new) (edit_same edit (edit_path edit).blocks old new e)
 
 -- an edit leaves the items behind the outermost one around its place
-left_behind : (change : Change) (bs : List ℕ) (p : ℕ) (xs ys : List OneItem) → edited_in change bs p xs ≡ Ok ys
-    → drop (outermost (behind_taken change) (record { blocks = bs; place = p })) xs ≡ drop (outermost (behind_put change) (record { blocks = bs; place = p })) ys
-left_behind change [] p xs ys e = changed_behind change p xs ys e
-left_behind change (b ∷ bs) p xs ys e =
-    let r = rebuilds (edited_in change bs p) b xs ys (slice_get xs b) refl e in
+left_behind : (edit : Edit) (bs : List ℕ) (xs ys : List OneItem) → edited_in edit bs xs ≡ Ok ys
+    → drop (outermost (behind_taken edit) bs) xs ≡ drop (outermost (behind_put edit) bs) ys
+left_behind edit [] xs ys e = changed_behind edit xs ys e
+left_behind edit (b ∷ bs) xs ys e =
+    let r = rebuilds (edited_in edit bs) b xs ys (slice_get xs b) refl e in
     sym (ap (drop (b + 1)) r.same ∙ drop-set-lt (b + 1) xs b (repeat r.count r.tag (listed r.within)) (omega arith))
 
-edit_behind : (change : Change) (path : Path) (old new : List OneItem) → edited change path old ≡ Ok new → drop (old_end change path old) (steps old) ≡ drop (new_end change path new) (steps new)
-edit_behind change path old new e =
-    let n = outermost (behind_taken change) path in
-    let m = outermost (behind_put change) path in
-    steps_dropped n old ∙ ap steps (left_behind change path.blocks path.place old new e) ∙ sym (steps_dropped m new)
+edit_behind : (edit : Edit) (old new : List OneItem) → edited edit old ≡ Ok new → drop (old_end edit old) (steps old) ≡ drop (new_end edit new) (steps new)
+edit_behind edit old new e =
+    let n = outermost (behind_taken edit) (edit_path edit).blocks in
+    let m = outermost (behind_put edit) (edit_path edit).blocks in
+    steps_dropped n old ∙ ap steps (left_behind edit (edit_path edit).blocks old new e) ∙ sym (steps_dropped m new)
 
-pub edits_leave : (change : Change) (path : Path) (old new : List OneItem) → edited change path old ≡ Ok new → LeavesTheRest change path old new
-edits_leave change path old new e = record { before = edit_before change path old new e; behind = edit_behind change path old new e }
+pub edits_leave : (edit : Edit) (old new : List OneItem) → edited edit old ≡ Ok new → LeavesTheRest edit old new
+edits_leave edit old new e = record { before = edit_before edit old new e; behind = edit_behind edit old new e }

@@ -2,12 +2,11 @@
 use Rattle.std.proofs.Common.{◌≡◌, ◌≤◌, ◌<◌, ℕ, ◌+◌, ◌-◌, List, ◌++◌, length, length-append, length-take, take, Result, Ok, Err, arith, inr}
 use Rattle.std.specs.Global.{Vec}
 use Rattle.std.specs.Result.{IsErrAnd}
-use Rattle.stab_pauli.specs.declared.refusal.Refusal.{Refusal}
-use Rattle.stab_pauli.specs.declared.refusal.Refusal.TheVariants.{OutOfMemory}
-use Rattle.stab_pauli.specs.Devices.{InputView, Gave}
-use Rattle.stab_pauli.proofs.DeviceLemmas.{gave_more}
-use Rattle.stab_circuit.specs.Inputs.{GaveTooMuch, GaveFront}
-use Rattle.stab_circuit.specs.inner.Texts.{ReadsText}
+use Rattle.stab_io.specs.declared.refusal.Refusal.{Refusal}
+use Rattle.stab_io.specs.declared.refusal.Refusal.TheVariants.{OutOfMemory}
+use Rattle.stab_io.specs.Devices.{InputView, Gave}
+use Rattle.stab_io.proofs.DeviceLemmas.{gave_more}
+use Rattle.stab_circuit.specs.Inputs.{GaveTooMuch, GaveFront, ReadsText}
 
 -- a read that goes past the limit
 pub read_past : {a b c : InputView} (held buf : List ℕ) (n : ℕ) → length held ≤ 16777216 → length buf ≡ 4096 → n ≤ length buf → 16777216 - length held < n

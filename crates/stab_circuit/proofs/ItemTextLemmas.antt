@@ -1,13 +1,13 @@
 -- One item's text without a fault stands for one item, and for no other.
 use Rattle.std.proofs.Common.{◌≡◌, ◌≤◌, ap, refl, sym, ◌∙◌, subst, ℕ, List, [], Bool, true, false, nat_lt, length, Option, None, Some, Ok, arith, if◌then◌else◌}
 use Rattle.std.specs.List.{list_all, slice_split}
-use Rattle.stab_pauli.specs.declared.refusal.Refusal.TheVariants.{BadLine}
-use Rattle.stab_pauli.specs.declared.refusal.Fault.{Fault}
-use Rattle.stab_pauli.specs.Refusals.{whole}
+use Rattle.stab_io.specs.declared.refusal.Refusal.TheVariants.{BadLine}
+use Rattle.stab_io.specs.declared.refusal.Fault.{Fault}
+use Rattle.stab_io.specs.Refusals.{whole}
 use Rattle.stab_lines.specs.Lines.{is_byte}
 use Rattle.stab_circuit.specs.Items.{Items, OneItem, operation, repeat, before, done, next, block}
 use Rattle.stab_circuit.specs.Circuits.{Joins, most_bytes, contents, meanings, fault_from, one_item, is_empty, item_fault, StandsForOne}
-use Rattle.stab_circuit.specs.inner.Readers.{start, read_on}
+use Rattle.stab_circuit.specs.inner.Readers.{before_reading, read_on}
 use Rattle.stab_circuit.specs.Laws.{StandsForOneOnly, AreLinesOf}
 use Rattle.stab_circuit.proofs.ReadingLemmas.{one_list, some_list, read_joined}
 use Rattle.stab_circuit.proofs.OneItemLemmas.{read_blank, read_one, same_meanings, size}
@@ -66,7 +66,7 @@ one_item_text text e =
     let cs = contents text in
     let lines = item_lines text e in
     let found = some_list (one_item 0 cs) lines.1 in
-    let read : read_on 1 start (one_item 0 cs) ≡ Ok found.0 = read_joined (one_item 0 cs) found.0 found.1 lines.1 in
+    let read : read_on 1 before_reading (one_item 0 cs) ≡ Ok found.0 = read_joined (one_item 0 cs) found.0 found.1 lines.1 in
     let some : found.0 ≡ done → ⊥ = λ d. (let blank : list_all is_empty cs ≡ true = read_blank cs (read ∙ ap Ok d) in cc) in
     let one = one_alone found.0 some (read_one cs found.0 read) in
     (one.0, item_found text one.0 e (lines_clean text e) (subst (λ ms. Joins ms (before one.0 done)) (lines_same text e) (subst (Joins (one_item 0 cs)) one.1 found.1)))

@@ -2,17 +2,17 @@
 use Rattle.std.proofs.Common.{◌≡◌, ◌≤◌, ◌<◌, refl, ap, sym, ◌∙◌, subst, ℕ, ◌+◌, ◌*◌, suc, zero, min, List, [], ◌∷◌, ◌++◌, length, take, drop, arith, append-nil, Option, Some, None, Result, Ok, Err, IfOk}
 use Rattle.std.proofs.lemmas.List.{length-append}
 use Rattle.std.specs.Prelude.{slice_get}
-use Rattle.stab_pauli.specs.declared.refusal.Refusal.{Refusal}
+use Rattle.stab_io.specs.declared.refusal.Refusal.{Refusal}
 use Rattle.stab_circuit.specs.declared.summary.Summary.{Summary}
-use Rattle.stab_circuit.specs.declared.edit.Judgement.{Judgement}
-use Rattle.stab_circuit.specs.declared.change.Change.{Change}
+use Rattle.stab_circuit.specs.declared.judge.Judgement.{Judgement}
+use Rattle.stab_circuit.specs.declared.edit.Edit.{Edit}
 use Rattle.stab_circuit.specs.Items.{OneItem, operation, repeat, listed}
 use Rattle.stab_circuit.specs.Steps.{Step, unroll, rounds}
-use Rattle.stab_circuit.specs.Edits.{rebuilt, edited_inside, edited_in, inner, steps_in}
+use Rattle.stab_circuit.specs.Edits.{rebuilt, edited_inside, edit_path, edited_in, inner, steps_in}
 use Rattle.stab_circuit.specs.inner.Summaries.{summary_of, followed_by, repeated, reach, IsSummary}
 use Rattle.stab_circuit.specs.inner.Splices.{Splice, splice_block, splice_of, spliced, IsWithin}
 use Rattle.stab_circuit.specs.inner.Judgements.{summed, judgement_of, block_refusal, BeginsWith}
-use Rattle.stab_circuit.specs.inner.Outcomes.{steps_within, PutsApart, AreApart}
+use Rattle.stab_circuit.specs.inner.EditResults.{steps_within, PutsApart, AreApart}
 use Rattle.stab_circuit.proofs.ItemLemmas.{listed-append}
 use Rattle.stab_circuit.proofs.SummaryLemmas.{summary-join, block_summary}
 use Rattle.stab_circuit.proofs.StepApartLemmas.{block_apart}
@@ -25,10 +25,10 @@ refused_inside edit (Some (operation op)) r e = cc
 refused_inside edit (Some (repeat n tag body)) r e = absurd (cc)
 
 -- no block
-pub judged_no_block : (change : Change) (b p w : ℕ) (bs blocks : List ℕ) (xs : List OneItem) (r : Refusal) → blocks ≡ b ∷ bs → block_refusal (slice_get xs b) ≡ Some r
-    → Err r ≡ judgement_of w (splice_of change blocks p xs)
-judged_no_block change b p w bs blocks xs r e f =
-    sym (ap (λ l. judgement_of w (splice_of change l p xs)) e ∙ ap (λ q. judgement_of w (splice_block b q)) (refused_inside (edited_in change bs p) (slice_get xs b) r f))
+pub judged_no_block : (edit : Edit) (b w : ℕ) (bs blocks : List ℕ) (xs : List OneItem) (r : Refusal) → blocks ≡ b ∷ bs → block_refusal (slice_get xs b) ≡ Some r
+    → Err r ≡ judgement_of w (splice_of edit blocks xs)
+judged_no_block edit b w bs blocks xs r e f =
+    sym (ap (λ l. judgement_of w (splice_of edit l xs)) e ∙ ap (λ q. judgement_of w (splice_block b q)) (refused_inside (edited_in edit bs) (slice_get xs b) r f))
 
 inside_is : (edit : List OneItem → Result (List OneItem) Refusal) (n : ℕ) (tag : List ℕ) (body : List OneItem) (g : Option OneItem) → g ≡ Some (repeat n tag (listed body)) → edited_inside edit g ≡ rebuilt n tag (edit body)
 inside_is edit n tag body g e = ap (edited_inside edit) e ∙ ap (λ l. rebuilt n tag (edit l)) (entries-listed body)
@@ -44,28 +44,28 @@ ok_rebuilt n b w tag (Ok ys) s h e =
 ok_rebuilt n b w tag (Err r) s h e = absurd (cc)
 
 -- in a block
-splice_inside : (change : Change) (b p n : ℕ) (bs blocks tag : List ℕ) (xs body : List OneItem) → blocks ≡ b ∷ bs → slice_get xs b ≡ Some (repeat n tag (listed body))
-    → splice_of change blocks p xs ≡ splice_block b (rebuilt n tag (edited_in change bs p body))
-splice_inside change b p n bs blocks tag xs body e f =
-    ap (λ l. splice_of change l p xs) e ∙ ap (splice_block b) (inside_is (edited_in change bs p) n tag body (slice_get xs b) f)
+splice_inside : (edit : Edit) (b n : ℕ) (bs blocks tag : List ℕ) (xs body : List OneItem) → blocks ≡ b ∷ bs → slice_get xs b ≡ Some (repeat n tag (listed body))
+    → splice_of edit blocks xs ≡ splice_block b (rebuilt n tag (edited_in edit bs body))
+splice_inside edit b n bs blocks tag xs body e f =
+    ap (λ l. splice_of edit l xs) e ∙ ap (splice_block b) (inside_is (edited_in edit bs) n tag body (slice_get xs b) f)
 
 within_block : (b p n : ℕ) (bs blocks tag : List ℕ) (xs body : List OneItem) → blocks ≡ b ∷ bs → slice_get xs b ≡ Some (repeat n tag (listed body)) → steps_within blocks p xs ≡ steps_in bs p body
 within_block b p n bs blocks tag xs body e f = ap (λ l. steps_within l p xs) e ∙ ap (λ g. steps_in bs p (inner g)) f ∙ ap (steps_in bs p) (entries-listed body)
 
-pub judged_err : (change : Change) (b p n w : ℕ) (bs blocks tag : List ℕ) (xs body : List OneItem) (r : Refusal) → blocks ≡ b ∷ bs → slice_get xs b ≡ Some (repeat n tag (listed body)) → edited_in change bs p body ≡ Err r
-    → Err r ≡ judgement_of w (splice_of change blocks p xs)
-judged_err change b p n w bs blocks tag xs body r e f h =
-    sym (ap (judgement_of w) (splice_inside change b p n bs blocks tag xs body e f) ∙ err_rebuilt n b w tag (edited_in change bs p body) r h)
+pub judged_err : (edit : Edit) (b n w : ℕ) (bs blocks tag : List ℕ) (xs body : List OneItem) (r : Refusal) → blocks ≡ b ∷ bs → slice_get xs b ≡ Some (repeat n tag (listed body)) → edited_in edit bs body ≡ Err r
+    → Err r ≡ judgement_of w (splice_of edit blocks xs)
+judged_err edit b n w bs blocks tag xs body r e f h =
+    sym (ap (judgement_of w) (splice_inside edit b n bs blocks tag xs body e f) ∙ err_rebuilt n b w tag (edited_in edit bs body) r h)
 
-pub judged_ok : (change : Change) (b p n w : ℕ) (bs blocks tag : List ℕ) (xs body : List OneItem) (s : Summary) → blocks ≡ b ∷ bs → slice_get xs b ≡ Some (repeat n tag (listed body)) → 0 < n → Ok s ≡ summed (edited_in change bs p body)
-    → w ≡ min (length (steps_in bs p body)) 1048577
-    → Ok (record { first = b; behind = b + 1; put = repeated n s; within = w }) ≡ judgement_of (min (length (steps_within blocks p xs)) 1048577) (splice_of change blocks p xs)
-judged_ok change b p n w bs blocks tag xs body s e f pos h v =
+pub judged_ok : (edit : Edit) (b n w : ℕ) (bs blocks tag : List ℕ) (xs body : List OneItem) (s : Summary) → blocks ≡ b ∷ bs → slice_get xs b ≡ Some (repeat n tag (listed body)) → 0 < n → Ok s ≡ summed (edited_in edit bs body)
+    → w ≡ min (length (steps_in bs (edit_path edit).place body)) 1048577
+    → Ok (record { first = b; behind = b + 1; put = repeated n s; within = w }) ≡ judgement_of (min (length (steps_within blocks (edit_path edit).place xs)) 1048577) (splice_of edit blocks xs)
+judged_ok edit b n w bs blocks tag xs body s e f pos h v =
     sym (
-    ap (λ l. judgement_of (min (length l) 1048577) (splice_of change blocks p xs)) (within_block b p n bs blocks tag xs body e f)
-    ∙ ap (λ m. judgement_of m (splice_of change blocks p xs)) (sym v)
-    ∙ ap (judgement_of w) (splice_inside change b p n bs blocks tag xs body e f)
-    ∙ ok_rebuilt n b w tag (edited_in change bs p body) s pos (sym h)
+    ap (λ l. judgement_of (min (length l) 1048577) (splice_of edit blocks xs)) (within_block b (edit_path edit).place n bs blocks tag xs body e f)
+    ∙ ap (λ m. judgement_of m (splice_of edit blocks xs)) (sym v)
+    ∙ ap (judgement_of w) (splice_inside edit b n bs blocks tag xs body e f)
+    ∙ ok_rebuilt n b w tag (edited_in edit bs body) s pos (sym h)
     )
 
 -- what is put in, where its steps are on different qubits
@@ -73,10 +73,10 @@ rebuilt_apart : (n b : ℕ) (tag : List ℕ) (q : Result (List OneItem) Refusal)
 rebuilt_apart n b tag (Ok ys) a = block_apart (repeat n tag (listed ys)) n tag (listed ys) refl a
 rebuilt_apart n b tag (Err r) a = a
 
-pub judged_apart : (change : Change) (b p n : ℕ) (bs blocks tag : List ℕ) (xs body : List OneItem) → blocks ≡ b ∷ bs → slice_get xs b ≡ Some (repeat n tag (listed body)) → IfOk (edited_in change bs p body) AreApart
-    → IfOk (splice_of change blocks p xs) PutsApart
-judged_apart change b p n bs blocks tag xs body e f a =
-    subst (λ q. IfOk q PutsApart) (sym (splice_inside change b p n bs blocks tag xs body e f)) (rebuilt_apart n b tag (edited_in change bs p body) a)
+pub judged_apart : (edit : Edit) (b n : ℕ) (bs blocks tag : List ℕ) (xs body : List OneItem) → blocks ≡ b ∷ bs → slice_get xs b ≡ Some (repeat n tag (listed body)) → IfOk (edited_in edit bs body) AreApart
+    → IfOk (splice_of edit blocks xs) PutsApart
+judged_apart edit b n bs blocks tag xs body e f a =
+    subst (λ q. IfOk q PutsApart) (sym (splice_inside edit b n bs blocks tag xs body e f)) (rebuilt_apart n b tag (edited_in edit bs body) a)
 
 -- where a judgement lies in the list
 within_by : (q : Result Splice Refusal) (w : ℕ) (j : Judgement) (xs : List OneItem) → ((s : Splice) → q ≡ Ok s → IsWithin s xs) → Ok j ≡ judgement_of w q → (j.first ≤ j.behind) × (j.behind ≤ length xs)
@@ -86,8 +86,8 @@ within_by (Ok s) v j xs f e =
     (omega (arith, ap (λ t. t.first) same, ap (λ t. t.behind) same, w.order), omega (arith, ap (λ t. t.behind) same, w.end))
 within_by (Err r) w j xs f e = absurd (cc)
 
-pub judged_within : (change : Change) (blocks : List ℕ) (p w : ℕ) (xs : List OneItem) (j : Judgement) → Ok j ≡ judgement_of w (splice_of change blocks p xs) → (j.first ≤ j.behind) × (j.behind ≤ length xs)
-judged_within change blocks p w xs j e = within_by (splice_of change blocks p xs) w j xs (λ s h. splice_within change blocks p xs s h) e
+pub judged_within : (edit : Edit) (blocks : List ℕ) (w : ℕ) (xs : List OneItem) (j : Judgement) → Ok j ≡ judgement_of w (splice_of edit blocks xs) → (j.first ≤ j.behind) × (j.behind ≤ length xs)
+judged_within edit blocks w xs j e = within_by (splice_of edit blocks xs) w j xs (λ s h. splice_within edit blocks xs s h) e
 
 -- the summary of a list with items put into it
 put_summary : (front put back : List OneItem) → (summary_of (listed put)).reach ≤ 16777215 → (summary_of (listed back)).reach ≤ 16777215
@@ -112,25 +112,25 @@ summed_by (Ok s) w j xs e small far =
     ∙ ap Ok (sym (put_summary (take s.first xs) s.put (drop s.behind xs) near far'))
 summed_by (Err r) w j xs e small far = absurd (cc)
 
-summed_judged : (change : Change) (blocks : List ℕ) (p w : ℕ) (xs : List OneItem) (j : Judgement) → Ok j ≡ judgement_of w (splice_of change blocks p xs) → IsSummary j.put → (summary_of (listed (drop j.behind xs))).reach ≤ 16777215
-    → Ok (followed_by (summary_of (listed (take j.first xs))) (followed_by j.put (summary_of (listed (drop j.behind xs))))) ≡ summed (edited_in change blocks p xs)
-summed_judged change blocks p w xs j e small far = summed_by (splice_of change blocks p xs) w j xs e small far ∙ ap summed (sym (edited_spliced change blocks p xs))
+summed_judged : (edit : Edit) (blocks : List ℕ) (w : ℕ) (xs : List OneItem) (j : Judgement) → Ok j ≡ judgement_of w (splice_of edit blocks xs) → IsSummary j.put → (summary_of (listed (drop j.behind xs))).reach ≤ 16777215
+    → Ok (followed_by (summary_of (listed (take j.first xs))) (followed_by j.put (summary_of (listed (drop j.behind xs))))) ≡ summed (edited_in edit blocks xs)
+summed_judged edit blocks w xs j e small far = summed_by (splice_of edit blocks xs) w j xs e small far ∙ ap summed (sym (edited_spliced edit blocks xs))
 
 err_by : (q : Result Splice Refusal) (w : ℕ) (xs : List OneItem) (r : Refusal) → Err r ≡ judgement_of w q → spliced xs q ≡ Err r
 err_by (Ok s) w xs r e = absurd (cc)
 err_by (Err s) w xs r e = cc
 
-pub edit_refused : (change : Change) (blocks : List ℕ) (p w : ℕ) (xs : List OneItem) (r : Refusal) → Err r ≡ judgement_of w (splice_of change blocks p xs) → edited_in change blocks p xs ≡ Err r
-edit_refused change blocks p w xs r e = edited_spliced change blocks p xs ∙ err_by (splice_of change blocks p xs) w xs r e
+pub edit_refused : (edit : Edit) (blocks : List ℕ) (w : ℕ) (xs : List OneItem) (r : Refusal) → Err r ≡ judgement_of w (splice_of edit blocks xs) → edited_in edit blocks xs ≡ Err r
+edit_refused edit blocks w xs r e = edited_spliced edit blocks xs ∙ err_by (splice_of edit blocks xs) w xs r e
 
-pub summed_around : (change : Change) (blocks : List ℕ) (p w : ℕ) (xs front back : List OneItem) (j : Judgement) (s : Summary) → Ok j ≡ judgement_of w (splice_of change blocks p xs) → IsSummary j.put
+pub summed_around : (edit : Edit) (blocks : List ℕ) (w : ℕ) (xs front back : List OneItem) (j : Judgement) (s : Summary) → Ok j ≡ judgement_of w (splice_of edit blocks xs) → IsSummary j.put
     → front ≡ take j.first xs → back ≡ drop j.behind xs → (summary_of (listed back)).reach ≤ 16777215 → s ≡ followed_by (summary_of (listed front)) (followed_by j.put (summary_of (listed back)))
-    → Ok s ≡ summed (edited_in change blocks p xs)
-summed_around change blocks p w xs front back j s e small f g far h =
+    → Ok s ≡ summed (edited_in edit blocks xs)
+summed_around edit blocks w xs front back j s e small f g far h =
     ap Ok h
     ∙ ap (λ l. Ok (followed_by (summary_of (listed l)) (followed_by j.put (summary_of (listed back))))) f
     ∙ ap (λ l. Ok (followed_by (summary_of (listed (take j.first xs))) (followed_by j.put (summary_of (listed l))))) g
-    ∙ summed_judged change blocks p w xs j e small (subst (λ l. (summary_of (listed l)).reach ≤ 16777215) g far)
+    ∙ summed_judged edit blocks w xs j e small (subst (λ l. (summary_of (listed l)).reach ≤ 16777215) g far)
 
 -- the steps before a place in nested blocks
 no_steps : (bs : List ℕ) (p : ℕ) → steps_in bs p [] ≡ []

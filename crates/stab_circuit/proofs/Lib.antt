@@ -15,9 +15,9 @@ mod OneItemLemmas
 mod TextLemmas
 mod BlankLemmas
 mod RoundLemmas
-mod RunLemmas
-mod RunSumLemmas
-mod RunPartLemmas
+mod ChunkLemmas
+mod ChunkSumLemmas
+mod ChunkPartLemmas
 pub mod ApartLemmas
 mod ItemTextLemmas
 mod CircuitFaultLemmas
@@ -25,8 +25,8 @@ pub mod EditLemmas
 mod LineItemLemmas
 mod SpliceLemmas
 mod JudgementLemmas
-mod OutcomeLemmas
-mod RunEditLemmas
+mod EditResultLemmas
+mod ChunkEditLemmas
 mod CommitLemmas
 pub mod EditingLemmas
 pub mod UndoLemmas

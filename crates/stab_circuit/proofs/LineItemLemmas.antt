@@ -10,12 +10,12 @@ use Rattle.stab_lines.specs.Lines.{content_of}
 use Rattle.stab_lines.specs.Meanings.{meaning_of}
 use Rattle.stab_lines.specs.Laws.{IsLine}
 use Rattle.stab_lines.proofs.FreeLemmas.{Each, each-append}
-use Rattle.stab_circuit.specs.declared.change.Change.{Change}
-use Rattle.stab_circuit.specs.declared.change.Change.TheVariants.{Insert, Replace, Delete}
+use Rattle.stab_circuit.specs.declared.edit.Edit.{Edit}
+use Rattle.stab_circuit.specs.declared.edit.Edit.TheVariants.{Insert, Replace, Delete}
 use Rattle.stab_circuit.specs.Items.{Items, OneItem, operation, repeat, done, next, block, before, listed, entries, depth}
 use Rattle.stab_circuit.specs.Circuits.{Meaning, Joins, line_meanings, fault_from}
 use Rattle.stab_circuit.specs.Paths.{Path}
-use Rattle.stab_circuit.specs.Edits.{edited_in, edited, behind_taken, inner, taken_in, taken}
+use Rattle.stab_circuit.specs.Edits.{edit_path, edited_in, edited, behind_taken, inner, taken_in, taken}
 use Rattle.stab_circuit.specs.Laws.{AreOfLines, PutsLines}
 use Rattle.stab_circuit.proofs.BlankLemmas.{lines_of, lines_join, fault_operation, same_faultless}
 use Rattle.stab_circuit.proofs.ReadingLemmas.{few_open, fault_inside}
@@ -120,30 +120,30 @@ rebuilt_meant : (count : ℕ) (tag : List ℕ) (body : Items) (xs : List OneItem
 rebuilt_meant count tag body xs g e = (g.0, each-append IsOfLine (lines_of (listed xs)) (Ok Close ∷ []) (listed_meant xs e) (each_right IsOfLine (lines_of body) (Ok Close ∷ []) g.1))
 
 -- an edit keeps what lines mean
-edited_meant : (change : Change) (bs : List ℕ) (p : ℕ) (xs ys : List OneItem) → edited_in change bs p xs ≡ Ok ys → Each IsMeant (put_in change) → Each IsMeant xs → Each IsMeant ys
-edited_meant change [] p xs ys e puts g =
-    let s = changed_split change p xs ys e in
-    let n = behind_taken change p in
+edited_meant : (edit : Edit) (bs : List ℕ) (xs ys : List OneItem) → edited_in edit bs xs ≡ Ok ys → Each IsMeant (put_in edit) → Each IsMeant xs → Each IsMeant ys
+edited_meant edit [] xs ys e puts g =
+    let s = changed_split edit xs ys e in
+    let n = behind_taken edit in
     subst (Each IsMeant) (sym s.1)
-    (each-append IsMeant (take p xs) (put_in change ++ drop n xs) (each_take IsMeant p xs g) (each-append IsMeant (put_in change) (drop n xs) puts (each_drop IsMeant n xs g)))
-edited_meant change (b ∷ bs) p xs ys e puts g =
-    let r = rebuilds (edited_in change bs p) b xs ys (slice_get xs b) refl e in
+    (each-append IsMeant (take (edit_path edit).place xs) (put_in edit ++ drop n xs) (each_take IsMeant (edit_path edit).place xs g) (each-append IsMeant (put_in edit) (drop n xs) puts (each_drop IsMeant n xs g)))
+edited_meant edit (b ∷ bs) xs ys e puts g =
+    let r = rebuilds (edited_in edit bs) b xs ys (slice_get xs b) refl e in
     let old : IsMeant (repeat r.count r.tag r.body) = got_meant xs b (repeat r.count r.tag r.body) r.found g in
-    let inside : Each IsMeant r.within = edited_meant change bs p (entries r.body) r.within r.edited puts (inner_meant r.count r.tag r.body old) in
+    let inside : Each IsMeant r.within = edited_meant edit bs (entries r.body) r.within r.edited puts (inner_meant r.count r.tag r.body old) in
     let new : IsMeant (repeat r.count r.tag (listed r.within)) = rebuilt_meant r.count r.tag r.body r.within old inside in
     let parts : ys ≡ take b xs ++ repeat r.count r.tag (listed r.within) ∷ drop (suc b) xs =
     r.same ∙ set_split xs b (repeat r.count r.tag (listed r.within)) (slice_get_within xs b (repeat r.count r.tag r.body) r.found) in
     subst (Each IsMeant) (sym parts)
     (each-append IsMeant (take b xs) (repeat r.count r.tag (listed r.within) ∷ drop (suc b) xs) (each_take IsMeant b xs g) (new, each_drop IsMeant (suc b) xs g))
 
-put_meant : (change : Change) → PutsLines change → Each IsMeant (put_in change)
-put_meant (Insert x) h = (meant_of (before x done) (h x refl), tt)
-put_meant (Replace x) h = (meant_of (before x done) (h x refl), tt)
-put_meant Delete h = tt
+put_meant : (edit : Edit) → PutsLines edit → Each IsMeant (put_in edit)
+put_meant (Insert at x) h = (meant_of (before x done) (h x refl), tt)
+put_meant (Replace at x) h = (meant_of (before x done) (h x refl), tt)
+put_meant (Delete at) h = tt
 
-pub edited_of_lines : (change : Change) (path : Path) (old new : List OneItem) → AreOfLines (listed old) → PutsLines change → edited change path old ≡ Ok new → depth (listed new) ≤ 16 → AreOfLines (listed new)
-edited_of_lines change path old new s puts e h =
-    of_lines (listed new) (listed_meant new (edited_meant change path.blocks path.place old new e (put_meant change puts) (each_meant old (meant_of (listed old) s)))) h
+pub edited_of_lines : (edit : Edit) (old new : List OneItem) → AreOfLines (listed old) → PutsLines edit → edited edit old ≡ Ok new → depth (listed new) ≤ 16 → AreOfLines (listed new)
+edited_of_lines edit old new s puts e h =
+    of_lines (listed new) (listed_meant new (edited_meant edit (edit_path edit).blocks old new e (put_meant edit puts) (each_meant old (meant_of (listed old) s)))) h
 
 -- lines without a fault nest no block too deep
 lines_shallow : (xs : Items) (n : ℕ) (opened : List ℕ) (ms : List Meaning) → length opened ≤ 16 → fault_from n opened (lines_of xs ++ ms) ≡ None → length opened + depth xs ≤ 16
@@ -194,13 +194,13 @@ inner_ones xs b (Some (repeat count tag body)) f e =
     let less : depth (listed (entries body)) ≤ 16 = omega (arith, one.1, ap depth (listed-entries body)) in
     each_one (entries body) (inner_meant count tag body one.0) less
 
-taken_one : (change : Change) (bs : List ℕ) (p : ℕ) (xs : List OneItem) (x : OneItem) → taken_in change bs p xs ≡ Some x → Each IsOne xs → IsOne x
-taken_one (Insert y) [] p xs x e g = absurd (cc)
-taken_one (Replace y) [] p xs x e g = got_one xs p x e g
-taken_one Delete [] p xs x e g = got_one xs p x e g
-taken_one change (b ∷ bs) p xs x e g = taken_one change bs p (inner (slice_get xs b)) x e (inner_ones xs b (slice_get xs b) refl g)
+taken_one : (edit : Edit) (bs : List ℕ) (xs : List OneItem) (x : OneItem) → taken_in edit bs xs ≡ Some x → Each IsOne xs → IsOne x
+taken_one (Insert at y) [] xs x e g = absurd (cc)
+taken_one (Replace at y) [] xs x e g = got_one xs at.place x e g
+taken_one (Delete at) [] xs x e g = got_one xs at.place x e g
+taken_one edit (b ∷ bs) xs x e g = taken_one edit bs (inner (slice_get xs b)) x e (inner_ones xs b (slice_get xs b) refl g)
 
-pub taken_of_lines : (change : Change) (path : Path) (old : List OneItem) (item : OneItem) → AreOfLines (listed old) → taken change path old ≡ Some item → AreOfLines (before item done)
-taken_of_lines change path old item s e =
-    let one = taken_one change path.blocks path.place old item e (each_one old (each_meant old (meant_of (listed old) s)) (shallow_of (listed old) s)) in
+pub taken_of_lines : (edit : Edit) (old : List OneItem) (item : OneItem) → AreOfLines (listed old) → taken edit old ≡ Some item → AreOfLines (before item done)
+taken_of_lines edit old item s e =
+    let one = taken_one edit (edit_path edit).blocks old item e (each_one old (each_meant old (meant_of (listed old) s)) (shallow_of (listed old) s)) in
     of_lines (before item done) one.0 one.1

@@ -2,17 +2,17 @@
 use Rattle.std.proofs.Common.{◌≡◌, ◌≤◌, refl, ap, sym, ◌∙◌, subst, ℕ, ◌+◌, ◌-◌, suc, List, [], ◌∷◌, Bool, true, false, ◌==◌, nat_lt, length, map, None, Some, Result, Ok, Err, if◌then◌else◌, arith}
 use Rattle.std.specs.List.{list_all}
 use Rattle.std.proofs.lemmas.Bool.Decides.{nat_tests}
-use Rattle.stab_pauli.specs.declared.refusal.Refusal.{Refusal}
-use Rattle.stab_pauli.specs.declared.refusal.Refusal.TheVariants.{BadLine, TooDeep}
+use Rattle.stab_io.specs.declared.refusal.Refusal.{Refusal}
+use Rattle.stab_io.specs.declared.refusal.Refusal.TheVariants.{BadLine, TooDeep}
 use Rattle.stab_lines.specs.declared.meanings.Line.TheVariants.{Blank, Close, Open}
 use Rattle.stab_lines.specs.declared.meanings.Line.TheVariants as line
 use Rattle.stab_circuit.specs.Items.{Items, OneItem, operation, repeat, listed, done, next, block, join}
 use Rattle.stab_lines.specs.Meanings.{meaning_of, is_close}
 use Rattle.stab_lines.proofs.LineLaws.{blank_is_empty}
 use Rattle.stab_circuit.specs.Circuits.{Meaning, Joins, nothing, blank_line, operation_line, block_lines, at_line, fault_from, meaning_after, depth_after, ends_item, one_item, is_empty}
-use Rattle.stab_circuit.specs.inner.Readers.{Frame, Progress, start, closed, stepped, finished, read_on, is_whole, meaning_at, pending}
+use Rattle.stab_circuit.specs.inner.Readers.{OpenBlock, Progress, before_reading, closed, stepped, finished, read_on, is_whole, meaning_at, pending}
 use Rattle.stab_lines.proofs.BoolLemmas.{chosen, passed, and_left, and_right, both}
-use Rattle.stab_circuit.proofs.FaultLemmas.{state, frame}
+use Rattle.stab_circuit.proofs.FaultLemmas.{state, open_block}
 use Rattle.stab_circuit.proofs.ReadingLemmas.{joined_read, choice_none, fault_opens}
 use Rattle.stab_circuit.proofs.ReaderLemmas.{pending_taken, pending_refused, not_one, not_none, whole_kept, some_joined, nothing_pending}
 
@@ -28,10 +28,10 @@ means_blank : (c : List ℕ) → meaning_of c ≡ Ok Blank → is_empty c ≡ tr
 means_blank c e = ap is_empty ((blank_is_empty c).0 e)
 
 -- blank lines alone are read as nothing
-pub blank_read : (cs : List (List ℕ)) (n : ℕ) → list_all is_empty cs ≡ true → read_on n start (one_item 0 cs) ≡ Ok done
+pub blank_read : (cs : List (List ℕ)) (n : ℕ) → list_all is_empty cs ≡ true → read_on n before_reading (one_item 0 cs) ≡ Ok done
 blank_read [] n e = refl
 blank_read (c ∷ cs) n e =
-    ap (λ m. read_on n start (m ∷ (if ends_item 0 m then map meaning_after cs else one_item (depth_after 0 m) cs))) (blank_means c (and_left (is_empty c) (list_all is_empty cs) e))
+    ap (λ m. read_on n before_reading (m ∷ (if ends_item 0 m then map meaning_after cs else one_item (depth_after 0 m) cs))) (blank_means c (and_left (is_empty c) (list_all is_empty cs) e))
     ∙ blank_read cs (n + 1) (and_right (is_empty c) (list_all is_empty cs) e)
 
 -- each line is blank
@@ -53,7 +53,7 @@ blank_lines (c ∷ cs) a =
     (blank_lines cs (subst (λ m. AreBlank (if ends_item 0 m then map meaning_after cs else one_item (depth_after 0 m) cs)) a.0 a.1))
 
 -- where nothing is read each line is blank
-pub read_blank : (cs : List (List ℕ)) → read_on 1 start (one_item 0 cs) ≡ Ok done → list_all is_empty cs ≡ true
+pub read_blank : (cs : List (List ℕ)) → read_on 1 before_reading (one_item 0 cs) ≡ Ok done → list_all is_empty cs ≡ true
 read_blank cs e = blank_lines cs (joins_done (joined_read (one_item 0 cs) done e).1 refl)
 
 -- how many items there are
@@ -68,7 +68,7 @@ size-listed (operation op ∷ xs) = ap suc (size-listed xs)
 size-listed (repeat c t body ∷ xs) = ap suc (size-listed xs)
 
 -- the outermost items
-abbrev outer : List Frame → Items → Items
+abbrev outer : List OpenBlock → Items → Items
 outer [] now = now
 outer (f ∷ fs) now = outer fs f.before
 
@@ -78,19 +78,19 @@ one_if false = 0
 
 -- there is at most one item, and only where it is whole
 abbrev IsSmall : Progress → Type 0
-IsSmall s = size (outer s.frames s.now) ≤ one_if (is_whole s)
+IsSmall s = size (outer s.open_blocks s.now) ≤ one_if (is_whole s)
 
 size-join : (xs ys : Items) → size (join xs ys) ≡ size xs + size ys
 size-join done ys = omega arith
 size-join (next op rest) ys = omega (arith, size-join rest ys)
 size-join (block c t body rest) ys = omega (arith, size-join rest ys)
 
-small_open : (n : ℕ) (fs : List Frame) (now : Items) (c : ℕ) (tag : List ℕ) (t : Progress) (b : Bool) → size (outer fs now) ≤ 0
-    → (if b then Ok (state (frame n c tag now ∷ fs) done) else Err TooDeep) ≡ Ok t → IsSmall t
-small_open n fs now c tag t true h e = let same : state (frame n c tag now ∷ fs) done ≡ t = cc in subst IsSmall same (omega (arith, h))
+small_open : (n : ℕ) (fs : List OpenBlock) (now : Items) (c : ℕ) (tag : List ℕ) (t : Progress) (b : Bool) → size (outer fs now) ≤ 0
+    → (if b then Ok (state (open_block n c tag now ∷ fs) done) else Err TooDeep) ≡ Ok t → IsSmall t
+small_open n fs now c tag t true h e = let same : state (open_block n c tag now ∷ fs) done ≡ t = cc in subst IsSmall same (omega (arith, h))
 small_open n fs now c tag t false h e = cc
 
-small_step : (n : ℕ) (fs : List Frame) (now : Items) (m : Meaning) (t : Progress) → is_whole (state fs now) ≡ false → size (outer fs now) ≤ 0 → stepped n m (state fs now) ≡ Ok t → IsSmall t
+small_step : (n : ℕ) (fs : List OpenBlock) (now : Items) (m : Meaning) (t : Progress) → is_whole (state fs now) ≡ false → size (outer fs now) ≤ 0 → stepped n m (state fs now) ≡ Ok t → IsSmall t
 small_step n fs now (Err r) t w h e = cc
 small_step n fs now (Ok Blank) t w h e = let same : state fs now ≡ t = cc in subst IsSmall same (omega (arith, h))
 small_step n [] now (Ok Close) t w h e = cc
@@ -106,14 +106,14 @@ small_step n (f ∷ fs) now (Ok (line.Operation op)) t w h e = let same : state 
 
 -- a line that is taken leaves at most one item
 small_taken : (n : ℕ) (s t : Progress) (c : List ℕ) (b : Bool) → is_whole s ≡ b → stepped n (if b then meaning_after c else meaning_of c) s ≡ Ok t → IsSmall s → IsSmall t
-small_taken n s t c true w e h = subst IsSmall (whole_kept n s.frames s.now t (length c == 0) (is_close c) w e) h
-small_taken n s t c false w e h = small_step n s.frames s.now (meaning_of c) t w (subst (λ b. size (outer s.frames s.now) ≤ one_if b) w h) e
+small_taken n s t c true w e h = subst IsSmall (whole_kept n s.open_blocks s.now t (length c == 0) (is_close c) w e) h
+small_taken n s t c false w e h = small_step n s.open_blocks s.now (meaning_of c) t w (subst (λ b. size (outer s.open_blocks s.now) ≤ one_if b) w h) e
 
 one_if_small : (b : Bool) → one_if b ≤ 1
 one_if_small true = omega arith
 one_if_small false = omega arith
 
-small_end : (fs : List Frame) (now xs : Items) → finished (state fs now) ≡ Ok xs → IsSmall (state fs now) → size xs ≤ 1
+small_end : (fs : List OpenBlock) (now xs : Items) → finished (state fs now) ≡ Ok xs → IsSmall (state fs now) → size xs ≤ 1
 small_end [] now xs e h = let same : now ≡ xs = cc in subst (λ z. size z ≤ 1) same (omega (arith, h, one_if_small (is_whole (state [] now))))
 small_end (f ∷ fs) now xs e h = cc
 
@@ -125,12 +125,12 @@ one_more n s c cs xs (Ok t) p e h rest = rest t (sym (pending_taken true n s t c
 one_more n s c cs xs (Err x) p e h rest = let f : Err (at_line n x) ≡ Ok xs = sym (pending_refused true n s c cs x p) ∙ e in cc
 
 one_read : (cs : List (List ℕ)) (n : ℕ) (s : Progress) (xs : Items) → read_on n s (pending true s cs) ≡ Ok xs → IsSmall s → size xs ≤ 1
-one_read [] n s xs e h = small_end s.frames s.now xs (sym (nothing_pending true n s) ∙ e) h
+one_read [] n s xs e h = small_end s.open_blocks s.now xs (sym (nothing_pending true n s) ∙ e) h
 one_read (c ∷ cs) n s xs e h = one_more n s c cs xs (stepped n (meaning_at true s c) s) refl e h (λ t f g. one_read cs (n + 1) t xs f g)
 
 -- one item's text is read as at most one item
-pub read_one : (cs : List (List ℕ)) (xs : Items) → read_on 1 start (one_item 0 cs) ≡ Ok xs → size xs ≤ 1
-read_one cs xs e = one_read cs 1 start xs e (omega arith)
+pub read_one : (cs : List (List ℕ)) (xs : Items) → read_on 1 before_reading (one_item 0 cs) ≡ Ok xs → size xs ≤ 1
+read_one cs xs e = one_read cs 1 before_reading xs e (omega arith)
 
 after_case : (c : List ℕ) (cs : List (List ℕ)) (n : ℕ) (b d : Bool) → is_empty c ≡ b
     → fault_from n [] ((if b then Ok Blank else if d then Ok Close else Err BadLine) ∷ map meaning_after cs) ≡ None

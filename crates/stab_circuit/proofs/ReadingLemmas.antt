@@ -1,27 +1,27 @@
 -- What a reader reads is what the lines stand for, and the only list of items that they stand for.
 use Rattle.std.proofs.Common.{◌≡◌, refl, ap, sym, ◌∙◌, subst, ℕ, ◌+◌, List, [], ◌∷◌, ◌++◌, Bool, true, false, nat_lt, length, Option, None, Some, Result, Ok, Err, append_assoc, append-nil, if◌then◌else◌}
-use Rattle.stab_pauli.specs.declared.refusal.Refusal.TheVariants.{TooDeep}
-use Rattle.stab_pauli.specs.declared.refusal.Fault.{Fault}
+use Rattle.stab_io.specs.declared.refusal.Refusal.TheVariants.{TooDeep}
+use Rattle.stab_io.specs.declared.refusal.Fault.{Fault}
 use Rattle.stab_lines.specs.declared.operation.Operation.{Operation}
 use Rattle.stab_lines.specs.declared.meanings.Line.TheVariants.{Blank, Close, Open}
 use Rattle.stab_lines.specs.declared.meanings.Line.TheVariants as line
 use Rattle.stab_circuit.specs.Items.{Items, done, next, block, join}
 use Rattle.stab_circuit.specs.Circuits.{Meaning, Joins, nothing, blank_line, operation_line, block_lines, at_line, fault_from}
-use Rattle.stab_circuit.specs.inner.Readers.{Frame, start, closed, read_on}
+use Rattle.stab_circuit.specs.inner.Readers.{OpenBlock, before_reading, closed, read_on}
 use Rattle.stab_circuit.proofs.ItemLemmas.{join_done, join_assoc}
 use Rattle.stab_lines.proofs.BoolLemmas.{chosen}
-use Rattle.stab_circuit.proofs.FaultLemmas.{lines_of, fault_of, state, frame, length-lines_of, fault_agrees}
+use Rattle.stab_circuit.proofs.FaultLemmas.{lines_of, fault_of, state, open_block, length-lines_of, fault_agrees}
 
 -- what is left to come so that the items are xs
-abbrev Completes : List Frame → Items → List Meaning → Items → Type 0
+abbrev Completes : List OpenBlock → Items → List Meaning → Items → Type 0
 Completes [] now ms xs = (rest : Items) × Joins ms rest × (xs ≡ join now rest)
 Completes (f ∷ fs) now ms xs = (inner after : List Meaning) × (body : Items) × (ms ≡ inner ++ Ok Close ∷ after) × Joins inner body × Completes fs (closed f (join now body)) after xs
 
-completes_blank : (fs : List Frame) (now : Items) (ms : List Meaning) (xs : Items) → Completes fs now ms xs → Completes fs now (Ok Blank ∷ ms) xs
+completes_blank : (fs : List OpenBlock) (now : Items) (ms : List Meaning) (xs : Items) → Completes fs now ms xs → Completes fs now (Ok Blank ∷ ms) xs
 completes_blank [] now ms xs (rest, j, e) = (rest, blank_line j, e)
 completes_blank (f ∷ fs) now ms xs (inner, after, body, e, j, c) = (Ok Blank ∷ inner, after, body, ap (λ l. Ok Blank ∷ l) e, blank_line j, c)
 
-completes_operation : (fs : List Frame) (now : Items) (op : Operation) (ms : List Meaning) (xs : Items) → Completes fs (join now (next op done)) ms xs → Completes fs now (Ok (line.Operation op) ∷ ms) xs
+completes_operation : (fs : List OpenBlock) (now : Items) (op : Operation) (ms : List Meaning) (xs : Items) → Completes fs (join now (next op done)) ms xs → Completes fs now (Ok (line.Operation op) ∷ ms) xs
 completes_operation [] now op ms xs (rest, j, e) = (next op rest, operation_line j, e ∙ join_assoc now (next op done) rest)
 completes_operation (f ∷ fs) now op ms xs (inner, after, body, e, j, c) = (
   Ok (line.Operation op) ∷ inner,
@@ -32,7 +32,7 @@ completes_operation (f ∷ fs) now op ms xs (inner, after, body, e, j, c) = (
   subst (λ z. Completes fs (closed f z) after xs) (join_assoc now (next op done) body) c,
 )
 
-completes_opens : (fs : List Frame) (now : Items) (n c : ℕ) (t : List ℕ) (ms : List Meaning) (xs : Items) → Completes (frame n c t now ∷ fs) done ms xs → Completes fs now (Ok (Open c t) ∷ ms) xs
+completes_opens : (fs : List OpenBlock) (now : Items) (n c : ℕ) (t : List ℕ) (ms : List Meaning) (xs : Items) → Completes (open_block n c t now ∷ fs) done ms xs → Completes fs now (Ok (Open c t) ∷ ms) xs
 completes_opens [] now n c t ms xs (inner, after, body, e, j, (rest, k, x)) = (
   block c t body rest,
   subst (λ l. Joins (Ok (Open c t) ∷ l) (block c t body rest)) (sym e) (block_lines j k),
@@ -47,18 +47,18 @@ completes_opens (g ∷ gs) now n c t ms xs (inner, after, body, e, j, (inner2, a
   subst (λ z. Completes gs (closed g z) after2 xs) (join_assoc now (block c t body done) body2) o,
 )
 
-completes_close : (f : Frame) (fs : List Frame) (now : Items) (ms : List Meaning) (xs : Items) → Completes fs (closed f now) ms xs → Completes (f ∷ fs) now (Ok Close ∷ ms) xs
+completes_close : (f : OpenBlock) (fs : List OpenBlock) (now : Items) (ms : List Meaning) (xs : Items) → Completes fs (closed f now) ms xs → Completes (f ∷ fs) now (Ok Close ∷ ms) xs
 completes_close f fs now ms xs c = ([], ms, done, refl, nothing, subst (λ z. Completes fs (closed f z) ms xs) (sym (join_done now)) c)
 
 -- where a block was opened and all was read, it was not too deep
-opened_ok : (n c : ℕ) (t : List ℕ) (fs : List Frame) (now : Items) (ms : List Meaning) (b : Bool) (xs : Items)
-    → elim (if b then Ok (state (frame n c t now ∷ fs) done) else Err TooDeep) as (λ _. Result Items Fault) [ Ok s ↦ read_on (n + 1) s ms | Err r ↦ Err (at_line n r) ] ≡ Ok xs
-    → read_on (n + 1) (state (frame n c t now ∷ fs) done) ms ≡ Ok xs
+opened_ok : (n c : ℕ) (t : List ℕ) (fs : List OpenBlock) (now : Items) (ms : List Meaning) (b : Bool) (xs : Items)
+    → elim (if b then Ok (state (open_block n c t now ∷ fs) done) else Err TooDeep) as (λ _. Result Items Fault) [ Ok s ↦ read_on (n + 1) s ms | Err r ↦ Err (at_line n r) ] ≡ Ok xs
+    → read_on (n + 1) (state (open_block n c t now ∷ fs) done) ms ≡ Ok xs
 opened_ok n c t fs now ms true xs e = e
 opened_ok n c t fs now ms false xs e = cc
 
 -- what is read is what the lines stand for
-pub sound : (ms : List Meaning) (n : ℕ) (fs : List Frame) (now xs : Items) → read_on n (state fs now) ms ≡ Ok xs → Completes fs now ms xs
+pub sound : (ms : List Meaning) (n : ℕ) (fs : List OpenBlock) (now xs : Items) → read_on n (state fs now) ms ≡ Ok xs → Completes fs now ms xs
 sound [] n [] now xs e = let same : now ≡ xs = cc in (done, nothing, sym same ∙ sym (join_done now))
 sound [] n (f ∷ fs) now xs e = cc
 sound (Err r ∷ ms) n fs now xs e = cc
@@ -67,10 +67,10 @@ sound (Ok (line.Operation op) ∷ ms) n fs now xs e = completes_operation fs now
 sound (Ok Close ∷ ms) n [] now xs e = cc
 sound (Ok Close ∷ ms) n (f ∷ fs) now xs e = completes_close f fs now ms xs (sound ms (n + 1) fs (closed f now) xs e)
 sound (Ok (Open c t) ∷ ms) n fs now xs e =
-    completes_opens fs now n c t ms xs (sound ms (n + 1) (frame n c t now ∷ fs) done xs (opened_ok n c t fs now ms (nat_lt (length fs) 16) xs e))
+    completes_opens fs now n c t ms xs (sound ms (n + 1) (open_block n c t now ∷ fs) done xs (opened_ok n c t fs now ms (nat_lt (length fs) 16) xs e))
 
 -- reading goes on behind the lines of some items
-pub record Reaches (n : ℕ) (fs : List Frame) (now : Items) (all : List Meaning) (cur : Items) (more : List Meaning) : Type 0 where
+pub record Reaches (n : ℕ) (fs : List OpenBlock) (now : Items) (all : List Meaning) (cur : Items) (more : List Meaning) : Type 0 where
   pub at : ℕ
   pub read : read_on n (state fs now) all ≡ read_on at (state fs cur) more
   pub fault : fault_from n (lines_of fs) all ≡ fault_from at (lines_of fs) more
@@ -95,19 +95,19 @@ fault_inside n opened c t inner after more few =
     ∙ chosen (nat_lt (length opened) 16) _ _ few
     ∙ ap (fault_from (n + 1) (n ∷ opened)) (append_assoc inner (Ok Close ∷ after) more)
 
-read_opens : (n : ℕ) (fs : List Frame) (now : Items) (c : ℕ) (t : List ℕ) (ms : List Meaning) → nat_lt (length (lines_of fs)) 16 ≡ true
-    → read_on n (state fs now) (Ok (Open c t) ∷ ms) ≡ read_on (n + 1) (state (frame n c t now ∷ fs) done) ms
+read_opens : (n : ℕ) (fs : List OpenBlock) (now : Items) (c : ℕ) (t : List ℕ) (ms : List Meaning) → nat_lt (length (lines_of fs)) 16 ≡ true
+    → read_on n (state fs now) (Ok (Open c t) ∷ ms) ≡ read_on (n + 1) (state (open_block n c t now ∷ fs) done) ms
 read_opens n fs now c t ms h =
     let few : nat_lt (length fs) 16 ≡ true = ap (λ k. nat_lt k 16) (sym (length-lines_of fs)) ∙ h in
-    ap (λ r. elim r as (λ _. Result Items Fault) [ Ok s ↦ read_on (n + 1) s ms | Err r ↦ Err (at_line n r) ]) (chosen (nat_lt (length fs) 16) (Ok (state (frame n c t now ∷ fs) done)) (Err TooDeep) few)
+    ap (λ r. elim r as (λ _. Result Items Fault) [ Ok s ↦ read_on (n + 1) s ms | Err r ↦ Err (at_line n r) ]) (chosen (nat_lt (length fs) 16) (Ok (state (open_block n c t now ∷ fs) done)) (Err TooDeep) few)
 
 -- that the lines of some items are read, whatever stands around them
 abbrev IsRead : List Meaning → Items → Type 0
-IsRead inner body = (n : ℕ) (fs : List Frame) (now : Items) (more : List Meaning) → fault_from n (lines_of fs) (inner ++ more) ≡ None → Reaches n fs now (inner ++ more) (join now body) more
+IsRead inner body = (n : ℕ) (fs : List OpenBlock) (now : Items) (more : List Meaning) → fault_from n (lines_of fs) (inner ++ more) ≡ None → Reaches n fs now (inner ++ more) (join now body) more
 
 block_read : (c : ℕ) (t : List ℕ) (inner after : List Meaning) (body rest : Items) → IsRead inner body → IsRead after rest → IsRead (Ok (Open c t) ∷ (inner ++ Ok Close ∷ after)) (block c t body rest)
 block_read c t inner after body rest first second n fs now more e =
-    let held : Frame = frame n c t now in
+    let held : OpenBlock = open_block n c t now in
     let few : nat_lt (length (lines_of fs)) 16 ≡ true = few_open n (lines_of fs) c t ((inner ++ Ok Close ∷ after) ++ more) e in
     let goes = fault_inside n (lines_of fs) c t inner after more few in
     let r = first (n + 1) (held ∷ fs) done (Ok Close ∷ (after ++ more)) (sym goes ∙ e) in
@@ -145,30 +145,30 @@ complete (operation_line {op} {ms} {xs} j) = operation_read op ms xs (complete j
 complete (block_lines {count} {tag} {inner} {after} {body} {rest} j k) = block_read count tag inner after body rest (complete j) (complete k)
 
 -- lines without a fault that stand for items are read as these
-pub read_joined : (ms : List Meaning) (xs : Items) → Joins ms xs → fault_from 1 [] ms ≡ None → read_on 1 start ms ≡ Ok xs
+pub read_joined : (ms : List Meaning) (xs : Items) → Joins ms xs → fault_from 1 [] ms ≡ None → read_on 1 before_reading ms ≡ Ok xs
 read_joined ms xs j e =
     let r = complete j 1 [] done [] (ap (fault_from 1 []) (append-nil ms) ∙ e) in
-    ap (read_on 1 start) (sym (append-nil ms)) ∙ r.read
+    ap (read_on 1 before_reading) (sym (append-nil ms)) ∙ r.read
 
 ok_same : (r : Result Items Fault) (xs ys : Items) → r ≡ Ok xs → r ≡ Ok ys → xs ≡ ys
 ok_same r xs ys e f = cc
 
 -- so they stand for no others
 pub one_list : (ms : List Meaning) (xs ys : Items) → fault_from 1 [] ms ≡ None → Joins ms xs → Joins ms ys → xs ≡ ys
-one_list ms xs ys e j k = ok_same (read_on 1 start ms) xs ys (read_joined ms xs j e) (read_joined ms ys k e)
+one_list ms xs ys e j k = ok_same (read_on 1 before_reading ms) xs ys (read_joined ms xs j e) (read_joined ms ys k e)
 
 -- lines that are read have no fault and stand for the items
-pub joined_read : (ms : List Meaning) (xs : Items) → read_on 1 start ms ≡ Ok xs → (fault_from 1 [] ms ≡ None) × Joins ms xs
+pub joined_read : (ms : List Meaning) (xs : Items) → read_on 1 before_reading ms ≡ Ok xs → (fault_from 1 [] ms ≡ None) × Joins ms xs
 joined_read ms xs e = let c = sound ms 1 [] done xs e in (sym (fault_agrees ms 1 [] done) ∙ ap fault_of e, subst (Joins ms) (sym c.2) c.1)
 
 -- the fault that is found is the fault of the lines
-pub fault_read : (ms : List Meaning) (f : Fault) → read_on 1 start ms ≡ Err f → fault_from 1 [] ms ≡ Some f
+pub fault_read : (ms : List Meaning) (f : Fault) → read_on 1 before_reading ms ≡ Err f → fault_from 1 [] ms ≡ Some f
 fault_read ms f e = sym (fault_agrees ms 1 [] done) ∙ ap fault_of e
 
 -- lines without a fault stand for some items
 pub some_list : (ms : List Meaning) → fault_from 1 [] ms ≡ None → (xs : Items) × Joins ms xs
-some_list ms e = some_read ms (read_on 1 start ms) refl (sym (ap fault_of refl) ∙ fault_agrees ms 1 [] done ∙ e)
+some_list ms e = some_read ms (read_on 1 before_reading ms) refl (sym (ap fault_of refl) ∙ fault_agrees ms 1 [] done ∙ e)
   where
-    some_read : (ms : List Meaning) (r : Result Items Fault) → read_on 1 start ms ≡ r → fault_of r ≡ None → (xs : Items) × Joins ms xs
+    some_read : (ms : List Meaning) (r : Result Items Fault) → read_on 1 before_reading ms ≡ r → fault_of r ≡ None → (xs : Items) × Joins ms xs
     some_read ms (Ok xs) e none = (xs, (joined_read ms xs e).1)
     some_read ms (Err f) e none = cc

@@ -1,8 +1,8 @@
 -- Which refusals a line can have.
 use Rattle.std.proofs.Common.{◌≡◌, ◌<◌, refl, subst, ℕ, ◌+◌, List, [], ◌∷◌, Bool, true, false, nat_lt, length, map, Option, Some, Ok, Err, if◌then◌else◌, arith}
-use Rattle.stab_pauli.specs.declared.refusal.Refusal.{Refusal}
-use Rattle.stab_pauli.specs.declared.refusal.Refusal.TheVariants.{BadBlock, TooDeep}
-use Rattle.stab_pauli.specs.declared.refusal.Fault.{Fault}
+use Rattle.stab_io.specs.declared.refusal.Refusal.{Refusal}
+use Rattle.stab_io.specs.declared.refusal.Refusal.TheVariants.{BadBlock, TooDeep}
+use Rattle.stab_io.specs.declared.refusal.Fault.{Fault}
 use Rattle.stab_lines.specs.declared.meanings.Line.{Line}
 use Rattle.stab_lines.specs.declared.meanings.Line.TheVariants.{Blank, Close, Open}
 use Rattle.stab_lines.specs.declared.meanings.Line.TheVariants as line

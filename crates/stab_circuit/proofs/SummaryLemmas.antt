@@ -3,7 +3,7 @@ use Rattle.std.proofs.Common.{◌≡◌, ◌≤◌, ◌<◌, refl, ap, sym, ◌�
 use Rattle.std.proofs.lemmas.List.{length-append, length-map, take_more}
 use Rattle.std.proofs.lemmas.List.Elements.{All-head, All-tail}
 use Rattle.std.proofs.lemmas.Bool.Decides.{nat_tests}
-use Rattle.stab_pauli.specs.declared.refusal.Refusal.TheVariants.{LookbackTooFar, TooManySteps}
+use Rattle.stab_io.specs.declared.refusal.Refusal.TheVariants.{LookbackTooFar, TooManySteps}
 use Rattle.stab_tableau.specs.declared.gate.Gate.{Gate}
 use Rattle.stab_tableau.specs.declared.gate.PairGate.TheVariants as gate
 use Rattle.stab_lines.specs.declared.axis.Axis.{Axis}
@@ -21,7 +21,7 @@ use Rattle.stab_lines.specs.Lookbacks.{IsLookback}
 use Rattle.stab_circuit.specs.Items.{Items, OneItem, done, next, block, join, before, repeat, listed, depth}
 use Rattle.stab_lines.specs.Targets.{pair_qubits}
 use Rattle.stab_circuit.specs.Steps.{Step, one, two, collapse, measured, measured_product, controlled_step, steps_of, rounds, unroll, makes, records_of, lookbacks, target_qubits, factor_qubits, product_qubits, controlled_qubits, past, past_named, qubits_of, observables_of, named_qubits, named_observables, looks_too_far, check_of}
-use Rattle.stab_circuit.specs.inner.Summaries.{greatest, looks_back, furthest, reach, summed, kind_summary_of, summary_of, followed_by, repeated, judged}
+use Rattle.stab_circuit.specs.inner.Summaries.{greatest, looks_back, furthest, reach, steps_summary, kind_summary_of, summary_of, followed_by, repeated, judged}
 use Rattle.stab_circuit.proofs.ItemLemmas.{listed-append, depth-join}
 use Rattle.stab_circuit.proofs.StepLemmas.{length-rounds, records_of-append, records_of-rounds, reach-append, reach-rounds, unroll-join, capped_sum, capped_left, capped_times, looks_too_far_reach}
 
@@ -89,7 +89,7 @@ plain_steps f (x ∷ xs) p =
     let rest = plain_steps f xs p in
     (omega (arith, (p x).0, rest.0), omega (arith, ap greatest (p x).1, rest.1))
 
-plain_summary : {A : Type 0} (f : A → Step) (xs : List A) (q : ℕ) → ((x : A) → IsPlain (f x)) → summed (map f xs) q 0 0 ≡ summary (min (length xs) 1048577) 0 0 q 0 0
+plain_summary : {A : Type 0} (f : A → Step) (xs : List A) (q : ℕ) → ((x : A) → IsPlain (f x)) → steps_summary (map f xs) q 0 0 ≡ summary (min (length xs) 1048577) 0 0 q 0 0
 plain_summary f xs q p =
     let r = plain_steps f xs p in
     same_summary _ _ _ _ _ _ q 0 q 0 0 0 (ap (λ n. min n 1048577) (length-map xs f)) (omega (arith, r.0)) r.1 refl refl refl
@@ -138,7 +138,7 @@ measured_steps f (x ∷ xs) p =
     let rest = measured_steps f xs p in
     (omega (arith, (p x).0, rest.0), omega (arith, ap greatest (p x).1, rest.1))
 
-measured_summary : {A : Type 0} (f : A → Step) (xs : List A) (q : ℕ) → ((x : A) → IsMeasured (f x)) → summed (map f xs) q 0 0 ≡ summary (min (length xs) 1048577) (min (length xs) 16777215) 0 q 0 0
+measured_summary : {A : Type 0} (f : A → Step) (xs : List A) (q : ℕ) → ((x : A) → IsMeasured (f x)) → steps_summary (map f xs) q 0 0 ≡ summary (min (length xs) 1048577) (min (length xs) 16777215) 0 q 0 0
 measured_summary f xs q p =
     let r = measured_steps f xs p in
     same_summary _ _ _ _ _ _ q 0 q 0 0 0 (ap (λ n. min n 1048577) (length-map xs f)) (ap (λ n. min n 16777215) r.0) r.1 refl refl refl
@@ -178,12 +178,12 @@ summary-join xs ys h =
 
 pub operation_summary : (o : Operation) → summary_of (next o done) ≡ kind_summary_of o.kind
 operation_summary o =
-    ap (λ l. summed l (max (past (named_qubits o.kind)) 0) (max (past (named_observables o.kind)) 0) 0) (append-nil (steps_of o.kind))
+    ap (λ l. steps_summary l (max (past (named_qubits o.kind)) 0) (max (past (named_observables o.kind)) 0) 0) (append-nil (steps_of o.kind))
     ∙ same_summary _ _ _ _ _ _ _ _ _ _ _ _ refl refl refl (omega arith) (omega arith) refl
 
 pub block_summary : (count : ℕ) (tag : List ℕ) (xs : Items) → 0 < count → summary_of (block count tag xs done) ≡ repeated count (summary_of xs)
 block_summary count tag xs h =
-    ap (λ l. summed l (max (qubits_of xs) 0) (max (observables_of xs) 0) (max (depth xs + 1) 0)) (append-nil (rounds count (unroll xs)))
+    ap (λ l. steps_summary l (max (qubits_of xs) 0) (max (observables_of xs) 0) (max (depth xs + 1) 0)) (append-nil (rounds count (unroll xs)))
     ∙ same_summary _ _ _ _ _ _ _ _ _ _ _ _
     (ap (λ k. min k 1048577) (length-rounds count (unroll xs)) ∙ sym (capped_times count (length (unroll xs)) 1048577))
     (ap (λ k. min k 16777215) (records_of-rounds count (unroll xs)) ∙ sym (capped_times count (records_of (unroll xs)) 16777215))

@@ -3,16 +3,15 @@ use Rattle.std.proofs.Common.{◌≡◌, ◌≤◌, ◌<◌, refl, ap, sym, ◌�
 use Rattle.std.specs.List.{list_all}
 use Rattle.std.specs.Result.{IfOk, IfErr}
 use Rattle.std.proofs.lemmas.Bool.Decides.{nat_tests}
-use Rattle.stab_pauli.specs.declared.refusal.Refusal.{Refusal}
-use Rattle.stab_pauli.specs.declared.refusal.Refusal.TheVariants.{LookbackTooFar, TooManySteps, TooLong, BadLine, OutOfMemory}
-use Rattle.stab_pauli.specs.declared.refusal.Fault.{Fault}
-use Rattle.stab_pauli.specs.Refusals.{whole}
+use Rattle.stab_io.specs.declared.refusal.Refusal.{Refusal}
+use Rattle.stab_io.specs.declared.refusal.Refusal.TheVariants.{LookbackTooFar, TooManySteps, TooLong, BadLine, OutOfMemory}
+use Rattle.stab_io.specs.declared.refusal.Fault.{Fault}
+use Rattle.stab_io.specs.Refusals.{whole}
 use Rattle.stab_circuit.specs.Items.{Items, OneItem, before, done, listed}
 use Rattle.stab_circuit.specs.Circuits.{Joins, contents, meanings, limited, text_fault, item_fault, StandsFor, StandsForOne, one_item, is_empty}
-use Rattle.stab_circuit.specs.inner.Texts.{ReadsCircuit}
 use Rattle.stab_circuit.specs.Steps.{check_of, Checks, unroll, looks_too_far, most_steps}
-use Rattle.stab_circuit.specs.inner.Readers.{start, read_on, reading}
-use Rattle.stab_circuit.specs.Readings.{IsCircuit, IsFaultOf, IsPlaced, is_of_circuit, is_of_item}
+use Rattle.stab_circuit.specs.inner.Readers.{before_reading, read_on, reading}
+use Rattle.stab_circuit.specs.Readings.{IsCircuit, IsFaultOf, ReadsCircuit, IsPlaced, is_of_circuit, is_of_item}
 use Rattle.stab_lines.proofs.BoolLemmas.{chosen, passed}
 use Rattle.stab_circuit.proofs.ReadingLemmas.{joined_read, fault_read}
 use Rattle.stab_circuit.proofs.OneItemLemmas.{blank_read, read_blank, read_one, same_meanings, size, size-listed}
@@ -37,7 +36,7 @@ pub text_refused : (text : List ℕ) (f : Fault) → length text ≤ 16777216 �
 text_refused text f h e = within text _ h ∙ fault_read (meanings text) f e
 
 -- what is read as one item
-not_blank : (cs : List (List ℕ)) (xs : Items) (b : Bool) → list_all is_empty cs ≡ b → read_on 1 start (one_item 0 cs) ≡ Ok xs → 0 < size xs → b ≡ false
+not_blank : (cs : List (List ℕ)) (xs : Items) (b : Bool) → list_all is_empty cs ≡ b → read_on 1 before_reading (one_item 0 cs) ≡ Ok xs → 0 < size xs → b ≡ false
 not_blank cs xs true e r h =
     let none : xs ≡ done = (let q : Ok xs ≡ Ok done = sym r ∙ blank_read cs 1 e in cc) in
     absurd (omega (arith, h, ap size none))
@@ -52,7 +51,7 @@ pub item_read : (text : List ℕ) (ys : List OneItem) (item : OneItem) → lengt
 item_read text ys item h e =
     let cs = contents text in
     let none : ys ≡ [] = alone ys item (read_one cs (listed (ys ++ item ∷ [])) e) in
-    let read : read_on 1 start (one_item 0 cs) ≡ Ok (before item done) = e ∙ ap (λ l. Ok (listed (l ++ item ∷ []))) none in
+    let read : read_on 1 before_reading (one_item 0 cs) ≡ Ok (before item done) = e ∙ ap (λ l. Ok (listed (l ++ item ∷ []))) none in
     let j = joined_read (one_item 0 cs) (before item done) read in
     let some : list_all is_empty cs ≡ false = not_blank cs (before item done) (list_all is_empty cs) refl read (one_size item) in (
       within text _ h ∙ passed (list_all is_empty cs) _ _ some ∙ j.0,
@@ -65,7 +64,7 @@ item_read text ys item h e =
 pub item_missing : (text : List ℕ) → length text ≤ 16777216 → reading true text ≡ Ok done → item_fault text ≡ Some (whole BadLine)
 item_missing text h e = within text _ h ∙ chosen (list_all is_empty (contents text)) _ _ (read_blank (contents text) e)
 
-not_blank_fault : (cs : List (List ℕ)) (f : Fault) (b : Bool) → list_all is_empty cs ≡ b → read_on 1 start (one_item 0 cs) ≡ Err f → b ≡ false
+not_blank_fault : (cs : List (List ℕ)) (f : Fault) (b : Bool) → list_all is_empty cs ≡ b → read_on 1 before_reading (one_item 0 cs) ≡ Err f → b ≡ false
 not_blank_fault cs f true e r = let q : Err f ≡ Ok done = sym r ∙ blank_read cs 1 e in cc
 not_blank_fault cs f false e r = refl
 

@@ -1,4 +1,5 @@
 -- Cursors: which steps the values of the code stand for.
+-- Source: this project's own.
 use Rattle.std.specs.Prelude.{◌≡◌, ◌≢◌, false, List}
 use Rattle.stab_lines.specs.Products.{names_twice}
 use Rattle.stab_circuit.specs.declared.step.Step.{Step as StepValue}

@@ -1,18 +1,19 @@
--- Edits: what a change at a path leaves of a list of items, and what refuses it.
+-- Edits: what an edit leaves of a list of items, and what refuses it.
+-- Source: this project's own.
 use Rattle.std.specs.Prelude.{ℕ, ◌+◌, nat_lt, nat_le, List, [], ◌∷◌, ◌++◌, length, take, slice_get, slice_set, if◌then◌else◌, Option, Some, None, Result, Ok, Err}
 use Rattle.std.specs.List.{insert, remove}
-use Rattle.stab_pauli.specs.declared.refusal.Refusal.{Refusal}
-use Rattle.stab_pauli.specs.declared.refusal.Refusal.TheVariants.{PlaceOutOfRange, NotABlock, TooDeep}
-use Rattle.stab_circuit.specs.declared.change.Change.{Change}
-use Rattle.stab_circuit.specs.declared.change.Change.TheVariants.{Insert, Replace, Delete}
+use Rattle.stab_io.specs.declared.refusal.Refusal.{Refusal}
+use Rattle.stab_io.specs.declared.refusal.Refusal.TheVariants.{PlaceOutOfRange, NotABlock, TooDeep}
+use Rattle.stab_circuit.specs.declared.edit.Edit.{Edit}
+use Rattle.stab_circuit.specs.declared.edit.Edit.TheVariants.{Insert, Replace, Delete}
 use Rattle.stab_circuit.specs.Items.{OneItem, operation, repeat, listed, entries, depth}
 use Rattle.stab_circuit.specs.Steps.{Step, unroll, check_within}
 use Rattle.stab_circuit.specs.Paths.{Path}
 
 -- a list with an item that became another, unless that was refused
-abbrev pub put : ℕ → List OneItem → Result OneItem Refusal → Result (List OneItem) Refusal
-put b xs (Ok x) = Ok (slice_set xs b x)
-put b xs (Err r) = Err r
+abbrev pub with_item : ℕ → List OneItem → Result OneItem Refusal → Result (List OneItem) Refusal
+with_item b xs (Ok x) = Ok (slice_set xs b x)
+with_item b xs (Err r) = Err r
 
 -- a block whose items became these, unless that was refused
 abbrev pub rebuilt : ℕ → List ℕ → Result (List OneItem) Refusal → Result OneItem Refusal
@@ -25,30 +26,44 @@ edited_inside edit None = Err PlaceOutOfRange
 edited_inside edit (Some (operation op)) = Err NotABlock
 edited_inside edit (Some (repeat count tag body)) = rebuilt count tag (edit (entries body))
 
--- a list after a change at a place of its own: 12 where that is past the list
-abbrev pub changed : Change → ℕ → List OneItem → Result (List OneItem) Refusal
-changed (Insert x) p xs = if nat_le p (length xs) then Ok (insert xs p x) else Err PlaceOutOfRange
-changed (Replace x) p xs = if nat_lt p (length xs) then Ok (slice_set xs p x) else Err PlaceOutOfRange
-changed Delete p xs = if nat_lt p (length xs) then Ok (remove xs p) else Err PlaceOutOfRange
+-- where an edit is made
+abbrev pub edit_path : Edit → Path
+edit_path (Insert place x) = place
+edit_path (Replace place x) = place
+edit_path (Delete place) = place
 
--- a list after a change at a place in the last of these blocks, the outermost first
-abbrev pub edited_in : Change → List ℕ → ℕ → List OneItem → Result (List OneItem) Refusal
-edited_in change [] p xs = changed change p xs
-edited_in change (b ∷ bs) p xs = put b xs (edited_inside (edited_in change bs p) (slice_get xs b))
+-- the innermost list around an edit's place, after the edit: 12 where the place is past the list
+abbrev pub changed : Edit → List OneItem → Result (List OneItem) Refusal
+changed (Insert place x) xs = if nat_le place.place (length xs) then Ok (insert xs place.place x) else Err PlaceOutOfRange
+changed (Replace place x) xs = if nat_lt place.place (length xs) then Ok (slice_set xs place.place x) else Err PlaceOutOfRange
+changed (Delete place) xs = if nat_lt place.place (length xs) then Ok (remove xs place.place) else Err PlaceOutOfRange
 
--- a list after a change at a path, or why the path leads to no place
-abbrev pub edited : Change → Path → List OneItem → Result (List OneItem) Refusal
-edited change path xs = edited_in change path.blocks path.place xs
+-- a list after an edit in the last of these blocks, the outermost first
+abbrev pub edited_in : Edit → List ℕ → List OneItem → Result (List OneItem) Refusal
+edited_in edit [] xs = changed edit xs
+edited_in edit (b ∷ bs) xs = with_item b xs (edited_inside (edited_in edit bs) (slice_get xs b))
 
--- what refuses an edit that would leave this list: the path, and then the depth of its blocks
-abbrev pub edit_refusal : Result (List OneItem) Refusal → Option Refusal
-edit_refusal (Err r) = Some r
-edit_refusal (Ok ys) = if nat_lt 16 (depth (listed ys)) then Some TooDeep else None
+-- a list after an edit, or why its path leads to no place
+abbrev pub edited : Edit → List OneItem → Result (List OneItem) Refusal
+edited edit xs = edited_in edit (edit_path edit).blocks xs
 
--- the verdict on an edit of a circuit on n qubits: as above, and then what refuses the edited list
-abbrev pub verdict : ℕ → Result (List OneItem) Refusal → Option Refusal
-verdict n (Err r) = Some r
-verdict n (Ok ys) = if nat_lt 16 (depth (listed ys)) then Some TooDeep else check_within n (listed ys)
+-- what refuses an edit that comes to this list: its path, and then the depth of blocks
+abbrev pub list_refusal : Result (List OneItem) Refusal → Option Refusal
+list_refusal (Err r) = Some r
+list_refusal (Ok ys) = if nat_lt 16 (depth (listed ys)) then Some TooDeep else None
+
+-- what refuses it on n qubits: as above, and then what refuses the circuit of the list
+abbrev pub list_verdict : ℕ → Result (List OneItem) Refusal → Option Refusal
+list_verdict n (Err r) = Some r
+list_verdict n (Ok ys) = if nat_lt 16 (depth (listed ys)) then Some TooDeep else check_within n (listed ys)
+
+-- what refuses an edit of a list, whatever the circuit that it leaves
+abbrev pub edit_refusal : Edit → List OneItem → Option Refusal
+edit_refusal edit xs = list_refusal (edited edit xs)
+
+-- the verdict on an edit of a circuit on n qubits
+abbrev pub verdict : ℕ → Edit → List OneItem → Option Refusal
+verdict n edit xs = list_verdict n (edited edit xs)
 
 -- the items of an item, where it is a block
 abbrev pub inner : Option OneItem → List OneItem
@@ -56,32 +71,32 @@ inner None = []
 inner (Some (operation op)) = []
 inner (Some (repeat count tag body)) = entries body
 
--- the item that a change at a place takes out of its list
-abbrev pub taken_at : Change → ℕ → List OneItem → Option OneItem
-taken_at (Insert x) p xs = None
-taken_at (Replace x) p xs = slice_get xs p
-taken_at Delete p xs = slice_get xs p
+-- the item that an edit takes out of the innermost list around its place
+abbrev pub taken_at : Edit → List OneItem → Option OneItem
+taken_at (Insert place x) xs = None
+taken_at (Replace place x) xs = slice_get xs place.place
+taken_at (Delete place) xs = slice_get xs place.place
 
--- the item that a change takes out at a place in the last of these blocks
-abbrev pub taken_in : Change → List ℕ → ℕ → List OneItem → Option OneItem
-taken_in change [] p xs = taken_at change p xs
-taken_in change (b ∷ bs) p xs = taken_in change bs p (inner (slice_get xs b))
+-- the item that an edit in the last of these blocks takes out
+abbrev pub taken_in : Edit → List ℕ → List OneItem → Option OneItem
+taken_in edit [] xs = taken_at edit xs
+taken_in edit (b ∷ bs) xs = taken_in edit bs (inner (slice_get xs b))
 
--- the item that a change at a path takes out
-abbrev pub taken : Change → Path → List OneItem → Option OneItem
-taken change path xs = taken_in change path.blocks path.place xs
+-- the item that an edit takes out
+abbrev pub taken : Edit → List OneItem → Option OneItem
+taken edit xs = taken_in edit (edit_path edit).blocks xs
 
--- the item that a change puts in
-abbrev pub put_item : Change → Option OneItem
-put_item (Insert x) = Some x
-put_item (Replace x) = Some x
-put_item Delete = None
+-- the item that an edit puts in
+abbrev pub put_item : Edit → Option OneItem
+put_item (Insert place x) = Some x
+put_item (Replace place x) = Some x
+put_item (Delete place) = None
 
--- a change that may take memory
-abbrev pub IsInsert : Change → Type 0
-IsInsert (Insert x) = Unit {0}
-IsInsert (Replace x) = ⊥
-IsInsert Delete = ⊥
+-- an edit that may take memory
+abbrev pub IsInsert : Edit → Type 0
+IsInsert (Insert place x) = Unit {0}
+IsInsert (Replace place x) = ⊥
+IsInsert (Delete place) = ⊥
 
 -- the steps before a place in the last of these blocks, in the first round of each
 abbrev pub steps_in : List ℕ → ℕ → List OneItem → List Step
@@ -92,30 +107,33 @@ steps_in (b ∷ bs) p xs = unroll (listed (take b xs)) ++ steps_in bs p (inner (
 abbrev pub steps_before : Path → List OneItem → List Step
 steps_before path xs = steps_in path.blocks path.place xs
 
--- the place behind what a change takes out of its list
-abbrev pub behind_taken : Change → ℕ → ℕ
-behind_taken (Insert x) p = p
-behind_taken (Replace x) p = p + 1
-behind_taken Delete p = p + 1
-
--- the place behind what a change puts into its list
-abbrev pub behind_put : Change → ℕ → ℕ
-behind_put (Insert x) p = p + 1
-behind_put (Replace x) p = p + 1
-behind_put Delete p = p
-
--- the same place in the outermost list, from which an edit within a block takes the block, and puts it back
-abbrev pub outermost : (ℕ → ℕ) → Path → ℕ
-outermost behind path = elim path.blocks [ [] ↦ behind path.place | b ∷ bs ↦ b + 1 ]
-
 -- the first changed step: how many steps stand before the place
-abbrev pub first_changed : Path → List OneItem → ℕ
-first_changed path xs = length (steps_before path xs)
+abbrev pub first_changed : Edit → List OneItem → ℕ
+first_changed edit xs = length (steps_before (edit_path edit) xs)
 
--- how many steps of the old list stand before the end of the outermost item that is taken out
-abbrev pub old_end : Change → Path → List OneItem → ℕ
-old_end change path old = length (unroll (listed (take (outermost (behind_taken change) path) old)))
+-- the place behind what an edit takes out of the innermost list: that of an insertion at 5 is 5, and that of a deletion at 5 is 6
+abbrev pub behind_taken : Edit → ℕ
+behind_taken (Insert place x) = place.place
+behind_taken (Replace place x) = place.place + 1
+behind_taken (Delete place) = place.place + 1
 
--- how many steps of the new list stand before the end of the outermost item that is put in
-abbrev pub new_end : Change → Path → List OneItem → ℕ
-new_end change path new = length (unroll (listed (take (outermost (behind_put change) path) new)))
+-- the place behind what an edit puts into the innermost list: that of an insertion at 5 is 6, and that of a deletion at 5 is 5
+abbrev pub behind_put : Edit → ℕ
+behind_put (Insert place x) = place.place + 1
+behind_put (Replace place x) = place.place + 1
+behind_put (Delete place) = place.place
+
+-- the same place in the outermost list, from which an edit within a block takes the block, and puts it back: behind the item at 5 of
+-- the outermost list it is 6; behind the item at 5 of the block at 2 it is 3, behind the block
+abbrev pub outermost : ℕ → List ℕ → ℕ
+outermost behind blocks = elim blocks [ [] ↦ behind | b ∷ bs ↦ b + 1 ]
+
+-- how many steps of the old list stand before the end of the outermost item that is taken out: where M 0 is deleted from H 0, M 0, X 0,
+-- these are 2, with its own; where Z 0 is inserted into the block of REPEAT 3 { H 0 } they are 3, with all rounds
+abbrev pub old_end : Edit → List OneItem → ℕ
+old_end edit old = length (unroll (listed (take (outermost (behind_taken edit) (edit_path edit).blocks) old)))
+
+-- how many steps of the new list stand before the end of the outermost item that is put in: the deletion above leaves H 0, X 0, and this
+-- is 1; the insertion leaves REPEAT 3 { Z 0, H 0 }, and it is 6
+abbrev pub new_end : Edit → List OneItem → ℕ
+new_end edit new = length (unroll (listed (take (outermost (behind_put edit) (edit_path edit).blocks) new)))

@@ -1,10 +1,12 @@
 -- Inputs: what a call that reads a whole text leaves of the input.
-use Rattle.std.specs.Prelude.{◌≡◌, ◌<◌, ◌≤◌, ℕ, ◌+◌, List, length, ◌⊎◌}
-use Rattle.stab_pauli.specs.declared.refusal.Refusal.{Refusal}
-use Rattle.stab_pauli.specs.declared.refusal.Refusal.TheVariants.{ReadFault, TooLong, OutOfMemory}
-use Rattle.stab_pauli.specs.declared.refusal.Fault.{Fault}
-use Rattle.stab_pauli.specs.Refusals.{whole}
-use Rattle.stab_pauli.specs.Devices.{InputView, Gave, GaveAndFailed, GaveAll}
+-- Source: this project's own.
+use Rattle.std.specs.Prelude.{◌≡◌, ◌<◌, ◌≤◌, ℕ, ◌+◌, List, length, ◌⊎◌, Result, Ok, Err}
+use Rattle.std.specs.Global.{Vec}
+use Rattle.stab_io.specs.declared.refusal.Refusal.{Refusal}
+use Rattle.stab_io.specs.declared.refusal.Refusal.TheVariants.{ReadFault, TooLong, OutOfMemory}
+use Rattle.stab_io.specs.declared.refusal.Fault.{Fault}
+use Rattle.stab_io.specs.Refusals.{whole}
+use Rattle.stab_io.specs.Devices.{InputView, Gave, GaveAndFailed, GaveAll}
 use Rattle.stab_circuit.specs.Circuits.{most_bytes}
 
 -- the most bytes that are asked for at once
@@ -38,6 +40,11 @@ pub record GaveFront (old new : InputView) : Type 0 where
 -- why a text was not read whole: it is too long, or the input failed, or memory was refused
 abbrev pub IsUnread : InputView → InputView → Refusal → Type 0
 IsUnread old new r = ((r ≡ TooLong) × GaveTooMuch old new) ⊎ ((r ≡ ReadFault) × GaveAndBroke old new) ⊎ ((r ≡ OutOfMemory) × GaveFront old new)
+
+-- the call read the input's whole text, or refused it unread
+abbrev pub ReadsText : InputView → InputView → Result (Vec ℕ) Refusal → Type 0
+ReadsText old new (Ok text) = GaveText old new text.items
+ReadsText old new (Err r) = IsUnread old new r
 
 -- a text was refused: it was read whole and has this fault of its own, or it was not read whole
 abbrev pub RefusesText : (List ℕ → Fault → Type 0) → InputView → InputView → Fault → Type 0

@@ -1,4 +1,5 @@
 -- Items without pointers.
+-- Source: Stim's circuit file format: a circuit is a list of instructions and of blocks, which are lists again.
 use Rattle.std.specs.Prelude.{ℕ, ◌+◌, max, List, [], ◌∷◌}
 use Rattle.stab_lines.specs.declared.operation.Operation.{Operation}
 

@@ -1,10 +1,11 @@
 -- Laws: what holds between all texts and all items.
+-- Source: this project's own.
 use Rattle.std.specs.Prelude.{◌≡◌, ◌≤◌, ◌⊎◌, ℕ, List, [], All, length, take, drop, Some, None, Ok}
 use Rattle.std.specs.List.{slice_split}
-use Rattle.stab_pauli.specs.declared.refusal.Fault.{Fault}
+use Rattle.stab_io.specs.declared.refusal.Fault.{Fault}
 use Rattle.stab_lines.specs.Lines.{is_byte}
 use Rattle.stab_lines.specs.Laws.{IsLine}
-use Rattle.stab_circuit.specs.declared.change.Change.{Change}
+use Rattle.stab_circuit.specs.declared.edit.Edit.{Edit}
 use Rattle.stab_circuit.specs.Items.{Items, OneItem, done, before, listed, depth}
 use Rattle.stab_circuit.specs.Circuits.{most_bytes, line_meanings, fault_from, Joins, text_fault, item_fault, StandsFor, StandsForOne}
 use Rattle.stab_circuit.specs.Prints.{printed}
@@ -12,7 +13,6 @@ use Rattle.stab_circuit.specs.Steps.{unroll}
 use Rattle.stab_circuit.specs.Cursors.{IsApart}
 use Rattle.stab_circuit.specs.Readings.{IsCircuit, IsFaultOf}
 use Rattle.stab_circuit.specs.Steps.{unroll}
-use Rattle.stab_circuit.specs.Paths.{Path}
 use Rattle.stab_circuit.specs.Edits.{edited, taken, put_item, first_changed, old_end, new_end}
 
 -- the text stands for the items, and for no others
@@ -74,22 +74,22 @@ abbrev pub CircuitsHaveNoFault : Type 0
 CircuitsHaveNoFault = (text : List ℕ) (items : Items) (fault : Fault) → IsCircuit text items → IsFaultOf text fault → ⊥
 
 -- an edit leaves the steps before the first changed one, and those behind the outermost item around the place
-pub record LeavesTheRest (change : Change) (path : Path) (old new : List OneItem) : Type 0 where
-  pub before : take (first_changed path old) (unroll (listed old)) ≡ take (first_changed path old) (unroll (listed new))
-  pub behind : drop (old_end change path old) (unroll (listed old)) ≡ drop (new_end change path new) (unroll (listed new))
+pub record LeavesTheRest (edit : Edit) (old new : List OneItem) : Type 0 where
+  pub before : take (first_changed edit old) (unroll (listed old)) ≡ take (first_changed edit old) (unroll (listed new))
+  pub behind : drop (old_end edit old) (unroll (listed old)) ≡ drop (new_end edit new) (unroll (listed new))
 
 -- each edit leaves the rest of the steps
 abbrev pub EditsLeaveTheRest : Type 0
-EditsLeaveTheRest = (change : Change) (path : Path) (old new : List OneItem) → edited change path old ≡ Ok new → LeavesTheRest change path old new
+EditsLeaveTheRest = (edit : Edit) (old new : List OneItem) → edited edit old ≡ Ok new → LeavesTheRest edit old new
 
--- the item that the change puts in, if there is one, is of lines
-abbrev pub PutsLines : Change → Type 0
-PutsLines change = (item : OneItem) → put_item change ≡ Some item → AreOfLines (before item done)
+-- the item that the edit puts in, if there is one, is of lines
+abbrev pub PutsLines : Edit → Type 0
+PutsLines edit = (item : OneItem) → put_item edit ≡ Some item → AreOfLines (before item done)
 
 -- items of lines are so after each edit that puts in such an item, and nests no block too deep
 abbrev pub EditedItemsAreOfLines : Type 0
-EditedItemsAreOfLines = (change : Change) (path : Path) (old new : List OneItem) → AreOfLines (listed old) → PutsLines change → edited change path old ≡ Ok new → depth (listed new) ≤ 16 → AreOfLines (listed new)
+EditedItemsAreOfLines = (edit : Edit) (old new : List OneItem) → AreOfLines (listed old) → PutsLines edit → edited edit old ≡ Ok new → depth (listed new) ≤ 16 → AreOfLines (listed new)
 
 -- an item that is taken out of items of lines is of lines
 abbrev pub TakenItemsAreOfLines : Type 0
-TakenItemsAreOfLines = (change : Change) (path : Path) (old : List OneItem) (item : OneItem) → AreOfLines (listed old) → taken change path old ≡ Some item → AreOfLines (before item done)
+TakenItemsAreOfLines = (edit : Edit) (old : List OneItem) (item : OneItem) → AreOfLines (listed old) → taken edit old ≡ Some item → AreOfLines (before item done)

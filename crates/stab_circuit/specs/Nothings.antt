@@ -1,4 +1,5 @@
 -- Items that stand for nothing, as TICK does.
+-- Source: TICK of Stim's circuit file format, which is for the reader alone.
 use Rattle.std.specs.Prelude.{◌≡◌, []}
 use Rattle.stab_circuit.specs.Items.{OneItem, before, done, depth}
 use Rattle.stab_circuit.specs.Steps.{unroll, qubits_of, observables_of}

@@ -1,4 +1,5 @@
 -- Paths: where an edit is made.
+-- Source: this project's own.
 use Rattle.std.specs.Prelude.{ℕ, List, [], ◌∷◌, ◌++◌}
 
 -- a path: the places of the blocks around, the outermost first, and a place in the innermost list

@@ -1,4 +1,5 @@
 -- Prints: the one text of a list of items.
+-- Source: Stim's circuit file format. Which of several texts of the same items is printed is this project's own.
 use Rattle.std.specs.Prelude.{ℕ, ◌*◌, suc, List, [], ◌∷◌, ◌++◌, replicate, codes}
 use Rattle.stab_lines.specs.Prints.{operation_text, open_text}
 use Rattle.stab_circuit.specs.Items.{Items, done, next, block}

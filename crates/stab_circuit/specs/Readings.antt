@@ -1,10 +1,11 @@
 -- Readings: how the calls that read a text answer it.
+-- Source: this project's own.
 use Rattle.std.specs.Prelude.{◌≡◌, ◌<◌, Bool, true, false, IsTrue, Some, None, Result, Ok, Err, List, ℕ, ◌⊎◌}
-use Rattle.stab_pauli.specs.declared.refusal.Refusal.{Refusal}
-use Rattle.stab_pauli.specs.declared.refusal.Refusal.TheVariants.{LookbackTooFar, TooManySteps, TooDeep, BadLine, TooLong, ReadFault, OutOfMemory}
-use Rattle.stab_pauli.specs.declared.refusal.Fault.{Fault}
-use Rattle.stab_pauli.specs.Refusals.{whole}
-use Rattle.stab_pauli.specs.Devices.{InputView}
+use Rattle.stab_io.specs.declared.refusal.Refusal.{Refusal}
+use Rattle.stab_io.specs.declared.refusal.Refusal.TheVariants.{LookbackTooFar, TooManySteps, TooDeep, BadLine, TooLong, ReadFault, OutOfMemory}
+use Rattle.stab_io.specs.declared.refusal.Fault.{Fault}
+use Rattle.stab_io.specs.Refusals.{whole}
+use Rattle.stab_io.specs.Devices.{InputView}
 use Rattle.stab_lines.specs.Meanings.{is_of_line}
 use Rattle.stab_circuit.specs.Items.{Items, OneItem}
 use Rattle.stab_circuit.specs.Inputs.{GaveText, RefusesText}
@@ -23,6 +24,11 @@ IsRefused text fault = (items : Items) × (refusal : Refusal) × StandsFor text 
 -- the fault is that of the text's lines, or of the circuit that it stands for
 abbrev pub IsFaultOf : List ℕ → Fault → Type 0
 IsFaultOf text fault = (text_fault text ≡ Some fault) ⊎ IsRefused text fault
+
+-- the call gave the circuit that the text stands for, or the text's fault, or memory was refused
+abbrev pub ReadsCircuit : List ℕ → Result (List OneItem) Fault → Type 0
+ReadsCircuit text (Ok circuit) = IsCircuit text (circuit_items circuit)
+ReadsCircuit text (Err fault) = (fault ≡ whole OutOfMemory) ⊎ IsFaultOf text fault
 
 -- the call read the circuit of the input's text, or refused the text
 abbrev pub ReadsInput : InputView → InputView → Result (List OneItem) Fault → Type 0

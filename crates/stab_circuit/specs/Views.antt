@@ -1,4 +1,5 @@
 -- Views: the items that contracts see in a circuit.
+-- Source: this project's own.
 use Rattle.std.specs.Prelude.{List}
 use Rattle.stab_circuit.specs.Items.{OneItem, listed, Items}
 

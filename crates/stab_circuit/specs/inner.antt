@@ -4,11 +4,10 @@ pub mod Kept
 pub mod ItemSizes
 pub mod Parts
 pub mod Readers
-pub mod Texts
 pub mod Walks
 pub mod Margins
 pub mod Places
 pub mod Splices
 pub mod Judgements
-pub mod Outcomes
-pub mod Runs
+pub mod EditResults
+pub mod Chunks

@@ -1,19 +1,17 @@
-ghost use Rattle.std.specs.Prelude.{◌≡◌, ◌≤◌, length, None, IfOk, IfErr};
+ghost use Rattle.std.specs.Prelude.{◌≡◌, None, IfOk, IfErr};
 ghost use Rattle.stab_circuit.specs.Items.{depth, listed};
-ghost use Rattle.stab_circuit.specs.Circuits.{most_bytes};
 ghost use Rattle.stab_circuit.specs.Steps.{check_of, Checks};
 ghost use Rattle.stab_circuit.specs.Views.{circuit_items};
-ghost use Rattle.stab_circuit.specs.Readings.{ReadsInput, ReadsItem, IsPlaced, is_of_circuit, is_of_item};
-ghost use Rattle.stab_circuit.specs.inner.Texts.{ReadsCircuit};
+ghost use Rattle.stab_circuit.specs.Readings.{ReadsCircuit, ReadsInput, ReadsItem, IsPlaced, is_of_circuit, is_of_item};
 
 mod edits;
 
+use crate::chunks::{Chunk, SkippedChunks, cut, front_summary, skip_chunks};
 use crate::input::{MOST_BYTES, read_text};
 use crate::item::Item;
 use crate::reader::read_lines;
-use crate::runs::{Run, Skipped, cut, front_summary, skip_runs};
 use crate::summary::{STEPS_CAP, Summary};
-use stab_pauli::{Fault, Input, Refusal};
+use stab_io::{Fault, Input, Refusal};
 use std::alloc::Global;
 use std::marker::Model;
 
@@ -22,8 +20,8 @@ use std::marker::Model;
 /// What is known of them all is kept, so that no call walks over them for it.
 pub struct Circuit {
     items: Vec<Item>,
-    /// The items in runs.
-    runs: Vec<Run>,
+    /// The items in chunks.
+    chunks: Vec<Chunk>,
     total: Summary,
 }
 
@@ -32,7 +30,7 @@ impl Drop for Circuit {
     fn drop(self) {
         let Circuit {
             items: _,
-            runs: _,
+            chunks: _,
             total: _,
         } = self;
     }
@@ -50,11 +48,11 @@ impl Model for Circuit {
     ghost coded = { entries_code };
 
     ghost use Rattle.stab_circuit.specs.inner.Summaries.{summary_of, IsSummary};
-    ghost use Rattle.stab_circuit.specs.inner.Runs.{AreCut};
+    ghost use Rattle.stab_circuit.specs.inner.Chunks.{AreChunksOf};
 
     ghost view = { λ c. c.items.items };
 
-    ghost invariant = { λ c. (c.total ≡ summary_of (listed c.items.items)) × IsSummary c.total × (c.total.depth ≤ 16) × All IsApart (unroll (listed c.items.items)) × AreCut c.runs.items c.items.items };
+    ghost invariant = { λ c. (c.total ≡ summary_of (listed c.items.items)) × IsSummary c.total × (c.total.depth ≤ 16) × All IsApart (unroll (listed c.items.items)) × AreChunksOf c.chunks.items c.items.items };
 }
 
 impl Circuit {
@@ -64,7 +62,7 @@ impl Circuit {
     ghost use Rattle.stab_circuit.specs.Steps.{unroll, records_of, qubits_of, observables_of, most_steps, steps_cap, check_of, check_within, Checks};
     ghost use Rattle.stab_circuit.specs.Cursors.{IsApart};
     ghost use Rattle.stab_circuit.specs.Views.{circuit_items};
-    ghost use Rattle.stab_circuit.specs.inner.Runs.{AreCut, Skips};
+    ghost use Rattle.stab_circuit.specs.inner.Chunks.{AreChunksOf, Skips};
 
     /// The empty circuit, which takes no memory.
     #[tactic(auto, using(crate::proofs::StepApartLemmas::nothing_apart))]
@@ -73,24 +71,28 @@ impl Circuit {
     {
         Circuit {
             items: Vec::new(alloc),
-            runs: Vec::new(alloc),
+            chunks: Vec::new(alloc),
             total: Summary::NONE,
         }
     }
 
-    /// The circuit of these items, which are cut into runs, where nothing refuses it as a whole.
-    #[tactic(auto, using(crate::proofs::RunPartLemmas::check_taken))]
-    fn of_items(items: Vec<Item>, runs: Vec<Run>) -> Result<Circuit, Fault>
+    /// The circuit of these items, which are cut into chunks, where nothing refuses it as a whole.
+    #[tactic(auto, using(crate::proofs::ChunkPartLemmas::check_taken))]
+    fn of_items(items: Vec<Item>, chunks: Vec<Chunk>) -> Result<Circuit, Fault>
         requires shallow { depth (listed items.items) ≤ 16 }
-        requires cut { AreCut runs.items items.items }
+        requires cut { AreChunksOf chunks.items items.items }
         requires apart { All IsApart (unroll (listed items.items)) }
         ensures value { IfOk result (λ c. c ≡ items.items) }
         ensures checked { Checks result (check_of (listed items.items)) }
     {
-        let total = front_summary(items.as_slice(), runs.as_slice(), items.len());
+        let total = front_summary(items.as_slice(), chunks.as_slice(), items.len());
         match total.refusal() {
             Some(refusal) => Err(Fault::whole(refusal)),
-            None => Ok(Circuit { items, runs, total }),
+            None => Ok(Circuit {
+                items,
+                chunks,
+                total,
+            }),
         }
     }
 
@@ -104,12 +106,12 @@ impl Circuit {
         self.items.as_slice()
     }
 
-    /// Leaves out steps from the first on, by whole runs of items.
-    pub(crate) fn skip(&self, steps: u32) -> Skipped
+    /// Leaves out steps from the first on, by whole chunks of items.
+    pub(crate) fn skip(&self, steps: u32) -> SkippedChunks
         requires few { steps ≤ most_steps }
         ensures skips { Skips steps self.now result }
     {
-        skip_runs(self.items.as_slice(), self.runs.as_slice(), steps)
+        skip_chunks(self.items.as_slice(), self.chunks.as_slice(), steps)
     }
 
     /// One more than the greatest qubit named anywhere, by QUBIT_COORDS too, or 0. It is at most
@@ -159,14 +161,18 @@ impl Circuit {
 }
 
 /// The circuit that a text stands for.
-fn circuit_of_text(alloc: Global, text: &[u8]) -> Result<Circuit, Fault>
-    requires small { length text.now ≤ most_bytes }
+///
+/// Faults: those of the text, with their lines; 8, 9 and 14 for the whole of it; `OutOfMemory`.
+pub fn circuit_of_text(alloc: Global, text: &[u8]) -> Result<Circuit, Fault>
     ensures gives { ReadsCircuit text.now result }
     ensures only { IfErr result (IsPlaced is_of_circuit) }
 {
+    if text.len() > MOST_BYTES {
+        return Err(Fault::whole(Refusal::TooLong));
+    }
     let items = read_lines(alloc, false, text)?;
-    let runs = cut(alloc, items.as_slice())?;
-    Circuit::of_items(items, runs)
+    let chunks = cut(alloc, items.as_slice())?;
+    Circuit::of_items(items, chunks)
 }
 
 /// Reads the circuit that the input's text stands for.
@@ -179,10 +185,8 @@ pub fn read_circuit<I: Input>(alloc: Global, input: &mut I) -> Result<Circuit, F
     ensures only { IfErr result (IsPlaced is_of_circuit) }
     ensures checked { IfOk result (λ c. check_of (circuit_items c) ≡ None) }
 {
-    match read_text(alloc, input) {
-        Ok(text) => circuit_of_text(alloc, text.as_slice()),
-        Err(refusal) => Err(Fault::whole(refusal)),
-    }
+    let text = read_text(alloc, input).map_err(Fault::whole)?;
+    circuit_of_text(alloc, text.as_slice())
 }
 
 /// The item that a text stands for.

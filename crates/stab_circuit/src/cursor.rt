@@ -2,7 +2,7 @@ use crate::circuit::Circuit;
 use crate::item::Item;
 use crate::step::Step;
 use crate::walk::Walk;
-use stab_pauli::Refusal;
+use stab_io::Refusal;
 use std::alloc::Global;
 use std::marker::Model;
 
@@ -33,7 +33,7 @@ impl<'a> Model for Cursor<'a> {
 
 impl<'a> Cursor<'a> {
     ghost use Rattle.std.specs.Prelude.{◌≡◌, ◌≤◌, None, [], ◌∷◌, length, drop, All, IfOk, IfErr, IfSome, IfNone};
-    ghost use Rattle.stab_pauli.specs.declared.refusal.Refusal.TheVariants.{OutOfMemory};
+    ghost use Rattle.stab_io.specs.declared.refusal.Refusal.TheVariants.{OutOfMemory};
     ghost use Rattle.stab_circuit.specs.Steps.{check_of, unroll};
     ghost use Rattle.stab_circuit.specs.Views.{circuit_items};
     ghost use Rattle.stab_circuit.specs.Cursors.{step_shown, IsApart};

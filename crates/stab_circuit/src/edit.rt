@@ -1,258 +1,64 @@
-ghost use Rattle.std.specs.Prelude.{◌≡◌, ◌≤◌, length, min, take, drop, slice_get, Err, OnOk, IfOk, IfErr};
-ghost use Rattle.stab_circuit.specs.Items.{listed};
-ghost use Rattle.stab_circuit.specs.Steps.{unroll, steps_cap};
-ghost use Rattle.stab_circuit.specs.Edits.{edited_in, inner, steps_in as steps_of_place};
-ghost use Rattle.stab_circuit.specs.inner.Summaries.{IsSummary};
-ghost use Rattle.stab_circuit.specs.inner.Splices.{splice_of, splice_at};
-ghost use Rattle.stab_circuit.specs.inner.Judgements.{judgement_of, IsBlockAt, BeginsWith};
-ghost use Rattle.stab_circuit.specs.inner.Outcomes.{steps_within, PutsApart, AreApart, outcome_by, IsOutcome};
-ghost use Rattle.stab_circuit.specs.inner.Runs.{AreCut};
+use crate::item::Item;
+use crate::path::Path;
+use stab_io::{Fault, Refusal};
 
-use crate::change::Change;
-use crate::item::{Item, Part, items_summary};
-use crate::runs::{Run, back_summary, front_summary};
-use crate::summary::{STEPS_CAP, Summary};
-use stab_lines::Count;
-use stab_pauli::Refusal;
-
-/// What an edit comes to in a list of items: which items leave it, from the first up to the one
-/// before `behind`, the summary of what is put in their stead, and how many steps stand before the
-/// place within the first, counted up to 1,048,577.
-#[derive(Clone, Copy)]
-pub(crate) struct Judgement {
-    pub(crate) first: usize,
-    pub(crate) behind: usize,
-    pub(crate) put: Summary,
-    pub(crate) within: u32,
+/// An edit of a circuit, at a path.
+#[derive(Drop)]
+pub enum Edit {
+    /// An item is put in before the place.
+    Insert { place: Path, item: Item },
+    /// An item is put in the stead of the one at the place.
+    Replace { place: Path, item: Item },
+    /// The item at the place is taken out.
+    Delete { place: Path },
 }
 
-/// What a list comes to by an edit: the summary of the items that the edit leaves, the place behind
-/// those that leave the list, and which steps it changes.
-///
-/// Steps are counted up to 1,048,577: how many stand before the place, before the end of what
-/// leaves the list, and before the end of what is put in its stead.
-#[derive(Clone, Copy)]
-pub(crate) struct Outcome {
-    pub(crate) total: Summary,
-    pub(crate) behind: usize,
-    pub(crate) first: u32,
-    pub(crate) old_end: u32,
-    pub(crate) new_end: u32,
+/// Which steps an edit changed: those from the first up to the one before the end of the outermost
+/// item around its place, in the old steps and in the new ones. Steps are counted up to 1,048,577.
+#[derive(Clone, Copy, Debug, PartialEq, Eq)]
+pub struct Span {
+    /// How many steps stand before the place.
+    pub first: usize,
+    /// How many steps stood before the end of the outermost item.
+    pub old_end: usize,
+    /// How many steps stand before its end now.
+    pub new_end: usize,
 }
 
-/// A block: its count of rounds, and its items.
-#[derive(Clone, Copy)]
-struct Block<'a> {
-    count: Count,
-    body: &'a [Item],
+/// Why an edit was refused, with the item that it would have put in.
+#[derive(Drop)]
+pub struct Refused {
+    pub fault: Fault,
+    pub item: Option<Item>,
 }
 
-/// The block at a place.
-fn block_at(items: &[Item], place: usize) -> Result<Block<'_>, Refusal>
-    ensures value { IsBlockAt (slice_get items.now place) result }
-{
-    match items.get(place) {
-        None => Err(Refusal::PlaceOutOfRange),
-        Some(item) => match item.part() {
-            Part::Operation { .. } => Err(Refusal::NotABlock),
-            Part::Block { count, body, .. } => Ok(Block { count, body }),
-        },
-    }
-}
+impl Edit {
+    ghost use Rattle.std.specs.Prelude.{◌≡◌};
+    ghost use Rattle.stab_io.specs.Refusals.{whole};
+    ghost use Rattle.stab_circuit.specs.Edits.{edit_path, put_item};
 
-/// What a change comes to at a place of a list of so many items.
-#[tactic(auto, using(crate::proofs::StepApartLemmas::nothing_apart))]
-fn judge_at(len: usize, place: usize, change: &Change) -> Result<Judgement, Refusal>
-    ensures value { result ≡ judgement_of 0 (splice_at change.now place len) }
-    ensures small { IfOk result (λ j. IsSummary j.put) }
-    ensures apart { OnOk result (IfOk (splice_at change.now place len) PutsApart) }
-    ensures nothing_within { IfOk result (λ j. j.within ≡ 0) }
-{
-    match change {
-        Change::Insert(item) if place <= len => Ok(Judgement {
-            first: place,
-            behind: place,
-            put: item.summary(),
-            within: 0,
-        }),
-        Change::Replace(item) if place < len => Ok(Judgement {
-            first: place,
-            behind: place + 1,
-            put: item.summary(),
-            within: 0,
-        }),
-        Change::Delete if place < len => Ok(Judgement {
-            first: place,
-            behind: place + 1,
-            put: Summary::NONE,
-            within: 0,
-        }),
-        Change::Insert(_) | Change::Replace(_) | Change::Delete => Err(Refusal::PlaceOutOfRange),
-    }
-}
-
-/// What a change at a place in nested blocks comes to in the outermost list, by the summaries that
-/// are kept along the way.
-#[cycle(judging)]
-pub(crate) fn judge(
-    items: &[Item],
-    blocks: &[usize],
-    place: usize,
-    change: &Change,
-) -> Result<Judgement, Refusal>
-    ensures value { result ≡ judgement_of (min (length (steps_within blocks.now place items.now)) steps_cap) (splice_of change.now blocks.now place items.now) }
-    ensures small { IfOk result (λ j. IsSummary j.put) }
-    ensures within { IfOk result (λ j. (j.first ≤ j.behind) × (j.behind ≤ length items.now) × (j.within ≤ steps_cap)) }
-    ensures front { OnOk result (BeginsWith (steps_of_place blocks.now place items.now) (unroll (listed items.now))) }
-    ensures apart { OnOk result (IfOk (splice_of change.now blocks.now place items.now) PutsApart) }
-    ensures within_put { IfOk result (λ j. j.within ≤ j.put.steps) }
-    ensures within_gone { IfOk result (λ j. j.within ≤ length (unroll (listed (drop j.first (take j.behind items.now))))) }
-{
-    match blocks.split_first() {
-        None => judge_at(items.len(), place, change),
-        Some((block, others)) => match block_at(items, *block) {
-            Err(refusal) => Err(refusal),
-            Ok(inner) => match outcome_in(inner.body, others, place, change) {
-                Err(refusal) => Err(refusal),
-                Ok(round) => Ok(Judgement {
-                    first: *block,
-                    behind: *block + 1,
-                    put: round.total.repeated(inner.count.number()),
-                    within: round.first,
-                }),
-            },
-        },
-    }
-}
-
-/// What a list comes to by an edit that is judged like this, by the summaries of the items before
-/// those that leave it, of these, and of those behind them.
-fn outcome_of(judgement: Judgement, front: Summary, gone: Summary, back: Summary) -> Outcome
-    requires put { IsSummary judgement.put }
-    requires few { judgement.within ≤ steps_cap }
-    requires front { IsSummary front }
-    requires gone { IsSummary gone }
-    requires back { IsSummary back }
-    ensures value { result ≡ outcome_by judgement front gone back }
-    ensures small { IsSummary result.total }
-{
-    let first = front.steps + judgement.within;
-    let old_end = front.steps + gone.steps;
-    let new_end = front.steps + judgement.put.steps;
-    Outcome {
-        total: front.then(judgement.put.then(back)),
-        behind: judgement.behind,
-        first: first.min(STEPS_CAP),
-        old_end: old_end.min(STEPS_CAP),
-        new_end: new_end.min(STEPS_CAP),
-    }
-}
-
-/// What a list comes to by a change at a place in nested blocks. Each list on the way is added up
-/// once.
-#[cycle(judging)]
-pub(crate) fn outcome_in(
-    items: &[Item],
-    blocks: &[usize],
-    place: usize,
-    change: &Change,
-) -> Result<Outcome, Refusal>
-    ensures ok { IfOk result (IsOutcome change.now (record { blocks = blocks.now; place = place }) items.now) }
-    ensures refused { IfErr result (λ r. edited_in change.now blocks.now place items.now ≡ Err r) }
-{
-    match judge(items, blocks, place, change) {
-        Err(refusal) => Err(refusal),
-        Ok(judgement) => {
-            let (taken, back) = items.split_at(judgement.behind);
-            let (front, gone) = taken.split_at(judgement.first);
-            Ok(outcome_of(
-                judgement,
-                items_summary(front),
-                items_summary(gone),
-                items_summary(back),
-            ))
+    /// The path.
+    pub(crate) fn path(&self) -> Path
+        ensures value { result ≡ edit_path self.now }
+    {
+        match self {
+            Edit::Insert { place, .. } | Edit::Replace { place, .. } | Edit::Delete { place } =>
+                *place,
         }
     }
-}
 
-/// What a list that is cut into runs comes to by a change at a place in nested blocks.
-pub(crate) fn outcome_by_runs(
-    items: &[Item],
-    runs: &[Run],
-    blocks: &[usize],
-    place: usize,
-    change: &Change,
-) -> Result<Outcome, Refusal>
-    requires cut { AreCut runs.now items.now }
-    requires apart { AreApart items.now }
-    ensures ok { IfOk result (IsOutcome change.now (record { blocks = blocks.now; place = place }) items.now) }
-    ensures refused { IfErr result (λ r. edited_in change.now blocks.now place items.now ≡ Err r) }
-{
-    match judge(items, blocks, place, change) {
-        Err(refusal) => Err(refusal),
-        Ok(judgement) => Ok(outcome_of(
-            judgement,
-            front_summary(items, runs, judgement.first),
-            items_summary(&items[judgement.first..judgement.behind]),
-            back_summary(items, runs, judgement.behind),
-        )),
-    }
-}
-
-/// How many steps stand before a place in nested blocks, or 1,048,577 where there are more.
-#[cycle(counting)]
-fn steps_in(items: &[Item], blocks: &[usize], place: usize) -> u32
-    ensures value { result ≡ min (length (steps_of_place blocks.now place items.now)) steps_cap }
-{
-    match blocks.split_first() {
-        None => steps_up_to(items, place),
-        Some((block, others)) => {
-            let front = steps_up_to(items, *block);
-            (front + steps_inside(items, *block, others, place)).min(STEPS_CAP)
+    /// The edit refused, with the item that it would have put in.
+    pub(crate) fn refused(self, refusal: Refusal) -> Refused
+        ensures item { result.item ≡ put_item self }
+        ensures fault { result.fault ≡ whole refusal }
+    {
+        let item = match self {
+            Edit::Insert { item, .. } | Edit::Replace { item, .. } => Some(item),
+            Edit::Delete { .. } => None,
+        };
+        Refused {
+            fault: Fault::whole(refusal),
+            item,
         }
     }
-}
-
-/// How many steps stand before a place in a block of a list and the blocks in it, or 1,048,577
-/// where there are more; none where the list has no block there.
-#[cycle(counting)]
-fn steps_inside(items: &[Item], block: usize, others: &[usize], place: usize) -> u32
-    ensures value { result ≡ min (length (steps_of_place others.now place (inner (slice_get items.now block)))) steps_cap }
-{
-    match block_at(items, block) {
-        Err(_) => 0,
-        Ok(found) => steps_in(found.body, others, place),
-    }
-}
-
-/// How many steps the items before a place make, or 1,048,577 where they make more.
-fn steps_up_to(items: &[Item], place: usize) -> u32
-    ensures value { result ≡ min (length (unroll (listed (take place items.now)))) steps_cap }
-{
-    let (front, _) = items.split_at(place.min(items.len()));
-    items_summary(front).steps
-}
-
-/// How many steps stand before a place in nested blocks of a list that is cut into runs, or
-/// 1,048,577 where there are more.
-pub(crate) fn steps_by_runs(items: &[Item], runs: &[Run], blocks: &[usize], place: usize) -> u32
-    requires cut { AreCut runs.now items.now }
-    ensures value { result ≡ min (length (steps_of_place blocks.now place items.now)) steps_cap }
-{
-    match blocks.split_first() {
-        None => steps_up_to_by_runs(items, runs, place),
-        Some((block, others)) => {
-            let front = steps_up_to_by_runs(items, runs, *block);
-            (front + steps_inside(items, *block, others, place)).min(STEPS_CAP)
-        }
-    }
-}
-
-/// How many steps the items before a place make in a list that is cut into runs, or 1,048,577
-/// where they make more.
-fn steps_up_to_by_runs(items: &[Item], runs: &[Run], place: usize) -> u32
-    requires cut { AreCut runs.now items.now }
-    ensures value { result ≡ min (length (unroll (listed (take place items.now)))) steps_cap }
-{
-    front_summary(items, runs, place.min(items.len())).steps
 }

@@ -1,13 +1,16 @@
 ghost use Rattle.std.specs.Prelude.{◌≡◌};
-ghost use Rattle.stab_circuit.specs.inner.Texts.{ReadsText};
+ghost use Rattle.stab_circuit.specs.Inputs.{ReadsText};
 
-use stab_pauli::{DeviceFault, Input, Refusal};
+use stab_io::{DeviceFault, Input, Refusal};
 use std::alloc::Global;
 
 /// The most bytes of a text.
 pub const MOST_BYTES: usize = 16_777_216;
 
-/// Reads all of the input. Behind the limit of a text it reads no further.
+/// Reads all of the input.
+///
+/// Refusals: `TooLong` for a text of more than 16,777,216 bytes, of which at most 4,096 bytes behind
+/// the limit are read, and then no more; `ReadFault` where the input failed; `OutOfMemory`.
 pub fn read_text<I: Input>(alloc: Global, input: &mut I) -> Result<Vec<u8>, Refusal>
     ensures reads { ReadsText (I.seen input.old) (I.seen input.new) result }
 {

@@ -6,9 +6,9 @@
 //! - `reader`: the items of a text's lines, with the blocks that are open.
 //! - `input`: reading an input whole.
 //! - `summary`: the numbers that are kept.
-//! - `runs`: those of runs of a circuit's items, so that a long circuit is added up fast.
-//! - `path`, `change`: where a circuit is edited, and what for.
-//! - `edit`, `commit`: judging an edit by what items keep, and making it.
+//! - `chunks`: those of chunks of a circuit's items, so that a long circuit is added up fast.
+//! - `path`, `edit`: where a circuit is edited, and how, and which steps that changes.
+//! - `judge`, `commit`: judging an edit by what items keep, and making it.
 //! - `circuit`: circuits, reading one, and editing one.
 //! - `print`: the one text of a circuit.
 //! - `step`, `instruction`: the steps of an instruction.
@@ -19,18 +19,22 @@
 //! what an edit leaves of items;
 //! `specs/inner` has what private contracts alone speak of.
 //!
+//! Sources: Stim's circuit file format (.stim) without noise, in Stim's repository
+//! `doc/file_format_stim_circuit.md`. `docs/circuit-text.md` says where this differs; paths and edits are this
+//! project's own.
+//!
 //! Proved: every text is that of one circuit or has one fault, and never both; it is read as exactly
 //! the items that it stands for, or refused with exactly its fault, and behind the limit of a text
 //! nothing is read but what one read brings; qubits and observables are those of its items, and
 //! steps, records and what refuses a whole circuit those of its unrolled steps; one item's text
 //! without a fault stands for one item; what is printed of the items of any lines stands for these
 //! items and no others, within the limit of a text, and edits of items of lines leave such items; an
-//! edit leaves exactly the items that its path and its change give, and the steps before the first
+//! edit leaves exactly the items that `specs/Edits.antt` gives, and the steps before the first
 //! changed one and behind the outermost item around its place, or is refused by what refuses it first
 //! and leaves the circuit as it was.
 #![tactic(auto)]
 
-mod change;
+mod chunks;
 mod circuit;
 mod commit;
 mod cursor;
@@ -38,18 +42,19 @@ mod edit;
 mod input;
 mod instruction;
 mod item;
+mod judge;
 pub mod laws;
 mod path;
 mod print;
 mod reader;
-mod runs;
 mod step;
 mod summary;
 mod walk;
 
-pub use change::{Change, Edited, Refused};
-pub use circuit::{Circuit, read_circuit, read_item};
+pub use circuit::{Circuit, circuit_of_text, read_circuit, read_item};
 pub use cursor::Cursor;
+pub use edit::{Edit, Refused, Span};
+pub use input::read_text;
 pub use item::Item;
 pub use path::Path;
 pub use print::write_circuit;

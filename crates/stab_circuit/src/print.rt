@@ -1,15 +1,15 @@
 ghost use Rattle.std.specs.Prelude.{◌≡◌, ◌+◌, ◌*◌, ◌++◌, replicate, codes};
 ghost use Rattle.stab_circuit.specs.Items.{before, done, listed};
 ghost use Rattle.stab_circuit.specs.Views.{circuit_items};
-ghost use Rattle.stab_pauli.specs.Devices.{WritesAll, WritesAllOrFault};
-ghost use Rattle.stab_circuit.specs.inner.Margins.{depth_of};
+ghost use Rattle.stab_io.specs.Devices.{WritesAll, WritesAllOrFault};
+ghost use Rattle.stab_circuit.specs.inner.Margins.{margin_depth};
 ghost use Rattle.stab_lines.specs.Prints.{operation_text, open_text};
 ghost use Rattle.stab_circuit.specs.Prints.{line_text, printed_in, printed};
 
 use crate::circuit::Circuit;
 use crate::item::{Item, Part};
+use stab_io::{Fault, Output, Refusal, write_all};
 use stab_lines::{Count, Kind, write_opening, write_operation};
-use stab_pauli::{Fault, Output, Refusal, write_all};
 
 /// The blocks round a line, from the innermost outwards.
 #[derive(Clone, Copy)]
@@ -20,7 +20,7 @@ enum Margin<'a> {
 
 /// Writes four spaces for each block.
 fn write_margin<O: Output>(out: &mut O, margin: &Margin) -> Result<(), Refusal>
-    ensures writes { WritesAll (O.seen out.old) (O.seen out.new) (replicate (4 * depth_of margin.now) 32) result }
+    ensures writes { WritesAll (O.seen out.old) (O.seen out.new) (replicate (4 * margin_depth margin.now) 32) result }
 {
     match margin {
         Margin::None => Ok(()),
@@ -37,7 +37,7 @@ fn write_operation_line<O: Output>(
     kind: &Kind,
     tag: &[u8],
 ) -> Result<(), Refusal>
-    ensures writes { WritesAll (O.seen out.old) (O.seen out.new) (line_text (record { depth = depth_of margin.now; content = operation_text (record { kind = kind.now; tag = tag.now }) })) result }
+    ensures writes { WritesAll (O.seen out.old) (O.seen out.new) (line_text (record { depth = margin_depth margin.now; content = operation_text (record { kind = kind.now; tag = tag.now }) })) result }
 {
     write_margin(out, margin)?;
     write_operation(out, kind, tag)?;
@@ -50,7 +50,7 @@ fn write_open_line<O: Output>(
     count: Count,
     tag: &[u8],
 ) -> Result<(), Refusal>
-    ensures writes { WritesAll (O.seen out.old) (O.seen out.new) (line_text (record { depth = depth_of margin.now; content = open_text count tag.now })) result }
+    ensures writes { WritesAll (O.seen out.old) (O.seen out.new) (line_text (record { depth = margin_depth margin.now; content = open_text count tag.now })) result }
 {
     write_margin(out, margin)?;
     write_opening(out, count, tag)?;
@@ -58,7 +58,7 @@ fn write_open_line<O: Output>(
 }
 
 fn write_close_line<O: Output>(out: &mut O, margin: &Margin) -> Result<(), Refusal>
-    ensures writes { WritesAll (O.seen out.old) (O.seen out.new) (line_text (record { depth = depth_of margin.now; content = codes "}" })) result }
+    ensures writes { WritesAll (O.seen out.old) (O.seen out.new) (line_text (record { depth = margin_depth margin.now; content = codes "}" })) result }
 {
     write_margin(out, margin)?;
     write_all(out, b"}\n")
@@ -67,7 +67,7 @@ fn write_close_line<O: Output>(out: &mut O, margin: &Margin) -> Result<(), Refus
 /// Writes an item's lines.
 #[cycle(printing)]
 fn write_item<O: Output>(out: &mut O, margin: &Margin, item: &Item) -> Result<(), Refusal>
-    ensures writes { WritesAll (O.seen out.old) (O.seen out.new) (printed_in (depth_of margin.now) (before item.now done)) result }
+    ensures writes { WritesAll (O.seen out.old) (O.seen out.new) (printed_in (margin_depth margin.now) (before item.now done)) result }
 {
     match item.part() {
         Part::Operation { kind, tag } => write_operation_line(out, margin, kind, tag),
@@ -87,7 +87,7 @@ fn write_item<O: Output>(out: &mut O, margin: &Margin, item: &Item) -> Result<()
 /// Writes the items' lines.
 #[cycle(printing)]
 fn write_items<O: Output>(out: &mut O, margin: &Margin, items: &[Item]) -> Result<(), Refusal>
-    ensures writes { WritesAll (O.seen out.old) (O.seen out.new) (printed_in (depth_of margin.now) (listed items.now)) result }
+    ensures writes { WritesAll (O.seen out.old) (O.seen out.new) (printed_in (margin_depth margin.now) (listed items.now)) result }
 {
     for item in items {
         write_item(out, margin, item)?;
@@ -104,8 +104,5 @@ fn write_items<O: Output>(out: &mut O, margin: &Margin, items: &[Item]) -> Resul
 pub fn write_circuit<O: Output>(out: &mut O, circuit: &Circuit) -> Result<(), Fault>
     ensures writes { WritesAllOrFault (O.seen out.old) (O.seen out.new) (printed (circuit_items circuit.now)) result }
 {
-    match write_items(out, &Margin::None, circuit.items()) {
-        Ok(()) => Ok(()),
-        Err(refusal) => Err(Fault::whole(refusal)),
-    }
+    write_items(out, &Margin::None, circuit.items()).map_err(Fault::whole)
 }

@@ -4,13 +4,13 @@ ghost use Rattle.stab_circuit.specs.Items.{listed, depth};
 ghost use Rattle.stab_circuit.specs.inner.Readers.{ReadsItems, reading, line_fault};
 
 use crate::item::Item;
+use stab_io::{Fault, Refusal};
 use stab_lines::{Count, Line, Sequence, content, first_piece, is_close, meaning};
-use stab_pauli::{Fault, Refusal};
 use std::alloc::Global;
 
 /// A block that is open: its line, count and tag, and the items before it.
 #[derive(Drop)]
-pub struct Frame {
+pub struct OpenBlock {
     line: u64,
     count: Count,
     tag: Sequence<u8>,
@@ -19,41 +19,41 @@ pub struct Frame {
 
 /// The open blocks, the innermost last, and the items read in that.
 #[derive(Drop)]
-pub struct Reader {
+pub struct CircuitReader {
     alloc: Global,
-    frames: Vec<Frame>,
+    open_blocks: Vec<OpenBlock>,
     items: Vec<Item>,
 }
 
-impl Reader {
+impl CircuitReader {
     ghost use Rattle.std.specs.Prelude.{◌≡◌, [], List, ◌∷◌};
     ghost use Rattle.stab_lines.specs.Results.{Gives};
-    ghost use Rattle.stab_circuit.specs.inner.Readers.{progress_of, start, stepped, opening, closing, finished, is_whole as whole_of, meaning_at, TakesLine, ReadsItems, IsShallow};
+    ghost use Rattle.stab_circuit.specs.inner.Readers.{progress_of, before_reading, stepped, opening, closing, finished, is_whole as whole_of, meaning_at, TakesLine, ReadsItems, IsShallowProgress};
 
-    fn new(alloc: Global) -> Reader
-        ensures value { progress_of result ≡ start }
+    fn new(alloc: Global) -> CircuitReader
+        ensures value { progress_of result ≡ before_reading }
     {
-        Reader {
+        CircuitReader {
             alloc,
-            frames: Vec::new(alloc),
+            open_blocks: Vec::new(alloc),
             items: Vec::new(alloc),
         }
     }
 
     /// The items, where no block is open.
-    #[tactic(auto, using(crate::proofs::ViewLemmas::frames_pushed))]
+    #[tactic(auto, using(crate::proofs::ViewLemmas::open_blocks_pushed))]
     fn finish(self) -> Result<Vec<Item>, Fault>
         ensures gives { ReadsItems result (finished (progress_of self)) }
     {
-        let Reader {
+        let CircuitReader {
             alloc: _,
-            mut frames,
+            mut open_blocks,
             items,
         } = self;
-        match frames.pop() {
-            Some(frame) => Err(Fault {
+        match open_blocks.pop() {
+            Some(open_block) => Err(Fault {
                 refusal: Refusal::BadBlock,
-                line: frame.line,
+                line: open_block.line,
             }),
             None => Ok(items),
         }
@@ -64,7 +64,7 @@ impl Reader {
     fn is_whole(&self) -> bool
         ensures value { result ≡ whole_of (progress_of self.now) }
     {
-        self.frames.is_empty() && !self.items.is_empty()
+        self.open_blocks.is_empty() && !self.items.is_empty()
     }
 
     /// What a content means here, perhaps in one item's text.
@@ -79,7 +79,7 @@ impl Reader {
     }
 
     fn take_content(&mut self, single: bool, line: u64, content: &[u8]) -> Result<(), Refusal>
-        requires shallow { IsShallow (progress_of self.old) }
+        requires shallow { IsShallowProgress (progress_of self.old) }
         ensures gives { TakesLine (progress_of self.new) result (stepped line (meaning_at single (progress_of self.old) content.now) (progress_of self.old)) }
     {
         let found = self.found(single, content)?;
@@ -88,7 +88,7 @@ impl Reader {
 
     #[tactic(auto, using(crate::proofs::ItemLemmas::listed_pushed))]
     fn take(&mut self, line: u64, found: Line) -> Result<(), Refusal>
-        requires shallow { IsShallow (progress_of self.old) }
+        requires shallow { IsShallowProgress (progress_of self.old) }
         ensures gives { TakesLine (progress_of self.new) result (stepped line (Ok found) (progress_of self.old)) }
     {
         match found {
@@ -105,11 +105,11 @@ impl Reader {
     fn open(&mut self, line: u64, count: Count, tag: Sequence<u8>) -> Result<(), Refusal>
         ensures gives { TakesLine (progress_of self.new) result (opening line count tag (progress_of self.old)) }
     {
-        if self.frames.len() >= 16 {
+        if self.open_blocks.len() >= 16 {
             return Err(Refusal::TooDeep);
         }
         let before = std::mem::replace(&mut self.items, Vec::new(self.alloc));
-        self.frames.push(Frame {
+        self.open_blocks.push(OpenBlock {
             line,
             count,
             tag,
@@ -118,20 +118,20 @@ impl Reader {
         Ok(())
     }
 
-    #[tactic(auto, using(crate::proofs::ItemLemmas::listed_pushed, crate::proofs::ViewLemmas::frames_pushed, crate::proofs::ReaderLemmas::closes_shallow))]
+    #[tactic(auto, using(crate::proofs::ItemLemmas::listed_pushed, crate::proofs::ViewLemmas::open_blocks_pushed, crate::proofs::ReaderLemmas::closes_shallow))]
     fn close(&mut self) -> Result<(), Refusal>
-        requires shallow { IsShallow (progress_of self.old) }
+        requires shallow { IsShallowProgress (progress_of self.old) }
         ensures gives { TakesLine (progress_of self.new) result (closing (progress_of self.old)) }
     {
-        match self.frames.pop() {
+        match self.open_blocks.pop() {
             None => Err(Refusal::BadBlock),
-            Some(frame) => {
-                let Frame {
+            Some(open_block) => {
+                let OpenBlock {
                     line: _,
                     count,
                     tag,
                     before,
-                } = frame;
+                } = open_block;
                 let body = std::mem::replace(&mut self.items, before);
                 self.items
                     .push(Item::repeat(self.alloc, count, tag, body)?)?;
@@ -171,7 +171,7 @@ pub fn read_lines(alloc: Global, single: bool, text: &[u8]) -> Result<Vec<Item>,
     ensures gives { ReadsItems result (reading single text.now) }
     ensures shallow { IfOk result (λ v. depth (listed v.items) ≤ 16) }
 {
-    let mut reader = Reader::new(alloc);
+    let mut reader = CircuitReader::new(alloc);
     let mut rest = text;
     let mut line = 1;
     'lines: loop {

@@ -6,13 +6,13 @@ ghost use Rattle.stab_circuit.specs.Cursors.{IsApart};
 ghost use Rattle.stab_circuit.specs.Steps.{steps_of, past as past_of, target_qubits, factor_qubits, product_qubits, controlled_qubits, steps_cap};
 ghost use Rattle.stab_circuit.specs.inner.Summaries.{greatest as greatest_of, looks_back, furthest as furthest_of, kind_summary_of, IsPairApart, IsSwapApart, IsProductApart, IsSummary};
 
+use stab_io::Refusal;
 use stab_lines::{ControlledPair, Factor, Kind, Lookbacks, MeasureTarget, Pair, Product, Qubit};
-use stab_pauli::Refusal;
 
 /// What checks need to know of items: how many steps they make, up to 1,048,577, how many
 /// records, up to 16,777,215, how many records have to stand before them, how many qubits and
 /// observables they name, and how deep blocks are nested in them, up to 17.
-#[derive(Clone, Copy, Debug, PartialEq, Eq)]
+#[derive(Clone, Copy)]
 pub struct Summary {
     pub steps: u32,
     pub records: u32,

@@ -34,7 +34,7 @@ found_command matches name options = found_both (λ b. ((out-SubCommand (box_val
 
 -- an end with the job of a command, or with its coins refused
 pub ends_with_command : (app : App) (words : List Text) (name : Text) (options : List Row) (result : Result Job Usage) → Takes app words (name, options)
-    → IfOk result (IsJob name options) → IfErr result (RefusesCoins (first_of (codes "coins") options)) → EndsBy app words result
+    → IfOk result (IsJob name options) → IfErr result (RefusesCoins (first_of (codes "coins") options) (first_of (codes "coins_in") options)) → EndsBy app words result
 ends_with_command app words name options (Ok job) takes is refused = ((name, options), takes, is)
 ends_with_command app words name options (Err usage) takes is refused = inr (inr ((name, options), takes, refused))
 

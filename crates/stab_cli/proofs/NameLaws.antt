@@ -11,7 +11,7 @@ use Rattle.clap.specs.Walk.{Held, Names, Outcome, Step, Waiting, Walk, after_fla
 use Rattle.clap.specs.Simple.{argument_words, built, entered, label_of, names_of, rows_at}
 use Rattle.clap.specs.Faults.{fault_of, other_fault, turn_fault, walk_fault, word_fault}
 use Rattle.stab_cli.specs.Options.{Kept, stabsim}
-use Rattle.stab_cli.specs.inner.Parts.{IsCommandName, IsOneOf, command_names}
+use Rattle.stab_cli.specs.inner.Parts.{IsCommandName, IsOneOf}
 
 -- no command was met, or one that is not `help`
 abbrev pub IsNoHelp : Option (Text × List Text) → Type 0
@@ -119,22 +119,27 @@ labelled p rest (s ∷ ss) name options e = this (answers_to p (label_of s)) (la
     this false later e = later e
 
 -- the labels of commands and of `help`
-abbrev pub labels : List Text → Names
+abbrev pub labels : Names → Names
 labels [] = (codes "help", []) ∷ []
-labels (name ∷ names) = (name, []) ∷ labels names
+labels (label ∷ rest) = label ∷ labels rest
+
+-- the names of labels
+abbrev pub label_names : Names → List Text
+label_names = map (λ l. l.0)
 
 -- one of the commands was found, where it is not `help`
-one_of_them : (names : List Text) (p name : Text) → answers_to p (codes "help", []) ≡ false → option_map (λ (l : Text × List Text). l.0) (find (answers_to p) (labels names)) ≡ Some name → IsOneOf names name
+one_of_them : (own : Names) (p name : Text) → answers_to p (codes "help", []) ≡ false → option_map (λ (l : Text × List Text). l.0) (find (answers_to p) (labels own)) ≡ Some name
+    → IsOneOf (label_names own) name
 one_of_them [] p name off e = this (answers_to p (codes "help", [])) off e
   where
     this : (b : Bool) → b ≡ false → option_map (λ (l : Text × List Text). l.0) (if b then Some (codes "help", []) else None) ≡ Some name → ⊥
     this true off e = cc
     this false off e = cc
-one_of_them (first ∷ rest) p name off e = this (answers_to p (first, [])) (one_of_them rest p name off) e
+one_of_them (first ∷ rest) p name off e = this (answers_to p first) (one_of_them rest p name off) e
   where
-    this : (b : Bool) → (option_map (λ (l : Text × List Text). l.0) (find (answers_to p) (labels rest)) ≡ Some name → IsOneOf rest name)
-        → option_map (λ (l : Text × List Text). l.0) (if b then Some (first, []) else find (answers_to p) (labels rest)) ≡ Some name → (name ≡ first) ⊎ IsOneOf rest name
-    this true later e = let is : name ≡ first = cc in inl is
+    this : (b : Bool) → (option_map (λ (l : Text × List Text). l.0) (find (answers_to p) (labels rest)) ≡ Some name → IsOneOf (label_names rest) name)
+        → option_map (λ (l : Text × List Text). l.0) (if b then Some first else find (answers_to p) (labels rest)) ≡ Some name → (name ≡ first.0) ⊎ IsOneOf (label_names rest) name
+    this true later e = let is : name ≡ first.0 = cc in inl is
     this false later e = inr (later e)
 
 -- `help` does not answer to another word
@@ -143,14 +148,18 @@ no_help p true is other = let same : codes "help" ≡ p = (bytes_eq-Decides (cod
 no_help p false is other = refl
 
 -- the name of the command that was entered
-entered_name : (names : List Text) (a : App) (stop : Option (Text × List Text)) (name : Text) (options : List Row) → names_of a ≡ labels names → entered a stop ≡ Some (name, options) → IsNoHelp stop
-    → IsOneOf names name
-entered_name names a None name options are e other = cc
-entered_name names a (Some p) name options are e other =
+entered_name : (own : Names) (a : App) (stop : Option (Text × List Text)) (name : Text) (options : List Row) → names_of a ≡ labels own → entered a stop ≡ Some (name, options) → IsNoHelp stop
+    → IsOneOf (label_names own) name
+entered_name own a None name options are e other = cc
+entered_name own a (Some p) name options are e other =
     let found = labelled p.0 p.1 a.subs name options e in
-    let among : option_map (λ l. l.0) (find (answers_to p.0) (labels names)) ≡ Some name = ap (λ l. option_map (λ x. x.0) (find (answers_to p.0) l)) (sym are) ∙ found in
+    let among : option_map (λ l. l.0) (find (answers_to p.0) (labels own)) ≡ Some name = ap (λ l. option_map (λ x. x.0) (find (answers_to p.0) l)) (sym are) ∙ found in
     let not_it : answers_to p.0 (codes "help", []) ≡ false = ap (λ b. b || false) (no_help p.0 (bytes_eq (codes "help") p.0) refl other) in
-    one_of_them names p.0 name not_it among
+    one_of_them own p.0 name not_it among
+
+-- the commands as the reader finds them, one of them by two names
+abbrev own_labels : Names
+own_labels = (codes "sample", []) ∷ (codes "detect", []) ∷ (codes "stabilisers", codes "stabilizers" ∷ []) ∷ (codes "edit", []) ∷ (codes "check", []) ∷ []
 
 -- Where the reader finds no fault, the command that the words name is one of the program's own.
 pub own_name : (formats : Kept) (words : List Text) (name : Text) (options : List Row) → fault_of (stabsim formats) words ≡ [] → subcommand_of (stabsim formats) words ≡ Some (name, options)
@@ -161,4 +170,4 @@ own_name formats words name options faultless named =
     let start = walk_from nothing_held in
     let walk_faultless = (neither (walk_fault app.top (names_of app) start given) _ faultless).0 in
     let other = walks app.top (names_of app) start given refl walk_faultless tt in
-    entered_name command_names app (walk app.top.rules (names_of app) nothing_held given).stopped name options refl named other
+    entered_name own_labels app (walk app.top.rules (names_of app) nothing_held given).stopped name options refl named other

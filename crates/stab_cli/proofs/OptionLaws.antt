@@ -1,9 +1,9 @@
 -- What the getters of the command line reader make of an option's text.
-use Rattle.std.proofs.Common.{◌≡◌, ◌++◌, ◌∷◌, [], ℕ, Bool, List, Option, Some, None, refl, IfSome, IfNone}
+use Rattle.std.proofs.Common.{◌≡◌, ℕ, Option, Some, None, refl, IfSome, IfNone}
 use Rattle.std.specs.Prelude.{Result, Ok, Err}
 use Rattle.std.specs.Str.Parse.{ParsesUnsigned}
 use Rattle.clap.specs.Words.{IsUnsignedIn, ReadsOne, Text}
-use Rattle.stab_cli.specs.Asked.{IsWritten, coin_character, coin_text}
+use Rattle.stab_cli.specs.Asked.{IsWritten}
 use Rattle.stab_cli.specs.Options.{most_seed}
 
 -- a number that `u64` reads is the written one
@@ -19,10 +19,3 @@ pub no_number : {E : Type 0} (G : Text → Result ℕ E → Type 0) (text : Opti
 no_number G text (Some n) parses reads = tt
 no_number G None None parses reads = tt
 no_number G (Some t) None parses reads = λ within. let err = reads t refl in parses t (Err err.0) err.1 (within.0, within.1)
-
--- a text with a character that is no coin's is not that of coins
-pub no_coins : (front : List Bool) (character : ℕ) (rest : Text) (list : List Bool) → ((coin : Bool) → character ≡ coin_character coin → ⊥) → coin_text front ++ character ∷ rest ≡ coin_text list → ⊥
-no_coins [] character rest [] none e = cc
-no_coins [] character rest (coin ∷ list) none e = let is : character ≡ coin_character coin = cc in none coin is
-no_coins (coin ∷ front) character rest [] none e = cc
-no_coins (coin ∷ front) character rest (other ∷ list) none e = let same : coin_text front ++ character ∷ rest ≡ coin_text list = cc in no_coins front character rest list none same

@@ -1,5 +1,6 @@
 -- Asked: the job that the words of a command line ask for, and when they ask for none.
-use Rattle.std.specs.Prelude.{◌≡◌, ◌≢◌, ◌⊎◌, ⊤, ℕ, Bool, true, false, if◌then◌else◌, List, [], map, Option, Some, None, IfSome, option_map, Result, Ok, Err, codes, string_bytes}
+-- Source: Stim's command line, for the options of `sample` and `detect`. All else is this project's own.
+use Rattle.std.specs.Prelude.{◌≡◌, ◌≢◌, ◌⊎◌, ⊤, ℕ, Bool, true, false, List, [], Option, Some, None, IfSome, option_map, Result, Ok, Err, codes, string_bytes}
 use Rattle.std.specs.Str.Parse.{digits_value, without_leading_plus}
 use Rattle.stab_results.specs.declared.format.Format.{Format}
 use Rattle.stab_results.specs.declared.format.Format.TheVariants.{F01, B8, R8, Hits, Dets}
@@ -11,12 +12,13 @@ use Rattle.clap.specs.declared.error.kind.ErrorKind.TheVariants.{DisplayHelp, Di
 use Rattle.stab_tableau.specs.Limits.{most_qubits}
 use Rattle.stab_session.specs.Limits.{most_stride}
 use Rattle.stab_commands.specs.Limits.{most_shots}
+use Rattle.stab_cli.specs.Coins.{coin_text}
 use Rattle.stab_cli.specs.Options.{Kept, format_names, most_seed, stabsim}
 use Rattle.stab_cli.specs.declared.words.Usage.{Usage}
 use Rattle.stab_cli.specs.declared.words.Usage.TheVariants.{Help, Fault, Memory}
 use Rattle.stab_commands.specs.declared.job.Job.{Job}
 use Rattle.stab_commands.specs.declared.job.Command.{Command}
-use Rattle.stab_commands.specs.declared.job.Command.TheVariants.{Sample, Detect, Stabilisers, Edit}
+use Rattle.stab_commands.specs.declared.job.Command.TheVariants.{Sample, Detect, Stabilisers, Check, Edit}
 use Rattle.stab_commands.specs.declared.job.Source.{Source}
 use Rattle.stab_commands.specs.declared.job.Source.TheVariants.{Seed, List as Listed}
 
@@ -45,19 +47,12 @@ IsWrittenIfGiven least most (Some t) number = IsUnsignedIn least most t → numb
 abbrev pub IsSet : Option Text → Bool → Type 0
 IsSet text set = (text ≡ Some (codes "true") → set ≡ true) × (text ≡ Some (codes "false") → set ≡ false)
 
--- the character of a coin: 0 or 1
-abbrev pub coin_character : Bool → ℕ
-coin_character coin = if coin then 49 else 48
-
--- the characters of coins, coin 0 first
-abbrev pub coin_text : List Bool → Text
-coin_text = map coin_character
-
--- the source of coins: the coins that are written, or, where none are given, the seed
-abbrev pub IsSource : Option Text → Option Text → Source → Type 0
-IsSource (Some coins) seed (Listed list) = coins ≡ coin_text list.items
-IsSource None seed (Seed number) = IsWritten 0 most_seed seed number
-IsSource coins seed source = ⊥
+-- the source of coins: the coins that are written; no coins yet, where a file has them; or, where neither is given, the seed
+abbrev pub IsSource : (coins path seed : Option Text) → Source → Type 0
+IsSource (Some coins) None seed (Listed list) = coins ≡ coin_text list.items
+IsSource None (Some path) seed (Listed list) = list.items ≡ []
+IsSource None None seed (Seed number) = IsWritten 0 most_seed seed number
+IsSource coins path seed source = ⊥
 
 -- the format and the number of shots are what their options say
 abbrev pub HasShots : List Row → Format → ℕ → Type 0
@@ -68,13 +63,15 @@ abbrev pub IsCommand : Text → List Row → Command → Type 0
 IsCommand name options (Sample format shots) = (name ≡ codes "sample") × HasShots options format shots
 IsCommand name options (Detect format shots append) = (name ≡ codes "detect") × HasShots options format shots × IsSet (one_of (codes "append_observables") options) append
 IsCommand name options Stabilisers = name ≡ codes "stabilisers"
+IsCommand name options Check = name ≡ codes "check"
 IsCommand name options (Edit qubits stride) =
     (name ≡ codes "edit") × IsWrittenIfGiven 0 most_qubits (one_of (codes "qubits") options) qubits × IsWritten 1 most_stride (one_of (codes "stride") options) stride
 
 -- a job is what a command's name and options say
 pub record IsJob (name : Text) (options : List Row) (job : Job) : Type 0 where
   pub command : IsCommand name options job.command
-  pub source : IsSource (first_of (codes "coins") options) (one_of (codes "seed") options) job.source
+  pub source : IsSource (first_of (codes "coins") options) (first_of (codes "coins_in") options) (one_of (codes "seed") options) job.source
+  pub coins_path : option_map string_bytes job.coins_path ≡ first_of (codes "coins_in") options
   pub in_path : option_map string_bytes job.in_path ≡ first_of (codes "in") options
   pub out_path : option_map string_bytes job.out_path ≡ first_of (codes "out") options
 
@@ -82,11 +79,16 @@ pub record IsJob (name : Text) (options : List Row) (job : Job) : Type 0 where
 abbrev pub coin_fault : Text
 coin_fault = codes "stabsim: coins are 0 and 1\n"
 
--- coins are refused for want of memory, or where their text is not that of coins
-abbrev pub RefusesCoins : Option Text → Usage → Type 0
-RefusesCoins coins Memory = ⊤
-RefusesCoins (Some coins) (Fault line) = (string_bytes line ≡ coin_fault) × ((list : List Bool) → coins ≡ coin_text list → ⊥)
-RefusesCoins coins usage = ⊥
+-- the line that tells coins which are given twice
+abbrev pub twice_fault : Text
+twice_fault = codes "stabsim: coins are given by --coins or by --coins_in, and not by both\n"
+
+-- coins are refused for want of memory, where they are given twice, or where their text is not that of coins
+abbrev pub RefusesCoins : (coins path : Option Text) → Usage → Type 0
+RefusesCoins coins path Memory = ⊤
+RefusesCoins (Some coins) (Some path) (Fault line) = string_bytes line ≡ twice_fault
+RefusesCoins (Some coins) None (Fault line) = (string_bytes line ≡ coin_fault) × ((list : List Bool) → coins ≡ coin_text list → ⊥)
+RefusesCoins coins path usage = ⊥
 
 -- an error that is no answer to a question for help
 abbrev pub IsMistake : ErrorKind → Type 0
@@ -107,7 +109,7 @@ abbrev pub EndsBy : App → List Text → Result Job Usage → Type 0
 EndsBy app words (Ok job) = (command : Text × List Row) × Takes app words command × IsJob command.0 command.1 job
 EndsBy app words (Err usage) = (usage ≡ Memory)
     ⊎ (((kind : ErrorKind) × IsAmong kind (fault_of app words) × IsTold kind usage)
-    ⊎ ((command : Text × List Row) × Takes app words command × RefusesCoins (first_of (codes "coins") command.1) usage))
+    ⊎ ((command : Text × List Row) × Takes app words command × RefusesCoins (first_of (codes "coins") command.1) (first_of (codes "coins_in") command.1) usage))
 
 -- How reading the words of a command line ends, wherever the names of the formats are kept.
 pub record EndsReading (words : List Text) (result : Result Job Usage) : Type 0 where

@@ -1,4 +1,5 @@
 -- Options: the commands of the program and their options, as the command line reader sees them.
+-- Source: Stim's command line, for the options of `sample` and `detect`. All else is this project's own.
 use Rattle.std.specs.Prelude.{true, ℕ, List, [], ◌∷◌, ◌++◌, Some, codes}
 use Rattle.std.specs.Borrow.{Bor}
 use Rattle.clap.specs.Words.{App, Rule, Shape, Text, new_app, new_rule, with_subcommand}
@@ -41,9 +42,13 @@ flag id = record (new_rule id) { long = Some id; action = Some SetTrue }
 abbrev pub most_seed : ℕ
 most_seed = 18446744073709551615
 
--- the options of every command: its coins and its files
+-- the options of every command: its files
+abbrev pub file_options : List Rule
+file_options = valued (codes "in") ∷ valued (codes "out") ∷ []
+
+-- the options of a command that runs a circuit: its coins and its files
 abbrev pub common_options : List Rule
-common_options = numbered (codes "seed") 0 most_seed (codes "0") ∷ valued (codes "coins") ∷ valued (codes "in") ∷ valued (codes "out") ∷ []
+common_options = numbered (codes "seed") 0 most_seed (codes "0") ∷ valued (codes "coins") ∷ valued (codes "coins_in") ∷ file_options
 
 -- the options of a command that takes shots, in the order of the help
 abbrev pub shot_options : Kept → List Rule
@@ -65,13 +70,17 @@ sample = shot_command (codes "sample")
 abbrev pub detect : Kept → Shape
 detect formats = let run = shot_command (codes "detect") formats in record run { rules = run.rules ++ flag (codes "append_observables") ∷ [] }
 
--- the command `stabilisers`
+-- the command `stabilisers`, which has another name
 abbrev pub stabilisers : Shape
-stabilisers = record (new_shape (codes "stabilisers")) { rules = common_options }
+stabilisers = record (new_shape (codes "stabilisers")) { aliases = codes "stabilizers" ∷ []; rules = common_options }
 
 -- the command `edit`
 abbrev pub edit : Shape
 edit = record (new_shape (codes "edit")) { rules = ranged (codes "qubits") 0 most_qubits ∷ numbered (codes "stride") 1 most_stride (codes "8192") ∷ common_options }
+
+-- the command `check`, which takes no coins
+abbrev pub check : Shape
+check = record (new_shape (codes "check")) { rules = file_options }
 
 -- the program without its commands, of which some command is wanted, and which tells its version
 abbrev pub bare : App
@@ -79,4 +88,4 @@ bare = on_top (λ s. record s { subcommand_required = true; has_version = true }
 
 -- the program
 abbrev pub stabsim : Kept → App
-stabsim formats = with_subcommand (with_subcommand (with_subcommand (with_subcommand bare (sample formats)) (detect formats)) stabilisers) edit
+stabsim formats = with_subcommand (with_subcommand (with_subcommand (with_subcommand (with_subcommand bare (sample formats)) (detect formats)) stabilisers) edit) check

@@ -1,8 +1,9 @@
 -- Usages: how words that are no job are told.
+-- Source: this project's own.
 use Rattle.std.specs.Prelude.{◌≡◌, ℕ, ◌⊎◌, string_bytes}
-use Rattle.stab_pauli.specs.Devices.{OutputView}
-use Rattle.stab_pauli.specs.declared.refusal.Refusal.TheVariants.{WriteFault, OutOfMemory}
-use Rattle.stab_pauli.specs.Refusals.{whole}
+use Rattle.stab_io.specs.Devices.{OutputView}
+use Rattle.stab_io.specs.declared.refusal.Refusal.TheVariants.{WriteFault, OutOfMemory}
+use Rattle.stab_io.specs.Refusals.{whole}
 use Rattle.stab_commands.specs.Endings.{TookAndFlushed, FailsToSend}
 use Rattle.stab_commands.specs.Jobs.{TellsFault, TookOrFailed}
 use Rattle.stab_cli.specs.declared.words.Usage.{Usage}

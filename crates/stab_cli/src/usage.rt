@@ -1,14 +1,14 @@
 //! Telling words that ask for no job.
 ghost use Rattle.std.specs.Prelude.{◌≡◌, MatchResult};
-ghost use Rattle.stab_pauli.specs.Refusals.{whole};
-ghost use Rattle.stab_pauli.specs.declared.refusal.Refusal.TheVariants.{WriteFault};
+ghost use Rattle.stab_io.specs.Refusals.{whole};
+ghost use Rattle.stab_io.specs.declared.refusal.Refusal.TheVariants.{WriteFault};
 ghost use Rattle.stab_commands.specs.Endings.{FailsToSend, TookAndFlushed};
 ghost use Rattle.stab_commands.specs.Jobs.{TellsFault};
 ghost use Rattle.stab_cli.specs.Usages.{TellsUsage};
 
 use crate::words::Usage;
 use stab_commands::write_fault;
-use stab_pauli::{DeviceFault, Fault, Output, Refusal, write_all};
+use stab_io::{DeviceFault, Fault, Output, Refusal, write_all};
 
 /// Tells why there is no job, and answers the status of the program: help goes to `out` with 0, a
 /// wrong word's text to `err` with 2, and refused memory is told on `err` as its fault with 1.

@@ -2,16 +2,16 @@
 use Rattle.std.proofs.Common.{◌≡◌, ◌≤◌, ℕ, Bool, true, false, nat_lt, List, [], ◌∷◌, refl, sym, subst, Option, Some, None, Result, Ok, Err, inl, inr, if◌then◌else◌, arith}
 use Rattle.std.specs.List.{slice_split}
 use Rattle.std.proofs.lemmas.Bool.{ltb-true, ltb-false}
-use Rattle.stab_pauli.specs.declared.refusal.Refusal.{Refusal}
-use Rattle.stab_pauli.specs.declared.refusal.Refusal.TheVariants.{TooDeep, QubitOutOfRange}
-use Rattle.stab_pauli.specs.declared.refusal.Fault.{Fault}
+use Rattle.stab_io.specs.declared.refusal.Refusal.{Refusal}
+use Rattle.stab_io.specs.declared.refusal.Refusal.TheVariants.{TooDeep, QubitOutOfRange}
+use Rattle.stab_io.specs.declared.refusal.Fault.{Fault}
 use Rattle.stab_tableau.specs.Reduced.{TracesHaveOneList, TracesHaveReducedRows}
 use Rattle.stab_lines.specs.Lines.{is_byte}
 use Rattle.stab_circuit.specs.Items.{Items, OneItem, done, before, listed, entries, depth}
 use Rattle.stab_circuit.specs.Paths.{Path}
-use Rattle.stab_circuit.specs.declared.change.Change.{Change}
-use Rattle.stab_circuit.specs.declared.change.Change.TheVariants as change
-use Rattle.stab_circuit.specs.Edits.{edited, verdict}
+use Rattle.stab_circuit.specs.declared.edit.Edit.{Edit}
+use Rattle.stab_circuit.specs.declared.edit.Edit.TheVariants as circuit_edit
+use Rattle.stab_circuit.specs.Edits.{edited, list_verdict}
 use Rattle.stab_circuit.specs.Steps.{qubits_of, check_of, check_within}
 use Rattle.stab_circuit.specs.Circuits.{item_fault, StandsForOne}
 use Rattle.stab_circuit.specs.Readings.{IsCircuit}
@@ -22,8 +22,8 @@ use Rattle.stab_session.specs.Laws.{IsSoundRun, RunsAreSound}
 use Rattle.stab_results.specs.Formats.{f01_bytes}
 use Rattle.stab_circuit.specs.Prints.{printed}
 use Rattle.stab_commands.specs.Stabilisers.{lines_of}
-use Rattle.stab_commands.specs.Scripts.{Setting, Request, put, delete, show, refuse, Answer, IsPut, Shows, IsAnswer, IsAnswerToAll, both, unless, judged, decided, refusing, replying, change_of, edited_items}
-use Rattle.stab_commands.specs.ScriptLaws.{CanBeEdited}
+use Rattle.stab_commands.specs.script.Scripts.{Setting, Request, put, delete, show, refuse, Answer, IsPut, Shows, IsAnswer, IsAnswerToAll, both, unless, judged, decided, refusing, replying, edit_of, edited_items}
+use Rattle.stab_commands.specs.script.ScriptLaws.{CanBeEdited}
 use Rattle.stab_commands.specs.declared.script.request.ItemEdit.{ItemEdit}
 use Rattle.stab_commands.specs.declared.script.request.ItemEdit.TheVariants.{Insert, Replace}
 use Rattle.stab_commands.specs.declared.script.request.Show.{Show}
@@ -38,7 +38,7 @@ circuit_can lines n text items is le = ((slice_split (is_byte 10) text, lines te
     by_test true e = let lt = ltb-true n (qubits_of items) e in absurd (omega arith)
 
 -- a verdict that lets an edit pass
-verdict_passed : (n : ℕ) (ys : List OneItem) → verdict n (Ok ys) ≡ None → (depth (listed ys) ≤ 16) × (check_within n (listed ys) ≡ None)
+verdict_passed : (n : ℕ) (ys : List OneItem) → list_verdict n (Ok ys) ≡ None → (depth (listed ys) ≤ 16) × (check_within n (listed ys) ≡ None)
 verdict_passed n ys e = by_test (nat_lt 16 (depth (listed ys))) refl e
   where
     by_test : (b : Bool) → nat_lt 16 (depth (listed ys)) ≡ b → (if b then Some TooDeep else check_within n (listed ys)) ≡ None
@@ -47,28 +47,28 @@ verdict_passed n ys e = by_test (nat_lt 16 (depth (listed ys))) refl e
     by_test false t v = ((let le = ltb-false 16 (depth (listed ys)) t in omega arith), v)
 
 -- an edit that puts in an item of lines leaves items that can be edited, made or refused
-edit_keeps : EditedItemsAreOfLines → (n : ℕ) (what : Change) (place : Path) (items : Items) → PutsLines what → CanBeEdited n items
-    → CanBeEdited n (decided items (edited_items n what place items)).items
-edit_keeps edits n what place items puts can = by_result (edited what place (entries items)) refl
+edit_keeps : EditedItemsAreOfLines → (n : ℕ) (what : Edit) (items : Items) → PutsLines what → CanBeEdited n items
+    → CanBeEdited n (decided items (edited_items n what items)).items
+edit_keeps edits n what items puts can = by_result (edited what (entries items)) refl
   where
-    by_verdict : (list : List OneItem) → edited what place (entries items) ≡ Ok list → (v : Option Refusal) → verdict n (Ok list) ≡ v
+    by_verdict : (list : List OneItem) → edited what (entries items) ≡ Ok list → (v : Option Refusal) → list_verdict n (Ok list) ≡ v
         → CanBeEdited n (decided items (unless v (listed list))).items
     by_verdict list e (Some r) given = can
     by_verdict list e None given =
         let passed = verdict_passed n list given in
-        (edits what place (entries items) list (subst AreOfLines (sym (listed-entries items)) can.0) puts e passed.0, passed.1)
+        (edits what (entries items) list (subst AreOfLines (sym (listed-entries items)) can.0) puts e passed.0, passed.1)
 
-    by_result : (r : Result (List OneItem) Refusal) → edited what place (entries items) ≡ r → CanBeEdited n (decided items (judged n r)).items
-    by_result (Ok list) e = by_verdict list e (verdict n (Ok list)) refl
+    by_result : (r : Result (List OneItem) Refusal) → edited what (entries items) ≡ r → CanBeEdited n (decided items (judged n r)).items
+    by_result (Ok list) e = by_verdict list e (list_verdict n (Ok list)) refl
     by_result (Err r) e = can
 
 -- the item of a text is of lines
-puts_lines : ItemTextsAreLines → (text : List ℕ) (x : OneItem) → StandsForOne text x → (edit : ItemEdit) → PutsLines (change_of edit x)
-puts_lines lines text x stands Insert y e = let same : x ≡ y = cc in subst (λ z. AreOfLines (before z done)) same (slice_split (is_byte 10) text, lines text x stands)
-puts_lines lines text x stands Replace y e = let same : x ≡ y = cc in subst (λ z. AreOfLines (before z done)) same (slice_split (is_byte 10) text, lines text x stands)
+puts_lines : ItemTextsAreLines → (text : List ℕ) (x : OneItem) → StandsForOne text x → (place : Path) (how : ItemEdit) → PutsLines (edit_of how place x)
+puts_lines lines text x stands place Insert y e = let same : x ≡ y = cc in subst (λ z. AreOfLines (before z done)) same (slice_split (is_byte 10) text, lines text x stands)
+puts_lines lines text x stands place Replace y e = let same : x ≡ y = cc in subst (λ z. AreOfLines (before z done)) same (slice_split (is_byte 10) text, lines text x stands)
 
-puts_none : PutsLines change.Delete
-puts_none y e = absurd (cc)
+puts_none : (place : Path) → PutsLines (circuit_edit.Delete place)
+puts_none place y e = absurd (cc)
 
 -- something is shown, whatever is asked for
 text_shown : TracesHaveReducedRows → TracesHaveOneList → (n : ℕ) (coins : ℕ → Bool) (items : Items) → IsSoundRun n coins items → (what : Show)
@@ -85,25 +85,25 @@ text_shown some one n coins items sound Circuit = (printed items, refl)
 module _ (meanings : ItemTextsHaveOneMeaning) (lines : ItemTextsAreLines) (edits : EditedItemsAreOfLines) (sound : RunsAreSound)
     (some : TracesHaveReducedRows) (one : TracesHaveOneList) where
   -- an edit that puts in the item of a text has an answer
-  put_answered : (s : Setting) (items : Items) (edit : ItemEdit) (place : Path) (text : List ℕ) → CanBeEdited s.qubits items
-      → (a : Answer) × IsPut items (λ item. edited_items s.qubits (change_of edit item) place items) text a × CanBeEdited s.qubits a.items
-  put_answered s items edit place text can = by_fault (item_fault text) refl
+  put_answered : (s : Setting) (items : Items) (how : ItemEdit) (place : Path) (text : List ℕ) → CanBeEdited s.qubits items
+      → (a : Answer) × IsPut items (λ item. edited_items s.qubits (edit_of how place item) items) text a × CanBeEdited s.qubits a.items
+  put_answered s items how place text can = by_fault (item_fault text) refl
     where
       by_fault : (f : Option Fault) → item_fault text ≡ f
-          → (a : Answer) × IsPut items (λ item. edited_items s.qubits (change_of edit item) place items) text a × CanBeEdited s.qubits a.items
+          → (a : Answer) × IsPut items (λ item. edited_items s.qubits (edit_of how place item) items) text a × CanBeEdited s.qubits a.items
       by_fault (Some f) e = (refusing items f.refusal, inl (f, e, refl), can)
       by_fault None e =
           let m = meanings text e in (
-            decided items (edited_items s.qubits (change_of edit m.0) place items),
+            decided items (edited_items s.qubits (edit_of how place m.0) items),
             inr (m.0, m.1.0, refl),
-            edit_keeps edits s.qubits (change_of edit m.0) place items (puts_lines lines text m.0 m.1.0 edit) can,
+            edit_keeps edits s.qubits (edit_of how place m.0) items (puts_lines lines text m.0 m.1.0 place how) can,
           )
 
   -- a request has an answer
   request_answered : (s : Setting) (items : Items) (r : Request) → CanBeEdited s.qubits items → (a : Answer) × IsAnswer s items r a × CanBeEdited s.qubits a.items
-  request_answered s items (put edit place text) can = put_answered s items edit place text can
+  request_answered s items (put how place text) can = put_answered s items how place text can
   request_answered s items (delete place) can =
-      (decided items (edited_items s.qubits change.Delete place items), refl, edit_keeps edits s.qubits change.Delete place items puts_none can)
+      (decided items (edited_items s.qubits (circuit_edit.Delete place) items), refl, edit_keeps edits s.qubits (circuit_edit.Delete place) items (puts_none place) can)
   request_answered s items (show what) can =
       let shown = text_shown some one s.qubits s.coins items (sound s.qubits s.coins can.0.0 items can.0.1 can.1) what in
       (replying items shown.0, (shown.0, shown.1, refl), can)

@@ -1,12 +1,12 @@
 -- Laws of answers: a request has at most one, and so have requests one after another.
 use Rattle.std.proofs.Common.{◌≡◌, ℕ, List, [], ◌∷◌, ◌++◌, sym, ap, ◌∙◌, subst, append_assoc, Some, None, inl, inr, Result}
-use Rattle.stab_pauli.specs.declared.refusal.Refusal.{Refusal}
-use Rattle.stab_pauli.specs.declared.refusal.Fault.{Fault}
+use Rattle.stab_io.specs.declared.refusal.Refusal.{Refusal}
+use Rattle.stab_io.specs.declared.refusal.Fault.{Fault}
 use Rattle.stab_circuit.specs.Items.{Items, OneItem}
 use Rattle.stab_circuit.specs.Circuits.{item_fault, StandsForOne}
 use Rattle.stab_circuit.specs.Laws.{ItemTextsHaveOneMeaning}
 use Rattle.stab_session.specs.Runs.{State, run_of}
-use Rattle.stab_commands.specs.Scripts.{Setting, Request, put, delete, show, refuse, Answer, IsPut, Shows, IsAnswer, IsAnswerToAll, both, decided, refusing, replying, change_of, edited_items}
+use Rattle.stab_commands.specs.script.Scripts.{Setting, Request, put, delete, show, refuse, Answer, IsPut, Shows, IsAnswer, IsAnswerToAll, both, decided, refusing, replying, edit_of, edited_items}
 use Rattle.stab_commands.specs.Stabilisers.{lines_of}
 use Rattle.stab_commands.specs.declared.script.request.Show.{Show}
 use Rattle.stab_commands.specs.declared.script.request.Show.TheVariants.{Measurements, Free, Detectors, Observables, Stabilisers, Circuit}
@@ -39,7 +39,7 @@ one_text n run items Circuit x y p q = q ∙ sym p
 
 -- a request has one answer
 pub one_answer : ItemTextsHaveOneMeaning → (s : Setting) (items : Items) (r : Request) (a b : Answer) → IsAnswer s items r a → IsAnswer s items r b → b ≡ a
-one_answer law s items (put edit place text) a b p q = one_put law items (λ item. edited_items s.qubits (change_of edit item) place items) text a b p q
+one_answer law s items (put edit place text) a b p q = one_put law items (λ item. edited_items s.qubits (edit_of edit place item) items) text a b p q
 one_answer law s items (delete place) a b p q = q ∙ sym p
 one_answer law s items (show what) a b p q = q.2 ∙ ap (replying items) (one_text s.qubits (run_of s.qubits s.coins items) items what p.0 q.0 p.1 q.1) ∙ sym p.2
 one_answer law s items (refuse r) a b p q = q ∙ sym p

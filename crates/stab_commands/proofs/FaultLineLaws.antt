@@ -2,10 +2,10 @@
 use Rattle.std.proofs.Common.{◌≡◌, refl, sym, ap, ℕ, Result, Ok, Err, inl, inr, ◌+◌, ◌<◌, true, false, ◌==◌, List, [], ◌∷◌, ◌++◌, length, map, drop, get_or, add-one, append_assoc, codes, decimal, arith}
 use Rattle.std.proofs.lemmas.Bool.Decides.{nat_tests}
 use Rattle.std.proofs.Math.Seq.{drop-cons}
-use Rattle.stab_pauli.specs.Devices.{OutputView, WritesAll}
-use Rattle.stab_pauli.specs.declared.refusal.Refusal.{Refusal}
-use Rattle.stab_pauli.specs.declared.refusal.Fault.{Fault}
-use Rattle.stab_pauli.specs.Refusals.{number_of, name_of}
+use Rattle.stab_io.specs.Devices.{OutputView, WritesAll}
+use Rattle.stab_io.specs.declared.refusal.Refusal.{Refusal}
+use Rattle.stab_io.specs.declared.refusal.Fault.{Fault}
+use Rattle.stab_io.specs.Refusals.{number_of, name_of}
 use Rattle.stab_commands.specs.FaultLines.{fault_line, refused_text}
 use Rattle.stab_commands.specs.Jobs.{TellsFault}
 use Rattle.stab_commands.specs.inner.Texts.{texts_joined}

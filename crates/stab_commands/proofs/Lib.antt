@@ -2,6 +2,8 @@ pub mod FaultLineLaws
 pub mod SendingLaws
 pub mod RunLaws
 pub mod RowLaws
+pub mod CheckLaws
+pub mod CountLaws
 pub mod LineLaws
 pub mod PlaceLaws
 pub mod AnswerLaws

@@ -5,7 +5,7 @@ use Rattle.std.proofs.Math.Seq.{take-append_seam, get_or-append_seam}
 use Rattle.std.specs.List.{list_all}
 use Rattle.stab_lines.specs.Words.{value}
 use Rattle.stab_circuit.specs.Paths.{Path, numbers}
-use Rattle.stab_commands.specs.ScriptWords.{is_place_number, most_numbers, numbers_behind, path_of}
+use Rattle.stab_commands.specs.script.ScriptWords.{is_place_number, most_numbers, numbers_behind, path_of}
 
 -- the numbers, where nothing forbids them and they are not too many
 abbrev chosen : Bool → ℕ → List ℕ → Option (List ℕ)
@@ -67,7 +67,7 @@ same_path bs cs x y e f = ap (λ l. path l x) e ∙ ap (λ n. path cs n) f
 pub path_with : (p : Path) (ns : List ℕ) → numbers p ≡ ns → p ≡ path_of ns
 path_with p ns e =
     let whole : p.blocks ++ p.place ∷ [] ≡ ns = e in
-    let seam : length ns - 1 ≡ length p.blocks = omega (arith, length-append p.blocks (p.place ∷ []), ap length whole) in
-    let front : take (length ns - 1) ns ≡ p.blocks = ap (λ n. take n ns) seam ∙ ap (take (length p.blocks)) (sym whole) ∙ take-append_seam p.blocks (p.place ∷ []) in
-    let last : slice_index_or ns (length ns - 1) 0 ≡ p.place = ap (λ n. slice_index_or ns n 0) seam ∙ ap (λ l. slice_index_or l (length p.blocks) 0) (sym whole) ∙ get_or-append_seam p.blocks p.place [] 0 in
+    let border : length ns - 1 ≡ length p.blocks = omega (arith, length-append p.blocks (p.place ∷ []), ap length whole) in
+    let front : take (length ns - 1) ns ≡ p.blocks = ap (λ n. take n ns) border ∙ ap (take (length p.blocks)) (sym whole) ∙ take-append_seam p.blocks (p.place ∷ []) in
+    let last : slice_index_or ns (length ns - 1) 0 ≡ p.place = ap (λ n. slice_index_or ns n 0) border ∙ ap (λ l. slice_index_or l (length p.blocks) 0) (sym whole) ∙ get_or-append_seam p.blocks p.place [] 0 in
     same_path p.blocks (take (length ns - 1) ns) p.place (slice_index_or ns (length ns - 1) 0) (sym front) (sym last)

@@ -1,17 +1,17 @@
 -- Laws of runs: what the parts of a command hand on makes its end.
 use Rattle.std.proofs.Common.{◌≡◌, refl, ap, subst, sym, ◌∙◌, ℕ, false, List, Result, Ok, Err, None, nat_lt, inl, inr, arith}
 use Rattle.std.specs.Result.{IsErrAnd}
-use Rattle.stab_pauli.specs.Devices.{InputView, OutputView, CutOff}
-use Rattle.stab_pauli.specs.declared.refusal.Refusal.TheVariants.{OutOfMemory}
-use Rattle.stab_pauli.specs.declared.refusal.Fault.{Fault}
-use Rattle.stab_pauli.specs.Refusals.{whole}
+use Rattle.stab_io.specs.Devices.{InputView, OutputView, Took, CutOff}
+use Rattle.stab_io.specs.declared.refusal.Refusal.TheVariants.{OutOfMemory}
+use Rattle.stab_io.specs.declared.refusal.Fault.{Fault}
+use Rattle.stab_io.specs.Refusals.{whole, Refuses}
 use Rattle.stab_circuit.specs.Inputs.{GaveText, RefusesText}
 use Rattle.stab_circuit.specs.Items.{Items}
 use Rattle.stab_circuit.specs.Steps.{check_of, check_within, qubits_of}
 use Rattle.stab_circuit.specs.Readings.{IsCircuit, IsFaultOf}
-use Rattle.stab_session.specs.Runs.{Refuses}
 use Rattle.stab_commands.specs.Endings.{Sends}
 use Rattle.stab_commands.specs.Outputs.{EndsRun}
+use Rattle.stab_commands.specs.inner.Sendings.{FlushesOrFault}
 use Rattle.stab_commands.proofs.SendingLaws.{took_some_none}
 
 -- nothing refuses a circuit on as many qubits as it names
@@ -39,6 +39,11 @@ cut_off_sends bytes old new f (inr some) = inr some
 pub sends_cut_off : (bytes : List ℕ) (old new : OutputView) (f : Fault) (r : Result (Unit {0}) Fault) → CutOff old new bytes f → IsErrAnd r (λ y. y ≡ f) → Sends bytes old new r
 sends_cut_off bytes old new f (Ok u) cut is = absurd is
 sends_cut_off bytes old new f (Err y) cut is = cut_off_sends bytes old new y (subst (λ g. CutOff old new bytes g) (sym is) cut)
+
+-- what was written and then flushed is sent
+pub sends_finished : {T : Type 0} (bytes : List ℕ) (old mid new : OutputView) (r : Result T Fault) → Took old mid bytes → FlushesOrFault mid new r → Sends bytes old new r
+sends_finished bytes old mid new (Ok x) took flushed = record { between = mid; took = took; flushed = flushed }
+sends_finished bytes old mid new (Err f) took failed = inl (failed.0, inr (record { between = mid; took = took; failed = failed.1 }))
 
 -- A call whose text was refused.
 pub ends_refused : (output : Items → List ℕ) (i i' : InputView) (o : OutputView) (f : Fault) (r : Result (Unit {0}) Fault) → RefusesText IsFaultOf i i' f → IsErrAnd r (λ y. y ≡ f) → EndsRun output i i' o o r

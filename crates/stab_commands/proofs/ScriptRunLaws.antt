@@ -3,14 +3,14 @@ use Rattle.std.proofs.Common.{◌≡◌, ◌≤◌, ◌<◌, ℕ, ◌+◌, ◌-�
 use Rattle.std.proofs.lemmas.List.{append-nil, take_all}
 use Rattle.std.proofs.Math.Seq.{take-append-add}
 use Rattle.std.specs.Result.{IsErrAnd}
-use Rattle.stab_pauli.specs.Devices.{InputView, OutputView, Gave, GaveAndFailed, GaveAll, IsAtEnd}
-use Rattle.stab_pauli.specs.declared.refusal.Refusal.TheVariants.{TooLong, ReadFault}
-use Rattle.stab_pauli.specs.declared.refusal.Fault.{Fault}
-use Rattle.stab_pauli.specs.Refusals.{whole}
-use Rattle.stab_pauli.proofs.DeviceLemmas.{gave_none, gave_more, gave_and_failed, took_more}
+use Rattle.stab_io.specs.Devices.{InputView, OutputView, Gave, GaveAndFailed, GaveAll, IsAtEnd}
+use Rattle.stab_io.specs.declared.refusal.Refusal.TheVariants.{TooLong, ReadFault}
+use Rattle.stab_io.specs.declared.refusal.Fault.{Fault}
+use Rattle.stab_io.specs.Refusals.{whole}
+use Rattle.stab_io.proofs.DeviceLemmas.{gave_none, gave_more, gave_and_failed, took_more}
 use Rattle.stab_circuit.specs.Items.{Items}
-use Rattle.stab_commands.specs.Scripts.{Setting, Request, IsAnswerToAll, both, Desk, Reading, read, read_end, requests_of, empty_desk, most_script}
-use Rattle.stab_commands.specs.ScriptEndings.{AnswersScript, BreaksOff, AnswersFront, EndsScript}
+use Rattle.stab_commands.specs.script.Scripts.{Setting, Request, IsAnswerToAll, both, ScriptReader, Reading, read, read_end, requests_of, empty_reader, most_script}
+use Rattle.stab_commands.specs.script.ScriptEndings.{AnswersScript, BreaksOff, AnswersFront, EndsScript}
 use Rattle.stab_commands.specs.inner.Editors.{Sitting, Told, ToldSome, FlushFails, Sent, Finishes}
 use Rattle.stab_commands.proofs.ReadingLaws.{read_append, read_none}
 use Rattle.stab_commands.proofs.TellingLaws.{answers_then, told_none, told_then, told_some_behind}
@@ -20,53 +20,53 @@ abbrev pub before_script : Setting → Items → Sitting
 before_script setting items = record { setting = setting; items = items; refused = false }
 
 -- what was read of a script so far, and answered
-pub record AnsweredSoFar (setting : Setting) (items : Items) (now : Sitting) (desk : Desk) (taken : ℕ) (s s' : InputView) (o o' : OutputView) : Type 0 where
+pub record AnsweredSoFar (setting : Setting) (items : Items) (now : Sitting) (reader : ScriptReader) (taken : ℕ) (s s' : InputView) (o o' : OutputView) : Type 0 where
   pub bytes : List ℕ
   pub gave : Gave s s' bytes
   pub counted : length bytes ≡ taken
-  pub reading : desk ≡ (read empty_desk bytes).desk
-  pub told : Told (before_script setting items) now (read empty_desk bytes).requests o o'
+  pub reading : reader ≡ (read empty_reader bytes).reader
+  pub told : Told (before_script setting items) now (read empty_reader bytes).requests o o'
 
 -- nothing was read yet
-unfoldable pub so_far_none : (setting : Setting) (items : Items) (now : Sitting) (desk : Desk) (s : InputView) (o : OutputView) → now ≡ before_script setting items → desk ≡ empty_desk
-    → AnsweredSoFar setting items now desk 0 s s o o
-so_far_none setting items now desk s o is e = record {
+unfoldable pub so_far_none : (setting : Setting) (items : Items) (now : Sitting) (reader : ScriptReader) (s : InputView) (o : OutputView) → now ≡ before_script setting items → reader ≡ empty_reader
+    → AnsweredSoFar setting items now reader 0 s s o o
+so_far_none setting items now reader s o is e = record {
   bytes = [];
   gave = gave_none s;
   counted = refl;
-  reading = e ∙ sym (ap (λ (r : Reading). r.desk) (read_none empty_desk));
-  told = subst (λ (r : Reading). Told (before_script setting items) now r.requests o o) (sym (read_none empty_desk))
+  reading = e ∙ sym (ap (λ (r : Reading). r.reader) (read_none empty_reader));
+  told = subst (λ (r : Reading). Told (before_script setting items) now r.requests o o) (sym (read_none empty_reader))
       (subst (λ (x : Sitting). Told (before_script setting items) x [] o o) (sym is) (told_none (before_script setting items) o));
 }
 
 -- what bytes ask for behind others
-behind_requests : (bytes piece : List ℕ) → (read empty_desk (bytes ++ piece)).requests ≡ (read empty_desk bytes).requests ++ (read (read empty_desk bytes).desk piece).requests
-behind_requests bytes piece = ap (λ (r : Reading). r.requests) (read_append empty_desk bytes piece)
+behind_requests : (bytes piece : List ℕ) → (read empty_reader (bytes ++ piece)).requests ≡ (read empty_reader bytes).requests ++ (read (read empty_reader bytes).reader piece).requests
+behind_requests bytes piece = ap (λ (r : Reading). r.requests) (read_append empty_reader bytes piece)
 
 -- a piece more was read and answered
-pub told_more : {setting : Setting} {items : Items} {mid new : Sitting} {desk : Desk} {o o' o'' : OutputView} (bytes piece : List ℕ)
-    → desk ≡ (read empty_desk bytes).desk → Told (before_script setting items) mid (read empty_desk bytes).requests o o' → Told mid new (read desk piece).requests o' o''
-    → Told (before_script setting items) new (read empty_desk (bytes ++ piece)).requests o o''
-told_more {setting} {items} {mid} {new} {desk} {o} {o'} {o''} bytes piece e before more =
-    let here : Told mid new (read (read empty_desk bytes).desk piece).requests o' o'' = subst (λ (d : Desk). Told mid new (read d piece).requests o' o'') e more in
+pub told_more : {setting : Setting} {items : Items} {mid new : Sitting} {reader : ScriptReader} {o o' o'' : OutputView} (bytes piece : List ℕ)
+    → reader ≡ (read empty_reader bytes).reader → Told (before_script setting items) mid (read empty_reader bytes).requests o o' → Told mid new (read reader piece).requests o' o''
+    → Told (before_script setting items) new (read empty_reader (bytes ++ piece)).requests o o''
+told_more {setting} {items} {mid} {new} {reader} {o} {o'} {o''} bytes piece e before more =
+    let here : Told mid new (read (read empty_reader bytes).reader piece).requests o' o'' = subst (λ (d : ScriptReader). Told mid new (read d piece).requests o' o'') e more in
     subst (λ (l : List Request). Told (before_script setting items) new l o o'') (sym (behind_requests bytes piece))
-    (told_then (read empty_desk bytes).requests (read (read empty_desk bytes).desk piece).requests before here)
+    (told_then (read empty_reader bytes).requests (read (read empty_reader bytes).reader piece).requests before here)
 
-unfoldable pub so_far_more : {setting : Setting} {items : Items} {mid new : Sitting} {desk desk' : Desk} {taken : ℕ} {s s' s'' : InputView} {o o' o'' : OutputView} (piece : List ℕ) (taken' : ℕ)
-    → AnsweredSoFar setting items mid desk taken s s' o o' → Gave s' s'' piece → taken' ≡ taken + length piece
-    → desk' ≡ (read desk piece).desk → Told mid new (read desk piece).requests o' o''
-    → AnsweredSoFar setting items new desk' taken' s s'' o o''
-so_far_more {setting} {items} {mid} {new} {desk} {desk'} {taken} piece taken' before gave size e told = record {
+unfoldable pub so_far_more : {setting : Setting} {items : Items} {mid new : Sitting} {reader reader' : ScriptReader} {taken : ℕ} {s s' s'' : InputView} {o o' o'' : OutputView} (piece : List ℕ) (taken' : ℕ)
+    → AnsweredSoFar setting items mid reader taken s s' o o' → Gave s' s'' piece → taken' ≡ taken + length piece
+    → reader' ≡ (read reader piece).reader → Told mid new (read reader piece).requests o' o''
+    → AnsweredSoFar setting items new reader' taken' s s'' o o''
+so_far_more {setting} {items} {mid} {new} {reader} {reader'} {taken} piece taken' before gave size e told = record {
   bytes = before.bytes ++ piece;
   gave = gave_more before.bytes piece before.gave gave;
   counted = length-append before.bytes piece ∙ ap (λ n. n + length piece) before.counted ∙ sym size;
-  reading = e ∙ ap (λ (d : Desk). (read d piece).desk) before.reading ∙ sym (ap (λ (r : Reading). r.desk) (read_append empty_desk before.bytes piece));
+  reading = e ∙ ap (λ (d : ScriptReader). (read d piece).reader) before.reading ∙ sym (ap (λ (r : Reading). r.reader) (read_append empty_reader before.bytes piece));
   told = told_more before.bytes piece before.reading before.told told;
 }
 
 -- the script's input failed
-pub script_failed : {setting : Setting} {items : Items} {now : Sitting} {desk : Desk} {taken : ℕ} {s s' s'' : InputView} {o o' : OutputView} (f : Fault)
-    → AnsweredSoFar setting items now desk taken s s' o o' → taken ≤ most_script → GaveAndFailed s' s'' [] → f ≡ whole ReadFault
+pub script_failed : {setting : Setting} {items : Items} {now : Sitting} {reader : ScriptReader} {taken : ℕ} {s s' s'' : InputView} {o o' : OutputView} (f : Fault)
+    → AnsweredSoFar setting items now reader taken s s' o o' → taken ≤ most_script → GaveAndFailed s' s'' [] → f ≡ whole ReadFault
     → AnswersFront setting items s s'' o o' f
 script_failed {setting} {items} {now} f before few failed e =
     let same : take most_script before.bytes ≡ before.bytes = take_all most_script before.bytes (omega (arith, before.counted)) in
@@ -74,23 +74,23 @@ script_failed {setting} {items} {now} f before few failed e =
       bytes = before.bytes;
       within = inl (e, gave_and_failed before.bytes before.gave failed, omega (arith, before.counted));
       answer = before.told.answer;
-      answers = subst (λ (l : List ℕ). IsAnswerToAll setting items (read empty_desk l).requests before.told.answer) (sym same) before.told.answers;
+      answers = subst (λ (l : List ℕ). IsAnswerToAll setting items (read empty_reader l).requests before.told.answer) (sym same) before.told.answers;
       took = before.told.took;
     }
 
 -- what first bytes of a script ask for comes first
-front_requests : (front behind : List ℕ) → (more : List Request) × (requests_of (front ++ behind) ≡ (read empty_desk front).requests ++ more)
+front_requests : (front behind : List ℕ) → (more : List Request) × (requests_of (front ++ behind) ≡ (read empty_reader front).requests ++ more)
 front_requests front behind =
-    let r = read empty_desk (front ++ behind) in
-    let later = (read (read empty_desk front).desk behind).requests in (
-      later ++ (read_end r.desk).requests,
-      ap (λ l. l ++ (read_end r.desk).requests) (behind_requests front behind)
-          ∙ append_assoc (read empty_desk front).requests later (read_end r.desk).requests,
+    let r = read empty_reader (front ++ behind) in
+    let later = (read (read empty_reader front).reader behind).requests in (
+      later ++ (read_end r.reader).requests,
+      ap (λ l. l ++ (read_end r.reader).requests) (behind_requests front behind)
+          ∙ append_assoc (read empty_reader front).requests later (read_end r.reader).requests,
     )
 
 -- the output failed, or memory was refused, in what some first bytes of the script ask for
 pub script_broke : (setting : Setting) (items : Items) (s s' : InputView) (o o' : OutputView) (f : Fault) (front behind : List ℕ)
-    → Gave s s' (front ++ behind) → ToldSome (before_script setting items) (read empty_desk front).requests o o' f → BreaksOff setting items s s' o o' f
+    → Gave s s' (front ++ behind) → ToldSome (before_script setting items) (read empty_reader front).requests o o' f → BreaksOff setting items s s' o o' f
 script_broke setting items s s' o o' f front behind gave some =
     let more = front_requests front (behind ++ s'.unread) in
     record {
@@ -107,30 +107,30 @@ script_broke setting items s s' o o' f front behind gave some =
     }
 
 -- the same, behind what was answered so far
-pub broke_behind : {setting : Setting} {items : Items} {now : Sitting} {desk : Desk} {taken : ℕ} {s s' s'' : InputView} {o o' o'' : OutputView} (f : Fault) (part behind : List ℕ)
-    → AnsweredSoFar setting items now desk taken s s' o o' → Gave s' s'' (part ++ behind) → ToldSome now (read desk part).requests o' o'' f
+pub broke_behind : {setting : Setting} {items : Items} {now : Sitting} {reader : ScriptReader} {taken : ℕ} {s s' s'' : InputView} {o o' o'' : OutputView} (f : Fault) (part behind : List ℕ)
+    → AnsweredSoFar setting items now reader taken s s' o o' → Gave s' s'' (part ++ behind) → ToldSome now (read reader part).requests o' o'' f
     → BreaksOff setting items s s'' o o'' f
-broke_behind {setting} {items} {now} {desk} {taken} {s} {s'} {s''} {o} {o'} {o''} f part behind before gave some =
-    let here : ToldSome now (read (read empty_desk before.bytes).desk part).requests o' o'' f = subst (λ (d : Desk). ToldSome now (read d part).requests o' o'' f) before.reading some in
+broke_behind {setting} {items} {now} {reader} {taken} {s} {s'} {s''} {o} {o'} {o''} f part behind before gave some =
+    let here : ToldSome now (read (read empty_reader before.bytes).reader part).requests o' o'' f = subst (λ (d : ScriptReader). ToldSome now (read d part).requests o' o'' f) before.reading some in
     let whole_gave : Gave s s'' ((before.bytes ++ part) ++ behind) = subst (λ (l : List ℕ). Gave s s'' l) (sym (append_assoc before.bytes part behind)) (gave_more before.bytes (part ++ behind) before.gave gave) in
     script_broke setting items s s'' o o'' f (before.bytes ++ part) behind whole_gave
     (subst (λ (l : List Request). ToldSome (before_script setting items) l o o'' f) (sym (behind_requests before.bytes part))
-    (told_some_behind (read empty_desk before.bytes).requests (read (read empty_desk before.bytes).desk part).requests f before.told here))
+    (told_some_behind (read empty_reader before.bytes).requests (read (read empty_reader before.bytes).reader part).requests f before.told here))
 
 -- the script goes past its limit
-pub script_too_long : {setting : Setting} {items : Items} {now new : Sitting} {desk : Desk} {taken : ℕ} {s s' s'' : InputView} {o o' o'' : OutputView} (f : Fault) (piece part : List ℕ)
-    → AnsweredSoFar setting items now desk taken s s' o o' → taken ≤ most_script → length piece ≤ 4096 → most_script - taken < length piece → part ≡ take (most_script - taken) piece
-    → Gave s' s'' piece → Told now new (read desk part).requests o' o'' → f ≡ whole TooLong
+pub script_too_long : {setting : Setting} {items : Items} {now new : Sitting} {reader : ScriptReader} {taken : ℕ} {s s' s'' : InputView} {o o' o'' : OutputView} (f : Fault) (piece part : List ℕ)
+    → AnsweredSoFar setting items now reader taken s s' o o' → taken ≤ most_script → length piece ≤ 4096 → most_script - taken < length piece → part ≡ take (most_script - taken) piece
+    → Gave s' s'' piece → Told now new (read reader part).requests o' o'' → f ≡ whole TooLong
     → AnswersFront setting items s s'' o o'' f
-script_too_long {setting} {items} {now} {new} {desk} {taken} {s} {s'} {s''} {o} {o'} {o''} f piece part before few size past is gave told e =
-    let told' : Told now new (read desk (take (most_script - taken) piece)).requests o' o'' = subst (λ (l : List ℕ). Told now new (read desk l).requests o' o'') is told in
+script_too_long {setting} {items} {now} {new} {reader} {taken} {s} {s'} {s''} {o} {o'} {o''} f piece part before few size past is gave told e =
+    let told' : Told now new (read reader (take (most_script - taken) piece)).requests o' o'' = subst (λ (l : List ℕ). Told now new (read reader l).requests o' o'') is told in
     let all = told_more before.bytes (take (most_script - taken) piece) before.reading before.told told' in
     let cut : take most_script (before.bytes ++ piece) ≡ before.bytes ++ take (most_script - taken) piece = cut_at before.bytes piece taken before.counted few in
     record {
       bytes = before.bytes ++ piece;
       within = inr (e, gave_more before.bytes piece before.gave gave, omega (arith, length-append before.bytes piece, before.counted), omega (arith, length-append before.bytes piece, before.counted));
       answer = all.answer;
-      answers = subst (λ (l : List ℕ). IsAnswerToAll setting items (read empty_desk l).requests all.answer) (sym cut) all.answers;
+      answers = subst (λ (l : List ℕ). IsAnswerToAll setting items (read empty_reader l).requests all.answer) (sym cut) all.answers;
       took = all.took;
     }
   where
@@ -149,14 +149,14 @@ gave_whole {a} {b} {c} bytes before end = record {
 }
 
 -- the script came to its end, and its last replies were sent
-ended_sent : {setting : Setting} {items : Items} {now : Sitting} {desk : Desk} {taken : ℕ} {s s' s'' : InputView} {o o' o'' : OutputView} (refused : Bool)
-    → AnsweredSoFar setting items now desk taken s s' o o' → taken ≤ most_script → GaveAll s' s'' [] → Sent now (read_end desk).requests o' o'' refused
+ended_sent : {setting : Setting} {items : Items} {now : Sitting} {reader : ScriptReader} {taken : ℕ} {s s' s'' : InputView} {o o' o'' : OutputView} (refused : Bool)
+    → AnsweredSoFar setting items now reader taken s s' o o' → taken ≤ most_script → GaveAll s' s'' [] → Sent now (read_end reader).requests o' o'' refused
     → AnswersScript setting items s s'' o o'' refused
-ended_sent {setting} {items} {now} {desk} {taken} {s} {s'} {s''} {o} {o'} {o''} refused before few gave ends =
-    let whole_read = read empty_desk before.bytes in
-    let last = (read_end whole_read.desk).requests in
+ended_sent {setting} {items} {now} {reader} {taken} {s} {s'} {s''} {o} {o'} {o''} refused before few gave ends =
+    let whole_read = read empty_reader before.bytes in
+    let last = (read_end whole_read.reader).requests in
     let a = before.told.answer in
-    let sent : Sent now last o' o'' refused = subst (λ (d : Desk). Sent now (read_end d).requests o' o'' refused) before.reading ends in
+    let sent : Sent now last o' o'' refused = subst (λ (d : ScriptReader). Sent now (read_end d).requests o' o'' refused) before.reading ends in
     let here : IsAnswerToAll setting a.items last sent.answer = subst (λ (x : Sitting). IsAnswerToAll x.setting x.items last sent.answer) before.told.leaves sent.answers in
     record {
       script = before.bytes;
@@ -169,13 +169,13 @@ ended_sent {setting} {items} {now} {desk} {taken} {s} {s'} {s''} {o} {o'} {o''} 
     }
 
 -- the script came to its end, and its last replies were cut off
-ended_cut : {setting : Setting} {items : Items} {now : Sitting} {desk : Desk} {taken : ℕ} {s s' s'' : InputView} {o o' o'' : OutputView} (f : Fault)
-    → AnsweredSoFar setting items now desk taken s s' o o' → GaveAll s' s'' [] → ToldSome now (read_end desk).requests o' o'' f
+ended_cut : {setting : Setting} {items : Items} {now : Sitting} {reader : ScriptReader} {taken : ℕ} {s s' s'' : InputView} {o o' o'' : OutputView} (f : Fault)
+    → AnsweredSoFar setting items now reader taken s s' o o' → GaveAll s' s'' [] → ToldSome now (read_end reader).requests o' o'' f
     → BreaksOff setting items s s'' o o'' f
-ended_cut {setting} {items} {now} {desk} {taken} {s} {s'} {s''} {o} {o'} {o''} f before gave ends =
-    let whole_read = read empty_desk before.bytes in
-    let last = (read_end whole_read.desk).requests in
-    let some : ToldSome now last o' o'' f = subst (λ (d : Desk). ToldSome now (read_end d).requests o' o'' f) before.reading ends in
+ended_cut {setting} {items} {now} {reader} {taken} {s} {s'} {s''} {o} {o'} {o''} f before gave ends =
+    let whole_read = read empty_reader before.bytes in
+    let last = (read_end whole_read.reader).requests in
+    let some : ToldSome now last o' o'' f = subst (λ (d : ScriptReader). ToldSome now (read_end d).requests o' o'' f) before.reading ends in
     let all = told_some_behind whole_read.requests last f before.told some in
     record {
       bytes = before.bytes;
@@ -191,14 +191,14 @@ ended_cut {setting} {items} {now} {desk} {taken} {s} {s'} {s''} {o} {o'} {o''} f
     }
 
 -- the script came to its end, and the flush failed
-ended_unflushed : {setting : Setting} {items : Items} {now : Sitting} {desk : Desk} {taken : ℕ} {s s' s'' : InputView} {o o' o'' : OutputView} (f : Fault)
-    → AnsweredSoFar setting items now desk taken s s' o o' → GaveAll s' s'' [] → FlushFails now (read_end desk).requests o' o'' f
+ended_unflushed : {setting : Setting} {items : Items} {now : Sitting} {reader : ScriptReader} {taken : ℕ} {s s' s'' : InputView} {o o' o'' : OutputView} (f : Fault)
+    → AnsweredSoFar setting items now reader taken s s' o o' → GaveAll s' s'' [] → FlushFails now (read_end reader).requests o' o'' f
     → BreaksOff setting items s s'' o o'' f
-ended_unflushed {setting} {items} {now} {desk} {taken} {s} {s'} {s''} {o} {o'} {o''} f before gave ends =
-    let whole_read = read empty_desk before.bytes in
-    let last = (read_end whole_read.desk).requests in
+ended_unflushed {setting} {items} {now} {reader} {taken} {s} {s'} {s''} {o} {o'} {o''} f before gave ends =
+    let whole_read = read empty_reader before.bytes in
+    let last = (read_end whole_read.reader).requests in
     let a = before.told.answer in
-    let failed : FlushFails now last o' o'' f = subst (λ (d : Desk). FlushFails now (read_end d).requests o' o'' f) before.reading ends in
+    let failed : FlushFails now last o' o'' f = subst (λ (d : ScriptReader). FlushFails now (read_end d).requests o' o'' f) before.reading ends in
     let here : IsAnswerToAll setting a.items last failed.answer = subst (λ (x : Sitting). IsAnswerToAll x.setting x.items last failed.answer) before.told.leaves failed.answers in
     record {
       bytes = before.bytes;
@@ -214,8 +214,8 @@ ended_unflushed {setting} {items} {now} {desk} {taken} {s} {s'} {s''} {o} {o'} {
     }
 
 -- the script came to its end
-pub script_ended : {setting : Setting} {items : Items} {now : Sitting} {desk : Desk} {taken : ℕ} {s s' s'' : InputView} {o o' : OutputView} (o'' : OutputView) (r : Result Bool Fault)
-    → AnsweredSoFar setting items now desk taken s s' o o' → taken ≤ most_script → GaveAll s' s'' [] → Finishes now (read_end desk).requests o' o'' r
+pub script_ended : {setting : Setting} {items : Items} {now : Sitting} {reader : ScriptReader} {taken : ℕ} {s s' s'' : InputView} {o o' : OutputView} (o'' : OutputView) (r : Result Bool Fault)
+    → AnsweredSoFar setting items now reader taken s s' o o' → taken ≤ most_script → GaveAll s' s'' [] → Finishes now (read_end reader).requests o' o'' r
     → EndsScript setting items s s'' o o'' r
 script_ended o'' (Ok refused) before few gave ends = ended_sent refused before few gave ends
 script_ended o'' (Err f) before few gave (inl some) = inl (ended_cut f before gave some)

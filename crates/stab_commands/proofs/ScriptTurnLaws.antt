@@ -1,12 +1,12 @@
 -- Laws of script turns: the log of a script's reads, so far and at the end.
 use Rattle.std.proofs.Common.{◌≡◌, ℕ, ◌+◌, IsTrue, List, [], ◌∷◌, ◌++◌, length, take, refl, sym, ap, ◌∙◌, subst, append_assoc, append-nil, length-append, Option, Some, None, Result, Ok, Err, ◌⊎◌, inl, inr}
-use Rattle.stab_pauli.specs.Devices.{InputView, OutputView, Gave, Reads}
-use Rattle.stab_pauli.specs.declared.device.DeviceFault.{DeviceFault}
-use Rattle.stab_pauli.proofs.DeviceLemmas.{gave_more, gave_and_failed}
+use Rattle.stab_io.specs.Devices.{InputView, OutputView, Gave, Reads}
+use Rattle.stab_io.specs.declared.device.DeviceFault.{DeviceFault}
+use Rattle.stab_io.proofs.DeviceLemmas.{gave_more, gave_and_failed}
 use Rattle.stab_circuit.specs.Items.{Items}
-use Rattle.stab_commands.specs.Scripts.{Setting, Desk, read, empty_desk}
-use Rattle.stab_commands.specs.Watchers.{Asked, given_by, asked, Logs}
-use Rattle.stab_commands.specs.ScriptTurns.{all_given, Answered, InTurn, LogsInTurn, TakesTurns}
+use Rattle.stab_commands.specs.script.Scripts.{Setting, ScriptReader, read, empty_reader}
+use Rattle.stab_commands.specs.script.Watchers.{Asked, given_by, asked, Logs}
+use Rattle.stab_commands.specs.script.ScriptTurns.{all_given, Answered, InTurn, LogsInTurn, TakesTurns}
 use Rattle.stab_commands.specs.inner.Editors.{Sitting, Told}
 use Rattle.stab_commands.proofs.ScriptRunLaws.{before_script, AnsweredSoFar, so_far_none, so_far_more}
 
@@ -15,8 +15,8 @@ abbrev pub LogsSoFar : Setting → Items → OutputView → List ℕ → Option 
 LogsSoFar setting items o bytes log log' = (log' ≡ None) ⊎ LogsInTurn setting items o bytes log log'
 
 -- what was read of a script so far, and answered, each read in turn
-abbrev pub AnsweredInTurn : Setting → Items → Sitting → Desk → ℕ → InputView → InputView → OutputView → OutputView → Option (List Asked) → Option (List Asked) → Type 0
-AnsweredInTurn setting items now desk taken s s' o o' log log' = (before : AnsweredSoFar setting items now desk taken s s' o o') × LogsSoFar setting items o before.bytes log log'
+abbrev pub AnsweredInTurn : Setting → Items → Sitting → ScriptReader → ℕ → InputView → InputView → OutputView → OutputView → Option (List Asked) → Option (List Asked) → Type 0
+AnsweredInTurn setting items now reader taken s s' o o' log log' = (before : AnsweredSoFar setting items now reader taken s s' o o') × LogsSoFar setting items o before.bytes log log'
 
 -- what reads handed over, with one more
 all_given_more : (reads : List Asked) (a : Asked) → all_given (reads ++ a ∷ []) ≡ all_given reads ++ a.given
@@ -61,14 +61,14 @@ logs_more {setting} {items} {o} {bytes} a (inr p) (inr q) here = inr (record {
 
 -- what was read so far was answered, so that a read finds exactly its replies
 caught_up : {setting : Setting} {items : Items} {now : Sitting} {o o' : OutputView} (bytes : List ℕ) (r : Result ℕ DeviceFault) (buf : List ℕ)
-    → Told (before_script setting items) now (read empty_desk bytes).requests o o' → IsTrue o.honest → Answered setting items (length o.written) bytes (asked o' r buf)
+    → Told (before_script setting items) now (read empty_reader bytes).requests o o' → IsTrue o.honest → Answered setting items (length o.written) bytes (asked o' r buf)
 caught_up {setting} {items} {now} {o} bytes r buf told h =
     (told.answer, told.answers, ap length (told.took.moved h) ∙ length-append o.written told.answer.reply)
 
 -- a read more of what was read and answered so far
-pub reads_in_turn : {setting : Setting} {items : Items} {now : Sitting} {desk : Desk} {taken : ℕ} {s s' : InputView} {o o' : OutputView} {log log' log'' : Option (List Asked)} (r : Result ℕ DeviceFault) (buf : List ℕ)
-    → (before : AnsweredInTurn setting items now desk taken s s' o o' log log') → Logs log' log'' (asked o' r buf ∷ []) → LogsSoFar setting items o (before.0.bytes ++ given_by r buf) log log''
-reads_in_turn {setting} {items} {now} {desk} {taken} {s} {s'} {o} {o'} r buf before more = logs_more (asked o' r buf) before.1 more (caught_up before.0.bytes r buf before.0.told)
+pub reads_in_turn : {setting : Setting} {items : Items} {now : Sitting} {reader : ScriptReader} {taken : ℕ} {s s' : InputView} {o o' : OutputView} {log log' log'' : Option (List Asked)} (r : Result ℕ DeviceFault) (buf : List ℕ)
+    → (before : AnsweredInTurn setting items now reader taken s s' o o' log log') → Logs log' log'' (asked o' r buf ∷ []) → LogsSoFar setting items o (before.0.bytes ++ given_by r buf) log log''
+reads_in_turn {setting} {items} {now} {reader} {taken} {s} {s'} {o} {o'} r buf before more = logs_more (asked o' r buf) before.1 more (caught_up before.0.bytes r buf before.0.told)
 
 -- where the input stands behind a read more
 handed_over : (s s' s'' : InputView) (bytes buf : List ℕ) (r : Result ℕ DeviceFault) → Gave s s' bytes → Reads s' s'' r buf → IsTrue s.honest → s.unread ≡ (bytes ++ given_by r buf) ++ s''.unread
@@ -81,20 +81,20 @@ takes_turns s s'' bytes moved (inl gone) = inl gone
 takes_turns s s'' bytes moved (inr p) = inr (bytes, moved, p)
 
 -- nothing is read behind a read
-pub last_in_turn : {setting : Setting} {items : Items} {now : Sitting} {desk : Desk} {taken : ℕ} {s s' : InputView} {o o' : OutputView} {log log' log'' : Option (List Asked)} (s'' : InputView) (r : Result ℕ DeviceFault) (buf : List ℕ)
-    → AnsweredInTurn setting items now desk taken s s' o o' log log' → Logs log' log'' (asked o' r buf ∷ []) → Reads s' s'' r buf → TakesTurns setting items s s'' o log log''
-last_in_turn {setting} {items} {now} {desk} {taken} {s} {s'} s'' r buf before more reads = takes_turns s s'' (before.0.bytes ++ given_by r buf) (handed_over s s' s'' before.0.bytes buf r before.0.gave reads) (reads_in_turn r buf before more)
+pub last_in_turn : {setting : Setting} {items : Items} {now : Sitting} {reader : ScriptReader} {taken : ℕ} {s s' : InputView} {o o' : OutputView} {log log' log'' : Option (List Asked)} (s'' : InputView) (r : Result ℕ DeviceFault) (buf : List ℕ)
+    → AnsweredInTurn setting items now reader taken s s' o o' log log' → Logs log' log'' (asked o' r buf ∷ []) → Reads s' s'' r buf → TakesTurns setting items s s'' o log log''
+last_in_turn {setting} {items} {now} {reader} {taken} {s} {s'} s'' r buf before more reads = takes_turns s s'' (before.0.bytes ++ given_by r buf) (handed_over s s' s'' before.0.bytes buf r before.0.gave reads) (reads_in_turn r buf before more)
 
 -- a piece more was read and answered, and the read was in turn
-pub in_turn_so_far : {setting : Setting} {items : Items} {mid new : Sitting} {desk desk' : Desk} {taken : ℕ} {s s' s'' : InputView} {o o' o'' : OutputView} {log log' log'' : Option (List Asked)} (piece : List ℕ) (taken' n : ℕ) (buf : List ℕ)
-    → AnsweredInTurn setting items mid desk taken s s' o o' log log' → Logs log' log'' (asked o' (Ok n) buf ∷ []) → take n buf ≡ piece → Gave s' s'' piece → taken' ≡ taken + length piece
-    → desk' ≡ (read desk piece).desk → Told mid new (read desk piece).requests o' o'' → AnsweredInTurn setting items new desk' taken' s s'' o o'' log log''
+pub in_turn_so_far : {setting : Setting} {items : Items} {mid new : Sitting} {reader reader' : ScriptReader} {taken : ℕ} {s s' s'' : InputView} {o o' o'' : OutputView} {log log' log'' : Option (List Asked)} (piece : List ℕ) (taken' n : ℕ) (buf : List ℕ)
+    → AnsweredInTurn setting items mid reader taken s s' o o' log log' → Logs log' log'' (asked o' (Ok n) buf ∷ []) → take n buf ≡ piece → Gave s' s'' piece → taken' ≡ taken + length piece
+    → reader' ≡ (read reader piece).reader → Told mid new (read reader piece).requests o' o'' → AnsweredInTurn setting items new reader' taken' s s'' o o'' log log''
 unfolding so_far_more
-in_turn_so_far {setting} {items} {mid} {new} {desk} {desk'} {taken} {s} {s'} {s''} {o} {o'} {o''} {log} {log'} {log''} piece taken' n buf before more is gave size e told =
+in_turn_so_far {setting} {items} {mid} {new} {reader} {reader'} {taken} {s} {s'} {s''} {o} {o'} {o''} {log} {log'} {log''} piece taken' n buf before more is gave size e told =
     (so_far_more piece taken' before.0 gave size e told, subst (λ (l : List ℕ). LogsSoFar setting items o (before.0.bytes ++ l) log log'') is (reads_in_turn (Ok n) buf before more))
 
 -- a script before its first read
-pub in_turn_at_first : (setting : Setting) (items : Items) (now : Sitting) (desk : Desk) (s : InputView) (o : OutputView) (log : Option (List Asked)) → now ≡ before_script setting items → desk ≡ empty_desk
-    → AnsweredInTurn setting items now desk 0 s s o o log log
+pub in_turn_at_first : (setting : Setting) (items : Items) (now : Sitting) (reader : ScriptReader) (s : InputView) (o : OutputView) (log : Option (List Asked)) → now ≡ before_script setting items → reader ≡ empty_reader
+    → AnsweredInTurn setting items now reader 0 s s o o log log
 unfolding so_far_none
-in_turn_at_first setting items now desk s o log is e = (so_far_none setting items now desk s o is e, logs_none setting items o log)
+in_turn_at_first setting items now reader s o log is e = (so_far_none setting items now reader s o is e, logs_none setting items o log)

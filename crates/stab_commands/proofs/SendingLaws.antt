@@ -2,11 +2,11 @@
 use Rattle.std.proofs.Common.{◌≡◌, refl, sym, ap, subst, ◌∙◌, ℕ, ◌+◌, ◌<◌, zero, suc, List, [], ◌++◌, append_assoc, Result, Ok, Err, ◌⊎◌, inl, inr, arith, add-one}
 use Rattle.std.proofs.lemmas.List.{append-nil}
 use Rattle.std.specs.Result.{IsErrAnd}
-use Rattle.stab_pauli.specs.Devices.{OutputView, Took, TookAndFailed, TookSome, CutOff, WritesAllOrFault}
-use Rattle.stab_pauli.proofs.DeviceLemmas.{took_none, took_more, took_and_failed, failed_within}
-use Rattle.stab_pauli.specs.declared.refusal.Refusal.TheVariants.{OutOfMemory}
-use Rattle.stab_pauli.specs.declared.refusal.Fault.{Fault}
-use Rattle.stab_pauli.specs.Refusals.{whole}
+use Rattle.stab_io.specs.Devices.{OutputView, Took, TookAndFailed, TookSome, CutOff, WritesAllOrFault}
+use Rattle.stab_io.proofs.DeviceLemmas.{took_none, took_more, took_and_failed, failed_within}
+use Rattle.stab_io.specs.declared.refusal.Refusal.TheVariants.{OutOfMemory}
+use Rattle.stab_io.specs.declared.refusal.Fault.{Fault}
+use Rattle.stab_io.specs.Refusals.{whole}
 use Rattle.stab_commands.specs.Outputs.{of_shots}
 use Rattle.stab_commands.specs.inner.Sendings.{SendsUnflushed}
 

@@ -2,15 +2,15 @@
 use Rattle.std.proofs.Common.{◌≡◌, ℕ, Bool, true, false, ◌||◌, List, [], ◌∷◌, ◌++◌, refl, sym, ap, ◌∙◌, subst, append_assoc, Result, Ok, Err, inl, inr}
 use Rattle.std.proofs.lemmas.List.{append-nil}
 use Rattle.std.specs.Result.{IsErrAnd}
-use Rattle.stab_pauli.specs.Devices.{OutputView, Took, TookAndFailed, CutOff}
-use Rattle.stab_pauli.specs.declared.refusal.Refusal.TheVariants.{OutOfMemory, WriteFault}
-use Rattle.stab_pauli.specs.declared.refusal.Refusal.{Refusal}
-use Rattle.stab_pauli.specs.declared.refusal.Fault.{Fault}
-use Rattle.stab_pauli.specs.Refusals.{whole}
-use Rattle.stab_pauli.proofs.DeviceLemmas.{took_none, took_more, took_and_failed}
+use Rattle.stab_io.specs.Devices.{OutputView, Took, TookAndFailed, CutOff}
+use Rattle.stab_io.specs.declared.refusal.Refusal.TheVariants.{OutOfMemory, WriteFault}
+use Rattle.stab_io.specs.declared.refusal.Refusal.{Refusal}
+use Rattle.stab_io.specs.declared.refusal.Fault.{Fault}
+use Rattle.stab_io.specs.Refusals.{whole}
+use Rattle.stab_io.proofs.DeviceLemmas.{took_none, took_more, took_and_failed}
 use Rattle.stab_circuit.specs.Items.{Items}
-use Rattle.stab_commands.specs.Scripts.{Setting, Request, Answer, IsAnswer, IsAnswerToAll, both, replying}
-use Rattle.stab_commands.specs.inner.Editors.{Sitting, after_answer, Told, ToldSome, Tells}
+use Rattle.stab_commands.specs.script.Scripts.{Setting, Request, Answer, IsAnswer, IsAnswerToAll, both, replying}
+use Rattle.stab_commands.specs.inner.Editors.{Sitting, after_answer, Told, ToldSome, AnswersRequests}
 
 or_assoc : (a b c : Bool) → (a || b) || c ≡ a || (b || c)
 or_assoc true b c = refl
@@ -137,11 +137,11 @@ told_nothing old requests o f e = record {
 }
 
 -- a fault that is handed on
-pub tells_err : {T : Type 0} (old new : Sitting) (requests : List Request) (o o' : OutputView) (f : Fault) (r : Result T Fault) → IsErrAnd r (λ y. y ≡ f) → ToldSome old requests o o' f → Tells old new requests o o' r
+pub tells_err : {T : Type 0} (old new : Sitting) (requests : List Request) (o o' : OutputView) (f : Fault) (r : Result T Fault) → IsErrAnd r (λ y. y ≡ f) → ToldSome old requests o o' f → AnswersRequests old new requests o o' r
 tells_err old new requests o o' f (Ok x) is some = absurd is
 tells_err old new requests o o' f (Err y) is some = subst (λ g. ToldSome old requests o o' g) (sym is) some
 
 -- first some, then a call that tells others
-pub tells_behind : {T : Type 0} {a b : Sitting} {o p : OutputView} (c : Sitting) (q : OutputView) (xs ys : List Request) (r : Result T Fault) → Told a b xs o p → Tells b c ys p q r → Tells a c (xs ++ ys) o q r
+pub tells_behind : {T : Type 0} {a b : Sitting} {o p : OutputView} (c : Sitting) (q : OutputView) (xs ys : List Request) (r : Result T Fault) → Told a b xs o p → AnswersRequests b c ys p q r → AnswersRequests a c (xs ++ ys) o q r
 tells_behind c q xs ys (Ok x) first next = told_then xs ys first next
 tells_behind c q xs ys (Err f) first next = told_some_behind xs ys f first next

@@ -1,9 +1,10 @@
 -- Endings: how a call ends that reads a text whole and goes on with it, and how it ends when it sends bytes.
+-- Source: this project's own.
 use Rattle.std.specs.Prelude.{◌≡◌, List, ℕ, ◌⊎◌, Result, Ok, Err}
-use Rattle.stab_pauli.specs.Devices.{InputView, OutputView, Took, TookAndFailed, TookSome, Flushed, FlushFailed}
-use Rattle.stab_pauli.specs.declared.refusal.Refusal.TheVariants.{WriteFault, OutOfMemory}
-use Rattle.stab_pauli.specs.declared.refusal.Fault.{Fault}
-use Rattle.stab_pauli.specs.Refusals.{whole}
+use Rattle.stab_io.specs.Devices.{InputView, OutputView, Took, TookAndFailed, TookSome, Flushed, FlushFailed}
+use Rattle.stab_io.specs.declared.refusal.Refusal.TheVariants.{WriteFault, OutOfMemory}
+use Rattle.stab_io.specs.declared.refusal.Fault.{Fault}
+use Rattle.stab_io.specs.Refusals.{whole}
 use Rattle.stab_circuit.specs.Inputs.{GaveText, RefusesText}
 
 -- the output took these bytes and was flushed once, and did not fail

@@ -1,8 +1,9 @@
 -- Fault lines: the line that tells a fault, and what is written of a refusal.
+-- Source: this project's own.
 use Rattle.std.specs.Prelude.{ℕ, List, [], ◌++◌, codes, decimal, ◌==◌, if◌then◌else◌}
-use Rattle.stab_pauli.specs.declared.refusal.Refusal.{Refusal}
-use Rattle.stab_pauli.specs.declared.refusal.Fault.{Fault}
-use Rattle.stab_pauli.specs.Refusals.{number_of, name_of}
+use Rattle.stab_io.specs.declared.refusal.Refusal.{Refusal}
+use Rattle.stab_io.specs.declared.refusal.Fault.{Fault}
+use Rattle.stab_io.specs.Refusals.{number_of, name_of}
 
 -- where the fault is, as its line says it
 abbrev pub place_text : ℕ → List ℕ

@@ -1,14 +1,16 @@
 -- Jobs: how the command of a job ends, the status of a program's run, and how its fault is told.
+-- Source: this project's own.
 use Rattle.std.specs.Prelude.{◌≡◌, ℕ, Bool, true, false, List, ◌⊎◌, Result, Ok, Err}
-use Rattle.stab_pauli.specs.Devices.{InputView, OutputView, Took, TookAndFailed}
-use Rattle.stab_pauli.specs.declared.refusal.Fault.{Fault}
+use Rattle.stab_io.specs.Devices.{InputView, OutputView, Took, TookAndFailed}
+use Rattle.stab_io.specs.declared.refusal.Fault.{Fault}
 use Rattle.stab_commands.specs.FaultLines.{fault_line}
 use Rattle.stab_commands.specs.Outputs.{EndsRun, sample_of, detect_of}
 use Rattle.stab_commands.specs.Stabilisers.{EndsStabilisers}
-use Rattle.stab_commands.specs.ScriptEndings.{EndsEdit}
+use Rattle.stab_commands.specs.Checks.{EndsCheck}
+use Rattle.stab_commands.specs.script.ScriptEndings.{EndsEdit}
 use Rattle.stab_commands.specs.declared.job.Source.{Source}
 use Rattle.stab_commands.specs.declared.job.Command.{Command}
-use Rattle.stab_commands.specs.declared.job.Command.TheVariants.{Sample, Detect, Stabilisers, Edit}
+use Rattle.stab_commands.specs.declared.job.Command.TheVariants.{Sample, Detect, Stabilisers, Check, Edit}
 use Rattle.stab_commands.specs.declared.job.Job.{Job}
 
 -- a call that reads no script refuses no line of it
@@ -25,6 +27,7 @@ abbrev pub EndsCommand : Command → Source → InputView → InputView → Inpu
 EndsCommand (Sample format shots) source i i' s s' o o' = RefusesNone (EndsRun (sample_of format shots source) i i' o o')
 EndsCommand (Detect format shots append) source i i' s s' o o' = RefusesNone (EndsRun (detect_of format append shots source) i i' o o')
 EndsCommand Stabilisers source i i' s s' o o' = RefusesNone (EndsStabilisers source i i' o o')
+EndsCommand Check source i i' s s' o o' = RefusesNone (EndsCheck i i' o o')
 EndsCommand (Edit qubits stride) source i i' s s' o o' = EndsEdit qubits source i i' s s' o o'
 
 -- whether a command reads a script

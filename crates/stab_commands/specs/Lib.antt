@@ -3,12 +3,7 @@ pub mod Endings
 pub mod FaultLines
 pub mod Outputs
 pub mod Stabilisers
-pub mod ScriptWords
-pub mod Scripts
-pub mod ScriptLaws
-pub mod ScriptEndings
-pub mod Watchers
-pub mod LoggedInputs
-pub mod ScriptTurns
+pub mod Checks
+pub mod script
 pub mod Jobs
 pub mod inner

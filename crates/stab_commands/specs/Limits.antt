@@ -1,4 +1,5 @@
 -- Limits: how many shots a command takes at most.
+-- Source: this project's own.
 use Rattle.std.specs.Prelude.{ℕ}
 
 -- the greatest number of shots

@@ -1,10 +1,11 @@
 -- Stabilisers: what `stabilisers` writes for the items of a circuit, and how a call of it ends.
+-- Source: this project's own.
 use Rattle.std.specs.Prelude.{◌≡◌, ℕ, Bool, List, ◌++◌, codes, ◌⊎◌, ◌↔◌, Result, Ok, Err}
 use Rattle.std.specs.List.{flat_map}
-use Rattle.stab_pauli.specs.Devices.{InputView, OutputView}
-use Rattle.stab_pauli.specs.declared.refusal.Refusal.TheVariants.{WriteFault, OutOfMemory}
-use Rattle.stab_pauli.specs.declared.refusal.Fault.{Fault}
-use Rattle.stab_pauli.specs.Refusals.{whole}
+use Rattle.stab_io.specs.Devices.{InputView, OutputView}
+use Rattle.stab_io.specs.declared.refusal.Refusal.TheVariants.{WriteFault, OutOfMemory}
+use Rattle.stab_io.specs.declared.refusal.Fault.{Fault}
+use Rattle.stab_io.specs.Refusals.{whole}
 use Rattle.stab_pauli.specs.Paulis.{Signed}
 use Rattle.stab_pauli.specs.Texts.{pauli_text}
 use Rattle.stab_tableau.specs.Traces.{member}

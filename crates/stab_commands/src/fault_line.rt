@@ -1,10 +1,10 @@
 //! The line that tells a fault.
 ghost use Rattle.std.specs.Prelude.{map};
-ghost use Rattle.stab_pauli.specs.Devices.{WritesAll};
+ghost use Rattle.stab_io.specs.Devices.{WritesAll};
 ghost use Rattle.stab_commands.specs.FaultLines.{fault_line};
 ghost use Rattle.stab_commands.specs.inner.Texts.{texts_joined};
 
-use stab_pauli::{Fault, Output, Refusal, write_all};
+use stab_io::{Fault, Output, Refusal, write_all};
 
 /// Writes texts one after another.
 pub(crate) fn write_texts<O: Output>(out: &mut O, texts: &[&[u8]]) -> Result<(), Refusal>

@@ -47,11 +47,11 @@ impl Shots {
 
 /// On how many qubits a circuit is edited, at most 1,024.
 #[derive(Clone, Copy, Debug, PartialEq, Eq)]
-pub struct Qubits {
+pub struct QubitCount {
     number: usize,
 }
 
-impl Model for Qubits {
+impl Model for QubitCount {
     ghost use Rattle.std.specs.Prelude.{ℕ, ◌≤◌};
     ghost use Rattle.stab_tableau.specs.Limits.{most_qubits};
 
@@ -64,7 +64,7 @@ impl Model for Qubits {
     ghost inverse = { λ n. record { number = n } };
 }
 
-impl Qubits {
+impl QubitCount {
     ghost use Rattle.std.specs.Prelude.{◌≡◌, ◌≤◌};
     ghost use Rattle.stab_tableau.specs.Limits.{most_qubits};
 
@@ -72,11 +72,11 @@ impl Qubits {
     pub const MOST: usize = 1024;
 
     /// So many qubits, at most 1,024.
-    pub fn new(number: usize) -> Qubits
+    pub fn new(number: usize) -> QubitCount
         requires in_range { number ≤ most_qubits }
         ensures value { result ≡ number }
     {
-        Qubits { number }
+        QubitCount { number }
     }
 
     /// How many qubits.
@@ -159,10 +159,12 @@ pub enum Command {
     },
     /// Writes the reduced rows of the strings that stabilise the state after shot 0.
     Stabilisers,
+    /// Writes the numbers of a circuit, or what is wrong with it.
+    Check,
     /// Edits the circuit by a script, on so many qubits or on as many as it names, and writes the
     /// replies.
     Edit {
-        qubits: Option<Qubits>,
+        qubits: Option<QubitCount>,
         stride: Stride,
     },
 }
@@ -174,6 +176,8 @@ pub struct Job {
     pub command: Command,
     /// Where its coins come from.
     pub source: Source,
+    /// The file that its coins are read from, in place of a word.
+    pub coins_path: Option<String>,
     /// The file that is read in place of standard input.
     pub in_path: Option<String>,
     /// The file that is written in place of standard output.

@@ -1,7 +1,8 @@
 //! Laws of what commands write. Each function does nothing: its contract is the law, and the check
 //! proves it.
+ghost use Rattle.stab_commands.specs.Checks.{NumbersAreOfRuns};
 ghost use Rattle.stab_commands.specs.Stabilisers.{SameGroupSameLines};
-ghost use Rattle.stab_commands.specs.ScriptLaws.{CircuitsCanBeEdited, FirstRepliesComeFirst, ScriptsHaveAnAnswer, ScriptsHaveOneAnswer};
+ghost use Rattle.stab_commands.specs.script.ScriptLaws.{CircuitsCanBeEdited, FirstRepliesComeFirst, ScriptsHaveAnAnswer, ScriptsHaveOneAnswer};
 
 use stab_circuit::laws::{
     edited_items_are_of_lines, item_texts_are_lines, item_texts_have_one_meaning, texts_are_lines,
@@ -13,6 +14,12 @@ use stab_tableau::laws::{traces_have_one_list, traces_have_reduced_rows};
 /// wrote can be compared in place of states.
 pub fn same_group_same_lines()
     ensures law { SameGroupSameLines }
+{}
+
+/// The numbers that `check` writes are those of any run of the circuit, whatever its coins: so many
+/// records, detectors and observables, and so many coins that it uses up.
+pub fn numbers_are_of_runs()
+    ensures law { NumbersAreOfRuns }
 {}
 
 /// The items of a circuit's text can be edited on at least as many qubits as they name: lines stand

@@ -7,10 +7,11 @@ ghost use Rattle.stab_commands.specs.Endings.{Sends};
 ghost use Rattle.stab_commands.specs.Outputs.{EndsRun, sample_of, detect_of};
 ghost use Rattle.stab_commands.specs.inner.Sendings.{shots_of};
 
+use crate::ending::finish;
 use crate::job::Source;
 use crate::shots::{Shown, send_shots};
 use stab_circuit::{Circuit, read_circuit};
-use stab_pauli::{DeviceFault, Fault, Input, Output, Refusal};
+use stab_io::{Fault, Input, Output};
 use stab_results::Format;
 use stab_session::Sampler;
 use std::alloc::Global;
@@ -30,10 +31,7 @@ fn send_circuit<O: Output>(
 {
     let mut sampler = Sampler::new(alloc, circuit, circuit.qubits())?;
     send_shots(alloc, &mut sampler, out, format, shown, source, shots)?;
-    match out.flush() {
-        Ok(()) => Ok(()),
-        Err(DeviceFault) => Err(Fault::whole(Refusal::WriteFault)),
-    }
+    finish(out)
 }
 
 /// Reads a circuit, and sends what is shown of its shots.

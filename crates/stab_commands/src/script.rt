@@ -1,13 +1,23 @@
-//! Edit scripts: from bytes to what they ask for.
+//! Edit scripts: from bytes to what they ask for, and to the replies.
 //!
 //! - `gathered`: texts that are gathered up to a limit.
 //! - `place`: places, and the numbers that stand for them.
 //! - `request`: what a line asks for.
-//! - `desk`: what is known between two bytes of a script.
+//! - `reader`: what is known between two bytes of a script.
 //! - `reply`: replies to requests.
+//! - `editor`: a script as it comes, and each reply written in one go.
+//! - `session_answers`: requests answered from a session.
+//! - `watcher`: how a script is read beside the output of its replies.
+//! - `logged_input`: an input in memory that keeps a log of such reads.
+//! - `edit`: the command that edits a circuit by a script.
 
-pub(crate) mod desk;
+pub(crate) mod edit;
+pub(crate) mod editor;
 pub(crate) mod gathered;
+pub(crate) mod logged_input;
 pub(crate) mod place;
+pub(crate) mod reader;
 pub(crate) mod reply;
 pub(crate) mod request;
+pub(crate) mod session_answers;
+pub(crate) mod watcher;

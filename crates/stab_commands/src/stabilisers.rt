@@ -1,9 +1,9 @@
 //! The stabilisers of the state that a circuit leaves, from its text to the lines of reduced rows.
 ghost use Rattle.std.specs.Prelude.{◌≡◌, None, IfOk, IfErr};
-ghost use Rattle.stab_pauli.specs.Devices.{WritesAll};
-ghost use Rattle.stab_pauli.specs.Refusals.{whole};
+ghost use Rattle.stab_io.specs.Devices.{WritesAll};
+ghost use Rattle.stab_io.specs.Refusals.{whole};
 ghost use Rattle.stab_pauli.specs.Texts.{pauli_text};
-ghost use Rattle.stab_pauli.specs.declared.refusal.Refusal.TheVariants.{OutOfMemory};
+ghost use Rattle.stab_io.specs.declared.refusal.Refusal.TheVariants.{OutOfMemory};
 ghost use Rattle.stab_tableau.specs.Traces.{member};
 ghost use Rattle.stab_tableau.specs.Reduced.{AreReduced};
 ghost use Rattle.stab_circuit.specs.Steps.{check_of, qubits_of};
@@ -12,9 +12,11 @@ ghost use Rattle.stab_session.specs.Runs.{run_of};
 ghost use Rattle.stab_commands.specs.Stabilisers.{AreStabilisersOf, EndsStabilisers, line_of, lines_of};
 ghost use Rattle.stab_commands.specs.inner.Sendings.{SendsLines};
 
+use crate::ending::finish;
 use crate::job::Source;
 use stab_circuit::{Circuit, read_circuit};
-use stab_pauli::{DeviceFault, Fault, Input, Output, Pauli, Refusal, write_all};
+use stab_io::{Fault, Input, Output, Refusal, write_all};
+use stab_pauli::Pauli;
 use stab_session::{Coins, ListCoins, SeedCoins, Session};
 use std::alloc::Global;
 
@@ -84,10 +86,7 @@ fn send_rows<O: Output>(out: &mut O, rows: &[Pauli]) -> Result<(), Fault>
     if let Err(refusal) = write_rows(out, rows) {
         return Err(Fault::whole(refusal));
     }
-    match out.flush() {
-        Ok(()) => Ok(()),
-        Err(DeviceFault) => Err(Fault::whole(Refusal::WriteFault)),
-    }
+    finish(out)
 }
 
 /// Reads a circuit, runs shot 0 of it on as many qubits as it names, and writes the reduced rows of

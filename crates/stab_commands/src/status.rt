@@ -2,19 +2,20 @@
 ghost use Rattle.std.specs.Prelude.{◌≡◌, ◌≤◌, IfSome, false};
 ghost use Rattle.stab_tableau.specs.Limits.{most_qubits};
 ghost use Rattle.stab_commands.specs.Jobs.{EndsCommand, EndsJob, reads_script, refusing_none};
-ghost use Rattle.stab_commands.specs.ScriptTurns.{CommandInTurn};
+ghost use Rattle.stab_commands.specs.script.ScriptTurns.{CommandInTurn};
 
-use crate::edit::run_edit_watched;
+use crate::check::run_check;
 use crate::fault_line::write_fault;
-use crate::job::{Command, Job, Qubits};
+use crate::job::{Command, Job, QubitCount};
 use crate::run::{run_detect, run_sample};
+use crate::script::edit::run_edit_watched;
+use crate::script::watcher::{NoWatcher, Watcher};
 use crate::stabilisers::run_stabilisers;
-use crate::watcher::{NoWatcher, Watcher};
-use stab_pauli::{Fault, Input, Output};
+use stab_io::{Fault, Input, Output};
 use std::alloc::Global;
 
 /// How many qubits, where so many are asked for.
-fn number_of(qubits: Option<Qubits>) -> Option<usize>
+fn number_of(qubits: Option<QubitCount>) -> Option<usize>
     ensures value { result ≡ qubits }
     ensures in_range { IfSome result (λ n. n ≤ most_qubits) }
 {
@@ -57,6 +58,7 @@ fn run_command<I: Input, S: Input, O: Output, W: Watcher<S, O>>(
             append,
         } => refuses_none(run_detect(alloc, input, out, format, append, shots.number(), source)),
         Command::Stabilisers => refuses_none(run_stabilisers(alloc, input, out, source)),
+        Command::Check => refuses_none(run_check(alloc, input, out)),
         Command::Edit { qubits, stride } => {
             run_edit_watched::<I, S, O, W>(
                 alloc,

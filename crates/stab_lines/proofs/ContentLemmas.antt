@@ -17,7 +17,8 @@ use Rattle.stab_lines.specs.Lines.{is_digit}
 use Rattle.stab_lines.specs.Lookbacks.{IsLookback}
 use Rattle.stab_lines.specs.Targets.{is_coordinate_byte}
 use Rattle.stab_lines.specs.Targets.{pair_qubits}
-use Rattle.stab_lines.specs.Prints.{gate_name, controlled_name, measurement_name, reset_name, kind_name, controlled_text, product_text, kind_arguments, mark_text, target_text, lookback_text, spaced, targets_text}
+use Rattle.stab_lines.specs.Names.{gate_name, controlled_name, measurement_name, reset_name}
+use Rattle.stab_lines.specs.Prints.{kind_name, controlled_text, product_text, kind_arguments, mark_text, target_text, lookback_text, spaced, targets_text}
 use Rattle.stab_lines.proofs.BoolLemmas.{both, and_left, and_right}
 use Rattle.stab_lines.proofs.FreeLemmas.{Each, Free, free-append, each_weaker, digits_free}
 use Rattle.stab_lines.proofs.SureLemmas.{IsQubit, IsMeasured, IsProduct, IsControlled, IsCoordinate, IsGoodKind}

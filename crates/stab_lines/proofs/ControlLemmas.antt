@@ -2,7 +2,7 @@
 use Rattle.std.proofs.Common.{◌≡◌, Bor, Option, Some, None, MatchOption, ℕ, true, false, ◌&&◌, nat_eq, List, [], ◌∷◌, ◌++◌, codes, Result, Ok, Err, refl, ap, sym, ◌∙◌, append_assoc, arith}
 use Rattle.std.specs.List.{list_all, starts_with}
 use Rattle.std.proofs.lemmas.Bool.Decides.{nat_tests}
-use Rattle.stab_pauli.specs.declared.refusal.Refusal.{Refusal}
+use Rattle.stab_io.specs.declared.refusal.Refusal.{Refusal}
 use Rattle.stab_lines.specs.declared.control.Control.{Control}
 use Rattle.stab_lines.specs.declared.control.ControlTarget.{ControlTarget}
 use Rattle.stab_lines.specs.declared.control.Control.TheVariants as control
@@ -12,9 +12,9 @@ use Rattle.stab_lines.specs.Lines.{is_digit, ends_with_byte}
 use Rattle.stab_lines.specs.Words.{words, is_number, is_some_word}
 use Rattle.stab_lines.specs.Targets.{qubit_of, is_lookback, lookback_digits}
 use Rattle.stab_lines.specs.Controls.{control_of, by_turns, pair_of, paired, controlled_of}
-use Rattle.stab_lines.specs.inner.Sights.{BeginsWith, begun_with, second_of}
+use Rattle.stab_lines.specs.inner.FrontTargets.{BeginsWithTarget, begun_with, second_of}
 use Rattle.stab_lines.proofs.BoolLemmas.{and_left, and_right, passed}
-use Rattle.stab_lines.proofs.SightLemmas.{qubit_is_number}
+use Rattle.stab_lines.proofs.FrontTargetLemmas.{qubit_is_number}
 use Rattle.stab_lines.proofs.ResultLemmas.{behind}
 
 one_more : (front : List ControlTarget) (x : ControlTarget) (given : Result (List ControlTarget) Refusal) → behind (front ++ x ∷ []) given ≡ behind front (given >>= λ rest. Ok (x ∷ rest))
@@ -52,7 +52,7 @@ pair_more p (Ok more) t e = ap (λ r. r >>= λ first. each paired more >>= λ re
 pair_more p (Err r) t e = refl
 
 -- a qubit in front that makes a pair with one before it
-pub second_begins : (x : ℕ) (bs rest : List ℕ) (y : ℕ) (p : ControlledPair) → BeginsWith qubit_of bs y rest → Ok p ≡ pair_of (control.Qubit x) y → BeginsWith (second_of x) bs p rest
+pub second_begins : (x : ℕ) (bs rest : List ℕ) (y : ℕ) (p : ControlledPair) → BeginsWithTarget qubit_of bs y rest → Ok p ≡ pair_of (control.Qubit x) y → BeginsWithTarget (second_of x) bs p rest
 second_begins x bs rest y p g e = (g.0, g.1, ap (λ r. r >>= pair_of (control.Qubit x)) g.2 ∙ sym e)
 
 second_is : (x : ℕ) (word : List ℕ) (given : Result (List ControlTarget) Refusal) (p : ControlledPair) (q : Result ℕ Refusal) → (q >>= pair_of (control.Qubit x)) ≡ Ok p
@@ -61,7 +61,7 @@ second_is x word given p (Ok y) e = pair_more p given (record { control = contro
 second_is x word given p (Err r) e = cc
 
 -- two qubits in front that make a pair are a pair in front
-pub pair_begins : (bs after rest : List ℕ) (x : ℕ) (p : ControlledPair) → BeginsWith qubit_of bs x after → BeginsWith (second_of x) after p rest
+pub pair_begins : (bs after rest : List ℕ) (x : ℕ) (p : ControlledPair) → BeginsWithTarget qubit_of bs x after → BeginsWithTarget (second_of x) after p rest
     → controlled_of (words bs) ≡ begun_with p (controlled_of (words rest))
 pair_begins bs after rest x p f g =
     ap controlled_of (f.1 ∙ ap (λ l. f.0 ∷ l) g.1)
@@ -69,7 +69,7 @@ pair_begins bs after rest x p f g =
     ∙ second_is x g.0 (by_turns (words rest)) p (qubit_of g.0) g.2
 
 -- the same of what a look at the second gives
-pub pair_seen : (bs after : List ℕ) (x : ℕ) (r : Option (ControlledPair × Bor (List ℕ))) → BeginsWith qubit_of bs x after → MatchOption r (Unit {0}) (λ p. BeginsWith (second_of x) after p.0 p.1.now)
+pub pair_seen : (bs after : List ℕ) (x : ℕ) (r : Option (ControlledPair × Bor (List ℕ))) → BeginsWithTarget qubit_of bs x after → MatchOption r (Unit {0}) (λ p. BeginsWithTarget (second_of x) after p.0 p.1.now)
     → MatchOption r (Unit {0}) (λ p. controlled_of (words bs) ≡ begun_with p.0 (controlled_of (words p.1.now)))
 pair_seen bs after x None f g = tt
 pair_seen bs after x (Some p) f g = pair_begins bs after p.1.now x p.0 f g

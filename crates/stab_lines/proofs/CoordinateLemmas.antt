@@ -1,7 +1,7 @@
 -- Coordinates are read as they are written.
 use Rattle.std.proofs.Common.{◌≡◌, ℕ, Bool, true, false, ◌&&◌, List, [], ◌∷◌, Ok, Err, refl, ap, ◌∙◌}
 use Rattle.std.specs.List.{list_all}
-use Rattle.stab_pauli.specs.declared.refusal.Refusal.TheVariants.{BadArguments}
+use Rattle.stab_io.specs.declared.refusal.Refusal.TheVariants.{BadArguments}
 use Rattle.stab_lines.specs.Results.{◌>>=◌, each}
 use Rattle.stab_lines.specs.Targets.{coordinate_of}
 use Rattle.stab_lines.specs.inner.Parts.{is_coordinate}

@@ -1,8 +1,8 @@
 -- The contents that are blank lines: the empty ones.
 use Rattle.std.proofs.Common.{◌≡◌, refl, sym, ◌∙◌, ℕ, ◌==◌, List, [], ◌∷◌, Bool, true, false, length, Option, None, Some, Result, Ok, Err, arith, if◌then◌else◌}
 use Rattle.std.proofs.lemmas.Bool.Decides.{nat_tests}
-use Rattle.stab_pauli.specs.declared.refusal.Refusal.{Refusal}
-use Rattle.stab_pauli.specs.declared.refusal.Refusal.TheVariants.{BadBlock}
+use Rattle.stab_io.specs.declared.refusal.Refusal.{Refusal}
+use Rattle.stab_io.specs.declared.refusal.Refusal.TheVariants.{BadBlock}
 use Rattle.stab_lines.specs.declared.operation.Kind.{Kind}
 use Rattle.stab_lines.specs.declared.meanings.Line.{Line}
 use Rattle.stab_lines.specs.declared.meanings.Line.TheVariants.{Blank, Close, Open}

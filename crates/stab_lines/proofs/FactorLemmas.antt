@@ -2,7 +2,7 @@
 use Rattle.std.proofs.Common.{◌≡◌, ◌<◌, refl, ap, ◌∙◌, ℕ, List, [], ◌∷◌, ◌++◌, Bool, true, false, drop, map, append-nil, arith, codes, if◌then◌else◌, Some, is_some, Ok, Err}
 use Rattle.std.specs.List.{slice_split, list_all}
 use Rattle.std.specs.Fmt.{decimal}
-use Rattle.stab_pauli.specs.declared.refusal.Refusal.TheVariants.{BadTarget}
+use Rattle.stab_io.specs.declared.refusal.Refusal.TheVariants.{BadTarget}
 use Rattle.stab_tableau.specs.Limits.{most_qubits}
 use Rattle.stab_lines.specs.declared.axis.Axis.{Axis}
 use Rattle.stab_lines.specs.declared.axis.Axis.TheVariants as axis

@@ -11,7 +11,7 @@ mod TargetLemmas
 mod CoordinateLemmas
 mod ProductLemmas
 pub mod FreeLemmas
-mod SightLemmas
+mod FrontTargetLemmas
 mod ControlLemmas
 pub mod SureLemmas
 mod AgainLemmas

@@ -1,7 +1,7 @@
 -- The laws of lines.
 use Rattle.std.proofs.Common.{◌≡◌, refl, ap, ◌∙◌, subst, ℕ, ◌+◌, ◌-◌, zero, suc, Bool, true, List, [], ◌∷◌, ◌++◌, length, drop, replicate, append-nil, arith, codes, Ok, Err}
 use Rattle.std.specs.List.{before_first, position_or_len, prefix_len, suffix_len}
-use Rattle.stab_pauli.specs.declared.refusal.Refusal.{Refusal}
+use Rattle.stab_io.specs.declared.refusal.Refusal.{Refusal}
 use Rattle.stab_lines.specs.declared.meanings.Line.{Line}
 use Rattle.stab_lines.specs.declared.meanings.Line.TheVariants.{Blank, Close, Open}
 use Rattle.stab_lines.specs.declared.meanings.Line.TheVariants as line

@@ -19,11 +19,11 @@ use Rattle.stab_lines.specs.declared.meanings.Line.TheVariants as line
 use Rattle.stab_lines.specs.Results.{◌>>=◌, each}
 use Rattle.stab_lines.specs.Lines.{Shape, is_spacing, is_digit, is_letter, is_brace, shape_of}
 use Rattle.stab_lines.specs.Words.{words, is_some_word, is_number, arguments_of}
-use Rattle.stab_lines.specs.Names.{gate_named, controlled_named, measurement_named, other_named, instruction_named, name_of}
+use Rattle.stab_lines.specs.Names.{gate_named, controlled_named, measurement_named, other_named, instruction_named, name_of, gate_name, controlled_name, measurement_name, reset_name}
 use Rattle.stab_lines.specs.Targets.{pair_qubits}
 use Rattle.stab_lines.specs.Targets.{qubit_of, lookback_of, count_of, pairs_of, coordinate_of, number_of, observable_of}
 use Rattle.stab_lines.specs.Meanings.{kind_of, observable_include_of, without_open, only_count, opened, block_of, named_line, shape_meaning, is_close, meaning_of}
-use Rattle.stab_lines.specs.Prints.{gate_name, controlled_name, measurement_name, reset_name, kind_name, tag_text, kind_arguments, lookback_text, spaced, targets_text, head_text, operation_text, open_text}
+use Rattle.stab_lines.specs.Prints.{kind_name, tag_text, kind_arguments, lookback_text, spaced, targets_text, head_text, operation_text, open_text}
 use Rattle.stab_lines.proofs.BoolLemmas.{chosen, passed}
 use Rattle.stab_lines.proofs.FreeLemmas.{Each, Free, free-append, digits_free, split_free}
 use Rattle.stab_lines.proofs.SureLemmas.{IsCount, IsCoordinate, IsGoodKind, IsTag}

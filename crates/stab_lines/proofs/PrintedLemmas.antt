@@ -1,5 +1,5 @@
 -- Printed contents hold no line end and no comment, and begin and end without spacing.
-use Rattle.std.proofs.Common.{◌≡◌, refl, ap, ◌∙◌, ℕ, ◌==◌, List, [], ◌∷◌, ◌++◌, Bool, true, false, arith, codes, inl, inr}
+use Rattle.std.proofs.Common.{◌≡◌, refl, ap, ◌∙◌, ℕ, ◌<◌, ◌≤◌, ◌==◌, List, [], ◌∷◌, ◌++◌, Bool, true, false, arith, codes, inl, inr}
 use Rattle.std.specs.Fmt.{decimal}
 use Rattle.std.proofs.lemmas.Bool.Decides.{nat_tests}
 use Rattle.stab_lines.specs.declared.operation.Operation.{Operation}
@@ -26,49 +26,37 @@ record IsOuter (p : ℕ → Bool) : Type 0 where
   comma : p 44 ≡ false
   brace : p 123 ≡ false
 
-line_ends_outer : IsOuter (is_byte 10)
-line_ends_outer = record {
+-- a test for a byte in front of those of numbers and names
+outer : (m : ℕ) → m < 40 → Free (is_byte m) (codes "!rec[-]*XYZ") → is_byte m 32 ≡ false → IsOuter (is_byte m)
+outer m small marks space = record {
   names = name_no;
   coordinates = coordinate_no;
-  targets = record { digits = digit_no; marks = (refl, (refl, (refl, (refl, (refl, (refl, (refl, (refl, (refl, (refl, (refl, tt))))))))))); space = refl };
-  open_tag = refl;
-  close_tag = refl;
-  open_arguments = refl;
-  close_arguments = refl;
-  comma = refl;
-  brace = refl;
+  targets = record { digits = digit_no; marks = marks; space = space };
+  open_tag = far 91 (omega arith);
+  close_tag = far 93 (omega arith);
+  open_arguments = far 40 (omega arith);
+  close_arguments = far 41 (omega arith);
+  comma = far 44 (omega arith);
+  brace = far 123 (omega arith);
 }
   where
-    name_no : (b : ℕ) → is_name_byte b ≡ true → (b == 10) ≡ false
+    far : (b : ℕ) → 40 ≤ b → (b == m) ≡ false
+    far b le = grind (arith, nat_tests)
+
+    name_no : (b : ℕ) → is_name_byte b ≡ true → (b == m) ≡ false
     name_no b e = grind (arith, nat_tests)
 
-    coordinate_no : (b : ℕ) → is_coordinate_byte b ≡ true → (b == 10) ≡ false
+    coordinate_no : (b : ℕ) → is_coordinate_byte b ≡ true → (b == m) ≡ false
     coordinate_no b e = grind (arith, nat_tests)
 
-    digit_no : (b : ℕ) → is_digit b ≡ true → (b == 10) ≡ false
+    digit_no : (b : ℕ) → is_digit b ≡ true → (b == m) ≡ false
     digit_no b e = grind (arith, nat_tests)
+
+line_ends_outer : IsOuter (is_byte 10)
+line_ends_outer = outer 10 (omega arith) (refl, (refl, (refl, (refl, (refl, (refl, (refl, (refl, (refl, (refl, (refl, tt))))))))))) refl
 
 comments_outer : IsOuter (is_byte 35)
-comments_outer = record {
-  names = name_no;
-  coordinates = coordinate_no;
-  targets = record { digits = digit_no; marks = (refl, (refl, (refl, (refl, (refl, (refl, (refl, (refl, (refl, (refl, (refl, tt))))))))))); space = refl };
-  open_tag = refl;
-  close_tag = refl;
-  open_arguments = refl;
-  close_arguments = refl;
-  comma = refl;
-  brace = refl;
-}
-  where
-    name_no : (b : ℕ) → is_name_byte b ≡ true → (b == 35) ≡ false
-    name_no b e = grind (arith, nat_tests)
-
-    coordinate_no : (b : ℕ) → is_coordinate_byte b ≡ true → (b == 35) ≡ false
-    coordinate_no b e = grind (arith, nat_tests)
-
-    digit_no : (b : ℕ) → is_digit b ≡ true → (b == 35) ≡ false
-    digit_no b e = grind (arith, nat_tests)
+comments_outer = outer 35 (omega arith) (refl, (refl, (refl, (refl, (refl, (refl, (refl, (refl, (refl, (refl, (refl, tt))))))))))) refl
 
 tag_free : (p : ℕ → Bool) → IsOuter p → (tag : List ℕ) → Free p tag → Free p (tag_text tag)
 tag_free p o [] f = tt

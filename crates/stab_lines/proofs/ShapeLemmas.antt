@@ -3,7 +3,7 @@ use Rattle.std.proofs.Common.{◌≡◌, refl, ap, sym, ◌∙◌, ℕ, ◌-◌,
 use Rattle.std.specs.List.{prefix_len, before_first, after_first, list_any, list_all, take_while}
 use Rattle.std.proofs.lemmas.List.{length-append}
 use Rattle.std.proofs.lemmas.Bool.Decides.{nat_tests}
-use Rattle.stab_pauli.specs.declared.refusal.Refusal.TheVariants.{BadLine}
+use Rattle.stab_io.specs.declared.refusal.Refusal.TheVariants.{BadLine}
 use Rattle.stab_lines.specs.Results.{◌>>=◌}
 use Rattle.stab_lines.specs.Lines.{is_spacing, is_byte, is_letter, is_name_byte, is_brace, is_apart, bracketed, has_byte, starts_with_byte, ends_with_byte, without_brace, shaped, behind_tag, shape_of}
 use Rattle.stab_lines.specs.Targets.{is_coordinate_byte}

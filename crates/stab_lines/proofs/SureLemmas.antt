@@ -2,8 +2,8 @@
 use Rattle.std.proofs.Common.{◌≡◌, ◌≢◌, ◌<◌, ◌≤◌, ◌^◌, refl, sym, subst, ℕ, List, [], ◌∷◌, Bool, true, false, not, nat_lt, ◌==◌, ◌&&◌, ◌||◌, length, drop, take, Option, None, Some, Result, Ok, Err, if◌then◌else◌, arith}
 use Rattle.std.specs.List.{list_all, list_any, prefix_len, slice_split, take_while}
 use Rattle.std.proofs.lemmas.Bool.Decides.{nat_tests}
-use Rattle.stab_pauli.specs.declared.refusal.Refusal.{Refusal}
-use Rattle.stab_pauli.specs.declared.refusal.Refusal.TheVariants.{BadArguments, BadTarget, BadLine}
+use Rattle.stab_io.specs.declared.refusal.Refusal.{Refusal}
+use Rattle.stab_io.specs.declared.refusal.Refusal.TheVariants.{BadArguments, BadTarget, BadLine}
 use Rattle.stab_tableau.specs.Limits.{most_qubits}
 use Rattle.stab_lines.specs.Limits.{most_observables}
 use Rattle.stab_lines.specs.declared.range.MeasureTarget.{MeasureTarget}

@@ -1,9 +1,9 @@
 -- Writes one after another.
 use Rattle.std.proofs.Common.{◌≡◌, ℕ, List, [], ◌++◌, Result, Ok, Err, refl, sym, ap, ◌∙◌, subst, append_assoc, append-nil}
-use Rattle.stab_pauli.specs.declared.refusal.Refusal.{Refusal}
-use Rattle.stab_pauli.specs.declared.refusal.Refusal.TheVariants.{WriteFault}
-use Rattle.stab_pauli.specs.Devices.{OutputView, Took, TookAndFailed, WritesAll}
-use Rattle.stab_pauli.proofs.DeviceLemmas.{took_none, took_more, took_and_failed, failed_within}
+use Rattle.stab_io.specs.declared.refusal.Refusal.{Refusal}
+use Rattle.stab_io.specs.declared.refusal.Refusal.TheVariants.{WriteFault}
+use Rattle.stab_io.specs.Devices.{OutputView, Took, TookAndFailed, WritesAll}
+use Rattle.stab_io.proofs.DeviceLemmas.{took_none, took_more, took_and_failed, failed_within}
 
 -- a write that fails ends the writing, and its failure is handed on
 failed_case : {a b : OutputView} {r e : Refusal} (q : Result (Unit {0}) Refusal) (front back : List ℕ)

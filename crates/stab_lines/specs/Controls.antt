@@ -1,7 +1,8 @@
 -- Controls: the pairs of targets of a controlled gate, whose first is a qubit or a record.
+-- Source: Stim's circuit file format, where a target rec[-k] may control a gate. Here it stands before the qubit alone.
 use Rattle.std.specs.Prelude.{ℕ, ◌==◌, List, [], ◌∷◌, if◌then◌else◌, Result, Ok, Err}
-use Rattle.stab_pauli.specs.declared.refusal.Refusal.{Refusal}
-use Rattle.stab_pauli.specs.declared.refusal.Refusal.TheVariants.{BadPairing}
+use Rattle.stab_io.specs.declared.refusal.Refusal.{Refusal}
+use Rattle.stab_io.specs.declared.refusal.Refusal.TheVariants.{BadPairing}
 use Rattle.stab_lines.specs.declared.control.Control.{Control}
 use Rattle.stab_lines.specs.declared.control.Control.TheVariants as control
 use Rattle.stab_lines.specs.declared.control.ControlTarget.{ControlTarget}

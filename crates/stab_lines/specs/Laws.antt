@@ -1,7 +1,8 @@
 -- Laws: what holds of all lines.
+-- Source: this project's own.
 use Rattle.std.specs.Prelude.{◌≡◌, ◌↔◌, ℕ, false, IsTrue, List, [], ◌++◌, replicate, codes, Ok, Err}
 use Rattle.std.specs.List.{list_any}
-use Rattle.stab_pauli.specs.declared.refusal.Refusal.{Refusal}
+use Rattle.stab_io.specs.declared.refusal.Refusal.{Refusal}
 use Rattle.stab_lines.specs.declared.meanings.Line.{Line}
 use Rattle.stab_lines.specs.declared.meanings.Line.TheVariants.{Blank, Close, Open}
 use Rattle.stab_lines.specs.declared.meanings.Line.TheVariants as line

@@ -1,4 +1,5 @@
 -- Limits: how many observables a circuit has at most, and how far back a record is looked for at most.
+-- Source: this project's own.
 use Rattle.std.specs.Prelude.{ℕ}
 
 -- the greatest number of observables

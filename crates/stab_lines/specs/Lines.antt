@@ -1,9 +1,10 @@
 -- Lines: what is left of a line, and the shape of it: a name, perhaps a tag, arguments, targets and a last brace.
+-- Source: Stim's circuit file format (.stim), but that a tag can't hold `#` here.
 use Rattle.std.specs.Prelude.{ℕ, ◌-◌, Bool, false, ◌&&◌, ◌||◌, not, nat_le, nat_lt, ◌==◌, List, [], ◌∷◌, length, drop, take, reverse, if◌then◌else◌, Result, Ok, Err}
 use Rattle.std.specs.List.{position_or_len, prefix_len, suffix_len, take_while, before_first, after_first, list_any}
 use Rattle.stab_lines.specs.Results.{◌>>=◌}
-use Rattle.stab_pauli.specs.declared.refusal.Refusal.{Refusal}
-use Rattle.stab_pauli.specs.declared.refusal.Refusal.TheVariants.{BadLine}
+use Rattle.stab_io.specs.declared.refusal.Refusal.{Refusal}
+use Rattle.stab_io.specs.declared.refusal.Refusal.TheVariants.{BadLine}
 
 -- space, tab and carriage return
 abbrev pub is_spacing : ℕ → Bool

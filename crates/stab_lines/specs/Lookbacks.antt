@@ -1,4 +1,5 @@
 -- Lookbacks: how far back a record may be looked for.
+-- Source: Stim's circuit file format: rec[-k] counts back from the newest record.
 use Rattle.std.specs.Prelude.{ℕ, ◌<◌, ◌≤◌}
 use Rattle.stab_lines.specs.Limits.{most_lookback}
 

@@ -1,7 +1,8 @@
 -- Meanings: what the content of a line means, or why it is refused.
+-- Source: Stim's circuit file format. Which refusal comes first is this project's own.
 use Rattle.std.specs.Prelude.{ℕ, Bool, true, false, ◌&&◌, ◌==◌, List, [], ◌∷◌, length, if◌then◌else◌, Option, Some, None, Result, Ok, Err}
-use Rattle.stab_pauli.specs.declared.refusal.Refusal.{Refusal}
-use Rattle.stab_pauli.specs.declared.refusal.Refusal.TheVariants.{UnsupportedName, BadArguments, BadTarget, BadPairing, BadBlock, QubitOutOfRange, ObservableOutOfRange, BadLine}
+use Rattle.stab_io.specs.declared.refusal.Refusal.{Refusal}
+use Rattle.stab_io.specs.declared.refusal.Refusal.TheVariants.{UnsupportedName, BadArguments, BadTarget, BadPairing, BadBlock, QubitOutOfRange, ObservableOutOfRange, BadLine}
 use Rattle.stab_lines.specs.declared.name.Instruction.{Instruction}
 use Rattle.stab_lines.specs.declared.name.Instruction.TheVariants as instruction
 use Rattle.stab_lines.specs.declared.name.Name.{Name}

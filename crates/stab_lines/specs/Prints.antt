@@ -1,74 +1,32 @@
 -- Prints: the one text of an instruction, and of the opening of a block.
-use Rattle.std.specs.Prelude.{ℕ, Bool, true, false, List, [], ◌∷◌, ◌++◌, codes, if◌then◌else◌}
+-- Source: Stim's circuit file format. Which of several texts with one meaning is printed is this project's own.
+use Rattle.std.specs.Prelude.{ℕ, Bool, true, false, List, [], ◌∷◌, ◌++◌, codes}
 use Rattle.std.specs.Fmt.{decimal}
-use Rattle.stab_tableau.specs.declared.gate.Gate.{Gate}
-use Rattle.stab_tableau.specs.declared.gate.Gate.TheVariants as one
 use Rattle.stab_lines.specs.declared.axis.Axis.{Axis}
 use Rattle.stab_lines.specs.declared.axis.Axis.TheVariants as axis
 use Rattle.stab_lines.specs.declared.control.ControlledPair.{ControlledPair}
 use Rattle.stab_lines.specs.declared.control.ControlledPair.TheVariants as pair
 use Rattle.stab_lines.specs.declared.product.Factor.{Factor}
 use Rattle.stab_lines.specs.declared.range.MeasureTarget.{MeasureTarget}
-use Rattle.stab_lines.specs.declared.operation.Measurement.{Measurement}
+use Rattle.stab_lines.specs.declared.name.Instruction.TheVariants as instruction
 use Rattle.stab_lines.specs.declared.operation.Kind.{Kind}
 use Rattle.stab_lines.specs.declared.operation.Kind.TheVariants as kind
 use Rattle.stab_lines.specs.declared.operation.Operation.{Operation}
+use Rattle.stab_lines.specs.Names.{gate_name, controlled_name, measurement_name, reset_name, instruction_name}
 
--- the name of a gate
-abbrev pub gate_name : Gate → List ℕ
-gate_name one.I = codes "I"
-gate_name one.X = codes "X"
-gate_name one.Y = codes "Y"
-gate_name one.Z = codes "Z"
-gate_name one.H = codes "H"
-gate_name one.S = codes "S"
-gate_name one.SDag = codes "S_DAG"
-gate_name one.CXyz = codes "C_XYZ"
-gate_name one.CZyx = codes "C_ZYX"
-gate_name one.SqrtX = codes "SQRT_X"
-gate_name one.SqrtXDag = codes "SQRT_X_DAG"
-gate_name one.SqrtY = codes "SQRT_Y"
-gate_name one.SqrtYDag = codes "SQRT_Y_DAG"
-
--- the name of X, Y or Z under a control
-abbrev pub controlled_name : Axis → List ℕ
-controlled_name axis.X = codes "CX"
-controlled_name axis.Y = codes "CY"
-controlled_name axis.Z = codes "CZ"
-
--- the name of a measurement
-abbrev pub measurement_name : Measurement → List ℕ
-measurement_name m = if m.resets then measured_and_reset m.axis else measured m.axis
-  where
-    measured : Axis → List ℕ
-    measured axis.X = codes "MX"
-    measured axis.Y = codes "MY"
-    measured axis.Z = codes "M"
-
-    measured_and_reset : Axis → List ℕ
-    measured_and_reset axis.X = codes "MRX"
-    measured_and_reset axis.Y = codes "MRY"
-    measured_and_reset axis.Z = codes "MR"
-
--- the name of a reset
-abbrev pub reset_name : Axis → List ℕ
-reset_name axis.X = codes "RX"
-reset_name axis.Y = codes "RY"
-reset_name axis.Z = codes "R"
-
--- the name of an instruction
+-- the name of what is done
 abbrev pub kind_name : Kind → List ℕ
 kind_name (kind.Gate g qubits) = gate_name g
 kind_name (kind.Controlled axis pairs) = controlled_name axis
-kind_name (kind.Swap pairs) = codes "SWAP"
+kind_name (kind.Swap pairs) = instruction_name instruction.Swap
 kind_name (kind.Measure m targets) = measurement_name m
 kind_name (kind.Reset axis qubits) = reset_name axis
-kind_name (kind.MeasureProducts products) = codes "MPP"
-kind_name (kind.Detector located) = codes "DETECTOR"
-kind_name (kind.ObservableInclude j ks) = codes "OBSERVABLE_INCLUDE"
-kind_name kind.Tick = codes "TICK"
-kind_name (kind.QubitCoords located) = codes "QUBIT_COORDS"
-kind_name (kind.ShiftCoords coordinates) = codes "SHIFT_COORDS"
+kind_name (kind.MeasureProducts products) = instruction_name instruction.MeasureProducts
+kind_name (kind.Detector located) = instruction_name instruction.Detector
+kind_name (kind.ObservableInclude j ks) = instruction_name instruction.ObservableInclude
+kind_name kind.Tick = instruction_name instruction.Tick
+kind_name (kind.QubitCoords located) = instruction_name instruction.QubitCoords
+kind_name (kind.ShiftCoords coordinates) = instruction_name instruction.ShiftCoords
 
 -- a tag in its brackets, where there is one
 abbrev pub tag_text : List ℕ → List ℕ

@@ -1,8 +1,9 @@
 -- Products: what a word means as a product of letters on different qubits.
+-- Source: Stim's circuit file format, the targets of MPP. It differs in that no qubit stands twice in a product.
 use Rattle.std.specs.Prelude.{ℕ, Bool, false, ◌&&◌, ◌||◌, ◌==◌, List, [], ◌∷◌, drop, if◌then◌else◌, Option, Some, None, is_some, Result, Ok, Err}
 use Rattle.std.specs.List.{list_all, list_any, slice_split}
-use Rattle.stab_pauli.specs.declared.refusal.Refusal.{Refusal}
-use Rattle.stab_pauli.specs.declared.refusal.Refusal.TheVariants.{BadTarget}
+use Rattle.stab_io.specs.declared.refusal.Refusal.{Refusal}
+use Rattle.stab_io.specs.declared.refusal.Refusal.TheVariants.{BadTarget}
 use Rattle.stab_lines.specs.declared.axis.Axis.{Axis}
 use Rattle.stab_lines.specs.declared.product.Factor.{Factor}
 use Rattle.stab_lines.specs.Results.{◌>>=◌, each}

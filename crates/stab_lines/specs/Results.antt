@@ -1,7 +1,8 @@
 -- Results: steps that follow one another, any of which may be refused, and how a call's answer meets them.
+-- Source: this project's own.
 use Rattle.std.specs.Prelude.{◌≡◌, List, [], ◌∷◌, Result, Ok, Err, ◌⊎◌}
-use Rattle.stab_pauli.specs.declared.refusal.Refusal.{Refusal}
-use Rattle.stab_pauli.specs.declared.refusal.Refusal.TheVariants.{OutOfMemory}
+use Rattle.stab_io.specs.declared.refusal.Refusal.{Refusal}
+use Rattle.stab_io.specs.declared.refusal.Refusal.TheVariants.{OutOfMemory}
 
 infixl 10 ◌>>=◌
 -- the second result, made of the first, or the first one's refusal

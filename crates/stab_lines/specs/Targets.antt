@@ -1,8 +1,9 @@
 -- Targets: what a word means as a target of each kind.
+-- Source: Stim's circuit file format. The ranges of qubits, observables and counts are this project's own.
 use Rattle.std.specs.Prelude.{ℕ, ◌-◌, Bool, true, false, ◌&&◌, ◌||◌, not, nat_le, nat_lt, nat_eq, ◌==◌, List, [], ◌∷◌, length, drop, take, if◌then◌else◌, Option, Some, None, Result, Ok, Err, codes}
 use Rattle.std.specs.List.{list_all, starts_with}
-use Rattle.stab_pauli.specs.declared.refusal.Refusal.{Refusal}
-use Rattle.stab_pauli.specs.declared.refusal.Refusal.TheVariants.{BadArguments, BadTarget, BadPairing, QubitOutOfRange, ObservableOutOfRange}
+use Rattle.stab_io.specs.declared.refusal.Refusal.{Refusal}
+use Rattle.stab_io.specs.declared.refusal.Refusal.TheVariants.{BadArguments, BadTarget, BadPairing, QubitOutOfRange, ObservableOutOfRange}
 use Rattle.stab_tableau.specs.Limits.{most_qubits}
 use Rattle.stab_lines.specs.declared.range.MeasureTarget.{MeasureTarget}
 use Rattle.stab_lines.specs.Limits.{most_observables, most_lookback}

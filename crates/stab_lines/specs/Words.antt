@@ -1,4 +1,5 @@
 -- Words: targets between spacing, arguments between commas, and decimal numbers.
+-- Source: Stim's circuit file format.
 use Rattle.std.specs.Prelude.{ℕ, ◌+◌, ◌*◌, ◌-◌, Bool, not, ◌&&◌, ◌==◌, List, [], ◌∷◌, length, filter, map, Option, Some, None, if◌then◌else◌}
 use Rattle.std.specs.List.{list_all, slice_split}
 use Rattle.stab_lines.specs.Lines.{is_byte, is_digit, is_spacing, trimmed}

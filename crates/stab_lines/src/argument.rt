@@ -7,9 +7,9 @@ ghost use Rattle.stab_lines.specs.Targets.{is_coordinate_byte as coordinate_byte
 
 use crate::coordinates::Coordinates;
 use crate::line::{is_digit, without_spacing};
-use crate::range::Observable;
+use crate::range::ObservableNumber;
 use crate::word::{capped_value, first_piece, is_blank, is_number};
-use stab_pauli::Refusal;
+use stab_io::Refusal;
 use std::alloc::Global;
 
 /// The greatest number of observables.
@@ -82,12 +82,12 @@ pub fn only_number(arguments: &[u8]) -> Result<&[u8], Refusal>
 
 /// The observable of a number.
 #[tactic(auto, unfolding(crate::specs::Targets::observable_of))]
-pub fn observable(digits: &[u8]) -> Result<Observable, Refusal>
+pub fn observable(digits: &[u8]) -> Result<ObservableNumber, Refusal>
     ensures value { result ≡ observable_of digits.now }
 {
     let number = capped_value(digits, MOST_OBSERVABLES);
     if number < MOST_OBSERVABLES {
-        Ok(Observable::new(number as u16))
+        Ok(ObservableNumber::new(number as u16))
     } else {
         Err(Refusal::ObservableOutOfRange)
     }

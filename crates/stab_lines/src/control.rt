@@ -1,26 +1,26 @@
 ghost use Rattle.std.specs.Prelude.{◌≡◌, ◌<◌, length, MatchOption};
 ghost use Rattle.stab_lines.specs.Results.{Gives, each};
-ghost use Rattle.stab_lines.specs.inner.Sights.{BeginsWith, begun_with, follows, second_of};
+ghost use Rattle.stab_lines.specs.inner.FrontTargets.{BeginsWithTarget, begun_with, follows, second_of};
 ghost use Rattle.stab_lines.specs.Words.{words};
 ghost use Rattle.stab_lines.specs.declared.control.Control.TheVariants as by;
 ghost use Rattle.stab_lines.specs.Controls.{control_of, by_turns, pair_of, paired, controlled_of};
 
 use crate::range::{Lookback, Pair, Qubit};
 use crate::sequence::Sequence;
-use crate::target::{is_record, qubit, qubit_at_sight, record};
+use crate::target::{is_record, qubit, qubit_at_front, record};
 use crate::word::first_word;
-use stab_pauli::Refusal;
+use stab_io::Refusal;
 use std::alloc::Global;
 
 /// What controls a gate.
-#[derive(Clone, Copy, Debug, PartialEq, Eq)]
+#[derive(Clone, Copy)]
 pub enum Control {
     Qubit(Qubit),
     Record(Lookback),
 }
 
 /// A control and a qubit, as they stand one after the other.
-#[derive(Clone, Copy, Debug, PartialEq, Eq)]
+#[derive(Clone, Copy)]
 pub struct ControlTarget {
     control: Control,
     qubit: Qubit,
@@ -103,11 +103,11 @@ fn with_pairs(
 /// The pair of a qubit and that which the first word is, and what follows the word, where this is
 /// another number in range.
 #[tactic(auto, using(crate::proofs::ControlLemmas::second_begins))]
-fn second_at_sight(first: Qubit, bytes: &[u8]) -> Option<(ControlledPair, &[u8])>
-    ensures value { MatchOption result (Unit {0}) (λ p. BeginsWith (second_of first) bytes.now p.0 p.1.now) }
+fn second_at_front(first: Qubit, bytes: &[u8]) -> Option<(ControlledPair, &[u8])>
+    ensures value { MatchOption result (Unit {0}) (λ p. BeginsWithTarget (second_of first) bytes.now p.0 p.1.now) }
     ensures shorter { MatchOption result (Unit {0}) (λ p. length p.1.now < length bytes.now) }
 {
-    match qubit_at_sight(bytes) {
+    match qubit_at_front(bytes) {
         Some((second, rest)) => match qubit_pair(first, second) {
             Ok(pair) => Some((pair, rest)),
             Err(_) => None,
@@ -119,12 +119,12 @@ fn second_at_sight(first: Qubit, bytes: &[u8]) -> Option<(ControlledPair, &[u8])
 /// The pair of different qubits that the first two words are, and what follows these, where they
 /// are numbers in range.
 #[tactic(auto, using(crate::proofs::ControlLemmas::pair_seen))]
-fn pair_at_sight(bytes: &[u8]) -> Option<(ControlledPair, &[u8])>
+fn pair_at_front(bytes: &[u8]) -> Option<(ControlledPair, &[u8])>
     ensures value { MatchOption result (Unit {0}) (λ p. controlled_of (words bytes.now) ≡ begun_with p.0 (controlled_of (words p.1.now))) }
     ensures shorter { MatchOption result (Unit {0}) (λ p. length p.1.now < length bytes.now) }
 {
-    match qubit_at_sight(bytes) {
-        Some(first) => second_at_sight(first.0, first.1),
+    match qubit_at_front(bytes) {
+        Some(first) => second_at_front(first.0, first.1),
         None => None,
     }
 }
@@ -141,7 +141,7 @@ pub fn controlled_pairs(
 {
     let mut found = Sequence::new(alloc);
     let mut rest = words_text;
-    while let Some((pair, after)) = pair_at_sight(rest) {
+    while let Some((pair, after)) = pair_at_front(rest) {
         found.push(pair)?;
         rest = after;
     }

@@ -10,12 +10,12 @@ const SHORT: usize = 22;
 /// They are kept in one piece, with what stood between them. Few take no memory.
 #[derive(Drop)]
 pub struct Coordinates {
-    written: Written,
+    written: BracketText,
 }
 
 /// What brackets held.
 #[derive(Drop)]
-enum Written {
+enum BracketText {
     /// The first so many of the bytes.
     Short { len: u8, bytes: [u8; 22] },
     // In a box, so that coordinates stay small.
@@ -28,27 +28,27 @@ impl Model for Coordinates {
 
     ghost Value = { List (List ℕ) };
 
-    ghost use Rattle.stab_lines.specs.inner.Writtens.{written_bytes, IsWritten};
+    ghost use Rattle.stab_lines.specs.inner.BracketTexts.{bracket_bytes, IsBracketText};
 
-    ghost view = { λ c. arguments_of (written_bytes c.written) };
+    ghost view = { λ c. arguments_of (bracket_bytes c.written) };
 
-    ghost invariant = { λ c. IsWritten c.written };
+    ghost invariant = { λ c. IsBracketText c.written };
 }
 
-impl Written {
+impl BracketText {
     ghost use Rattle.std.specs.Prelude.{◌≡◌, ◌≤◌, length};
-    ghost use Rattle.stab_lines.specs.inner.Writtens.{written_bytes, IsWritten};
+    ghost use Rattle.stab_lines.specs.inner.BracketTexts.{bracket_bytes, IsBracketText};
 
     /// A copy of a few bytes.
-    fn short(text: &[u8]) -> Written
+    fn short(text: &[u8]) -> BracketText
         requires few { length text.now ≤ 22 }
-        ensures value { written_bytes result ≡ text.now }
-        ensures kept { IsWritten result }
+        ensures value { bracket_bytes result ≡ text.now }
+        ensures kept { IsBracketText result }
     {
         let len = text.len();
         let mut bytes = [0; SHORT];
         bytes[..len].copy_from_slice(text);
-        Written::Short {
+        BracketText::Short {
             len: len as u8,
             bytes,
         }
@@ -56,12 +56,12 @@ impl Written {
 
     /// The bytes.
     fn bytes(&self) -> &[u8]
-        requires kept { IsWritten self.now }
-        ensures value { result.now ≡ written_bytes self.now }
+        requires kept { IsBracketText self.now }
+        ensures value { result.now ≡ bracket_bytes self.now }
     {
         match self {
-            Written::Short { len, bytes } => &bytes[..usize::from(*len)],
-            Written::Long(bytes) => bytes.as_slice(),
+            BracketText::Short { len, bytes } => &bytes[..usize::from(*len)],
+            BracketText::Long(bytes) => bytes.as_slice(),
         }
     }
 }
@@ -75,10 +75,10 @@ impl Coordinates {
         ensures ok { IfOk result (λ c. c ≡ arguments_of arguments.now) }
     {
         let written = if arguments.len() <= SHORT {
-            Written::short(arguments)
+            BracketText::short(arguments)
         } else {
             let bytes = Sequence::of_bytes(alloc, arguments)?;
-            Written::Long(Box::new(alloc, bytes)?)
+            BracketText::Long(Box::new(alloc, bytes)?)
         };
         Ok(Coordinates { written })
     }

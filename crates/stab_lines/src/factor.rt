@@ -9,9 +9,9 @@ use crate::line::starts_with;
 use crate::product::{Factor, Product};
 use crate::range::Qubit;
 use crate::sequence::Sequence;
-use crate::target::qubit;
+use crate::target::{Target, qubit};
 use crate::word::{first_piece, is_number};
-use stab_pauli::Refusal;
+use stab_io::Refusal;
 use std::alloc::Global;
 
 /// The word without the mark `!` in front.
@@ -105,7 +105,7 @@ fn names_twice(factors: &[Factor]) -> bool
 
 /// The product of a word.
 #[tactic(auto, unfolding(crate::specs::Products::product_of))]
-pub fn product(alloc: Global, word: &[u8]) -> Result<Product, Refusal>
+fn product(alloc: Global, word: &[u8]) -> Result<Product, Refusal>
     ensures gives { Gives result (product_of word.now) }
 {
     if !are_factors(word) {
@@ -116,4 +116,21 @@ pub fn product(alloc: Global, word: &[u8]) -> Result<Product, Refusal>
         return Err(Refusal::BadTarget);
     }
     Ok(Product::new(factors))
+}
+
+/// The targets that are products.
+pub struct ProductTargets;
+
+impl Target for ProductTargets {
+    type Kept = Product;
+
+    ghost meaning = { product_of };
+
+    fn of(alloc: Global, word: &[u8]) -> Result<Product, Refusal> {
+        product(alloc, word)
+    }
+
+    fn at_front(_bytes: &[u8]) -> Option<(Product, &[u8])> {
+        None
+    }
 }

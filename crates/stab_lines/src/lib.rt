@@ -4,11 +4,15 @@
 //! or an instruction, or it is refused. Which lines stand together is not known here: that is for
 //! `stab_circuit`, which also runs the tests of both crates.
 //!
+//! The text is Stim's, without noise: the Stim circuit file format (.stim), in Stim's repository
+//! `doc/file_format_stim_circuit.md`. `docs/circuit-text.md` says where this differs.
+//!
 //! - `line`: what is left of a line, and its shape.
 //! - `word`: words between spacing, parts between commas, decimal numbers.
 //! - `sequence`, `range`: lists, and numbers with their ranges.
 //! - `axis`, `product`: the letters X, Y and Z, and products of them on different qubits.
 //! - `operation`: instructions.
+//! - `table`: the names of all instructions.
 //! - `name`, `target`, `argument`, `coordinates`: the parts of an instruction.
 //! - `located`: targets behind coordinates.
 //! - `factor`, `control`: the targets that are products, and those of controlled gates.
@@ -39,6 +43,7 @@ mod print;
 mod product;
 mod range;
 mod sequence;
+mod table;
 mod target;
 mod word;
 
@@ -51,6 +56,6 @@ pub use meanings::{Line, is_close, meaning};
 pub use operation::{Kind, Measurement, Operation};
 pub use print::{write_opening, write_operation};
 pub use product::{Factor, Product};
-pub use range::{Count, Lookback, Lookbacks, MeasureTarget, Observable, Pair, Qubit};
+pub use range::{Count, Lookback, Lookbacks, MeasureTarget, ObservableNumber, Pair, Qubit};
 pub use sequence::Sequence;
 pub use word::{capped_value, first_piece, is_number};

@@ -1,10 +1,10 @@
 ghost use Rattle.std.specs.Prelude.{IfErr, false, ◌≡◌, ◌≤◌, ◌<◌, IsTrue, ◌==◌, length, take, map, Option, None, Some, MatchOption, List, ◌∷◌, []};
 ghost use Rattle.std.specs.List.{position_or_len, prefix_len, list_all, list_any, before_first, slice_split};
-ghost use Rattle.stab_pauli.specs.declared.refusal.Refusal.TheVariants.{BadLine};
+ghost use Rattle.stab_io.specs.declared.refusal.Refusal.TheVariants.{BadLine};
 ghost use Rattle.stab_lines.specs.inner.Parts.{GivesBy};
 ghost use Rattle.stab_lines.specs.Lines.{is_spacing as spacing, is_letter as letter, is_digit as digit, is_name_byte as name_byte, is_brace as brace, trimmed_front, trimmed_end, trimmed, content_of, bracketed, is_byte, starts_with_byte, ends_with_byte, is_apart as apart};
 
-use stab_pauli::Refusal;
+use stab_io::Refusal;
 
 // So many bytes are looked at at once.
 const RUN: usize = 32;
@@ -226,7 +226,7 @@ fn is_apart(bytes: &[u8]) -> bool
 
 impl<'a> Shape<'a> {
     ghost use Rattle.std.specs.Prelude.{false, ◌≡◌, IfErr};
-    ghost use Rattle.stab_pauli.specs.declared.refusal.Refusal.TheVariants.{BadLine};
+    ghost use Rattle.stab_io.specs.declared.refusal.Refusal.TheVariants.{BadLine};
     ghost use Rattle.stab_lines.specs.inner.Parts.{GivesBy};
     ghost use Rattle.stab_lines.specs.Lines.{shape_of};
     ghost use Rattle.stab_lines.specs.inner.Parts.{shape_shown};

@@ -3,20 +3,24 @@ ghost use Rattle.stab_lines.specs.Results.{Gives};
 ghost use Rattle.stab_lines.specs.Words.{words};
 ghost use Rattle.stab_lines.specs.Controls.{controlled_of};
 ghost use Rattle.stab_lines.specs.inner.Parts.{shape_shown};
+ghost use Rattle.stab_lines.specs.declared.name.Instruction.TheVariants.{ShiftCoords};
 ghost use Rattle.stab_lines.specs.declared.name.Name.{Name};
 ghost use Rattle.stab_lines.specs.Meanings.{without_arguments, targets_alone as alone, observable_include_of, kind_of, only_count as only_count_of, block_of, named_line as named_line_of, shape_meaning, is_close as is_close_of, meaning_of};
 
 use crate::argument::{coordinates, observable, only_number};
 use crate::control::{ControlledPair, controlled_pairs};
+use crate::factor::ProductTargets;
 use crate::line::{Shape, starts_with};
 use crate::located::Located;
 use crate::name::{Instruction, Name};
 use crate::operation::{Kind, Operation};
 use crate::range::Count;
 use crate::sequence::Sequence;
-use crate::target::{Counts, MeasureTargets, Products, Qubits, Target, lookbacks, pairs, targets};
+use crate::target::{
+    CountTargets, MeasureTargets, QubitTargets, Target, lookbacks, pairs, targets,
+};
 use crate::word::is_blank;
-use stab_pauli::Refusal;
+use stab_io::Refusal;
 use std::alloc::Global;
 
 /// What the content of a line means.
@@ -62,24 +66,42 @@ fn observable_include(alloc: Global, shape: &Shape) -> Result<Kind, Refusal>
     Ok(Kind::ObservableInclude(observable(digits)?, records))
 }
 
+#[tactic(auto, unfolding(crate::specs::Meanings::kind_of))]
+fn shift_coords(alloc: Global, shape: &Shape) -> Result<Kind, Refusal>
+    ensures gives { Gives result (kind_of ShiftCoords (shape_shown shape.now)) }
+{
+    let coordinates = coordinates(alloc, shape.arguments)?;
+    if is_blank(shape.targets) {
+        Ok(Kind::ShiftCoords(coordinates))
+    } else {
+        Err(Refusal::BadTarget)
+    }
+}
+
 /// What an instruction does.
 #[tactic(auto, unfolding(crate::specs::Meanings::kind_of))]
 fn kind(alloc: Global, instruction: Instruction, shape: &Shape) -> Result<Kind, Refusal>
     ensures gives { Gives result (kind_of instruction (shape_shown shape.now)) }
 {
     match instruction {
-        Instruction::Gate(gate) => Ok(Kind::Gate(gate, targets_alone::<Qubits>(alloc, shape)?)),
+        Instruction::Gate(gate) => Ok(Kind::Gate(
+            gate,
+            targets_alone::<QubitTargets>(alloc, shape)?,
+        )),
         Instruction::Controlled(axis) => Ok(Kind::Controlled(axis, pairs_alone(alloc, shape)?)),
         Instruction::Swap => {
-            let qubits = targets_alone::<Qubits>(alloc, shape)?;
+            let qubits = targets_alone::<QubitTargets>(alloc, shape)?;
             Ok(Kind::Swap(pairs(alloc, qubits.as_slice())?))
         }
         Instruction::Measure(measurement) => {
             Ok(Kind::Measure(measurement, targets_alone::<MeasureTargets>(alloc, shape)?))
         }
-        Instruction::Reset(axis) => Ok(Kind::Reset(axis, targets_alone::<Qubits>(alloc, shape)?)),
+        Instruction::Reset(axis) => Ok(Kind::Reset(
+            axis,
+            targets_alone::<QubitTargets>(alloc, shape)?,
+        )),
         Instruction::MeasureProducts => {
-            Ok(Kind::MeasureProducts(targets_alone::<Products>(alloc, shape)?))
+            Ok(Kind::MeasureProducts(targets_alone::<ProductTargets>(alloc, shape)?))
         }
         Instruction::Detector => {
             let coordinates = coordinates(alloc, shape.arguments)?;
@@ -92,17 +114,10 @@ fn kind(alloc: Global, instruction: Instruction, shape: &Shape) -> Result<Kind, 
         Instruction::Tick => Ok(Kind::Tick),
         Instruction::QubitCoords => {
             let coordinates = coordinates(alloc, shape.arguments)?;
-            let qubits = targets::<Qubits>(alloc, shape.targets)?;
+            let qubits = targets::<QubitTargets>(alloc, shape.targets)?;
             Ok(Kind::QubitCoords(Located::new(alloc, coordinates, qubits)?))
         }
-        Instruction::ShiftCoords => {
-            let coordinates = coordinates(alloc, shape.arguments)?;
-            if is_blank(shape.targets) {
-                Ok(Kind::ShiftCoords(coordinates))
-            } else {
-                Err(Refusal::BadTarget)
-            }
-        }
+        Instruction::ShiftCoords => shift_coords(alloc, shape),
     }
 }
 
@@ -116,7 +131,7 @@ fn only_count(counts: &[Option<Count>]) -> Option<Count>
 fn block(alloc: Global, shape: &Shape) -> Result<Line, Refusal>
     ensures gives { Gives result (block_of (shape_shown shape.now)) }
 {
-    let counts = targets_alone::<Counts>(alloc, shape)?;
+    let counts = targets_alone::<CountTargets>(alloc, shape)?;
     match only_count(counts.as_slice()) {
         Some(count) if shape.opens => Ok(Line::Open {
             count,

@@ -3,7 +3,7 @@ use crate::control::ControlledPair;
 use crate::coordinates::Coordinates;
 use crate::located::Located;
 use crate::product::Product;
-use crate::range::{Lookbacks, MeasureTarget, Observable, Pair, Qubit};
+use crate::range::{Lookbacks, MeasureTarget, ObservableNumber, Pair, Qubit};
 use crate::sequence::Sequence;
 use stab_tableau::Gate;
 
@@ -25,7 +25,7 @@ pub enum Kind {
     Reset(Axis, Sequence<Qubit>),
     MeasureProducts(Sequence<Product>),
     Detector(Located<Lookbacks>),
-    ObservableInclude(Observable, Lookbacks),
+    ObservableInclude(ObservableNumber, Lookbacks),
     Tick,
     QubitCoords(Located<Sequence<Qubit>>),
     ShiftCoords(Coordinates),

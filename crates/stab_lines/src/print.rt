@@ -2,74 +2,63 @@ ghost use Rattle.std.specs.Prelude.{◌≡◌, ◌++◌, List, ℕ, Bool, [], �
 ghost use Rattle.std.specs.Fmt.{decimal};
 ghost use Rattle.std.specs.List.{slice_split};
 ghost use Rattle.std.specs.Option.{option_copied};
-ghost use Rattle.stab_pauli.specs.Devices.{WritesAll};
+ghost use Rattle.stab_io.specs.Devices.{WritesAll};
 ghost use Rattle.stab_lines.specs.Lines.{is_byte, trimmed};
 ghost use Rattle.stab_lines.specs.Words.{pieces_after};
-ghost use Rattle.stab_lines.specs.Prints.{gate_name as gate_name_of, controlled_name as controlled_name_of, measurement_name as measurement_name_of, reset_name as reset_name_of, axis_text as axis_text_of, kind_name as kind_name_of, tag_text, each_after, head_text, arguments_text, kind_arguments, pair_text, target_text, lookback_text, controlled_text, factor_text, product_text, targets_text, operation_text, open_text};
+ghost use Rattle.stab_lines.specs.Names.{gate_name as gate_name_of, controlled_name as controlled_name_of, measurement_name as measurement_name_of, instruction_name as instruction_name_of};
+ghost use Rattle.stab_lines.specs.Prints.{axis_text as axis_text_of, kind_name as kind_name_of, tag_text, each_after, head_text, arguments_text, kind_arguments, pair_text, target_text, lookback_text, controlled_text, factor_text, product_text, targets_text, operation_text, open_text};
 
 use crate::axis::Axis;
 use crate::control::ControlledPair;
 use crate::coordinates::Coordinates;
 use crate::line::without_spacing;
+use crate::name::Instruction;
 use crate::operation::{Kind, Measurement};
 use crate::product::{Factor, Product};
 use crate::range::{Count, Lookback, MeasureTarget, Pair, Qubit};
+use crate::table::{controlled_gates, gates, measurements, others};
 use crate::word::{first_piece, is_blank};
 use itoa::Buffer;
-use stab_pauli::{Output, Refusal, write_all};
+use stab_io::{Output, Refusal, write_all};
 use stab_tableau::Gate;
+
+/// The name that is printed of what a value is.
+macro_rules! printed {
+    ($of:expr; $([$($meaning:tt)+] $first:literal $(or $other:literal)*;)+) => {
+        match $of {
+            $($($meaning)+ => $first,)+
+        }
+    };
+}
+
+/// The same, where gates and measurements have tables of their own.
+macro_rules! printed_of_all {
+    ($of:expr; $([$($meaning:tt)+] $first:literal $(or $other:literal)*;)+) => {
+        match $of {
+            Instruction::Gate(gate) => gate_name(gate),
+            Instruction::Controlled(axis) => controlled_name(axis),
+            Instruction::Measure(measurement) => measurement_name(measurement),
+            $($($meaning)+ => $first,)+
+        }
+    };
+}
 
 fn gate_name(gate: Gate) -> &'static [u8]
     ensures value { result.now ≡ gate_name_of gate }
 {
-    match gate {
-        Gate::I => b"I",
-        Gate::X => b"X",
-        Gate::Y => b"Y",
-        Gate::Z => b"Z",
-        Gate::H => b"H",
-        Gate::S => b"S",
-        Gate::SDag => b"S_DAG",
-        Gate::CXyz => b"C_XYZ",
-        Gate::CZyx => b"C_ZYX",
-        Gate::SqrtX => b"SQRT_X",
-        Gate::SqrtXDag => b"SQRT_X_DAG",
-        Gate::SqrtY => b"SQRT_Y",
-        Gate::SqrtYDag => b"SQRT_Y_DAG",
-    }
+    gates!(printed, gate)
 }
 
 fn controlled_name(axis: Axis) -> &'static [u8]
     ensures value { result.now ≡ controlled_name_of axis }
 {
-    match axis {
-        Axis::X => b"CX",
-        Axis::Y => b"CY",
-        Axis::Z => b"CZ",
-    }
+    controlled_gates!(printed, axis)
 }
 
 fn measurement_name(measurement: Measurement) -> &'static [u8]
     ensures value { result.now ≡ measurement_name_of measurement }
 {
-    match (measurement.axis, measurement.resets) {
-        (Axis::X, false) => b"MX",
-        (Axis::Y, false) => b"MY",
-        (Axis::Z, false) => b"M",
-        (Axis::X, true) => b"MRX",
-        (Axis::Y, true) => b"MRY",
-        (Axis::Z, true) => b"MR",
-    }
-}
-
-fn reset_name(axis: Axis) -> &'static [u8]
-    ensures value { result.now ≡ reset_name_of axis }
-{
-    match axis {
-        Axis::X => b"RX",
-        Axis::Y => b"RY",
-        Axis::Z => b"R",
-    }
+    measurements!(printed, (measurement.axis, measurement.resets))
 }
 
 fn axis_text(axis: Axis) -> &'static [u8]
@@ -82,21 +71,27 @@ fn axis_text(axis: Axis) -> &'static [u8]
     }
 }
 
+fn instruction_name(instruction: Instruction) -> &'static [u8]
+    ensures value { result.now ≡ instruction_name_of instruction }
+{
+    others!(printed_of_all, instruction)
+}
+
 fn kind_name(kind: &Kind) -> &'static [u8]
     ensures value { result.now ≡ kind_name_of kind.now }
 {
     match kind {
         Kind::Gate(gate, _) => gate_name(*gate),
         Kind::Controlled(axis, _) => controlled_name(*axis),
-        Kind::Swap(_) => b"SWAP",
+        Kind::Swap(_) => instruction_name(Instruction::Swap),
         Kind::Measure(measurement, _) => measurement_name(*measurement),
-        Kind::Reset(axis, _) => reset_name(*axis),
-        Kind::MeasureProducts(_) => b"MPP",
-        Kind::Detector(_) => b"DETECTOR",
-        Kind::ObservableInclude(_, _) => b"OBSERVABLE_INCLUDE",
-        Kind::Tick => b"TICK",
-        Kind::QubitCoords(_) => b"QUBIT_COORDS",
-        Kind::ShiftCoords(_) => b"SHIFT_COORDS",
+        Kind::Reset(axis, _) => instruction_name(Instruction::Reset(*axis)),
+        Kind::MeasureProducts(_) => instruction_name(Instruction::MeasureProducts),
+        Kind::Detector(_) => instruction_name(Instruction::Detector),
+        Kind::ObservableInclude(_, _) => instruction_name(Instruction::ObservableInclude),
+        Kind::Tick => instruction_name(Instruction::Tick),
+        Kind::QubitCoords(_) => instruction_name(Instruction::QubitCoords),
+        Kind::ShiftCoords(_) => instruction_name(Instruction::ShiftCoords),
     }
 }
 

@@ -89,11 +89,11 @@ impl Pair {
 
 /// An observable's number, which is below 4,096.
 #[derive(Clone, Copy, Debug, PartialEq, Eq)]
-pub struct Observable {
+pub struct ObservableNumber {
     number: u16,
 }
 
-impl Model for Observable {
+impl Model for ObservableNumber {
     ghost use Rattle.std.specs.Prelude.{ℕ, ◌<◌};
     ghost use Rattle.stab_lines.specs.Limits.{most_observables};
 
@@ -106,12 +106,12 @@ impl Model for Observable {
     ghost inverse = { λ n. record { number = n } };
 }
 
-impl Observable {
-    pub(crate) fn new(number: u16) -> Observable
+impl ObservableNumber {
+    pub(crate) fn new(number: u16) -> ObservableNumber
         requires small { number < most_observables }
         ensures value { result ≡ number }
     {
-        Observable { number }
+        ObservableNumber { number }
     }
 
     /// The number.

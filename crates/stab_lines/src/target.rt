@@ -1,18 +1,15 @@
 ghost use Rattle.std.specs.Prelude.{◌≡◌, ℕ, List, ◌≤◌, ◌<◌, length, Result, IsTrue, MatchOption};
-ghost use Rattle.stab_pauli.specs.declared.refusal.Refusal.{Refusal};
+ghost use Rattle.stab_io.specs.declared.refusal.Refusal.{Refusal};
 ghost use Rattle.stab_lines.specs.Results.{Gives, each};
 ghost use Rattle.stab_lines.specs.Words.{words};
-ghost use Rattle.stab_lines.specs.inner.Sights.{BeginsWith, GivesFirst, IsShorter};
-ghost use Rattle.stab_lines.specs.Products.{product_of};
+ghost use Rattle.stab_lines.specs.inner.FrontTargets.{BeginsWithTarget, GivesFirst, IsShorter};
 ghost use Rattle.stab_lines.specs.Targets.{qubit_of, measure_target_of, lookback_of, lookback_digits, is_lookback, count_of, pairs_of};
 
-use crate::factor::product;
 use crate::line::{ends_with, starts_with, without_spacing_in_front};
-use crate::product::Product;
 use crate::range::{Count, Lookback, Lookbacks, MeasureTarget, Pair, Qubit};
 use crate::sequence::Sequence;
 use crate::word::{capped_value, digits_in_front, ends_word, first_number, first_word, is_number};
-use stab_pauli::Refusal;
+use stab_io::Refusal;
 use std::alloc::Global;
 
 /// The greatest number of qubits.
@@ -35,8 +32,8 @@ pub trait Target {
 
     /// What the first word means, and what follows it, where a look at its bytes is enough to tell.
     /// Where it isn't, `of` tells what the word means, or why it means nothing.
-    fn at_sight(bytes: &[u8]) -> Option<(Self::Kept, &[u8])>
-        ensures value { MatchOption result (Unit {0}) (λ p. BeginsWith meaning bytes.now p.0 p.1.now) }
+    fn at_front(bytes: &[u8]) -> Option<(Self::Kept, &[u8])>
+        ensures value { MatchOption result (Unit {0}) (λ p. BeginsWithTarget meaning bytes.now p.0 p.1.now) }
         ensures shorter { MatchOption result (Unit {0}) (λ p. length p.1.now < length bytes.now) };
 }
 
@@ -57,9 +54,9 @@ pub fn qubit(word: &[u8]) -> Result<Qubit, Refusal>
 }
 
 /// The targets that are qubits.
-pub struct Qubits;
+pub struct QubitTargets;
 
-impl Target for Qubits {
+impl Target for QubitTargets {
     type Kept = Qubit;
 
     ghost meaning = { qubit_of };
@@ -68,15 +65,15 @@ impl Target for Qubits {
         qubit(word)
     }
 
-    fn at_sight(bytes: &[u8]) -> Option<(Qubit, &[u8])> {
-        qubit_at_sight(bytes)
+    fn at_front(bytes: &[u8]) -> Option<(Qubit, &[u8])> {
+        qubit_at_front(bytes)
     }
 }
 
 /// The qubit that the first word is, and what follows it, where the word is a number in range.
-#[tactic(auto, using(crate::proofs::SightLemmas::qubit_begins))]
-pub fn qubit_at_sight(bytes: &[u8]) -> Option<(Qubit, &[u8])>
-    ensures value { MatchOption result (Unit {0}) (λ p. BeginsWith qubit_of bytes.now p.0 p.1.now) }
+#[tactic(auto, using(crate::proofs::FrontTargetLemmas::qubit_begins))]
+pub fn qubit_at_front(bytes: &[u8]) -> Option<(Qubit, &[u8])>
+    ensures value { MatchOption result (Unit {0}) (λ p. BeginsWithTarget qubit_of bytes.now p.0 p.1.now) }
     ensures shorter { MatchOption result (Unit {0}) (λ p. length p.1.now < length bytes.now) }
 {
     match first_number(bytes, MOST_QUBITS) {
@@ -111,9 +108,9 @@ impl Target for MeasureTargets {
         }
     }
 
-    #[tactic(auto, using(crate::proofs::SightLemmas::measure_target_begins))]
-    fn at_sight(bytes: &[u8]) -> Option<(MeasureTarget, &[u8])> {
-        match qubit_at_sight(bytes) {
+    #[tactic(auto, using(crate::proofs::FrontTargetLemmas::measure_target_begins))]
+    fn at_front(bytes: &[u8]) -> Option<(MeasureTarget, &[u8])> {
+        match qubit_at_front(bytes) {
             Some((qubit, rest)) => {
                 let target = MeasureTarget {
                     qubit,
@@ -143,9 +140,9 @@ pub fn record(word: &[u8]) -> Result<Lookback, Refusal>
 }
 
 /// The targets that are records.
-pub struct Records;
+pub struct RecordTargets;
 
-impl Target for Records {
+impl Target for RecordTargets {
     type Kept = u32;
 
     ghost meaning = { lookback_of };
@@ -155,15 +152,15 @@ impl Target for Records {
         Ok(lookback.number())
     }
 
-    fn at_sight(bytes: &[u8]) -> Option<(u32, &[u8])> {
-        record_at_sight(bytes)
+    fn at_front(bytes: &[u8]) -> Option<(u32, &[u8])> {
+        record_at_front(bytes)
     }
 }
 
 /// How far back the record of the first word is looked for, and what follows the word, where it is
 /// written as a record in range is.
-fn record_at_sight(bytes: &[u8]) -> Option<(u32, &[u8])>
-    ensures value { MatchOption result (Unit {0}) (λ p. BeginsWith lookback_of bytes.now p.0 p.1.now) }
+fn record_at_front(bytes: &[u8]) -> Option<(u32, &[u8])>
+    ensures value { MatchOption result (Unit {0}) (λ p. BeginsWithTarget lookback_of bytes.now p.0 p.1.now) }
     ensures shorter { MatchOption result (Unit {0}) (λ p. length p.1.now < length bytes.now) }
 {
     let bytes = without_spacing_in_front(bytes);
@@ -180,23 +177,6 @@ fn record_at_sight(bytes: &[u8]) -> Option<(u32, &[u8])>
     if 0 < number && number <= MOST_LOOKBACK && ends_word(rest) {
         Some((number as u32, rest))
     } else {
-        None
-    }
-}
-
-/// The targets that are products.
-pub struct Products;
-
-impl Target for Products {
-    type Kept = Product;
-
-    ghost meaning = { product_of };
-
-    fn of(alloc: Global, word: &[u8]) -> Result<Product, Refusal> {
-        product(alloc, word)
-    }
-
-    fn at_sight(_bytes: &[u8]) -> Option<(Product, &[u8])> {
         None
     }
 }
@@ -220,9 +200,9 @@ pub fn is_record(word: &[u8]) -> bool
 }
 
 /// The targets that are counts of rounds.
-pub struct Counts;
+pub struct CountTargets;
 
-impl Target for Counts {
+impl Target for CountTargets {
     type Kept = Option<Count>;
 
     ghost meaning = { count_of };
@@ -240,7 +220,7 @@ impl Target for Counts {
         }
     }
 
-    fn at_sight(_bytes: &[u8]) -> Option<(Option<Count>, &[u8])> {
+    fn at_front(_bytes: &[u8]) -> Option<(Option<Count>, &[u8])> {
         None
     }
 }
@@ -250,7 +230,7 @@ fn first_target<T: Target>(alloc: Global, bytes: &[u8]) -> Result<Option<(T::Kep
     ensures gives { GivesFirst T.meaning bytes.now result }
     ensures shorter { IsShorter bytes.now result }
 {
-    if let Some(first) = T::at_sight(bytes) {
+    if let Some(first) = T::at_front(bytes) {
         return Ok(Some(first));
     }
     match first_word(bytes) {
@@ -280,7 +260,7 @@ pub fn targets<T: Target>(alloc: Global, words_text: &[u8]) -> Result<Sequence<T
 pub fn lookbacks(alloc: Global, words_text: &[u8]) -> Result<Lookbacks, Refusal>
     ensures gives { Gives result (each lookback_of (words words_text.now)) }
 {
-    let numbers = targets::<Records>(alloc, words_text)?;
+    let numbers = targets::<RecordTargets>(alloc, words_text)?;
     Ok(Lookbacks::new(numbers))
 }
 

@@ -6,11 +6,11 @@ use Rattle.std.proofs.lemmas.List.{length-replicate}
 use Rattle.std.proofs.lemmas.List.Elements.{All-nil, All-cons}
 use Rattle.stab_pauli.specs.declared.letter.Letter.{Letter}
 use Rattle.stab_pauli.specs.declared.letter.Letter.TheVariants.{I}
-use Rattle.stab_pauli.specs.declared.turn.Turn.{Turn}
-use Rattle.stab_pauli.specs.declared.turn.Turn.TheVariants.{Zero}
-use Rattle.stab_pauli.specs.Turns.{turn_add, is_even, sign_of_turn}
+use Rattle.stab_pauli.specs.declared.phase.Phase.{Phase}
+use Rattle.stab_pauli.specs.declared.phase.Phase.TheVariants.{Zero}
+use Rattle.stab_pauli.specs.Phases.{phase_add, is_even, sign_of_phase}
 use Rattle.stab_pauli.specs.Paulis.{identity}
-use Rattle.stab_pauli.specs.inner.Powers.{turn_back, sign_power, IsSign}
+use Rattle.stab_pauli.specs.inner.Powers.{phase_inverse, sign_power, IsSign}
 use Rattle.stab_pauli.proofs.PowerLemmas.{string_power-blank}
 use Rattle.stab_pauli.specs.inner.Words.{word_letters, packed_letters}
 use Rattle.stab_pauli.specs.inner.Blocks.{row_letters, full_rows, AreBlocks, IsPadded, IsRow, IsSignedRow, IsTable, table, row_sign, signed_row}
@@ -83,15 +83,15 @@ all-replicate P x (suc count) h = All-cons P x (replicate count x) h (all-replic
 
 -- the power 1 before letters I is that of the sign +
 blank-sign : (n : ℕ) (letters : List Letter) → take n letters ≡ replicate n I → row_sign n Zero letters ≡ Zero
-blank-sign n letters e = ap (λ l. sign_power Zero l) e ∙ ap (λ t. turn_add (turn_back t) Zero) (string_power-blank n)
+blank-sign n letters e = ap (λ l. sign_power Zero l) e ∙ ap (λ t. phase_add (phase_inverse t) Zero) (string_power-blank n)
 
 pub IsSigned-none : (n m : ℕ) (ws : List ℕ) → IsRow n m ws → take n (row_letters m ws) ≡ replicate n I → IsSignedRow n m Zero ws
 IsSigned-none n m ws is e = record { row = is; sign = ap is_even (blank-sign n (row_letters m ws) e) }
 
 pub signed_row-none : (n : ℕ) (letters : List Letter) → take n letters ≡ replicate n I → signed_row n Zero letters ≡ identity n
-signed_row-none n letters e = λ i. record { negative = ap sign_of_turn (blank-sign n letters e) i; letters = e i }
+signed_row-none n letters e = λ i. record { negative = ap sign_of_phase (blank-sign n letters e) i; letters = e i }
 
-pub IsTable-none : (n m count : ℕ) (ws : List ℕ) (ps : List Turn) → AreBlocks n m → ws ≡ replicate (8 * m * count) 0 → ps ≡ replicate count Zero → IsTable n m ws ps
+pub IsTable-none : (n m count : ℕ) (ws : List ℕ) (ps : List Phase) → AreBlocks n m → ws ≡ replicate (8 * m * count) 0 → ps ≡ replicate count Zero → IsTable n m ws ps
 IsTable-none n m count ws ps eb ew ep = record {
   blocks = eb;
   size = ap length ew ∙ length-replicate (8 * m * count) 0 ∙ ap (λ c. 8 * m * c) (sym lp);
@@ -109,7 +109,7 @@ IsTable-none n m count ws ps eb ew ep = record {
     rows : full_rows m ws (length ps) ≡ replicate count blank
     rows = ap (full_rows m ws) lp ∙ full_rows-none m count ws ew
 
-pub table-none : (n m count : ℕ) (ws : List ℕ) (ps : List Turn) → n ≤ 256 * m → ws ≡ replicate (8 * m * count) 0 → ps ≡ replicate count Zero → table n m ws ps ≡ record { qubits = n; rows = replicate count (identity n) }
+pub table-none : (n m count : ℕ) (ws : List ℕ) (ps : List Phase) → n ≤ 256 * m → ws ≡ replicate (8 * m * count) 0 → ps ≡ replicate count Zero → table n m ws ps ≡ record { qubits = n; rows = replicate count (identity n) }
 table-none n m count ws ps le ew ep =
     λ i. record {
       qubits = n;

@@ -4,15 +4,15 @@ use Rattle.std.specs.Prelude.{bit_xor, bit_and}
 use Rattle.std.specs.Simd.Lanes.{zip2, chunk, put_chunk}
 use Rattle.std.proofs.lemmas.List.{ext_get_or}
 use Rattle.std.proofs.lemmas.Simd.{get_or-zip2, length-zip2, length-chunk, get_or-chunk, length-put_chunk, get_or-put_chunk_below, get_or-put_chunk_at, get_or-put_chunk_above}
-use Rattle.stab_pauli.specs.declared.turn.Turn.TheVariants.{Zero}
-use Rattle.stab_pauli.specs.Turns.{sign_turn}
+use Rattle.stab_pauli.specs.declared.phase.Phase.TheVariants.{Zero}
+use Rattle.stab_pauli.specs.Phases.{phase_of_sign}
 use Rattle.stab_pauli.specs.inner.Words.{words_odd, xor_words}
 use Rattle.stab_pauli.specs.inner.Powers.{strings_meet}
 use Rattle.stab_pauli.specs.inner.Blocks.{row_letters}
-use Rattle.stab_pauli.proofs.TurnLemmas.{sign_turn-injective}
+use Rattle.stab_pauli.proofs.PhaseLemmas.{phase_of_sign-injective}
 use Rattle.stab_pauli.proofs.PackedLemmas.{packed_meet}
 use Rattle.stab_pauli.proofs.SwapLemmas.{Place, place}
-use Rattle.stab_pauli.proofs.RowLemmas.{AddsUp-meet, IsTurnBefore-more, IsTurnBefore-all}
+use Rattle.stab_pauli.proofs.RowLemmas.{AddsUp-meet, IsPhaseBefore-more, IsPhaseBefore-all}
 
 -- a part of a part
 pub chunk-in : (a m i s : ℕ) (ws : List ℕ) → i + s ≤ m → a + m ≤ length ws → chunk i s (chunk a m ws) ≡ chunk (a + i) s ws
@@ -114,11 +114,11 @@ pub block-meet : (a b : ℕ) (ws x z other_x other_z : List ℕ) → a + 8 ≤ l
     → x ≡ chunk a 4 ws → z ≡ chunk (a + 4) 4 ws → other_x ≡ chunk b 4 ws → other_z ≡ chunk (b + 4) 4 ws
     → words_odd 64 (zip2 bit_and z other_x) ≡ strings_meet (row_letters 1 (chunk a 8 ws)) (row_letters 1 (chunk b 8 ws))
 block-meet a b ws x z other_x other_z la lb ex ez eox eoz =
-    sign_turn-injective _ _
-    (IsTurnBefore-all AddsUp-meet 1 (chunk a 8 ws) (chunk b 8 ws) 1 (sign_turn (words_odd 64 (zip2 bit_and z other_x))) (omega arith)
-    (IsTurnBefore-more AddsUp-meet 1 (chunk a 8 ws) (chunk b 8 ws) 0 Zero (sign_turn (words_odd 64 (zip2 bit_and z other_x))) x z other_x other_z (length-chunk a 8 ws la) (length-chunk b 8 ws lb) (omega arith)
+    phase_of_sign-injective _ _
+    (IsPhaseBefore-all AddsUp-meet 1 (chunk a 8 ws) (chunk b 8 ws) 1 (phase_of_sign (words_odd 64 (zip2 bit_and z other_x))) (omega arith)
+    (IsPhaseBefore-more AddsUp-meet 1 (chunk a 8 ws) (chunk b 8 ws) 0 Zero (phase_of_sign (words_odd 64 (zip2 bit_and z other_x))) x z other_x other_z (length-chunk a 8 ws la) (length-chunk b 8 ws lb) (omega arith)
     (ex ∙ low a la) (ez ∙ sym (chunk-in a 8 4 4 ws (omega arith) la)) (eox ∙ low b lb) (eoz ∙ sym (chunk-in b 8 4 4 ws (omega arith) lb))
-    (λ lx lz lox loz. ap sign_turn (packed_meet 64 x z other_x other_z (lx ∙ sym lz) (lx ∙ sym lox) (lx ∙ sym loz)))
+    (λ lx lz lox loz. ap phase_of_sign (packed_meet 64 x z other_x other_z (lx ∙ sym lz) (lx ∙ sym lox) (lx ∙ sym loz)))
     (record { whole = refl })))
   where
     low : (c : ℕ) → c + 8 ≤ length ws → chunk c 4 ws ≡ chunk 0 4 (chunk c 8 ws)

@@ -1,18 +1,18 @@
 -- Packed strings: appended words, products, and powers of i.
-use Rattle.std.proofs.Common.{◌≡◌, ℕ, zero, suc, ◌+◌, ◌*◌, ◌/◌, ◌%◌, ◌^◌, refl, sym, ◌∙◌, ap, arith, Bool, true, false, ◌&&◌, eqb, List, [], ◌∷◌, ◌++◌, append_assoc, length, length-append, inl, inr}
+use Rattle.std.proofs.Common.{◌≡◌, ℕ, zero, suc, ◌+◌, ◌*◌, ◌/◌, ◌%◌, ◌^◌, refl, sym, ◌∙◌, ap, arith, Bool, true, false, ◌&&◌, eqb, List, [], ◌∷◌, ◌++◌, length, length-append, inl, inr}
 use Rattle.std.specs.Prelude.{bit_xor, bit_and, ◌⊎◌}
 use Rattle.std.specs.Simd.Lanes.{zip2}
 use Rattle.std.proofs.lemmas.Nat.{and_comm}
 use Rattle.std.proofs.lemmas.Simd.{length-zip2}
 use Rattle.stab_pauli.specs.declared.letter.Letter.{Letter}
-use Rattle.stab_pauli.specs.declared.turn.Turn.{Turn}
-use Rattle.stab_pauli.specs.declared.turn.Turn.TheVariants.{Zero, Quarter}
-use Rattle.stab_pauli.specs.Turns.{turn_add, sign_turn}
+use Rattle.stab_pauli.specs.declared.phase.Phase.{Phase}
+use Rattle.stab_pauli.specs.declared.phase.Phase.TheVariants.{Zero, Quarter}
+use Rattle.stab_pauli.specs.Phases.{phase_add, phase_of_sign}
 use Rattle.stab_pauli.specs.Letters.{◌⊕◌, letter_product}
 use Rattle.stab_pauli.specs.Paulis.{string_product}
 use Rattle.stab_pauli.specs.inner.Words.{lowest, letter_of_bits, word_letters, packed_letters, word_odd, words_odd, word_ones, words_ones, xor_words}
 use Rattle.stab_pauli.specs.inner.Powers.{quarters, letter_power, string_power, letters_meet, strings_meet}
-use Rattle.stab_pauli.proofs.TurnLemmas.{turn_add-assoc, sign_turn-parity, quarters-add, quarters-mod}
+use Rattle.stab_pauli.proofs.PhaseLemmas.{phase_add-assoc, phase_of_sign-parity, quarters-add, quarters-mod}
 use Rattle.stab_pauli.proofs.PowerLemmas.{strings_meet-append, string_power-append}
 use Rattle.stab_pauli.proofs.BitLemmas.{half_xor, half_and, lowest_xor, lowest_and, two_cases, below_two}
 use Rattle.stab_pauli.proofs.OnesLemmas.{words_odd-xor}
@@ -55,13 +55,6 @@ length-packed k (x ∷ xs) (z ∷ zs) e =
     suc_times : (n : ℕ) → k + n * k ≡ suc n * k
     suc_times n = grind arith
 
-pub packed-append : (k : ℕ) (xs zs xs' zs' : List ℕ) → length xs ≡ length zs → packed_letters k (xs ++ xs') (zs ++ zs') ≡ packed_letters k xs zs ++ packed_letters k xs' zs'
-packed-append k [] [] xs' zs' e = refl
-packed-append k [] (z ∷ zs) xs' zs' e = absurd (omega arith)
-packed-append k (x ∷ xs) [] xs' zs' e = absurd (omega arith)
-packed-append k (x ∷ xs) (z ∷ zs) xs' zs' e =
-    ap (λ t. word_letters k x z ++ t) (packed-append k xs zs xs' zs' (omega arith)) ∙ sym (append_assoc (word_letters k x z) (packed_letters k xs zs) (packed_letters k xs' zs'))
-
 pub same_length : (k : ℕ) (xs zs xs' zs' : List ℕ) → length xs ≡ length zs → length xs' ≡ length xs → length zs' ≡ length xs → length (packed_letters k xs zs) ≡ length (packed_letters k xs' zs')
 same_length k xs zs xs' zs' a b c = length-packed k xs zs a ∙ ap (λ n. n * k) (sym b) ∙ sym (length-packed k xs' zs' (b ∙ sym c))
 
@@ -103,33 +96,33 @@ zip2-and_comm (x ∷ xs) [] = refl
 zip2-and_comm (x ∷ xs) (y ∷ ys) = λ i. and_comm x y i ∷ zip2-and_comm xs ys i
 
 -- added to those counted before, as signs
-pub meet_turn-step : (k n : ℕ) (ms x1 z1 x2 z2 : List ℕ) → length ms ≡ n → length x1 ≡ n → length z1 ≡ n → length x2 ≡ n → length z2 ≡ n
-    → sign_turn (words_odd k (zip2 bit_xor ms (zip2 bit_and z1 x2))) ≡ turn_add (sign_turn (words_odd k ms)) (sign_turn (strings_meet (packed_letters k x1 z1) (packed_letters k x2 z2)))
-meet_turn-step k n ms x1 z1 x2 z2 lm lx lz lx' lz' =
-    ap sign_turn
+pub meet_phase-step : (k n : ℕ) (ms x1 z1 x2 z2 : List ℕ) → length ms ≡ n → length x1 ≡ n → length z1 ≡ n → length x2 ≡ n → length z2 ≡ n
+    → phase_of_sign (words_odd k (zip2 bit_xor ms (zip2 bit_and z1 x2))) ≡ phase_add (phase_of_sign (words_odd k ms)) (phase_of_sign (strings_meet (packed_letters k x1 z1) (packed_letters k x2 z2)))
+meet_phase-step k n ms x1 z1 x2 z2 lm lx lz lx' lz' =
+    ap phase_of_sign
     (words_odd-xor k ms (zip2 bit_and z1 x2) (lm ∙ sym (length-zip2 bit_and z1 x2 (lz ∙ sym lx') ∙ lz))
     ∙ ap (λ t. words_odd k ms ⊕ t) (packed_meet k x1 z1 x2 z2 (lx ∙ sym lz) (lx ∙ sym lx') (lx ∙ sym lz')))
-    ∙ sign_turn-parity (words_odd k ms) (strings_meet (packed_letters k x1 z1) (packed_letters k x2 z2))
+    ∙ phase_of_sign-parity (words_odd k ms) (strings_meet (packed_letters k x1 z1) (packed_letters k x2 z2))
 
 -- and in both orders
-pub order_turn-step : (k n : ℕ) (ms x1 z1 x2 z2 : List ℕ) → length ms ≡ n → length x1 ≡ n → length z1 ≡ n → length x2 ≡ n → length z2 ≡ n
-    → sign_turn (words_odd k (zip2 bit_xor (zip2 bit_xor ms (zip2 bit_and z1 x2)) (zip2 bit_and x1 z2)))
-    ≡ turn_add (sign_turn (words_odd k ms)) (turn_add (sign_turn (strings_meet (packed_letters k x1 z1) (packed_letters k x2 z2))) (sign_turn (strings_meet (packed_letters k x2 z2) (packed_letters k x1 z1))))
-order_turn-step k n ms x1 z1 x2 z2 lm lx lz lx' lz' =
-    ap (λ t. sign_turn (words_odd k (zip2 bit_xor now t))) (zip2-and_comm x1 z2)
-    ∙ meet_turn-step k n now x2 z2 x1 z1 (length-zip2 bit_xor ms (zip2 bit_and z1 x2) (lm ∙ sym (length-zip2 bit_and z1 x2 (lz ∙ sym lx') ∙ lz)) ∙ lm) lx' lz' lx lz
-    ∙ ap (λ t. turn_add t second) (meet_turn-step k n ms x1 z1 x2 z2 lm lx lz lx' lz')
-    ∙ turn_add-assoc (sign_turn (words_odd k ms)) (sign_turn (strings_meet (packed_letters k x1 z1) (packed_letters k x2 z2))) second
+pub order_phase-step : (k n : ℕ) (ms x1 z1 x2 z2 : List ℕ) → length ms ≡ n → length x1 ≡ n → length z1 ≡ n → length x2 ≡ n → length z2 ≡ n
+    → phase_of_sign (words_odd k (zip2 bit_xor (zip2 bit_xor ms (zip2 bit_and z1 x2)) (zip2 bit_and x1 z2)))
+    ≡ phase_add (phase_of_sign (words_odd k ms)) (phase_add (phase_of_sign (strings_meet (packed_letters k x1 z1) (packed_letters k x2 z2))) (phase_of_sign (strings_meet (packed_letters k x2 z2) (packed_letters k x1 z1))))
+order_phase-step k n ms x1 z1 x2 z2 lm lx lz lx' lz' =
+    ap (λ t. phase_of_sign (words_odd k (zip2 bit_xor now t))) (zip2-and_comm x1 z2)
+    ∙ meet_phase-step k n now x2 z2 x1 z1 (length-zip2 bit_xor ms (zip2 bit_and z1 x2) (lm ∙ sym (length-zip2 bit_and z1 x2 (lz ∙ sym lx') ∙ lz)) ∙ lm) lx' lz' lx lz
+    ∙ ap (λ t. phase_add t second) (meet_phase-step k n ms x1 z1 x2 z2 lm lx lz lx' lz')
+    ∙ phase_add-assoc (phase_of_sign (words_odd k ms)) (phase_of_sign (strings_meet (packed_letters k x1 z1) (packed_letters k x2 z2))) second
   where
     now : List ℕ
     now = zip2 bit_xor ms (zip2 bit_and z1 x2)
 
-    second : Turn
-    second = sign_turn (strings_meet (packed_letters k x2 z2) (packed_letters k x1 z1))
+    second : Phase
+    second = phase_of_sign (strings_meet (packed_letters k x2 z2) (packed_letters k x1 z1))
 
 -- the powers of i before the bits
 
-bit_power : Bool → Turn
+bit_power : Bool → Phase
 bit_power false = Zero
 bit_power true = Quarter
 
@@ -153,7 +146,7 @@ unfolding word_ones word_letters
 word_power zero x z = refl
 word_power (suc k) x z =
     quarters-add (bit_and x z % 2) (word_ones k (bit_and x z / 2))
-    ∙ (λ i. turn_add
+    ∙ (λ i. phase_add
     ((lowest_power (bit_and x z) ∙ ap bit_power (lowest_and x z) ∙ power_bits (lowest x) (lowest z)) i)
     ((ap (λ n. quarters (word_ones k n)) (half_and x z) ∙ word_power k (x / 2) (z / 2)) i))
 
@@ -163,12 +156,12 @@ packed_power k [] (z ∷ zs) e = absurd (omega arith)
 packed_power k (x ∷ xs) [] e = absurd (omega arith)
 packed_power k (x ∷ xs) (z ∷ zs) e =
     quarters-add (word_ones k (bit_and x z)) (words_ones k (zip2 bit_and xs zs))
-    ∙ (λ i. turn_add (word_power k x z i) (packed_power k xs zs (omega arith) i))
+    ∙ (λ i. phase_add (word_power k x z i) (packed_power k xs zs (omega arith) i))
     ∙ sym (string_power-append (word_letters k x z) (packed_letters k xs zs))
 
 -- added to those counted before, in a count that may wrap
 pub power_step : (count more n : ℕ) (x z x' z' : List ℕ) → more ≡ words_ones 64 (zip2 bit_and x z) → length x ≡ n → length z ≡ n → length x' ≡ n → length z' ≡ n
-    → quarters ((count + more) % 2 ^ 32) ≡ turn_add (quarters count) (string_power (packed_letters 64 x z))
+    → quarters ((count + more) % 2 ^ 32) ≡ phase_add (quarters count) (string_power (packed_letters 64 x z))
 power_step count more n x z x' z' e lx lz lx' lz' =
     quarters-mod (2 ^ 30) (count + more) ∙ quarters-add count more
-    ∙ ap (turn_add (quarters count)) (ap quarters e ∙ packed_power 64 x z (lx ∙ sym lz))
+    ∙ ap (phase_add (quarters count)) (ap quarters e ∙ packed_power 64 x z (lx ∙ sym lz))

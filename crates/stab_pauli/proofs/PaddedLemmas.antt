@@ -6,12 +6,12 @@ use Rattle.std.proofs.Math.Seq.{take-length, drop-length}
 use Rattle.std.proofs.lemmas.Simd.{length-zip2}
 use Rattle.stab_pauli.specs.declared.letter.Letter.{Letter}
 use Rattle.stab_pauli.specs.declared.letter.Letter.TheVariants.{I}
-use Rattle.stab_pauli.specs.declared.turn.Turn.{Turn}
-use Rattle.stab_pauli.specs.Turns.{turn_add, sign_turn, sign_of_turn}
+use Rattle.stab_pauli.specs.declared.phase.Phase.{Phase}
+use Rattle.stab_pauli.specs.Phases.{phase_add, phase_of_sign, sign_of_phase}
 use Rattle.stab_pauli.specs.Letters.{◌⊕◌}
 use Rattle.stab_pauli.specs.Paulis.{Signed, string_product, strings_anticommute}
 use Rattle.stab_pauli.specs.inner.Words.{xor_words}
-use Rattle.stab_pauli.specs.inner.Powers.{turn_back, string_power, strings_meet, sign_power, power_of}
+use Rattle.stab_pauli.specs.inner.Powers.{phase_inverse, string_power, strings_meet, sign_power, power_of}
 use Rattle.stab_pauli.specs.inner.Blocks.{row_letters, blocks_of, AreBlocks, IsPadded, IsRow, IsSignedRow, signed_row}
 use Rattle.stab_pauli.proofs.PowerLemmas.{power_told, is_sign_left, sign_of_left, strings_anticommute-meet}
 use Rattle.stab_pauli.proofs.BlankLemmas.{fits, row-none, take-replicate, drop-replicate}
@@ -26,12 +26,12 @@ length-string n m ws is =
     length-take-le n (row_letters m ws) (rw (length-row m ws is.size) f)
 
 -- the words, power of i and number of qubits of a string that contracts see as v
-pub record IsView (n m : ℕ) (ws : List ℕ) (k : Turn) (v : Signed) : Type 0 where
+pub record IsView (n m : ℕ) (ws : List ℕ) (k : Phase) (v : Signed) : Type 0 where
   pub row : IsRow n m ws
   pub letters : take n (row_letters m ws) ≡ v.letters
   pub power : k ≡ power_of v
 
-pub view_of : {n m : ℕ} {ws : List ℕ} {k : Turn} {v : Signed} → IsSignedRow n m k ws → signed_row n k (row_letters m ws) ≡ v → IsView n m ws k v
+pub view_of : {n m : ℕ} {ws : List ℕ} {k : Phase} {v : Signed} → IsSignedRow n m k ws → signed_row n k (row_letters m ws) ≡ v → IsView n m ws k v
 view_of {n} {m} {ws} {k} signed is = record {
   row = signed.row;
   letters = ap (λ (p : Signed). p.letters) is;
@@ -39,49 +39,49 @@ view_of {n} {m} {ws} {k} signed is = record {
 }
 
 -- the words and the power of a string
-pub lies_of : {n m : ℕ} {ws : List ℕ} {k : Turn} {v : Signed} → IsView n m ws k v → IsSignedRow n m k ws
+pub lies_of : {n m : ℕ} {ws : List ℕ} {k : Phase} {v : Signed} → IsView n m ws k v → IsSignedRow n m k ws
 lies_of {n} {m} {ws} {k} {v} view = record {
   row = view.row;
-  sign = is_sign_left v.negative k (take n (row_letters m ws)) (view.power ∙ ap (λ l. turn_add (sign_turn v.negative) (string_power l)) (sym view.letters));
+  sign = is_sign_left v.negative k (take n (row_letters m ws)) (view.power ∙ ap (λ l. phase_add (phase_of_sign v.negative) (string_power l)) (sym view.letters));
 }
 
 -- and what contracts see of them
-pub is_of : {n m : ℕ} {ws : List ℕ} {k : Turn} {v : Signed} → IsView n m ws k v → signed_row n k (row_letters m ws) ≡ v
+pub is_of : {n m : ℕ} {ws : List ℕ} {k : Phase} {v : Signed} → IsView n m ws k v → signed_row n k (row_letters m ws) ≡ v
 is_of {n} {m} {ws} {k} {v} view = λ i. record {
-  negative = sign_of_left v.negative k (take n (row_letters m ws)) (view.power ∙ ap (λ l. turn_add (sign_turn v.negative) (string_power l)) (sym view.letters)) i;
+  negative = sign_of_left v.negative k (take n (row_letters m ws)) (view.power ∙ ap (λ l. phase_add (phase_of_sign v.negative) (string_power l)) (sym view.letters)) i;
   letters = view.letters i;
 }
 
-pub length-view : {n m : ℕ} {ws : List ℕ} {k : Turn} {v : Signed} → IsView n m ws k v → length v.letters ≡ n
+pub length-view : {n m : ℕ} {ws : List ℕ} {k : Phase} {v : Signed} → IsView n m ws k v → length v.letters ≡ n
 length-view {n} {m} {ws} view = ap length (sym view.letters) ∙ length-string n m ws view.row
 
 -- the sign, by the power of i of all letters that lie in the words
-pub sign_read : {n m : ℕ} {ws : List ℕ} {k : Turn} {v : Signed} → IsView n m ws k v → sign_of_turn (sign_power k (row_letters m ws)) ≡ v.negative
+pub sign_read : {n m : ℕ} {ws : List ℕ} {k : Phase} {v : Signed} → IsView n m ws k v → sign_of_phase (sign_power k (row_letters m ws)) ≡ v.negative
 sign_read {n} {m} {ws} {k} view =
-    ap (λ t. sign_of_turn (turn_add (turn_back t) k)) (padded-power n m (row_letters m ws) view.row.padded)
+    ap (λ t. sign_of_phase (phase_add (phase_inverse t) k)) (padded-power n m (row_letters m ws) view.row.padded)
     ∙ ap (λ (p : Signed). p.negative) (is_of view)
 
 -- the same words over the same numbers
-pub same_numbers : {n m : ℕ} {ws : List ℕ} {k : Turn} {v : Signed} (n' m' : ℕ) → n ≡ n' → m ≡ m' → IsView n m ws k v → IsView n' m' ws k v
+pub same_numbers : {n m : ℕ} {ws : List ℕ} {k : Phase} {v : Signed} (n' m' : ℕ) → n ≡ n' → m ≡ m' → IsView n m ws k v → IsView n' m' ws k v
 same_numbers {n} {m} {ws} {k} {v} n' m' en em view = subst (λ j. IsView j m' ws k v) en (subst (λ j. IsView n j ws k v) em view)
 
 -- a string of one length with another has as many blocks
-pub record IsFitting (n m n' m' : ℕ) (ws' : List ℕ) (k' : Turn) (v' : Signed) : Type 0 where
+pub record IsFitting (n m n' m' : ℕ) (ws' : List ℕ) (k' : Phase) (v' : Signed) : Type 0 where
   pub qubits : n ≡ n'
   pub blocks : m ≡ m'
   pub view : IsView n m ws' k' v'
 
-pub fitting_numbers : {n m n' m' : ℕ} {ws' : List ℕ} {k' : Turn} {v' : Signed} → AreBlocks n m → n ≡ n' → IsView n' m' ws' k' v' → IsFitting n m n' m' ws' k' v'
+pub fitting_numbers : {n m n' m' : ℕ} {ws' : List ℕ} {k' : Phase} {v' : Signed} → AreBlocks n m → n ≡ n' → IsView n' m' ws' k' v' → IsFitting n m n' m' ws' k' v'
 fitting_numbers {n} {m} {n'} {m'} are en theirs = record { qubits = en; blocks = em; view = same_numbers n m (sym en) (sym em) theirs }
   where
     em : m ≡ m'
     em = are.count ∙ ap blocks_of en ∙ sym theirs.row.blocks.count
 
-pub alike : {n m : ℕ} {ws : List ℕ} {k : Turn} {v : Signed} {n' m' : ℕ} {ws' : List ℕ} {k' : Turn} {v' : Signed}
+pub alike : {n m : ℕ} {ws : List ℕ} {k : Phase} {v : Signed} {n' m' : ℕ} {ws' : List ℕ} {k' : Phase} {v' : Signed}
     → IsView n m ws k v → IsView n' m' ws' k' v' → length v.letters ≡ length v'.letters → IsFitting n m n' m' ws' k' v'
 alike mine theirs l = fitting_numbers mine.row.blocks (sym (length-view mine) ∙ l ∙ length-view theirs) theirs
 
-pub place_in_row : {n m : ℕ} {ws : List ℕ} {k : Turn} {v : Signed} → IsView n m ws k v → (q : ℕ) → q < length v.letters → q < 256 * m
+pub place_in_row : {n m : ℕ} {ws : List ℕ} {k : Phase} {v : Signed} → IsView n m ws k v → (q : ℕ) → q < length v.letters → q < 256 * m
 place_in_row {n} {m} view q lt =
     let f = fits n m view.row.blocks in
     let l = length-view view in
@@ -154,9 +154,6 @@ letters-written n m ws new len was l is = ap (λ w. take n (row_letters m w)) (w
 
 -- products that were read through slices
 
-pub read-product : (ws ws' now now' new : List ℕ) → now ≡ ws → now' ≡ ws' → new ≡ xor_words now now' → new ≡ xor_words ws ws'
-read-product ws ws' now now' new e e' p = p ∙ (λ i. xor_words (e i) (e' i))
-
 pub IsRow-read : (n m : ℕ) (ws ws' new : List ℕ) → IsRow n m ws → IsRow n m ws' → new ≡ xor_words ws ws' → IsRow n m new
 IsRow-read n m ws ws' new is is' e = subst (IsRow n m) (sym e) (IsRow-product n m ws ws' is is')
 
@@ -164,7 +161,7 @@ pub letters-read : (n m : ℕ) (ws ws' new : List ℕ) → IsRow n m ws → IsRo
     → take n (row_letters m new) ≡ string_product (take n (row_letters m ws)) (take n (row_letters m ws'))
 letters-read n m ws ws' new is is' e = ap (λ w. take n (row_letters m w)) e ∙ letters-product n m ws ws' is is'
 
-pub written_view : {n m : ℕ} {ws : List ℕ} {k : Turn} {v : Signed} {k' : Turn} {v' : Signed} (new : List ℕ) (len : ℕ) → IsView n m ws k v → len ≡ length ws
+pub written_view : {n m : ℕ} {ws : List ℕ} {k : Phase} {v : Signed} {k' : Phase} {v' : Signed} (new : List ℕ) (len : ℕ) → IsView n m ws k v → len ≡ length ws
     → IsView n m new k' v' → IsView n m (take len (new ++ drop (length new) ws)) k' v'
 written_view {n} {m} {ws} {k} {v} {k'} {v'} new len was l view =
     subst (λ w. IsView n m w k' v') (sym (written_all ws new len (view.row.size ∙ sym was.row.size) l)) view

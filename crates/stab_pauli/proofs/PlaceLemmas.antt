@@ -8,7 +8,7 @@ use Rattle.std.proofs.lemmas.Bool.{cases_order}
 use Rattle.std.proofs.lemmas.List.{get_or-append-add, get_or-drop, get_or-take, length-set, get_or-set_same, get_or-set_other, ext_get_or}
 use Rattle.stab_pauli.specs.declared.letter.Letter.{Letter}
 use Rattle.stab_pauli.specs.declared.letter.Letter.TheVariants.{I}
-use Rattle.stab_pauli.specs.Flips.{flips}
+use Rattle.stab_pauli.specs.XParts.{has_x}
 use Rattle.stab_pauli.specs.inner.Words.{letter_of_bits, word_letters, packed_letters}
 use Rattle.stab_pauli.specs.inner.Blocks.{row_letters}
 use Rattle.stab_pauli.proofs.PackedLemmas.{length-word_letters}
@@ -115,17 +115,17 @@ pub letter_at_place : (m : ℕ) (row : List ℕ) (q at : ℕ) → length row ≡
     → get_or (row_letters m row) q I ≡ bits_letter (get_or row at 0) (get_or row (at + 4) 0) (q % 64)
 letter_at_place m row q at e lt ea = get_or-place m row q e lt ∙ ap (λ n. bits_letter (get_or row n 0) (get_or row (n + 4) 0) (q % 64)) (sym ea)
 
-pub flips_bits : (x z : Bool) → flips (letter_of_bits x z) ≡ x
-flips_bits false false = refl
-flips_bits false true = refl
-flips_bits true false = refl
-flips_bits true true = refl
+pub has_x_bits : (x z : Bool) → has_x (letter_of_bits x z) ≡ x
+has_x_bits false false = refl
+has_x_bits false true = refl
+has_x_bits true false = refl
+has_x_bits true true = refl
 
--- a letter flips a bit where its X bit is 1
-pub flips_at_place : (m : ℕ) (row : List ℕ) (q at : ℕ) → length row ≡ 8 * m → q < 256 * m → at ≡ x_place q
-    → flips (get_or (row_letters m row) q I) ≡ eqb (bit_at (get_or row at 0) (q % 64)) 1
-flips_at_place m row q at e lt ea =
-    ap flips (letter_at_place m row q at e lt ea) ∙ flips_bits (eqb (bit_at (get_or row at 0) (q % 64)) 1) (eqb (bit_at (get_or row (at + 4) 0) (q % 64)) 1)
+-- a letter is X or Y where its X bit is 1
+pub has_x_at_place : (m : ℕ) (row : List ℕ) (q at : ℕ) → length row ≡ 8 * m → q < 256 * m → at ≡ x_place q
+    → has_x (get_or (row_letters m row) q I) ≡ eqb (bit_at (get_or row at 0) (q % 64)) 1
+has_x_at_place m row q at e lt ea =
+    ap has_x (letter_at_place m row q at e lt ea) ∙ has_x_bits (eqb (bit_at (get_or row at 0) (q % 64)) 1) (eqb (bit_at (get_or row (at + 4) 0) (q % 64)) 1)
 
 -- the X words and the Z words stand apart
 x_not_z : (j q : ℕ) → x_place j ≢ x_place q + 4

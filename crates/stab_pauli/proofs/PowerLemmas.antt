@@ -3,28 +3,28 @@ use Rattle.std.proofs.Common.{◌≡◌, ℕ, zero, suc, ◌<◌, Bool, true, fa
 use Rattle.std.specs.List.{list_any}
 use Rattle.stab_pauli.specs.declared.letter.Letter.{Letter}
 use Rattle.stab_pauli.specs.declared.letter.Letter.TheVariants.{I, X, Y, Z}
-use Rattle.stab_pauli.specs.declared.turn.Turn.{Turn}
-use Rattle.stab_pauli.specs.declared.turn.Turn.TheVariants.{Zero, Quarter}
-use Rattle.stab_pauli.specs.Turns.{turn_add, sign_turn, is_even, sign_of_turn}
-use Rattle.stab_pauli.specs.Letters.{◌⊕◌, letter_product, letter_turn, letters_anticommute}
-use Rattle.stab_pauli.specs.Paulis.{Signed, with_sign, anticommute, product, product_turn, string_product, string_turn, strings_anticommute}
-use Rattle.stab_pauli.specs.Flips.{flips}
-use Rattle.stab_pauli.specs.Rows.{turned_product, with_letter}
-use Rattle.stab_pauli.specs.inner.Powers.{turn_back, letter_power, string_power, letters_meet, strings_meet, sign_power, power_of, IsSign}
+use Rattle.stab_pauli.specs.declared.phase.Phase.{Phase}
+use Rattle.stab_pauli.specs.declared.phase.Phase.TheVariants.{Zero, Quarter}
+use Rattle.stab_pauli.specs.Phases.{phase_add, phase_of_sign, is_even, sign_of_phase}
+use Rattle.stab_pauli.specs.Letters.{◌⊕◌, letter_product, letter_phase, letters_anticommute}
+use Rattle.stab_pauli.specs.Paulis.{Signed, with_sign, anticommute, product, product_phase, string_product, string_phase, strings_anticommute}
+use Rattle.stab_pauli.specs.XParts.{has_x}
+use Rattle.stab_pauli.specs.Rows.{product_times_i, with_letter}
+use Rattle.stab_pauli.specs.inner.Powers.{phase_inverse, letter_power, string_power, letters_meet, strings_meet, sign_power, power_of, IsSign}
 use Rattle.stab_pauli.proofs.ParityLemmas.{parity-assoc, parity-mid}
-use Rattle.stab_pauli.proofs.TurnLemmas.{turn_add-zero, turn_add-comm, turn_add-assoc, turn_add-mid, turn_add-left, turn_add-back_left, turn_add-back_right, turn_add-cancel, sign_turn-parity, sign_turn-injective, sign_turn-sign_of_turn, sign_of_turn-sign_turn, is_even-sign_turn}
+use Rattle.stab_pauli.proofs.PhaseLemmas.{phase_add-zero, phase_add-comm, phase_add-assoc, phase_add-mid, phase_add-left, phase_add-back_left, phase_add-back_right, phase_add-cancel, phase_of_sign-parity, phase_of_sign-injective, phase_of_sign-sign_of_phase, sign_of_phase-phase_of_sign, is_even-phase_of_sign}
 use Rattle.stab_pauli.proofs.LetterLemmas.{each_letter, by_letters}
-use Rattle.stab_pauli.proofs.SignedLemmas.{is_even-product_turn, is_even-turned}
+use Rattle.stab_pauli.proofs.SignedLemmas.{is_even-product_phase, is_even-times_phase}
 
 -- two letters
 
 -- the powers of two letters and the sign of their bits that meet make up that of their product
 letter_power-product : (a b : Letter)
-    → turn_add (turn_add (letter_power a) (letter_power b)) (sign_turn (letters_meet a b)) ≡ turn_add (letter_turn a b) (letter_power (letter_product a b))
+    → phase_add (phase_add (letter_power a) (letter_power b)) (phase_of_sign (letters_meet a b)) ≡ phase_add (letter_phase a b) (letter_power (letter_product a b))
 letter_power-product =
-    by_letters (λ a b. turn_add (turn_add (letter_power a) (letter_power b)) (sign_turn (letters_meet a b)) ≡ turn_add (letter_turn a b) (letter_power (letter_product a b)))
-    (λ b. turn_add-zero (letter_power b))
-    (each_letter (λ a. turn_add (turn_add (letter_power a) (letter_power I)) (sign_turn (letters_meet a I)) ≡ turn_add (letter_turn a I) (letter_power (letter_product a I))) refl refl refl refl)
+    by_letters (λ a b. phase_add (phase_add (letter_power a) (letter_power b)) (phase_of_sign (letters_meet a b)) ≡ phase_add (letter_phase a b) (letter_power (letter_product a b)))
+    (λ b. phase_add-zero (letter_power b))
+    (each_letter (λ a. phase_add (phase_add (letter_power a) (letter_power I)) (phase_of_sign (letters_meet a I)) ≡ phase_add (letter_phase a I) (letter_power (letter_product a I))) refl refl refl refl)
     refl refl refl refl refl refl refl refl refl
 
 letters_anticommute-meet : (a b : Letter) → letters_anticommute a b ≡ letters_meet a b ⊕ letters_meet b a
@@ -37,14 +37,14 @@ letters_anticommute-meet =
 -- two strings
 
 pub string_power-product : (p q : List Letter)
-    → turn_add (turn_add (string_power p) (string_power q)) (sign_turn (strings_meet p q)) ≡ turn_add (string_turn p q) (string_power (string_product p q))
-string_power-product [] q = turn_add-zero (string_power q)
-string_power-product (x ∷ p) [] = turn_add-zero (turn_add (string_power (x ∷ p)) Zero) ∙ turn_add-zero (string_power (x ∷ p))
+    → phase_add (phase_add (string_power p) (string_power q)) (phase_of_sign (strings_meet p q)) ≡ phase_add (string_phase p q) (string_power (string_product p q))
+string_power-product [] q = phase_add-zero (string_power q)
+string_power-product (x ∷ p) [] = phase_add-zero (phase_add (string_power (x ∷ p)) Zero) ∙ phase_add-zero (string_power (x ∷ p))
 string_power-product (x ∷ p) (y ∷ q) =
-    (λ i. turn_add (turn_add-mid (letter_power x) (string_power p) (letter_power y) (string_power q) i) (sign_turn-parity (letters_meet x y) (strings_meet p q) i))
-    ∙ turn_add-mid (turn_add (letter_power x) (letter_power y)) (turn_add (string_power p) (string_power q)) (sign_turn (letters_meet x y)) (sign_turn (strings_meet p q))
-    ∙ (λ i. turn_add (letter_power-product x y i) (string_power-product p q i))
-    ∙ turn_add-mid (letter_turn x y) (letter_power (letter_product x y)) (string_turn p q) (string_power (string_product p q))
+    (λ i. phase_add (phase_add-mid (letter_power x) (string_power p) (letter_power y) (string_power q) i) (phase_of_sign-parity (letters_meet x y) (strings_meet p q) i))
+    ∙ phase_add-mid (phase_add (letter_power x) (letter_power y)) (phase_add (string_power p) (string_power q)) (phase_of_sign (letters_meet x y)) (phase_of_sign (strings_meet p q))
+    ∙ (λ i. phase_add (letter_power-product x y i) (string_power-product p q i))
+    ∙ phase_add-mid (letter_phase x y) (letter_power (letter_product x y)) (string_phase p q) (string_power (string_product p q))
 
 strings_meet-empty : (p : List Letter) → strings_meet p [] ≡ false
 strings_meet-empty [] = refl
@@ -66,9 +66,9 @@ strings_meet-append (x ∷ p) [] p' q' e = absurd (omega arith)
 strings_meet-append (x ∷ p) (y ∷ q) p' q' e =
     ap (λ t. letters_meet x y ⊕ t) (strings_meet-append p q p' q' (omega arith)) ∙ sym (parity-assoc (letters_meet x y) (strings_meet p q) (strings_meet p' q'))
 
-pub string_power-append : (p q : List Letter) → string_power (p ++ q) ≡ turn_add (string_power p) (string_power q)
+pub string_power-append : (p q : List Letter) → string_power (p ++ q) ≡ phase_add (string_power p) (string_power q)
 string_power-append [] q = refl
-string_power-append (x ∷ p) q = ap (turn_add (letter_power x)) (string_power-append p q) ∙ sym (turn_add-assoc (letter_power x) (string_power p) (string_power q))
+string_power-append (x ∷ p) q = ap (phase_add (letter_power x)) (string_power-append p q) ∙ sym (phase_add-assoc (letter_power x) (string_power p) (string_power q))
 
 -- letters I
 
@@ -83,97 +83,97 @@ string_power-blank (suc n) = string_power-blank n
 
 -- the sign that is left of a power
 
-pub sign_power-left : (t : Turn) (p : List Letter) → turn_add (sign_power t p) (string_power p) ≡ t
+pub sign_power-left : (t : Phase) (p : List Letter) → phase_add (sign_power t p) (string_power p) ≡ t
 sign_power-left t p =
-    turn_add-comm (turn_add (turn_back (string_power p)) t) (string_power p)
-    ∙ sym (turn_add-assoc (string_power p) (turn_back (string_power p)) t)
-    ∙ ap (λ s. turn_add s t) (turn_add-back_right (string_power p))
+    phase_add-comm (phase_add (phase_inverse (string_power p)) t) (string_power p)
+    ∙ sym (phase_add-assoc (string_power p) (phase_inverse (string_power p)) t)
+    ∙ ap (λ s. phase_add s t) (phase_add-back_right (string_power p))
 
-sign_power-of : (t : Turn) (p : List Letter) → sign_power (turn_add t (string_power p)) p ≡ t
+sign_power-of : (t : Phase) (p : List Letter) → sign_power (phase_add t (string_power p)) p ≡ t
 sign_power-of t p =
-    turn_add-left (turn_back (string_power p)) t (string_power p)
-    ∙ ap (turn_add t) (turn_add-back_left (string_power p)) ∙ turn_add-zero t
+    phase_add-left (phase_inverse (string_power p)) t (string_power p)
+    ∙ ap (phase_add t) (phase_add-back_left (string_power p)) ∙ phase_add-zero t
 
 -- a power that leaves a sign is told by it and the letters
-pub power_told : (t : Turn) (p : List Letter) → IsSign (sign_power t p) → t ≡ turn_add (sign_turn (sign_of_turn (sign_power t p))) (string_power p)
-power_told t p is = sym (sign_power-left t p) ∙ ap (λ s. turn_add s (string_power p)) (sym (sign_turn-sign_of_turn (sign_power t p) is))
+pub power_told : (t : Phase) (p : List Letter) → IsSign (sign_power t p) → t ≡ phase_add (phase_of_sign (sign_of_phase (sign_power t p))) (string_power p)
+power_told t p is = sym (sign_power-left t p) ∙ ap (λ s. phase_add s (string_power p)) (sym (phase_of_sign-sign_of_phase (sign_power t p) is))
 
-pub sign_left : (s : Bool) (t : Turn) (p : List Letter) → t ≡ turn_add (sign_turn s) (string_power p) → sign_power t p ≡ sign_turn s
-sign_left s t p e = ap (λ u. sign_power u p) e ∙ sign_power-of (sign_turn s) p
+pub sign_left : (s : Bool) (t : Phase) (p : List Letter) → t ≡ phase_add (phase_of_sign s) (string_power p) → sign_power t p ≡ phase_of_sign s
+sign_left s t p e = ap (λ u. sign_power u p) e ∙ sign_power-of (phase_of_sign s) p
 
-pub is_sign_left : (s : Bool) (t : Turn) (p : List Letter) → t ≡ turn_add (sign_turn s) (string_power p) → IsSign (sign_power t p)
-is_sign_left s t p e = ap is_even (sign_left s t p e) ∙ is_even-sign_turn s
+pub is_sign_left : (s : Bool) (t : Phase) (p : List Letter) → t ≡ phase_add (phase_of_sign s) (string_power p) → IsSign (sign_power t p)
+is_sign_left s t p e = ap is_even (sign_left s t p e) ∙ is_even-phase_of_sign s
 
-pub sign_of_left : (s : Bool) (t : Turn) (p : List Letter) → t ≡ turn_add (sign_turn s) (string_power p) → sign_of_turn (sign_power t p) ≡ s
-sign_of_left s t p e = ap sign_of_turn (sign_left s t p e) ∙ sign_of_turn-sign_turn s
+pub sign_of_left : (s : Bool) (t : Phase) (p : List Letter) → t ≡ phase_add (phase_of_sign s) (string_power p) → sign_of_phase (sign_power t p) ≡ s
+sign_of_left s t p e = ap sign_of_phase (sign_left s t p e) ∙ sign_of_phase-phase_of_sign s
 
 -- the powers of signed strings
 
 -- of two with the same letters the powers tell the signs
 pub power_of-tells : (v v' : Signed) → v.letters ≡ v'.letters → power_of v ≡ power_of v' → v.negative ≡ v'.negative
 power_of-tells v v' el e =
-    sign_turn-injective v.negative v'.negative
-    (turn_add-cancel (string_power v.letters) (sign_turn v.negative) (sign_turn v'.negative)
-    (turn_add-comm (string_power v.letters) (sign_turn v.negative) ∙ e ∙ ap (λ l. turn_add (sign_turn v'.negative) (string_power l)) (sym el)
-    ∙ turn_add-comm (sign_turn v'.negative) (string_power v.letters)))
+    phase_of_sign-injective v.negative v'.negative
+    (phase_add-cancel (string_power v.letters) (phase_of_sign v.negative) (phase_of_sign v'.negative)
+    (phase_add-comm (string_power v.letters) (phase_of_sign v.negative) ∙ e ∙ ap (λ l. phase_add (phase_of_sign v'.negative) (string_power l)) (sym el)
+    ∙ phase_add-comm (phase_of_sign v'.negative) (string_power v.letters)))
 
 power_of-factors : (v v' : Signed)
-    → turn_add (turn_add (power_of v) (power_of v')) (sign_turn (strings_meet v.letters v'.letters)) ≡ turn_add (product_turn v v') (string_power (string_product v.letters v'.letters))
+    → phase_add (phase_add (power_of v) (power_of v')) (phase_of_sign (strings_meet v.letters v'.letters)) ≡ phase_add (product_phase v v') (string_power (string_product v.letters v'.letters))
 power_of-factors v v' =
-    ap (λ t. turn_add t meet) (turn_add-mid (sign_turn v.negative) (string_power v.letters) (sign_turn v'.negative) (string_power v'.letters))
-    ∙ turn_add-assoc signs (turn_add (string_power v.letters) (string_power v'.letters)) meet
-    ∙ ap (turn_add signs) (string_power-product v.letters v'.letters)
-    ∙ sym (turn_add-assoc signs (string_turn v.letters v'.letters) (string_power (string_product v.letters v'.letters)))
+    ap (λ t. phase_add t meet) (phase_add-mid (phase_of_sign v.negative) (string_power v.letters) (phase_of_sign v'.negative) (string_power v'.letters))
+    ∙ phase_add-assoc signs (phase_add (string_power v.letters) (string_power v'.letters)) meet
+    ∙ ap (phase_add signs) (string_power-product v.letters v'.letters)
+    ∙ sym (phase_add-assoc signs (string_phase v.letters v'.letters) (string_power (string_product v.letters v'.letters)))
   where
-    signs : Turn
-    signs = turn_add (sign_turn v.negative) (sign_turn v'.negative)
+    signs : Phase
+    signs = phase_add (phase_of_sign v.negative) (phase_of_sign v'.negative)
 
-    meet : Turn
-    meet = sign_turn (strings_meet v.letters v'.letters)
+    meet : Phase
+    meet = phase_of_sign (strings_meet v.letters v'.letters)
 
 -- of a product
 pub power_of-product : (v v' : Signed) → anticommute v v' ≡ false
-    → turn_add (turn_add (power_of v) (power_of v')) (sign_turn (strings_meet v.letters v'.letters)) ≡ power_of (product v v')
+    → phase_add (phase_add (power_of v) (power_of v')) (phase_of_sign (strings_meet v.letters v'.letters)) ≡ power_of (product v v')
 power_of-product v v' e =
     power_of-factors v v'
-    ∙ ap (λ t. turn_add t (string_power (string_product v.letters v'.letters))) (sym (sign_turn-sign_of_turn (product_turn v v') (is_even-product_turn v v' ∙ ap not e)))
+    ∙ ap (λ t. phase_add t (string_power (string_product v.letters v'.letters))) (sym (phase_of_sign-sign_of_phase (product_phase v v') (is_even-product_phase v v' ∙ ap not e)))
 
 -- of i times a product
-pub power_of-turned : (v v' : Signed) → anticommute v v' ≡ true
-    → turn_add Quarter (turn_add (turn_add (power_of v) (power_of v')) (sign_turn (strings_meet v.letters v'.letters))) ≡ power_of (turned_product v v')
-power_of-turned v v' e =
-    ap (turn_add Quarter) (power_of-factors v v')
-    ∙ sym (turn_add-assoc Quarter (product_turn v v') (string_power (string_product v.letters v'.letters)))
-    ∙ ap (λ t. turn_add t (string_power (string_product v.letters v'.letters))) (sym (sign_turn-sign_of_turn (turn_add Quarter (product_turn v v')) (is_even-turned v v' e)))
+pub power_of-times_phase : (v v' : Signed) → anticommute v v' ≡ true
+    → phase_add Quarter (phase_add (phase_add (power_of v) (power_of v')) (phase_of_sign (strings_meet v.letters v'.letters))) ≡ power_of (product_times_i v v')
+power_of-times_phase v v' e =
+    ap (phase_add Quarter) (power_of-factors v v')
+    ∙ sym (phase_add-assoc Quarter (product_phase v v') (string_power (string_product v.letters v'.letters)))
+    ∙ ap (λ t. phase_add t (string_power (string_product v.letters v'.letters))) (sym (phase_of_sign-sign_of_phase (phase_add Quarter (product_phase v v')) (is_even-times_phase v v' e)))
 
 -- of a string whose sign was turned
-pub power_of-with_sign : (b : Bool) (v : Signed) → turn_add (power_of v) (sign_turn b) ≡ power_of (with_sign b v)
+pub power_of-with_sign : (b : Bool) (v : Signed) → phase_add (power_of v) (phase_of_sign b) ≡ power_of (with_sign b v)
 power_of-with_sign b v =
-    turn_add-comm (power_of v) (sign_turn b)
-    ∙ sym (turn_add-assoc (sign_turn b) (sign_turn v.negative) (string_power v.letters))
-    ∙ ap (λ t. turn_add t (string_power v.letters)) (sym (sign_turn-parity b v.negative))
+    phase_add-comm (power_of v) (phase_of_sign b)
+    ∙ sym (phase_add-assoc (phase_of_sign b) (phase_of_sign v.negative) (string_power v.letters))
+    ∙ ap (λ t. phase_add t (string_power v.letters)) (sym (phase_of_sign-parity b v.negative))
 
-string_power-set : (p : List Letter) (q : ℕ) (x : Letter) → q < length p → turn_add (turn_back (letter_power (get_or p q I))) (turn_add (letter_power x) (string_power p)) ≡ string_power (set p q x)
+string_power-set : (p : List Letter) (q : ℕ) (x : Letter) → q < length p → phase_add (phase_inverse (letter_power (get_or p q I))) (phase_add (letter_power x) (string_power p)) ≡ string_power (set p q x)
 string_power-set [] q x lt = absurd (omega arith)
 string_power-set (y ∷ p) zero x lt =
-    turn_add-left (turn_back (letter_power y)) (letter_power x) (turn_add (letter_power y) (string_power p))
-    ∙ ap (turn_add (letter_power x))
-    (sym (turn_add-assoc (turn_back (letter_power y)) (letter_power y) (string_power p)) ∙ ap (λ t. turn_add t (string_power p)) (turn_add-back_left (letter_power y)))
+    phase_add-left (phase_inverse (letter_power y)) (letter_power x) (phase_add (letter_power y) (string_power p))
+    ∙ ap (phase_add (letter_power x))
+    (sym (phase_add-assoc (phase_inverse (letter_power y)) (letter_power y) (string_power p)) ∙ ap (λ t. phase_add t (string_power p)) (phase_add-back_left (letter_power y)))
 string_power-set (y ∷ p) (suc q) x lt =
-    ap (turn_add (turn_back (letter_power (get_or p q I)))) (turn_add-left (letter_power x) (letter_power y) (string_power p))
-    ∙ turn_add-left (turn_back (letter_power (get_or p q I))) (letter_power y) (turn_add (letter_power x) (string_power p))
-    ∙ ap (turn_add (letter_power y)) (string_power-set p q x (omega arith))
+    ap (phase_add (phase_inverse (letter_power (get_or p q I)))) (phase_add-left (letter_power x) (letter_power y) (string_power p))
+    ∙ phase_add-left (phase_inverse (letter_power (get_or p q I))) (letter_power y) (phase_add (letter_power x) (string_power p))
+    ∙ ap (phase_add (letter_power y)) (string_power-set p q x (omega arith))
 
 -- of a string with another letter
 pub power_of-with_letter : (v : Signed) (q : ℕ) (x : Letter) → q < length v.letters
-    → turn_add (turn_back (letter_power (get_or v.letters q I))) (turn_add (letter_power x) (power_of v)) ≡ power_of (with_letter q x v)
+    → phase_add (phase_inverse (letter_power (get_or v.letters q I))) (phase_add (letter_power x) (power_of v)) ≡ power_of (with_letter q x v)
 power_of-with_letter v q x lt =
-    ap (turn_add (turn_back (letter_power (get_or v.letters q I)))) (turn_add-left (letter_power x) (sign_turn v.negative) (string_power v.letters))
-    ∙ turn_add-left (turn_back (letter_power (get_or v.letters q I))) (sign_turn v.negative) (turn_add (letter_power x) (string_power v.letters))
-    ∙ ap (turn_add (sign_turn v.negative)) (string_power-set v.letters q x lt)
+    ap (phase_add (phase_inverse (letter_power (get_or v.letters q I)))) (phase_add-left (letter_power x) (phase_of_sign v.negative) (string_power v.letters))
+    ∙ phase_add-left (phase_inverse (letter_power (get_or v.letters q I))) (phase_of_sign v.negative) (phase_add (letter_power x) (string_power v.letters))
+    ∙ ap (phase_add (phase_of_sign v.negative)) (string_power-set v.letters q x lt)
 
--- letters that flip no bit take no power of i
-string_power-fixed : (p : List Letter) → list_any flips p ≡ false → string_power p ≡ Zero
+-- letters that have no X part take no power of i
+string_power-fixed : (p : List Letter) → list_any has_x p ≡ false → string_power p ≡ Zero
 string_power-fixed [] e = refl
 string_power-fixed (I ∷ p) e = string_power-fixed p e
 string_power-fixed (X ∷ p) e = cc
@@ -181,7 +181,7 @@ string_power-fixed (Y ∷ p) e = cc
 string_power-fixed (Z ∷ p) e = string_power-fixed p e
 
 -- so the power is the sign
-pub fixed_sign : (v : Signed) → list_any flips v.letters ≡ false → sign_of_turn (power_of v) ≡ v.negative
+pub fixed_sign : (v : Signed) → list_any has_x v.letters ≡ false → sign_of_phase (power_of v) ≡ v.negative
 fixed_sign v e =
-    ap (λ t. sign_of_turn (turn_add (sign_turn v.negative) t)) (string_power-fixed v.letters e)
-    ∙ ap sign_of_turn (turn_add-zero (sign_turn v.negative)) ∙ sign_of_turn-sign_turn v.negative
+    ap (λ t. sign_of_phase (phase_add (phase_of_sign v.negative) t)) (string_power-fixed v.letters e)
+    ∙ ap sign_of_phase (phase_add-zero (phase_of_sign v.negative)) ∙ sign_of_phase-phase_of_sign v.negative

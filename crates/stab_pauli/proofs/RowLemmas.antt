@@ -5,12 +5,12 @@ use Rattle.std.specs.Simd.Lanes.{zip2, chunk, put_chunk}
 use Rattle.std.proofs.lemmas.List.{take-append-drop, drop_at, take_at, drop-drop, length-take-le, take-append-le, drop-append-le}
 use Rattle.std.proofs.lemmas.Simd.{length-chunk, put_chunk_is}
 use Rattle.stab_pauli.specs.declared.letter.Letter.{Letter}
-use Rattle.stab_pauli.specs.declared.turn.Turn.{Turn}
-use Rattle.stab_pauli.specs.declared.turn.Turn.TheVariants.{Zero}
-use Rattle.stab_pauli.specs.Turns.{turn_add, sign_turn}
+use Rattle.stab_pauli.specs.declared.phase.Phase.{Phase}
+use Rattle.stab_pauli.specs.declared.phase.Phase.TheVariants.{Zero}
+use Rattle.stab_pauli.specs.Phases.{phase_add, phase_of_sign}
 use Rattle.stab_pauli.specs.Paulis.{string_product, strings_anticommute}
 use Rattle.stab_pauli.specs.inner.Powers.{string_power, strings_meet}
-use Rattle.stab_pauli.proofs.TurnLemmas.{turn_add-zero, turn_add-assoc, turn_add-mid, sign_turn-parity}
+use Rattle.stab_pauli.proofs.PhaseLemmas.{phase_add-zero, phase_add-assoc, phase_add-mid, phase_of_sign-parity}
 use Rattle.stab_pauli.proofs.PowerLemmas.{strings_anticommute-meet, strings_meet-append, string_power-append}
 use Rattle.stab_pauli.specs.inner.Words.{packed_letters, xor_words}
 use Rattle.stab_pauli.specs.inner.Blocks.{row_letters, IsRewritten}
@@ -84,62 +84,62 @@ row_letters-drop m k p lt =
     ∙ (λ i. packed_letters 64 (chunk (8 * k) 4 p) (take 4 (drop-drop 4 (8 * k) p i)) ++ row_letters (m - (k + 1)) ((drop-drop 8 (8 * k) p ∙ ap (λ n. drop n p) next) i))
 
 -- a power of i of two strings that adds up where strings are appended
-pub record AddsUp (F : List Letter → List Letter → Turn) : Type 0 where
+pub record AddsUp (F : List Letter → List Letter → Phase) : Type 0 where
   pub none : F [] [] ≡ Zero
-  pub append : (p q p' q' : List Letter) → length p ≡ length q → F (p ++ p') (q ++ q') ≡ turn_add (F p q) (F p' q')
+  pub append : (p q p' q' : List Letter) → length p ≡ length q → F (p ++ p') (q ++ q') ≡ phase_add (F p q) (F p' q')
 
 -- that of the signs of bits that meet
-abbrev pub meet_turn : List Letter → List Letter → Turn
-meet_turn p q = sign_turn (strings_meet p q)
+abbrev pub meet_phase : List Letter → List Letter → Phase
+meet_phase p q = phase_of_sign (strings_meet p q)
 
-pub AddsUp-meet : AddsUp meet_turn
+pub AddsUp-meet : AddsUp meet_phase
 AddsUp-meet = record {
   none = refl;
-  append = λ p q p' q' e. ap sign_turn (strings_meet-append p q p' q' e) ∙ sign_turn-parity (strings_meet p q) (strings_meet p' q');
+  append = λ p q p' q' e. ap phase_of_sign (strings_meet-append p q p' q' e) ∙ phase_of_sign-parity (strings_meet p q) (strings_meet p' q');
 }
 
 -- that of the signs of strings that anticommute
-abbrev pub order_turn : List Letter → List Letter → Turn
-order_turn p q = turn_add (meet_turn p q) (meet_turn q p)
+abbrev pub order_phase : List Letter → List Letter → Phase
+order_phase p q = phase_add (meet_phase p q) (meet_phase q p)
 
-pub AddsUp-order : AddsUp order_turn
+pub AddsUp-order : AddsUp order_phase
 AddsUp-order = record {
   none = refl;
   append = λ p q p' q' e.
-      (λ i. turn_add (AddsUp-meet.append p q p' q' e i) (AddsUp-meet.append q p q' p' (sym e) i))
-      ∙ turn_add-mid (meet_turn p q) (meet_turn p' q') (meet_turn q p) (meet_turn q' p');
+      (λ i. phase_add (AddsUp-meet.append p q p' q' e i) (AddsUp-meet.append q p q' p' (sym e) i))
+      ∙ phase_add-mid (meet_phase p q) (meet_phase p' q') (meet_phase q p) (meet_phase q' p');
 }
 
-pub order_turn-is : (p q : List Letter) → order_turn p q ≡ sign_turn (strings_anticommute p q)
-order_turn-is p q = sym (ap sign_turn (strings_anticommute-meet p q) ∙ sign_turn-parity (strings_meet p q) (strings_meet q p))
+pub order_phase-is : (p q : List Letter) → order_phase p q ≡ phase_of_sign (strings_anticommute p q)
+order_phase-is p q = sym (ap phase_of_sign (strings_anticommute-meet p q) ∙ phase_of_sign-parity (strings_meet p q) (strings_meet q p))
 
 -- that of the first string alone, before its bits
-abbrev pub power_turn : List Letter → List Letter → Turn
-power_turn p q = string_power p
+abbrev pub power_phase : List Letter → List Letter → Phase
+power_phase p q = string_power p
 
-pub AddsUp-power : AddsUp power_turn
+pub AddsUp-power : AddsUp power_phase
 AddsUp-power = record { none = refl; append = λ p q p' q' e. string_power-append p p' }
 
 -- the power counted in the blocks before k and that of the blocks from k on make the whole
-pub record IsTurnBefore (F : List Letter → List Letter → Turn) (m : ℕ) (p q : List ℕ) (k : ℕ) (counted : Turn) : Type 0 where
-  pub whole : turn_add counted (F (row_letters (m - k) (drop (8 * k) p)) (row_letters (m - k) (drop (8 * k) q))) ≡ F (row_letters m p) (row_letters m q)
+pub record IsPhaseBefore (F : List Letter → List Letter → Phase) (m : ℕ) (p q : List ℕ) (k : ℕ) (counted : Phase) : Type 0 where
+  pub whole : phase_add counted (F (row_letters (m - k) (drop (8 * k) p)) (row_letters (m - k) (drop (8 * k) q))) ≡ F (row_letters m p) (row_letters m q)
 
-pub IsTurnBefore-more : {F : List Letter → List Letter → Turn} → AddsUp F → (m : ℕ) (p q : List ℕ) (k : ℕ) (counted counted' : Turn) (a b c d : List ℕ) → length p ≡ 8 * m → length q ≡ 8 * m → k < m
+pub IsPhaseBefore-more : {F : List Letter → List Letter → Phase} → AddsUp F → (m : ℕ) (p q : List ℕ) (k : ℕ) (counted counted' : Phase) (a b c d : List ℕ) → length p ≡ 8 * m → length q ≡ 8 * m → k < m
     → a ≡ chunk (8 * k) 4 p → b ≡ chunk (8 * k + 4) 4 p → c ≡ chunk (8 * k) 4 q → d ≡ chunk (8 * k + 4) 4 q
-    → (length a ≡ 4 → length b ≡ 4 → length c ≡ 4 → length d ≡ 4 → counted' ≡ turn_add counted (F (packed_letters 64 a b) (packed_letters 64 c d)))
-    → IsTurnBefore F m p q k counted → IsTurnBefore F m p q (k + 1) counted'
-IsTurnBefore-more {F} adds m p q k counted counted' a b c d lp lq lt ea eb ec ed e is = record {
+    → (length a ≡ 4 → length b ≡ 4 → length c ≡ 4 → length d ≡ 4 → counted' ≡ phase_add counted (F (packed_letters 64 a b) (packed_letters 64 c d)))
+    → IsPhaseBefore F m p q k counted → IsPhaseBefore F m p q (k + 1) counted'
+IsPhaseBefore-more {F} adds m p q k counted counted' a b c d lp lq lt ea eb ec ed e is = record {
   whole =
-      ap (λ t. turn_add t rest) (e la lb lc ld)
-      ∙ turn_add-assoc counted (F (packed_letters 64 a b) (packed_letters 64 c d)) rest
-      ∙ ap (turn_add counted)
+      ap (λ t. phase_add t rest) (e la lb lc ld)
+      ∙ phase_add-assoc counted (F (packed_letters 64 a b) (packed_letters 64 c d)) rest
+      ∙ ap (phase_add counted)
       (sym (adds.append (packed_letters 64 a b) (packed_letters 64 c d) (row_letters (m - (k + 1)) (drop (8 * (k + 1)) p)) (row_letters (m - (k + 1)) (drop (8 * (k + 1)) q))
       (length-block a b la lb ∙ sym (length-block c d lc ld)))
       ∙ (λ i. F (whole_row p a b ea eb i) (whole_row q c d ec ed i)))
       ∙ is.whole;
 }
   where
-    rest : Turn
+    rest : Phase
     rest = F (row_letters (m - (k + 1)) (drop (8 * (k + 1)) p)) (row_letters (m - (k + 1)) (drop (8 * (k + 1)) q))
 
     la : length a ≡ 4
@@ -158,11 +158,11 @@ IsTurnBefore-more {F} adds m p q k counted counted' a b c d lp lq lt ea eb ec ed
         → packed_letters 64 u v ++ row_letters (m - (k + 1)) (drop (8 * (k + 1)) r) ≡ row_letters (m - k) (drop (8 * k) r)
     whole_row r u v eu ev = (λ i. packed_letters 64 (eu i) (ev i) ++ row_letters (m - (k + 1)) (drop (8 * (k + 1)) r)) ∙ sym (row_letters-drop m k r lt)
 
-pub IsTurnBefore-all : {F : List Letter → List Letter → Turn} → AddsUp F → (m : ℕ) (p q : List ℕ) (k : ℕ) (counted : Turn) → m ≤ k → IsTurnBefore F m p q k counted → counted ≡ F (row_letters m p) (row_letters m q)
-IsTurnBefore-all {F} adds m p q k counted le is =
+pub IsPhaseBefore-all : {F : List Letter → List Letter → Phase} → AddsUp F → (m : ℕ) (p q : List ℕ) (k : ℕ) (counted : Phase) → m ≤ k → IsPhaseBefore F m p q k counted → counted ≡ F (row_letters m p) (row_letters m q)
+IsPhaseBefore-all {F} adds m p q k counted le is =
     let z : m - k ≡ 0 = omega arith in
-    sym (turn_add-zero counted)
-    ∙ ap (turn_add counted) (sym adds.none ∙ (λ i. F (row_letters (sym z i) (drop (8 * k) p)) (row_letters (sym z i) (drop (8 * k) q))))
+    sym (phase_add-zero counted)
+    ∙ ap (phase_add counted) (sym adds.none ∙ (λ i. F (row_letters (sym z i) (drop (8 * k) p)) (row_letters (sym z i) (drop (8 * k) q))))
     ∙ is.whole
 
 -- a block of 8 words multiplied in two halves

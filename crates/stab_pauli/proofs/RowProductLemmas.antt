@@ -1,16 +1,16 @@
 -- Products with a row of a table, read and written through slices of its words, as contracts see them.
 use Rattle.std.proofs.Common.{◌≡◌, ℕ, ◌*◌, ◌<◌, Bool, true, false, refl, ◌∙◌, List, ◌++◌, length, get_or, set, take, drop}
 use Rattle.std.specs.Simd.Lanes.{chunk, put_chunk}
-use Rattle.stab_pauli.specs.declared.turn.Turn.{Turn}
-use Rattle.stab_pauli.specs.declared.turn.Turn.TheVariants.{Quarter}
-use Rattle.stab_pauli.specs.Turns.{turn_add, sign_turn}
+use Rattle.stab_pauli.specs.declared.phase.Phase.{Phase}
+use Rattle.stab_pauli.specs.declared.phase.Phase.TheVariants.{Quarter}
+use Rattle.stab_pauli.specs.Phases.{phase_add, phase_of_sign}
 use Rattle.stab_pauli.specs.Paulis.{Signed, anticommute, product}
-use Rattle.stab_pauli.specs.Rows.{Rows, row_at, with_row, turned_product}
+use Rattle.stab_pauli.specs.Rows.{Rows, row_at, with_row, product_times_i}
 use Rattle.stab_pauli.specs.inner.Words.{xor_words}
 use Rattle.stab_pauli.specs.inner.Powers.{strings_meet}
 use Rattle.stab_pauli.specs.inner.Blocks.{row_letters}
 use Rattle.stab_pauli.proofs.PaddedLemmas.{IsView, same_numbers, alike, written_view}
-use Rattle.stab_pauli.proofs.SeenLemmas.{IsSeen, row_seen, put_seen, written_seen, read_power, product_view, turned_view, fitting}
+use Rattle.stab_pauli.proofs.SeenLemmas.{IsSeen, row_seen, put_seen, written_seen, read_power, product_view, times_i_view, fitting}
 
 -- a slice of words that was multiplied at row a by others, and whether bits met
 pub record IsTimes (m a : ℕ) (slice other words : List ℕ) (b : Bool) : Type 0 where
@@ -25,9 +25,9 @@ read_times {m} {a} ws ws' es eo times = record {
 }
 
 -- row a, multiplied by a string
-pub product_seen : {n m : ℕ} {ws : List ℕ} {ps : List Turn} {v : Rows} {ws' : List ℕ} {k' : Turn} {v' : Signed} {slice other : List ℕ} → IsSeen n m ws ps v → IsView n m ws' k' v'
-    → (a : ℕ) → a < length ps → anticommute (row_at v a) v' ≡ false → (words : List ℕ) (len : ℕ) (x y r : Turn) (b : Bool) → slice ≡ ws → other ≡ ws' → IsTimes m a slice other words b
-    → x ≡ get_or ps a x → y ≡ k' → r ≡ turn_add (turn_add x y) (sign_turn b) → len ≡ length ws
+pub product_seen : {n m : ℕ} {ws : List ℕ} {ps : List Phase} {v : Rows} {ws' : List ℕ} {k' : Phase} {v' : Signed} {slice other : List ℕ} → IsSeen n m ws ps v → IsView n m ws' k' v'
+    → (a : ℕ) → a < length ps → anticommute (row_at v a) v' ≡ false → (words : List ℕ) (len : ℕ) (x y r : Phase) (b : Bool) → slice ≡ ws → other ≡ ws' → IsTimes m a slice other words b
+    → x ≡ get_or ps a x → y ≡ k' → r ≡ phase_add (phase_add x y) (phase_of_sign b) → len ≡ length ws
     → IsSeen n m (take len (words ++ drop (length words) ws)) (set ps a r) (with_row v a (product (row_at v a) v'))
 product_seen {n} {m} {ws} {ps} {v} {ws'} mine theirs a la apart words len x y r b es eo times ex ey er l =
     written_seen ws words (xor_words (chunk (8 * m * a) (8 * m) ws) ws') (8 * m * a) len read.words_are l
@@ -37,13 +37,13 @@ product_seen {n} {m} {ws} {ps} {v} {ws'} mine theirs a la apart words len x y r 
     read = read_times ws ws' es eo times
 
 -- i times that product
-pub turned_seen : {n m : ℕ} {ws : List ℕ} {ps : List Turn} {v : Rows} {ws' : List ℕ} {k' : Turn} {v' : Signed} {slice other : List ℕ} → IsSeen n m ws ps v → IsView n m ws' k' v'
-    → (a : ℕ) → a < length ps → anticommute (row_at v a) v' ≡ true → (words : List ℕ) (len : ℕ) (x y t r : Turn) (b : Bool) → slice ≡ ws → other ≡ ws' → IsTimes m a slice other words b
-    → x ≡ get_or ps a x → y ≡ k' → t ≡ turn_add (turn_add x y) (sign_turn b) → r ≡ turn_add Quarter t → len ≡ length ws
-    → IsSeen n m (take len (words ++ drop (length words) ws)) (set ps a r) (with_row v a (turned_product (row_at v a) v'))
-turned_seen {n} {m} {ws} {ps} {v} {ws'} mine theirs a la apart words len x y t r b es eo times ex ey et er l =
+pub times_i_seen : {n m : ℕ} {ws : List ℕ} {ps : List Phase} {v : Rows} {ws' : List ℕ} {k' : Phase} {v' : Signed} {slice other : List ℕ} → IsSeen n m ws ps v → IsView n m ws' k' v'
+    → (a : ℕ) → a < length ps → anticommute (row_at v a) v' ≡ true → (words : List ℕ) (len : ℕ) (x y t r : Phase) (b : Bool) → slice ≡ ws → other ≡ ws' → IsTimes m a slice other words b
+    → x ≡ get_or ps a x → y ≡ k' → t ≡ phase_add (phase_add x y) (phase_of_sign b) → r ≡ phase_add Quarter t → len ≡ length ws
+    → IsSeen n m (take len (words ++ drop (length words) ws)) (set ps a r) (with_row v a (product_times_i (row_at v a) v'))
+times_i_seen {n} {m} {ws} {ps} {v} {ws'} mine theirs a la apart words len x y t r b es eo times ex ey et er l =
     written_seen ws words (xor_words (chunk (8 * m * a) (8 * m) ws) ws') (8 * m * a) len read.words_are l
-    (put_seen mine a la (turned_view (xor_words (chunk (8 * m * a) (8 * m) ws) ws') x y t r b (row_seen mine a la) theirs apart refl (read_power ps a x la ex) ey read.meet_is et er))
+    (put_seen mine a la (times_i_view (xor_words (chunk (8 * m * a) (8 * m) ws) ws') x y t r b (row_seen mine a la) theirs apart refl (read_power ps a x la ex) ey read.meet_is et er))
   where
     read : IsTimes m a ws ws' words b
     read = read_times ws ws' es eo times
@@ -60,9 +60,9 @@ read_times_row {m} ws ws' es er times = record {
 }
 
 -- a string, multiplied by row a
-pub product_viewed : {n m : ℕ} {ws : List ℕ} {ps : List Turn} {v : Rows} {n' m' : ℕ} {ws' : List ℕ} {k' : Turn} {v' : Signed} {slice read : List ℕ} → IsSeen n m ws ps v → IsView n' m' ws' k' v'
-    → length v'.letters ≡ v.qubits → (a : ℕ) → a < length ps → anticommute v' (row_at v a) ≡ false → (words : List ℕ) (len : ℕ) (y r : Turn) (b : Bool) → slice ≡ ws' → read ≡ chunk (8 * m * a) (8 * m) ws
-    → IsTimesRow m slice read words b → y ≡ get_or ps a y → r ≡ turn_add (turn_add k' y) (sign_turn b) → len ≡ length ws'
+pub product_viewed : {n m : ℕ} {ws : List ℕ} {ps : List Phase} {v : Rows} {n' m' : ℕ} {ws' : List ℕ} {k' : Phase} {v' : Signed} {slice read : List ℕ} → IsSeen n m ws ps v → IsView n' m' ws' k' v'
+    → length v'.letters ≡ v.qubits → (a : ℕ) → a < length ps → anticommute v' (row_at v a) ≡ false → (words : List ℕ) (len : ℕ) (y r : Phase) (b : Bool) → slice ≡ ws' → read ≡ chunk (8 * m * a) (8 * m) ws
+    → IsTimesRow m slice read words b → y ≡ get_or ps a y → r ≡ phase_add (phase_add k' y) (phase_of_sign b) → len ≡ length ws'
     → IsView n' m' (take len (words ++ drop (length words) ws')) r (product v' (row_at v a))
 product_viewed {n} {m} {ws} {ps} {v} {n'} {m'} {ws'} {k'} mine theirs l a la apart words len y r b es er times ey e el =
     let fit = fitting mine theirs l in
@@ -71,20 +71,20 @@ product_viewed {n} {m} {ws} {ps} {v} {n'} {m'} {ws'} {k'} mine theirs l a la apa
     (product_view words k' y r b fit.view (row_seen mine a la) apart read.words_are refl (read_power ps a y la ey) read.meet_is e))
 
 -- i times that product
-pub turned_viewed : {n m : ℕ} {ws : List ℕ} {ps : List Turn} {v : Rows} {n' m' : ℕ} {ws' : List ℕ} {k' : Turn} {v' : Signed} {slice read : List ℕ} → IsSeen n m ws ps v → IsView n' m' ws' k' v'
-    → length v'.letters ≡ v.qubits → (a : ℕ) → a < length ps → anticommute v' (row_at v a) ≡ true → (words : List ℕ) (len : ℕ) (y t r : Turn) (b : Bool) → slice ≡ ws' → read ≡ chunk (8 * m * a) (8 * m) ws
-    → IsTimesRow m slice read words b → y ≡ get_or ps a y → t ≡ turn_add (turn_add k' y) (sign_turn b) → r ≡ turn_add Quarter t → len ≡ length ws'
-    → IsView n' m' (take len (words ++ drop (length words) ws')) r (turned_product v' (row_at v a))
-turned_viewed {n} {m} {ws} {ps} {v} {n'} {m'} {ws'} {k'} mine theirs l a la apart words len y t r b es er times ey et e el =
+pub times_i_viewed : {n m : ℕ} {ws : List ℕ} {ps : List Phase} {v : Rows} {n' m' : ℕ} {ws' : List ℕ} {k' : Phase} {v' : Signed} {slice read : List ℕ} → IsSeen n m ws ps v → IsView n' m' ws' k' v'
+    → length v'.letters ≡ v.qubits → (a : ℕ) → a < length ps → anticommute v' (row_at v a) ≡ true → (words : List ℕ) (len : ℕ) (y t r : Phase) (b : Bool) → slice ≡ ws' → read ≡ chunk (8 * m * a) (8 * m) ws
+    → IsTimesRow m slice read words b → y ≡ get_or ps a y → t ≡ phase_add (phase_add k' y) (phase_of_sign b) → r ≡ phase_add Quarter t → len ≡ length ws'
+    → IsView n' m' (take len (words ++ drop (length words) ws')) r (product_times_i v' (row_at v a))
+times_i_viewed {n} {m} {ws} {ps} {v} {n'} {m'} {ws'} {k'} mine theirs l a la apart words len y t r b es er times ey et e el =
     let fit = fitting mine theirs l in
     let read = read_times_row ws' (chunk (8 * m * a) (8 * m) ws) es er times in
     written_view words len theirs el (same_numbers n' m' fit.qubits fit.blocks
-    (turned_view words k' y t r b fit.view (row_seen mine a la) apart read.words_are refl (read_power ps a y la ey) read.meet_is et e))
+    (times_i_view words k' y t r b fit.view (row_seen mine a la) apart read.words_are refl (read_power ps a y la ey) read.meet_is et e))
 
 -- a string, multiplied by another
-pub product_of : {n m : ℕ} {ws : List ℕ} {k : Turn} {v : Signed} {n' m' : ℕ} {ws' : List ℕ} {k' : Turn} {v' : Signed} {slice read : List ℕ} → IsView n m ws k v → IsView n' m' ws' k' v'
-    → length v.letters ≡ length v'.letters → anticommute v v' ≡ false → (words : List ℕ) (len : ℕ) (r : Turn) (b : Bool) → slice ≡ ws → read ≡ ws'
-    → IsTimesRow m slice read words b → r ≡ turn_add (turn_add k k') (sign_turn b) → len ≡ length ws
+pub product_of : {n m : ℕ} {ws : List ℕ} {k : Phase} {v : Signed} {n' m' : ℕ} {ws' : List ℕ} {k' : Phase} {v' : Signed} {slice read : List ℕ} → IsView n m ws k v → IsView n' m' ws' k' v'
+    → length v.letters ≡ length v'.letters → anticommute v v' ≡ false → (words : List ℕ) (len : ℕ) (r : Phase) (b : Bool) → slice ≡ ws → read ≡ ws'
+    → IsTimesRow m slice read words b → r ≡ phase_add (phase_add k k') (phase_of_sign b) → len ≡ length ws
     → IsView n m (take len (words ++ drop (length words) ws)) r (product v v')
 product_of {n} {m} {ws} {k} {v} {n'} {m'} {ws'} {k'} mine theirs l apart words len r b es er times e el =
     let fit = alike mine theirs l in
@@ -92,11 +92,11 @@ product_of {n} {m} {ws} {k} {v} {n'} {m'} {ws'} {k'} mine theirs l apart words l
     written_view words len mine el (product_view words k k' r b mine fit.view apart read.words_are refl refl read.meet_is e)
 
 -- i times that product
-pub turned_of : {n m : ℕ} {ws : List ℕ} {k : Turn} {v : Signed} {n' m' : ℕ} {ws' : List ℕ} {k' : Turn} {v' : Signed} {slice read : List ℕ} → IsView n m ws k v → IsView n' m' ws' k' v'
-    → length v.letters ≡ length v'.letters → anticommute v v' ≡ true → (words : List ℕ) (len : ℕ) (t r : Turn) (b : Bool) → slice ≡ ws → read ≡ ws'
-    → IsTimesRow m slice read words b → t ≡ turn_add (turn_add k k') (sign_turn b) → r ≡ turn_add Quarter t → len ≡ length ws
-    → IsView n m (take len (words ++ drop (length words) ws)) r (turned_product v v')
-turned_of {n} {m} {ws} {k} {v} {n'} {m'} {ws'} {k'} mine theirs l apart words len t r b es er times et e el =
+pub times_i_of : {n m : ℕ} {ws : List ℕ} {k : Phase} {v : Signed} {n' m' : ℕ} {ws' : List ℕ} {k' : Phase} {v' : Signed} {slice read : List ℕ} → IsView n m ws k v → IsView n' m' ws' k' v'
+    → length v.letters ≡ length v'.letters → anticommute v v' ≡ true → (words : List ℕ) (len : ℕ) (t r : Phase) (b : Bool) → slice ≡ ws → read ≡ ws'
+    → IsTimesRow m slice read words b → t ≡ phase_add (phase_add k k') (phase_of_sign b) → r ≡ phase_add Quarter t → len ≡ length ws
+    → IsView n m (take len (words ++ drop (length words) ws)) r (product_times_i v v')
+times_i_of {n} {m} {ws} {k} {v} {n'} {m'} {ws'} {k'} mine theirs l apart words len t r b es er times et e el =
     let fit = alike mine theirs l in
     let read = read_times_row ws ws' es er times in
-    written_view words len mine el (turned_view words k k' t r b mine fit.view apart read.words_are refl refl read.meet_is et e)
+    written_view words len mine el (times_i_view words k k' t r b mine fit.view apart read.words_are refl refl read.meet_is et e)

@@ -1,20 +1,20 @@
 -- What contracts see of a table: its rows one by one, and a row that was replaced.
 use Rattle.std.proofs.Common.{◌≡◌, ℕ, ◌+◌, ◌*◌, ◌<◌, ◌≤◌, Bool, true, false, refl, sym, ◌∙◌, ap, List, ◌++◌, length, get_or, set, take, drop, replicate, arith, subst}
 use Rattle.std.specs.Simd.Lanes.{chunk, put_chunk}
-use Rattle.std.proofs.lemmas.List.{length-set, get_or-set_same}
+use Rattle.std.proofs.lemmas.List.{length-set, get_or-set_same, get_or-take}
 use Rattle.stab_pauli.specs.declared.letter.Letter.{Letter}
 use Rattle.stab_pauli.specs.declared.letter.Letter.TheVariants.{I}
-use Rattle.stab_pauli.specs.declared.turn.Turn.{Turn}
-use Rattle.stab_pauli.specs.declared.turn.Turn.TheVariants.{Zero, Quarter}
-use Rattle.stab_pauli.specs.Turns.{turn_add, sign_turn}
+use Rattle.stab_pauli.specs.declared.phase.Phase.{Phase}
+use Rattle.stab_pauli.specs.declared.phase.Phase.TheVariants.{Zero, Quarter}
+use Rattle.stab_pauli.specs.Phases.{phase_add, phase_of_sign}
 use Rattle.stab_pauli.specs.Paulis.{Signed, identity, with_sign, anticommute, product, string_product}
-use Rattle.stab_pauli.specs.Phaseds.{phased, turned, phased_product}
-use Rattle.stab_pauli.specs.Rows.{Rows, row_at, with_row, with_letter, swapped_rows, turned_product}
+use Rattle.stab_pauli.specs.Phaseds.{phased, times_phase, phased_product}
+use Rattle.stab_pauli.specs.Rows.{Rows, row_at, with_row, with_letter, swapped_rows, product_times_i}
 use Rattle.stab_pauli.specs.inner.Words.{xor_words, swapped_words}
-use Rattle.stab_pauli.specs.inner.Powers.{turn_back, letter_power, string_power, strings_meet, power_of}
+use Rattle.stab_pauli.specs.inner.Powers.{phase_inverse, letter_power, string_power, strings_meet, power_of}
 use Rattle.stab_pauli.specs.inner.Blocks.{row_letters, blocks_of, AreBlocks, IsRow, IsTable, table}
-use Rattle.stab_pauli.proofs.SignedLemmas.{phased-turned}
-use Rattle.stab_pauli.proofs.PowerLemmas.{power_of-product, power_of-turned, power_of-with_sign, power_of-with_letter}
+use Rattle.stab_pauli.proofs.SignedLemmas.{phased-times_phase}
+use Rattle.stab_pauli.proofs.PowerLemmas.{power_of-product, power_of-times_phase, power_of-with_sign, power_of-with_letter}
 use Rattle.stab_pauli.proofs.BlankLemmas.{fits, IsSigned-none, signed_row-none}
 use Rattle.stab_pauli.proofs.RowLemmas.{put_same}
 use Rattle.stab_pauli.proofs.SwapLemmas.{length-swapped}
@@ -22,34 +22,34 @@ use Rattle.stab_pauli.proofs.PaddedLemmas.{IsView, view_of, lies_of, is_of, leng
 use Rattle.stab_pauli.proofs.TableLemmas.{padded-power, length-table, row_at-table, table-put, IsTable-put, padded-row, sign-row, length-row_at, row_fits, written, get_or-any}
 
 -- words and powers of a table that contracts see as v
-pub record IsSeen (n m : ℕ) (ws : List ℕ) (ps : List Turn) (v : Rows) : Type 0 where
+pub record IsSeen (n m : ℕ) (ws : List ℕ) (ps : List Phase) (v : Rows) : Type 0 where
   pub lies : IsTable n m ws ps
   pub is : table n m ws ps ≡ v
 
-pub seen_of : {n m : ℕ} {ws : List ℕ} {ps : List Turn} {v : Rows} → IsTable n m ws ps → table n m ws ps ≡ v → IsSeen n m ws ps v
+pub seen_of : {n m : ℕ} {ws : List ℕ} {ps : List Phase} {v : Rows} → IsTable n m ws ps → table n m ws ps ≡ v → IsSeen n m ws ps v
 seen_of lies is = record { lies = lies; is = is }
 
-pub rows_seen : {n m : ℕ} {ws : List ℕ} {ps : List Turn} {v : Rows} → IsSeen n m ws ps v → length v.rows ≡ length ps
+pub rows_seen : {n m : ℕ} {ws : List ℕ} {ps : List Phase} {v : Rows} → IsSeen n m ws ps v → length v.rows ≡ length ps
 rows_seen {n} {m} {ws} {ps} {v} seen = length-table n m ws ps v seen.is
 
-pub qubits_seen : {n m : ℕ} {ws : List ℕ} {ps : List Turn} {v : Rows} → IsSeen n m ws ps v → n ≡ v.qubits
+pub qubits_seen : {n m : ℕ} {ws : List ℕ} {ps : List Phase} {v : Rows} → IsSeen n m ws ps v → n ≡ v.qubits
 qubits_seen seen = ap (λ (r : Rows). r.qubits) seen.is
 
-pub in_seen : {n m : ℕ} {ws : List ℕ} {ps : List Turn} {v : Rows} → IsSeen n m ws ps v → (a : ℕ) → a < length v.rows → a < length ps
+pub in_seen : {n m : ℕ} {ws : List ℕ} {ps : List Phase} {v : Rows} → IsSeen n m ws ps v → (a : ℕ) → a < length v.rows → a < length ps
 in_seen seen a lt = subst (λ k. a < k) (rows_seen seen) lt
 
-pub place_seen : {n m : ℕ} {ws : List ℕ} {ps : List Turn} {v : Rows} → IsSeen n m ws ps v → (q : ℕ) → q < v.qubits → q < 256 * m
+pub place_seen : {n m : ℕ} {ws : List ℕ} {ps : List Phase} {v : Rows} → IsSeen n m ws ps v → (q : ℕ) → q < v.qubits → q < 256 * m
 place_seen {n} {m} seen q lt =
     let f = fits n m seen.lies.blocks in
     let e = qubits_seen seen in
     omega arith
 
 -- a place among the words and powers, by their counted number
-pub counted_seen : {n m : ℕ} {ws : List ℕ} {ps : List Turn} {v : Rows} → IsSeen n m ws ps v → (a len : ℕ) → a < length v.rows → len ≡ length ps → a < len
+pub counted_seen : {n m : ℕ} {ws : List ℕ} {ps : List Phase} {v : Rows} → IsSeen n m ws ps v → (a len : ℕ) → a < length v.rows → len ≡ length ps → a < len
 counted_seen seen a len lt e = subst (λ k. a < k) (rows_seen seen ∙ sym e) lt
 
 -- one row
-pub row_seen : {n m : ℕ} {ws : List ℕ} {ps : List Turn} {v : Rows} → IsSeen n m ws ps v → (a : ℕ) → a < length ps
+pub row_seen : {n m : ℕ} {ws : List ℕ} {ps : List Phase} {v : Rows} → IsSeen n m ws ps v → (a : ℕ) → a < length ps
     → IsView n m (chunk (8 * m * a) (8 * m) ws) (get_or ps a Zero) (row_at v a)
 row_seen {n} {m} {ws} {ps} seen a lt =
     view_of
@@ -59,8 +59,16 @@ row_seen {n} {m} {ws} {ps} seen a lt =
     })
     (sym (row_at-table n m ws ps a lt) ∙ ap (λ r. row_at r a) seen.is)
 
+-- one letter of it, by the row's words
+pub letter_seen : {n m : ℕ} {ws : List ℕ} {ps : List Phase} {v : Rows} → IsSeen n m ws ps v → (a q : ℕ) → a < length v.rows → q < v.qubits
+    → {slice words : List ℕ} → words ≡ chunk (8 * m * a) (8 * m) slice → slice ≡ ws → get_or (row_letters m words) q I ≡ get_or (row_at v a).letters q I
+letter_seen {n} {m} {ws} seen a q lt within e es =
+    ap (λ (w : List ℕ). get_or (row_letters m w) q I) (e ∙ ap (λ (w : List ℕ). chunk (8 * m * a) (8 * m) w) es)
+    ∙ sym (get_or-take n (row_letters m (chunk (8 * m * a) (8 * m) ws)) q I (subst (λ k. q < k) (sym (qubits_seen seen)) within))
+    ∙ ap (λ p. get_or p q I) (row_seen seen a (in_seen seen a lt)).letters
+
 -- another row in the place of one
-pub put_seen : {n m : ℕ} {ws : List ℕ} {ps : List Turn} {v : Rows} {new : List ℕ} {k : Turn} {p : Signed} → IsSeen n m ws ps v → (a : ℕ) → a < length ps
+pub put_seen : {n m : ℕ} {ws : List ℕ} {ps : List Phase} {v : Rows} {new : List ℕ} {k : Phase} {p : Signed} → IsSeen n m ws ps v → (a : ℕ) → a < length ps
     → IsView n m new k p → IsSeen n m (put_chunk (8 * m * a) ws new) (set ps a k) (with_row v a p)
 put_seen {n} {m} {ws} {ps} {v} {new} {k} seen a lt view = record {
   lies = IsTable-put n m ws ps a new k seen.lies lt (lies_of view);
@@ -68,52 +76,52 @@ put_seen {n} {m} {ws} {ps} {v} {new} {k} seen a lt view = record {
 }
 
 -- words that were written through a slice
-pub written_seen : {n m : ℕ} {ps : List Turn} {v : Rows} (ws words new : List ℕ) (k len : ℕ) → words ≡ put_chunk k ws new → len ≡ length ws
+pub written_seen : {n m : ℕ} {ps : List Phase} {v : Rows} (ws words new : List ℕ) (k len : ℕ) → words ≡ put_chunk k ws new → len ≡ length ws
     → IsSeen n m (put_chunk k ws new) ps v → IsSeen n m (take len (words ++ drop (length words) ws)) ps v
 written_seen {n} {m} {ps} {v} ws words new k len e l seen = subst (λ w. IsSeen n m w ps v) (sym (written ws words new k len e l)) seen
 
 -- the same words in their place
-pub kept_words : {n m : ℕ} {ws : List ℕ} {ps : List Turn} {v : Rows} (k s : ℕ) → k + s ≤ length ws → IsSeen n m (put_chunk k ws (chunk k s ws)) ps v → IsSeen n m ws ps v
+pub kept_words : {n m : ℕ} {ws : List ℕ} {ps : List Phase} {v : Rows} (k s : ℕ) → k + s ≤ length ws → IsSeen n m (put_chunk k ws (chunk k s ws)) ps v → IsSeen n m ws ps v
 kept_words {n} {m} {ws} {ps} {v} k s le seen = subst (λ w. IsSeen n m w ps v) (put_same k s ws le) seen
 
 -- a power that was read
-pub read_power : (ps : List Turn) (a : ℕ) (x : Turn) → a < length ps → x ≡ get_or ps a x → x ≡ get_or ps a Zero
+pub read_power : (ps : List Phase) (a : ℕ) (x : Phase) → a < length ps → x ≡ get_or ps a x → x ≡ get_or ps a Zero
 read_power ps a x lt e = e ∙ get_or-any ps a x Zero lt
 
 -- products
 
-product_letters : {n m : ℕ} {ws ws' : List ℕ} {k k' : Turn} {v v' : Signed} (new : List ℕ) → IsView n m ws k v → IsView n m ws' k' v'
+product_letters : {n m : ℕ} {ws ws' : List ℕ} {k k' : Phase} {v v' : Signed} (new : List ℕ) → IsView n m ws k v → IsView n m ws' k' v'
     → new ≡ xor_words ws ws' → take n (row_letters m new) ≡ string_product v.letters v'.letters
 product_letters {n} {m} {ws} {ws'} new mine theirs e = letters-read n m ws ws' new mine.row theirs.row e ∙ (λ i. string_product (mine.letters i) (theirs.letters i))
 
-product_power : {n m : ℕ} {ws ws' : List ℕ} {k k' : Turn} {v v' : Signed} (x y : Turn) (b : Bool) → IsView n m ws k v → IsView n m ws' k' v'
+product_power : {n m : ℕ} {ws ws' : List ℕ} {k k' : Phase} {v v' : Signed} (x y : Phase) (b : Bool) → IsView n m ws k v → IsView n m ws' k' v'
     → x ≡ k → y ≡ k' → b ≡ strings_meet (row_letters m ws) (row_letters m ws')
-    → turn_add (turn_add x y) (sign_turn b) ≡ turn_add (turn_add (power_of v) (power_of v')) (sign_turn (strings_meet v.letters v'.letters))
+    → phase_add (phase_add x y) (phase_of_sign b) ≡ phase_add (phase_add (power_of v) (power_of v')) (phase_of_sign (strings_meet v.letters v'.letters))
 product_power {n} {m} {ws} {ws'} x y b mine theirs ex ey eb =
-    λ i. turn_add (turn_add ((ex ∙ mine.power) i) ((ey ∙ theirs.power) i))
-    (sign_turn ((eb ∙ meet-product n m ws ws' mine.row theirs.row ∙ (λ j. strings_meet (mine.letters j) (theirs.letters j))) i))
+    λ i. phase_add (phase_add ((ex ∙ mine.power) i) ((ey ∙ theirs.power) i))
+    (phase_of_sign ((eb ∙ meet-product n m ws ws' mine.row theirs.row ∙ (λ j. strings_meet (mine.letters j) (theirs.letters j))) i))
 
-pub product_view : {n m : ℕ} {ws ws' : List ℕ} {k k' : Turn} {v v' : Signed} (new : List ℕ) (x y r : Turn) (b : Bool) → IsView n m ws k v → IsView n m ws' k' v'
+pub product_view : {n m : ℕ} {ws ws' : List ℕ} {k k' : Phase} {v v' : Signed} (new : List ℕ) (x y r : Phase) (b : Bool) → IsView n m ws k v → IsView n m ws' k' v'
     → anticommute v v' ≡ false → new ≡ xor_words ws ws' → x ≡ k → y ≡ k' → b ≡ strings_meet (row_letters m ws) (row_letters m ws')
-    → r ≡ turn_add (turn_add x y) (sign_turn b) → IsView n m new r (product v v')
+    → r ≡ phase_add (phase_add x y) (phase_of_sign b) → IsView n m new r (product v v')
 product_view {n} {m} {ws} {ws'} {v = v} {v' = v'} new x y r b mine theirs apart e ex ey eb er = record {
   row = IsRow-read n m ws ws' new mine.row theirs.row e;
   letters = product_letters new mine theirs e;
   power = er ∙ product_power x y b mine theirs ex ey eb ∙ power_of-product v v' apart;
 }
 
-pub turned_view : {n m : ℕ} {ws ws' : List ℕ} {k k' : Turn} {v v' : Signed} (new : List ℕ) (x y t r : Turn) (b : Bool) → IsView n m ws k v → IsView n m ws' k' v'
+pub times_i_view : {n m : ℕ} {ws ws' : List ℕ} {k k' : Phase} {v v' : Signed} (new : List ℕ) (x y t r : Phase) (b : Bool) → IsView n m ws k v → IsView n m ws' k' v'
     → anticommute v v' ≡ true → new ≡ xor_words ws ws' → x ≡ k → y ≡ k' → b ≡ strings_meet (row_letters m ws) (row_letters m ws')
-    → t ≡ turn_add (turn_add x y) (sign_turn b) → r ≡ turn_add Quarter t → IsView n m new r (turned_product v v')
-turned_view {n} {m} {ws} {ws'} {v = v} {v' = v'} new x y t r b mine theirs apart e ex ey eb et er = record {
+    → t ≡ phase_add (phase_add x y) (phase_of_sign b) → r ≡ phase_add Quarter t → IsView n m new r (product_times_i v v')
+times_i_view {n} {m} {ws} {ws'} {v = v} {v' = v'} new x y t r b mine theirs apart e ex ey eb et er = record {
   row = IsRow-read n m ws ws' new mine.row theirs.row e;
   letters = product_letters new mine theirs e;
-  power = er ∙ ap (turn_add Quarter) (et ∙ product_power x y b mine theirs ex ey eb) ∙ power_of-turned v v' apart;
+  power = er ∙ ap (phase_add Quarter) (et ∙ product_power x y b mine theirs ex ey eb) ∙ power_of-times_phase v v' apart;
 }
 
 -- i times a product of two that anticommute, as it is among all powers of i
-pub phased_product-turned : (p q : Signed) → anticommute p q ≡ true → phased (turned_product p q) ≡ turned Quarter (phased_product (phased p) (phased q))
-phased_product-turned p q e = phased-turned p q (turned_product p q) e refl refl
+pub phased_product-times_phase : (p q : Signed) → anticommute p q ≡ true → phased (product_times_i p q) ≡ times_phase Quarter (phased_product (phased p) (phased q))
+phased_product-times_phase p q e = phased-times_phase p q (product_times_i p q) e refl refl
 
 -- the row that was put
 pub row_at-with_row : (v : Rows) (a : ℕ) (p : Signed) → a < length v.rows → row_at (with_row v a p) a ≡ p
@@ -127,27 +135,27 @@ blank_view n m ws eb e =
     let letters = letters-none n m ws eb e in
     view_of (IsSigned-none n m ws row letters) (signed_row-none n (row_letters m ws) letters)
 
-pub letter_view : {n m : ℕ} {ws : List ℕ} {k : Turn} {v : Signed} (new : List ℕ) (q : ℕ) (old x : Letter) (r : Turn) → IsView n m ws k v → q < n → length new ≡ 8 * m
-    → row_letters m new ≡ set (row_letters m ws) q x → old ≡ get_or v.letters q I → r ≡ turn_add (turn_back (letter_power old)) (turn_add (letter_power x) k) → IsView n m new r (with_letter q x v)
+pub letter_view : {n m : ℕ} {ws : List ℕ} {k : Phase} {v : Signed} (new : List ℕ) (q : ℕ) (old x : Letter) (r : Phase) → IsView n m ws k v → q < n → length new ≡ 8 * m
+    → row_letters m new ≡ set (row_letters m ws) q x → old ≡ get_or v.letters q I → r ≡ phase_add (phase_inverse (letter_power old)) (phase_add (letter_power x) k) → IsView n m new r (with_letter q x v)
 letter_view {n} {m} {ws} {k} {v} new q old x r mine lt l e eo er = record {
   row = IsRow-set n m ws new q x mine.row lt l e;
   letters = letters-set n m ws new q x lt e ∙ ap (λ p. set p q x) mine.letters;
-  power = er ∙ (λ i. turn_add (turn_back (letter_power (eo i))) (turn_add (letter_power x) (mine.power i)))
+  power = er ∙ (λ i. phase_add (phase_inverse (letter_power (eo i))) (phase_add (letter_power x) (mine.power i)))
       ∙ power_of-with_letter v q x (subst (λ j. q < j) (sym (length-view mine)) lt);
 }
 
 -- a sign that was turned
-pub signed_view : {n m : ℕ} {ws : List ℕ} {k : Turn} {v : Signed} (b : Bool) (x r : Turn) → IsView n m ws k v → x ≡ k → r ≡ turn_add x (sign_turn b) → IsView n m ws r (with_sign b v)
-signed_view {v = v} b x r mine ex er = record { row = mine.row; letters = mine.letters; power = er ∙ ap (λ t. turn_add t (sign_turn b)) (ex ∙ mine.power) ∙ power_of-with_sign b v }
+pub signed_view : {n m : ℕ} {ws : List ℕ} {k : Phase} {v : Signed} (b : Bool) (x r : Phase) → IsView n m ws k v → x ≡ k → r ≡ phase_add x (phase_of_sign b) → IsView n m ws r (with_sign b v)
+signed_view {v = v} b x r mine ex er = record { row = mine.row; letters = mine.letters; power = er ∙ ap (λ t. phase_add t (phase_of_sign b)) (ex ∙ mine.power) ∙ power_of-with_sign b v }
 
 -- the letters of a product with the first string's sign, that was read, written through a slice
-pub written_resigned : {n m : ℕ} {ws ws' : List ℕ} {k k' : Turn} {v v' : Signed} (new : List ℕ) (len : ℕ) (s : Bool) (r : Turn) → IsView n m ws k v → len ≡ length ws → IsView n m ws' k' v'
-    → new ≡ xor_words ws ws' → s ≡ v.negative → r ≡ turn_add (sign_turn s) (string_power (row_letters m (take len (new ++ drop (length new) ws))))
+pub written_resigned : {n m : ℕ} {ws ws' : List ℕ} {k k' : Phase} {v v' : Signed} (new : List ℕ) (len : ℕ) (s : Bool) (r : Phase) → IsView n m ws k v → len ≡ length ws → IsView n m ws' k' v'
+    → new ≡ xor_words ws ws' → s ≡ v.negative → r ≡ phase_add (phase_of_sign s) (string_power (row_letters m (take len (new ++ drop (length new) ws))))
     → IsView n m (take len (new ++ drop (length new) ws)) r (record v { letters = string_product v.letters v'.letters })
 written_resigned {n} {m} {ws} {ws'} {v = v} {v' = v'} new len s r mine l theirs e es er = record {
   row = row;
   letters = letters;
-  power = er ∙ (λ i. turn_add (sign_turn (es i)) ((padded-power n m (row_letters m (take len (new ++ drop (length new) ws))) row.padded ∙ ap string_power letters) i));
+  power = er ∙ (λ i. phase_add (phase_of_sign (es i)) ((padded-power n m (row_letters m (take len (new ++ drop (length new) ws))) row.padded ∙ ap string_power letters) i));
 }
   where
     is : IsRow n m new
@@ -160,23 +168,23 @@ written_resigned {n} {m} {ws} {ws'} {v = v} {v' = v'} new len s r mine l theirs 
     letters = letters-written n m ws new len mine.row l is ∙ product_letters new mine theirs e
 
 -- another string's words
-pub same_view : {n m : ℕ} {ws : List ℕ} {k : Turn} {v : Signed} (new : List ℕ) (r : Turn) → IsView n m ws k v → new ≡ ws → r ≡ k → IsView n m new r v
+pub same_view : {n m : ℕ} {ws : List ℕ} {k : Phase} {v : Signed} (new : List ℕ) (r : Phase) → IsView n m ws k v → new ≡ ws → r ≡ k → IsView n m new r v
 same_view {n} {m} {ws} {k} {v} new r mine e er = subst (λ w. IsView n m w r v) (sym e) (subst (λ t. IsView n m ws t v) (sym er) mine)
 
 -- a single string beside a table of the same length
-pub fitting : {n m : ℕ} {ws : List ℕ} {ps : List Turn} {v : Rows} {n' m' : ℕ} {ws' : List ℕ} {k' : Turn} {v' : Signed}
+pub fitting : {n m : ℕ} {ws : List ℕ} {ps : List Phase} {v : Rows} {n' m' : ℕ} {ws' : List ℕ} {k' : Phase} {v' : Signed}
     → IsSeen n m ws ps v → IsView n' m' ws' k' v' → length v'.letters ≡ v.qubits → IsFitting n m n' m' ws' k' v'
 fitting seen view l = fitting_numbers seen.lies.blocks (qubits_seen seen ∙ sym l ∙ length-view view) view
 
 -- two tables of the same numbers
 
-pub record AreAlike (n m : ℕ) (ws : List ℕ) (ps : List Turn) (n' m' : ℕ) (ws' : List ℕ) (ps' : List Turn) : Type 0 where
+pub record AreAlike (n m : ℕ) (ws : List ℕ) (ps : List Phase) (n' m' : ℕ) (ws' : List ℕ) (ps' : List Phase) : Type 0 where
   pub qubits : n ≡ n'
   pub blocks : m ≡ m'
   pub powers : length ps ≡ length ps'
   pub words : length ws ≡ length ws'
 
-pub both_seen : {n m : ℕ} {ws : List ℕ} {ps : List Turn} {v : Rows} {n' m' : ℕ} {ws' : List ℕ} {ps' : List Turn} {v' : Rows}
+pub both_seen : {n m : ℕ} {ws : List ℕ} {ps : List Phase} {v : Rows} {n' m' : ℕ} {ws' : List ℕ} {ps' : List Phase} {v' : Rows}
     → IsSeen n m ws ps v → IsSeen n' m' ws' ps' v' → v.qubits ≡ v'.qubits → length v.rows ≡ length v'.rows → AreAlike n m ws ps n' m' ws' ps'
 both_seen {n} {m} {ws} {ps} {v} {n'} {m'} {ws'} {ps'} {v'} mine theirs eq er = record {
   qubits = en;
@@ -194,36 +202,22 @@ both_seen {n} {m} {ws} {ps} {v} {n'} {m'} {ws'} {ps'} {v'} mine theirs eq er = r
     es : length ps ≡ length ps'
     es = sym (rows_seen mine) ∙ er ∙ rows_seen theirs
 
-pub copied_seen : {n m : ℕ} {ws : List ℕ} {ps : List Turn} {n' m' : ℕ} {ws' : List ℕ} {ps' : List Turn} {v' : Rows} (new : List ℕ) (news : List Turn) (len lens : ℕ)
-    → AreAlike n m ws ps n' m' ws' ps' → IsSeen n' m' ws' ps' v' → new ≡ ws' → news ≡ ps' → len ≡ length ws → lens ≡ length ps
-    → IsSeen n m (take len (new ++ drop (length new) ws)) (take lens (news ++ drop (length news) ps)) v'
-copied_seen {n} {m} {ws} {ps} {n'} {m'} {ws'} {ps'} {v'} new news len lens alike theirs e es l ls =
-    subst (λ k. IsSeen k m now nows v') (sym alike.qubits) (subst (λ k. IsSeen n' k now nows v') (sym alike.blocks)
-    (subst (λ w. IsSeen n' m' w nows v') (sym (written_all ws new len (ap length e ∙ sym alike.words) l ∙ e))
-    (subst (λ s. IsSeen n' m' ws' s v') (sym (written_all ps news lens (ap length es ∙ sym alike.powers) ls ∙ es)) theirs)))
-  where
-    now : List ℕ
-    now = take len (new ++ drop (length new) ws)
-
-    nows : List Turn
-    nows = take lens (news ++ drop (length news) ps)
-
 -- rows that have changed places
 
-pub swapped_seen : {n m : ℕ} {ws : List ℕ} {ps : List Turn} {v : Rows} → IsSeen n m ws ps v → (a b : ℕ) → a < length ps → b < length ps
+pub swapped_seen : {n m : ℕ} {ws : List ℕ} {ps : List Phase} {v : Rows} → IsSeen n m ws ps v → (a b : ℕ) → a < length ps → b < length ps
     → IsSeen n m (swapped_words (8 * m * a) (8 * m * b) (8 * m) ws) (set (set ps a (get_or ps b Zero)) b (get_or ps a Zero)) (swapped_rows v a b)
 swapped_seen {n} {m} {ws} {ps} {v} mine a b la lb =
     put_seen (put_seen mine a la (row_seen mine b lb)) b (rw (length-set ps a (get_or ps b Zero)) lb) (row_seen mine a la)
 
 -- a row whose sign was turned
-pub negated_seen : {n m : ℕ} {ws : List ℕ} {ps : List Turn} {v : Rows} → IsSeen n m ws ps v → (a : ℕ) (b : Bool) (x r : Turn) → a < length ps → x ≡ get_or ps a x → r ≡ turn_add x (sign_turn b)
+pub negated_seen : {n m : ℕ} {ws : List ℕ} {ps : List Phase} {v : Rows} → IsSeen n m ws ps v → (a : ℕ) (b : Bool) (x r : Phase) → a < length ps → x ≡ get_or ps a x → r ≡ phase_add x (phase_of_sign b)
     → IsSeen n m ws (set ps a r) (with_row v a (with_sign b (row_at v a)))
 negated_seen {n} {m} {ws} {ps} {v} mine a b x r la ex er =
     kept_words (8 * m * a) (8 * m) (row_fits m (length ps) a (length ws) la mine.lies.size)
     (put_seen mine a la (signed_view b x r (row_seen mine a la) (read_power ps a x la ex) er))
 
-pub swapped_written : {n m : ℕ} {ws : List ℕ} {ps : List Turn} {v : Rows} → IsSeen n m ws ps v → (a b : ℕ) → a < length ps → b < length ps
-    → (words : List ℕ) (powers : List Turn) (len : ℕ) → words ≡ swapped_words (8 * m * a) (8 * m * b) (8 * m) ws → powers ≡ set (set ps a (get_or ps b Zero)) b (get_or ps a Zero)
+pub swapped_written : {n m : ℕ} {ws : List ℕ} {ps : List Phase} {v : Rows} → IsSeen n m ws ps v → (a b : ℕ) → a < length ps → b < length ps
+    → (words : List ℕ) (powers : List Phase) (len : ℕ) → words ≡ swapped_words (8 * m * a) (8 * m * b) (8 * m) ws → powers ≡ set (set ps a (get_or ps b Zero)) b (get_or ps a Zero)
     → len ≡ length ws → IsSeen n m (take len (words ++ drop (length words) ws)) powers (swapped_rows v a b)
 swapped_written {n} {m} {ws} {ps} {v} mine a b la lb words powers len ew es l =
     subst (λ w. IsSeen n m w powers (swapped_rows v a b)) (sym (written_all ws words len (ap length ew ∙ length-swapped (8 * m * a) (8 * m * b) (8 * m) ws) l ∙ ew))

@@ -10,14 +10,14 @@ use Rattle.std.proofs.lemmas.List.Elements.{All-set, All-get_or}
 use Rattle.std.proofs.lemmas.Simd.{get_or-zip2, length-zip2, length-chunk, length-put_chunk}
 use Rattle.std.proofs.Math.Nat.{mul-le-mul_left}
 use Rattle.stab_pauli.specs.declared.letter.Letter.{Letter}
-use Rattle.stab_pauli.specs.declared.turn.Turn.{Turn}
-use Rattle.stab_pauli.specs.declared.turn.Turn.TheVariants.{Zero}
-use Rattle.stab_pauli.specs.Turns.{turn_add}
+use Rattle.stab_pauli.specs.declared.phase.Phase.{Phase}
+use Rattle.stab_pauli.specs.declared.phase.Phase.TheVariants.{Zero}
+use Rattle.stab_pauli.specs.Phases.{phase_add}
 use Rattle.stab_pauli.specs.Letters.{◌⊕◌, letter_product}
 use Rattle.stab_pauli.specs.Paulis.{identity, string_product}
 use Rattle.stab_pauli.specs.inner.Powers.{string_power, strings_meet, IsSign}
 use Rattle.stab_pauli.proofs.ParityLemmas.{parity-false}
-use Rattle.stab_pauli.proofs.TurnLemmas.{turn_add-zero}
+use Rattle.stab_pauli.proofs.PhaseLemmas.{phase_add-zero}
 use Rattle.stab_pauli.proofs.StringLemmas.{string_product-blank}
 use Rattle.stab_pauli.proofs.PowerLemmas.{strings_meet-append, strings_meet-blank, string_power-append, string_power-blank}
 use Rattle.stab_pauli.specs.Rows.{Rows, row_at, with_row}
@@ -121,8 +121,8 @@ pub padded-power : (n m : ℕ) (p : List Letter) → IsPadded n m p → string_p
 padded-power n m p hp =
     ap string_power (sym (take-append-drop n p))
     ∙ string_power-append (take n p) (drop n p)
-    ∙ ap (turn_add (string_power (take n p))) (ap string_power hp ∙ string_power-blank (256 * m - n))
-    ∙ turn_add-zero (string_power (take n p))
+    ∙ ap (phase_add (string_power (take n p))) (ap string_power hp ∙ string_power-blank (256 * m - n))
+    ∙ phase_add-zero (string_power (take n p))
 
 -- a power and letters that are put together
 
@@ -135,23 +135,23 @@ zip2-set f (x' ∷ xs) (y' ∷ ys) (suc a) x y e = ap (λ t. f x' y' ∷ t) (zip
 
 -- tables
 
-pub row_at-table : (n m : ℕ) (ws : List ℕ) (ps : List Turn) (a : ℕ) → a < length ps → row_at (table n m ws ps) a ≡ signed_row n (get_or ps a Zero) (row_letters m (chunk (8 * m * a) (8 * m) ws))
+pub row_at-table : (n m : ℕ) (ws : List ℕ) (ps : List Phase) (a : ℕ) → a < length ps → row_at (table n m ws ps) a ≡ signed_row n (get_or ps a Zero) (row_letters m (chunk (8 * m * a) (8 * m) ws))
 row_at-table n m ws ps a lt =
     get_or-zip2 (signed_row n) ps (full_rows m ws (length ps)) a Zero [] (identity n) lt (rw (length-full_rows m ws (length ps)) lt)
     ∙ ap (signed_row n (get_or ps a Zero)) (get_or-full_rows m ws (length ps) a [] lt)
 
-zip2-put : {A : Type 0} (f : Turn → List Letter → A) (n m : ℕ) (ws : List ℕ) (ps : List Turn) (a : ℕ) (new : List ℕ) (k : Turn) → IsTable n m ws ps → a < length ps → length new ≡ 8 * m
+zip2-put : {A : Type 0} (f : Phase → List Letter → A) (n m : ℕ) (ws : List ℕ) (ps : List Phase) (a : ℕ) (new : List ℕ) (k : Phase) → IsTable n m ws ps → a < length ps → length new ≡ 8 * m
     → zip2 f (set ps a k) (full_rows m (put_chunk (8 * m * a) ws new) (length (set ps a k))) ≡ set (zip2 f ps (full_rows m ws (length ps))) a (f k (row_letters m new))
 zip2-put f n m ws ps a new k is lt l =
     ap (λ c. zip2 f (set ps a k) (full_rows m (put_chunk (8 * m * a) ws new) c)) (length-set ps a k)
     ∙ ap (zip2 f (set ps a k)) (full_rows-put m (length ps) ws a new lt (let z = is.size in omega arith) l)
     ∙ zip2-set f ps (full_rows m ws (length ps)) a k (row_letters m new) (sym (length-full_rows m ws (length ps)))
 
-pub table-put : (n m : ℕ) (ws : List ℕ) (ps : List Turn) (a : ℕ) (new : List ℕ) (k : Turn) → IsTable n m ws ps → a < length ps → length new ≡ 8 * m
+pub table-put : (n m : ℕ) (ws : List ℕ) (ps : List Phase) (a : ℕ) (new : List ℕ) (k : Phase) → IsTable n m ws ps → a < length ps → length new ≡ 8 * m
     → table n m (put_chunk (8 * m * a) ws new) (set ps a k) ≡ with_row (table n m ws ps) a (signed_row n k (row_letters m new))
 table-put n m ws ps a new k is lt l = λ i. record { qubits = n; rows = zip2-put (signed_row n) n m ws ps a new k is lt l i }
 
-pub IsTable-put : (n m : ℕ) (ws : List ℕ) (ps : List Turn) (a : ℕ) (new : List ℕ) (k : Turn) → IsTable n m ws ps → a < length ps → IsSignedRow n m k new
+pub IsTable-put : (n m : ℕ) (ws : List ℕ) (ps : List Phase) (a : ℕ) (new : List ℕ) (k : Phase) → IsTable n m ws ps → a < length ps → IsSignedRow n m k new
     → IsTable n m (put_chunk (8 * m * a) ws new) (set ps a k)
 IsTable-put n m ws ps a new k is lt put = record {
   blocks = is.blocks;
@@ -170,19 +170,19 @@ row_fits m count a size lt e =
     let one : 8 * m * suc a ≡ 8 * m * a + 8 * m = grind arith in
     omega arith
 
-pub padded-row : (n m : ℕ) (ws : List ℕ) (ps : List Turn) (a : ℕ) → IsTable n m ws ps → a < length ps → IsPadded n m (row_letters m (chunk (8 * m * a) (8 * m) ws))
+pub padded-row : (n m : ℕ) (ws : List ℕ) (ps : List Phase) (a : ℕ) → IsTable n m ws ps → a < length ps → IsPadded n m (row_letters m (chunk (8 * m * a) (8 * m) ws))
 padded-row n m ws ps a is lt =
     subst (IsPadded n m) (get_or-full_rows m ws (length ps) a [] lt)
     (All-get_or (IsPadded n m) (full_rows m ws (length ps)) a [] (rw (length-full_rows m ws (length ps)) lt) is.padded)
 
-pub sign-row : (n m : ℕ) (ws : List ℕ) (ps : List Turn) (a : ℕ) → IsTable n m ws ps → a < length ps → IsSign (row_sign n (get_or ps a Zero) (row_letters m (chunk (8 * m * a) (8 * m) ws)))
+pub sign-row : (n m : ℕ) (ws : List ℕ) (ps : List Phase) (a : ℕ) → IsTable n m ws ps → a < length ps → IsSign (row_sign n (get_or ps a Zero) (row_letters m (chunk (8 * m * a) (8 * m) ws)))
 sign-row n m ws ps a is lt =
     subst IsSign
     (get_or-zip2 (row_sign n) ps (full_rows m ws (length ps)) a Zero [] Zero lt (rw (length-full_rows m ws (length ps)) lt)
     ∙ ap (row_sign n (get_or ps a Zero)) (get_or-full_rows m ws (length ps) a [] lt))
     (All-get_or IsSign (zip2 (row_sign n) ps (full_rows m ws (length ps))) a Zero (rw (length-zip2 (row_sign n) ps (full_rows m ws (length ps)) (sym (length-full_rows m ws (length ps)))) lt) is.signs)
 
-pub length-row_at : (m : ℕ) (ws : List ℕ) (ss : List Turn) (a : ℕ) → length ws ≡ 8 * m * length ss → a < length ss → length (chunk (8 * m * a) (8 * m) ws) ≡ 8 * m
+pub length-row_at : (m : ℕ) (ws : List ℕ) (ss : List Phase) (a : ℕ) → length ws ≡ 8 * m * length ss → a < length ss → length (chunk (8 * m * a) (8 * m) ws) ≡ 8 * m
 length-row_at m ws ss a e lt = length-chunk (8 * m * a) (8 * m) ws (row_fits m (length ss) a (length ws) lt e)
 
 -- two rows do not overlap
@@ -195,7 +195,7 @@ rows_apart m a b h = by_order (cases_order a b)
     by_order (inr (inr lt)) = inr (row_fits m a b (8 * m * a) lt refl)
 
 -- what a caller sees of the number of rows
-pub length-table : (n m : ℕ) (ws : List ℕ) (ss : List Turn) (v : Rows) → table n m ws ss ≡ v → length v.rows ≡ length ss
+pub length-table : (n m : ℕ) (ws : List ℕ) (ss : List Phase) (v : Rows) → table n m ws ss ≡ v → length v.rows ≡ length ss
 length-table n m ws ss v e = ap (λ (r : Rows). length r.rows) (sym e) ∙ length-zip2 (signed_row n) ss (full_rows m ws (length ss)) (sym (length-full_rows m ws (length ss)))
 
 -- words of a vector that were written through a slice

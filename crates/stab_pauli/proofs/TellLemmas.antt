@@ -1,6 +1,6 @@
 -- Rows are told by their letters: equal letters lie in equal words.
 use Rattle.std.proofs.Common.{◌≡◌, ℕ, zero, suc, ◌+◌, ◌*◌, ◌/◌, ◌%◌, ◌^◌, ◌<◌, Bool, true, false, refl, sym, ◌∙◌, ap, List, [], ◌∷◌, ◌++◌, length, get_or, take, drop, map, arith, rules, subst, inl, inr, eqb, length-drop}
-use Rattle.std.specs.Prelude.{◌⊎◌}
+use Rattle.std.specs.Prelude.{◌⊎◌, ◌↔◌}
 use Rattle.std.specs.List.{All}
 use Rattle.std.specs.Bool.{IsTrue}
 use Rattle.std.specs.Simd.Lanes.{zip2}
@@ -9,9 +9,9 @@ use Rattle.std.proofs.lemmas.List.{take_at, drop_at, take-append-drop, drop-drop
 use Rattle.std.proofs.lemmas.List.Elements.{All-head, All-tail}
 use Rattle.stab_pauli.specs.declared.letter.Letter.{Letter}
 use Rattle.stab_pauli.specs.declared.letter.Letter.TheVariants.{I, X, Y, Z}
-use Rattle.stab_pauli.specs.declared.turn.Turn.{Turn}
-use Rattle.stab_pauli.specs.declared.turn.Turn.TheVariants.{Zero}
-use Rattle.stab_pauli.specs.Flips.{flips}
+use Rattle.stab_pauli.specs.declared.phase.Phase.{Phase}
+use Rattle.stab_pauli.specs.declared.phase.Phase.TheVariants.{Zero}
+use Rattle.stab_pauli.specs.XParts.{has_x}
 use Rattle.stab_pauli.specs.Paulis.{Signed}
 use Rattle.stab_pauli.specs.Rows.{Rows, unsigned_rows}
 use Rattle.stab_pauli.specs.inner.Words.{lowest, letter_of_bits, word_letters, packed_letters, AreShort}
@@ -19,7 +19,7 @@ use Rattle.stab_pauli.specs.inner.Blocks.{row_letters, blocks_of, full_rows, IsP
 use Rattle.stab_pauli.specs.inner.Powers.{power_of, IsSign}
 use Rattle.stab_pauli.proofs.PowerLemmas.{power_told, power_of-tells}
 use Rattle.stab_pauli.proofs.BitLemmas.{two_cases, below_two}
-use Rattle.stab_pauli.proofs.PlaceLemmas.{flips_bits}
+use Rattle.stab_pauli.proofs.PlaceLemmas.{has_x_bits}
 use Rattle.stab_pauli.proofs.PackedLemmas.{length-word_letters}
 use Rattle.stab_pauli.proofs.RowLemmas.{length-front, length-second, length-rest, length-block}
 use Rattle.stab_pauli.proofs.TableLemmas.{length-full_rows}
@@ -28,24 +28,24 @@ use Rattle.stab_pauli.proofs.SeenLemmas.{IsSeen, rows_seen, AreAlike, both_seen}
 -- letters
 
 -- whether a letter has a Z bit
-flips_phase : Letter → Bool
-flips_phase I = false
-flips_phase X = false
-flips_phase Y = true
-flips_phase Z = true
+has_z : Letter → Bool
+has_z I = false
+has_z X = false
+has_z Y = true
+has_z Z = true
 
-phase_bits : (x z : Bool) → flips_phase (letter_of_bits x z) ≡ z
-unfolding flips_phase
-phase_bits false false = refl
-phase_bits false true = refl
-phase_bits true false = refl
-phase_bits true true = refl
+z_bits : (x z : Bool) → has_z (letter_of_bits x z) ≡ z
+unfolding has_z
+z_bits false false = refl
+z_bits false true = refl
+z_bits true false = refl
+z_bits true true = refl
 
 x_told : (a b c d : Bool) → letter_of_bits a b ≡ letter_of_bits c d → a ≡ c
-x_told a b c d e = sym (flips_bits a b) ∙ ap flips e ∙ flips_bits c d
+x_told a b c d e = sym (has_x_bits a b) ∙ ap has_x e ∙ has_x_bits c d
 
 z_told : (a b c d : Bool) → letter_of_bits a b ≡ letter_of_bits c d → b ≡ d
-z_told a b c d e = sym (phase_bits a b) ∙ ap flips_phase e ∙ phase_bits c d
+z_told a b c d e = sym (z_bits a b) ∙ ap has_z e ∙ z_bits c d
 
 -- words
 
@@ -183,13 +183,13 @@ padded_told n m (l ∷ ls) (l' ∷ ls') h h' e =
 
 -- what contracts see of letters and powers
 
-letters_zip : (n : ℕ) (ps : List Turn) (ls : List (List Letter)) → length ps ≡ length ls → map (λ (p : Signed). p.letters) (zip2 (signed_row n) ps ls) ≡ map (take n) ls
+letters_zip : (n : ℕ) (ps : List Phase) (ls : List (List Letter)) → length ps ≡ length ls → map (λ (p : Signed). p.letters) (zip2 (signed_row n) ps ls) ≡ map (take n) ls
 letters_zip n [] [] e = refl
 letters_zip n [] (l ∷ ls) e = absurd (omega arith)
 letters_zip n (s ∷ ps) [] e = absurd (omega arith)
 letters_zip n (s ∷ ps) (l ∷ ls) e = ap (λ t. take n l ∷ t) (letters_zip n ps ls (omega arith))
 
-powers_zip : (n : ℕ) (ps : List Turn) (ls : List (List Letter)) → length ps ≡ length ls → All IsSign (zip2 (row_sign n) ps ls) → map power_of (zip2 (signed_row n) ps ls) ≡ ps
+powers_zip : (n : ℕ) (ps : List Phase) (ls : List (List Letter)) → length ps ≡ length ls → All IsSign (zip2 (row_sign n) ps ls) → map power_of (zip2 (signed_row n) ps ls) ≡ ps
 powers_zip n [] [] e h = refl
 powers_zip n [] (l ∷ ls) e h = absurd (omega arith)
 powers_zip n (k ∷ ps) [] e h = absurd (omega arith)
@@ -197,29 +197,37 @@ powers_zip n (k ∷ ps) (l ∷ ls) e h =
     λ i. sym (power_told k (take n l) (All-head IsSign (row_sign n k l) (zip2 (row_sign n) ps ls) h)) i
     ∷ powers_zip n ps ls (omega arith) (All-tail IsSign (row_sign n k l) (zip2 (row_sign n) ps ls) h) i
 
-pub letters_seen : {n m : ℕ} {ws : List ℕ} {ps : List Turn} {v : Rows} → IsSeen n m ws ps v → unsigned_rows v ≡ map (take n) (full_rows m ws (length ps))
+pub letters_seen : {n m : ℕ} {ws : List ℕ} {ps : List Phase} {v : Rows} → IsSeen n m ws ps v → unsigned_rows v ≡ map (take n) (full_rows m ws (length ps))
 letters_seen {n} {m} {ws} {ps} seen = ap unsigned_rows (sym seen.is) ∙ letters_zip n ps (full_rows m ws (length ps)) (sym (length-full_rows m ws (length ps)))
 
 -- the powers of i before the bits of all
-abbrev pub powers_of : Rows → List Turn
+abbrev pub powers_of : Rows → List Phase
 powers_of r = map power_of r.rows
 
-pub powers_seen : {n m : ℕ} {ws : List ℕ} {ps : List Turn} {v : Rows} → IsSeen n m ws ps v → powers_of v ≡ ps
+pub powers_seen : {n m : ℕ} {ws : List ℕ} {ps : List Phase} {v : Rows} → IsSeen n m ws ps v → powers_of v ≡ ps
 powers_seen {n} {m} {ws} {ps} seen = ap powers_of (sym seen.is) ∙ powers_zip n ps (full_rows m ws (length ps)) (sym (length-full_rows m ws (length ps))) seen.lies.signs
 
 length-unsigned : (v : Rows) → length (unsigned_rows v) ≡ length v.rows
 length-unsigned v = simp length-map
 
 -- equal letters are of equally many rows
-pub same_number : {n m : ℕ} {ws : List ℕ} {ps : List Turn} {v : Rows} {n' m' : ℕ} {ws' : List ℕ} {ps' : List Turn} {v' : Rows}
+pub same_number : {n m : ℕ} {ws : List ℕ} {ps : List Phase} {v : Rows} {n' m' : ℕ} {ws' : List ℕ} {ps' : List Phase} {v' : Rows}
     → IsSeen n m ws ps v → IsSeen n' m' ws' ps' v' → unsigned_rows v ≡ unsigned_rows v' → length ps ≡ length ps'
 same_number {v = v} {v' = v'} mine theirs el = sym (rows_seen mine) ∙ sym (length-unsigned v) ∙ ap length el ∙ length-unsigned v' ∙ rows_seen theirs
 
 pub no_false : IsTrue false → ⊥
 no_false h = search rules
 
+-- tables of other powers are not the same
+pub powers_apart : {n m : ℕ} {ws : List ℕ} {ps : List Phase} {v : Rows} {n' m' : ℕ} {ws' : List ℕ} {ps' : List Phase} {v' : Rows}
+    → IsSeen n m ws ps v → IsSeen n' m' ws' ps' v' → {mine theirs : List Phase} → mine ≡ ps → theirs ≡ ps' → (mine ≡ theirs → IsTrue false) → IsTrue false ↔ (v ≡ v')
+powers_apart seen seen' e e' alike = (
+  (λ h. absurd (no_false h)),
+  (λ same. absurd (no_false (alike (e ∙ sym (powers_seen seen) ∙ ap powers_of same ∙ powers_seen seen' ∙ sym e')))),
+)
+
 -- equal letters lie in equal words
-pub words_told : {n m : ℕ} {ws : List ℕ} {ps : List Turn} {v : Rows} {n' m' : ℕ} {ws' : List ℕ} {ps' : List Turn} {v' : Rows}
+pub words_told : {n m : ℕ} {ws : List ℕ} {ps : List Phase} {v : Rows} {n' m' : ℕ} {ws' : List ℕ} {ps' : List Phase} {v' : Rows}
     → IsSeen n m ws ps v → IsSeen n' m' ws' ps' v' → AreShort 64 ws → AreShort 64 ws' → v.qubits ≡ v'.qubits → unsigned_rows v ≡ unsigned_rows v' → ws ≡ ws'
 words_told {n} {m} {ws} {ps} {v} {n'} {m'} {ws'} {ps'} {v'} mine theirs short short' eq el =
     rows_told m (length ps) ws ws' mine.lies.size (sym both.words ∙ mine.lies.size) short short'
@@ -238,7 +246,7 @@ words_told {n} {m} {ws} {ps} {v} {n'} {m'} {ws'} {ps'} {v'} mine theirs short sh
         (subst (λ k. All (IsPadded n k) (full_rows k ws' (length ps'))) (sym both.blocks) (subst (λ k. All (IsPadded k m') (full_rows m' ws' (length ps'))) (sym both.qubits) theirs.lies.padded))
 
 -- and equal words have equal letters
-pub letters_told : {n m : ℕ} {ws : List ℕ} {ps : List Turn} {v : Rows} {n' m' : ℕ} {ws' : List ℕ} {ps' : List Turn} {v' : Rows}
+pub letters_told : {n m : ℕ} {ws : List ℕ} {ps : List Phase} {v : Rows} {n' m' : ℕ} {ws' : List ℕ} {ps' : List Phase} {v' : Rows}
     → IsSeen n m ws ps v → IsSeen n' m' ws' ps' v' → n ≡ n' → length ps ≡ length ps' → ws ≡ ws' → unsigned_rows v ≡ unsigned_rows v'
 letters_told {n} {m} {ws} {ps} {v} {n'} {m'} {ws'} {ps'} {v'} mine theirs en es ew =
     letters_seen mine ∙ (λ i. map (take (en i)) (full_rows (em i) (ew i) (es i))) ∙ sym (letters_seen theirs)
@@ -253,12 +261,12 @@ rows_by (u ∷ us) [] ep el = absurd (let z = ap length ep in omega arith)
 rows_by (u ∷ us) (v ∷ vs) ep el = λ i. record { negative = power_of-tells u v letters power i; letters = letters i } ∷ rows_by us vs (ap (drop 1) ep) (ap (drop 1) el) i
   where
     power : power_of u ≡ power_of v
-    power = ap (λ (l : List Turn). get_or l 0 Zero) ep
+    power = ap (λ (l : List Phase). get_or l 0 Zero) ep
 
     letters : u.letters ≡ v.letters
     letters = ap (λ (l : List (List Letter)). get_or l 0 []) el
 
 -- letters and powers tell the rows
-pub all_told : {n m : ℕ} {ws : List ℕ} {ps : List Turn} {v : Rows} {n' m' : ℕ} {ws' : List ℕ} {ps' : List Turn} {v' : Rows}
+pub all_told : {n m : ℕ} {ws : List ℕ} {ps : List Phase} {v : Rows} {n' m' : ℕ} {ws' : List ℕ} {ps' : List Phase} {v' : Rows}
     → IsSeen n m ws ps v → IsSeen n' m' ws' ps' v' → ps ≡ ps' → v.qubits ≡ v'.qubits → unsigned_rows v ≡ unsigned_rows v' → v ≡ v'
 all_told {v = v} {v' = v'} mine theirs es eq el = λ i. record { qubits = eq i; rows = rows_by v.rows v'.rows (powers_seen mine ∙ es ∙ sym (powers_seen theirs)) el i }

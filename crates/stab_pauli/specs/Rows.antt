@@ -1,9 +1,10 @@
 -- Several signed Pauli strings of one length, side by side.
+-- Source: the rows of a tableau in Aaronson and Gottesman 2004, section III, of any number and in any relation.
 use Rattle.std.specs.Prelude.{ℕ, ◌≡◌, ◌<◌, List, length, map, slice_index_or, slice_set}
 use Rattle.stab_pauli.specs.declared.letter.Letter.{Letter}
-use Rattle.stab_pauli.specs.declared.turn.Turn.TheVariants.{Quarter}
-use Rattle.stab_pauli.specs.Turns.{turn_add, sign_of_turn}
-use Rattle.stab_pauli.specs.Paulis.{Signed, identity, product_turn, string_product}
+use Rattle.stab_pauli.specs.declared.phase.Phase.TheVariants.{Quarter}
+use Rattle.stab_pauli.specs.Phases.{phase_add, sign_of_phase}
+use Rattle.stab_pauli.specs.Paulis.{Signed, identity, product_phase, string_product}
 
 -- signed strings of one length
 pub record Rows : Type 0 where
@@ -35,5 +36,5 @@ abbrev pub unsigned_rows : Rows → List (List Letter)
 unsigned_rows r = map (λ p. p.letters) r.rows
 
 -- i times the product of two strings that anticommute
-abbrev pub turned_product : Signed → Signed → Signed
-turned_product p q = record { negative = sign_of_turn (turn_add Quarter (product_turn p q)); letters = string_product p.letters q.letters }
+abbrev pub product_times_i : Signed → Signed → Signed
+product_times_i p q = record { negative = sign_of_phase (phase_add Quarter (product_phase p q)); letters = string_product p.letters q.letters }

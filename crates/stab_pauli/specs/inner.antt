@@ -1,4 +1,3 @@
-pub mod Told
 pub mod Words
 pub mod Powers
 pub mod Blocks

@@ -3,9 +3,9 @@ mod compact;
 use super::letter::Letter;
 use super::packed::{flat, row};
 use super::pauli::Pauli;
-use super::refusal::Refusal;
-use super::turn::Turn;
+use super::phase::Phase;
 pub use compact::CompactRows;
+use stab_io::Refusal;
 use std::alloc::Global;
 use std::marker::Model;
 
@@ -18,7 +18,7 @@ pub struct PauliRows {
     blocks: usize,
     words: Vec<u64>,
     // The power of i before the X bits and then the Z bits of each.
-    powers: Vec<Turn>,
+    powers: Vec<Phase>,
 }
 
 // Written out, so that to a proof rows that are let go are one call, and not one for each of their parts.
@@ -48,12 +48,12 @@ impl PauliRows {
     ghost use Rattle.std.specs.Prelude.{◌≡◌, ◌≢◌, ◌<◌, ◌≤◌, ◌^◌, ◌↔◌, true, false, length, take, replicate, slice_index_or, slice_set, IfOk, IfErr, IfSome, IfNone, IsTrue};
     ghost use Rattle.std.specs.List.{list_any};
     ghost use Rattle.stab_pauli.specs.Paulis.{identity, with_sign, anticommute, product};
-    ghost use Rattle.stab_pauli.specs.Phaseds.{phased, turned, phased_product};
-    ghost use Rattle.stab_pauli.specs.Flips.{flips};
-    ghost use Rattle.stab_pauli.specs.Rows.{row_at, with_row, with_letter, swapped_rows, turned_product, unsigned_rows, AreOver};
+    ghost use Rattle.stab_pauli.specs.Phaseds.{phased, times_phase, phased_product};
+    ghost use Rattle.stab_pauli.specs.XParts.{has_x};
+    ghost use Rattle.stab_pauli.specs.Rows.{row_at, with_row, with_letter, swapped_rows, product_times_i, unsigned_rows};
     ghost use Rattle.stab_pauli.specs.declared.letter.Letter.TheVariants.{I};
-    ghost use Rattle.stab_pauli.specs.declared.turn.Turn.TheVariants.{Quarter};
-    ghost use Rattle.stab_pauli.specs.declared.refusal.Refusal.TheVariants.{OutOfMemory};
+    ghost use Rattle.stab_pauli.specs.declared.phase.Phase.TheVariants.{Quarter};
+    ghost use Rattle.stab_io.specs.declared.refusal.Refusal.TheVariants.{OutOfMemory};
 
     /// So many strings of letters I with the sign +.
     ///
@@ -66,7 +66,7 @@ impl PauliRows {
     {
         let blocks = row::blocks_of(qubits);
         let words = vec![in alloc; 0; 8 * blocks * rows]?;
-        let powers = vec![in alloc; Turn::Zero; rows]?;
+        let powers = vec![in alloc; Phase::Zero; rows]?;
         Ok(PauliRows {
             qubits,
             blocks,
@@ -90,20 +90,6 @@ impl PauliRows {
         })
     }
 
-    /// Makes these strings the other ones, in the memory that they have.
-    pub fn copy_from(&mut self, other: &PauliRows)
-        requires same_qubits { self.old.qubits ≡ other.now.qubits }
-        requires same_number { length self.old.rows ≡ length other.now.rows }
-        ensures value { self.new ≡ other.now }
-    {
-        self.words
-            .as_mut_slice()
-            .copy_from_slice(other.words.as_slice());
-        self.powers
-            .as_mut_slice()
-            .copy_from_slice(other.powers.as_slice());
-    }
-
     /// The number of strings.
     pub fn len(&self) -> usize
         ensures value { result ≡ length self.now.rows }
@@ -118,13 +104,6 @@ impl PauliRows {
         self.qubits
     }
 
-    /// A law, and no work: each string has a letter for each qubit.
-    pub fn are_over(&self)
-        ensures law { AreOver self.now }
-    {
-        let _ = &self.words;
-    }
-
     /// The letter of row a at a qubit.
     #[inline(always)]
     pub fn letter(&self, a: usize, qubit: usize) -> Letter
@@ -136,15 +115,15 @@ impl PauliRows {
         row::letter(self.blocks, words, qubit)
     }
 
-    /// Whether the letter of row a at a qubit flips a bit, as X and Y do: one bit of one word.
+    /// Whether the letter of row a at a qubit is X or Y: one bit of one word.
     #[inline(always)]
-    pub fn flips(&self, a: usize, qubit: usize) -> bool
+    pub fn has_x(&self, a: usize, qubit: usize) -> bool
         requires in_range { a < length self.now.rows }
         requires qubit_in_range { qubit < self.now.qubits }
-        ensures value { result ≡ flips (slice_index_or (row_at self.now a).letters qubit I) }
+        ensures value { result ≡ has_x (slice_index_or (row_at self.now a).letters qubit I) }
     {
         let words = flat::row_of(self.words.as_slice(), self.powers.len(), self.blocks, a);
-        row::flips_at(self.blocks, words, qubit)
+        row::has_x_at(self.blocks, words, qubit)
     }
 
     /// Whether the sign of row a is -.
@@ -157,27 +136,27 @@ impl PauliRows {
         row::is_negative(self.blocks, words, self.powers[a])
     }
 
-    /// Whether the sign of row a is -, where no letter of it flips a bit: then none has to be looked at.
+    /// Whether the sign of row a is -, where no letter of it is X or Y: then none has to be looked at.
     #[inline(always)]
     pub fn fixed_sign(&self, a: usize) -> bool
         requires in_range { a < length self.now.rows }
-        requires fixed { list_any flips (row_at self.now a).letters ≡ false }
+        requires fixed { list_any has_x (row_at self.now a).letters ≡ false }
         ensures value { result ≡ (row_at self.now a).negative }
     {
         self.powers[a].sign()
     }
 
-    /// The first qubit whose letter in row a flips a bit.
+    /// The first qubit whose letter in row a is X or Y.
     #[inline(always)]
-    pub fn first_flip(&self, a: usize) -> Option<usize>
+    pub fn first_x(&self, a: usize) -> Option<usize>
         requires in_range { a < length self.now.rows }
-        ensures none { IfNone result (list_any flips (row_at self.now a).letters ≡ false) }
+        ensures none { IfNone result (list_any has_x (row_at self.now a).letters ≡ false) }
         ensures in_range { IfSome result (λ k. k < self.now.qubits) }
-        ensures flips { IfSome result (λ k. flips (slice_index_or (row_at self.now a).letters k I) ≡ true) }
-        ensures first { IfSome result (λ k. list_any flips (take k (row_at self.now a).letters) ≡ false) }
+        ensures has_x { IfSome result (λ k. has_x (slice_index_or (row_at self.now a).letters k I) ≡ true) }
+        ensures first { IfSome result (λ k. list_any has_x (take k (row_at self.now a).letters) ≡ false) }
     {
         let words = flat::row_of(self.words.as_slice(), self.powers.len(), self.blocks, a);
-        row::first_flip(self.blocks, words)
+        row::first_x(self.blocks, words)
     }
 
     /// Puts a letter at a qubit of row a, and keeps the sign and all other letters.
@@ -206,7 +185,7 @@ impl PauliRows {
         requires in_range { a < length self.old.rows }
         ensures value { self.new ≡ with_row self.old a (with_sign bit (row_at self.old a)) }
     {
-        self.powers[a] = self.powers[a].times(Turn::of_sign(bit));
+        self.powers[a] = self.powers[a].times(Phase::of_sign(bit));
     }
 
     /// Makes the letters of row a I and its sign +.
@@ -217,7 +196,7 @@ impl PauliRows {
     {
         let count = self.powers.len();
         flat::clear(self.words.as_mut_slice(), count, self.blocks, a);
-        self.powers[a] = Turn::Zero;
+        self.powers[a] = Phase::Zero;
     }
 
     /// Exchanges row a and row b.
@@ -250,42 +229,28 @@ impl PauliRows {
     /// Makes row a i times the product of itself and row b, with which it anticommutes, in this order, which has a sign
     /// again.
     #[inline(always)]
-    pub fn multiply_turned(&mut self, a: usize, b: usize)
+    pub fn multiply_times_i(&mut self, a: usize, b: usize)
         requires a_in_range { a < length self.old.rows }
         requires b_in_range { b < length self.old.rows }
         requires apart { a ≢ b }
         requires anticommuting { anticommute (row_at self.old a) (row_at self.old b) ≡ true }
-        ensures value { self.new ≡ with_row self.old a (turned_product (row_at self.old a) (row_at self.old b)) }
-        ensures phased { phased (row_at self.new a) ≡ turned Quarter (phased_product (phased (row_at self.old a)) (phased (row_at self.old b))) }
+        ensures value { self.new ≡ with_row self.old a (product_times_i (row_at self.old a) (row_at self.old b)) }
+        ensures phased { phased (row_at self.new a) ≡ times_phase Quarter (phased_product (phased (row_at self.old a)) (phased (row_at self.old b))) }
     {
         let count = self.powers.len();
         let meet = flat::multiply(self.words.as_mut_slice(), count, self.blocks, a, b);
         self.powers[a] = row::product_power(self.powers[a], self.powers[b], meet).times_i();
     }
 
-    /// Makes row a the product of itself and another string, with which it commutes, in this order.
-    #[inline(always)]
-    pub fn multiply_by(&mut self, a: usize, other: &Pauli)
-        requires in_range { a < length self.old.rows }
-        requires same_length { length other.now.letters ≡ self.old.qubits }
-        requires commuting { anticommute (row_at self.old a) other.now ≡ false }
-        ensures value { self.new ≡ with_row self.old a (product (row_at self.old a) other.now) }
-    {
-        let count = self.powers.len();
-        let words = self.words.as_mut_slice();
-        let meet = flat::multiply_by(words, count, self.blocks, a, other.words.as_slice());
-        self.powers[a] = row::product_power(self.powers[a], other.power, meet);
-    }
-
     /// Makes row a i times the product of itself and another string, with which it anticommutes, in this order, which
     /// has a sign again.
     #[inline(always)]
-    pub fn multiply_turned_by(&mut self, a: usize, other: &Pauli)
+    pub fn multiply_by_times_i(&mut self, a: usize, other: &Pauli)
         requires in_range { a < length self.old.rows }
         requires same_length { length other.now.letters ≡ self.old.qubits }
         requires anticommuting { anticommute (row_at self.old a) other.now ≡ true }
-        ensures value { self.new ≡ with_row self.old a (turned_product (row_at self.old a) other.now) }
-        ensures phased { phased (row_at self.new a) ≡ turned Quarter (phased_product (phased (row_at self.old a)) (phased other.now)) }
+        ensures value { self.new ≡ with_row self.old a (product_times_i (row_at self.old a) other.now) }
+        ensures phased { phased (row_at self.new a) ≡ times_phase Quarter (phased_product (phased (row_at self.old a)) (phased other.now)) }
     {
         let count = self.powers.len();
         let words = self.words.as_mut_slice();
@@ -309,12 +274,12 @@ impl PauliRows {
     /// Makes a string i times the product of itself and row a, with which it anticommutes, in this order, which has a
     /// sign again.
     #[inline(always)]
-    pub fn multiply_turned_into(&self, a: usize, out: &mut Pauli)
+    pub fn multiply_into_times_i(&self, a: usize, out: &mut Pauli)
         requires in_range { a < length self.now.rows }
         requires same_length { length out.old.letters ≡ self.now.qubits }
         requires anticommuting { anticommute out.old (row_at self.now a) ≡ true }
-        ensures value { out.new ≡ turned_product out.old (row_at self.now a) }
-        ensures phased { phased out.new ≡ turned Quarter (phased_product (phased out.old) (phased (row_at self.now a))) }
+        ensures value { out.new ≡ product_times_i out.old (row_at self.now a) }
+        ensures phased { phased out.new ≡ times_phase Quarter (phased_product (phased out.old) (phased (row_at self.now a))) }
     {
         let words = flat::row_of(self.words.as_slice(), self.powers.len(), self.blocks, a);
         let meet = row::multiply(self.blocks, out.words.as_mut_slice(), words);

@@ -2,10 +2,10 @@
 use Rattle.std.proofs.Common.{◌≡◌, ◌++◌, ℕ, refl, List, [], Result, Ok, Err, OnOk, ap, sym, subst, ◌∙◌, append_assoc}
 use Rattle.std.proofs.lemmas.List.{append-nil}
 use Rattle.std.specs.Result.{IsErrAnd}
-use Rattle.stab_pauli.specs.Devices.{OutputView}
-use Rattle.stab_pauli.specs.declared.refusal.Refusal.{Refusal}
-use Rattle.stab_pauli.proofs.DeviceLemmas.{WroteUpTo, wrote_none, took_more, wrote_and_failed}
-use Rattle.stab_results.specs.inner.Gathered.{Puts}
+use Rattle.stab_io.specs.Devices.{OutputView}
+use Rattle.stab_io.specs.declared.refusal.Refusal.{Refusal}
+use Rattle.stab_io.proofs.DeviceLemmas.{WroteUpTo, wrote_none, took_more, wrote_and_failed}
+use Rattle.stab_results.specs.inner.ByteBuffer.{Puts}
 
 -- of some bytes that are put behind those held, a rest is left, no call has failed so far, and others are held now
 pub record Underway (old mid : OutputView) (held now bytes left : List ℕ) : Type 0 where

@@ -1,4 +1,5 @@
 -- Result formats: the bytes of one shot, over the places of its 1 bits or over groups of eight bits.
+-- Source: Stim's documentation of result formats, for one shot at a time. `ptb64` is left out.
 use Rattle.std.specs.Prelude.{ℕ, ◌+◌, ◌*◌, ◌-◌, ◌/◌, ◌%◌, nat_lt, if◌then◌else◌, Bool, true, false, List, [], ◌∷◌, ◌++◌, map, replicate, codes}
 use Rattle.std.specs.List.{flat_map, join_with_byte}
 use Rattle.std.specs.Fmt.{decimal}
@@ -8,14 +9,14 @@ use Rattle.stab_results.specs.declared.format.Kinds.{Kinds}
 use Rattle.stab_results.specs.declared.format.Kinds.TheVariants.{Measurements, Detectors}
 
 -- the places of the 1 bits, ascending, where the first bit has the given place
-abbrev pub ones_from : ℕ → List Bool → List ℕ
-ones_from place [] = []
-ones_from place (false ∷ bits) = ones_from (place + 1) bits
-ones_from place (true ∷ bits) = place ∷ ones_from (place + 1) bits
+abbrev pub one_places_from : ℕ → List Bool → List ℕ
+one_places_from place [] = []
+one_places_from place (false ∷ bits) = one_places_from (place + 1) bits
+one_places_from place (true ∷ bits) = place ∷ one_places_from (place + 1) bits
 
 -- the places of the 1 bits, counted from 0
-abbrev pub ones : List Bool → List ℕ
-ones bits = ones_from 0 bits
+abbrev pub one_places : List Bool → List ℕ
+one_places bits = one_places_from 0 bits
 
 -- the character of a bit
 abbrev pub digit : Bool → List ℕ
@@ -49,7 +50,7 @@ run_bytes zeros = replicate (zeros / 255) 0xff ++ (zeros % 255) ∷ []
 
 -- r8: one 1 is appended, and each 1 has the bytes of its run
 abbrev pub r8_bytes : List Bool → List ℕ
-r8_bytes bits = flat_map run_bytes (gaps_from 0 (ones (bits ++ true ∷ [])))
+r8_bytes bits = flat_map run_bytes (gaps_from 0 (one_places (bits ++ true ∷ [])))
 
 -- the byte of a comma
 abbrev pub comma : ℕ
@@ -57,7 +58,7 @@ comma = 44
 
 -- hits: the places of the 1 bits in decimal, joined by commas, then a line end
 abbrev pub hits_bytes : List Bool → List ℕ
-hits_bytes bits = join_with_byte comma (map decimal (ones bits)) ++ codes "\n"
+hits_bytes bits = join_with_byte comma (map decimal (one_places bits)) ++ codes "\n"
 
 -- the entry of a 1 bit: a space, the prefix of its kind, and its number within its kind
 abbrev pub entry : Kinds → ℕ → List ℕ
@@ -66,7 +67,7 @@ entry (Detectors count) place = if nat_lt place count then codes " D" ++ decimal
 
 -- dets: `shot`, then the entry of each 1 bit, then a line end
 abbrev pub dets_bytes : Kinds → List Bool → List ℕ
-dets_bytes kinds bits = codes "shot" ++ flat_map (entry kinds) (ones bits) ++ codes "\n"
+dets_bytes kinds bits = codes "shot" ++ flat_map (entry kinds) (one_places bits) ++ codes "\n"
 
 -- the bytes of a shot
 abbrev pub shot_bytes : Format → Kinds → List Bool → List ℕ

@@ -2,10 +2,10 @@ ghost use Rattle.std.specs.Prelude.{◌≡◌, ◌≤◌, ◌∷◌, [], ◌++�
 ghost use Rattle.std.specs.Fmt.{decimal};
 ghost use Rattle.stab_results.specs.Formats.{digit, f01_bytes, number, b8_bytes, run_bytes, r8_bytes, hits_bytes, entry, dets_bytes, shot_bytes};
 
+use crate::byte_buffer::ByteBuffer;
 use crate::format::{Format, Kinds};
-use crate::gathered::Gathered;
-use crate::ones::Ones;
-use stab_pauli::{Output, Refusal};
+use crate::one_places::OnePlaces;
+use stab_io::{Output, Refusal};
 
 /// The character of a bit.
 fn digit(bit: bool) -> u8
@@ -37,8 +37,8 @@ fn entry(kinds: Kinds, place: usize) -> (&'static [u8], usize)
     }
 }
 
-impl Gathered {
-    ghost use Rattle.stab_results.specs.inner.Gathered.{Puts};
+impl ByteBuffer {
+    ghost use Rattle.stab_results.specs.inner.ByteBuffer.{Puts};
 
     /// Puts a shot in a format.
     pub(crate) fn put_shot<O: Output>(
@@ -81,7 +81,7 @@ impl Gathered {
         ensures puts { Puts (O.seen out.old) (O.seen out.new) self.old self.new (r8_bytes bits.now) result }
     {
         let mut start = 0;
-        for place in Ones::new(bits) {
+        for place in OnePlaces::new(bits) {
             self.put_run(out, place - start)?;
             start = place + 1;
         }
@@ -102,7 +102,7 @@ impl Gathered {
         ensures puts { Puts (O.seen out.old) (O.seen out.new) self.old self.new (hits_bytes bits.now) result }
     {
         let mut separator: &[u8] = b"";
-        for place in Ones::new(bits) {
+        for place in OnePlaces::new(bits) {
             self.put_item(out, separator, place)?;
             separator = b",";
         }
@@ -118,7 +118,7 @@ impl Gathered {
         ensures puts { Puts (O.seen out.old) (O.seen out.new) self.old self.new (dets_bytes kinds bits.now) result }
     {
         self.put(out, b"shot")?;
-        for place in Ones::new(bits) {
+        for place in OnePlaces::new(bits) {
             let (prefix, number) = entry(kinds, place);
             self.put_item(out, prefix, number)?;
         }

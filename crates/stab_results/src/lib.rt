@@ -1,19 +1,22 @@
 //! The bits of one shot, as bytes in Stim's result formats.
 //!
 //! - `format`: the five formats, and what kinds of bits a shot has.
-//! - `gathered`: bytes gathered on their way to an output, which then gets many at a time.
-//! - `ones`: the places of the 1 bits, one after another.
+//! - `byte_buffer`: bytes gathered on their way to an output, which then gets many at a time.
+//! - `one_places`: the places of the 1 bits, one after another.
 //! - `formats`: a shot in each of the formats.
 //! - `shot`: `write_shot`, which the other crates call.
+//!
+//! Source: Stim's documentation of its result formats, of which `ptb64` is left out: a call writes one
+//! shot.
 //!
 //! Proved: `write_shot` writes exactly the bytes of `specs/Formats.antt`, or a prefix of them where
 //! the output failed, and never flushes.
 #![tactic(auto)]
 
+mod byte_buffer;
 mod format;
 mod formats;
-mod gathered;
-mod ones;
+mod one_places;
 mod shot;
 
 pub use format::{Format, Kinds};

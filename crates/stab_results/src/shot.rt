@@ -1,11 +1,11 @@
 ghost use Rattle.std.specs.Prelude.{◌≤◌, [], length};
-ghost use Rattle.stab_pauli.specs.Devices.{WritesAllOrFault};
+ghost use Rattle.stab_io.specs.Devices.{WritesAllOrFault};
 ghost use Rattle.stab_results.specs.Formats.{shot_bytes, detectors_of};
-ghost use Rattle.stab_results.specs.inner.Gathered.{Puts};
+ghost use Rattle.stab_results.specs.inner.ByteBuffer.{Puts};
 
+use crate::byte_buffer::ByteBuffer;
 use crate::format::{Format, Kinds};
-use crate::gathered::Gathered;
-use stab_pauli::{Fault, Output, Refusal};
+use stab_io::{Fault, Output, Refusal};
 
 /// Gathers a shot, and sends it.
 fn send_shot<O: Output>(
@@ -16,9 +16,9 @@ fn send_shot<O: Output>(
 ) -> Result<(), Refusal>
     ensures puts { Puts (O.seen out.old) (O.seen out.new) [] [] (shot_bytes format kinds bits.now) result }
 {
-    let mut gathered = Gathered::new();
-    gathered.put_shot(out, format, kinds, bits)?;
-    gathered.send(out)
+    let mut byte_buffer = ByteBuffer::new();
+    byte_buffer.put_shot(out, format, kinds, bits)?;
+    byte_buffer.send(out)
 }
 
 /// Writes the bits of one shot in a format, and takes no memory.

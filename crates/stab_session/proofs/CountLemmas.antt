@@ -13,14 +13,14 @@ use Rattle.stab_session.specs.declared.replay.Plan.{Plan}
 use Rattle.stab_session.specs.declared.replay.End.{End}
 use Rattle.stab_session.specs.declared.replay.End.TheVariants.{Last, Joined}
 use Rattle.stab_session.specs.declared.kept.KeptRun.{KeptRun}
-use Rattle.stab_session.specs.declared.kept.Span.{Span}
-use Rattle.stab_session.specs.Points.{Output, origin, point_after, outputs}
+use Rattle.stab_circuit.specs.declared.edit.Span.{Span}
+use Rattle.stab_session.specs.Points.{RunOutput, origin, point_after, outputs}
 use Rattle.stab_session.specs.Laws.{AgreeAt}
 use Rattle.stab_session.specs.Bounds.{last_until, MayBeMet, EndsAt, NoneBefore, IsCounted}
-use Rattle.stab_session.specs.inner.Sights.{sight, output_of}
+use Rattle.stab_session.specs.inner.ProgramStates.{program_state, output_of}
 use Rattle.stab_session.specs.inner.Spacing.{last_of}
-use Rattle.stab_session.specs.inner.Checkpoints.{IsRunFromStart, IsCheckpoint, steps_of, moved}
-use Rattle.stab_session.specs.inner.Replays.{IsKeptRun, IsSpan, AgreeBehind, Meets, IsEnd, Misses, EndsSoon, place_of}
+use Rattle.stab_session.specs.inner.Checkpoints.{IsRunFromStart, IsCheckpoint, checkpoint_steps, moved}
+use Rattle.stab_session.specs.inner.Replays.{IsKeptRun, IsSpan, AgreeBehindSpan, Meets, IsEnd, Misses, EndsSoon, step_among_new}
 use Rattle.stab_session.proofs.PointLemmas.{front-output, meets-agree, agree-later}
 use Rattle.stab_session.proofs.SpacingLemmas.{IsBefore, IsNearCopy, near-copy, behind-near, all-behind, moved-within}
 use Rattle.stab_session.proofs.FollowLemmas.{at-get, some-at, if-some, some-and, from-drop, same-rest, all-next, front-spaced}
@@ -31,18 +31,18 @@ match-weaker A B P Q (Some x) f g h = g x h
 
 -- the last of the steps up to a place is that of the copies at or before it
 last-is : (p m a : ℕ) (cs : List Checkpoint) → m ≤ length cs → All (λ c. c.step < p + 1) (take m cs) → IfSome (slice_get cs m) (λ c. p + 1 ≤ c.step)
-    → last_until p a (steps_of cs) ≡ last_of a (steps_of (take m cs))
+    → last_until p a (checkpoint_steps cs) ≡ last_of a (checkpoint_steps (take m cs))
 last-is p zero a [] within front behind = refl
 last-is p zero a (c ∷ cs) within front behind =
     elim (leb_tells c.step p) [
       | inl t ↦ let le = t.1 in absurd (omega (arith, behind, le))
-      | inr t ↦ ap (λ v. if v then last_until p c.step (steps_of cs) else a) t.0
+      | inr t ↦ ap (λ v. if v then last_until p c.step (checkpoint_steps cs) else a) t.0
     ]
 last-is p (suc m) a [] within front behind = absurd (omega arith)
 last-is p (suc m) a (c ∷ cs) within front behind =
     elim (leb_tells c.step p) [
       | inl t ↦
-          ap (λ v. if v then last_until p c.step (steps_of cs) else a) t.0
+          ap (λ v. if v then last_until p c.step (checkpoint_steps cs) else a) t.0
           ∙ last-is p m c.step cs (omega arith) (All-tail (λ c. c.step < p + 1) c (take m cs) front) behind
       | inr t ↦ let lt = t.1 in let here = All-head (λ c. c.step < p + 1) c (take m cs) front in absurd (omega (arith, lt, here))
     ]
@@ -71,7 +71,7 @@ module _ (n : ℕ) (coins : ℕ → Bool) (K : ℕ) (xs : List Step) (count : �
   rest = same-rest n coins K xs count old kept ys s span
 
   placed : (p : Plan) → p.old_end ≡ s.old_end → p.new_end ≡ s.new_end → length ys < 2 ^ 64 → (c : Checkpoint) → IsCheckpoint n coins xs c
-      → place_of p c ≡ s.new_end + (c.step - s.old_end)
+      → step_among_new p c ≡ s.new_end + (c.step - s.old_end)
   placed p old_end new_end few c h =
       (λ i. moved (old_end i) (new_end i) c.step) ∙ moved-within s.old_end s.new_end c.step (length xs) h.within (omega (arith, rest, few))
 
@@ -100,7 +100,7 @@ module _ (n : ℕ) (coins : ℕ → Bool) (K : ℕ) (xs : List Step) (count : �
       ]
 
   -- where both runs agree they agree at each copy behind
-  agree-at : (far : ℕ) → AgreeBehind n coins xs ys s far → (c : Checkpoint) → s.old_end + far ≤ c.step → AgreeBehind n coins xs ys s (c.step - s.old_end)
+  agree-at : (far : ℕ) → AgreeBehindSpan n coins xs ys s far → (c : Checkpoint) → s.old_end + far ≤ c.step → AgreeBehindSpan n coins xs ys s (c.step - s.old_end)
   agree-at far agree c after =
       let same : drop (s.old_end + far) xs ≡ drop (s.new_end + far) ys =
       sym (drop-drop far s.old_end xs) ∙ ap (drop far) span.behind ∙ drop-drop far s.new_end ys in
@@ -110,20 +110,20 @@ module _ (n : ℕ) (coins : ℕ → Bool) (K : ℕ) (xs : List Step) (count : �
 
   -- and such a copy is not missed
   not-missed : (p : Plan) → p.old_end ≡ s.old_end → p.new_end ≡ s.new_end → length ys < 2 ^ 64 → (number : ℕ) (c : Checkpoint)
-      → slice_get old.checkpoints.items number ≡ Some c → s.old_end ≤ c.step → AgreeBehind n coins xs ys s (c.step - s.old_end)
+      → slice_get old.checkpoints.items number ≡ Some c → s.old_end ≤ c.step → AgreeBehindSpan n coins xs ys s (c.step - s.old_end)
       → Misses n coins p ys old.outputs.records.items c → ⊥
   not-missed p old_end new_end few number c here after agree missed =
       let h : IsCheckpoint n coins xs c = at-get (IsCheckpoint n coins xs) old.checkpoints.items number c kept.checkpoints here in
-      let agree_there : AgreeAt n (point_after n coins (take c.step xs) origin) (point_after n coins (take (place_of p c) ys) origin) =
-      subst (λ k. AgreeAt n (point_after n coins (take k xs) origin) (point_after n coins (take (place_of p c) ys) origin)) (omega (arith, after))
+      let agree_there : AgreeAt n (point_after n coins (take c.step xs) origin) (point_after n coins (take (step_among_new p c) ys) origin) =
+      subst (λ k. AgreeAt n (point_after n coins (take k xs) origin) (point_after n coins (take (step_among_new p c) ys) origin)) (omega (arith, after))
       (subst (λ k. AgreeAt n (point_after n coins (take (s.old_end + (c.step - s.old_end)) xs) origin) (point_after n coins (take k ys) origin))
       (sym (placed p old_end new_end few c h)) agree) in
       let records : take c.lengths.records old.outputs.records.items ≡ (outputs n coins (take c.step xs) origin).records =
-      (λ i. take (h.lengths i).records (kept.run.output i).records) ∙ ap (λ (o : Output). o.records) (front-output n coins xs c.step) in
+      (λ i. take (h.lengths i).records (kept.run.output i).records) ∙ ap (λ (o : RunOutput). o.records) (front-output n coins xs c.step) in
       missed xs h records agree_there
 
   -- where both runs agree so many steps behind what was changed, it ends at most a stride behind that
-  ends-near : (p : Plan) → p.old_end ≡ s.old_end → p.new_end ≡ s.new_end → length ys < 2 ^ 64 → (far : ℕ) → AgreeBehind n coins xs ys s far → (end : ℕ)
+  ends-near : (p : Plan) → p.old_end ≡ s.old_end → p.new_end ≡ s.new_end → length ys < 2 ^ 64 → (far : ℕ) → AgreeBehindSpan n coins xs ys s far → (end : ℕ)
       → EndsSoon n coins p ys old.checkpoints.items old.outputs.records.items end → end ≤ length ys
       → (length xs ≤ (s.old_end + far) + K) ⊎ IsNearCopy K (s.old_end + far) p.next old.checkpoints.items → end ≤ (s.new_end + far) + K
   ends-near p old_end new_end few far agree end soon within h =
@@ -138,17 +138,17 @@ module _ (n : ℕ) (coins : ℕ → Bool) (K : ℕ) (xs : List Step) (count : �
           let after = found.behind in
           let near = found.near in
           let place = placed p old_end new_end few c (at-get (IsCheckpoint n coins xs) old.checkpoints.items found.number c kept.checkpoints found.here) in
-          elim (cases_lt (place_of p c) end) [
+          elim (cases_lt (step_among_new p c) end) [
             | inl lt ↦
                 absurd (not-missed p old_end new_end few found.number c found.here (omega (arith, after)) (agree-at far agree c after)
-                (some-at (λ c. place_of p c < end → Misses n coins p ys old.outputs.records.items c) old.checkpoints.items found.number c found.here
+                (some-at (λ c. step_among_new p c < end → Misses n coins p ys old.outputs.records.items c) old.checkpoints.items found.number c found.here
                 (soon found.number found.from) lt))
             | inr le ↦ omega (arith, le, place, near, after)
           ]
 
   pub few-steps : (p : Plan) → p.old_end ≡ s.old_end → p.new_end ≡ s.new_end → length ys < 2 ^ 64 → (m e : ℕ) → IsBefore K (length xs) s.first m old.checkpoints.items
       → e ≤ length old.checkpoints.items → All (λ c. c.step < s.old_end) (take e old.checkpoints.items)
-      → IfSome (slice_get old.checkpoints.items e) (λ c. s.old_end ≤ c.step) → p.next ≡ max e m → (far : ℕ) → AgreeBehind n coins xs ys s far → (begin end applied : ℕ)
+      → IfSome (slice_get old.checkpoints.items e) (λ c. s.old_end ≤ c.step) → p.next ≡ max e m → (far : ℕ) → AgreeBehindSpan n coins xs ys s far → (begin end applied : ℕ)
       → EndsSoon n coins p ys old.checkpoints.items old.outputs.records.items end → end ≤ length ys
       → IfSome (slice_get old.checkpoints.items (m - 1)) (λ c. begin ≡ c.step) → applied + begin ≡ end → applied ≤ ((s.new_end - s.first) + 2 * K) + far
   few-steps p old_end new_end few m e b e_within front behind next far agree begin end applied soon within at counted =
@@ -166,11 +166,11 @@ module _ (n : ℕ) (coins : ℕ → Bool) (K : ℕ) (xs : List Step) (count : �
   pub ends-at : (p : Plan) → p.old_end ≡ s.old_end → p.new_end ≡ s.new_end → p.total ≡ length ys → length ys < 2 ^ 64
       → IfSome (slice_get old.checkpoints.items p.next) (λ c. s.old_end ≤ c.step) → (m : ℕ) → m ≤ p.next
       → IfSome (slice_get old.checkpoints.items m) (λ c. s.first + 1 ≤ c.step) → (r : Replay) (end : End)
-      → IsRunFromStart n coins (take r.step ys) (sight r.tableau (output_of r.outputs)) → IsEnd n p r old.checkpoints.items old.outputs.records.items end
-      → EndsAt (AgreeBehind n coins xs ys s) (steps_of old.checkpoints.items) s.first s.old_end s.new_end (length ys) r.step
+      → IsRunFromStart n coins (take r.step ys) (program_state r.tableau (output_of r.outputs)) → IsEnd n p r old.checkpoints.items old.outputs.records.items end
+      → EndsAt (AgreeBehindSpan n coins xs ys s) (checkpoint_steps old.checkpoints.items) s.first s.old_end s.new_end (length ys) r.step
   ends-at p old_end new_end total few behind m le later r Last run is = inl (is ∙ total)
   ends-at p old_end new_end total few behind m le later r (Joined j) run is =
-      let found = some-and (λ c. (place_of p c ≡ r.step) × Meets n r.tableau (output_of r.outputs) old.outputs.records.items c) (slice_get old.checkpoints.items j) is.1 in
+      let found = some-and (λ c. (step_among_new p c ≡ r.step) × Meets n r.tableau (output_of r.outputs) old.outputs.records.items c) (slice_get old.checkpoints.items j) is.1 in
       let d = found.0 in
       let from = is.0 in
       let after : s.old_end ≤ d.step =
@@ -183,15 +183,15 @@ module _ (n : ℕ) (coins : ℕ → Bool) (K : ℕ) (xs : List Step) (count : �
       (all-behind K (length xs) (s.first + 1) m old.checkpoints.items kept.spaced.near later))) in
       let h : IsCheckpoint n coins xs d = at-get (IsCheckpoint n coins xs) old.checkpoints.items j d kept.checkpoints found.1 in
       let step : r.step ≡ s.new_end + (d.step - s.old_end) = sym found.2.0 ∙ placed p old_end new_end few d h in
-      let agree : AgreeBehind n coins xs ys s (d.step - s.old_end) =
+      let agree : AgreeBehindSpan n coins xs ys s (d.step - s.old_end) =
       subst (λ k. AgreeAt n (point_after n coins (take k xs) origin) (point_after n coins (take (s.new_end + (d.step - s.old_end)) ys) origin)) (omega (arith, after))
       (subst (λ k. AgreeAt n (point_after n coins (take d.step xs) origin) (point_after n coins (take k ys) origin)) step
-      (meets-agree n coins xs (take r.step ys) d r.tableau (output_of r.outputs) old.outputs.records.items h (ap (λ (o : Output). o.records) kept.run.output) run found.2.1)) in
-      let here : slice_get (steps_of old.checkpoints.items) j ≡ Some d.step =
+      (meets-agree n coins xs (take r.step ys) d r.tableau (output_of r.outputs) old.outputs.records.items h (ap (λ (o : RunOutput). o.records) kept.run.output) run found.2.1)) in
+      let here : slice_get (checkpoint_steps old.checkpoints.items) j ≡ Some d.step =
       slice_get-map (λ c. c.step) old.checkpoints.items j ∙ ap (option_map (λ c. c.step)) found.1 in
       inr (
         j,
-        subst (λ o. IsSomeAnd o (λ c. MayBeMet s.first s.old_end c × (r.step ≡ s.new_end + (c - s.old_end)) × AgreeBehind n coins xs ys s (c - s.old_end)))
+        subst (λ o. IsSomeAnd o (λ c. MayBeMet s.first s.old_end c × (r.step ≡ s.new_end + (c - s.old_end)) × AgreeBehindSpan n coins xs ys s (c - s.old_end)))
             (sym here) ((omega (arith, beyond), after), step, agree),
       )
 
@@ -199,13 +199,13 @@ module _ (n : ℕ) (coins : ℕ → Bool) (K : ℕ) (xs : List Step) (count : �
   pub none-before : (p : Plan) → p.old_end ≡ s.old_end → p.new_end ≡ s.new_end → length ys < 2 ^ 64 → (m e : ℕ)
       → All (λ c. c.step < s.first + 1) (take m old.checkpoints.items) → All (λ c. c.step < s.old_end) (take e old.checkpoints.items) → p.next ≡ max e m → (end : ℕ)
       → EndsSoon n coins p ys old.checkpoints.items old.outputs.records.items end
-      → NoneBefore (AgreeBehind n coins xs ys s) (steps_of old.checkpoints.items) s.first s.old_end s.new_end end
+      → NoneBefore (AgreeBehindSpan n coins xs ys s) (checkpoint_steps old.checkpoints.items) s.first s.old_end s.new_end end
   none-before p old_end new_end few m e front taken next end soon number =
       subst (λ o. IfSome o NotThere) (sym (slice_get-map (λ c. c.step) old.checkpoints.items number))
       (step-of-copy NotThere (slice_get old.checkpoints.items number) (if-some (λ c. NotThere c.step) (slice_get old.checkpoints.items number) not-there))
     where
       NotThere : ℕ → Type 0
-      NotThere c = MayBeMet s.first s.old_end c → s.new_end + (c - s.old_end) < end → AgreeBehind n coins xs ys s (c - s.old_end) → ⊥
+      NotThere c = MayBeMet s.first s.old_end c → s.new_end + (c - s.old_end) < end → AgreeBehindSpan n coins xs ys s (c - s.old_end) → ⊥
 
       may-meet : (c : Checkpoint) → slice_get old.checkpoints.items number ≡ Some c → s.first < c.step → s.old_end ≤ c.step → p.next ≤ number
       may-meet c is beyond after =
@@ -222,22 +222,22 @@ module _ (n : ℕ) (coins : ℕ → Bool) (K : ℕ) (xs : List Step) (count : �
       not-there c is may before agree =
           let place = placed p old_end new_end few c (at-get (IsCheckpoint n coins xs) old.checkpoints.items number c kept.checkpoints is) in
           not-missed p old_end new_end few number c is may.1 agree
-          (some-at (λ c. place_of p c < end → Misses n coins p ys old.outputs.records.items c) old.checkpoints.items number c is
+          (some-at (λ c. step_among_new p c < end → Misses n coins p ys old.outputs.records.items c) old.checkpoints.items number c is
           (soon number (may-meet c is may.0 may.1)) (omega (arith, place, before)))
 
   module _ (m : ℕ) (b : IsBefore K (length xs) s.first m old.checkpoints.items) (begin end applied : ℕ)
       (at : IfSome (slice_get old.checkpoints.items (m - 1)) (λ c. begin ≡ c.step)) (counted : applied + begin ≡ end)
-      (ends : EndsAt (AgreeBehind n coins xs ys s) (steps_of old.checkpoints.items) s.first s.old_end s.new_end (length ys) end) where
+      (ends : EndsAt (AgreeBehindSpan n coins xs ys s) (checkpoint_steps old.checkpoints.items) s.first s.old_end s.new_end (length ys) end) where
     here : begin ≡ b.copy.step
     here = some-at (λ c. begin ≡ c.step) old.checkpoints.items (m - 1) b.copy b.here at
 
     -- so it took just so many steps
     pub is-counted : m ≤ length old.checkpoints.items → All (λ c. c.step < s.first + 1) (take m old.checkpoints.items)
         → IfSome (slice_get old.checkpoints.items m) (λ c. s.first + 1 ≤ c.step)
-        → NoneBefore (AgreeBehind n coins xs ys s) (steps_of old.checkpoints.items) s.first s.old_end s.new_end end
-        → IsCounted (AgreeBehind n coins xs ys s) (steps_of old.checkpoints.items) s.first s.old_end s.new_end (length ys) applied
+        → NoneBefore (AgreeBehindSpan n coins xs ys s) (checkpoint_steps old.checkpoints.items) s.first s.old_end s.new_end end
+        → IsCounted (AgreeBehindSpan n coins xs ys s) (checkpoint_steps old.checkpoints.items) s.first s.old_end s.new_end (length ys) applied
     is-counted within front behind none =
-        let last : last_until s.first 0 (steps_of old.checkpoints.items) ≡ b.copy.step =
+        let last : last_until s.first 0 (checkpoint_steps old.checkpoints.items) ≡ b.copy.step =
         last-is s.first m 0 old.checkpoints.items within front behind ∙ (front-spaced n coins K xs count old kept ys s span m b).1 in
         record { end = end; count = omega (arith, here, last, counted); ends = ends; none_before = none }
 
@@ -253,6 +253,6 @@ module _ (n : ℕ) (coins : ℕ → Bool) (K : ℕ) (xs : List Step) (count : �
                 here,
                 from,
                 counted,
-                not-before (AgreeBehind n coins xs ys s) s.first s.old_end s.new_end end (slice_get (steps_of old.checkpoints.items) stands.0) stands.1,
+                not-before (AgreeBehindSpan n coins xs ys s) s.first s.old_end s.new_end end (slice_get (checkpoint_steps old.checkpoints.items) stands.0) stands.1,
               )
         ]

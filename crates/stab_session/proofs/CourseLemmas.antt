@@ -11,16 +11,16 @@ use Rattle.stab_session.specs.declared.replay.Plan.{Plan}
 use Rattle.stab_session.specs.declared.replay.End.{End}
 use Rattle.stab_session.specs.declared.replay.End.TheVariants.{Last, Joined}
 use Rattle.stab_session.specs.declared.kept.KeptRun.{KeptRun}
-use Rattle.stab_session.specs.declared.kept.Span.{Span}
+use Rattle.stab_circuit.specs.declared.edit.Span.{Span}
 use Rattle.stab_session.specs.declared.kept.Prepared.{Prepared}
 use Rattle.stab_session.specs.declared.kept.Rest.{Rest}
 use Rattle.stab_session.specs.Records.{ones}
-use Rattle.stab_session.specs.Points.{Output, all_coins_of, with_additions}
+use Rattle.stab_session.specs.Points.{RunOutput, all_coins_of, with_additions}
 use Rattle.stab_session.specs.Bounds.{EndsAt, IsCounted}
-use Rattle.stab_session.specs.inner.Sights.{output_of}
-use Rattle.stab_session.specs.inner.Checkpoints.{steps_of, moved_copy}
-use Rattle.stab_session.specs.inner.Replays.{IsKeptRun, IsSameKept, Follows, AgreeBehind, IsReplay, Ascending, Meets, IsEnd, EndsSoon, place_of}
-use Rattle.stab_session.specs.inner.Prepared.{Begins, HasCopy, IsRest, IsOldRest, IsPrepared, IsCommitted, copies_behind, seam_at}
+use Rattle.stab_session.specs.inner.ProgramStates.{output_of}
+use Rattle.stab_session.specs.inner.Checkpoints.{checkpoint_steps, moved_copy}
+use Rattle.stab_session.specs.inner.Replays.{IsKeptRun, IsSameKept, Follows, AgreeBehindSpan, IsReplay, Ascending, Meets, IsEnd, EndsSoon, step_among_new}
+use Rattle.stab_session.specs.inner.Prepared.{Begins, HasCopy, IsRest, IsOldRest, IsPrepared, IsCommitted, copies_behind, meeting_of}
 use Rattle.stab_session.proofs.ReplayLemmas.{coins-steps}
 use Rattle.stab_session.proofs.SpacingLemmas.{IsBefore}
 use Rattle.stab_session.proofs.FollowLemmas.{some-at, some-and, prepared-same, committed-same, before-first, begun, same-records, next-behind, all-ascending, all-qubits, kept-end, end-flags}
@@ -47,7 +47,7 @@ same-trans a b c f g = record {
 has-copy : (n : ℕ) (p : Plan) (r : Replay) (copies : List Checkpoint) (bits : List Bool) (end : End) → IsEnd n p r copies bits end → HasCopy copies end
 has-copy n p r copies bits Last is = tt
 has-copy n p r copies bits (Joined j) is =
-    let found = some-and (λ c. (place_of p c ≡ r.step) × Meets n r.tableau (output_of r.outputs) bits c) (slice_get copies j) is.1 in
+    let found = some-and (λ c. (step_among_new p c ≡ r.step) × Meets n r.tableau (output_of r.outputs) bits c) (slice_get copies j) is.1 in
     slice_get_within copies j found.0 found.1
 
 -- a replay ended at copies and records that are those that were kept
@@ -65,17 +65,17 @@ seen-soon {n} {k} coins p {zs} {ys} {seen} {copies} {bits} end qubits all same a
     (subst (λ m. EndsSoon m coins p zs seen bits end) qubits is)))
 
 -- the old copies that come behind a replay stand behind the first of them that may be met
-few-behind : (n : ℕ) (p : Plan) (r : Replay) (old : KeptRun) (end : End) (new : Output) (rest : Rest) (m : ℕ) → m ≤ p.next → m ≤ length old.checkpoints.items
+few-behind : (n : ℕ) (p : Plan) (r : Replay) (old : KeptRun) (end : End) (new : RunOutput) (rest : Rest) (m : ℕ) → m ≤ p.next → m ≤ length old.checkpoints.items
     → IsEnd n p r old.checkpoints.items old.outputs.records.items end → IsRest old r.tableau (output_of r.outputs) r.step end new rest
     → m + length (copies_behind rest old.checkpoints.items) ≤ length old.checkpoints.items
 few-behind n p r old Last new rest m next within end is = omega (arith, ap length is.0)
 few-behind n p r old (Joined j) new rest m next within end is =
-    let found = some-and (λ c. (place_of p c ≡ r.step) × Meets n r.tableau (output_of r.outputs) old.outputs.records.items c) (slice_get old.checkpoints.items j) end.1 in
+    let found = some-and (λ c. (step_among_new p c ≡ r.step) × Meets n r.tableau (output_of r.outputs) old.outputs.records.items c) (slice_get old.checkpoints.items j) end.1 in
     let d = found.0 in
     let old_rest = some-at (IsOldRest old (output_of r.outputs) r.step j new rest) old.checkpoints.items j d found.1 is in
     let later = end.0 in
     let there : j < length old.checkpoints.items = slice_get_within old.checkpoints.items j d found.1 in
-    omega (arith, ap length old_rest.copies, length-map (drop j old.checkpoints.items) (moved_copy (seam_at (output_of r.outputs) r.step d)), length-drop j old.checkpoints.items, later, there, next)
+    omega (arith, ap length old_rest.copies, length-map (drop j old.checkpoints.items) (moved_copy (meeting_of (output_of r.outputs) r.step d)), length-drop j old.checkpoints.items, later, there, next)
 
 -- a replay that began has done nothing yet, and holds what the kept run held at the copy that it began at
 pub record HasBegun (n : ℕ) (coins : ℕ → Bool) (K : ℕ) (ys : List Step) (old : KeptRun) (m : ℕ) (r : Replay) : Type 0 where
@@ -101,10 +101,10 @@ pub record HasEnded (n : ℕ) (coins : ℕ → Bool) (K : ℕ) (ys : List Step) 
   pub copy : HasCopy old.checkpoints.items end
   pub applied : (applied : ℕ) → applied + begin ≡ r.step → applied ≤ (length ys - s.first) + K
   pub few : (applied : ℕ) → applied + begin ≡ r.step → EndsSoon n coins p ys old.checkpoints.items old.outputs.records.items r.step → (far : ℕ)
-      → AgreeBehind n coins xs ys s far → applied ≤ ((s.new_end - s.first) + 2 * K) + far
+      → AgreeBehindSpan n coins xs ys s far → applied ≤ ((s.new_end - s.first) + 2 * K) + far
   pub at_least : (applied : ℕ) → applied + begin ≡ r.step → s.new_end ≤ s.first + applied
   pub counted : (applied : ℕ) → applied + begin ≡ r.step → EndsSoon n coins p ys old.checkpoints.items old.outputs.records.items r.step
-      → IsCounted (AgreeBehind n coins xs ys s) (steps_of old.checkpoints.items) s.first s.old_end s.new_end (length ys) applied
+      → IsCounted (AgreeBehindSpan n coins xs ys s) (checkpoint_steps old.checkpoints.items) s.first s.old_end s.new_end (length ys) applied
   pub ready : (mid : KeptRun) → IsSameKept mid old → (observables : ℕ) (q : Prepared) → IsPrepared mid r observables end q → IsReady n coins K ys m r mid observables q
 
 module _ {n : ℕ} {coins : ℕ → Bool} {K : ℕ} {ys : List Step} {s : Span} {old : KeptRun} (f : Follows n coins K ys s old) (few : length ys ≤ 1048576)
@@ -170,7 +170,7 @@ module _ {n : ℕ} {coins : ℕ → Bool} {K : ℕ} {ys : List Step} {s : Span} 
       end_here : IsEnd n p r old.checkpoints.items old.outputs.records.items end
       end_here = subst (λ k. IsEnd k p r old.checkpoints.items old.outputs.records.items end) begins.qubits is_end
 
-      ends-here : EndsAt (AgreeBehind n coins f.old ys s) (steps_of old.checkpoints.items) s.first s.old_end s.new_end (length ys) r.step
+      ends-here : EndsAt (AgreeBehindSpan n coins f.old ys s) (checkpoint_steps old.checkpoints.items) s.first s.old_end s.new_end (length ys) r.step
       ends-here =
           ends-at n coins K f.old f.count old f.kept ys s f.span p old_end new_end total (omega (arith, few)) next-there m (omega (arith, next)) count.behind r end done.at_step.run
           end_here
@@ -187,12 +187,12 @@ module _ {n : ℕ} {coins : ℕ → Bool} {K : ℕ} {ys : List Step} {s : Span} 
             kept-end n coins K f.old f.count old f.kept ys s f.span m near count.before r done observables new
             (put.observables
             ∙ prepared_here.observables
-            ∙ ap (λ (o : Output). with_additions o.additions (replicate observables false)) (sym put.output))
+            ∙ ap (λ (o : RunOutput). with_additions o.additions (replicate observables false)) (sym put.output))
             p end q old_end new_end total (omega (arith, few)) next-there end_here prepared_here.rest prepared_here.laid put
 
         flags-here : (new : KeptRun) → IsCommitted old q m K new → ones r.outputs.free.items ≤ ones new.outputs.free.items
         flags-here new put =
-            omega (arith, end-flags n p r old end (output_of q.outputs) q.rest end_here prepared_here.rest, ap (λ (o : Output). ones o.free) put.output)
+            omega (arith, end-flags n p r old end (output_of q.outputs) q.rest end_here prepared_here.rest, ap (λ (o : RunOutput). ones o.free) put.output)
 
         is-ready : IsReady n coins K ys m r mid observables q
         is-ready = record {

@@ -1,28 +1,28 @@
 -- Edited sessions: from an edit that was begun and run to the statement of the session, and to what the edit cost.
 use Rattle.std.proofs.Common.{◌≡◌, ◌≤◌, ℕ, ◌+◌, ◌-◌, ◌*◌, sym, ◌∙◌, ap, subst, arith, Bool, List, [], ◌∷◌, length, take, All, None, Result, Ok}
 use Rattle.std.specs.Prelude.{slice_get}
-use Rattle.stab_pauli.specs.declared.refusal.Refusal.{Refusal}
-use Rattle.stab_pauli.specs.declared.refusal.Refusal.TheVariants.{OutOfMemory}
-use Rattle.stab_pauli.specs.declared.refusal.Fault.{Fault}
-use Rattle.stab_pauli.specs.Refusals.{whole}
+use Rattle.stab_io.specs.declared.refusal.Refusal.{Refusal}
+use Rattle.stab_io.specs.declared.refusal.Refusal.TheVariants.{OutOfMemory}
+use Rattle.stab_io.specs.declared.refusal.Fault.{Fault}
+use Rattle.stab_io.specs.Refusals.{whole, IsCallFault}
 use Rattle.stab_circuit.specs.Items.{OneItem, listed, entries}
 use Rattle.stab_circuit.specs.Steps.{Step, unroll, observables_of, check_within}
 use Rattle.stab_circuit.specs.Cursors.{IsApart}
-use Rattle.stab_circuit.specs.Edits.{edited, verdict, put_item, first_changed, old_end, new_end}
+use Rattle.stab_circuit.specs.Edits.{edit_path, edited, verdict, put_item, first_changed, old_end, new_end}
 use Rattle.stab_circuit.proofs.EditLemmas.{entries-listed}
 use Rattle.stab_session.specs.declared.kept.KeptRun.{KeptRun}
-use Rattle.stab_session.specs.declared.kept.Span.{Span}
-use Rattle.stab_session.specs.declared.pending.Edit.{Edit}
+use Rattle.stab_circuit.specs.declared.edit.Span.{Span}
+use Rattle.stab_circuit.specs.declared.edit.Edit.{Edit}
 use Rattle.stab_session.specs.declared.pending.Pending.{Pending}
 use Rattle.stab_session.specs.Points.{origin, point_after}
 use Rattle.stab_session.specs.Laws.{AgreeAt}
-use Rattle.stab_session.specs.Sessions.{SessionState, IsFaultOf}
-use Rattle.stab_session.specs.SessionEdits.{change_of, place_of, edited_by, verdict_on, IsEditedBy}
+use Rattle.stab_session.specs.Sessions.{SessionState}
+use Rattle.stab_session.specs.SessionEdits.{IsEditedBy}
 use Rattle.stab_session.specs.Bounds.{steps_of_item, steps_from_change, steps_behind, unless_refused, most_refused_asks, steps_put, steps_near_change, steps_changed, IsCounted, IsCountOf, AgreeBehind}
 use Rattle.stab_session.specs.inner.KeptSessions.{session_of, IsKept}
 use Rattle.stab_session.specs.inner.Pendings.{kept, IsBegun}
 use Rattle.stab_session.specs.inner.Replays.{IsKeptRun}
-use Rattle.stab_session.specs.inner.Replays.{AgreeBehind as AgreeBehindSpan}
+use Rattle.stab_session.specs.inner.Replays.{AgreeBehindSpan}
 use Rattle.stab_session.proofs.SessionLemmas.{session-kept}
 use Rattle.stab_session.proofs.PendingLemmas.{verdict-checked}
 use Rattle.stab_session.proofs.SpanLemmas.{put-within}
@@ -32,8 +32,8 @@ ok_same xs ys e = cc
 
 -- the verdict that a session sees is that on its circuit
 pub session-verdict : {C : Type 0} (s : SessionState C) (e : Edit) (n : ℕ) (items : List OneItem) → s.items ≡ listed items → s.qubits ≡ n
-    → verdict n (edited (change_of e) (place_of e) items) ≡ verdict_on s.qubits e (entries s.items)
-session-verdict s e n items is qubits = λ i. verdict (sym qubits i) (edited_by e (same i))
+    → verdict n e items ≡ verdict s.qubits e (entries s.items)
+session-verdict s e n items is qubits = λ i. verdict (sym qubits i) e (same i)
   where
     same : items ≡ entries s.items
     same = sym (ap entries is ∙ entries-listed items)
@@ -60,17 +60,17 @@ counted_same n m bits others xs ys s copies total applied e f h =
 
 -- how many steps an edit puts in, by the items that it leaves
 abbrev steps_put_in : Edit → List OneItem → ℕ
-steps_put_in e new = steps_of_item (elim (place_of e).blocks [ [] ↦ put_item (change_of e) | b ∷ bs ↦ slice_get new b ])
+steps_put_in e new = steps_of_item (elim (edit_path e).blocks [ [] ↦ put_item e | b ∷ bs ↦ slice_get new b ])
 
 -- an edit of a session that was begun, leads to other steps than its run is of, and was kept
 module _ {C : Type 0} (sequence : C → ℕ → Bool) (e : Edit) (s : SessionState C) (n : ℕ) (old mid : List OneItem) (pending : Pending) (span : Span)
-    (b : IsBegun n (change_of e) (place_of e) old mid pending span) (items : s.items ≡ listed old) (qubits : s.qubits ≡ n) where
-  accepted : verdict_on s.qubits e (entries s.items) ≡ None
-  accepted = sym (session-verdict s e n old items qubits) ∙ ap (verdict n) b.edited ∙ b.accepted
+    (b : IsBegun n e old mid pending span) (items : s.items ≡ listed old) (qubits : s.qubits ≡ n) where
+  accepted : verdict s.qubits e (entries s.items) ≡ None
+  accepted = sym (session-verdict s e n old items qubits) ∙ b.accepted
 
   -- it is refused memory alone, which is a fault of the edit
-  pub run-fault : (f : Fault) → f ≡ whole OutOfMemory → IsFaultOf (verdict_on s.qubits e (entries s.items)) f
-  run-fault f h = subst (λ v. IsFaultOf v f) (sym accepted) h
+  pub run-fault : (f : Fault) → f ≡ whole OutOfMemory → IsCallFault (verdict s.qubits e (entries s.items)) f
+  run-fault f h = subst (λ v. IsCallFault v f) (sym accepted) h
 
   old_items : entries s.items ≡ old
   old_items = ap entries items ∙ entries-listed old
@@ -78,9 +78,9 @@ module _ {C : Type 0} (sequence : C → ℕ → Bool) (e : Edit) (s : SessionSta
   -- and asked for no more coins before that than there are steps behind the changed place, and a stride of them
   pub refused-asks : (K before after : ℕ) → K ≡ s.stride → after ≤ before + ((length (unroll (listed mid)) - span.first) + K) → after ≤ before + most_refused_asks e s
   refused-asks K before after stride asked =
-      let most : most_refused_asks e s ≡ (length (unroll (listed b.new)) - first_changed (place_of e) old) + s.stride =
-      (λ i. unless_refused (accepted i) (steps_behind (first_changed (place_of e) (old_items i)) s.stride (edited_by e (old_items i))))
-      ∙ ap (steps_behind (first_changed (place_of e) old) s.stride) b.edited in
+      let most : most_refused_asks e s ≡ (length (unroll (listed b.new)) - first_changed e old) + s.stride =
+      (λ i. unless_refused (accepted i) (steps_behind (first_changed e (old_items i)) s.stride (edited e (old_items i))))
+      ∙ ap (steps_behind (first_changed e old) s.stride) b.edited in
       omega (arith, asked, most, stride, b.span.first, ap length b.same_runs.steps)
 
   module _ (new : List OneItem) (ahead : kept pending mid ≡ Ok new) (stride : ℕ) (coins : C) (run : KeptRun) (same_stride : stride ≡ s.stride) (same_coins : sequence coins ≡ sequence s.coins)
@@ -102,15 +102,15 @@ module _ {C : Type 0} (sequence : C → ℕ → Bool) (e : Edit) (s : SessionSta
     pub edited-kept : All IsApart (unroll (listed mid)) → n ≤ 1024 → 1 ≤ stride → stride ≤ 65536 → IsKept sequence (session_of (listed new) stride coins run) run
     edited-kept apart few above within =
         session-kept sequence (listed new) stride coins run n (sequence s.coins) same_coins new-run
-        (subst (λ xs. check_within n (listed xs) ≡ None) new-is (verdict-checked n b.new b.accepted)) (subst (All IsApart) new_steps apart) few above within
+        (subst (λ xs. check_within n (listed xs) ≡ None) new-is (verdict-checked n e old b.new b.edited b.accepted)) (subst (All IsApart) new_steps apart) few above within
 
     -- it was edited by the edit
     pub session-edited : IsEditedBy sequence e s (session_of (listed new) stride coins run)
     session-edited = record {
       accepted = accepted;
       items =
-          ap (λ i. edited_by e (entries i)) items
-          ∙ ap (edited_by e) (entries-listed old)
+          ap (λ i. edited e (entries i)) items
+          ∙ ap (edited e) (entries-listed old)
           ∙ b.edited
           ∙ ap (λ xs. Ok xs) (new-is ∙ sym (entries-listed new));
       qubits = is.qubits ∙ sym qubits;
@@ -121,18 +121,18 @@ module _ {C : Type 0} (sequence : C → ℕ → Bool) (e : Edit) (s : SessionSta
     new_items : b.new ≡ entries (listed new)
     new_items = new-is ∙ sym (entries-listed new)
 
-    first_is : span.first ≡ first_changed (place_of e) (entries s.items)
-    first_is = b.span.first ∙ sym (ap (first_changed (place_of e)) old_items)
+    first_is : span.first ≡ first_changed e (entries s.items)
+    first_is = b.span.first ∙ sym (ap (first_changed e) old_items)
 
     -- it cost no more steps than stand behind the changed place, and a stride
     pub edited-applied : (applied : ℕ) → applied ≤ (length (unroll (listed mid)) - span.first) + stride → applied ≤ steps_from_change e s (session_of (listed new) stride coins run)
     edited-applied applied h = omega (arith, h, first_is, ap length new_steps)
 
-    old_end_is : span.old_end ≡ old_end (change_of e) (place_of e) (entries s.items)
-    old_end_is = b.span.old_end ∙ sym (ap (old_end (change_of e) (place_of e)) old_items)
+    old_end_is : span.old_end ≡ old_end e (entries s.items)
+    old_end_is = b.span.old_end ∙ sym (ap (old_end e) old_items)
 
-    new_end_is : span.new_end ≡ new_end (change_of e) (place_of e) (entries (listed new))
-    new_end_is = b.span.new_end ∙ ap (new_end (change_of e) (place_of e)) new_items
+    new_end_is : span.new_end ≡ new_end e (entries (listed new))
+    new_end_is = b.span.new_end ∙ ap (new_end e) new_items
 
     -- it cost those from the first changed step to the end of what was put in at least
     pub edited-at-least : (applied : ℕ) → span.new_end ≤ span.first + applied → steps_changed e s (session_of (listed new) stride coins run) ≤ applied
@@ -143,7 +143,7 @@ module _ {C : Type 0} (sequence : C → ℕ → Bool) (e : Edit) (s : SessionSta
         ≡ AgreeBehindSpan n (sequence s.coins) (unroll (listed old)) (unroll (listed mid)) span far
     agreement far =
         same_agree n s.qubits run.tableau.qubits (sequence s.coins) (sequence coins) (unroll (listed old)) (unroll s.items) (unroll (listed mid)) (unroll (listed new)) (span.old_end + far)
-        (old_end (change_of e) (place_of e) (entries s.items) + far) (span.new_end + far) (new_end (change_of e) (place_of e) (entries (listed new)) + far) qubits is.qubits same_coins (ap unroll items)
+        (old_end e (entries s.items) + far) (span.new_end + far) (new_end e (entries (listed new)) + far) qubits is.qubits same_coins (ap unroll items)
         (sym new_steps) (ap (λ k. k + far) (sym old_end_is)) (ap (λ k. k + far) (sym new_end_is))
 
     -- so it cost just so many
@@ -158,7 +158,7 @@ module _ {C : Type 0} (sequence : C → ℕ → Bool) (e : Edit) (s : SessionSta
     put_is : span.new_end ≤ span.first + steps_put e (session_of (listed new) stride coins run)
     put_is =
         subst (λ xs. span.new_end ≤ span.first + steps_put_in e xs) new_items
-        (omega (arith, b.span.new_end, b.span.first, put-within (change_of e) (place_of e).blocks (place_of e).place old b.new b.edited))
+        (omega (arith, b.span.new_end, b.span.first, put-within e (edit_path e).blocks old b.new b.edited))
 
     pub edited-early : (applied far : ℕ)
         → (AgreeBehindSpan n (sequence s.coins) (unroll (listed old)) (unroll (listed mid)) span far → applied ≤ ((span.new_end - span.first) + 2 * stride) + far)

@@ -9,23 +9,23 @@ use Rattle.stab_tableau.specs.Groups.{SameGroup}
 use Rattle.stab_tableau.specs.Tableaus.{TableauState, stabilises}
 use Rattle.stab_circuit.specs.Steps.{Step}
 use Rattle.stab_session.specs.declared.checkpoint.Checkpoint.{Checkpoint}
-use Rattle.stab_session.specs.declared.checkpoint.Seam.{Seam}
+use Rattle.stab_session.specs.declared.checkpoint.Meeting.{Meeting}
 use Rattle.stab_session.specs.declared.replay.Replay.{Replay}
 use Rattle.stab_session.specs.declared.replay.Plan.{Plan}
 use Rattle.stab_session.specs.declared.replay.End.{End}
 use Rattle.stab_session.specs.declared.replay.End.TheVariants.{Last, Joined}
 use Rattle.stab_session.specs.declared.kept.KeptRun.{KeptRun}
-use Rattle.stab_session.specs.declared.kept.Span.{Span}
+use Rattle.stab_circuit.specs.declared.edit.Span.{Span}
 use Rattle.stab_session.specs.declared.kept.Prepared.{Prepared}
 use Rattle.stab_session.specs.declared.kept.Rest.{Rest}
 use Rattle.stab_session.specs.Records.{ones}
-use Rattle.stab_session.specs.Points.{Output, origin, joined, point_after, all_coins_of, with_additions}
+use Rattle.stab_session.specs.Points.{RunOutput, origin, joined, point_after, all_coins_of, with_additions}
 use Rattle.stab_session.specs.Laws.{AgreeAt}
-use Rattle.stab_session.specs.inner.Sights.{sight, output_of}
+use Rattle.stab_session.specs.inner.ProgramStates.{program_state, output_of}
 use Rattle.stab_session.specs.inner.Spacing.{Near, IsSpaced, last_of}
-use Rattle.stab_session.specs.inner.Checkpoints.{lengths_of, front_of, rest_of, IsRunFromStart, IsCheckpoint, steps_of, all_laid, moved, moved_copy}
-use Rattle.stab_session.specs.inner.Replays.{IsKeptRun, IsSameKept, IsSpan, IsReplay, Ascending, Meets, IsEnd, place_of}
-use Rattle.stab_session.specs.inner.Prepared.{Begins, IsRest, IsOldRest, IsPrepared, IsCommitted, copies_behind, tableau_behind, seam_at}
+use Rattle.stab_session.specs.inner.Checkpoints.{lengths_of, front_of, rest_of, IsRunFromStart, IsCheckpoint, checkpoint_steps, all_laid, moved, moved_copy}
+use Rattle.stab_session.specs.inner.Replays.{IsKeptRun, IsSameKept, IsSpan, IsReplay, Ascending, Meets, IsEnd, step_among_new}
+use Rattle.stab_session.specs.inner.Prepared.{Begins, IsRest, IsOldRest, IsPrepared, IsCommitted, copies_behind, tableau_behind, meeting_of}
 use Rattle.stab_session.proofs.RecordLemmas.{ones-append}
 use Rattle.stab_session.proofs.PointLemmas.{take-same, checkpoint-before, begun-from-start, meets-agree, agree-end, kept-tail, checkpoint-moved}
 use Rattle.stab_session.proofs.SpacingLemmas.{IsBefore, before-near, all-behind, ascending-behind, spaced-front, spaced-all, all-laid-all, all-laid-append, moved-within, moved-near, steps-moved, near-drop, near-join}
@@ -58,7 +58,7 @@ take-front k bits = take_all (length (take k bits)) (take k bits) (omega arith) 
 
 -- the same kept run
 
-rest-same : (a b : KeptRun) (t : TableauState) (o : Output) (step : ℕ) (end : End) (new : Output) (rest : Rest) → IsSameKept a b
+rest-same : (a b : KeptRun) (t : TableauState) (o : RunOutput) (step : ℕ) (end : End) (new : RunOutput) (rest : Rest) → IsSameKept a b
     → IsRest a t o step end new rest → IsRest b t o step end new rest
 rest-same a b t o step Last new rest same h = (
   ap (copies_behind rest) (sym same.checkpoints) ∙ h.0,
@@ -72,7 +72,7 @@ rest-same a b t o step (Joined number) new rest same h =
       copies =
           ap (copies_behind rest) (sym same.checkpoints)
           ∙ is.copies
-          ∙ ap (λ cs. map (moved_copy (seam_at o step c)) (drop number cs)) same.checkpoints;
+          ∙ ap (λ cs. map (moved_copy (meeting_of o step c)) (drop number cs)) same.checkpoints;
       tableau = ap (tableau_behind rest) (sym same.tableau) ∙ is.tableau ∙ same.tableau;
       output = is.output ∙ ap (λ given. joined o (rest_of c.lengths given)) same.output;
     })
@@ -114,12 +114,12 @@ module _ (n : ℕ) (coins : ℕ → Bool) (K : ℕ) (xs : List Step) (count : �
       left = begins.left ∙ ap (λ k. drop k ys) (sym begins.step);
       within = let w = is.within in omega (arith, begins.step);
       run =
-          subst (λ k. IsRunFromStart n coins (take k ys) (sight r.tableau (output_of r.outputs))) (sym begins.step)
+          subst (λ k. IsRunFromStart n coins (take k ys) (program_state r.tableau (output_of r.outputs))) (sym begins.step)
           (begun-from-start n coins xs ys c r.tableau (output_of r.outputs) is (take-same c.step s.first xs ys le span.before) begins.tableau
           (begins.output ∙ ap (front_of c.lengths) kept.run.output));
     };
     checkpoints = subst (All (IsCheckpoint n coins ys)) (sym begins.laid) (All-nil (IsCheckpoint n coins ys));
-    near = subst (λ cs. Near K (r.step ∷ steps_of cs ++ r.step ∷ [])) (sym begins.laid) (omega arith, omega arith, tt);
+    near = subst (λ cs. Near K (r.step ∷ checkpoint_steps cs ++ r.step ∷ [])) (sym begins.laid) (omega arith, omega arith, tt);
   }
     where
       is : IsCheckpoint n coins ys c
@@ -128,7 +128,7 @@ module _ (n : ℕ) (coins : ℕ → Bool) (K : ℕ) (xs : List Step) (count : �
   pub same-records : (c : Checkpoint) (r : Replay) → Begins ys old c r
       → take (length r.outputs.records.items) r.outputs.records.items ≡ take (length r.outputs.records.items) old.outputs.records.items
   same-records c r begins =
-      let is : r.outputs.records.items ≡ take c.lengths.records old.outputs.records.items = ap (λ (o : Output). o.records) begins.output in
+      let is : r.outputs.records.items ≡ take c.lengths.records old.outputs.records.items = ap (λ (o : RunOutput). o.records) begins.output in
       subst (λ bits. take (length bits) bits ≡ take (length bits) old.outputs.records.items) (sym is) (take-front c.lengths.records old.outputs.records.items)
 
   -- which old copies it may meet
@@ -169,15 +169,15 @@ module _ (n : ℕ) (coins : ℕ → Bool) (K : ℕ) (xs : List Step) (count : �
       (All-take (IsCheckpoint n coins xs) m old.checkpoints.items kept.checkpoints k d lt)
 
   pub front-spaced : (m : ℕ) (b : IsBefore K (length xs) s.first m old.checkpoints.items)
-      → IsSpaced K b.copy.step (steps_of (take m old.checkpoints.items)) × (last_of 0 (steps_of (take m old.checkpoints.items)) ≡ b.copy.step)
+      → IsSpaced K b.copy.step (checkpoint_steps (take m old.checkpoints.items)) × (last_of 0 (checkpoint_steps (take m old.checkpoints.items)) ≡ b.copy.step)
   front-spaced m b =
       subst (λ steps. IsSpaced K b.copy.step steps × (last_of 0 steps ≡ b.copy.step)) same
-      (spaced-front K (length xs) (steps_of old.checkpoints.items) (m - 1) b.copy.step kept.spaced here)
+      (spaced-front K (length xs) (checkpoint_steps old.checkpoints.items) (m - 1) b.copy.step kept.spaced here)
     where
-      same : take (m - 1 + 1) (steps_of old.checkpoints.items) ≡ steps_of (take m old.checkpoints.items)
-      same = ap (λ k. take k (steps_of old.checkpoints.items)) (let o = b.some in omega arith) ∙ take-map (λ c. c.step) m old.checkpoints.items
+      same : take (m - 1 + 1) (checkpoint_steps old.checkpoints.items) ≡ checkpoint_steps (take m old.checkpoints.items)
+      same = ap (λ k. take k (checkpoint_steps old.checkpoints.items)) (let o = b.some in omega arith) ∙ take-map (λ c. c.step) m old.checkpoints.items
 
-      here : slice_get (steps_of old.checkpoints.items) (m - 1) ≡ Some b.copy.step
+      here : slice_get (checkpoint_steps old.checkpoints.items) (m - 1) ≡ Some b.copy.step
       here = slice_get-map (λ c. c.step) old.checkpoints.items (m - 1) ∙ ap (option_map (λ c. c.step)) b.here
 
   module _ (m : ℕ) (b : IsBefore K (length xs) s.first m old.checkpoints.items) (front : All (λ c. c.step < s.first + 1) (take m old.checkpoints.items))
@@ -197,15 +197,15 @@ module _ (n : ℕ) (coins : ℕ → Bool) (K : ℕ) (xs : List Step) (count : �
           subst (All (IsCheckpoint n coins ys)) (sym copies)
           (all-laid-all (IsCheckpoint n coins ys) K r.laid.items (take m old.checkpoints.items) replay.checkpoints (front-copies m front));
       spaced =
-          subst (λ cs. IsSpaced K (length ys) (steps_of cs)) (sym copies)
+          subst (λ cs. IsSpaced K (length ys) (checkpoint_steps cs)) (sym copies)
           (spaced-all K (length ys) b.copy.step r.laid.items (take m old.checkpoints.items)
-          (subst (λ k. Near K (b.copy.step ∷ steps_of r.laid.items ++ k ∷ [])) end replay.near)
+          (subst (λ k. Near K (b.copy.step ∷ checkpoint_steps r.laid.items ++ k ∷ [])) end replay.near)
           (front-spaced m b).0 (front-spaced m b).1);
     }
       where
-        whole : IsRunFromStart n coins ys (sight r.tableau (output_of r.outputs))
+        whole : IsRunFromStart n coins ys (program_state r.tableau (output_of r.outputs))
         whole =
-            subst (λ zs. IsRunFromStart n coins zs (sight r.tableau (output_of r.outputs))) (take_all r.step ys (omega (arith, end)))
+            subst (λ zs. IsRunFromStart n coins zs (program_state r.tableau (output_of r.outputs))) (take_all r.step ys (omega (arith, end)))
             replay.at_step.run
 
     -- at an old copy that it meets
@@ -213,7 +213,7 @@ module _ (n : ℕ) (coins : ℕ → Bool) (K : ℕ) (xs : List Step) (count : �
         → Meets n r.tableau (output_of r.outputs) old.outputs.records.items d → length ys < 2 ^ 64 → new.tableau ≡ old.tableau
         → output_of new.outputs ≡ joined (output_of r.outputs) (rest_of d.lengths (output_of old.outputs))
         → new.checkpoints.items
-        ≡ all_laid K (map (moved_copy (seam_at (output_of r.outputs) r.step d)) (drop j old.checkpoints.items)) (all_laid K r.laid.items (take m old.checkpoints.items))
+        ≡ all_laid K (map (moved_copy (meeting_of (output_of r.outputs) r.step d)) (drop j old.checkpoints.items)) (all_laid K r.laid.items (take m old.checkpoints.items))
         → IsKeptRun n coins K ys total new
     kept-joined j d here behind place meets few tableau output copies = record {
       qubits = ap (λ (t : TableauState). t.qubits) tableau ∙ kept.qubits;
@@ -227,13 +227,13 @@ module _ (n : ℕ) (coins : ℕ → Bool) (K : ℕ) (xs : List Step) (count : �
       observables = observables;
       checkpoints =
           subst (All (IsCheckpoint n coins ys)) (sym all_copies)
-          (all-laid-all (IsCheckpoint n coins ys) K (r.laid.items ++ behind_seam) (take m old.checkpoints.items)
-          (All-append (IsCheckpoint n coins ys) r.laid.items behind_seam replay.checkpoints
-          (All-map (IsCheckpoint n coins ys) (moved_copy seam) (drop j old.checkpoints.items) each_moved))
+          (all-laid-all (IsCheckpoint n coins ys) K (r.laid.items ++ behind_meeting) (take m old.checkpoints.items)
+          (All-append (IsCheckpoint n coins ys) r.laid.items behind_meeting replay.checkpoints
+          (All-map (IsCheckpoint n coins ys) (moved_copy meeting) (drop j old.checkpoints.items) each_moved))
           (front-copies m front));
       spaced =
-          subst (λ cs. IsSpaced K (length ys) (steps_of cs)) (sym all_copies)
-          (spaced-all K (length ys) b.copy.step (r.laid.items ++ behind_seam) (take m old.checkpoints.items) (subst (Near K) steps_are near)
+          subst (λ cs. IsSpaced K (length ys) (checkpoint_steps cs)) (sym all_copies)
+          (spaced-all K (length ys) b.copy.step (r.laid.items ++ behind_meeting) (take m old.checkpoints.items) (subst (Near K) steps_are near)
           (front-spaced m b).0 (front-spaced m b).1);
     }
       where
@@ -256,58 +256,58 @@ module _ (n : ℕ) (coins : ℕ → Bool) (K : ℕ) (xs : List Step) (count : �
         agree : AgreeAt n (point_after n coins (take d.step xs) origin) (point_after n coins (take r.step ys) origin)
         agree =
             meets-agree n coins xs (take r.step ys) d r.tableau (output_of r.outputs) old.outputs.records.items is
-            (ap (λ (o : Output). o.records) kept.run.output) replay.at_step.run meets
+            (ap (λ (o : RunOutput). o.records) kept.run.output) replay.at_step.run meets
 
-        seam : Seam
-        seam = seam_at (output_of r.outputs) r.step d
+        meeting : Meeting
+        meeting = meeting_of (output_of r.outputs) r.step d
 
-        behind_seam : List Checkpoint
-        behind_seam = map (moved_copy (seam_at (output_of r.outputs) r.step d)) (drop j old.checkpoints.items)
+        behind_meeting : List Checkpoint
+        behind_meeting = map (moved_copy (meeting_of (output_of r.outputs) r.step d)) (drop j old.checkpoints.items)
 
         all_copies : new.checkpoints.items
-            ≡ all_laid K (r.laid.items ++ map (moved_copy (seam_at (output_of r.outputs) r.step d)) (drop j old.checkpoints.items)) (take m old.checkpoints.items)
+            ≡ all_laid K (r.laid.items ++ map (moved_copy (meeting_of (output_of r.outputs) r.step d)) (drop j old.checkpoints.items)) (take m old.checkpoints.items)
         all_copies =
             copies
-            ∙ sym (all-laid-append K r.laid.items (map (moved_copy (seam_at (output_of r.outputs) r.step d)) (drop j old.checkpoints.items)) (take m old.checkpoints.items))
+            ∙ sym (all-laid-append K r.laid.items (map (moved_copy (meeting_of (output_of r.outputs) r.step d)) (drop j old.checkpoints.items)) (take m old.checkpoints.items))
 
-        each_moved : All (λ c. IsCheckpoint n coins ys (moved_copy (seam_at (output_of r.outputs) r.step d) c)) (drop j old.checkpoints.items)
+        each_moved : All (λ c. IsCheckpoint n coins ys (moved_copy (meeting_of (output_of r.outputs) r.step d) c)) (drop j old.checkpoints.items)
         each_moved = λ k e lt.
-            checkpoint-moved n coins xs ys d.step r.step same agree (seam_at (output_of r.outputs) r.step d) (get_or (drop j old.checkpoints.items) k e) refl refl is.lengths
+            checkpoint-moved n coins xs ys d.step r.step same agree (meeting_of (output_of r.outputs) r.step d) (get_or (drop j old.checkpoints.items) k e) refl refl is.lengths
             (ap lengths_of replay.at_step.run.output)
             (all-behind K (length xs) d.step j old.checkpoints.items kept.spaced.near
             (subst (λ o. IfSome o (λ c. d.step ≤ c.step)) (sym here) (omega arith)) k e lt).0
             replay.at_step.within few (All-drop (IsCheckpoint n coins xs) j old.checkpoints.items kept.checkpoints k e lt)
 
-        near : Near K ((b.copy.step ∷ steps_of r.laid.items) ++ r.step ∷ (map (moved d.step r.step) (steps_of (drop (j + 1) old.checkpoints.items)) ++ length ys ∷ []))
+        near : Near K ((b.copy.step ∷ checkpoint_steps r.laid.items) ++ r.step ∷ (map (moved d.step r.step) (checkpoint_steps (drop (j + 1) old.checkpoints.items)) ++ length ys ∷ []))
         near =
-            near-join K r.step (b.copy.step ∷ steps_of r.laid.items) (map (moved d.step r.step) (steps_of (drop (j + 1) old.checkpoints.items)) ++ length ys ∷ [])
+            near-join K r.step (b.copy.step ∷ checkpoint_steps r.laid.items) (map (moved d.step r.step) (checkpoint_steps (drop (j + 1) old.checkpoints.items)) ++ length ys ∷ [])
             replay.near
-            (subst (λ k. Near K (r.step ∷ map (moved d.step r.step) (steps_of (drop (j + 1) old.checkpoints.items)) ++ k ∷ []))
+            (subst (λ k. Near K (r.step ∷ map (moved d.step r.step) (checkpoint_steps (drop (j + 1) old.checkpoints.items)) ++ k ∷ []))
             (let w = is.within in omega (arith, step, same-rest, behind))
-            (moved-near K d.step r.step (length xs) (steps_of (drop (j + 1) old.checkpoints.items))
+            (moved-near K d.step r.step (length xs) (checkpoint_steps (drop (j + 1) old.checkpoints.items))
             (subst (λ steps. Near K (d.step ∷ steps ++ length xs ∷ [])) (drop-map (λ c. c.step) (j + 1) old.checkpoints.items)
-            (near-drop K (length xs) j d.step (steps_of old.checkpoints.items) kept.spaced.near
+            (near-drop K (length xs) j d.step (checkpoint_steps old.checkpoints.items) kept.spaced.near
             (slice_get-map (λ c. c.step) old.checkpoints.items j ∙ ap (option_map (λ c. c.step)) here)))
             (let w = is.within in omega (arith, step, same-rest, behind, few))))
 
-        moved_steps : steps_of (map (moved_copy (seam_at (output_of r.outputs) r.step d)) (drop j old.checkpoints.items))
-            ≡ r.step ∷ map (moved d.step r.step) (steps_of (drop (j + 1) old.checkpoints.items))
+        moved_steps : checkpoint_steps (map (moved_copy (meeting_of (output_of r.outputs) r.step d)) (drop j old.checkpoints.items))
+            ≡ r.step ∷ map (moved d.step r.step) (checkpoint_steps (drop (j + 1) old.checkpoints.items))
         moved_steps =
-            steps-moved (seam_at (output_of r.outputs) r.step d) (drop j old.checkpoints.items)
-            ∙ ap (λ cs. map (moved d.step r.step) (steps_of cs))
+            steps-moved (meeting_of (output_of r.outputs) r.step d) (drop j old.checkpoints.items)
+            ∙ ap (λ cs. map (moved d.step r.step) (checkpoint_steps cs))
             (drop_more old.checkpoints.items j d (slice_get_within old.checkpoints.items j d here)
             ∙ ap (λ c. c ∷ drop (j + 1) old.checkpoints.items) (get_or_from_slice_get old.checkpoints.items j d d here))
-            ∙ ap (λ k. k ∷ map (moved d.step r.step) (steps_of (drop (j + 1) old.checkpoints.items)))
+            ∙ ap (λ k. k ∷ map (moved d.step r.step) (checkpoint_steps (drop (j + 1) old.checkpoints.items)))
             (let w = replay.at_step.within in omega (arith, w, few))
 
-        steps_are : (b.copy.step ∷ steps_of r.laid.items) ++ r.step ∷ (map (moved d.step r.step) (steps_of (drop (j + 1) old.checkpoints.items)) ++ length ys ∷ [])
-            ≡ b.copy.step ∷ steps_of (r.laid.items ++ map (moved_copy (seam_at (output_of r.outputs) r.step d)) (drop j old.checkpoints.items)) ++ length ys ∷ []
+        steps_are : (b.copy.step ∷ checkpoint_steps r.laid.items) ++ r.step ∷ (map (moved d.step r.step) (checkpoint_steps (drop (j + 1) old.checkpoints.items)) ++ length ys ∷ [])
+            ≡ b.copy.step ∷ checkpoint_steps (r.laid.items ++ map (moved_copy (meeting_of (output_of r.outputs) r.step d)) (drop j old.checkpoints.items)) ++ length ys ∷ []
         steps_are =
-            ap (λ steps. b.copy.step ∷ steps_of r.laid.items ++ (steps ++ length ys ∷ [])) (sym moved_steps)
+            ap (λ steps. b.copy.step ∷ checkpoint_steps r.laid.items ++ (steps ++ length ys ∷ [])) (sym moved_steps)
             ∙ ap (λ steps. b.copy.step ∷ steps)
-            (sym (append_assoc (steps_of r.laid.items) (steps_of (map (moved_copy (seam_at (output_of r.outputs) r.step d)) (drop j old.checkpoints.items))) (length ys ∷ []))
+            (sym (append_assoc (checkpoint_steps r.laid.items) (checkpoint_steps (map (moved_copy (meeting_of (output_of r.outputs) r.step d)) (drop j old.checkpoints.items))) (length ys ∷ []))
             ∙ ap (λ steps. steps ++ length ys ∷ [])
-            (sym (map-append (λ c. c.step) r.laid.items (map (moved_copy (seam_at (output_of r.outputs) r.step d)) (drop j old.checkpoints.items)))))
+            (sym (map-append (λ c. c.step) r.laid.items (map (moved_copy (meeting_of (output_of r.outputs) r.step d)) (drop j old.checkpoints.items)))))
 
     -- however it ends
     pub kept-end : (p : Plan) (end : End) (q : Prepared) → p.old_end ≡ s.old_end → p.new_end ≡ s.new_end → p.total ≡ length ys → length ys < 2 ^ 64
@@ -318,7 +318,7 @@ module _ (n : ℕ) (coins : ℕ → Bool) (K : ℕ) (xs : List Step) (count : �
         kept-last (end ∙ total) (committed.tableau ∙ rest.1) (committed.output ∙ rest.2)
         (committed.checkpoints ∙ (λ i. all_laid K (rest.0 i) (all_laid K (laid i) (take m old.checkpoints.items))))
     kept-end p (Joined j) q old_end new_end total few next end rest laid committed =
-        let found = some-and (λ c. (place_of p c ≡ r.step) × Meets n r.tableau (output_of r.outputs) old.outputs.records.items c) (slice_get old.checkpoints.items j) end.1 in
+        let found = some-and (λ c. (step_among_new p c ≡ r.step) × Meets n r.tableau (output_of r.outputs) old.outputs.records.items c) (slice_get old.checkpoints.items j) end.1 in
         let d = found.0 in
         let is = some-at (IsOldRest old (output_of r.outputs) r.step j (output_of q.outputs) q.rest) old.checkpoints.items j d found.1 rest in
         kept-joined j d found.1 (some-at (λ c. s.old_end ≤ c.step) old.checkpoints.items j d found.1 (from-drop (λ c. s.old_end ≤ c.step) old.checkpoints.items p.next j end.0 (all-next p.next next)))
@@ -328,15 +328,15 @@ module _ (n : ℕ) (coins : ℕ → Bool) (K : ℕ) (xs : List Step) (count : �
 
 -- flags and coins
 
-pub end-flags : (n : ℕ) (p : Plan) (r : Replay) (old : KeptRun) (end : End) (new : Output) (rest : Rest)
+pub end-flags : (n : ℕ) (p : Plan) (r : Replay) (old : KeptRun) (end : End) (new : RunOutput) (rest : Rest)
     → IsEnd n p r old.checkpoints.items old.outputs.records.items end → IsRest old r.tableau (output_of r.outputs) r.step end new rest
     → ones r.outputs.free.items ≤ ones new.free
-end-flags n p r old Last new rest end is = omega (arith, ap (λ (o : Output). ones o.free) is.2)
+end-flags n p r old Last new rest end is = omega (arith, ap (λ (o : RunOutput). ones o.free) is.2)
 end-flags n p r old (Joined j) new rest end is =
-    let found = some-and (λ c. (place_of p c ≡ r.step) × Meets n r.tableau (output_of r.outputs) old.outputs.records.items c) (slice_get old.checkpoints.items j) end.1 in
+    let found = some-and (λ c. (step_among_new p c ≡ r.step) × Meets n r.tableau (output_of r.outputs) old.outputs.records.items c) (slice_get old.checkpoints.items j) end.1 in
     let d = found.0 in
     let old_rest = some-at (IsOldRest old (output_of r.outputs) r.step j new rest) old.checkpoints.items j d found.1 is in
-    omega (arith, ap (λ (o : Output). ones o.free) old_rest.output, ones-append r.outputs.free.items (drop d.lengths.free old.outputs.free.items))
+    omega (arith, ap (λ (o : RunOutput). ones o.free) old_rest.output, ones-append r.outputs.free.items (drop d.lengths.free old.outputs.free.items))
 
 coins-append : (xs ys : List Step) → all_coins_of (xs ++ ys) ≡ all_coins_of xs + all_coins_of ys
 coins-append [] ys = omega arith

@@ -3,33 +3,33 @@ use Rattle.std.proofs.Common.{◌≡◌, ℕ, ◌+◌, refl, ◌∙◌, ap, subs
 use Rattle.stab_pauli.specs.declared.letter.Letter.{Letter}
 use Rattle.stab_pauli.specs.Letters.{◌⊕◌}
 use Rattle.stab_pauli.specs.Paulis.{Signed, single}
-use Rattle.stab_tableau.specs.Traces.{Happening, applied, applied_pair, projected, member, is_free}
+use Rattle.stab_tableau.specs.Traces.{Event, applied, applied_pair, projected, member, is_free}
 use Rattle.stab_tableau.specs.Groups.{SameGroup}
 use Rattle.stab_tableau.proofs.OneLetterLemmas.{length-one_letter}
 use Rattle.stab_tableau.proofs.MemberLemmas.{same-more, same-outcome, same-free}
 use Rattle.stab_circuit.specs.Steps.{Step, one, two, controlled, collapse, product, detector, observable}
 use Rattle.stab_session.specs.Records.{looked_up, parity}
-use Rattle.stab_session.specs.Runs.{when, string_of, gate_of, flip_of, applied_where, outcome_of}
+use Rattle.stab_session.specs.Runs.{when, string_of, gate_of, flip_of, applied_where, outcome_at}
 use Rattle.stab_session.specs.Points.{Point, nothing, joined, given, trace_after, coins_of, next_point}
 use Rattle.stab_session.specs.Laws.{AgreeAt, SameFuture}
 use Rattle.stab_session.proofs.ProductLemmas.{length-string_of}
 
 module _ (n : ℕ) (coins : ℕ → Bool) (a b : Point) (same : AgreeAt n a b) where
-  outcome-same : (p : Signed) → length p.letters ≡ n → outcome_of coins p a.trace a.coin ≡ outcome_of coins p b.trace b.coin
+  outcome-same : (p : Signed) → length p.letters ≡ n → outcome_at coins p a.trace a.coin ≡ outcome_at coins p b.trace b.coin
   outcome-same p size =
-      same-outcome n (member a.trace) (member b.trace) p size same.group (coins a.coin) ∙ ap (λ t. outcome_of coins p b.trace t) same.coin
+      same-outcome n (member a.trace) (member b.trace) p size same.group (coins a.coin) ∙ ap (λ t. outcome_at coins p b.trace t) same.coin
 
   free-same : (p : Signed) → length p.letters ≡ n → is_free a.trace p ≡ is_free b.trace p
   free-same p size = same-free n (member a.trace) (member b.trace) p size same.group
 
   projected-same : (p : Signed) → length p.letters ≡ n
-      → SameGroup n (member (projected p (outcome_of coins p a.trace a.coin) ∷ a.trace)) (member (projected p (outcome_of coins p b.trace b.coin) ∷ b.trace))
+      → SameGroup n (member (projected p (outcome_at coins p a.trace a.coin) ∷ a.trace)) (member (projected p (outcome_at coins p b.trace b.coin) ∷ b.trace))
   projected-same p size =
-      subst (λ o. SameGroup n (member (projected p (outcome_of coins p a.trace a.coin) ∷ a.trace)) (member (projected p o ∷ b.trace)))
+      subst (λ o. SameGroup n (member (projected p (outcome_at coins p a.trace a.coin) ∷ a.trace)) (member (projected p o ∷ b.trace)))
       (outcome-same p size)
-      (same-more n (projected p (outcome_of coins p a.trace a.coin) ∷ []) a.trace b.trace (size, tt) same.group)
+      (same-more n (projected p (outcome_at coins p a.trace a.coin) ∷ []) a.trace b.trace (size, tt) same.group)
 
-  applied-same : (bit other : Bool) → bit ≡ other → (l : Letter) (q : ℕ) (s t : List Happening) → SameGroup n (member s) (member t)
+  applied-same : (bit other : Bool) → bit ≡ other → (l : Letter) (q : ℕ) (s t : List Event) → SameGroup n (member s) (member t)
       → SameGroup n (member (applied_where bit l q s)) (member (applied_where other l q t))
   applied-same true other is l q s t e = subst (λ o. SameGroup n (member (applied_where true l q s)) (member (applied_where o l q t))) is (same-more n (applied (gate_of l) q ∷ []) s t tt e)
   applied-same false other is l q s t e = subst (λ o. SameGroup n (member s) (member (applied_where o l q t))) is e

@@ -9,10 +9,10 @@ use Rattle.stab_tableau.specs.Tableaus.{stabilises}
 use Rattle.stab_circuit.specs.Steps.{Step}
 use Rattle.stab_session.specs.declared.checkpoint.Checkpoint.{Checkpoint}
 use Rattle.stab_session.specs.declared.kept.KeptRun.{KeptRun}
-use Rattle.stab_session.specs.Points.{Output, nothing, origin, point_after, outputs, with_additions}
-use Rattle.stab_session.specs.inner.Sights.{output_of}
+use Rattle.stab_session.specs.Points.{RunOutput, nothing, origin, point_after, outputs, with_additions}
+use Rattle.stab_session.specs.inner.ProgramStates.{output_of}
 use Rattle.stab_session.specs.inner.Spacing.{IsSpaced}
-use Rattle.stab_session.specs.inner.Checkpoints.{lengths_of, IsCheckpoint, steps_of}
+use Rattle.stab_session.specs.inner.Checkpoints.{lengths_of, IsCheckpoint, checkpoint_steps}
 use Rattle.stab_session.specs.inner.Replays.{IsKeptRun, Follows}
 
 -- the run of no steps
@@ -26,7 +26,7 @@ pub kept-nothing : (n : ℕ) (coins : ℕ → Bool) (K : ℕ) (r : KeptRun) (c :
 kept-nothing n coins K r c qubits zeros empty none one first short same = record {
   qubits = qubits;
   run = record { group = zeros; output = empty };
-  observables = none ∙ ap (λ (o : Output). with_additions o.additions (replicate 0 false)) (sym empty);
+  observables = none ∙ ap (λ (o : RunOutput). with_additions o.additions (replicate 0 false)) (sym empty);
   checkpoints = subst (All (IsCheckpoint n coins [])) (sym one) (All-cons (IsCheckpoint n coins []) c [] (record {
     within = omega arith;
     qubits = ap (λ t. t.qubits) same ∙ qubits;
@@ -35,7 +35,7 @@ kept-nothing n coins K r c qubits zeros empty none one first short same = record
         (λ p size. ap (λ t. stabilises t p) same ∙ zeros p size);
     lengths = short ∙ ap (λ xs. lengths_of (outputs n coins xs origin)) (sym (take_all c.step [] (omega arith)));
   }) (All-nil (IsCheckpoint n coins [])));
-  spaced = subst (λ cs. IsSpaced K 0 (steps_of cs)) (sym one) (first-spaced K c.step first);
+  spaced = subst (λ cs. IsSpaced K 0 (checkpoint_steps cs)) (sym one) (first-spaced K c.step first);
 }
 
 -- any steps follow it: all of them are put in

@@ -8,8 +8,8 @@ use Rattle.stab_session.specs.declared.checkpoint.Checkpoint.{Checkpoint}
 use Rattle.stab_session.specs.declared.replay.Replay.{Replay}
 use Rattle.stab_session.specs.declared.replay.Plan.{Plan}
 use Rattle.stab_session.specs.declared.replay.Arrival.TheVariants.{Between}
-use Rattle.stab_session.specs.inner.Replays.{IsArrival, next_stop, place_of}
-use Rattle.stab_session.proofs.ReplayLemmas.{placed-at}
+use Rattle.stab_session.specs.inner.Replays.{IsArrival, next_stop, step_among_new}
+use Rattle.stab_session.proofs.ReplayLemmas.{not-stopped}
 
 -- where a replay stops it is a stride further, or at the end, or at a place
 stop-cases : (p : Plan) (step stop : ℕ) (place : Option ℕ) → stop ≡ next_stop p step place → (stop ≡ step + p.stride) ⊎ ((stop ≡ p.total) ⊎ (place ≡ Some stop))
@@ -34,18 +34,14 @@ stop-cases p step stop (Some q) e =
 
 -- so where it goes on it went a stride, or passed a copy
 went-on : (n : ℕ) (p : Plan) (copies : List Checkpoint) (old : List Bool) (next later step stop : ℕ) (place : Option ℕ) (r : Replay) → r.step ≡ stop
-    → stop ≡ next_stop p step place → place ≡ option_map (place_of p) (slice_get copies next) → IsArrival n p r copies old next (Between later)
+    → stop ≡ next_stop p step place → place ≡ option_map (step_among_new p) (slice_get copies next) → IsArrival n p r copies old next (Between later)
     → ((later ≡ next) × (stop ≡ step + p.stride)) ⊎ (later ≡ next + 1)
 went-on n p copies old next later step stop place r at value place_is arrival =
     elim arrival.2 [
       | inl same ↦
           elim (stop-cases p step stop place value) [
             | inl far ↦ inl (same.0, far)
-            | inr other ↦
-                elim other [
-                  | inl e ↦ absurd (arrival.0 (at ∙ e))
-                  | inr e ↦ absurd (same.1 (placed-at p (slice_get copies next) r.step (sym place_is ∙ e ∙ ap Some (sym at))))
-                ]
+            | inr other ↦ absurd (not-stopped p copies next stop place r.step at place_is arrival.0 same.1 other)
           ]
       | inr placed ↦ inr placed.0
     ]
@@ -61,7 +57,7 @@ one-more K count more a b begin step stop few longer le how =
 -- one more copy is laid
 pub laid-more : (n : ℕ) (p : Plan) (copies : List Checkpoint) (old : List Bool) (next later step stop begin count more : ℕ) (place : Option ℕ) (r : Replay)
     → p.stride * count + begin ≤ step + p.stride * (next - p.next) → more ≡ count + 1 → p.next ≤ next → step ≤ stop → r.step ≡ stop
-    → stop ≡ next_stop p step place → place ≡ option_map (place_of p) (slice_get copies next) → IsArrival n p r copies old next (Between later)
+    → stop ≡ next_stop p step place → place ≡ option_map (step_among_new p) (slice_get copies next) → IsArrival n p r copies old next (Between later)
     → p.stride * more + begin ≤ stop + p.stride * (later - p.next)
 laid-more n p copies old next later step stop begin count more place r few longer order further at value place_is arrival =
     one-more p.stride count more (next - p.next) (later - p.next) begin step stop few longer further

@@ -1,16 +1,16 @@
--- Points: what runs from the start give, copies of their state, and seams, where two runs come to points of one future.
+-- Points: what runs from the start give, copies of their state, and meetings, where two runs come to points of one future.
 use Rattle.std.proofs.Common.{◌≡◌, ℕ, ◌+◌, ◌-◌, ◌^◌, ◌<◌, ◌≤◌, refl, sym, ◌∙◌, ap, subst, Bool, true, false, List, [], ◌∷◌, ◌++◌, append_assoc, append-nil, length, take, drop, arith}
 use Rattle.std.proofs.lemmas.List.{length-append, length-take-le, length-drop, take-append-drop, take-take, take_at, drop_at, drop-take}
 use Rattle.stab_tableau.specs.Traces.{member}
 use Rattle.stab_tableau.specs.Groups.{SameGroup}
 use Rattle.stab_tableau.specs.Tableaus.{TableauState, stabilises}
 use Rattle.stab_circuit.specs.Steps.{Step, one, two, controlled, collapse, product, detector, observable}
-use Rattle.stab_session.specs.declared.checkpoint.Lengths.{Lengths}
+use Rattle.stab_session.specs.declared.records.Lengths.{Lengths}
 use Rattle.stab_session.specs.declared.checkpoint.Checkpoint.{Checkpoint}
-use Rattle.stab_session.specs.declared.checkpoint.Seam.{Seam}
-use Rattle.stab_session.specs.Points.{Point, Output, origin, joined, given, coins_of, next_point, point_after, outputs}
+use Rattle.stab_session.specs.declared.checkpoint.Meeting.{Meeting}
+use Rattle.stab_session.specs.Points.{Point, RunOutput, origin, joined, given, coins_of, next_point, point_after, outputs}
 use Rattle.stab_session.specs.Laws.{AgreeAt}
-use Rattle.stab_session.specs.inner.Sights.{Sight, Shows, IsRun, sight}
+use Rattle.stab_session.specs.inner.ProgramStates.{ProgramState, IsAt, IsRun, program_state}
 use Rattle.stab_session.specs.inner.Checkpoints.{lengths_of, front_of, rest_of, IsRunFromStart, IsCheckpoint, moved, moved_lengths, moved_copy}
 use Rattle.stab_session.specs.inner.Replays.{Meets}
 use Rattle.stab_session.proofs.RunLemmas.{after-append, outputs-append}
@@ -48,14 +48,14 @@ records-are-records n coins xs = sym (records-gathered n coins xs origin)
 
 -- a run that goes on from a state of a run from the start
 
-pub shows-from-start : (n : ℕ) (coins : ℕ → Bool) (xs : List Step) (a : Sight) → IsRunFromStart n coins xs a → Shows n a (point_after n coins xs origin)
+pub shows-from-start : (n : ℕ) (coins : ℕ → Bool) (xs : List Step) (a : ProgramState) → IsRunFromStart n coins xs a → IsAt n a (point_after n coins xs origin)
 shows-from-start n coins xs a h = record {
   group = h.group;
-  coin = ap (λ (o : Output). length o.free) h.output ∙ flags-are-coins n coins xs;
-  records = ap (λ (o : Output). o.records) h.output ∙ records-are-records n coins xs;
+  coin = ap (λ (o : RunOutput). length o.free) h.output ∙ flags-are-coins n coins xs;
+  records = ap (λ (o : RunOutput). o.records) h.output ∙ records-are-records n coins xs;
 }
 
-pub resumed : (n : ℕ) (coins : ℕ → Bool) (xs zs : List Step) (a b : Sight) → IsRunFromStart n coins xs a → IsRun n coins zs a b → IsRunFromStart n coins (xs ++ zs) b
+pub resumed : (n : ℕ) (coins : ℕ → Bool) (xs zs : List Step) (a b : ProgramState) → IsRunFromStart n coins xs a → IsRun n coins zs a b → IsRunFromStart n coins (xs ++ zs) b
 resumed n coins xs zs a b h run =
     let p = point_after n coins xs origin in
     let led = run p (shows-from-start n coins xs a h) in
@@ -69,7 +69,7 @@ resumed n coins xs zs a b h run =
 
 -- what is given in two parts
 
-front-joined : (a b : Output) → front_of (lengths_of a) (joined a b) ≡ a
+front-joined : (a b : RunOutput) → front_of (lengths_of a) (joined a b) ≡ a
 front-joined a b = λ i. record {
   records = take_at a.records b.records (length a.records) refl i;
   free = take_at a.free b.free (length a.free) refl i;
@@ -77,7 +77,7 @@ front-joined a b = λ i. record {
   additions = take_at a.additions b.additions (length a.additions) refl i;
 }
 
-rest-joined : (a b : Output) → rest_of (lengths_of a) (joined a b) ≡ b
+rest-joined : (a b : RunOutput) → rest_of (lengths_of a) (joined a b) ≡ b
 rest-joined a b = λ i. record {
   records = drop_at a.records b.records (length a.records) refl i;
   free = drop_at a.free b.free (length a.free) refl i;
@@ -104,7 +104,7 @@ rest-output n coins xs i =
     ap (rest_of (lengths_of a)) (cut n coins xs i) ∙ rest-joined a b
 
 -- each list of an output has at most so many elements
-pub record HasAtMost (k : ℕ) (o : Output) : Type 0 where
+pub record HasAtMost (k : ℕ) (o : RunOutput) : Type 0 where
   pub records : length o.records ≤ k
   pub free : length o.free ≤ k
   pub detectors : length o.detectors ≤ k
@@ -123,7 +123,7 @@ given-short n coins (observable j ks) p = record { records = omega arith; free =
 append-short : {X : Type 0} (xs ys : List X) (k : ℕ) → length xs ≤ 1 → length ys ≤ k → length (xs ++ ys) ≤ k + 1
 append-short xs ys k a b = omega (arith, length-append xs ys)
 
-joined-short : (k : ℕ) (a b : Output) → HasAtMost 1 a → HasAtMost k b → HasAtMost (k + 1) (joined a b)
+joined-short : (k : ℕ) (a b : RunOutput) → HasAtMost 1 a → HasAtMost k b → HasAtMost (k + 1) (joined a b)
 joined-short k a b s t = record {
   records = append-short a.records b.records k s.records t.records;
   free = append-short a.free b.free k s.free t.free;
@@ -143,7 +143,7 @@ outputs-short n coins (x ∷ xs) p =
 moved-length : {X : Type 0} (xs ys zs : List X) → length (ys ++ zs) < 2 ^ 64 → moved (length xs) (length ys) (length (xs ++ zs)) ≡ length (ys ++ zs)
 moved-length xs ys zs few = omega (arith, length-append xs zs, length-append ys zs)
 
-moved-joined : (k : ℕ) (a b o : Output) → k < 2 ^ 64 → HasAtMost k (joined b o) → moved_lengths (lengths_of a) (lengths_of b) (lengths_of (joined a o)) ≡ lengths_of (joined b o)
+moved-joined : (k : ℕ) (a b o : RunOutput) → k < 2 ^ 64 → HasAtMost k (joined b o) → moved_lengths (lengths_of a) (lengths_of b) (lengths_of (joined a o)) ≡ lengths_of (joined b o)
 moved-joined k a b o few short = λ i. record {
   records = moved-length a.records b.records o.records (let s = short.records in omega arith) i;
   free = moved-length a.free b.free o.free (let s = short.free in omega arith) i;
@@ -166,8 +166,8 @@ checkpoint-before n coins xs ys first c same before within h = record {
 }
 
 -- a run that begins at a copy
-pub begun-from-start : (n : ℕ) (coins : ℕ → Bool) (xs ys : List Step) (c : Checkpoint) (t : TableauState) (o : Output) → IsCheckpoint n coins ys c → take c.step xs ≡ take c.step ys
-    → t ≡ c.tableau → o ≡ front_of c.lengths (outputs n coins xs origin) → IsRunFromStart n coins (take c.step ys) (sight t o)
+pub begun-from-start : (n : ℕ) (coins : ℕ → Bool) (xs ys : List Step) (c : Checkpoint) (t : TableauState) (o : RunOutput) → IsCheckpoint n coins ys c → take c.step xs ≡ take c.step ys
+    → t ≡ c.tableau → o ≡ front_of c.lengths (outputs n coins xs origin) → IsRunFromStart n coins (take c.step ys) (program_state t o)
 begun-from-start n coins xs ys c t o h same tableau front = record {
   group = subst (λ u. SameGroup n (stabilises u) (member (point_after n coins (take c.step ys) origin).trace)) (sym tableau) h.group;
   output =
@@ -181,8 +181,8 @@ begun-from-start n coins xs ys c t o h same tableau front = record {
     lengths = h.lengths ∙ ap (λ zs. lengths_of (outputs n coins zs origin)) (sym same)
 
 -- a copy of one run that the other meets is at a point of the same future
-pub meets-agree : (n : ℕ) (coins : ℕ → Bool) (xs zs : List Step) (c : Checkpoint) (t : TableauState) (o : Output) (records : List Bool)
-    → IsCheckpoint n coins xs c → records ≡ (outputs n coins xs origin).records → IsRunFromStart n coins zs (sight t o) → Meets n t o records c
+pub meets-agree : (n : ℕ) (coins : ℕ → Bool) (xs zs : List Step) (c : Checkpoint) (t : TableauState) (o : RunOutput) (records : List Bool)
+    → IsCheckpoint n coins xs c → records ≡ (outputs n coins xs origin).records → IsRunFromStart n coins zs (program_state t o) → Meets n t o records c
     → AgreeAt n (point_after n coins (take c.step xs) origin) (point_after n coins zs origin)
 meets-agree n coins xs zs c t o records h kept run meets = record {
   group = λ p size. sym (h.group p size) ∙ sym (meets.group p size) ∙ run.group p size;
@@ -193,14 +193,14 @@ meets-agree n coins xs zs c t o records h kept run meets = record {
       ∙ shown.coin;
   records =
       sym (records-are-records n coins (take c.step xs))
-      ∙ sym (ap (λ (q : Output). q.records) (front-output n coins xs c.step))
+      ∙ sym (ap (λ (q : RunOutput). q.records) (front-output n coins xs c.step))
       ∙ (λ i. take (sym (ap (λ (l : Lengths). l.records) h.lengths) i) (sym kept i))
       ∙ sym meets.records
       ∙ shown.records;
 }
   where
-    shown : Shows n (sight t o) (point_after n coins zs origin)
-    shown = shows-from-start n coins zs (sight t o) run
+    shown : IsAt n (program_state t o) (point_after n coins zs origin)
+    shown = shows-from-start n coins zs (program_state t o) run
 
 -- two runs that come to points of one future before step i of one and step k of the other, and have the same steps from there on
 
@@ -256,7 +256,7 @@ module _ (n : ℕ) (coins : ℕ → Bool) (xs ys : List Step) (i k : ℕ) (same 
       ∙ sym (rest-output n coins xs i))
 
   -- a copy of the one from there on, moved, is a copy of the other
-  pub checkpoint-moved : (s : Seam) (c : Checkpoint) → s.old_step ≡ i → s.new_step ≡ k → s.old_lengths ≡ lengths_of (outputs n coins (take i xs) origin)
+  pub checkpoint-moved : (s : Meeting) (c : Checkpoint) → s.old_step ≡ i → s.new_step ≡ k → s.old_lengths ≡ lengths_of (outputs n coins (take i xs) origin)
       → s.new_lengths ≡ lengths_of (outputs n coins (take k ys) origin) → i ≤ c.step → k ≤ length ys → length ys < 2 ^ 64
       → IsCheckpoint n coins xs c → IsCheckpoint n coins ys (moved_copy s c)
   checkpoint-moved s c old new old_lengths new_lengths behind within few h = record {

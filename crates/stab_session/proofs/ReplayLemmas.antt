@@ -7,17 +7,17 @@ use Rattle.std.proofs.lemmas.Bool.{cases_lt}
 use Rattle.std.proofs.lemmas.Option.{none-some, same_Some, IfSome_then}
 use Rattle.stab_tableau.specs.Tableaus.{TableauState}
 use Rattle.stab_circuit.specs.Steps.{Step, one, two, controlled, collapse, product, detector, observable}
-use Rattle.stab_session.specs.declared.checkpoint.Lengths.{Lengths}
+use Rattle.stab_session.specs.declared.records.Lengths.{Lengths}
 use Rattle.stab_session.specs.declared.checkpoint.Checkpoint.{Checkpoint}
 use Rattle.stab_session.specs.declared.replay.Replay.{Replay}
 use Rattle.stab_session.specs.declared.replay.Plan.{Plan}
 use Rattle.stab_session.specs.declared.replay.Arrival.TheVariants.{Between}
-use Rattle.stab_session.specs.Points.{Output, origin, coins_of, all_coins_of, point_after, outputs}
+use Rattle.stab_session.specs.Points.{RunOutput, origin, coins_of, all_coins_of, point_after, outputs}
 use Rattle.stab_session.specs.Laws.{AgreeAt}
-use Rattle.stab_session.specs.inner.Sights.{Sight, Shows, IsRun, sight, output_of}
+use Rattle.stab_session.specs.inner.ProgramStates.{ProgramState, IsAt, IsRun, program_state, output_of}
 use Rattle.stab_session.specs.inner.Spacing.{Near, last_of}
-use Rattle.stab_session.specs.inner.Checkpoints.{IsRunFromStart, IsCheckpoint, lengths_of, steps_of}
-use Rattle.stab_session.specs.inner.Replays.{IsAtStep, IsReplay, Ascending, Meets, MeetsAt, IsPlacedAt, IsArrival, Misses, EndsSoon, place_of, copy_of}
+use Rattle.stab_session.specs.inner.Checkpoints.{IsRunFromStart, IsCheckpoint, lengths_of, checkpoint_steps}
+use Rattle.stab_session.specs.inner.Replays.{IsAtStep, IsReplay, Ascending, Meets, MeetsAt, IsPlacedAt, IsArrival, Misses, EndsSoon, step_among_new, copy_of}
 use Rattle.stab_session.proofs.PointLemmas.{resumed, shows-from-start, take-more, flags-are-coins, records-are-records}
 
 -- two lists that are the same up to a place: one begins the other where it does behind that place
@@ -75,20 +75,20 @@ coins-cut i j ys xs le left =
 -- a run on from a step
 
 -- it leaves the records that there were
-pub records-stay : (n : ℕ) (coins : ℕ → Bool) (xs zs : List Step) (old new : Sight) → IsRunFromStart n coins xs old → IsRun n coins zs old new
+pub records-stay : (n : ℕ) (coins : ℕ → Bool) (xs zs : List Step) (old new : ProgramState) → IsRunFromStart n coins xs old → IsRun n coins zs old new
     → old.output.records ≡ take (length old.output.records) new.output.records
 records-stay n coins xs zs old new h run =
     let p = point_after n coins xs origin in
     let led = run p (shows-from-start n coins xs old h) in
     sym
-    (ap (λ (o : Output). take (length old.output.records) o.records) led.output
+    (ap (λ (o : RunOutput). take (length old.output.records) o.records) led.output
     ∙ take_at old.output.records (outputs n coins zs p).records (length old.output.records) refl)
 
 -- and comes to the other
 pub run-on : (n : ℕ) (coins : ℕ → Bool) (ys : List Step) (old new : Replay) → IsAtStep n coins ys old → old.step ≤ new.step → new.step ≤ length ys
     → new.tableau.qubits ≡ old.tableau.qubits → length new.string.letters ≡ length old.string.letters
     → new.cursor.all ≡ old.cursor.all → new.cursor.left ≡ drop (new.step - old.step) old.cursor.left
-    → IsRun n coins (take (new.step - old.step) old.cursor.left) (sight old.tableau (output_of old.outputs)) (sight new.tableau (output_of new.outputs))
+    → IsRun n coins (take (new.step - old.step) old.cursor.left) (program_state old.tableau (output_of old.outputs)) (program_state new.tableau (output_of new.outputs))
     → IsAtStep n coins ys new
 run-on n coins ys old new h order within qubits string all left run = record {
   qubits = qubits ∙ h.qubits;
@@ -102,11 +102,11 @@ run-on n coins ys old new h order within qubits string all left run = record {
       (subst (λ xs. IsRun n coins (take (new.step - old.step) xs) before now) h.left run));
 }
   where
-    before : Sight
-    before = sight old.tableau (output_of old.outputs)
+    before : ProgramState
+    before = program_state old.tableau (output_of old.outputs)
 
-    now : Sight
-    now = sight new.tableau (output_of new.outputs)
+    now : ProgramState
+    now = program_state new.tableau (output_of new.outputs)
 
     further : old.step + (new.step - old.step) ≡ new.step
     further = omega arith
@@ -135,7 +135,7 @@ near-more K a e (b ∷ xs) h = (h.0, h.1, near-more K b e xs h.2)
 
 -- where a run agrees with an old one at a copy, it meets that copy
 
-agree-meets : (n : ℕ) (coins : ℕ → Bool) (xs zs : List Step) (c : Checkpoint) (t : TableauState) (o : Output) (records : List Bool) → IsRunFromStart n coins zs (sight t o)
+agree-meets : (n : ℕ) (coins : ℕ → Bool) (xs zs : List Step) (c : Checkpoint) (t : TableauState) (o : RunOutput) (records : List Bool) → IsRunFromStart n coins zs (program_state t o)
     → IsCheckpoint n coins xs c → take c.lengths.records records ≡ (outputs n coins (take c.step xs) origin).records
     → AgreeAt n (point_after n coins (take c.step xs) origin) (point_after n coins zs origin) → Meets n t o records c
 agree-meets n coins xs zs c t o records run h kept agree = record {
@@ -149,8 +149,8 @@ agree-meets n coins xs zs c t o records run h kept agree = record {
   records = same ∙ sym kept;
 }
   where
-    now : Shows n (sight t o) (point_after n coins zs origin)
-    now = shows-from-start n coins zs (sight t o) run
+    now : IsAt n (program_state t o) (point_after n coins zs origin)
+    now = shows-from-start n coins zs (program_state t o) run
 
     same : o.records ≡ (outputs n coins (take c.step xs) origin).records
     same = now.records ∙ sym agree.records ∙ sym (records-are-records n coins (take c.step xs))
@@ -171,43 +171,43 @@ pub record IsAtStop (n : ℕ) (coins : ℕ → Bool) (begin : ℕ) (p : Plan) (y
 -- and about to go on from there, with the last copy laid there
 pub record IsOnWay (n : ℕ) (coins : ℕ → Bool) (begin : ℕ) (p : Plan) (ys : List Step) (copies : List Checkpoint) (old : List Bool) (next : ℕ) (r : Replay) : Type 0 where
   pub stop : IsAtStop n coins begin p ys copies old next r
-  pub last : last_of begin (steps_of r.laid.items) ≡ r.step
+  pub last : last_of begin (checkpoint_steps r.laid.items) ≡ r.step
 
 -- where the next copy stands
 
 ascending-end : (p : Plan) (step : ℕ) (cs : List Checkpoint) → Ascending p step cs → step ≤ p.total
 ascending-end p step [] h = h
-ascending-end p step (c ∷ cs) h = let le = ascending-end p (place_of p c) cs h.1 in omega arith
+ascending-end p step (c ∷ cs) h = let le = ascending-end p (step_among_new p c) cs h.1 in omega arith
 
 -- a replay at a step is not behind the place of the next copy
-next-behind : (p : Plan) (step k : ℕ) (cs : List Checkpoint) → Ascending p step (drop k cs) → IfSome (option_map (place_of p) (slice_get cs k)) (λ q. step ≤ q)
+next-behind : (p : Plan) (step k : ℕ) (cs : List Checkpoint) → Ascending p step (drop k cs) → IfSome (option_map (step_among_new p) (slice_get cs k)) (λ q. step ≤ q)
 next-behind p step zero [] h = tt
 next-behind p step (suc k) [] h = tt
 next-behind p step zero (c ∷ cs) h = h.0
 next-behind p step (suc k) (c ∷ cs) h = next-behind p step k cs h
 
-pub place-behind : (p : Plan) (step k : ℕ) (cs : List Checkpoint) (place : Option ℕ) → place ≡ option_map (place_of p) (slice_get cs k) → Ascending p step (drop k cs)
+pub place-behind : (p : Plan) (step k : ℕ) (cs : List Checkpoint) (place : Option ℕ) → place ≡ option_map (step_among_new p) (slice_get cs k) → Ascending p step (drop k cs)
     → IfSome place (λ q. step ≤ q)
 place-behind p step k cs place e h = subst (λ o. IfSome o (λ q. step ≤ q)) (sym e) (next-behind p step k cs h)
 
 -- and may stop there at the latest
 ascending-stop : (p : Plan) (step stop k : ℕ) (cs : List Checkpoint) → Ascending p step (drop k cs) → stop ≤ p.total
-    → IfSome (option_map (place_of p) (slice_get cs k)) (λ q. stop ≤ q) → Ascending p stop (drop k cs)
+    → IfSome (option_map (step_among_new p) (slice_get cs k)) (λ q. stop ≤ q) → Ascending p stop (drop k cs)
 ascending-stop p step stop zero [] h within before = within
 ascending-stop p step stop (suc k) [] h within before = within
 ascending-stop p step stop zero (c ∷ cs) h within before = (before, h.1)
 ascending-stop p step stop (suc k) (c ∷ cs) h within before = ascending-stop p step stop k cs h within before
 
 -- nor is it behind those of later ones
-later-places : (p : Plan) (step k : ℕ) (cs : List Checkpoint) → Ascending p step cs → IfSome (slice_get cs k) (λ c. step ≤ place_of p c)
+later-places : (p : Plan) (step k : ℕ) (cs : List Checkpoint) → Ascending p step cs → IfSome (slice_get cs k) (λ c. step ≤ step_among_new p c)
 later-places p step zero [] h = tt
 later-places p step (suc k) [] h = tt
 later-places p step zero (c ∷ cs) h = h.0
 later-places p step (suc k) (c ∷ cs) h =
-    IfSome_then (slice_get cs k) (later-places p (place_of p c) k cs h.1) (λ d le. let first = h.0 in omega (arith, first, le))
+    IfSome_then (slice_get cs k) (later-places p (step_among_new p c) k cs h.1) (λ d le. let first = h.0 in omega (arith, first, le))
 
 all-later : (p : Plan) (step next k : ℕ) (cs : List Checkpoint) → Ascending p step (drop next cs) → next ≤ k
-    → IfSome (slice_get cs k) (λ c. step ≤ place_of p c)
+    → IfSome (slice_get cs k) (λ c. step ≤ step_among_new p c)
 all-later p step zero k cs h le = later-places p step k cs h
 all-later p step (suc next) zero cs h le = absurd (omega arith)
 all-later p step (suc next) (suc k) [] h le = tt
@@ -236,7 +236,7 @@ module _ (n : ℕ) (coins : ℕ → Bool) (begin : ℕ) (p : Plan) (ys : List St
   pub on-stop : (others : ℕ → Bool) (next stop : ℕ) (place : Option ℕ) (r s : Replay) → IsOnWay n coins begin p ys copies old next r → others ≡ coins
       → IsAtStep r.tableau.qubits others r.cursor.all s → s.laid.items ≡ r.laid.items
       → r.outputs.records.items ≡ take (length r.outputs.records.items) s.outputs.records.items → s.applied + r.step ≡ r.applied + stop → s.step ≡ stop
-      → r.step ≤ stop → stop ≤ p.total → stop ≤ r.step + p.stride → place ≡ option_map (place_of p) (slice_get copies next) → IfSome place (λ q. stop ≤ q)
+      → r.step ≤ stop → stop ≤ p.total → stop ≤ r.step + p.stride → place ≡ option_map (step_among_new p) (slice_get copies next) → IfSome place (λ q. stop ≤ q)
       → IsAtStop n coins begin p ys copies old next s
   on-stop others next stop place r s h same_coins at laid records counted step order within near place_is before = record {
     replay = record {
@@ -245,8 +245,8 @@ module _ (n : ℕ) (coins : ℕ → Bool) (begin : ℕ) (p : Plan) (ys : List St
           (subst (λ xs. IsAtStep r.tableau.qubits coins xs s) was.all (subst (λ c. IsAtStep r.tableau.qubits c r.cursor.all s) same_coins at));
       checkpoints = subst (All (IsCheckpoint n coins ys)) (sym laid) h.stop.replay.checkpoints;
       near =
-          subst (λ cs. Near p.stride (begin ∷ steps_of cs ++ s.step ∷ [])) (sym laid)
-          (near-end p.stride begin s.step r.step (steps_of r.laid.items) h.stop.replay.near (let e = h.last in omega arith) (let e = h.last in omega arith));
+          subst (λ cs. Near p.stride (begin ∷ checkpoint_steps cs ++ s.step ∷ [])) (sym laid)
+          (near-end p.stride begin s.step r.step (checkpoint_steps r.laid.items) h.stop.replay.near (let e = h.last in omega arith) (let e = h.last in omega arith));
     };
     counted = let e = h.stop.counted in omega arith;
     order = h.stop.order;
@@ -266,7 +266,7 @@ module _ (n : ℕ) (coins : ℕ → Bool) (begin : ℕ) (p : Plan) (ys : List St
       was = h.stop.replay.at_step
 
   -- where it does not meet a copy at its place, the runs do not agree there
-  misses : (r : Replay) (c : Checkpoint) → IsAtStep n coins ys r → place_of p c ≡ r.step → (MeetsAt n p r old c → ⊥) → Misses n coins p ys old c
+  misses : (r : Replay) (c : Checkpoint) → IsAtStep n coins ys r → step_among_new p c ≡ r.step → (MeetsAt n p r old c → ⊥) → Misses n coins p ys old c
   misses r c h place apart xs is_copy kept agree =
       apart (
         place,
@@ -274,13 +274,13 @@ module _ (n : ℕ) (coins : ℕ → Bool) (begin : ℕ) (p : Plan) (ys : List St
             (subst (λ k. AgreeAt n (point_after n coins (take c.step xs) origin) (point_after n coins (take k ys) origin)) place agree),
       )
 
-  missed : (r : Replay) (o : Option Checkpoint) → IsAtStep n coins ys r → IfSome o (λ c. place_of p c ≡ r.step) → IfSome o (λ c. MeetsAt n p r old c → ⊥)
+  missed : (r : Replay) (o : Option Checkpoint) → IsAtStep n coins ys r → IfSome o (λ c. step_among_new p c ≡ r.step) → IfSome o (λ c. MeetsAt n p r old c → ⊥)
       → IfSome o (Misses n coins p ys old)
   missed r None h place apart = tt
   missed r (Some c) h place apart = misses r c h place apart
 
   -- so that one was missed as those before it were
-  all-missed : (next : ℕ) (r : Replay) → IsAtStop n coins begin p ys copies old next r → IfSome (slice_get copies next) (λ c. place_of p c ≡ r.step)
+  all-missed : (next : ℕ) (r : Replay) → IsAtStop n coins begin p ys copies old next r → IfSome (slice_get copies next) (λ c. step_among_new p c ≡ r.step)
       → IfSome (slice_get copies next) (λ c. MeetsAt n p r old c → ⊥) → (number : ℕ) → p.next ≤ number → number < next + 1
       → IfSome (slice_get copies number) (Misses n coins p ys old)
   all-missed next r h place apart number from before =
@@ -305,11 +305,11 @@ module _ (n : ℕ) (coins : ℕ → Bool) (begin : ℕ) (p : Plan) (ys : List St
     replay = h.replay;
     counted = h.counted;
     order = let le = h.order in omega arith;
-    within = let le = later-within copies next (λ c. place_of p c ≡ r.step) placed in omega arith;
+    within = let le = later-within copies next (λ c. step_among_new p c ≡ r.step) placed in omega arith;
     ascending = later-ascending p r.step next copies h.ascending placed;
     base = h.base;
     same = h.same;
-    missed = all-missed next r h (if-some (slice_get copies next) (λ c. place_of p c ≡ r.step) placed) apart;
+    missed = all-missed next r h (if-some (slice_get copies next) (λ c. step_among_new p c ≡ r.step) placed) apart;
   }
 
   -- with a copy laid at its step
@@ -331,7 +331,7 @@ module _ (n : ℕ) (coins : ℕ → Bool) (begin : ℕ) (p : Plan) (ys : List St
             (All-push (IsCheckpoint n coins ys) r.laid.items (copy_of r) h.replay.checkpoints (copy-laid n coins ys r h.replay.at_step));
         near =
             subst (λ ks. Near p.stride (begin ∷ ks ++ r.step ∷ [])) (sym steps)
-            (near-more p.stride begin r.step (steps_of r.laid.items) h.replay.near);
+            (near-more p.stride begin r.step (checkpoint_steps r.laid.items) h.replay.near);
       };
       counted = h.counted;
       order = h.order;
@@ -341,11 +341,11 @@ module _ (n : ℕ) (coins : ℕ → Bool) (begin : ℕ) (p : Plan) (ys : List St
       same = h.same;
       missed = h.missed;
     };
-    last = ap (last_of begin) steps ∙ last-more begin r.step (steps_of r.laid.items);
+    last = ap (last_of begin) steps ∙ last-more begin r.step (checkpoint_steps r.laid.items);
   }
     where
-      steps : steps_of s.laid.items ≡ steps_of r.laid.items ++ r.step ∷ []
-      steps = ap steps_of laid ∙ map-append (λ (c : Checkpoint). c.step) r.laid.items (copy_of r ∷ [])
+      steps : checkpoint_steps s.laid.items ≡ checkpoint_steps r.laid.items ++ r.step ∷ []
+      steps = ap checkpoint_steps laid ∙ map-append (λ (c : Checkpoint). c.step) r.laid.items (copy_of r ∷ [])
 
   pub on-further : (next later : ℕ) (r s : Replay) → IsAtStop n coins begin p ys copies old next r → IsArrival n p r copies old next (Between later)
       → s ≡ record r { laid = s.laid } → s.laid.items ≡ r.laid.items ++ copy_of r ∷ [] → IsOnWay n coins begin p ys copies old later s
@@ -360,23 +360,27 @@ module _ (n : ℕ) (coins : ℕ → Bool) (begin : ℕ) (p : Plan) (ys : List St
 
 -- and fewer steps or fewer copies are left
 
-pub placed-at : (p : Plan) (o : Option Checkpoint) (step : ℕ) → option_map (place_of p) o ≡ Some step → IsSomeAnd o (λ c. place_of p c ≡ step)
+placed-at : (p : Plan) (o : Option Checkpoint) (step : ℕ) → option_map (step_among_new p) o ≡ Some step → IsSomeAnd o (λ c. step_among_new p c ≡ step)
 placed-at p None step e = absurd (none-some step e)
-placed-at p (Some c) step e = same_Some (place_of p c) step e
+placed-at p (Some c) step e = same_Some (step_among_new p c) step e
+
+pub not-stopped : (p : Plan) (copies : List Checkpoint) (next stop : ℕ) (place : Option ℕ) (step : ℕ) → step ≡ stop → place ≡ option_map (step_among_new p) (slice_get copies next)
+    → (step ≡ p.total → ⊥) → (IsPlacedAt p copies next step → ⊥) → (stop ≡ p.total) ⊎ (place ≡ Some stop) → ⊥
+not-stopped p copies next stop place step at place_is further unplaced stopped =
+    elim stopped [
+      | inl e ↦ further (at ∙ e)
+      | inr e ↦ unplaced (placed-at p (slice_get copies next) step (sym place_is ∙ e ∙ ap Some (sym at)))
+    ]
 
 pub fewer-left : (n : ℕ) (p : Plan) (copies : List Checkpoint) (old : List Bool) (next later step stop : ℕ) (place : Option ℕ) (r : Replay) → r.step ≡ stop → step ≤ stop
-    → stop ≤ p.total → place ≡ option_map (place_of p) (slice_get copies next) → (step < stop) ⊎ ((stop ≡ p.total) ⊎ (place ≡ Some stop))
+    → stop ≤ p.total → place ≡ option_map (step_among_new p) (slice_get copies next) → (step < stop) ⊎ ((stop ≡ p.total) ⊎ (place ≡ Some stop))
     → IsArrival n p r copies old next (Between later) → (p.total - r.step) + (length copies - later) < (p.total - step) + (length copies - next)
 fewer-left n p copies old next later step stop place r at order within place_is further arrival =
     elim arrival.2 [
       | inl same ↦
           elim further [
             | inl less ↦ let e = same.0 in omega arith
-            | inr other ↦
-                elim other [
-                  | inl e ↦ absurd (arrival.0 (at ∙ e))
-                  | inr e ↦ absurd (same.1 (placed-at p (slice_get copies next) r.step (sym place_is ∙ e ∙ ap Some (sym at))))
-                ]
+            | inr other ↦ absurd (not-stopped p copies next stop place r.step at place_is arrival.0 same.1 other)
           ]
-      | inr placed ↦ let e = placed.0 in let le = later-within copies next (λ c. place_of p c ≡ r.step) placed.1 in omega arith
+      | inr placed ↦ let e = placed.0 in let le = later-within copies next (λ c. step_among_new p c ≡ r.step) placed.1 in omega arith
     ]

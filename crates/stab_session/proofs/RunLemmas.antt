@@ -6,21 +6,21 @@ use Rattle.stab_pauli.specs.declared.letter.Letter.{Letter}
 use Rattle.stab_pauli.specs.declared.letter.Letter.TheVariants.{I}
 use Rattle.stab_pauli.specs.Letters.{◌⊕◌}
 use Rattle.stab_pauli.specs.Paulis.{Signed, single}
-use Rattle.stab_tableau.specs.Traces.{Happening, projected, member, is_free}
+use Rattle.stab_tableau.specs.Traces.{Event, projected, member, is_free}
 use Rattle.stab_tableau.specs.Groups.{SameGroup}
 use Rattle.stab_tableau.specs.Rules.{outcome_by, is_free_by, projected_by}
 use Rattle.stab_tableau.proofs.OneLetterLemmas.{length-one_letter}
 use Rattle.stab_tableau.proofs.MemberLemmas.{same-applied, same-projected, same-outcome, same-free}
 use Rattle.stab_lines.specs.declared.product.Factor.{Factor}
 use Rattle.stab_circuit.specs.Steps.{Step, collapse, product}
-use Rattle.stab_session.specs.Runs.{when, string_of, gate_of, flip_of, applied_where, outcome_of}
-use Rattle.stab_session.specs.Points.{Point, Output, nothing, joined, given, trace_after, coins_of, next_point, point_after, outputs}
-use Rattle.stab_session.specs.inner.Sights.{StepFits, Sight, Shows, Leads, IsRun, applied_by}
+use Rattle.stab_session.specs.Runs.{when, string_of, gate_of, flip_of, applied_where, outcome_at}
+use Rattle.stab_session.specs.Points.{Point, RunOutput, nothing, joined, given, trace_after, coins_of, next_point, point_after, outputs}
+use Rattle.stab_session.specs.inner.ProgramStates.{StepFits, ProgramState, IsAt, Leads, IsRun, applied_by}
 use Rattle.stab_session.proofs.ProductLemmas.{length-string_of}
 
 -- outputs one after another
 
-pub joined-nothing : (a : Output) → joined a nothing ≡ a
+pub joined-nothing : (a : RunOutput) → joined a nothing ≡ a
 joined-nothing a = λ i. record {
   records = append-nil a.records i;
   free = append-nil a.free i;
@@ -28,7 +28,7 @@ joined-nothing a = λ i. record {
   additions = append-nil a.additions i;
 }
 
-pub joined-assoc : (a b c : Output) → joined (joined a b) c ≡ joined a (joined b c)
+pub joined-assoc : (a b c : RunOutput) → joined (joined a b) c ≡ joined a (joined b c)
 joined-assoc a b c = λ i. record {
   records = append_assoc a.records b.records c.records i;
   free = append_assoc a.free b.free c.free i;
@@ -49,15 +49,15 @@ outputs-append n coins (x ∷ xs) ys p =
 
 -- runs of the program one after another
 
-pub IsRun-none : (n : ℕ) (coins : ℕ → Bool) (a : Sight) → IsRun n coins [] a a
+pub IsRun-none : (n : ℕ) (coins : ℕ → Bool) (a : ProgramState) → IsRun n coins [] a a
 IsRun-none n coins a = λ p s. record { shows = s; output = sym (joined-nothing a.output) }
 
-pub IsRun-append : (n : ℕ) (coins : ℕ → Bool) (xs ys : List Step) (a b c : Sight) → IsRun n coins xs a b → IsRun n coins ys b c → IsRun n coins (xs ++ ys) a c
+pub IsRun-append : (n : ℕ) (coins : ℕ → Bool) (xs ys : List Step) (a b c : ProgramState) → IsRun n coins xs a b → IsRun n coins ys b c → IsRun n coins (xs ++ ys) a c
 IsRun-append n coins xs ys a b c f g = λ p s.
     let front = f p s in
     let back = g (point_after n coins xs p) front.shows in
     record {
-      shows = subst (Shows n c) (sym (after-append n coins xs ys p)) back.shows;
+      shows = subst (IsAt n c) (sym (after-append n coins xs ys p)) back.shows;
       output =
           back.output
           ∙ ap (λ o. joined o (outputs n coins ys (point_after n coins xs p))) front.output
@@ -67,24 +67,24 @@ IsRun-append n coins xs ys a b c f g = λ p s.
 
 -- one step: where the group is right, so is all that follows from the output
 
-one-run : (n : ℕ) (coins : ℕ → Bool) (x : Step) (a b : Sight) (p : Point) → Shows n a p
+one-run : (n : ℕ) (coins : ℕ → Bool) (x : Step) (a b : ProgramState) (p : Point) → IsAt n a p
     → SameGroup n b.stabilised (member (trace_after n coins x p))
     → length (given n coins x p).free ≡ coins_of x → b.output ≡ joined a.output (given n coins x p) → Leads n coins (x ∷ []) a b p
 one-run n coins x a b p s group flags output = record {
   shows = record {
     group = group;
     coin =
-        ap (λ (o : Output). length o.free) output
+        ap (λ (o : RunOutput). length o.free) output
         ∙ length-append a.output.free (given n coins x p).free
         ∙ (λ i. s.coin i + flags i);
-    records = ap (λ (o : Output). o.records) output ∙ ap (λ r. r ++ (given n coins x p).records) s.records;
+    records = ap (λ (o : RunOutput). o.records) output ∙ ap (λ r. r ++ (given n coins x p).records) s.records;
   };
   output = output ∙ ap (joined a.output) (sym (joined-nothing (given n coins x p)));
 }
 
 -- what the program does where it measures a string with some outcome: it projects, applies a letter to a qubit where it resets
 -- an outcome 1, and gathers the flag and the record
-pub record IsMeasurement (n : ℕ) (m : Signed) (l : Letter) (q : ℕ) (recorded inverted resets : Bool) (bit : Bool) (a b : Sight) : Type 0 where
+pub record IsMeasurement (n : ℕ) (m : Signed) (l : Letter) (q : ℕ) (recorded inverted resets : Bool) (bit : Bool) (a b : ProgramState) : Type 0 where
   pub measured : Signed → Bool
   pub projects : (r : Signed) → length r.letters ≡ n → measured r ≡ projected_by a.stabilised m bit r
   pub flips : (r : Signed) → length r.letters ≡ n → b.stabilised r ≡ applied_by (resets && bit) l q measured r
@@ -93,12 +93,12 @@ pub record IsMeasurement (n : ℕ) (m : Signed) (l : Letter) (q : ℕ) (recorded
     free = a.output.free ++ is_free_by a.stabilised m ∷ [];
   }
 
-applied-group : (n : ℕ) (bit : Bool) (l : Letter) (q : ℕ) (u : Signed → Bool) (t : List Happening) → SameGroup n u (member t)
+applied-group : (n : ℕ) (bit : Bool) (l : Letter) (q : ℕ) (u : Signed → Bool) (t : List Event) → SameGroup n u (member t)
     → SameGroup n (applied_by bit l q u) (member (applied_where bit l q t))
 applied-group n true l q u t same = same-applied n u (member t) (gate_of l) q same
 applied-group n false l q u t same = same
 
-joined-measured : (a : Output) (rs fs : List Bool) → joined a (record nothing { records = rs; free = fs }) ≡ record a { records = a.records ++ rs; free = a.free ++ fs }
+joined-measured : (a : RunOutput) (rs fs : List Bool) → joined a (record nothing { records = rs; free = fs }) ≡ record a { records = a.records ++ rs; free = a.free ++ fs }
 joined-measured a rs fs = λ i. record {
   records = a.records ++ rs;
   free = a.free ++ fs;
@@ -106,17 +106,17 @@ joined-measured a rs fs = λ i. record {
   additions = append-nil a.additions i;
 }
 
-module _ (n : ℕ) (coins : ℕ → Bool) (m : Signed) (size : length m.letters ≡ n) (l : Letter) (q : ℕ) (recorded inverted resets bit : Bool) (a b : Sight)
+module _ (n : ℕ) (coins : ℕ → Bool) (m : Signed) (size : length m.letters ≡ n) (l : Letter) (q : ℕ) (recorded inverted resets bit : Bool) (a b : ProgramState)
     (bit_is : bit ≡ outcome_by a.stabilised m (coins (length a.output.free))) (h : IsMeasurement n m l q recorded inverted resets bit a b)
-    (p : Point) (s : Shows n a p) where
-  same_bit : bit ≡ outcome_of coins m p.trace p.coin
+    (p : Point) (s : IsAt n a p) where
+  same_bit : bit ≡ outcome_at coins m p.trace p.coin
   same_bit =
       bit_is
       ∙ ap (λ t. outcome_by a.stabilised m (coins t)) s.coin
       ∙ same-outcome n a.stabilised (member p.trace) m size s.group (coins p.coin)
 
   measured-group : (r : Signed) → length r.letters ≡ n
-      → b.stabilised r ≡ member (applied_where (resets && outcome_of coins m p.trace p.coin) l q (projected m (outcome_of coins m p.trace p.coin) ∷ p.trace)) r
+      → b.stabilised r ≡ member (applied_where (resets && outcome_at coins m p.trace p.coin) l q (projected m (outcome_at coins m p.trace p.coin) ∷ p.trace)) r
   measured-group r lr =
       h.flips r lr
       ∙ applied-group n (resets && bit) l q h.measured (projected m bit ∷ p.trace)
@@ -124,7 +124,7 @@ module _ (n : ℕ) (coins : ℕ → Bool) (m : Signed) (size : length m.letters 
       ∙ ap (λ o. member (applied_where (resets && o) l q (projected m o ∷ p.trace)) r) same_bit
 
   measured-output : b.output ≡ joined a.output (record nothing {
-    records = when recorded (inverted ⊕ outcome_of coins m p.trace p.coin);
+    records = when recorded (inverted ⊕ outcome_at coins m p.trace p.coin);
     free = is_free p.trace m ∷ [];
   })
   measured-output =
@@ -133,10 +133,10 @@ module _ (n : ℕ) (coins : ℕ → Bool) (m : Signed) (size : length m.letters 
         records = a.output.records ++ when recorded (inverted ⊕ same_bit i);
         free = a.output.free ++ same-free n a.stabilised (member p.trace) m size s.group i ∷ [];
       })
-      ∙ sym (joined-measured a.output (when recorded (inverted ⊕ outcome_of coins m p.trace p.coin)) (is_free p.trace m ∷ []))
+      ∙ sym (joined-measured a.output (when recorded (inverted ⊕ outcome_at coins m p.trace p.coin)) (is_free p.trace m ∷ []))
 
 pub run-collapse : (n : ℕ) (coins : ℕ → Bool) (x : Step) (l : Letter) (q : ℕ) (recorded inverted resets : Bool)
-    → x ≡ collapse l q recorded inverted resets → (a b : Sight) (bit : Bool)
+    → x ≡ collapse l q recorded inverted resets → (a b : ProgramState) (bit : Bool)
     → bit ≡ outcome_by a.stabilised (single n q l) (coins (length a.output.free))
     → IsMeasurement n (single n q l) (flip_of l) q recorded inverted resets bit a b → IsRun n coins (x ∷ []) a b
 run-collapse n coins x l q recorded inverted resets is a b bit bit_is h =
@@ -147,7 +147,7 @@ run-collapse n coins x l q recorded inverted resets is a b bit bit_is h =
 
 -- a product is no reset, so nothing is applied
 pub run-product : (n : ℕ) (coins : ℕ → Bool) (x : Step) (factors : List Factor) (inverted : Bool)
-    → x ≡ product factors inverted → (m : Signed) → m ≡ string_of n factors → (a b : Sight) (bit : Bool)
+    → x ≡ product factors inverted → (m : Signed) → m ≡ string_of n factors → (a b : ProgramState) (bit : Bool)
     → bit ≡ outcome_by a.stabilised m (coins (length a.output.free))
     → ((r : Signed) → length r.letters ≡ n → b.stabilised r ≡ projected_by a.stabilised m bit r)
     → b.output ≡ record a.output {
@@ -181,7 +181,7 @@ fits-rest n m xs x rest e same fits =
     subst (λ k. All (StepFits k) rest) (sym same) (All-tail (StepFits n) x rest all)
 
 -- a run of the others, after one of the first
-pub run-rest : (n m : ℕ) (c d : ℕ → Bool) (xs : List Step) (x : Step) (rest : List Step) (a b new : Sight) → xs ≡ x ∷ rest → m ≡ n → d ≡ c
+pub run-rest : (n m : ℕ) (c d : ℕ → Bool) (xs : List Step) (x : Step) (rest : List Step) (a b new : ProgramState) → xs ≡ x ∷ rest → m ≡ n → d ≡ c
     → IsRun m d (x ∷ []) a b → IsRun n c rest b new → IsRun n c xs a new
 run-rest n m c d xs x rest a b new e same_size same_coins f g =
     subst (λ ys. IsRun n c ys a new) (sym e) (IsRun-append n c (x ∷ []) rest a b new here g)

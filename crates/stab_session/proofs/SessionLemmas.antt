@@ -10,12 +10,12 @@ use Rattle.stab_circuit.specs.Steps.{unroll, observables_of, check_within}
 use Rattle.stab_circuit.specs.Cursors.{IsApart}
 use Rattle.stab_session.specs.declared.kept.KeptRun.{KeptRun}
 use Rattle.stab_session.specs.Runs.{State, start, run_of}
-use Rattle.stab_session.specs.Points.{Output, origin, point_after, outputs, with_additions, state_at}
+use Rattle.stab_session.specs.Points.{RunOutput, origin, point_after, outputs, with_additions, state_at}
 use Rattle.stab_session.specs.Laws.{DependsOnCoinsAt}
 use Rattle.stab_session.specs.Headline.{IsRunOfItems}
 use Rattle.stab_session.specs.Sessions.{IsSignIn}
 use Rattle.stab_session.specs.Bounds.{most_checkpoints}
-use Rattle.stab_session.specs.inner.Checkpoints.{steps_of}
+use Rattle.stab_session.specs.inner.Checkpoints.{checkpoint_steps}
 use Rattle.stab_session.specs.inner.Replays.{IsKeptRun}
 use Rattle.stab_session.specs.inner.KeptSessions.{session_of, IsKept}
 use Rattle.stab_session.proofs.StateLemmas.{run-state, run_of-same}
@@ -42,14 +42,14 @@ module _ {C : Type 0} (sequence : C → ℕ → Bool) (items : Items) (stride : 
       let bits = sequence coins in
       let all = behind_all n bits items in
       let count = observables_of items in
-      let free : kept.outputs.free.items ≡ (run_of n bits items).free = ap (λ (o : Output). o.free) is.run.output ∙ sym (ap (λ (s : State). s.free) all) in
+      let free : kept.outputs.free.items ≡ (run_of n bits items).free = ap (λ (o : RunOutput). o.free) is.run.output ∙ sym (ap (λ (s : State). s.free) all) in
       record {
-        records = ap (λ (o : Output). o.records) is.run.output ∙ records-are-records n bits (unroll items) ∙ sym (ap (λ (s : State). s.records) all);
+        records = ap (λ (o : RunOutput). o.records) is.run.output ∙ records-are-records n bits (unroll items) ∙ sym (ap (λ (s : State). s.records) all);
         free = free;
-        detectors = ap (λ (o : Output). o.detectors) is.run.output ∙ sym (ap (λ (s : State). s.detectors) all);
+        detectors = ap (λ (o : RunOutput). o.detectors) is.run.output ∙ sym (ap (λ (s : State). s.detectors) all);
         observables =
             is.observables
-            ∙ ap (λ (o : Output). with_additions o.additions (replicate count false)) is.run.output
+            ∙ ap (λ (o : RunOutput). with_additions o.additions (replicate count false)) is.run.output
             ∙ sym (ap (λ (s : State). s.observables) all);
         group = subst (λ (s : State). SameGroup n (stabilises kept.tableau) (member s.trace)) (sym all) is.run.group;
         decided = subst (λ flags. DependsOnCoinsAt flags n bits items) (sym free) (run_of-same n bits items);
@@ -78,4 +78,4 @@ module _ {C : Type 0} (sequence : C → ℕ → Bool) (items : Items) (stride : 
     }
 
     pub few-checkpoints : 1 ≤ stride → length (session_of items stride coins kept).checkpoints ≤ most_checkpoints (session_of items stride coins kept)
-    few-checkpoints above = count-spaced stride (length (unroll items)) (steps_of kept.checkpoints.items) (omega (arith, above)) is.spaced
+    few-checkpoints above = count-spaced stride (length (unroll items)) (checkpoint_steps kept.checkpoints.items) (omega (arith, above)) is.spaced

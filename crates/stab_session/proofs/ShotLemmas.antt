@@ -9,15 +9,15 @@ use Rattle.stab_circuit.specs.Items.{Items}
 use Rattle.stab_circuit.specs.Steps.{Step, unroll, observables_of}
 use Rattle.stab_session.specs.declared.run.Shot.{Shot}
 use Rattle.stab_session.specs.Runs.{State, start, run, run_of}
-use Rattle.stab_session.specs.Points.{Output, nothing, joined, origin, point_after, outputs, with_additions, state_at}
-use Rattle.stab_session.specs.inner.Sights.{Sight, Shows, Leads, IsRun}
+use Rattle.stab_session.specs.Points.{RunOutput, nothing, joined, origin, point_after, outputs, with_additions, state_at}
+use Rattle.stab_session.specs.inner.ProgramStates.{ProgramState, IsAt, Leads, IsRun}
 use Rattle.stab_session.specs.inner.Shots.{IsShotOf}
 use Rattle.stab_session.proofs.StateLemmas.{run-state}
 
-module _ (n : ℕ) (coins : ℕ → Bool) (xs : List Step) (count : ℕ) (a b : Sight) (empty : a.output ≡ nothing)
+module _ (n : ℕ) (coins : ℕ → Bool) (xs : List Step) (count : ℕ) (a b : ProgramState) (empty : a.output ≡ nothing)
     (zeros : (q : Signed) → length q.letters ≡ n → a.stabilised q ≡ member [] q) (is : IsRun n coins xs a b) where
-  at_origin : Shows n a origin
-  at_origin = record { group = zeros; coin = ap (λ (o : Output). length o.free) empty; records = ap (λ (o : Output). o.records) empty }
+  at_origin : IsAt n a origin
+  at_origin = record { group = zeros; coin = ap (λ (o : RunOutput). length o.free) empty; records = ap (λ (o : RunOutput). o.records) empty }
 
   led : Leads n coins xs a b origin
   led = is origin at_origin
@@ -33,11 +33,11 @@ module _ (n : ℕ) (coins : ℕ → Bool) (xs : List Step) (count : ℕ) (a b : 
       → shot.observables.items ≡ with_additions b.output.additions (replicate count false) → IsShotOf n (run n coins xs (start count)) b.stabilised shot
   run-shot shot records free detectors observables = record {
     records = records ∙ led.shows.records ∙ sym (ap (λ (s : State). s.records) same_state);
-    free = free ∙ ap (λ (o : Output). o.free) gathered ∙ sym (ap (λ (s : State). s.free) same_state);
-    detectors = detectors ∙ ap (λ (o : Output). o.detectors) gathered ∙ sym (ap (λ (s : State). s.detectors) same_state);
+    free = free ∙ ap (λ (o : RunOutput). o.free) gathered ∙ sym (ap (λ (s : State). s.free) same_state);
+    detectors = detectors ∙ ap (λ (o : RunOutput). o.detectors) gathered ∙ sym (ap (λ (s : State). s.detectors) same_state);
     observables =
         observables
-        ∙ ap (λ (o : Output). with_additions o.additions (replicate count false)) gathered
+        ∙ ap (λ (o : RunOutput). with_additions o.additions (replicate count false)) gathered
         ∙ sym (ap (λ (s : State). s.observables) same_state);
     group = subst (λ (s : State). SameGroup n b.stabilised (member s.trace)) (sym same_state) led.shows.group;
   }

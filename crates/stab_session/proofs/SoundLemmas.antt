@@ -4,7 +4,7 @@ use Rattle.std.specs.Prelude.{None}
 use Rattle.std.proofs.lemmas.List.Elements.{All-head, All-tail}
 use Rattle.stab_pauli.specs.declared.letter.Letter.{Letter}
 use Rattle.stab_pauli.specs.Paulis.{Signed, single}
-use Rattle.stab_tableau.specs.Traces.{Happening, projected, outcome, Fits, IsSound}
+use Rattle.stab_tableau.specs.Traces.{Event, projected, outcome, Fits, IsSound}
 use Rattle.stab_tableau.proofs.OneLetterLemmas.{length-one_letter}
 use Rattle.stab_tableau.proofs.TraceLemmas.{IsSound-outcome}
 use Rattle.stab_circuit.specs.Items.{Items}
@@ -12,20 +12,20 @@ use Rattle.stab_circuit.specs.Steps.{Step, one, two, controlled, collapse, produ
 use Rattle.stab_circuit.specs.Cursors.{IsApart}
 use Rattle.stab_session.specs.Runs.{State, start, string_of, applied_where, effect, run, run_of}
 use Rattle.stab_session.specs.Laws.{IsSoundRun}
-use Rattle.stab_session.specs.inner.Sights.{StepFits}
+use Rattle.stab_session.specs.inner.ProgramStates.{StepFits}
 use Rattle.stab_session.proofs.ProductLemmas.{length-string_of}
 use Rattle.stab_session.proofs.FitLemmas.{check-fits}
 
 -- the trace is on n qubits and sound
-record IsGood (n : ℕ) (trace : List Happening) : Type 0 where
+record IsGood (n : ℕ) (trace : List Event) : Type 0 where
   fits : Fits n trace
   sound : IsSound trace
 
-good-applied : (n : ℕ) (bit : Bool) (l : Letter) (q : ℕ) (t : List Happening) → q < n → IsGood n t → IsGood n (applied_where bit l q t)
+good-applied : (n : ℕ) (bit : Bool) (l : Letter) (q : ℕ) (t : List Event) → q < n → IsGood n t → IsGood n (applied_where bit l q t)
 good-applied n true l q t lt good = record { fits = (lt, good.fits); sound = good.sound }
 good-applied n false l q t lt good = good
 
-good-projected : (n : ℕ) (p : Signed) (t : List Happening) (coin : Bool) → length p.letters ≡ n → IsGood n t → IsGood n (projected p (outcome t p coin) ∷ t)
+good-projected : (n : ℕ) (p : Signed) (t : List Event) (coin : Bool) → length p.letters ≡ n → IsGood n t → IsGood n (projected p (outcome t p coin) ∷ t)
 good-projected n p t coin size good = record { fits = (size, good.fits); sound = IsSound-outcome n t good.fits good.sound p size coin }
 
 good-effect : (n : ℕ) (coins : ℕ → Bool) (x : Step) (s : State) → StepFits n x → IsGood n s.trace → IsGood n (effect n coins x s).trace

@@ -6,11 +6,11 @@ use Rattle.std.proofs.lemmas.Bool.{cases_lt}
 use Rattle.std.proofs.lemmas.Bool.Decides.{leb_tells}
 use Rattle.std.proofs.lemmas.List.Elements.{All-nil, All-cons, All-head, All-tail}
 use Rattle.stab_session.specs.declared.checkpoint.Checkpoint.{Checkpoint}
-use Rattle.stab_session.specs.declared.checkpoint.Seam.{Seam}
+use Rattle.stab_session.specs.declared.checkpoint.Meeting.{Meeting}
 use Rattle.stab_session.specs.declared.replay.Plan.{Plan}
 use Rattle.stab_session.specs.inner.Spacing.{Near, Sparse, IsSpaced, last_of}
-use Rattle.stab_session.specs.inner.Checkpoints.{steps_of, laid, all_laid, moved, moved_copy}
-use Rattle.stab_session.specs.inner.Replays.{Ascending, place_of}
+use Rattle.stab_session.specs.inner.Checkpoints.{checkpoint_steps, laid, all_laid, moved, moved_copy}
+use Rattle.stab_session.specs.inner.Replays.{Ascending, step_among_new}
 
 -- parts of near and of sparse steps
 
@@ -108,48 +108,48 @@ laid-head K c a [] = refl
 laid-head K c a (b ∷ []) = by-test (λ t. t ≡ a ∷ drop 1 t) (c.step - a.step) K (a ∷ c ∷ []) (a ∷ b ∷ c ∷ []) (λ _. refl) (λ _. refl)
 laid-head K c a (b ∷ d ∷ xs) = refl
 
-last-laid : (K d : ℕ) (c : Checkpoint) (xs : List Checkpoint) → last_of d (steps_of (laid K c xs)) ≡ c.step
+last-laid : (K d : ℕ) (c : Checkpoint) (xs : List Checkpoint) → last_of d (checkpoint_steps (laid K c xs)) ≡ c.step
 last-laid K d c [] = refl
 last-laid K d c (a ∷ []) = refl
 last-laid K d c (a ∷ b ∷ []) =
-    by-test (λ t. last_of d (steps_of t) ≡ c.step) (c.step - a.step) K (a ∷ c ∷ []) (a ∷ b ∷ c ∷ []) (λ _. refl) (λ _. refl)
+    by-test (λ t. last_of d (checkpoint_steps t) ≡ c.step) (c.step - a.step) K (a ∷ c ∷ []) (a ∷ b ∷ c ∷ []) (λ _. refl) (λ _. refl)
 last-laid K d c (a ∷ b ∷ e ∷ xs) = last-laid K a.step c (b ∷ e ∷ xs)
 
-near-laid : (K p : ℕ) (c a : Checkpoint) (xs : List Checkpoint) → Near K (p ∷ steps_of (a ∷ xs)) → last_of a.step (steps_of xs) ≤ c.step
-    → c.step ≤ last_of a.step (steps_of xs) + K → Near K (p ∷ steps_of (laid K c (a ∷ xs)) ++ c.step ∷ [])
+near-laid : (K p : ℕ) (c a : Checkpoint) (xs : List Checkpoint) → Near K (p ∷ checkpoint_steps (a ∷ xs)) → last_of a.step (checkpoint_steps xs) ≤ c.step
+    → c.step ≤ last_of a.step (checkpoint_steps xs) + K → Near K (p ∷ checkpoint_steps (laid K c (a ∷ xs)) ++ c.step ∷ [])
 near-laid K p c a [] h l u = (h.0, h.1, (l, u, (omega arith, omega arith, tt)))
 near-laid K p c a (b ∷ []) h l u =
     let behind = h.2.0 in
-    by-test (λ t. Near K (p ∷ steps_of t ++ c.step ∷ [])) (c.step - a.step) K (a ∷ c ∷ []) (a ∷ b ∷ c ∷ [])
+    by-test (λ t. Near K (p ∷ checkpoint_steps t ++ c.step ∷ [])) (c.step - a.step) K (a ∷ c ∷ []) (a ∷ b ∷ c ∷ [])
     (λ near. (h.0, h.1, (omega arith, omega arith, (omega arith, omega arith, tt))))
     (λ _. (h.0, h.1, (behind, h.2.1, (l, u, (omega arith, omega arith, tt)))))
 near-laid K p c a (b ∷ d ∷ xs) h l u = (h.0, h.1, near-laid K a.step c b (d ∷ xs) h.2 l u)
 
-sparse-laid-behind : (K p : ℕ) (c a b : Checkpoint) (xs : List Checkpoint) → Sparse K (p ∷ steps_of (a ∷ b ∷ xs)) → last_of b.step (steps_of xs) ≤ c.step
-    → Sparse K (p ∷ steps_of (laid K c (a ∷ b ∷ xs)))
+sparse-laid-behind : (K p : ℕ) (c a b : Checkpoint) (xs : List Checkpoint) → Sparse K (p ∷ checkpoint_steps (a ∷ b ∷ xs)) → last_of b.step (checkpoint_steps xs) ≤ c.step
+    → Sparse K (p ∷ checkpoint_steps (laid K c (a ∷ b ∷ xs)))
 sparse-laid-behind K p c a b [] s l =
     let apart = s.0 in
-    by-test (λ t. Sparse K (p ∷ steps_of t)) (c.step - a.step) K (a ∷ c ∷ []) (a ∷ b ∷ c ∷ [])
+    by-test (λ t. Sparse K (p ∷ checkpoint_steps t)) (c.step - a.step) K (a ∷ c ∷ []) (a ∷ b ∷ c ∷ [])
     (λ _. (omega arith, tt))
     (λ far. (apart, (omega arith, tt)))
 sparse-laid-behind K p c a b (d ∷ xs) s l =
-    subst (λ t. Sparse K (a.step ∷ steps_of t) → Sparse K (p ∷ a.step ∷ steps_of t)) (sym (laid-head K c b (d ∷ xs))) (λ r. (s.0, r))
+    subst (λ t. Sparse K (a.step ∷ checkpoint_steps t) → Sparse K (p ∷ a.step ∷ checkpoint_steps t)) (sym (laid-head K c b (d ∷ xs))) (λ r. (s.0, r))
     (sparse-laid-behind K a.step c b d xs s.1 l)
 
-sparse-laid : (K : ℕ) (c : Checkpoint) (xs : List Checkpoint) → Sparse K (steps_of xs) → last_of 0 (steps_of xs) ≤ c.step → Sparse K (steps_of (laid K c xs))
+sparse-laid : (K : ℕ) (c : Checkpoint) (xs : List Checkpoint) → Sparse K (checkpoint_steps xs) → last_of 0 (checkpoint_steps xs) ≤ c.step → Sparse K (checkpoint_steps (laid K c xs))
 sparse-laid K c [] s l = tt
 sparse-laid K c (a ∷ []) s l = tt
 sparse-laid K c (a ∷ b ∷ []) s l =
-    by-test (λ t. Sparse K (steps_of t)) (c.step - a.step) K (a ∷ c ∷ []) (a ∷ b ∷ c ∷ []) (λ _. tt) (λ far. (omega arith, tt))
+    by-test (λ t. Sparse K (checkpoint_steps t)) (c.step - a.step) K (a ∷ c ∷ []) (a ∷ b ∷ c ∷ []) (λ _. tt) (λ far. (omega arith, tt))
 sparse-laid K c (a ∷ b ∷ d ∷ xs) s l = sparse-laid-behind K a.step c b d xs s l
 
-spaced-laid : (K end : ℕ) (c : Checkpoint) (xs : List Checkpoint) → IsSpaced K end (steps_of xs) → last_of 0 (steps_of xs) ≡ end → end ≤ c.step
-    → c.step ≤ end + K → IsSpaced K c.step (steps_of (laid K c xs))
+spaced-laid : (K end : ℕ) (c : Checkpoint) (xs : List Checkpoint) → IsSpaced K end (checkpoint_steps xs) → last_of 0 (checkpoint_steps xs) ≡ end → end ≤ c.step
+    → c.step ≤ end + K → IsSpaced K c.step (checkpoint_steps (laid K c xs))
 spaced-laid K end c [] s e l u = let nothing = s.first in absurd (cc)
 spaced-laid K end c (a ∷ xs) s e l u = record {
-  first = subst (λ t. slice_get (steps_of t) 0 ≡ Some 0) (sym (laid-head K c a xs)) s.first;
-  near = near-tail K c.step a.step (steps_of (laid K c (a ∷ xs)))
-      (near-laid K a.step c a xs (omega arith, omega arith, near-init K end (steps_of (a ∷ xs)) s.near) (omega arith) (omega arith));
+  first = subst (λ t. slice_get (checkpoint_steps t) 0 ≡ Some 0) (sym (laid-head K c a xs)) s.first;
+  near = near-tail K c.step a.step (checkpoint_steps (laid K c (a ∷ xs)))
+      (near-laid K a.step c a xs (omega arith, omega arith, near-init K end (checkpoint_steps (a ∷ xs)) s.near) (omega arith) (omega arith));
   sparse = sparse-laid K c (a ∷ xs) s.sparse (omega arith);
 }
 
@@ -160,9 +160,9 @@ near-end K a L d [] h e l u = tt
 near-end K a L d (x ∷ []) h e l u = (omega arith, omega arith, tt)
 near-end K a L d (x ∷ y ∷ xs) h e l u = (h.0, h.1, near-end K a L x (y ∷ xs) h.2 e l u)
 
-pub spaced-all : (K L end : ℕ) (cs xs : List Checkpoint) → Near K (end ∷ steps_of cs ++ L ∷ []) → IsSpaced K end (steps_of xs)
-    → last_of 0 (steps_of xs) ≡ end → IsSpaced K L (steps_of (all_laid K cs xs))
-spaced-all K L end [] xs n s e = record { first = s.first; near = near-end K end L 0 (steps_of xs) s.near e n.0 n.1; sparse = s.sparse }
+pub spaced-all : (K L end : ℕ) (cs xs : List Checkpoint) → Near K (end ∷ checkpoint_steps cs ++ L ∷ []) → IsSpaced K end (checkpoint_steps xs)
+    → last_of 0 (checkpoint_steps xs) ≡ end → IsSpaced K L (checkpoint_steps (all_laid K cs xs))
+spaced-all K L end [] xs n s e = record { first = s.first; near = near-end K end L 0 (checkpoint_steps xs) s.near e n.0 n.1; sparse = s.sparse }
 spaced-all K L end (c ∷ cs) xs n s e = spaced-all K L c.step cs (laid K c xs) n.2 (spaced-laid K end c xs s e n.0 n.1) (last-laid K 0 c xs)
 
 laid-all : (P : Checkpoint → Type 0) (K : ℕ) (c : Checkpoint) (xs : List Checkpoint) → P c → All P xs → All P (laid K c xs)
@@ -188,7 +188,7 @@ all-laid-append K (c ∷ cs) ds xs = all-laid-append K cs ds (laid K c xs)
 
 -- a copy and what is behind it
 
-next-near : (K L n : ℕ) (c : Checkpoint) (cs : List Checkpoint) → Near K (steps_of cs ++ L ∷ []) → slice_get cs n ≡ Some c
+next-near : (K L n : ℕ) (c : Checkpoint) (cs : List Checkpoint) → Near K (checkpoint_steps cs ++ L ∷ []) → slice_get cs n ≡ Some c
     → MatchOption (slice_get cs (suc n)) (L ≤ c.step + K) (λ d. (c.step ≤ d.step) × (d.step ≤ c.step + K))
 next-near K L n c [] h e = absurd (cc)
 next-near K L zero c (a ∷ []) h e = let same : a ≡ c = cc in subst (λ (t : Checkpoint). L ≤ t.step + K) same h.1
@@ -216,7 +216,7 @@ near-before : (K L p a : ℕ) (o : Option Checkpoint) → p ≤ L → IfSome o (
 near-before K L p a None l g m = omega arith
 near-before K L p a (Some c) l g m = let within = m.1 in omega arith
 
-pub before-near : (K L p n : ℕ) (cs : List Checkpoint) → IsSpaced K L (steps_of cs) → p ≤ L → n ≤ length cs
+pub before-near : (K L p n : ℕ) (cs : List Checkpoint) → IsSpaced K L (checkpoint_steps cs) → p ≤ L → n ≤ length cs
     → All (λ c. c.step < p + 1) (take n cs) → IfSome (slice_get cs n) (λ c. p + 1 ≤ c.step) → IsBefore K L p n cs
 before-near K L p zero [] s l w f g = let nothing = s.first in absurd (cc)
 before-near K L p zero (a ∷ cs) s l w f g = let first : a.step ≡ 0 = (let e = s.first in cc) in absurd (omega arith)
@@ -240,7 +240,7 @@ near-behind K L e a None l g m = omega arith
 near-behind K L e a (Some c) l g m = let within = m.1 in (g, omega arith)
 
 -- the first copy at or behind a step, or the end where there is none
-pub behind-near : (K L e n : ℕ) (cs : List Checkpoint) → IsSpaced K L (steps_of cs) → n ≤ length cs
+pub behind-near : (K L e n : ℕ) (cs : List Checkpoint) → IsSpaced K L (checkpoint_steps cs) → n ≤ length cs
     → All (λ c. c.step < e) (take n cs) → IfSome (slice_get cs n) (λ c. e ≤ c.step)
     → MatchOption (slice_get cs n) (L ≤ e + K) (λ c. (e ≤ c.step) × (c.step ≤ e + K))
 behind-near K L e zero [] s w f g = let nothing = s.first in absurd (cc)
@@ -268,11 +268,11 @@ one-further K L t m n c cs le h =
     ]
 
 -- or the end does, where the first of them, or else the end, is at most so far behind it
-pub near-copy : (K L t n : ℕ) (cs : List Checkpoint) → Near K (steps_of cs ++ L ∷ []) → MatchOption (slice_get cs n) (L ≤ t + K) (λ c. c.step ≤ t + K)
+pub near-copy : (K L t n : ℕ) (cs : List Checkpoint) → Near K (checkpoint_steps cs ++ L ∷ []) → MatchOption (slice_get cs n) (L ≤ t + K) (λ c. c.step ≤ t + K)
     → (L ≤ t + K) ⊎ IsNearCopy K t n cs
 near-copy K L t zero [] near h = inl h
 near-copy K L t (suc n) [] near h = inl h
-near-copy K L t (suc n) (c ∷ cs) near h = one-further K L t (suc n) n c cs (omega arith) (near-copy K L t n cs (near-tail K L c.step (steps_of cs) near) h)
+near-copy K L t (suc n) (c ∷ cs) near h = one-further K L t (suc n) n c cs (omega arith) (near-copy K L t n cs (near-tail K L c.step (checkpoint_steps cs) near) h)
 near-copy K L t zero (c ∷ []) near h =
     elim (cases_lt c.step t) [
       | inl lt ↦ let end = near.1 in inl (omega (arith, lt, end))
@@ -286,43 +286,43 @@ near-copy K L t zero (c ∷ d ∷ cs) near h =
 
 -- copies from one at or behind a step on
 
-all-between : (K L e a : ℕ) (cs : List Checkpoint) → e ≤ a → Near K (a ∷ steps_of cs ++ L ∷ []) → All (λ c. (e ≤ c.step) × (c.step ≤ L)) cs
+all-between : (K L e a : ℕ) (cs : List Checkpoint) → e ≤ a → Near K (a ∷ checkpoint_steps cs ++ L ∷ []) → All (λ c. (e ≤ c.step) × (c.step ≤ L)) cs
 all-between K L e a [] l h = All-nil (λ c. (e ≤ c.step) × (c.step ≤ L))
 all-between K L e a (c ∷ cs) l h =
     let behind = h.0 in
     let later : e ≤ c.step = omega arith in
-    All-cons (λ x. (e ≤ x.step) × (x.step ≤ L)) c cs (later, near-le K L c.step (steps_of cs) h.2) (all-between K L e c.step cs later h.2)
+    All-cons (λ x. (e ≤ x.step) × (x.step ≤ L)) c cs (later, near-le K L c.step (checkpoint_steps cs) h.2) (all-between K L e c.step cs later h.2)
 
-pub all-behind : (K L e n : ℕ) (cs : List Checkpoint) → Near K (steps_of cs ++ L ∷ []) → IfSome (slice_get cs n) (λ c. e ≤ c.step)
+pub all-behind : (K L e n : ℕ) (cs : List Checkpoint) → Near K (checkpoint_steps cs ++ L ∷ []) → IfSome (slice_get cs n) (λ c. e ≤ c.step)
     → All (λ c. (e ≤ c.step) × (c.step ≤ L)) (drop n cs)
 all-behind K L e zero [] h g = All-nil (λ c. (e ≤ c.step) × (c.step ≤ L))
 all-behind K L e (suc n) [] h g = All-nil (λ c. (e ≤ c.step) × (c.step ≤ L))
 all-behind K L e zero (c ∷ cs) h g =
-    All-cons (λ x. (e ≤ x.step) × (x.step ≤ L)) c cs (g, near-le K L c.step (steps_of cs) h) (all-between K L e c.step cs g h)
-all-behind K L e (suc n) (c ∷ cs) h g = all-behind K L e n cs (near-tail K L c.step (steps_of cs) h) g
+    All-cons (λ x. (e ≤ x.step) × (x.step ≤ L)) c cs (g, near-le K L c.step (checkpoint_steps cs) h) (all-between K L e c.step cs g h)
+all-behind K L e (suc n) (c ∷ cs) h g = all-behind K L e n cs (near-tail K L c.step (checkpoint_steps cs) h) g
 
 -- a step that moves, where 64 bits are enough
 pub moved-within : (old new x L : ℕ) → x ≤ L → new + (L - old) < 2 ^ 64 → moved old new x ≡ new + (x - old)
 moved-within old new x L l f = omega arith
 
-ascending-from : (p : Plan) (K L a step : ℕ) (cs : List Checkpoint) → Near K (a ∷ steps_of cs ++ L ∷ []) → p.total ≡ p.new_end + (L - p.old_end)
+ascending-from : (p : Plan) (K L a step : ℕ) (cs : List Checkpoint) → Near K (a ∷ checkpoint_steps cs ++ L ∷ []) → p.total ≡ p.new_end + (L - p.old_end)
     → p.total < 2 ^ 64 → step ≤ p.new_end + (a - p.old_end) → Ascending p step cs
 ascending-from p K L a step [] h t f s = let within = h.0 in omega arith
 ascending-from p K L a step (c ∷ cs) h t f s =
     let behind = h.0 in
-    let place = moved-within p.old_end p.new_end c.step L (near-le K L c.step (steps_of cs) h.2) (omega arith) in
-    (omega arith, ascending-from p K L c.step (place_of p c) cs h.2 t f (omega arith))
+    let place = moved-within p.old_end p.new_end c.step L (near-le K L c.step (checkpoint_steps cs) h.2) (omega arith) in
+    (omega arith, ascending-from p K L c.step (step_among_new p c) cs h.2 t f (omega arith))
 
 -- and their places among other steps
-pub ascending-behind : (p : Plan) (K L step n : ℕ) (cs : List Checkpoint) → Near K (steps_of cs ++ L ∷ [])
+pub ascending-behind : (p : Plan) (K L step n : ℕ) (cs : List Checkpoint) → Near K (checkpoint_steps cs ++ L ∷ [])
     → IfSome (slice_get cs n) (λ c. p.old_end ≤ c.step) → p.old_end ≤ L → p.total ≡ p.new_end + (L - p.old_end) → p.total < 2 ^ 64
     → step ≤ p.new_end → Ascending p step (drop n cs)
 ascending-behind p K L step zero [] h g l t f s = omega arith
 ascending-behind p K L step (suc n) [] h g l t f s = omega arith
 ascending-behind p K L step zero (c ∷ cs) h g l t f s =
-    let place = moved-within p.old_end p.new_end c.step L (near-le K L c.step (steps_of cs) h) (omega arith) in
-    (omega arith, ascending-from p K L c.step (place_of p c) cs h t f (omega arith))
-ascending-behind p K L step (suc n) (c ∷ cs) h g l t f s = ascending-behind p K L step n cs (near-tail K L c.step (steps_of cs) h) g l t f s
+    let place = moved-within p.old_end p.new_end c.step L (near-le K L c.step (checkpoint_steps cs) h) (omega arith) in
+    (omega arith, ascending-from p K L c.step (step_among_new p c) cs h t f (omega arith))
+ascending-behind p K L step (suc n) (c ∷ cs) h g l t f s = ascending-behind p K L step n cs (near-tail K L c.step (checkpoint_steps cs) h) g l t f s
 
 near-moved : (K old new L a : ℕ) (steps : List ℕ) → old ≤ a → Near K (a ∷ steps ++ L ∷ []) → new + (L - old) < 2 ^ 64
     → Near K ((new + (a - old)) ∷ map (moved old new) steps ++ (new + (L - old)) ∷ [])
@@ -339,7 +339,7 @@ pub moved-near : (K old new L : ℕ) (steps : List ℕ) → Near K (old ∷ step
 moved-near K old new L steps h f =
     subst (λ t. Near K (t ∷ map (moved old new) steps ++ (new + (L - old)) ∷ [])) (omega arith) (near-moved K old new L old steps (omega arith) h f)
 
-pub steps-moved : (s : Seam) (cs : List Checkpoint) → steps_of (map (moved_copy s) cs) ≡ map (moved s.old_step s.new_step) (steps_of cs)
+pub steps-moved : (s : Meeting) (cs : List Checkpoint) → checkpoint_steps (map (moved_copy s) cs) ≡ map (moved s.old_step s.new_step) (checkpoint_steps cs)
 steps-moved s [] = refl
 steps-moved s (c ∷ cs) = ap (λ t. moved s.old_step s.new_step c.step ∷ t) (steps-moved s cs)
 

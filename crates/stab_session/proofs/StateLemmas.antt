@@ -4,17 +4,17 @@ use Rattle.std.specs.Prelude.{if◌then◌else◌, slice_index_or}
 use Rattle.std.proofs.lemmas.List.{length-append}
 use Rattle.stab_pauli.specs.Letters.{◌⊕◌}
 use Rattle.stab_pauli.specs.Paulis.{Signed, minus, single}
-use Rattle.stab_tableau.specs.Traces.{Happening, applied, applied_pair, projected, member, outcome, is_free}
+use Rattle.stab_tableau.specs.Traces.{Event, applied, applied_pair, projected, member, outcome, is_free}
 use Rattle.stab_circuit.specs.Items.{Items}
 use Rattle.stab_circuit.specs.Steps.{Step, one, two, controlled, collapse, product, detector, observable, unroll, observables_of}
 use Rattle.stab_session.specs.Records.{looked_up, parity}
 use Rattle.stab_session.specs.Runs.{State, start, when, string_of, applied_where, collapsed, effect, run, run_of}
-use Rattle.stab_session.specs.Points.{Point, Output, joined, given, next_point, point_after, outputs, point_of, state_at}
+use Rattle.stab_session.specs.Points.{Point, RunOutput, joined, given, next_point, point_after, outputs, point_of, state_at}
 use Rattle.stab_session.specs.Laws.{AgreeWhere, DependsOnCoinsAt}
 
 -- a point and its outputs
 
-same_point : (t : List Happening) (c : ℕ) (r : List Bool) → ◌≡◌ {A = Point} (record { trace = t; coin = c; records = r }) (record { trace = t; coin = c + 0; records = r ++ [] })
+same_point : (t : List Event) (c : ℕ) (r : List Bool) → ◌≡◌ {A = Point} (record { trace = t; coin = c; records = r }) (record { trace = t; coin = c + 0; records = r ++ [] })
 same_point t c r = λ i. record { trace = t; coin = sym (add-zero c) i; records = sym (append-nil r) i }
 
 next-point : (n : ℕ) (coins : ℕ → Bool) (x : Step) (s : State) → point_of (effect n coins x s) ≡ next_point n coins x (point_of s)
@@ -26,7 +26,7 @@ next-point n coins (product factors inverted) s = refl
 next-point n coins (detector ks) s = same_point s.trace s.coin s.records
 next-point n coins (observable j ks) s = same_point s.trace s.coin s.records
 
-given-state : (n : ℕ) (coins : ℕ → Bool) (x : Step) (s : State) (p : Point) (o : Output)
+given-state : (n : ℕ) (coins : ℕ → Bool) (x : Step) (s : State) (p : Point) (o : RunOutput)
     → state_at p o (effect n coins x s) ≡ state_at p (joined (given n coins x (point_of s)) o) s
 given-state n coins (one g q) s p o = refl
 given-state n coins (two g a b) s p o = refl
@@ -58,13 +58,13 @@ both_true true b coin e = cc
 both_true false true coin e = cc
 both_true false false coin e = refl
 
-pub free-outcome : (trace : List Happening) (p : Signed) → is_free trace p ≡ true → (coin : Bool) → outcome trace p coin ≡ coin
+pub free-outcome : (trace : List Event) (p : Signed) → is_free trace p ≡ true → (coin : Bool) → outcome trace p coin ≡ coin
 free-outcome trace p e coin = both_true (member trace p) (member trace (minus p)) coin e
 
-pub fixed-outcome : (trace : List Happening) (p : Signed) → is_free trace p ≡ false → (coin other : Bool) → outcome trace p coin ≡ outcome trace p other
+pub fixed-outcome : (trace : List Event) (p : Signed) → is_free trace p ≡ false → (coin other : Bool) → outcome trace p coin ≡ outcome trace p other
 fixed-outcome trace p e coin other = both_false (member trace p) (member trace (minus p)) coin other e
 
-same_outcome : (trace : List Happening) (p : Signed) (coin other : Bool) (flag : Bool) → is_free trace p ≡ flag → (flag ≡ true → coin ≡ other)
+same_outcome : (trace : List Event) (p : Signed) (coin other : Bool) (flag : Bool) → is_free trace p ≡ flag → (flag ≡ true → coin ≡ other)
     → outcome trace p other ≡ outcome trace p coin
 same_outcome trace p coin other true e same = ap (outcome trace p) (sym (same refl))
 same_outcome trace p coin other false e same = fixed-outcome trace p e other coin

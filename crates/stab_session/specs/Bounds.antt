@@ -1,14 +1,14 @@
 -- Bounds: what an edit of a session may cost, in steps that are carried out and copies of the state that are kept.
+-- Source: this project's own.
 use Rattle.std.specs.Prelude.{◌≡◌, ◌⊎◌, ℕ, ◌+◌, ◌-◌, ◌*◌, ◌/◌, ◌<◌, ◌≤◌, nat_le, if◌then◌else◌, Bool, List, [], ◌∷◌, Option, Some, None, IfSome, IsSomeAnd, Result, Ok, Err, length, take, slice_get}
-use Rattle.stab_pauli.specs.declared.refusal.Refusal.{Refusal}
+use Rattle.stab_io.specs.declared.refusal.Refusal.{Refusal}
 use Rattle.stab_circuit.specs.Items.{OneItem, entries, listed}
 use Rattle.stab_circuit.specs.Steps.{unroll}
-use Rattle.stab_circuit.specs.Edits.{first_changed, old_end, new_end, put_item}
-use Rattle.stab_session.specs.declared.pending.Edit.{Edit}
+use Rattle.stab_circuit.specs.Edits.{edit_path, edited, verdict, first_changed, old_end, new_end, put_item}
+use Rattle.stab_circuit.specs.declared.edit.Edit.{Edit}
 use Rattle.stab_session.specs.Points.{Point, origin, point_after}
 use Rattle.stab_session.specs.Laws.{AgreeAt}
 use Rattle.stab_session.specs.Sessions.{SessionState}
-use Rattle.stab_session.specs.SessionEdits.{change_of, place_of, edited_by, verdict_on}
 
 -- how many steps a session's circuit has
 abbrev pub number_of_steps : {C : Type 0} → SessionState C → ℕ
@@ -20,7 +20,7 @@ most_checkpoints s = 2 * (number_of_steps s / s.stride) + 2
 
 -- the steps behind the changed place, and a stride before it: an edit carries out no more of them
 abbrev pub steps_from_change : {C : Type 0} → Edit → SessionState C → SessionState C → ℕ
-steps_from_change e old new = (number_of_steps new - first_changed (place_of e) (entries old.items)) + new.stride
+steps_from_change e old new = (number_of_steps new - first_changed e (entries old.items)) + new.stride
 
 -- the steps of an edited list behind its first so many, and a stride; none where there is no such list
 abbrev pub steps_behind : ℕ → ℕ → Result (List OneItem) Refusal → ℕ
@@ -36,8 +36,8 @@ unless_refused (Some refusal) count = 0
 -- edited circuit has steps behind the changed place, and a stride of them
 abbrev pub most_refused_asks : {C : Type 0} → Edit → SessionState C → ℕ
 most_refused_asks e s =
-    unless_refused (verdict_on s.qubits e (entries s.items))
-    (steps_behind (first_changed (place_of e) (entries s.items)) s.stride (edited_by e (entries s.items)))
+    unless_refused (verdict s.qubits e (entries s.items))
+    (steps_behind (first_changed e (entries s.items)) s.stride (edited e (entries s.items)))
 
 -- how many steps an item has, or none where there is no item
 abbrev pub steps_of_item : Option OneItem → ℕ
@@ -47,7 +47,7 @@ steps_of_item (Some x) = length (unroll (listed (x ∷ [])))
 -- how many steps an edit puts in: those of its item, none where it takes one out; inside blocks, those of the outermost block
 -- around its place, as the edit leaves it
 abbrev pub steps_put : {C : Type 0} → Edit → SessionState C → ℕ
-steps_put e new = steps_of_item (elim (place_of e).blocks [ [] ↦ put_item (change_of e) | b ∷ bs ↦ slice_get (entries new.items) b ])
+steps_put e new = steps_of_item (elim (edit_path e).blocks [ [] ↦ put_item e | b ∷ bs ↦ slice_get (entries new.items) b ])
 
 -- these steps, and two strides: where the runs agree behind what an edit changed, it carries out no more than these and the steps
 -- that stand between
@@ -62,12 +62,12 @@ point_at sequence s k = point_after s.qubits (sequence s.coins) (take k (unroll 
 -- coin and records
 abbrev pub AgreeBehind : {C : Type 0} → (C → ℕ → Bool) → Edit → SessionState C → SessionState C → ℕ → Type 0
 AgreeBehind sequence e old new far =
-    AgreeAt new.qubits (point_at sequence old (old_end (change_of e) (place_of e) (entries old.items) + far))
-    (point_at sequence new (new_end (change_of e) (place_of e) (entries new.items) + far))
+    AgreeAt new.qubits (point_at sequence old (old_end e (entries old.items) + far))
+    (point_at sequence new (new_end e (entries new.items) + far))
 
 -- from the first changed step to the end of what an edit put in: it carries out at least so many
 abbrev pub steps_changed : {C : Type 0} → Edit → SessionState C → SessionState C → ℕ
-steps_changed e old new = new_end (change_of e) (place_of e) (entries new.items) - first_changed (place_of e) (entries old.items)
+steps_changed e old new = new_end e (entries new.items) - first_changed e (entries old.items)
 
 -- of steps in order the last that is not behind a place, and the given one where none is
 abbrev pub last_until : ℕ → ℕ → List ℕ → ℕ
@@ -100,5 +100,5 @@ pub record IsCounted (agree : ℕ → Type 0) (copies : List ℕ) (first old_end
 -- and so many by an edit of a session
 abbrev pub IsCountOf : {C : Type 0} → (C → ℕ → Bool) → Edit → SessionState C → SessionState C → ℕ → Type 0
 IsCountOf sequence e old new applied =
-    IsCounted (AgreeBehind sequence e old new) old.checkpoints (first_changed (place_of e) (entries old.items))
-    (old_end (change_of e) (place_of e) (entries old.items)) (new_end (change_of e) (place_of e) (entries new.items)) (number_of_steps new) applied
+    IsCounted (AgreeBehind sequence e old new) old.checkpoints (first_changed e (entries old.items))
+    (old_end e (entries old.items)) (new_end e (entries new.items)) (number_of_steps new) applied

@@ -1,4 +1,6 @@
 -- Coins: the bit of each number, from a list or from a seed, and a count of asks.
+-- Source: D. J. Bernstein, ChaCha, a variant of Salsa20 (2008), for the bits of a seed. Which key, stream and bit a coin is taken
+-- from is this project's own.
 use Rattle.std.specs.Prelude.{ℕ, ◌+◌, ◌-◌, ◌%◌, ◌^◌, ◌==◌, min, Bool, false, List, ◌++◌, replicate, slice_index_or}
 use Rattle.std.specs.Int.{w64, to_le_bytes}
 use Rattle.rand_chacha.specs.ChaCha.{word_at, key_of}

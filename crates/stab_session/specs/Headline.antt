@@ -4,6 +4,7 @@
 -- present items on its n qubits with its coins, from the first step on: nothing of earlier items is left in them. Flag t is 1
 -- exactly where neither sign of what was measured with coin t was in the group, and so the coin decided; coins that are the same
 -- where the flags are 1 make the same run.
+-- Source: this project's own, over the stabiliser groups of Gottesman 1997.
 use Rattle.std.specs.Prelude.{◌≡◌, ℕ, Bool}
 use Rattle.stab_tableau.specs.Traces.{member}
 use Rattle.stab_tableau.specs.Groups.{SameGroup}

@@ -1,14 +1,18 @@
 -- Laws of runs: a state is a point with what was given so far; a coin that does not decide makes no difference; the trace of
 -- a run is sound; and the future depends on the group, the number of the next coin and the records alone.
-use Rattle.std.specs.Prelude.{◌≡◌, ℕ, Bool, true, false, List, None, slice_index_or}
+-- Source: Aaronson and Gottesman 2004, section III: an outcome is fixed, or either of both. That a coin is given for each, and what
+-- the future depends on, is this project's own.
+use Rattle.std.specs.Prelude.{◌≡◌, ℕ, Bool, true, false, List, All, None, slice_index_or}
 use Rattle.stab_pauli.specs.Paulis.{Signed}
-use Rattle.stab_tableau.specs.Traces.{Happening, member, outcome, is_free, Fits, IsSound}
+use Rattle.stab_tableau.specs.Traces.{Event, member, outcome, is_free, Fits, IsSound}
 use Rattle.stab_tableau.specs.Groups.{SameGroup}
 use Rattle.stab_circuit.specs.Items.{Items}
-use Rattle.stab_circuit.specs.Steps.{Step, check_within}
+use Rattle.stab_circuit.specs.Steps.{Step, unroll, check_within}
+use Rattle.stab_circuit.specs.Cursors.{IsApart}
 use Rattle.stab_circuit.specs.Laws.{AreLinesOf}
 use Rattle.stab_session.specs.Runs.{State, run, run_of}
 use Rattle.stab_session.specs.Points.{Point, point_after, outputs, point_of, state_at}
+use Rattle.stab_session.specs.inner.ProgramStates.{StepFits}
 
 -- a run ends at the point where its steps lead, with what they give put behind what there was
 abbrev pub RunsArePointsWithOutputs : Type 0
@@ -19,7 +23,7 @@ RunsArePointsWithOutputs =
 -- a free outcome is the coin, and any other does not depend on it
 abbrev pub CoinsDecideFreeOutcomes : Type 0
 CoinsDecideFreeOutcomes =
-    (trace : List Happening) (p : Signed) →
+    (trace : List Event) (p : Signed) →
     (is_free trace p ≡ true → (coin : Bool) → outcome trace p coin ≡ coin)
     × (is_free trace p ≡ false → (coin other : Bool) → outcome trace p coin ≡ outcome trace p other)
 
@@ -42,6 +46,11 @@ IsSoundRun n coins items = Fits n (run_of n coins items).trace × IsSound (run_o
 -- that is so of all items that lines stand for, where nothing refuses them on n qubits
 abbrev pub RunsAreSound : Type 0
 RunsAreSound = (n : ℕ) (coins : ℕ → Bool) (lines : List (List ℕ)) (items : Items) → AreLinesOf lines items → check_within n items ≡ None → IsSoundRun n coins items
+
+-- the qubits of each step are below n, and those of a pair differ, where nothing refuses the items on n qubits and no step pairs
+-- a qubit with itself, which no lines' steps do
+abbrev pub CheckedStepsFit : Type 0
+CheckedStepsFit = (n : ℕ) (items : Items) → check_within n items ≡ None → All IsApart (unroll items) → All (StepFits n) (unroll items)
 
 -- two points have one group on n qubits, and the same number of the next coin and records
 pub record AgreeAt (n : ℕ) (a b : Point) : Type 0 where

@@ -1,4 +1,5 @@
 -- Limits: how far apart a session keeps its checkpoints at most.
+-- Source: this project's own.
 use Rattle.std.specs.Prelude.{ℕ}
 
 -- the greatest stride

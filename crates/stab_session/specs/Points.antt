@@ -1,16 +1,17 @@
 -- Points: what decides the future of a run, and what its steps give. A state is a point with what was given so far.
+-- Source: this project's own.
 use Rattle.std.specs.Prelude.{ℕ, ◌+◌, Bool, List, [], ◌∷◌, ◌++◌}
 use Rattle.stab_pauli.specs.Letters.{◌⊕◌}
 use Rattle.stab_pauli.specs.Paulis.{single}
-use Rattle.stab_tableau.specs.Traces.{Happening, applied, applied_pair, projected, is_free}
+use Rattle.stab_tableau.specs.Traces.{Event, applied, applied_pair, projected, is_free}
 use Rattle.stab_circuit.specs.Steps.{Step, one, two, controlled, collapse, product, detector, observable}
-use Rattle.stab_session.specs.declared.outputs.Addition.{Addition}
+use Rattle.stab_session.specs.declared.records.Addition.{Addition}
 use Rattle.stab_session.specs.Records.{looked_up, parity}
-use Rattle.stab_session.specs.Runs.{State, when, string_of, applied_where, outcome_of, collapsed, added}
+use Rattle.stab_session.specs.Runs.{State, when, string_of, applied_where, outcome_at, collapsed, added}
 
 -- what decides all that follows: what happened, the number of the next coin, and the records
 pub record Point : Type 0 where
-  pub trace : List Happening
+  pub trace : List Event
   pub coin : ℕ
   pub records : List Bool
 
@@ -19,17 +20,17 @@ abbrev pub origin : Point
 origin = record { trace = []; coin = 0; records = [] }
 
 -- what steps give: records, flags of coin numbers, detectors, and what is added to observables
-pub record Output : Type 0 where
+pub record RunOutput : Type 0 where
   pub records : List Bool
   pub free : List Bool
   pub detectors : List Bool
   pub additions : List Addition
 
-abbrev pub nothing : Output
+abbrev pub nothing : RunOutput
 nothing = record { records = []; free = []; detectors = []; additions = [] }
 
 -- one output after another
-abbrev pub joined : Output → Output → Output
+abbrev pub joined : RunOutput → RunOutput → RunOutput
 joined a b = record {
   records = a.records ++ b.records;
   free = a.free ++ b.free;
@@ -38,28 +39,28 @@ joined a b = record {
 }
 
 -- what a step gives
-abbrev pub given : ℕ → (ℕ → Bool) → Step → Point → Output
+abbrev pub given : ℕ → (ℕ → Bool) → Step → Point → RunOutput
 given n coins (one g q) p = nothing
 given n coins (two g a b) p = nothing
 given n coins (controlled l k q) p = nothing
 given n coins (collapse l q recorded inverted resets) p = record nothing {
-  records = when recorded (inverted ⊕ outcome_of coins (single n q l) p.trace p.coin);
+  records = when recorded (inverted ⊕ outcome_at coins (single n q l) p.trace p.coin);
   free = is_free p.trace (single n q l) ∷ [];
 }
 given n coins (product factors inverted) p = record nothing {
-  records = (inverted ⊕ outcome_of coins (string_of n factors) p.trace p.coin) ∷ [];
+  records = (inverted ⊕ outcome_at coins (string_of n factors) p.trace p.coin) ∷ [];
   free = is_free p.trace (string_of n factors) ∷ [];
 }
 given n coins (detector ks) p = record nothing { detectors = parity p.records ks ∷ [] }
 given n coins (observable j ks) p = record nothing { additions = record { observable = j; bit = parity p.records ks } ∷ [] }
 
 -- what has happened after a step
-abbrev pub trace_after : ℕ → (ℕ → Bool) → Step → Point → List Happening
+abbrev pub trace_after : ℕ → (ℕ → Bool) → Step → Point → List Event
 trace_after n coins (one g q) p = applied g q ∷ p.trace
 trace_after n coins (two g a b) p = applied_pair g a b ∷ p.trace
 trace_after n coins (controlled l k q) p = applied_where (looked_up p.records k) l q p.trace
-trace_after n coins (collapse l q recorded inverted resets) p = collapsed n l q resets (outcome_of coins (single n q l) p.trace p.coin) p.trace
-trace_after n coins (product factors inverted) p = projected (string_of n factors) (outcome_of coins (string_of n factors) p.trace p.coin) ∷ p.trace
+trace_after n coins (collapse l q recorded inverted resets) p = collapsed n l q resets (outcome_at coins (single n q l) p.trace p.coin) p.trace
+trace_after n coins (product factors inverted) p = projected (string_of n factors) (outcome_at coins (string_of n factors) p.trace p.coin) ∷ p.trace
 trace_after n coins (detector ks) p = p.trace
 trace_after n coins (observable j ks) p = p.trace
 
@@ -88,7 +89,7 @@ point_after n coins [] p = p
 point_after n coins (x ∷ xs) p = point_after n coins xs (next_point n coins x p)
 
 -- what steps give
-abbrev pub outputs : ℕ → (ℕ → Bool) → List Step → Point → Output
+abbrev pub outputs : ℕ → (ℕ → Bool) → List Step → Point → RunOutput
 outputs n coins [] p = nothing
 outputs n coins (x ∷ xs) p = joined (given n coins x p) (outputs n coins xs (next_point n coins x p))
 
@@ -102,7 +103,7 @@ abbrev pub point_of : State → Point
 point_of s = record { trace = s.trace; coin = s.coin; records = s.records }
 
 -- the state at a point, before which a state's lists were added to
-abbrev pub state_at : Point → Output → State → State
+abbrev pub state_at : Point → RunOutput → State → State
 state_at p o s = record {
   trace = p.trace;
   coin = p.coin;

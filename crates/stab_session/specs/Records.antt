@@ -1,4 +1,5 @@
 -- Records: which one rec[-k] is, and the parity and the number of ones of bits.
+-- Source: Stim's circuit file format, for rec[-k], and for the parity that DETECTOR and OBSERVABLE_INCLUDE take.
 use Rattle.std.specs.Prelude.{ℕ, ◌+◌, ◌-◌, nat_lt, Bool, true, false, List, [], ◌∷◌, length, slice_index_or, if◌then◌else◌}
 use Rattle.stab_pauli.specs.Letters.{◌⊕◌}
 

@@ -1,16 +1,19 @@
 -- Runs: what the steps of a circuit make of its qubits, records, detectors and observables, for a sequence of coins.
+-- Source: Stim's circuit file format, for what each instruction does, and Aaronson and Gottesman 2004, section III, for
+-- measurements. It differs in that coins are given by number, and that a detector is the parity of its records, where Stim's
+-- `detect` tells whether that parity differs from a reference run's.
 use Rattle.std.specs.Prelude.{◌≡◌, ℕ, ◌+◌, Bool, true, false, ◌&&◌, List, [], ◌∷◌, ◌++◌, replicate, slice_index_or, slice_set, Option, Some, None, Result, Ok, Err}
-use Rattle.stab_pauli.specs.declared.refusal.Refusal.{Refusal}
-use Rattle.stab_pauli.specs.declared.refusal.Refusal.TheVariants.{OutOfMemory}
-use Rattle.stab_pauli.specs.declared.refusal.Fault.{Fault}
-use Rattle.stab_pauli.specs.Refusals.{whole}
+use Rattle.stab_io.specs.declared.refusal.Refusal.{Refusal}
+use Rattle.stab_io.specs.declared.refusal.Refusal.TheVariants.{OutOfMemory}
+use Rattle.stab_io.specs.declared.refusal.Fault.{Fault}
+use Rattle.stab_io.specs.Refusals.{whole}
 use Rattle.stab_pauli.specs.declared.letter.Letter.{Letter}
 use Rattle.stab_pauli.specs.declared.letter.Letter.TheVariants as letter
 use Rattle.stab_pauli.specs.Letters.{◌⊕◌}
 use Rattle.stab_pauli.specs.Paulis.{Signed, single}
 use Rattle.stab_tableau.specs.declared.gate.Gate.{Gate}
 use Rattle.stab_tableau.specs.declared.gate.Gate.TheVariants as on
-use Rattle.stab_tableau.specs.Traces.{Happening, applied, applied_pair, projected, outcome, is_free}
+use Rattle.stab_tableau.specs.Traces.{Event, applied, applied_pair, projected, outcome, is_free}
 use Rattle.stab_lines.specs.declared.product.Factor.{Factor}
 use Rattle.stab_lines.specs.Axes.{letter_of}
 use Rattle.stab_circuit.specs.Items.{Items}
@@ -20,7 +23,7 @@ use Rattle.stab_session.specs.Records.{looked_up, parity}
 -- a run so far: what happened to the qubits, newest first; the number of the next coin; the records; for each coin number
 -- whether the coin decided; and the bits of detectors and observables
 pub record State : Type 0 where
-  pub trace : List Happening
+  pub trace : List Event
   pub coin : ℕ
   pub records : List Bool
   pub free : List Bool
@@ -60,16 +63,16 @@ flip_of letter.Y = letter.X
 flip_of letter.Z = letter.X
 
 -- a letter applied to the qubit, where the bit is 1
-abbrev pub applied_where : Bool → Letter → ℕ → List Happening → List Happening
+abbrev pub applied_where : Bool → Letter → ℕ → List Event → List Event
 applied_where true l q trace = applied (gate_of l) q ∷ trace
 applied_where false l q trace = trace
 
 -- the outcome of measuring a string, with the coin of this number
-abbrev pub outcome_of : (ℕ → Bool) → Signed → List Happening → ℕ → Bool
-outcome_of coins p trace coin = outcome trace p (coins coin)
+abbrev pub outcome_at : (ℕ → Bool) → Signed → List Event → ℕ → Bool
+outcome_at coins p trace coin = outcome trace p (coins coin)
 
 -- a projection of a letter on an outcome, and a flip where it resets an outcome 1
-abbrev pub collapsed : ℕ → Letter → ℕ → Bool → Bool → List Happening → List Happening
+abbrev pub collapsed : ℕ → Letter → ℕ → Bool → Bool → List Event → List Event
 collapsed n l q resets bit trace = applied_where (resets && bit) (flip_of l) q (projected (single n q l) bit ∷ trace)
 
 -- a bit added to an observable
@@ -81,18 +84,22 @@ abbrev pub effect : ℕ → (ℕ → Bool) → Step → State → State
 effect n coins (one g q) s = record s { trace = applied g q ∷ s.trace }
 effect n coins (two g a b) s = record s { trace = applied_pair g a b ∷ s.trace }
 effect n coins (controlled l k q) s = record s { trace = applied_where (looked_up s.records k) l q s.trace }
-effect n coins (collapse l q recorded inverted resets) s = record s {
-  trace = collapsed n l q resets (outcome_of coins (single n q l) s.trace s.coin) s.trace;
-  coin = s.coin + 1;
-  records = s.records ++ when recorded (inverted ⊕ outcome_of coins (single n q l) s.trace s.coin);
-  free = s.free ++ is_free s.trace (single n q l) ∷ [];
-}
-effect n coins (product factors inverted) s = record s {
-  trace = projected (string_of n factors) (outcome_of coins (string_of n factors) s.trace s.coin) ∷ s.trace;
-  coin = s.coin + 1;
-  records = s.records ++ (inverted ⊕ outcome_of coins (string_of n factors) s.trace s.coin) ∷ [];
-  free = s.free ++ is_free s.trace (string_of n factors) ∷ [];
-}
+effect n coins (collapse l q recorded inverted resets) s =
+    let bit = outcome_at coins (single n q l) s.trace s.coin in
+    record s {
+      trace = collapsed n l q resets bit s.trace;
+      coin = s.coin + 1;
+      records = s.records ++ when recorded (inverted ⊕ bit);
+      free = s.free ++ is_free s.trace (single n q l) ∷ [];
+    }
+effect n coins (product factors inverted) s =
+    let bit = outcome_at coins (string_of n factors) s.trace s.coin in
+    record s {
+      trace = projected (string_of n factors) bit ∷ s.trace;
+      coin = s.coin + 1;
+      records = s.records ++ (inverted ⊕ bit) ∷ [];
+      free = s.free ++ is_free s.trace (string_of n factors) ∷ [];
+    }
 effect n coins (detector ks) s = record s { detectors = s.detectors ++ parity s.records ks ∷ [] }
 effect n coins (observable j ks) s = record s { observables = added j (parity s.records ks) s.observables }
 
@@ -104,9 +111,3 @@ run n coins (x ∷ xs) s = run n coins xs (effect n coins x s)
 -- the run of the items on n qubits from the first step on, all qubits zero
 unfoldable pub run_of : ℕ → (ℕ → Bool) → Items → State
 run_of n coins items = run n coins (unroll items) (start (observables_of items))
-
--- the call refused a whole circuit as the definition does; where that does not, it wanted memory
-abbrev pub Refuses : {A : Type 0} → Result A Fault → Option Refusal → Type 0
-Refuses (Ok x) given = given ≡ None
-Refuses (Err fault) (Some refusal) = fault ≡ whole refusal
-Refuses (Err fault) None = fault ≡ whole OutOfMemory

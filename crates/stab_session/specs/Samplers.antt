@@ -1,4 +1,5 @@
 -- Samplers: what contracts see of one.
+-- Source: this project's own.
 use Rattle.std.specs.Prelude.{ℕ}
 use Rattle.stab_circuit.specs.Items.{Items}
 

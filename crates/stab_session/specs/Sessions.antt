@@ -1,9 +1,6 @@
--- Sessions: what contracts see of one, and what a refused opening answers.
+-- Sessions: what contracts see of one.
+-- Source: this project's own.
 use Rattle.std.specs.Prelude.{◌≡◌, ◌↔◌, ℕ, Bool, true, List, Option, Some, None}
-use Rattle.stab_pauli.specs.declared.refusal.Refusal.{Refusal}
-use Rattle.stab_pauli.specs.declared.refusal.Refusal.TheVariants.{OutOfMemory}
-use Rattle.stab_pauli.specs.declared.refusal.Fault.{Fault}
-use Rattle.stab_pauli.specs.Refusals.{whole}
 use Rattle.stab_pauli.specs.Paulis.{Signed, with_sign}
 use Rattle.stab_tableau.specs.Tableaus.{TableauState}
 use Rattle.stab_tableau.specs.Rules.{is_free_by}
@@ -22,11 +19,6 @@ pub record SessionState (C : Type 0) : Type 0 where
   pub observables : List Bool
   pub tableau : TableauState
   pub checkpoints : List ℕ
-
--- the fault of a call whose verdict is the definition's; where that refuses nothing, the call wanted memory
-abbrev pub IsFaultOf : Option Refusal → Fault → Type 0
-IsFaultOf (Some refusal) fault = fault ≡ whole refusal
-IsFaultOf None fault = fault ≡ whole OutOfMemory
 
 -- the sign of a string in a group: the bit with which it is a member, 1 for -, or none where it is a member with neither
 abbrev pub IsSignIn : (Signed → Bool) → Signed → Option Bool → Type 0

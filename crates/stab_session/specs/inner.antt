@@ -1,4 +1,4 @@
-pub mod Sights
+pub mod ProgramStates
 pub mod ReadySamplers
 pub mod Shots
 pub mod KeptSessions

@@ -1,16 +1,8 @@
 ghost use Rattle.std.specs.Prelude.{◌≡◌, ◌+◌, ◌<◌, ◌≤◌, All, IfSome, length, take, drop, map, reverse, slice_get, ◌++◌, vec_capacity};
 ghost use Rattle.stab_session.specs.inner.Checkpoints.{laid, all_laid, moved, moved_lengths, moved_copy};
 
+use crate::records::Lengths;
 use stab_tableau::CompactTableau;
-
-/// How long the lists of a run were at some step.
-#[derive(Clone, Copy, Debug, PartialEq, Eq)]
-pub struct Lengths {
-    pub records: usize,
-    pub free: usize,
-    pub detectors: usize,
-    pub additions: usize,
-}
 
 /// A copy of the state before a step, and how long the lists were there.
 #[derive(Drop)]
@@ -22,7 +14,7 @@ pub struct Checkpoint {
 
 /// Where a replay met a copy of the old run: from there on the old run moves to behind the new one.
 #[derive(Clone, Copy)]
-pub struct Seam {
+pub struct Meeting {
     pub old_step: usize,
     pub new_step: usize,
     pub old_lengths: Lengths,
@@ -53,9 +45,9 @@ impl Lengths {
     }
 }
 
-/// A copy moved with the one at a seam.
-fn moved_with(seam: Seam, copy: Checkpoint) -> Checkpoint
-    ensures value { result ≡ moved_copy seam copy }
+/// A copy moved with the one at a meeting.
+fn moved_with(meeting: Meeting, copy: Checkpoint) -> Checkpoint
+    ensures value { result ≡ moved_copy meeting copy }
 {
     let Checkpoint {
         step,
@@ -63,8 +55,8 @@ fn moved_with(seam: Seam, copy: Checkpoint) -> Checkpoint
         tableau,
     } = copy;
     Checkpoint {
-        step: shifted(seam.old_step, seam.new_step, step),
-        lengths: lengths.moved(seam.old_lengths, seam.new_lengths),
+        step: shifted(meeting.old_step, meeting.new_step, step),
+        lengths: lengths.moved(meeting.old_lengths, meeting.new_lengths),
         tableau,
     }
 }
@@ -108,22 +100,22 @@ pub fn lay_all(copies: &mut Vec<Checkpoint>, others: &mut Vec<Checkpoint>, strid
     }
 }
 
-/// Takes the copies from this place on, the last first, and moves them with the one at a seam. It
+/// Takes the copies from this place on, the last first, and moves them with the one at a meeting. It
 /// takes no memory.
 pub fn take_moved(
     copies: &mut Vec<Checkpoint>,
     place: usize,
-    seam: Seam,
+    meeting: Meeting,
     taken: &mut Vec<Checkpoint>,
 )
     requires room { length taken.old.items + length copies.old.items ≤ vec_capacity taken.old + place }
     ensures left { copies.new.items ≡ take place copies.old.items }
-    ensures taken { taken.new.items ≡ taken.old.items ++ reverse (map (moved_copy seam) (drop place copies.old.items)) }
+    ensures taken { taken.new.items ≡ taken.old.items ++ reverse (map (moved_copy meeting) (drop place copies.old.items)) }
     ensures capacity { vec_capacity copies.new ≡ vec_capacity copies.old }
 {
     while copies.len() > place {
         if let Some(copy) = copies.pop() {
-            taken.push_reserved(moved_with(seam, copy));
+            taken.push_reserved(moved_with(meeting, copy));
         }
     }
 }

@@ -1,24 +1,25 @@
 ghost use Rattle.std.specs.Prelude.{◌≡◌, ℕ, ◌+◌, ◌-◌, ◌*◌, ◌<◌, ◌≤◌, Bool, [], None, List, All, length, take, reverse, slice_get, vec_capacity, IfSome, OnOk, OnErr, IfOk, IfErr};
-ghost use Rattle.stab_pauli.specs.declared.refusal.Refusal.TheVariants.{OutOfMemory};
+ghost use Rattle.stab_io.specs.declared.refusal.Refusal.TheVariants.{OutOfMemory};
 ghost use Rattle.stab_tableau.specs.Limits.{most_qubits};
 ghost use Rattle.stab_circuit.specs.Steps.{Step, unroll, observables_of, check_of, check_within};
 ghost use Rattle.stab_circuit.specs.Views.{circuit_items};
 ghost use Rattle.stab_circuit.specs.Cursors.{IsApart};
 ghost use Rattle.stab_session.specs.Records.{ones};
-ghost use Rattle.stab_session.specs.Runs.{Refuses};
+ghost use Rattle.stab_io.specs.Refusals.{Refuses};
 ghost use Rattle.stab_session.specs.Points.{all_coins_of};
 ghost use Rattle.stab_session.specs.Bounds.{IsCounted};
-ghost use Rattle.stab_session.specs.inner.Sights.{output_of};
-ghost use Rattle.stab_session.specs.inner.Checkpoints.{steps_of, all_laid};
-ghost use Rattle.stab_session.specs.inner.Replays.{IsKeptRun, IsSameKept, IsSpan, Follows, AgreeBehind};
+ghost use Rattle.stab_session.specs.inner.ProgramStates.{output_of};
+ghost use Rattle.stab_session.specs.inner.Checkpoints.{checkpoint_steps, all_laid};
+ghost use Rattle.stab_session.specs.inner.Replays.{IsKeptRun, IsSameKept, IsSpan, Follows, AgreeBehindSpan};
 ghost use Rattle.stab_session.specs.inner.Prepared.{Begins, HasCopy, IsRest, HasRoom, IsPrepared, copies_behind, IsCommitted};
 
-use crate::checkpoint::{Checkpoint, Seam, count_before, lay_all, take_moved};
+use crate::checkpoint::{Checkpoint, Meeting, count_before, lay_all, take_moved};
 use crate::coins::Coins;
-use crate::outputs::{Outputs, observables};
+use crate::records::{Outputs, observables};
 use crate::replay::{End, Plan, Replay};
-use stab_circuit::{Circuit, Cursor};
-use stab_pauli::{Fault, Pauli, Refusal};
+use stab_circuit::{Circuit, Cursor, Span};
+use stab_io::{Fault, Refusal};
+use stab_pauli::Pauli;
 use stab_tableau::Tableau;
 use std::alloc::{AllocError, Global};
 
@@ -30,15 +31,6 @@ pub struct KeptRun {
     pub outputs: Outputs,
     pub observables: Vec<bool>,
     pub checkpoints: Vec<Checkpoint>,
-}
-
-/// Which steps an edit changed: those from the first up to the one before the end, in the old
-/// steps and in the new ones.
-#[derive(Clone, Copy)]
-pub struct Span {
-    pub first: usize,
-    pub old_end: usize,
-    pub new_end: usize,
 }
 
 /// What a replay leaves, in memory of its own.
@@ -56,8 +48,8 @@ struct Prepared {
 enum Rest {
     /// Nothing: this is the state behind the last step.
     Nothing(Tableau),
-    /// The old run from the copy with this number on, which moves at the seam into the room.
-    Old(usize, Seam, Vec<Checkpoint>),
+    /// The old run from the copy with this number on, which moves at the meeting into the room.
+    Old(usize, Meeting, Vec<Checkpoint>),
 }
 
 impl KeptRun {
@@ -140,9 +132,9 @@ impl KeptRun {
         ensures asked { C.asks coins.new ≤ C.asks coins.old + all_coins_of (unroll (circuit_items circuit.now)) }
         ensures asked_behind { C.asks coins.new ≤ C.asks coins.old + ((length (unroll (circuit_items circuit.now)) - span.first) + stride) }
         ensures applied { IfOk result (λ applied. applied ≤ (length (unroll (circuit_items circuit.now)) - span.first) + stride) }
-        ensures few { IfOk result (λ applied. (xs : List Step) (count far : ℕ) → IsKeptRun self.old.tableau.qubits (C.sequence coins.old) stride xs count self.old → IsSpan xs (unroll (circuit_items circuit.now)) span → AgreeBehind self.old.tableau.qubits (C.sequence coins.old) xs (unroll (circuit_items circuit.now)) span far → applied ≤ ((span.new_end - span.first) + 2 * stride) + far) }
+        ensures few { IfOk result (λ applied. (xs : List Step) (count far : ℕ) → IsKeptRun self.old.tableau.qubits (C.sequence coins.old) stride xs count self.old → IsSpan xs (unroll (circuit_items circuit.now)) span → AgreeBehindSpan self.old.tableau.qubits (C.sequence coins.old) xs (unroll (circuit_items circuit.now)) span far → applied ≤ ((span.new_end - span.first) + 2 * stride) + far) }
         ensures at_least { IfOk result (λ applied. span.new_end ≤ span.first + applied) }
-        ensures counted { IfOk result (λ applied. (xs : List Step) (count : ℕ) → IsKeptRun self.old.tableau.qubits (C.sequence coins.old) stride xs count self.old → IsSpan xs (unroll (circuit_items circuit.now)) span → IsCounted (AgreeBehind self.old.tableau.qubits (C.sequence coins.old) xs (unroll (circuit_items circuit.now)) span) (steps_of self.old.checkpoints.items) span.first span.old_end span.new_end (length (unroll (circuit_items circuit.now))) applied) }
+        ensures counted { IfOk result (λ applied. (xs : List Step) (count : ℕ) → IsKeptRun self.old.tableau.qubits (C.sequence coins.old) stride xs count self.old → IsSpan xs (unroll (circuit_items circuit.now)) span → IsCounted (AgreeBehindSpan self.old.tableau.qubits (C.sequence coins.old) xs (unroll (circuit_items circuit.now)) span) (checkpoint_steps self.old.checkpoints.items) span.first span.old_end span.new_end (length (unroll (circuit_items circuit.now))) applied) }
         ensures err { IfErr result (λ r. r ≡ OutOfMemory) }
     {
         let before = count_before(self.checkpoints.as_slice(), span.first + 1);
@@ -222,7 +214,7 @@ impl KeptRun {
             End::Last => Ok(Rest::Nothing(tableau)),
             End::Joined(number) => {
                 let copy = &self.checkpoints[number];
-                let seam = Seam {
+                let meeting = Meeting {
                     old_step: copy.step,
                     new_step: step,
                     old_lengths: copy.lengths,
@@ -231,7 +223,7 @@ impl KeptRun {
                 outputs.append_rest(&self.outputs, copy.lengths)?;
                 let room = Vec::with_capacity(alloc, self.checkpoints.len() - number)?;
                 *spare = Some(tableau);
-                Ok(Rest::Old(number, seam, room))
+                Ok(Rest::Old(number, meeting, room))
             }
         }
     }
@@ -263,8 +255,8 @@ impl KeptRun {
                 *spare = Some(std::mem::replace(&mut self.tableau, tableau));
                 self.lay_behind(before, &mut laid, stride);
             }
-            Rest::Old(number, seam, mut room) => {
-                take_moved(&mut self.checkpoints, number, seam, &mut room);
+            Rest::Old(number, meeting, mut room) => {
+                take_moved(&mut self.checkpoints, number, meeting, &mut room);
                 self.lay_behind(before, &mut laid, stride);
                 lay_all(&mut self.checkpoints, &mut room, stride);
             }
@@ -307,10 +299,7 @@ pub fn run_kept<C: Coins>(
     ensures asks_free { IfOk result (λ r. C.asks coins.new ≤ C.asks coins.old + ones r.outputs.free.items) }
 {
     circuit.check(n)?;
-    match run_checked(alloc, circuit, n, stride, coins) {
-        Ok(kept) => Ok(kept),
-        Err(refusal) => Err(Fault::whole(refusal)),
-    }
+    run_checked(alloc, circuit, n, stride, coins).map_err(Fault::whole)
 }
 
 /// Runs a circuit that was checked: an edit that puts all of its steps in.

@@ -1,6 +1,6 @@
 //! Laws of runs. Each function does nothing: its contract is the law, and the check proves it.
 
-ghost use Rattle.stab_session.specs.Laws.{RunsArePointsWithOutputs, CoinsDecideFreeOutcomes, RunsDependOnFreeCoins, RunsAreSound, SameFuture};
+ghost use Rattle.stab_session.specs.Laws.{CheckedStepsFit, RunsArePointsWithOutputs, CoinsDecideFreeOutcomes, RunsDependOnFreeCoins, RunsAreSound, SameFuture};
 
 /// A run ends at the point where its steps lead, with what the steps give put behind what there
 /// was; so prefixes and tails of runs are prefixes and tails of lists.
@@ -23,6 +23,13 @@ pub fn runs_depend_on_free_coins()
 /// run. The lines rule out pairs of one qubit with itself, which a bare list of items could hold.
 pub fn runs_are_sound()
     ensures law { RunsAreSound }
+{}
+
+/// The qubits of each step of a circuit that nothing refuses on n qubits are below n, and those of a
+/// pair differ: that no pair is of one qubit with itself is so of the items of any faultless lines
+/// (`stab_circuit::laws::lines_keep_qubits_apart`), and a `Cursor` says so of its circuit.
+pub fn checked_steps_fit()
+    ensures law { CheckedStepsFit }
 {}
 
 /// Two points with the same stabilised strings, number of the next coin and records have the same

@@ -1,20 +1,24 @@
 //! Runs of circuits.
 //!
+//! In the order in which data flows; each module uses only those before it:
+//!
 //! - `coins`: the bits that decide outcomes which nothing else decides.
-//! - `records`: the records that `rec[-k]` names, and their parity.
-//! - `outputs`: what steps have given so far.
-//! - `letters`: letters that are applied where a bit is 1.
-//! - `products`: products of letters, and their measurement.
-//! - `apply`: one step on a tableau.
-//! - `run`: one run of a circuit, and what it gives.
-//! - `whole`: a run of all steps, from the first on.
-//! - `sampler`: many runs of one circuit.
+//! - `records`: what steps have given so far, and the parity of the records that `rec[-k]` names.
+//! - `step`: one step on a tableau.
+//! - `run`: some steps or all of a circuit, and what they give.
+//! - `sampler`: one circuit made ready for many runs, and one run of it.
 //! - `checkpoint`: copies of the state on the way through a run, and where they are kept.
 //! - `replay`: a run from a copy on, up to a copy of an older run that it meets.
 //! - `kept`: a run that is kept with its copies, and follows the edits of its circuit.
 //! - `pending`: edits of a circuit that can be taken back.
 //! - `session`: a circuit with what its run gives, to be read and edited.
 //! - `laws`: what a run depends on, and that what happens in it is sound.
+//!
+//! Sources: Stim's circuit file format, for what the steps of a circuit do to records, detectors and observables;
+//! D. Gottesman, Stabilizer codes and quantum error correction (1997), and S. Aaronson and D. Gottesman, Improved
+//! simulation of stabilizer circuits (2004), section III, for its qubits. It differs in that the coin of each
+//! measurement is given by number, and in that a detector is the parity of its records. Sessions, and how a run
+//! follows an edit, are this project's own.
 //!
 //! Proved: coins are one fixed sequence of bits by number, which no call changes, and a seed gives
 //! the bits of ChaCha8 that `specs/Coins.antt` names. A run gives the records, flags, detectors and
@@ -26,24 +30,20 @@
 //! session keeps, stands in `specs/Bounds.antt`. `specs/inner/` has what only private contracts cite.
 #![tactic(auto)]
 
-mod apply;
 mod checkpoint;
 mod coins;
 mod kept;
 pub mod laws;
-mod letters;
-mod outputs;
 mod pending;
-mod products;
 mod records;
 mod replay;
 mod run;
 mod sampler;
 mod session;
-mod whole;
+mod step;
 
 pub use coins::{Coins, ListCoins, SeedCoins};
-pub use pending::Edit;
-pub use run::{Shot, run_once};
-pub use sampler::Sampler;
+pub use run::Shot;
+pub use sampler::{Sampler, run_once};
 pub use session::{OpenRefused, Report, Session};
+pub use stab_circuit::Edit;

@@ -1,19 +1,20 @@
 ghost use Rattle.std.specs.Prelude.{◌≡◌, ◌+◌, ◌*◌, ◌<◌, ◌≤◌, ◌^◌, ◌↔◌, [], ◌∷◌, ◌++◌, All, IsTrue, OnOk, IfOk, IfErr, length, take, drop};
-ghost use Rattle.stab_pauli.specs.declared.refusal.Refusal.TheVariants.{OutOfMemory};
+ghost use Rattle.stab_io.specs.declared.refusal.Refusal.TheVariants.{OutOfMemory};
 ghost use Rattle.stab_tableau.specs.Groups.{SameGroup};
 ghost use Rattle.stab_tableau.specs.Tableaus.{stabilises};
 ghost use Rattle.stab_circuit.specs.Steps.{most_steps};
 ghost use Rattle.stab_session.specs.Records.{ones};
 ghost use Rattle.stab_session.specs.Points.{all_coins_of};
-ghost use Rattle.stab_session.specs.inner.Sights.{StepFits, output_of};
+ghost use Rattle.stab_session.specs.inner.ProgramStates.{StepFits, output_of};
 ghost use Rattle.stab_session.specs.inner.Replays.{IsAtStep, IsReplay, Ascending, Meets, copy_of, IsArrival, IsEnd, EndsSoon, copies_passed};
 
 use crate::checkpoint::{Checkpoint, shifted};
 use crate::coins::Coins;
-use crate::outputs::Outputs;
+use crate::records::Outputs;
 use crate::run::run_steps;
 use stab_circuit::Cursor;
-use stab_pauli::{Pauli, Refusal};
+use stab_io::Refusal;
+use stab_pauli::Pauli;
 use stab_tableau::{CompactTableau, Tableau};
 use std::alloc::{AllocError, Global};
 
@@ -69,11 +70,11 @@ enum Arrival {
 impl Plan {
     ghost use Rattle.std.specs.Prelude.{◌≡◌, ◌+◌, ◌≤◌, ◌<◌, ◌⊎◌, Option, Some, IfSome, slice_get};
     ghost use Rattle.std.specs.Option.{option_map};
-    ghost use Rattle.stab_session.specs.inner.Replays.{place_of, next_stop};
+    ghost use Rattle.stab_session.specs.inner.Replays.{step_among_new, next_stop};
 
     /// Where the old copy with a number stands among the new steps, if there is one.
     fn place(self, copies: &[Checkpoint], number: usize) -> Option<usize>
-        ensures value { result ≡ option_map (place_of self) (slice_get copies.now number) }
+        ensures value { result ≡ option_map (step_among_new self) (slice_get copies.now number) }
     {
         match copies.get(number) {
             Some(copy) => Some(shifted(self.old_end, self.new_end, copy.step)),

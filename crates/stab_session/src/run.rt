@@ -1,19 +1,18 @@
-ghost use Rattle.std.specs.Prelude.{◌≡◌, ℕ, ◌+◌, ◌<◌, ◌≤◌, ◌^◌, Bool, All, length, take, drop, OnOk, IfOk};
-ghost use Rattle.stab_tableau.specs.Limits.{most_qubits};
-ghost use Rattle.stab_circuit.specs.Steps.{unroll, check_within};
-ghost use Rattle.stab_circuit.specs.Views.{circuit_items};
+ghost use Rattle.std.specs.Prelude.{◌≡◌, ◌+◌, ◌<◌, ◌≤◌, ◌^◌, All, length, take, drop, OnOk, IfOk, None, IfErr};
+ghost use Rattle.stab_io.specs.declared.refusal.Refusal.TheVariants.{OutOfMemory};
+ghost use Rattle.stab_tableau.specs.Tableaus.{stabilises};
 ghost use Rattle.stab_session.specs.Records.{ones};
-ghost use Rattle.stab_session.specs.Runs.{run_of, Refuses};
+ghost use Rattle.stab_session.specs.Runs.{run, start};
 ghost use Rattle.stab_session.specs.Points.{all_coins_of};
-ghost use Rattle.stab_session.specs.Laws.{DependsOnCoinsAt};
-ghost use Rattle.stab_session.specs.inner.Sights.{StepFits, IsRun, sight, output_of};
+ghost use Rattle.stab_session.specs.inner.ProgramStates.{StepFits, IsRun, program_state, output_of};
+ghost use Rattle.stab_session.specs.inner.Shots.{IsShotOf};
 
-use crate::apply::apply_step;
 use crate::coins::Coins;
-use crate::outputs::Outputs;
-use crate::sampler::Sampler;
-use stab_circuit::{Circuit, Cursor};
-use stab_pauli::{Fault, Pauli};
+use crate::records::{Outputs, observables as summed};
+use crate::step::apply_step;
+use stab_circuit::Cursor;
+use stab_io::Refusal;
+use stab_pauli::Pauli;
 use stab_tableau::Tableau;
 use std::alloc::{AllocError, Global};
 
@@ -52,7 +51,7 @@ pub fn run_steps<C: Coins>(
     ensures same_coins { C.sequence coins.new ≡ C.sequence coins.old }
     ensures asks { C.asks coins.new ≤ C.asks coins.old + all_coins_of (take most cursor.old.left) }
     ensures asks_free { OnOk result (C.asks coins.new + ones outputs.old.free.items ≤ C.asks coins.old + ones outputs.new.free.items) }
-    ensures run { OnOk result (IsRun tableau.old.qubits (C.sequence coins.old) (take most cursor.old.left) (sight tableau.old (output_of outputs.old)) (sight tableau.new (output_of outputs.new))) }
+    ensures run { OnOk result (IsRun tableau.old.qubits (C.sequence coins.old) (take most cursor.old.left) (program_state tableau.old (output_of outputs.old)) (program_state tableau.new (output_of outputs.new))) }
 {
     let mut left = most;
     while left > 0 {
@@ -72,32 +71,57 @@ pub fn unbounded() -> usize
     usize::MAX
 }
 
-/// Runs a circuit once on n qubits, at most 1,024, that begin as zeros.
+/// Carries out all steps of a cursor on qubits that are 0 at first, whatever the tableau was and
+/// wherever the cursor stood. There is room for so many records from the beginning, and there are
+/// so many observables.
 ///
-/// Each measured target, resets included, uses up the next coin number, counted from 0. The coin
-/// with that number is the outcome where neither sign of what is measured stabilises the state;
-/// any other outcome does not depend on it. A coin is asked for only where it decides. Refused as
-/// `Circuit::check` refuses, else `OutOfMemory`, always with line 0.
-pub fn run_once<C: Coins>(
+/// Refusal `OutOfMemory` alone.
+pub fn run_whole<C: Coins>(
     alloc: Global,
-    circuit: &Circuit,
-    n: usize,
+    tableau: &mut Tableau,
+    string: &mut Pauli,
     coins: &mut C,
-) -> Result<Shot, Fault>
-    requires in_range { n ≤ most_qubits }
-    ensures records { IfOk result (λ s. s.records.items ≡ (run_of n (C.sequence coins.old) (circuit_items circuit.now)).records) }
-    ensures free { IfOk result (λ s. s.free.items ≡ (run_of n (C.sequence coins.old) (circuit_items circuit.now)).free) }
-    ensures detectors { IfOk result (λ s. s.detectors.items ≡ (run_of n (C.sequence coins.old) (circuit_items circuit.now)).detectors) }
-    ensures observables { IfOk result (λ s. s.observables.items ≡ (run_of n (C.sequence coins.old) (circuit_items circuit.now)).observables) }
-    ensures decided { IfOk result (λ s. DependsOnCoinsAt s.free.items n (C.sequence coins.old) (circuit_items circuit.now)) }
-    ensures refused { Refuses result (check_within n (circuit_items circuit.now)) }
+    cursor: &mut Cursor,
+    records: usize,
+    observables: usize,
+) -> Result<Shot, Refusal>
+    requires same_length { length string.old.letters ≡ tableau.old.qubits }
+    requires fits { All (StepFits tableau.old.qubits) cursor.old.all }
+    requires few { length cursor.old.all < 2 ^ 63 }
+    ensures qubits { tableau.new.qubits ≡ tableau.old.qubits }
+    ensures string { length string.new.letters ≡ length string.old.letters }
+    ensures all { cursor.new.all ≡ cursor.old.all }
     ensures same_coins { C.sequence coins.new ≡ C.sequence coins.old }
-    ensures asks { C.asks coins.new ≤ C.asks coins.old + all_coins_of (unroll (circuit_items circuit.now)) }
+    ensures asks { C.asks coins.new ≤ C.asks coins.old + all_coins_of cursor.old.all }
     ensures asks_free { IfOk result (λ s. C.asks coins.new ≤ C.asks coins.old + ones s.free.items) }
+    ensures run { IfOk result (IsShotOf tableau.old.qubits (run tableau.old.qubits (C.sequence coins.old) cursor.old.all (start observables)) (stabilises tableau.new)) }
+    ensures err { IfErr result (λ r. r ≡ OutOfMemory) }
 {
-    let mut sampler = Sampler::new(alloc, circuit, n)?;
-    match sampler.shot(alloc, coins) {
-        Ok(shot) => Ok(shot),
-        Err(refusal) => Err(Fault::whole(refusal)),
-    }
+    tableau.reset();
+    cursor.restart();
+    let mut outputs = Outputs::with_capacity(alloc, records)?;
+    let most = unbounded();
+    let mut applied = 0;
+    run_steps(
+        tableau,
+        string,
+        coins,
+        &mut outputs,
+        cursor,
+        most,
+        &mut applied,
+    )?;
+    let Outputs {
+        records,
+        free,
+        detectors,
+        additions,
+    } = outputs;
+    let observables = summed(alloc, observables, additions.as_slice())?;
+    Ok(Shot {
+        records,
+        free,
+        detectors,
+        observables,
+    })
 }

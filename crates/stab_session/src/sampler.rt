@@ -1,8 +1,18 @@
+ghost use Rattle.std.specs.Prelude.{◌≡◌, ◌+◌, ◌≤◌, IfOk};
+ghost use Rattle.stab_tableau.specs.Limits.{most_qubits};
+ghost use Rattle.stab_circuit.specs.Steps.{unroll, check_within};
+ghost use Rattle.stab_circuit.specs.Views.{circuit_items};
+ghost use Rattle.stab_session.specs.Records.{ones};
+ghost use Rattle.stab_io.specs.Refusals.{Refuses};
+ghost use Rattle.stab_session.specs.Runs.{run_of};
+ghost use Rattle.stab_session.specs.Points.{all_coins_of};
+ghost use Rattle.stab_session.specs.Laws.{DependsOnCoinsAt};
+
 use crate::coins::Coins;
-use crate::run::Shot;
-use crate::whole::run_whole;
+use crate::run::{Shot, run_whole};
 use stab_circuit::{Circuit, Cursor};
-use stab_pauli::{Fault, Pauli, Refusal};
+use stab_io::{Fault, Refusal};
+use stab_pauli::Pauli;
 use stab_tableau::Tableau;
 use std::alloc::Global;
 use std::marker::Model;
@@ -52,12 +62,13 @@ impl<'a> Model for Sampler<'a> {
 
 impl<'a> Sampler<'a> {
     ghost use Rattle.std.specs.Prelude.{◌≡◌, ℕ, ◌+◌, ◌≤◌, Bool, None, IfOk, IfErr};
-    ghost use Rattle.stab_pauli.specs.declared.refusal.Refusal.TheVariants.{OutOfMemory};
+    ghost use Rattle.stab_io.specs.declared.refusal.Refusal.TheVariants.{OutOfMemory};
     ghost use Rattle.stab_tableau.specs.Limits.{most_qubits};
     ghost use Rattle.stab_circuit.specs.Steps.{unroll, check_within};
     ghost use Rattle.stab_circuit.specs.Views.{circuit_items};
     ghost use Rattle.stab_session.specs.Records.{ones};
-    ghost use Rattle.stab_session.specs.Runs.{run_of, Refuses};
+    ghost use Rattle.stab_io.specs.Refusals.{Refuses};
+    ghost use Rattle.stab_session.specs.Runs.{run_of};
     ghost use Rattle.stab_session.specs.Points.{all_coins_of};
     ghost use Rattle.stab_session.specs.Laws.{DependsOnCoinsAt, IsSoundRun};
 
@@ -70,10 +81,7 @@ impl<'a> Sampler<'a> {
         ensures refused { Refuses result (check_within n (circuit_items circuit.now)) }
     {
         circuit.check(n)?;
-        match Sampler::of_checked(alloc, circuit, n) {
-            Ok(sampler) => Ok(sampler),
-            Err(refusal) => Err(Fault::whole(refusal)),
-        }
+        Sampler::of_checked(alloc, circuit, n).map_err(Fault::whole)
     }
 
     // Makes a circuit ready that was checked.
@@ -129,5 +137,35 @@ impl<'a> Sampler<'a> {
         ensures law { (coins : ℕ → Bool) → IsSoundRun self.now.qubits coins self.now.items }
     {
         let _ = &self.circuit;
+    }
+}
+
+/// Runs a circuit once on n qubits, at most 1,024, that begin as zeros.
+///
+/// Each measured target, resets included, uses up the next coin number, counted from 0. The coin
+/// with that number is the outcome where neither sign of what is measured stabilises the state;
+/// any other outcome does not depend on it. A coin is asked for only where it decides. Refused as
+/// `Circuit::check` refuses, else `OutOfMemory`, always with line 0.
+pub fn run_once<C: Coins>(
+    alloc: Global,
+    circuit: &Circuit,
+    n: usize,
+    coins: &mut C,
+) -> Result<Shot, Fault>
+    requires in_range { n ≤ most_qubits }
+    ensures records { IfOk result (λ s. s.records.items ≡ (run_of n (C.sequence coins.old) (circuit_items circuit.now)).records) }
+    ensures free { IfOk result (λ s. s.free.items ≡ (run_of n (C.sequence coins.old) (circuit_items circuit.now)).free) }
+    ensures detectors { IfOk result (λ s. s.detectors.items ≡ (run_of n (C.sequence coins.old) (circuit_items circuit.now)).detectors) }
+    ensures observables { IfOk result (λ s. s.observables.items ≡ (run_of n (C.sequence coins.old) (circuit_items circuit.now)).observables) }
+    ensures decided { IfOk result (λ s. DependsOnCoinsAt s.free.items n (C.sequence coins.old) (circuit_items circuit.now)) }
+    ensures refused { Refuses result (check_within n (circuit_items circuit.now)) }
+    ensures same_coins { C.sequence coins.new ≡ C.sequence coins.old }
+    ensures asks { C.asks coins.new ≤ C.asks coins.old + all_coins_of (unroll (circuit_items circuit.now)) }
+    ensures asks_free { IfOk result (λ s. C.asks coins.new ≤ C.asks coins.old + ones s.free.items) }
+{
+    let mut sampler = Sampler::new(alloc, circuit, n)?;
+    match sampler.shot(alloc, coins) {
+        Ok(shot) => Ok(shot),
+        Err(refusal) => Err(Fault::whole(refusal)),
     }
 }

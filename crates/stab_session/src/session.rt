@@ -4,7 +4,8 @@ use crate::coins::Coins;
 use crate::kept::{KeptRun, run_kept};
 pub use edits::Report;
 use stab_circuit::Circuit;
-use stab_pauli::{Fault, Pauli, Refusal};
+use stab_io::{Fault, Refusal};
+use stab_pauli::Pauli;
 use stab_tableau::Tableau;
 use std::alloc::Global;
 use std::marker::Model;
@@ -64,7 +65,8 @@ impl<C: Coins> Model for Session<C> {
 
 impl<C: Coins> Session<C> {
     ghost use Rattle.std.specs.Prelude.{◌≡◌, ℕ, ◌+◌, ◌≤◌, Bool, None, length, IfOk, IfErr, OnOk};
-    ghost use Rattle.stab_pauli.specs.declared.refusal.Refusal.TheVariants.{OutOfMemory};
+    ghost use Rattle.stab_io.specs.declared.refusal.Refusal.TheVariants.{OutOfMemory};
+    ghost use Rattle.stab_io.specs.Refusals.{IsCallFault};
     ghost use Rattle.stab_tableau.specs.Limits.{most_qubits};
     ghost use Rattle.stab_tableau.specs.Traces.{member};
     ghost use Rattle.stab_tableau.specs.Tableaus.{stabilises};
@@ -75,7 +77,7 @@ impl<C: Coins> Session<C> {
     ghost use Rattle.stab_session.specs.Records.{ones};
     ghost use Rattle.stab_session.specs.Runs.{run_of};
     ghost use Rattle.stab_session.specs.Points.{all_coins_of};
-    ghost use Rattle.stab_session.specs.Sessions.{IsFaultOf, IsSignIn};
+    ghost use Rattle.stab_session.specs.Sessions.{IsSignIn};
     ghost use Rattle.stab_session.specs.Laws.{IsSoundRun};
     ghost use Rattle.stab_session.specs.Bounds.{most_checkpoints};
     ghost use Rattle.stab_session.specs.Headline.{IsRunOfItems};
@@ -104,7 +106,7 @@ impl<C: Coins> Session<C> {
         ensures asks_free { IfOk result (λ s. C.asks s.coins ≤ C.asks coins + ones s.free) }
         ensures checkpoints { IfOk result (λ s. length s.checkpoints ≤ most_checkpoints s) }
         ensures accepted { OnOk result (check_within n (circuit_items circuit) ≡ None) }
-        ensures refused { IfErr result (λ r. IsFaultOf (check_within n (circuit_items circuit)) r.fault) }
+        ensures refused { IfErr result (λ r. IsCallFault (check_within n (circuit_items circuit)) r.fault) }
         ensures refused_circuit { IfErr result (λ r. r.circuit ≡ circuit) }
         ensures refused_coins { IfErr result (λ r. C.sequence r.coins ≡ C.sequence coins) }
         ensures refused_asks { IfErr result (λ r. C.asks r.coins ≤ C.asks coins + all_coins_of (unroll (circuit_items circuit))) }

@@ -11,7 +11,7 @@ use Rattle.stab_pauli.specs.Paulis.{Signed, anticommute, strings_anticommute, pr
 use Rattle.stab_pauli.specs.Rows.{Rows, row_at}
 use Rattle.stab_pauli.proofs.ParityLemmas.{parity-self, parity-false, parity-mid}
 use Rattle.stab_pauli.proofs.StringLemmas.{strings_anticommute-comm, strings_anticommute-product, string_product-self}
-use Rattle.stab_tableau.specs.inner.Preimages.{blank, IsTable, IsOnto}
+use Rattle.stab_tableau.specs.inner.InverseRows.{blank, IsTable, IsOnto}
 use Rattle.stab_tableau.specs.Tableaus.{TableauState, stabilises}
 use Rattle.stab_tableau.specs.Columns.{stabiliser_of, destabiliser_of, chosen_product, IsGenerated}
 use Rattle.stab_tableau.specs.inner.Eliminations.{IsLinear, IsBasis}

@@ -5,19 +5,19 @@ use Rattle.std.proofs.lemmas.Bool.Decides.{eqb_tells}
 use Rattle.std.proofs.Common.{◌≡◌, ◌≢◌, eqb, ℕ, ◌+◌, ◌<◌, ◌≤◌, Bool, true, false, ◌&&◌, inl, inr, refl, sym, ◌∙◌, ap, subst, List, length, get_or, arith}
 use Rattle.stab_pauli.specs.declared.letter.Letter.{Letter}
 use Rattle.stab_pauli.specs.Letters.{◌⊕◌}
-use Rattle.stab_pauli.specs.Paulis.{Signed, identity, product, anticommute}
+use Rattle.stab_pauli.specs.Paulis.{Signed, identity, product}
 use Rattle.stab_pauli.specs.Rows.{Rows, row_at}
 use Rattle.stab_pauli.proofs.ParityLemmas.{parity-self, parity-false, parity-assoc}
 use Rattle.stab_pauli.proofs.SignedLemmas.{length-product}
 use Rattle.stab_tableau.specs.Groups.{IsStabiliserGroup}
 use Rattle.stab_tableau.specs.Reduced.{bit_at, IsFirst}
-use Rattle.stab_tableau.specs.inner.Eliminations.{IsLinear, IsBasis, HasCome, ComesTo, exchanged, AreExchanged, cleared_by, AreCleared, HasStepped}
+use Rattle.stab_tableau.specs.inner.Eliminations.{IsLinear, IsBasis, HasCome, ComesTo, exchanged, AreExchanged, cleared_with, AreCleared, HasStepped}
 use Rattle.stab_tableau.proofs.BitLemmas.{bit-product, up-to}
 use Rattle.stab_tableau.proofs.ExchangeLemmas.{exchanged-first, exchanged-twice, exchanged-below, exchanged-high, exchanged-low}
 
 -- clearing a string by a pivot adds the pivot's answer to a test where the string has 1
 cleared-test : (n k : ℕ) (f : List Letter → Bool) → IsLinear f → (pivot p : Signed)
-    → f (cleared_by n k pivot p).letters ≡ f p.letters ⊕ (bit_at n p.letters k && f pivot.letters)
+    → f (cleared_with n k pivot p).letters ≡ f p.letters ⊕ (bit_at n p.letters k && f pivot.letters)
 cleared-test n k f linear pivot p = by_bit (bit_at n p.letters k)
   where
     by_bit : (b : Bool) → f (if b then product p pivot else p).letters ≡ f p.letters ⊕ (b && f pivot.letters)
@@ -85,26 +85,26 @@ module _ (member : Signed → Bool) (n k used : ℕ) (xs ys : List Signed) (h : 
     still : (j : ℕ) → j < k → bit_at n pivot.letters j ≡ false
     still j lj = h.zeros used (omega arith) lu j lj
 
-    cleared-bit : (p : Signed) (j : ℕ) → j < k → bit_at n (cleared_by n k pivot p).letters j ≡ bit_at n p.letters j
+    cleared-bit : (p : Signed) (j : ℕ) → j < k → bit_at n (cleared_with n k pivot p).letters j ≡ bit_at n p.letters j
     cleared-bit p j lt =
         cleared-test n k (λ p. bit_at n p j) (λ p q. bit-product n p q j) pivot p
         ∙ ap (λ b. bit_at n p.letters j ⊕ b) (and-false (bit_at n p.letters k) (bit_at n pivot.letters j) (still j lt))
         ∙ parity-false (bit_at n p.letters j)
 
-    cleared-zero : (p : Signed) → bit_at n (cleared_by n k pivot p).letters k ≡ false
+    cleared-zero : (p : Signed) → bit_at n (cleared_with n k pivot p).letters k ≡ false
     cleared-zero p =
         cleared-test n k (λ p. bit_at n p k) (λ p q. bit-product n p q k) pivot p
         ∙ ap (λ b. bit_at n p.letters k ⊕ b) (and-true (bit_at n p.letters k) (bit_at n pivot.letters k) one)
         ∙ parity-self (bit_at n p.letters k)
 
-    cleared-size : (p : Signed) → length p.letters ≡ n → length (cleared_by n k pivot p).letters ≡ n
+    cleared-size : (p : Signed) → length p.letters ≡ n → length (cleared_with n k pivot p).letters ≡ n
     cleared-size p lp = by_bit (bit_at n p.letters k)
       where
         by_bit : (b : Bool) → length (if b then product p pivot else p).letters ≡ n
         by_bit true = length-product n p pivot lp size
         by_bit false = lp
 
-    cleared-passes : (p : Signed) → length p.letters ≡ n → member p ≡ true → member (cleared_by n k pivot p) ≡ true
+    cleared-passes : (p : Signed) → length p.letters ≡ n → member p ≡ true → member (cleared_with n k pivot p) ≡ true
     cleared-passes p lp mp = by_bit (bit_at n p.letters k)
       where
         by_bit : (b : Bool) → member (if b then product p pivot else p) ≡ true
@@ -112,7 +112,7 @@ module _ (member : Signed → Bool) (n k used : ℕ) (xs ys : List Signed) (h : 
         by_bit false = mp
 
     -- a fact of the pivot and of each row that is cleared holds of each row
-    by-row : (P : ℕ → Signed → Type 0) → P used pivot → ((a : ℕ) → a < length xs → a ≢ used → P a (cleared_by n k pivot (at n xs a)))
+    by-row : (P : ℕ → Signed → Type 0) → P used pivot → ((a : ℕ) → a < length xs → a ≢ used → P a (cleared_with n k pivot (at n xs a)))
         → (a : ℕ) → a < length ys → P a (at n ys a)
     by-row P here there a la = elim (eqb_tells a used) [
       | inl same ↦ subst (λ b. P b (at n ys b)) (sym same.1) (subst (P used) (sym c.kept) here)
@@ -120,7 +120,7 @@ module _ (member : Signed → Bool) (n k used : ℕ) (xs ys : List Signed) (h : 
           subst (P a) (sym (c.others a lx other.1)) (there a lx other.1)
     ]
 
-    row-other : (a : ℕ) → a < used → at n ys a ≡ cleared_by n k pivot (at n xs a)
+    row-other : (a : ℕ) → a < used → at n ys a ≡ cleared_with n k pivot (at n xs a)
     row-other a la = c.others a (omega arith) (λ e. absurd (omega (arith, e)))
 
     abbrev wanted : (ℕ → Bool) → ℕ → Bool
@@ -194,7 +194,7 @@ module _ (member : Signed → Bool) (n k used : ℕ) (xs ys : List Signed) (h : 
       few = let e = c.count in omega arith;
       lead = lead;
       first = λ a la. up-to (λ a. IsFirst n (at n ys a).letters (lead a)) used
-          (λ a la. let f = h.first a la in first-at (at n ys a) (cleared_by n k pivot (at n xs a)) (lead a) (h.lead a) (row-other a la) (lead-low a la) (
+          (λ a la. let f = h.first a la in first-at (at n ys a) (cleared_with n k pivot (at n xs a)) (lead a) (h.lead a) (row-other a la) (lead-low a la) (
             f.0,
             cleared-bit (at n xs a) (h.lead a) (h.before a la) ∙ f.1,
             λ j lj. cleared-bit (at n xs a) j (let b = h.before a la in omega arith) ∙ f.2 j lj,
@@ -207,35 +207,19 @@ module _ (member : Signed → Bool) (n k used : ℕ) (xs ys : List Signed) (h : 
           (λ ab. let l = h.before a ab in let e = lead-low a ab in let f = lead-used in omega arith) b (omega arith) ab;
       clear = λ a b la lb. up-to (λ a. b ≢ a → bit_at n (at n ys b).letters (lead a) ≡ false) used
           (λ a la ne. up-to (λ b. b ≢ a → bit_at n (at n ys b).letters (lead a) ≡ false) used
-          (λ b lb ne. bit-of (at n ys b) (cleared_by n k pivot (at n xs b)) (lead a) (h.lead a) (row-other b lb) (lead-low a la)
+          (λ b lb ne. bit-of (at n ys b) (cleared_with n k pivot (at n xs b)) (lead a) (h.lead a) (row-other b lb) (lead-low a la)
           (cleared-bit (at n xs b) (h.lead a) (h.before a la) ∙ h.clear a b la lb ne))
           (λ _. bit-of (at n ys used) pivot (lead a) (h.lead a) c.kept (lead-low a la) (still (h.lead a) (h.before a la))) b (omega arith) ne)
           (λ ne. let low : b < used = (omega (arith, ne)) in
-          bit-of (at n ys b) (cleared_by n k pivot (at n xs b)) (lead used) k (row-other b low) lead-used (cleared-zero (at n xs b))) a (omega arith);
+          bit-of (at n ys b) (cleared_with n k pivot (at n xs b)) (lead used) k (row-other b low) lead-used (cleared-zero (at n xs b))) a (omega arith);
       zeros = λ b lb ly j lj. ap (λ (s : Signed). bit_at n s.letters j)
           (c.others b (let e = c.count in omega arith) (λ e. absurd (omega (arith, e))))
-          ∙ up-to (λ j. bit_at n (cleared_by n k pivot (at n xs b)).letters j ≡ false) k
+          ∙ up-to (λ j. bit_at n (cleared_with n k pivot (at n xs b)).letters j ≡ false) k
           (λ j lj. cleared-bit (at n xs b) j lj ∙ h.zeros b (omega arith) (let e = c.count in omega arith) j lj)
           (cleared-zero (at n xs b)) j (omega arith);
     }
 
 -- the steps of the code, whose rows keep their number of qubits
-
-pub pass-step : (k used : ℕ) (r : Rows) → ((a : ℕ) → used ≤ a → a < length r.rows → bit_at r.qubits (row_at r a).letters k ≡ false) → HasStepped k used used r r
-pass-step k used r none = record {
-  qubits = refl;
-  count = refl;
-  comes = λ member g h. record {
-    basis = h.basis;
-    few = h.few;
-    lead = h.lead;
-    first = h.first;
-    before = λ a la. let b = h.before a la in omega arith;
-    ascend = h.ascend;
-    clear = h.clear;
-    zeros = λ b lb ly j lj. up-to (λ j. bit_at r.qubits (row_at r b).letters j ≡ false) k (h.zeros b lb ly) (none b lb ly) j (omega arith);
-  };
-}
 
 some-core : (n k used p : ℕ) (xs ys zs : List Signed) → used ≤ p → p < length xs → k < n + n → bit_at n (at n xs p).letters k ≡ true
     → AreExchanged used p (rows_of n xs) (rows_of n ys) → AreCleared used k (rows_of n ys) (rows_of n zs)
@@ -256,23 +240,6 @@ some-step k used p old mid new le lt in_range one x c =
     (sym x.qubits)
     (λ x c. subst (λ l. AreCleared used k (rows_of old.qubits mid.rows) (rows_of l new.rows) → HasStepped k used (used + 1) old (rows_of l new.rows))
     (sym c.qubits) (some-core old.qubits k used p old.rows mid.rows new.rows le lt in_range one x) c) x c
-
--- after the exchange all rows commute with the pivot
-pub comes-commuting : (k used p : ℕ) (old mid : Rows) → ComesTo k used old → used < length old.rows → p < length old.rows → AreExchanged used p old mid
-    → (a : ℕ) → a < length mid.rows → anticommute (row_at mid a) (row_at mid used) ≡ false
-comes-commuting k used p old mid (member, g, h) lu lt x a la =
-    (λ i. anticommute (x.rows a lx i) (x.rows used lu i))
-    ∙ g.commuting (row_at old (exchanged used p a)) (row_at old (exchanged used p used)) (h.basis.over (exchanged used p a) la2)
-    (h.basis.over (exchanged used p used) lu2) (h.basis.passes (exchanged used p a) la2) (h.basis.passes (exchanged used p used) lu2)
-  where
-    lx : a < length old.rows
-    lx = let e = x.count in omega arith
-
-    la2 : exchanged used p a < length old.rows
-    la2 = exchanged-below (length old.rows) used p a lu lt lx
-
-    lu2 : exchanged used p used < length old.rows
-    lu2 = exchanged-below (length old.rows) used p used lu lt lu
 
 -- a run of steps
 

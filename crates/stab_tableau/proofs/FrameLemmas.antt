@@ -6,7 +6,7 @@ use Rattle.std.proofs.lemmas.List.{get_or-set_other, get_or-set_same, ext_get_or
 use Rattle.stab_pauli.specs.declared.letter.Letter.{Letter}
 use Rattle.stab_pauli.specs.declared.letter.Letter.TheVariants.{I, X, Y, Z}
 use Rattle.stab_pauli.specs.Letters.{◌⊕◌, letters_anticommute}
-use Rattle.stab_pauli.specs.Flips.{flips}
+use Rattle.stab_pauli.specs.XParts.{has_x}
 use Rattle.stab_pauli.specs.Paulis.{Signed}
 use Rattle.stab_pauli.specs.Phaseds.{Phased, phased}
 use Rattle.stab_pauli.specs.Rows.{Rows, unsigned_rows}
@@ -14,7 +14,7 @@ use Rattle.stab_tableau.specs.Gates.{letter_at}
 use Rattle.stab_tableau.specs.Traces.{diagonal}
 use Rattle.stab_tableau.specs.Groups.{SameGroup}
 use Rattle.stab_tableau.specs.Tableaus.{stabilises}
-use Rattle.stab_tableau.specs.inner.Preimages.{Preimages, row_at, string_preimage, extend}
+use Rattle.stab_tableau.specs.inner.InverseRows.{InverseRows, rows_at, string_preimage, extend}
 use Rattle.stab_tableau.specs.inner.Pairs.{paired, IsPaired}
 use Rattle.stab_tableau.specs.inner.Tables.{IsTableau}
 use Rattle.stab_tableau.specs.inner.Frames.{SameLetters, frame_letter, sign_frame}
@@ -48,7 +48,7 @@ letters-unpaired (x ∷ z ∷ xs) (y ∷ w ∷ ys) (suc n) (suc m) ex ey s =
     λ i. s.0 i ∷ s.1 i ∷ letters-unpaired xs ys n m (omega arith) (omega arith) s.2 i
 
 -- the strings of pairs, one after another
-unpaired : List Preimages → List Signed
+unpaired : List InverseRows → List Signed
 unpaired [] = []
 unpaired (r ∷ rows) = r.x ∷ r.z ∷ unpaired rows
 
@@ -65,7 +65,7 @@ length-paired (x ∷ []) n e = absurd (omega arith)
 length-paired (x ∷ z ∷ xs) zero e = absurd (omega arith)
 length-paired (x ∷ z ∷ xs) (suc n) e = ap suc (length-paired xs n (omega arith))
 
-pub length-same : (rows others : List Preimages) → SameLetters rows others → length rows ≡ length others
+pub length-same : (rows others : List InverseRows) → SameLetters rows others → length rows ≡ length others
 length-same [] [] s = refl
 length-same [] (r ∷ others) s = absurd s
 length-same (r ∷ rows) [] s = absurd s
@@ -95,13 +95,13 @@ module _ (r s : Rows) (ir : IsPaired r) (is : IsPaired s) where
 
 -- the letters of a frame, written one after another
 
-pub length-sign_frame : (rows others : List Preimages) → length others ≡ length rows → length (sign_frame rows others) ≡ length rows
+pub length-sign_frame : (rows others : List InverseRows) → length others ≡ length rows → length (sign_frame rows others) ≡ length rows
 length-sign_frame [] others e = refl
 length-sign_frame (r ∷ rows) [] e = absurd (omega arith)
 length-sign_frame (r ∷ rows) (s ∷ others) e = ap suc (length-sign_frame rows others (omega arith))
 
-sign_frame-at : (rows others : List Preimages) (q : ℕ) → length others ≡ length rows → q < length rows
-    → get_or (sign_frame rows others) q I ≡ frame_letter (row_at rows q) (row_at others q)
+sign_frame-at : (rows others : List InverseRows) (q : ℕ) → length others ≡ length rows → q < length rows
+    → get_or (sign_frame rows others) q I ≡ frame_letter (rows_at rows q) (rows_at others q)
 sign_frame-at [] others q e lt = absurd (omega arith)
 sign_frame-at (r ∷ rows) [] q e lt = absurd (omega arith)
 sign_frame-at (r ∷ rows) (s ∷ others) zero e lt = refl
@@ -113,8 +113,8 @@ differ false true = refl
 differ true false = refl
 differ true true = refl
 
-pub frame-more : (q : ℕ) (rows others : List Preimages) (now : List Letter) (m : Letter) → length others ≡ length rows
-    → length now ≡ length rows → q < length rows → m ≡ frame_letter (row_at rows q) (row_at others q)
+pub frame-more : (q : ℕ) (rows others : List InverseRows) (now : List Letter) (m : Letter) → length others ≡ length rows
+    → length now ≡ length rows → q < length rows → m ≡ frame_letter (rows_at rows q) (rows_at others q)
     → ((j : ℕ) → j < q → get_or now j I ≡ get_or (sign_frame rows others) j I)
     → (j : ℕ) → j < q + 1 → get_or (set now q m) j I ≡ get_or (sign_frame rows others) j I
 frame-more q rows others now m same size lt e before =
@@ -122,20 +122,20 @@ frame-more q rows others now m same size lt e before =
     (λ j lj. get_or-set_other now q j m I (omega arith) ∙ before j lj)
     (get_or-set_same now q m I (omega arith) ∙ e ∙ sym (sign_frame-at rows others q same lt))
 
-pub frame-all : (q : ℕ) (rows others : List Preimages) (now : List Letter) → length others ≡ length rows → length now ≡ length rows → length rows ≤ q
+pub frame-all : (q : ℕ) (rows others : List InverseRows) (now : List Letter) → length others ≡ length rows → length now ≡ length rows → length rows ≤ q
     → ((j : ℕ) → j < q → get_or now j I ≡ get_or (sign_frame rows others) j I) → now ≡ sign_frame rows others
 frame-all q rows others now same size le done =
     ext_get_or I now (sign_frame rows others) (size ∙ sym (length-sign_frame rows others same)) (λ j lj. done j (omega arith))
 
 -- the preimage of the frame, which the program reads
 
-flips-Z : (l : Letter) → letters_anticommute Z l ≡ flips l
-flips-Z I = refl
-flips-Z X = refl
-flips-Z Y = refl
-flips-Z Z = refl
+has_x-Z : (l : Letter) → letters_anticommute Z l ≡ has_x l
+has_x-Z I = refl
+has_x-Z X = refl
+has_x-Z Y = refl
+has_x-Z Z = refl
 
-module _ (rows others : List Preimages) (scratch : Preimages) (is : IsTableau (length rows) rows scratch) (s : SameLetters rows others)
+module _ (rows others : List InverseRows) (scratch : InverseRows) (is : IsTableau (length rows) rows scratch) (s : SameLetters rows others)
     (z x : Signed) (z_is : z.letters ≡ sign_frame rows others) (sent : phased x ≡ extend (string_preimage (length rows) rows) (phased z)) where
   x_is : x.letters ≡ (string_preimage (length rows) rows (sign_frame rows others)).letters
   x_is = ap (λ (a : Phased). a.letters) sent ∙ ap (λ p. (string_preimage (length rows) rows p).letters) z_is
@@ -150,13 +150,13 @@ module _ (rows others : List Preimages) (scratch : Preimages) (is : IsTableau (l
     };
   }
 
-  pub signs-yes : list_any flips x.letters ≡ false
+  pub signs-yes : list_any has_x x.letters ≡ false
       → SameGroup (length rows) (stabilises (record { qubits = length rows; rows = rows })) (stabilises (record { qubits = length rows; rows = others }))
   signs-yes quiet =
       frame-same (length rows) rows others is.table is.onto s (ap diagonal (sym x_is) ∙ diagonal-none x.letters quiet)
 
-  pub signs-no : (k : ℕ) → flips (letter_at x.letters k) ≡ true
+  pub signs-no : (k : ℕ) → has_x (letter_at x.letters k) ≡ true
       → SameGroup (length rows) (stabilises (record { qubits = length rows; rows = rows })) (stabilises (record { qubits = length rows; rows = others })) → ⊥
   signs-no k f same =
-      clash (letters_anticommute Z (get_or x.letters k I)) (flips-Z (get_or x.letters k I) ∙ f)
+      clash (letters_anticommute Z (get_or x.letters k I)) (has_x-Z (get_or x.letters k I) ∙ f)
       (diagonal-at x.letters k (ap diagonal x_is ∙ same-frame (length rows) rows others is.table is.onto s same))

@@ -1,21 +1,21 @@
 -- The strings that stabilise a state are a stabiliser group.
 use Rattle.std.proofs.Common.{◌≡◌, true, false, sym, ◌∙◌, ap, length}
-use Rattle.stab_pauli.specs.Turns.{turn_add}
-use Rattle.stab_pauli.specs.declared.turn.Turn.{Turn}
-use Rattle.stab_pauli.specs.declared.turn.Turn.TheVariants.{Zero, Quarter, Half, ThreeQuarters}
+use Rattle.stab_pauli.specs.Phases.{phase_add}
+use Rattle.stab_pauli.specs.declared.phase.Phase.{Phase}
+use Rattle.stab_pauli.specs.declared.phase.Phase.TheVariants.{Zero, Quarter, Half, ThreeQuarters}
 use Rattle.stab_pauli.specs.Paulis.{Signed, minus, anticommute}
 use Rattle.stab_pauli.specs.Phaseds.{Phased, phased}
 use Rattle.stab_pauli.proofs.SignedLemmas.{phased-product, phased-minus}
 use Rattle.stab_tableau.specs.Tableaus.{TableauState, stabilises_zeros, stabilises}
 use Rattle.stab_tableau.specs.Groups.{IsStabiliserGroup}
-use Rattle.stab_tableau.specs.inner.Preimages.{string_preimage, extend, IsTable}
+use Rattle.stab_tableau.specs.inner.InverseRows.{string_preimage, extend, IsTable}
 use Rattle.stab_tableau.proofs.TestLemmas.{not-true}
 use Rattle.stab_tableau.proofs.DiagonalLemmas.{diagonal-blank, diagonal-commute}
-use Rattle.stab_tableau.proofs.HomomorphismLemmas.{extend-product, extend-turned, kept-anticommute}
-use Rattle.stab_tableau.proofs.StabiliseLemmas.{zeros-turn, zeros-letters, zeros-product}
+use Rattle.stab_tableau.proofs.HomomorphismLemmas.{extend-product, extend-times_phase, kept-anticommute}
+use Rattle.stab_tableau.proofs.StabiliseLemmas.{zeros-phase, zeros-letters, zeros-product}
 
--- half a turn is not none
-half-not : (t : Turn) → t ≡ Zero → turn_add Half t ≡ Zero → ⊥
+-- the phase -1 is not 1
+half-not : (t : Phase) → t ≡ Zero → phase_add Half t ≡ Zero → ⊥
 half-not Zero e f = cc
 half-not Quarter e f = cc
 half-not Half e f = cc
@@ -40,8 +40,8 @@ module _ (t : TableauState) (is : IsTable t.qubits t.rows) where
     commuting = stabilises-commuting;
     one_sign = λ p lp mp.
         not-true (stabilises t (minus p))
-        (λ e. half-not (extend (string_preimage t.qubits t.rows) (phased p)).turn
-        (zeros-turn (extend (string_preimage t.qubits t.rows) (phased p)) mp)
-        (ap (λ (a : Phased). a.turn) (sym (ap (extend (string_preimage t.qubits t.rows)) (phased-minus p) ∙ extend-turned (string_preimage t.qubits t.rows) Half (phased p)))
-        ∙ zeros-turn (extend (string_preimage t.qubits t.rows) (phased (minus p))) e));
+        (λ e. half-not (extend (string_preimage t.qubits t.rows) (phased p)).phase
+        (zeros-phase (extend (string_preimage t.qubits t.rows) (phased p)) mp)
+        (ap (λ (a : Phased). a.phase) (sym (ap (extend (string_preimage t.qubits t.rows)) (phased-minus p) ∙ extend-times_phase (string_preimage t.qubits t.rows) Half (phased p)))
+        ∙ zeros-phase (extend (string_preimage t.qubits t.rows) (phased (minus p))) e));
   }

@@ -6,10 +6,10 @@ use Rattle.stab_pauli.specs.declared.letter.Letter.{Letter}
 use Rattle.stab_pauli.specs.declared.letter.Letter.TheVariants.{I}
 use Rattle.stab_pauli.specs.Paulis.{Signed, identity, single}
 use Rattle.stab_pauli.specs.Rows.{Rows, row_at as string_at, with_row, with_letter, swapped_rows}
-use Rattle.stab_tableau.specs.declared.table.Row.{Row}
-use Rattle.stab_tableau.specs.declared.table.Row.TheVariants.{OfX, OfZ}
-use Rattle.stab_tableau.specs.inner.Preimages.{Preimages, row_at, IsOver}
-use Rattle.stab_tableau.specs.inner.Pairs.{paired, place_of, string_of, with_string, put, exchanged, IsPaired}
+use Rattle.stab_tableau.specs.declared.table.InverseRow.{InverseRow}
+use Rattle.stab_tableau.specs.declared.table.InverseRow.TheVariants.{OfX, OfZ}
+use Rattle.stab_tableau.specs.inner.InverseRows.{InverseRows, rows_at, IsOver}
+use Rattle.stab_tableau.specs.inner.Pairs.{paired, row_place, row_string, with_string, put, rows_exchanged, IsPaired}
 
 -- lists
 
@@ -25,7 +25,7 @@ length-paired (x ∷ []) n e = absurd (omega arith)
 length-paired (x ∷ z ∷ rows) zero e = absurd (omega arith)
 length-paired (x ∷ z ∷ rows) (suc n) e = ap suc (length-paired rows n (omega arith))
 
-module _ (d : Signed) (r : Preimages) where
+module _ (d : Signed) (r : InverseRows) where
   read_x : (rows : List Signed) (q : ℕ) → 2 * q + 1 < length rows → get_or rows (2 * q) d ≡ (get_or (paired rows) q r).x
   read_x [] q lt = absurd (omega arith)
   read_x (x ∷ []) q lt = absurd (omega arith)
@@ -56,7 +56,7 @@ module _ (d : Signed) (r : Preimages) where
 
 -- places
 
-pub places-apart : (v w : Row) (a b : ℕ) → (v ≢ w) ⊎ (a ≢ b) → place_of v a ≢ place_of w b
+pub places-apart : (v w : InverseRow) (a b : ℕ) → (v ≢ w) ⊎ (a ≢ b) → row_place v a ≢ row_place w b
 places-apart OfX OfX a b (inl ne) = λ e. ne refl
 places-apart OfX OfX a b (inr ne) = λ e. ne (omega arith)
 places-apart OfX OfZ a b apart = λ e. omega arith
@@ -64,8 +64,8 @@ places-apart OfZ OfX a b apart = λ e. omega arith
 places-apart OfZ OfZ a b (inl ne) = λ e. ne refl
 places-apart OfZ OfZ a b (inr ne) = λ e. ne (omega arith)
 
-pub length-put : (w : Row) (q : ℕ) (p : Signed) (rows : List Preimages) → length (put w q p rows) ≡ length rows
-length-put w q p rows = length-set rows q (with_string w p (row_at rows q))
+pub length-put : (w : InverseRow) (q : ℕ) (p : Signed) (rows : List InverseRows) → length (put w q p rows) ≡ length rows
+length-put w q p rows = length-set rows q (with_string w p (rows_at rows q))
 
 -- the rows of a table
 
@@ -84,50 +84,50 @@ module _ (r : Rows) (is : IsPaired r) where
   both-in : (q : ℕ) → q < length (paired r.rows) → 2 * q + 1 < length r.rows
   both-in q lt = let a = is.size in let b = pairs-are in omega arith
 
-  pub pair-in : (w : Row) (q : ℕ) → q < length (paired r.rows) → place_of w q < length r.rows
+  pub pair-in : (w : InverseRow) (q : ℕ) → q < length (paired r.rows) → row_place w q < length r.rows
   pair-in OfX q lt = let a = both-in q lt in omega arith
   pair-in OfZ q lt = both-in q lt
 
-  pub pair-read : (w : Row) (q : ℕ) → q < length (paired r.rows) → string_at r (place_of w q) ≡ string_of w (row_at (paired r.rows) q)
+  pub pair-read : (w : InverseRow) (q : ℕ) → q < length (paired r.rows) → string_at r (row_place w q) ≡ row_string w (rows_at (paired r.rows) q)
   pair-read OfX q lt = read_x (identity r.qubits) _ r.rows q (both-in q lt)
   pair-read OfZ q lt = read_z (identity r.qubits) _ r.rows q (both-in q lt)
 
-  written : (w : Row) (q : ℕ) (p : Signed) → q < length (paired r.rows) → paired (set r.rows (place_of w q) p) ≡ put w q p (paired r.rows)
+  written : (w : InverseRow) (q : ℕ) (p : Signed) → q < length (paired r.rows) → paired (set r.rows (row_place w q) p) ≡ put w q p (paired r.rows)
   written OfX q p lt = write_x p _ p r.rows q (both-in q lt)
   written OfZ q p lt = write_z p _ p r.rows q (both-in q lt)
 
-  pub pair-written : (w : Row) (q : ℕ) (new : Rows) (p s : Signed) → q < length (paired r.rows) → new ≡ with_row r (place_of w q) p → p ≡ s
+  pub pair-written : (w : InverseRow) (q : ℕ) (new : Rows) (p s : Signed) → q < length (paired r.rows) → new ≡ with_row r (row_place w q) p → p ≡ s
       → paired new.rows ≡ put w q s (paired r.rows)
   pair-written w q new p s lt e f =
       ap (λ (t : Rows). paired t.rows) e ∙ written w q p lt ∙ ap (λ t. put w q t (paired r.rows)) f
 
-module _ (r : Rows) (is : IsPaired r) (v : Row) (a : ℕ) (w : Row) (b : ℕ) (la : a < length (paired r.rows)) (lb : b < length (paired r.rows)) where
+module _ (r : Rows) (is : IsPaired r) (v : InverseRow) (a : ℕ) (w : InverseRow) (b : ℕ) (la : a < length (paired r.rows)) (lb : b < length (paired r.rows)) where
   mid : Rows
-  mid = with_row r (place_of v a) (string_at r (place_of w b))
+  mid = with_row r (row_place v a) (string_at r (row_place w b))
 
   mid-paired : IsPaired mid
   unfolding mid
-  mid-paired = kept-paired r mid (place_of v a) (string_at r (place_of w b)) is refl
+  mid-paired = kept-paired r mid (row_place v a) (string_at r (row_place w b)) is refl
 
-  mid-is : paired mid.rows ≡ put v a (string_of w (row_at (paired r.rows) b)) (paired r.rows)
+  mid-is : paired mid.rows ≡ put v a (row_string w (rows_at (paired r.rows) b)) (paired r.rows)
   unfolding mid
-  mid-is = pair-written r is v a mid (string_at r (place_of w b)) _ la refl (pair-read r is w b lb)
+  mid-is = pair-written r is v a mid (string_at r (row_place w b)) _ la refl (pair-read r is w b lb)
 
-  pub swapped-paired : (new : Rows) → new ≡ swapped_rows r (place_of v a) (place_of w b) → IsPaired new
+  pub swapped-paired : (new : Rows) → new ≡ swapped_rows r (row_place v a) (row_place w b) → IsPaired new
   unfolding mid
-  swapped-paired new e = kept-paired mid new (place_of w b) (string_at r (place_of v a)) mid-paired e
+  swapped-paired new e = kept-paired mid new (row_place w b) (string_at r (row_place v a)) mid-paired e
 
-  pub swapped-written : (new : Rows) → new ≡ swapped_rows r (place_of v a) (place_of w b) → paired new.rows ≡ exchanged v a w b (paired r.rows)
+  pub swapped-written : (new : Rows) → new ≡ swapped_rows r (row_place v a) (row_place w b) → paired new.rows ≡ rows_exchanged v a w b (paired r.rows)
   unfolding mid
   swapped-written new e =
-      pair-written mid mid-paired w b new (string_at r (place_of v a)) (string_of v (row_at (paired r.rows) a))
+      pair-written mid mid-paired w b new (string_at r (row_place v a)) (row_string v (rows_at (paired r.rows) a))
       (let l : length (paired mid.rows) ≡ length (paired r.rows) = ap length mid-is ∙ length-put v a _ (paired r.rows) in omega arith)
       e (pair-read r is v a la)
-      ∙ ap (put w b (string_of v (row_at (paired r.rows) a))) mid-is
+      ∙ ap (put w b (row_string v (rows_at (paired r.rows) a))) mid-is
 
 -- the same by the pairs that contracts see, and by places that the program has worked out
 
-module _ (r : Rows) (is : IsPaired r) (t : List Preimages) (view : paired r.rows ≡ t) where
+module _ (r : Rows) (is : IsPaired r) (t : List InverseRows) (view : paired r.rows ≡ t) where
   seen-in : (q : ℕ) → q < length t → q < length (paired r.rows)
   seen-in q lt = let e = ap length view in omega arith
 
@@ -137,27 +137,27 @@ module _ (r : Rows) (is : IsPaired r) (t : List Preimages) (view : paired r.rows
   pub seen-few : (q : ℕ) → q < length t → q ≤ 1024
   seen-few q lt = pair-few r is q (seen-in q lt)
 
-  pub seen-place : (w : Row) (q k : ℕ) → q < length t → k ≡ place_of w q → k < length r.rows
+  pub seen-place : (w : InverseRow) (q k : ℕ) → q < length t → k ≡ row_place w q → k < length r.rows
   seen-place w q k lt e = let l = pair-in r is w q (seen-in q lt) in omega arith
 
-  pub seen-read : (w : Row) (q k : ℕ) → q < length t → k ≡ place_of w q → string_at r k ≡ string_of w (row_at t q)
-  seen-read w q k lt e = ap (string_at r) e ∙ pair-read r is w q (seen-in q lt) ∙ ap (λ rows. string_of w (row_at rows q)) view
+  pub seen-read : (w : InverseRow) (q k : ℕ) → q < length t → k ≡ row_place w q → string_at r k ≡ row_string w (rows_at t q)
+  seen-read w q k lt e = ap (string_at r) e ∙ pair-read r is w q (seen-in q lt) ∙ ap (λ rows. row_string w (rows_at rows q)) view
 
-  pub seen-written : (w : Row) (q k : ℕ) → q < length t → k ≡ place_of w q → (new : Rows) (p s : Signed) → new ≡ with_row r k p → p ≡ s
+  pub seen-written : (w : InverseRow) (q k : ℕ) → q < length t → k ≡ row_place w q → (new : Rows) (p s : Signed) → new ≡ with_row r k p → p ≡ s
       → paired new.rows ≡ put w q s t
   seen-written w q k lt e new p s made same =
       pair-written r is w q new p s (seen-in q lt) (made ∙ ap (λ k. with_row r k p) e) same ∙ ap (put w q s) view
 
-  pub seen-apart : (v w : Row) (a b j k : ℕ) → j ≡ place_of v a → k ≡ place_of w b → (v ≢ w) ⊎ (a ≢ b) → j ≢ k
+  pub seen-apart : (v w : InverseRow) (a b j k : ℕ) → j ≡ row_place v a → k ≡ row_place w b → (v ≢ w) ⊎ (a ≢ b) → j ≢ k
   seen-apart v w a b j k ej ek apart = λ e. places-apart v w a b apart (sym ej ∙ e ∙ ek)
 
-  pub seen-exchanged : (v w : Row) (a b j k : ℕ) → a < length t → b < length t → j ≡ place_of v a → k ≡ place_of w b
-      → (new : Rows) → new ≡ swapped_rows r j k → paired new.rows ≡ exchanged v a w b t
+  pub seen-exchanged : (v w : InverseRow) (a b j k : ℕ) → a < length t → b < length t → j ≡ row_place v a → k ≡ row_place w b
+      → (new : Rows) → new ≡ swapped_rows r j k → paired new.rows ≡ rows_exchanged v a w b t
   seen-exchanged v w a b j k la lb ej ek new e =
-      swapped-written r is v a w b (seen-in a la) (seen-in b lb) new (e ∙ (λ i. swapped_rows r (ej i) (ek i))) ∙ ap (exchanged v a w b) view
+      swapped-written r is v a w b (seen-in a la) (seen-in b lb) new (e ∙ (λ i. swapped_rows r (ej i) (ek i))) ∙ ap (rows_exchanged v a w b) view
 
   -- a row made one letter anew
-  pub seen-reset : (w : Row) (q k : ℕ) (l : Letter) → q < length t → k ≡ place_of w q → (mid new : Rows)
+  pub seen-reset : (w : InverseRow) (q k : ℕ) (l : Letter) → q < length t → k ≡ row_place w q → (mid new : Rows)
       → mid ≡ with_row r k (identity r.qubits) → new ≡ with_row mid k (with_letter q l (string_at mid k))
       → paired new.rows ≡ put w q (single (length t) q l) t
   seen-reset w q k l lt e mid new made again =
@@ -171,15 +171,15 @@ module _ (r : Rows) (is : IsPaired r) (t : List Preimages) (view : paired r.rows
       here = get_or-set_same r.rows k (identity r.qubits) (identity r.qubits) (seen-place w q k lt e)
 
 -- pairs that are put in a place one after another
-pub put-again : (w : Row) (q : ℕ) (s : Signed) (old new : List Preimages) (p : Preimages) → q < length old → new ≡ set old q p
+pub put-again : (w : InverseRow) (q : ℕ) (s : Signed) (old new : List InverseRows) (p : InverseRows) → q < length old → new ≡ set old q p
     → put w q s new ≡ set old q (with_string w s p)
 put-again w q s old new p lt e =
     ap (put w q s) e
     ∙ ap (λ r. set (set old q p) q (with_string w s r)) (get_or-set_same old q p _ lt)
     ∙ set-set old q p (with_string w s p)
 
-pub row-put : (q : ℕ) (old new : List Preimages) (p : Preimages) → q < length old → new ≡ set old q p → row_at new q ≡ p
-row-put q old new p lt e = ap (λ rows. row_at rows q) e ∙ get_or-set_same old q p _ lt
+pub row-put : (q : ℕ) (old new : List InverseRows) (p : InverseRows) → q < length old → new ≡ set old q p → rows_at new q ≡ p
+row-put q old new p lt e = ap (λ rows. rows_at rows q) e ∙ get_or-set_same old q p _ lt
 
 -- rows of letters I
 
@@ -187,7 +187,7 @@ module _ (n : ℕ) (r : Rows) (e : r ≡ record { qubits = n; rows = replicate (
   pub new-length : length (paired r.rows) ≡ n
   new-length = length-paired r.rows n (ap (λ (t : Rows). length t.rows) e ∙ length-replicate (2 * n) (identity n))
 
-  pub new-over : n ≤ 1024 → (q : ℕ) → q < n → IsOver n (row_at (paired r.rows) q)
+  pub new-over : n ≤ 1024 → (q : ℕ) → q < n → IsOver n (rows_at (paired r.rows) q)
   new-over few q lt = record { x = over OfX; z = over OfZ }
     where
       is : IsPaired r
@@ -196,11 +196,11 @@ module _ (n : ℕ) (r : Rows) (e : r ≡ record { qubits = n; rows = replicate (
       here : q < length (paired r.rows)
       here = let l = new-length in omega arith
 
-      blank : (w : Row) → string_at r (place_of w q) ≡ identity n
+      blank : (w : InverseRow) → string_at r (row_place w q) ≡ identity n
       blank w =
-          ap (λ t. string_at t (place_of w q)) e
-          ∙ get_or-replicate (2 * n) (place_of w q) (identity n) (identity n)
+          ap (λ t. string_at t (row_place w q)) e
+          ∙ get_or-replicate (2 * n) (row_place w q) (identity n) (identity n)
           (let l = pair-in r is w q here in let s = is.size in let c = ap (λ (t : Rows). t.qubits) e in omega arith)
 
-      over : (w : Row) → length (string_of w (row_at (paired r.rows) q)).letters ≡ n
+      over : (w : InverseRow) → length (row_string w (rows_at (paired r.rows) q)).letters ≡ n
       over w = ap (λ (p : Signed). length p.letters) (sym (pair-read r is w q here) ∙ blank w) ∙ length-replicate n I

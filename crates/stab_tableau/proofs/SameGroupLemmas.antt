@@ -5,7 +5,7 @@ use Rattle.std.proofs.lemmas.List.{length-replicate}
 use Rattle.stab_pauli.specs.declared.letter.Letter.TheVariants.{I}
 use Rattle.stab_pauli.specs.Paulis.{Signed, anticommute, product}
 use Rattle.stab_pauli.proofs.SignedLemmas.{length-product}
-use Rattle.stab_tableau.specs.inner.Preimages.{IsTable, IsOnto}
+use Rattle.stab_tableau.specs.inner.InverseRows.{IsTable, IsOnto}
 use Rattle.stab_tableau.specs.Tableaus.{TableauState, stabilises}
 use Rattle.stab_tableau.specs.Columns.{stabiliser_of, destabiliser_of, chosen_product, IsGenerated}
 use Rattle.stab_tableau.specs.Groups.{IsStabiliserGroup, SameGroup}

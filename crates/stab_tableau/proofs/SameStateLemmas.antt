@@ -3,7 +3,7 @@ use Rattle.std.proofs.Common.{◌≡◌, ◌↔◌, ℕ, ◌<◌, ◌≤◌, Boo
 use Rattle.stab_pauli.specs.declared.letter.Letter.TheVariants.{Z}
 use Rattle.stab_pauli.specs.Paulis.{Signed, with_sign}
 use Rattle.stab_pauli.specs.Phaseds.{Phased, phased}
-use Rattle.stab_tableau.specs.inner.Preimages.{Preimages, string_preimage, extend}
+use Rattle.stab_tableau.specs.inner.InverseRows.{InverseRows, string_preimage, extend}
 use Rattle.stab_tableau.specs.inner.Tables.{IsTableau}
 use Rattle.stab_tableau.specs.inner.ColumnLetters.{column}
 use Rattle.stab_tableau.specs.Tableaus.{TableauState, stabilises}
@@ -18,12 +18,12 @@ use Rattle.stab_tableau.proofs.GeneratedLemmas.{stabiliser-length, stabiliser-me
 use Rattle.stab_tableau.proofs.SameGroupLemmas.{same-group}
 
 -- the state of rows
-abbrev pub state_of : List Preimages → TableauState
+abbrev pub state_of : List InverseRows → TableauState
 state_of rows = record { qubits = length rows; rows = rows }
 
 -- a stabiliser as the program writes it
 
-module _ (rows : List Preimages) (scratch : Preimages) (is : IsTableau (length rows) rows scratch) (k : ℕ) (lt : k < length rows)
+module _ (rows : List InverseRows) (scratch : InverseRows) (is : IsTableau (length rows) rows scratch) (k : ℕ) (lt : k < length rows)
     (s x : Signed) (s_is : s ≡ record { negative = false; letters = column Z k rows })
     (sent : phased x ≡ extend (string_preimage (length rows) rows) (phased s)) where
   pub written-size : length s.letters ≡ length rows
@@ -44,7 +44,7 @@ module _ (rows : List Preimages) (scratch : Preimages) (is : IsTableau (length r
 
 -- whether all stabilisers of one state stabilise another
 
-module _ (rows : List Preimages) (scratch : Preimages) (is : IsTableau (length rows) rows scratch)
+module _ (rows : List InverseRows) (scratch : InverseRows) (is : IsTableau (length rows) rows scratch)
     (u : TableauState) (g : IsStabiliserGroup u.qubits (stabilises u)) (same : u.qubits ≡ length rows) where
   pub tells-yes : (k : ℕ) → length rows ≤ k → ((j : ℕ) → j < k → stabilises u (stabiliser_of (state_of rows) j) ≡ true)
       → SameGroup (length rows) (stabilises (state_of rows)) (stabilises u)
@@ -59,12 +59,12 @@ module _ (rows : List Preimages) (scratch : Preimages) (is : IsTableau (length r
 
 -- an answer about rows is one about the states that contracts see
 
-module _ (b : Bool) (rows : List Preimages) (t : TableauState) (view : state_of rows ≡ t) where
+module _ (b : Bool) (rows : List InverseRows) (t : TableauState) (view : state_of rows ≡ t) where
   pub answer-viewed : (u : TableauState) → (b ≡ true) ↔ SameGroup (length rows) (stabilises (state_of rows)) (stabilises u)
       → (b ≡ true) ↔ SameGroup t.qubits (stabilises t) (stabilises u)
   answer-viewed u a = subst (λ (t : TableauState). (b ≡ true) ↔ SameGroup t.qubits (stabilises t) (stabilises u)) view a
 
-  pub answer-both_viewed : (others : List Preimages) (u : TableauState) → state_of others ≡ u → u.qubits ≡ t.qubits
+  pub answer-both_viewed : (others : List InverseRows) (u : TableauState) → state_of others ≡ u → u.qubits ≡ t.qubits
       → (b ≡ true) ↔ SameGroup (length rows) (stabilises (state_of rows)) (stabilises (record { qubits = length rows; rows = others }))
       → (b ≡ true) ↔ SameGroup t.qubits (stabilises t) (stabilises u)
   answer-both_viewed others u other_view same a =
@@ -78,7 +78,7 @@ module _ (b : Bool) (rows : List Preimages) (t : TableauState) (view : state_of 
 
 -- the stabilisers, which generate the group of the state
 
-module _ (rows : List Preimages) (scratch : Preimages) (is : IsTableau (length rows) rows scratch) (t : TableauState) (view : state_of rows ≡ t)
+module _ (rows : List InverseRows) (scratch : InverseRows) (is : IsTableau (length rows) rows scratch) (t : TableauState) (view : state_of rows ≡ t)
     (r : Rows) (same : r.qubits ≡ length rows) (number : length r.rows ≡ length rows)
     (strings : (k : ℕ) → k < length rows → row_at r k ≡ stabiliser_of (state_of rows) k) where
   pub state-basis : IsBasis (stabilises t) r

@@ -2,23 +2,23 @@
 use Rattle.std.proofs.Common.{◌≡◌, ℕ, suc, ◌<◌, Bool, true, false, refl, sym, ◌∙◌, ap, List, [], ◌∷◌, length, get_or, arith}
 use Rattle.stab_pauli.specs.declared.letter.Letter.{Letter}
 use Rattle.stab_pauli.specs.declared.letter.Letter.TheVariants.{I, X, Y, Z}
-use Rattle.stab_pauli.specs.declared.turn.Turn.TheVariants.{Quarter}
-use Rattle.stab_pauli.specs.Turns.{sign_turn}
+use Rattle.stab_pauli.specs.declared.phase.Phase.TheVariants.{Quarter}
+use Rattle.stab_pauli.specs.Phases.{phase_of_sign}
 use Rattle.stab_pauli.specs.Letters.{◌⊕◌, letters_anticommute}
 use Rattle.stab_pauli.specs.Paulis.{Signed, minus, with_sign, strings_anticommute}
-use Rattle.stab_pauli.specs.Phaseds.{Phased, plain, phased, turned, phased_product}
-use Rattle.stab_pauli.proofs.TurnLemmas.{sign_turn-parity}
+use Rattle.stab_pauli.specs.Phaseds.{Phased, plain, phased, times_phase, phased_product}
+use Rattle.stab_pauli.proofs.PhaseLemmas.{phase_of_sign-parity}
 use Rattle.stab_pauli.proofs.StringLemmas.{strings_anticommute-comm}
-use Rattle.stab_pauli.proofs.PhasedLemmas.{turned-turned, turned-comm, phased_product-turned_left, phased_product-turned_right}
+use Rattle.stab_pauli.proofs.PhasedLemmas.{times_phase-times_phase, times_phase-comm, phased_product-times_phase_left, phased_product-times_phase_right}
 use Rattle.stab_pauli.proofs.SignedLemmas.{signed_path, phased-with_sign}
 use Rattle.stab_tableau.specs.Traces.{diagonal}
-use Rattle.stab_tableau.specs.inner.Preimages.{Preimages, blank, letter_preimage, string_preimage, extend, IsTable, IsOnto}
+use Rattle.stab_tableau.specs.inner.InverseRows.{InverseRows, blank, letter_preimage, string_preimage, extend, IsTable, IsOnto}
 use Rattle.stab_tableau.specs.Tableaus.{stabilises_zeros, stabilises}
-use Rattle.stab_tableau.specs.inner.ColumnLetters.{letter_by, column}
+use Rattle.stab_tableau.specs.inner.ColumnLetters.{letter_anticommuting, column}
 use Rattle.stab_tableau.specs.Columns.{stabiliser_of}
 use Rattle.stab_tableau.specs.Groups.{SameGroup}
 use Rattle.stab_tableau.specs.inner.Frames.{SameLetters, sign_frame}
-use Rattle.stab_tableau.proofs.HomomorphismLemmas.{extend-turned, kept-anticommute}
+use Rattle.stab_tableau.proofs.HomomorphismLemmas.{extend-times_phase, kept-anticommute}
 use Rattle.stab_tableau.proofs.OneLetterLemmas.{one_letter-anticommute}
 use Rattle.stab_tableau.proofs.DiagonalLemmas.{diagonal-commute}
 use Rattle.stab_tableau.proofs.TestLemmas.{not-true}
@@ -27,7 +27,7 @@ use Rattle.stab_tableau.proofs.ColumnLemmas.{length-column_n, column-preimage}
 use Rattle.stab_tableau.proofs.GeneratedLemmas.{stabiliser-length, stabiliser-member}
 use Rattle.stab_tableau.proofs.GroupTestLemmas.{group-stabilises}
 
-pub length-frame : (rows others : List Preimages) → SameLetters rows others → length (sign_frame rows others) ≡ length rows
+pub length-frame : (rows others : List InverseRows) → SameLetters rows others → length (sign_frame rows others) ≡ length rows
 length-frame [] [] s = refl
 length-frame [] (r ∷ others) s = refl
 length-frame (r ∷ rows) [] s = absurd s
@@ -35,20 +35,20 @@ length-frame (r ∷ rows) (t ∷ others) s = ap suc (length-frame rows others s.
 
 -- one letter
 
-by-X : (a b : Bool) → letters_anticommute (letter_by a b) X ≡ a
+by-X : (a b : Bool) → letters_anticommute (letter_anticommuting a b) X ≡ a
 by-X a b = grind arith
 
-by-Y : (a b : Bool) → letters_anticommute (letter_by a b) Y ≡ a ⊕ b
+by-Y : (a b : Bool) → letters_anticommute (letter_anticommuting a b) Y ≡ a ⊕ b
 by-Y a b = grind arith
 
-by-Z : (a b : Bool) → letters_anticommute (letter_by a b) Z ≡ b
+by-Z : (a b : Bool) → letters_anticommute (letter_anticommuting a b) Z ≡ b
 by-Z a b = grind arith
 
-by-I : (a b : Bool) → letters_anticommute (letter_by a b) I ≡ false
+by-I : (a b : Bool) → letters_anticommute (letter_anticommuting a b) I ≡ false
 by-I a b = grind arith
 
 -- a string with the same letters is that with the sign turned where the signs differ
-other-sign : (p q : Signed) → p.letters ≡ q.letters → phased q ≡ turned (sign_turn (p.negative ⊕ q.negative)) (phased p)
+other-sign : (p q : Signed) → p.letters ≡ q.letters → phased q ≡ times_phase (phase_of_sign (p.negative ⊕ q.negative)) (phased p)
 other-sign p q e =
     ap phased (signed_path q (with_sign (p.negative ⊕ q.negative) p) (back p.negative q.negative) (sym e))
     ∙ phased-with_sign (p.negative ⊕ q.negative) p
@@ -57,40 +57,40 @@ other-sign p q e =
     back a b = grind arith
 
 -- signs of two factors
-turned_both : (a b : Bool) (p q : Phased) → phased_product (turned (sign_turn a) p) (turned (sign_turn b) q) ≡ turned (sign_turn (a ⊕ b)) (phased_product p q)
-turned_both a b p q =
-    phased_product-turned_left (sign_turn a) p (turned (sign_turn b) q)
-    ∙ ap (turned (sign_turn a)) (phased_product-turned_right (sign_turn b) p q)
-    ∙ turned-turned (sign_turn a) (sign_turn b) (phased_product p q)
-    ∙ ap (λ t. turned t (phased_product p q)) (sym (sign_turn-parity a b))
+times_phase_both : (a b : Bool) (p q : Phased) → phased_product (times_phase (phase_of_sign a) p) (times_phase (phase_of_sign b) q) ≡ times_phase (phase_of_sign (a ⊕ b)) (phased_product p q)
+times_phase_both a b p q =
+    phased_product-times_phase_left (phase_of_sign a) p (times_phase (phase_of_sign b) q)
+    ∙ ap (times_phase (phase_of_sign a)) (phased_product-times_phase_right (phase_of_sign b) p q)
+    ∙ times_phase-times_phase (phase_of_sign a) (phase_of_sign b) (phased_product p q)
+    ∙ ap (λ t. times_phase t (phased_product p q)) (sym (phase_of_sign-parity a b))
 
-frame-letter : (n : ℕ) (r s : Preimages) → r.x.letters ≡ s.x.letters → r.z.letters ≡ s.z.letters → (l : Letter)
-    → letter_preimage n s l ≡ turned (sign_turn (letters_anticommute (letter_by (r.x.negative ⊕ s.x.negative) (r.z.negative ⊕ s.z.negative)) l)) (letter_preimage n r l)
-frame-letter n r s ex ez I = ap (λ b. turned (sign_turn b) (plain (blank n))) (sym (by-I (r.x.negative ⊕ s.x.negative) (r.z.negative ⊕ s.z.negative)))
+frame-letter : (n : ℕ) (r s : InverseRows) → r.x.letters ≡ s.x.letters → r.z.letters ≡ s.z.letters → (l : Letter)
+    → letter_preimage n s l ≡ times_phase (phase_of_sign (letters_anticommute (letter_anticommuting (r.x.negative ⊕ s.x.negative) (r.z.negative ⊕ s.z.negative)) l)) (letter_preimage n r l)
+frame-letter n r s ex ez I = ap (λ b. times_phase (phase_of_sign b) (plain (blank n))) (sym (by-I (r.x.negative ⊕ s.x.negative) (r.z.negative ⊕ s.z.negative)))
 frame-letter n r s ex ez X =
-    other-sign r.x s.x ex ∙ ap (λ b. turned (sign_turn b) (phased r.x)) (sym (by-X (r.x.negative ⊕ s.x.negative) (r.z.negative ⊕ s.z.negative)))
+    other-sign r.x s.x ex ∙ ap (λ b. times_phase (phase_of_sign b) (phased r.x)) (sym (by-X (r.x.negative ⊕ s.x.negative) (r.z.negative ⊕ s.z.negative)))
 frame-letter n r s ex ez Z =
-    other-sign r.z s.z ez ∙ ap (λ b. turned (sign_turn b) (phased r.z)) (sym (by-Z (r.x.negative ⊕ s.x.negative) (r.z.negative ⊕ s.z.negative)))
+    other-sign r.z s.z ez ∙ ap (λ b. times_phase (phase_of_sign b) (phased r.z)) (sym (by-Z (r.x.negative ⊕ s.x.negative) (r.z.negative ⊕ s.z.negative)))
 frame-letter n r s ex ez Y =
-    (λ i. turned Quarter (phased_product (other-sign r.x s.x ex i) (other-sign r.z s.z ez i)))
-    ∙ ap (turned Quarter) (turned_both (r.x.negative ⊕ s.x.negative) (r.z.negative ⊕ s.z.negative) (phased r.x) (phased r.z))
-    ∙ turned-comm Quarter (sign_turn ((r.x.negative ⊕ s.x.negative) ⊕ (r.z.negative ⊕ s.z.negative))) (phased_product (phased r.x) (phased r.z))
-    ∙ ap (λ b. turned (sign_turn b) (letter_preimage n r Y)) (sym (by-Y (r.x.negative ⊕ s.x.negative) (r.z.negative ⊕ s.z.negative)))
+    (λ i. times_phase Quarter (phased_product (other-sign r.x s.x ex i) (other-sign r.z s.z ez i)))
+    ∙ ap (times_phase Quarter) (times_phase_both (r.x.negative ⊕ s.x.negative) (r.z.negative ⊕ s.z.negative) (phased r.x) (phased r.z))
+    ∙ times_phase-comm Quarter (phase_of_sign ((r.x.negative ⊕ s.x.negative) ⊕ (r.z.negative ⊕ s.z.negative))) (phased_product (phased r.x) (phased r.z))
+    ∙ ap (λ b. times_phase (phase_of_sign b) (letter_preimage n r Y)) (sym (by-Y (r.x.negative ⊕ s.x.negative) (r.z.negative ⊕ s.z.negative)))
 
 -- the preimage of a string takes the other sign where the string anticommutes with the frame
-pub frame-preimage : (n : ℕ) (rows others : List Preimages) → SameLetters rows others → (p : List Letter)
-    → string_preimage n others p ≡ turned (sign_turn (strings_anticommute (sign_frame rows others) p)) (string_preimage n rows p)
+pub frame-preimage : (n : ℕ) (rows others : List InverseRows) → SameLetters rows others → (p : List Letter)
+    → string_preimage n others p ≡ times_phase (phase_of_sign (strings_anticommute (sign_frame rows others) p)) (string_preimage n rows p)
 frame-preimage n [] [] s p = refl
 frame-preimage n [] (t ∷ others) s p = absurd s
 frame-preimage n (r ∷ rows) [] s p = absurd s
 frame-preimage n (r ∷ rows) (t ∷ others) s [] = refl
 frame-preimage n (r ∷ rows) (t ∷ others) s (l ∷ p) =
     (λ i. phased_product (frame-letter n r t s.0 s.1 l i) (frame-preimage n rows others s.2 p i))
-    ∙ turned_both (letters_anticommute (letter_by (r.x.negative ⊕ t.x.negative) (r.z.negative ⊕ t.z.negative)) l) (strings_anticommute (sign_frame rows others) p)
+    ∙ times_phase_both (letters_anticommute (letter_anticommuting (r.x.negative ⊕ t.x.negative) (r.z.negative ⊕ t.z.negative)) l) (strings_anticommute (sign_frame rows others) p)
     (letter_preimage n r l) (string_preimage n rows p)
 
 -- so a string stabilises the one state where it, with the other sign if it anticommutes with the frame, stabilises the other
-pub frame-stabilises : (n : ℕ) (rows others : List Preimages) → SameLetters rows others → (p : Signed)
+pub frame-stabilises : (n : ℕ) (rows others : List InverseRows) → SameLetters rows others → (p : Signed)
     → stabilises (record { qubits = n; rows = others }) p
     ≡ stabilises (record { qubits = n; rows = rows }) (with_sign (strings_anticommute (sign_frame rows others) p.letters) p)
 frame-stabilises n rows others s p = ap stabilises_zeros whole
@@ -98,14 +98,14 @@ frame-stabilises n rows others s p = ap stabilises_zeros whole
     whole : extend (string_preimage n others) (phased p)
         ≡ extend (string_preimage n rows) (phased (with_sign (strings_anticommute (sign_frame rows others) p.letters) p))
     whole =
-        ap (turned (sign_turn p.negative)) (frame-preimage n rows others s p.letters)
-        ∙ turned-comm (sign_turn p.negative) (sign_turn (strings_anticommute (sign_frame rows others) p.letters)) (string_preimage n rows p.letters)
-        ∙ sym (extend-turned (string_preimage n rows) (sign_turn (strings_anticommute (sign_frame rows others) p.letters)) (phased p))
+        ap (times_phase (phase_of_sign p.negative)) (frame-preimage n rows others s p.letters)
+        ∙ times_phase-comm (phase_of_sign p.negative) (phase_of_sign (strings_anticommute (sign_frame rows others) p.letters)) (string_preimage n rows p.letters)
+        ∙ sym (extend-times_phase (string_preimage n rows) (phase_of_sign (strings_anticommute (sign_frame rows others) p.letters)) (phased p))
         ∙ ap (extend (string_preimage n rows)) (sym (phased-with_sign (strings_anticommute (sign_frame rows others) p.letters) p))
 
 -- one group where the frame's preimage has letters I and Z alone
 
-module _ (n : ℕ) (rows others : List Preimages) (is : IsTable n rows) (onto : IsOnto n rows) (s : SameLetters rows others) where
+module _ (n : ℕ) (rows others : List InverseRows) (is : IsTable n rows) (onto : IsOnto n rows) (s : SameLetters rows others) where
   length-frame_n : length (sign_frame rows others) ≡ n
   length-frame_n = length-frame rows others s ∙ is.count
 

@@ -2,9 +2,6 @@
 use Rattle.std.proofs.Common.{◌≡◌, refl, sym, arith, Bool, true, false, not, ◌&&◌, ◌||◌, ◌⊎◌, inl, inr}
 use Rattle.std.proofs.lemmas.Bool.{or_cases}
 
-pub and-intro : (a b : Bool) → a ≡ true → b ≡ true → (a && b) ≡ true
-and-intro a b e f = λ i. e i && f i
-
 pub and-left : (a b : Bool) → (a && b) ≡ true → a ≡ true
 and-left true b e = refl
 and-left false b e = e

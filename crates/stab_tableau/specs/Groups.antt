@@ -1,4 +1,5 @@
 -- Groups: a set of signed strings on n qubits is a test, and the strings that stabilise a state pass one with four properties.
+-- Source: Gottesman 1997, the stabiliser: a commuting group without -I. It is said by a test and not by generators.
 use Rattle.std.specs.Prelude.{◌≡◌, ℕ, Bool, true, false, length}
 use Rattle.stab_pauli.specs.Paulis.{Signed, identity, minus, anticommute, product}
 

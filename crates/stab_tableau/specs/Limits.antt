@@ -1,4 +1,5 @@
 -- Limits: how many qubits a state has at most.
+-- Source: this project's own.
 use Rattle.std.specs.Prelude.{ℕ}
 
 -- the greatest number of qubits

@@ -1,11 +1,13 @@
 -- Reduced rows: the one list of members of a group that eliminates each of its leads.
+-- Source: Gottesman 1997 brings generators to a standard form by elimination, and exchanges qubits on the way; here none are,
+-- so that a group has one list of rows.
 use Rattle.std.specs.Prelude.{◌≡◌, ◌≢◌, ℕ, suc, ◌+◌, ◌-◌, ◌<◌, ◌≤◌, Bool, true, false, nat_lt, List, [], ◌∷◌, length, ◌↔◌, if◌then◌else◌}
 use Rattle.stab_pauli.specs.declared.letter.Letter.{Letter}
 use Rattle.stab_pauli.specs.declared.letter.Letter.TheVariants.{X, Z}
 use Rattle.stab_pauli.specs.Letters.{letters_anticommute}
 use Rattle.stab_pauli.specs.Paulis.{Signed}
 use Rattle.stab_tableau.specs.Gates.{letter_at}
-use Rattle.stab_tableau.specs.Traces.{Happening, member, Fits, IsSound}
+use Rattle.stab_tableau.specs.Traces.{Event, member, Fits, IsSound}
 use Rattle.stab_tableau.specs.Groups.{IsStabiliserGroup, SameGroup}
 
 -- the bits of a string of n letters: x_0 .. x_(n-1), of X and Y, which anticommute with Z, then z_0 .. z_(n-1), of Z and Y
@@ -46,7 +48,7 @@ ReducedRowsAreOne =
 -- so has the group of a sound trace
 abbrev pub TracesHaveOneList : Type 0
 TracesHaveOneList =
-    (n : ℕ) (trace : List Happening) → Fits n trace → IsSound trace → (a b : List Signed) →
+    (n : ℕ) (trace : List Event) → Fits n trace → IsSound trace → (a b : List Signed) →
     AreReduced n (member trace) a → AreReduced n (member trace) b → a ≡ b
 
 -- a stabiliser group has a list of reduced rows
@@ -55,7 +57,7 @@ GroupsHaveReducedRows = (n : ℕ) (member : Signed → Bool) → IsStabiliserGro
 
 -- so has the group of a sound trace
 abbrev pub TracesHaveReducedRows : Type 0
-TracesHaveReducedRows = (n : ℕ) (trace : List Happening) → Fits n trace → IsSound trace → (rows : List Signed) × AreReduced n (member trace) rows
+TracesHaveReducedRows = (n : ℕ) (trace : List Event) → Fits n trace → IsSound trace → (rows : List Signed) × AreReduced n (member trace) rows
 
 -- two stabiliser groups are one exactly where their reduced rows are the same
 abbrev pub SameGroupSameRows : Type 0

@@ -1,4 +1,4 @@
-pub mod Preimages
+pub mod InverseRows
 pub mod Pairs
 pub mod Tables
 pub mod Collapses

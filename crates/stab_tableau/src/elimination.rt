@@ -5,7 +5,7 @@ ghost use Rattle.stab_pauli.specs.Paulis.{Signed, anticommute};
 ghost use Rattle.stab_pauli.specs.Rows.{row_at, with_row};
 ghost use Rattle.stab_tableau.specs.Groups.{IsStabiliserGroup};
 ghost use Rattle.stab_tableau.specs.Reduced.{bit_at, AreReduced};
-ghost use Rattle.stab_tableau.specs.inner.Eliminations.{IsBasis, ComesTo, AreExchanged, cleared_by, AreCleared, HasStepped};
+ghost use Rattle.stab_tableau.specs.inner.Eliminations.{IsBasis, ComesTo, AreExchanged, cleared_with, AreCleared, HasStepped};
 
 use stab_pauli::{Letter, PauliRows};
 
@@ -94,7 +94,7 @@ fn clear(rows: &mut PauliRows, row: usize, pivot: usize, place: usize)
     requires pivot_in_range { pivot < length rows.old.rows }
     requires apart { row ≢ pivot }
     requires commuting { anticommute (row_at rows.old row) (row_at rows.old pivot) ≡ false }
-    ensures value { rows.new ≡ with_row rows.old row (cleared_by rows.old.qubits place (row_at rows.old pivot) (row_at rows.old row)) }
+    ensures value { rows.new ≡ with_row rows.old row (cleared_with rows.old.qubits place (row_at rows.old pivot) (row_at rows.old row)) }
 {
     if bit(rows, row, place) {
         rows.multiply(row, pivot);
@@ -109,7 +109,7 @@ fn bit(rows: &PauliRows, row: usize, place: usize) -> bool
 {
     let qubits = rows.qubits();
     if place < qubits {
-        rows.flips(row, place)
+        rows.has_x(row, place)
     } else {
         Letter::X.anticommutes(rows.letter(row, place - qubits))
     }

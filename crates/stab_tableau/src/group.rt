@@ -6,11 +6,11 @@ ghost use Rattle.stab_tableau.specs.Tableaus.{stabilises};
 ghost use Rattle.stab_tableau.specs.Columns.{stabiliser_of};
 ghost use Rattle.stab_tableau.specs.Groups.{SameGroup};
 ghost use Rattle.stab_tableau.specs.inner.Tables.{IsTableau};
-ghost use Rattle.stab_tableau.specs.inner.ColumnLetters.{letter_by};
 ghost use Rattle.stab_tableau.specs.inner.Frames.{SameLetters, sign_frame};
 
+use super::inverse_rows::letter_where;
 use super::rows;
-use super::table::{Row, Table};
+use super::table::{InverseRow, Table};
 use stab_pauli::{Letter, Pauli, PauliRows};
 
 /// Whether two tables whose rows differ in their signs alone have one group.
@@ -25,7 +25,7 @@ pub fn same_by_signs(table: &Table, others: &Table, preimage: &mut Pauli, frame:
 {
     write_frame(table, others, frame);
     rows::write_preimage(table, frame, preimage);
-    match preimage.first_flip() {
+    match preimage.first_x() {
         None => true,
         Some(_) => false,
     }
@@ -38,21 +38,11 @@ fn write_frame(table: &Table, others: &Table, out: &mut Pauli)
     ensures value { out.new ≡ record out.old { letters = sign_frame table.now others.now } }
 {
     for qubit in 0..table.len() {
-        let x = table.is_negative(Row::OfX, qubit) ^ others.is_negative(Row::OfX, qubit);
-        let z = table.is_negative(Row::OfZ, qubit) ^ others.is_negative(Row::OfZ, qubit);
+        let x = table.is_negative(InverseRow::OfX, qubit)
+            ^ others.is_negative(InverseRow::OfX, qubit);
+        let z = table.is_negative(InverseRow::OfZ, qubit)
+            ^ others.is_negative(InverseRow::OfZ, qubit);
         out.set(qubit, letter_where(x, z));
-    }
-}
-
-/// The letter that anticommutes with X, and with Z, just where the bits say so.
-fn letter_where(with_x: bool, with_z: bool) -> Letter
-    ensures value { result ≡ letter_by with_x with_z }
-{
-    match (with_x, with_z) {
-        (false, false) => Letter::I,
-        (false, true) => Letter::X,
-        (true, true) => Letter::Y,
-        (true, false) => Letter::Z,
     }
 }
 

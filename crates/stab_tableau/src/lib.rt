@@ -5,7 +5,7 @@
 //!   that are kept in little memory.
 //! - `collapse`: what a measurement answers, and what it does to the rows of a state.
 //! - `table`: the two rows that a state keeps for each qubit, all in one allocation.
-//! - `preimages`: how gates and measurements change the rows of a qubit.
+//! - `inverse_rows`: how gates and measurements change the rows of a qubit.
 //! - `rows`: the rows of all qubits: preimages of strings, columns, and a pass over all of them.
 //! - `group`: whether two states have one group, and reading stabilisers.
 //! - `elimination`: rows that generate a group are made its reduced rows.
@@ -15,6 +15,11 @@
 //!
 //! `specs/` says by the stabiliser rules which signed Pauli strings stabilise a state; `specs/inner/` has what only private
 //! contracts cite.
+//!
+//! Sources: D. Gottesman, Stabilizer codes and quantum error correction (1997) and The Heisenberg representation of
+//! quantum computers (1998); S. Aaronson and D. Gottesman, Improved simulation of stabilizer circuits (2004), section III.
+//! It differs in that the tableau is kept by qubit, as preimages of X and Z, so that stabilisers and destabilisers are its
+//! columns, and that any Pauli string is measured, with a coin that is given.
 //!
 //! Proved: after each call a tableau is stabilised by the strings that the rules say, and no others; the sign and the
 //! outcome of any Pauli are exact; these strings are a group; and what commutes with all stabilisers is, up to sign, the
@@ -26,9 +31,9 @@ mod elimination;
 mod gate;
 pub mod gate_laws;
 mod group;
+mod inverse_rows;
 pub mod laws;
 mod observable;
-mod preimages;
 mod rows;
 mod table;
 mod tableau;

@@ -1,33 +1,34 @@
 mod compact;
 
 pub use compact::CompactTable;
-use stab_pauli::{Letter, Pauli, PauliRows, Refusal};
+use stab_io::Refusal;
+use stab_pauli::{Letter, Pauli, PauliRows};
 use std::alloc::Global;
 use std::marker::Model;
 
 /// One of the two preimages of a qubit.
-#[derive(Clone, Copy, Debug, PartialEq, Eq)]
-pub enum Row {
+#[derive(Clone, Copy)]
+pub enum InverseRow {
     /// That of X.
     OfX,
     /// That of Z.
     OfZ,
 }
 
-impl Row {
+impl InverseRow {
     ghost use Rattle.std.specs.Prelude.{◌≡◌, ◌≤◌};
     ghost use Rattle.stab_tableau.specs.Limits.{most_qubits};
-    ghost use Rattle.stab_tableau.specs.inner.Pairs.{place_of};
+    ghost use Rattle.stab_tableau.specs.inner.Pairs.{row_place};
 
     /// Where the string lies among those of all qubits.
     #[inline(always)]
     fn place(self, qubit: usize) -> usize
         requires few { qubit ≤ most_qubits }
-        ensures value { result ≡ place_of self qubit }
+        ensures value { result ≡ row_place self qubit }
     {
         match self {
-            Row::OfX => 2 * qubit,
-            Row::OfZ => 2 * qubit + 1,
+            InverseRow::OfX => 2 * qubit,
+            InverseRow::OfZ => 2 * qubit + 1,
         }
     }
 }
@@ -42,10 +43,10 @@ pub struct Table {
 
 impl Model for Table {
     ghost use Rattle.std.specs.Prelude.{List};
-    ghost use Rattle.stab_tableau.specs.inner.Preimages.{Preimages};
+    ghost use Rattle.stab_tableau.specs.inner.InverseRows.{InverseRows};
     ghost use Rattle.stab_tableau.specs.inner.Pairs.{paired, IsPaired};
 
-    ghost Value = { List Preimages };
+    ghost Value = { List InverseRows };
 
     ghost view = { λ t. paired t.rows.rows };
 
@@ -55,22 +56,22 @@ impl Model for Table {
 impl Table {
     ghost use Rattle.std.specs.Prelude.{◌≡◌, ◌≢◌, ℕ, ◌<◌, ◌≤◌, ◌⊎◌, true, false, length, slice_set, ◌↔◌, IsTrue, IfOk, IfErr, IfSome, IfNone};
     ghost use Rattle.std.specs.List.{list_any};
-    ghost use Rattle.stab_pauli.specs.declared.refusal.Refusal.TheVariants.{OutOfMemory};
-    ghost use Rattle.stab_pauli.specs.Flips.{flips};
+    ghost use Rattle.stab_io.specs.declared.refusal.Refusal.TheVariants.{OutOfMemory};
+    ghost use Rattle.stab_pauli.specs.XParts.{has_x};
     ghost use Rattle.stab_pauli.specs.Letters.{letters_anticommute};
     ghost use Rattle.stab_pauli.specs.Paulis.{single, anticommute, product, with_sign};
-    ghost use Rattle.stab_pauli.specs.Rows.{turned_product};
+    ghost use Rattle.stab_pauli.specs.Rows.{product_times_i};
     ghost use Rattle.stab_tableau.specs.Limits.{most_qubits};
     ghost use Rattle.stab_tableau.specs.Gates.{letter_at};
-    ghost use Rattle.stab_tableau.specs.inner.Preimages.{row_at, zeros_row, IsOver};
+    ghost use Rattle.stab_tableau.specs.inner.InverseRows.{rows_at, zeros_row, IsOver};
     ghost use Rattle.stab_tableau.specs.inner.Frames.{SameLetters};
-    ghost use Rattle.stab_tableau.specs.inner.Pairs.{string_of, put, exchanged};
+    ghost use Rattle.stab_tableau.specs.inner.Pairs.{row_string, put, rows_exchanged};
 
     /// Rows of letters I alone, for n qubits.
     pub fn new(alloc: Global, n: usize) -> Result<Table, Refusal>
         requires few { n ≤ most_qubits }
         ensures size { IfOk result (λ t. length t ≡ n) }
-        ensures over { IfOk result (λ t. (q : ℕ) → q < n → IsOver n (row_at t q)) }
+        ensures over { IfOk result (λ t. (q : ℕ) → q < n → IsOver n (rows_at t q)) }
         ensures err { IfErr result (λ r. r ≡ OutOfMemory) }
     {
         let rows = PauliRows::new(alloc, 2 * n, n)?;
@@ -84,14 +85,6 @@ impl Table {
     {
         let rows = self.rows.copy(alloc)?;
         Ok(Table { rows })
-    }
-
-    /// Makes these rows the other ones, in the memory that they have.
-    pub fn copy_from(&mut self, other: &Table)
-        requires same_number { length self.old ≡ length other.now }
-        ensures value { self.new ≡ other.now }
-    {
-        self.rows.copy_from(&other.rows);
     }
 
     /// Whether both have the same rows.
@@ -123,13 +116,13 @@ impl Table {
         requires in_range { qubit < length self.old }
         ensures row { self.new ≡ slice_set self.old qubit (zeros_row (length self.old) qubit) }
     {
-        self.reset_row(Row::OfX, qubit, Letter::X);
-        self.reset_row(Row::OfZ, qubit, Letter::Z);
+        self.reset_row(InverseRow::OfX, qubit, Letter::X);
+        self.reset_row(InverseRow::OfZ, qubit, Letter::Z);
     }
 
     // Makes a row one letter on its own qubit.
     #[inline(always)]
-    fn reset_row(&mut self, row: Row, qubit: usize, letter: Letter)
+    fn reset_row(&mut self, row: InverseRow, qubit: usize, letter: Letter)
         requires in_range { qubit < length self.old }
         ensures row { self.new ≡ put row qubit (single (length self.old) qubit letter) self.old }
     {
@@ -139,32 +132,32 @@ impl Table {
 
     /// Turns the sign of a row where the bit is 1.
     #[inline(always)]
-    pub fn negate_if(&mut self, row: Row, qubit: usize, bit: bool)
+    pub fn negate_if(&mut self, row: InverseRow, qubit: usize, bit: bool)
         requires in_range { qubit < length self.old }
-        ensures value { self.new ≡ put row qubit (with_sign bit (string_of row (row_at self.old qubit))) self.old }
+        ensures value { self.new ≡ put row qubit (with_sign bit (row_string row (rows_at self.old qubit))) self.old }
     {
         self.rows.negate_if(row.place(qubit), bit);
     }
 
     /// Exchanges two rows.
     #[inline(always)]
-    pub fn exchange(&mut self, row: Row, qubit: usize, other: Row, other_qubit: usize)
+    pub fn exchange(&mut self, row: InverseRow, qubit: usize, other: InverseRow, other_qubit: usize)
         requires in_range { qubit < length self.old }
         requires other_in_range { other_qubit < length self.old }
         requires apart { (row ≢ other) ⊎ (qubit ≢ other_qubit) }
-        ensures value { self.new ≡ exchanged row qubit other other_qubit self.old }
+        ensures value { self.new ≡ rows_exchanged row qubit other other_qubit self.old }
     {
         self.rows.swap(row.place(qubit), other.place(other_qubit));
     }
 
     /// Makes a row the product of itself and another, with which it commutes.
     #[inline(always)]
-    pub fn multiply(&mut self, row: Row, qubit: usize, other: Row, other_qubit: usize)
+    pub fn multiply(&mut self, row: InverseRow, qubit: usize, other: InverseRow, other_qubit: usize)
         requires in_range { qubit < length self.old }
         requires other_in_range { other_qubit < length self.old }
         requires apart { (row ≢ other) ⊎ (qubit ≢ other_qubit) }
-        requires commuting { anticommute (string_of row (row_at self.old qubit)) (string_of other (row_at self.old other_qubit)) ≡ false }
-        ensures value { self.new ≡ put row qubit (product (string_of row (row_at self.old qubit)) (string_of other (row_at self.old other_qubit))) self.old }
+        requires commuting { anticommute (row_string row (rows_at self.old qubit)) (row_string other (rows_at self.old other_qubit)) ≡ false }
+        ensures value { self.new ≡ put row qubit (product (row_string row (rows_at self.old qubit)) (row_string other (rows_at self.old other_qubit))) self.old }
     {
         self.rows
             .multiply(row.place(qubit), other.place(other_qubit));
@@ -172,98 +165,104 @@ impl Table {
 
     /// Makes a row i times the product of itself and another, with which it anticommutes.
     #[inline(always)]
-    pub fn multiply_turned(&mut self, row: Row, qubit: usize, other: Row, other_qubit: usize)
+    pub fn multiply_times_i(
+        &mut self,
+        row: InverseRow,
+        qubit: usize,
+        other: InverseRow,
+        other_qubit: usize,
+    )
         requires in_range { qubit < length self.old }
         requires other_in_range { other_qubit < length self.old }
         requires apart { (row ≢ other) ⊎ (qubit ≢ other_qubit) }
-        requires anticommuting { anticommute (string_of row (row_at self.old qubit)) (string_of other (row_at self.old other_qubit)) ≡ true }
-        ensures value { self.new ≡ put row qubit (turned_product (string_of row (row_at self.old qubit)) (string_of other (row_at self.old other_qubit))) self.old }
+        requires anticommuting { anticommute (row_string row (rows_at self.old qubit)) (row_string other (rows_at self.old other_qubit)) ≡ true }
+        ensures value { self.new ≡ put row qubit (product_times_i (row_string row (rows_at self.old qubit)) (row_string other (rows_at self.old other_qubit))) self.old }
     {
         self.rows
-            .multiply_turned(row.place(qubit), other.place(other_qubit));
+            .multiply_times_i(row.place(qubit), other.place(other_qubit));
     }
 
     /// Makes a row i times the product of itself and a string, with which it anticommutes.
     #[inline(always)]
-    pub fn multiply_turned_by(&mut self, row: Row, qubit: usize, other: &Pauli)
+    pub fn multiply_by_times_i(&mut self, row: InverseRow, qubit: usize, other: &Pauli)
         requires in_range { qubit < length self.old }
         requires same_length { length other.now.letters ≡ length self.old }
-        requires anticommuting { anticommute (string_of row (row_at self.old qubit)) other.now ≡ true }
-        ensures value { self.new ≡ put row qubit (turned_product (string_of row (row_at self.old qubit)) other.now) self.old }
+        requires anticommuting { anticommute (row_string row (rows_at self.old qubit)) other.now ≡ true }
+        ensures value { self.new ≡ put row qubit (product_times_i (row_string row (rows_at self.old qubit)) other.now) self.old }
     {
-        self.rows.multiply_turned_by(row.place(qubit), other);
+        self.rows.multiply_by_times_i(row.place(qubit), other);
     }
 
     /// Makes a string the product of itself and a row, with which it commutes.
     #[inline(always)]
-    pub fn multiply_into(&self, row: Row, qubit: usize, out: &mut Pauli)
+    pub fn multiply_into(&self, row: InverseRow, qubit: usize, out: &mut Pauli)
         requires in_range { qubit < length self.now }
         requires same_length { length out.old.letters ≡ length self.now }
-        requires commuting { anticommute out.old (string_of row (row_at self.now qubit)) ≡ false }
-        ensures value { out.new ≡ product out.old (string_of row (row_at self.now qubit)) }
+        requires commuting { anticommute out.old (row_string row (rows_at self.now qubit)) ≡ false }
+        ensures value { out.new ≡ product out.old (row_string row (rows_at self.now qubit)) }
     {
         self.rows.multiply_into(row.place(qubit), out);
     }
 
     /// Makes a string i times the product of itself and a row, with which it anticommutes.
     #[inline(always)]
-    pub fn multiply_turned_into(&self, row: Row, qubit: usize, out: &mut Pauli)
+    pub fn multiply_into_times_i(&self, row: InverseRow, qubit: usize, out: &mut Pauli)
         requires in_range { qubit < length self.now }
         requires same_length { length out.old.letters ≡ length self.now }
-        requires anticommuting { anticommute out.old (string_of row (row_at self.now qubit)) ≡ true }
-        ensures value { out.new ≡ turned_product out.old (string_of row (row_at self.now qubit)) }
+        requires anticommuting { anticommute out.old (row_string row (rows_at self.now qubit)) ≡ true }
+        ensures value { out.new ≡ product_times_i out.old (row_string row (rows_at self.now qubit)) }
     {
-        self.rows.multiply_turned_into(row.place(qubit), out);
+        self.rows.multiply_into_times_i(row.place(qubit), out);
     }
 
     /// Makes a string what a row is.
     #[inline(always)]
-    pub fn copy_row(&self, row: Row, qubit: usize, out: &mut Pauli)
+    pub fn copy_row(&self, row: InverseRow, qubit: usize, out: &mut Pauli)
         requires in_range { qubit < length self.now }
         requires same_length { length out.old.letters ≡ length self.now }
-        ensures value { out.new ≡ string_of row (row_at self.now qubit) }
+        ensures value { out.new ≡ row_string row (rows_at self.now qubit) }
     {
         self.rows.copy_row(row.place(qubit), out);
     }
 
     /// The letter of a row at a place.
     #[inline(always)]
-    pub fn letter(&self, row: Row, qubit: usize, place: usize) -> Letter
+    pub fn letter(&self, row: InverseRow, qubit: usize, place: usize) -> Letter
         requires in_range { qubit < length self.now }
         requires place_in_range { place < length self.now }
-        ensures value { result ≡ letter_at (string_of row (row_at self.now qubit)).letters place }
+        ensures value { result ≡ letter_at (row_string row (rows_at self.now qubit)).letters place }
     {
         self.rows.letter(row.place(qubit), place)
     }
 
-    /// Whether the letter of a row at a place flips a bit, and so anticommutes with Z.
+    /// Whether the letter of a row at a place is X or Y, and so anticommutes with Z.
     #[inline(always)]
-    pub fn flips(&self, row: Row, qubit: usize, place: usize) -> bool
+    pub fn has_x(&self, row: InverseRow, qubit: usize, place: usize) -> bool
         requires in_range { qubit < length self.now }
         requires place_in_range { place < length self.now }
-        ensures value { result ≡ flips (letter_at (string_of row (row_at self.now qubit)).letters place) }
+        ensures value { result ≡ has_x (letter_at (row_string row (rows_at self.now qubit)).letters place) }
     {
-        self.rows.flips(row.place(qubit), place)
+        self.rows.has_x(row.place(qubit), place)
     }
 
     /// Whether the sign of a row is -.
     #[inline(always)]
-    pub fn is_negative(&self, row: Row, qubit: usize) -> bool
+    pub fn is_negative(&self, row: InverseRow, qubit: usize) -> bool
         requires in_range { qubit < length self.now }
-        ensures value { result ≡ (string_of row (row_at self.now qubit)).negative }
+        ensures value { result ≡ (row_string row (rows_at self.now qubit)).negative }
     {
         self.rows.is_negative(row.place(qubit))
     }
 
     /// The sign of a row of letters I and Z alone, which is the outcome of a measurement, or `None` where it has others.
     #[inline(always)]
-    pub fn fixed_sign(&self, row: Row, qubit: usize) -> Option<bool>
+    pub fn fixed_sign(&self, row: InverseRow, qubit: usize) -> Option<bool>
         requires in_range { qubit < length self.now }
-        requires over { length (string_of row (row_at self.now qubit)).letters ≡ length self.now }
-        ensures some { IfSome result (λ b. (b ≡ (string_of row (row_at self.now qubit)).negative) × (list_any flips (string_of row (row_at self.now qubit)).letters ≡ false)) }
-        ensures none { IfNone result ((k : ℕ) × (k < length (string_of row (row_at self.now qubit)).letters) × (flips (letter_at (string_of row (row_at self.now qubit)).letters k) ≡ true)) }
+        requires over { length (row_string row (rows_at self.now qubit)).letters ≡ length self.now }
+        ensures some { IfSome result (λ b. (b ≡ (row_string row (rows_at self.now qubit)).negative) × (list_any has_x (row_string row (rows_at self.now qubit)).letters ≡ false)) }
+        ensures none { IfNone result ((k : ℕ) × (k < length (row_string row (rows_at self.now qubit)).letters) × (has_x (letter_at (row_string row (rows_at self.now qubit)).letters k) ≡ true)) }
     {
-        match self.rows.first_flip(row.place(qubit)) {
+        match self.rows.first_x(row.place(qubit)) {
             Some(_) => None,
             None => Some(self.rows.fixed_sign(row.place(qubit))),
         }

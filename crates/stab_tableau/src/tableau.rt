@@ -1,16 +1,17 @@
 mod compact;
 
 ghost use Rattle.std.specs.Prelude.{◌≡◌, IfOk, IfErr};
-ghost use Rattle.stab_pauli.specs.declared.refusal.Refusal.TheVariants.{OutOfMemory};
+ghost use Rattle.stab_io.specs.declared.refusal.Refusal.TheVariants.{OutOfMemory};
 
 use super::collapse::{Collapse, fixed_sign, measure};
 use super::elimination::eliminate;
 use super::gate::{Gate, PairGate};
 use super::observable::Observable;
-use super::table::{Row, Table};
-use super::{group, preimages, rows};
+use super::table::{InverseRow, Table};
+use super::{group, inverse_rows, rows};
 pub use compact::CompactTableau;
-use stab_pauli::{Letter, Pauli, PauliRows, Refusal};
+use stab_io::Refusal;
+use stab_pauli::{Letter, Pauli, PauliRows};
 use std::alloc::Global;
 use std::marker::Model;
 
@@ -24,7 +25,7 @@ pub struct Tableau {
     table: Table,
     // Strings of the same length, to work with: so no gate and no measurement takes memory.
     preimage: Pauli,
-    turning: Pauli,
+    multiplier: Pauli,
 }
 
 // Written out, so that to a proof a state that is let go is one call, and not one for each of its parts.
@@ -33,7 +34,7 @@ impl Drop for Tableau {
         let Tableau {
             table: _,
             preimage: _,
-            turning: _,
+            multiplier: _,
         } = self;
     }
 }
@@ -47,13 +48,13 @@ impl Model for Tableau {
 
     ghost view = { λ t. record { qubits = length t.table; rows = t.table } };
 
-    ghost invariant = { λ t. IsTableau (length t.table) t.table (record { x = t.preimage; z = t.turning }) };
+    ghost invariant = { λ t. IsTableau (length t.table) t.table (record { x = t.preimage; z = t.multiplier }) };
 }
 
 impl Tableau {
     ghost use Rattle.std.specs.Prelude.{◌≡◌, ◌≢◌, ℕ, ◌<◌, ◌≤◌, ◌↔◌, Bool, true, false, [], length, IfOk, IfErr, IfSome};
     ghost use Rattle.stab_pauli.specs.Paulis.{Signed, single, with_sign};
-    ghost use Rattle.stab_pauli.specs.declared.refusal.Refusal.TheVariants.{OutOfMemory};
+    ghost use Rattle.stab_io.specs.declared.refusal.Refusal.TheVariants.{OutOfMemory};
     ghost use Rattle.stab_tableau.specs.Limits.{most_qubits};
     ghost use Rattle.stab_tableau.specs.Gates.{back, back_pair};
     ghost use Rattle.stab_tableau.specs.Traces.{member};
@@ -76,11 +77,11 @@ impl Tableau {
         let mut table = Table::new(alloc, n)?;
         rows::reset_rows(&mut table);
         let preimage = Pauli::identity(alloc, n)?;
-        let turning = Pauli::identity(alloc, n)?;
+        let multiplier = Pauli::identity(alloc, n)?;
         Ok(Tableau {
             table,
             preimage,
-            turning,
+            multiplier,
         })
     }
 
@@ -93,20 +94,12 @@ impl Tableau {
     {
         let table = self.table.copy(alloc)?;
         let preimage = self.preimage.copy(alloc)?;
-        let turning = self.turning.copy(alloc)?;
+        let multiplier = self.multiplier.copy(alloc)?;
         Ok(Tableau {
             table,
             preimage,
-            turning,
+            multiplier,
         })
-    }
-
-    /// Makes this state the other one, in the memory that the tableau has.
-    pub fn copy_from(&mut self, other: &Tableau)
-        requires same_qubits { self.old.qubits ≡ other.now.qubits }
-        ensures value { self.new ≡ other.now }
-    {
-        self.table.copy_from(&other.table);
     }
 
     /// Makes the state all zeros again, in the memory that the tableau has.
@@ -132,7 +125,7 @@ impl Tableau {
         ensures qubits { self.new.qubits ≡ self.old.qubits }
         ensures members { (p : Signed) → length p.letters ≡ self.old.qubits → stabilises self.new p ≡ stabilises self.old (back gate qubit p) }
     {
-        preimages::apply(&mut self.table, gate, qubit);
+        inverse_rows::apply(&mut self.table, gate, qubit);
     }
 
     /// Applies a gate to two qubits; of a controlled gate the first is the control.
@@ -145,7 +138,7 @@ impl Tableau {
         ensures qubits { self.new.qubits ≡ self.old.qubits }
         ensures members { (p : Signed) → length p.letters ≡ self.old.qubits → stabilises self.new p ≡ stabilises self.old (back_pair gate first second p) }
     {
-        preimages::apply_pair(&mut self.table, gate, first, second);
+        inverse_rows::apply_pair(&mut self.table, gate, first, second);
     }
 
     /// The sign with which a string stabilises the state, true for -, or `None` where neither sign does.
@@ -158,7 +151,7 @@ impl Tableau {
         ensures none { (result ≡ None) ↔ (is_free_by (stabilises self.old) pauli.now ≡ true) }
     {
         rows::write_preimage(&self.table, pauli, &mut self.preimage);
-        match self.preimage.first_flip() {
+        match self.preimage.first_x() {
             Some(_) => None,
             None => Some(self.preimage.is_negative()),
         }
@@ -180,7 +173,7 @@ impl Tableau {
         measure(
             &mut self.table,
             &mut self.preimage,
-            &mut self.turning,
+            &mut self.multiplier,
             observable,
             coin,
         )
@@ -195,12 +188,12 @@ impl Tableau {
         ensures members { (p : Signed) → length p.letters ≡ self.old.qubits → stabilises self.new p ≡ projected_by (stabilises self.old) (single self.old.qubits qubit letter) result.outcome p }
         ensures unchanged { result.free ≡ false → self.new ≡ self.old }
     {
-        preimages::copy_into(&self.table, qubit, letter, &mut self.preimage);
+        inverse_rows::copy_into(&self.table, qubit, letter, &mut self.preimage);
         let observable = &Observable::Single(letter, qubit);
         measure(
             &mut self.table,
             &mut self.preimage,
-            &mut self.turning,
+            &mut self.multiplier,
             observable,
             coin,
         )
@@ -217,10 +210,10 @@ impl Tableau {
         ensures members { IfSome result (λ b. (p : Signed) → length p.letters ≡ self.old.qubits → stabilises self.old p ≡ projected_by (stabilises self.old) (single self.old.qubits qubit letter) b p) }
     {
         match letter {
-            Letter::X => self.table.fixed_sign(Row::OfX, qubit),
-            Letter::Z => self.table.fixed_sign(Row::OfZ, qubit),
+            Letter::X => self.table.fixed_sign(InverseRow::OfX, qubit),
+            Letter::Z => self.table.fixed_sign(InverseRow::OfZ, qubit),
             Letter::I | Letter::Y => {
-                preimages::copy_into(&self.table, qubit, letter, &mut self.preimage);
+                inverse_rows::copy_into(&self.table, qubit, letter, &mut self.preimage);
                 fixed_sign(&self.preimage)
             }
         }
@@ -301,10 +294,10 @@ impl Tableau {
                 &self.table,
                 &other.table,
                 &mut self.preimage,
-                &mut self.turning,
+                &mut self.multiplier,
             );
         }
-        other.has_stabilisers(&self.table, &mut self.preimage, &mut self.turning)
+        other.has_stabilisers(&self.table, &mut self.preimage, &mut self.multiplier)
     }
 
     // Whether each stabiliser of a table stabilises this state: then both have one group, since any other string of the
@@ -351,7 +344,7 @@ impl Tableau {
         let table = &self.table;
         let n = table.len();
         let mut rows = PauliRows::new(alloc, n, n)?;
-        group::write_stabilisers(table, &mut self.preimage, &mut self.turning, &mut rows);
+        group::write_stabilisers(table, &mut self.preimage, &mut self.multiplier, &mut rows);
         eliminate(&mut rows);
         strings_of(alloc, &rows)
     }

@@ -1,9 +1,10 @@
-//! The files that a run reads and writes.
+//! The files and streams that a run reads and writes.
 //!
 //! A file that is written keeps what it held until there is something to put in its stead, so a run that
 //! is refused leaves it as it was.
+use stab_pauli::Refusal;
 use std::fs::{File, Metadata, OpenFile, OpenOptions};
-use std::io::Write;
+use std::io::{Read, Write};
 use std::os::unix::fs::MetadataExt;
 use std::rt::Files;
 use std::{fs, io};
@@ -53,6 +54,103 @@ impl Write for Replaced {
     fn flush(&mut self) -> io::Result<()> {
         self.cut()?;
         self.file.flush()
+    }
+}
+
+/// A file that is read, which keeps the error of its last read that failed.
+#[derive(Drop)]
+pub(crate) struct ReadFile {
+    file: File,
+    error: Option<io::Error>,
+}
+
+impl ReadFile {
+    /// Opens a file to be read.
+    pub(crate) fn open<R: Files<File = File>>(files: &R, path: &str) -> io::Result<ReadFile> {
+        let file = fs::open(files, path)?;
+        Ok(ReadFile { file, error: None })
+    }
+
+    /// What the system said to the last read that failed.
+    pub(crate) fn error(&self) -> Option<&io::Error> {
+        self.error.as_ref()
+    }
+}
+
+impl Read for ReadFile {
+    fn read(&mut self, buf: &mut [u8]) -> io::Result<usize> {
+        match self.file.read(buf) {
+            Ok(count) => Ok(count),
+            Err(error) => {
+                let kind = error.kind();
+                self.error = Some(error);
+                Err(kind.into())
+            }
+        }
+    }
+}
+
+/// The refusals whose line says all that there is to say.
+const PLAIN: [Refusal; 4] = [
+    Refusal::TooLong,
+    Refusal::ReadFault,
+    Refusal::WriteFault,
+    Refusal::OutOfMemory,
+];
+
+/// The most bytes of a line that are kept: the line of a fault has fewer.
+const MOST_KEPT: usize = 96;
+
+/// A writer that keeps the first line that is written to it.
+#[derive(Drop)]
+pub(crate) struct FirstLine<W> {
+    writer: W,
+    line: [u8; MOST_KEPT],
+    length: usize,
+    is_ended: bool,
+}
+
+impl<W> FirstLine<W> {
+    /// A writer to which nothing was written.
+    pub(crate) fn new(writer: W) -> FirstLine<W> {
+        FirstLine {
+            writer,
+            line: [0; MOST_KEPT],
+            length: 0,
+            is_ended: false,
+        }
+    }
+
+    /// Whether the first line tells that a circuit was refused for what it says.
+    pub(crate) fn refuses_circuit(&self) -> bool {
+        let line = self.line.split_at(self.length.min(MOST_KEPT)).0;
+        self.is_ended
+            && PLAIN
+                .iter()
+                .all(|refusal| !line.ends_with(refusal.name().as_bytes()))
+    }
+
+    /// Keeps bytes that were written, as far as they belong to the first line.
+    fn keep(&mut self, bytes: &[u8]) {
+        for byte in bytes {
+            self.is_ended |= *byte == b'\n';
+            if !self.is_ended && self.length < MOST_KEPT {
+                self.line[self.length] = *byte;
+                self.length += 1;
+            }
+        }
+    }
+}
+
+impl<W: Write> Write for FirstLine<W> {
+    fn write(&mut self, bytes: &[u8]) -> io::Result<usize> {
+        let count = self.writer.write(bytes)?;
+        self.keep(bytes.split_at(count).0);
+        Ok(count)
+    }
+
+    fn flush(&mut self) -> io::Result<()> {
+        self.writer.flush()
     }
 }
 

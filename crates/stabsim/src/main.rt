@@ -1,7 +1,7 @@
 //! The program `stabsim`: reads its words, opens the files that they name, runs the job that they
 //! ask for, and ends with its status.
 //!
-//! - `files`: the files that a run reads and writes.
+//! - `files`: the files and streams that a run reads and writes.
 //!
 //! All that a job does is in `stab_commands`, and what words ask for in `stab_cli`; here the words,
 //! files, standard streams and the status meet.
@@ -9,12 +9,13 @@
 
 mod files;
 
-use files::{Replaced, STANDARD_INPUT, are_one_file};
+use files::{FirstLine, ReadFile, Replaced, STANDARD_INPUT, are_one_file};
 use stab_cli::{
-    Job, NoWatcher, Usage, parse_words, run_job, run_job_watched, write_fault, write_usage,
+    CoinsFault, Command, Job, NO_COINS, NoWatcher, Source, Usage, parse_words, read_coins, run_job,
+    run_job_watched, write_fault, write_usage,
 };
 use stab_pauli::{Device, Fault, Input, MemoryInput, Output, Refusal, write_all};
-use std::io::{BufWriter, Write};
+use std::io::{BufWriter, IsTerminal, Write};
 use std::process::ExitCode;
 use std::rt::Env;
 use std::{env, fs, io};
@@ -23,16 +24,23 @@ const NOT_TEXT: &str = "stabsim: a word is not UTF-8\n";
 
 const ONE_FILE: &str = "stabsim: --in and --out are one file\n";
 
+const ONE_COIN_FILE: &str = "stabsim: --coins_in and --out are one file\n";
+
 const ONE_INPUT: &str = "stabsim: standard input and --out are one file\n";
+
+// What a terminal is shown behind the line of a circuit that was refused.
+const HINT: &str = "stabsim: what is wrong and where: give the same circuit to `stabsim check`\n";
 
 fn main(rt: HostRuntime) -> ExitCode {
     // A standard stream that is closed would leave its number to the next file that is opened. A
     // directory takes it, which can be neither read nor written: that stream then fails, and no other.
     let _held = [fs::open(&rt, "/"), fs::open(&rt, "/"), fs::open(&rt, "/")];
-    let mut err = Device::new(rt.stderr());
     let status = match job(&rt) {
-        Ok(job) => run_apart(&rt, &job, &mut err),
-        Err(usage) => write_usage(&usage, &mut Device::new(rt.stdout()), &mut err),
+        Ok(job) => run_hinted(&rt, job),
+        Err(usage) => {
+            let mut err = Device::new(rt.stderr());
+            write_usage(&usage, &mut Device::new(rt.stdout()), &mut err)
+        }
     };
     ExitCode::from(status)
 }
@@ -53,14 +61,49 @@ fn words<R: Env + AllocGlobal>(rt: &R) -> Result<Vec<String>, Usage> {
     }
 }
 
-/// Runs a job, unless it would write the file that it reads.
-fn run_apart<E: Output>(rt: &HostRuntime, job: &Job, err: &mut E) -> u8 {
-    match shared_file(rt, job) {
-        Some(told) => {
-            let _ = write_all(err, told.as_bytes());
-            2
+/// Runs a job. Where it refuses a circuit on a terminal, one more line says which command tells more.
+fn run_hinted(rt: &HostRuntime, job: Job) -> u8 {
+    let is_check = matches!(job.command, Command::Check);
+    let mut line = FirstLine::new(rt.stderr());
+    let status = run_apart(rt, job, &mut Device::new(&mut line));
+    if status == 1 && !is_check && line.refuses_circuit() && rt.stderr().is_terminal() {
+        let _ = write_all(&mut Device::new(rt.stderr()), HINT.as_bytes());
+    }
+    status
+}
+
+/// Runs a job, unless it would write a file that it reads.
+fn run_apart<E: Output>(rt: &HostRuntime, job: Job, err: &mut E) -> u8 {
+    match shared_file(rt, &job) {
+        Some(told) => tell_mistake(told, err),
+        None => run_with_coins(rt, job, err),
+    }
+}
+
+/// Runs a job, with the coins of a file where it names one.
+fn run_with_coins<E: Output>(rt: &HostRuntime, mut job: Job, err: &mut E) -> u8 {
+    if let Some(path) = &job.coins_path {
+        match coins_of_file(rt, path.as_str(), err) {
+            Ok(coins) => job.source = Source::List(coins),
+            Err(status) => return status,
         }
-        None => run_opened(rt, job, err),
+    }
+    run_opened(rt, &job, err)
+}
+
+/// The coins of a file; or the status of the program, once it is told why there are none.
+fn coins_of_file<E: Output>(rt: &HostRuntime, path: &str, err: &mut E) -> Result<Vec<bool>, u8> {
+    let mut file = match ReadFile::open(rt, path) {
+        Ok(file) => file,
+        Err(error) => return Err(tell_path(rt, Refusal::ReadFault, path, Some(&error), err)),
+    };
+    match read_coins(rt.alloc(), &mut Device::new(&mut file)) {
+        Ok(coins) => Ok(coins),
+        Err(CoinsFault::Wrong) => Err(tell_mistake(NO_COINS, err)),
+        Err(CoinsFault::Unread(Refusal::OutOfMemory)) => {
+            Err(tell_fault(Refusal::OutOfMemory, err))
+        }
+        Err(CoinsFault::Unread(refusal)) => Err(tell_path(rt, refusal, path, file.error(), err)),
     }
 }
 
@@ -68,6 +111,11 @@ fn run_apart<E: Output>(rt: &HostRuntime, job: &Job, err: &mut E) -> u8 {
 fn shared_file(rt: &HostRuntime, job: &Job) -> Option<&'static str> {
     let out = job.out_path.as_ref()?;
     let reads_input = job.in_path.is_none() || job.reads_script();
+    if let Some(path) = &job.coins_path
+        && are_one_file(rt, path.as_str(), out.as_str())
+    {
+        return Some(ONE_COIN_FILE);
+    }
     match &job.in_path {
         Some(path) if are_one_file(rt, path.as_str(), out.as_str()) => Some(ONE_FILE),
         _ if reads_input && are_one_file(rt, STANDARD_INPUT, out.as_str()) => Some(ONE_INPUT),
@@ -81,7 +129,7 @@ fn run_opened<E: Output>(rt: &HostRuntime, job: &Job, err: &mut E) -> u8 {
     match &job.in_path {
         Some(path) => match fs::open(rt, path.as_str()) {
             Ok(file) => run_created(rt, job, &mut Device::new(file), err),
-            Err(error) => tell_path(rt, Refusal::ReadFault, path.as_str(), &error, err),
+            Err(error) => tell_path(rt, Refusal::ReadFault, path.as_str(), Some(&error), err),
         },
         None if job.reads_script() => run_created(rt, job, &mut MemoryInput::new(&[]), err),
         None => run_created(rt, job, &mut Device::new(rt.stdin()), err),
@@ -93,7 +141,7 @@ fn run_created<I: Input, E: Output>(rt: &HostRuntime, job: &Job, input: &mut I, 
     match &job.out_path {
         Some(path) => match Replaced::open(rt, path.as_str()) {
             Ok(file) => run_written(rt, job, input, file, err),
-            Err(error) => tell_path(rt, Refusal::WriteFault, path.as_str(), &error, err),
+            Err(error) => tell_path(rt, Refusal::WriteFault, path.as_str(), Some(&error), err),
         },
         None => run_written(rt, job, input, rt.stdout(), err),
     }
@@ -135,23 +183,33 @@ fn run_written<I: Input, W: Write + Drop, E: Output>(
     }
 }
 
+/// Writes what is wrong with the words, and answers its status.
+fn tell_mistake<E: Output>(told: &str, err: &mut E) -> u8 {
+    let _ = write_all(err, told.as_bytes());
+    2
+}
+
 /// Writes the line of a fault, and answers its status.
 fn tell_fault<E: Output>(refusal: Refusal, err: &mut E) -> u8 {
     let _ = write_fault(err, Fault::whole(refusal));
     1
 }
 
-/// Writes the line of a fault of a file that can't be opened, and behind it the file's name and what the
-/// system said, where memory suffices; and answers the status.
+/// Writes the line of a fault of a file that can't be opened or read, and behind it the file's name and
+/// what the system said, if it said anything, where memory suffices; and answers the status.
 fn tell_path<E: Output>(
     rt: &HostRuntime,
     refusal: Refusal,
     path: &str,
-    error: &io::Error,
+    error: Option<&io::Error>,
     err: &mut E,
 ) -> u8 {
     let status = tell_fault(refusal, err);
-    if let Ok(line) = format!(in rt.alloc(); "stabsim: {path}: {error}\n") {
+    let line = match error {
+        Some(error) => format!(in rt.alloc(); "stabsim: {path}: {error}\n"),
+        None => format!(in rt.alloc(); "stabsim: {path}\n"),
+    };
+    if let Ok(line) = line {
         let _ = write_all(err, line.as_bytes());
     }
     status

@@ -8,7 +8,7 @@ mod failure;
 mod shown;
 
 use failure::Failure;
-use shown::{Bits, Row};
+use shown::{Bits, ShownRow};
 use stab_circuit::{Path, read_circuit, read_item};
 use stab_pauli::MemoryInput;
 use stab_session::{Edit, ListCoins, Session, run_once};
@@ -35,7 +35,7 @@ fn main(rt: HostRuntime) -> Result<(), Failure> {
         Err(refused) => return Err(refused.fault.into()),
     };
     for row in session.reduced_rows(alloc)? {
-        println!(rt; "stabilised by {}", Row(&row))?;
+        println!(rt; "stabilised by {}", ShownRow(&row))?;
     }
 
     // An error on qubit 1 before the measurements: which detectors tell of it?

@@ -16,9 +16,9 @@ impl<'a> fmt::Display for Bits<'a> {
 
 /// A signed string of letters.
 #[derive(Drop)]
-pub struct Row<'a>(pub &'a Pauli);
+pub struct ShownRow<'a>(pub &'a Pauli);
 
-impl<'a> fmt::Display for Row<'a> {
+impl<'a> fmt::Display for ShownRow<'a> {
     fn fmt<W: fmt::Write>(&self, f: &mut fmt::Formatter<W>) -> Result<(), fmt::Error> {
         f.write_str(if self.0.is_negative() { "-" } else { "+" })?;
         for qubit in 0..self.0.len() {

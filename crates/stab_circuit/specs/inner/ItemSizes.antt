@@ -1,4 +1,5 @@
 -- Item sizes: a block is deeper than the items in it.
+-- Source: this project's own.
 use Rattle.std.specs.Prelude.{◌+◌, ◌≤◌, max, List, [], ◌∷◌}
 use Rattle.std.proofs.Common.{arith}
 use denote.Param.Weighed.{most}

@@ -1,10 +1,11 @@
 -- Judgements: what an edit comes to, by the summaries that items keep.
+-- Source: this project's own.
 use Rattle.std.specs.Prelude.{◌≡◌, ◌≤◌, ℕ, List, ◌++◌, Option, Some, None, Result, Ok, Err}
-use Rattle.stab_pauli.specs.declared.refusal.Refusal.{Refusal}
-use Rattle.stab_pauli.specs.declared.refusal.Refusal.TheVariants.{PlaceOutOfRange, NotABlock}
+use Rattle.stab_io.specs.declared.refusal.Refusal.{Refusal}
+use Rattle.stab_io.specs.declared.refusal.Refusal.TheVariants.{PlaceOutOfRange, NotABlock}
 use Rattle.stab_circuit.specs.declared.summary.Summary.{Summary}
-use Rattle.stab_circuit.specs.declared.edit.Judgement.{Judgement}
-use Rattle.stab_circuit.specs.declared.edit.Block.{Block}
+use Rattle.stab_circuit.specs.declared.judge.Judgement.{Judgement}
+use Rattle.stab_circuit.specs.declared.judge.Block.{Block}
 use Rattle.stab_circuit.specs.Items.{OneItem, operation, repeat, listed, depth, depth_of}
 use Rattle.stab_circuit.specs.Steps.{Step}
 use Rattle.stab_circuit.specs.inner.Summaries.{summary_of}

@@ -1,4 +1,5 @@
 -- Kept summaries: what an item's node stands for, and what is kept in it.
+-- Source: this project's own.
 use Rattle.std.specs.Prelude.{◌≡◌, ◌≤◌, [], All}
 use Rattle.stab_circuit.specs.declared.item.Node.{Node}
 use Rattle.stab_circuit.specs.declared.item.Node.TheVariants as node

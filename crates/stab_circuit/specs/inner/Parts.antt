@@ -1,4 +1,5 @@
 -- Parts: what a borrowed item shows of itself.
+-- Source: this project's own.
 use Rattle.std.specs.Prelude.{◌≡◌, ◌≤◌}
 use Rattle.stab_circuit.specs.declared.item.Part.{Part}
 use Rattle.stab_circuit.specs.declared.item.Part.TheVariants as part

@@ -1,20 +1,21 @@
 -- Readers: the way over the lines of a text, with a stack of open blocks.
+-- Source: this project's own.
 use Rattle.std.specs.Prelude.{◌≡◌, ◌≤◌, ℕ, ◌+◌, Bool, true, false, List, [], ◌∷◌, nat_lt, length, map, reverse, if◌then◌else◌, Result, Ok, Err, ◌⊎◌}
 use Rattle.std.specs.Global.{Vec}
-use Rattle.stab_pauli.specs.declared.refusal.Refusal.{Refusal}
-use Rattle.stab_pauli.specs.declared.refusal.Refusal.TheVariants.{BadBlock, TooDeep, OutOfMemory}
-use Rattle.stab_pauli.specs.declared.refusal.Fault.{Fault}
-use Rattle.stab_pauli.specs.Refusals.{whole}
+use Rattle.stab_io.specs.declared.refusal.Refusal.{Refusal}
+use Rattle.stab_io.specs.declared.refusal.Refusal.TheVariants.{BadBlock, TooDeep, OutOfMemory}
+use Rattle.stab_io.specs.declared.refusal.Fault.{Fault}
+use Rattle.stab_io.specs.Refusals.{whole}
 use Rattle.stab_lines.specs.declared.meanings.Line.TheVariants.{Blank, Close, Open}
 use Rattle.stab_lines.specs.declared.meanings.Line.TheVariants as line
-use Rattle.stab_circuit.specs.declared.reader.Frame.{Frame as Held}
-use Rattle.stab_circuit.specs.declared.reader.Reader.{Reader}
+use Rattle.stab_circuit.specs.declared.reader.OpenBlock.{OpenBlock as StoredBlock}
+use Rattle.stab_circuit.specs.declared.reader.CircuitReader.{CircuitReader}
 use Rattle.stab_circuit.specs.Items.{Items, OneItem, done, next, block, join, listed, depth}
 use Rattle.stab_lines.specs.Meanings.{meaning_of}
 use Rattle.stab_circuit.specs.Circuits.{Meaning, at_line, meaning_after, one_item, contents}
 
 -- an open block, and the items before it
-pub record Frame : Type 0 where
+pub record OpenBlock : Type 0 where
   pub line : ℕ
   pub count : ℕ
   pub tag : List ℕ
@@ -22,43 +23,43 @@ pub record Frame : Type 0 where
 
 -- what a reader keeps: the open blocks, the innermost first, and the items of that
 pub record Progress : Type 0 where
-  pub frames : List Frame
+  pub open_blocks : List OpenBlock
   pub now : Items
 
 -- an open block without pointers
-abbrev pub frame_of : Held → Frame
-frame_of f = record { line = f.line; count = f.count; tag = f.tag; before = listed f.before.items }
+abbrev pub open_block_of : StoredBlock → OpenBlock
+open_block_of f = record { line = f.line; count = f.count; tag = f.tag; before = listed f.before.items }
 
 -- what a reader keeps, without pointers
-abbrev pub progress_of : Reader → Progress
-progress_of r = record { frames = reverse (map frame_of r.frames.items); now = listed r.items.items }
+abbrev pub progress_of : CircuitReader → Progress
+progress_of r = record { open_blocks = reverse (map open_block_of r.open_blocks.items); now = listed r.items.items }
 
 -- blocks are nested at most 16 deep in what stands before open blocks, the innermost of them first, with those around it
-abbrev pub AreShallow : List Frame → Type 0
+abbrev pub AreShallow : List OpenBlock → Type 0
 AreShallow [] = Unit {0}
 AreShallow (f ∷ fs) = (depth f.before + length fs ≤ 16) × AreShallow fs
 
 -- blocks are nested at most 16 deep in what a reader keeps, with those that are open
-pub record IsShallow (s : Progress) : Type 0 where
-  pub now : depth s.now + length s.frames ≤ 16
-  pub before : AreShallow s.frames
+pub record IsShallowProgress (s : Progress) : Type 0 where
+  pub now : depth s.now + length s.open_blocks ≤ 16
+  pub before : AreShallow s.open_blocks
 
 -- nothing read
-abbrev pub start : Progress
-start = record { frames = []; now = done }
+abbrev pub before_reading : Progress
+before_reading = record { open_blocks = []; now = done }
 
 -- the items with the block that is closed
-abbrev pub closed : Frame → Items → Items
+abbrev pub closed : OpenBlock → Items → Items
 closed f body = join f.before (block f.count f.tag body done)
 
 -- a block is closed
 abbrev pub closing : Progress → Result Progress Refusal
-closing s = elim s.frames [ [] ↦ Err BadBlock | f ∷ fs ↦ Ok (record { frames = fs; now = closed f s.now }) ]
+closing s = elim s.open_blocks [ [] ↦ Err BadBlock | f ∷ fs ↦ Ok (record { open_blocks = fs; now = closed f s.now }) ]
 
 -- a block is opened
 abbrev pub opening : ℕ → ℕ → List ℕ → Progress → Result Progress Refusal
 opening n count tag s =
-    if nat_lt (length s.frames) 16 then Ok (record { frames = record { line = n; count = count; tag = tag; before = s.now } ∷ s.frames; now = done })
+    if nat_lt (length s.open_blocks) 16 then Ok (record { open_blocks = record { line = n; count = count; tag = tag; before = s.now } ∷ s.open_blocks; now = done })
     else Err TooDeep
 
 -- what a line n makes of what was read
@@ -67,7 +68,7 @@ stepped n (Err r) s = Err r
 stepped n (Ok Blank) s = Ok s
 stepped n (Ok Close) s = closing s
 stepped n (Ok (Open count tag)) s = opening n count tag s
-stepped n (Ok (line.Operation op)) s = Ok (record { frames = s.frames; now = join s.now (next op done) })
+stepped n (Ok (line.Operation op)) s = Ok (record { open_blocks = s.open_blocks; now = join s.now (next op done) })
 
 -- the fault of a refusal at a line, where want of memory has none
 abbrev pub line_fault : ℕ → Refusal → Fault
@@ -76,7 +77,7 @@ line_fault n r = at_line n r
 
 -- what is read where no block is open
 abbrev pub finished : Progress → Result Items Fault
-finished s = elim s.frames [ [] ↦ Ok s.now | f ∷ fs ↦ Err (at_line f.line BadBlock) ]
+finished s = elim s.open_blocks [ [] ↦ Ok s.now | f ∷ fs ↦ Err (at_line f.line BadBlock) ]
 
 -- what lines from number n on make of what was read
 abbrev pub read_on : ℕ → Progress → List Meaning → Result Items Fault
@@ -90,7 +91,7 @@ is_some_items items = true
 
 -- whether a whole item was read
 abbrev pub is_whole : Progress → Bool
-is_whole s = elim s.frames [ [] ↦ is_some_items s.now | f ∷ fs ↦ false ]
+is_whole s = elim s.open_blocks [ [] ↦ is_some_items s.now | f ∷ fs ↦ false ]
 
 -- what a content means where perhaps one item alone is read
 abbrev pub meaning_at : Bool → Progress → List ℕ → Meaning
@@ -99,12 +100,12 @@ meaning_at false s content = meaning_of content
 
 -- what the contents mean that are still to be read
 abbrev pub pending : Bool → Progress → List (List ℕ) → List Meaning
-pending true s cs = if is_whole s then map meaning_after cs else one_item (length s.frames) cs
+pending true s cs = if is_whole s then map meaning_after cs else one_item (length s.open_blocks) cs
 pending false s cs = map meaning_of cs
 
 -- what a text is read as, perhaps as one item alone
 abbrev pub reading : Bool → List ℕ → Result Items Fault
-reading single text = read_on 1 start (pending single start (contents text))
+reading single text = read_on 1 before_reading (pending single before_reading (contents text))
 
 -- the call left what the definition gives, or failed as it does, or for want of memory
 abbrev pub TakesLine : {T : Type 0} → Progress → Result T Refusal → Result Progress Refusal → Type 0

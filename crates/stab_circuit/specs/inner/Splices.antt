@@ -1,9 +1,10 @@
 -- Splices: an edit as one exchange of items in the outermost list.
+-- Source: this project's own.
 use Rattle.std.specs.Prelude.{◌≤◌, ℕ, ◌+◌, nat_lt, nat_le, List, [], ◌∷◌, ◌++◌, length, take, drop, slice_get, if◌then◌else◌, Result, Ok, Err}
-use Rattle.stab_pauli.specs.declared.refusal.Refusal.{Refusal}
-use Rattle.stab_pauli.specs.declared.refusal.Refusal.TheVariants.{PlaceOutOfRange}
-use Rattle.stab_circuit.specs.declared.change.Change.{Change}
-use Rattle.stab_circuit.specs.declared.change.Change.TheVariants.{Insert, Replace, Delete}
+use Rattle.stab_io.specs.declared.refusal.Refusal.{Refusal}
+use Rattle.stab_io.specs.declared.refusal.Refusal.TheVariants.{PlaceOutOfRange}
+use Rattle.stab_circuit.specs.declared.edit.Edit.{Edit}
+use Rattle.stab_circuit.specs.declared.edit.Edit.TheVariants.{Insert, Replace, Delete}
 use Rattle.stab_circuit.specs.Items.{OneItem}
 use Rattle.stab_circuit.specs.Edits.{edited_inside, edited_in}
 
@@ -13,21 +14,21 @@ pub record Splice : Type 0 where
   pub behind : ℕ
   pub put : List OneItem
 
--- the splice of a change at a place of a list of so many items
-abbrev pub splice_at : Change → ℕ → ℕ → Result Splice Refusal
-splice_at (Insert x) p n = if nat_le p n then Ok (record { first = p; behind = p; put = x ∷ [] }) else Err PlaceOutOfRange
-splice_at (Replace x) p n = if nat_lt p n then Ok (record { first = p; behind = p + 1; put = x ∷ [] }) else Err PlaceOutOfRange
-splice_at Delete p n = if nat_lt p n then Ok (record { first = p; behind = p + 1; put = [] }) else Err PlaceOutOfRange
+-- the splice of an edit in the innermost list around its place, of so many items
+abbrev pub splice_at : Edit → ℕ → Result Splice Refusal
+splice_at (Insert place x) n = if nat_le place.place n then Ok (record { first = place.place; behind = place.place; put = x ∷ [] }) else Err PlaceOutOfRange
+splice_at (Replace place x) n = if nat_lt place.place n then Ok (record { first = place.place; behind = place.place + 1; put = x ∷ [] }) else Err PlaceOutOfRange
+splice_at (Delete place) n = if nat_lt place.place n then Ok (record { first = place.place; behind = place.place + 1; put = [] }) else Err PlaceOutOfRange
 
 -- the splice of an item that is rebuilt at a place, unless that was refused
 abbrev pub splice_block : ℕ → Result OneItem Refusal → Result Splice Refusal
 splice_block b (Ok x) = Ok (record { first = b; behind = b + 1; put = x ∷ [] })
 splice_block b (Err r) = Err r
 
--- the splice of an edit in the outermost list
-abbrev pub splice_of : Change → List ℕ → ℕ → List OneItem → Result Splice Refusal
-splice_of change [] p xs = splice_at change p (length xs)
-splice_of change (b ∷ bs) p xs = splice_block b (edited_inside (edited_in change bs p) (slice_get xs b))
+-- the splice of an edit in the last of these blocks in the outermost list
+abbrev pub splice_of : Edit → List ℕ → List OneItem → Result Splice Refusal
+splice_of edit [] xs = splice_at edit (length xs)
+splice_of edit (b ∷ bs) xs = splice_block b (edited_inside (edited_in edit bs) (slice_get xs b))
 
 -- a list after a splice, unless that was refused
 abbrev pub spliced : List OneItem → Result Splice Refusal → Result (List OneItem) Refusal

@@ -1,4 +1,5 @@
 -- Items as the logic stores them: as trees of numbers, and no two lists of items as the same tree.
+-- Source: this project's own.
 use Rattle.std.proofs.Common.{◌≡◌, ℕ, ◌-◌, List, refl, sym, ap}
 use Rattle.std.specs.Coded.{Coded, coded_ℕ, coded_list, coded×}
 use base.Stored.{Gv, gnil, gnum, gcons, num}

@@ -1,7 +1,8 @@
 -- Summaries: what checks need to know of items, in numbers that stop growing.
+-- Source: this project's own.
 use Rattle.std.specs.Prelude.{◌≡◌, ◌≢◌, false, ℕ, ◌+◌, ◌*◌, ◌-◌, ◌≤◌, max, min, nat_lt, List, [], ◌∷◌, length, if◌then◌else◌, Option, Some, None}
-use Rattle.stab_pauli.specs.declared.refusal.Refusal.{Refusal}
-use Rattle.stab_pauli.specs.declared.refusal.Refusal.TheVariants.{LookbackTooFar, TooManySteps}
+use Rattle.stab_io.specs.declared.refusal.Refusal.{Refusal}
+use Rattle.stab_io.specs.declared.refusal.Refusal.TheVariants.{LookbackTooFar, TooManySteps}
 use Rattle.stab_tableau.specs.Limits.{most_qubits}
 use Rattle.stab_circuit.specs.declared.summary.Summary.{Summary}
 use Rattle.stab_lines.specs.declared.control.ControlledPair.{ControlledPair}
@@ -34,8 +35,8 @@ reach [] = 0
 reach (s ∷ ss) = max (greatest (lookbacks s)) (reach ss - makes s)
 
 -- the summary of steps that name so many qubits and observables, in so many blocks: up to 1,048,577 steps, 16,777,215 records and 17 blocks
-abbrev pub summed : List Step → ℕ → ℕ → ℕ → Summary
-summed steps qubits observables deep = record {
+abbrev pub steps_summary : List Step → ℕ → ℕ → ℕ → Summary
+steps_summary steps qubits observables deep = record {
   steps = min (length steps) steps_cap;
   records = min (records_of steps) most_lookback;
   reach = reach steps;
@@ -46,11 +47,11 @@ summed steps qubits observables deep = record {
 
 -- the summary of an instruction
 abbrev pub kind_summary_of : Kind → Summary
-kind_summary_of kind = summed (steps_of kind) (past (named_qubits kind)) (past (named_observables kind)) 0
+kind_summary_of kind = steps_summary (steps_of kind) (past (named_qubits kind)) (past (named_observables kind)) 0
 
 -- the summary of items
 abbrev pub summary_of : Items → Summary
-summary_of items = summed (unroll items) (qubits_of items) (observables_of items) (depth items)
+summary_of items = steps_summary (unroll items) (qubits_of items) (observables_of items) (depth items)
 
 -- the qubits of a pair of a controlled gate are different ones
 abbrev pub IsPairApart : ControlledPair → Type 0

@@ -1,4 +1,5 @@
 -- Walks: what is left of the steps at a place within nested blocks.
+-- Source: this project's own.
 use Rattle.std.specs.Prelude.{◌≡◌, ◌<◌, ◌≤◌, ◌^◌, ℕ, ◌+◌, ◌*◌, Bool, true, false, List, [], ◌∷◌, ◌++◌, length, drop, Option, Some, None, slice_index_or, vec_capacity}
 use Rattle.std.specs.Borrow.{Bor}
 use Rattle.stab_lines.specs.declared.operation.Kind.{Kind}

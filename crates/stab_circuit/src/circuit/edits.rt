@@ -1,35 +1,19 @@
 ghost use Rattle.std.specs.Prelude.{◌≡◌, ◌≤◌, ◌<◌, ◌+◌, length, Some, None, OnOk, OnErr, if◌then◌else◌, nat_lt};
-ghost use Rattle.stab_pauli.specs.Refusals.{whole};
-ghost use Rattle.stab_pauli.specs.declared.refusal.Refusal.TheVariants.{QubitOutOfRange};
-ghost use Rattle.stab_circuit.specs.Edits.{put_item, IsInsert};
+ghost use Rattle.stab_io.specs.declared.refusal.Refusal.TheVariants.{QubitOutOfRange};
+ghost use Rattle.stab_circuit.specs.Edits.{IsInsert};
 ghost use Rattle.stab_circuit.specs.inner.Summaries.{judged};
-ghost use Rattle.stab_circuit.specs.inner.Runs.{AreCut};
+ghost use Rattle.stab_circuit.specs.inner.Chunks.{AreChunksOf};
 
 use super::Circuit;
-use crate::change::{Change, Edited, Refused};
+use crate::chunks::{Chunk, find_chunk, make_room, renew};
 use crate::commit::commit;
-use crate::edit::{Outcome, outcome_by_runs, steps_by_runs};
+use crate::edit::{Edit, Refused, Span};
 use crate::item::Item;
+use crate::judge::{EditResult, edit_result_by_chunks, steps_by_chunks};
 use crate::path::Path;
-use crate::runs::{Run, find, make_room, renew};
 use crate::summary::Summary;
-use stab_pauli::{Fault, Refusal};
+use stab_io::{Fault, Refusal};
 use std::alloc::AllocError;
-
-/// A change that is refused, with the item that it would have put in.
-fn refused(change: Change, refusal: Refusal) -> Refused
-    ensures item { result.item ≡ put_item change }
-    ensures fault { result.fault ≡ whole refusal }
-{
-    let item = match change {
-        Change::Insert(item) | Change::Replace(item) => Some(item),
-        Change::Delete => None,
-    };
-    Refused {
-        fault: Fault::whole(refusal),
-        item,
-    }
-}
 
 /// What refuses a whole circuit of this summary on n qubits.
 fn refusal_on(total: Summary, n: usize) -> Option<Refusal>
@@ -42,111 +26,111 @@ fn refusal_on(total: Summary, n: usize) -> Option<Refusal>
     }
 }
 
-/// Sees to it that there is a run for what a change puts in at a place. An insertion alone may
-/// want memory for that.
+/// Sees to it that there is a chunk for what an edit puts in at a place. An insertion alone may want
+/// memory for that.
 fn make_room_for(
-    change: &Change,
-    runs: &mut Vec<Run>,
+    edit: &Edit,
+    chunks: &mut Vec<Chunk>,
     items: &[Item],
     place: usize,
 ) -> Result<(), AllocError>
-    requires cut { AreCut runs.old.items items.now }
+    requires cut { AreChunksOf chunks.old.items items.now }
     requires within { place ≤ length items.now }
-    ensures cut { AreCut runs.new.items items.now }
-    ensures some { OnOk result (IsInsert change.now → 0 < length runs.new.items) }
-    ensures memory { OnErr result (IsInsert change.now) }
+    ensures cut { AreChunksOf chunks.new.items items.now }
+    ensures some { OnOk result (IsInsert edit.now → 0 < length chunks.new.items) }
+    ensures memory { OnErr result (IsInsert edit.now) }
 {
-    match change {
-        Change::Insert(_) => make_room(runs, items, place),
-        Change::Replace(_) | Change::Delete => Ok(()),
+    match edit {
+        Edit::Insert { .. } => make_room(chunks, items, place),
+        Edit::Replace { .. } | Edit::Delete { .. } => Ok(()),
     }
 }
 
 impl Circuit {
-    ghost use Rattle.std.specs.Prelude.{◌≡◌, ◌≤◌, ◌⊎◌, Ok, Some, None, min, OnOk, OnErr, IfOk, IfErr};
-    ghost use Rattle.stab_pauli.specs.Refusals.{whole};
-    ghost use Rattle.stab_pauli.specs.declared.refusal.Refusal.TheVariants.{OutOfMemory};
-    ghost use Rattle.stab_circuit.specs.declared.change.Change.TheVariants.{Insert as inserting, Replace as replacing, Delete as deleting};
+    ghost use Rattle.std.specs.Prelude.{◌≡◌, ◌≢◌, ◌≤◌, Ok, Some, None, min, length, OnOk, OnErr, IfOk, IfErr};
+    ghost use Rattle.stab_io.specs.Refusals.{whole, IsCallFault};
+    ghost use Rattle.stab_io.specs.declared.refusal.Refusal.TheVariants.{OutOfMemory};
+    ghost use Rattle.stab_circuit.specs.declared.edit.Edit.TheVariants.{Insert as inserting, Replace as replacing, Delete as deleting};
     ghost use Rattle.stab_circuit.specs.Steps.{steps_cap};
-    ghost use Rattle.stab_circuit.specs.Edits.{edited, edit_refusal, verdict, taken, put_item, first_changed, IsInsert};
-    ghost use Rattle.stab_circuit.specs.Editings.{TellsSteps, IsVerdict, WantsMemory};
-    ghost use Rattle.stab_circuit.specs.inner.Outcomes.{IsOutcome};
+    ghost use Rattle.stab_circuit.specs.Edits.{edited, edit_path, edit_refusal, verdict, taken, put_item, steps_before, IsInsert};
+    ghost use Rattle.stab_circuit.specs.Editings.{IsSpanOf};
+    ghost use Rattle.stab_circuit.specs.inner.EditResults.{IsEditResult};
 
     /// How many steps stand before the place of a path, in the first round of each block around it,
     /// or 1,048,577 where there are more.
     pub fn steps_before(&self, path: Path) -> usize
-        ensures value { result ≡ min (first_changed path self.now) steps_cap }
+        ensures value { result ≡ min (length (steps_before path self.now)) steps_cap }
     {
         let items = self.items.as_slice();
-        let runs = self.runs.as_slice();
-        steps_by_runs(items, runs, path.blocks(), path.place()) as usize
+        let chunks = self.chunks.as_slice();
+        steps_by_chunks(items, chunks, path.blocks(), path.place()) as usize
     }
 
-    /// What the circuit comes to by a change at a path, where neither the path nor the depth of
-    /// blocks refuses it.
-    fn judged(&self, path: Path, change: &Change) -> Result<Outcome, Refusal>
-        ensures ok { IfOk result (IsOutcome change.now path self.now) }
-        ensures shallow { IfOk result (λ outcome. outcome.total.depth ≤ 16) }
-        ensures allowed { OnOk result (edit_refusal (edited change.now path self.now) ≡ None) }
-        ensures refused { IfErr result (λ r. edit_refusal (edited change.now path self.now) ≡ Some r) }
+    /// What the circuit comes to by an edit, or what refuses that: its path, and then the depth of
+    /// blocks.
+    fn judge(&self, edit: &Edit) -> Result<EditResult, Refusal>
+        ensures ok { IfOk result (IsEditResult edit.now (edit_path edit.now).blocks self.now) }
+        ensures shallow { IfOk result (λ edit_result. edit_result.total.depth ≤ 16) }
+        ensures allowed { OnOk result (edit_refusal edit.now self.now ≡ None) }
+        ensures refused { IfErr result (λ r. edit_refusal edit.now self.now ≡ Some r) }
     {
-        let items = self.items.as_slice();
-        let runs = self.runs.as_slice();
-        match outcome_by_runs(items, runs, path.blocks(), path.place(), change) {
-            Err(refusal) => Err(refusal),
-            Ok(outcome) if outcome.total.depth > 16 => Err(Refusal::TooDeep),
-            Ok(outcome) => Ok(outcome),
+        let edit_result = edit_result_by_chunks(
+            self.items.as_slice(),
+            self.chunks.as_slice(),
+            edit,
+        )?;
+        if edit_result.total.depth > 16 {
+            return Err(Refusal::TooDeep);
         }
+        Ok(edit_result)
     }
 
-    /// Makes a change by which the circuit comes to this.
-    fn make(
-        &mut self,
-        path: Path,
-        change: Change,
-        outcome: Outcome,
-    ) -> Result<Option<Item>, Refused>
-        requires judged { IsOutcome change path self.old outcome }
-        requires shallow { outcome.total.depth ≤ 16 }
-        ensures ok { OnOk result (edited change path self.old ≡ Ok self.new) }
-        ensures taken { IfOk result (λ old. old ≡ taken change path self.old) }
+    /// Makes an edit by which the circuit comes to this.
+    fn make(&mut self, edit: Edit, edit_result: EditResult) -> Result<Option<Item>, Refused>
+        requires judged { IsEditResult edit (edit_path edit).blocks self.old edit_result }
+        requires shallow { edit_result.total.depth ≤ 16 }
+        ensures ok { OnOk result (edited edit self.old ≡ Ok self.new) }
+        ensures taken { IfOk result (λ old. old ≡ taken edit self.old) }
         ensures unchanged { OnErr result (self.new ≡ self.old) }
-        ensures item { IfErr result (λ r. r.item ≡ put_item change) }
+        ensures item { IfErr result (λ r. r.item ≡ put_item edit) }
         ensures fault { IfErr result (λ r. r.fault ≡ whole OutOfMemory) }
-        ensures memory { OnErr result (IsInsert change) }
+        ensures memory { OnErr result (IsInsert edit) }
     {
         let items = self.items.len();
         let Ok(()) = make_room_for(
-            &change,
-            &mut self.runs,
+            &edit,
+            &mut self.chunks,
             self.items.as_slice(),
-            outcome.behind,
+            edit_result.behind,
         ) else {
-            return Err(refused(change, Refusal::OutOfMemory));
+            return Err(edit.refused(Refusal::OutOfMemory));
         };
-        let found = find(self.runs.as_slice(), outcome.behind);
+        let found = find_chunk(self.chunks.as_slice(), edit_result.behind);
         let behind = items - found.end;
-        match commit(&mut self.items, path.blocks(), path.place(), change) {
+        let path = edit.path();
+        match commit(&mut self.items, path.blocks(), edit) {
             Ok(taken) => {
-                renew(&mut self.runs, self.items.as_slice(), found, behind);
-                self.total = outcome.total;
+                renew(&mut self.chunks, self.items.as_slice(), found, behind);
+                self.total = edit_result.total;
                 Ok(taken)
             }
-            Err(change) => Err(refused(change, Refusal::OutOfMemory)),
+            Err(edit) => Err(edit.refused(Refusal::OutOfMemory)),
         }
     }
 
-    /// Makes a change at a path, where neither the path nor the depth of blocks refuses it.
-    fn change(&mut self, path: Path, change: Change) -> Result<Option<Item>, Refused>
-        ensures ok { OnOk result (edited change path self.old ≡ Ok self.new) }
-        ensures taken { IfOk result (λ old. old ≡ taken change path self.old) }
+    /// Makes an edit, whatever the circuit that it leaves, and gives the item that it takes out.
+    #[tactic(auto, using(crate::proofs::EditingLemmas::call_fault, crate::proofs::EditingLemmas::want_fault, crate::proofs::EditingLemmas::no_want))]
+    fn edit_alone(&mut self, edit: Edit) -> Result<Option<Item>, Refused>
+        ensures ok { OnOk result (edited edit self.old ≡ Ok self.new) }
+        ensures taken { IfOk result (λ old. old ≡ taken edit self.old) }
         ensures unchanged { OnErr result (self.new ≡ self.old) }
-        ensures item { IfErr result (λ r. r.item ≡ put_item change) }
-        ensures fault { IfErr result (λ r. IsVerdict (edit_refusal (edited change path self.old)) r.fault ⊎ WantsMemory change (edit_refusal (edited change path self.old)) r.fault) }
+        ensures item { IfErr result (λ r. r.item ≡ put_item edit) }
+        ensures fault { IfErr result (λ r. IsCallFault (edit_refusal edit self.old) r.fault) }
+        ensures memory { OnErr result (edit_refusal edit self.old ≡ None → IsInsert edit) }
     {
-        match self.judged(path, &change) {
-            Err(refusal) => Err(refused(change, refusal)),
-            Ok(outcome) => self.make(path, change, outcome),
+        match self.judge(&edit) {
+            Err(refusal) => Err(edit.refused(refusal)),
+            Ok(edit_result) => self.make(edit, edit_result),
         }
     }
 
@@ -155,15 +139,13 @@ impl Circuit {
     /// Refused without a line: 12 and 17 along the path, 10 where blocks would be nested over 16
     /// deep, 20. The item then comes back, and the circuit is as before.
     pub fn insert(&mut self, path: Path, item: Item) -> Result<(), Refused>
-        ensures ok { OnOk result (edited (inserting item) path self.old ≡ Ok self.new) }
+        ensures ok { OnOk result (edited (inserting path item) self.old ≡ Ok self.new) }
         ensures unchanged { OnErr result (self.new ≡ self.old) }
         ensures item { IfErr result (λ r. r.item ≡ Some item) }
-        ensures fault { IfErr result (λ r. IsVerdict (edit_refusal (edited (inserting item) path self.old)) r.fault ⊎ WantsMemory (inserting item) (edit_refusal (edited (inserting item) path self.old)) r.fault) }
+        ensures fault { IfErr result (λ r. IsCallFault (edit_refusal (inserting path item) self.old) r.fault) }
     {
-        match self.change(path, Change::Insert(item)) {
-            Ok(_) => Ok(()),
-            Err(refused) => Err(refused),
-        }
+        self.edit_alone(Edit::Insert { place: path, item })?;
+        Ok(())
     }
 
     /// Puts an item in the stead of the one at a path, and gives the old one. It takes no memory.
@@ -171,13 +153,14 @@ impl Circuit {
     /// Refused without a line: 12 and 17 along the path, 10 where blocks would be nested over 16
     /// deep. The new item then comes back, and the circuit is as before.
     pub fn replace(&mut self, path: Path, item: Item) -> Result<Item, Refused>
-        ensures ok { OnOk result (edited (replacing item) path self.old ≡ Ok self.new) }
-        ensures taken { IfOk result (λ old. taken (replacing item) path self.old ≡ Some old) }
+        ensures ok { OnOk result (edited (replacing path item) self.old ≡ Ok self.new) }
+        ensures taken { IfOk result (λ old. taken (replacing path item) self.old ≡ Some old) }
         ensures unchanged { OnErr result (self.new ≡ self.old) }
         ensures item { IfErr result (λ r. r.item ≡ Some item) }
-        ensures fault { IfErr result (λ r. IsVerdict (edit_refusal (edited (replacing item) path self.old)) r.fault) }
+        ensures fault { IfErr result (λ r. IsCallFault (edit_refusal (replacing path item) self.old) r.fault) }
+        ensures no_memory { OnErr result (edit_refusal (replacing path item) self.old ≢ None) }
     {
-        match self.change(path, Change::Replace(item)) {
+        match self.edit_alone(Edit::Replace { place: path, item }) {
             Ok(Some(old)) => Ok(old),
             Ok(None) => unreachable!(),
             Err(refused) => Err(refused),
@@ -188,47 +171,51 @@ impl Circuit {
     ///
     /// Refused without a line: 12 and 17 along the path. The circuit is then as before.
     pub fn delete(&mut self, path: Path) -> Result<Item, Fault>
-        ensures ok { OnOk result (edited deleting path self.old ≡ Ok self.new) }
-        ensures taken { IfOk result (λ old. taken deleting path self.old ≡ Some old) }
+        ensures ok { OnOk result (edited (deleting path) self.old ≡ Ok self.new) }
+        ensures taken { IfOk result (λ old. taken (deleting path) self.old ≡ Some old) }
         ensures unchanged { OnErr result (self.new ≡ self.old) }
-        ensures fault { IfErr result (λ f. IsVerdict (edit_refusal (edited deleting path self.old)) f) }
+        ensures fault { IfErr result (λ f. IsCallFault (edit_refusal (deleting path) self.old) f) }
+        ensures no_memory { OnErr result (edit_refusal (deleting path) self.old ≢ None) }
     {
-        match self.change(path, Change::Delete) {
+        match self.edit_alone(Edit::Delete { place: path }) {
             Ok(Some(old)) => Ok(old),
             Ok(None) => unreachable!(),
             Err(refused) => Err(refused.fault),
         }
     }
 
-    /// Makes a change at a path, where nothing refuses the circuit on n qubits that it leaves.
+    /// Makes an edit, where nothing refuses the circuit on n qubits that it leaves, and tells which
+    /// steps it changed, with the item that it took out.
     ///
     /// Refused without a line: 12 and 17 along the path, 10 where blocks would be nested over 16
     /// deep, then what `check` refuses the edited circuit for, and 20 for an insertion alone. The
     /// item then comes back, and the circuit is as before.
-    pub fn edit(&mut self, n: usize, path: Path, change: Change) -> Result<Edited, Refused>
-        ensures ok { OnOk result (edited change path self.old ≡ Ok self.new) }
-        ensures allowed { OnOk result (verdict n (edited change path self.old) ≡ None) }
-        ensures taken { IfOk result (λ told. told.taken ≡ taken change path self.old) }
-        ensures steps { IfOk result (λ told. TellsSteps change path self.old self.new told) }
+    #[tactic(auto, using(crate::proofs::EditingLemmas::refused_on, crate::proofs::EditingLemmas::no_want_on))]
+    pub fn edit(&mut self, n: usize, edit: Edit) -> Result<(Span, Option<Item>), Refused>
+        ensures ok { OnOk result (edited edit self.old ≡ Ok self.new) }
+        ensures allowed { OnOk result (verdict n edit self.old ≡ None) }
+        ensures taken { IfOk result (λ done. done.1 ≡ taken edit self.old) }
+        ensures steps { IfOk result (λ done. IsSpanOf edit self.old self.new done.0) }
         ensures unchanged { OnErr result (self.new ≡ self.old) }
-        ensures item { IfErr result (λ r. r.item ≡ put_item change) }
-        ensures fault { IfErr result (λ r. IsVerdict (verdict n (edited change path self.old)) r.fault ⊎ WantsMemory change (verdict n (edited change path self.old)) r.fault) }
+        ensures item { IfErr result (λ r. r.item ≡ put_item edit) }
+        ensures fault { IfErr result (λ r. IsCallFault (verdict n edit self.old) r.fault) }
+        ensures memory { OnErr result (verdict n edit self.old ≡ None → IsInsert edit) }
     {
-        let outcome = match self.judged(path, &change) {
-            Err(refusal) => return Err(refused(change, refusal)),
-            Ok(outcome) => outcome,
+        let edit_result = match self.judge(&edit) {
+            Err(refusal) => return Err(edit.refused(refusal)),
+            Ok(edit_result) => edit_result,
         };
-        if let Some(refusal) = refusal_on(outcome.total, n) {
-            return Err(refused(change, refusal));
+        if let Some(refusal) = refusal_on(edit_result.total, n) {
+            return Err(edit.refused(refusal));
         }
-        match self.make(path, change, outcome) {
+        let span = Span {
+            first: edit_result.first as usize,
+            old_end: edit_result.old_end as usize,
+            new_end: edit_result.new_end as usize,
+        };
+        match self.make(edit, edit_result) {
+            Ok(taken) => Ok((span, taken)),
             Err(refused) => Err(refused),
-            Ok(taken) => Ok(Edited {
-                taken,
-                first: outcome.first as usize,
-                old_end: outcome.old_end as usize,
-                new_end: outcome.new_end as usize,
-            }),
         }
     }
 }

@@ -1,12 +1,12 @@
 //! The commands of the program and their options, as the command line reader is told of them.
 ghost use Rattle.std.specs.Prelude.{IfOk};
 ghost use Rattle.clap.specs.Words.{App};
-ghost use Rattle.stab_cli.specs.Options.{alone, edit, flag, named, numbered, ranged, shot_command, stabilisers, stabsim, valued};
-ghost use Rattle.stab_cli.specs.inner.Parts.{IsApp, IsOption, with_common};
+ghost use Rattle.stab_cli.specs.Options.{alone, check, edit, flag, named, numbered, ranged, shot_command, stabilisers, stabsim, valued};
+ghost use Rattle.stab_cli.specs.inner.Parts.{IsApp, IsOption, with_common, with_files};
 
 use clap::builder::ValueParser;
 use clap::{Arg, ArgAction, Command};
-use stab_commands::{Qubits, Shots, Stride};
+use stab_commands::{QubitCount, Shots, Stride};
 use std::alloc::{AllocError, Global};
 
 /// The names of the result formats.
@@ -23,9 +23,16 @@ const ABOUT_DETECT: &str = "Writes the detectors of each shot of a circuit";
 
 const ABOUT_STABILISERS: &str = "Writes the stabilisers of the state that a circuit leaves";
 
+const ABOUT_CHECK: &str = "Says what a circuit is, or what is wrong with it and where";
+
 const ABOUT_EDIT: &str = "Edits a circuit by a script, and writes the reply to each line";
 
 const AFTER: &str = "\
+A circuit is Stim's circuit text without noise (docs/circuit-text.md), of at most 1024 qubits and 1048576
+steps once its blocks are written out. Without --in it is read from standard input, but for `edit`, whose
+circuit is then empty. The status is 0 without a fault, 1 where a circuit, a file, a pipe or memory was
+refused, and 2 where the words are wrong; `edit` ends with 3 where it refused a line of its script.
+
 Example, at the top of the repository:
   ./stabsim sample --shots 3 --in examples/bell.stim
 
@@ -54,6 +61,7 @@ Example, at the top of the repository:
   ./stabsim stabilisers --in examples/steane_code.stim
 
 Rows are reduced: circuits that lead to the same state are written alike. See docs/stabilisers.md.
+The command is found as `stabilizers` too.
 Refusals, by number and name, are explained in docs/refusals.md, and coins in docs/coins.md.
 ";
 
@@ -64,31 +72,50 @@ another one, or into the empty circuit, ask for them by --qubits, or it is refus
 where a line of the script was refused.
 
   insert 0 H 0          puts an item in before item 0; behind all where the place is their number
+  insert 1 REPEAT 3 {   puts in a block, whose lines follow, up to the } that closes it
   replace 3 CX 0 1      puts an item in the stead of item 3
   delete 2/0            takes out item 0 of the block that is item 2
-  show measurements     the records; also: show free, show detectors, show observables
+  show measurements     the records
+  show free             1 for each measured or reset target whose outcome a coin decided
+  show detectors        their bits
+  show observables      their bits
   show stabilisers      the reduced rows, one a line
   show circuit          the circuit as it is now
 
-Examples, at the top of the repository:
-  ./stabsim edit --qubits 2
+Examples, at the top of the repository; without --qubits 1 the first line of the first is refused 6:
+  printf 'insert 0 X 0\\ninsert 1 M 0\\nshow measurements\\n' | ./stabsim edit --qubits 1
   ./stabsim edit --in examples/repetition_code.stim < examples/inserted_x.script
 
 Scripts are explained in docs/editing.md, refusals in docs/refusals.md, and coins in docs/coins.md.
 ";
 
+const AFTER_CHECK: &str = "\
+Examples, at the top of the repository:
+  ./stabsim check --in examples/steane_code.stim
+  printf 'H 0\\nFOO 1\\n' | ./stabsim check
+
+It writes how many qubits, items, steps, records, detectors, observables and coins the circuit has, a line
+each, and runs nothing. Of a circuit that is refused it writes what is wrong and where; the refusal itself
+goes to standard error, as with every command, and the status is 1.
+Refusals, by number and name, are explained in docs/refusals.md.
+";
+
 const HELP_SHOTS: &str = "How many shots, from 0 to 1000000";
 
-const HELP_FORMAT: &str = "The result format";
+const HELP_FORMAT: &str = "The result format, as docs/result-formats.md explains it";
 
 const HELP_SEED: &str = "The seed of the coins that decide free outcomes";
 
 const HELP_COINS: &str = "The coins of each shot, as characters 0 and 1; the seed is then ignored";
 
+const HELP_COINS_IN: &str = "Reads the coins of each shot from a file of characters 0 and 1, \
+    at most 16777216 bytes, in place of --coins; the seed is then ignored";
+
 const HELP_IN: &str = "Reads the circuit from a file in place of standard input";
 
 const HELP_OUT: &str =
-    "Writes to a file in place of standard output; an older one is kept until there is output";
+    "Writes to a file in place of standard output, and never to one that is read; \
+    an older one is kept until there is output, so also by a run that is refused";
 
 const HELP_APPEND: &str = "Appends the observables to the detectors";
 
@@ -96,7 +123,8 @@ const HELP_QUBITS: &str =
     "How many qubits, from 0 to 1024; those that the circuit names if not given";
 
 const HELP_STRIDE: &str = "How many steps lie between two checkpoints, from 1 to 65536: \
-    fewer take more memory and make edits shorter, and change no reply";
+    fewer take more memory and make edits shorter, and change no reply. The default suits circuits \
+    up to the limits; at 1 a session of a million steps took 9.9 GB";
 
 /// An option `--id` with a value.
 fn valued<'a>(alloc: Global, id: &'a str, value: &'a str, help: &'a str) -> Arg<'a>
@@ -152,14 +180,23 @@ fn flag<'a>(alloc: Global, id: &'a str, help: &'a str) -> Arg<'a>
 }
 
 /// A command with the options of every command behind its own.
+fn with_files<'a>(alloc: Global, command: Command<'a>) -> Result<Command<'a>, AllocError>
+    ensures app { (app : App) → IsApp app command.entry → IfOk result (IsApp (with_files app)) }
+{
+    command
+        .arg(valued(alloc, "in", "FILE", HELP_IN))?
+        .arg(valued(alloc, "out", "FILE", HELP_OUT))
+}
+
+/// A command with the options of one that runs a circuit behind its own.
 fn with_common<'a>(alloc: Global, command: Command<'a>) -> Result<Command<'a>, AllocError>
     ensures app { (app : App) → IsApp app command.entry → IfOk result (IsApp (with_common app)) }
 {
-    command
+    let command = command
         .arg(numbered(alloc, "seed", 0, u64::MAX, "0", HELP_SEED))?
         .arg(valued(alloc, "coins", "TEXT", HELP_COINS))?
-        .arg(valued(alloc, "in", "FILE", HELP_IN))?
-        .arg(valued(alloc, "out", "FILE", HELP_OUT))
+        .arg(valued(alloc, "coins_in", "FILE", HELP_COINS_IN))?;
+    with_files(alloc, command)
 }
 
 /// A command that takes shots, with the options of all such commands.
@@ -180,13 +217,14 @@ fn shot_command<'a>(
     with_common(alloc, command)
 }
 
-/// The command `stabilisers`, which takes no shots.
+/// The command `stabilisers`, which takes no shots, and which is found by another spelling too.
 fn stabilisers_command<'a>(alloc: Global) -> Result<Command<'a>, AllocError>
     ensures app { IfOk result (IsApp (alone stabilisers)) }
 {
     let command = Command::new(alloc, "stabilisers")
         .about(ABOUT_STABILISERS)
-        .after_help(AFTER_STABILISERS);
+        .after_help(AFTER_STABILISERS)
+        .alias("stabilizers")?;
     with_common(alloc, command)
 }
 
@@ -197,9 +235,19 @@ fn edit_command<'a>(alloc: Global) -> Result<Command<'a>, AllocError>
     let command = Command::new(alloc, "edit")
         .about(ABOUT_EDIT)
         .after_help(AFTER_EDIT)
-        .arg(ranged(alloc, "qubits", 0, Qubits::MOST as u64, HELP_QUBITS))?
+        .arg(ranged(alloc, "qubits", 0, QubitCount::MOST as u64, HELP_QUBITS))?
         .arg(numbered(alloc, "stride", 1, Stride::MOST as u64, "8192", HELP_STRIDE))?;
     with_common(alloc, command)
+}
+
+/// The command `check`, which takes no coins.
+fn check_command<'a>(alloc: Global) -> Result<Command<'a>, AllocError>
+    ensures app { IfOk result (IsApp (alone check)) }
+{
+    let command = Command::new(alloc, "check")
+        .about(ABOUT_CHECK)
+        .after_help(AFTER_CHECK);
+    with_files(alloc, command)
 }
 
 /// The program with its commands.
@@ -211,6 +259,7 @@ pub(crate) fn app<'a>(alloc: Global, formats: &'a [&'a str]) -> Result<Command<'
     let detect = shot_command(alloc, "detect", ABOUT_DETECT, AFTER_DETECT, formats)?.arg(append)?;
     let stabilisers = stabilisers_command(alloc)?;
     let edit = edit_command(alloc)?;
+    let check = check_command(alloc)?;
     Command::new(alloc, "stabsim")
         .version(VERSION)
         .about(ABOUT)
@@ -219,5 +268,6 @@ pub(crate) fn app<'a>(alloc: Global, formats: &'a [&'a str]) -> Result<Command<'
         .subcommand(sample)?
         .subcommand(detect)?
         .subcommand(stabilisers)?
-        .subcommand(edit)
+        .subcommand(edit)?
+        .subcommand(check)
 }

@@ -1,22 +1,23 @@
 //! What the words say to each option.
-ghost use Rattle.std.specs.Prelude.{◌≡◌, ℕ, Bool, true, List, Option, Some, None, IfOk, IfErr, IfSome, IfNone, option_map, codes, string_bytes};
+ghost use Rattle.std.specs.Prelude.{◌≡◌, ℕ, Option, Some, None, IfOk, IfErr, IfSome, IfNone, option_map, codes, string_bytes};
 ghost use Rattle.clap.specs.Words.{IsUnsignedIn, first_of, found_of, has_subcommand, one_of, rows_of, subcommand_rows_of};
 ghost use Rattle.stab_tableau.specs.Limits.{most_qubits};
 ghost use Rattle.stab_session.specs.Limits.{most_stride};
 ghost use Rattle.stab_commands.specs.Limits.{most_shots};
-ghost use Rattle.stab_cli.specs.Asked.{IsCommand, IsJob, IsNamed, IsSet, IsSource, IsWritten, IsWrittenIfGiven, RefusesCoins, coin_character, coin_text};
+ghost use Rattle.stab_cli.specs.Asked.{IsCommand, IsJob, IsNamed, IsSet, IsSource, IsWritten, IsWrittenIfGiven, RefusesCoins};
 ghost use Rattle.stab_cli.specs.Options.{most_seed};
 ghost use Rattle.stab_cli.specs.declared.words.Usage.{Usage};
 ghost use Rattle.stab_cli.specs.inner.Parts.{IsCommandName};
 
+use crate::coins::{NO_COINS, coins_of};
 use crate::words::Usage;
 use clap::ArgMatches;
-use stab_commands::{Command, Job, Qubits, Shots, Source, Stride};
+use stab_commands::{Command, Job, QubitCount, Shots, Source, Stride};
 use stab_results::Format;
 use std::alloc::{AllocError, Global};
 
-// What is told of coins that are no coins.
-const NO_COINS: &str = "stabsim: coins are 0 and 1\n";
+// What is told of coins that are given twice.
+const COINS_TWICE: &str = "stabsim: coins are given by --coins or by --coins_in, and not by both\n";
 
 /// What the words say to an option, or its default.
 fn text<'a>(options: &ArgMatches<'a>, id: &str) -> Option<&'a str>
@@ -65,11 +66,11 @@ fn shots(options: &ArgMatches) -> Shots
 }
 
 /// The number of `--qubits`, if it is given. The command line reader takes no other number.
-fn qubits(options: &ArgMatches) -> Option<Qubits>
+fn qubits(options: &ArgMatches) -> Option<QubitCount>
     ensures written { IsWrittenIfGiven 0 most_qubits (one_of (codes "qubits") (rows_of (found_of options.now))) result }
 {
     match number(options, "qubits") {
-        Some(number) if number <= Qubits::MOST as u64 => Some(Qubits::new(number as usize)),
+        Some(number) if number <= QubitCount::MOST as u64 => Some(QubitCount::new(number as usize)),
         _ => None,
     }
 }
@@ -86,44 +87,20 @@ fn stride(options: &ArgMatches) -> Stride
     }
 }
 
-/// The coin that a character writes.
-fn coin(character: u8) -> Option<bool>
-    ensures some { IfSome result (λ coin. character ≡ coin_character coin) }
-    ensures none { IfNone result ((coin : Bool) → character ≡ coin_character coin → ⊥) }
-{
-    match character {
-        b'0' => Some(false),
-        b'1' => Some(true),
-        _ => None,
-    }
-}
-
-/// The coins that a text writes, or `None` where one of its characters is neither 0 nor 1.
-fn coins(alloc: Global, text: &str) -> Result<Option<Vec<bool>>, AllocError>
-    ensures some { IfOk result (λ r. IfSome r (λ list. text.now ≡ coin_text list.items)) }
-    ensures none { IfOk result (λ r. IfNone r ((list : List Bool) → text.now ≡ coin_text list → ⊥)) }
-{
-    let mut coins = Vec::with_capacity(alloc, text.len())?;
-    for byte in text.as_bytes() {
-        let Some(coin) = coin(*byte) else {
-            return Ok(None);
-        };
-        coins.push(coin)?;
-    }
-    Ok(Some(coins))
-}
-
-/// The source of coins: what `--coins` writes or, where it isn't there, `--seed`.
+/// The source of coins: what `--coins` writes, no coins yet where `--coins_in` names a file of them, and
+/// `--seed` where neither is there.
 fn source(alloc: Global, options: &ArgMatches) -> Result<Source, Usage>
-    ensures source { IfOk result (IsSource (first_of (codes "coins") (rows_of (found_of options.now))) (one_of (codes "seed") (rows_of (found_of options.now)))) }
-    ensures refused { IfErr result (RefusesCoins (first_of (codes "coins") (rows_of (found_of options.now)))) }
+    ensures source { IfOk result (IsSource (first_of (codes "coins") (rows_of (found_of options.now))) (first_of (codes "coins_in") (rows_of (found_of options.now))) (one_of (codes "seed") (rows_of (found_of options.now)))) }
+    ensures refused { IfErr result (RefusesCoins (first_of (codes "coins") (rows_of (found_of options.now))) (first_of (codes "coins_in") (rows_of (found_of options.now)))) }
 {
-    let Some(text) = text(options, "coins") else {
-        return Ok(Source::Seed(number(options, "seed").unwrap_or(0)));
-    };
-    match coins(alloc, text)? {
-        Some(list) => Ok(Source::List(list)),
-        None => Err(Usage::Fault(String::from_str(alloc, NO_COINS)?)),
+    match (text(options, "coins"), text(options, "coins_in")) {
+        (Some(_), Some(_)) => Err(Usage::Fault(String::from_str(alloc, COINS_TWICE)?)),
+        (Some(text), None) => match coins_of(alloc, text.as_bytes())? {
+            Some(list) => Ok(Source::List(list)),
+            None => Err(Usage::Fault(String::from_str(alloc, NO_COINS)?)),
+        },
+        (None, Some(_)) => Ok(Source::List(Vec::new(alloc))),
+        (None, None) => Ok(Source::Seed(number(options, "seed").unwrap_or(0))),
     }
 }
 
@@ -153,6 +130,7 @@ fn command(name: &str, options: &ArgMatches) -> Command
             append: flag(options, "append_observables"),
         },
         "stabilisers" => Command::Stabilisers,
+        "check" => Command::Check,
         _ => Command::Edit {
             qubits: qubits(options),
             stride: stride(options),
@@ -164,11 +142,12 @@ fn command(name: &str, options: &ArgMatches) -> Command
 pub(crate) fn job(alloc: Global, name: &str, options: &ArgMatches) -> Result<Job, Usage>
     requires named { IsCommandName name.now }
     ensures job { IfOk result (IsJob name.now (rows_of (found_of options.now))) }
-    ensures refused { IfErr result (RefusesCoins (first_of (codes "coins") (rows_of (found_of options.now)))) }
+    ensures refused { IfErr result (RefusesCoins (first_of (codes "coins") (rows_of (found_of options.now))) (first_of (codes "coins_in") (rows_of (found_of options.now)))) }
 {
     Ok(Job {
         command: command(name, options),
         source: source(alloc, options)?,
+        coins_path: path(alloc, options, "coins_in")?,
         in_path: path(alloc, options, "in")?,
         out_path: path(alloc, options, "out")?,
     })

@@ -1,13 +1,14 @@
 -- Editors: what a call leaves that answers requests, one after another, and writes each reply.
+-- Source: this project's own.
 use Rattle.std.specs.Prelude.{◌≡◌, Bool, ◌||◌, List, ◌++◌, ◌⊎◌, Result, Ok, Err}
-use Rattle.stab_pauli.specs.Devices.{OutputView, Took, CutOff}
-use Rattle.stab_pauli.specs.declared.refusal.Fault.{Fault}
-use Rattle.stab_pauli.specs.declared.refusal.Refusal.TheVariants.{WriteFault}
-use Rattle.stab_pauli.specs.Refusals.{whole}
+use Rattle.stab_io.specs.Devices.{OutputView, Took, CutOff}
+use Rattle.stab_io.specs.declared.refusal.Fault.{Fault}
+use Rattle.stab_io.specs.declared.refusal.Refusal.TheVariants.{WriteFault}
+use Rattle.stab_io.specs.Refusals.{whole}
 use Rattle.stab_circuit.specs.Items.{Items}
 use Rattle.stab_commands.specs.Endings.{TookAndFlushed, TookAndFlushFailed}
-use Rattle.stab_commands.specs.declared.editor.Editor.{Editor}
-use Rattle.stab_commands.specs.Scripts.{Setting, Request, Answer, IsAnswerToAll}
+use Rattle.stab_commands.specs.declared.script.editor.Editor.{Editor}
+use Rattle.stab_commands.specs.script.Scripts.{Setting, Request, Answer, IsAnswerToAll}
 
 -- what answers are made from: the setting, the items now, and whether a line was refused so far
 pub record Sitting : Type 0 where
@@ -40,9 +41,9 @@ pub record ToldSome (old : Sitting) (requests : List Request) (o o' : OutputView
   pub cut : CutOff o o' answer.reply f
 
 -- a call answers requests
-abbrev pub Tells : {T : Type 0} → Sitting → Sitting → List Request → OutputView → OutputView → Result T Fault → Type 0
-Tells old new requests o o' (Ok x) = Told old new requests o o'
-Tells old new requests o o' (Err f) = ToldSome old requests o o' f
+abbrev pub AnswersRequests : {T : Type 0} → Sitting → Sitting → List Request → OutputView → OutputView → Result T Fault → Type 0
+AnswersRequests old new requests o o' (Ok x) = Told old new requests o o'
+AnswersRequests old new requests o o' (Err f) = ToldSome old requests o o' f
 
 -- the requests were answered and the replies written, and the one flush behind them failed
 pub record FlushFails (old : Sitting) (requests : List Request) (o o' : OutputView) (f : Fault) : Type 0 where

@@ -1,6 +1,7 @@
 -- Replies: what contracts see of a reply while it is gathered.
+-- Source: this project's own.
 use Rattle.std.specs.Prelude.{ℕ, true, List, []}
-use Rattle.stab_pauli.specs.Devices.{OutputView}
+use Rattle.stab_io.specs.Devices.{OutputView}
 
 -- the bytes so far, and how many flushes and failed calls there were
 pub record ReplyBytes : Type 0 where

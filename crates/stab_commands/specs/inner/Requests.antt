@@ -1,20 +1,21 @@
 -- Requests: what contracts see of the code's own forms of requests and of what is gathered.
+-- Source: this project's own.
 use Rattle.std.specs.Prelude.{List, ℕ, [], ◌∷◌, Option, Some, None}
-use Rattle.stab_commands.specs.Scripts.{Request, put, delete, show, refuse, Gathering}
+use Rattle.stab_commands.specs.script.Scripts.{Request, put, delete, show, refuse, Gathering}
 use Rattle.stab_commands.specs.declared.script.request.Request.{Request as Asked}
 use Rattle.stab_commands.specs.declared.script.request.Request.TheVariants as asks
 
 -- what the code's request asks for
-abbrev pub asked : Asked → Request
-asked (asks.Put edit place text) = put edit place text.items
-asked (asks.Delete place) = delete place
-asked (asks.Show what) = show what
-asked (asks.Refuse r) = refuse r
+abbrev pub request_asked : Asked → Request
+request_asked (asks.Put edit place text) = put edit place text.items
+request_asked (asks.Delete place) = delete place
+request_asked (asks.Show what) = show what
+request_asked (asks.Refuse r) = refuse r
 
 -- the request, where there is one
 abbrev pub asked_if_any : Option Asked → List Request
 asked_if_any None = []
-asked_if_any (Some request) = asked request ∷ []
+asked_if_any (Some request) = request_asked request ∷ []
 
 -- how many blocks are open in what is gathered
 abbrev pub opened_in : Option Gathering → ℕ

@@ -1,10 +1,11 @@
 -- Sendings: what is shown of a run, and what a call leaves of an output to which it sends bytes without a flush.
+-- Source: this project's own.
 use Rattle.std.specs.Prelude.{◌≡◌, ℕ, true, false, List, Result, Ok, Err}
-use Rattle.stab_pauli.specs.Devices.{OutputView, Took, CutOff}
+use Rattle.stab_io.specs.Devices.{OutputView, Took, CutOff, Flushed, FlushFailed}
 use Rattle.stab_pauli.specs.Paulis.{Signed}
-use Rattle.stab_pauli.specs.Refusals.{whole}
-use Rattle.stab_pauli.specs.declared.refusal.Refusal.TheVariants.{WriteFault}
-use Rattle.stab_pauli.specs.declared.refusal.Fault.{Fault}
+use Rattle.stab_io.specs.Refusals.{whole}
+use Rattle.stab_io.specs.declared.refusal.Refusal.TheVariants.{WriteFault}
+use Rattle.stab_io.specs.declared.refusal.Fault.{Fault}
 use Rattle.stab_session.specs.declared.run.Shot.{Shot}
 use Rattle.stab_session.specs.Runs.{State}
 use Rattle.stab_circuit.specs.Items.{Items}
@@ -38,6 +39,11 @@ shots_of format shown shots source items = of_shots (λ shot. shown_bytes format
 abbrev pub SendsUnflushed : {T : Type 0} → List ℕ → OutputView → OutputView → Result T Fault → Type 0
 SendsUnflushed bytes old new (Ok x) = Took old new bytes
 SendsUnflushed bytes old new (Err f) = CutOff old new bytes f
+
+-- the output was flushed; or the flush failed, which is a fault without a line
+abbrev pub FlushesOrFault : {T : Type 0} → OutputView → OutputView → Result T Fault → Type 0
+FlushesOrFault old new (Ok x) = Flushed old new
+FlushesOrFault old new (Err f) = (f ≡ whole WriteFault) × FlushFailed old new
 
 -- the lines of these strings were sent: all of them, with a flush behind them; or the output failed
 abbrev pub SendsLines : {T : Type 0} → List Signed → OutputView → OutputView → Result T Fault → Type 0

@@ -1,4 +1,5 @@
 -- Texts: what is written of several texts.
+-- Source: this project's own.
 use Rattle.std.specs.Prelude.{ℕ, List, [], ◌∷◌, ◌++◌}
 
 -- texts one after another

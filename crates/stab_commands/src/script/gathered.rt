@@ -1,10 +1,10 @@
 //! Texts that are gathered up to a limit.
 ghost use Rattle.std.specs.Prelude.{◌≡◌, ℕ, ◌++◌, List, [], length, Option, Some, None, IfErr, OnOk, MatchOption, if◌then◌else◌};
-ghost use Rattle.stab_commands.specs.ScriptWords.{more, is_nothing as nothing};
-ghost use Rattle.stab_pauli.specs.Refusals.{whole};
-ghost use Rattle.stab_pauli.specs.declared.refusal.Refusal.TheVariants.{OutOfMemory};
+ghost use Rattle.stab_commands.specs.script.ScriptWords.{more, is_nothing as nothing};
+ghost use Rattle.stab_io.specs.Refusals.{whole};
+ghost use Rattle.stab_io.specs.declared.refusal.Refusal.TheVariants.{OutOfMemory};
 
-use stab_pauli::{Fault, Refusal};
+use stab_io::{Fault, Refusal};
 use std::alloc::Global;
 use std::marker::Model;
 

@@ -3,7 +3,7 @@ ghost use Rattle.std.specs.Prelude.{◌≡◌, ◌≤◌, ℕ, List, true, false
 ghost use Rattle.std.specs.List.{position_or_len};
 ghost use Rattle.stab_lines.specs.Lines.{is_spacing as spacing};
 ghost use Rattle.stab_lines.specs.Words.{value};
-ghost use Rattle.stab_commands.specs.ScriptWords.{first_word as first_of, behind_word, is_place_number, place_of};
+ghost use Rattle.stab_commands.specs.script.ScriptWords.{first_word as first_of, behind_word, is_place_number, place_of};
 
 use stab_circuit::Path;
 use stab_lines::{capped_value, first_piece, is_number, is_spacing, without_spacing_in_front};
@@ -41,7 +41,7 @@ fn place_number(word: &[u8]) -> Option<usize>
 }
 
 /// The place that a word stands for.
-#[tactic(auto, unfolding(crate::specs::ScriptWords::place_of))]
+#[tactic(auto, unfolding(crate::specs::script::ScriptWords::place_of))]
 pub(crate) fn read_place(word: &[u8]) -> Option<Path>
     ensures value { MatchOption result (place_of word.now ≡ None) (λ p. place_of word.now ≡ Some p) }
 {

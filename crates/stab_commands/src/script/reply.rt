@@ -1,9 +1,9 @@
 //! Replies to requests, gathered before they are written.
 ghost use Rattle.std.specs.Prelude.{◌≡◌, ◌++◌, IfOk, IfErr, OnOk, codes};
-ghost use Rattle.stab_pauli.specs.Devices.{WritesAll};
+ghost use Rattle.stab_io.specs.Devices.{WritesAll};
 ghost use Rattle.stab_pauli.specs.Texts.{pauli_text};
-ghost use Rattle.stab_pauli.specs.Refusals.{whole};
-ghost use Rattle.stab_pauli.specs.declared.refusal.Refusal.TheVariants.{OutOfMemory};
+ghost use Rattle.stab_io.specs.Refusals.{whole};
+ghost use Rattle.stab_io.specs.declared.refusal.Refusal.TheVariants.{OutOfMemory};
 ghost use Rattle.stab_circuit.specs.Views.{circuit_items};
 ghost use Rattle.stab_circuit.specs.Prints.{printed};
 ghost use Rattle.stab_results.specs.Formats.{f01_bytes};
@@ -13,7 +13,8 @@ ghost use Rattle.stab_commands.specs.inner.Replies.{ReplyBytes, no_reply, reply_
 
 use crate::fault_line::write_texts;
 use stab_circuit::{Circuit, write_circuit};
-use stab_pauli::{DeviceFault, Fault, Output, Pauli, Refusal, write_all};
+use stab_io::{DeviceFault, Fault, Output, Refusal, write_all};
+use stab_pauli::Pauli;
 use stab_results::{Format, Kinds, write_shot};
 use std::alloc::Global;
 use std::marker::Model;

@@ -1,14 +1,14 @@
 //! What a line of a script asks for.
 ghost use Rattle.std.specs.Prelude.{◌≡◌, IfOk, IfErr};
-ghost use Rattle.stab_pauli.specs.Refusals.{whole};
-ghost use Rattle.stab_pauli.specs.declared.refusal.Refusal.TheVariants.{OutOfMemory};
-ghost use Rattle.stab_commands.specs.ScriptWords.{first_word as first_of, behind_word, place_of};
-ghost use Rattle.stab_commands.specs.Scripts.{put_at as put_of, delete_at as delete_of, show_of, request_by as by_word, request_of};
-ghost use Rattle.stab_commands.specs.inner.Requests.{asked};
+ghost use Rattle.stab_io.specs.Refusals.{whole};
+ghost use Rattle.stab_io.specs.declared.refusal.Refusal.TheVariants.{OutOfMemory};
+ghost use Rattle.stab_commands.specs.script.ScriptWords.{first_word as first_of, behind_word, place_of};
+ghost use Rattle.stab_commands.specs.script.Scripts.{put_at as put_of, delete_at as delete_of, show_of, request_by as by_word, request_of};
+ghost use Rattle.stab_commands.specs.inner.Requests.{request_asked};
 
 use crate::script::place::{first_word, read_place};
 use stab_circuit::Path;
-use stab_pauli::{Fault, Refusal};
+use stab_io::{Fault, Refusal};
 use std::alloc::Global;
 
 /// An edit that puts an item in.
@@ -58,7 +58,7 @@ pub(crate) enum Request {
 
 /// An edit that puts an item in, by what follows its word: a place and a text.
 fn put_at(alloc: Global, edit: ItemEdit, rest: &[u8]) -> Result<Request, Fault>
-    ensures gives { IfOk result (λ r. asked r ≡ put_of edit (place_of (first_of rest.now)) (behind_word rest.now)) }
+    ensures gives { IfOk result (λ r. request_asked r ≡ put_of edit (place_of (first_of rest.now)) (behind_word rest.now)) }
     ensures err { IfErr result (λ f. f ≡ whole OutOfMemory) }
 {
     let (word, text) = first_word(rest);
@@ -76,7 +76,7 @@ fn put_at(alloc: Global, edit: ItemEdit, rest: &[u8]) -> Result<Request, Fault>
 
 /// A deletion, by what follows its word: a place alone.
 fn delete_at(rest: &[u8]) -> Request
-    ensures value { asked result ≡ delete_of (place_of (first_of rest.now)) (behind_word rest.now) }
+    ensures value { request_asked result ≡ delete_of (place_of (first_of rest.now)) (behind_word rest.now) }
 {
     let (word, text) = first_word(rest);
     match read_place(word) {
@@ -93,7 +93,7 @@ fn delete_at(rest: &[u8]) -> Request
 
 /// What the word behind `show` asks for.
 fn read_show(word: &[u8]) -> Request
-    ensures value { asked result ≡ show_of word.now }
+    ensures value { request_asked result ≡ show_of word.now }
 {
     if word == b"measurements".as_slice() {
         Request::Show(Show::Measurements)
@@ -114,7 +114,7 @@ fn read_show(word: &[u8]) -> Request
 
 /// What a first word and the rest behind it ask for.
 fn request_by(alloc: Global, word: &[u8], rest: &[u8]) -> Result<Request, Fault>
-    ensures gives { IfOk result (λ r. asked r ≡ by_word word.now rest.now) }
+    ensures gives { IfOk result (λ r. request_asked r ≡ by_word word.now rest.now) }
     ensures err { IfErr result (λ f. f ≡ whole OutOfMemory) }
 {
     if word == b"insert".as_slice() {
@@ -131,9 +131,9 @@ fn request_by(alloc: Global, word: &[u8], rest: &[u8]) -> Result<Request, Fault>
 }
 
 /// What a content asks for that is not blank; fault `OutOfMemory` alone.
-#[tactic(auto, unfolding(crate::specs::Scripts::request_of))]
+#[tactic(auto, unfolding(crate::specs::script::Scripts::request_of))]
 pub(crate) fn read_request(alloc: Global, content: &[u8]) -> Result<Request, Fault>
-    ensures gives { IfOk result (λ r. asked r ≡ request_of content.now) }
+    ensures gives { IfOk result (λ r. request_asked r ≡ request_of content.now) }
     ensures err { IfErr result (λ f. f ≡ whole OutOfMemory) }
 {
     let (word, rest) = first_word(content);

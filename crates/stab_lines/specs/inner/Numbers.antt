@@ -1,4 +1,5 @@
 -- Numbers: numbers that are the first of several words.
+-- Source: this project's own.
 use Rattle.std.specs.Prelude.{◌≡◌, ℕ, Bool, true, List, [], ◌∷◌}
 use Rattle.stab_lines.specs.Lines.{is_spacing}
 use Rattle.stab_lines.specs.Words.{words, is_number, value}

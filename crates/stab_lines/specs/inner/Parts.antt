@@ -1,7 +1,8 @@
 -- Parts: how the parts of a content are shown.
+-- Source: this project's own.
 use Rattle.std.specs.Prelude.{◌≡◌, ℕ, Bool, ◌&&◌, List, Result, Ok, Err}
 use Rattle.std.specs.List.{list_all}
-use Rattle.stab_pauli.specs.declared.refusal.Refusal.{Refusal}
+use Rattle.stab_io.specs.declared.refusal.Refusal.{Refusal}
 use Rattle.stab_lines.specs.declared.line.Shape.{Shape as Parts}
 use Rattle.stab_lines.specs.Lines.{Shape}
 use Rattle.stab_lines.specs.Words.{is_some_word}

@@ -1,12 +1,13 @@
 -- Rows of blocks: 256 letters to 8 words, four words with their X bits and then four with their Z bits.
+-- Source: this project's own.
 use Rattle.std.specs.List.{All}
 use Rattle.std.specs.Simd.Lanes.{zip2, chunk, put_chunk}
 use Rattle.std.specs.Prelude.{◌≡◌, ℕ, zero, suc, ◌+◌, ◌*◌, ◌-◌, ◌/◌, ◌^◌, ◌≤◌, length, List, [], ◌∷◌, ◌++◌, take, drop, replicate, slice_index_or, ◌<◌, true, false}
 use Rattle.stab_pauli.specs.declared.letter.Letter.{Letter}
 use Rattle.stab_pauli.specs.declared.letter.Letter.TheVariants.{I}
-use Rattle.stab_pauli.specs.declared.turn.Turn.{Turn}
-use Rattle.stab_pauli.specs.Turns.{sign_of_turn}
-use Rattle.stab_pauli.specs.Flips.{flips}
+use Rattle.stab_pauli.specs.declared.phase.Phase.{Phase}
+use Rattle.stab_pauli.specs.Phases.{sign_of_phase}
+use Rattle.stab_pauli.specs.XParts.{has_x}
 use Rattle.stab_pauli.specs.Paulis.{Signed}
 use Rattle.stab_pauli.specs.Rows.{Rows}
 use Rattle.stab_pauli.specs.inner.Words.{packed_letters}
@@ -30,15 +31,15 @@ row_letters (suc m) row = packed_letters 64 (take 4 row) (take 4 (drop 4 row)) +
 abbrev pub IsPadded : ℕ → ℕ → List Letter → Type 0
 IsPadded n m letters = drop n letters ≡ replicate (256 * m - n) I
 
--- no letter before the place flips a bit
-abbrev pub FlipsNoneBefore : ℕ → List Letter → Type 0
-FlipsNoneBefore k letters = (j : ℕ) → j < k → flips (slice_index_or letters j I) ≡ false
+-- no letter before the place is X or Y
+abbrev pub HasNoXBefore : ℕ → List Letter → Type 0
+HasNoXBefore k letters = (j : ℕ) → j < k → has_x (slice_index_or letters j I) ≡ false
 
--- the first of so many letters that flips a bit
-pub record IsFirstFlip (size : ℕ) (letters : List Letter) (k : ℕ) : Type 0 where
+-- the first of so many letters that is X or Y
+pub record IsFirstX (size : ℕ) (letters : List Letter) (k : ℕ) : Type 0 where
   pub in_range : k < size
-  pub flips_here : flips (slice_index_or letters k I) ≡ true
-  pub first : FlipsNoneBefore k letters
+  pub has_x_here : has_x (slice_index_or letters k I) ≡ true
+  pub first : HasNoXBefore k letters
 
 -- words that lie as one row of m blocks, for n letters
 pub record IsRow (n m : ℕ) (row : List ℕ) : Type 0 where
@@ -47,17 +48,17 @@ pub record IsRow (n m : ℕ) (row : List ℕ) : Type 0 where
   pub padded : IsPadded n m (row_letters m row)
 
 -- the power of i of the sign of the first n letters, by the one before their bits
-abbrev pub row_sign : ℕ → Turn → List Letter → Turn
+abbrev pub row_sign : ℕ → Phase → List Letter → Phase
 row_sign n power letters = sign_power power (take n letters)
 
 -- words that lie as one row of m blocks, for n letters, with the power of i before their bits, of which a sign is left
-pub record IsSignedRow (n m : ℕ) (power : Turn) (words : List ℕ) : Type 0 where
+pub record IsSignedRow (n m : ℕ) (power : Phase) (words : List ℕ) : Type 0 where
   pub row : IsRow n m words
   pub sign : IsSign (row_sign n power (row_letters m words))
 
 -- the first n letters, with their sign
-abbrev pub signed_row : ℕ → Turn → List Letter → Signed
-signed_row n power letters = record { negative = sign_of_turn (row_sign n power letters); letters = take n letters }
+abbrev pub signed_row : ℕ → Phase → List Letter → Signed
+signed_row n power letters = record { negative = sign_of_phase (row_sign n power letters); letters = take n letters }
 
 -- the letters of the rows that lie in the words, one after another, each of m blocks
 abbrev pub full_rows : ℕ → List ℕ → ℕ → List (List Letter)
@@ -65,14 +66,14 @@ full_rows m words zero = []
 full_rows m words (suc count) = row_letters m (take (8 * m) words) ∷ full_rows m (drop (8 * m) words) count
 
 -- words and powers of i that lie as rows of m blocks, for n letters each
-pub record IsTable (n m : ℕ) (words : List ℕ) (powers : List Turn) : Type 0 where
+pub record IsTable (n m : ℕ) (words : List ℕ) (powers : List Phase) : Type 0 where
   pub blocks : AreBlocks n m
   pub size : length words ≡ 8 * m * length powers
   pub padded : All (IsPadded n m) (full_rows m words (length powers))
   pub signs : All IsSign (zip2 (row_sign n) powers (full_rows m words (length powers)))
 
 -- what they stand for
-abbrev pub table : ℕ → ℕ → List ℕ → List Turn → Rows
+abbrev pub table : ℕ → ℕ → List ℕ → List Phase → Rows
 table n m words powers = record { qubits = n; rows = zip2 (signed_row n) powers (full_rows m words (length powers)) }
 
 -- the size words from k on are others, of which P holds, and all else is as it was

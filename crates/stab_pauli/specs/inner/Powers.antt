@@ -1,36 +1,38 @@
 -- Strings as a power of i before their X bits and then their Z bits: the letter Y is i times X times Z.
+-- Source: this project's own. Aaronson and Gottesman 2004, section III, keep a sign bit, and count the powers of i of a product
+-- letter by letter.
 use Rattle.std.specs.Prelude.{◌≡◌, ℕ, zero, suc, Bool, true, false, List, [], ◌∷◌}
 use Rattle.stab_pauli.specs.declared.letter.Letter.{Letter}
 use Rattle.stab_pauli.specs.declared.letter.Letter.TheVariants.{I, X, Y, Z}
-use Rattle.stab_pauli.specs.declared.turn.Turn.{Turn}
-use Rattle.stab_pauli.specs.declared.turn.Turn.TheVariants.{Zero, Quarter, Half, ThreeQuarters}
-use Rattle.stab_pauli.specs.Turns.{turn_add, sign_turn, is_even}
+use Rattle.stab_pauli.specs.declared.phase.Phase.{Phase}
+use Rattle.stab_pauli.specs.declared.phase.Phase.TheVariants.{Zero, Quarter, Half, ThreeQuarters}
+use Rattle.stab_pauli.specs.Phases.{phase_add, phase_of_sign, is_even}
 use Rattle.stab_pauli.specs.Letters.{◌⊕◌}
 use Rattle.stab_pauli.specs.Paulis.{Signed}
 
 -- the power of so many factors i
-abbrev pub quarters : ℕ → Turn
+abbrev pub quarters : ℕ → Phase
 quarters zero = Zero
-quarters (suc n) = turn_add Quarter (quarters n)
+quarters (suc n) = phase_add Quarter (quarters n)
 
 -- the power that takes a power back to 1
-abbrev pub turn_back : Turn → Turn
-turn_back Zero = Zero
-turn_back Quarter = ThreeQuarters
-turn_back Half = Half
-turn_back ThreeQuarters = Quarter
+abbrev pub phase_inverse : Phase → Phase
+phase_inverse Zero = Zero
+phase_inverse Quarter = ThreeQuarters
+phase_inverse Half = Half
+phase_inverse ThreeQuarters = Quarter
 
 -- the power of i of a letter before its X bit and then its Z bit
-abbrev pub letter_power : Letter → Turn
+abbrev pub letter_power : Letter → Phase
 letter_power I = Zero
 letter_power X = Zero
 letter_power Y = Quarter
 letter_power Z = Zero
 
 -- that of all letters of a string
-abbrev pub string_power : List Letter → Turn
+abbrev pub string_power : List Letter → Phase
 string_power [] = Zero
-string_power (x ∷ p) = turn_add (letter_power x) (string_power p)
+string_power (x ∷ p) = phase_add (letter_power x) (string_power p)
 
 -- whether the Z bit of one letter meets the X bit of the next, so that their order gives a sign: ZX is -XZ
 abbrev pub letters_meet : Letter → Letter → Bool
@@ -52,13 +54,13 @@ strings_meet (x ∷ p) [] = false
 strings_meet (x ∷ p) (y ∷ q) = letters_meet x y ⊕ strings_meet p q
 
 -- what is left of the power of i before the bits of a string when its letters have taken theirs: its sign
-abbrev pub sign_power : Turn → List Letter → Turn
-sign_power power letters = turn_add (turn_back (string_power letters)) power
+abbrev pub sign_power : Phase → List Letter → Phase
+sign_power power letters = phase_add (phase_inverse (string_power letters)) power
 
 -- what is left is a sign
-abbrev pub IsSign : Turn → Type 0
+abbrev pub IsSign : Phase → Type 0
 IsSign t = is_even t ≡ true
 
 -- the power of i before the bits of a signed string
-abbrev pub power_of : Signed → Turn
-power_of p = turn_add (sign_turn p.negative) (string_power p.letters)
+abbrev pub power_of : Signed → Phase
+power_of p = phase_add (phase_of_sign p.negative) (string_power p.letters)

@@ -1,6 +1,7 @@
 -- Words of which most are 0.
+-- Source: this project's own.
 use Rattle.std.specs.Prelude.{ℕ, ◌≡◌, List, [], ◌∷◌, ◌++◌, length, replicate}
-use Rattle.stab_pauli.specs.declared.turn.Turn.{Turn}
+use Rattle.stab_pauli.specs.declared.phase.Phase.{Phase}
 use Rattle.stab_pauli.specs.inner.Blocks.{IsTable}
 
 -- words, each behind so many that are 0, and behind the last so many more
@@ -15,7 +16,7 @@ pub record IsSparse (gaps kept : List ℕ) (behind : ℕ) (words : List ℕ) : T
   pub words_are : spread gaps kept behind ≡ words
 
 -- what is kept of so many words, with powers of i, that lie as rows of m blocks, for n letters each
-pub record IsCompact (n m : ℕ) (gaps kept : List ℕ) (behind size : ℕ) (powers : List Turn) : Type 0 where
+pub record IsCompact (n m : ℕ) (gaps kept : List ℕ) (behind size : ℕ) (powers : List Phase) : Type 0 where
   pub even : length gaps ≡ length kept
   pub size_is : size ≡ length (spread gaps kept behind)
   pub lies : IsTable n m (spread gaps kept behind) powers

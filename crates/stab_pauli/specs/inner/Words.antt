@@ -1,4 +1,5 @@
 -- Packed strings: k letters to a pair of words, one word for the X bits and one for the Z bits.
+-- Source: the bits x and z of Aaronson and Gottesman 2004, section III; there, too, Y has both.
 use Rattle.std.specs.Prelude.{ℕ, zero, suc, ◌+◌, ◌/◌, ◌%◌, ◌^◌, ◌<◌, slice_index, Bool, true, false, eqb, bit_xor, List, [], ◌∷◌, ◌++◌}
 use Rattle.std.specs.Simd.Lanes.{zip2, chunk, put_chunk}
 use Rattle.stab_pauli.specs.declared.letter.Letter.{Letter}

@@ -3,16 +3,16 @@
 ghost use Rattle.std.specs.Prelude.{◌≡◌, ◌≢◌, ℕ, ◌+◌, ◌*◌, ◌/◌, ◌%◌, ◌^◌, ◌<◌, ◌≤◌, length, slice_index_or, slice_set, eqb, IfSome, IfNone};
 ghost use Rattle.std.specs.Int.{bit_at};
 ghost use Rattle.stab_pauli.specs.declared.letter.Letter.TheVariants.{I};
-ghost use Rattle.stab_pauli.specs.Turns.{turn_add, sign_turn, sign_of_turn};
-ghost use Rattle.stab_pauli.specs.Flips.{flips};
+ghost use Rattle.stab_pauli.specs.Phases.{phase_add, phase_of_sign, sign_of_phase};
+ghost use Rattle.stab_pauli.specs.XParts.{has_x};
 ghost use Rattle.stab_pauli.specs.Paulis.{strings_anticommute};
 ghost use Rattle.stab_pauli.specs.inner.Words.{xor_words, letter_of_bits};
-ghost use Rattle.stab_pauli.specs.inner.Powers.{turn_back, letter_power, string_power, strings_meet, sign_power};
-ghost use Rattle.stab_pauli.specs.inner.Blocks.{row_letters, AreBlocks, FlipsNoneBefore, IsFirstFlip};
+ghost use Rattle.stab_pauli.specs.inner.Powers.{phase_inverse, letter_power, string_power, strings_meet, sign_power};
+ghost use Rattle.stab_pauli.specs.inner.Blocks.{row_letters, AreBlocks, HasNoXBefore, IsFirstX};
 
 use crate::letter::Letter;
 use crate::packed::ones;
-use crate::turn::Turn;
+use crate::phase::Phase;
 use std::simd::u64x4;
 
 /// How many blocks n letters take.
@@ -26,10 +26,10 @@ pub(crate) fn blocks_of(n: usize) -> usize
 /// The power of i before the bits of a product, by those of both and whether Z bits of the first meet X bits of the
 /// second at an odd number of places.
 #[inline(always)]
-pub(crate) fn product_power(first: Turn, second: Turn, meet: bool) -> Turn
-    ensures value { result ≡ turn_add (turn_add first second) (sign_turn meet) }
+pub(crate) fn product_power(first: Phase, second: Phase, meet: bool) -> Phase
+    ensures value { result ≡ phase_add (phase_add first second) (phase_of_sign meet) }
 {
-    first.times(second).times(Turn::of_sign(meet))
+    first.times(second).times(Phase::of_sign(meet))
 }
 
 /// Makes a row of so many blocks the product of itself and another, and tells whether its Z bits meet X bits of the
@@ -76,7 +76,7 @@ pub(crate) fn anticommute(blocks: usize, row: &[u64], other: &[u64]) -> bool
 
 /// The power of i of the letters of a row of so many blocks before their bits: one for each Y.
 #[inline(always)]
-pub(crate) fn power(blocks: usize, row: &[u64]) -> Turn
+pub(crate) fn power(blocks: usize, row: &[u64]) -> Phase
     requires length { length row.now ≡ 8 * blocks }
     ensures value { result ≡ string_power (row_letters blocks row.now) }
 {
@@ -87,22 +87,22 @@ pub(crate) fn power(blocks: usize, row: &[u64]) -> Turn
         let z = u64x4::from_slice(&row[at + 4..]);
         count = count.wrapping_add(ones::all_ones(x & z));
     }
-    Turn::of_count(count)
+    Phase::of_count(count)
 }
 
 /// Whether the sign of a row of so many blocks is -, by the power of i before its bits.
 #[inline(always)]
-pub(crate) fn is_negative(blocks: usize, row: &[u64], power_before: Turn) -> bool
+pub(crate) fn is_negative(blocks: usize, row: &[u64], power_before: Phase) -> bool
     requires length { length row.now ≡ 8 * blocks }
-    ensures value { result ≡ sign_of_turn (sign_power power_before (row_letters blocks row.now)) }
+    ensures value { result ≡ sign_of_phase (sign_power power_before (row_letters blocks row.now)) }
 {
     power(blocks, row).inverse().times(power_before).sign()
 }
 
 /// The power of i before the bits of a string when one of its letters has become another and its sign is kept.
 #[inline(always)]
-pub(crate) fn power_with(power_before: Turn, old: Letter, new: Letter) -> Turn
-    ensures value { result ≡ turn_add (turn_back (letter_power old)) (turn_add (letter_power new) power_before) }
+pub(crate) fn power_with(power_before: Phase, old: Letter, new: Letter) -> Phase
+    ensures value { result ≡ phase_add (phase_inverse (letter_power old)) (phase_add (letter_power new) power_before) }
 {
     old.power().inverse().times(new.power().times(power_before))
 }
@@ -134,22 +134,22 @@ pub(crate) fn set(blocks: usize, row: &mut [u64], qubit: usize, letter: Letter)
     row[at + 4] = with_bit(row[at + 4], bit, z);
 }
 
-/// Whether the letter at a place of a row of so many blocks flips a bit: its X bit.
+/// Whether the letter at a place of a row of so many blocks is X or Y: its X bit.
 #[inline(always)]
-pub(crate) fn flips_at(blocks: usize, row: &[u64], qubit: usize) -> bool
+pub(crate) fn has_x_at(blocks: usize, row: &[u64], qubit: usize) -> bool
     requires length { length row.now ≡ 8 * blocks }
     requires in_range { qubit < 256 * blocks }
-    ensures value { result ≡ flips (slice_index_or (row_letters blocks row.now) qubit I) }
+    ensures value { result ≡ has_x (slice_index_or (row_letters blocks row.now) qubit I) }
 {
     bit_of(row[x_word(qubit)], qubit % 64)
 }
 
-/// The first place in a row of so many blocks where a letter flips a bit.
-pub(crate) fn first_flip(blocks: usize, row: &[u64]) -> Option<usize>
+/// The first place in a row of so many blocks where the letter is X or Y.
+pub(crate) fn first_x(blocks: usize, row: &[u64]) -> Option<usize>
     requires few { blocks ≤ 2 ^ 56 }
     requires length { length row.now ≡ 8 * blocks }
-    ensures none { IfNone result (FlipsNoneBefore (256 * blocks) (row_letters blocks row.now)) }
-    ensures some { IfSome result (IsFirstFlip (256 * blocks) (row_letters blocks row.now)) }
+    ensures none { IfNone result (HasNoXBefore (256 * blocks) (row_letters blocks row.now)) }
+    ensures some { IfSome result (IsFirstX (256 * blocks) (row_letters blocks row.now)) }
 {
     let start = 4 * still_blocks(blocks, row);
     for word in start..4 * blocks {
@@ -161,12 +161,12 @@ pub(crate) fn first_flip(blocks: usize, row: &[u64]) -> Option<usize>
     None
 }
 
-/// How many blocks at the front of a row flip no bit.
+/// How many blocks at the front of a row have no X part.
 #[inline(always)]
 fn still_blocks(blocks: usize, row: &[u64]) -> usize
     requires length { length row.now ≡ 8 * blocks }
     ensures in_range { result ≤ blocks }
-    ensures still { FlipsNoneBefore (256 * result) (row_letters blocks row.now) }
+    ensures still { HasNoXBefore (256 * result) (row_letters blocks row.now) }
 {
     for block in 0..blocks {
         let at = 8 * block;

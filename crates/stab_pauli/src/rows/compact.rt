@@ -1,7 +1,7 @@
 use super::PauliRows;
 use crate::packed::sparse::{SparseWords, are_short};
-use crate::refusal::Refusal;
-use crate::turn::Turn;
+use crate::phase::Phase;
+use stab_io::Refusal;
 use std::alloc::Global;
 use std::marker::Model;
 
@@ -14,7 +14,7 @@ pub struct CompactRows {
     // How many words the rows have.
     size: usize,
     words: SparseWords,
-    powers: Vec<Turn>,
+    powers: Vec<Phase>,
 }
 
 // Written out, so that to a proof rows that are let go are one call, and not one for each of their parts.
@@ -44,7 +44,7 @@ impl Model for CompactRows {
 
 impl PauliRows {
     ghost use Rattle.std.specs.Prelude.{◌≡◌, IfOk, IfErr};
-    ghost use Rattle.stab_pauli.specs.declared.refusal.Refusal.TheVariants.{OutOfMemory};
+    ghost use Rattle.stab_io.specs.declared.refusal.Refusal.TheVariants.{OutOfMemory};
 
     /// The same strings, kept in little memory.
     ///
@@ -66,7 +66,7 @@ impl PauliRows {
 
 impl CompactRows {
     ghost use Rattle.std.specs.Prelude.{◌≡◌, ◌↔◌, IsTrue, IfOk, IfErr, length};
-    ghost use Rattle.stab_pauli.specs.declared.refusal.Refusal.TheVariants.{OutOfMemory};
+    ghost use Rattle.stab_io.specs.declared.refusal.Refusal.TheVariants.{OutOfMemory};
 
     /// The number of qubits.
     pub fn qubits(&self) -> usize

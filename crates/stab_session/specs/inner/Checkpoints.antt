@@ -1,21 +1,22 @@
 -- Checkpoints: copies of the state on the way through a run, with how long its lists were there.
+-- Source: this project's own.
 use Rattle.std.specs.Prelude.{◌≡◌, ℕ, ◌+◌, ◌-◌, ◌^◌, ◌≤◌, min, nat_le, Bool, List, [], ◌∷◌, length, take, drop, map, if◌then◌else◌}
 use Rattle.stab_tableau.specs.Traces.{member}
 use Rattle.stab_tableau.specs.Groups.{SameGroup}
 use Rattle.stab_tableau.specs.Tableaus.{stabilises}
 use Rattle.stab_circuit.specs.Steps.{Step}
-use Rattle.stab_session.specs.declared.checkpoint.Lengths.{Lengths}
+use Rattle.stab_session.specs.declared.records.Lengths.{Lengths}
 use Rattle.stab_session.specs.declared.checkpoint.Checkpoint.{Checkpoint}
-use Rattle.stab_session.specs.declared.checkpoint.Seam.{Seam}
-use Rattle.stab_session.specs.Points.{Output, origin, point_after, outputs}
-use Rattle.stab_session.specs.inner.Sights.{Sight}
+use Rattle.stab_session.specs.declared.checkpoint.Meeting.{Meeting}
+use Rattle.stab_session.specs.Points.{RunOutput, origin, point_after, outputs}
+use Rattle.stab_session.specs.inner.ProgramStates.{ProgramState}
 
 -- how long the lists of an output are
-abbrev pub lengths_of : Output → Lengths
+abbrev pub lengths_of : RunOutput → Lengths
 lengths_of o = record { records = length o.records; free = length o.free; detectors = length o.detectors; additions = length o.additions }
 
 -- the lists of an output up to these lengths
-abbrev pub front_of : Lengths → Output → Output
+abbrev pub front_of : Lengths → RunOutput → RunOutput
 front_of l o = record {
   records = take l.records o.records;
   free = take l.free o.free;
@@ -24,7 +25,7 @@ front_of l o = record {
 }
 
 -- and what stands in them behind these lengths
-abbrev pub rest_of : Lengths → Output → Output
+abbrev pub rest_of : Lengths → RunOutput → RunOutput
 rest_of l o = record {
   records = drop l.records o.records;
   free = drop l.free o.free;
@@ -33,7 +34,7 @@ rest_of l o = record {
 }
 
 -- what the program holds is what these steps give from the first on, all qubits zero before it
-pub record IsRunFromStart (n : ℕ) (coins : ℕ → Bool) (xs : List Step) (s : Sight) : Type 0 where
+pub record IsRunFromStart (n : ℕ) (coins : ℕ → Bool) (xs : List Step) (s : ProgramState) : Type 0 where
   pub group : SameGroup n s.stabilised (member (point_after n coins xs origin).trace)
   pub output : s.output ≡ outputs n coins xs origin
 
@@ -45,8 +46,8 @@ pub record IsCheckpoint (n : ℕ) (coins : ℕ → Bool) (xs : List Step) (c : C
   pub lengths : c.lengths ≡ lengths_of (outputs n coins (take c.step xs) origin)
 
 -- the steps that copies are kept before
-abbrev pub steps_of : List Checkpoint → List ℕ
-steps_of = map (λ c. c.step)
+abbrev pub checkpoint_steps : List Checkpoint → List ℕ
+checkpoint_steps = map (λ c. c.step)
 
 -- a copy put behind others: it takes the place of the last where it is at most K steps from the one before that
 abbrev pub laid : ℕ → Checkpoint → List Checkpoint → List Checkpoint
@@ -73,8 +74,8 @@ moved_lengths old new l = record {
   additions = moved old.additions new.additions l.additions;
 }
 
--- a copy that moves with the one at a seam
-abbrev pub moved_copy : Seam → Checkpoint → Checkpoint
+-- a copy that moves with the one at a meeting
+abbrev pub moved_copy : Meeting → Checkpoint → Checkpoint
 moved_copy s c = record {
   step = moved s.old_step s.new_step c.step;
   lengths = moved_lengths s.old_lengths s.new_lengths c.lengths;

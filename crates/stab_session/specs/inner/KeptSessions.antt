@@ -1,4 +1,5 @@
 -- Kept sessions: how the logic stores what contracts see of one, and what it keeps beside the statement.
+-- Source: this project's own.
 use Rattle.std.specs.Prelude.{◌≡◌, ℕ, ◌≤◌, Bool, List, All, None, refl}
 use Rattle.std.specs.Coded.{Coded, code_by, coded×, coded_ℕ, coded_bool, coded_list}
 use Rattle.stab_tableau.specs.Limits.{most_qubits}
@@ -11,7 +12,7 @@ use Rattle.stab_session.specs.declared.kept.KeptRun.{KeptRun}
 use Rattle.stab_session.specs.Limits.{most_stride}
 use Rattle.stab_session.specs.Sessions.{SessionState}
 use Rattle.stab_session.specs.Headline.{IsRunOfItems}
-use Rattle.stab_session.specs.inner.Checkpoints.{steps_of}
+use Rattle.stab_session.specs.inner.Checkpoints.{checkpoint_steps}
 use Rattle.stab_session.specs.inner.Replays.{IsKeptRun}
 use Rattle.stab_circuit.specs.inner.StoredItems.{items_code}
 
@@ -57,7 +58,7 @@ session_of items stride coins kept = record {
   detectors = kept.outputs.detectors.items;
   observables = kept.observables.items;
   tableau = kept.tableau;
-  checkpoints = steps_of kept.checkpoints.items;
+  checkpoints = checkpoint_steps kept.checkpoints.items;
 }
 
 -- the statement holds of it; what is kept is the run of its items, with copies of the state that are spaced by its stride; nothing

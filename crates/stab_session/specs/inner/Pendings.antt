@@ -1,34 +1,34 @@
 -- Pending edits: a circuit is edited before it is run, and the edit is taken back where the run is refused memory.
+-- Source: this project's own.
 use Rattle.std.specs.Prelude.{◌≡◌, ℕ, List, Option, None, Result, Ok}
-use Rattle.stab_pauli.specs.declared.refusal.Refusal.{Refusal}
+use Rattle.stab_io.specs.declared.refusal.Refusal.{Refusal}
 use Rattle.stab_circuit.specs.Items.{OneItem, listed}
 use Rattle.stab_circuit.specs.Steps.{unroll, observables_of, check_within}
-use Rattle.stab_circuit.specs.Paths.{Path}
-use Rattle.stab_circuit.specs.Edits.{edited, edit_refusal, verdict, taken, put_item, first_changed, old_end, new_end}
-use Rattle.stab_circuit.specs.declared.change.Change.{Change}
-use Rattle.stab_circuit.specs.declared.change.Change.TheVariants.{Replace, Delete}
+use Rattle.stab_circuit.specs.Edits.{edited, list_refusal, verdict, taken, put_item, first_changed, old_end, new_end}
+use Rattle.stab_circuit.specs.declared.edit.Edit.{Edit}
+use Rattle.stab_circuit.specs.declared.edit.Span.{Span}
+use Rattle.stab_circuit.specs.declared.edit.Edit.TheVariants.{Replace, Delete}
 use Rattle.stab_session.specs.declared.pending.Pending.{Pending}
 use Rattle.stab_session.specs.declared.pending.Pending.TheVariants.{Inserted, Replaced, Deleted}
-use Rattle.stab_session.specs.declared.kept.Span.{Span}
 use Rattle.stab_session.specs.inner.Replays.{IsSpan}
 
 -- the items after the edit is taken back
 abbrev pub taken_back : Pending → List OneItem → Result (List OneItem) Refusal
-taken_back (Inserted path) items = edited Delete path items
-taken_back (Replaced path old) items = edited (Replace old) path items
-taken_back (Deleted path old) items = edited (Replace old) path items
+taken_back (Inserted path) items = edited (Delete path) items
+taken_back (Replaced path old) items = edited (Replace path old) items
+taken_back (Deleted path old) items = edited (Replace path old) items
 
 -- the item that the edit put in, and that comes back with it
 abbrev pub item_back : Pending → List OneItem → Option OneItem
-item_back (Inserted path) items = taken Delete path items
-item_back (Replaced path old) items = taken (Replace old) path items
+item_back (Inserted path) items = taken (Delete path) items
+item_back (Replaced path old) items = taken (Replace path old) items
 item_back (Deleted path old) items = None
 
 -- the items after the edit is kept: an item that is to be deleted has another in its stead until then, which stands for nothing
 abbrev pub kept : Pending → List OneItem → Result (List OneItem) Refusal
 kept (Inserted path) items = Ok items
 kept (Replaced path old) items = Ok items
-kept (Deleted path old) items = edited Delete path items
+kept (Deleted path old) items = edited (Delete path) items
 
 -- two lists of items have the same runs
 pub record HaveSameRuns (xs ys : List OneItem) : Type 0 where
@@ -37,23 +37,23 @@ pub record HaveSameRuns (xs ys : List OneItem) : Type 0 where
 
 -- the span is where the steps that there are now differ from the old ones, and ends where the edit ends in the old items and in the
 -- new ones
-pub record IsSpanOf (change : Change) (path : Path) (old now new : List OneItem) (s : Span) : Type 0 where
+pub record IsSpanNow (edit : Edit) (old now new : List OneItem) (s : Span) : Type 0 where
   pub span : IsSpan (unroll (listed old)) (unroll (listed now)) s
-  pub first : s.first ≡ first_changed path old
-  pub old_end : s.old_end ≡ old_end change path old
-  pub new_end : s.new_end ≡ new_end change path new
+  pub first : s.first ≡ first_changed edit old
+  pub old_end : s.old_end ≡ old_end edit old
+  pub new_end : s.new_end ≡ new_end edit new
 
 -- an edit that nothing refuses on n qubits was begun: it leads back to the old items, with what it put in, and ahead to the new
 -- ones, which have the same runs as those that there are now
-pub record IsBegun (n : ℕ) (change : Change) (path : Path) (old now : List OneItem) (p : Pending) (s : Span) : Type 0 where
+pub record IsBegun (n : ℕ) (edit : Edit) (old now : List OneItem) (p : Pending) (s : Span) : Type 0 where
   pub new : List OneItem
-  pub edited : edited change path old ≡ Ok new
-  pub accepted : verdict n (Ok new) ≡ None
+  pub edited : edited edit old ≡ Ok new
+  pub accepted : verdict n edit old ≡ None
   pub ahead : kept p now ≡ Ok new
-  pub ahead_allowed : edit_refusal (kept p now) ≡ None
+  pub ahead_allowed : list_refusal (kept p now) ≡ None
   pub back : taken_back p now ≡ Ok old
-  pub back_allowed : edit_refusal (taken_back p now) ≡ None
-  pub item : item_back p now ≡ put_item change
+  pub back_allowed : list_refusal (taken_back p now) ≡ None
+  pub item : item_back p now ≡ put_item edit
   pub same_runs : HaveSameRuns now new
   pub checked : check_within n (listed now) ≡ None
-  pub span : IsSpanOf change path old now new s
+  pub span : IsSpanNow edit old now new s

@@ -1,10 +1,11 @@
 -- Prepared runs: what a replay of an edited circuit begins with, what it leaves, and what is kept once that is put in place.
+-- Source: this project's own.
 use Rattle.std.specs.Prelude.{◌≡◌, ℕ, ◌+◌, ◌<◌, ◌≤◌, false, List, [], All, IfSome, length, take, drop, map, reverse, replicate, slice_get, vec_capacity}
 use Rattle.stab_tableau.specs.Tableaus.{TableauState}
 use Rattle.stab_circuit.specs.Steps.{Step}
 use Rattle.stab_circuit.specs.Cursors.{IsApart}
 use Rattle.stab_session.specs.declared.checkpoint.Checkpoint.{Checkpoint}
-use Rattle.stab_session.specs.declared.checkpoint.Seam.{Seam}
+use Rattle.stab_session.specs.declared.checkpoint.Meeting.{Meeting}
 use Rattle.stab_session.specs.declared.replay.Replay.{Replay}
 use Rattle.stab_session.specs.declared.replay.End.{End}
 use Rattle.stab_session.specs.declared.replay.End.TheVariants.{Last, Joined}
@@ -12,8 +13,8 @@ use Rattle.stab_session.specs.declared.kept.KeptRun.{KeptRun}
 use Rattle.stab_session.specs.declared.kept.Prepared.{Prepared}
 use Rattle.stab_session.specs.declared.kept.Rest.{Rest}
 use Rattle.stab_session.specs.declared.kept.Rest.TheVariants.{Nothing, Old}
-use Rattle.stab_session.specs.Points.{Output, joined, with_additions}
-use Rattle.stab_session.specs.inner.Sights.{output_of}
+use Rattle.stab_session.specs.Points.{RunOutput, joined, with_additions}
+use Rattle.stab_session.specs.inner.ProgramStates.{output_of}
 use Rattle.stab_session.specs.inner.Checkpoints.{lengths_of, front_of, rest_of, moved_copy, all_laid}
 
 -- a replay of some steps begins at a copy that is kept: it has done nothing yet
@@ -36,29 +37,29 @@ HasCopy copies (Joined number) = number < length copies
 -- the tableau behind the last step, and the old copies that are still copies of the run, moved
 abbrev pub tableau_behind : Rest → TableauState → TableauState
 tableau_behind (Nothing tableau) old = tableau
-tableau_behind (Old number seam room) old = old
+tableau_behind (Old number meeting room) old = old
 
 abbrev pub copies_behind : Rest → List Checkpoint → List Checkpoint
 copies_behind (Nothing tableau) copies = []
-copies_behind (Old number seam room) copies = map (moved_copy seam) (drop number copies)
+copies_behind (Old number meeting room) copies = map (moved_copy meeting) (drop number copies)
 
 -- there is room for them
 abbrev pub HasRoom : Rest → List Checkpoint → Type 0
 HasRoom (Nothing tableau) copies = Unit {0}
-HasRoom (Old number seam room) copies = (room.items ≡ []) × (length copies ≤ vec_capacity room + number)
+HasRoom (Old number meeting room) copies = (room.items ≡ []) × (length copies ≤ vec_capacity room + number)
 
--- the seam of a replay that is before a step, with this output, and an old copy
-abbrev pub seam_at : Output → ℕ → Checkpoint → Seam
-seam_at o step c = record { old_step = c.step; new_step = step; old_lengths = c.lengths; new_lengths = lengths_of o }
+-- the meeting of a replay that is before a step, with this output, and an old copy
+abbrev pub meeting_of : RunOutput → ℕ → Checkpoint → Meeting
+meeting_of o step c = record { old_step = c.step; new_step = step; old_lengths = c.lengths; new_lengths = lengths_of o }
 
 -- from an old copy on the kept run comes behind a replay: its copies, its tableau, and what it gave
-pub record IsOldRest (kept : KeptRun) (o : Output) (step number : ℕ) (new : Output) (rest : Rest) (c : Checkpoint) : Type 0 where
-  pub copies : copies_behind rest kept.checkpoints.items ≡ map (moved_copy (seam_at o step c)) (drop number kept.checkpoints.items)
+pub record IsOldRest (kept : KeptRun) (o : RunOutput) (step number : ℕ) (new : RunOutput) (rest : Rest) (c : Checkpoint) : Type 0 where
+  pub copies : copies_behind rest kept.checkpoints.items ≡ map (moved_copy (meeting_of o step c)) (drop number kept.checkpoints.items)
   pub tableau : tableau_behind rest kept.tableau ≡ kept.tableau
   pub output : new ≡ joined o (rest_of c.lengths (output_of kept.outputs))
 
 -- what comes behind a replay that ended before a step with this tableau and output, and what the output is then
-abbrev pub IsRest : KeptRun → TableauState → Output → ℕ → End → Output → Rest → Type 0
+abbrev pub IsRest : KeptRun → TableauState → RunOutput → ℕ → End → RunOutput → Rest → Type 0
 IsRest kept t o step Last new rest = (copies_behind rest kept.checkpoints.items ≡ []) × (tableau_behind rest kept.tableau ≡ t) × (new ≡ o)
 IsRest kept t o step (Joined number) new rest = IfSome (slice_get kept.checkpoints.items number) (IsOldRest kept o step number new rest)
 

@@ -1,4 +1,5 @@
 -- Ready samplers: how the logic stores what contracts see of one, and what it keeps from shot to shot.
+-- Source: this project's own.
 use Rattle.std.specs.Prelude.{◌≡◌, ℕ, min, List, All, None, length, refl}
 use Rattle.std.specs.Coded.{Coded, code_by, coded×, coded_ℕ}
 use Rattle.stab_pauli.specs.Paulis.{Signed}

@@ -1,4 +1,5 @@
 -- Replays: a run that is kept with copies of its state, and how another one that begins and may end like it is made from it.
+-- Source: this project's own.
 use Rattle.std.specs.Prelude.{◌≡◌, ◌≢◌, ℕ, ◌+◌, ◌-◌, ◌<◌, ◌≤◌, min, Bool, false, ◌⊎◌, Option, Some, None, List, [], ◌∷◌, ◌++◌, All, IfSome, IsSomeAnd, length, take, drop, replicate, slice_get}
 use Rattle.stab_tableau.specs.Tableaus.{TableauState, stabilises}
 use Rattle.stab_tableau.specs.Groups.{SameGroup}
@@ -11,20 +12,20 @@ use Rattle.stab_session.specs.declared.replay.End.TheVariants.{Last, Joined}
 use Rattle.stab_session.specs.declared.replay.Arrival.{Arrival}
 use Rattle.stab_session.specs.declared.replay.Arrival.TheVariants.{Behind, Met, Between}
 use Rattle.stab_session.specs.declared.kept.KeptRun.{KeptRun}
-use Rattle.stab_session.specs.declared.kept.Span.{Span}
-use Rattle.stab_session.specs.Points.{Output, origin, point_after, outputs, with_additions}
+use Rattle.stab_circuit.specs.declared.edit.Span.{Span}
+use Rattle.stab_session.specs.Points.{RunOutput, origin, point_after, outputs, with_additions}
 use Rattle.stab_session.specs.Laws.{AgreeAt}
-use Rattle.stab_session.specs.inner.Sights.{sight, output_of}
+use Rattle.stab_session.specs.inner.ProgramStates.{program_state, output_of}
 use Rattle.stab_session.specs.inner.Spacing.{IsSpaced, Near}
-use Rattle.stab_session.specs.inner.Checkpoints.{IsRunFromStart, IsCheckpoint, lengths_of, steps_of, moved}
+use Rattle.stab_session.specs.inner.Checkpoints.{IsRunFromStart, IsCheckpoint, lengths_of, checkpoint_steps, moved}
 
 -- what is kept is the run of these steps, with so many observables, and copies at most K steps apart
 pub record IsKeptRun (n : ℕ) (coins : ℕ → Bool) (K : ℕ) (xs : List Step) (count : ℕ) (r : KeptRun) : Type 0 where
   pub qubits : r.tableau.qubits ≡ n
-  pub run : IsRunFromStart n coins xs (sight r.tableau (output_of r.outputs))
+  pub run : IsRunFromStart n coins xs (program_state r.tableau (output_of r.outputs))
   pub observables : r.observables.items ≡ with_additions r.outputs.additions.items (replicate count false)
   pub checkpoints : All (IsCheckpoint n coins xs) r.checkpoints.items
-  pub spaced : IsSpaced K (length xs) (steps_of r.checkpoints.items)
+  pub spaced : IsSpaced K (length xs) (checkpoint_steps r.checkpoints.items)
 
 -- contracts see the same of both
 pub record IsSameKept (a b : KeptRun) : Type 0 where
@@ -50,13 +51,13 @@ pub record Follows (n : ℕ) (coins : ℕ → Bool) (K : ℕ) (ys : List Step) (
   pub span : IsSpan old ys s
 
 -- so many steps behind what was changed both runs have the same group, number of the next coin and records
-abbrev pub AgreeBehind : ℕ → (ℕ → Bool) → List Step → List Step → Span → ℕ → Type 0
-AgreeBehind n coins xs ys s far =
+abbrev pub AgreeBehindSpan : ℕ → (ℕ → Bool) → List Step → List Step → Span → ℕ → Type 0
+AgreeBehindSpan n coins xs ys s far =
     AgreeAt n (point_after n coins (take (s.old_end + far) xs) origin) (point_after n coins (take (s.new_end + far) ys) origin)
 
 -- where an old copy stands among the new steps
-abbrev pub place_of : Plan → Checkpoint → ℕ
-place_of p c = moved p.old_end p.new_end c.step
+abbrev pub step_among_new : Plan → Checkpoint → ℕ
+step_among_new p c = moved p.old_end p.new_end c.step
 
 -- where a replay stops next: a stride further, or behind the last step, or at the place of the old copy that may be met next,
 -- whichever comes first
@@ -71,22 +72,22 @@ pub record IsAtStep (n : ℕ) (coins : ℕ → Bool) (ys : List Step) (r : Repla
   pub all : r.cursor.all ≡ ys
   pub left : r.cursor.left ≡ drop r.step ys
   pub within : r.step ≤ length ys
-  pub run : IsRunFromStart n coins (take r.step ys) (sight r.tableau (output_of r.outputs))
+  pub run : IsRunFromStart n coins (take r.step ys) (program_state r.tableau (output_of r.outputs))
 
 -- a replay that began at a step has come so far, and laid copies on its way
 pub record IsReplay (n : ℕ) (coins : ℕ → Bool) (K begin : ℕ) (ys : List Step) (r : Replay) : Type 0 where
   pub at_step : IsAtStep n coins ys r
   pub checkpoints : All (IsCheckpoint n coins ys) r.laid.items
-  pub near : Near K (begin ∷ steps_of r.laid.items ++ r.step ∷ [])
+  pub near : Near K (begin ∷ checkpoint_steps r.laid.items ++ r.step ∷ [])
 
 -- the places of old copies, the first at or behind a step, in order, and within the new steps
 abbrev pub Ascending : Plan → ℕ → List Checkpoint → Type 0
 Ascending p step [] = step ≤ p.total
-Ascending p step (c ∷ more) = (step ≤ place_of p c) × Ascending p (place_of p c) more
+Ascending p step (c ∷ more) = (step ≤ step_among_new p c) × Ascending p (step_among_new p c) more
 
 -- where an old copy is of a state that a replay has come to: the same strings stabilise, and the number of the next coin and the
 -- records are the same
-pub record Meets (n : ℕ) (t : TableauState) (o : Output) (old : List Bool) (c : Checkpoint) : Type 0 where
+pub record Meets (n : ℕ) (t : TableauState) (o : RunOutput) (old : List Bool) (c : Checkpoint) : Type 0 where
   pub group : SameGroup n (stabilises t) (stabilises c.tableau)
   pub coin : length o.free ≡ c.lengths.free
   pub count : length o.records ≡ c.lengths.records
@@ -94,7 +95,7 @@ pub record Meets (n : ℕ) (t : TableauState) (o : Output) (old : List Bool) (c 
 
 -- an old copy stands at this step among the new ones
 abbrev pub IsPlacedAt : Plan → List Checkpoint → ℕ → ℕ → Type 0
-IsPlacedAt p copies number step = IsSomeAnd (slice_get copies number) (λ c. place_of p c ≡ step)
+IsPlacedAt p copies number step = IsSomeAnd (slice_get copies number) (λ c. step_among_new p c ≡ step)
 
 -- a copy of the state that a replay has come to
 abbrev pub copy_of : Replay → Checkpoint
@@ -102,7 +103,7 @@ copy_of r = record { step = r.step; lengths = lengths_of (output_of r.outputs); 
 
 -- a replay is at the place of an old copy, and meets it
 abbrev pub MeetsAt : ℕ → Plan → Replay → List Bool → Checkpoint → Type 0
-MeetsAt n p r records c = (place_of p c ≡ r.step) × Meets n r.tableau (output_of r.outputs) records c
+MeetsAt n p r records c = (step_among_new p c ≡ r.step) × Meets n r.tableau (output_of r.outputs) records c
 
 -- what a replay comes to at the step where it stops: the old copy that may be met next, or the last step, or neither, and which copy
 -- may be met then
@@ -123,12 +124,12 @@ IsEnd n p r copies records (Joined j) = (p.next ≤ j) × IsSomeAnd (slice_get c
 abbrev pub Misses : ℕ → (ℕ → Bool) → Plan → List Step → List Bool → Checkpoint → Type 0
 Misses n coins p ys records c =
     (xs : List Step) → IsCheckpoint n coins xs c → take c.lengths.records records ≡ (outputs n coins (take c.step xs) origin).records
-    → AgreeAt n (point_after n coins (take c.step xs) origin) (point_after n coins (take (place_of p c) ys) origin) → ⊥
+    → AgreeAt n (point_after n coins (take c.step xs) origin) (point_after n coins (take (step_among_new p c) ys) origin) → ⊥
 
 -- each old copy that may be met, and stands before the step where the replay ended, was missed
 abbrev pub EndsSoon : ℕ → (ℕ → Bool) → Plan → List Step → List Checkpoint → List Bool → ℕ → Type 0
 EndsSoon n coins p ys copies records end =
-    (number : ℕ) → p.next ≤ number → IfSome (slice_get copies number) (λ c. place_of p c < end → Misses n coins p ys records c)
+    (number : ℕ) → p.next ≤ number → IfSome (slice_get copies number) (λ c. step_among_new p c < end → Misses n coins p ys records c)
 
 -- how many of so many old copies a replay passed
 abbrev pub copies_passed : Plan → ℕ → End → ℕ

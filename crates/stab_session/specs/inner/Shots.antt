@@ -1,4 +1,5 @@
 -- Shots: what a program holds after a run of all steps.
+-- Source: this project's own.
 use Rattle.std.specs.Prelude.{◌≡◌, ℕ, Bool}
 use Rattle.stab_pauli.specs.Paulis.{Signed}
 use Rattle.stab_tableau.specs.Traces.{member}

@@ -1,4 +1,5 @@
 -- Spacing: at which steps copies of a run's state are kept.
+-- Source: this project's own.
 use Rattle.std.specs.Prelude.{◌≡◌, ℕ, ◌+◌, ◌<◌, ◌≤◌, List, [], ◌∷◌, ◌++◌, Some, slice_get}
 
 -- none is less than the one before it, and none more than K greater

@@ -1,8 +1,8 @@
 use super::Session;
 use crate::coins::Coins;
-use crate::pending::{Edit, begin, finish, take_back};
-use stab_circuit::Refused;
-use stab_pauli::Fault;
+use crate::pending::{begin, finish, take_back};
+use stab_circuit::{Edit, Refused};
+use stab_io::Fault;
 
 /// What an edit cost: the steps that were carried out for it, and the copies of the state that are
 /// kept afterwards.
@@ -15,9 +15,9 @@ pub struct Report {
 impl<C: Coins> Session<C> {
     ghost use Rattle.std.specs.Prelude.{◌≡◌, ℕ, ◌+◌, ◌≤◌, length, IfOk, IfErr, OnOk, OnErr};
     ghost use Rattle.stab_circuit.specs.Items.{entries};
-    ghost use Rattle.stab_circuit.specs.Edits.{put_item};
-    ghost use Rattle.stab_session.specs.Sessions.{IsFaultOf};
-    ghost use Rattle.stab_session.specs.SessionEdits.{change_of, verdict_on, IsEditedBy, IsAsBefore};
+    ghost use Rattle.stab_circuit.specs.Edits.{verdict, put_item};
+    ghost use Rattle.stab_io.specs.Refusals.{IsCallFault};
+    ghost use Rattle.stab_session.specs.SessionEdits.{IsEditedBy, IsAsBefore};
     ghost use Rattle.stab_session.specs.Bounds.{steps_from_change, steps_near_change, steps_changed, most_refused_asks, most_checkpoints, AgreeBehind, IsCountOf};
     ghost use Rattle.stab_session.specs.Headline.{IsRunOfItems};
 
@@ -31,8 +31,8 @@ impl<C: Coins> Session<C> {
         ensures statement { IsRunOfItems C.sequence self.new }
         ensures edited { OnOk result (IsEditedBy C.sequence edit self.old self.new) }
         ensures unchanged { OnErr result (IsAsBefore C.sequence self.old self.new) }
-        ensures refused { IfErr result (λ r. IsFaultOf (verdict_on self.old.qubits edit (entries self.old.items)) r.fault) }
-        ensures item { IfErr result (λ r. r.item ≡ put_item (change_of edit)) }
+        ensures refused { IfErr result (λ r. IsCallFault (verdict self.old.qubits edit (entries self.old.items)) r.fault) }
+        ensures item { IfErr result (λ r. r.item ≡ put_item edit) }
         ensures applied { IfOk result (λ r. r.applied ≤ steps_from_change edit self.old self.new) }
         ensures early { IfOk result (λ r. (far : ℕ) → AgreeBehind C.sequence edit self.old self.new far → r.applied ≤ steps_near_change edit self.new + far) }
         ensures at_least { IfOk result (λ r. steps_changed edit self.old self.new ≤ r.applied) }

@@ -1,47 +1,48 @@
 -- Pairs: strings that lie two by two, the preimages of X and Z on one qubit after another.
+-- Source: this project's own.
 use Rattle.std.specs.Prelude.{◌≡◌, ℕ, Bool, true, false, ◌*◌, ◌+◌, ◌≤◌, List, [], ◌∷◌, length, slice_set}
 use Rattle.stab_pauli.specs.Paulis.{Signed}
-use Rattle.stab_pauli.specs.Rows.{Rows, turned_product}
-use Rattle.stab_tableau.specs.declared.table.Row.{Row}
-use Rattle.stab_tableau.specs.declared.table.Row.TheVariants.{OfX, OfZ}
+use Rattle.stab_pauli.specs.Rows.{Rows, product_times_i}
+use Rattle.stab_tableau.specs.declared.table.InverseRow.{InverseRow}
+use Rattle.stab_tableau.specs.declared.table.InverseRow.TheVariants.{OfX, OfZ}
 use Rattle.stab_tableau.specs.declared.gate.Gate.{Gate}
 use Rattle.stab_tableau.specs.declared.gate.PairGate.{PairGate}
 use Rattle.stab_tableau.specs.Limits.{most_qubits}
-use Rattle.stab_tableau.specs.inner.Preimages.{Preimages, row_at, GateRow, PairRows}
+use Rattle.stab_tableau.specs.inner.InverseRows.{InverseRows, rows_at, GateRow, PairRows}
 
 -- strings taken two by two; a last one alone is left out
-abbrev pub paired : List Signed → List Preimages
+abbrev pub paired : List Signed → List InverseRows
 paired [] = []
 paired (x ∷ []) = []
 paired (x ∷ z ∷ rows) = record { x = x; z = z } ∷ paired rows
 
 -- where the preimage of X or of Z on a qubit lies
-abbrev pub place_of : Row → ℕ → ℕ
-place_of OfX q = 2 * q
-place_of OfZ q = 2 * q + 1
+abbrev pub row_place : InverseRow → ℕ → ℕ
+row_place OfX q = 2 * q
+row_place OfZ q = 2 * q + 1
 
 -- one of the two
-abbrev pub string_of : Row → Preimages → Signed
-string_of OfX r = r.x
-string_of OfZ r = r.z
+abbrev pub row_string : InverseRow → InverseRows → Signed
+row_string OfX r = r.x
+row_string OfZ r = r.z
 
 -- another string in its place
-abbrev pub with_string : Row → Signed → Preimages → Preimages
+abbrev pub with_string : InverseRow → Signed → InverseRows → InverseRows
 with_string OfX p r = record { x = p; z = r.z }
 with_string OfZ p r = record { x = r.x; z = p }
 
 -- another string in its place on one qubit
-abbrev pub put : Row → ℕ → Signed → List Preimages → List Preimages
-put w q p rows = slice_set rows q (with_string w p (row_at rows q))
+abbrev pub put : InverseRow → ℕ → Signed → List InverseRows → List InverseRows
+put w q p rows = slice_set rows q (with_string w p (rows_at rows q))
 
 -- two strings that have changed places
-abbrev pub exchanged : Row → ℕ → Row → ℕ → List Preimages → List Preimages
-exchanged v a w b rows = put w b (string_of v (row_at rows a)) (put v a (string_of w (row_at rows b)) rows)
+abbrev pub rows_exchanged : InverseRow → ℕ → InverseRow → ℕ → List InverseRows → List InverseRows
+rows_exchanged v a w b rows = put w b (row_string v (rows_at rows a)) (put v a (row_string w (rows_at rows b)) rows)
 
 -- i times the product of a string and another, where the bit says so
-abbrev pub turned_if : Bool → Signed → Signed → Signed
-turned_if false p j = p
-turned_if true p j = turned_product p j
+abbrev pub product_times_i_if : Bool → Signed → Signed → Signed
+product_times_i_if false p j = p
+product_times_i_if true p j = product_times_i p j
 
 -- two strings for each of at most 1,024 qubits
 pub record IsPaired (r : Rows) : Type 0 where
@@ -49,11 +50,11 @@ pub record IsPaired (r : Rows) : Type 0 where
   pub size : length r.rows ≡ 2 * r.qubits
 
 -- rows after a gate on a qubit
-pub record IsGated (g : Gate) (q : ℕ) (old new : List Preimages) : Type 0 where
-  pub row : GateRow (length old) g (row_at old q) (row_at new q)
-  pub rest : new ≡ slice_set old q (row_at new q)
+pub record IsGated (g : Gate) (q : ℕ) (old new : List InverseRows) : Type 0 where
+  pub row : GateRow (length old) g (rows_at old q) (rows_at new q)
+  pub rest : new ≡ slice_set old q (rows_at new q)
 
 -- rows after a gate on two qubits
-pub record IsPairGated (g : PairGate) (a b : ℕ) (old new : List Preimages) : Type 0 where
-  pub rows : PairRows (length old) g (row_at old a) (row_at old b) (row_at new a) (row_at new b)
-  pub rest : new ≡ slice_set (slice_set old a (row_at new a)) b (row_at new b)
+pub record IsPairGated (g : PairGate) (a b : ℕ) (old new : List InverseRows) : Type 0 where
+  pub rows : PairRows (length old) g (rows_at old a) (rows_at old b) (rows_at new a) (rows_at new b)
+  pub rest : new ≡ slice_set (slice_set old a (rows_at new a)) b (rows_at new b)

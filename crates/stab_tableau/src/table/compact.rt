@@ -1,5 +1,6 @@
 use super::Table;
-use stab_pauli::{CompactRows, Refusal};
+use stab_io::Refusal;
+use stab_pauli::CompactRows;
 use std::alloc::Global;
 use std::marker::Model;
 
@@ -13,10 +14,10 @@ pub struct CompactTable {
 
 impl Model for CompactTable {
     ghost use Rattle.std.specs.Prelude.{List};
-    ghost use Rattle.stab_tableau.specs.inner.Preimages.{Preimages};
+    ghost use Rattle.stab_tableau.specs.inner.InverseRows.{InverseRows};
     ghost use Rattle.stab_tableau.specs.inner.Pairs.{paired, IsPaired};
 
-    ghost Value = { List Preimages };
+    ghost Value = { List InverseRows };
 
     ghost view = { λ t. paired t.rows.rows };
 
@@ -25,7 +26,7 @@ impl Model for CompactTable {
 
 impl Table {
     ghost use Rattle.std.specs.Prelude.{◌≡◌, IfOk, IfErr};
-    ghost use Rattle.stab_pauli.specs.declared.refusal.Refusal.TheVariants.{OutOfMemory};
+    ghost use Rattle.stab_io.specs.declared.refusal.Refusal.TheVariants.{OutOfMemory};
 
     /// The same rows, kept in little memory.
     pub fn compact(&self, alloc: Global) -> Result<CompactTable, Refusal>
@@ -39,7 +40,7 @@ impl Table {
 
 impl CompactTable {
     ghost use Rattle.std.specs.Prelude.{◌≡◌, ◌↔◌, IsTrue, IfOk, IfErr, length};
-    ghost use Rattle.stab_pauli.specs.declared.refusal.Refusal.TheVariants.{OutOfMemory};
+    ghost use Rattle.stab_io.specs.declared.refusal.Refusal.TheVariants.{OutOfMemory};
 
     /// The number of qubits.
     pub fn len(&self) -> usize

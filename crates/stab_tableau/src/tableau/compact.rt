@@ -1,6 +1,7 @@
 use super::Tableau;
 use crate::table::CompactTable;
-use stab_pauli::{Pauli, Refusal};
+use stab_io::Refusal;
+use stab_pauli::Pauli;
 use std::alloc::Global;
 use std::marker::Model;
 
@@ -21,19 +22,19 @@ impl Drop for CompactTableau {
 impl Model for CompactTableau {
     ghost use Rattle.std.specs.Prelude.{length};
     ghost use Rattle.stab_tableau.specs.Tableaus.{TableauState};
-    ghost use Rattle.stab_tableau.specs.inner.Preimages.{Preimages, IsOver};
+    ghost use Rattle.stab_tableau.specs.inner.InverseRows.{InverseRows, IsOver};
     ghost use Rattle.stab_tableau.specs.inner.Tables.{IsTableau};
 
     ghost Value = { TableauState };
 
     ghost view = { λ t. record { qubits = length t.table; rows = t.table } };
 
-    ghost invariant = { λ t. (scratch : Preimages) → IsOver (length t.table) scratch → IsTableau (length t.table) t.table scratch };
+    ghost invariant = { λ t. (scratch : InverseRows) → IsOver (length t.table) scratch → IsTableau (length t.table) t.table scratch };
 }
 
 impl Tableau {
     ghost use Rattle.std.specs.Prelude.{◌≡◌, IfOk, IfErr};
-    ghost use Rattle.stab_pauli.specs.declared.refusal.Refusal.TheVariants.{OutOfMemory};
+    ghost use Rattle.stab_io.specs.declared.refusal.Refusal.TheVariants.{OutOfMemory};
 
     /// The same state, kept in little memory, where most of its words are 0, as for codes.
     ///
@@ -49,7 +50,7 @@ impl Tableau {
 
 impl CompactTableau {
     ghost use Rattle.std.specs.Prelude.{◌≡◌, ◌↔◌, IsTrue, IfOk, IfErr};
-    ghost use Rattle.stab_pauli.specs.declared.refusal.Refusal.TheVariants.{OutOfMemory};
+    ghost use Rattle.stab_io.specs.declared.refusal.Refusal.TheVariants.{OutOfMemory};
 
     /// The same state as a tableau, in the memory of a spare one that has as many qubits, else in memory of its own.
     ///
@@ -66,11 +67,11 @@ impl CompactTableau {
         }
         let table = self.table.table(alloc)?;
         let preimage = Pauli::identity(alloc, table.len())?;
-        let turning = Pauli::identity(alloc, table.len())?;
+        let multiplier = Pauli::identity(alloc, table.len())?;
         Ok(Tableau {
             table,
             preimage,
-            turning,
+            multiplier,
         })
     }
 

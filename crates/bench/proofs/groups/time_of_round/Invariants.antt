@@ -3,6 +3,6 @@ use Rattle.bench.proofs.groups.time_of_round.Given as goal
 
 abbrev pub invariant-loop : goal.invariant-loop
 invariant-loop g l = record {
-  first : l.first ≡ l.fn.first;
-  second : l.second ≡ l.fn.second;
+  first : l.first.qubits ≡ l.fn.first.qubits;
+  second : l.second.qubits ≡ l.fn.first.qubits;
 }

@@ -2,9 +2,9 @@ use Rattle.std.proofs.Common.{◌++◌, ◌+◌, suc, codes, drop, ap, arith}
 use Rattle.std.proofs.lemmas.Result.{err_from_is_err_and}
 use Rattle.stab_circuit.specs.Items.{listed}
 use Rattle.stab_circuit.specs.Items.{depth_of as nested_in}
-use Rattle.stab_circuit.specs.inner.Margins.{depth_of}
+use Rattle.stab_circuit.specs.inner.Margins.{margin_depth}
 use Rattle.stab_circuit.specs.Prints.{line_text, printed_in}
-use Rattle.stab_pauli.proofs.DeviceLemmas.{took_more}
+use Rattle.stab_io.proofs.DeviceLemmas.{took_more}
 use Rattle.stab_lines.proofs.WriteLemmas.{writes_failed, writes_then, writes_as, took_as}
 use Rattle.stab_circuit.proofs.PrintLemmas.{block_lines, printed_place, printed_more}
 use Rattle.stab_circuit.proofs.ItemLemmas.{depth_at}
@@ -12,7 +12,7 @@ use Rattle.stab_circuit.proofs.print.+printing.Goals as goal
 
 pub write_item-returns-in_err-write_open_line-in-Block : goal.write_item-returns-in_err-write_open_line-in-Block
 write_item-returns-in_err-write_open_line-in-Block g t c =
-    let d = depth_of c.args.margin.now in
+    let d = margin_depth c.args.margin.now in
     let p = err_from_is_err_and c.from_residual.result c.from_residual.ensures.1 in
     record {
       writes = writes_as _ _ _ (block_lines d c.args.item.now c.in-Block.count c.in-Block.tag.now (listed c.in-Block.body.now) c.in-Block.ensures.value)
@@ -21,7 +21,7 @@ write_item-returns-in_err-write_open_line-in-Block g t c =
 
 pub write_item-returns-in_err-write_items-in-Block : goal.write_item-returns-in_err-write_items-in-Block
 write_item-returns-in_err-write_items-in-Block g t c =
-    let d = depth_of c.args.margin.now in
+    let d = margin_depth c.args.margin.now in
     let p = err_from_is_err_and c.from_residual-in_err-write_items-in-Block.result c.from_residual-in_err-write_items-in-Block.ensures.1 in
     record {
       writes = writes_as _ _ _ (block_lines d c.args.item.now c.in-Block.count c.in-Block.tag.now (listed c.in-Block.body.now) c.in-Block.ensures.value)
@@ -31,7 +31,7 @@ write_item-returns-in_err-write_items-in-Block g t c =
 
 pub write_item-returns-in_ok-write_items-in-Block : goal.write_item-returns-in_ok-write_items-in-Block
 write_item-returns-in_ok-write_items-in-Block g t c = record {
-  writes = writes_as _ _ _ (block_lines (depth_of c.args.margin.now) c.args.item.now c.in-Block.count c.in-Block.tag.now (listed c.in-Block.body.now) c.in-Block.ensures.value)
+  writes = writes_as _ _ _ (block_lines (margin_depth c.args.margin.now) c.args.item.now c.in-Block.count c.in-Block.tag.now (listed c.in-Block.body.now) c.in-Block.ensures.value)
       (writes_then _ _ _ c.in_ok-write_open_line-in-Block.ensures.writes
       (writes_then _ _ _ c.in_ok-write_items-in-Block.ensures.writes c.write_close_line.ensures.writes));
 }
@@ -45,7 +45,7 @@ write_items-write_item-requires g t c =
 
 pub write_items-returns-in_err-write_item : goal.write_items-returns-in_err-write_item
 write_items-returns-in_err-write_item g t c =
-    let d = depth_of c.args.margin.now in
+    let d = margin_depth c.args.margin.now in
     let p = err_from_is_err_and c.from_residual.result c.from_residual.ensures.1 in
     record {
       writes = writes_as _ _ _ (printed_place d c.args.items.now c.loop-item.item-index c.item-item.result c.loop-item-test.true c.item-item.is)
@@ -54,5 +54,5 @@ write_items-returns-in_err-write_item g t c =
 
 pub write_items-loop-item-preserved : goal.write_items-loop-item-preserved
 write_items-loop-item-preserved g t c =
-    took_as (printed_more (depth_of c.args.margin.now) c.args.items.now c.loop-item.item-index c.item-item.result c.loop-item-test.true c.item-item.is)
+    took_as (printed_more (margin_depth c.args.margin.now) c.args.items.now c.loop-item.item-index c.item-item.result c.loop-item-test.true c.item-item.is)
     (took_more _ _ c.loop-item.invariant c.in_ok-write_item.ensures.writes)

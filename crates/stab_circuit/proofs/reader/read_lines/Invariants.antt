@@ -1,12 +1,12 @@
 use Rattle.std.proofs.Common.{◌≡◌, ◌≤◌, ◌+◌, length}
 use Rattle.stab_circuit.specs.Circuits.{contents}
-use Rattle.stab_circuit.specs.inner.Readers.{progress_of, read_on, pending, reading, IsShallow}
+use Rattle.stab_circuit.specs.inner.Readers.{progress_of, read_on, pending, reading, IsShallowProgress}
 use Rattle.stab_circuit.proofs.reader.read_lines.Given as goal
 
 abbrev pub invariant-lines : goal.invariant-lines
 invariant-lines l = record {
   few : l.line + length l.rest ≤ 16777217;
-  shallow : IsShallow (progress_of l.reader);
+  shallow : IsShallowProgress (progress_of l.reader);
   same : read_on l.line (progress_of l.reader) (pending l.single (progress_of l.reader) (contents l.rest)) ≡ reading l.single l.text;
 }
 

@@ -1,5 +1,5 @@
 use Rattle.std.proofs.Common.{◌∙◌, subst, inr}
-use Rattle.stab_pauli.specs.Refusals.{whole}
+use Rattle.stab_io.specs.Refusals.{whole}
 use Rattle.stab_commands.specs.Endings.{FailsToSend}
 use Rattle.stab_commands.specs.Jobs.{TellsFault}
 use Rattle.stab_cli.proofs.usage.write_usage.Goals as goal

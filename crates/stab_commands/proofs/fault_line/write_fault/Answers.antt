@@ -1,6 +1,6 @@
 use Rattle.std.proofs.Common.{◌≡◌, refl, ◌∙◌, ap, subst, decimal, true, false, ◌==◌}
-use Rattle.stab_pauli.specs.Devices.{WritesAll}
-use Rattle.stab_pauli.specs.Refusals.{number_of, name_of}
+use Rattle.stab_io.specs.Devices.{WritesAll}
+use Rattle.stab_io.specs.Refusals.{number_of, name_of}
 use Rattle.stab_commands.proofs.FaultLineLaws.{joined-whole, joined-line, not_zero}
 use Rattle.stab_commands.proofs.fault_line.write_fault.Goals as goal
 

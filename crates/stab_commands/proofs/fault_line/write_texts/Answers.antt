@@ -1,5 +1,5 @@
 use Rattle.std.proofs.Common.{map, drop}
-use Rattle.stab_pauli.proofs.DeviceLemmas.{wrote_part, wrote_and_failed, failed_on}
+use Rattle.stab_io.proofs.DeviceLemmas.{wrote_part, wrote_and_failed, failed_on}
 use Rattle.stab_commands.specs.inner.Texts.{texts_joined}
 use Rattle.stab_commands.proofs.FaultLineLaws.{joined-drop}
 use Rattle.stab_commands.proofs.fault_line.write_texts.Goals as goal

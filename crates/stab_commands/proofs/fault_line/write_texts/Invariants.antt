@@ -1,6 +1,6 @@
 use Rattle.std.proofs.Common.{map}
 use Rattle.std.proofs.Math.ListN.{drop}
-use Rattle.stab_pauli.proofs.DeviceLemmas.{WroteUpTo}
+use Rattle.stab_io.proofs.DeviceLemmas.{WroteUpTo}
 use Rattle.stab_commands.specs.inner.Texts.{texts_joined}
 use Rattle.stab_commands.proofs.fault_line.write_texts.Given as goal
 

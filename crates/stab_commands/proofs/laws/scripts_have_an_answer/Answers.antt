@@ -1,4 +1,4 @@
-use Rattle.stab_commands.specs.Scripts.{requests_of}
+use Rattle.stab_commands.specs.script.Scripts.{requests_of}
 use Rattle.stab_commands.proofs.AnswerExistLaws.{all_answered}
 use Rattle.stab_commands.proofs.laws.scripts_have_an_answer.Goals as goal
 

@@ -1,4 +1,4 @@
-use Rattle.stab_commands.specs.Scripts.{requests_of}
+use Rattle.stab_commands.specs.script.Scripts.{requests_of}
 use Rattle.stab_commands.proofs.AnswerLaws.{one_answer_to_all}
 use Rattle.stab_commands.proofs.laws.scripts_have_one_answer.Goals as goal
 

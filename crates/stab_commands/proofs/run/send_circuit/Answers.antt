@@ -1,8 +1,8 @@
-use Rattle.std.proofs.Common.{◌≡◌, subst, inl, inr}
+use Rattle.std.proofs.Common.{◌≡◌, subst}
 use Rattle.std.specs.Result.{IsErrAnd}
 use Rattle.stab_circuit.specs.Views.{circuit_items}
 use Rattle.stab_session.specs.Samplers.{SamplerState}
-use Rattle.stab_commands.proofs.RunLaws.{memory_alone, sends_nothing, sends_cut_off}
+use Rattle.stab_commands.proofs.RunLaws.{memory_alone, sends_nothing, sends_cut_off, sends_finished}
 use Rattle.stab_commands.proofs.run.send_circuit.Goals as goal
 
 pub returns-in_err-sampler : goal.returns-in_err-sampler
@@ -18,21 +18,6 @@ returns-in_err-send_shots g c = record {
 
 pub returns : goal.returns
 returns g c = record {
-  sends = inl (
-    c.whole.ensures.value,
-    inr (record {
-      between = g.O.Output.seen c.send_shots.new.out;
-      took = rw c.qubits.ensures.value at (rw c.in_ok-sampler.ensures.state at c.in_ok-send_shots.ensures.sends);
-      failed = c.in-Err.ensures.flushes;
-    }),
-  );
-}
-
-pub returns-in-Ok : goal.returns-in-Ok
-returns-in-Ok g c = record {
-  sends = record {
-    between = g.O.Output.seen c.send_shots.new.out;
-    took = rw c.qubits.ensures.value at (rw c.in_ok-sampler.ensures.state at c.in_ok-send_shots.ensures.sends);
-    flushed = c.in-Ok.ensures.flushes;
-  };
+  sends = sends_finished _ (g.O.Output.seen c.args.out.now) (g.O.Output.seen c.send_shots.new.out) (g.O.Output.seen c.finish.new.out) c.finish.result
+      (rw c.qubits.ensures.value at (rw c.in_ok-sampler.ensures.state at c.in_ok-send_shots.ensures.sends)) c.finish.ensures.flushes;
 }

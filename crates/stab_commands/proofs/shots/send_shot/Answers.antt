@@ -1,5 +1,5 @@
 use Rattle.std.proofs.Common.{◌∙◌, ap, Err}
-use Rattle.stab_pauli.specs.Refusals.{whole}
+use Rattle.stab_io.specs.Refusals.{whole}
 use Rattle.stab_commands.proofs.SendingLaws.{sends_none}
 use Rattle.stab_commands.proofs.shots.send_shot.Goals as goal
 

@@ -1,6 +1,6 @@
 use Rattle.std.proofs.Common.{codes}
 use Rattle.stab_pauli.specs.Texts.{pauli_text}
-use Rattle.stab_pauli.proofs.DeviceLemmas.{failed_on, failed_within, took_and_failed}
+use Rattle.stab_io.proofs.DeviceLemmas.{failed_on, failed_within, took_and_failed}
 use Rattle.stab_commands.specs.Stabilisers.{line_of}
 use Rattle.stab_commands.proofs.stabilisers.write_row.Goals as goal
 

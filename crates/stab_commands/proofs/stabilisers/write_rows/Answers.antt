@@ -1,5 +1,5 @@
 use Rattle.std.proofs.Common.{drop}
-use Rattle.stab_pauli.proofs.DeviceLemmas.{wrote_part, wrote_and_failed, failed_on}
+use Rattle.stab_io.proofs.DeviceLemmas.{wrote_part, wrote_and_failed, failed_on}
 use Rattle.stab_commands.specs.Stabilisers.{line_of, lines_of}
 use Rattle.stab_commands.proofs.RowLaws.{lines-drop}
 use Rattle.stab_commands.proofs.stabilisers.write_rows.Goals as goal

@@ -1,5 +1,5 @@
 use Rattle.std.proofs.Math.ListN.{drop}
-use Rattle.stab_pauli.proofs.DeviceLemmas.{WroteUpTo}
+use Rattle.stab_io.proofs.DeviceLemmas.{WroteUpTo}
 use Rattle.stab_commands.specs.Stabilisers.{lines_of}
 use Rattle.stab_commands.proofs.stabilisers.write_rows.Given as goal
 

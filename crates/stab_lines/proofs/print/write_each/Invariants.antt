@@ -1,5 +1,5 @@
 use Rattle.std.proofs.Common.{take}
-use Rattle.stab_pauli.specs.Devices.{Took}
+use Rattle.stab_io.specs.Devices.{Took}
 use Rattle.stab_lines.specs.Prints.{each_after}
 use Rattle.stab_lines.proofs.print.write_each.Given as goal
 

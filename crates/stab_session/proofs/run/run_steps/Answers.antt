@@ -1,7 +1,7 @@
 use Rattle.std.proofs.Common.{◌-◌, arith, ap, subst, sym, ◌∙◌, length, take}
 use Rattle.stab_circuit.specs.Cursors.{step_shown}
 use Rattle.stab_session.specs.Points.{all_coins_of}
-use Rattle.stab_session.specs.inner.Sights.{IsRun, sight, output_of}
+use Rattle.stab_session.specs.inner.ProgramStates.{IsRun, program_state, output_of}
 use Rattle.stab_session.proofs.RunLemmas.{IsRun-none, fits-rest, run-rest}
 use Rattle.stab_session.proofs.StepsLeftLemmas.{take-next, drop-next, take-none, drop-none, take-empty, drop-empty}
 use Rattle.stab_session.proofs.run.run_steps.Goals as goal
@@ -16,8 +16,8 @@ loop-left-preserved g c =
     let before = c.loop-left.cursor.left in
     let behind = c.next.new.self.left in
     let front = take-next left before x behind more c.loop-left-test.true in
-    let now = sight c.loop-left.tableau (output_of c.loop-left.outputs) in
-    let then = sight c.apply_step.new.tableau (output_of c.apply_step.new.outputs) in
+    let now = program_state c.loop-left.tableau (output_of c.loop-left.outputs) in
+    let then = program_state c.apply_step.new.tableau (output_of c.apply_step.new.outputs) in
     record {
       fits = fits-rest c.loop-left.tableau.qubits c.apply_step.new.tableau.qubits before x behind more done.qubits inv.fits;
       few = omega (arith, ap length more, done.counted, inv.few);
@@ -45,7 +45,7 @@ returns-clause-asks g c = omega (arith, c.loop-left.invariant.asks)
 
 pub returns-clause-run : goal.returns-clause-run
 returns-clause-run g c =
-    let now = sight c.loop-left.tableau (output_of c.loop-left.outputs) in
+    let now = program_state c.loop-left.tableau (output_of c.loop-left.outputs) in
     c.loop-left.invariant.run now
     (subst (λ xs. IsRun c.args.tableau.now.qubits (g.C.Coins.sequence c.args.coins.now) xs now now) (sym (take-none c.loop-left.left c.loop-left.cursor.left c.loop-left-test.false))
     (IsRun-none c.args.tableau.now.qubits (g.C.Coins.sequence c.args.coins.now) now))
@@ -65,7 +65,7 @@ returns-in-None-clause-asks g c = omega (arith, c.loop-left.invariant.asks)
 
 pub returns-in-None-clause-run : goal.returns-in-None-clause-run
 returns-in-None-clause-run g c =
-    let now = sight c.loop-left.tableau (output_of c.loop-left.outputs) in
+    let now = program_state c.loop-left.tableau (output_of c.loop-left.outputs) in
     c.loop-left.invariant.run now
     (subst (λ xs. IsRun c.args.tableau.now.qubits (g.C.Coins.sequence c.args.coins.now) xs now now) (sym (take-empty c.loop-left.left c.loop-left.cursor.left c.in-None.ensures.none.0))
     (IsRun-none c.args.tableau.now.qubits (g.C.Coins.sequence c.args.coins.now) now))

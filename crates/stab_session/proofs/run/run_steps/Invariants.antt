@@ -1,7 +1,7 @@
 use Rattle.std.proofs.Common.{◌≡◌, ◌+◌, ◌≤◌, All, length, take, drop}
 use Rattle.stab_session.specs.Records.{ones}
 use Rattle.stab_session.specs.Points.{all_coins_of}
-use Rattle.stab_session.specs.inner.Sights.{Sight, StepFits, IsRun, sight, output_of}
+use Rattle.stab_session.specs.inner.ProgramStates.{ProgramState, StepFits, IsRun, program_state, output_of}
 use Rattle.stab_session.proofs.run.run_steps.Given as goal
 
 abbrev pub invariant-loop-left : goal.invariant-loop-left
@@ -16,10 +16,10 @@ invariant-loop-left g l = record {
   same_coins : g.C.Coins.sequence l.coins ≡ g.C.Coins.sequence l.initial.coins;
   asks : g.C.Coins.asks l.coins + all_coins_of (take l.left l.cursor.left) ≤ g.C.Coins.asks l.initial.coins + all_coins_of (take l.most l.initial.cursor.left);
   asks_free : g.C.Coins.asks l.coins + ones l.initial.outputs.free.items ≤ g.C.Coins.asks l.initial.coins + ones l.outputs.free.items;
-  run : (new : Sight)
-      → IsRun l.initial.tableau.qubits (g.C.Coins.sequence l.initial.coins) (take l.left l.cursor.left) (sight l.tableau (output_of l.outputs)) new
+  run : (new : ProgramState)
+      → IsRun l.initial.tableau.qubits (g.C.Coins.sequence l.initial.coins) (take l.left l.cursor.left) (program_state l.tableau (output_of l.outputs)) new
       → IsRun l.initial.tableau.qubits (g.C.Coins.sequence l.initial.coins) (take l.most l.initial.cursor.left)
-      (sight l.initial.tableau (output_of l.initial.outputs)) new;
+      (program_state l.initial.tableau (output_of l.initial.outputs)) new;
 }
 
 abbrev pub decreases-loop-left : goal.decreases-loop-left

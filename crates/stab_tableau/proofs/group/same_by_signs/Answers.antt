@@ -35,5 +35,5 @@ returns-in-Some-clause-value c = (
   λ same. absurd
       (signs-no c.args.table.now c.args.others.now (record { x = c.args.preimage.now; z = c.args.frame.now }) c.requires.tableau c.requires.same_letters
       c.write_frame.new.out c.write_preimage.new.out (ap (λ (s : Signed). s.letters) c.write_frame.ensures.value) c.write_preimage.ensures.value
-      c.in-Some.field-0 c.in-Some.ensures.flips same),
+      c.in-Some.field-0 c.in-Some.ensures.has_x same),
 )

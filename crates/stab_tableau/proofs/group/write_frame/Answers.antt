@@ -2,8 +2,8 @@ use Rattle.std.proofs.Common.{◌∙◌, ◌<◌, ◌≤◌, not, length, arith}
 use Rattle.std.specs.Bool.{beq}
 use Rattle.std.proofs.lemmas.List.{length-set}
 use Rattle.stab_pauli.proofs.SignedLemmas.{signed_path}
-use Rattle.stab_tableau.specs.inner.Preimages.{row_at}
-use Rattle.stab_tableau.specs.inner.ColumnLetters.{letter_by}
+use Rattle.stab_tableau.specs.inner.InverseRows.{rows_at}
+use Rattle.stab_tableau.specs.inner.ColumnLetters.{letter_anticommuting}
 use Rattle.stab_tableau.proofs.FrameLemmas.{differ, frame-more, frame-all}
 use Rattle.stab_tableau.proofs.group.write_frame.Goals as goal
 
@@ -17,10 +17,10 @@ loop-qubit-preserved c =
       done = frame-more c.loop-qubit.qubit c.args.table.now c.args.others.now c.loop-qubit.out.letters c.letter_where.result c.requires.same_length
           c.loop-qubit.invariant.size below
           (c.letter_where.ensures.value
-          ∙ (λ i. letter_by (not (beq (c.is_negative.ensures.value i) (c.is_negative-in-loop-qubit.ensures.value i)))
+          ∙ (λ i. letter_anticommuting (not (beq (c.is_negative.ensures.value i) (c.is_negative-in-loop-qubit.ensures.value i)))
           (not (beq (c.is_negative-in-loop-qubit-2.ensures.value i) (c.is_negative-in-loop-qubit-3.ensures.value i))))
-          ∙ (λ i. letter_by (differ (row_at c.args.table.now c.loop-qubit.qubit).x.negative (row_at c.args.others.now c.loop-qubit.qubit).x.negative i)
-          (differ (row_at c.args.table.now c.loop-qubit.qubit).z.negative (row_at c.args.others.now c.loop-qubit.qubit).z.negative i)))
+          ∙ (λ i. letter_anticommuting (differ (rows_at c.args.table.now c.loop-qubit.qubit).x.negative (rows_at c.args.others.now c.loop-qubit.qubit).x.negative i)
+          (differ (rows_at c.args.table.now c.loop-qubit.qubit).z.negative (rows_at c.args.others.now c.loop-qubit.qubit).z.negative i)))
           c.loop-qubit.invariant.done;
     })
 

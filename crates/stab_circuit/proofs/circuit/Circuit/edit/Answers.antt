@@ -1,21 +1,24 @@
-use Rattle.std.proofs.Common.{◌∙◌, sym, ap, Some, inl, inr}
-use Rattle.stab_pauli.specs.Refusals.{whole}
-use Rattle.stab_circuit.specs.Edits.{edited}
-use Rattle.stab_circuit.proofs.EditingLemmas.{verdict_of}
+use Rattle.std.proofs.Common.{◌∙◌, sym}
+use Rattle.stab_circuit.specs.Edits.{edited, verdict}
+use Rattle.stab_circuit.proofs.EditingLemmas.{verdict_of, call_fault, want_fault, no_want}
 use Rattle.stab_circuit.proofs.circuit.Circuit.edit.Goals as goal
 
 pub returns-in-Some-clause-fault : goal.returns-in-Some-clause-fault
 returns-in-Some-clause-fault c =
-    let told = verdict_of c.args.n (edited c.args.change c.args.path c.args.self.now) c.in-Ok.outcome.total c.in-Ok.ensures.ok.total c.in-Ok.ensures.shallow in
-    let fault = c.refused-in-Some.ensures.fault in
-    inl (told ∙ sym c.in-Some.ensures.value ∙ ap Some (sym (ap (λ f. f.refusal) fault)), fault ∙ ap whole (sym (ap (λ f. f.refusal) fault)))
+    let told = verdict_of c.args.n (edited c.args.edit c.args.self.now) c.in-Ok.edit_result.total c.in-Ok.ensures.ok.total c.in-Ok.ensures.shallow in
+    call_fault (verdict c.args.n c.args.edit c.args.self.now) c.in-Some.refusal _ (told ∙ sym c.in-Some.ensures.value) c.refused-in-Some.ensures.fault
+
+pub returns-in-Some-clause-memory : goal.returns-in-Some-clause-memory
+returns-in-Some-clause-memory c =
+    let told = verdict_of c.args.n (edited c.args.edit c.args.self.now) c.in-Ok.edit_result.total c.in-Ok.ensures.ok.total c.in-Ok.ensures.shallow in
+    no_want (verdict c.args.n c.args.edit c.args.self.now) c.in-Some.refusal c.args.edit (told ∙ sym c.in-Some.ensures.value)
 
 pub returns-in-Err-make-clause-fault : goal.returns-in-Err-make-clause-fault
 returns-in-Err-make-clause-fault c =
-    let told = verdict_of c.args.n (edited c.args.change c.args.path c.args.self.now) c.in-Ok.outcome.total c.in-Ok.ensures.ok.total c.in-Ok.ensures.shallow in
-    inr (c.in-Err-make.ensures.memory, told ∙ sym c.in_default.ensures.value, c.in-Err-make.ensures.fault)
+    let told = verdict_of c.args.n (edited c.args.edit c.args.self.now) c.in-Ok.edit_result.total c.in-Ok.ensures.ok.total c.in-Ok.ensures.shallow in
+    want_fault (verdict c.args.n c.args.edit c.args.self.now) _ (told ∙ sym c.in_default.ensures.value) c.in-Err-make.ensures.fault
 
 pub returns-in-Ok-make-clause-allowed : goal.returns-in-Ok-make-clause-allowed
 returns-in-Ok-make-clause-allowed c =
-    let told = verdict_of c.args.n (edited c.args.change c.args.path c.args.self.now) c.in-Ok.outcome.total c.in-Ok.ensures.ok.total c.in-Ok.ensures.shallow in
+    let told = verdict_of c.args.n (edited c.args.edit c.args.self.now) c.in-Ok.edit_result.total c.in-Ok.ensures.ok.total c.in-Ok.ensures.shallow in
     told ∙ sym c.in_default.ensures.value

@@ -12,4 +12,5 @@ returns c =
     let first = with_command _ c.in_ok-subcommand.field-0 c.in_ok-sample.sample _ _ c.in_ok-subcommand.ensures c.in_ok-sample.ensures.app none in
     let second = with_command _ c.in_ok-subcommand-2.field-0 c.in_ok-detect.detect _ _ c.in_ok-subcommand-2.ensures detect first in
     let third = with_command _ c.in_ok-subcommand-3.field-0 c.in_ok-stabilisers.stabilisers _ _ c.in_ok-subcommand-3.ensures c.in_ok-stabilisers.ensures.app second in
-    record { app = IfOk-weaker c.subcommand-4.result _ _ (λ command adds. with_command _ command c.in_ok-edit.edit _ _ adds c.in_ok-edit.ensures.app third) c.subcommand-4.ensures }
+    let fourth = with_command _ c.in_ok-subcommand-4.field-0 c.in_ok-edit.edit _ _ c.in_ok-subcommand-4.ensures c.in_ok-edit.ensures.app third in
+    record { app = IfOk-weaker c.subcommand-5.result _ _ (λ command adds. with_command _ command c.in_ok-check.check _ _ adds c.in_ok-check.ensures.app fourth) c.subcommand-5.ensures }

@@ -1,13 +1,15 @@
-use Rattle.std.proofs.Common.{ap, ◌∙◌, codes}
+use Rattle.std.proofs.Common.{refl, ap, ◌∙◌, codes}
 use Rattle.clap.specs.Words.{new_app}
 use Rattle.clap.specs.Simple.{app_of_fields}
 use Rattle.stab_cli.specs.inner.Parts.{IsApp}
+use Rattle.stab_cli.proofs.CommandLaws.{with_alias}
 use Rattle.stab_cli.proofs.words.app.stabilisers_command.Goals as goal
 
 pub returns : goal.returns
 returns c =
-    let none : IsApp (new_app (codes "stabilisers")) c.after_help-command.result = (
-      ap app_of_fields c.after_help-command.ensures ∙ (ap app_of_fields c.about.ensures ∙ c.new.ensures.app),
-      ap (λ fields. fields.has_globals) c.after_help-command.ensures ∙ (ap (λ fields. fields.has_globals) c.about.ensures ∙ c.new.ensures.local),
+    let none : IsApp (new_app (codes "stabilisers")) c.after_help.result = (
+      ap app_of_fields c.after_help.ensures ∙ (ap app_of_fields c.about.ensures ∙ c.new.ensures.app),
+      ap (λ fields. fields.has_globals) c.after_help.ensures ∙ (ap (λ fields. fields.has_globals) c.about.ensures ∙ c.new.ensures.local),
     ) in
-    record { app = c.with_common.ensures.app _ none }
+    let named = with_alias _ c.in_ok-command.command _ _ refl c.in_ok-command.ensures none in
+    record { app = c.with_common.ensures.app _ named }

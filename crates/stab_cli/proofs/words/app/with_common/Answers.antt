@@ -1,4 +1,3 @@
-use Rattle.std.proofs.lemmas.Result.{IfOk-weaker}
 use Rattle.stab_cli.proofs.CommandLaws.{with_option}
 use Rattle.stab_cli.proofs.words.app.with_common.Goals as goal
 
@@ -7,6 +6,6 @@ returns c = record {
   app = λ app before.
       let seed = with_option _ c.in_ok-arg.field-0 c.numbered.result _ _ c.in_ok-arg.ensures c.numbered.ensures.rule before in
       let coins = with_option _ c.in_ok-arg-2.field-0 c.valued.result _ _ c.in_ok-arg-2.ensures c.valued.ensures.rule seed in
-      let input = with_option _ c.in_ok-arg-3.field-0 c.valued-2.result _ _ c.in_ok-arg-3.ensures c.valued-2.ensures.rule coins in
-      IfOk-weaker c.arg-4.result _ _ (λ command adds. with_option _ command c.valued-3.result _ _ adds c.valued-3.ensures.rule input) c.arg-4.ensures;
+      let coins_in = with_option _ c.in_ok-command.command c.valued-2.result _ _ c.in_ok-command.ensures c.valued-2.ensures.rule coins in
+      c.with_files.ensures.app _ coins_in;
 }

@@ -1,7 +1,7 @@
 use Rattle.std.proofs.Common.{◌≡◌, length, take, ap, ◌∙◌, arith, length-take, length-set}
 use Rattle.std.specs.Option.{option_copied}
 use Rattle.stab_lines.specs.Words.{pieces_after}
-use Rattle.stab_commands.specs.ScriptWords.{numbers_behind, path_if_any}
+use Rattle.stab_commands.specs.script.ScriptWords.{numbers_behind, path_if_any}
 use Rattle.stab_commands.proofs.PlaceLaws.{too_many, no_number, keeps_number}
 use Rattle.stab_commands.proofs.script.place.read_place.Goals as goal
 

@@ -1,7 +1,7 @@
 use Rattle.std.proofs.Common.{◌≡◌, ◌≤◌, ◌<◌, ◌+◌, length, take}
 use Rattle.std.specs.Option.{option_copied}
 use Rattle.stab_lines.specs.Words.{pieces_after}
-use Rattle.stab_commands.specs.ScriptWords.{place_of, numbers_behind, path_if_any}
+use Rattle.stab_commands.specs.script.ScriptWords.{place_of, numbers_behind, path_if_any}
 use Rattle.stab_commands.proofs.PlaceLaws.{bytes_left}
 use Rattle.stab_commands.proofs.script.place.read_place.Given as goal
 

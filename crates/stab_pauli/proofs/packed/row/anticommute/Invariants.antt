@@ -1,7 +1,7 @@
-use Rattle.stab_pauli.specs.Turns.{sign_turn}
+use Rattle.stab_pauli.specs.Phases.{phase_of_sign}
 use Rattle.stab_pauli.specs.inner.Words.{words_odd}
-use Rattle.stab_pauli.proofs.RowLemmas.{IsTurnBefore, order_turn}
+use Rattle.stab_pauli.proofs.RowLemmas.{IsPhaseBefore, order_phase}
 use Rattle.stab_pauli.proofs.packed.row.anticommute.Given as goal
 
 abbrev pub invariant-loop-block : goal.invariant-loop-block
-invariant-loop-block l = IsTurnBefore order_turn l.blocks l.row l.other l.block (sign_turn (words_odd 64 l.meets))
+invariant-loop-block l = IsPhaseBefore order_phase l.blocks l.row l.other l.block (phase_of_sign (words_odd 64 l.meets))

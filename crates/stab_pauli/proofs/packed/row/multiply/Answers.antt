@@ -1,9 +1,9 @@
 use Rattle.std.proofs.Common.{arith, ◌≡◌, ◌∙◌, sym, refl, ap, length, ◌+◌, ◌*◌}
-use Rattle.stab_pauli.proofs.TurnLemmas.{sign_turn-injective}
-use Rattle.stab_pauli.specs.Turns.{sign_turn}
-use Rattle.stab_pauli.proofs.PackedLemmas.{meet_turn-step}
+use Rattle.stab_pauli.proofs.PhaseLemmas.{phase_of_sign-injective}
+use Rattle.stab_pauli.specs.Phases.{phase_of_sign}
+use Rattle.stab_pauli.proofs.PackedLemmas.{meet_phase-step}
 use Rattle.stab_pauli.proofs.XorLemmas.{IsXorBefore-all, IsXorBefore-ahead_of}
-use Rattle.stab_pauli.proofs.RowLemmas.{IsXorBefore-two, AddsUp-meet, IsTurnBefore-more, IsTurnBefore-all}
+use Rattle.stab_pauli.proofs.RowLemmas.{IsXorBefore-two, AddsUp-meet, IsPhaseBefore-more, IsPhaseBefore-all}
 use Rattle.stab_pauli.proofs.packed.row.multiply.Goals as goal
 
 pub loop-block-preserved : goal.loop-block-preserved
@@ -12,10 +12,10 @@ loop-block-preserved c =
     let same : length c.args.row.now ≡ length c.args.other.now = c.requires.length ∙ sym c.requires.other_length in
     rw e record {
       words = IsXorBefore-two _ _ _ _ same (omega arith) c.loop-block.invariant.words;
-      meets = IsTurnBefore-more AddsUp-meet _ _ _ _ _ _ _ _ _ _ c.requires.length c.requires.other_length c.loop-block-test.true
+      meets = IsPhaseBefore-more AddsUp-meet _ _ _ _ _ _ _ _ _ _ c.requires.length c.requires.other_length c.loop-block-test.true
           (IsXorBefore-ahead_of _ _ _ _ 4 _ (omega arith) (omega arith) c.loop-block.invariant.words)
           (IsXorBefore-ahead_of _ _ _ _ 4 _ (omega arith) (omega arith) c.loop-block.invariant.words) refl refl
-          (meet_turn-step 64 4 c.loop-block.meets _ _ _ _ (omega arith)) c.loop-block.invariant.meets;
+          (meet_phase-step 64 4 c.loop-block.meets _ _ _ _ (omega arith)) c.loop-block.invariant.meets;
     }
 
 pub returns-clause-words : goal.returns-clause-words
@@ -23,4 +23,4 @@ returns-clause-words c = IsXorBefore-all _ _ _ _ (c.requires.length ∙ sym c.re
 
 pub returns-clause-meet : goal.returns-clause-meet
 returns-clause-meet c =
-    sign_turn-injective _ _ (ap sign_turn c.are_odd.ensures.value ∙ IsTurnBefore-all AddsUp-meet _ _ _ _ _ c.loop-block-test.false c.loop-block.invariant.meets)
+    phase_of_sign-injective _ _ (ap phase_of_sign c.are_odd.ensures.value ∙ IsPhaseBefore-all AddsUp-meet _ _ _ _ _ c.loop-block-test.false c.loop-block.invariant.meets)

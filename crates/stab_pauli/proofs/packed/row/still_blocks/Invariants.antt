@@ -1,6 +1,6 @@
 use Rattle.std.proofs.Common.{◌*◌}
-use Rattle.stab_pauli.specs.inner.Blocks.{row_letters, FlipsNoneBefore}
+use Rattle.stab_pauli.specs.inner.Blocks.{row_letters, HasNoXBefore}
 use Rattle.stab_pauli.proofs.packed.row.still_blocks.Given as goal
 
 abbrev pub invariant-loop-block : goal.invariant-loop-block
-invariant-loop-block l = FlipsNoneBefore (256 * l.block) (row_letters l.blocks l.row)
+invariant-loop-block l = HasNoXBefore (256 * l.block) (row_letters l.blocks l.row)

@@ -1,5 +1,5 @@
 use Rattle.std.proofs.Common.{◌∙◌, ap}
-use Rattle.stab_pauli.specs.Turns.{sign_of_turn}
+use Rattle.stab_pauli.specs.Phases.{sign_of_phase}
 use Rattle.stab_pauli.specs.inner.Powers.{sign_power}
 use Rattle.stab_pauli.specs.inner.Blocks.{row_letters}
 use Rattle.stab_pauli.proofs.PaddedLemmas.{view_of, sign_read}
@@ -9,6 +9,6 @@ pub returns : goal.returns
 returns c = record {
   value =
       c.is_negative.ensures.value
-      ∙ ap (λ w. sign_of_turn (sign_power c.self.inside.power (row_letters c.self.inside.blocks w))) c.as_slice.ensures.value
+      ∙ ap (λ w. sign_of_phase (sign_power c.self.inside.power (row_letters c.self.inside.blocks w))) c.as_slice.ensures.value
       ∙ sign_read (view_of c.self.invariant c.self.view_is);
 }

@@ -1,11 +1,11 @@
 use Rattle.std.proofs.Common.{◌∙◌, ap, refl}
-use Rattle.stab_pauli.specs.Turns.{turn_add}
+use Rattle.stab_pauli.specs.Phases.{phase_add}
 use Rattle.stab_pauli.proofs.PaddedLemmas.{view_of, lies_of, is_of}
 use Rattle.stab_pauli.proofs.SeenLemmas.{signed_view}
 use Rattle.stab_pauli.proofs.pauli.Pauli.negate_if.Goals as goal
 
 pub invariant_of-self : goal.invariant_of-self
-invariant_of-self c = lies_of (signed_view c.args.bit c.self.inside.power c.times-self-inside.result (view_of c.self.invariant c.self.view_is) refl (c.times-self-inside.ensures.value ∙ ap (turn_add c.self.inside.power) c.of_sign.ensures.value))
+invariant_of-self c = lies_of (signed_view c.args.bit c.self.inside.power c.times-self-inside.result (view_of c.self.invariant c.self.view_is) refl (c.times-self-inside.ensures.value ∙ ap (phase_add c.self.inside.power) c.of_sign.ensures.value))
 
 pub returns : goal.returns
-returns c = record { value = is_of (signed_view c.args.bit c.self.inside.power c.times-self-inside.result (view_of c.self.invariant c.self.view_is) refl (c.times-self-inside.ensures.value ∙ ap (turn_add c.self.inside.power) c.of_sign.ensures.value)) }
+returns c = record { value = is_of (signed_view c.args.bit c.self.inside.power c.times-self-inside.result (view_of c.self.invariant c.self.view_is) refl (c.times-self-inside.ensures.value ∙ ap (phase_add c.self.inside.power) c.of_sign.ensures.value)) }

@@ -1,5 +1,5 @@
 use Rattle.std.proofs.Common.{◌∙◌, ap}
-use Rattle.stab_pauli.specs.Turns.{sign_of_turn}
+use Rattle.stab_pauli.specs.Phases.{sign_of_phase}
 use Rattle.stab_pauli.specs.Rows.{row_at}
 use Rattle.stab_pauli.proofs.PowerLemmas.{fixed_sign}
 use Rattle.stab_pauli.proofs.SeenLemmas.{seen_of, counted_seen, in_seen, row_seen, read_power}
@@ -14,4 +14,4 @@ returns c =
     let la = in_seen mine c.args.a c.requires.in_range in
     let row = row_seen mine c.args.a la in
     let power = read_power c.self.inside.powers.items c.args.a c.index.result.now la c.index.ensures in
-    record { value = c.sign.ensures.value ∙ ap sign_of_turn (power ∙ row.power) ∙ fixed_sign (row_at c.args.self.now c.args.a) c.requires.fixed }
+    record { value = c.sign.ensures.value ∙ ap sign_of_phase (power ∙ row.power) ∙ fixed_sign (row_at c.args.self.now c.args.a) c.requires.fixed }

@@ -1,6 +1,6 @@
 use Rattle.std.proofs.Common.{arith, ◌*◌, ◌∙◌}
 use Rattle.std.specs.Simd.Lanes.{chunk}
-use Rattle.stab_pauli.specs.Turns.{sign_of_turn}
+use Rattle.stab_pauli.specs.Phases.{sign_of_phase}
 use Rattle.stab_pauli.specs.inner.Powers.{sign_power}
 use Rattle.stab_pauli.specs.inner.Blocks.{row_letters}
 use Rattle.stab_pauli.proofs.PaddedLemmas.{sign_read}
@@ -21,6 +21,6 @@ returns c =
     record {
       value =
           c.is_negative.ensures.value
-          ∙ (λ i. sign_of_turn (sign_power (power i) (row_letters c.self.inside.blocks ((c.row_of-words.ensures.value ∙ (λ j. chunk (8 * c.self.inside.blocks * c.args.a) (8 * c.self.inside.blocks) (c.as_slice.ensures.value j))) i))))
+          ∙ (λ i. sign_of_phase (sign_power (power i) (row_letters c.self.inside.blocks ((c.row_of-words.ensures.value ∙ (λ j. chunk (8 * c.self.inside.blocks * c.args.a) (8 * c.self.inside.blocks) (c.as_slice.ensures.value j))) i))))
           ∙ sign_read (row_seen mine c.args.a la);
     }

@@ -1,5 +1,5 @@
 use Rattle.std.proofs.Common.{◌∙◌, ap}
-use Rattle.stab_pauli.specs.Turns.{turn_add}
+use Rattle.stab_pauli.specs.Phases.{phase_add}
 use Rattle.stab_pauli.proofs.SeenLemmas.{counted_seen, seen_of, in_seen, negated_seen}
 use Rattle.stab_pauli.proofs.rows.PauliRows.negate_if.Goals as goal
 
@@ -13,12 +13,12 @@ pub invariant_of-self : goal.invariant_of-self
 invariant_of-self c =
     let mine = seen_of c.self.invariant c.self.view_is in
     let la = in_seen mine c.args.a c.requires.in_range in
-    let seen = negated_seen mine c.args.a c.args.bit c.index.result.now c.times.result la c.index.ensures (c.times.ensures.value ∙ ap (turn_add c.index.result.now) c.of_sign.ensures.value) in
+    let seen = negated_seen mine c.args.a c.args.bit c.index.result.now c.times.result la c.index.ensures (c.times.ensures.value ∙ ap (phase_add c.index.result.now) c.of_sign.ensures.value) in
     seen.lies
 
 pub returns : goal.returns
 returns c =
     let mine = seen_of c.self.invariant c.self.view_is in
     let la = in_seen mine c.args.a c.requires.in_range in
-    let seen = negated_seen mine c.args.a c.args.bit c.index.result.now c.times.result la c.index.ensures (c.times.ensures.value ∙ ap (turn_add c.index.result.now) c.of_sign.ensures.value) in
+    let seen = negated_seen mine c.args.a c.args.bit c.index.result.now c.times.result la c.index.ensures (c.times.ensures.value ∙ ap (phase_add c.index.result.now) c.of_sign.ensures.value) in
     record { value = seen.is }

@@ -1,8 +1,8 @@
 use Rattle.std.proofs.Common.{◌∙◌, sym, refl, ap, true, false}
 use Rattle.std.proofs.lemmas.Slice.Eq.{slice_eq-Decides}
-use Rattle.stab_pauli.proofs.TurnLemmas.{tells_turns}
+use Rattle.stab_pauli.proofs.PhaseLemmas.{tells_phases}
 use Rattle.stab_pauli.specs.Rows.{Rows, unsigned_rows}
-use Rattle.stab_pauli.proofs.TellLemmas.{powers_of, powers_seen, all_told, no_false}
+use Rattle.stab_pauli.proofs.TellLemmas.{powers_apart, all_told}
 use Rattle.stab_pauli.proofs.SeenLemmas.{seen_of}
 use Rattle.stab_pauli.proofs.rows.PauliRows.same.Goals as goal
 
@@ -10,19 +10,14 @@ pub returns-then-not-same : goal.returns-then-not-same
 returns-then-not-same c =
     let mine = seen_of c.self.invariant c.self.view_is in
     let theirs = seen_of c.other.invariant c.other.view_is in
-    let told = slice_eq-Decides (tells_turns _ refl refl refl refl refl refl refl refl refl refl refl refl refl refl refl refl) c.as_slice.result.now c.as_slice-2.result.now false c.if-not-same.ensures in
-    record {
-      value = (
-        (λ h. absurd (no_false h)),
-        (λ e. absurd (no_false (told.1 (c.as_slice.ensures.value ∙ sym (powers_seen mine) ∙ ap powers_of e ∙ powers_seen theirs ∙ sym c.as_slice-2.ensures.value)))),
-      );
-    }
+    let told = slice_eq-Decides (tells_phases _ refl refl refl refl refl refl refl refl refl refl refl refl refl refl refl refl) c.as_slice.result.now c.as_slice-2.result.now false c.if-not-same.ensures in
+    record { value = powers_apart mine theirs c.as_slice.ensures.value c.as_slice-2.ensures.value told.1 }
 
 pub returns : goal.returns
 returns c =
     let mine = seen_of c.self.invariant c.self.view_is in
     let theirs = seen_of c.other.invariant c.other.view_is in
-    let told = slice_eq-Decides (tells_turns _ refl refl refl refl refl refl refl refl refl refl refl refl refl refl refl refl) c.as_slice.result.now c.as_slice-2.result.now true c.if-not-same.ensures in
+    let told = slice_eq-Decides (tells_phases _ refl refl refl refl refl refl refl refl refl refl refl refl refl refl refl refl) c.as_slice.result.now c.as_slice-2.result.now true c.if-not-same.ensures in
     let powers = sym c.as_slice.ensures.value ∙ told.0 refl ∙ c.as_slice-2.ensures.value in
     record {
       value = (

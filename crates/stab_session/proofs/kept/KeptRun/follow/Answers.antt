@@ -4,9 +4,9 @@ use Rattle.stab_circuit.specs.Steps.{unroll}
 use Rattle.stab_circuit.specs.Views.{circuit_items}
 use Rattle.stab_circuit.specs.Cursors.{IsApart}
 use Rattle.stab_session.specs.declared.replay.Plan.{Plan}
-use Rattle.stab_session.specs.declared.kept.Span.{Span}
+use Rattle.stab_circuit.specs.declared.edit.Span.{Span}
 use Rattle.stab_session.specs.Points.{all_coins_of}
-use Rattle.stab_session.specs.inner.Sights.{StepFits}
+use Rattle.stab_session.specs.inner.ProgramStates.{StepFits}
 use Rattle.stab_session.specs.inner.Replays.{IsKeptRun, Follows, Ascending}
 use Rattle.stab_session.proofs.FitLemmas.{check-fits, check-whole, check-steps}
 use Rattle.stab_session.proofs.FollowLemmas.{coins-behind}

@@ -1,5 +1,5 @@
 use Rattle.std.proofs.Common.{◌-◌, arith, take}
-use Rattle.stab_session.specs.inner.Sights.{sight, output_of}
+use Rattle.stab_session.specs.inner.ProgramStates.{program_state, output_of}
 use Rattle.stab_session.proofs.ReplayLemmas.{coins-few, coins-cut, records-stay, run-on}
 use Rattle.stab_session.proofs.replay.Replay.run_to.Goals as goal
 
@@ -28,7 +28,7 @@ returns-clause-at_step g c =
 pub returns-clause-records : goal.returns-clause-records
 returns-clause-records g c =
     let n = c.args.self.now.tableau.qubits in
-    let before = sight c.args.self.now.tableau (output_of c.args.self.now.outputs) in
-    let now = sight c.run_steps.new.tableau (output_of c.run_steps.new.outputs) in
+    let before = program_state c.args.self.now.tableau (output_of c.args.self.now.outputs) in
+    let now = program_state c.run_steps.new.tableau (output_of c.run_steps.new.outputs) in
     records-stay n (g.C.Coins.sequence c.args.coins.now) (take c.args.self.now.step c.args.self.now.cursor.all)
     (take (c.args.stop - c.args.self.now.step) c.args.self.now.cursor.left) before now c.requires.begun.run c.in_ok-run_steps.ensures.run

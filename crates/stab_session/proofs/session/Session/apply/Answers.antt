@@ -1,9 +1,9 @@
 use Rattle.std.proofs.Common.{ap, sym, ◌∙◌, subst, ◌≤◌, arith}
-use Rattle.stab_pauli.specs.Refusals.{whole}
+use Rattle.stab_io.specs.Refusals.{whole, IsCallFault}
 use Rattle.stab_circuit.specs.Items.{listed}
 use Rattle.stab_circuit.specs.Steps.{unroll, observables_of}
-use Rattle.stab_session.specs.Sessions.{SessionState, IsFaultOf}
-use Rattle.stab_session.specs.inner.Checkpoints.{steps_of}
+use Rattle.stab_session.specs.Sessions.{SessionState}
+use Rattle.stab_session.specs.inner.Checkpoints.{checkpoint_steps}
 use Rattle.stab_session.proofs.SessionLemmas.{statement, few-checkpoints}
 use Rattle.stab_session.proofs.EditedLemmas.{session-verdict, run-fault, followed, agreed, counted_same, new-run, edited-kept, session-edited, edited-applied, edited-at-least, edited-counted, edited-early, refused-asks}
 use Rattle.stab_session.proofs.session.Session.apply.Goals as goal
@@ -11,7 +11,7 @@ use Rattle.stab_session.proofs.session.Session.apply.Goals as goal
 pub returns-in-Err-clause-refused : goal.returns-in-Err-clause-refused
 returns-in-Err-clause-refused g c =
     let refused = c.in-Err.ensures {u = tt} in
-    subst (λ v. IsFaultOf v c.in-Err.refused.fault)
+    subst (λ v. IsCallFault v c.in-Err.refused.fault)
     (session-verdict c.args.self.now c.args.edit c.len-n.result c.self.inside.circuit
     (ap (λ (s : SessionState g.row.C.Denot). s.items) (sym c.self.view_is))
     (ap (λ (s : SessionState g.row.C.Denot). s.qubits) (sym c.self.view_is) ∙ sym c.len-n.ensures.value))
@@ -93,7 +93,7 @@ returns-in-Ok-follow-clause-counted g c =
     (ap (λ (s : SessionState g.row.C.Denot). s.qubits) (sym c.self.view_is) ∙ sym c.len-n.ensures.value)
     c.finish.new.circuit c.finish.ensures.value c.self.inside.stride c.follow.new.coins c.follow.new.self
     (ap (λ (s : SessionState g.row.C.Denot). s.stride) c.self.view_is) (ran.same_coins ∙ coins) run
-    c.in-Ok-follow.applied (steps_of c.self.inside.kept.checkpoints.items) (ap (λ (s : SessionState g.row.C.Denot). s.checkpoints) c.self.view_is)
+    c.in-Ok-follow.applied (checkpoint_steps c.self.inside.kept.checkpoints.items) (ap (λ (s : SessionState g.row.C.Denot). s.checkpoints) c.self.view_is)
     (counted_same c.len-n.result c.self.inside.kept.tableau.qubits _ _ (unroll (listed c.self.inside.circuit)) (unroll (listed c.begin.new.circuit)) c.in-Ok.begun.1 _ _ _ c.len-n.ensures.value coins
     (ran.counted (unroll (listed c.self.inside.circuit)) (observables_of (listed c.self.inside.circuit)) c.self.invariant.run begun.begun.span.span))
 
@@ -149,3 +149,8 @@ returns-in-Err-follow-clause-refused_asks g c =
           (ap (λ (s : SessionState g.row.C.Denot). s.qubits) (sym c.self.view_is) ∙ sym c.len-n.ensures.value)
           c.self.inside.stride _ _ (ap (λ (s : SessionState g.row.C.Denot). s.stride) c.self.view_is) c.follow.ensures.asked_behind,
     )
+
+pub returns-in-Err-follow-clause-item : goal.returns-in-Err-follow-clause-item
+returns-in-Err-follow-clause-item g c =
+    let begun = c.in-Ok.ensures {u = tt} in
+    c.take_back.ensures.item ∙ begun.begun.item

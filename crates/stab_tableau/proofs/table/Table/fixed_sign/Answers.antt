@@ -1,6 +1,6 @@
 use Rattle.std.proofs.Common.{◌∙◌, sym, ap, arith}
 use Rattle.std.specs.List.{list_any}
-use Rattle.stab_pauli.specs.Flips.{flips}
+use Rattle.stab_pauli.specs.XParts.{has_x}
 use Rattle.stab_pauli.specs.Paulis.{Signed}
 use Rattle.stab_pauli.specs.Rows.{row_at}
 use Rattle.stab_tableau.specs.Gates.{letter_at}
@@ -10,8 +10,8 @@ use Rattle.stab_tableau.proofs.table.Table.fixed_sign.Goals as goal
 pub place-requires : goal.place-requires
 place-requires c = record { few = seen-few c.self.inside.rows c.self.invariant c.args.self.now c.self.view_is c.args.qubit c.requires.in_range }
 
-pub first_flip-requires : goal.first_flip-requires
-first_flip-requires c =
+pub first_x-requires : goal.first_x-requires
+first_x-requires c =
     record { in_range = seen-place c.self.inside.rows c.self.invariant c.args.self.now c.self.view_is c.args.row c.args.qubit c.place.result c.requires.in_range c.place.ensures.value }
 
 pub place-requires-in-None : goal.place-requires-in-None
@@ -20,7 +20,7 @@ place-requires-in-None c = record { few = seen-few c.self.inside.rows c.self.inv
 pub fixed_sign-requires : goal.fixed_sign-requires
 fixed_sign-requires c = record {
   in_range = seen-place c.self.inside.rows c.self.invariant c.args.self.now c.self.view_is c.args.row c.args.qubit c.place-in-None.result c.requires.in_range c.place-in-None.ensures.value;
-  fixed = ap (λ k. list_any flips (row_at c.self.inside.rows k).letters) (c.place-in-None.ensures.value ∙ sym c.place.ensures.value) ∙ c.in-None.ensures.none;
+  fixed = ap (λ k. list_any has_x (row_at c.self.inside.rows k).letters) (c.place-in-None.ensures.value ∙ sym c.place.ensures.value) ∙ c.in-None.ensures.none;
 }
 
 pub returns-in-Some-clause-none : goal.returns-in-Some-clause-none
@@ -30,7 +30,7 @@ returns-in-Some-clause-none c =
     let over = c.requires.over in (
       c.in-Some.field-0,
       (let lt = c.in-Some.ensures.in_range in omega arith),
-      ap (λ (p : Signed). flips (letter_at p.letters c.in-Some.field-0)) (sym read) ∙ c.in-Some.ensures.flips,
+      ap (λ (p : Signed). has_x (letter_at p.letters c.in-Some.field-0)) (sym read) ∙ c.in-Some.ensures.has_x,
     )
 
 pub returns-in-None-clause-some : goal.returns-in-None-clause-some
@@ -38,5 +38,5 @@ returns-in-None-clause-some c =
     let first = seen-read c.self.inside.rows c.self.invariant c.args.self.now c.self.view_is c.args.row c.args.qubit c.place.result c.requires.in_range c.place.ensures.value in
     let read = seen-read c.self.inside.rows c.self.invariant c.args.self.now c.self.view_is c.args.row c.args.qubit c.place-in-None.result c.requires.in_range c.place-in-None.ensures.value in (
       c.fixed_sign.ensures.value ∙ ap (λ (p : Signed). p.negative) read,
-      ap (λ (p : Signed). list_any flips p.letters) (sym first) ∙ c.in-None.ensures.none,
+      ap (λ (p : Signed). list_any has_x p.letters) (sym first) ∙ c.in-None.ensures.none,
     )

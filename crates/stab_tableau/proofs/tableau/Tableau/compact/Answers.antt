@@ -1,5 +1,5 @@
 use Rattle.std.proofs.Common.{sym, subst, length}
-use Rattle.stab_tableau.specs.inner.Preimages.{IsOver}
+use Rattle.stab_tableau.specs.inner.InverseRows.{IsOver}
 use Rattle.stab_tableau.specs.inner.Tables.{IsTableau}
 use Rattle.stab_tableau.proofs.tableau.Tableau.compact.Goals as goal
 

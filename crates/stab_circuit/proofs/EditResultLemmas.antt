@@ -1,0 +1,197 @@
+-- What a list of items comes to by an edit.
+use Rattle.std.proofs.Common.{◌≡◌, ◌≤◌, refl, ap, sym, ◌∙◌, subst, ℕ, ◌+◌, min, List, [], ◌∷◌, ◌++◌, length, take, drop, arith, append_assoc, append-nil, nat_le, nat_lt, All, Result, Ok, Err, OnOk, IfOk}
+use Rattle.std.proofs.lemmas.List.{length-append, length-take-le, take_at, take-take, take-append-drop}
+use Rattle.std.proofs.lemmas.List.Elements.{All-append}
+use Rattle.std.specs.Prelude.{slice_get}
+use Rattle.stab_io.specs.declared.refusal.Refusal.{Refusal}
+use Rattle.stab_io.specs.declared.refusal.Refusal.TheVariants.{PlaceOutOfRange}
+use Rattle.stab_circuit.specs.declared.summary.Summary.{Summary}
+use Rattle.stab_circuit.specs.declared.judge.Judgement.{Judgement}
+use Rattle.stab_circuit.specs.declared.judge.EditResult.{EditResult}
+use Rattle.stab_circuit.specs.declared.edit.Edit.{Edit}
+use Rattle.stab_circuit.specs.declared.edit.Edit.TheVariants.{Insert, Replace, Delete}
+use Rattle.stab_circuit.specs.Items.{OneItem, listed}
+use Rattle.stab_circuit.specs.Steps.{Step, unroll}
+use Rattle.stab_circuit.specs.Cursors.{IsApart}
+use Rattle.stab_circuit.specs.Edits.{edited_inside, edit_path, edited_in, steps_in, behind_taken, behind_put, outermost}
+use Rattle.stab_circuit.specs.inner.Summaries.{summary_of, followed_by, IsSummary}
+use Rattle.stab_circuit.specs.inner.Splices.{Splice, splice_at, splice_block, splice_of, spliced, IsWithin}
+use Rattle.stab_circuit.specs.inner.Judgements.{judgement_of, BeginsWith}
+use Rattle.stab_circuit.specs.inner.EditResults.{steps_within, PutsApart, AreApart, edit_result_by, IsEditResult}
+use Rattle.stab_circuit.proofs.EditLemmas.{if_ok, steps-append}
+use Rattle.stab_circuit.proofs.SpliceLemmas.{edited_spliced, splice_within}
+use Rattle.stab_circuit.proofs.JudgementLemmas.{summed_around, judged_within}
+
+-- what is true is true where a call answers Ok
+pub on_ok : {A E : Type 0} {P : Type 0} (r : Result A E) → P → OnOk r P
+on_ok (Ok x) h = h
+on_ok (Err e) h = tt
+
+-- where what is put in ends
+behind_at : (edit : Edit) (n : ℕ) (s : Splice) → splice_at edit n ≡ Ok s → behind_put edit ≡ s.first + length s.put
+behind_at (Insert at x) n s e = ap (λ t. t.first + length t.put) (if_ok (nat_le at.place n) (record { first = at.place; behind = at.place; put = x ∷ [] }) s PlaceOutOfRange e).1
+behind_at (Replace at x) n s e = ap (λ t. t.first + length t.put) (if_ok (nat_lt at.place n) (record { first = at.place; behind = at.place + 1; put = x ∷ [] }) s PlaceOutOfRange e).1
+behind_at (Delete at) n s e =
+    let same = ap (λ t. t.first + length t.put) (if_ok (nat_lt at.place n) (record { first = at.place; behind = at.place + 1; put = [] }) s PlaceOutOfRange e).1 in
+    omega (arith, same)
+
+behind_block : (b : ℕ) (r : Result OneItem Refusal) (s : Splice) → splice_block b r ≡ Ok s → b + 1 ≡ s.first + length s.put
+behind_block b (Ok x) s e =
+    let same : record { first = b; behind = b + 1; put = x ∷ [] } ≡ s = cc in
+    ap (λ t. t.first + length t.put) same
+behind_block b (Err r) s e = absurd (cc)
+
+behind_is : (edit : Edit) (bs : List ℕ) (xs : List OneItem) (s : Splice) → splice_of edit bs xs ≡ Ok s → outermost (behind_put edit) bs ≡ s.first + length s.put
+behind_is edit [] xs s e = behind_at edit (length xs) s e
+behind_is edit (b ∷ bs) xs s e = behind_block b (edited_inside (edited_in edit bs) (slice_get xs b)) s e
+
+front_of : (xs : List OneItem) (s : Splice) → IsWithin s xs → take (s.first + length s.put) (take s.first xs ++ (s.put ++ drop s.behind xs)) ≡ take s.first xs ++ s.put
+front_of xs s w =
+    let long : length (take s.first xs ++ s.put) ≡ s.first + length s.put = length-append (take s.first xs) s.put ∙ ap (λ n. n + length s.put) (length-take-le s.first xs (omega (arith, w.order, w.end))) in
+    ap (take (s.first + length s.put)) (sym (append_assoc (take s.first xs) s.put (drop s.behind xs))) ∙ take_at (take s.first xs ++ s.put) (drop s.behind xs) (s.first + length s.put) long
+
+capped_ends : (a b m k : ℕ) → k ≡ min b 1048577 → m ≡ min (min a 1048577 + k) 1048577 → m ≡ min (a + b) 1048577
+capped_ends a b m k e f = omega (arith, e, f)
+
+-- where what is taken out ends
+taken_at : (edit : Edit) (n : ℕ) (s : Splice) → splice_at edit n ≡ Ok s → (behind_taken edit ≡ s.behind) × ((edit_path edit).place ≡ s.first)
+taken_at (Insert at x) n s e =
+    let same = (if_ok (nat_le at.place n) (record { first = at.place; behind = at.place; put = x ∷ [] }) s PlaceOutOfRange e).1 in
+    (ap (λ t. t.behind) same, ap (λ t. t.first) same)
+taken_at (Replace at x) n s e =
+    let same = (if_ok (nat_lt at.place n) (record { first = at.place; behind = at.place + 1; put = x ∷ [] }) s PlaceOutOfRange e).1 in
+    (ap (λ t. t.behind) same, ap (λ t. t.first) same)
+taken_at (Delete at) n s e =
+    let same = (if_ok (nat_lt at.place n) (record { first = at.place; behind = at.place + 1; put = [] }) s PlaceOutOfRange e).1 in
+    (ap (λ t. t.behind) same, ap (λ t. t.first) same)
+
+taken_block : (b : ℕ) (r : Result OneItem Refusal) (s : Splice) → splice_block b r ≡ Ok s → (b + 1 ≡ s.behind) × (b ≡ s.first)
+taken_block b (Ok x) s e =
+    let same : record { first = b; behind = b + 1; put = x ∷ [] } ≡ s = cc in
+    (ap (λ t. t.behind) same, ap (λ t. t.first) same)
+taken_block b (Err r) s e = absurd (cc)
+
+pub taken_is : (edit : Edit) (bs : List ℕ) (xs : List OneItem) (s : Splice) → splice_of edit bs xs ≡ Ok s → outermost (behind_taken edit) bs ≡ s.behind
+taken_is edit [] xs s e = (taken_at edit (length xs) s e).0
+taken_is edit (b ∷ bs) xs s e = (taken_block b (edited_inside (edited_in edit bs) (slice_get xs b)) s e).0
+
+-- the steps before the place are those before what leaves the list, and those within that
+first_is : (edit : Edit) (bs : List ℕ) (xs : List OneItem) (s : Splice) → splice_of edit bs xs ≡ Ok s → steps_in bs (edit_path edit).place xs ≡ unroll (listed (take s.first xs)) ++ steps_within bs (edit_path edit).place xs
+first_is edit [] xs s e = ap (λ n. unroll (listed (take n xs))) (taken_at edit (length xs) s e).1 ∙ sym (append-nil (unroll (listed (take s.first xs))))
+first_is edit (b ∷ bs) xs s e = ap (λ n. unroll (listed (take n xs)) ++ steps_within (b ∷ bs) (edit_path edit).place xs) (taken_block b (edited_inside (edited_in edit bs) (slice_get xs b)) s e).1
+
+-- a judgement is that of a splice
+judged_splice : (q : Result Splice Refusal) (w : ℕ) (j : Judgement) → Ok j ≡ judgement_of w q → (s : Splice) × (q ≡ Ok s) × (j ≡ record { first = s.first; behind = s.behind; put = summary_of (listed s.put); within = w })
+judged_splice (Ok s) w j e = (s, refl, cc)
+judged_splice (Err r) w j e = absurd (cc)
+
+-- the steps of lists that are on different qubits
+pub apart_append : (xs ys : List OneItem) → AreApart xs → AreApart ys → AreApart (xs ++ ys)
+apart_append xs ys a b = subst (All IsApart) (sym (steps-append xs ys)) (All-append IsApart (unroll (listed xs)) (unroll (listed ys)) a b)
+
+sum_of : (a b n m k : ℕ) → n ≡ min a 1048577 → m ≡ min b 1048577 → k ≡ min (n + m) 1048577 → k ≡ min (a + b) 1048577
+sum_of a b n m k e f g = omega (arith, e, f, g)
+
+count_append : (xs ys : List Step) → length (xs ++ ys) ≡ length xs + length ys
+count_append xs ys = length-append xs ys
+
+-- the ends of an edit
+ends_first : (edit : Edit) (blocks : List ℕ) (xs front : List OneItem) (s : Splice) (n w k : ℕ) → splice_of edit blocks xs ≡ Ok s → front ≡ take s.first xs
+    → n ≡ min (length (unroll (listed front))) 1048577 → w ≡ min (length (steps_within blocks (edit_path edit).place xs)) 1048577 → k ≡ min (n + w) 1048577 → k ≡ min (length (steps_in blocks (edit_path edit).place xs)) 1048577
+ends_first edit blocks xs front s n w k e f h i g =
+    sum_of (length (unroll (listed front))) (length (steps_within blocks (edit_path edit).place xs)) n w k h i g
+    ∙ ap (λ m. min m 1048577) (sym (
+    ap length (first_is edit blocks xs s e ∙ ap (λ l. unroll (listed l) ++ steps_within blocks (edit_path edit).place xs) (sym f)) ∙ count_append (unroll (listed front)) (steps_within blocks (edit_path edit).place xs)
+    ))
+
+ends_old : (edit : Edit) (blocks : List ℕ) (xs front gone : List OneItem) (s : Splice) (n m k : ℕ) → splice_of edit blocks xs ≡ Ok s → take s.behind xs ≡ front ++ gone
+    → n ≡ min (length (unroll (listed front))) 1048577 → m ≡ min (length (unroll (listed gone))) 1048577 → k ≡ min (n + m) 1048577 → k ≡ min (length (unroll (listed (take (outermost (behind_taken edit) blocks) xs)))) 1048577
+ends_old edit blocks xs front gone s n m k e f h i g =
+    sum_of (length (unroll (listed front))) (length (unroll (listed gone))) n m k h i g
+    ∙ ap (λ v. min v 1048577) (sym (
+    ap (λ v. length (unroll (listed (take v xs)))) (taken_is edit blocks xs s e)
+    ∙ ap (λ l. length (unroll (listed l))) f
+    ∙ ap length (steps-append front gone)
+    ∙ count_append (unroll (listed front)) (unroll (listed gone))
+    ))
+
+-- the list that a splice leaves
+left_by : List OneItem → Splice → List OneItem
+left_by xs s = take s.first xs ++ (s.put ++ drop s.behind xs)
+
+ends_new : (edit : Edit) (blocks : List ℕ) (xs front : List OneItem) (s : Splice) (n m k : ℕ) → splice_of edit blocks xs ≡ Ok s → front ≡ take s.first xs
+    → n ≡ min (length (unroll (listed front))) 1048577 → m ≡ min (length (unroll (listed s.put))) 1048577 → k ≡ min (n + m) 1048577
+    → k ≡ min (length (unroll (listed (take (outermost (behind_put edit) blocks) (left_by xs s))))) 1048577
+unfolding left_by
+ends_new edit blocks xs front s n m k e f h i g =
+    sum_of (length (unroll (listed front))) (length (unroll (listed s.put))) n m k h i g
+    ∙ ap (λ v. min v 1048577) (sym (
+    ap (λ v. length (unroll (listed (take v (take s.first xs ++ (s.put ++ drop s.behind xs)))))) (behind_is edit blocks xs s e)
+    ∙ ap (λ l. length (unroll (listed l))) (front_of xs s (splice_within edit blocks xs s e) ∙ ap (λ l. l ++ s.put) (sym f))
+    ∙ ap length (steps-append front s.put)
+    ∙ count_append (unroll (listed front)) (unroll (listed s.put))
+    ))
+
+left_apart : (xs front back : List OneItem) (s : Splice) → front ≡ take s.first xs → back ≡ drop s.behind xs → AreApart front → PutsApart s → AreApart back → AreApart (left_by xs s)
+unfolding left_by
+left_apart xs front back s f b h i k =
+    apart_append (take s.first xs) (s.put ++ drop s.behind xs) (subst AreApart f h) (apart_append s.put (drop s.behind xs) i (subst AreApart b k))
+
+edited_left : (edit : Edit) (blocks : List ℕ) (xs : List OneItem) (s : Splice) → splice_of edit blocks xs ≡ Ok s → edited_in edit blocks xs ≡ Ok (left_by xs s)
+unfolding left_by
+edited_left edit blocks xs s e = edited_spliced edit blocks xs ∙ ap (spliced xs) e
+
+-- what a list comes to by an edit that is judged
+pub edit_result_is : (edit : Edit) (blocks : List ℕ) (xs taken front gone back : List OneItem) (j : Judgement) (before of behind : Summary) (o : EditResult)
+    → Ok j ≡ judgement_of (min (length (steps_within blocks (edit_path edit).place xs)) 1048577) (splice_of edit blocks xs)
+    → IsSummary j.put
+    → BeginsWith (steps_in blocks (edit_path edit).place xs) (unroll (listed xs))
+    → IfOk (splice_of edit blocks xs) PutsApart
+    → taken ≡ take j.behind xs
+    → back ≡ drop j.behind xs
+    → front ≡ take j.first taken
+    → gone ≡ drop j.first taken
+    → before ≡ summary_of (listed front)
+    → of ≡ summary_of (listed gone)
+    → behind ≡ summary_of (listed back)
+    → IsSummary behind
+    → j.within ≤ j.put.steps
+    → j.within ≤ length (unroll (listed (drop j.first (take j.behind xs))))
+    → AreApart front
+    → AreApart back
+    → o ≡ edit_result_by j before of behind
+    → IsSummary o.total
+    → IsEditResult edit blocks xs o
+edit_result_is edit blocks xs taken front gone back j before of behind o e small begins puts t b f g hf hg hb far put_long gone_long af ab is all =
+    let w = min (length (steps_within blocks (edit_path edit).place xs)) 1048577 in
+    let lies = judged_within edit blocks w xs j e in
+    let found = judged_splice (splice_of edit blocks xs) w j e in
+    let s = found.0 in
+    let same = found.2 in
+    let first : front ≡ take j.first xs = f ∙ ap (take j.first) t ∙ take-take j.first j.behind xs lies.0 in
+    let first' : front ≡ take s.first xs = first ∙ ap (λ v. take v.first xs) same in
+    let back' : back ≡ drop s.behind xs = b ∙ ap (λ v. drop v.behind xs) same in
+    let whole : take s.behind xs ≡ front ++ gone = ap (λ v. take v.behind xs) (sym same) ∙ sym t ∙ sym (take-append-drop j.first taken) ∙ ap (λ l. l ++ drop j.first taken) (sym f) ∙ ap (λ l. front ++ l) (sym g) in
+    let left = edited_left edit blocks xs s found.1 in
+    let long : j.within ≤ length (unroll (listed gone)) = subst (λ l. j.within ≤ length (unroll (listed l))) (ap (drop j.first) (sym t) ∙ sym g) gone_long in
+    let at_first = ap (λ v. v.first) is in
+    record {
+      total = summed_around edit blocks w xs front back j o.total e small first b (omega (arith, far.reach, ap (λ v. v.reach) hb))
+          (ap (λ v. v.total) is ∙ ap (λ v. followed_by v (followed_by j.put behind)) hf ∙ ap (λ v. followed_by (summary_of (listed front)) (followed_by j.put v)) hb);
+      small = all;
+      behind = ap (λ v. v.behind) is ∙ ap (λ v. v.behind) same ∙ sym (taken_is edit blocks xs s found.1);
+      first = ends_first edit blocks xs front s before.steps j.within o.first found.1 first' (ap (λ v. v.steps) hf) (ap (λ v. v.within) same) (ap (λ v. v.first) is);
+      front = begins;
+      old_end = ends_old edit blocks xs front gone s before.steps of.steps o.old_end found.1 whole (ap (λ v. v.steps) hf) (ap (λ v. v.steps) hg) (ap (λ v. v.old_end) is);
+      new_end =
+          subst (λ r. IfOk r (λ new. o.new_end ≡ min (length (unroll (listed (take (outermost (behind_put edit) blocks) new)))) 1048577)) (sym left)
+          (ends_new edit blocks xs front s before.steps j.put.steps o.new_end found.1 first' (ap (λ v. v.steps) hf) (ap (λ v. v.put.steps) same) (ap (λ v. v.new_end) is));
+      apart = subst (λ r. IfOk r AreApart) (sym left) (left_apart xs front back s first' back' af (subst (λ r. IfOk r PutsApart) found.1 puts) ab);
+      old_order = omega (arith, at_first, ap (λ v. v.old_end) is, ap (λ v. v.steps) hg, long, ap (λ v. v.within) same);
+      new_order = omega (arith, at_first, ap (λ v. v.new_end) is, put_long);
+      order = omega (arith, at_first, ap (λ v. v.total.steps) is, put_long);
+    }
+
+-- the same of blocks that are these
+pub edit_result_at : (edit : Edit) (blocks bs : List ℕ) (xs : List OneItem) (o : EditResult) → bs ≡ blocks → IsEditResult edit bs xs o → IsEditResult edit blocks xs o
+edit_result_at edit blocks bs xs o e h = subst (λ q. IsEditResult edit q xs o) e h

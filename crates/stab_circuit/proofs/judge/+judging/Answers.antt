@@ -1,0 +1,73 @@
+use Rattle.std.proofs.Common.{◌≡◌, ◌∙◌, ap, Ok, ◌+◌, min, length, arith}
+use Rattle.std.proofs.lemmas.Option.{slice_get_within}
+use Rattle.stab_circuit.specs.Items.{repeat, listed}
+use Rattle.stab_circuit.specs.inner.Summaries.{repeated}
+use Rattle.stab_circuit.specs.Edits.{edit_path}
+use Rattle.stab_circuit.specs.inner.EditResults.{steps_within}
+use Rattle.stab_circuit.proofs.JudgementLemmas.{judged_err, judged_ok, judged_apart, begins_at, begins_block, gone_block, put_block, edit_refused}
+use Rattle.stab_circuit.proofs.EditResultLemmas.{on_ok, edit_result_is}
+use Rattle.stab_circuit.proofs.judge.+judging.Goals as goal
+
+pub judge-returns-in-None-clause-front : goal.judge-returns-in-None-clause-front
+judge-returns-in-None-clause-front t c = on_ok c.judge_at.result (begins_at (edit_path c.args.edit.now).place c.args.blocks.now c.args.items.now c.in-None.ensures.cases)
+
+pub judge-returns-in-Err-edit_result_in-clause-value : goal.judge-returns-in-Err-edit_result_in-clause-value
+judge-returns-in-Err-edit_result_in-clause-value t c =
+    let found = c.in-Ok.ensures.value in
+    judged_err c.args.edit.now c.in-Some.block.now c.in-Ok.inner.count (min (length (steps_within c.args.blocks.now (edit_path c.args.edit.now).place c.args.items.now)) 1048577) c.in-Some.others.now c.args.blocks.now found.0 c.args.items.now
+    c.in-Ok.inner.body.now c.in-Err-edit_result_in.refusal c.in-Some.ensures.cases.0 found.1 c.in-Err-edit_result_in.ensures.refused
+
+pub judge-returns-in-Ok-edit_result_in-clause-value : goal.judge-returns-in-Ok-edit_result_in-clause-value
+judge-returns-in-Ok-edit_result_in-clause-value t c =
+    let found = c.in-Ok.ensures.value in
+    let count : c.number.result ≡ c.in-Ok.inner.count = c.number.ensures.value in
+    let b = c.in-Some.block.now in
+    let round = c.in-Ok-edit_result_in.round in
+    let is = c.in-Ok-edit_result_in.ensures.ok in
+    ap (λ s. Ok (record { first = b; behind = b + 1; put = s; within = round.first })) (c.repeated.ensures.value ∙ ap (λ n. repeated n round.total) count)
+    ∙ judged_ok c.args.edit.now b c.in-Ok.inner.count round.first c.in-Some.others.now c.args.blocks.now found.0 c.args.items.now c.in-Ok.inner.body.now round.total c.in-Some.ensures.cases.0 found.1
+    (rw count at c.number.ensures.some) is.total is.first
+
+pub judge-returns-in-Ok-edit_result_in-clause-within : goal.judge-returns-in-Ok-edit_result_in-clause-within
+judge-returns-in-Ok-edit_result_in-clause-within t c =
+    let found = c.in-Ok.ensures.value in
+    (omega arith, omega (arith, slice_get_within c.args.items.now c.in-Some.block.now (repeat c.in-Ok.inner.count found.0 (listed c.in-Ok.inner.body.now)) found.1), omega (arith, c.in-Ok-edit_result_in.ensures.ok.first))
+
+pub judge-returns-in-Ok-edit_result_in-clause-front : goal.judge-returns-in-Ok-edit_result_in-clause-front
+judge-returns-in-Ok-edit_result_in-clause-front t c =
+    let found = c.in-Ok.ensures.value in
+    let count : c.number.result ≡ c.in-Ok.inner.count = c.number.ensures.value in
+    begins_block c.in-Some.block.now (edit_path c.args.edit.now).place c.in-Ok.inner.count c.in-Some.others.now c.args.blocks.now found.0 c.args.items.now c.in-Ok.inner.body.now c.in-Some.ensures.cases.0 found.1 (rw count at c.number.ensures.some)
+    c.in-Ok-edit_result_in.ensures.ok.front
+
+pub judge-returns-in-Ok-edit_result_in-clause-apart : goal.judge-returns-in-Ok-edit_result_in-clause-apart
+judge-returns-in-Ok-edit_result_in-clause-apart t c =
+    let found = c.in-Ok.ensures.value in
+    judged_apart c.args.edit.now c.in-Some.block.now c.in-Ok.inner.count c.in-Some.others.now c.args.blocks.now found.0 c.args.items.now c.in-Ok.inner.body.now c.in-Some.ensures.cases.0 found.1
+    c.in-Ok-edit_result_in.ensures.ok.apart
+
+pub judge-returns-in-Ok-edit_result_in-clause-within_put : goal.judge-returns-in-Ok-edit_result_in-clause-within_put
+judge-returns-in-Ok-edit_result_in-clause-within_put t c =
+    let count : c.number.result ≡ c.in-Ok.inner.count = c.number.ensures.value in
+    let round = c.in-Ok-edit_result_in.round in
+    let is = c.in-Ok-edit_result_in.ensures.ok in
+    let long = put_block c.number.result round.total.steps round.first c.number.ensures.some is.order (omega (arith, is.first)) in
+    omega (arith, long, ap (λ s. s.steps) c.repeated.ensures.value)
+
+pub judge-returns-in-Ok-edit_result_in-clause-within_gone : goal.judge-returns-in-Ok-edit_result_in-clause-within_gone
+judge-returns-in-Ok-edit_result_in-clause-within_gone t c =
+    let found = c.in-Ok.ensures.value in
+    let count : c.number.result ≡ c.in-Ok.inner.count = c.number.ensures.value in
+    gone_block c.in-Some.block.now (edit_path c.args.edit.now).place c.in-Ok.inner.count c.in-Ok-edit_result_in.round.first c.in-Some.others.now found.0 c.args.items.now c.in-Ok.inner.body.now found.1 (rw count at c.number.ensures.some)
+    c.in-Ok-edit_result_in.ensures.ok.front c.in-Ok-edit_result_in.ensures.ok.first
+
+pub edit_result_in-returns-in-Ok-clause-ok : goal.edit_result_in-returns-in-Ok-clause-ok
+edit_result_in-returns-in-Ok-clause-ok t c =
+    let j = c.in-Ok.ensures in
+    edit_result_is c.args.edit.now c.args.blocks.now c.args.items.now _ _ _ _ c.in-Ok.judgement c.items_summary.result c.items_summary-in-Ok.result c.items_summary-in-Ok-2.result c.edit_result_of.result j.value j.small j.front j.apart
+    c.split_at.ensures.front c.split_at.ensures.back c.split_at-in-Ok.ensures.front c.split_at-in-Ok.ensures.back c.items_summary.ensures.value c.items_summary-in-Ok.ensures.value c.items_summary-in-Ok-2.ensures.value
+    c.items_summary-in-Ok-2.ensures.small j.within_put j.within_gone c.items_summary.ensures.apart c.items_summary-in-Ok-2.ensures.apart c.edit_result_of.ensures.value c.edit_result_of.ensures.small
+
+pub edit_result_in-returns-in-Err-clause-refused : goal.edit_result_in-returns-in-Err-clause-refused
+edit_result_in-returns-in-Err-clause-refused t c =
+    edit_refused c.args.edit.now c.args.blocks.now (min (length (steps_within c.args.blocks.now (edit_path c.args.edit.now).place c.args.items.now)) 1048577) c.args.items.now c.in-Err.refusal c.in-Err.ensures.value

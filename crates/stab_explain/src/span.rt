@@ -1,0 +1,126 @@
+//! Parts of a line, by their places in it.
+use stab_lines::{content, is_spacing, without_spacing_in_front};
+use std::alloc::{AllocError, Global};
+
+/// A part of a line: the places of its first byte and of the one behind its last.
+#[derive(Clone, Copy)]
+pub(crate) struct Span {
+    pub(crate) start: usize,
+    pub(crate) end: usize,
+}
+
+impl Span {
+    /// The part from a place on that is so many bytes long.
+    pub(crate) fn of_length(start: usize, length: usize) -> Span {
+        Span {
+            start,
+            end: start.saturating_add(length),
+        }
+    }
+
+    /// What is left of a line without its comment and the spacing at both ends.
+    pub(crate) fn of_content(line: &[u8]) -> Span {
+        Span::of_length(0, line.len()).trimmed(line)
+    }
+
+    /// Its bytes.
+    pub(crate) fn bytes(self, line: &[u8]) -> &[u8] {
+        line.get(self.start..self.end).unwrap_or(&[])
+    }
+
+    /// Whether it has no byte.
+    pub(crate) fn is_empty(self) -> bool {
+        self.start >= self.end
+    }
+
+    /// Its first bytes, so many.
+    pub(crate) fn front(self, count: usize) -> Span {
+        Span {
+            start: self.start,
+            end: self.start.saturating_add(count).min(self.end),
+        }
+    }
+
+    /// What stands behind its first bytes, so many.
+    pub(crate) fn behind(self, count: usize) -> Span {
+        Span {
+            start: self.start.saturating_add(count).min(self.end),
+            end: self.end,
+        }
+    }
+
+    /// It without its last byte.
+    pub(crate) fn without_last(self) -> Span {
+        Span {
+            start: self.start,
+            end: self.end.saturating_sub(1),
+        }
+    }
+
+    /// Its last byte.
+    pub(crate) fn last(self) -> Span {
+        Span {
+            start: self.end.saturating_sub(1),
+            end: self.end,
+        }
+    }
+
+    /// It without a comment and the spacing at both ends.
+    pub(crate) fn trimmed(self, line: &[u8]) -> Span {
+        let bytes = self.bytes(line);
+        let spacing = bytes
+            .len()
+            .saturating_sub(without_spacing_in_front(bytes).len());
+        Span::of_length(self.start.saturating_add(spacing), content(bytes).len())
+    }
+}
+
+/// What stands between parts.
+#[derive(Clone, Copy)]
+pub(crate) enum Separator {
+    Spacing,
+    Byte(u8),
+}
+
+impl Separator {
+    fn is(self, byte: u8) -> bool {
+        match self {
+            Separator::Spacing => is_spacing(byte),
+            Separator::Byte(separator) => byte == separator,
+        }
+    }
+}
+
+/// What stands before, between and behind the separators, empty parts too.
+pub(crate) fn pieces(
+    alloc: Global,
+    line: &[u8],
+    span: Span,
+    separator: Separator,
+) -> Result<Vec<Span>, AllocError> {
+    let mut pieces = Vec::new(alloc);
+    let mut start = span.start;
+    for (place, byte) in span.bytes(line).iter().enumerate() {
+        if separator.is(*byte) {
+            let end = span.start.saturating_add(place);
+            pieces.push(Span { start, end })?;
+            start = end.saturating_add(1);
+        }
+    }
+    pieces.push(Span {
+        start,
+        end: span.end,
+    })?;
+    Ok(pieces)
+}
+
+/// The words between spacing.
+pub(crate) fn words(alloc: Global, line: &[u8], span: Span) -> Result<Vec<Span>, AllocError> {
+    let mut words = Vec::new(alloc);
+    for piece in pieces(alloc, line, span, Separator::Spacing)? {
+        if !piece.is_empty() {
+            words.push(piece)?;
+        }
+    }
+    Ok(words)
+}

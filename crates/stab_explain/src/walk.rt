@@ -1,0 +1,153 @@
+//! The item that looks back too far, or behind which the steps are too many.
+//!
+//! Items are counted as they stand, and a block's rounds at its end: in the first round of a block
+//! fewest records stand before an item of it, so a lookback that is refused is so in the first round.
+use crate::counts::Counts;
+use stab_io::Refusal;
+use stab_lines::{Count, Kind, Line, content, meaning};
+use std::alloc::{AllocError, Global};
+
+/// The most steps of a circuit.
+const MOST_STEPS: u64 = 1_048_576;
+
+/// An item for which a whole circuit is refused.
+#[derive(Drop)]
+pub(crate) struct FoundItem {
+    /// Its line, or that of its opening.
+    pub(crate) line: u64,
+    /// Its path: the places of the blocks round it, the outermost first, and its own place.
+    pub(crate) path: Vec<u64>,
+    /// How many records stand before it.
+    pub(crate) records: u64,
+}
+
+/// A block that is open: its line, place and count, and the numbers before it.
+#[derive(Clone, Copy)]
+struct OpenBlock {
+    line: u64,
+    place: u64,
+    count: Count,
+    steps: u64,
+    records: u64,
+}
+
+/// The blocks that are open, the place of the next item in the innermost, and the numbers so far.
+#[derive(Drop)]
+struct Walk {
+    alloc: Global,
+    refusal: Refusal,
+    open_blocks: Vec<OpenBlock>,
+    place: u64,
+    steps: u64,
+    records: u64,
+}
+
+/// The first item of a text for which the whole circuit is refused, by 8 or 9.
+pub(crate) fn find_item(
+    alloc: Global,
+    text: &[u8],
+    refusal: Refusal,
+) -> Result<Option<FoundItem>, AllocError> {
+    let mut walk = Walk {
+        alloc,
+        refusal,
+        open_blocks: Vec::new(alloc),
+        place: 0,
+        steps: 0,
+        records: 0,
+    };
+    let mut number: u64 = 0;
+    for line in text.split(|byte| *byte == b'\n') {
+        number = number.saturating_add(1);
+        let found = walk.take_line(number, content(line))?;
+        if found.is_some() {
+            return Ok(found);
+        }
+    }
+    Ok(None)
+}
+
+impl Walk {
+    fn take_line(&mut self, number: u64, content: &[u8]) -> Result<Option<FoundItem>, AllocError> {
+        match meaning(self.alloc, content) {
+            Ok(line) => self.take(number, &line),
+            Err(Refusal::OutOfMemory) => Err(AllocError),
+            Err(_) => Ok(None),
+        }
+    }
+
+    fn take(&mut self, number: u64, line: &Line) -> Result<Option<FoundItem>, AllocError> {
+        match line {
+            Line::Blank => Ok(None),
+            Line::Open { count, .. } => {
+                self.open(number, *count)?;
+                Ok(None)
+            }
+            Line::Close => self.close(),
+            Line::Operation(operation) => self.take_operation(number, &operation.kind),
+        }
+    }
+
+    fn open(&mut self, line: u64, count: Count) -> Result<(), AllocError> {
+        self.open_blocks.push(OpenBlock {
+            line,
+            place: self.place,
+            count,
+            steps: self.steps,
+            records: self.records,
+        })?;
+        self.place = 0;
+        Ok(())
+    }
+
+    /// Counts all rounds of the innermost block.
+    fn close(&mut self) -> Result<Option<FoundItem>, AllocError> {
+        let Some(block) = self.open_blocks.pop() else {
+            return Ok(None);
+        };
+        self.place = block.place;
+        let rounds = block.count.number();
+        self.steps = after_rounds(block.steps, self.steps, rounds);
+        self.records = after_rounds(block.records, self.records, rounds);
+        self.end_item(block.line)
+    }
+
+    fn take_operation(&mut self, line: u64, kind: &Kind) -> Result<Option<FoundItem>, AllocError> {
+        let counts = Counts::of_kind(kind);
+        if self.refusal == Refusal::LookbackTooFar && counts.lookback > self.records {
+            return Ok(Some(self.found(line)?));
+        }
+        self.steps = self.steps.saturating_add(counts.steps);
+        self.records = self.records.saturating_add(counts.records);
+        self.end_item(line)
+    }
+
+    /// Goes on to the next item, unless the steps are too many behind this one.
+    fn end_item(&mut self, line: u64) -> Result<Option<FoundItem>, AllocError> {
+        if self.refusal == Refusal::TooManySteps && self.steps > MOST_STEPS {
+            return Ok(Some(self.found(line)?));
+        }
+        self.place = self.place.saturating_add(1);
+        Ok(None)
+    }
+
+    /// The item at the place.
+    fn found(&self, line: u64) -> Result<FoundItem, AllocError> {
+        let mut path = Vec::new(self.alloc);
+        for block in self.open_blocks.iter() {
+            path.push(block.place)?;
+        }
+        path.push(self.place)?;
+        Ok(FoundItem {
+            line,
+            path,
+            records: self.records,
+        })
+    }
+}
+
+/// A number behind all rounds of a block, of that before it and that behind its first round.
+fn after_rounds(before: u64, behind_first: u64, rounds: u64) -> u64 {
+    let of_round = behind_first.saturating_sub(before);
+    before.saturating_add(of_round.saturating_mul(rounds))
+}

@@ -1,0 +1,17 @@
+use Rattle.std.proofs.Common.{arith, ◌∙◌, ap}
+use Rattle.stab_pauli.specs.XParts.{has_x}
+use Rattle.stab_pauli.proofs.SeenLemmas.{counted_seen, seen_of, place_seen, letter_seen}
+use Rattle.stab_pauli.proofs.rows.PauliRows.has_x.Goals as goal
+
+pub row_of-words-requires-clause-in_range : goal.row_of-words-requires-clause-in_range
+row_of-words-requires-clause-in_range c = counted_seen (seen_of c.self.invariant c.self.view_is) c.args.a c.len.result c.requires.in_range (omega (arith, c.self.inside.powers.ok.0))
+
+pub has_x_at-requires-clause-in_range : goal.has_x_at-requires-clause-in_range
+has_x_at-requires-clause-in_range c =
+    let mine = seen_of c.self.invariant c.self.view_is in
+    place_seen mine c.args.qubit c.requires.qubit_in_range
+
+pub returns : goal.returns
+returns c =
+    let mine = seen_of c.self.invariant c.self.view_is in
+    record { value = c.has_x_at.ensures.value ∙ ap has_x (letter_seen mine c.args.a c.args.qubit c.requires.in_range c.requires.qubit_in_range c.row_of-words.ensures.value c.as_slice.ensures.value) }

@@ -1,0 +1,213 @@
+-- Detectors among steps: how many there are, the steps before each, its region in the table, and the bit that a run gives it.
+use Rattle.std.proofs.Common.{◌≡◌, ℕ, zero, suc, ◌+◌, ◌<◌, refl, sym, ◌∙◌, ap, subst, arith, Bool, true, false, List, [], ◌∷◌, ◌++◌, length, map, All}
+use Rattle.std.specs.Prelude.{if◌then◌else◌, slice_index_or}
+use Rattle.std.proofs.lemmas.List.{get_or-map, length-map}
+use Rattle.std.proofs.lemmas.List.Elements.{All-nil, All-cons, All-head, All-tail}
+use Rattle.stab_circuit.specs.Steps.{Step, one, two, controlled, collapse, product, detector, observable}
+use Rattle.stab_session.specs.Records.{parity}
+use Rattle.stab_session.specs.Runs.{State, start, run, when}
+use Rattle.stab_session.specs.Points.{Point, origin, given, next_point, outputs}
+use Rattle.stab_session.specs.inner.ProgramStates.{StepFits}
+use Rattle.stab_session.specs.Laws.{RunsArePointsWithOutputs}
+use Rattle.stab_regions.specs.Regions.{region_of, region_through, keep_region, asks_nothing}
+use Rattle.stab_regions.specs.Laws.{bit_asked}
+use Rattle.stab_regions.specs.Tables.{Tracked, tracked_before, begun_at, tracked_at, is_detector, named, detectors_of, steps_before, named_by}
+use Rattle.stab_regions.specs.TableLaws.{detector_bit, TablesAreRegions}
+
+-- the first step, where it is a detector and where it is not: how many there are, the steps before detector d, and what it names
+
+module _ (x : Step) (xs : List Step) where
+  pub count-other : is_detector x ≡ false → detectors_of (x ∷ xs) ≡ detectors_of xs
+  count-other e = ap (λ b. if b then 1 + detectors_of xs else detectors_of xs) e
+
+  pub count-detector : is_detector x ≡ true → detectors_of (x ∷ xs) ≡ 1 + detectors_of xs
+  count-detector e = ap (λ b. if b then 1 + detectors_of xs else detectors_of xs) e
+
+  pub before-other : (d : ℕ) → is_detector x ≡ false → steps_before d (x ∷ xs) ≡ x ∷ steps_before d xs
+  before-other zero e = ap (λ b. if b then [] else x ∷ steps_before zero xs) e
+  before-other (suc d) e = ap (λ b. x ∷ (if b then steps_before d xs else steps_before (suc d) xs)) e
+
+  pub named-other : (d : ℕ) → is_detector x ≡ false → named_by d (x ∷ xs) ≡ named_by d xs
+  named-other zero e = ap (λ b. if b then named x else named_by zero xs) e
+  named-other (suc d) e = ap (λ b. if b then named_by d xs else named_by (suc d) xs) e
+
+  pub before-first : is_detector x ≡ true → steps_before zero (x ∷ xs) ≡ []
+  before-first e = ap (λ b. if b then [] else x ∷ steps_before zero xs) e
+
+  pub named-first : is_detector x ≡ true → named_by zero (x ∷ xs) ≡ named x
+  named-first e = ap (λ b. if b then named x else named_by zero xs) e
+
+  pub before-next : (d : ℕ) → is_detector x ≡ true → steps_before (suc d) (x ∷ xs) ≡ x ∷ steps_before d xs
+  before-next d e = ap (λ b. x ∷ (if b then steps_before d xs else steps_before (suc d) xs)) e
+
+  pub named-next : (d : ℕ) → is_detector x ≡ true → named_by (suc d) (x ∷ xs) ≡ named_by d xs
+  named-next d e = ap (λ b. if b then named_by d xs else named_by (suc d) xs) e
+
+-- the steps before a detector are a front of all
+pub before-front : (d : ℕ) (xs : List Step) → (rest : List Step) × (xs ≡ steps_before d xs ++ rest)
+before-front d [] = ([], refl)
+before-front zero (x ∷ xs) = by_kind (is_detector x) refl (before-front zero xs)
+  where
+    by_kind : (b : Bool) → is_detector x ≡ b → (rest : List Step) × (xs ≡ steps_before zero xs ++ rest) → (rest : List Step) × (x ∷ xs ≡ steps_before zero (x ∷ xs) ++ rest)
+    by_kind true e later = (x ∷ xs, ap (λ ys. ys ++ x ∷ xs) (sym (before-first x xs e)))
+    by_kind false e later = (later.0, ap (λ ys. x ∷ ys) later.1 ∙ ap (λ ys. ys ++ later.0) (sym (before-other x xs zero e)))
+before-front (suc d) (x ∷ xs) = by_kind (is_detector x) refl (before-front d xs) (before-front (suc d) xs)
+  where
+    by_kind : (b : Bool) → is_detector x ≡ b → (rest : List Step) × (xs ≡ steps_before d xs ++ rest) → (rest : List Step) × (xs ≡ steps_before (suc d) xs ++ rest)
+        → (rest : List Step) × (x ∷ xs ≡ steps_before (suc d) (x ∷ xs) ++ rest)
+    by_kind true e next other = (next.0, ap (λ ys. x ∷ ys) next.1 ∙ ap (λ ys. ys ++ next.0) (sym (before-next x xs d e)))
+    by_kind false e next other = (other.0, ap (λ ys. x ∷ ys) other.1 ∙ ap (λ ys. ys ++ other.0) (sym (before-other x xs (suc d) e)))
+
+-- a front fits where all do
+fits-front : (n : ℕ) (xs ys : List Step) → All (StepFits n) (xs ++ ys) → All (StepFits n) xs
+fits-front n [] ys fits = All-nil (StepFits n)
+fits-front n (x ∷ xs) ys fits =
+    All-cons (StepFits n) x xs (All-head (StepFits n) x (xs ++ ys) fits) (fits-front n xs ys (All-tail (StepFits n) x (xs ++ ys) fits))
+
+-- so the steps before a detector fit
+pub fits-before : (n d : ℕ) (xs : List Step) → All (StepFits n) xs → All (StepFits n) (steps_before d xs)
+fits-before n d xs fits =
+    let front = before-front d xs in
+    fits-front n (steps_before d xs) front.0 (subst (All (StepFits n)) front.1 fits)
+
+-- there is no such number
+pub none : (d : ℕ) → d < 0 → ⊥
+none d lt = omega arith
+
+-- the table
+
+-- a row begins where a detector stands
+begun-detector : (n : ℕ) (x : Step) → is_detector x ≡ true → begun_at n x ≡ record { region = region_of n (named x); kept = true } ∷ []
+begun-detector n x e = ap (λ b. if b then record { region = region_of n (named x); kept = true } ∷ [] else []) e
+
+-- and nowhere else
+begun-other : (n : ℕ) (x : Step) → is_detector x ≡ false → begun_at n x ≡ []
+begun-other n x e = ap (λ b. if b then record { region = region_of n (named x); kept = true } ∷ [] else []) e
+
+-- there is a row for each detector
+pub length-tracked : (n : ℕ) (xs : List Step) → length (tracked_at n xs) ≡ detectors_of xs
+length-tracked n [] = refl
+length-tracked n (x ∷ xs) = by_kind (is_detector x) refl (length-map (tracked_at n xs) (tracked_before n x) ∙ length-tracked n xs)
+  where
+    by_kind : (b : Bool) → is_detector x ≡ b → length (map (tracked_before n x) (tracked_at n xs)) ≡ detectors_of xs
+        → length (tracked_at n (x ∷ xs)) ≡ detectors_of (x ∷ xs)
+    by_kind true e later =
+        ap (λ ts. length (ts ++ map (tracked_before n x) (tracked_at n xs))) (begun-detector n x e) ∙ omega (arith, later) ∙ sym (count-detector x xs e)
+    by_kind false e later = ap (λ ts. length (ts ++ map (tracked_before n x) (tracked_at n xs))) (begun-other n x e) ∙ later ∙ sym (count-other x xs e)
+
+-- the row of a detector whose steps before it and lookbacks are these
+abbrev row : ℕ → List Step → List ℕ → Tracked
+row n ys ks = record { region = region_through n asks_nothing ys (region_of n ks); kept = keep_region n asks_nothing ys (region_of n ks) }
+
+-- the table has each detector's row
+abbrev HasRows : ℕ → List Step → Type 0
+HasRows n xs = (d : ℕ) (other : Tracked) → d < detectors_of xs → slice_index_or (tracked_at n xs) d other ≡ row n (steps_before d xs) (named_by d xs)
+
+module _ (n : ℕ) (x : Step) (xs : List Step) (later : HasRows n xs) where
+  -- a row behind the first step
+  row-behind : (d : ℕ) (other : Tracked) → d < detectors_of xs
+      → slice_index_or (map (tracked_before n x) (tracked_at n xs)) d other ≡ row n (x ∷ steps_before d xs) (named_by d xs)
+  row-behind d other lt =
+      get_or-map (tracked_before n x) (tracked_at n xs) d other other (omega (arith, lt, length-tracked n xs))
+      ∙ ap (tracked_before n x) (later d other lt)
+
+  -- the rows where the first step is no detector
+  rows-other : is_detector x ≡ false → HasRows n (x ∷ xs)
+  rows-other e d other lt =
+      ap (λ ts. slice_index_or (ts ++ map (tracked_before n x) (tracked_at n xs)) d other) (begun-other n x e)
+      ∙ row-behind d other (omega (arith, lt, count-other x xs e))
+      ∙ (λ i. row n (sym (before-other x xs d e) i) (sym (named-other x xs d e) i))
+
+  -- and where it is one
+  rows-detector : is_detector x ≡ true → HasRows n (x ∷ xs)
+  rows-detector e zero other lt =
+      ap (λ ts. slice_index_or (ts ++ map (tracked_before n x) (tracked_at n xs)) zero other) (begun-detector n x e)
+      ∙ (λ i. row n (sym (before-first x xs e) i) (sym (named-first x xs e) i))
+  rows-detector e (suc d) other lt =
+      ap (λ ts. slice_index_or (ts ++ map (tracked_before n x) (tracked_at n xs)) (suc d) other) (begun-detector n x e)
+      ∙ row-behind d other (omega (arith, lt, count-detector x xs e))
+      ∙ (λ i. row n (sym (before-next x xs d e) i) (sym (named-next x xs d e) i))
+
+  -- so whichever it is
+  rows-next : (b : Bool) → is_detector x ≡ b → HasRows n (x ∷ xs)
+  rows-next true e = rows-detector e
+  rows-next false e = rows-other e
+
+-- by induction on the steps
+has-rows : (n : ℕ) (xs : List Step) → HasRows n xs
+has-rows n [] d other lt = absurd (none d lt)
+has-rows n (x ∷ xs) d other lt = rows-next n x xs (has-rows n xs) (is_detector x) refl d other lt
+
+-- the law
+pub tables-are-regions : TablesAreRegions
+tables-are-regions n xs d other lt = has-rows n xs d other lt
+
+-- the bits of a run
+
+-- a step gives a detector's bit where it is a detector
+detectors-given : (n : ℕ) (coins : ℕ → Bool) (x : Step) (p : Point) → (given n coins x p).detectors ≡ when (is_detector x) (parity p.records (named x))
+detectors-given n coins (one g q) p = refl
+detectors-given n coins (two g a b) p = refl
+detectors-given n coins (controlled l k q) p = refl
+detectors-given n coins (collapse l q recorded inverted resets) p = refl
+detectors-given n coins (product factors inverted) p = refl
+detectors-given n coins (detector ks) p = refl
+detectors-given n coins (observable j ks) p = refl
+
+-- what steps give has each detector's bit
+abbrev HasBits : ℕ → (ℕ → Bool) → List Step → Point → Type 0
+HasBits n coins xs p =
+    (d : ℕ) → d < detectors_of xs → slice_index_or (outputs n coins xs p).detectors d false ≡ bit_asked n coins asks_nothing (steps_before d xs) (named_by d xs) p
+
+module _ (n : ℕ) (coins : ℕ → Bool) (x : Step) (xs : List Step) (p : Point) (later : HasBits n coins xs (next_point n coins x p)) where
+  abbrev bits_behind : List Bool
+  bits_behind = (outputs n coins xs (next_point n coins x p)).detectors
+
+  -- the first step's bit stands first, where it has one
+  bits-given : (b : Bool) → is_detector x ≡ b → (outputs n coins (x ∷ xs) p).detectors ≡ when b (parity p.records (named x)) ++ bits_behind
+  bits-given b e = ap (λ bits. bits ++ bits_behind) (detectors-given n coins x p ∙ ap (λ c. when c (parity p.records (named x))) e)
+
+  -- so each bit has its place
+  bits-next : (b : Bool) → is_detector x ≡ b → HasBits n coins (x ∷ xs) p
+  bits-next false e d lt =
+      ap (λ bits. slice_index_or bits d false) (bits-given false e)
+      ∙ later d (omega (arith, lt, count-other x xs e))
+      ∙ (λ i. bit_asked n coins asks_nothing (sym (before-other x xs d e) i) (sym (named-other x xs d e) i) p)
+  bits-next true e zero lt =
+      ap (λ bits. slice_index_or bits zero false) (bits-given true e)
+      ∙ (λ i. bit_asked n coins asks_nothing (sym (before-first x xs e) i) (sym (named-first x xs e) i) p)
+  bits-next true e (suc d) lt =
+      ap (λ bits. slice_index_or bits (suc d) false) (bits-given true e)
+      ∙ later d (omega (arith, lt, count-detector x xs e))
+      ∙ (λ i. bit_asked n coins asks_nothing (sym (before-next x xs d e) i) (sym (named-next x xs d e) i) p)
+
+-- by induction on the steps
+has-bits : (n : ℕ) (coins : ℕ → Bool) (xs : List Step) (p : Point) → HasBits n coins xs p
+has-bits n coins [] p d lt = absurd (none d lt)
+has-bits n coins (x ∷ xs) p d lt = bits-next n coins x xs p (has-bits n coins xs (next_point n coins x p)) (is_detector x) refl d lt
+
+-- a detector of a run is the parity that is asked for behind the steps before it
+pub detector-bit : RunsArePointsWithOutputs → (n : ℕ) (coins : ℕ → Bool) (xs : List Step) (count d : ℕ) → d < detectors_of xs
+    → detector_bit n coins xs count d ≡ bit_asked n coins asks_nothing (steps_before d xs) (named_by d xs) origin
+detector-bit law n coins xs count d lt = ap (λ (s : State). slice_index_or s.detectors d false) (law n coins xs (start count)) ∙ has-bits n coins xs origin d lt
+
+-- steps give a bit for each detector
+length-given : (n : ℕ) (coins : ℕ → Bool) (xs : List Step) (p : Point) → length (outputs n coins xs p).detectors ≡ detectors_of xs
+length-given n coins [] p = refl
+length-given n coins (x ∷ xs) p = by_kind (is_detector x) refl (length-given n coins xs (next_point n coins x p))
+  where
+    here : (b : Bool) → is_detector x ≡ b
+        → length (outputs n coins (x ∷ xs) p).detectors ≡ length (when b (parity p.records (named x)) ++ (outputs n coins xs (next_point n coins x p)).detectors)
+    here b e =
+        ap (λ bits. length (bits ++ (outputs n coins xs (next_point n coins x p)).detectors))
+        (detectors-given n coins x p ∙ ap (λ c. when c (parity p.records (named x))) e)
+
+    by_kind : (b : Bool) → is_detector x ≡ b → length (outputs n coins xs (next_point n coins x p)).detectors ≡ detectors_of xs
+        → length (outputs n coins (x ∷ xs) p).detectors ≡ detectors_of (x ∷ xs)
+    by_kind true e later = here true e ∙ omega (arith, later) ∙ sym (count-detector x xs e)
+    by_kind false e later = here false e ∙ later ∙ sym (count-other x xs e)
+
+-- so a run has a bit for each
+pub count-detectors : RunsArePointsWithOutputs → (n : ℕ) (coins : ℕ → Bool) (xs : List Step) (count : ℕ)
+    → length (run n coins xs (start count)).detectors ≡ detectors_of xs
+count-detectors law n coins xs count = ap (λ (s : State). length s.detectors) (law n coins xs (start count)) ∙ length-given n coins xs origin

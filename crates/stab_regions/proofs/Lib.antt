@@ -1,0 +1,17 @@
+mod ShowLemmas
+mod LookRowLemmas
+mod PairLemmas
+mod MultiplyLemmas
+mod GateLemmas
+mod RowLemmas
+mod SignLemmas
+mod LookLemmas
+mod ReadLemmas
+mod SureLemmas
+mod MovedLemmas
+mod TouchLemmas
+mod UnsureLemmas
+mod DetectorLemmas
+mod ObservableLemmas
+mod TableLemmas
+mod FaultLemmas

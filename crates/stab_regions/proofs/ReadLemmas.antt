@@ -1,0 +1,155 @@
+-- Reading: at a point a region reads a bit where its string stabilises with the sign that makes it so; steps that keep the region
+-- lead to a point where the region behind them reads the same bit.
+use Rattle.std.proofs.Common.{◌≡◌, ℕ, ◌<◌, refl, sym, ◌∙◌, ap, arith, Bool, true, false, not, ◌&&◌, List, [], ◌∷◌, ◌++◌, append-nil, length, set}
+use Rattle.std.specs.Prelude.{if◌then◌else◌}
+use Rattle.std.proofs.lemmas.List.{length-replicate, length-set}
+use Rattle.stab_pauli.specs.declared.letter.Letter.{Letter}
+use Rattle.stab_pauli.specs.declared.letter.Letter.TheVariants.{I}
+use Rattle.stab_pauli.specs.Letters.{◌⊕◌}
+use Rattle.stab_pauli.specs.Paulis.{Signed, single, with_sign, anticommute}
+use Rattle.stab_pauli.specs.Paulis.{product as times}
+use Rattle.stab_pauli.proofs.ParityLemmas.{parity-false}
+use Rattle.stab_pauli.proofs.SignedLemmas.{length-product}
+use Rattle.stab_tableau.specs.Gates.{inverse, back, back_pair}
+use Rattle.stab_tableau.specs.Traces.{Event, projected, member}
+use Rattle.stab_tableau.proofs.OneLetterLemmas.{length-one_letter}
+use Rattle.stab_tableau.proofs.SymmetryLemmas.{image-length, pair-length}
+use Rattle.stab_tableau.proofs.TestLemmas.{test_left, test_right}
+use Rattle.stab_circuit.specs.Steps.{Step, one, two, controlled, collapse, product, detector, observable}
+use Rattle.stab_lines.specs.declared.product.Factor.{Factor}
+use Rattle.stab_lines.specs.Axes.{letter_of}
+use Rattle.stab_session.specs.Records.{looked_up, parity}
+use Rattle.stab_session.specs.Runs.{when, string_of, with_factors, flip_of, applied_where, outcome_at}
+use Rattle.stab_session.specs.Points.{Point, next_point}
+use Rattle.stab_session.specs.inner.ProgramStates.{StepFits}
+use Rattle.stab_regions.specs.Regions.{Region, names_newest, earlier, times_where, before_measured, region_before, region_through, keeps_region}
+use Rattle.stab_regions.proofs.SignLemmas.{sign-sign, image-sign, pair-sign, product-sign_right, product-signs, member-where}
+use Rattle.stab_regions.proofs.LookLemmas.{parity-where, parity-when}
+
+-- sizes
+
+length-with_factors : (factors : List Factor) (letters : List Letter) → length (with_factors factors letters) ≡ length letters
+length-with_factors [] letters = refl
+length-with_factors (f ∷ fs) letters = length-with_factors fs (set letters f.qubit (letter_of f.letter)) ∙ length-set letters f.qubit (letter_of f.letter)
+
+pub length-string_of : (n : ℕ) (factors : List Factor) → length (string_of n factors).letters ≡ n
+length-string_of n factors = length-with_factors factors _ ∙ length-replicate n I
+
+pub length-times : (n : ℕ) (bit : Bool) (m p : Signed) → length m.letters ≡ n → length p.letters ≡ n → length (times_where bit m p).letters ≡ n
+length-times n true m p lm lp = length-product n m p lm lp
+length-times n false m p lm lp = lp
+
+pub size-before : (n : ℕ) (x : Step) (r : Region) → length r.string.letters ≡ n → length (region_before n x r).string.letters ≡ n
+size-before n (one g q) r long = image-length (inverse g) q r.string ∙ long
+size-before n (two g a b) r long = pair-length g a b r.string ∙ long
+size-before n (controlled l k q) r long = long
+size-before n (collapse l q recorded inverted resets) r long = length-times n _ (single n q l) _ (length-one_letter n q l) long
+size-before n (product factors inverted) r long = length-times n _ (string_of n factors) _ (length-string_of n factors) long
+size-before n (detector ks) r long = long
+size-before n (observable j ks) r long = long
+
+pub size-through : (n : ℕ) (asked : Step → List ℕ) (xs : List Step) (r : Region) → length r.string.letters ≡ n → length (region_through n asked xs r).string.letters ≡ n
+size-through n asked [] r long = long
+size-through n asked (x ∷ xs) r long = size-before n x (region_through n asked xs r) (size-through n asked xs r long)
+
+-- reading
+
+abbrev pub Reads : Point → Region → Bool → Type 0
+Reads p r b = member p.trace (with_sign (b ⊕ parity p.records r.looks) r.string) ≡ true
+
+commuting : (m p : Signed) → not (anticommute m p) ≡ true → anticommute m p ≡ false
+commuting m p e = off (anticommute m p) e
+  where
+    off : (b : Bool) → not b ≡ true → b ≡ false
+    off b e = grind arith
+
+-- behind a projection the string stands with a sign that counts the outcome, where it was multiplied before it
+projected-reads : (m s : Signed) (t : List Event) (o d c : Bool) → anticommute m s ≡ false → member t (with_sign c (times_where d m s)) ≡ true
+    → member (projected m o ∷ t) (with_sign (c ⊕ (d && o)) s) ≡ true
+projected-reads m s t o false c apart h =
+    test_left (anticommute m s) _ _ apart (ap (λ x. member t (with_sign x s)) (parity-false c) ∙ h)
+projected-reads m s t o true c apart h =
+    test_right (anticommute m s) _ _ apart
+    (ap (member t) (product-signs o (c ⊕ o) m s apart ∙ ap (λ x. with_sign x (times m s)) (round o c)) ∙ h)
+  where
+    round : (o c : Bool) → o ⊕ (c ⊕ o) ≡ c
+    round o c = grind arith
+
+times-sign : (d v : Bool) (m s : Signed) → anticommute m s ≡ false → times_where d m (with_sign v s) ≡ with_sign v (times_where d m s)
+times-sign true v m s apart = product-sign_right v m s apart
+times-sign false v m s apart = refl
+
+-- the signs that a measurement, its record and its correction make of a string
+signs : (e f w i o b p : Bool) → ((e && o) && f) ⊕ (b ⊕ ((w && (i ⊕ o)) ⊕ p)) ≡ ((b ⊕ p) ⊕ (w && i)) ⊕ ((w ⊕ (e && f)) && o)
+signs e f w i o b p = grind arith
+
+signs-plain : (w i o b p : Bool) → b ⊕ ((w && (i ⊕ o)) ⊕ p) ≡ ((b ⊕ p) ⊕ (w && i)) ⊕ ((w ⊕ false) && o)
+signs-plain w i o b p = grind arith
+
+feedback-signs : (bit a b p : Bool) → (bit && a) ⊕ (b ⊕ p) ≡ b ⊕ ((a && bit) ⊕ p)
+feedback-signs bit a b p = grind arith
+
+module _ (t : List Event) (records : List Bool) (m : Signed) (r : Region) (b recorded inverted : Bool) (apart : anticommute m r.string ≡ false) where
+  -- whether the record of the outcome counts, and the parity of the others
+  abbrev counted : Bool
+  counted = recorded && names_newest r.looks
+
+  abbrev others : Bool
+  others = parity records (if recorded then earlier r.looks else r.looks)
+
+  before-measured : (corrected : Bool)
+      → member t (with_sign (b ⊕ parity records (before_measured m recorded inverted corrected r).looks) (before_measured m recorded inverted corrected r).string) ≡ true
+      → member t (with_sign ((b ⊕ others) ⊕ (counted && inverted)) (times_where (counted ⊕ corrected) m r.string)) ≡ true
+  before-measured corrected h =
+      ap (member t) (sym (ap (with_sign (b ⊕ others)) (times-sign (counted ⊕ corrected) (counted && inverted) m r.string apart) ∙ sign-sign (b ⊕ others) (counted && inverted) _)) ∙ h
+
+  -- a measurement and a correction by a letter
+  pub measured-reads : (n q : ℕ) (l : Letter) (resets o : Bool) → q < n → length r.string.letters ≡ n
+      → member t (with_sign (b ⊕ parity records (before_measured m recorded inverted (resets && anticommute (single n q l) r.string) r).looks) (before_measured m recorded inverted (resets && anticommute (single n q l) r.string) r).string) ≡ true
+      → member (applied_where (resets && o) l q (projected m o ∷ t)) (with_sign (b ⊕ parity (records ++ when recorded (inverted ⊕ o)) r.looks) r.string) ≡ true
+  measured-reads n q l resets o lt long h =
+      member-where n q l (resets && o) (projected m o ∷ t) _ long lt
+      ∙ ap (member (projected m o ∷ t))
+      (sign-sign _ _ r.string
+      ∙ ap (λ x. with_sign x r.string)
+      (ap (λ x. ((resets && o) && anticommute (single n q l) r.string) ⊕ (b ⊕ x)) (parity-when records recorded (inverted ⊕ o) r.looks)
+      ∙ signs resets (anticommute (single n q l) r.string) counted inverted o b others))
+      ∙ projected-reads m r.string t o _ _ apart (before-measured (resets && anticommute (single n q l) r.string) h)
+
+  -- a measurement alone
+  pub product-reads : (o : Bool)
+      → member t (with_sign (b ⊕ parity records (before_measured m recorded inverted false r).looks) (before_measured m recorded inverted false r).string) ≡ true
+      → member (projected m o ∷ t) (with_sign (b ⊕ parity (records ++ when recorded (inverted ⊕ o)) r.looks) r.string) ≡ true
+  product-reads o h =
+      ap (λ x. member (projected m o ∷ t) (with_sign x r.string))
+      (ap (λ x. b ⊕ x) (parity-when records recorded (inverted ⊕ o) r.looks) ∙ signs-plain counted inverted o b others)
+      ∙ projected-reads m r.string t o _ _ apart (before-measured false h)
+
+-- a step that keeps the region
+pub reads-next : (n : ℕ) (coins : ℕ → Bool) (x : Step) (p : Point) (r : Region) (b : Bool) → StepFits n x → length r.string.letters ≡ n
+    → keeps_region n x r ≡ true → Reads p (region_before n x r) b → Reads (next_point n coins x p) r b
+reads-next n coins (one g q) p r b fits long kept h =
+    ap (λ rs. member p.trace (back g q (with_sign (b ⊕ parity rs r.looks) r.string))) (append-nil p.records)
+    ∙ ap (member p.trace) (image-sign (inverse g) q (b ⊕ parity p.records r.looks) r.string) ∙ h
+reads-next n coins (two g i j) p r b fits long kept h =
+    ap (λ rs. member p.trace (back_pair g i j (with_sign (b ⊕ parity rs r.looks) r.string))) (append-nil p.records)
+    ∙ ap (member p.trace) (pair-sign g i j (b ⊕ parity p.records r.looks) r.string) ∙ h
+reads-next n coins (controlled l k q) p r b fits long kept h =
+    ap (λ rs. member (applied_where (looked_up p.records k) l q p.trace) (with_sign (b ⊕ parity rs r.looks) r.string)) (append-nil p.records)
+    ∙ member-where n q l (looked_up p.records k) p.trace _ long fits
+    ∙ ap (member p.trace)
+    (sign-sign _ _ r.string
+    ∙ ap (λ x. with_sign x r.string)
+    (feedback-signs (looked_up p.records k) (anticommute (single n q l) r.string) b (parity p.records r.looks)
+    ∙ ap (λ x. b ⊕ x) (sym (parity-where p.records (anticommute (single n q l) r.string) k r.looks))))
+    ∙ h
+reads-next n coins (collapse l q recorded inverted resets) p r b fits long kept h =
+    measured-reads p.trace p.records (single n q l) r b recorded inverted (commuting (single n q l) r.string kept) n q (flip_of l) resets
+    (outcome_at coins (single n q l) p.trace p.coin) fits long h
+reads-next n coins (product factors inverted) p r b fits long kept h =
+    product-reads p.trace p.records (string_of n factors) r b true inverted (commuting (string_of n factors) r.string kept)
+    (outcome_at coins (string_of n factors) p.trace p.coin) h
+reads-next n coins (detector ks) p r b fits long kept h =
+    ap (λ rs. member p.trace (with_sign (b ⊕ parity rs r.looks) r.string)) (append-nil p.records) ∙ h
+reads-next n coins (observable j ks) p r b fits long kept h =
+    ap (λ rs. member p.trace (with_sign (b ⊕ parity rs r.looks) r.string)) (append-nil p.records) ∙ h

@@ -1,0 +1,134 @@
+-- What rows show of a region: its letters flip, and its lookbacks are named.
+use Rattle.std.proofs.Common.{◌≡◌, ◌≢◌, ℕ, zero, suc, ◌+◌, ◌-◌, ◌<◌, refl, sym, ◌∙◌, ap, arith, Bool, true, false, ◌&&◌, ◌⊎◌, inl, inr, List, [], ◌∷◌, length}
+use Rattle.std.specs.Prelude.{◌==◌, if◌then◌else◌}
+use Rattle.std.proofs.lemmas.Bool.{cases_eq}
+use Rattle.stab_pauli.specs.declared.letter.Letter.{Letter}
+use Rattle.stab_pauli.specs.declared.letter.Letter.TheVariants.{I, X, Y, Z}
+use Rattle.stab_pauli.specs.Letters.{◌⊕◌, letters_anticommute}
+use Rattle.stab_pauli.specs.Paulis.{Signed, single, anticommute}
+use Rattle.stab_tableau.specs.Gates.{letter_at}
+use Rattle.stab_tableau.proofs.OneLetterLemmas.{one_letter-anticommute}
+use Rattle.stab_circuit.specs.Steps.{controlled, collapse}
+use Rattle.stab_session.specs.Runs.{flip_of}
+use Rattle.stab_regions.specs.Regions.{names_newest, earlier, look_where, times_where}
+use Rattle.stab_regions.specs.Rows.{odd, row, Toggles, bits_at, ShowsLetters, MovesLetters, multiplied, ShowsLooks, MovesRegion}
+
+-- what a letter flips
+
+bits-letter : (i : ℕ) (l m : Letter) (by_x by_z : List ℕ) → odd i by_x ≡ letters_anticommute X m → odd i by_z ≡ letters_anticommute Z m → bits_at i l by_x by_z ≡ letters_anticommute l m
+bits-letter i I m by_x by_z ex ez = refl
+bits-letter i X m by_x by_z ex ez = ex
+bits-letter i Y m by_x by_z ex ez = (λ k. ex k ⊕ ez k) ∙ both m
+  where
+    both : (m : Letter) → letters_anticommute X m ⊕ letters_anticommute Z m ≡ letters_anticommute Y m
+    both m = grind arith
+bits-letter i Z m by_x by_z ex ez = ez
+
+pub bits-anticommute : (i n q : ℕ) (l : Letter) (by_x by_z : List (List ℕ)) (s : Signed) → q < n → length s.letters ≡ n → ShowsLetters i by_x by_z s.letters
+    → bits_at i l (row by_x q) (row by_z q) ≡ anticommute (single n q l) s
+bits-anticommute i n q l by_x by_z s lt long shows =
+    bits-letter i l (letter_at s.letters q) (row by_x q) (row by_z q) (shows.x q) (shows.z q) ∙ sym (one_letter-anticommute n q l s.letters long lt)
+
+-- lookbacks
+
+equal : (k : ℕ) → (k == k) ≡ true
+equal k = grind arith
+
+unequal : (a b : ℕ) → a ≢ b → (a == b) ≡ false
+unequal a b ne = grind arith
+
+-- one more lookback
+looked : (b c : Bool) (k j : ℕ) (looks : List ℕ) → ((k == j) && b) ≡ c → odd j (look_where b k looks) ≡ odd j looks ⊕ c
+looked true c k j looks e = added (odd j looks) (k == j) c e
+  where
+    added : (a b c : Bool) → (b && true) ≡ c → b ⊕ a ≡ a ⊕ c
+    added a b c e = grind arith
+looked false c k j looks e = kept (odd j looks) (k == j) c e
+  where
+    kept : (a b c : Bool) → (b && false) ≡ c → a ≡ a ⊕ c
+    kept a b c e = grind arith
+
+same-and : (k j : ℕ) (b : Bool) → k ≡ j → ((k == j) && b) ≡ b
+same-and k j b e = grind arith
+
+other-and : (k j : ℕ) (b : Bool) → k ≢ j → ((k == j) && b) ≡ false
+other-and k j b e = grind arith
+
+plain : (a : Bool) → a ⊕ false ≡ a
+plain a = grind arith
+
+pub look-shows : (i k place : ℕ) (old new : List (List ℕ)) (looks numbers : List ℕ) → k ≡ place + 1 → ShowsLooks i old looks → Toggles old new place numbers
+    → ShowsLooks i new (look_where (odd i numbers) k looks)
+look-shows i k place old new looks numbers is shows t j = at (cases_eq j place)
+  where
+    at : (j ≡ place) ⊎ (j ≡ place → ⊥) → odd i (row new j) ≡ odd (j + 1) (look_where (odd i numbers) k looks)
+    at (inl e) =
+        ap (λ m. odd i (row new m)) e ∙ t.here i
+        ∙ ap (λ m. odd i (row old m) ⊕ odd i numbers) (sym e)
+        ∙ ap (λ b. b ⊕ odd i numbers) (shows j)
+        ∙ sym (looked (odd i numbers) (odd i numbers) k (j + 1) looks (same-and k (j + 1) (odd i numbers) (is ∙ ap (λ m. m + 1) (sym e))))
+    at (inr ne) =
+        ap (odd i) (t.elsewhere j ne) ∙ shows j ∙ sym (plain (odd (j + 1) looks))
+        ∙ sym (looked (odd i numbers) false k (j + 1) looks (other-and k (j + 1) (odd i numbers) (λ e. ne (omega arith))))
+
+pub look-none : (i k : ℕ) (b : Bool) (rows : List (List ℕ)) (looks : List ℕ) → k ≡ 0 → ShowsLooks i rows looks → ShowsLooks i rows (look_where b k looks)
+look-none i k b rows looks is shows j =
+    shows j ∙ sym (plain (odd (j + 1) looks)) ∙ sym (looked b false k (j + 1) looks (other-and k (j + 1) b (λ e. omega arith)))
+
+pub newest-odd : (looks : List ℕ) → names_newest looks ≡ odd 1 looks
+newest-odd [] = refl
+newest-odd (k ∷ ks) = ap (λ b. (k == 1) ⊕ b) (newest-odd ks)
+
+one-less : (k j : ℕ) → (k - 1 == j + 1) ≡ (k == (j + 1) + 1)
+one-less zero j = grind arith
+one-less (suc k) j = grind arith
+
+pub odd-earlier : (j : ℕ) (looks : List ℕ) → odd (j + 1) (earlier looks) ≡ odd ((j + 1) + 1) looks
+odd-earlier j [] = refl
+odd-earlier j (k ∷ ks) = λ i. one-less k j i ⊕ odd-earlier j ks i
+
+pub earlier-shows : (i : ℕ) (recorded : Bool) (old new : List (List ℕ)) (looks : List ℕ) → ShowsLooks i old looks
+    → ((k : ℕ) → row new k ≡ row old (if recorded then k + 1 else k)) → ShowsLooks i new (if recorded then earlier looks else looks)
+earlier-shows i true old new looks shows same j = ap (odd i) (same j) ∙ shows (j + 1) ∙ sym (odd-earlier j looks)
+earlier-shows i false old new looks shows same j = ap (odd i) (same j) ∙ shows j
+
+-- steps
+
+pub controlled-moves : (n q k : ℕ) (l : Letter) (by_x by_z old new : List (List ℕ)) (numbers : List ℕ) → q < n
+    → ((i : ℕ) → odd i numbers ≡ bits_at i l (row by_x q) (row by_z q))
+    → ((i : ℕ) (looks : List ℕ) → ShowsLooks i old looks → ShowsLooks i new (look_where (odd i numbers) k looks))
+    → MovesRegion n (controlled l k q) by_x by_z old by_x by_z new
+controlled-moves n q k l by_x by_z old new numbers lt bits looks i r long shows = record {
+  letters = shows.letters;
+  looks = λ j.
+      looks i r.looks shows.looks j
+      ∙ ap (λ b. odd (j + 1) (look_where b k r.looks)) (bits i ∙ bits-anticommute i n q l by_x by_z r.string lt long shows.letters);
+}
+
+-- the outcome counts where its record does, and where what is corrected by it anticommutes
+pub collapse-moves : (n q : ℕ) (l : Letter) (recorded inverted resets : Bool) (old_x old_z old new_x new_z new : List (List ℕ)) (corrected taken counted : List ℕ) → q < n
+    → ((i : ℕ) → odd i corrected ≡ (resets && bits_at i (flip_of l) (row old_x q) (row old_z q)))
+    → ((i : ℕ) → odd i taken ≡ (recorded && odd i (row old 0)))
+    → ((i : ℕ) → odd i counted ≡ odd i taken ⊕ odd i corrected)
+    → ((k : ℕ) → row new k ≡ row old (if recorded then k + 1 else k))
+    → MovesLetters n (multiplied n l q counted) old_x old_z new_x new_z
+    → MovesRegion n (collapse l q recorded inverted resets) old_x old_z old new_x new_z new
+collapse-moves n q l recorded inverted resets old_x old_z old new_x new_z new corrected taken counted lt is_corrected is_taken is_counted others moves i r long shows =
+    let counts : odd i counted ≡ (recorded && names_newest r.looks) ⊕ (resets && anticommute (single n q (flip_of l)) r.string) =
+    is_counted i
+    ∙ (λ k.
+    (is_taken i ∙ ap (λ b. recorded && b) (shows.looks 0 ∙ sym (newest-odd r.looks))) k
+    ⊕ (is_corrected i ∙ ap (λ b. resets && b) (bits-anticommute i n q (flip_of l) old_x old_z r.string lt long shows.letters)) k) in
+    let moved : ShowsLetters i new_x new_z (times_where (odd i counted) (single n q l) r.string).letters = moves i r.string long shows.letters in
+    record {
+      letters = letters-counted (odd i counted) _ _ counts moved;
+      looks = earlier-shows i recorded old new r.looks shows.looks others;
+    }
+  where
+    -- the sign of what is multiplied is of no account
+    letters-counted : (a b sign : Bool) → a ≡ b → ShowsLetters i new_x new_z (times_where a (single n q l) r.string).letters
+        → ShowsLetters i new_x new_z (times_where b (single n q l) (record { negative = sign; letters = r.string.letters })).letters
+    letters-counted true true sign e shows = shows
+    letters-counted false false sign e shows = shows
+    letters-counted true false sign e shows = cc
+    letters-counted false true sign e shows = cc

@@ -1,0 +1,154 @@
+-- What a frame makes of what a region asks for is the same before a step and behind it, so a bit that is asked for at the end is
+-- flipped where the frame touches the region, once the coins are turned with the frame.
+use Rattle.std.proofs.Common.{◌≡◌, ℕ, ◌+◌, ◌-◌, ◌<◌, refl, sym, ◌∙◌, ap, subst, arith, Bool, true, false, ◌&&◌, List, [], ◌∷◌, ◌++◌, length, All, add-zero, le-ltb, lt-ltb}
+use Rattle.std.specs.Prelude.{if◌then◌else◌, slice_index_or}
+use Rattle.std.proofs.lemmas.List.{length-replicate, get_or-append-add}
+use Rattle.std.proofs.lemmas.List.Elements.{All-head, All-tail}
+use Rattle.stab_pauli.specs.declared.letter.Letter.TheVariants.{I}
+use Rattle.stab_pauli.specs.Letters.{◌⊕◌}
+use Rattle.stab_pauli.specs.Paulis.{Signed, single, anticommute, with_sign}
+use Rattle.stab_pauli.proofs.ParityLemmas.{parity-false, parity-mid}
+use Rattle.stab_pauli.proofs.StringLemmas.{strings_anticommute-blank_right}
+use Rattle.stab_pauli.proofs.SignedLemmas.{anticommute-comm}
+use Rattle.stab_circuit.specs.Steps.{Step, one, two, controlled, collapse, product, detector, observable}
+use Rattle.stab_session.specs.Records.{looked_up, parity}
+use Rattle.stab_session.specs.Runs.{string_of, flip_of}
+use Rattle.stab_session.specs.Points.{Point, coins_of, next_point}
+use Rattle.stab_session.specs.inner.ProgramStates.{StepFits}
+use Rattle.stab_regions.specs.Regions.{Region, region_of, names_newest, earlier, region_before, with_looks, region_through}
+use Rattle.stab_regions.specs.Frames.{Frame, frame_after, turned_by, all_turned_by, turned, touches, IsMoved}
+use Rattle.stab_regions.specs.Laws.{bit_asked}
+use Rattle.stab_regions.proofs.LookLemmas.{parity-append, parity-where, parity-when, parity-flipped}
+use Rattle.stab_regions.proofs.ReadLemmas.{size-through}
+use Rattle.stab_regions.proofs.SureLemmas.{IsGood, good-next}
+use Rattle.stab_regions.proofs.MovedLemmas.{moved-gate, moved-pair, anticommute-times, anticommute-times_right, size-after, TurnsCoin, moved-next}
+
+-- a step
+
+feedback : (i a c p : Bool) → ((i && a) ⊕ c) ⊕ p ≡ c ⊕ ((a && i) ⊕ p)
+feedback i a c p = grind arith
+
+measured : (e a g c w p : Bool) → (((e && a) && g) ⊕ c) ⊕ ((w && a) ⊕ p) ≡ (((w ⊕ (e && g)) && a) ⊕ c) ⊕ p
+measured e a g c w p = grind arith
+
+plain : (a c w p : Bool) → c ⊕ ((w && a) ⊕ p) ≡ (((w ⊕ false) && a) ⊕ c) ⊕ p
+plain a c w p = grind arith
+
+pub touches-next : (n : ℕ) (x : Step) (f : Frame) (r : Region) → StepFits n x → length f.string.letters ≡ n → length r.string.letters ≡ n
+    → touches (frame_after n x f) r ≡ touches f (region_before n x r)
+touches-next n (one g q) f r fits lf lr = ap (λ b. b ⊕ parity f.flips r.looks) (moved-gate n q g f.string r.string lf lr)
+touches-next n (two g a b) f r fits lf lr = ap (λ c. c ⊕ parity f.flips r.looks) (moved-pair n a b g fits.0 fits.1 fits.2 f.string r.string lf lr)
+touches-next n (controlled l k q) f r fits lf lr =
+    ap (λ b. b ⊕ parity f.flips r.looks) (anticommute-times (looked_up f.flips k) (single n q l) f.string r.string)
+    ∙ feedback (looked_up f.flips k) (anticommute (single n q l) r.string) (anticommute f.string r.string) (parity f.flips r.looks)
+    ∙ ap (λ b. anticommute f.string r.string ⊕ b) (sym (parity-where f.flips (anticommute (single n q l) r.string) k r.looks))
+touches-next n (collapse l q recorded inverted resets) f r fits lf lr =
+    (λ i. anticommute-times (resets && anticommute m f.string) (single n q (flip_of l)) f.string r.string i
+    ⊕ parity-when f.flips recorded (anticommute m f.string) r.looks i)
+    ∙ measured resets (anticommute m f.string) (anticommute (single n q (flip_of l)) r.string) (anticommute f.string r.string) (recorded && names_newest r.looks) rest
+    ∙ ap (λ b. (((((recorded && names_newest r.looks) ⊕ corrected) && b)) ⊕ anticommute f.string r.string) ⊕ rest) (anticommute-comm m f.string)
+    ∙ ap (λ b. b ⊕ rest) (sym (anticommute-times_right ((recorded && names_newest r.looks) ⊕ corrected) f.string m (with_sign ((recorded && names_newest r.looks) && inverted) r.string)))
+  where
+    m : Signed
+    m = single n q l
+
+    corrected : Bool
+    corrected = resets && anticommute (single n q (flip_of l)) r.string
+
+    rest : Bool
+    rest = parity f.flips (if recorded then earlier r.looks else r.looks)
+touches-next n (product factors inverted) f r fits lf lr =
+    ap (λ b. anticommute f.string r.string ⊕ b) (parity-when f.flips true (anticommute m f.string) r.looks)
+    ∙ plain (anticommute m f.string) (anticommute f.string r.string) (names_newest r.looks) rest
+    ∙ ap (λ b. ((((names_newest r.looks) ⊕ false) && b) ⊕ anticommute f.string r.string) ⊕ rest) (anticommute-comm m f.string)
+    ∙ ap (λ b. b ⊕ rest) (sym (anticommute-times_right (names_newest r.looks ⊕ false) f.string m (with_sign (names_newest r.looks && inverted) r.string)))
+  where
+    m : Signed
+    m = string_of n factors
+
+    rest : Bool
+    rest = parity f.flips (earlier r.looks)
+touches-next n (detector ks) f r fits lf lr = refl
+touches-next n (observable j ks) f r fits lf lr = refl
+
+-- coins that are turned from a number on
+
+abbrev pub Turns : ℕ → List Bool → (ℕ → Bool) → (ℕ → Bool) → Type 0
+Turns from bits coins others = (t : ℕ) → others (from + t) ≡ coins (from + t) ⊕ slice_index_or bits t false
+
+pub turned-turns : (from : ℕ) (bits : List Bool) (coins : ℕ → Bool) → Turns from bits coins (turned from bits coins)
+turned-turns from bits coins t =
+    ap (λ b. coins (from + t) ⊕ (if b then false else slice_index_or bits ((from + t) - from) false)) (le-ltb (from + t) from (omega arith))
+    ∙ ap (λ i. coins (from + t) ⊕ slice_index_or bits i false) (omega arith)
+
+pub turned-before : (from : ℕ) (bits : List Bool) (coins : ℕ → Bool) (t : ℕ) → t < from → turned from bits coins t ≡ coins t
+turned-before from bits coins t lt =
+    ap (λ b. coins t ⊕ (if b then false else slice_index_or bits (t - from) false)) (lt-ltb t from lt) ∙ parity-false (coins t)
+
+-- the coins of a step, and those behind it
+
+pub length-turned : (n : ℕ) (x : Step) (f : Frame) → length (turned_by n x f) ≡ coins_of x
+length-turned n (one g q) f = refl
+length-turned n (two g a b) f = refl
+length-turned n (controlled l k q) f = refl
+length-turned n (collapse l q recorded inverted resets) f = refl
+length-turned n (product factors inverted) f = refl
+length-turned n (detector ks) f = refl
+length-turned n (observable j ks) f = refl
+
+module _ (n : ℕ) (coins others : ℕ → Bool) where
+  first-turned : (from : ℕ) (a : Bool) (bits : List Bool) → Turns from (a ∷ bits) coins others → others from ≡ coins from ⊕ a
+  first-turned from a bits turns =
+      ap others (sym (add-zero from)) ∙ turns 0 ∙ ap (λ t. coins t ⊕ a) (add-zero from)
+
+  turns-here : (x : Step) (f : Frame) (from : ℕ) (bits : List Bool) → Turns from (turned_by n x f ++ bits) coins others → TurnsCoin n x f from coins others
+  turns-here (one g q) f from bits turns = tt
+  turns-here (two g a b) f from bits turns = tt
+  turns-here (controlled l k q) f from bits turns = tt
+  turns-here (collapse l q recorded inverted resets) f from bits turns = first-turned from _ bits turns
+  turns-here (product factors inverted) f from bits turns = first-turned from _ bits turns
+  turns-here (detector ks) f from bits turns = tt
+  turns-here (observable j ks) f from bits turns = tt
+
+  turns-behind : (from : ℕ) (front bits : List Bool) → Turns from (front ++ bits) coins others → Turns (from + length front) bits coins others
+  turns-behind from front bits turns t =
+      ap others (omega arith) ∙ turns (length front + t)
+      ∙ (λ i. coins (place i) ⊕ get_or-append-add front bits t false i)
+    where
+      place : from + (length front + t) ≡ (from + length front) + t
+      place = omega arith
+
+  -- the bit that is asked for
+  pub touched-bit : (asked : Step → List ℕ) (ks : List ℕ) (xs : List Step) (f : Frame) (p moved : Point) → All (StepFits n) xs → length f.string.letters ≡ n
+      → IsGood n p.trace → IsMoved n f p moved → Turns p.coin (all_turned_by n xs f) coins others
+      → bit_asked n others asked xs ks moved ≡ bit_asked n coins asked xs ks p ⊕ touches f (region_through n asked xs (region_of n ks))
+  touched-bit asked ks [] f p moved fits lf good is turns =
+      parity-flipped moved.records p.records f.flips is.records ks
+      ∙ ap (λ b. parity p.records ks ⊕ (b ⊕ parity f.flips ks)) (sym (strings_anticommute-blank_right n f.string.letters))
+  touched-bit asked ks (x ∷ xs) f p moved fits lf good is turns =
+      (λ i. parity-flipped moved.records p.records f.flips is.records (asked x) i
+      ⊕ touched-bit asked ks xs (frame_after n x f) (next_point n coins x p) (next_point n others x moved) (All-tail (StepFits n) x xs fits) (size-after n x f lf)
+      (good-next n coins x p here good)
+      (moved-next n coins others f lf p moved good is x here (turns-here x f p.coin (all_turned_by n xs (frame_after n x f)) turns)) later i)
+      ∙ parity-mid (parity p.records (asked x)) (parity f.flips (asked x)) (bit_asked n coins asked xs ks (next_point n coins x p)) (touches (frame_after n x f) r)
+      ∙ ap (λ b. (parity p.records (asked x) ⊕ bit_asked n coins asked xs ks (next_point n coins x p)) ⊕ b) whole
+    where
+      r : Region
+      r = region_through n asked xs (region_of n ks)
+
+      here : StepFits n x
+      here = All-head (StepFits n) x xs fits
+
+      later : Turns (p.coin + coins_of x) (all_turned_by n xs (frame_after n x f)) coins others
+      later =
+          subst (λ c. Turns (p.coin + c) (all_turned_by n xs (frame_after n x f)) coins others) (length-turned n x f)
+          (turns-behind p.coin (turned_by n x f) (all_turned_by n xs (frame_after n x f)) turns)
+
+      around : (a c p : Bool) → a ⊕ (c ⊕ p) ≡ c ⊕ (a ⊕ p)
+      around a c p = grind arith
+
+      whole : parity f.flips (asked x) ⊕ touches (frame_after n x f) r ≡ touches f (with_looks (asked x) (region_before n x r))
+      whole =
+          ap (λ b. parity f.flips (asked x) ⊕ b) (touches-next n x f r here lf (size-through n asked xs (region_of n ks) (length-replicate n I)))
+          ∙ around (parity f.flips (asked x)) (anticommute f.string (region_before n x r).string) (parity f.flips (region_before n x r).looks)
+          ∙ ap (λ b. anticommute f.string (region_before n x r).string ⊕ b) (sym (parity-append f.flips (asked x) (region_before n x r).looks))

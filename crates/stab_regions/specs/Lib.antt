@@ -1,0 +1,6 @@
+pub mod Regions
+pub mod Rows
+pub mod Frames
+pub mod Laws
+pub mod Tables
+pub mod TableLaws

@@ -1,0 +1,76 @@
+-- Laws of tables: what the regions of detectors and observables say of the bits that runs give.
+use Rattle.std.specs.Prelude.{◌≡◌, ℕ, ◌<◌, Bool, true, false, List, [], ◌++◌, length, All, ◌↔◌, slice_index_or}
+use Rattle.stab_pauli.specs.declared.letter.Letter.{Letter}
+use Rattle.stab_pauli.specs.Letters.{◌⊕◌}
+use Rattle.stab_circuit.specs.Steps.{Step}
+use Rattle.stab_session.specs.Runs.{start, run}
+use Rattle.stab_session.specs.inner.ProgramStates.{StepFits}
+use Rattle.stab_regions.specs.Regions.{region_of, keep_region, asks_nothing, asks_observable, is_sure, sure_bit}
+use Rattle.stab_regions.specs.Laws.{with_fault, flips_asked, turned_with}
+use Rattle.stab_regions.specs.Tables.{Tracked, tracked_at, detectors_of, steps_before, named_by, region_of_detector, is_sure_detector, sure_detector_bit, flips_detector}
+
+-- a detector and an observable of the run of steps, with so many observables
+abbrev pub detector_bit : ℕ → (ℕ → Bool) → List Step → ℕ → ℕ → Bool
+detector_bit n coins xs count d = slice_index_or (run n coins xs (start count)).detectors d false
+
+abbrev pub observable_bit : ℕ → (ℕ → Bool) → List Step → ℕ → ℕ → Bool
+observable_bit n coins xs count j = slice_index_or (run n coins xs (start count)).observables j false
+
+-- the table has a row for each detector that a run gives, and no more; and a run gives so many observables
+pub record IsWhole (n : ℕ) (coins : ℕ → Bool) (xs : List Step) (count : ℕ) : Type 0 where
+  pub rows : length (tracked_at n xs) ≡ detectors_of xs
+  pub detectors : length (run n coins xs (start count)).detectors ≡ detectors_of xs
+  pub observables : length (run n coins xs (start count)).observables ≡ count
+
+abbrev pub TablesAreWhole : Type 0
+TablesAreWhole = (n : ℕ) (coins : ℕ → Bool) (xs : List Step) (count : ℕ) → IsWhole n coins xs count
+
+-- one pass over all detectors gives each its own region
+abbrev pub TablesAreRegions : Type 0
+TablesAreRegions =
+    (n : ℕ) (xs : List Step) (d : ℕ) (other : Tracked) → d < detectors_of xs →
+    slice_index_or (tracked_at n xs) d other
+    ≡ record { region = region_of_detector n d xs; kept = keep_region n asks_nothing (steps_before d xs) (region_of n (named_by d xs)) }
+
+-- a detector that is found sure is this bit, whatever the coins, and no other is the same whatever the coins
+pub record IsSureDetector (n : ℕ) (xs : List Step) (count d : ℕ) : Type 0 where
+  pub bit : is_sure_detector n d xs ≡ true → (coins : ℕ → Bool) → detector_bit n coins xs count d ≡ sure_detector_bit n d xs
+  pub exact : (is_sure_detector n d xs ≡ true) ↔ ((coins others : ℕ → Bool) → detector_bit n others xs count d ≡ detector_bit n coins xs count d)
+
+abbrev pub SureDetectors : Type 0
+SureDetectors = (n : ℕ) (xs : List Step) (count d : ℕ) → All (StepFits n) xs → d < detectors_of xs → IsSureDetector n xs count d
+
+-- the same of observables
+pub record IsSureObservable (n : ℕ) (xs : List Step) (count j : ℕ) : Type 0 where
+  pub bit : is_sure n (asks_observable j) xs [] ≡ true → (coins : ℕ → Bool) → observable_bit n coins xs count j ≡ sure_bit n (asks_observable j) xs []
+  pub exact : (is_sure n (asks_observable j) xs [] ≡ true) ↔ ((coins others : ℕ → Bool) → observable_bit n others xs count j ≡ observable_bit n coins xs count j)
+
+abbrev pub SureObservables : Type 0
+SureObservables = (n : ℕ) (xs : List Step) (count j : ℕ) → All (StepFits n) xs → j < count → IsSureObservable n xs count j
+
+-- a letter that is inserted flips a sure detector where the table says so, whatever the coins of both runs; and with the coins
+-- that are turned with it, which are the same for all detectors, any detector
+pub record FlipsDetector (n : ℕ) (front : List Step) (l : Letter) (q : ℕ) (back : List Step) (count d : ℕ) : Type 0 where
+  pub sure : is_sure_detector n d (front ++ back) ≡ true → (coins others : ℕ → Bool) →
+      detector_bit n others (with_fault front l q back) count d ≡ detector_bit n coins (front ++ back) count d ⊕ flips_detector n d front l q back
+  pub any : (coins : ℕ → Bool) →
+      detector_bit n (turned_with n front l q back coins) (with_fault front l q back) count d
+      ≡ detector_bit n coins (front ++ back) count d ⊕ flips_detector n d front l q back
+
+abbrev pub FaultsFlipDetectors : Type 0
+FaultsFlipDetectors =
+    (n : ℕ) (front back : List Step) (l : Letter) (q count d : ℕ) → q < n → All (StepFits n) front → All (StepFits n) back →
+    d < detectors_of (front ++ back) → FlipsDetector n front l q back count d
+
+-- the same of observables
+pub record FlipsObservable (n : ℕ) (front : List Step) (l : Letter) (q : ℕ) (back : List Step) (count j : ℕ) : Type 0 where
+  pub sure : is_sure n (asks_observable j) (front ++ back) [] ≡ true → (coins others : ℕ → Bool) →
+      observable_bit n others (with_fault front l q back) count j ≡ observable_bit n coins (front ++ back) count j ⊕ flips_asked n (asks_observable j) l q back []
+  pub any : (coins : ℕ → Bool) →
+      observable_bit n (turned_with n front l q back coins) (with_fault front l q back) count j
+      ≡ observable_bit n coins (front ++ back) count j ⊕ flips_asked n (asks_observable j) l q back []
+
+abbrev pub FaultsFlipObservables : Type 0
+FaultsFlipObservables =
+    (n : ℕ) (front back : List Step) (l : Letter) (q count j : ℕ) → q < n → All (StepFits n) front → All (StepFits n) back →
+    j < count → FlipsObservable n front l q back count j

@@ -1,0 +1,21 @@
+//! Regions: which parities of records are the same whatever the coins, and which inserted Paulis
+//! flip them, as one pass backwards through the steps finds it.
+//!
+//! - `laws`, `table_laws`: what regions say of the bits that runs give.
+//! - `parities`: some parities by their numbers, and those that are in one of two lists alone.
+//! - `rows`: for each qubit the parities that X flips there, and those that Z does.
+//! - `looks`: for each lookback the parities whose regions have that record.
+//! - `gates`, `steps`: how these rows change from behind a step to before it.
+//!
+//! Proved: the laws; and that rows which show the regions behind a gate, a letter that a record
+//! controls, or a measurement or reset of a letter are changed to such as show those before it, up to
+//! signs (`specs/Rows.antt`).
+#![tactic(auto)]
+
+mod gates;
+pub mod laws;
+mod looks;
+mod parities;
+mod rows;
+mod steps;
+pub mod table_laws;

@@ -1,0 +1,83 @@
+ghost use Rattle.std.specs.Prelude.{◌≡◌, ℕ, ◌<◌, length, IfOk, OnOk};
+ghost use Rattle.stab_regions.specs.Rows.{odd, row, Toggles, bits_at, MovesLetters, multiplied};
+
+use crate::parities::Parities;
+use stab_pauli::Letter;
+use std::alloc::{AllocError, Global};
+
+/// Toggles parities in a row.
+#[tactic(auto, using(crate::proofs::RowLemmas::toggles_set))]
+pub fn toggle(
+    alloc: Global,
+    rows: &mut [Parities],
+    place: usize,
+    parities: &Parities,
+) -> Result<(), AllocError>
+    requires in_range { place < length rows.old }
+    ensures same_length { length rows.new ≡ length rows.old }
+    ensures value { OnOk result (Toggles rows.old rows.new place parities.now) }
+{
+    rows[place] = rows[place].merged(alloc, parities)?;
+    Ok(())
+}
+
+/// Toggles in a row the parities of another.
+#[tactic(auto, using(crate::proofs::RowLemmas::toggles_set))]
+pub fn toggle_within(
+    alloc: Global,
+    rows: &mut [Parities],
+    place: usize,
+    other: usize,
+) -> Result<(), AllocError>
+    requires in_range { place < length rows.old }
+    requires other_in_range { other < length rows.old }
+    ensures same_length { length rows.new ≡ length rows.old }
+    ensures value { OnOk result (Toggles rows.old rows.new place (row rows.old other)) }
+{
+    rows[place] = rows[place].merged(alloc, &rows[other])?;
+    Ok(())
+}
+
+/// The parities that a letter on a qubit flips, by those that X flips there and those that Z does.
+pub fn flipped(
+    alloc: Global,
+    by_x: &[Parities],
+    by_z: &[Parities],
+    letter: Letter,
+    qubit: usize,
+) -> Result<Parities, AllocError>
+    requires in_range { qubit < length by_x.now }
+    requires same_length { length by_z.now ≡ length by_x.now }
+    ensures odd { IfOk result (λ p. (i : ℕ) → odd i p ≡ bits_at i letter (row by_x.now qubit) (row by_z.now qubit)) }
+{
+    match letter {
+        Letter::I => Ok(Parities::none(alloc)),
+        Letter::X => by_x[qubit].copy(alloc),
+        Letter::Y => by_x[qubit].merged(alloc, &by_z[qubit]),
+        Letter::Z => by_z[qubit].copy(alloc),
+    }
+}
+
+/// Multiplies the strings of these parities by a letter on a qubit.
+pub fn multiply(
+    alloc: Global,
+    by_x: &mut [Parities],
+    by_z: &mut [Parities],
+    letter: Letter,
+    qubit: usize,
+    parities: &Parities,
+) -> Result<(), AllocError>
+    requires in_range { qubit < length by_x.old }
+    requires same_length { length by_z.old ≡ length by_x.old }
+    ensures same_x { length by_x.new ≡ length by_x.old }
+    ensures same_z { length by_z.new ≡ length by_z.old }
+    ensures strings { OnOk result (MovesLetters (length by_x.old) (multiplied (length by_x.old) letter qubit parities.now) by_x.old by_z.old by_x.new by_z.new) }
+{
+    if letter.anticommutes(Letter::X) {
+        toggle(alloc, by_x, qubit, parities)?;
+    }
+    if letter.anticommutes(Letter::Z) {
+        toggle(alloc, by_z, qubit, parities)?;
+    }
+    Ok(())
+}

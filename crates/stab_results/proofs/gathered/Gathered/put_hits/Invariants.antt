@@ -1,8 +1,0 @@
-use Rattle.std.proofs.Common.{◌++◌, codes}
-use Rattle.stab_results.specs.Formats.{hits_bytes}
-use Rattle.stab_results.proofs.PutsLemmas.{Underway}
-use Rattle.stab_results.proofs.HitLemmas.{separated}
-use Rattle.stab_results.proofs.gathered.Gathered.put_hits.Given as goal
-
-abbrev pub invariant-loop-place : goal.invariant-loop-place
-invariant-loop-place g l = Underway (g.O.Output.seen l.fn.out) (g.O.Output.seen l.out) l.fn.self l.self (hits_bytes l.bits) (separated l.separator l.place-iterator ++ codes "\n")

@@ -1,0 +1,213 @@
+ghost use Rattle.std.specs.Prelude.{◌≡◌, ◌≢◌, ℕ, ◌<◌, false, length, slice_set};
+ghost use Rattle.stab_pauli.specs.Letters.{◌⊕◌, letters_anticommute};
+ghost use Rattle.stab_pauli.specs.Paulis.{anticommute};
+ghost use Rattle.stab_pauli.specs.Phaseds.{phased, phased_product};
+ghost use Rattle.stab_pauli.specs.declared.letter.Letter.TheVariants.{Z};
+ghost use Rattle.stab_tableau.specs.Gates.{letter_at};
+ghost use Rattle.stab_tableau.specs.inner.InverseRows.{rows_at, letter_preimage, IsOver, IsRow, AreRows};
+ghost use Rattle.stab_tableau.specs.inner.Collapses.{collapsed_row, CollapsedRow, IsTold};
+ghost use Rattle.stab_tableau.specs.inner.ColumnLetters.{letter_anticommuting};
+ghost use Rattle.stab_tableau.specs.inner.Pairs.{row_string, put, product_times_i_if, IsGated, IsPairGated};
+
+use super::gate::{Gate, PairGate};
+use super::table::{InverseRow, Table};
+use stab_pauli::{Letter, Pauli};
+
+/// Makes the rows of the inverse those after a gate on a qubit.
+pub fn apply(table: &mut Table, gate: Gate, qubit: usize)
+    requires in_range { qubit < length table.old }
+    requires row { IsRow (length table.old) (rows_at table.old qubit) }
+    ensures gated { IsGated gate qubit table.old table.new }
+{
+    match gate {
+        Gate::I => {}
+        Gate::X => table.negate_if(InverseRow::OfZ, qubit, true),
+        Gate::Y => {
+            table.negate_if(InverseRow::OfX, qubit, true);
+            table.negate_if(InverseRow::OfZ, qubit, true);
+        }
+        Gate::Z => table.negate_if(InverseRow::OfX, qubit, true),
+        Gate::H => table.exchange(InverseRow::OfX, qubit, InverseRow::OfZ, qubit),
+        Gate::S => {
+            table.multiply_times_i(InverseRow::OfX, qubit, InverseRow::OfZ, qubit);
+            table.negate_if(InverseRow::OfX, qubit, true);
+        }
+        Gate::SDag => table.multiply_times_i(InverseRow::OfX, qubit, InverseRow::OfZ, qubit),
+        Gate::CXyz => {
+            table.multiply_times_i(InverseRow::OfX, qubit, InverseRow::OfZ, qubit);
+            table.exchange(InverseRow::OfX, qubit, InverseRow::OfZ, qubit);
+        }
+        Gate::CZyx => {
+            table.multiply_times_i(InverseRow::OfZ, qubit, InverseRow::OfX, qubit);
+            table.exchange(InverseRow::OfX, qubit, InverseRow::OfZ, qubit);
+            table.negate_if(InverseRow::OfX, qubit, true);
+        }
+        Gate::SqrtX => {
+            table.multiply_times_i(InverseRow::OfZ, qubit, InverseRow::OfX, qubit);
+            table.negate_if(InverseRow::OfZ, qubit, true);
+        }
+        Gate::SqrtXDag => table.multiply_times_i(InverseRow::OfZ, qubit, InverseRow::OfX, qubit),
+        Gate::SqrtY => {
+            table.exchange(InverseRow::OfX, qubit, InverseRow::OfZ, qubit);
+            table.negate_if(InverseRow::OfZ, qubit, true);
+        }
+        Gate::SqrtYDag => {
+            table.exchange(InverseRow::OfX, qubit, InverseRow::OfZ, qubit);
+            table.negate_if(InverseRow::OfX, qubit, true);
+        }
+    }
+}
+
+/// Makes the rows of the inverse those after a gate on two qubits.
+pub fn apply_pair(table: &mut Table, gate: PairGate, first: usize, second: usize)
+    requires first_in_range { first < length table.old }
+    requires second_in_range { second < length table.old }
+    requires apart { second ≢ first }
+    requires rows { AreRows (length table.old) (rows_at table.old first) (rows_at table.old second) }
+    ensures gated { IsPairGated gate first second table.old table.new }
+{
+    match gate {
+        PairGate::Cx => {
+            table.multiply(InverseRow::OfX, first, InverseRow::OfX, second);
+            table.multiply(InverseRow::OfZ, second, InverseRow::OfZ, first);
+        }
+        PairGate::Cy => {
+            table.multiply(InverseRow::OfX, first, InverseRow::OfX, second);
+            table.multiply_times_i(InverseRow::OfX, first, InverseRow::OfZ, second);
+            table.multiply(InverseRow::OfX, second, InverseRow::OfZ, first);
+            table.multiply(InverseRow::OfZ, second, InverseRow::OfZ, first);
+        }
+        PairGate::Cz => {
+            table.multiply(InverseRow::OfX, first, InverseRow::OfZ, second);
+            table.multiply(InverseRow::OfX, second, InverseRow::OfZ, first);
+        }
+        PairGate::Swap => {
+            table.exchange(InverseRow::OfX, first, InverseRow::OfX, second);
+            table.exchange(InverseRow::OfZ, first, InverseRow::OfZ, second);
+        }
+    }
+}
+
+/// Multiplies a string by the preimage of a letter on a qubit, with which it commutes.
+pub fn multiply_into(table: &Table, qubit: usize, letter: Letter, out: &mut Pauli)
+    requires in_range { qubit < length table.now }
+    requires same_length { length out.old.letters ≡ length table.now }
+    requires row { IsRow (length table.now) (rows_at table.now qubit) }
+    requires apart_x { anticommute out.old (rows_at table.now qubit).x ≡ false }
+    requires apart_z { anticommute out.old (rows_at table.now qubit).z ≡ false }
+    ensures value { phased out.new ≡ phased_product (phased out.old) (letter_preimage (length table.now) (rows_at table.now qubit) letter) }
+{
+    match letter {
+        Letter::I => {}
+        Letter::X => table.multiply_into(InverseRow::OfX, qubit, out),
+        Letter::Y => {
+            table.multiply_into(InverseRow::OfX, qubit, out);
+            table.multiply_into_times_i(InverseRow::OfZ, qubit, out);
+        }
+        Letter::Z => table.multiply_into(InverseRow::OfZ, qubit, out),
+    }
+}
+
+/// Makes a string the preimage of a letter on a qubit.
+pub fn copy_into(table: &Table, qubit: usize, letter: Letter, out: &mut Pauli)
+    requires in_range { qubit < length table.now }
+    requires same_length { length out.old.letters ≡ length table.now }
+    requires row { IsRow (length table.now) (rows_at table.now qubit) }
+    ensures value { phased out.new ≡ letter_preimage (length table.now) (rows_at table.now qubit) letter }
+{
+    match letter {
+        Letter::I => out.clear(),
+        Letter::X => table.copy_row(InverseRow::OfX, qubit, out),
+        Letter::Y => {
+            table.copy_row(InverseRow::OfX, qubit, out);
+            table.multiply_into_times_i(InverseRow::OfZ, qubit, out);
+        }
+        Letter::Z => table.copy_row(InverseRow::OfZ, qubit, out),
+    }
+}
+
+/// The letter that anticommutes with X, and with Z, just where the bits say so.
+pub fn letter_where(with_x: bool, with_z: bool) -> Letter
+    ensures value { result ≡ letter_anticommuting with_x with_z }
+{
+    match (with_x, with_z) {
+        (false, false) => Letter::I,
+        (false, true) => Letter::X,
+        (true, true) => Letter::Y,
+        (true, false) => Letter::Z,
+    }
+}
+
+/// The letter on a qubit of the string whose preimage has the given letter at a place and I elsewhere.
+pub fn column_letter(table: &Table, qubit: usize, letter: Letter, place: usize) -> Letter
+    requires in_range { qubit < length table.now }
+    requires place_in_range { place < length table.now }
+    ensures value { result ≡ letter_anticommuting (letters_anticommute letter (letter_at (rows_at table.now qubit).x.letters place)) (letters_anticommute letter (letter_at (rows_at table.now qubit).z.letters place)) }
+{
+    let with_x = letter.anticommutes(table.letter(InverseRow::OfX, qubit, place));
+    let with_z = letter.anticommutes(table.letter(InverseRow::OfZ, qubit, place));
+    letter_where(with_x, with_z)
+}
+
+/// The rows of the inverse after a measurement, by the measured letter on a qubit; see `collapse_string`.
+#[inline(always)]
+pub fn collapse(table: &mut Table, qubit: usize, letter: Letter, place: usize, multiplier: &Pauli)
+    requires in_range { qubit < length table.old }
+    requires place_in_range { place < length table.old }
+    requires same_length { length multiplier.now.letters ≡ length table.old }
+    requires told { IsTold place multiplier.now letter (rows_at table.old qubit) }
+    ensures row { CollapsedRow place multiplier.now (rows_at table.old qubit) (rows_at table.new qubit) }
+    ensures rest { table.new ≡ slice_set table.old qubit (rows_at table.new qubit) }
+{
+    let with_x = Letter::X.anticommutes(letter);
+    let with_z = Letter::Z.anticommutes(letter);
+    collapse_string(table, InverseRow::OfX, qubit, with_x, place, multiplier);
+    collapse_string(table, InverseRow::OfZ, qubit, with_z, place, multiplier);
+}
+
+// A preimage after a measurement of a string whose preimage r, with the sign of the outcome, has X or Y at the place.
+// The letter Z there is w, and `multiplier` is i times w times r. What the measurement makes of preimages exchanges w and
+// r: a string that commutes with both stays, and one that anticommutes with both is negated; one that anticommutes with
+// r alone is multiplied by w and then r, and one with w alone by r and then w. Both products are i times that with
+// `multiplier`, up to sign. So one product does in place of two. No test reads the whole string: with w it is one bit, and
+// a preimage commutes with r where what it is the preimage of commutes with the measured string.
+#[inline(always)]
+fn collapse_string(
+    table: &mut Table,
+    row: InverseRow,
+    qubit: usize,
+    with_r: bool,
+    place: usize,
+    multiplier: &Pauli,
+)
+    requires in_range { qubit < length table.old }
+    requires place_in_range { place < length table.old }
+    requires same_length { length multiplier.now.letters ≡ length table.old }
+    requires told { anticommute (row_string row (rows_at table.old qubit)) multiplier.now ≡ letters_anticommute Z (letter_at (row_string row (rows_at table.old qubit)).letters place) ⊕ with_r }
+    ensures string { phased (row_string row (rows_at table.new qubit)) ≡ collapsed_row (letters_anticommute Z (letter_at (row_string row (rows_at table.old qubit)).letters place)) (anticommute (row_string row (rows_at table.old qubit)) multiplier.now) (phased multiplier.now) (phased (row_string row (rows_at table.old qubit))) }
+    ensures rest { table.new ≡ put row qubit (row_string row (rows_at table.new qubit)) table.old }
+{
+    let with_w = table.has_x(row, qubit, place);
+    multiply_times_i_if(table, row, qubit, with_w != with_r, multiplier);
+    table.negate_if(row, qubit, with_r);
+}
+
+// Makes a row i times the product of itself and a string, where the bit says that it anticommutes with it.
+#[inline(always)]
+fn multiply_times_i_if(
+    table: &mut Table,
+    row: InverseRow,
+    qubit: usize,
+    with_other: bool,
+    other: &Pauli,
+)
+    requires in_range { qubit < length table.old }
+    requires same_length { length other.now.letters ≡ length table.old }
+    requires told { anticommute (row_string row (rows_at table.old qubit)) other.now ≡ with_other }
+    ensures value { table.new ≡ put row qubit (product_times_i_if (anticommute (row_string row (rows_at table.old qubit)) other.now) (row_string row (rows_at table.old qubit)) other.now) table.old }
+{
+    if !with_other {
+        return;
+    }
+    table.multiply_by_times_i(row, qubit, other);
+}

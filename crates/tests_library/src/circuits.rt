@@ -1,0 +1,213 @@
+//! Texts of circuits: read whole, cut short and alone, from inputs that fail, and printed.
+use crate::codes::CODE;
+use stab_circuit::{Circuit, Path, Refused, read_circuit, read_item, write_circuit};
+use stab_pauli::{CutInput, EndlessInput, Fault, MemoryInput, MemoryOutput, Refusal};
+use std::alloc::Global;
+use std::test::Fail;
+
+/// The refusal's number and line, or zeros.
+pub(crate) fn fault_of<T: Drop>(answer: Result<T, Fault>) -> (u8, u64) {
+    match answer {
+        Ok(_) => (0, 0),
+        Err(fault) => (fault.refusal.number(), fault.line),
+    }
+}
+
+pub(crate) fn read(alloc: Global, text: &str) -> Result<Circuit, Fault> {
+    read_circuit(alloc, &mut MemoryInput::new(text.as_bytes()))
+}
+
+/// How many items, steps, records, qubits and observables a circuit has, and what refuses it on one
+/// qubit fewer and on as many.
+fn numbers_of(circuit: &Circuit) -> ([usize; 5], u8, u8) {
+    let qubits = circuit.qubits();
+    let numbers = [
+        circuit.items().len(),
+        circuit.steps(),
+        circuit.records(),
+        qubits,
+        circuit.observables(),
+    ];
+    let (fewer, _) = fault_of(circuit.check(qubits.saturating_sub(1)));
+    let (enough, _) = fault_of(circuit.check(qubits));
+    (numbers, fewer, enough)
+}
+
+/// The same of the circuit of a text.
+fn numbers_in(alloc: Global, text: &str) -> Result<([usize; 5], u8, u8), Fault> {
+    let circuit = read(alloc, text)?;
+    Ok(numbers_of(&circuit))
+}
+
+const NUMBERS: &[(&str, [usize; 5], u8)] = &[
+    ("", [0, 0, 0, 0, 0], 0),
+    (CODE, [14, 35, 9, 5, 1], 6),
+    (
+        "REPEAT 1048576 {\nm 5\n}\nQUBIT_COORDS 1023",
+        [2, 1_048_576, 1_048_576, 1024, 0],
+        6,
+    ),
+    ("MPP X0*X7 !Z1\nM 0\nCX rec[-2] 9", [3, 4, 3, 10, 0], 6),
+    ("MPP X0*Y1*Z2*!X3*Y4*Z5*X6*!Y7*Z8 X9", [1, 2, 2, 10, 0], 6),
+];
+
+#[test]
+fn a_circuit_has_its_numbers(rt: HostRuntime) -> Result<(), Fail> {
+    let empty = numbers_of(&Circuit::new(rt.alloc()));
+    assert_eq!(rt; empty, ([0; 5], 0, 0));
+    for &(text, numbers, fewer) in NUMBERS {
+        let found = numbers_in(rt.alloc(), text)?;
+        assert_eq!(rt; found, (numbers, fewer, 0), "at {text}");
+    }
+    Ok(())
+}
+
+// What refuses the text that is cut off in front of each byte of the code: a digit for each byte, in
+// lines as the code has them, with b for 11. A part of a name names nothing (1), but for the gates R
+// and S and the measurement M; CX pairs its targets (4); an observable has a number (2), and brackets
+// are closed (11); r up to rec[-2 is no record (3). From the word REPEAT to its last brace the block
+// is not closed (5), which is told where it begins.
+const CUTS: &str = "000000000000
+01110
+01004400440
+01110
+01004400440
+01110
+0000000
+011111110bbbbb003333330
+011111110bbbbb003333330
+00111155555
+555551115
+555551554455445
+555551115
+555551554455445
+555551115
+55555555555
+55555511111111115bbbbb5
+5555511111115bbbbb55333333553333335
+5555511111115bbbbb55333333553333335
+50
+00000000
+011111110bbbbb0033333300333333003333330
+011111110bbbbb0033333300333333003333330
+0111111111111111112bb003333330
+";
+
+/// The number of line 10, where the block of the code begins.
+const BLOCK: u64 = 10;
+
+/// The refusal that stands for a text that is cut on a line.
+fn refusal(digit: u8, line: u64) -> (u8, u64) {
+    match digit {
+        b'0' => (0, 0),
+        b'5' => (5, BLOCK),
+        b'b' => (11, line),
+        _ => (digit.wrapping_sub(b'0'), line),
+    }
+}
+
+/// What refuses the code that is cut to so many bytes.
+fn cut_to(alloc: Global, length: usize) -> (u8, u64) {
+    let text = &CODE.as_bytes()[..length.min(CODE.len())];
+    fault_of(read_circuit(alloc, &mut MemoryInput::new(text)))
+}
+
+#[test]
+fn each_text_that_is_cut_short_has_its_answer(rt: HostRuntime) {
+    let (mut length, mut line) = (0usize, 1u64);
+    for digit in CUTS.bytes() {
+        if digit == b'\n' {
+            line = line.saturating_add(1);
+        } else {
+            let found = cut_to(rt.alloc(), length);
+            assert_eq!(rt; found, refusal(digit, line), "at {length}");
+            length = length.saturating_add(1);
+        }
+    }
+    assert_eq!(rt; length, CODE.len());
+}
+
+/// The number and line of a refusal, where its item came back.
+fn fault_with_item(refused: Refused) -> (u8, u64) {
+    let Refused { fault, item } = refused;
+    if is_there(item) {
+        (fault.refusal.number(), fault.line)
+    } else {
+        (0, 0)
+    }
+}
+
+pub(crate) fn is_there<T: Drop>(value: Option<T>) -> bool {
+    value.is_some()
+}
+
+/// What refuses an item, and how many steps a circuit has that is this item.
+fn item_of(alloc: Global, text: &str) -> ((u8, u64), usize) {
+    let item = match read_item(alloc, text.as_bytes()) {
+        Ok(item) => item,
+        Err(fault) => return ((fault.refusal.number(), fault.line), 0),
+    };
+    let mut circuit = Circuit::new(alloc);
+    match circuit.insert(Path::new(&[0]), item) {
+        Ok(()) => ((0, 0), circuit.steps()),
+        Err(refused) => (fault_with_item(refused), 0),
+    }
+}
+
+const ITEMS: &[(&str, u8, u64, usize)] = &[
+    ("CX 0 1 2 3", 0, 0, 2),
+    ("\nREPEAT 3 {\nX 0\n\nM 0\n}\n# note\n", 0, 0, 6),
+    ("DETECTOR rec[-7]", 0, 0, 1),
+    ("REPEAT 9 {\nTICK\n}", 0, 0, 0),
+    ("H 0\nH 1", 11, 2, 0),
+    ("H 0\nNOPE", 11, 2, 0),
+    ("REPEAT 3 {\n}\n\nX 0", 11, 4, 0),
+    ("H 0\n}", 5, 2, 0),
+    ("NOPE", 1, 1, 0),
+    ("REPEAT 2 {\nX 0", 5, 1, 0),
+    ("", 11, 0, 0),
+    (" \n# note", 11, 0, 0),
+];
+
+#[test]
+fn an_item_is_read_alone(rt: HostRuntime) {
+    for &(text, number, line, steps) in ITEMS {
+        let found = item_of(rt.alloc(), text);
+        assert_eq!(rt; found, ((number, line), steps), "at {text}");
+    }
+}
+
+#[test]
+fn an_input_that_fails_or_never_ends_is_refused(rt: HostRuntime) {
+    let failing = read_circuit(rt.alloc(), &mut CutInput::new(b"M 0", 1, 2));
+    let cut = read_circuit(rt.alloc(), &mut CutInput::new(b"M 0", 1, 0));
+    let endless = read_circuit(rt.alloc(), &mut EndlessInput::new(b' '));
+    let found = [fault_of(failing), fault_of(cut), fault_of(endless)];
+    assert_eq!(rt; found, [(15, 0), (0, 0), (14, 0)]);
+}
+
+/// What the printing of a circuit answers over an output with so much room, and whether that then has
+/// as much of the text.
+pub(crate) fn printed(
+    alloc: Global,
+    circuit: &Circuit,
+    room: usize,
+    text: &str,
+) -> Result<(Result<(), Fault>, bool), Refusal> {
+    let mut out = MemoryOutput::new(alloc, room)?;
+    let answer = write_circuit(&mut out, circuit);
+    let kept = out.bytes() == &text.as_bytes()[..room.min(text.len())];
+    Ok((answer, kept))
+}
+
+#[test]
+fn a_failed_write_leaves_a_prefix(rt: HostRuntime) -> Result<(), Fail> {
+    let circuit = read(rt.alloc(), CODE)?;
+    let fault = Err(Fault::whole(Refusal::WriteFault));
+    for room in 0..=CODE.len() {
+        let answer = if room < CODE.len() { fault } else { Ok(()) };
+        let found = printed(rt.alloc(), &circuit, room, CODE)?;
+        assert_eq!(rt; found, (answer, true), "{room}");
+    }
+    Ok(())
+}

@@ -1,0 +1,171 @@
+//! Callers that ensure what a public call does, where no other caller asks for it.
+//!
+//! They are proved, and never run: where a clause came to say less than it does, the proof of its
+//! caller here would fail.
+
+ghost use Rattle.std.specs.Prelude.{◌≡◌, ◌<◌, ◌≤◌, [], length, min, slice_get, Some, Ok, true, IfOk, IfErr, OnOk};
+ghost use Rattle.stab_pauli.specs.Paulis.{commute};
+ghost use Rattle.stab_io.specs.MemoryDevices.{GivesWhatFits, GivesAPiece, TakesWhatFits, FlushesAsSet};
+ghost use Rattle.stab_tableau.specs.Limits.{most_qubits};
+ghost use Rattle.stab_tableau.specs.Tableaus.{stabilises};
+ghost use Rattle.stab_tableau.specs.Columns.{destabiliser_of};
+ghost use Rattle.stab_tableau.specs.Traces.{member};
+ghost use Rattle.stab_circuit.specs.Paths.{numbers};
+ghost use Rattle.stab_circuit.specs.Edits.{edited, steps_before};
+ghost use Rattle.stab_circuit.specs.declared.edit.Edit.TheVariants.{Insert as inserting};
+ghost use Rattle.stab_circuit.specs.Steps.{unroll, records_of, steps_cap};
+ghost use Rattle.stab_circuit.specs.Views.{circuit_items};
+ghost use Rattle.stab_session.specs.Limits.{most_stride};
+ghost use Rattle.stab_session.specs.Runs.{run_of};
+ghost use Rattle.stab_session.specs.Sessions.{IsSignIn};
+
+use stab_circuit::{Circuit, Item, Path, Refused};
+use stab_pauli::{CutInput, DeviceFault, Input, MemoryInput, MemoryOutput, Output, Pauli, Refusal};
+use stab_session::{Coins, Edit, OpenRefused, Report, Session, Shot, run_once};
+use stab_tableau::Tableau;
+use std::alloc::Global;
+
+/// Strings are told to commute where they do.
+fn told_to_commute(string: &Pauli, other: &Pauli) -> bool
+    requires same_length { length string.now.letters ≡ length other.now.letters }
+    ensures value { result ≡ commute string.now other.now }
+{
+    string.commutes(other)
+}
+
+/// An input in memory gives all that fits.
+fn read_at_once(input: &mut MemoryInput, buf: &mut [u8]) -> Result<usize, DeviceFault>
+    ensures exact { GivesWhatFits input.old input.new result buf.new }
+{
+    input.read(buf)
+}
+
+/// An input in pieces gives a piece, and fails from its read on.
+fn read_in_pieces(input: &mut CutInput, buf: &mut [u8]) -> Result<usize, DeviceFault>
+    ensures exact { GivesAPiece input.old input.new result buf.new }
+{
+    input.read(buf)
+}
+
+/// An output in memory takes all that fits.
+fn written_at_once(output: &mut MemoryOutput, bytes: &[u8]) -> Result<usize, DeviceFault>
+    ensures exact { TakesWhatFits output.old output.new result bytes.now }
+{
+    output.write(bytes)
+}
+
+/// An output in memory fails a flush where it is set to, and nowhere else.
+fn flushed_as_set(output: &mut MemoryOutput) -> Result<(), DeviceFault>
+    ensures exact { FlushesAsSet output.old output.new result }
+{
+    output.flush()
+}
+
+/// An output in memory is set to fail its flushes, and is otherwise as before.
+fn set_to_fail(output: &mut MemoryOutput)
+    ensures set { output.new ≡ record output.old { flush_fails = true } }
+{
+    output.fail_flush();
+}
+
+/// A copy is the state.
+fn copied(tableau: &Tableau, alloc: Global) -> Result<Tableau, Refusal>
+    ensures ok { IfOk result (λ t. t ≡ tableau.now) }
+{
+    tableau.copy(alloc)
+}
+
+/// A stabiliser stabilises, with its sign.
+fn stabiliser(tableau: &mut Tableau, alloc: Global, k: usize) -> Result<Pauli, Refusal>
+    requires in_range { k < tableau.old.qubits }
+    ensures member { IfOk result (λ p. stabilises tableau.old p ≡ true) }
+{
+    tableau.stabiliser(alloc, k)
+}
+
+/// A destabiliser is the one of its number.
+fn destabiliser(tableau: &Tableau, alloc: Global, k: usize) -> Result<Pauli, Refusal>
+    requires in_range { k < tableau.now.qubits }
+    ensures value { IfOk result (λ p. p ≡ destabiliser_of tableau.now k) }
+{
+    tableau.destabiliser(alloc, k)
+}
+
+/// A circuit begins empty.
+fn empty_circuit(alloc: Global) -> Circuit
+    ensures empty { result ≡ [] }
+{
+    Circuit::new(alloc)
+}
+
+/// An insertion that answers ok has put its item in.
+fn inserted(circuit: &mut Circuit, path: Path, item: Item) -> Result<(), Refused>
+    ensures ok { OnOk result (edited (inserting path item) circuit.old ≡ Ok circuit.new) }
+{
+    circuit.insert(path, item)
+}
+
+/// The number of records is that of the unrolled steps.
+fn records_counted(circuit: &Circuit) -> usize
+    ensures value { result ≡ min (records_of (unroll (circuit_items circuit.now))) steps_cap }
+{
+    circuit.records()
+}
+
+/// The steps before a path are counted up to its place in the first rounds.
+fn steps_counted(circuit: &Circuit, path: Path) -> usize
+    ensures value { result ≡ min (length (steps_before path circuit.now)) steps_cap }
+{
+    circuit.steps_before(path)
+}
+
+/// The first number of a path is that of its outermost place.
+fn outermost_place(path: &Path) -> usize
+    ensures value { slice_get (numbers path.now) 0 ≡ Some result }
+{
+    path.first()
+}
+
+/// One run gives the circuit's detectors.
+fn run_with_detectors<C: Coins>(
+    alloc: Global,
+    circuit: &Circuit,
+    n: usize,
+    coins: &mut C,
+) -> Result<Shot, stab_pauli::Fault>
+    requires in_range { n ≤ most_qubits }
+    ensures detectors { IfOk result (λ s. s.detectors.items ≡ (run_of n (C.sequence coins.old) (circuit_items circuit.now)).detectors) }
+{
+    run_once(alloc, circuit, n, coins)
+}
+
+/// A refused opening gives the circuit back.
+fn opened<C: Coins>(
+    alloc: Global,
+    circuit: Circuit,
+    n: usize,
+    stride: usize,
+    coins: C,
+) -> Result<Session<C>, OpenRefused<C>>
+    requires in_range { n ≤ most_qubits }
+    requires stride_above { 1 ≤ stride }
+    requires stride_within { stride ≤ most_stride }
+    ensures refused_circuit { IfErr result (λ r. r.circuit ≡ circuit) }
+{
+    Session::open(alloc, circuit, n, stride, coins)
+}
+
+/// A session tells the sign with which a string stabilises the state after the run.
+fn sign_after_run<C: Coins>(session: &mut Session<C>, pauli: &Pauli) -> Option<bool>
+    requires same_length { length pauli.now.letters ≡ session.old.qubits }
+    ensures sign { IsSignIn (member (run_of session.old.qubits (C.sequence session.old.coins) session.old.items).trace) pauli.now result }
+{
+    session.sign_of(pauli)
+}
+
+/// A report tells how many copies of the state are kept.
+fn edited_with_copies<C: Coins>(session: &mut Session<C>, edit: Edit) -> Result<Report, Refused>
+    ensures checkpoints { IfOk result (λ r. r.checkpoints ≡ length session.new.checkpoints) }
+{
+    session.apply(edit)
+}

@@ -1,0 +1,189 @@
+//! Devices round readers and writers that fail.
+
+ghost use Rattle.std.specs.Prelude.{◌≡◌, take, IfOk};
+
+use stab_pauli::{Device, DeviceFault, Input, MemoryOutput, Output, Refusal, write_all};
+use std::alloc::Global;
+use std::io;
+use std::io::{Read, Write};
+use std::test::Fail;
+
+// Gives two bytes a call. The call numbered so, counted from 1, fails.
+#[derive(Drop)]
+struct FailingReader {
+    bytes: &'static [u8],
+    calls: usize,
+    fails_at: usize,
+}
+
+impl Read for FailingReader {
+    fn read(&mut self, buf: &mut [u8]) -> io::Result<usize> {
+        self.calls = self.calls.saturating_add(1);
+        if self.calls == self.fails_at {
+            return Err(io::ErrorKind::Interrupted.into());
+        }
+        let most = buf.len().min(2);
+        self.bytes.read(&mut buf[..most])
+    }
+}
+
+// Takes two bytes a call, and counts the calls. The one numbered so fails with an error of this kind,
+// or, where it is a write and there is none, takes no bytes.
+#[derive(Drop)]
+struct FailingWriter<'a> {
+    written: &'a mut Vec<u8>,
+    calls: &'a mut usize,
+    fails_at: usize,
+    kind: Option<io::ErrorKind>,
+}
+
+impl Write for FailingWriter<'_> {
+    fn write(&mut self, buf: &[u8]) -> io::Result<usize> {
+        *self.calls = self.calls.saturating_add(1);
+        if *self.calls == self.fails_at {
+            return match self.kind {
+                Some(kind) => Err(kind.into()),
+                None => Ok(0),
+            };
+        }
+        let count = buf.len().min(2);
+        self.written.extend_from_slice(&buf[..count])?;
+        Ok(count)
+    }
+
+    fn flush(&mut self) -> io::Result<()> {
+        *self.calls = self.calls.saturating_add(1);
+        match self.kind {
+            Some(kind) if *self.calls == self.fails_at => Err(kind.into()),
+            _ => Ok(()),
+        }
+    }
+}
+
+// What five reads of a text of five bytes answer.
+fn reads(fails_at: usize) -> [Result<usize, DeviceFault>; 5] {
+    let mut input = Device::new(FailingReader {
+        bytes: b"abcde",
+        calls: 0,
+        fails_at,
+    });
+    let mut buf = [0u8; 4];
+    let mut answers = [Ok(0); 5];
+    for answer in answers.iter_mut() {
+        *answer = input.read(&mut buf);
+    }
+    answers
+}
+
+#[test]
+fn a_failed_read_is_told(rt: HostRuntime) {
+    let fault = Err(DeviceFault);
+    for (fails_at, answers) in [
+        (0, [Ok(2), Ok(2), Ok(1), Ok(0), Ok(0)]),
+        (1, [fault, Ok(2), Ok(2), Ok(1), Ok(0)]),
+        (3, [Ok(2), Ok(2), fault, Ok(1), Ok(0)]),
+        (4, [Ok(2), Ok(2), Ok(1), fault, Ok(0)]),
+    ] {
+        assert_eq!(rt; reads(fails_at), answers, "{fails_at}");
+    }
+}
+
+// What the writing of two texts, one behind the other, answers where a call fails; whether the writer then
+// has these bytes; and how many calls were made.
+fn writes(
+    alloc: Global,
+    fails_at: usize,
+    kind: Option<io::ErrorKind>,
+    texts: [&str; 2],
+    bytes: &str,
+) -> ([Result<(), Refusal>; 2], bool, usize) {
+    let (mut written, mut calls) = (Vec::new(alloc), 0);
+    let [first, second] = texts;
+    let answers = {
+        let mut out = Device::new(FailingWriter {
+            written: &mut written,
+            calls: &mut calls,
+            fails_at,
+            kind,
+        });
+        [
+            write_all(&mut out, first.as_bytes()),
+            write_all(&mut out, second.as_bytes()),
+        ]
+    };
+    (answers, written.as_slice() == bytes.as_bytes(), calls)
+}
+
+// Where a writer fails, what it is given, what it then has, and how often it was called.
+const FAILURES: &[(usize, Option<io::ErrorKind>, [&str; 2], &str, usize)] = &[
+    (1, Some(io::ErrorKind::Interrupted), ["abcde", ""], "", 1),
+    (2, Some(io::ErrorKind::BrokenPipe), ["abcde", ""], "ab", 2),
+    (3, None, ["abcde", ""], "abcd", 3),
+    (
+        2,
+        Some(io::ErrorKind::Interrupted),
+        ["abc", "xyz"],
+        "abxyz",
+        4,
+    ),
+];
+
+#[test]
+fn a_failed_write_is_told_and_not_tried_again(rt: HostRuntime) {
+    for &(fails_at, kind, texts, bytes, calls) in FAILURES {
+        let found = writes(rt.alloc(), fails_at, kind, texts, bytes);
+        let answers = [Err(Refusal::WriteFault), Ok(())];
+        assert_eq!(rt; found, (answers, true, calls), "{bytes}");
+    }
+}
+
+// What two flushes answer, of which the first fails, and a write of nothing.
+fn flushes(alloc: Global) -> ([Result<(), DeviceFault>; 2], Result<usize, DeviceFault>) {
+    let (mut written, mut calls) = (Vec::new(alloc), 0);
+    let mut out = Device::new(FailingWriter {
+        written: &mut written,
+        calls: &mut calls,
+        fails_at: 1,
+        kind: Some(io::ErrorKind::Interrupted),
+    });
+    ([out.flush(), out.flush()], out.write(b""))
+}
+
+#[test]
+fn a_failed_flush_is_told(rt: HostRuntime) {
+    let found = flushes(rt.alloc());
+    assert_eq!(rt; found, ([Err(DeviceFault), Ok(())], Ok(0)));
+}
+
+// Reads once from a text through a device.
+fn read_through(text: &[u8], buf: &mut [u8]) -> Result<usize, DeviceFault>
+    ensures given { IfOk result (λ n. take n buf.new ≡ take n text.now) }
+{
+    Device::new(text).read(buf)
+}
+
+#[test]
+fn bytes_pass_through_a_device(rt: HostRuntime) {
+    let (mut room, mut buf) = ([0u8; 4], [0u8; 4]);
+    let written = write_all(&mut Device::new(room.as_mut_slice()), b"well");
+    let read = read_through(b"xyz", &mut buf);
+    assert_eq!(rt; (written, read), (Ok(()), Ok(3)));
+    assert!(rt; room == *b"well" && buf == *b"xyz\0");
+}
+
+// What the writing of four bytes into a room for three answers, and whether three are kept; and what a
+// flush answers that is to fail.
+fn fills(alloc: Global) -> Result<(Result<(), Refusal>, bool, Result<(), DeviceFault>), Refusal> {
+    let mut out = MemoryOutput::new(alloc, 3)?;
+    let answer = write_all(&mut out, b"abcd");
+    let kept = out.bytes() == b"abc".as_slice();
+    out.fail_flush();
+    Ok((answer, kept, out.flush()))
+}
+
+#[test]
+fn a_full_output_is_told(rt: HostRuntime) -> Result<(), Fail> {
+    let found = fills(rt.alloc())?;
+    assert_eq!(rt; found, (Err(Refusal::WriteFault), true, Err(DeviceFault)));
+    Ok(())
+}

@@ -1,0 +1,39 @@
+//! Tests of the public calls of each layer, with ample memory, as tables of worked examples.
+//!
+//! They stand here, and not in the layers, because a crate with tests is proved twice: once for
+//! those who use it, and once more with its tests. Beside them stand callers, in `clauses`, that
+//! are proved for what they ensure.
+#![tactic(auto)]
+
+#[cfg(test)]
+mod circuit_edits;
+#[cfg(test)]
+mod circuits;
+#[cfg(test)]
+mod clauses;
+#[cfg(test)]
+mod codes;
+#[cfg(test)]
+mod coins;
+#[cfg(test)]
+mod cursors;
+#[cfg(test)]
+mod devices;
+#[cfg(test)]
+mod letters;
+#[cfg(test)]
+mod paulis;
+#[cfg(test)]
+mod results;
+#[cfg(test)]
+mod rows;
+#[cfg(test)]
+mod samplers;
+#[cfg(test)]
+mod session_edits;
+#[cfg(test)]
+mod sessions;
+#[cfg(test)]
+mod tableaus;
+#[cfg(test)]
+mod texts;

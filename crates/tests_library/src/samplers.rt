@@ -1,0 +1,192 @@
+//! Single runs of circuits, and many shots of one.
+use stab_circuit::{Circuit, read_circuit};
+use stab_pauli::{Fault, MemoryInput, Refusal};
+use stab_session::{ListCoins, Sampler, SeedCoins, Shot, run_once};
+use std::alloc::Global;
+use std::test::Fail;
+
+/// Free and fixed outcomes, resets, inverted targets, products, feedback, detectors and observables.
+const ROUNDS: &str = "H 0
+CX 0 1
+REPEAT 3 {
+    H 2
+    CX 2 3
+    M 2 !3
+    DETECTOR rec[-1] rec[-2]
+    R 2
+    MPP X0*!Z2 !Y1*Y3
+    CX rec[-2] 1 rec[-1] 2
+    MR 3
+    OBSERVABLE_INCLUDE(1) rec[-1]
+}
+MX 0 1
+OBSERVABLE_INCLUDE(0) rec[-1] rec[-2]
+";
+
+fn read(alloc: Global, text: &str) -> Result<Circuit, Fault> {
+    read_circuit(alloc, &mut MemoryInput::new(text.as_bytes()))
+}
+
+/// Whether a shot has these records, flags, detectors and observables.
+fn has(shot: &Shot, lists: [&[bool]; 4]) -> bool {
+    let [records, free, detectors, observables] = lists;
+    shot.records.as_slice() == records
+        && shot.free.as_slice() == free
+        && shot.detectors.as_slice() == detectors
+        && shot.observables.as_slice() == observables
+}
+
+/// Whether a run has these lists.
+fn run_has(
+    alloc: Global,
+    circuit: &Circuit,
+    n: usize,
+    coins: &mut ListCoins,
+    lists: [&[bool]; 4],
+) -> Result<bool, Fault> {
+    let shot = run_once(alloc, circuit, n.min(1024), coins)?;
+    Ok(has(&shot, lists))
+}
+
+/// Whether the next shot has these lists.
+fn shot_has(
+    alloc: Global,
+    sampler: &mut Sampler,
+    coins: &mut ListCoins,
+    lists: [&[bool]; 4],
+) -> Result<bool, Refusal> {
+    let shot = sampler.shot(alloc, coins)?;
+    Ok(has(&shot, lists))
+}
+
+/// Whether three shots, one behind the other, have these lists.
+fn shots_have(
+    alloc: Global,
+    circuit: &Circuit,
+    n: usize,
+    coins: &mut ListCoins,
+    lists: [&[bool]; 4],
+) -> Result<bool, Fail> {
+    let mut sampler = Sampler::new(alloc, circuit, n.min(1024))?;
+    let mut same = true;
+    for _shot in 0..3 {
+        same &= shot_has(alloc, &mut sampler, coins, lists)?;
+    }
+    Ok(same)
+}
+
+/// Whether one run of a text has these lists, and three shots, one behind the other, too.
+fn give(
+    alloc: Global,
+    text: &str,
+    n: usize,
+    bits: &[bool],
+    lists: [&[bool]; 4],
+) -> Result<bool, Fail> {
+    let circuit = read(alloc, text)?;
+    let mut coins = ListCoins::new(bits);
+    let same = run_has(alloc, &circuit, n, &mut coins, lists)?;
+    Ok(same && shots_have(alloc, &circuit, n, &mut coins, lists)?)
+}
+
+/// Circuits, how many qubits and which coins they have, and their lists.
+const RUNS: &[(&str, usize, &[bool], [&[bool]; 4])] = &[
+    (
+        "H 0\nCX 0 1\nM 0 1",
+        2,
+        &[true, false],
+        [&[true, true], &[true, false], &[], &[]],
+    ),
+    (
+        "H 0\nCX 0 1\nM 0 1",
+        2,
+        &[false, true],
+        [&[false, false], &[true, false], &[], &[]],
+    ),
+    (
+        "X 0\nM 0\nDETECTOR rec[-1]\nOBSERVABLE_INCLUDE(1) rec[-1]",
+        1,
+        &[],
+        [&[true], &[false], &[true], &[false, true]],
+    ),
+    (
+        "H 0\nM 0 0",
+        1,
+        &[true],
+        [&[true, true], &[true, false], &[], &[]],
+    ),
+    (
+        "H 0\nM 0 0",
+        1,
+        &[false],
+        [&[false, false], &[true, false], &[], &[]],
+    ),
+    (
+        "X 0\nM 0 !0",
+        1,
+        &[],
+        [&[true, false], &[false, false], &[], &[]],
+    ),
+    (
+        "X 0\nMR 0\nM 0",
+        1,
+        &[],
+        [&[true, false], &[false, false], &[], &[]],
+    ),
+];
+
+#[test]
+fn no_shot_leaves_anything_to_the_next(rt: HostRuntime) -> Result<(), Fail> {
+    for &(text, n, bits, lists) in RUNS {
+        let same = give(rt.alloc(), text, n, bits, lists)?;
+        assert!(rt; same, "{text}");
+    }
+    Ok(())
+}
+
+/// Whether the next shot has the lists of a run of its own with the coins of its number.
+fn agrees(
+    alloc: Global,
+    circuit: &Circuit,
+    sampler: &mut Sampler,
+    number: u64,
+) -> Result<bool, Fail> {
+    let shot = sampler.shot(alloc, &mut SeedCoins::new(7, number))?;
+    let run = run_once(alloc, circuit, 4, &mut SeedCoins::new(7, number))?;
+    let lists = [
+        run.records.as_slice(),
+        run.free.as_slice(),
+        run.detectors.as_slice(),
+        run.observables.as_slice(),
+    ];
+    Ok(has(&shot, lists))
+}
+
+#[test]
+fn shots_are_runs_of_their_own(rt: HostRuntime) -> Result<(), Fail> {
+    let circuit = read(rt.alloc(), ROUNDS)?;
+    let mut sampler = Sampler::new(rt.alloc(), &circuit, 4)?;
+    let mut same = true;
+    for number in 0..3 {
+        same &= agrees(rt.alloc(), &circuit, &mut sampler, number)?;
+    }
+    assert!(rt; same);
+    Ok(())
+}
+
+/// What refuses a run on one qubit, and shots, where something does.
+fn refusals(alloc: Global, text: &str) -> Result<[Option<Fault>; 2], Fault> {
+    let circuit = read(alloc, text)?;
+    let run = run_once(alloc, &circuit, 1, &mut ListCoins::new(&[])).err();
+    Ok([run, Sampler::new(alloc, &circuit, 1).err()])
+}
+
+#[test]
+fn too_few_qubits_are_refused(rt: HostRuntime) -> Result<(), Fail> {
+    let fault = Some(Fault::whole(Refusal::QubitOutOfRange));
+    for text in ["M 1", "QUBIT_COORDS(0) 1", "REPEAT 2 {\nCX 0 1\n}"] {
+        let found = refusals(rt.alloc(), text)?;
+        assert_eq!(rt; found, [fault, fault], "{text}");
+    }
+    Ok(())
+}

@@ -1,0 +1,187 @@
+//! Edits of sessions: refused with their items, and what they cost.
+
+ghost use Rattle.std.specs.Prelude.{◌≡◌, ℕ, Bool, false};
+ghost use Rattle.stab_session.specs.Coins.{one_more};
+
+use crate::circuits::is_there;
+use stab_circuit::{Path, Refused, read_circuit, read_item};
+use stab_pauli::{Fault, MemoryInput, Refusal};
+use stab_session::{Coins, Edit, ListCoins, Report, Session};
+use std::alloc::Global;
+use std::test::Fail;
+
+/// A session on one or two qubits with copies of its state at most so many steps apart.
+fn opened<C: Coins>(
+    alloc: Global,
+    text: &str,
+    n: usize,
+    stride: usize,
+    coins: C,
+) -> Result<Session<C>, Fault> {
+    let circuit = read_circuit(alloc, &mut MemoryInput::new(text.as_bytes()))?;
+    match Session::open(alloc, circuit, n.min(2), stride.clamp(1, 10), coins) {
+        Ok(session) => Ok(session),
+        Err(refused) => Err(refused.fault),
+    }
+}
+
+/// Puts an item in at a place, or in the stead of another, or takes one out where there is no text.
+fn edit(alloc: Global, place: usize, replaces: bool, text: &str) -> Result<Edit, Fault> {
+    let place = Path::new(&[place]);
+    if text.is_empty() {
+        return Ok(Edit::Delete { place });
+    }
+    let item = read_item(alloc, text.as_bytes())?;
+    if replaces {
+        Ok(Edit::Replace { place, item })
+    } else {
+        Ok(Edit::Insert { place, item })
+    }
+}
+
+/// What refuses an edit, where something does, with whether an item comes back.
+fn refusal_of(answer: Result<Report, Refused>) -> Option<(Refusal, bool)> {
+    match answer {
+        Ok(_) => None,
+        Err(Refused { fault, item }) => Some((fault.refusal, is_there(item))),
+    }
+}
+
+/// Whether a session shows one record 1 and one 0 that no coin decided, and no detector.
+fn shows_the_first_run(session: &Session<ListCoins>) -> bool {
+    session.records() == [true, false].as_slice()
+        && session.free() == [false, false].as_slice()
+        && session.detectors().is_empty()
+}
+
+/// What refuses an edit, where something does, with whether an item comes back; and whether the
+/// session then shows what it showed before.
+fn refusal(
+    alloc: Global,
+    place: usize,
+    replaces: bool,
+    text: &str,
+) -> Result<(Option<(Refusal, bool)>, bool), Fault> {
+    let mut session = opened(alloc, "X 0\nM 0 1", 2, 10, ListCoins::new(&[true]))?;
+    let edit = edit(alloc, place, replaces, text)?;
+    let refusal = refusal_of(session.apply(edit));
+    Ok((refusal, shows_the_first_run(&session)))
+}
+
+const REFUSED: &[(usize, bool, &str, Refusal, bool)] = &[
+    (9, false, "X 0", Refusal::PlaceOutOfRange, true),
+    (9, false, "", Refusal::PlaceOutOfRange, false),
+    (0, false, "X 2", Refusal::QubitOutOfRange, true),
+    (0, true, "DETECTOR rec[-1]", Refusal::LookbackTooFar, true),
+    (
+        0,
+        false,
+        "REPEAT 1048577 {\nX 0\n}",
+        Refusal::TooManySteps,
+        true,
+    ),
+];
+
+#[test]
+fn a_refused_edit_changes_nothing(rt: HostRuntime) -> Result<(), Fail> {
+    for &(place, replaces, text, wanted, item) in REFUSED {
+        let found = refusal(rt.alloc(), place, replaces, text)?;
+        assert_eq!(rt; found, (Some((wanted, item)), true), "{text}");
+    }
+    Ok(())
+}
+
+/// Coins that are all 0, and count how often they are asked for.
+#[derive(Drop)]
+struct CountedCoins<'a> {
+    asks: &'a mut u64,
+}
+
+impl Coins for CountedCoins<'_> {
+    ghost sequence = { λ c t. false };
+
+    ghost asks = { λ c. c.asks.now };
+
+    fn coin(&mut self, _: u64) -> bool {
+        *self.asks = self.asks.saturating_add(1);
+        false
+    }
+}
+
+/// Puts `I 0` in at a place, and tells how many steps that carried out, and how many copies are kept.
+fn put<C: Coins>(
+    alloc: Global,
+    session: &mut Session<C>,
+    place: Path,
+) -> Result<(usize, usize), Fault> {
+    let item = read_item(alloc, b"I 0")?;
+    match session.apply(Edit::Insert { place, item }) {
+        Ok(
+            Report {
+                applied,
+                checkpoints,
+            },
+        ) => Ok((applied, checkpoints)),
+        Err(refused) => Err(refused.fault),
+    }
+}
+
+/// The steps and copies of an edit, or none, and how many coins the session asked for in all.
+fn cost(alloc: Global, text: &str, place: Option<Path>) -> Result<((usize, usize), u64), Fault> {
+    let mut asks = 0;
+    let report = {
+        let mut session = opened(alloc, text, 1, 10, CountedCoins { asks: &mut asks })?;
+        match place {
+            Some(place) => put(alloc, &mut session, place)?,
+            None => (0, 0),
+        }
+    };
+    Ok((report, asks))
+}
+
+/// How many coins an opening asks for, the steps and copies of an edit behind it, and how many coins
+/// both ask for.
+fn costs(alloc: Global, text: &str, place: Path) -> Result<(u64, (usize, usize), u64), Fault> {
+    let (_, asked) = cost(alloc, text, None)?;
+    let (report, asks) = cost(alloc, text, Some(place))?;
+    Ok((asked, report, asks))
+}
+
+/// A place in the outermost list, or in a block of it.
+fn path(block: Option<usize>, place: usize) -> Path {
+    match block {
+        Some(block) => Path::new(&[block, place]),
+        None => Path::new(&[place]),
+    }
+}
+
+// Circuits, where `I 0` is put in, and at most how many steps that carries out and how many copies
+// are kept; then how many coins the opening asks for, and at most how many the edit.
+const COSTS: &[(&str, Option<usize>, usize, (usize, usize), (u64, u64))] = &[
+    ("REPEAT 100 {\nX 0\n}", None, 1, (11, 22), (0, 0)),
+    ("X 0\nREPEAT 1000 {\nX 0\n}", None, 0, (21, 202), (0, 0)),
+    (
+        "REPEAT 10 {\nX 0\nX 0\n}\nREPEAT 1000 {\nX 0\n}",
+        Some(0),
+        1,
+        (50, 208),
+        (0, 0),
+    ),
+    (
+        "REPEAT 1000 {\nMX 0\nM 0\n}",
+        None,
+        0,
+        (21, 402),
+        (2000, 21),
+    ),
+];
+
+#[test]
+fn an_edit_costs_what_it_changes(rt: HostRuntime) -> Result<(), Fail> {
+    for &(text, block, place, (steps, copies), (opening, most)) in COSTS {
+        let (asked, (applied, kept), asks) = costs(rt.alloc(), text, path(block, place))?;
+        let few = applied <= steps && kept <= copies && asks <= opening.saturating_add(most);
+        assert!(rt; few && asked == opening, "{text}");
+    }
+    Ok(())
+}

@@ -1,0 +1,321 @@
+//! What the words of the command line ask for.
+use crate::runs::job_of;
+use stab_cli::{Job, Source, Usage, parse_words, read_coins, write_usage};
+use stab_pauli::{MemoryInput, MemoryOutput};
+use std::alloc::Global;
+use std::test::Fail;
+
+/// The text of a job: its command, where its coins come from, and the files that it reads and writes.
+fn text_of(alloc: Global, words: &[&str]) -> Result<String, Fail> {
+    let Job {
+        command,
+        source,
+        coins_path: _,
+        in_path,
+        out_path,
+    } = job_of(alloc, words)?;
+    Ok(format!(in alloc; "{command:?} {source:?} {in_path:?} {out_path:?}")?)
+}
+
+// Words, and the text of their job.
+const JOBS: [(&[&str], &str); 38] = [
+    (
+        &["stabsim", "sample"],
+        "Sample { format: F01, shots: Shots { number: 1 } } Seed(0) None None",
+    ),
+    (
+        &["stabsim", "detect"],
+        "Detect { format: F01, shots: Shots { number: 1 }, append: false } Seed(0) None None",
+    ),
+    (
+        &[
+            "stabsim",
+            "sample",
+            "--shots",
+            "12",
+            "--out_format",
+            "dets",
+            "--seed",
+            "34",
+            "--in",
+            "a.stim",
+            "--out",
+            "b/c.dets",
+        ],
+        "Sample { format: Dets, shots: Shots { number: 12 } } Seed(34) Some(\"a.stim\") Some(\"b/c.dets\")",
+    ),
+    (
+        &[
+            "stabsim",
+            "detect",
+            "--out",
+            "b/c.dets",
+            "--append_observables",
+            "--in=a.stim",
+            "--seed=34",
+            "--out_format=dets",
+            "--shots=12",
+        ],
+        "Detect { format: Dets, shots: Shots { number: 12 }, append: true } Seed(34) Some(\"a.stim\") Some(\"b/c.dets\")",
+    ),
+    (
+        &["stabsim", "sample", "--out_format", "01"],
+        "Sample { format: F01, shots: Shots { number: 1 } } Seed(0) None None",
+    ),
+    (
+        &["stabsim", "sample", "--out_format", "b8"],
+        "Sample { format: B8, shots: Shots { number: 1 } } Seed(0) None None",
+    ),
+    (
+        &["stabsim", "sample", "--out_format", "r8"],
+        "Sample { format: R8, shots: Shots { number: 1 } } Seed(0) None None",
+    ),
+    (
+        &["stabsim", "sample", "--out_format", "hits"],
+        "Sample { format: Hits, shots: Shots { number: 1 } } Seed(0) None None",
+    ),
+    (
+        &["stabsim", "sample", "--out_format", "dets"],
+        "Sample { format: Dets, shots: Shots { number: 1 } } Seed(0) None None",
+    ),
+    (
+        &["stabsim", "sample", "--shots", "0"],
+        "Sample { format: F01, shots: Shots { number: 0 } } Seed(0) None None",
+    ),
+    (
+        &["stabsim", "sample", "--shots", "1"],
+        "Sample { format: F01, shots: Shots { number: 1 } } Seed(0) None None",
+    ),
+    (
+        &["stabsim", "sample", "--shots", "007"],
+        "Sample { format: F01, shots: Shots { number: 7 } } Seed(0) None None",
+    ),
+    (
+        &["stabsim", "sample", "--shots", "+7"],
+        "Sample { format: F01, shots: Shots { number: 7 } } Seed(0) None None",
+    ),
+    (
+        &["stabsim", "sample", "--shots", "1000000"],
+        "Sample { format: F01, shots: Shots { number: 1000000 } } Seed(0) None None",
+    ),
+    (
+        &["stabsim", "sample", "--seed", "7"],
+        "Sample { format: F01, shots: Shots { number: 1 } } Seed(7) None None",
+    ),
+    (
+        &["stabsim", "detect", "--seed", "007"],
+        "Detect { format: F01, shots: Shots { number: 1 }, append: false } Seed(7) None None",
+    ),
+    (
+        &["stabsim", "sample", "--seed", "+7"],
+        "Sample { format: F01, shots: Shots { number: 1 } } Seed(7) None None",
+    ),
+    (
+        &["stabsim", "sample", "--seed", "18446744073709551615"],
+        "Sample { format: F01, shots: Shots { number: 1 } } Seed(18446744073709551615) None None",
+    ),
+    (
+        &["stabsim", "sample", "--coins", "1"],
+        "Sample { format: F01, shots: Shots { number: 1 } } List([true]) None None",
+    ),
+    (
+        &["stabsim", "detect", "--coins", "0110"],
+        "Detect { format: F01, shots: Shots { number: 1 }, append: false } List([false, true, true, false]) None None",
+    ),
+    (
+        &["stabsim", "sample", "--coins=10"],
+        "Sample { format: F01, shots: Shots { number: 1 } } List([true, false]) None None",
+    ),
+    (
+        &["stabsim", "sample", "--coins", ""],
+        "Sample { format: F01, shots: Shots { number: 1 } } List([]) None None",
+    ),
+    (
+        &["stabsim", "sample", "--coins="],
+        "Sample { format: F01, shots: Shots { number: 1 } } List([]) None None",
+    ),
+    (
+        &["stabsim", "sample", "--seed", "7", "--coins", "10"],
+        "Sample { format: F01, shots: Shots { number: 1 } } List([true, false]) None None",
+    ),
+    (
+        &["stabsim", "detect", "--coins", "10", "--seed", "7"],
+        "Detect { format: F01, shots: Shots { number: 1 }, append: false } List([true, false]) None None",
+    ),
+    (
+        &["stabsim", "sample", "--seed", "7", "--coins", ""],
+        "Sample { format: F01, shots: Shots { number: 1 } } List([]) None None",
+    ),
+    (
+        &["stabsim", "edit"],
+        "Edit { qubits: None, stride: Stride { steps: 8192 } } Seed(0) None None",
+    ),
+    (
+        &["stabsim", "edit", "--qubits", "0"],
+        "Edit { qubits: Some(QubitCount { number: 0 }), stride: Stride { steps: 8192 } } Seed(0) None None",
+    ),
+    (
+        &["stabsim", "edit", "--qubits", "0017"],
+        "Edit { qubits: Some(QubitCount { number: 17 }), stride: Stride { steps: 8192 } } Seed(0) None None",
+    ),
+    (
+        &["stabsim", "edit", "--stride=1", "--qubits=1024"],
+        "Edit { qubits: Some(QubitCount { number: 1024 }), stride: Stride { steps: 1 } } Seed(0) None None",
+    ),
+    (
+        &["stabsim", "edit", "--stride", "65536"],
+        "Edit { qubits: None, stride: Stride { steps: 65536 } } Seed(0) None None",
+    ),
+    (
+        &[
+            "stabsim",
+            "edit",
+            "--seed=34",
+            "--out",
+            "b/c.01",
+            "--in",
+            "a.stim",
+        ],
+        "Edit { qubits: None, stride: Stride { steps: 8192 } } Seed(34) Some(\"a.stim\") Some(\"b/c.01\")",
+    ),
+    (&["stabsim", "stabilisers"], "Stabilisers Seed(0) None None"),
+    (
+        &[
+            "stabsim",
+            "stabilisers",
+            "--seed=34",
+            "--out",
+            "b/c.rows",
+            "--in",
+            "a.stim",
+        ],
+        "Stabilisers Seed(34) Some(\"a.stim\") Some(\"b/c.rows\")",
+    ),
+    (
+        &["stabsim", "stabilisers", "--seed", "7", "--coins", "10"],
+        "Stabilisers List([true, false]) None None",
+    ),
+    (
+        &["stabsim", "stabilizers", "--coins=1", "--in", "a.stim"],
+        "Stabilisers List([true]) Some(\"a.stim\") None",
+    ),
+    (&["stabsim", "check"], "Check Seed(0) None None"),
+    (
+        &["stabsim", "check", "--out=b.txt", "--in", "a.stim"],
+        "Check Seed(0) Some(\"a.stim\") Some(\"b.txt\")",
+    ),
+];
+
+#[test]
+fn words_ask_for_a_job(rt: HostRuntime) -> Result<(), Fail> {
+    for (words, text) in JOBS {
+        let asked = text_of(rt.alloc(), words)?;
+        assert_eq!(rt; asked.as_str(), text, "{words:?}");
+    }
+    Ok(())
+}
+
+#[test]
+fn edit_alone_reads_a_script(rt: HostRuntime) -> Result<(), Fail> {
+    for (command, reads) in [
+        ("sample", false),
+        ("detect", false),
+        ("stabilisers", false),
+        ("check", false),
+        ("edit", true),
+    ] {
+        let job = job_of(rt.alloc(), &["stabsim", command])?;
+        assert_eq!(rt; job.reads_script(), reads, "{command}");
+    }
+    Ok(())
+}
+
+#[test]
+fn coins_are_characters_0_and_1(rt: HostRuntime) -> Result<(), Fail> {
+    for coins in ["1 0", " "] {
+        let text = match parse_words(rt.alloc(), &["stabsim", "sample", "--coins", coins]) {
+            Err(Usage::Fault(text)) => text,
+            _ => return Err(Fail::new(format_args!("{coins:?} are coins"))),
+        };
+        assert_eq!(rt; text.as_str(), "stabsim: coins are 0 and 1\n", "{coins:?}");
+    }
+    Ok(())
+}
+
+#[test]
+fn a_file_of_coins_is_named_and_not_yet_read(rt: HostRuntime) -> Result<(), Fail> {
+    for command in ["sample", "detect", "stabilisers", "edit"] {
+        let words = ["stabsim", command, "--seed", "7", "--coins_in", "a.coins"];
+        let job = job_of(rt.alloc(), &words)?;
+        let path = job.coins_path.as_ref().map(|path| path.as_str());
+        assert_eq!(rt; path, Some("a.coins"), "{command}");
+        assert_eq!(rt; job.source, Source::List(Vec::new(rt.alloc())), "{command}");
+    }
+    let job = job_of(rt.alloc(), &["stabsim", "sample", "--coins", "1"])?;
+    assert_eq!(rt; job.coins_path, None);
+    Ok(())
+}
+
+// Texts of files, and what reading them gives.
+const FILES: [(&str, &str); 14] = [
+    ("", "Ok([])"),
+    ("\n", "Ok([])"),
+    ("\r\n", "Ok([])"),
+    ("0", "Ok([false])"),
+    ("0110", "Ok([false, true, true, false])"),
+    ("10\n", "Ok([true, false])"),
+    ("1\r\n", "Ok([true])"),
+    ("1\n\n", "Err(Wrong)"),
+    ("1\n0", "Err(Wrong)"),
+    ("1 0", "Err(Wrong)"),
+    (" 1", "Err(Wrong)"),
+    ("1\r", "Err(Wrong)"),
+    ("012", "Err(Wrong)"),
+    ("1\t", "Err(Wrong)"),
+];
+
+#[test]
+fn a_file_of_coins_has_characters_0_and_1_and_one_line_end(rt: HostRuntime) -> Result<(), Fail> {
+    for (text, wanted) in FILES {
+        let read = read_coins(rt.alloc(), &mut MemoryInput::new(text.as_bytes()));
+        let told = format!(in rt.alloc(); "{read:?}")?;
+        assert_eq!(rt; told.as_str(), wanted, "{text:?}");
+    }
+    Ok(())
+}
+
+#[test]
+fn words_that_are_refused_memory_have_status_1(rt: HostRuntime) -> Result<(), Fail> {
+    let mut out = MemoryOutput::new(rt.alloc(), 99)?;
+    let mut err = MemoryOutput::new(rt.alloc(), 99)?;
+    let status = write_usage(&Usage::Memory, &mut out, &mut err);
+    let told = out.bytes().is_empty()
+        && err.bytes() == b"stabsim: refused 20 OutOfMemory\n".as_slice();
+    assert!(rt; told && status == 1);
+    Ok(())
+}
+
+#[test]
+fn help_that_cannot_be_written_has_status_1(rt: HostRuntime) -> Result<(), Fail> {
+    let help = Usage::Help(String::from_str(rt.alloc(), "help")?);
+    let mut out = MemoryOutput::new(rt.alloc(), 3)?;
+    let mut err = MemoryOutput::new(rt.alloc(), 99)?;
+    let status = write_usage(&help, &mut out, &mut err);
+    let told = out.bytes() == b"hel".as_slice()
+        && err.bytes() == b"stabsim: refused 16 WriteFault\n".as_slice();
+    assert!(rt; told && status == 1);
+    Ok(())
+}
+
+#[test]
+fn help_that_cannot_be_flushed_has_status_1(rt: HostRuntime) -> Result<(), Fail> {
+    let help = Usage::Help(String::from_str(rt.alloc(), "help")?);
+    let mut out = MemoryOutput::new(rt.alloc(), 99)?;
+    out.fail_flush();
+    let mut err = MemoryOutput::new(rt.alloc(), 99)?;
+    let status = write_usage(&help, &mut out, &mut err);
+    let told = out.bytes() == b"help".as_slice()
+        && err.bytes() == b"stabsim: refused 16 WriteFault\n".as_slice();
+    assert!(rt; told && status == 1);
+    Ok(())
+}

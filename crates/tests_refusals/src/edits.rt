@@ -1,0 +1,156 @@
+//! Edits of a session.
+use crate::circuits::NESTED;
+use crate::item_slot::ItemSlot;
+use crate::one_drop::OneDrop;
+use crate::sessions::{session_of, show_session};
+use crate::stop::Stop;
+use crate::trial::{Trial, print_ending, try_call};
+use stab_circuit::{Path, write_circuit};
+use stab_pauli::MemoryOutput;
+use stab_session::{Edit, SeedCoins, Session};
+use std::alloc::Global;
+use std::io;
+
+/// An edit of the nested circuit: in its outermost list, or at a path of three numbers.
+#[derive(Clone, Copy)]
+enum NestedEdit {
+    Insert,
+    InsertBlock,
+    InsertNested,
+    Replace,
+    ReplaceNested,
+    Delete,
+    DeleteNested,
+}
+
+impl NestedEdit {
+    /// Where it is made.
+    fn path(self) -> Path {
+        match self {
+            NestedEdit::InsertNested | NestedEdit::ReplaceNested | NestedEdit::DeleteNested => {
+                Path::new(&[2, 1, 1])
+            }
+            _ => Path::new(&[1]),
+        }
+    }
+
+    /// The text of the item that is put in.
+    fn text(self) -> &'static [u8] {
+        match self {
+            NestedEdit::Insert => b"MX 1",
+            NestedEdit::InsertBlock => b"REPEAT 2 {\nH 0\nM 0 1\n}",
+            NestedEdit::InsertNested => b"MPP Y0*Y1",
+            NestedEdit::Replace => b"CZ 0 1",
+            NestedEdit::ReplaceNested => b"MRX 0 1 2",
+            NestedEdit::Delete | NestedEdit::DeleteNested => b"",
+        }
+    }
+}
+
+/// `Session::apply`, with the edit's item while it is not put in.
+struct Applied {
+    change: NestedEdit,
+    session: OneDrop<Session<SeedCoins>>,
+    item: ItemSlot,
+}
+
+// Written out, so that to a proof an edit that is let go is one call.
+impl Drop for Applied {
+    fn drop(self) {
+        let Applied {
+            change: _,
+            session: _,
+            item: _,
+        } = self;
+    }
+}
+
+impl Applied {
+    /// The edit, with its item.
+    fn edit(&mut self) -> Result<Edit, Stop> {
+        let place = self.change.path();
+        match self.change {
+            NestedEdit::Insert | NestedEdit::InsertBlock | NestedEdit::InsertNested => Ok(
+                Edit::Insert {
+                    place,
+                    item: self.item.take()?,
+                },
+            ),
+            NestedEdit::Replace | NestedEdit::ReplaceNested => Ok(Edit::Replace {
+                place,
+                item: self.item.take()?,
+            }),
+            NestedEdit::Delete | NestedEdit::DeleteNested => Ok(Edit::Delete { place }),
+        }
+    }
+}
+
+/// The circuit of an edited session.
+fn edited_circuit(alloc: Global, change: NestedEdit) -> Result<MemoryOutput, Stop> {
+    let mut edited = Applied::new(alloc, change)?;
+    edited.call(alloc)?;
+    let mut text = MemoryOutput::new(alloc, 4096)?;
+    write_circuit(&mut text, edited.session.0.circuit())?;
+    Ok(text)
+}
+
+impl Trial for Applied {
+    type Call = NestedEdit;
+
+    fn new(alloc: Global, change: NestedEdit) -> Result<Applied, Stop> {
+        Ok(Applied {
+            change,
+            session: session_of(alloc, NESTED)?,
+            item: ItemSlot::new(alloc, change.text())?,
+        })
+    }
+
+    fn call(&mut self, _alloc: Global) -> Result<(), Stop> {
+        let edit = self.edit()?;
+        match self.session.0.apply(edit) {
+            Ok(_) => Ok(()),
+            Err(refused) => Err(self.item.put_back(refused)),
+        }
+    }
+
+    fn show(&mut self, alloc: Global, out: &mut MemoryOutput) -> Result<(), Stop> {
+        show_session(alloc, out, &mut self.session.0)?;
+        self.item.show(out)
+    }
+
+    // A session that is opened with the edited circuit.
+    fn made(alloc: Global, change: NestedEdit) -> Result<Applied, Stop> {
+        let circuit = edited_circuit(alloc, change)?;
+        Ok(Applied {
+            change,
+            session: session_of(alloc, circuit.bytes())?,
+            item: ItemSlot::empty(alloc)?,
+        })
+    }
+}
+
+/// Tries each kind of edit.
+pub fn print_all<R: AllocGlobal + Print>(rt: &R) -> io::Result<()> {
+    let changes = [
+        ("Session::apply, insertion", NestedEdit::Insert),
+        ("Session::apply, insertion", NestedEdit::InsertBlock),
+        (
+            "Session::apply, insertion in blocks",
+            NestedEdit::InsertNested,
+        ),
+        ("Session::apply, replacement", NestedEdit::Replace),
+        (
+            "Session::apply, replacement in blocks",
+            NestedEdit::ReplaceNested,
+        ),
+        ("Session::apply, deletion", NestedEdit::Delete),
+        (
+            "Session::apply, deletion in blocks",
+            NestedEdit::DeleteNested,
+        ),
+    ];
+    for (name, change) in changes {
+        print_ending(rt, name, try_call::<Applied>(rt.alloc(), change))?;
+    }
+    Ok(())
+}

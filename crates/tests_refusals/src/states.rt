@@ -1,0 +1,132 @@
+//! The calls of a tableau that want memory.
+use crate::one_drop::OneDrop;
+use crate::sheet::{State, show_signs, show_string, show_strings};
+use crate::stop::Stop;
+use crate::trial::{Trial, print_ending, try_call};
+use stab_pauli::{Letter, MemoryOutput, Pauli};
+use stab_tableau::{CompactTableau, Gate, PairGate, Tableau};
+use std::alloc::Global;
+use std::io;
+
+/// The qubits of the states.
+const QUBITS: usize = 5;
+
+/// A call of a tableau.
+#[derive(Clone, Copy)]
+enum Call {
+    New,
+    Copy,
+    Compact,
+    Tableau,
+    ReducedRows,
+    Stabiliser,
+    Destabiliser,
+}
+
+/// A call of a tableau, with what was given last.
+#[derive(Drop)]
+struct TableauCall {
+    call: Call,
+    tableau: Tableau,
+    state: Tableau,
+    compact: CompactTableau,
+    string: Pauli,
+    strings: OneDrop<Vec<Pauli>>,
+}
+
+impl State for Tableau {
+    fn qubits(&self) -> usize {
+        self.len()
+    }
+
+    fn sign(&mut self, alloc: Global, qubit: usize, letter: Letter) -> Result<Option<bool>, Stop> {
+        let n = self.len();
+        if qubit >= n {
+            return Ok(None);
+        }
+        let string = Pauli::single(alloc, n, qubit, letter)?;
+        Ok(self.sign_of(&string))
+    }
+}
+
+/// A state that gates have joined.
+fn joined(alloc: Global) -> Result<Tableau, Stop> {
+    let mut tableau = Tableau::new(alloc, QUBITS)?;
+    tableau.apply(Gate::X, 3);
+    tableau.apply(Gate::H, 0);
+    tableau.apply_pair(PairGate::Cx, 0, 1);
+    tableau.apply(Gate::S, 1);
+    tableau.apply_pair(PairGate::Cz, 1, 3);
+    Ok(tableau)
+}
+
+/// Writes a state: its reduced rows, and the signs of all single letters.
+fn show_tableau(alloc: Global, out: &mut MemoryOutput, tableau: &mut Tableau) -> Result<(), Stop> {
+    let rows = OneDrop(tableau.reduced_rows(alloc)?);
+    show_strings(out, rows.0.as_slice())?;
+    show_signs(alloc, out, tableau)
+}
+
+impl Trial for TableauCall {
+    type Call = Call;
+
+    fn new(alloc: Global, call: Call) -> Result<TableauCall, Stop> {
+        let tableau = joined(alloc)?;
+        let state = Tableau::new(alloc, 0)?;
+        // What is to be gone back to has to be there before the call.
+        let compact = match call {
+            Call::Tableau => tableau.compact(alloc)?,
+            _ => state.compact(alloc)?,
+        };
+        Ok(TableauCall {
+            call,
+            tableau,
+            state,
+            compact,
+            string: Pauli::identity(alloc, 0)?,
+            strings: OneDrop(Vec::new(alloc)),
+        })
+    }
+
+    fn call(&mut self, alloc: Global) -> Result<(), Stop> {
+        if self.tableau.len() < QUBITS {
+            return Ok(());
+        }
+        match self.call {
+            Call::New => self.state = Tableau::new(alloc, QUBITS)?,
+            Call::Copy => self.state = self.tableau.copy(alloc)?,
+            Call::Compact => self.compact = self.tableau.compact(alloc)?,
+            Call::Tableau => self.state = self.compact.tableau(alloc, None)?,
+            Call::ReducedRows => self.strings = OneDrop(self.tableau.reduced_rows(alloc)?),
+            Call::Stabiliser => self.string = self.tableau.stabiliser(alloc, 1)?,
+            Call::Destabiliser => self.string = self.tableau.destabiliser(alloc, 1)?,
+        }
+        Ok(())
+    }
+
+    fn show(&mut self, alloc: Global, out: &mut MemoryOutput) -> Result<(), Stop> {
+        show_tableau(alloc, out, &mut self.tableau)?;
+        show_tableau(alloc, out, &mut self.state)?;
+        let mut kept = self.compact.tableau(alloc, None)?;
+        show_tableau(alloc, out, &mut kept)?;
+        show_string(out, &self.string)?;
+        show_strings(out, self.strings.0.as_slice())
+    }
+}
+
+/// Tries each call.
+pub fn print_all<R: AllocGlobal + Print>(rt: &R) -> io::Result<()> {
+    let calls = [
+        ("Tableau::new", Call::New),
+        ("Tableau::copy", Call::Copy),
+        ("Tableau::compact", Call::Compact),
+        ("CompactTableau::tableau", Call::Tableau),
+        ("Tableau::reduced_rows", Call::ReducedRows),
+        ("Tableau::stabiliser", Call::Stabiliser),
+        ("Tableau::destabiliser", Call::Destabiliser),
+    ];
+    for (name, call) in calls {
+        print_ending(rt, name, try_call::<TableauCall>(rt.alloc(), call))?;
+    }
+    Ok(())
+}
