@@ -2,7 +2,7 @@
 -- Source: this project's own numbers and names.
 use Rattle.std.specs.Prelude.{◌≡◌, ℕ, List, codes, Option, Some, None, Result, Ok, Err}
 use Rattle.stab_io.specs.declared.refusal.Refusal.{Refusal}
-use Rattle.stab_io.specs.declared.refusal.Refusal.TheVariants.{UnsupportedName, BadArguments, BadTarget, BadPairing, BadBlock, QubitOutOfRange, ObservableOutOfRange, LookbackTooFar, TooManySteps, TooDeep, BadLine, PlaceOutOfRange, BadCommand, TooLong, ReadFault, WriteFault, NotABlock, OutOfMemory}
+use Rattle.stab_io.specs.declared.refusal.Refusal.TheVariants.{UnsupportedName, BadArguments, BadTarget, BadPairing, BadBlock, QubitOutOfRange, ObservableOutOfRange, LookbackTooFar, TooManySteps, TooDeep, BadLine, PlaceOutOfRange, BadCommand, TooLong, ReadFault, WriteFault, NotABlock, NotDeterministic, OutOfMemory}
 use Rattle.stab_io.specs.declared.refusal.Fault.{Fault}
 
 -- the number that a refusal is printed with
@@ -24,6 +24,7 @@ number_of TooLong = 14
 number_of ReadFault = 15
 number_of WriteFault = 16
 number_of NotABlock = 17
+number_of NotDeterministic = 18
 number_of OutOfMemory = 20
 
 -- the name that a refusal is printed with
@@ -45,6 +46,7 @@ name_of TooLong = codes "TooLong"
 name_of ReadFault = codes "ReadFault"
 name_of WriteFault = codes "WriteFault"
 name_of NotABlock = codes "NotABlock"
+name_of NotDeterministic = codes "NotDeterministic"
 name_of OutOfMemory = codes "OutOfMemory"
 
 -- the fault of a refusal that belongs to no line

@@ -60,6 +60,9 @@ pub enum Refusal {
     /// 17: a number of a path before its last is the place of an item that isn't a block.
     #[error("the path leads into an item that is not a block")]
     NotABlock,
+    /// 18: a detector's or observable's bit differs with the coins, where it must not.
+    #[error("a detector or observable is not the same for all coins")]
+    NotDeterministic,
     /// 20: memory was refused.
     #[error("memory was refused")]
     OutOfMemory,
@@ -69,7 +72,7 @@ impl Refusal {
     ghost use Rattle.std.specs.Prelude.{◌≡◌};
     ghost use Rattle.stab_io.specs.Refusals.{number_of, name_of};
 
-    /// The number that the refusal is printed with: 1 to 17, or 20.
+    /// The number that the refusal is printed with: 1 to 18, or 20.
     pub fn number(self) -> u8
         ensures value { result ≡ number_of self }
     {
@@ -91,6 +94,7 @@ impl Refusal {
             Refusal::ReadFault => 15,
             Refusal::WriteFault => 16,
             Refusal::NotABlock => 17,
+            Refusal::NotDeterministic => 18,
             Refusal::OutOfMemory => 20,
         }
     }
@@ -117,6 +121,7 @@ impl Refusal {
             Refusal::ReadFault => "ReadFault",
             Refusal::WriteFault => "WriteFault",
             Refusal::NotABlock => "NotABlock",
+            Refusal::NotDeterministic => "NotDeterministic",
             Refusal::OutOfMemory => "OutOfMemory",
         }
     }
