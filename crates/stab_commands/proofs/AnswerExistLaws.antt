@@ -17,8 +17,8 @@ use Rattle.stab_circuit.specs.Circuits.{item_fault, StandsForOne}
 use Rattle.stab_circuit.specs.Readings.{IsCircuit}
 use Rattle.stab_circuit.specs.Laws.{AreOfLines, PutsLines, TextsAreLines, ItemTextsAreLines, ItemTextsHaveOneMeaning, EditedItemsAreOfLines}
 use Rattle.stab_circuit.proofs.EditLemmas.{listed-entries}
-use Rattle.stab_session.specs.Runs.{run_of}
-use Rattle.stab_session.specs.Laws.{IsSoundRun, RunsAreSound}
+use Rattle.stab_run.specs.Runs.{run_of}
+use Rattle.stab_run.specs.Laws.{IsSoundRun, RunsAreSound}
 use Rattle.stab_results.specs.Formats.{f01_bytes}
 use Rattle.stab_circuit.specs.Prints.{printed}
 use Rattle.stab_commands.specs.Stabilisers.{lines_of}

@@ -5,7 +5,7 @@ use Rattle.stab_io.specs.declared.refusal.Fault.{Fault}
 use Rattle.stab_circuit.specs.Items.{Items, OneItem}
 use Rattle.stab_circuit.specs.Circuits.{item_fault, StandsForOne}
 use Rattle.stab_circuit.specs.Laws.{ItemTextsHaveOneMeaning}
-use Rattle.stab_session.specs.Runs.{State, run_of}
+use Rattle.stab_run.specs.Runs.{State, run_of}
 use Rattle.stab_commands.specs.script.Scripts.{Setting, Request, put, delete, show, refuse, Answer, IsPut, Shows, IsAnswer, IsAnswerToAll, both, decided, refusing, replying, edit_of, edited_items}
 use Rattle.stab_commands.specs.Stabilisers.{lines_of}
 use Rattle.stab_commands.specs.declared.script.request.Show.{Show}

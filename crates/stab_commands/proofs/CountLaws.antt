@@ -5,9 +5,9 @@ use Rattle.stab_pauli.specs.Letters.{◌⊕◌}
 use Rattle.stab_pauli.specs.Paulis.{single}
 use Rattle.stab_circuit.specs.Items.{Items}
 use Rattle.stab_circuit.specs.Steps.{Step, one, two, controlled, collapse, product, detector, observable, unroll, makes, records_of, observables_of}
-use Rattle.stab_session.specs.Points.{all_coins_of, coins_of}
-use Rattle.stab_session.specs.Records.{parity}
-use Rattle.stab_session.specs.Runs.{State, start, string_of, outcome_at, effect, run, run_of}
+use Rattle.stab_run.specs.Points.{all_coins_of, coins_of}
+use Rattle.stab_run.specs.Records.{parity}
+use Rattle.stab_run.specs.Runs.{State, start, string_of, outcome_at, effect, run, run_of}
 use Rattle.stab_commands.specs.Checks.{detectors_in, detectors_of, numbers_of, IsCountedBy}
 
 -- a run has come from another by so many records, detectors and coins more

@@ -10,8 +10,8 @@ use Rattle.stab_circuit.specs.Items.{Items, entries}
 use Rattle.stab_circuit.specs.Steps.{Step, one, two, controlled, collapse, product, detector, observable, unroll, records_of, qubits_of, observables_of}
 use Rattle.stab_circuit.specs.Inputs.{GaveText, IsUnread}
 use Rattle.stab_circuit.specs.Readings.{ReadsCircuit}
-use Rattle.stab_session.specs.Points.{all_coins_of}
-use Rattle.stab_session.specs.Runs.{State, run_of}
+use Rattle.stab_run.specs.Points.{all_coins_of}
+use Rattle.stab_run.specs.Runs.{State, run_of}
 use Rattle.stab_commands.specs.Endings.{Sends}
 use Rattle.stab_commands.specs.Outputs.{SendsOutput}
 use Rattle.stab_commands.specs.declared.check.Numbers.{Numbers}

@@ -7,8 +7,8 @@ use Rattle.stab_io.specs.declared.refusal.Fault.{Fault}
 use Rattle.stab_circuit.specs.Items.{Items}
 use Rattle.stab_circuit.specs.Steps.{qubits_of}
 use Rattle.stab_circuit.specs.Readings.{IsCircuit, IsFaultOf}
-use Rattle.stab_session.specs.Coins.{list_coin, seed_coin}
-use Rattle.stab_session.specs.Runs.{State, run_of}
+use Rattle.stab_run.specs.Coins.{list_coin, seed_coin}
+use Rattle.stab_run.specs.Runs.{State, run_of}
 use Rattle.stab_results.specs.declared.format.Format.{Format}
 use Rattle.stab_results.specs.declared.format.Kinds.TheVariants.{Measurements, Detectors}
 use Rattle.stab_results.specs.Formats.{shot_bytes}

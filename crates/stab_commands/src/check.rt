@@ -7,7 +7,7 @@ ghost use Rattle.stab_io.specs.declared.refusal.Refusal.TheVariants.{OutOfMemory
 ghost use Rattle.stab_circuit.specs.Cursors.{step_shown};
 ghost use Rattle.stab_circuit.specs.Steps.{check_of, unroll};
 ghost use Rattle.stab_circuit.specs.Views.{circuit_items};
-ghost use Rattle.stab_session.specs.Points.{all_coins_of, coins_of};
+ghost use Rattle.stab_run.specs.Points.{all_coins_of, coins_of};
 ghost use Rattle.stab_commands.specs.Endings.{Sends};
 ghost use Rattle.stab_commands.specs.Checks.{EndsCheck, SendsSome, check_text, detectors_in, detectors_of, number_line, numbers_of, numbers_text};
 

@@ -7,7 +7,7 @@ ghost use Rattle.stab_commands.specs.script.ScriptLaws.{CircuitsCanBeEdited, Fir
 use stab_circuit::laws::{
     edited_items_are_of_lines, item_texts_are_lines, item_texts_have_one_meaning, texts_are_lines,
 };
-use stab_session::laws::runs_are_sound;
+use stab_run::laws::runs_are_sound;
 use stab_tableau::laws::{traces_have_one_list, traces_have_reduced_rows};
 
 /// Two stabiliser groups are one exactly where the lines of their reduced rows are the same: so texts that `stabilisers`

@@ -13,7 +13,7 @@ use crate::shots::{Shown, send_shots};
 use stab_circuit::{Circuit, read_circuit};
 use stab_io::{Fault, Input, Output};
 use stab_results::Format;
-use stab_session::Sampler;
+use stab_run::Sampler;
 use std::alloc::Global;
 
 /// Writes what is shown of a circuit's shots, and flushes. The circuit is unrolled once.

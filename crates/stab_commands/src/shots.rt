@@ -1,14 +1,14 @@
 //! The shots of a circuit, written one after another.
 ghost use Rattle.std.specs.Prelude.{◌≡◌, IfOk, IfErr};
 ghost use Rattle.stab_io.specs.declared.refusal.Refusal.TheVariants.{OutOfMemory};
-ghost use Rattle.stab_session.specs.Runs.{State, run_of};
+ghost use Rattle.stab_run.specs.Runs.{State, run_of};
 ghost use Rattle.stab_commands.specs.Outputs.{coins_of_shot, of_shots};
 ghost use Rattle.stab_commands.specs.inner.Sendings.{IsShot, SendsUnflushed, shown_bytes};
 
 use crate::job::Source;
 use stab_io::{Fault, Output, Refusal};
 use stab_results::{Format, Kinds, write_shot};
-use stab_session::{ListCoins, Sampler, SeedCoins, Shot};
+use stab_run::{ListCoins, Sampler, SeedCoins, Shot};
 use std::alloc::Global;
 
 /// Which bits of a shot are shown.

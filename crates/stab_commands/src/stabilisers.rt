@@ -8,7 +8,7 @@ ghost use Rattle.stab_tableau.specs.Traces.{member};
 ghost use Rattle.stab_tableau.specs.Reduced.{AreReduced};
 ghost use Rattle.stab_circuit.specs.Steps.{check_of, qubits_of};
 ghost use Rattle.stab_circuit.specs.Views.{circuit_items};
-ghost use Rattle.stab_session.specs.Runs.{run_of};
+ghost use Rattle.stab_run.specs.Runs.{run_of};
 ghost use Rattle.stab_commands.specs.Stabilisers.{AreStabilisersOf, EndsStabilisers, line_of, lines_of};
 ghost use Rattle.stab_commands.specs.inner.Sendings.{SendsLines};
 
@@ -17,7 +17,8 @@ use crate::job::Source;
 use stab_circuit::{Circuit, read_circuit};
 use stab_io::{Fault, Input, Output, Refusal, write_all};
 use stab_pauli::Pauli;
-use stab_session::{Coins, ListCoins, SeedCoins, Session};
+use stab_run::{Coins, ListCoins, SeedCoins};
+use stab_session::Session;
 use std::alloc::Global;
 
 // The greatest stride: this session is never edited, so it needs no states on its way.

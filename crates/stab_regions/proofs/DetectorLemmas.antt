@@ -4,11 +4,11 @@ use Rattle.std.specs.Prelude.{if◌then◌else◌, slice_index_or}
 use Rattle.std.proofs.lemmas.List.{get_or-map, length-map}
 use Rattle.std.proofs.lemmas.List.Elements.{All-nil, All-cons, All-head, All-tail}
 use Rattle.stab_circuit.specs.Steps.{Step, one, two, controlled, collapse, product, detector, observable}
-use Rattle.stab_session.specs.Records.{parity}
-use Rattle.stab_session.specs.Runs.{State, start, run, when}
-use Rattle.stab_session.specs.Points.{Point, origin, given, next_point, outputs}
-use Rattle.stab_session.specs.inner.ProgramStates.{StepFits}
-use Rattle.stab_session.specs.Laws.{RunsArePointsWithOutputs}
+use Rattle.stab_run.specs.Records.{parity}
+use Rattle.stab_run.specs.Runs.{State, start, run, when}
+use Rattle.stab_run.specs.Points.{Point, origin, given, next_point, outputs}
+use Rattle.stab_run.specs.ProgramStates.{StepFits}
+use Rattle.stab_run.specs.Laws.{RunsArePointsWithOutputs}
 use Rattle.stab_regions.specs.Regions.{region_of, region_through, keep_region, asks_nothing}
 use Rattle.stab_regions.specs.Laws.{bit_asked}
 use Rattle.stab_regions.specs.Tables.{Tracked, tracked_before, begun_at, tracked_at, is_detector, named, detectors_of, steps_before, named_by}

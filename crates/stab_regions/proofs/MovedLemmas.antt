@@ -17,10 +17,10 @@ use Rattle.stab_tableau.proofs.SymmetryLemmas.{IsSymmetry-image, IsSymmetry-pair
 use Rattle.stab_tableau.proofs.GroupLemmas.{anticommute-product_right}
 use Rattle.stab_tableau.proofs.TraceLemmas.{group-member}
 use Rattle.stab_circuit.specs.Steps.{Step, one, two, controlled, collapse, product, detector, observable}
-use Rattle.stab_session.specs.Records.{looked_up}
-use Rattle.stab_session.specs.Runs.{when, string_of, flip_of, applied_where, outcome_at}
-use Rattle.stab_session.specs.Points.{Point, next_point}
-use Rattle.stab_session.specs.inner.ProgramStates.{StepFits}
+use Rattle.stab_run.specs.Records.{looked_up}
+use Rattle.stab_run.specs.Runs.{when, string_of, flip_of, applied_where, outcome_at}
+use Rattle.stab_run.specs.Points.{Point, next_point}
+use Rattle.stab_run.specs.ProgramStates.{StepFits}
 use Rattle.stab_regions.specs.Regions.{times_where}
 use Rattle.stab_regions.specs.Frames.{Frame, frame_after, IsMoved}
 use Rattle.stab_regions.proofs.SignLemmas.{sign-sign, image-sign, pair-sign, product-signs, member-where}

@@ -6,11 +6,11 @@ use Rattle.stab_pauli.specs.Letters.{◌⊕◌}
 use Rattle.stab_pauli.proofs.ParityLemmas.{parity-assoc, parity-comm, parity-false}
 use Rattle.stab_tableau.proofs.TestLemmas.{not_both}
 use Rattle.stab_circuit.specs.Steps.{Step, one, two, controlled, collapse, product, detector, observable}
-use Rattle.stab_session.specs.declared.records.Addition.{Addition}
-use Rattle.stab_session.specs.Records.{parity}
-use Rattle.stab_session.specs.Runs.{State, start, run, added}
-use Rattle.stab_session.specs.Points.{Point, origin, next_point, outputs, with_additions}
-use Rattle.stab_session.specs.Laws.{RunsArePointsWithOutputs}
+use Rattle.stab_run.specs.declared.records.Addition.{Addition}
+use Rattle.stab_run.specs.Records.{parity}
+use Rattle.stab_run.specs.Runs.{State, start, run, added}
+use Rattle.stab_run.specs.Points.{Point, origin, next_point, outputs, with_additions}
+use Rattle.stab_run.specs.Laws.{RunsArePointsWithOutputs}
 use Rattle.stab_regions.specs.Regions.{asks_observable}
 use Rattle.stab_regions.specs.Laws.{bit_asked}
 use Rattle.stab_regions.specs.TableLaws.{observable_bit}

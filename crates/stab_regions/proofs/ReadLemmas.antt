@@ -18,10 +18,10 @@ use Rattle.stab_tableau.proofs.TestLemmas.{test_left, test_right}
 use Rattle.stab_circuit.specs.Steps.{Step, one, two, controlled, collapse, product, detector, observable}
 use Rattle.stab_lines.specs.declared.product.Factor.{Factor}
 use Rattle.stab_lines.specs.Axes.{letter_of}
-use Rattle.stab_session.specs.Records.{looked_up, parity}
-use Rattle.stab_session.specs.Runs.{when, string_of, with_factors, flip_of, applied_where, outcome_at}
-use Rattle.stab_session.specs.Points.{Point, next_point}
-use Rattle.stab_session.specs.inner.ProgramStates.{StepFits}
+use Rattle.stab_run.specs.Records.{looked_up, parity}
+use Rattle.stab_run.specs.Runs.{when, string_of, with_factors, flip_of, applied_where, outcome_at}
+use Rattle.stab_run.specs.Points.{Point, next_point}
+use Rattle.stab_run.specs.ProgramStates.{StepFits}
 use Rattle.stab_regions.specs.Regions.{Region, names_newest, earlier, times_where, before_measured, region_before, region_through, keeps_region}
 use Rattle.stab_regions.proofs.SignLemmas.{sign-sign, image-sign, pair-sign, product-sign_right, product-signs, member-where}
 use Rattle.stab_regions.proofs.LookLemmas.{parity-where, parity-when}

@@ -9,7 +9,7 @@ use Rattle.stab_pauli.specs.Paulis.{Signed, single, anticommute}
 use Rattle.stab_tableau.specs.Gates.{letter_at}
 use Rattle.stab_tableau.proofs.OneLetterLemmas.{one_letter-anticommute}
 use Rattle.stab_circuit.specs.Steps.{controlled, collapse}
-use Rattle.stab_session.specs.Runs.{flip_of}
+use Rattle.stab_run.specs.Runs.{flip_of}
 use Rattle.stab_regions.specs.Regions.{names_newest, earlier, look_where, times_where}
 use Rattle.stab_regions.specs.Rows.{odd, row, Toggles, bits_at, ShowsLetters, MovesLetters, multiplied, ShowsLooks, MovesRegion}
 

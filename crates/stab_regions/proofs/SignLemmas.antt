@@ -12,7 +12,7 @@ use Rattle.stab_tableau.specs.declared.gate.PairGate.{PairGate}
 use Rattle.stab_tableau.specs.Gates.{letter_image, letter_at, put_letter, image, image_pair, inverse, back}
 use Rattle.stab_tableau.specs.Traces.{Event, member}
 use Rattle.stab_tableau.proofs.OneLetterLemmas.{one_letter-anticommute}
-use Rattle.stab_session.specs.Runs.{gate_of, applied_where}
+use Rattle.stab_run.specs.Runs.{gate_of, applied_where}
 
 pub parity-left : (a b c : Bool) → a ⊕ (b ⊕ c) ≡ b ⊕ (a ⊕ c)
 parity-left a b c = sym (parity-assoc a b c) ∙ ap (λ x. x ⊕ c) (parity-comm a b) ∙ parity-assoc b a c

@@ -14,10 +14,10 @@ use Rattle.stab_tableau.proofs.OneLetterLemmas.{length-one_letter}
 use Rattle.stab_tableau.proofs.TraceLemmas.{group-member, IsSound-outcome}
 use Rattle.stab_tableau.proofs.TestLemmas.{and-left, and-right, not_both}
 use Rattle.stab_circuit.specs.Steps.{Step, one, two, controlled, collapse, product, detector, observable}
-use Rattle.stab_session.specs.Records.{parity}
-use Rattle.stab_session.specs.Runs.{string_of, gate_of, flip_of, applied_where}
-use Rattle.stab_session.specs.Points.{Point, origin, trace_after, next_point}
-use Rattle.stab_session.specs.inner.ProgramStates.{StepFits}
+use Rattle.stab_run.specs.Records.{parity}
+use Rattle.stab_run.specs.Runs.{string_of, gate_of, flip_of, applied_where}
+use Rattle.stab_run.specs.Points.{Point, origin, trace_after, next_point}
+use Rattle.stab_run.specs.ProgramStates.{StepFits}
 use Rattle.stab_regions.specs.Regions.{Region, region_of, region_before, with_looks, region_through, keep_region, sure_bit}
 use Rattle.stab_regions.specs.Laws.{bit_asked, with_fault, flips_asked, SureBits, FaultsFlip}
 use Rattle.stab_regions.proofs.SignLemmas.{sign-sign, back-letter}

@@ -8,10 +8,10 @@ use Rattle.stab_pauli.specs.Letters.{◌⊕◌}
 use Rattle.stab_pauli.specs.Paulis.{single, anticommute}
 use Rattle.stab_pauli.proofs.ParityLemmas.{parity-false}
 use Rattle.stab_circuit.specs.Steps.{Step, one}
-use Rattle.stab_session.specs.Runs.{gate_of}
-use Rattle.stab_session.specs.Points.{origin, all_coins_of}
-use Rattle.stab_session.specs.Laws.{RunsArePointsWithOutputs}
-use Rattle.stab_session.specs.inner.ProgramStates.{StepFits}
+use Rattle.stab_run.specs.Runs.{gate_of}
+use Rattle.stab_run.specs.Points.{origin, all_coins_of}
+use Rattle.stab_run.specs.Laws.{RunsArePointsWithOutputs}
+use Rattle.stab_run.specs.ProgramStates.{StepFits}
 use Rattle.stab_regions.specs.Regions.{asks_nothing, asks_observable, is_sure}
 use Rattle.stab_regions.specs.Laws.{bit_asked, with_fault, flips_asked, turned_with}
 use Rattle.stab_regions.specs.Tables.{detectors_of, steps_before, named_by, region_of_detector, is_sure_detector, flips_detector}

@@ -11,10 +11,10 @@ use Rattle.stab_pauli.proofs.ParityLemmas.{parity-false, parity-mid}
 use Rattle.stab_pauli.proofs.StringLemmas.{strings_anticommute-blank_right}
 use Rattle.stab_pauli.proofs.SignedLemmas.{anticommute-comm}
 use Rattle.stab_circuit.specs.Steps.{Step, one, two, controlled, collapse, product, detector, observable}
-use Rattle.stab_session.specs.Records.{looked_up, parity}
-use Rattle.stab_session.specs.Runs.{string_of, flip_of}
-use Rattle.stab_session.specs.Points.{Point, coins_of, next_point}
-use Rattle.stab_session.specs.inner.ProgramStates.{StepFits}
+use Rattle.stab_run.specs.Records.{looked_up, parity}
+use Rattle.stab_run.specs.Runs.{string_of, flip_of}
+use Rattle.stab_run.specs.Points.{Point, coins_of, next_point}
+use Rattle.stab_run.specs.ProgramStates.{StepFits}
 use Rattle.stab_regions.specs.Regions.{Region, region_of, names_newest, earlier, region_before, with_looks, region_through}
 use Rattle.stab_regions.specs.Frames.{Frame, frame_after, turned_by, all_turned_by, turned, touches, IsMoved}
 use Rattle.stab_regions.specs.Laws.{bit_asked}

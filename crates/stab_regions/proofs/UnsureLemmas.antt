@@ -16,10 +16,10 @@ use Rattle.stab_tableau.proofs.TraceLemmas.{group-member}
 use Rattle.stab_tableau.proofs.FreeLemmas.{anticommuting-member}
 use Rattle.stab_tableau.proofs.TestLemmas.{not-true, not_both, test_right}
 use Rattle.stab_circuit.specs.Steps.{Step, one, two, controlled, collapse, product, detector, observable}
-use Rattle.stab_session.specs.Records.{looked_up, parity}
-use Rattle.stab_session.specs.Runs.{when, string_of, gate_of, flip_of, collapsed, outcome_at}
-use Rattle.stab_session.specs.Points.{Point, origin, trace_after, coins_of, all_coins_of, next_point}
-use Rattle.stab_session.specs.inner.ProgramStates.{StepFits}
+use Rattle.stab_run.specs.Records.{looked_up, parity}
+use Rattle.stab_run.specs.Runs.{when, string_of, gate_of, flip_of, collapsed, outcome_at}
+use Rattle.stab_run.specs.Points.{Point, origin, trace_after, coins_of, all_coins_of, next_point}
+use Rattle.stab_run.specs.ProgramStates.{StepFits}
 use Rattle.stab_regions.specs.Regions.{Region, region_of, region_through, keeps_region, keep_region, is_sure}
 use Rattle.stab_regions.specs.Frames.{Frame, all_turned_by, turned, touches, IsMoved}
 use Rattle.stab_regions.specs.Laws.{bit_asked, with_fault, flips_asked, turned_with, UnsureBits, SureWhereTheSame, FaultsFlipWithTheirCoins}

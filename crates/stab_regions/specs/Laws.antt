@@ -4,10 +4,10 @@ use Rattle.stab_pauli.specs.declared.letter.Letter.{Letter}
 use Rattle.stab_pauli.specs.Letters.{◌⊕◌}
 use Rattle.stab_pauli.specs.Paulis.{single, anticommute}
 use Rattle.stab_circuit.specs.Steps.{Step, one}
-use Rattle.stab_session.specs.Records.{parity}
-use Rattle.stab_session.specs.Runs.{gate_of}
-use Rattle.stab_session.specs.Points.{Point, origin, next_point, all_coins_of}
-use Rattle.stab_session.specs.inner.ProgramStates.{StepFits}
+use Rattle.stab_run.specs.Records.{parity}
+use Rattle.stab_run.specs.Runs.{gate_of}
+use Rattle.stab_run.specs.Points.{Point, origin, next_point, all_coins_of}
+use Rattle.stab_run.specs.ProgramStates.{StepFits}
 use Rattle.stab_regions.specs.Regions.{region_of, region_through, is_sure, sure_bit}
 use Rattle.stab_regions.specs.Frames.{all_turned_by, turned}
 

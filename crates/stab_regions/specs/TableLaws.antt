@@ -3,8 +3,8 @@ use Rattle.std.specs.Prelude.{◌≡◌, ℕ, ◌<◌, Bool, true, false, List, 
 use Rattle.stab_pauli.specs.declared.letter.Letter.{Letter}
 use Rattle.stab_pauli.specs.Letters.{◌⊕◌}
 use Rattle.stab_circuit.specs.Steps.{Step}
-use Rattle.stab_session.specs.Runs.{start, run}
-use Rattle.stab_session.specs.inner.ProgramStates.{StepFits}
+use Rattle.stab_run.specs.Runs.{start, run}
+use Rattle.stab_run.specs.ProgramStates.{StepFits}
 use Rattle.stab_regions.specs.Regions.{region_of, keep_region, asks_nothing, asks_observable, is_sure, sure_bit}
 use Rattle.stab_regions.specs.Laws.{with_fault, flips_asked, turned_with}
 use Rattle.stab_regions.specs.Tables.{Tracked, tracked_at, detectors_of, steps_before, named_by, region_of_detector, is_sure_detector, sure_detector_bit, flips_detector}

@@ -1,6 +1,6 @@
 ghost use Rattle.std.specs.Prelude.{◌≡◌, ℕ, Bool, List, ◌+◌, ◌<◌, ◌&&◌, length, IfOk, OnOk, if◌then◌else◌};
 ghost use Rattle.stab_circuit.specs.Steps.{controlled, collapse};
-ghost use Rattle.stab_session.specs.Runs.{flip_of};
+ghost use Rattle.stab_run.specs.Runs.{flip_of};
 ghost use Rattle.stab_regions.specs.Regions.{look_where};
 ghost use Rattle.stab_regions.specs.Rows.{odd, row, bits_at, ShowsLooks, MovesRegion};
 

@@ -14,14 +14,15 @@ use Rattle.stab_session.specs.declared.replay.End.{End}
 use Rattle.stab_session.specs.declared.replay.End.TheVariants.{Last, Joined}
 use Rattle.stab_session.specs.declared.kept.KeptRun.{KeptRun}
 use Rattle.stab_circuit.specs.declared.edit.Span.{Span}
-use Rattle.stab_session.specs.Points.{RunOutput, origin, point_after, outputs}
-use Rattle.stab_session.specs.Laws.{AgreeAt}
+use Rattle.stab_run.specs.Points.{RunOutput, origin, point_after, outputs}
+use Rattle.stab_run.specs.Laws.{AgreeAt}
 use Rattle.stab_session.specs.Bounds.{last_until, MayBeMet, EndsAt, NoneBefore, IsCounted}
-use Rattle.stab_session.specs.inner.ProgramStates.{program_state, output_of}
+use Rattle.stab_run.specs.ProgramStates.{program_state, output_of}
 use Rattle.stab_session.specs.inner.Spacing.{last_of}
 use Rattle.stab_session.specs.inner.Checkpoints.{IsRunFromStart, IsCheckpoint, checkpoint_steps, moved}
 use Rattle.stab_session.specs.inner.Replays.{IsKeptRun, IsSpan, AgreeBehindSpan, Meets, IsEnd, Misses, EndsSoon, step_among_new}
-use Rattle.stab_session.proofs.PointLemmas.{front-output, meets-agree, agree-later}
+use Rattle.stab_run.proofs.PointLemmas.{front-output}
+use Rattle.stab_session.proofs.PointLemmas.{meets-agree, agree-later}
 use Rattle.stab_session.proofs.SpacingLemmas.{IsBefore, IsNearCopy, near-copy, behind-near, all-behind, moved-within}
 use Rattle.stab_session.proofs.FollowLemmas.{at-get, some-at, if-some, some-and, from-drop, same-rest, all-next, front-spaced}
 

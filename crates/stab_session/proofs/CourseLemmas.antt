@@ -14,10 +14,10 @@ use Rattle.stab_session.specs.declared.kept.KeptRun.{KeptRun}
 use Rattle.stab_circuit.specs.declared.edit.Span.{Span}
 use Rattle.stab_session.specs.declared.kept.Prepared.{Prepared}
 use Rattle.stab_session.specs.declared.kept.Rest.{Rest}
-use Rattle.stab_session.specs.Records.{ones}
-use Rattle.stab_session.specs.Points.{RunOutput, all_coins_of, with_additions}
+use Rattle.stab_run.specs.Records.{ones}
+use Rattle.stab_run.specs.Points.{RunOutput, all_coins_of, with_additions}
 use Rattle.stab_session.specs.Bounds.{EndsAt, IsCounted}
-use Rattle.stab_session.specs.inner.ProgramStates.{output_of}
+use Rattle.stab_run.specs.ProgramStates.{output_of}
 use Rattle.stab_session.specs.inner.Checkpoints.{checkpoint_steps, moved_copy}
 use Rattle.stab_session.specs.inner.Replays.{IsKeptRun, IsSameKept, Follows, AgreeBehindSpan, IsReplay, Ascending, Meets, IsEnd, EndsSoon, step_among_new}
 use Rattle.stab_session.specs.inner.Prepared.{Begins, HasCopy, IsRest, IsOldRest, IsPrepared, IsCommitted, copies_behind, meeting_of}

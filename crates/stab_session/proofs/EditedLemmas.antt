@@ -14,8 +14,8 @@ use Rattle.stab_session.specs.declared.kept.KeptRun.{KeptRun}
 use Rattle.stab_circuit.specs.declared.edit.Span.{Span}
 use Rattle.stab_circuit.specs.declared.edit.Edit.{Edit}
 use Rattle.stab_session.specs.declared.pending.Pending.{Pending}
-use Rattle.stab_session.specs.Points.{origin, point_after}
-use Rattle.stab_session.specs.Laws.{AgreeAt}
+use Rattle.stab_run.specs.Points.{origin, point_after}
+use Rattle.stab_run.specs.Laws.{AgreeAt}
 use Rattle.stab_session.specs.Sessions.{SessionState}
 use Rattle.stab_session.specs.SessionEdits.{IsEditedBy}
 use Rattle.stab_session.specs.Bounds.{steps_of_item, steps_from_change, steps_behind, unless_refused, most_refused_asks, steps_put, steps_near_change, steps_changed, IsCounted, IsCountOf, AgreeBehind}

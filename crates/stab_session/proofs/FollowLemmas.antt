@@ -18,15 +18,16 @@ use Rattle.stab_session.specs.declared.kept.KeptRun.{KeptRun}
 use Rattle.stab_circuit.specs.declared.edit.Span.{Span}
 use Rattle.stab_session.specs.declared.kept.Prepared.{Prepared}
 use Rattle.stab_session.specs.declared.kept.Rest.{Rest}
-use Rattle.stab_session.specs.Records.{ones}
-use Rattle.stab_session.specs.Points.{RunOutput, origin, joined, point_after, all_coins_of, with_additions}
-use Rattle.stab_session.specs.Laws.{AgreeAt}
-use Rattle.stab_session.specs.inner.ProgramStates.{program_state, output_of}
+use Rattle.stab_run.specs.Records.{ones}
+use Rattle.stab_run.specs.Points.{RunOutput, origin, joined, point_after, all_coins_of, with_additions}
+use Rattle.stab_run.specs.Laws.{AgreeAt}
+use Rattle.stab_run.specs.ProgramStates.{program_state, output_of}
 use Rattle.stab_session.specs.inner.Spacing.{Near, IsSpaced, last_of}
-use Rattle.stab_session.specs.inner.Checkpoints.{lengths_of, front_of, rest_of, IsRunFromStart, IsCheckpoint, checkpoint_steps, all_laid, moved, moved_copy}
+use Rattle.stab_run.specs.Cuts.{lengths_of, front_of, rest_of}
+use Rattle.stab_session.specs.inner.Checkpoints.{IsRunFromStart, IsCheckpoint, checkpoint_steps, all_laid, moved, moved_copy}
 use Rattle.stab_session.specs.inner.Replays.{IsKeptRun, IsSameKept, IsSpan, IsReplay, Ascending, Meets, IsEnd, step_among_new}
 use Rattle.stab_session.specs.inner.Prepared.{Begins, IsRest, IsOldRest, IsPrepared, IsCommitted, copies_behind, tableau_behind, meeting_of}
-use Rattle.stab_session.proofs.RecordLemmas.{ones-append}
+use Rattle.stab_run.proofs.RecordLemmas.{ones-append}
 use Rattle.stab_session.proofs.PointLemmas.{take-same, checkpoint-before, begun-from-start, meets-agree, agree-end, kept-tail, checkpoint-moved}
 use Rattle.stab_session.proofs.SpacingLemmas.{IsBefore, before-near, all-behind, ascending-behind, spaced-front, spaced-all, all-laid-all, all-laid-append, moved-within, moved-near, steps-moved, near-drop, near-join}
 

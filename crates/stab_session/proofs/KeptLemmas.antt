@@ -9,10 +9,11 @@ use Rattle.stab_tableau.specs.Tableaus.{stabilises}
 use Rattle.stab_circuit.specs.Steps.{Step}
 use Rattle.stab_session.specs.declared.checkpoint.Checkpoint.{Checkpoint}
 use Rattle.stab_session.specs.declared.kept.KeptRun.{KeptRun}
-use Rattle.stab_session.specs.Points.{RunOutput, nothing, origin, point_after, outputs, with_additions}
-use Rattle.stab_session.specs.inner.ProgramStates.{output_of}
+use Rattle.stab_run.specs.Points.{RunOutput, nothing, origin, point_after, outputs, with_additions}
+use Rattle.stab_run.specs.ProgramStates.{output_of}
 use Rattle.stab_session.specs.inner.Spacing.{IsSpaced}
-use Rattle.stab_session.specs.inner.Checkpoints.{lengths_of, IsCheckpoint, checkpoint_steps}
+use Rattle.stab_run.specs.Cuts.{lengths_of}
+use Rattle.stab_session.specs.inner.Checkpoints.{IsCheckpoint, checkpoint_steps}
 use Rattle.stab_session.specs.inner.Replays.{IsKeptRun, Follows}
 
 -- the run of no steps

@@ -1,8 +1,3 @@
-mod RecordLemmas
-mod ProductLemmas
-mod RunLemmas
-mod StateLemmas
-mod FutureLemmas
 mod PointLemmas
 mod ReplayLemmas
 mod LaidLemmas
@@ -10,13 +5,9 @@ mod KeptLemmas
 mod FollowLemmas
 mod CountLemmas
 mod CourseLemmas
-mod FitLemmas
-mod SoundLemmas
-mod ShotLemmas
 mod SessionLemmas
 mod SpanLemmas
 mod PendingLemmas
 mod EditedLemmas
 mod SpacingLemmas
 mod CheckpointLemmas
-mod StepsLeftLemmas

@@ -7,18 +7,20 @@ use Rattle.std.proofs.lemmas.Bool.{cases_lt}
 use Rattle.std.proofs.lemmas.Option.{none-some, same_Some, IfSome_then}
 use Rattle.stab_tableau.specs.Tableaus.{TableauState}
 use Rattle.stab_circuit.specs.Steps.{Step, one, two, controlled, collapse, product, detector, observable}
-use Rattle.stab_session.specs.declared.records.Lengths.{Lengths}
+use Rattle.stab_run.specs.declared.records.Lengths.{Lengths}
 use Rattle.stab_session.specs.declared.checkpoint.Checkpoint.{Checkpoint}
 use Rattle.stab_session.specs.declared.replay.Replay.{Replay}
 use Rattle.stab_session.specs.declared.replay.Plan.{Plan}
 use Rattle.stab_session.specs.declared.replay.Arrival.TheVariants.{Between}
-use Rattle.stab_session.specs.Points.{RunOutput, origin, coins_of, all_coins_of, point_after, outputs}
-use Rattle.stab_session.specs.Laws.{AgreeAt}
-use Rattle.stab_session.specs.inner.ProgramStates.{ProgramState, IsAt, IsRun, program_state, output_of}
+use Rattle.stab_run.specs.Points.{RunOutput, origin, coins_of, all_coins_of, point_after, outputs}
+use Rattle.stab_run.specs.Laws.{AgreeAt}
+use Rattle.stab_run.specs.ProgramStates.{ProgramState, IsAt, IsRun, program_state, output_of}
 use Rattle.stab_session.specs.inner.Spacing.{Near, last_of}
-use Rattle.stab_session.specs.inner.Checkpoints.{IsRunFromStart, IsCheckpoint, lengths_of, checkpoint_steps}
+use Rattle.stab_run.specs.Cuts.{lengths_of}
+use Rattle.stab_session.specs.inner.Checkpoints.{IsRunFromStart, IsCheckpoint, checkpoint_steps}
 use Rattle.stab_session.specs.inner.Replays.{IsAtStep, IsReplay, Ascending, Meets, MeetsAt, IsPlacedAt, IsArrival, Misses, EndsSoon, step_among_new, copy_of}
-use Rattle.stab_session.proofs.PointLemmas.{resumed, shows-from-start, take-more, flags-are-coins, records-are-records}
+use Rattle.stab_run.proofs.PointLemmas.{flags-are-coins, records-are-records}
+use Rattle.stab_session.proofs.PointLemmas.{resumed, shows-from-start, take-more}
 
 -- two lists that are the same up to a place: one begins the other where it does behind that place
 pub begins-behind : {X : Type 0} (xs ys : List X) (b : ℕ) → b ≤ length xs → take b xs ≡ take b ys

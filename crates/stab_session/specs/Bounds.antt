@@ -6,8 +6,8 @@ use Rattle.stab_circuit.specs.Items.{OneItem, entries, listed}
 use Rattle.stab_circuit.specs.Steps.{unroll}
 use Rattle.stab_circuit.specs.Edits.{edit_path, edited, verdict, first_changed, old_end, new_end, put_item}
 use Rattle.stab_circuit.specs.declared.edit.Edit.{Edit}
-use Rattle.stab_session.specs.Points.{Point, origin, point_after}
-use Rattle.stab_session.specs.Laws.{AgreeAt}
+use Rattle.stab_run.specs.Points.{Point, origin, point_after}
+use Rattle.stab_run.specs.Laws.{AgreeAt}
 use Rattle.stab_session.specs.Sessions.{SessionState}
 
 -- how many steps a session's circuit has

@@ -9,8 +9,8 @@ use Rattle.std.specs.Prelude.{◌≡◌, ℕ, Bool}
 use Rattle.stab_tableau.specs.Traces.{member}
 use Rattle.stab_tableau.specs.Groups.{SameGroup}
 use Rattle.stab_tableau.specs.Tableaus.{stabilises}
-use Rattle.stab_session.specs.Runs.{run_of}
-use Rattle.stab_session.specs.Laws.{DependsOnCoinsAt}
+use Rattle.stab_run.specs.Runs.{run_of}
+use Rattle.stab_run.specs.Laws.{DependsOnCoinsAt}
 use Rattle.stab_session.specs.Sessions.{SessionState}
 
 -- what contracts see of a session is the run of its items, with the coins that its source of coins stands for

@@ -1,10 +1,4 @@
 pub mod Limits
-pub mod Coins
-pub mod Records
-pub mod Runs
-pub mod Points
-pub mod Laws
-pub mod Samplers
 pub mod Sessions
 pub mod Headline
 pub mod SessionEdits

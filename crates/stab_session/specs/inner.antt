@@ -1,6 +1,3 @@
-pub mod ProgramStates
-pub mod ReadySamplers
-pub mod Shots
 pub mod KeptSessions
 pub mod Pendings
 pub mod Spacing

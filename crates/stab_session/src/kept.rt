@@ -4,22 +4,21 @@ ghost use Rattle.stab_tableau.specs.Limits.{most_qubits};
 ghost use Rattle.stab_circuit.specs.Steps.{Step, unroll, observables_of, check_of, check_within};
 ghost use Rattle.stab_circuit.specs.Views.{circuit_items};
 ghost use Rattle.stab_circuit.specs.Cursors.{IsApart};
-ghost use Rattle.stab_session.specs.Records.{ones};
+ghost use Rattle.stab_run.specs.Records.{ones};
 ghost use Rattle.stab_io.specs.Refusals.{Refuses};
-ghost use Rattle.stab_session.specs.Points.{all_coins_of};
+ghost use Rattle.stab_run.specs.Points.{all_coins_of};
 ghost use Rattle.stab_session.specs.Bounds.{IsCounted};
-ghost use Rattle.stab_session.specs.inner.ProgramStates.{output_of};
+ghost use Rattle.stab_run.specs.ProgramStates.{output_of};
 ghost use Rattle.stab_session.specs.inner.Checkpoints.{checkpoint_steps, all_laid};
 ghost use Rattle.stab_session.specs.inner.Replays.{IsKeptRun, IsSameKept, IsSpan, Follows, AgreeBehindSpan};
 ghost use Rattle.stab_session.specs.inner.Prepared.{Begins, HasCopy, IsRest, HasRoom, IsPrepared, copies_behind, IsCommitted};
 
 use crate::checkpoint::{Checkpoint, Meeting, count_before, lay_all, take_moved};
-use crate::coins::Coins;
-use crate::records::{Outputs, observables};
 use crate::replay::{End, Plan, Replay};
 use stab_circuit::{Circuit, Cursor, Span};
 use stab_io::{Fault, Refusal};
 use stab_pauli::Pauli;
+use stab_run::{Coins, Outputs, observables};
 use stab_tableau::Tableau;
 use std::alloc::{AllocError, Global};
 

@@ -3,18 +3,16 @@ ghost use Rattle.stab_io.specs.declared.refusal.Refusal.TheVariants.{OutOfMemory
 ghost use Rattle.stab_tableau.specs.Groups.{SameGroup};
 ghost use Rattle.stab_tableau.specs.Tableaus.{stabilises};
 ghost use Rattle.stab_circuit.specs.Steps.{most_steps};
-ghost use Rattle.stab_session.specs.Records.{ones};
-ghost use Rattle.stab_session.specs.Points.{all_coins_of};
-ghost use Rattle.stab_session.specs.inner.ProgramStates.{StepFits, output_of};
+ghost use Rattle.stab_run.specs.Records.{ones};
+ghost use Rattle.stab_run.specs.Points.{all_coins_of};
+ghost use Rattle.stab_run.specs.ProgramStates.{StepFits, output_of};
 ghost use Rattle.stab_session.specs.inner.Replays.{IsAtStep, IsReplay, Ascending, Meets, copy_of, IsArrival, IsEnd, EndsSoon, copies_passed};
 
 use crate::checkpoint::{Checkpoint, shifted};
-use crate::coins::Coins;
-use crate::records::Outputs;
-use crate::run::run_steps;
 use stab_circuit::Cursor;
 use stab_io::Refusal;
 use stab_pauli::Pauli;
+use stab_run::{Coins, Outputs, run_steps};
 use stab_tableau::{CompactTableau, Tableau};
 use std::alloc::{AllocError, Global};
 

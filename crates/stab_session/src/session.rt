@@ -1,11 +1,11 @@
 mod edits;
 
-use crate::coins::Coins;
 use crate::kept::{KeptRun, run_kept};
 pub use edits::Report;
 use stab_circuit::Circuit;
 use stab_io::{Fault, Refusal};
 use stab_pauli::Pauli;
+use stab_run::Coins;
 use stab_tableau::Tableau;
 use std::alloc::Global;
 use std::marker::Model;
@@ -74,11 +74,11 @@ impl<C: Coins> Session<C> {
     ghost use Rattle.stab_circuit.specs.Steps.{unroll, check_within};
     ghost use Rattle.stab_circuit.specs.Views.{circuit_items};
     ghost use Rattle.stab_session.specs.Limits.{most_stride};
-    ghost use Rattle.stab_session.specs.Records.{ones};
-    ghost use Rattle.stab_session.specs.Runs.{run_of};
-    ghost use Rattle.stab_session.specs.Points.{all_coins_of};
+    ghost use Rattle.stab_run.specs.Records.{ones};
+    ghost use Rattle.stab_run.specs.Runs.{run_of};
+    ghost use Rattle.stab_run.specs.Points.{all_coins_of};
     ghost use Rattle.stab_session.specs.Sessions.{IsSignIn};
-    ghost use Rattle.stab_session.specs.Laws.{IsSoundRun};
+    ghost use Rattle.stab_run.specs.Laws.{IsSoundRun};
     ghost use Rattle.stab_session.specs.Bounds.{most_checkpoints};
     ghost use Rattle.stab_session.specs.Headline.{IsRunOfItems};
 

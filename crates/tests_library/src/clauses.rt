@@ -16,7 +16,7 @@ ghost use Rattle.stab_circuit.specs.declared.edit.Edit.TheVariants.{Insert as in
 ghost use Rattle.stab_circuit.specs.Steps.{unroll, records_of, steps_cap};
 ghost use Rattle.stab_circuit.specs.Views.{circuit_items};
 ghost use Rattle.stab_session.specs.Limits.{most_stride};
-ghost use Rattle.stab_session.specs.Runs.{run_of};
+ghost use Rattle.stab_run.specs.Runs.{run_of};
 ghost use Rattle.stab_session.specs.Sessions.{IsSignIn};
 
 use stab_circuit::{Circuit, Item, Path, Refused};

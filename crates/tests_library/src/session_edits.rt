@@ -1,7 +1,7 @@
 //! Edits of sessions: refused with their items, and what they cost.
 
 ghost use Rattle.std.specs.Prelude.{◌≡◌, ℕ, Bool, false};
-ghost use Rattle.stab_session.specs.Coins.{one_more};
+ghost use Rattle.stab_run.specs.Coins.{one_more};
 
 use crate::circuits::is_there;
 use stab_circuit::{Path, Refused, read_circuit, read_item};

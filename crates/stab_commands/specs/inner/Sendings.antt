@@ -6,8 +6,8 @@ use Rattle.stab_pauli.specs.Paulis.{Signed}
 use Rattle.stab_io.specs.Refusals.{whole}
 use Rattle.stab_io.specs.declared.refusal.Refusal.TheVariants.{WriteFault}
 use Rattle.stab_io.specs.declared.refusal.Fault.{Fault}
-use Rattle.stab_session.specs.declared.run.Shot.{Shot}
-use Rattle.stab_session.specs.Runs.{State}
+use Rattle.stab_run.specs.declared.run.Shot.{Shot}
+use Rattle.stab_run.specs.Runs.{State}
 use Rattle.stab_circuit.specs.Items.{Items}
 use Rattle.stab_results.specs.declared.format.Format.{Format}
 use Rattle.stab_results.specs.declared.format.Kinds.TheVariants.{Measurements}

@@ -2,7 +2,7 @@
 -- Source: this project's own.
 use Rattle.std.specs.Prelude.{ℕ, Bool, List}
 use Rattle.stab_circuit.specs.Items.{Items}
-use Rattle.stab_session.specs.Runs.{run_of}
+use Rattle.stab_run.specs.Runs.{run_of}
 use Rattle.stab_session.specs.Sessions.{SessionState}
 use Rattle.stab_commands.specs.script.Scripts.{Setting, Answer, Shows}
 use Rattle.stab_commands.specs.declared.script.request.Show.{Show}

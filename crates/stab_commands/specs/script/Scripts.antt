@@ -16,7 +16,7 @@ use Rattle.stab_circuit.specs.declared.edit.Edit.TheVariants as circuit_edit
 use Rattle.stab_circuit.specs.Edits.{edited, list_verdict}
 use Rattle.stab_circuit.specs.Circuits.{most_bytes, item_fault, StandsForOne}
 use Rattle.stab_circuit.specs.Prints.{printed}
-use Rattle.stab_session.specs.Runs.{State, run_of}
+use Rattle.stab_run.specs.Runs.{State, run_of}
 use Rattle.stab_results.specs.Formats.{f01_bytes}
 use Rattle.stab_commands.specs.FaultLines.{refused_text}
 use Rattle.stab_commands.specs.Stabilisers.{lines_of}

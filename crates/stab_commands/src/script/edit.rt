@@ -14,7 +14,8 @@ use crate::script::session_answers::SessionAnswers;
 use crate::script::watcher::{NoWatcher, Watcher};
 use stab_circuit::{Circuit, read_circuit};
 use stab_io::{DeviceFault, Fault, Input, Output, Refusal};
-use stab_session::{Coins, ListCoins, SeedCoins, Session};
+use stab_run::{Coins, ListCoins, SeedCoins};
+use stab_session::Session;
 use std::alloc::Global;
 
 /// The most bytes of a script.

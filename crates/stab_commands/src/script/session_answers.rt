@@ -4,7 +4,8 @@ use crate::script::reply::Reply;
 use crate::script::request::{ItemEdit, Request, Show};
 use stab_circuit::{Item, Path, read_item};
 use stab_io::{Fault, Refusal};
-use stab_session::{Coins, Edit, Session};
+use stab_run::Coins;
+use stab_session::{Edit, Session};
 use stab_tableau::laws::traces_have_one_list;
 use std::alloc::Global;
 

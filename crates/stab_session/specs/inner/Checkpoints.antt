@@ -5,33 +5,11 @@ use Rattle.stab_tableau.specs.Traces.{member}
 use Rattle.stab_tableau.specs.Groups.{SameGroup}
 use Rattle.stab_tableau.specs.Tableaus.{stabilises}
 use Rattle.stab_circuit.specs.Steps.{Step}
-use Rattle.stab_session.specs.declared.records.Lengths.{Lengths}
 use Rattle.stab_session.specs.declared.checkpoint.Checkpoint.{Checkpoint}
 use Rattle.stab_session.specs.declared.checkpoint.Meeting.{Meeting}
-use Rattle.stab_session.specs.Points.{RunOutput, origin, point_after, outputs}
-use Rattle.stab_session.specs.inner.ProgramStates.{ProgramState}
-
--- how long the lists of an output are
-abbrev pub lengths_of : RunOutput → Lengths
-lengths_of o = record { records = length o.records; free = length o.free; detectors = length o.detectors; additions = length o.additions }
-
--- the lists of an output up to these lengths
-abbrev pub front_of : Lengths → RunOutput → RunOutput
-front_of l o = record {
-  records = take l.records o.records;
-  free = take l.free o.free;
-  detectors = take l.detectors o.detectors;
-  additions = take l.additions o.additions;
-}
-
--- and what stands in them behind these lengths
-abbrev pub rest_of : Lengths → RunOutput → RunOutput
-rest_of l o = record {
-  records = drop l.records o.records;
-  free = drop l.free o.free;
-  detectors = drop l.detectors o.detectors;
-  additions = drop l.additions o.additions;
-}
+use Rattle.stab_run.specs.Points.{RunOutput, origin, point_after, outputs}
+use Rattle.stab_run.specs.ProgramStates.{ProgramState}
+use Rattle.stab_run.specs.Cuts.{lengths_of}
 
 -- what the program holds is what these steps give from the first on, all qubits zero before it
 pub record IsRunFromStart (n : ℕ) (coins : ℕ → Bool) (xs : List Step) (s : ProgramState) : Type 0 where

@@ -13,9 +13,10 @@ use Rattle.stab_session.specs.declared.kept.KeptRun.{KeptRun}
 use Rattle.stab_session.specs.declared.kept.Prepared.{Prepared}
 use Rattle.stab_session.specs.declared.kept.Rest.{Rest}
 use Rattle.stab_session.specs.declared.kept.Rest.TheVariants.{Nothing, Old}
-use Rattle.stab_session.specs.Points.{RunOutput, joined, with_additions}
-use Rattle.stab_session.specs.inner.ProgramStates.{output_of}
-use Rattle.stab_session.specs.inner.Checkpoints.{lengths_of, front_of, rest_of, moved_copy, all_laid}
+use Rattle.stab_run.specs.Points.{RunOutput, joined, with_additions}
+use Rattle.stab_run.specs.ProgramStates.{output_of}
+use Rattle.stab_run.specs.Cuts.{lengths_of, front_of, rest_of}
+use Rattle.stab_session.specs.inner.Checkpoints.{moved_copy, all_laid}
 
 -- a replay of some steps begins at a copy that is kept: it has done nothing yet
 pub record Begins (ys : List Step) (kept : KeptRun) (c : Checkpoint) (r : Replay) : Type 0 where

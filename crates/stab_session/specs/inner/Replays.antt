@@ -13,11 +13,12 @@ use Rattle.stab_session.specs.declared.replay.Arrival.{Arrival}
 use Rattle.stab_session.specs.declared.replay.Arrival.TheVariants.{Behind, Met, Between}
 use Rattle.stab_session.specs.declared.kept.KeptRun.{KeptRun}
 use Rattle.stab_circuit.specs.declared.edit.Span.{Span}
-use Rattle.stab_session.specs.Points.{RunOutput, origin, point_after, outputs, with_additions}
-use Rattle.stab_session.specs.Laws.{AgreeAt}
-use Rattle.stab_session.specs.inner.ProgramStates.{program_state, output_of}
+use Rattle.stab_run.specs.Points.{RunOutput, origin, point_after, outputs, with_additions}
+use Rattle.stab_run.specs.Laws.{AgreeAt}
+use Rattle.stab_run.specs.ProgramStates.{program_state, output_of}
 use Rattle.stab_session.specs.inner.Spacing.{IsSpaced, Near}
-use Rattle.stab_session.specs.inner.Checkpoints.{IsRunFromStart, IsCheckpoint, lengths_of, checkpoint_steps, moved}
+use Rattle.stab_run.specs.Cuts.{lengths_of}
+use Rattle.stab_session.specs.inner.Checkpoints.{IsRunFromStart, IsCheckpoint, checkpoint_steps, moved}
 
 -- what is kept is the run of these steps, with so many observables, and copies at most K steps apart
 pub record IsKeptRun (n : ℕ) (coins : ℕ → Bool) (K : ℕ) (xs : List Step) (count : ℕ) (r : KeptRun) : Type 0 where

@@ -1,8 +1,8 @@
 use super::Session;
-use crate::coins::Coins;
 use crate::pending::{begin, finish, take_back};
 use stab_circuit::{Edit, Refused};
 use stab_io::Fault;
+use stab_run::Coins;
 
 /// What an edit cost: the steps that were carried out for it, and the copies of the state that are
 /// kept afterwards.

@@ -1,7 +1,7 @@
 use Rattle.std.proofs.Common.{ap, arith}
 use Rattle.stab_circuit.specs.Steps.{unroll}
 use Rattle.stab_circuit.specs.Views.{circuit_items}
-use Rattle.stab_session.specs.Points.{all_coins_of}
+use Rattle.stab_run.specs.Points.{all_coins_of}
 use Rattle.stab_commands.specs.Checks.{detectors_of}
 use Rattle.stab_commands.proofs.CheckLaws.{few_steps, detectors_few, coins_few}
 use Rattle.stab_commands.proofs.check.count_steps.Goals as goal

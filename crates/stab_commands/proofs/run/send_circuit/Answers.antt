@@ -1,7 +1,7 @@
 use Rattle.std.proofs.Common.{◌≡◌, subst}
 use Rattle.std.specs.Result.{IsErrAnd}
 use Rattle.stab_circuit.specs.Views.{circuit_items}
-use Rattle.stab_session.specs.Samplers.{SamplerState}
+use Rattle.stab_run.specs.Samplers.{SamplerState}
 use Rattle.stab_commands.proofs.RunLaws.{memory_alone, sends_nothing, sends_cut_off, sends_finished}
 use Rattle.stab_commands.proofs.run.send_circuit.Goals as goal
 

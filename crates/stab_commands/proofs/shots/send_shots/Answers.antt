@@ -1,4 +1,4 @@
-use Rattle.stab_session.specs.Runs.{run_of}
+use Rattle.stab_run.specs.Runs.{run_of}
 use Rattle.stab_commands.specs.Outputs.{coins_of_shot}
 use Rattle.stab_commands.specs.inner.Sendings.{shown_bytes}
 use Rattle.stab_commands.proofs.SendingLaws.{sent_shot, shots_break_off}

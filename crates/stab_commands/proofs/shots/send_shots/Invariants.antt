@@ -1,6 +1,6 @@
 use Rattle.std.proofs.Common.{◌≡◌}
 use Rattle.stab_io.specs.Devices.{Took}
-use Rattle.stab_session.specs.Runs.{run_of}
+use Rattle.stab_run.specs.Runs.{run_of}
 use Rattle.stab_commands.specs.Outputs.{coins_of_shot, of_shots}
 use Rattle.stab_commands.specs.inner.Sendings.{shown_bytes}
 use Rattle.stab_commands.proofs.shots.send_shots.Given as goal

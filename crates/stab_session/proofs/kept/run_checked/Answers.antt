@@ -3,7 +3,7 @@ use Rattle.std.specs.Prelude.{None}
 use Rattle.stab_circuit.specs.Steps.{unroll, observables_of, check_within}
 use Rattle.stab_circuit.specs.Views.{circuit_items}
 use Rattle.stab_session.specs.inner.Replays.{IsKeptRun}
-use Rattle.stab_session.proofs.FitLemmas.{check-whole, check-steps}
+use Rattle.stab_run.proofs.FitLemmas.{check-whole, check-steps}
 use Rattle.stab_session.proofs.KeptLemmas.{nothing-follows}
 use Rattle.stab_session.proofs.kept.run_checked.Goals as goal
 

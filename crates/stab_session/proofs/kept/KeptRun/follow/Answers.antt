@@ -5,10 +5,10 @@ use Rattle.stab_circuit.specs.Views.{circuit_items}
 use Rattle.stab_circuit.specs.Cursors.{IsApart}
 use Rattle.stab_session.specs.declared.replay.Plan.{Plan}
 use Rattle.stab_circuit.specs.declared.edit.Span.{Span}
-use Rattle.stab_session.specs.Points.{all_coins_of}
-use Rattle.stab_session.specs.inner.ProgramStates.{StepFits}
+use Rattle.stab_run.specs.Points.{all_coins_of}
+use Rattle.stab_run.specs.ProgramStates.{StepFits}
 use Rattle.stab_session.specs.inner.Replays.{IsKeptRun, Follows, Ascending}
-use Rattle.stab_session.proofs.FitLemmas.{check-fits, check-whole, check-steps}
+use Rattle.stab_run.proofs.FitLemmas.{check-fits, check-whole, check-steps}
 use Rattle.stab_session.proofs.FollowLemmas.{coins-behind}
 use Rattle.stab_session.proofs.CourseLemmas.{IsCount, HasBegun, HasEnded, count-of, seen-end, seen-soon, some-before, copy-within, has-begun, asked-behind, ascending-here, has-ended}
 use Rattle.stab_session.proofs.kept.KeptRun.follow.Given.{Over}

@@ -1,5 +1,5 @@
 use Rattle.std.proofs.Common.{refl, ap, ◌∙◌}
-use Rattle.stab_session.specs.inner.Checkpoints.{lengths_of}
+use Rattle.stab_run.specs.Cuts.{lengths_of}
 use Rattle.stab_session.proofs.KeptLemmas.{kept-nothing}
 use Rattle.stab_session.proofs.kept.KeptRun.new.Goals as goal
 

@@ -2,8 +2,8 @@ use Rattle.std.proofs.Common.{◌≡◌, ◌+◌, ◌-◌, ◌*◌, ◌≤◌, [
 use Rattle.stab_session.specs.declared.replay.Replay.{Replay}
 use Rattle.stab_session.specs.declared.replay.Arrival.{Arrival}
 use Rattle.stab_session.specs.declared.replay.Arrival.TheVariants.{Between}
-use Rattle.stab_session.specs.Records.{ones}
-use Rattle.stab_session.specs.Points.{all_coins_of}
+use Rattle.stab_run.specs.Records.{ones}
+use Rattle.stab_run.specs.Points.{all_coins_of}
 use Rattle.stab_session.specs.inner.Replays.{IsReplay, IsArrival, EndsSoon, copy_of}
 use Rattle.stab_session.proofs.ReplayLemmas.{IsAtStop, place-behind, on-stop, ends-soon, on-further, fewer-left}
 use Rattle.stab_session.proofs.LaidLemmas.{laid-more, laid-end}

@@ -1,6 +1,6 @@
 use Rattle.std.proofs.Common.{◌≡◌, ◌+◌, ◌-◌, ◌*◌, ◌≤◌, length, drop}
-use Rattle.stab_session.specs.Records.{ones}
-use Rattle.stab_session.specs.Points.{all_coins_of}
+use Rattle.stab_run.specs.Records.{ones}
+use Rattle.stab_run.specs.Points.{all_coins_of}
 use Rattle.stab_session.proofs.ReplayLemmas.{IsOnWay}
 use Rattle.stab_session.proofs.replay.Replay.follow.Given as goal
 

@@ -1,5 +1,5 @@
 use Rattle.std.proofs.Common.{◌-◌, arith, take}
-use Rattle.stab_session.specs.inner.ProgramStates.{program_state, output_of}
+use Rattle.stab_run.specs.ProgramStates.{program_state, output_of}
 use Rattle.stab_session.proofs.ReplayLemmas.{coins-few, coins-cut, records-stay, run-on}
 use Rattle.stab_session.proofs.replay.Replay.run_to.Goals as goal
 

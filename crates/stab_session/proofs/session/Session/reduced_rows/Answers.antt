@@ -6,7 +6,7 @@ use Rattle.stab_tableau.specs.Tableaus.{stabilises}
 use Rattle.stab_tableau.specs.Reduced.{AreReduced}
 use Rattle.stab_tableau.proofs.ReducedLemmas.{same-rows}
 use Rattle.stab_circuit.specs.Views.{circuit_items}
-use Rattle.stab_session.specs.Runs.{run_of}
+use Rattle.stab_run.specs.Runs.{run_of}
 use Rattle.stab_session.specs.Sessions.{SessionState}
 use Rattle.stab_session.proofs.session.Session.reduced_rows.Goals as goal
 

@@ -2,7 +2,7 @@ use Rattle.std.proofs.Common.{◌≡◌, length, subst}
 use Rattle.stab_tableau.specs.Traces.{member}
 use Rattle.stab_tableau.specs.Tableaus.{stabilises}
 use Rattle.stab_circuit.specs.Views.{circuit_items}
-use Rattle.stab_session.specs.Runs.{run_of}
+use Rattle.stab_run.specs.Runs.{run_of}
 use Rattle.stab_session.specs.Sessions.{SessionState, IsSignIn}
 use Rattle.stab_session.proofs.SessionLemmas.{same-sign}
 use Rattle.stab_session.proofs.session.Session.sign_of.Goals as goal

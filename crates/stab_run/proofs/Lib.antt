@@ -1,0 +1,10 @@
+pub mod RecordLemmas
+mod ProductLemmas
+pub mod RunLemmas
+pub mod StateLemmas
+pub mod FutureLemmas
+pub mod PointLemmas
+pub mod FitLemmas
+pub mod SoundLemmas
+mod ShotLemmas
+mod StepsLeftLemmas

@@ -1,0 +1,48 @@
+-- Steps left: the first so many of them, as they are carried out one after another.
+use Rattle.std.proofs.Common.{◌≡◌, ℕ, zero, suc, ◌+◌, ◌-◌, ◌^◌, ◌<◌, ◌≤◌, refl, ◌∙◌, ap, subst, arith, List, [], ◌∷◌, length, take, drop}
+use Rattle.stab_circuit.specs.Steps.{Step}
+use Rattle.stab_run.specs.Points.{all_coins_of}
+
+pub take-next : (k : ℕ) (xs : List Step) (x : Step) (rest : List Step) → xs ≡ x ∷ rest → 0 < k → take k xs ≡ x ∷ take (k - 1) rest
+take-next zero xs x rest e p = absurd (omega arith)
+take-next (suc k) xs x rest e p = ap (take (suc k)) e ∙ ap (λ m. x ∷ take m rest) one_less
+  where
+    one_less : k ≡ suc k - 1
+    one_less = omega arith
+
+pub drop-next : (k : ℕ) (xs : List Step) (x : Step) (rest : List Step) → xs ≡ x ∷ rest → 0 < k → drop k xs ≡ drop (k - 1) rest
+drop-next zero xs x rest e p = absurd (omega arith)
+drop-next (suc k) xs x rest e p = ap (drop (suc k)) e ∙ ap (λ m. drop m rest) one_less
+  where
+    one_less : k ≡ suc k - 1
+    one_less = omega arith
+
+pub take-none : (k : ℕ) (xs : List Step) → k ≤ 0 → take k xs ≡ []
+take-none zero xs l = refl
+take-none (suc k) xs l = absurd (omega arith)
+
+pub drop-none : (k : ℕ) (xs : List Step) → k ≤ 0 → drop k xs ≡ xs
+drop-none zero xs l = refl
+drop-none (suc k) xs l = absurd (omega arith)
+
+pub take-empty : (k : ℕ) (xs : List Step) → xs ≡ [] → take k xs ≡ []
+take-empty zero xs e = refl
+take-empty (suc k) xs e = ap (take (suc k)) e
+
+pub drop-empty : (k : ℕ) (xs : List Step) → xs ≡ [] → drop k xs ≡ []
+drop-empty zero xs e = e
+drop-empty (suc k) xs e = ap (drop (suc k)) e
+
+take-whole : (k : ℕ) (xs : List Step) → length xs ≤ k → take k xs ≡ xs
+take-whole zero [] l = refl
+take-whole (suc k) [] l = refl
+take-whole zero (x ∷ xs) l = absurd (omega arith)
+take-whole (suc k) (x ∷ xs) l = ap (λ t. x ∷ t) (take-whole k xs (omega arith))
+
+-- all steps, where no bound is as low as their number
+pub take-all : (k : ℕ) (left all : List Step) → left ≡ all → length all < 2 ^ 63 → 2 ^ 63 ≤ k → take k left ≡ all
+take-all k left all e few large = ap (take k) e ∙ take-whole k all (omega arith)
+
+pub asks-all : (k old new : ℕ) (left all : List Step) → left ≡ all → length all < 2 ^ 63 → 2 ^ 63 ≤ k → new ≤ old + all_coins_of (take k left)
+    → new ≤ old + all_coins_of all
+asks-all k old new left all e few large asks = subst (λ xs. new ≤ old + all_coins_of xs) (take-all k left all e few large) asks

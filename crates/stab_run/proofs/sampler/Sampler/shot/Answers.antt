@@ -1,0 +1,51 @@
+use Rattle.std.proofs.Common.{rules, arith, ap, subst, sym, length}
+use Rattle.std.specs.Prelude.{IfOk}
+use Rattle.std.proofs.lemmas.Result.{IfOk-weaker}
+use Rattle.stab_tableau.specs.Tableaus.{stabilises}
+use Rattle.stab_circuit.specs.Views.{circuit_items}
+use Rattle.stab_run.specs.Runs.{run_of}
+use Rattle.stab_run.specs.Laws.{DependsOnCoinsAt}
+use Rattle.stab_run.specs.Samplers.{SamplerState}
+use Rattle.stab_run.specs.inner.Shots.{IsShotOf}
+use Rattle.stab_run.proofs.FitLemmas.{check-fits, check-steps, check-whole}
+use Rattle.stab_run.proofs.ShotLemmas.{shots-of_items}
+use Rattle.stab_run.proofs.StateLemmas.{run_of-same}
+use Rattle.stab_run.proofs.sampler.Sampler.shot.Goals as goal
+
+pub run_whole-requires-clause-fits : goal.run_whole-requires-clause-fits
+run_whole-requires-clause-fits g c =
+    let ready = c.self.invariant in
+    check-fits c.self.inside.tableau.qubits (circuit_items c.self.inside.circuit.now) c.self.inside.cursor.all ready.checked ready.unrolled ready.apart
+
+pub run_whole-requires-clause-few : goal.run_whole-requires-clause-few
+run_whole-requires-clause-few g c =
+    let ready = c.self.invariant in
+    let items = circuit_items c.self.inside.circuit.now in
+    omega (arith, ap length ready.unrolled, check-steps items (check-whole c.self.inside.tableau.qubits items ready.checked))
+
+pub returns : goal.returns
+returns g c =
+    let ready = c.self.invariant in
+    let coins = g.C.Coins.sequence c.args.coins.now in
+    let shot = c.run_whole.result in
+    let now = c.args.self.now in
+    let stabilised = stabilises c.run_whole.new.tableau in
+    let is : IfOk shot (IsShotOf now.qubits (run_of now.qubits coins now.items) stabilised) =
+    subst (λ (s : SamplerState). IfOk shot (IsShotOf s.qubits (run_of s.qubits coins s.items) stabilised)) c.self.view_is
+    (shots-of_items shot c.self.inside.tableau.qubits coins (circuit_items c.self.inside.circuit.now) c.self.inside.cursor.all c.self.inside.observables stabilised
+    ready.unrolled ready.observables_are c.run_whole.ensures.run) in
+    record {
+      kept = search rules;
+      records = IfOk-weaker shot _ _ (λ s i. i.records) is;
+      free = IfOk-weaker shot _ _ (λ s i. i.free) is;
+      detectors = IfOk-weaker shot _ _ (λ s i. i.detectors) is;
+      observables = IfOk-weaker shot _ _ (λ s i. i.observables) is;
+      decided =
+          IfOk-weaker shot _ _
+          (λ s i. subst (λ flags. DependsOnCoinsAt flags now.qubits coins now.items) (sym i.free) (run_of-same now.qubits coins now.items))
+          is;
+      same_coins = search rules;
+      asks = search rules;
+      asks_free = search rules;
+      err = search rules;
+    }

@@ -1,0 +1,9 @@
+pub mod Coins
+pub mod Records
+pub mod Runs
+pub mod Points
+pub mod Laws
+pub mod Samplers
+pub mod ProgramStates
+pub mod Cuts
+pub mod inner

@@ -1,0 +1,2 @@
+pub mod ReadySamplers
+pub mod Shots

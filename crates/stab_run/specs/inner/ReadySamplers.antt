@@ -1,0 +1,24 @@
+-- Ready samplers: how the logic stores what contracts see of one, and what it keeps from shot to shot.
+-- Source: this project's own.
+use Rattle.std.specs.Prelude.{◌≡◌, ℕ, min, List, All, None, length, refl}
+use Rattle.std.specs.Coded.{Coded, code_by, coded×, coded_ℕ}
+use Rattle.stab_pauli.specs.Paulis.{Signed}
+use Rattle.stab_circuit.specs.Items.{Items}
+use Rattle.stab_circuit.specs.Steps.{Step, unroll, records_of, observables_of, steps_cap, check_within}
+use Rattle.stab_circuit.specs.Cursors.{IsApart}
+use Rattle.stab_run.specs.Samplers.{SamplerState}
+use Rattle.stab_circuit.specs.inner.StoredItems.{items_code}
+
+-- it is stored as the pair of its fields
+abbrev pub sampler_code : Coded SamplerState
+sampler_code = code_by (ℕ × Items) (coded× coded_ℕ items_code) (λ s. (s.qubits, s.items)) (λ p. record { qubits = p.0; items = p.1 }) (λ _. refl)
+
+-- nothing refuses the items on the qubits, the steps are all of theirs, the string is on the qubits, and the numbers of records
+-- and observables are theirs
+pub record IsReady (n : ℕ) (items : Items) (steps : List Step) (string : Signed) (records observables : ℕ) : Type 0 where
+  pub checked : check_within n items ≡ None
+  pub unrolled : steps ≡ unroll items
+  pub apart : All IsApart steps
+  pub same_length : length string.letters ≡ n
+  pub records_are : records ≡ min (records_of (unroll items)) steps_cap
+  pub observables_are : observables ≡ observables_of items
