@@ -4,3 +4,5 @@ pub mod Frames
 pub mod Laws
 pub mod Tables
 pub mod TableLaws
+pub mod Parities
+pub mod Faults

@@ -1,0 +1,107 @@
+-- Faults: one Pauli X or Z that goes wrong between two steps, where they are asked for, and which bits of a run each flips.
+use Rattle.std.specs.Prelude.{◌≡◌, ℕ, suc, ◌+◌, ◌<◌, Bool, true, false, List, [], ◌∷◌, ◌++◌, map, take, drop, length, ◌↔◌, slice_index_or, if◌then◌else◌, ◌&&◌}
+use Rattle.std.specs.List.{flat_map}
+use Rattle.stab_pauli.specs.declared.letter.Letter.{Letter}
+use Rattle.stab_pauli.specs.declared.letter.Letter.TheVariants as letter
+use Rattle.stab_pauli.specs.Letters.{◌⊕◌}
+use Rattle.stab_tableau.specs.declared.gate.Gate.TheVariants as gate
+use Rattle.stab_tableau.specs.declared.gate.Gate.{Gate}
+use Rattle.stab_circuit.specs.Items.{Items}
+use Rattle.stab_circuit.specs.Steps.{Step, one, two, controlled, collapse, product, detector, observable, unroll, observables_of}
+use Rattle.stab_run.specs.Runs.{State, start, run, gate_of}
+use Rattle.stab_regions.specs.Tables.{detectors_of}
+
+-- a place for faults: a qubit, in front of a step or behind it
+pub record Site : Type 0 where
+  pub qubit : ℕ
+  pub behind : Bool
+
+abbrev pub in_front behind : ℕ → Site
+in_front q = record { qubit = q; behind = false }
+behind q = record { qubit = q; behind = true }
+
+-- where a circuit marks places for faults: at each target of the gate that does nothing
+abbrev pub marked_at : Step → List Site
+marked_at (one gate.I q) = in_front q ∷ []
+marked_at x = []
+
+-- all places at a step: on each qubit of it, in front of it where it measures, and behind it
+abbrev pub all_at : Step → List Site
+all_at (one g q) = behind q ∷ []
+all_at (two g a b) = behind a ∷ behind b ∷ []
+all_at (controlled l k q) = behind q ∷ []
+all_at (collapse l q true inverted resets) = in_front q ∷ behind q ∷ []
+all_at (collapse l q false inverted resets) = behind q ∷ []
+all_at (product factors inverted) = flat_map (λ f. in_front f.qubit ∷ behind f.qubit ∷ []) factors
+all_at (detector ks) = []
+all_at (observable j ks) = []
+
+-- the places at a step where faults are asked for: everywhere, or where they are marked
+abbrev pub sites_at : (everywhere : Bool) → Step → List Site
+sites_at true x = all_at x
+sites_at false x = marked_at x
+
+-- a fault: a letter on a qubit, with so many steps in front of it; and the number of the step that it is at
+pub record FaultPlace : Type 0 where
+  pub letter : Letter
+  pub qubit : ℕ
+  pub before : ℕ
+  pub step : ℕ
+
+-- the fault of a letter at a place of step number t
+abbrev pub fault_on : ℕ → Site → Letter → FaultPlace
+fault_on t s l = record { letter = l; qubit = s.qubit; before = if s.behind then t + 1 else t; step = t }
+
+-- the faults at a place: X, then Z
+abbrev pub faults_on : ℕ → Site → List FaultPlace
+faults_on t s = fault_on t s letter.X ∷ fault_on t s letter.Z ∷ []
+
+-- the faults that are asked for of steps, of which the first is number t
+abbrev pub faults_from : (everywhere : Bool) → ℕ → List Step → List FaultPlace
+faults_from everywhere t [] = []
+faults_from everywhere t (x ∷ xs) = flat_map (faults_on t) (sites_at everywhere x) ++ faults_from everywhere (t + 1) xs
+
+abbrev pub faults_of : (everywhere : Bool) → List Step → List FaultPlace
+faults_of everywhere xs = faults_from everywhere 0 xs
+
+-- the steps with the fault's letter put in as a gate
+abbrev pub with_gate : FaultPlace → List Step → List Step
+with_gate f xs = take f.before xs ++ one (gate_of f.letter) f.qubit ∷ drop f.before xs
+
+-- the detectors and then the observables that a run of steps gives, with so many observables
+abbrev pub bits_of : State → List Bool
+bits_of s = s.detectors ++ s.observables
+
+abbrev pub bit : (n count : ℕ) → (ℕ → Bool) → List Step → ℕ → Bool
+bit n count coins xs i = slice_index_or (bits_of (run n coins xs (start count))) i false
+
+-- how many bits there are: that of all detectors and observables
+abbrev pub bits_in : Items → ℕ
+bits_in items = detectors_of (unroll items) + observables_of items
+
+-- a bit is the same whatever the coins
+abbrev pub IsSure : (n : ℕ) → Items → ℕ → Type 0
+IsSure n items i = (coins others : ℕ → Bool) → bit n (observables_of items) others (unroll items) i ≡ bit n (observables_of items) coins (unroll items) i
+
+-- these bits tell of each detector and then each observable whether it is sure
+pub record AreSure (n : ℕ) (items : Items) (sure : List Bool) : Type 0 where
+  pub count : length sure ≡ bits_in items
+  pub exact : (i : ℕ) → i < bits_in items → (slice_index_or sure i false ≡ true) ↔ IsSure n items i
+
+-- a fault flips a bit where the runs with these coins with and without it differ
+abbrev pub flips : (n : ℕ) → Items → (ℕ → Bool) → FaultPlace → ℕ → Bool
+flips n items coins f i = bit n (observables_of items) coins (with_gate f (unroll items)) i ⊕ bit n (observables_of items) coins (unroll items) i
+
+-- the numbers from i on below i + k with this property, ascending
+abbrev pub numbers_where : (ℕ → Bool) → (i k : ℕ) → List ℕ
+numbers_where f i 0 = []
+numbers_where f i (suc k) = if f i then i ∷ numbers_where f (i + 1) k else numbers_where f (i + 1) k
+
+-- the sure bits that a fault flips, by their numbers, ascending
+abbrev pub flipped : (n : ℕ) → Items → (sure : List Bool) → (ℕ → Bool) → FaultPlace → List ℕ
+flipped n items sure coins f = numbers_where (λ i. slice_index_or sure i false && flips n items coins f i) 0 (bits_in items)
+
+-- a table of faults: which bits are sure, and for each fault that is asked for, in order, which of these it flips, whatever the coins
+pub record IsFaultTable (n : ℕ) (everywhere : Bool) (items : Items) (sure : List Bool) (rows : List (List ℕ)) : Type 0 where
+  pub sure : AreSure n items sure
+  pub rows : (coins : ℕ → Bool) → rows ≡ map (flipped n items sure coins) (faults_of everywhere (unroll items))
