@@ -7,6 +7,10 @@
 //! - `looks`: for each lookback the parities whose regions have that record.
 //! - `gates`, `steps`: how these rows change from behind a step to before it.
 //!
+//! Sources: M. McEwen, D. Bacon and C. Gidney, Relaxing hardware requirements for surface code circuits using
+//! time-dynamics (2023), for regions, and C. Gidney, Stim: a fast stabilizer circuit simulator (2021), for frames.
+//! Regions with signs, tables of them and their laws are this project's own.
+//!
 //! Proved: the laws; and that rows which show the regions behind a gate, a letter that a record
 //! controls, or a measurement or reset of a letter are changed to such as show those before it, up to
 //! signs (`specs/Rows.antt`).
