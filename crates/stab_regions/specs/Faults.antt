@@ -1,5 +1,4 @@
 -- Faults: one Pauli X or Z that goes wrong between two steps, where they are asked for, and which bits of a run each flips.
--- Source: this project's own.
 use Rattle.std.specs.Prelude.{◌≡◌, ℕ, suc, ◌+◌, ◌<◌, Bool, true, false, List, [], ◌∷◌, ◌++◌, map, take, drop, length, ◌↔◌, slice_index_or, if◌then◌else◌, ◌&&◌}
 use Rattle.std.specs.List.{flat_map}
 use Rattle.stab_pauli.specs.declared.letter.Letter.{Letter}
