@@ -15,3 +15,6 @@ mod DetectorLemmas
 mod ObservableLemmas
 mod TableLemmas
 mod FaultLemmas
+mod BitLemmas
+mod FaultBitLemmas
+mod TwoFaultLemmas
