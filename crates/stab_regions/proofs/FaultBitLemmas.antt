@@ -24,26 +24,26 @@ use Rattle.stab_regions.proofs.BitLemmas.{bit-detector, bit-observable, sure-det
 difference : (flipped plain flips : Bool) → flipped ≡ plain ⊕ flips → flipped ⊕ plain ≡ flips
 difference flipped plain flips e = ap (λ b. b ⊕ plain) e ∙ parity-comm (plain ⊕ flips) plain ∙ parity-twice plain flips
 
-module _ (law : RunsArePointsWithOutputs) (n count : ℕ) where
-  -- the bit is the same whatever the coins
-  abbrev pub SameForAll : List Step → ℕ → Type 0
-  SameForAll xs i = (coins others : ℕ → Bool) → bit n count others xs i ≡ bit n count coins xs i
+-- the bit is the same whatever the coins
+abbrev pub SameForAll : (n count : ℕ) → List Step → ℕ → Type 0
+SameForAll n count xs i = (coins others : ℕ → Bool) → bit n count others xs i ≡ bit n count coins xs i
 
+module _ (law : RunsArePointsWithOutputs) (n count : ℕ) where
   -- exactly these are found sure
   pub sure-parity : (xs : List Step) (i : ℕ) → All (StepFits n) xs → i < detectors_of xs + count
-      → (parity_sure n (detectors_of xs) i xs ≡ true) ↔ SameForAll xs i
+      → (parity_sure n (detectors_of xs) i xs ≡ true) ↔ SameForAll n count xs i
   sure-parity xs i fits lt = by_place (cases_lt i (detectors_of xs))
     where
       D : ℕ
       D = detectors_of xs
 
-      by_place : (i < D) ⊎ (D ≤ i) → (parity_sure n D i xs ≡ true) ↔ SameForAll xs i
+      by_place : (i < D) ⊎ (D ≤ i) → (parity_sure n D i xs ≡ true) ↔ SameForAll n count xs i
       by_place (inl less) =
-          subst (λ b. (b ≡ true) ↔ SameForAll xs i) (sym (sure-detector n i xs less))
+          subst (λ b. (b ≡ true) ↔ SameForAll n count xs i) (sym (sure-detector n i xs less))
           (same-of (λ coins. bit n count coins xs i) (λ coins. detector_bit n coins xs count i) (λ coins. bit-detector law n count coins xs i less)
           (is_sure_detector n i xs) (sure-detectors law n xs count i fits less).exact)
       by_place (inr more) =
-          subst (λ b. (b ≡ true) ↔ SameForAll xs i) (sym (sure-observable n i xs more))
+          subst (λ b. (b ≡ true) ↔ SameForAll n count xs i) (sym (sure-observable n i xs more))
           (same-of (λ coins. bit n count coins xs i) (λ coins. observable_bit n coins xs count (i - D)) (λ coins. bit-observable law n count coins xs i more)
           (is_sure n (asks_observable (i - D)) xs []) (sure-observables law n xs count (i - D) fits (omega (arith, lt, more))).exact)
 

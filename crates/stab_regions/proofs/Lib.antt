@@ -18,3 +18,4 @@ mod FaultLemmas
 mod BitLemmas
 mod FaultBitLemmas
 mod TwoFaultLemmas
+mod ManyFaultLemmas

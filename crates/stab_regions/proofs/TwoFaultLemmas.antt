@@ -4,15 +4,14 @@ use Rattle.std.proofs.lemmas.List.{take-take, take-append-le, drop-append-le}
 use Rattle.std.proofs.lemmas.List.Elements.{All-append, All-cons}
 use Rattle.stab_pauli.specs.declared.letter.Letter.{Letter}
 use Rattle.stab_pauli.specs.Letters.{◌⊕◌}
-use Rattle.stab_circuit.specs.Steps.{Step, one, unroll, observables_of}
+use Rattle.stab_circuit.specs.Steps.{Step, one}
 use Rattle.stab_run.specs.Runs.{gate_of}
 use Rattle.stab_run.specs.Laws.{RunsArePointsWithOutputs}
 use Rattle.stab_run.specs.ProgramStates.{StepFits}
 use Rattle.stab_regions.specs.Laws.{with_fault}
 use Rattle.stab_regions.specs.Tables.{detectors_of}
-use Rattle.stab_regions.specs.Parities.{parity_sure, parity_flips}
+use Rattle.stab_regions.specs.Parities.{parity_flips}
 use Rattle.stab_regions.specs.Faults.{FaultPlace, with_gate, bit}
-use Rattle.stab_regions.specs.FaultLaws.{FaultsAdd}
 use Rattle.stab_regions.proofs.DetectorLemmas.{fits-front, fits-back}
 use Rattle.stab_regions.proofs.FaultLemmas.{count-fault}
 use Rattle.stab_regions.proofs.FaultBitLemmas.{SameForAll, sure-parity, sure-turns}
@@ -21,14 +20,46 @@ use Rattle.stab_regions.proofs.FaultBitLemmas.{SameForAll, sure-parity, sure-tur
 cancel : (a b x flips : Bool) → a ⊕ x ≡ flips → b ⊕ x ≡ flips → a ≡ b
 cancel a b x flips e f = grind arith
 
--- what the second flips behind the first, it flips alone
-add : (both first second plain flips : Bool) → both ⊕ first ≡ flips → second ⊕ plain ≡ flips → both ⊕ plain ≡ (first ⊕ plain) ⊕ (second ⊕ plain)
-add both first second plain flips e f = grind arith
+-- where one makes the same difference with the other as without, so does the other
+exchange : (both first second plain : Bool) → both ⊕ first ≡ second ⊕ plain → both ⊕ second ≡ first ⊕ plain
+exchange both first second plain e = grind arith
+
+-- steps fit, and the bit is one of theirs and the same whatever the coins
+pub record HasSureBit (n count : ℕ) (xs : List Step) (i : ℕ) : Type 0 where
+  pub fits : All (StepFits n) xs
+  pub within : i < detectors_of xs + count
+  pub same : SameForAll n count xs i
+
+-- one letter
+
+module _ (law : RunsArePointsWithOutputs) (n count : ℕ) (front : List Step) (l : Letter) (q : ℕ) (back : List Step) (i : ℕ) (xs : List Step) (parts : xs ≡ front ++ back)
+    (sure : HasSureBit n count xs i) (lt : q < n) where
+  abbrev flipped : List Step
+  flipped = with_fault front l q back
+
+  -- it flips the bit whatever the coins, or does not
+  pub letter-turns : (coins others : ℕ → Bool) → bit n count others flipped i ⊕ bit n count coins xs i ≡ parity_flips n (detectors_of xs) i l q back
+  letter-turns = sure-turns law n count front l q back i xs parts sure.fits sure.within lt ((sure-parity law n count xs i sure.fits sure.within).1 sure.same)
+
+  pub count-flipped : detectors_of flipped ≡ detectors_of xs
+  count-flipped = count-fault front l q back ∙ ap detectors_of (sym parts)
+
+  -- so with it the bit is still sure
+  pub still-sure : HasSureBit n count flipped i
+  still-sure = record {
+    fits =
+        let whole : All (StepFits n) (front ++ back) = subst (All (StepFits n)) parts sure.fits in
+        All-append (StepFits n) front (one (gate_of l) q ∷ back) (fits-front n front back whole)
+        (All-cons (StepFits n) (one (gate_of l) q) back lt (fits-back n front back whole));
+    within = omega (arith, sure.within, count-flipped);
+    same = λ coins others.
+        cancel (bit n count others flipped i) (bit n count coins flipped i) (bit n count coins xs i) _ (letter-turns coins others) (letter-turns coins coins);
+  }
+
+-- and a second one, not in front of it
 
 module _ (law : RunsArePointsWithOutputs) (n count : ℕ) (front : List Step) (l : Letter) (q : ℕ) (mid : List Step) (m : Letter) (r : ℕ) (back : List Step) (i : ℕ) (xs : List Step)
-    (e : xs ≡ (front ++ mid) ++ back) (fits : All (StepFits n) xs) (lt : i < detectors_of xs + count) (lt_q : q < n) (lt_r : r < n)
-    (same : SameForAll law n count xs i) where
-  -- the steps with the first letter, with the second, and with both
+    (parts : xs ≡ (front ++ mid) ++ back) (sure : HasSureBit n count xs i) (lt_q : q < n) (lt_r : r < n) where
   abbrev with_first : List Step
   with_first = with_fault front l q (mid ++ back)
 
@@ -38,55 +69,29 @@ module _ (law : RunsArePointsWithOutputs) (n count : ℕ) (front : List Step) (l
   abbrev with_both : List Step
   with_both = with_fault front l q (mid ++ one (gate_of m) r ∷ back)
 
-  -- the bit of a run of steps
-  abbrev bit_of : (ℕ → Bool) → List Step → Bool
-  bit_of coins zs = bit n count coins zs i
+  -- where the first is inserted
+  around_first : xs ≡ front ++ (mid ++ back)
+  around_first = parts ∙ append_assoc front mid back
 
-  -- the steps in two parts, where the first letter is inserted
-  parts : xs ≡ front ++ (mid ++ back)
-  parts = e ∙ append_assoc front mid back
-
-  sure : parity_sure n (detectors_of xs) i xs ≡ true
-  sure = (sure-parity law n count xs i fits lt).1 same
-
-  -- the first letter flips the bit whatever the coins, or does not
-  first-turns : (coins others : ℕ → Bool) → bit_of others with_first ⊕ bit_of coins xs ≡ parity_flips n (detectors_of xs) i l q (mid ++ back)
-  first-turns coins others = sure-turns law n count front l q (mid ++ back) i xs parts fits lt lt_q sure coins others
-
-  -- so with it the bit is still the same whatever the coins
-  same-behind : SameForAll law n count with_first i
-  same-behind coins others = cancel (bit_of others with_first) (bit_of coins with_first) (bit_of coins xs) _ (first-turns coins others) (first-turns coins coins)
-
-  count-behind : detectors_of with_first ≡ detectors_of xs
-  count-behind = count-fault front l q (mid ++ back) ∙ ap detectors_of (sym parts)
-
-  fits-behind : All (StepFits n) with_first
-  fits-behind =
-      let whole : All (StepFits n) (front ++ (mid ++ back)) = subst (All (StepFits n)) parts fits in
-      All-append (StepFits n) front (one (gate_of l) q ∷ mid ++ back) (fits-front n front (mid ++ back) whole)
-      (All-cons (StepFits n) (one (gate_of l) q) (mid ++ back) lt_q (fits-back n front (mid ++ back) whole))
-
-  lt-behind : i < detectors_of with_first + count
-  lt-behind = omega (arith, lt, count-behind)
-
-  -- and the second letter flips it behind the first as the pass says of it alone
-  second-turns : (coins : ℕ → Bool) → bit_of coins with_both ⊕ bit_of coins with_first ≡ parity_flips n (detectors_of xs) i m r back
+  -- behind the first the pass says of the second what it says of it alone
+  second-turns : (coins : ℕ → Bool) → bit n count coins with_both i ⊕ bit n count coins with_first i ≡ parity_flips n (detectors_of xs) i m r back
   second-turns coins =
-      ap (λ zs. bit_of coins zs ⊕ bit_of coins with_first) (sym (append_assoc front (one (gate_of l) q ∷ mid) (one (gate_of m) r ∷ back)))
-      ∙ sure-turns law n count (front ++ one (gate_of l) q ∷ mid) m r back i with_first (sym (append_assoc front (one (gate_of l) q ∷ mid) back)) fits-behind lt-behind lt_r
-      ((sure-parity law n count with_first i fits-behind lt-behind).1 same-behind) coins coins
-      ∙ ap (λ D. parity_flips n D i m r back) count-behind
+      ap (λ zs. bit n count coins zs i ⊕ bit n count coins with_first i) (sym (append_assoc front (one (gate_of l) q ∷ mid) (one (gate_of m) r ∷ back)))
+      ∙ letter-turns law n count (front ++ one (gate_of l) q ∷ mid) m r back i with_first (sym (append_assoc front (one (gate_of l) q ∷ mid) back))
+      (still-sure law n count front l q (mid ++ back) i xs around_first sure lt_q) lt_r coins coins
+      ∙ ap (λ D. parity_flips n D i m r back) (count-flipped law n count front l q (mid ++ back) i xs around_first sure lt_q)
 
-  -- so what they flip adds up
-  pub letters-add : (coins : ℕ → Bool) → bit_of coins with_both ⊕ bit_of coins xs
-      ≡ (bit_of coins with_first ⊕ bit_of coins xs) ⊕ (bit_of coins with_second ⊕ bit_of coins xs)
-  letters-add coins =
-      add (bit_of coins with_both) (bit_of coins with_first) (bit_of coins with_second) (bit_of coins xs) _ (second-turns coins) (sure-turns law n count (front ++ mid) m r back i xs e fits lt lt_r sure coins coins)
+  -- so the first flips the bit with the second as it does alone
+  pub letters-alike : (coins : ℕ → Bool) → bit n count coins with_both i ⊕ bit n count coins with_second i ≡ bit n count coins with_first i ⊕ bit n count coins xs i
+  letters-alike coins =
+      exchange (bit n count coins with_both i) (bit n count coins with_first i) (bit n count coins with_second i) (bit n count coins xs i)
+      (second-turns coins ∙ sym (letter-turns law n count (front ++ mid) m r back i xs parts sure lt_r coins coins))
 
 -- two places in steps, of which the second is not in front of the first
+
 module _ (xs : List Step) (j k : ℕ) (le : j ≤ k) (within : k ≤ length xs) where
   -- the steps between them
-  abbrev pub between : List Step
+  abbrev between : List Step
   between = drop j (take k xs)
 
   reaches : j ≤ length (take k xs)
@@ -98,33 +103,36 @@ module _ (xs : List Step) (j k : ℕ) (le : j ≤ k) (within : k ≤ length xs) 
   drop-between : between ++ drop k xs ≡ drop j xs
   drop-between = sym (drop-append-le j (take k xs) (drop k xs) reaches) ∙ ap (drop j) (take-append-drop k xs)
 
-  pub in-three : xs ≡ (take j xs ++ between) ++ drop k xs
+  in-three : xs ≡ (take j xs ++ between) ++ drop k xs
   in-three = sym (take-append-drop k xs) ∙ ap (λ ys. ys ++ drop k xs) (sym take-between)
 
-  module _ (l : Letter) (q : ℕ) (m : Letter) (r : ℕ) where
-    -- a letter at the first place
-    pub first-put : take j xs ++ one (gate_of l) q ∷ drop j xs ≡ with_fault (take j xs) l q (between ++ drop k xs)
-    first-put = ap (λ ys. take j xs ++ one (gate_of l) q ∷ ys) (sym drop-between)
+-- faults, by their places
 
-    -- a letter at the second
-    pub second-put : take k xs ++ one (gate_of m) r ∷ drop k xs ≡ with_fault (take j xs ++ between) m r (drop k xs)
-    second-put = ap (λ ys. ys ++ one (gate_of m) r ∷ drop k xs) (sym take-between)
+module _ (law : RunsArePointsWithOutputs) (n count : ℕ) (xs : List Step) (i : ℕ) (sure : HasSureBit n count xs i) (f : FaultPlace) (lt : f.qubit < n) where
+  -- with a fault the bit is still sure
+  pub gate-sure : HasSureBit n count (with_gate f xs) i
+  gate-sure = still-sure law n count (take f.before xs) f.letter f.qubit (drop f.before xs) i xs (sym (take-append-drop f.before xs)) sure lt
 
-    -- both
-    pub both-put : take j (take k xs ++ one (gate_of m) r ∷ drop k xs) ++ one (gate_of l) q ∷ drop j (take k xs ++ one (gate_of m) r ∷ drop k xs)
-        ≡ with_fault (take j xs) l q (between ++ one (gate_of m) r ∷ drop k xs)
-    both-put =
-        (λ t. (take-append-le j (take k xs) (one (gate_of m) r ∷ drop k xs) reaches ∙ take-take j k xs le) t
-        ++ one (gate_of l) q ∷ drop-append-le j (take k xs) (one (gate_of m) r ∷ drop k xs) reaches t)
+  -- and one in front of another flips it as it does alone
+  pub gates-alike : (g : FaultPlace) → g.qubit < n → f.before ≤ g.before → g.before ≤ length xs → (coins : ℕ → Bool)
+      → bit n count coins (with_gate f (with_gate g xs)) i ⊕ bit n count coins (with_gate g xs) i ≡ bit n count coins (with_gate f xs) i ⊕ bit n count coins xs i
+  gates-alike g lt_g le within coins =
+      (λ t. bit n count coins (both t) i ⊕ bit n count coins (second t) i)
+      ∙ letters-alike law n count (take f.before xs) f.letter f.qubit mid g.letter g.qubit (drop g.before xs) i xs (in-three xs f.before g.before le within) sure lt lt_g coins
+      ∙ ap (λ ys. bit n count coins ys i ⊕ bit n count coins xs i) (sym first)
+    where
+      mid : List Step
+      mid = between xs f.before g.before le within
 
--- the law
-pub faults-add : RunsArePointsWithOutputs → FaultsAdd
-faults-add law n items i f g fits lt lt_f lt_g le within same coins =
-    let xs : List Step = unroll items in
-    let count : ℕ = observables_of items in
-    let plain : Bool = bit n count coins xs i in
-    ap (λ ys. bit n count coins ys i ⊕ plain) (both-put xs f.before g.before le within f.letter f.qubit g.letter g.qubit)
-    ∙ letters-add law n count (take f.before xs) f.letter f.qubit (between xs f.before g.before le within) g.letter g.qubit (drop g.before xs) i xs
-    (in-three xs f.before g.before le within) fits lt lt_f lt_g same coins
-    ∙ (λ t. (bit n count coins (sym (first-put xs f.before g.before le within f.letter f.qubit g.letter g.qubit) t) i ⊕ plain)
-    ⊕ (bit n count coins (sym (second-put xs f.before g.before le within f.letter f.qubit g.letter g.qubit) t) i ⊕ plain))
+      first : with_gate f xs ≡ with_fault (take f.before xs) f.letter f.qubit (mid ++ drop g.before xs)
+      first = ap (λ ys. with_fault (take f.before xs) f.letter f.qubit ys) (sym (drop-between xs f.before g.before le within))
+
+      second : with_gate g xs ≡ with_fault (take f.before xs ++ mid) g.letter g.qubit (drop g.before xs)
+      second = ap (λ ys. with_fault ys g.letter g.qubit (drop g.before xs)) (sym (take-between xs f.before g.before le within))
+
+      both : with_gate f (with_gate g xs) ≡ with_fault (take f.before xs) f.letter f.qubit (mid ++ one (gate_of g.letter) g.qubit ∷ drop g.before xs)
+      both =
+          let letter : Step = one (gate_of g.letter) g.qubit in
+          let far : f.before ≤ length (take g.before xs) = reaches xs f.before g.before le within in
+          (λ t. with_fault ((take-append-le f.before (take g.before xs) (letter ∷ drop g.before xs) far ∙ take-take f.before g.before xs le) t) f.letter f.qubit
+          (drop-append-le f.before (take g.before xs) (letter ∷ drop g.before xs) far t))

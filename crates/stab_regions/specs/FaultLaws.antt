@@ -1,5 +1,6 @@
 -- Laws of faults: what the pass backwards finds of detectors and observables is what runs show of their bits.
-use Rattle.std.specs.Prelude.{◌≡◌, ℕ, ◌<◌, ◌≤◌, Bool, true, List, ◌++◌, drop, length, All, ◌↔◌}
+use Rattle.std.specs.Prelude.{◌≡◌, ℕ, ◌<◌, ◌≤◌, Bool, true, false, List, [], ◌∷◌, ◌++◌, drop, length, All, ◌↔◌}
+use Rattle.std.specs.List.{AllPairs}
 use Rattle.stab_pauli.specs.declared.letter.Letter.{Letter}
 use Rattle.stab_pauli.specs.Letters.{◌⊕◌}
 use Rattle.stab_circuit.specs.Items.{Items}
@@ -47,3 +48,29 @@ FaultsAdd =
     first.before ≤ second.before → second.before ≤ length (unroll items) → IsSure n items i → (coins : ℕ → Bool) →
     bit n (observables_of items) coins (with_gate first (with_gate second (unroll items))) i ⊕ bit n (observables_of items) coins (unroll items) i
     ≡ flips n items coins first i ⊕ flips n items coins second i
+
+-- the steps with the gates of faults put in, none of which is behind a later one
+abbrev pub with_gates : List FaultPlace → List Step → List Step
+with_gates [] xs = xs
+with_gates (f ∷ fs) xs = with_gate f (with_gates fs xs)
+
+abbrev pub AreInOrder : List FaultPlace → Type 0
+AreInOrder faults = AllPairs (λ f g. f.before ≤ g.before) faults
+
+-- a fault is on one of n qubits, with no more steps in front of it than there are
+pub record FaultFits (n : ℕ) (xs : List Step) (f : FaultPlace) : Type 0 where
+  pub qubit : f.qubit < n
+  pub before : f.before ≤ length xs
+
+-- the exclusive or of what each flips
+abbrev pub flips_together : (FaultPlace → Bool) → List FaultPlace → Bool
+flips_together flips [] = false
+flips_together flips (f ∷ fs) = flips f ⊕ flips_together flips fs
+
+-- faults flip a sure bit together where an odd number of them do so alone
+abbrev pub AllFaultsAdd : Type 0
+AllFaultsAdd =
+    (n : ℕ) (items : Items) (i : ℕ) (faults : List FaultPlace) → All (StepFits n) (unroll items) → i < bits_in items →
+    All (FaultFits n (unroll items)) faults → AreInOrder faults → IsSure n items i → (coins : ℕ → Bool) →
+    bit n (observables_of items) coins (with_gates faults (unroll items)) i ⊕ bit n (observables_of items) coins (unroll items) i
+    ≡ flips_together (λ f. flips n items coins f i) faults

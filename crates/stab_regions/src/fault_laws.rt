@@ -1,6 +1,6 @@
 //! Laws of faults. Each function does nothing: its contract is the law, and the check proves it.
 
-ghost use Rattle.stab_regions.specs.FaultLaws.{SureParities, FaultsFlipSureParities, PlacesFlipSureParities, FaultsFlipParitiesWithTheirCoins, FaultsAdd};
+ghost use Rattle.stab_regions.specs.FaultLaws.{SureParities, FaultsFlipSureParities, PlacesFlipSureParities, FaultsFlipParitiesWithTheirCoins, FaultsAdd, AllFaultsAdd};
 
 use stab_run::laws::runs_are_points_with_outputs;
 
@@ -34,6 +34,14 @@ pub fn faults_flip_parities_with_their_coins()
 /// one place, and letters on both qubits of a pair, are told by X and Z on each.
 pub fn faults_add()
     ensures law { FaultsAdd }
+{
+    runs_are_points_with_outputs();
+}
+
+/// However many faults there are, they flip a sure bit together exactly where an odd number of them
+/// flip it alone.
+pub fn all_faults_add()
+    ensures law { AllFaultsAdd }
 {
     runs_are_points_with_outputs();
 }

@@ -1,4 +1,4 @@
-use Rattle.stab_regions.proofs.TwoFaultLemmas.{faults-add}
+use Rattle.stab_regions.proofs.ManyFaultLemmas.{faults-add}
 use Rattle.stab_regions.proofs.fault_laws.faults_add.Goals as goal
 
 pub returns : goal.returns
