@@ -1,19 +1,18 @@
 -- Faults and bits: what the laws of tables say of detectors and of observables, said of the bits of a run by their numbers.
-use Rattle.std.proofs.Common.{◌≡◌, ℕ, ◌+◌, ◌-◌, ◌<◌, ◌≤◌, ◌⊎◌, inl, inr, ◌↔◌, refl, sym, ◌∙◌, ap, subst, arith, Bool, true, List, [], ◌∷◌, ◌++◌, take, drop, length, All, take-append-drop}
+use Rattle.std.proofs.Common.{◌≡◌, ℕ, ◌+◌, ◌-◌, ◌<◌, ◌≤◌, ◌⊎◌, inl, inr, ◌↔◌, sym, ◌∙◌, ap, subst, arith, Bool, true, List, [], ◌++◌, take, drop, All, take-append-drop}
 use Rattle.std.proofs.lemmas.Bool.{cases_lt}
 use Rattle.stab_pauli.specs.declared.letter.Letter.{Letter}
 use Rattle.stab_pauli.specs.Letters.{◌⊕◌}
 use Rattle.stab_pauli.proofs.ParityLemmas.{parity-comm, parity-twice}
-use Rattle.stab_circuit.specs.Items.{Items}
 use Rattle.stab_circuit.specs.Steps.{Step, unroll, observables_of}
 use Rattle.stab_run.specs.Laws.{RunsArePointsWithOutputs}
 use Rattle.stab_run.specs.ProgramStates.{StepFits}
 use Rattle.stab_regions.specs.Regions.{asks_observable, is_sure}
 use Rattle.stab_regions.specs.Laws.{with_fault, flips_asked, turned_with}
 use Rattle.stab_regions.specs.Tables.{detectors_of, is_sure_detector, flips_detector}
-use Rattle.stab_regions.specs.TableLaws.{detector_bit, observable_bit, FlipsDetector, FlipsObservable}
+use Rattle.stab_regions.specs.TableLaws.{detector_bit, observable_bit}
 use Rattle.stab_regions.specs.Parities.{parity_sure, parity_flips}
-use Rattle.stab_regions.specs.Faults.{FaultPlace, bit, bits_in, IsSure}
+use Rattle.stab_regions.specs.Faults.{bit}
 use Rattle.stab_regions.specs.FaultLaws.{SureParities, FaultsFlipSureParities, PlacesFlipSureParities, FaultsFlipParitiesWithTheirCoins}
 use Rattle.stab_regions.proofs.DetectorLemmas.{fits-front, fits-back}
 use Rattle.stab_regions.proofs.FaultLemmas.{count-fault}

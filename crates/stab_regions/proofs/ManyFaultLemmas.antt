@@ -1,10 +1,9 @@
 -- Many faults: what they flip together of a sure bit is the exclusive or of what each flips alone.
-use Rattle.std.proofs.Common.{◌≡◌, ℕ, suc, ◌+◌, ◌<◌, ◌≤◌, sym, ◌∙◌, ap, arith, refl, Bool, List, [], ◌∷◌, take, drop, length, All, take-append-drop}
-use Rattle.std.specs.List.{AllPairs}
+use Rattle.std.proofs.Common.{◌≡◌, ℕ, suc, ◌<◌, ◌≤◌, ◌∙◌, ap, arith, refl, Bool, List, [], ◌∷◌, take, drop, length, All, take-append-drop}
 use Rattle.std.proofs.lemmas.List.{length-append}
 use Rattle.std.proofs.lemmas.List.Elements.{All-head, All-tail, All-from_get_or}
 use Rattle.stab_pauli.specs.Letters.{◌⊕◌}
-use Rattle.stab_pauli.proofs.ParityLemmas.{parity-self, parity-false}
+use Rattle.stab_pauli.proofs.ParityLemmas.{parity-self}
 use Rattle.stab_circuit.specs.Steps.{Step, one, unroll, observables_of}
 use Rattle.stab_run.specs.Runs.{gate_of}
 use Rattle.stab_run.specs.Laws.{RunsArePointsWithOutputs}

@@ -1,5 +1,5 @@
 -- Two faults: a sure bit stays sure where a letter is inserted, so a second letter behind it flips it as it would alone.
-use Rattle.std.proofs.Common.{◌≡◌, ℕ, ◌+◌, ◌<◌, ◌≤◌, sym, ◌∙◌, ap, subst, arith, Bool, true, List, [], ◌∷◌, ◌++◌, append_assoc, take, drop, length, All, take-append-drop, length-take-le}
+use Rattle.std.proofs.Common.{◌≡◌, ℕ, ◌+◌, ◌<◌, ◌≤◌, sym, ◌∙◌, ap, subst, arith, Bool, List, ◌∷◌, ◌++◌, append_assoc, take, drop, length, All, take-append-drop, length-take-le}
 use Rattle.std.proofs.lemmas.List.{take-take, take-append-le, drop-append-le}
 use Rattle.std.proofs.lemmas.List.Elements.{All-append, All-cons}
 use Rattle.stab_pauli.specs.declared.letter.Letter.{Letter}
