@@ -11,7 +11,7 @@ outside place = record { blocks = []; place = place }
 
 -- a path within the block at a place
 abbrev pub within : ℕ → Path → Path
-within block path = record { blocks = block ∷ path.blocks; place = path.place }
+within place path = record { blocks = place ∷ path.blocks; place = path.place }
 
 -- so many rounds of paths
 abbrev pub path_rounds : ℕ → List Path → List Path

@@ -1,4 +1,4 @@
-ghost use Rattle.std.specs.Prelude.{◌≡◌};
+ghost use Rattle.std.specs.Prelude.{◌++◌, codes};
 ghost use Rattle.std.specs.Fmt.{decimal};
 ghost use Rattle.stab_io.specs.Devices.{WritesAll};
 ghost use Rattle.stab_circuit.specs.Paths.{path_text};
@@ -79,11 +79,20 @@ impl Path {
     }
 }
 
+/// Writes a number in decimal.
 fn write_number<O: Output>(out: &mut O, number: usize) -> Result<(), Refusal>
     ensures writes { WritesAll (O.seen out.old) (O.seen out.new) (decimal number) result }
 {
     let mut digits = Buffer::new();
     write_all(out, digits.format(number).as_bytes())
+}
+
+/// Writes the place of a block, with a slash behind it.
+fn write_block<O: Output>(out: &mut O, place: usize) -> Result<(), Refusal>
+    ensures writes { WritesAll (O.seen out.old) (O.seen out.new) (decimal place ++ codes "/") result }
+{
+    write_number(out, place)?;
+    write_all(out, b"/")
 }
 
 /// Writes a path's numbers in decimal, joined by slashes, and takes no memory. It does not flush.
@@ -93,9 +102,9 @@ fn write_number<O: Output>(out: &mut O, number: usize) -> Result<(), Refusal>
 pub fn write_path<O: Output>(out: &mut O, path: &Path) -> Result<(), Refusal>
     ensures writes { WritesAll (O.seen out.old) (O.seen out.new) (path_text path.now) result }
 {
-    for block in path.blocks() {
-        write_number(out, *block)?;
-        write_all(out, b"/")?;
+    let blocks = path.blocks();
+    for block in blocks {
+        write_block(out, *block)?;
     }
     write_number(out, path.place())
 }
