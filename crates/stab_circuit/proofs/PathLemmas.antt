@@ -1,5 +1,6 @@
 -- Paths: their numbers and their text.
-use Rattle.std.proofs.Common.{◌≡◌, ◌<◌, refl, ap, sym, ◌∙◌, ℕ, ◌+◌, suc, List, [], ◌∷◌, ◌++◌, length, drop, get_or, map, arith, codes, append_assoc, drop-cons}
+use Rattle.std.proofs.Common.{◌≡◌, ◌<◌, refl, ap, sym, ◌∙◌, ℕ, ◌+◌, suc, List, [], ◌∷◌, ◌++◌, length, drop, get_or, map, arith, codes, append_assoc, append-nil}
+use Rattle.std.proofs.lemmas.List.{drop_more}
 use Rattle.std.specs.List.{flat_map, join_with_byte}
 use Rattle.std.specs.Fmt.{decimal}
 use Rattle.stab_circuit.specs.Paths.{Path, numbers, slash, path_text}
@@ -33,7 +34,7 @@ places_text bs p = flat_map block_text bs ++ decimal p
 
 joined : (bs : List ℕ) (p : ℕ) → join_with_byte slash (map decimal (bs ++ p ∷ [])) ≡ places_text bs p
 joined [] p = refl
-joined (b ∷ []) p = sym (append_assoc (decimal b) (codes "/") (decimal p))
+joined (b ∷ []) p = sym (append_assoc (decimal b) (codes "/") (decimal p)) ∙ ap (λ l. l ++ decimal p) (sym (append-nil (block_text b)))
 joined (b ∷ c ∷ bs) p =
     ap (λ l. decimal b ++ (slash ∷ l)) (joined (c ∷ bs) p)
     ∙ sym (append_assoc (decimal b) (codes "/") (places_text (c ∷ bs) p))
@@ -43,13 +44,10 @@ pub path_text_is : (path : Path) → path_text path ≡ places_text path.blocks 
 path_text_is path = joined path.blocks path.place
 
 -- the next block
-pub next_block : (bs : List ℕ) (i p b : ℕ) → i < length bs → b ≡ get_or bs i b → places_text (drop i bs) p ≡ block_text b ++ places_text (drop (i + 1) bs) p
-next_block bs i p b h e =
-    let next' : suc i ≡ i + 1 = omega arith in
-    ap (λ l. places_text l p) (drop-cons bs i b h)
-    ∙ ap (λ c. places_text (c ∷ drop (suc i) bs) p) (sym e)
-    ∙ ap (λ n. places_text (b ∷ drop n bs) p) next'
-    ∙ append_assoc (block_text b) (flat_map block_text (drop (i + 1) bs)) (decimal p)
+pub next_block : (bs : List ℕ) (i p : ℕ) → i < length bs → places_text (drop i bs) p ≡ block_text (get_or bs i 0) ++ places_text (drop (i + 1) bs) p
+next_block bs i p h =
+    ap (λ l. places_text l p) (drop_more bs i 0 h)
+    ∙ append_assoc (block_text (get_or bs i 0)) (flat_map block_text (drop (i + 1) bs)) (decimal p)
 
 -- behind the last block the place is left
 pub no_block : (bs : List ℕ) (p : ℕ) → bs ≡ [] → places_text bs p ≡ decimal p

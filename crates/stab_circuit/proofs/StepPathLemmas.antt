@@ -1,7 +1,8 @@
 -- The item that each unrolled step is of.
-use Rattle.std.proofs.Common.{◌≡◌, ◌≤◌, ◌<◌, refl, ap, sym, ◌∙◌, subst, ℕ, ◌+◌, ◌*◌, ◌-◌, zero, suc, min, List, [], ◌∷◌, ◌++◌, length, take, drop, get_or, map, replicate, arith, append_assoc, append-nil}
+use Rattle.std.proofs.Common.{◌≡◌, ◌≤◌, ◌<◌, refl, ap, sym, ◌∙◌, subst, ℕ, ◌+◌, ◌*◌, ◌-◌, ◌/◌, ◌%◌, zero, suc, min, List, [], ◌∷◌, ◌++◌, length, take, drop, get_or, map, replicate, arith, append_assoc, append-nil}
 use Rattle.std.proofs.lemmas.List.{length-append, length-take, length-drop, length-map, length-replicate, take-append-drop, map-append, drop-map, drop-replicate, drop-append-le}
 use Rattle.std.proofs.Math.Seq.{drop-append-add}
+use Rattle.std.proofs.Math.Nat.{div-lt_iff_lt-mul, div-add-mod, mod-lt}
 use Rattle.stab_lines.specs.declared.operation.Operation.{Operation}
 use Rattle.stab_circuit.specs.declared.circuit.step_items.FoundItem.{FoundItem}
 use Rattle.stab_circuit.specs.declared.chunks.SkippedChunks.{SkippedChunks}
@@ -124,6 +125,51 @@ block_steps x n kept tag body is small some few =
 
 pub operation_steps : (x : OneItem) (op : Operation) → x ≡ operation op → length (unroll (before x done)) ≡ length (steps_of op.kind)
 operation_steps x op is = ap (λ y. length (unroll (before y done))) is ∙ ap length (append-nil (steps_of op.kind))
+
+-- the item at a place has the steps that are not behind it
+pub within_item : (xs : List OneItem) (p w : ℕ) (x : OneItem) → p < length xs → x ≡ get_or xs p x → w + length (unroll (listed (drop (p + 1) xs))) < length (unroll (listed (drop p xs))) → w < length (unroll (before x done))
+within_item xs p w x h e k = omega (arith, k, steps_at xs p x h e)
+
+-- the round of a block that a step is in, and how many steps of that round come before it
+pub record InRound (n kept l w : ℕ) : Type 0 where
+  pub some : 0 < kept
+  pub few : l ≤ 1048576
+  pub round : w / kept < n
+  pub at : w ≡ w / kept * l + w % kept
+  pub short : w % kept < l
+
+some_steps : (n l w : ℕ) → w < n * l → 0 < l
+some_steps n zero w h = let none : n * 0 ≡ 0 = omega arith in absurd (omega (arith, h, none))
+some_steps n (suc l) w h = omega arith
+
+few_times : (n l w : ℕ) → w < n * l → n * l ≤ 1048576 → l ≤ 1048576
+few_times zero l w h k = absurd (omega (arith, h))
+few_times (suc n) l w h k = grind (arith, k)
+
+in_round : (n l w : ℕ) → w < n * l → n * l ≤ 1048576 → InRound n l l w
+in_round n l w h k =
+    let some = some_steps n l w h in
+    let turned : w / l * l ≡ l * (w / l) = omega arith in record {
+      some = some;
+      few = few_times n l w h k;
+      round = (div-lt_iff_lt-mul {k = l} {x = w} {y = n} some).1 h;
+      at = sym (div-add-mod w l) ∙ ap (λ m. m + w % l) (sym turned);
+      short = mod-lt w some;
+    }
+
+pub round_of : (x : OneItem) (n kept w : ℕ) (tag : List ℕ) (body : Items) → x ≡ repeat n tag body → kept ≡ min (length (unroll body)) 1048577 → w < length (unroll (before x done)) → length (unroll (before x done)) ≤ 1048576
+    → InRound n kept (length (unroll body)) w
+round_of x n kept w tag body is small h few =
+    let l = length (unroll body) in
+    let all : length (unroll (before x done)) ≡ n * l =
+    ap (λ y. length (unroll (before y done))) is ∙ ap length (append-nil (rounds n (unroll body))) ∙ length-rounds n (unroll body) in
+    let within' : w < n * l = omega (arith, h, all) in
+    let few' : n * l ≤ 1048576 = omega (arith, few, all) in
+    let exact : kept ≡ l = small ∙ min_same l (few_times n l w within' few') in
+    subst (λ m. InRound n m l w) (sym exact) (in_round n l w within' few')
+  where
+    min_same : (l : ℕ) → l ≤ 1048576 → min l 1048577 ≡ l
+    min_same l h = omega arith
 
 -- past an item
 pub item_passed : (xs : List OneItem) (p w n : ℕ) (x : OneItem) → p < length xs → x ≡ get_or xs p x → n ≡ length (unroll (before x done)) → n ≤ w

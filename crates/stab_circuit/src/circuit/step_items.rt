@@ -1,6 +1,7 @@
-ghost use Rattle.std.specs.Prelude.{◌≡◌, ◌≤◌, ◌<◌, ◌+◌, length, drop};
+ghost use Rattle.std.specs.Prelude.{◌≡◌, ◌≤◌, ◌<◌, length, drop, slice_index_or};
 ghost use Rattle.stab_circuit.specs.Items.{before, done, listed};
 ghost use Rattle.stab_circuit.specs.Steps.{unroll, most_steps};
+ghost use Rattle.stab_circuit.specs.inner.Parts.{part_of, IsPart};
 ghost use Rattle.stab_circuit.specs.inner.StepItems.{IsFoundItem};
 
 use super::Circuit;
@@ -32,6 +33,15 @@ fn item_steps(item: &Item) -> u32
         Part::Operation { kind, .. } => step_count(kind) as u32,
         Part::Block { count, kept, .. } => (count.number() * u64::from(kept.steps)) as u32,
     }
+}
+
+/// What the item at a place is.
+fn part_at(items: &[Item], place: usize) -> Part<'_>
+    requires in_range { place < length items.now }
+    ensures value { part_of result ≡ slice_index_or items.now place (part_of result) }
+    ensures kept { IsPart result }
+{
+    items[place].part()
 }
 
 /// The item of a step, counted from the item at a place on.
@@ -78,7 +88,7 @@ impl Circuit {
         let mut found = find_item(items, skipped.items, skipped.rest);
         'levels: loop {
             places[depth] = found.place;
-            match items[found.place].part() {
+            match part_at(items, found.place) {
                 Part::Operation { kind, .. } => {
                     return StepItem {
                         path: Path::new(&places[..depth + 1]),

@@ -10,6 +10,7 @@ abbrev pub invariant-levels : goal.invariant-levels
 invariant-levels l = record {
   few : length (unroll (listed l.items)) ≤ most_steps;
   shallow : l.depth + depth (listed l.items) ≤ 16;
+  room : length l.places ≡ 17;
   in_range : l.found.place < length l.items;
   within : l.found.within + length (unroll (listed (drop (l.found.place + 1) l.items))) < length (unroll (listed (drop l.found.place l.items)));
   reached : Reached (drop l.step (paths_of (circuit_items l.self))) (take l.depth l.places) l.items l.found.place l.found.within;
