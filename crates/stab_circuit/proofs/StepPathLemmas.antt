@@ -47,7 +47,7 @@ paths_before place (repeat count tag body) rest =
     let own = path_rounds count (map (within place) (paths_from 0 body)) in
     ap (λ l. l ++ paths_from (place + 1) rest) (sym (append-nil own))
 
-steps_split : (n : ℕ) (xs : List OneItem) → length (unroll (listed xs)) ≡ length (unroll (listed (take n xs))) + length (unroll (listed (drop n xs)))
+pub steps_split : (n : ℕ) (xs : List OneItem) → length (unroll (listed xs)) ≡ length (unroll (listed (take n xs))) + length (unroll (listed (drop n xs)))
 steps_split zero xs = omega arith
 steps_split (suc n) [] = omega arith
 steps_split (suc n) (x ∷ xs) =
@@ -131,6 +131,8 @@ within_item xs p w x h e k = omega (arith, k, steps_at xs p x h e)
 -- the round of a block that a step is in, and how many steps of that round come before it
 pub record InRound (n kept l w : ℕ) : Type 0 where
   pub some : 0 < kept
+  pub exact : kept ≡ l
+  pub below : w < n * l
   pub few : l ≤ 1048576
   pub round : w / kept < n
   pub at : w ≡ w / kept * l + w % kept
@@ -149,6 +151,8 @@ in_round n l w h k =
     let some = some_steps n l w h in
     let turned : w / l * l ≡ l * (w / l) = omega arith in record {
       some = some;
+      exact = refl;
+      below = h;
       few = few_times n l w h k;
       round = (div-lt_iff_lt-mul {k = l} {x = w} {y = n} some).1 h;
       at = sym (div-add-mod w l) ∙ ap (λ m. m + w % l) (sym turned);
