@@ -6,3 +6,5 @@ pub mod Tables
 pub mod TableLaws
 pub mod Parities
 pub mod Faults
+pub mod FaultTables
+pub mod inner

@@ -12,10 +12,17 @@
 //! signs (`specs/Rows.antt`).
 #![tactic(auto)]
 
+mod fault_rows;
+mod faults;
 mod gates;
 pub mod laws;
 mod looks;
 mod parities;
+mod regions;
 mod rows;
+mod sites;
 mod steps;
+mod sweep;
 pub mod table_laws;
+
+pub use faults::{FaultTable, faults, sure};
