@@ -15,3 +15,7 @@ mod DetectorLemmas
 mod ObservableLemmas
 mod TableLemmas
 mod FaultLemmas
+mod StoredRowLemmas
+mod SiteLemmas
+mod AscentLemmas
+mod InsertedLemmas

@@ -13,7 +13,7 @@
 #![tactic(auto)]
 
 mod fault_rows;
-mod faults;
+mod fault_table;
 mod gates;
 pub mod laws;
 mod looks;
@@ -25,4 +25,4 @@ mod steps;
 mod sweep;
 pub mod table_laws;
 
-pub use faults::{FaultTable, faults, sure};
+pub use fault_table::{FaultTable, faults, sure};

@@ -22,7 +22,7 @@ pub(crate) struct Sides {
 }
 
 /// The sides of a step where faults are asked for.
-pub fn sides(asked: Asked, step: Step) -> Sides
+pub fn sides_at(asked: Asked, step: Step) -> Sides
     ensures value { result ≡ sides_asked asked (step_shown step.entry) }
 {
     match asked {

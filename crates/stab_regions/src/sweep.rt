@@ -14,7 +14,7 @@ ghost use Rattle.stab_regions.specs.inner.Sweeps.{Inserted, inserted_on, inserte
 
 use crate::fault_rows::FaultRows;
 use crate::regions::Regions;
-use crate::sites::{Asked, Sides, qubit_in, qubits_in, sides};
+use crate::sites::{Asked, Sides, qubit_in, qubits_in, sides_at};
 use stab_circuit::{Circuit, Cursor, Step as StepValue};
 use stab_io::Refusal;
 use std::alloc::{AllocError, Global};
@@ -156,7 +156,7 @@ impl Sweep {
         ensures same { length self.new.regions.by_x.items ≡ length self.old.regions.by_x.items }
         ensures sweeps { OnOk result (Sweeps asked (step_shown step.entry ∷ []) self.old self.new) }
     {
-        let sides = sides(asked, step);
+        let sides = sides_at(asked, step);
         keep_all(&self.regions, &mut self.kept, sides.behind, step)?;
         self.regions.before(alloc, step)?;
         add_all(&mut self.rows, &self.regions, &self.kept, sides, step)?;
@@ -235,7 +235,7 @@ fn count_detectors(alloc: Global, circuit: &Circuit) -> Result<usize, Refusal>
 /// faults that are asked for. Only a piece of its steps is unrolled at a time.
 ///
 /// Refusal `OutOfMemory` alone.
-pub fn sweep(
+pub fn sweep_back(
     alloc: Global,
     circuit: &Circuit,
     qubits: usize,

@@ -10,7 +10,7 @@ ghost use Rattle.stab_regions.specs.inner.Sites.{sites_asked};
 
 use crate::fault_rows::FaultRows;
 use crate::sites::Asked;
-use crate::sweep::{Sweep, sweep};
+use crate::sweep::{Sweep, sweep_back};
 use stab_circuit::Circuit;
 use stab_io::{Fault, Refusal};
 use std::alloc::Global;
@@ -111,7 +111,7 @@ fn sure_of_checked(alloc: Global, circuit: &Circuit, n: usize) -> Result<Vec<boo
     ensures err { IfErr result (λ r. r ≡ OutOfMemory) }
 {
     steps_fit(circuit, n);
-    let Sweep { regions, .. } = sweep(alloc, circuit, n, Asked::Nowhere)?;
+    let Sweep { regions, .. } = sweep_back(alloc, circuit, n, Asked::Nowhere)?;
     Ok(regions.finish())
 }
 
@@ -142,7 +142,7 @@ fn faults_of_checked(
         regions,
         mut rows,
         ..
-    } = sweep(alloc, circuit, n, asked_for(everywhere))?;
+    } = sweep_back(alloc, circuit, n, asked_for(everywhere))?;
     let sure = regions.finish();
     rows.keep(sure.as_slice());
     Ok(FaultTable { sure, rows })
