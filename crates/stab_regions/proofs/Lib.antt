@@ -19,3 +19,6 @@ mod StoredRowLemmas
 mod SiteLemmas
 mod AscentLemmas
 mod InsertedLemmas
+mod BitLemmas
+mod FaultBitLemmas
+mod TwoFaultLemmas

@@ -8,3 +8,4 @@ pub mod Parities
 pub mod Faults
 pub mod FaultTables
 pub mod inner
+pub mod FaultLaws

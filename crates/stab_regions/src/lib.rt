@@ -1,7 +1,7 @@
 //! Regions: which parities of records are the same whatever the coins, and which inserted Paulis
 //! flip them, as one pass backwards through the steps finds it.
 //!
-//! - `laws`, `table_laws`: what regions say of the bits that runs give.
+//! - `laws`, `table_laws`, `fault_laws`: what regions say of the bits that runs give.
 //! - `parities`: some parities by their numbers, and those that are in one of two lists alone.
 //! - `rows`: for each qubit the parities that X flips there, and those that Z does.
 //! - `looks`: for each lookback the parities whose regions have that record.
@@ -12,6 +12,7 @@
 //! signs (`specs/Rows.antt`).
 #![tactic(auto)]
 
+pub mod fault_laws;
 mod fault_rows;
 mod fault_table;
 mod gates;
