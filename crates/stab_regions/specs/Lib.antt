@@ -1,4 +1,5 @@
 pub mod Regions
+pub mod Ascending
 pub mod Rows
 pub mod Frames
 pub mod Laws
@@ -6,3 +7,4 @@ pub mod Tables
 pub mod TableLaws
 pub mod Parities
 pub mod Faults
+pub mod inner
