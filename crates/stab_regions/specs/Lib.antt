@@ -1,4 +1,5 @@
 pub mod Regions
+pub mod Ascending
 pub mod Rows
 pub mod Frames
 pub mod Laws

@@ -5,7 +5,8 @@
 //! - `parities`: some parities by their numbers, and those that are in one of two lists alone.
 //! - `rows`: for each qubit the parities that X flips there, and those that Z does.
 //! - `looks`: for each lookback the parities whose regions have that record.
-//! - `gates`, `steps`: how these rows change from behind a step to before it.
+//! - `gates`, `steps`, `products`: how these rows change from behind a step to before it.
+//! - `marks`, `regions`: all of this for one place, moved a step backwards.
 //!
 //! Proved: the laws; and that rows which show the regions behind a gate, a letter that a record
 //! controls, or a measurement or reset of a letter are changed to such as show those before it, up to
@@ -18,7 +19,9 @@ mod fault_table;
 mod gates;
 pub mod laws;
 mod looks;
+mod marks;
 mod parities;
+mod products;
 mod regions;
 mod rows;
 mod sites;
