@@ -1,13 +1,18 @@
 -- Ascents: an ascending list of numbers is that of the numbers that it names.
 use Rattle.std.proofs.Common.{◌≡◌, ℕ, zero, suc, ◌+◌, ◌<◌, ◌≤◌, refl, sym, ap, ◌∙◌, subst, Bool, true, false, List, [], ◌∷◌, ⊎_elim, arith}
 use Rattle.std.specs.Prelude.{◌==◌, ◌&&◌, if◌then◌else◌}
-use Rattle.std.proofs.lemmas.Bool.{cases_eq}
+use Rattle.std.proofs.lemmas.Bool.{cases_eq, cases_lt}
 use Rattle.std.proofs.lemmas.Bool.Decides.{nat_tests}
 use Rattle.stab_pauli.specs.Letters.{◌⊕◌}
 use Rattle.stab_regions.specs.Rows.{odd}
 use Rattle.stab_regions.specs.Faults.{numbers_where}
 use Rattle.stab_regions.specs.inner.StoredRows.{is_kept, kept_of}
-use Rattle.stab_regions.specs.inner.RegionsAt.{Ascends}
+use Rattle.stab_regions.specs.Ascending.{AscendsFrom, IsAscending}
+
+-- numbers ascend, from one on up to below another
+abbrev pub Ascends : (from below : ℕ) → List ℕ → Type 0
+Ascends from below [] = Unit {0}
+Ascends from below (k ∷ ks) = (from ≤ k) × (k < below) × Ascends (k + 1) below ks
 
 -- numbers with the same property
 
@@ -85,6 +90,38 @@ none-is i (n ∷ ns) a = absurd (omega (arith, a.0, a.1))
 pub ascending-is : (k : ℕ) → Known k
 ascending-is zero = none-is
 ascending-is (suc k) = next-is k (ascending-is k)
+
+-- an ascending list that names no number from one on ascends up to below it
+
+equal : (k m : ℕ) → k ≡ m → (k == m) ≡ true
+equal k m e = grind (arith, nat_tests)
+
+differ : (k i below : ℕ) → k < below → below ≤ i → (k == i) ≡ false
+differ k i below lt ge = grind (arith, nat_tests)
+
+true≢false : true ≡ false → ⊥
+true≢false e = cc
+
+above-not-named : (i from : ℕ) (ks : List ℕ) → i < from → AscendsFrom from ks → odd i ks ≡ false
+above-not-named i from [] lt a = refl
+above-not-named i from (k ∷ ks) lt a =
+    ap (λ b. b ⊕ odd i ks) (different k i (omega (arith, a.0))) ∙ above-not-named i (k + 1) ks (omega (arith, a.0)) a.1
+
+below-them : (below k : ℕ) (ks : List ℕ) → AscendsFrom (k + 1) ks → ((i : ℕ) → below ≤ i → odd i (k ∷ ks) ≡ false) → k < below
+below-them below k ks a others = ⊎_elim (λ lt. lt) (λ ge. absurd (true≢false (sym (named k refl) ∙ others k ge))) (cases_lt k below)
+  where
+    named : (m : ℕ) → k ≡ m → odd k (k ∷ ks) ≡ true
+    named m e = ap (λ b. b ⊕ odd k ks) (equal k k refl) ∙ ap (λ b. true ⊕ b) (above-not-named k (k + 1) ks (omega arith) a)
+
+pub ascends-below : (from below : ℕ) (ks : List ℕ) → AscendsFrom from ks → ((i : ℕ) → below ≤ i → odd i ks ≡ false) → Ascends from below ks
+ascends-below from below [] a others = tt
+ascends-below from below (k ∷ ks) a others =
+    let lt : k < below = below-them below k ks a.1 others in (
+      a.0,
+      lt,
+      ascends-below (k + 1) below ks a.1
+          (λ i ge. sym (ap (λ b. b ⊕ odd i ks) (differ k i below lt ge)) ∙ others i ge),
+    )
 
 -- those whose bit is set
 

@@ -11,10 +11,23 @@ use Rattle.stab_circuit.specs.Steps.{Step}
 use Rattle.stab_run.specs.ProgramStates.{StepFits}
 use Rattle.stab_regions.specs.declared.sites.Sides.{Sides}
 use Rattle.stab_regions.specs.Faults.{Site, FaultPlace, fault_on, faults_on, faults_from, sites_at}
+use Rattle.stab_regions.specs.declared.regions.Regions.{Regions}
 use Rattle.stab_regions.specs.inner.Sites.{where_asked}
-use Rattle.stab_regions.specs.inner.RegionsAt.{IsFlipped}
-use Rattle.stab_regions.specs.inner.Sweeps.{Inserted, inserted_on, inserted_at, inserted_by, inserted_from, HaveRows, AreKept}
+use Rattle.stab_regions.specs.inner.RegionsAt.{IsRegionsAt, AreFlipped}
+use Rattle.stab_regions.specs.inner.Sweeps.{Inserted, inserted_on, inserted_at, inserted_by, inserted_from, IsRowOf, HaveRows, AreKept}
 use Rattle.stab_regions.proofs.SiteLemmas.{sites-within}
+
+-- the rows of X and of Z on a qubit
+
+abbrev pub IsXRow : (n D count q : ℕ) → List Step → List ℕ → Type 0
+IsXRow n D count q back row = IsRowOf n D count (record { letter = letter.X; qubit = q; back = back }) row
+
+abbrev pub IsZRow : (n D count q : ℕ) → List Step → List ℕ → Type 0
+IsZRow n D count q back row = IsRowOf n D count (record { letter = letter.Z; qubit = q; back = back }) row
+
+pub flipped-row : (n D count q : ℕ) (back : List Step) (l : Letter) (r : Regions) (row : List ℕ) → AreFlipped r l q row → IsRegionsAt n D count back r →
+    IsRowOf n D count (record { letter = l; qubit = q; back = back }) row
+flipped-row n D count q back l r row are at = record { ascending = are.ascending; value = are.value n D count back at; others = are.others n D count back at }
 
 -- rows that are put together
 
@@ -25,14 +38,14 @@ rows-append n D count [] gs (row ∷ rows) others r o = absurd r
 rows-append n D count (f ∷ fs) gs [] others r o = absurd r
 rows-append n D count (f ∷ fs) gs (row ∷ rows) others r o = (r.0, rows-append n D count fs gs rows others r.1 o)
 
-pub rows-two : (n D count q : ℕ) (back : List Step) (by_x by_z : List ℕ) → IsFlipped n D count letter.X q back by_x → IsFlipped n D count letter.Z q back by_z →
+pub rows-two : (n D count q : ℕ) (back : List Step) (by_x by_z : List ℕ) → IsXRow n D count q back by_x → IsZRow n D count q back by_z →
     HaveRows n D count (inserted_on q back) (by_x ∷ by_z ∷ [])
 rows-two n D count q back by_x by_z x z = (x, (z, tt))
 
 -- rows that are kept
 
 pub kept-push : (n D count q : ℕ) (back : List Step) (qs : List ℕ) (rows : List (List ℕ)) (by_x by_z : List ℕ) → AreKept n D count back qs rows →
-    IsFlipped n D count letter.X q back by_x → IsFlipped n D count letter.Z q back by_z → AreKept n D count back (qs ++ q ∷ []) ((rows ++ by_x ∷ []) ++ by_z ∷ [])
+    IsXRow n D count q back by_x → IsZRow n D count q back by_z → AreKept n D count back (qs ++ q ∷ []) ((rows ++ by_x ∷ []) ++ by_z ∷ [])
 kept-push n D count q back qs rows by_x by_z kept x z =
     subst (λ (fs : List Inserted). HaveRows n D count fs ((rows ++ by_x ∷ []) ++ by_z ∷ [])) (sym (flat_map-append (λ p. inserted_on p back) qs (q ∷ [])))
     (subst (λ (all : List (List ℕ)). HaveRows n D count (flat_map (λ p. inserted_on p back) qs ++ inserted_on q back) all) (sym (append_assoc rows (by_x ∷ []) (by_z ∷ [])))
@@ -40,7 +53,7 @@ kept-push n D count q back qs rows by_x by_z kept x z =
 
 -- the rows of one of the qubits
 abbrev pub AreRowsOn : (n D count q : ℕ) → List Step → (by_x by_z : List ℕ) → Type 0
-AreRowsOn n D count q back by_x by_z = IsFlipped n D count letter.X q back by_x × IsFlipped n D count letter.Z q back by_z
+AreRowsOn n D count q back by_x by_z = IsXRow n D count q back by_x × IsZRow n D count q back by_z
 
 pub kept-at : (n D count : ℕ) (back : List Step) (qs : List ℕ) (rows : List (List ℕ)) (k : ℕ) → AreKept n D count back qs rows → k < length qs →
     AreRowsOn n D count (get_or qs k 0) back (get_or rows (2 * k) []) (get_or rows (2 * k + 1) [])
@@ -50,11 +63,12 @@ kept-at n D count back (q ∷ qs) (r ∷ []) k kept lt = absurd kept.1
 kept-at n D count back (q ∷ qs) (r ∷ s ∷ rows) zero kept lt = (kept.0, kept.1.0)
 kept-at n D count back (q ∷ qs) (r ∷ s ∷ rows) (suc k) kept lt =
     let there : AreRowsOn n D count (get_or qs k 0) back (get_or rows (2 * k) []) (get_or rows (2 * k + 1) []) =
-        kept-at n D count back qs rows k kept.1.1 (omega arith) in
+    kept-at n D count back qs rows k kept.1.1 (omega arith) in
     let first : suc (suc (2 * k)) ≡ 2 * suc k = omega arith in
-    let second : suc (suc (2 * k + 1)) ≡ 2 * suc k + 1 = omega arith in
-    (subst (λ m. IsFlipped n D count letter.X (get_or qs k 0) back (get_or (r ∷ s ∷ rows) m [])) first there.0,
-    subst (λ m. IsFlipped n D count letter.Z (get_or qs k 0) back (get_or (r ∷ s ∷ rows) m [])) second there.1)
+    let second : suc (suc (2 * k + 1)) ≡ 2 * suc k + 1 = omega arith in (
+      subst (λ m. IsXRow n D count (get_or qs k 0) back (get_or (r ∷ s ∷ rows) m [])) first there.0,
+      subst (λ m. IsZRow n D count (get_or qs k 0) back (get_or (r ∷ s ∷ rows) m [])) second there.1,
+    )
 
 -- rows that are added on one more qubit
 

@@ -1,7 +1,7 @@
 -- Stored rows: one more row, one of them, and what is left of them once numbers are taken out.
-use Rattle.std.proofs.Common.{◌≡◌, ℕ, zero, suc, ◌+◌, ◌-◌, ◌<◌, ◌≤◌, refl, sym, ap, ◌∙◌, subst, Bool, List, [], ◌∷◌, ◌++◌, length, get_or, take, drop, map, arith}
-use Rattle.std.specs.Prelude.{slice_set}
-use Rattle.std.proofs.lemmas.List.{length-drop, length-append, take-append-drop, take-append-le, drop-append-le, take_all, take_at, drop_at, drop-drop, drop_more, take_more_set, drop-set-lt, nil_from_length, append_assoc}
+use Rattle.std.proofs.Common.{◌≡◌, ℕ, zero, suc, ◌+◌, ◌-◌, ◌<◌, ◌≤◌, refl, sym, ap, ◌∙◌, subst, Bool, true, false, List, [], ◌∷◌, ◌++◌, length, get_or, take, drop, map, arith}
+use Rattle.std.specs.Prelude.{slice_set, if◌then◌else◌}
+use Rattle.std.proofs.lemmas.List.{length-drop, length-append, length-take, append-nil, drop_all, take-append-drop, take-append-le, drop-append-le, take_all, take_at, drop_at, drop-drop, drop_more, take_more_set, drop-set-lt, nil_from_length, append_assoc}
 use Rattle.std.proofs.lemmas.List.Elements.{filter-append}
 use Rattle.stab_regions.specs.inner.StoredRows.{rows_cut, Rises, is_kept, kept_of, ends_kept}
 
@@ -55,6 +55,25 @@ get-cut b (e ∷ es) rest t (suc k) r lt =
     ∙ ap (take (get_or es k 0 - get_or (e ∷ es) k 0))
     (drop-drop (get_or (e ∷ es) k 0 - e) (e - b) rest ∙ ap (λ n. drop n rest) steps)
 
+pub push-all : (ends after numbers all row : List ℕ) (end : ℕ) → after ≡ ends ++ end ∷ [] → all ≡ numbers ++ row → end ≡ length all → Rises 0 ends (length numbers) →
+    Rises 0 after (length all) × (rows_cut 0 after all ≡ rows_cut 0 ends numbers ++ row ∷ [])
+push-all ends after numbers all row end is whole long r =
+    let total : length all ≡ length numbers + length row = omega (arith, ap length whole, length-append numbers row) in
+    let ends_are : after ≡ ends ++ (length numbers + length row) ∷ [] = is ∙ ap (λ e. ends ++ e ∷ []) (long ∙ total) in
+    (subst (λ (es : List ℕ). Rises 0 es (length all)) (sym ends_are)
+    (subst (Rises 0 (ends ++ (length numbers + length row) ∷ [])) (sym total) (rises-push 0 ends (length numbers) (length row) r)),
+    (λ i. rows_cut 0 (ends_are i) (whole i)) ∙ cut-push 0 ends numbers row (length numbers) (omega arith) r)
+
+from_start : (n : ℕ) → n ≡ n - 0
+from_start n = omega arith
+
+pub row-is : (ends numbers : List ℕ) (k begin end : ℕ) → Rises 0 ends (length numbers) → k < length ends → begin ≡ get_or (0 ∷ ends) k 0 → end ≡ get_or ends k 0 →
+    take (end - begin) (drop begin numbers) ≡ get_or (rows_cut 0 ends numbers) k []
+row-is ends numbers k begin end r lt b e =
+    (λ i. take (e i - b i) (drop (b i) numbers))
+    ∙ ap (λ n. take (get_or ends k 0 - get_or (0 ∷ ends) k 0) (drop n numbers)) (from_start (get_or (0 ∷ ends) k 0))
+    ∙ sym (get-cut 0 ends numbers (length numbers) k r lt)
+
 -- fewer numbers
 
 kept-split : (kept : List Bool) (m : ℕ) (rest : List ℕ) → kept_of kept rest ≡ kept_of kept (take m rest) ++ kept_of kept (drop m rest)
@@ -87,7 +106,7 @@ rises-kept kept count b (e ∷ es) rest t is r =
     let front : List ℕ = kept_of kept (take (e - b) rest) in
     let back : List ℕ = kept_of kept (drop (e - b) rest) in
     let total : count + length front + length back ≡ count + length (kept_of kept rest) =
-        omega (arith, ap length (kept-split kept (e - b) rest), length-append front back) in
+    omega (arith, ap length (kept-split kept (e - b) rest), length-append front back) in
     (omega arith, subst (Rises (count + length front) (ends_kept kept (count + length front) e es (drop (e - b) rest))) total (rises-kept kept (count + length front) e es (drop (e - b) rest) t left r.1))
 
 -- one end is moved
@@ -108,3 +127,28 @@ ends-step kept count b k ends numbers target after lt le is so_far =
     ∙ (λ i. take k ends ++ is i ∷ ends_kept kept (is i) e later (sym (drop-drop (e - b) b numbers ∙ ap (λ n. drop n numbers) there) i))
     ∙ ap (λ (x : List ℕ). take k ends ++ ends_kept kept count b x (drop b numbers)) (sym (drop_more ends k 0 lt))
     ∙ so_far
+
+-- no more numbers are left than were there, and a part has as many as it reaches over
+pub kept-few : (kept : List Bool) (xs : List ℕ) → length (kept_of kept xs) ≤ length xs
+kept-few kept [] = omega arith
+kept-few kept (x ∷ xs) = counted (is_kept kept x) (kept-few kept xs)
+  where
+    counted : (b : Bool) → length (kept_of kept xs) ≤ length xs → length (if b then x ∷ kept_of kept xs else kept_of kept xs) ≤ suc (length xs)
+    counted true le = omega arith
+    counted false le = omega arith
+
+pub part-long : (kept : List Bool) (numbers : List ℕ) (b e : ℕ) → length (kept_of kept (take (e - b) (drop b numbers))) ≤ e - b
+part-long kept numbers b e =
+    omega (arith, kept-few kept (take (e - b) (drop b numbers)), length-take (e - b) (drop b numbers))
+
+-- what is left to be moved at the end is nothing
+pub ends-end : (kept : List Bool) (count b k : ℕ) (ends numbers target : List ℕ) → length ends ≤ k →
+    take k ends ++ ends_kept kept count b (drop k ends) (drop b numbers) ≡ target → ends ≡ target
+ends-end kept count b k ends numbers target le so_far =
+    sym (append-nil ends)
+    ∙ (λ i. sym (take_all k ends le) i ++ ends_kept kept count b (sym (drop_all k ends le) i) (drop b numbers))
+    ∙ so_far
+
+pub length-kept : (kept : List Bool) (count b : ℕ) (es rest : List ℕ) → length (ends_kept kept count b es rest) ≡ length es
+length-kept kept count b [] rest = refl
+length-kept kept count b (e ∷ es) rest = ap suc (length-kept kept (count + length (kept_of kept (take (e - b) rest))) e es (drop (e - b) rest))

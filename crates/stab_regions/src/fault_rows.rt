@@ -1,5 +1,5 @@
-ghost use Rattle.std.specs.Prelude.{◌≡◌, ◌≤◌, length};
-ghost use Rattle.stab_regions.specs.inner.StoredRows.{Rises, ends_kept, is_kept, kept_of};
+ghost use Rattle.std.specs.Prelude.{◌≡◌, ◌-◌, ◌<◌, ◌≤◌, [], ◌∷◌, length, take, drop, slice_index, slice_index_or};
+ghost use Rattle.stab_regions.specs.inner.StoredRows.{rows_cut, Rises, ends_kept, is_kept, kept_of};
 
 use std::alloc::{AllocError, Global};
 use std::marker::Model;
@@ -49,8 +49,7 @@ impl FaultRows {
         requires in_range { k < length self.now }
         ensures value { result.now ≡ slice_index_or self.now k [] }
     {
-        let begin = if k == 0 { 0 } else { self.ends[k - 1] };
-        &self.numbers[begin..self.ends[k]]
+        row_of(self.ends.as_slice(), self.numbers.as_slice(), k)
     }
 
     /// Puts a row behind the others.
@@ -80,6 +79,34 @@ impl FaultRows {
     }
 }
 
+/// Where a row begins: at the end of the one before it.
+fn begin_of(ends: &[usize], k: usize) -> usize
+    requires in_range { k < length ends.now }
+    ensures value { result ≡ slice_index (0 ∷ ends.now) k }
+{
+    if k == 0 { 0 } else { ends[k - 1] }
+}
+
+/// The numbers from one place on up to before another.
+fn part(numbers: &[u32], begin: usize, end: usize) -> &[u32]
+    requires order { begin ≤ end }
+    requires in_range { end ≤ length numbers.now }
+    ensures value { result.now ≡ take (end - begin) (drop begin numbers.now) }
+{
+    &numbers[begin..end]
+}
+
+/// A row.
+fn row_of<'a>(ends: &[usize], numbers: &'a [u32], k: usize) -> &'a [u32]
+    requires rises { Rises 0 ends.now (length numbers.now) }
+    requires in_range { k < length ends.now }
+    ensures value { result.now ≡ slice_index_or (rows_cut 0 ends.now numbers.now) k [] }
+{
+    let begin = begin_of(ends, k);
+    let end = ends[k];
+    part(numbers, begin, end)
+}
+
 /// Whether a number's bit is set.
 fn is_kept(kept: &[bool], number: u32) -> bool
     ensures value { result ≡ is_kept kept.now number }
@@ -106,7 +133,7 @@ fn move_ends(ends: &mut [usize], numbers: &[u32], kept: &[bool])
     let mut count = 0;
     'rows: for k in 0..ends.len() {
         let end = ends[k];
-        count += count_kept(kept, &numbers[begin..end]);
+        count += count_kept(kept, part(numbers, begin, end));
         ends[k] = count;
         begin = end;
     }

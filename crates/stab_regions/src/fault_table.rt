@@ -1,13 +1,13 @@
-ghost use Rattle.std.specs.Prelude.{◌≡◌, ◌≤◌, All, None, IfOk, IfErr};
+ghost use Rattle.std.specs.Prelude.{◌≡◌, ◌≤◌, None, IfOk, IfErr};
 ghost use Rattle.stab_io.specs.Refusals.{Refuses};
 ghost use Rattle.stab_io.specs.declared.refusal.Refusal.TheVariants.{OutOfMemory};
 ghost use Rattle.stab_tableau.specs.Limits.{most_qubits};
-ghost use Rattle.stab_circuit.specs.Steps.{Step, unroll, check_within};
+ghost use Rattle.stab_circuit.specs.Steps.{Step, check_within};
 ghost use Rattle.stab_circuit.specs.Views.{circuit_items};
-ghost use Rattle.stab_run.specs.ProgramStates.{StepFits};
 ghost use Rattle.stab_regions.specs.Faults.{AreSure, IsFaultTable, sites_at};
 ghost use Rattle.stab_regions.specs.inner.Sites.{sites_asked};
 
+use crate::fault_laws::{faults_flip_sure_parities, sure_parities};
 use crate::fault_rows::FaultRows;
 use crate::sites::Asked;
 use crate::sweep::{Sweep, sweep_back};
@@ -96,23 +96,15 @@ pub fn faults(
     faults_of_checked(alloc, circuit, n, everywhere).map_err(Fault::whole)
 }
 
-/// What is known of every circuit that is not refused on so many qubits.
-fn steps_fit(circuit: &Circuit, n: usize)
-    requires checked { check_within n (circuit_items circuit.now) ≡ None }
-    ensures fits { All (StepFits n) (unroll (circuit_items circuit.now)) }
-{
-    let _ = circuit.items();
-}
-
 /// Which bits of a circuit that was checked are sure.
 fn sure_of_checked(alloc: Global, circuit: &Circuit, n: usize) -> Result<Vec<bool>, Refusal>
     requires checked { check_within n (circuit_items circuit.now) ≡ None }
     ensures sure { IfOk result (λ s. AreSure n (circuit_items circuit.now) s.items) }
     ensures err { IfErr result (λ r. r ≡ OutOfMemory) }
 {
-    steps_fit(circuit, n);
     let Sweep { regions, .. } = sweep_back(alloc, circuit, n, Asked::Nowhere)?;
-    Ok(regions.finish())
+    sure_parities();
+    Ok(regions.sure())
 }
 
 /// Where faults are asked for.
@@ -137,13 +129,14 @@ fn faults_of_checked(
     ensures table { IfOk result (λ t. IsFaultTable n everywhere (circuit_items circuit.now) t.sure t.rows) }
     ensures err { IfErr result (λ r. r ≡ OutOfMemory) }
 {
-    steps_fit(circuit, n);
     let Sweep {
         regions,
         mut rows,
         ..
     } = sweep_back(alloc, circuit, n, asked_for(everywhere))?;
-    let sure = regions.finish();
+    sure_parities();
+    faults_flip_sure_parities();
+    let sure = regions.sure();
     rows.keep(sure.as_slice());
     Ok(FaultTable { sure, rows })
 }

@@ -75,7 +75,7 @@ pub fn qubits_in(step: Step) -> usize
 
 /// One of a step's qubits.
 pub fn qubit_in(step: Step, k: usize) -> usize
-    requires in_range { k < length (step_qubits (step_shown step.entry)) }
+    requires in_range { k < length (step_qubits (step_shown step)) }
     ensures value { result ≡ slice_index (step_qubits (step_shown step.entry)) k }
 {
     match step {

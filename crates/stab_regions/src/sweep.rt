@@ -1,16 +1,16 @@
-ghost use Rattle.std.specs.Prelude.{◌≡◌, ℕ, ◌+◌, ◌-◌, ◌*◌, ◌<◌, ◌≤◌, true, [], ◌∷◌, ◌++◌, None, List, All, length, map, take, drop, reverse, slice_index, IfOk, IfErr, OnOk};
+ghost use Rattle.std.specs.Prelude.{◌≡◌, ℕ, ◌+◌, ◌-◌, ◌*◌, ◌^◌, ◌<◌, ◌≤◌, true, [], ◌∷◌, ◌++◌, None, List, All, length, map, take, drop, reverse, slice_index, IfOk, IfErr, OnOk};
 ghost use Rattle.std.specs.List.{flat_map};
 ghost use Rattle.stab_io.specs.declared.refusal.Refusal.TheVariants.{OutOfMemory};
 ghost use Rattle.stab_tableau.specs.Limits.{most_qubits};
 ghost use Rattle.stab_circuit.specs.Cursors.{step_shown};
-ghost use Rattle.stab_circuit.specs.Steps.{Step, unroll, check_of, observables_of};
+ghost use Rattle.stab_circuit.specs.Steps.{Step, unroll, check_of, check_within, observables_of};
 ghost use Rattle.stab_circuit.specs.Views.{circuit_items};
 ghost use Rattle.stab_run.specs.ProgramStates.{StepFits};
 ghost use Rattle.stab_regions.specs.Tables.{detectors_of};
 ghost use Rattle.stab_regions.specs.inner.Sites.{step_qubits, where_asked};
 ghost use Rattle.stab_regions.specs.inner.RegionsAt.{IsRegionsAt};
 ghost use Rattle.stab_regions.specs.declared.sites.Asked.{Asked};
-ghost use Rattle.stab_regions.specs.inner.Sweeps.{Inserted, inserted_on, inserted_by, HaveRows, AreKept, IsSwept, Sweeps};
+ghost use Rattle.stab_regions.specs.inner.Sweeps.{Inserted, inserted_on, inserted_by, HaveRows, AreKept, IsSwept, StandsBehind, Sweeps};
 
 use crate::fault_rows::FaultRows;
 use crate::regions::Regions;
@@ -21,6 +21,9 @@ use std::alloc::{AllocError, Global};
 
 // Steps are walked backwards in pieces of so many, each of which is unrolled forwards.
 const PIECE: usize = 4096;
+
+// More detectors or observables than any text of a circuit has.
+const MOST_PARITIES: usize = 0x7fff_ffff;
 
 /// What the pass backwards has found at its place.
 #[derive(Drop)]
@@ -35,6 +38,7 @@ pub(crate) struct Sweep {
 /// Puts the rows of X and then Z on a qubit behind others.
 fn keep_letters(regions: &Regions, qubit: usize, kept: &mut FaultRows) -> Result<(), AllocError>
     requires in_range { qubit < length regions.now.by_x.items }
+    requires same_length { length regions.now.by_z.items ≡ length regions.now.by_x.items }
     ensures len { OnOk result (length kept.new ≡ length kept.old + 2) }
     ensures kept { OnOk result ((n D count : ℕ) (back : List Step) (qubits : List ℕ) → IsRegionsAt n D count back regions.now → AreKept n D count back qubits kept.old → AreKept n D count back (qubits ++ qubit ∷ []) kept.new) }
 {
@@ -50,7 +54,8 @@ fn keep_all(
     asked: bool,
     step: StepValue,
 ) -> Result<(), AllocError>
-    requires in_range { All (λ q. q < length regions.now.by_x.items) (step_qubits (step_shown step.entry)) }
+    requires in_range { All (λ q. q < length regions.now.by_x.items) (step_qubits (step_shown step)) }
+    requires same_length { length regions.now.by_z.items ≡ length regions.now.by_x.items }
     ensures len { OnOk result (asked ≡ true → length kept.new ≡ 2 * length (step_qubits (step_shown step.entry))) }
     ensures kept { OnOk result ((n D count : ℕ) (back : List Step) → IsRegionsAt n D count back regions.now → asked ≡ true → AreKept n D count back (step_qubits (step_shown step.entry)) kept.new) }
 {
@@ -81,6 +86,7 @@ fn add_front(
     qubit: usize,
 ) -> Result<(), AllocError>
     requires in_range { qubit < length regions.now.by_x.items }
+    requires same_length { length regions.now.by_z.items ≡ length regions.now.by_x.items }
     ensures rows { OnOk result ((n D count : ℕ) (back : List Step) (others : List Inserted) → IsRegionsAt n D count back regions.now → HaveRows n D count others (reverse rows.old) → HaveRows n D count (where_asked asked (inserted_on qubit back) ++ others) (reverse rows.new)) }
 {
     if asked {
@@ -119,8 +125,9 @@ fn add_all(
     sides: Sides,
     step: StepValue,
 ) -> Result<(), AllocError>
-    requires in_range { All (λ q. q < length regions.now.by_x.items) (step_qubits (step_shown step.entry)) }
-    requires len { sides.behind ≡ true → length kept.now ≡ 2 * length (step_qubits (step_shown step.entry)) }
+    requires in_range { All (λ q. q < length regions.now.by_x.items) (step_qubits (step_shown step)) }
+    requires same_length { length regions.now.by_z.items ≡ length regions.now.by_x.items }
+    requires len { sides.behind ≡ true → length kept.now ≡ 2 * length (step_qubits (step_shown step)) }
     ensures rows { OnOk result ((n D count : ℕ) (back : List Step) (others : List Inserted) → IsRegionsAt n D count (step_shown step.entry ∷ back) regions.now → (sides.behind ≡ true → AreKept n D count back (step_qubits (step_shown step.entry)) kept.now) → HaveRows n D count others (reverse rows.old) → HaveRows n D count (flat_map (inserted_by sides (step_shown step.entry) back) (step_qubits (step_shown step.entry)) ++ others) (reverse rows.new)) }
 {
     let mut left = qubits_in(step);
@@ -140,8 +147,8 @@ impl Sweep {
         detectors: usize,
         observables: usize,
     ) -> Result<Sweep, AllocError>
-        ensures qubits { IfOk result (λ s. length s.regions.by_x.items ≡ qubits) }
-        ensures swept { (asked : Asked) → IfOk result (λ s. IsSwept qubits detectors observables asked [] s) }
+        requires few { detectors + observables < 2 ^ 32 }
+        ensures swept { (asked : Asked) → IfOk result (IsSwept qubits detectors observables asked []) }
     {
         Ok(Sweep {
             regions: Regions::at_end(alloc, qubits, detectors, observables)?,
@@ -152,8 +159,7 @@ impl Sweep {
 
     /// Goes on before a step.
     fn before(&mut self, alloc: Global, asked: Asked, step: StepValue) -> Result<(), AllocError>
-        requires fits { StepFits (length self.old.regions.by_x.items) (step_shown step.entry) }
-        ensures same { length self.new.regions.by_x.items ≡ length self.old.regions.by_x.items }
+        requires place { StandsBehind asked (step_shown step ∷ []) self.old }
         ensures sweeps { OnOk result (Sweeps asked (step_shown step.entry ∷ []) self.old self.new) }
     {
         let sides = sides_at(asked, step);
@@ -170,8 +176,7 @@ impl Sweep {
         asked: Asked,
         steps: &[StepValue],
     ) -> Result<(), AllocError>
-        requires fits { All (StepFits (length self.old.regions.by_x.items)) (map step_shown steps.now) }
-        ensures same { length self.new.regions.by_x.items ≡ length self.old.regions.by_x.items }
+        requires place { StandsBehind asked (map step_shown steps.now) self.old }
         ensures sweeps { OnOk result (Sweeps asked (map step_shown steps.now) self.old self.new) }
     {
         let mut left = steps.len();
@@ -231,6 +236,18 @@ fn count_detectors(alloc: Global, circuit: &Circuit) -> Result<usize, Refusal>
     Ok(detectors)
 }
 
+/// That there are no more detectors and observables than a `u32` numbers.
+fn check_few(detectors: usize, observables: usize) -> Result<(), Refusal>
+    ensures few { OnOk result (detectors + observables < 2 ^ 32) }
+    ensures err { IfErr result (λ r. r ≡ OutOfMemory) }
+{
+    if detectors <= MOST_PARITIES && observables <= MOST_PARITIES {
+        Ok(())
+    } else {
+        Err(Refusal::OutOfMemory)
+    }
+}
+
 /// The pass over a whole circuit, backwards: the regions before its first step, and the rows of all
 /// faults that are asked for. Only a piece of its steps is unrolled at a time.
 ///
@@ -241,12 +258,14 @@ pub fn sweep_back(
     qubits: usize,
     asked: Asked,
 ) -> Result<Sweep, Refusal>
-    requires checked { check_of (circuit_items circuit.now) ≡ None }
-    requires fits { All (StepFits qubits) (unroll (circuit_items circuit.now)) }
-    ensures swept { IfOk result (λ s. IsSwept qubits (detectors_of (unroll (circuit_items circuit.now))) (observables_of (circuit_items circuit.now)) asked (unroll (circuit_items circuit.now)) s) }
+    requires checked { check_within qubits (circuit_items circuit.now) ≡ None }
+    ensures swept { IfOk result (IsSwept qubits (detectors_of (unroll (circuit_items circuit.now))) (observables_of (circuit_items circuit.now)) asked (unroll (circuit_items circuit.now))) }
+    ensures fits { OnOk result (All (StepFits qubits) (unroll (circuit_items circuit.now))) }
     ensures err { IfErr result (λ r. r ≡ OutOfMemory) }
 {
+    let _ = circuit.items();
     let detectors = count_detectors(alloc, circuit)?;
+    check_few(detectors, circuit.observables())?;
     let mut sweep = Sweep::at_end(alloc, qubits, detectors, circuit.observables())?;
     let mut end = circuit.steps();
     'pieces: while end > 0 {
