@@ -16,8 +16,10 @@ pub record Site : Type 0 where
   pub qubit : ℕ
   pub behind : Bool
 
-abbrev pub in_front behind : ℕ → Site
+abbrev pub in_front : ℕ → Site
 in_front q = record { qubit = q; behind = false }
+
+abbrev pub behind : ℕ → Site
 behind q = record { qubit = q; behind = true }
 
 -- where a circuit marks places for faults: at each target of the gate that does nothing

@@ -1,11 +1,13 @@
 -- Regions at a place: what the pass backwards holds between two steps, and how one step changes it.
-use Rattle.std.specs.Prelude.{◌≡◌, ℕ, ◌+◌, ◌-◌, ◌==◌, ◌<◌, ◌≤◌, ◌^◌, nat_lt, Bool, false, not, ◌&&◌, ◌||◌, List, [], length, slice_index_or, if◌then◌else◌}
+use Rattle.std.specs.Prelude.{◌≡◌, ℕ, ◌+◌, ◌-◌, ◌==◌, ◌<◌, ◌≤◌, ◌^◌, nat_lt, Bool, false, not, ◌&&◌, ◌||◌, List, [], ◌∷◌, length, slice_index_or, if◌then◌else◌}
+use Rattle.stab_pauli.specs.declared.letter.Letter.{Letter}
 use Rattle.stab_circuit.specs.Steps.{Step, one, two, controlled, collapse, product, detector, observable}
 use Rattle.stab_regions.specs.declared.regions.Regions.{Regions}
 use Rattle.stab_regions.specs.Regions.{Region, region_of, region_before, keeps_region, with_looks, asks_observable}
 use Rattle.stab_regions.specs.Tables.{is_detector, named}
-use Rattle.stab_regions.specs.Parities.{detectors_before, parity_region, parity_kept}
-use Rattle.stab_regions.specs.Rows.{ShowsRegion}
+use Rattle.stab_regions.specs.Parities.{detectors_before, parity_region, parity_kept, parity_flips, parity_sure}
+use Rattle.stab_regions.specs.Ascending.{IsAscending}
+use Rattle.stab_regions.specs.Rows.{odd, ShowsRegion}
 
 -- the rows show parity i's region
 abbrev pub Shows : Regions → ℕ → Region → Type 0
@@ -59,3 +61,19 @@ pub record MovesBack (n : ℕ) (x : Step) (old new : Regions) : Type 0 where
       → Shows new i (with_looks (asked_of old.detectors old.before i x) (region_before n x r))
   pub unsure : (i : ℕ) (r : Region) → length r.string.letters ≡ n → Shows old i r → i < length old.unsure.items
       → slice_index_or new.unsure.items i false ≡ (not (keeps_region n x r) || slice_index_or old.unsure.items i false)
+
+-- wherever the regions are those before some last steps, they come to those before one step more
+abbrev pub MovesTo : Step → (old new : Regions) → Type 0
+MovesTo x old new = (n D count : ℕ) (back : List Step) → IsRegionsAt n D count back old → IsRegionsAt n D count (x ∷ back) new
+
+-- these numbers, ascending, are those of the parities that a letter flips at the place
+pub record AreFlipped (r : Regions) (l : Letter) (q : ℕ) (numbers : List ℕ) : Type 0 where
+  pub ascending : IsAscending numbers
+  pub value : (n D count : ℕ) (back : List Step) → IsRegionsAt n D count back r → (i : ℕ) → i < D + count → odd i numbers ≡ parity_flips n D i l q back
+  pub others : (n D count : ℕ) (back : List Step) → IsRegionsAt n D count back r → (i : ℕ) → D + count ≤ i → odd i numbers ≡ false
+
+-- these bits tell for each parity whether it is sure, where the place is the circuit's start
+pub record TellSure (r : Regions) (sure : List Bool) : Type 0 where
+  pub count : length sure ≡ length r.unsure.items
+  pub value : (n D count : ℕ) (back : List Step) → IsRegionsAt n D count back r → (i : ℕ) → i < D + count
+      → slice_index_or sure i false ≡ parity_sure n D i back
