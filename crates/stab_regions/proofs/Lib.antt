@@ -3,6 +3,8 @@ mod LookRowLemmas
 mod PairLemmas
 mod MultiplyLemmas
 mod GateLemmas
+mod AscendingLemmas
+mod FactorLemmas
 mod RowLemmas
 mod SignLemmas
 mod LookLemmas
@@ -12,6 +14,7 @@ mod MovedLemmas
 mod TouchLemmas
 mod UnsureLemmas
 mod DetectorLemmas
+mod ParityLemmas
 mod ObservableLemmas
 mod TableLemmas
 mod FaultLemmas

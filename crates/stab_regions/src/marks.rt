@@ -1,4 +1,4 @@
-ghost use Rattle.std.specs.Prelude.{◌≡◌, ℕ, Bool, false, not, ◌<◌, ◌||◌, nat_eq, length, map, slice_index_or};
+ghost use Rattle.std.specs.Prelude.{◌≡◌, ℕ, Bool, false, not, ◌<◌, ◌||◌, nat_eq, length, slice_index_or};
 ghost use Rattle.stab_regions.specs.Ascending.{IsAscending};
 ghost use Rattle.stab_regions.specs.Rows.{odd};
 
@@ -25,7 +25,8 @@ pub fn mark(bits: &mut [bool], numbers: &[u32])
 
 /// Makes each bit the other one.
 pub fn invert(bits: &mut [bool])
-    ensures value { bits.new ≡ map not bits.old }
+    ensures same_length { length bits.new ≡ length bits.old }
+    ensures value { (i : ℕ) → i < length bits.old → slice_index_or bits.new i false ≡ not (slice_index_or bits.old i false) }
 {
     for place in 0..bits.len() {
         bits[place] = !bits[place];
