@@ -79,7 +79,7 @@ pub string-last : (n : ℕ) (fs : List Factor) (f : Factor) → is_on f.qubit fs
 string-last n fs f e =
     with-last fs f (replicate n I)
     ∙ put-product n f.qubit (letter_of f.letter) (with_factors fs (replicate n I)) (length-string_of n fs)
-      (letter-off f.qubit fs (replicate n I) e ∙ blank-at n f.qubit)
+    (letter-off f.qubit fs (replicate n I) e ∙ blank-at n f.qubit)
 
 -- strings of these parities are multiplied by factors, one after another
 

@@ -1,5 +1,5 @@
 -- Inserted letters: their rows, where these are put together, and the letters that the faults of a circuit insert.
-use Rattle.std.proofs.Common.{◌≡◌, ℕ, zero, suc, ◌+◌, ◌*◌, ◌<◌, ◌≤◌, refl, sym, ap, ◌∙◌, subst, Bool, true, false, List, [], ◌∷◌, ◌++◌, map, length, get_or, take, drop, arith}
+use Rattle.std.proofs.Common.{◌≡◌, ℕ, zero, suc, ◌+◌, ◌-◌, ◌*◌, ◌<◌, ◌≤◌, refl, sym, ap, ◌∙◌, subst, Bool, true, false, List, [], ◌∷◌, ◌++◌, map, length, get_or, take, drop, arith}
 use Rattle.std.specs.Prelude.{All, if◌then◌else◌}
 use Rattle.std.specs.List.{flat_map}
 use Rattle.std.proofs.lemmas.List.{append_assoc, drop_more, drop-drop, map-append}
@@ -68,6 +68,17 @@ kept-at n D count back (q ∷ qs) (r ∷ s ∷ rows) (suc k) kept lt =
     let second : suc (suc (2 * k + 1)) ≡ 2 * suc k + 1 = omega arith in (
       subst (λ m. IsXRow n D count (get_or qs k 0) back (get_or (r ∷ s ∷ rows) m [])) first there.0,
       subst (λ m. IsZRow n D count (get_or qs k 0) back (get_or (r ∷ s ∷ rows) m [])) second there.1,
+    )
+
+-- and by where they end
+pub kept-before : (n D count : ℕ) (back : List Step) (qs : List ℕ) (rows : List (List ℕ)) (k end : ℕ) → AreKept n D count back qs rows → k < length qs → end ≡ 2 * k + 2 →
+    AreRowsOn n D count (get_or qs k 0) back (get_or rows (end - 2) []) (get_or rows (end - 1) [])
+kept-before n D count back qs rows k end kept lt e =
+    let first : 2 * k ≡ end - 2 = omega (arith, e) in
+    let second : 2 * k + 1 ≡ end - 1 = omega (arith, e) in
+    let there : AreRowsOn n D count (get_or qs k 0) back (get_or rows (2 * k) []) (get_or rows (2 * k + 1) []) = kept-at n D count back qs rows k kept lt in (
+      subst (λ m. IsXRow n D count (get_or qs k 0) back (get_or rows m [])) first there.0,
+      subst (λ m. IsZRow n D count (get_or qs k 0) back (get_or rows m [])) second there.1,
     )
 
 -- rows that are added on one more qubit

@@ -22,6 +22,9 @@ mod StoredRowLemmas
 mod SiteLemmas
 mod AscentLemmas
 mod InsertedLemmas
+mod SweepLemmas
+mod BelowLemmas
+mod FaultTableLemmas
 mod BitLemmas
 mod FaultBitLemmas
 mod TwoFaultLemmas

@@ -59,10 +59,11 @@ pub push-all : (ends after numbers all row : List ℕ) (end : ℕ) → after ≡
     Rises 0 after (length all) × (rows_cut 0 after all ≡ rows_cut 0 ends numbers ++ row ∷ [])
 push-all ends after numbers all row end is whole long r =
     let total : length all ≡ length numbers + length row = omega (arith, ap length whole, length-append numbers row) in
-    let ends_are : after ≡ ends ++ (length numbers + length row) ∷ [] = is ∙ ap (λ e. ends ++ e ∷ []) (long ∙ total) in
-    (subst (λ (es : List ℕ). Rises 0 es (length all)) (sym ends_are)
-    (subst (Rises 0 (ends ++ (length numbers + length row) ∷ [])) (sym total) (rises-push 0 ends (length numbers) (length row) r)),
-    (λ i. rows_cut 0 (ends_are i) (whole i)) ∙ cut-push 0 ends numbers row (length numbers) (omega arith) r)
+    let ends_are : after ≡ ends ++ (length numbers + length row) ∷ [] = is ∙ ap (λ e. ends ++ e ∷ []) (long ∙ total) in (
+      subst (λ (es : List ℕ). Rises 0 es (length all)) (sym ends_are)
+          (subst (Rises 0 (ends ++ (length numbers + length row) ∷ [])) (sym total) (rises-push 0 ends (length numbers) (length row) r)),
+      (λ i. rows_cut 0 (ends_are i) (whole i)) ∙ cut-push 0 ends numbers row (length numbers) (omega arith) r,
+    )
 
 from_start : (n : ℕ) → n ≡ n - 0
 from_start n = omega arith

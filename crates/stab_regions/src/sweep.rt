@@ -99,19 +99,20 @@ fn add_front(
     Ok(())
 }
 
-/// Adds the rows that are kept of the letters on a step's qubit behind it, where faults there are
-/// asked for.
+/// Adds the last two of so many rows that are kept, those of the letters on a step's qubit behind it,
+/// where faults there are asked for.
 fn add_behind(
     rows: &mut FaultRows,
     kept: &FaultRows,
     asked: bool,
-    k: usize,
+    end: usize,
 ) -> Result<(), AllocError>
-    requires in_range { asked ≡ true → 2 * k + 1 < length kept.now }
-    ensures rows { OnOk result ((n D count : ℕ) (back : List Step) (qubits : List ℕ) (others : List Inserted) → k < length qubits → (asked ≡ true → AreKept n D count back qubits kept.now) → HaveRows n D count others (reverse rows.old) → HaveRows n D count (where_asked asked (inserted_on (slice_index qubits k) back) ++ others) (reverse rows.new)) }
+    requires two { asked ≡ true → 2 ≤ end }
+    requires in_range { asked ≡ true → end ≤ length kept.now }
+    ensures rows { OnOk result ((n D count k : ℕ) (back : List Step) (qubits : List ℕ) (others : List Inserted) → k < length qubits → (asked ≡ true → end ≡ 2 * k + 2) → (asked ≡ true → AreKept n D count back qubits kept.now) → HaveRows n D count others (reverse rows.old) → HaveRows n D count (where_asked asked (inserted_on (slice_index qubits k) back) ++ others) (reverse rows.new)) }
 {
     if asked {
-        add(rows, kept.row(2 * k), kept.row(2 * k + 1))?;
+        add(rows, kept.row(end - 2), kept.row(end - 1))?;
     }
     Ok(())
 }
@@ -131,10 +132,12 @@ fn add_all(
     ensures rows { OnOk result ((n D count : ℕ) (back : List Step) (others : List Inserted) → IsRegionsAt n D count (step_shown step.entry ∷ back) regions.now → (sides.behind ≡ true → AreKept n D count back (step_qubits (step_shown step.entry)) kept.now) → HaveRows n D count others (reverse rows.old) → HaveRows n D count (flat_map (inserted_by sides (step_shown step.entry) back) (step_qubits (step_shown step.entry)) ++ others) (reverse rows.new)) }
 {
     let mut left = qubits_in(step);
+    let mut end = kept.len();
     'qubits: while left > 0 {
         left -= 1;
-        add_behind(rows, kept, sides.behind, left)?;
+        add_behind(rows, kept, sides.behind, end)?;
         add_front(rows, regions, sides.front, qubit_in(step, left))?;
+        end = end.saturating_sub(2);
     }
     Ok(())
 }
