@@ -78,13 +78,13 @@ module _ (n D i : ℕ) (back : List Step) where
   region-observable : D ≤ i → parity_region n D i back ≡ region_through n (asks_observable (i - D)) back (region_of n [])
   region-observable le =
       ap (λ b. if b then (if nat_lt i (detectors_before D back) then region_of n [] else region_of_detector n (i - detectors_before D back) back)
-      else region_through n (asks_observable (i - D)) back (region_of n [])) (le-ltb D i le)
+      else region_through n (asks_observable (i - D)) back (region_of n [])) (le-ltb i D le)
 
   kept-observable : D ≤ i → parity_kept n D i back ≡ keep_region n (asks_observable (i - D)) back (region_of n [])
   kept-observable le =
       ap (λ b. if b then (if nat_lt i (detectors_before D back) then true
       else keep_region n asks_nothing (steps_before (i - detectors_before D back) back) (region_of n (named_by (i - detectors_before D back) back)))
-      else keep_region n (asks_observable (i - D)) back (region_of n [])) (le-ltb D i le)
+      else keep_region n (asks_observable (i - D)) back (region_of n [])) (le-ltb i D le)
 
   region-front : i < D → i < detectors_before D back → parity_region n D i back ≡ region_of n []
   region-front lt front =
@@ -97,24 +97,30 @@ module _ (n D i : ℕ) (back : List Step) where
       else keep_region n asks_nothing (steps_before (i - detectors_before D back) back) (region_of n (named_by (i - detectors_before D back) back)))
       else keep_region n (asks_observable (i - D)) back (region_of n [])
 
+  behind : (d : ℕ) → detectors_before D back + d ≡ i → detectors_before D back ≤ i
+  behind d e = omega (arith, e)
+
+  number : (d : ℕ) → detectors_before D back + d ≡ i → i - detectors_before D back ≡ d
+  number d e = omega (arith, e)
+
   region-among : (d : ℕ) → i < D → detectors_before D back + d ≡ i → parity_region n D i back ≡ region_of_detector n d back
   region-among d lt e =
-      (λ t. if lt-ltb i D lt t then (if le-ltb (detectors_before D back) i (omega (arith, e)) t then region_of n [] else region_of_detector n (i - detectors_before D back) back)
+      (λ t. if lt-ltb i D lt t then (if le-ltb i (detectors_before D back) (behind d e) t then region_of n [] else region_of_detector n (i - detectors_before D back) back)
       else region_through n (asks_observable (i - D)) back (region_of n []))
-      ∙ ap (λ k. region_of_detector n k back) (omega (arith, e))
+      ∙ ap (λ k. region_of_detector n k back) (number d e)
 
   kept-among : (d : ℕ) → i < D → detectors_before D back + d ≡ i
       → parity_kept n D i back ≡ keep_region n asks_nothing (steps_before d back) (region_of n (named_by d back))
   kept-among d lt e =
-      (λ t. if lt-ltb i D lt t then (if le-ltb (detectors_before D back) i (omega (arith, e)) t then true
+      (λ t. if lt-ltb i D lt t then (if le-ltb i (detectors_before D back) (behind d e) t then true
       else keep_region n asks_nothing (steps_before (i - detectors_before D back) back) (region_of n (named_by (i - detectors_before D back) back)))
       else keep_region n (asks_observable (i - D)) back (region_of n []))
-      ∙ ap (λ k. keep_region n asks_nothing (steps_before k back) (region_of n (named_by k back))) (omega (arith, e))
+      ∙ ap (λ k. keep_region n asks_nothing (steps_before k back) (region_of n (named_by k back))) (number d e)
 
 -- what a step asks for of each
 
 pub asked-observable : (D before i : ℕ) (x : Step) → D ≤ i → asked_of D before i x ≡ asks_observable (i - D) x
-asked-observable D before i x le = ap (λ b. if b then (if is_detector x && (i + 1 == before) then named x else []) else asks_observable (i - D) x) (le-ltb D i le)
+asked-observable D before i x le = ap (λ b. if b then (if is_detector x && (i + 1 == before) then named x else []) else asks_observable (i - D) x) (le-ltb i D le)
 
 asked-detector : (D before i : ℕ) (x : Step) (here : Bool) → i < D → (is_detector x && (i + 1 == before)) ≡ here → asked_of D before i x ≡ (if here then named x else [])
 asked-detector D before i x here lt e =

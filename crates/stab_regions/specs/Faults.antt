@@ -1,5 +1,5 @@
 -- Faults: one Pauli X or Z that goes wrong between two steps, where they are asked for, and which bits of a run each flips.
-use Rattle.std.specs.Prelude.{◌≡◌, ℕ, suc, ◌+◌, ◌<◌, Bool, true, false, List, [], ◌∷◌, ◌++◌, map, take, drop, length, ◌↔◌, slice_index_or, if◌then◌else◌, ◌&&◌}
+use Rattle.std.specs.Prelude.{◌≡◌, ℕ, zero, suc, ◌+◌, ◌<◌, Bool, true, false, List, [], ◌∷◌, ◌++◌, map, take, drop, length, ◌↔◌, slice_index_or, if◌then◌else◌, ◌&&◌}
 use Rattle.std.specs.List.{flat_map}
 use Rattle.stab_pauli.specs.declared.letter.Letter.{Letter}
 use Rattle.stab_pauli.specs.declared.letter.Letter.TheVariants as letter
@@ -96,7 +96,7 @@ flips n items coins f i = bit n (observables_of items) coins (with_gate f (unrol
 
 -- the numbers from i on below i + k with this property, ascending
 abbrev pub numbers_where : (ℕ → Bool) → (i k : ℕ) → List ℕ
-numbers_where f i 0 = []
+numbers_where f i zero = []
 numbers_where f i (suc k) = if f i then i ∷ numbers_where f (i + 1) k else numbers_where f (i + 1) k
 
 -- the sure bits that a fault flips, by their numbers, ascending
@@ -104,6 +104,6 @@ abbrev pub flipped : (n : ℕ) → Items → (sure : List Bool) → (ℕ → Boo
 flipped n items sure coins f = numbers_where (λ i. slice_index_or sure i false && flips n items coins f i) 0 (bits_in items)
 
 -- a table of faults: which bits are sure, and for each fault that is asked for, in order, which of these it flips, whatever the coins
-pub record IsFaultTable (n : ℕ) (everywhere : Bool) (items : Items) (sure : List Bool) (rows : List (List ℕ)) : Type 0 where
-  pub sure : AreSure n items sure
-  pub rows : (coins : ℕ → Bool) → rows ≡ map (flipped n items sure coins) (faults_of everywhere (unroll items))
+pub record IsFaultTable (n : ℕ) (everywhere : Bool) (items : Items) (bits : List Bool) (lists : List (List ℕ)) : Type 0 where
+  pub sure : AreSure n items bits
+  pub rows : (coins : ℕ → Bool) → lists ≡ map (flipped n items bits coins) (faults_of everywhere (unroll items))
