@@ -15,6 +15,7 @@ mod TouchLemmas
 mod UnsureLemmas
 mod DetectorLemmas
 mod ParityLemmas
+mod MoveLemmas
 mod ObservableLemmas
 mod TableLemmas
 mod FaultLemmas

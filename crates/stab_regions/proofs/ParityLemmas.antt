@@ -52,7 +52,7 @@ none-measured : (n : ℕ) (m : Signed) (recorded inverted corrected : Bool) → 
 none-measured n m true inverted corrected e = ap (λ c. before_measured m true inverted c (region_of n [])) e
 none-measured n m false inverted corrected e = ap (λ c. before_measured m false inverted c (region_of n [])) e
 
-none-before : (n : ℕ) (x : Step) → region_before n x (region_of n []) ≡ region_of n []
+pub none-before : (n : ℕ) (x : Step) → region_before n x (region_of n []) ≡ region_of n []
 none-before n (one g q) = ap (λ s. record { string = s; looks = [] }) (none-back n q g)
 none-before n (two g a b) = ap (λ s. record { string = s; looks = [] }) (none-back_pair n a b g)
 none-before n (controlled l k q) = ap (λ b. record { string = identity n; looks = look_where b k [] }) (none-commutes n (single n q l))
