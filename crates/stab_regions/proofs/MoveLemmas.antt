@@ -1,6 +1,6 @@
 -- Moves: what regions at a place become one step before it, where the rows, the records and the marks are changed.
 use Rattle.std.proofs.Common.{◌≡◌, ℕ, zero, suc, ◌+◌, ◌-◌, ◌<◌, ◌≤◌, ◌⊎◌, inl, inr, refl, sym, ◌∙◌, ap, subst, arith, Bool, true, false, not, ◌||◌, ◌&&◌, List, [], ◌∷◌, ◌++◌, append-nil, length, drop, take, ne_eqb, Vec}
-use Rattle.std.specs.Prelude.{if◌then◌else◌, nat_lt, ◌==◌, slice_index_or, replicate}
+use Rattle.std.specs.Prelude.{if◌then◌else◌, nat_lt, ◌==◌, slice_index_or, replicate, Result, OnOk}
 use Rattle.std.specs.Vec.{with_items}
 use Rattle.std.proofs.Math.ListN.{drop_of_length-le}
 use Rattle.std.proofs.Math.Seq.{take-length}
@@ -18,6 +18,7 @@ use Rattle.stab_regions.specs.Parities.{detectors_before, parity_region, parity_
 use Rattle.stab_regions.specs.Rows.{odd, row, ShowsLetters, ShowsLooks, ShowsRegion, MovesRegion}
 use Rattle.stab_regions.specs.inner.RegionsAt.{Shows, IsSized, IsRegionsAt, HasParity, asked_of, in_front_of, MovesBack, MovesTo}
 use Rattle.stab_regions.proofs.DetectorLemmas.{count-other, count-detector}
+use Rattle.stab_regions.proofs.GateLemmas.{on_ok}
 use Rattle.stab_regions.proofs.ReadLemmas.{size-through}
 use Rattle.stab_regions.proofs.ParityLemmas.{IsNext, is-next, none-before, asked-observable}
 
@@ -161,3 +162,14 @@ moves-to x old new there m n D count back h =
           ∙ marked (keeps_region n x (parity_region n D i back)) (parity_kept n D i back) _ (h.unsure i lt)
           ∙ ap not (sym (next i).kept);
     }
+
+-- a step that was moved over is the one that is given
+pub arrives : {A E : Type 0} (result : Result A E) (x y : Step) (old new : Regions) → x ≡ y → HasParity old x → OnOk result (MovesBack (length old.by_x.items) y old new)
+    → OnOk result (MovesTo x old new)
+arrives result x y old new e there =
+    on_ok result _ _ (λ m. moves-to x old new there (subst (λ z. MovesBack (length old.by_x.items) z old new) (sym e) m))
+
+-- whatever the mark of a measurement's record
+pub arrives-whichever : {A E : Type 0} (result : Result A E) (x : Step) (y : Bool → Step) (inverted : Bool) (old new : Regions) → x ≡ y inverted → HasParity old x
+    → OnOk result ((b : Bool) → MovesBack (length old.by_x.items) (y b) old new) → OnOk result (MovesTo x old new)
+arrives-whichever result x y inverted old new e there h = arrives result x (y inverted) old new e there (on_ok result _ _ (λ m. m inverted) h)
