@@ -16,6 +16,7 @@ mod UnsureLemmas
 mod DetectorLemmas
 mod ParityLemmas
 mod MoveLemmas
+mod PlaceLemmas
 mod ObservableLemmas
 mod TableLemmas
 mod FaultLemmas

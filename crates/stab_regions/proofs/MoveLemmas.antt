@@ -80,12 +80,12 @@ marked true b c e = e
 marked false b c e = refl
 
 -- the region of a parity that is a detector's, perhaps in front, or an observable's
-abbrev region_where : (n D i : ℕ) → List Step → (is_detectors in_front : Bool) → Region
+abbrev pub region_where : (n D i : ℕ) → List Step → (is_detectors in_front : Bool) → Region
 region_where n D i back b c =
     if b then (if c then region_of n [] else region_of_detector n (i - detectors_before D back) back)
     else region_through n (asks_observable (i - D)) back (region_of n [])
 
-long-parity : (n D i : ℕ) (back : List Step) → length (parity_region n D i back).string.letters ≡ n
+pub long-parity : (n D i : ℕ) (back : List Step) → length (parity_region n D i back).string.letters ≡ n
 long-parity n D i back = by_place (nat_lt i D) (nat_lt i (detectors_before D back))
   where
     none : (ks : List ℕ) → length (region_of n ks).string.letters ≡ n
