@@ -1,11 +1,11 @@
 -- Factors: the string of a product, one factor after another, and what it flips and is multiplied by.
-use Rattle.std.proofs.Common.{◌≡◌, ◌≢◌, ℕ, zero, suc, ◌+◌, ◌<◌, refl, sym, ◌∙◌, ap, subst, arith, Bool, true, false, ◌||◌, ◌&&◌, List, [], ◌∷◌, ◌++◌, length, take, drop, drop-cons, get_or, set}
+use Rattle.std.proofs.Common.{◌≡◌, ℕ, zero, suc, ◌+◌, ◌<◌, refl, sym, ◌∙◌, ap, subst, arith, Bool, true, false, ◌||◌, List, [], ◌∷◌, ◌++◌, length, take, drop, drop-cons, get_or, set}
 use Rattle.std.specs.Prelude.{replicate, ◌==◌}
 use Rattle.std.proofs.Math.Seq.{take-suc}
 use Rattle.std.proofs.lemmas.List.{get_or-set_other, take-append-drop}
 use Rattle.std.proofs.lemmas.Bool.{eqb-false}
 use Rattle.stab_pauli.specs.declared.letter.Letter.{Letter}
-use Rattle.stab_pauli.specs.declared.letter.Letter.TheVariants.{I, X, Y, Z}
+use Rattle.stab_pauli.specs.declared.letter.Letter.TheVariants.{I}
 use Rattle.stab_pauli.specs.Letters.{◌⊕◌, letter_product}
 use Rattle.stab_pauli.specs.Paulis.{Signed, single, anticommute, strings_anticommute, string_product}
 use Rattle.stab_pauli.proofs.ParityLemmas.{parity-comm, parity-false}
@@ -16,10 +16,10 @@ use Rattle.stab_lines.specs.Axes.{letter_of}
 use Rattle.stab_lines.specs.Products.{is_on, names_twice}
 use Rattle.stab_circuit.specs.Steps.{product as measured_product}
 use Rattle.stab_run.specs.Runs.{with_factors, string_of}
-use Rattle.stab_regions.specs.Regions.{names_newest, earlier, times_where}
-use Rattle.stab_regions.specs.Rows.{odd, row, bits_at, ShowsLetters, MovesLetters, multiplied, ShowsLooks, MovesRegion}
+use Rattle.stab_regions.specs.Regions.{names_newest, times_where}
+use Rattle.stab_regions.specs.Rows.{odd, row, ShowsLetters, MovesLetters, multiplied, MovesRegion}
 use Rattle.stab_regions.proofs.ReadLemmas.{length-string_of, length-times}
-use Rattle.stab_regions.proofs.ShowLemmas.{bits-anticommute, newest-odd, earlier-shows}
+use Rattle.stab_regions.proofs.ShowLemmas.{newest-odd, earlier-shows}
 
 or_left : (a b : Bool) → (a || b) ≡ false → a ≡ false
 or_left false b e = refl
@@ -80,7 +80,7 @@ pub string-last : (n : ℕ) (fs : List Factor) (f : Factor) → is_on f.qubit fs
 string-last n fs f e =
     with-last fs f (replicate n I)
     ∙ put-product n f.qubit (letter_of f.letter) (with_factors fs (replicate n I)) (length-string_of n fs)
-      (letter-off f.qubit fs (replicate n I) e ∙ blank-at n f.qubit)
+    (letter-off f.qubit fs (replicate n I) e ∙ blank-at n f.qubit)
 
 -- strings of these parities are multiplied by factors, one after another
 

@@ -1,22 +1,18 @@
 -- Moves: what regions at a place become one step before it, where the rows, the records and the marks are changed.
-use Rattle.std.proofs.Common.{◌≡◌, ℕ, zero, suc, ◌+◌, ◌-◌, ◌<◌, ◌≤◌, ◌⊎◌, inl, inr, refl, sym, ◌∙◌, ap, subst, arith, Bool, true, false, not, ◌||◌, ◌&&◌, List, [], ◌∷◌, ◌++◌, append-nil, length, drop, take, ne_eqb, Vec}
-use Rattle.std.specs.Prelude.{if◌then◌else◌, nat_lt, ◌==◌, slice_index_or, replicate, Result, OnOk}
+use Rattle.std.proofs.Common.{◌≡◌, ℕ, ◌+◌, ◌-◌, ◌<◌, ◌≤◌, refl, sym, ◌∙◌, ap, subst, arith, Bool, true, false, not, ◌||◌, ◌&&◌, List, [], ◌∷◌, ◌++◌, append-nil, length, take, ne_eqb, Vec}
+use Rattle.std.specs.Prelude.{if◌then◌else◌, nat_lt, ◌==◌, slice_index_or, Result, OnOk}
 use Rattle.std.specs.Vec.{with_items}
 use Rattle.std.proofs.Math.ListN.{drop_of_length-le}
 use Rattle.std.proofs.Math.Seq.{take-length}
 use Rattle.std.proofs.lemmas.List.{length-replicate}
-use Rattle.stab_pauli.specs.declared.letter.Letter.{Letter}
-use Rattle.stab_pauli.specs.declared.letter.Letter.TheVariants.{I, X, Z}
-use Rattle.stab_pauli.specs.Letters.{◌⊕◌, letters_anticommute}
-use Rattle.stab_pauli.specs.Paulis.{Signed, identity, single, anticommute}
-use Rattle.stab_tableau.specs.Gates.{letter_at}
+use Rattle.stab_pauli.specs.declared.letter.Letter.TheVariants.{I}
 use Rattle.stab_circuit.specs.Steps.{Step, one, two, controlled, collapse, product, detector, observable}
 use Rattle.stab_regions.specs.declared.regions.Regions.{Regions}
 use Rattle.stab_regions.specs.Regions.{Region, region_of, region_before, region_through, with_looks, keeps_region, asks_nothing, asks_observable}
 use Rattle.stab_regions.specs.Tables.{is_detector, named, steps_before, named_by, region_of_detector}
 use Rattle.stab_regions.specs.Parities.{detectors_before, parity_region, parity_kept}
-use Rattle.stab_regions.specs.Rows.{odd, row, ShowsLetters, ShowsLooks, ShowsRegion, MovesRegion}
-use Rattle.stab_regions.specs.inner.RegionsAt.{Shows, IsSized, IsRegionsAt, HasParity, asked_of, in_front_of, MovesBack, MovesTo}
+use Rattle.stab_regions.specs.Rows.{ShowsRegion, MovesRegion}
+use Rattle.stab_regions.specs.inner.RegionsAt.{Shows, HasParity, asked_of, in_front_of, MovesBack, MovesTo}
 use Rattle.stab_regions.proofs.DetectorLemmas.{count-other, count-detector}
 use Rattle.stab_regions.proofs.GateLemmas.{on_ok}
 use Rattle.stab_regions.proofs.ReadLemmas.{size-through}

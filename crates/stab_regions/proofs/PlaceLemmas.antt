@@ -1,21 +1,20 @@
 -- Places: what regions at one say of what a letter flips there, of the end of all steps, and of what is sure at the start.
-use Rattle.std.proofs.Common.{◌≡◌, ℕ, zero, suc, ◌+◌, ◌-◌, ◌^◌, ◌<◌, ◌≤◌, refl, sym, ◌∙◌, ap, subst, arith, Bool, true, false, not, ◌||◌, ◌&&◌, List, [], ◌∷◌, length, get_or}
+use Rattle.std.proofs.Common.{◌≡◌, ℕ, zero, suc, ◌+◌, ◌-◌, ◌^◌, ◌<◌, refl, sym, ◌∙◌, ap, subst, arith, Bool, true, false, not, ◌||◌, ◌&&◌, List, [], ◌∷◌, length}
 use Rattle.std.specs.Prelude.{if◌then◌else◌, nat_lt, slice_index_or, replicate}
 use Rattle.std.specs.List.{list_any}
 use Rattle.std.proofs.lemmas.List.{length-replicate, get_or-replicate}
 use Rattle.stab_pauli.specs.declared.letter.Letter.{Letter}
 use Rattle.stab_pauli.specs.declared.letter.Letter.TheVariants.{I, X, Y, Z}
 use Rattle.stab_pauli.specs.Letters.{letters_anticommute}
-use Rattle.stab_pauli.specs.Paulis.{Signed, single, anticommute}
 use Rattle.stab_tableau.specs.Gates.{letter_at}
 use Rattle.stab_tableau.specs.Traces.{diagonal}
 use Rattle.stab_regions.specs.declared.regions.Regions.{Regions}
 use Rattle.stab_regions.specs.Regions.{region_of, keep_region, asks_nothing, asks_observable}
 use Rattle.stab_regions.specs.Tables.{steps_before, named_by}
-use Rattle.stab_regions.specs.Parities.{detectors_before, parity_region, parity_kept, parity_flips, parity_sure}
+use Rattle.stab_regions.specs.Parities.{detectors_before, parity_region, parity_kept}
 use Rattle.stab_regions.specs.Ascending.{IsAscending}
-use Rattle.stab_regions.specs.Rows.{odd, row, ShowsLetters, ShowsRegion}
-use Rattle.stab_regions.specs.inner.RegionsAt.{Shows, IsSized, IsRegionsAt, AreFlipped, TellSure}
+use Rattle.stab_regions.specs.Rows.{odd, row, ShowsRegion}
+use Rattle.stab_regions.specs.inner.RegionsAt.{Shows, IsRegionsAt, AreFlipped, TellSure}
 use Rattle.stab_regions.proofs.FactorLemmas.{blank-at}
 use Rattle.stab_regions.proofs.ShowLemmas.{bits-anticommute}
 use Rattle.stab_regions.proofs.MoveLemmas.{region_where, long-parity}

@@ -1,4 +1,4 @@
-use Rattle.std.proofs.Common.{◌≡◌, ◌≢◌, refl, sym, ◌∙◌, ap, subst, arith, List, ℕ, ◌∷◌, [], ◌++◌, length, ◌<◌, take, get_or}
+use Rattle.std.proofs.Common.{◌∙◌, ap, subst, List, ℕ, ◌++◌, length, ◌<◌, take, get_or}
 use Rattle.stab_regions.specs.Rows.{odd, ShowsLooks}
 use Rattle.stab_regions.specs.Regions.{look_where}
 use Rattle.stab_regions.proofs.LookRowLemmas.{names-own, names-other, looks-more}

@@ -1,4 +1,4 @@
-use Rattle.std.proofs.Common.{◌≡◌, ◌<◌, refl, ◌∙◌, sym, ap, subst, arith, List, ◌∷◌, [], ◌++◌, length, take, get_or}
+use Rattle.std.proofs.Common.{◌<◌, refl, ◌∙◌, sym, ap, subst, List, length, take, get_or}
 use Rattle.stab_lines.specs.declared.product.Factor.{Factor}
 use Rattle.stab_lines.specs.Axes.{letter_of}
 use Rattle.stab_regions.specs.Rows.{MovesLetters}

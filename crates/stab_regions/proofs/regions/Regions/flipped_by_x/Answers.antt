@@ -1,4 +1,4 @@
-use Rattle.std.proofs.Common.{◌≡◌, ◌∙◌, sym, ap, subst}
+use Rattle.std.proofs.Common.{◌∙◌, sym, subst}
 use Rattle.stab_regions.specs.Ascending.{IsAscending}
 use Rattle.stab_regions.proofs.RowLemmas.{row-in}
 use Rattle.stab_regions.proofs.PlaceLemmas.{flipped-by_x}

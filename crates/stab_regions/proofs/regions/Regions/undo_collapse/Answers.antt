@@ -1,4 +1,4 @@
-use Rattle.std.proofs.Common.{◌≡◌, refl, sym, ◌∙◌, ap, arith, length, not, ◌||◌, Bool, false}
+use Rattle.std.proofs.Common.{refl, ◌∙◌, ap, length, ◌||◌, Bool, false}
 use Rattle.std.specs.Prelude.{slice_index_or}
 use Rattle.stab_regions.proofs.ShowLemmas.{bits-anticommute}
 use Rattle.stab_regions.proofs.MoveLemmas.{refilled, moves-back, twice-not}
