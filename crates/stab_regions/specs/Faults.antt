@@ -5,6 +5,7 @@ use Rattle.stab_pauli.specs.declared.letter.Letter.{Letter}
 use Rattle.stab_pauli.specs.declared.letter.Letter.TheVariants as letter
 use Rattle.stab_pauli.specs.Letters.{◌⊕◌}
 use Rattle.stab_tableau.specs.declared.gate.Gate.TheVariants as gate
+use Rattle.stab_tableau.specs.declared.gate.Gate.{Gate}
 use Rattle.stab_circuit.specs.Items.{Items}
 use Rattle.stab_circuit.specs.Steps.{Step, one, two, controlled, collapse, product, detector, observable, unroll, observables_of}
 use Rattle.stab_run.specs.Runs.{State, start, run, gate_of}
@@ -103,6 +104,6 @@ abbrev pub flipped : (n : ℕ) → Items → (sure : List Bool) → (ℕ → Boo
 flipped n items sure coins f = numbers_where (λ i. slice_index_or sure i false && flips n items coins f i) 0 (bits_in items)
 
 -- a table of faults: which bits are sure, and for each fault that is asked for, in order, which of these it flips, whatever the coins
-pub record IsFaultTable (n : ℕ) (everywhere : Bool) (items : Items) (bits : List Bool) (lists : List (List ℕ)) : Type 0 where
-  pub sure : AreSure n items bits
-  pub rows : (coins : ℕ → Bool) → lists ≡ map (flipped n items bits coins) (faults_of everywhere (unroll items))
+pub record IsFaultTable (n : ℕ) (everywhere : Bool) (items : Items) (sure : List Bool) (rows : List (List ℕ)) : Type 0 where
+  pub are_sure : AreSure n items sure
+  pub are_flipped : (coins : ℕ → Bool) → rows ≡ map (flipped n items sure coins) (faults_of everywhere (unroll items))
