@@ -1,10 +1,11 @@
 -- Factors: the string of a product, one factor after another, and what it flips and is multiplied by.
-use Rattle.std.proofs.Common.{◌≡◌, ◌≢◌, ℕ, zero, suc, ◌+◌, ◌<◌, refl, sym, ◌∙◌, ap, subst, arith, Bool, true, false, ◌||◌, ◌&&◌, List, [], ◌∷◌, ◌++◌, length, take, drop, get_or, set}
+use Rattle.std.proofs.Common.{◌≡◌, ℕ, zero, suc, ◌+◌, ◌<◌, refl, sym, ◌∙◌, ap, subst, arith, Bool, true, false, ◌||◌, List, [], ◌∷◌, ◌++◌, length, take, drop, drop-cons, get_or, set}
 use Rattle.std.specs.Prelude.{replicate, ◌==◌}
-use Rattle.std.proofs.lemmas.List.{get_or-set_other, length-replicate}
+use Rattle.std.proofs.Math.Seq.{take-suc}
+use Rattle.std.proofs.lemmas.List.{get_or-set_other, take-append-drop}
 use Rattle.std.proofs.lemmas.Bool.{eqb-false}
 use Rattle.stab_pauli.specs.declared.letter.Letter.{Letter}
-use Rattle.stab_pauli.specs.declared.letter.Letter.TheVariants.{I, X, Y, Z}
+use Rattle.stab_pauli.specs.declared.letter.Letter.TheVariants.{I}
 use Rattle.stab_pauli.specs.Letters.{◌⊕◌, letter_product}
 use Rattle.stab_pauli.specs.Paulis.{Signed, single, anticommute, strings_anticommute, string_product}
 use Rattle.stab_pauli.proofs.ParityLemmas.{parity-comm, parity-false}
@@ -15,10 +16,10 @@ use Rattle.stab_lines.specs.Axes.{letter_of}
 use Rattle.stab_lines.specs.Products.{is_on, names_twice}
 use Rattle.stab_circuit.specs.Steps.{product as measured_product}
 use Rattle.stab_run.specs.Runs.{with_factors, string_of}
-use Rattle.stab_regions.specs.Regions.{names_newest, earlier, times_where}
-use Rattle.stab_regions.specs.Rows.{odd, row, bits_at, ShowsLetters, MovesLetters, multiplied, ShowsLooks, MovesRegion}
+use Rattle.stab_regions.specs.Regions.{names_newest, times_where}
+use Rattle.stab_regions.specs.Rows.{odd, row, ShowsLetters, MovesLetters, multiplied, MovesRegion}
 use Rattle.stab_regions.proofs.ReadLemmas.{length-string_of, length-times}
-use Rattle.stab_regions.proofs.ShowLemmas.{bits-anticommute, newest-odd, earlier-shows}
+use Rattle.stab_regions.proofs.ShowLemmas.{newest-odd, earlier-shows}
 
 or_left : (a b : Bool) → (a || b) ≡ false → a ≡ false
 or_left false b e = refl
@@ -56,7 +57,7 @@ letter-off q (f ∷ fs) letters e =
     letter-off q fs (set letters f.qubit (letter_of f.letter)) (or_right (f.qubit == q) (is_on q fs) e)
     ∙ get_or-set_other letters f.qubit q (letter_of f.letter) I (λ same. eqb-false f.qubit q (or_left (f.qubit == q) (is_on q fs) e) (sym same))
 
-blank-at : (n q : ℕ) → letter_at (replicate n I) q ≡ I
+pub blank-at : (n q : ℕ) → letter_at (replicate n I) q ≡ I
 blank-at zero q = refl
 blank-at (suc n) zero = refl
 blank-at (suc n) (suc q) = blank-at n q
@@ -109,6 +110,13 @@ by_product-more n fs f parities old_x old_z mid_x mid_z new_x new_z apart first 
         shows
     both false shows = shows
 
+pub multiplied-as : (n m q p : ℕ) (l k : Letter) (parities : List ℕ) (old_x old_z new_x new_z : List (List ℕ)) → m ≡ n → l ≡ k → q ≡ p
+    → MovesLetters m (multiplied m l q parities) old_x old_z new_x new_z → MovesLetters n (multiplied n k p parities) old_x old_z new_x new_z
+multiplied-as n m q p l k parities old_x old_z new_x new_z em el eq h =
+    subst (λ j. MovesLetters n (multiplied n k j parities) old_x old_z new_x new_z) eq
+    (subst (λ x. MovesLetters n (multiplied n x q parities) old_x old_z new_x new_z) el
+    (subst (λ j. MovesLetters j (multiplied j l q parities) old_x old_z new_x new_z) em h))
+
 -- the newest record counts, whose outcome is that of the product
 pub product-moves : (n : ℕ) (fs : List Factor) (inverted : Bool) (taken : List ℕ) (old_x old_z old new_x new_z new : List (List ℕ))
     → taken ≡ row old 0 → ((k : ℕ) → row new k ≡ row old (k + 1)) → MovesLetters n (by_product n fs taken) old_x old_z new_x new_z
@@ -141,11 +149,14 @@ flips-more n fs f s apart =
     ∙ sym (strings_anticommute-product (single n f.qubit (letter_of f.letter)).letters (string_of n fs).letters s.letters)
     ∙ ap (λ ls. strings_anticommute ls s.letters) (sym (string-last n fs f apart))
 
--- the factor at a place is on none of the qubits of those before it
+-- one more factor, which is on none of the qubits of those before it
+
+pub take-more : {A : Type 0} (xs : List A) (k : ℕ) (d : A) → k < length xs → take (k + 1) xs ≡ take k xs ++ get_or xs k d ∷ []
+take-more xs k d lt =
+    let next : k + 1 ≡ suc k = omega arith in
+    ap (λ j. take j xs) next ∙ take-suc xs k d lt
+
 pub place-apart : (fs : List Factor) (k : ℕ) (d : Factor) → k < length fs → names_twice fs ≡ false → is_on (get_or fs k d).qubit (take k fs) ≡ false
-place-apart fs k d lt e = front-apart (take k fs) (get_or fs k d) (drop (k + 1) fs) (ap names_twice (cut fs k d lt) ∙ e)
-  where
-    cut : (fs : List Factor) (k : ℕ) (d : Factor) → k < length fs → take k fs ++ get_or fs k d ∷ drop (k + 1) fs ≡ fs
-    cut [] k d lt = absurd (omega arith)
-    cut (f ∷ fs) zero d lt = refl
-    cut (f ∷ fs) (suc k) d lt = ap (λ rest. f ∷ rest) (cut fs k d (omega arith))
+place-apart fs k d lt e =
+    front-apart (take k fs) (get_or fs k d) (drop (suc k) fs)
+    (ap (λ rest. names_twice (take k fs ++ rest)) (sym (drop-cons fs k d lt)) ∙ ap names_twice (take-append-drop k fs) ∙ e)

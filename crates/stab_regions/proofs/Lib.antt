@@ -15,6 +15,8 @@ mod TouchLemmas
 mod UnsureLemmas
 mod DetectorLemmas
 mod ParityLemmas
+mod MoveLemmas
+mod PlaceLemmas
 mod ObservableLemmas
 mod TableLemmas
 mod FaultLemmas

@@ -1,12 +1,11 @@
 -- Parities one step backwards: how the region of each before a step, and whether it is kept, follow from those behind it.
-use Rattle.std.proofs.Common.{◌≡◌, ℕ, zero, suc, ◌+◌, ◌-◌, ◌<◌, ◌≤◌, ◌⊎◌, inl, inr, refl, sym, ◌∙◌, ap, subst, arith, Bool, true, false, not, ◌||◌, ◌&&◌, List, [], ◌∷◌, ◌++◌, append-nil, length, set, le-ltb, lt-ltb, ne_eqb}
+use Rattle.std.proofs.Common.{◌≡◌, ℕ, suc, ◌+◌, ◌-◌, ◌<◌, ◌≤◌, ◌⊎◌, inl, inr, refl, sym, ◌∙◌, ap, subst, arith, Bool, true, false, not, ◌&&◌, List, [], ◌∷◌, append-nil, set, le-ltb, lt-ltb, ne_eqb}
 use Rattle.std.specs.Prelude.{if◌then◌else◌, nat_lt, ◌==◌, replicate}
 use Rattle.std.proofs.lemmas.Bool.{cases_lt, cases_eq, eq-eqb}
 use Rattle.std.proofs.lemmas.List.{set-get_or}
 use Rattle.std.proofs.Math.Bool.{and-false}
 use Rattle.stab_pauli.specs.declared.letter.Letter.{Letter}
 use Rattle.stab_pauli.specs.declared.letter.Letter.TheVariants.{I}
-use Rattle.stab_pauli.specs.Letters.{◌⊕◌}
 use Rattle.stab_pauli.specs.Phaseds.{plain}
 use Rattle.stab_pauli.specs.Paulis.{Signed, identity, single, anticommute}
 use Rattle.stab_pauli.proofs.StringLemmas.{strings_anticommute-blank_right}
@@ -16,10 +15,10 @@ use Rattle.stab_tableau.specs.declared.gate.PairGate.{PairGate}
 use Rattle.stab_tableau.specs.Gates.{letter_at, letter_image, inverse, put_letter, put_letters, pair_letters, back, back_pair}
 use Rattle.stab_circuit.specs.Steps.{Step, one, two, controlled, collapse, product, detector, observable}
 use Rattle.stab_run.specs.Runs.{string_of, flip_of}
-use Rattle.stab_regions.specs.Regions.{Region, region_of, times_where, look_where, earlier, before_measured, region_before, region_through, with_looks, keeps_region, keep_region, asks_nothing, asks_observable}
-use Rattle.stab_regions.specs.Tables.{is_detector, named, detectors_of, steps_before, named_by, region_of_detector}
+use Rattle.stab_regions.specs.Regions.{Region, region_of, look_where, before_measured, region_before, region_through, with_looks, keeps_region, keep_region, asks_nothing, asks_observable}
+use Rattle.stab_regions.specs.Tables.{is_detector, named, steps_before, named_by, region_of_detector}
 use Rattle.stab_regions.specs.Parities.{detectors_before, parity_region, parity_kept}
-use Rattle.stab_regions.specs.inner.RegionsAt.{asked_of, in_front_of}
+use Rattle.stab_regions.specs.inner.RegionsAt.{asked_of}
 use Rattle.stab_regions.proofs.FactorLemmas.{blank-at}
 use Rattle.stab_regions.proofs.DetectorLemmas.{count-other, before-other, named-other}
 
@@ -52,7 +51,7 @@ none-measured : (n : ℕ) (m : Signed) (recorded inverted corrected : Bool) → 
 none-measured n m true inverted corrected e = ap (λ c. before_measured m true inverted c (region_of n [])) e
 none-measured n m false inverted corrected e = ap (λ c. before_measured m false inverted c (region_of n [])) e
 
-none-before : (n : ℕ) (x : Step) → region_before n x (region_of n []) ≡ region_of n []
+pub none-before : (n : ℕ) (x : Step) → region_before n x (region_of n []) ≡ region_of n []
 none-before n (one g q) = ap (λ s. record { string = s; looks = [] }) (none-back n q g)
 none-before n (two g a b) = ap (λ s. record { string = s; looks = [] }) (none-back_pair n a b g)
 none-before n (controlled l k q) = ap (λ b. record { string = identity n; looks = look_where b k [] }) (none-commutes n (single n q l))
@@ -78,13 +77,13 @@ module _ (n D i : ℕ) (back : List Step) where
   region-observable : D ≤ i → parity_region n D i back ≡ region_through n (asks_observable (i - D)) back (region_of n [])
   region-observable le =
       ap (λ b. if b then (if nat_lt i (detectors_before D back) then region_of n [] else region_of_detector n (i - detectors_before D back) back)
-      else region_through n (asks_observable (i - D)) back (region_of n [])) (le-ltb D i le)
+      else region_through n (asks_observable (i - D)) back (region_of n [])) (le-ltb i D le)
 
   kept-observable : D ≤ i → parity_kept n D i back ≡ keep_region n (asks_observable (i - D)) back (region_of n [])
   kept-observable le =
       ap (λ b. if b then (if nat_lt i (detectors_before D back) then true
       else keep_region n asks_nothing (steps_before (i - detectors_before D back) back) (region_of n (named_by (i - detectors_before D back) back)))
-      else keep_region n (asks_observable (i - D)) back (region_of n [])) (le-ltb D i le)
+      else keep_region n (asks_observable (i - D)) back (region_of n [])) (le-ltb i D le)
 
   region-front : i < D → i < detectors_before D back → parity_region n D i back ≡ region_of n []
   region-front lt front =
@@ -97,24 +96,30 @@ module _ (n D i : ℕ) (back : List Step) where
       else keep_region n asks_nothing (steps_before (i - detectors_before D back) back) (region_of n (named_by (i - detectors_before D back) back)))
       else keep_region n (asks_observable (i - D)) back (region_of n [])
 
+  behind : (d : ℕ) → detectors_before D back + d ≡ i → detectors_before D back ≤ i
+  behind d e = omega (arith, e)
+
+  number : (d : ℕ) → detectors_before D back + d ≡ i → i - detectors_before D back ≡ d
+  number d e = omega (arith, e)
+
   region-among : (d : ℕ) → i < D → detectors_before D back + d ≡ i → parity_region n D i back ≡ region_of_detector n d back
   region-among d lt e =
-      (λ t. if lt-ltb i D lt t then (if le-ltb (detectors_before D back) i (omega (arith, e)) t then region_of n [] else region_of_detector n (i - detectors_before D back) back)
+      (λ t. if lt-ltb i D lt t then (if le-ltb i (detectors_before D back) (behind d e) t then region_of n [] else region_of_detector n (i - detectors_before D back) back)
       else region_through n (asks_observable (i - D)) back (region_of n []))
-      ∙ ap (λ k. region_of_detector n k back) (omega (arith, e))
+      ∙ ap (λ k. region_of_detector n k back) (number d e)
 
   kept-among : (d : ℕ) → i < D → detectors_before D back + d ≡ i
       → parity_kept n D i back ≡ keep_region n asks_nothing (steps_before d back) (region_of n (named_by d back))
   kept-among d lt e =
-      (λ t. if lt-ltb i D lt t then (if le-ltb (detectors_before D back) i (omega (arith, e)) t then true
+      (λ t. if lt-ltb i D lt t then (if le-ltb i (detectors_before D back) (behind d e) t then true
       else keep_region n asks_nothing (steps_before (i - detectors_before D back) back) (region_of n (named_by (i - detectors_before D back) back)))
       else keep_region n (asks_observable (i - D)) back (region_of n []))
-      ∙ ap (λ k. keep_region n asks_nothing (steps_before k back) (region_of n (named_by k back))) (omega (arith, e))
+      ∙ ap (λ k. keep_region n asks_nothing (steps_before k back) (region_of n (named_by k back))) (number d e)
 
 -- what a step asks for of each
 
 pub asked-observable : (D before i : ℕ) (x : Step) → D ≤ i → asked_of D before i x ≡ asks_observable (i - D) x
-asked-observable D before i x le = ap (λ b. if b then (if is_detector x && (i + 1 == before) then named x else []) else asks_observable (i - D) x) (le-ltb D i le)
+asked-observable D before i x le = ap (λ b. if b then (if is_detector x && (i + 1 == before) then named x else []) else asks_observable (i - D) x) (le-ltb i D le)
 
 asked-detector : (D before i : ℕ) (x : Step) (here : Bool) → i < D → (is_detector x && (i + 1 == before)) ≡ here → asked_of D before i x ≡ (if here then named x else [])
 asked-detector D before i x here lt e =

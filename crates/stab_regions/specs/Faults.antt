@@ -5,7 +5,6 @@ use Rattle.stab_pauli.specs.declared.letter.Letter.{Letter}
 use Rattle.stab_pauli.specs.declared.letter.Letter.TheVariants as letter
 use Rattle.stab_pauli.specs.Letters.{◌⊕◌}
 use Rattle.stab_tableau.specs.declared.gate.Gate.TheVariants as gate
-use Rattle.stab_tableau.specs.declared.gate.Gate.{Gate}
 use Rattle.stab_circuit.specs.Items.{Items}
 use Rattle.stab_circuit.specs.Steps.{Step, one, two, controlled, collapse, product, detector, observable, unroll, observables_of}
 use Rattle.stab_run.specs.Runs.{State, start, run, gate_of}

@@ -8,9 +8,10 @@
 //! - `gates`, `steps`, `products`: how these rows change from behind a step to before it.
 //! - `marks`, `regions`: all of this for one place, moved a step backwards.
 //!
-//! Proved: the laws; and that rows which show the regions behind a gate, a letter that a record
-//! controls, or a measurement or reset of a letter are changed to such as show those before it, up to
-//! signs (`specs/Rows.antt`).
+//! Proved: the laws; that rows which show the regions behind a step are changed to such as show those
+//! before it, up to signs (`specs/Rows.antt`); and that the regions of all parities at the end of
+//! steps, moved backwards over one after another, are those at each place before it, with marks at
+//! those that a step does not keep (`specs/inner/RegionsAt.antt`).
 #![tactic(auto)]
 
 pub mod fault_laws;

@@ -78,6 +78,16 @@ impl Parities {
         let numbers = merge(alloc, self.numbers.as_slice(), others.numbers.as_slice())?;
         Ok(Parities { numbers })
     }
+
+    /// The same of these themselves, which takes no memory where there are no others.
+    pub fn with(self, alloc: Global, others: &Parities) -> Result<Parities, AllocError>
+        ensures odd { IfOk result (λ p. (i : ℕ) → odd i p ≡ odd i self ⊕ odd i others.now) }
+    {
+        if others.is_empty() {
+            return Ok(self);
+        }
+        self.merged(alloc, others)
+    }
 }
 
 /// The numbers of one list or the other, and not of both, in increasing order.

@@ -71,7 +71,7 @@ pub fn flipped_by_product(
     for factor in factors {
         let (letter, qubit) = (factor.letter.letter(), factor.qubit.number());
         let more = flipped(alloc, by_x, by_z, letter, qubit)?;
-        parities = parities.merged(alloc, &more)?;
+        parities = parities.with(alloc, &more)?;
     }
     Ok(parities)
 }

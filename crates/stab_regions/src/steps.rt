@@ -92,7 +92,7 @@ pub fn before_collapse(
 {
     let corrected = corrected(alloc, by_x, by_z, letter, qubit, reset)?;
     let taken = taken(alloc, records, recorded);
-    let counted = taken.merged(alloc, &corrected)?;
+    let counted = taken.with(alloc, &corrected)?;
     multiply(alloc, by_x, by_z, letter, qubit, &counted)?;
     Ok(())
 }

@@ -1,4 +1,4 @@
-use Rattle.std.proofs.Common.{◌≡◌, ◌≢◌, ℕ, List, ◌++◌, take}
+use Rattle.std.proofs.Common.{◌≢◌, ℕ, List, ◌++◌, take}
 use Rattle.stab_regions.specs.Rows.{ShowsLooks}
 use Rattle.stab_regions.proofs.looks.look_each.Given as goal
 
