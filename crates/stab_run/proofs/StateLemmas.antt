@@ -48,12 +48,12 @@ run-state n coins (x ∷ xs) s =
 
 -- coins that do not decide
 
-both_false : (a b coin other : Bool) → (not a && not b) ≡ false → (if a then false else (if b then true else coin)) ≡ (if a then false else (if b then true else other))
+pub both_false : (a b coin other : Bool) → (not a && not b) ≡ false → (if a then false else (if b then true else coin)) ≡ (if a then false else (if b then true else other))
 both_false true b coin other e = refl
 both_false false true coin other e = refl
 both_false false false coin other e = cc
 
-both_true : (a b coin : Bool) → (not a && not b) ≡ true → (if a then false else (if b then true else coin)) ≡ coin
+pub both_true : (a b coin : Bool) → (not a && not b) ≡ true → (if a then false else (if b then true else coin)) ≡ coin
 both_true true b coin e = cc
 both_true false true coin e = cc
 both_true false false coin e = refl

@@ -1,0 +1,13 @@
+pub mod SignLemmas
+pub mod TurnedLemmas
+pub mod MeasuredLemmas
+pub mod FlipLemmas
+pub mod StepLemmas
+pub mod NoteLemmas
+pub mod StartLemmas
+pub mod LookbackLemmas
+pub mod EndLemmas
+pub mod TableauLemmas
+pub mod FrontLemmas
+pub mod EditLemmas
+pub mod SumLemmas

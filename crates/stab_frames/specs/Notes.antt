@@ -1,0 +1,39 @@
+-- Notes: what a frame has to know of the measurements of the run that it starts from.
+-- Source: the two cases of a measurement in Aaronson and Gottesman 2004, section III: a free outcome is exchanged for the other
+-- by a stabiliser that anticommutes with what is measured.
+use Rattle.std.specs.Prelude.{◌≡◌, ℕ, Bool, true, false, List, length, Option, Some, None}
+use Rattle.stab_pauli.specs.declared.letter.Letter.{Letter}
+use Rattle.stab_pauli.specs.Letters.{◌⊕◌}
+use Rattle.stab_pauli.specs.Paulis.{Signed, strings_anticommute}
+use Rattle.stab_tableau.specs.Rules.{is_free_by}
+
+-- by coin number: of a measurement that was free a string that exchanges its outcomes, and none of one that was fixed; and
+-- whether the coin of the other run differs
+pub record Notes : Type 0 where
+  pub strings : ℕ → Option (List Letter)
+  pub changes : ℕ → Bool
+
+-- notes for another run with the same coins
+abbrev pub same_coins : (ℕ → Option (List Letter)) → Notes
+same_coins strings = record { strings = strings; changes = λ t. false }
+
+-- coins that differ from others where the bits are 1
+abbrev pub changed : (ℕ → Bool) → (ℕ → Bool) → ℕ → Bool
+changed coins changes t = changes t ⊕ coins t
+
+-- a string that with one of its signs stabilises, and that anticommutes with what is measured, exchanges the outcomes
+pub record Exchanges (n : ℕ) (member : Signed → Bool) (measured : Signed) (letters : List Letter) : Type 0 where
+  pub size : length letters ≡ n
+  pub negative : Bool
+  pub stabilises : member (record { negative = negative; letters = letters }) ≡ true
+  pub apart : strings_anticommute letters measured.letters ≡ true
+
+-- a note is right of a measurement: none where the outcome is fixed, and a string only if it exchanges the outcomes
+abbrev pub IsNoteOf : ℕ → (Signed → Bool) → Signed → Option (List Letter) → Type 0
+IsNoteOf n member measured None = is_free_by member measured ≡ false
+IsNoteOf n member measured (Some letters) = Exchanges n member measured letters
+
+-- it is right, or no frame needs it: where the coins differ just if the frame anticommutes with what is measured, both runs
+-- project on outcomes that the frame as it is makes of each other
+abbrev pub IsEnough : ℕ → (Signed → Bool) → Signed → List Letter → Bool → Option (List Letter) → Type 0
+IsEnough n member measured f change note = change ⊕ strings_anticommute f measured.letters ≡ true → IsNoteOf n member measured note

@@ -1,0 +1,32 @@
+-- Laws of tableaus: a tableau of one run, with the signs of its rows turned by the frame, is one of the other.
+-- Source: this project's own, for the tableau of Aaronson and Gottesman 2004, section III.
+use Rattle.std.specs.Prelude.{◌≡◌, ℕ, Bool, List, ◌++◌, All, length}
+use Rattle.stab_tableau.specs.Traces.{member}
+use Rattle.stab_tableau.specs.Groups.{SameGroup}
+use Rattle.stab_tableau.specs.Tableaus.{TableauState, stabilises}
+use Rattle.stab_circuit.specs.Steps.{Step}
+use Rattle.stab_run.specs.Points.{Point, RunOutput, origin, point_after, outputs}
+use Rattle.stab_run.specs.ProgramStates.{StepFits}
+use Rattle.stab_run.specs.Cuts.{lengths_of}
+use Rattle.stab_frames.specs.Frames.{Frame, PointsDifferBy}
+use Rattle.stab_frames.specs.Notes.{Notes, changed}
+use Rattle.stab_frames.specs.FrameSteps.{frame_over, AreEnough}
+use Rattle.stab_frames.specs.Fronts.{AreFronts}
+use Rattle.stab_frames.specs.TurnedTableaus.{turned_tableau}
+
+-- where points differ by a frame, a tableau of the group at the one, turned, has the group at the other
+abbrev pub TableausTurn : Type 0
+TableausTurn =
+    (n : ℕ) (f : Frame) (a b : Point) → PointsDifferBy n f a b → (t : TableauState) → length t.rows ≡ n →
+    SameGroup n (stabilises t) (member a.trace) → SameGroup n (stabilises (turned_tableau f.letters t)) (member b.trace)
+
+-- so it is of a copy of the state in one of two runs behind fronts that differ by a frame; and both have given as much there
+abbrev pub CopiesTurn : Type 0
+CopiesTurn =
+    (n : ℕ) (coins : ℕ → Bool) (notes : Notes) (us vs xs : List Step) (f : Frame) (flips : RunOutput) →
+    All (StepFits n) us → All (StepFits n) xs → AreFronts n coins (changed coins notes.changes) us vs f flips →
+    AreEnough n coins notes xs f (point_after n coins us origin) →
+    (t : TableauState) → length t.rows ≡ n → SameGroup n (stabilises t) (member (point_after n coins (us ++ xs) origin).trace) →
+    SameGroup n (stabilises (turned_tableau (frame_over n notes xs (point_after n coins us origin).coin f).letters t))
+    (member (point_after n (changed coins notes.changes) (vs ++ xs) origin).trace)
+    × (lengths_of (outputs n (changed coins notes.changes) (vs ++ xs) origin) ≡ lengths_of (outputs n coins (us ++ xs) origin))
