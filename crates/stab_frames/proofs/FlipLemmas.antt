@@ -1,12 +1,12 @@
 -- Flipped bits: lookbacks and parities of them, and lists of them one after another.
-use Rattle.std.proofs.Common.{◌≡◌, ℕ, zero, suc, ◌+◌, ◌-◌, refl, sym, ◌∙◌, ap, Bool, true, false, List, [], ◌∷◌, ◌++◌, length, map, replicate, get_or, set, drop, nat_lt, arith}
+use Rattle.std.proofs.Common.{◌≡◌, ℕ, zero, suc, ◌+◌, ◌-◌, refl, sym, ◌∙◌, ap, Bool, true, false, ◌&&◌, List, [], ◌∷◌, ◌++◌, length, map, replicate, get_or, set, drop, nat_lt, arith}
 use Rattle.std.specs.Prelude.{if◌then◌else◌}
 use Rattle.std.proofs.lemmas.List.{length-append, length-replicate, length-set, length-map, map-append}
 use Rattle.stab_pauli.specs.Letters.{◌⊕◌}
 use Rattle.stab_pauli.proofs.ParityLemmas.{parity-assoc, parity-mid, parity-twice}
 use Rattle.stab_run.specs.declared.records.Addition.{Addition}
 use Rattle.stab_run.specs.Records.{looked_up, parity}
-use Rattle.stab_run.specs.Runs.{added}
+use Rattle.stab_run.specs.Runs.{when, added}
 use Rattle.stab_run.specs.Points.{RunOutput, joined, with_additions}
 use Rattle.stab_frames.specs.Flips.{flipped, flipped_additions, flipped_output, unflipped, Matches}
 
@@ -85,6 +85,20 @@ joined-matches a b flips others here later = record {
       ∙ (λ i. here.observables i ++ later.observables i)
       ∙ sym (map-append (λ (a : Addition). a.observable) a.additions b.additions);
 }
+
+-- a bit that is given where a record is made, or counts where a reset is
+
+pub flipped-when : (recorded flip bit : Bool) → flipped (when recorded bit) (when recorded flip) ≡ when recorded (flip ⊕ bit)
+flipped-when true flip bit = refl
+flipped-when false flip bit = refl
+
+pub same-when : (recorded x y : Bool) → length (when recorded x) ≡ length (when recorded y)
+same-when true x y = refl
+same-when false x y = refl
+
+pub and-parity : (r x y : Bool) → (r && (x ⊕ y)) ≡ (r && x) ⊕ (r && y)
+and-parity true x y = refl
+and-parity false x y = refl
 
 -- no flips, one flip after another, and back
 

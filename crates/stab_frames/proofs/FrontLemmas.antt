@@ -15,7 +15,8 @@ use Rattle.stab_run.specs.ProgramStates.{StepFits}
 use Rattle.stab_frames.specs.Flips.{Matches, flipped, flipped_output, unflipped}
 use Rattle.stab_frames.specs.Frames.{Frame, PointsDifferBy, frame_of}
 use Rattle.stab_frames.specs.Notes.{Notes, changed}
-use Rattle.stab_frames.specs.FrameSteps.{AreEnough, frame_over, flips_over}
+use Rattle.stab_frames.specs.FrameSteps.{frame_over, flips_over}
+use Rattle.stab_frames.specs.StepNotes.{AreEnough}
 use Rattle.stab_frames.specs.Starts.{letters_on}
 use Rattle.stab_frames.specs.Fronts.{AreFronts}
 use Rattle.stab_frames.proofs.FlipLemmas.{flipped-joined, joined-matches, flipped-none, unflipped-output, unflipped-matches, additions-flipped}

@@ -5,6 +5,7 @@ pub mod FlipLemmas
 pub mod StepLemmas
 pub mod NoteLemmas
 pub mod StartLemmas
+pub mod GateLemmas
 pub mod LookbackLemmas
 pub mod EndLemmas
 pub mod TableauLemmas

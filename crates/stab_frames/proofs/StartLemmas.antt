@@ -1,26 +1,24 @@
 -- Where frames begin: at Pauli gates that stand in one circuit alone, or at gates that differ by a letter; and frames one after another.
-use Rattle.std.proofs.Common.{◌≡◌, ℕ, ◌+◌, ◌<◌, refl, sym, ◌∙◌, ap, subst, Bool, true, false, not, List, [], ◌∷◌, ◌++◌, append-nil, add-zero, length, map, replicate, get_or, arith}
+use Rattle.std.proofs.Common.{◌≡◌, ℕ, ◌+◌, ◌<◌, refl, sym, ◌∙◌, ap, subst, Bool, true, false, not, List, [], ◌∷◌, ◌++◌, append-nil, add-zero, length, map, replicate}
 use Rattle.std.specs.Prelude.{All}
 use Rattle.std.proofs.lemmas.List.{length-append, length-replicate}
 use Rattle.std.proofs.lemmas.List.Elements.{All-head, All-tail}
 use Rattle.stab_pauli.specs.declared.letter.Letter.{Letter}
 use Rattle.stab_pauli.specs.declared.letter.Letter.TheVariants as letter
 use Rattle.stab_pauli.specs.Letters.{◌⊕◌}
-use Rattle.stab_pauli.specs.Paulis.{Signed, single, strings_anticommute, string_product}
+use Rattle.stab_pauli.specs.Paulis.{single, string_product}
 use Rattle.stab_pauli.proofs.ParityLemmas.{parity-assoc}
 use Rattle.stab_pauli.proofs.StringLemmas.{length-string_product}
-use Rattle.stab_pauli.proofs.SignedLemmas.{signed_path}
 use Rattle.stab_tableau.specs.declared.gate.Gate.{Gate}
-use Rattle.stab_tableau.specs.Gates.{letter_image, put_letter, inverse, back}
 use Rattle.stab_tableau.specs.Traces.{applied, member}
-use Rattle.stab_tableau.proofs.OneLetterLemmas.{one_letter-anticommute, length-one_letter}
+use Rattle.stab_tableau.proofs.OneLetterLemmas.{length-one_letter}
 use Rattle.stab_circuit.specs.Steps.{one, controlled, collapse}
 use Rattle.stab_run.specs.Records.{looked_up}
 use Rattle.stab_frames.specs.Flips.{flipped}
 use Rattle.stab_frames.specs.Frames.{IsTurned, Frame, PointsDifferBy, identity_frame, frame_of, frame_product, times_where}
-use Rattle.stab_frames.specs.Starts.{letters_on, GatesDifferBy}
+use Rattle.stab_frames.specs.Starts.{letters_on}
 use Rattle.stab_frames.proofs.TurnedLemmas.{turned-blank, turned-over, turned-back, turned-right, turned-pauli}
-use Rattle.stab_frames.proofs.FlipLemmas.{length-flipped, flipped-none, flipped-append, flipped-twice, flipped-back}
+use Rattle.stab_frames.proofs.FlipLemmas.{length-flipped, flipped-none, flipped-append, flipped-twice, flipped-back, same-when}
 use Rattle.stab_run.specs.Runs.{when, gate_of, applied_where, outcome_at}
 use Rattle.stab_run.specs.Points.{Point, trace_after, next_point, point_after}
 
@@ -109,30 +107,6 @@ framed-exchanged n coins l m qs rs left right a =
     (framed-back n (frame_of (letters_on n l qs) (length a.records)) a (point_after n coins (map (one (gate_of l)) qs) a) (framed-paulis n coins l qs left a))
     (framed-paulis n coins m rs right a))
 
--- a gate in the place of another from which it differs by a letter
-
-turned-gates : (n : ℕ) (g h : Gate) (l : Letter) → GatesDifferBy g h l → (q : ℕ) → q < n → (u : Signed → Bool)
-    → IsTurned n (single n q l).letters (λ p. u (back g q p)) (λ p. u (back h q p))
-turned-gates n g h l d q lt u p size =
-    ap u (ap (λ m. put_letter q m p) (d (get_or p.letters q letter.I))
-    ∙ signed_path _ _
-    (ap (λ b. (b ⊕ (letter_image (inverse g) (get_or p.letters q letter.I)).negative) ⊕ p.negative) (sym (one_letter-anticommute n q l p.letters size lt))
-    ∙ moved (strings_anticommute (single n q l).letters p.letters) (letter_image (inverse g) (get_or p.letters q letter.I)).negative p.negative)
-    refl)
-  where
-    moved : (x y z : Bool) → (x ⊕ y) ⊕ z ≡ y ⊕ (x ⊕ z)
-    moved x y z = grind arith
-
-pub framed-gates : (n : ℕ) (coins : ℕ → Bool) (g h : Gate) (l : Letter) → GatesDifferBy g h l → (q : ℕ) → q < n → (a : Point)
-    → PointsDifferBy n (frame_of (single n q l).letters (length (next_point n coins (one g q) a).records)) (next_point n coins (one g q) a) (next_point n coins (one h q) a)
-framed-gates n coins g h l d q lt a = record {
-  size = length-one_letter n q l;
-  group = turned-gates n g h l d q lt (member a.trace);
-  coin = refl;
-  count = length-replicate (length (next_point n coins (one g q) a).records) false;
-  records = sym (flipped-none (next_point n coins (one g q) a).records);
-}
-
 -- a letter that a record controls
 
 pub framed-feedback : (n : ℕ) (coins : ℕ → Bool) (l : Letter) (k q : ℕ) → q < n → (a : Point)
@@ -159,10 +133,6 @@ flipped-mark : (recorded inverted o : Bool) → when recorded (not inverted ⊕ 
 flipped-mark true inverted o = ap (λ b. b ∷ []) (parity-assoc true inverted o)
 flipped-mark false inverted o = refl
 
-as-many : (recorded x y : Bool) → length (when recorded x) ≡ length (when recorded y)
-as-many true x y = refl
-as-many false x y = refl
-
 pub framed-mark : (n : ℕ) (coins : ℕ → Bool) (l : Letter) (q : ℕ) (recorded inverted resets : Bool) (a : Point)
     → PointsDifferBy n (record { letters = replicate n letter.I; flips = replicate (length a.records) false ++ when recorded true })
     (next_point n coins (collapse l q recorded inverted resets) a) (next_point n coins (collapse l q recorded (not inverted) resets) a)
@@ -172,7 +142,7 @@ framed-mark n coins l q recorded inverted resets a = record {
   coin = refl;
   count =
       length-append (replicate (length a.records) false) (when recorded true)
-      ∙ (λ i. length-replicate (length a.records) false i + as-many recorded true (inverted ⊕ outcome) i)
+      ∙ (λ i. length-replicate (length a.records) false i + same-when recorded true (inverted ⊕ outcome) i)
       ∙ sym (length-append a.records (when recorded (inverted ⊕ outcome)));
   records =
       (λ i. sym (flipped-none a.records) i ++ flipped-mark recorded inverted outcome i)

@@ -5,7 +5,6 @@ use Rattle.std.proofs.lemmas.List.Elements.{All-head, All-tail}
 use Rattle.stab_pauli.specs.declared.letter.Letter.{Letter}
 use Rattle.stab_pauli.specs.Letters.{◌⊕◌}
 use Rattle.stab_pauli.specs.Paulis.{Signed, single}
-use Rattle.stab_pauli.proofs.StringLemmas.{length-string_product}
 use Rattle.stab_tableau.specs.Gates.{inverse, back, back_pair}
 use Rattle.stab_tableau.specs.Traces.{Event, projected, member, is_free}
 use Rattle.stab_tableau.specs.Groups.{IsStabiliserGroup}
@@ -17,14 +16,15 @@ use Rattle.stab_run.specs.Records.{looked_up, parity}
 use Rattle.stab_run.specs.Runs.{when, string_of, gate_of, flip_of, applied_where, outcome_at}
 use Rattle.stab_run.specs.Points.{Point, nothing, joined, given, trace_after, coins_of, next_point, outputs}
 use Rattle.stab_run.specs.ProgramStates.{StepFits}
-use Rattle.stab_frames.specs.Flips.{flipped, flipped_output, Matches}
+use Rattle.stab_frames.specs.Flips.{flipped_output, Matches}
 use Rattle.stab_frames.specs.Frames.{plus, IsTurned, Frame, PointsDifferBy, times_where}
 use Rattle.stab_frames.specs.Notes.{Notes, changed, IsEnough}
-use Rattle.stab_frames.specs.FrameSteps.{IsEnoughAt, flips_outcome, letters_measured, letters_after, flips_given, frame_after, flips_over}
+use Rattle.stab_frames.specs.FrameSteps.{flips_outcome, letters_measured, letters_after, flips_given, frame_after, flips_over}
+use Rattle.stab_frames.specs.StepNotes.{IsEnoughAt}
 use Rattle.stab_frames.specs.StepLaws.{StepsKeepFrames, RunsKeepFrames}
-use Rattle.stab_frames.proofs.TurnedLemmas.{turned-applied, turned-applied_pair, turned-where}
+use Rattle.stab_frames.proofs.TurnedLemmas.{turned-applied, turned-applied_pair, turned-where, length-times}
 use Rattle.stab_frames.proofs.MeasuredLemmas.{turned-free, outcome-flipped, measured-turned, length-measured, outcome-only}
-use Rattle.stab_frames.proofs.FlipLemmas.{looked_up-flipped, parity-flipped, flipped-append, flipped-joined, joined-matches}
+use Rattle.stab_frames.proofs.FlipLemmas.{looked_up-flipped, parity-flipped, flipped-append, flipped-joined, joined-matches, flipped-when, and-parity, same-when}
 use Rattle.stab_run.proofs.ProductLemmas.{length-string_of}
 
 -- the strings at a point are a group, and so they are behind a step
@@ -55,18 +55,6 @@ group-next n coins (observable j ks) a fits group = group
 past-inverted : (i x o : Bool) → i ⊕ (x ⊕ o) ≡ x ⊕ (i ⊕ o)
 past-inverted i x o = grind arith
 
-flipped-when : (recorded x y : Bool) → flipped (when recorded y) (when recorded x) ≡ when recorded (x ⊕ y)
-flipped-when true x y = refl
-flipped-when false x y = refl
-
-and-parity : (r x o : Bool) → (r && (x ⊕ o)) ≡ (r && x) ⊕ (r && o)
-and-parity true x o = refl
-and-parity false x o = refl
-
-same-when : (recorded x y : Bool) → length (when recorded x) ≡ length (when recorded y)
-same-when true x y = refl
-same-when false x y = refl
-
 -- there is a flip for each bit that a step gives
 
 pub given-matches : (n : ℕ) (coins : ℕ → Bool) (notes : Notes) (x : Step) (a : Point) (c : ℕ) (f : Frame)
@@ -81,10 +69,6 @@ given-matches n coins notes (detector ks) a c f = record { records = refl; free 
 given-matches n coins notes (observable j ks) a c f = record { records = refl; free = refl; detectors = refl; observables = refl }
 
 -- one step
-
-length-times : (n : ℕ) (bit : Bool) (more f : List Letter) → length more ≡ n → length f ≡ n → length (times_where bit more f) ≡ n
-length-times n true more f lm lf = length-string_product n f more lf lm
-length-times n false more f lm lf = lf
 
 module _ (n : ℕ) (coins : ℕ → Bool) (notes : Notes) (f : Frame) (a b : Point) (framed : PointsDifferBy n f a b)
     (group : IsStabiliserGroup n (member a.trace)) where

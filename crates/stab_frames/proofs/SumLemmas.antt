@@ -17,10 +17,11 @@ use Rattle.stab_run.specs.Points.{RunOutput, nothing, joined, coins_of}
 use Rattle.stab_run.specs.ProgramStates.{StepFits}
 use Rattle.stab_frames.specs.Flips.{flipped, flipped_output, Matches}
 use Rattle.stab_frames.specs.Frames.{plus, Frame, frame_product, times_where}
-use Rattle.stab_frames.specs.Notes.{Notes}
+use Rattle.stab_frames.specs.Notes.{Notes, notes_of}
 use Rattle.stab_frames.specs.FrameSteps.{flipped_by, letters_by, flips_outcome, letters_measured, letters_after, flips_given, frame_after, frame_over, flips_over}
 use Rattle.stab_frames.specs.StepLaws.{AreStrings, FramesAdd}
-use Rattle.stab_frames.proofs.FlipLemmas.{looked_up-flipped, parity-flipped, flipped-append, flipped-joined}
+use Rattle.stab_frames.proofs.TurnedLemmas.{length-times}
+use Rattle.stab_frames.proofs.FlipLemmas.{looked_up-flipped, parity-flipped, flipped-append, flipped-joined, and-parity, same-when}
 
 -- strings of letters
 
@@ -45,10 +46,6 @@ module _ (n : ℕ) (s f g : List Letter) (ls : length s ≡ n) (lf : length f �
   times-add true false = sym past
   times-add true true = sym twice
 
-length-times : (n : ℕ) (bit : Bool) (more f : List Letter) → length more ≡ n → length f ≡ n → length (times_where bit more f) ≡ n
-length-times n true more f lm lf = length-string_product n f more lf lm
-length-times n false more f lm lf = lf
-
 -- measurements
 
 outcome-add : (note : Option (List Letter)) (x y : Bool) (m : Signed) (f g : List Letter)
@@ -69,17 +66,9 @@ measured-length : (n : ℕ) (note : Option (List Letter)) → ((s : List Letter)
 measured-length n None strings x m f lf = lf
 measured-length n (Some s) strings x m f lf = length-times n (x ⊕ strings_anticommute f m.letters) s f (strings s refl) lf
 
-and-parity : (r x y : Bool) → (r && (x ⊕ y)) ≡ (r && x) ⊕ (r && y)
-and-parity true x y = refl
-and-parity false x y = refl
-
 when-add : (recorded x y : Bool) → when recorded (x ⊕ y) ≡ flipped (when recorded x) (when recorded y)
 when-add true x y = ap (λ b. b ∷ []) (parity-comm x y)
 when-add false x y = refl
-
-as-many : (recorded x y : Bool) → length (when recorded x) ≡ length (when recorded y)
-as-many true x y = refl
-as-many false x y = refl
 
 -- one step
 
@@ -94,17 +83,17 @@ letters-length n notes strings (product factors inverted) c h l = measured-lengt
 letters-length n notes strings (detector ks) c h l = l
 letters-length n notes strings (observable j ks) c h l = l
 
-module _ (n : ℕ) (note : ℕ → Option (List Letter)) (x y : ℕ → Bool) (strings : AreStrings n note) (c : ℕ) (f g : Frame)
+module _ (n : ℕ) (strings : ℕ → Option (List Letter)) (x y : ℕ → Bool) (sized : AreStrings n strings) (c : ℕ) (f g : Frame)
     (lf : length f.letters ≡ n) (lg : length g.letters ≡ n) (same : length g.flips ≡ length f.flips) where
-  -- notes for the one frame, for the other, and for frame_product
+  -- notes for the one frame, for the other, and for both
   abbrev left : Notes
-  left = record { strings = note; changes = x }
+  left = notes_of strings x
 
   abbrev right : Notes
-  right = record { strings = note; changes = y }
+  right = notes_of strings y
 
   abbrev sum : Notes
-  sum = record { strings = note; changes = λ t. x t ⊕ y t }
+  sum = notes_of strings (λ t. x t ⊕ y t)
 
   looked-add : (k : ℕ) → looked_up (flipped f.flips g.flips) k ≡ looked_up f.flips k ⊕ looked_up g.flips k
   looked-add k = looked_up-flipped f.flips g.flips same k ∙ parity-comm (looked_up g.flips k) (looked_up f.flips k)
@@ -116,12 +105,12 @@ module _ (n : ℕ) (note : ℕ → Option (List Letter)) (x y : ℕ → Bool) (s
       (times_where (resets && flips_outcome right c m g.letters) (single n q l).letters (letters_measured right c m g.letters))
   reset-add m l q resets =
       (λ i. times_where
-      ((ap (λ b. resets && b) (outcome-add (note c) (x c) (y c) m f.letters g.letters)
+      ((ap (λ b. resets && b) (outcome-add (strings c) (x c) (y c) m f.letters g.letters)
       ∙ and-parity resets (flips_outcome left c m f.letters) (flips_outcome right c m g.letters)) i)
       (single n q l).letters
-      (measured-add n (note c) (strings c) (x c) (y c) m f.letters g.letters lf lg i))
+      (measured-add n (strings c) (sized c) (x c) (y c) m f.letters g.letters lf lg i))
       ∙ times-add n (single n q l).letters (letters_measured left c m f.letters) (letters_measured right c m g.letters) (length-one_letter n q l)
-      (measured-length n (note c) (strings c) (x c) m f.letters lf) (measured-length n (note c) (strings c) (y c) m g.letters lg)
+      (measured-length n (strings c) (sized c) (x c) m f.letters lf) (measured-length n (strings c) (sized c) (y c) m g.letters lg)
       (resets && flips_outcome left c m f.letters) (resets && flips_outcome right c m g.letters)
 
   letters-add : (z : Step) → StepFits n z → letters_after n sum z c (frame_product f g) ≡ string_product (letters_after n left z c f) (letters_after n right z c g)
@@ -131,7 +120,7 @@ module _ (n : ℕ) (note : ℕ → Option (List Letter)) (x y : ℕ → Bool) (s
       ap (λ b. times_where b (single n q l).letters (string_product f.letters g.letters)) (looked-add k)
       ∙ times-add n (single n q l).letters f.letters g.letters (length-one_letter n q l) lf lg (looked_up f.flips k) (looked_up g.flips k)
   letters-add (collapse l q recorded inverted resets) fits = reset-add (single n q l) (flip_of l) q resets
-  letters-add (product factors inverted) fits = measured-add n (note c) (strings c) (x c) (y c) (string_of n factors) f.letters g.letters lf lg
+  letters-add (product factors inverted) fits = measured-add n (strings c) (sized c) (x c) (y c) (string_of n factors) f.letters g.letters lf lg
   letters-add (detector ks) fits = refl
   letters-add (observable j ks) fits = refl
 
@@ -141,13 +130,13 @@ module _ (n : ℕ) (note : ℕ → Option (List Letter)) (x y : ℕ → Bool) (s
   given-add (controlled l k q) = refl
   given-add (collapse l q recorded inverted resets) = λ i. record nothing {
     records =
-        (ap (when recorded) (outcome-add (note c) (x c) (y c) (single n q l) f.letters g.letters)
+        (ap (when recorded) (outcome-add (strings c) (x c) (y c) (single n q l) f.letters g.letters)
         ∙ when-add recorded (flips_outcome left c (single n q l) f.letters) (flips_outcome right c (single n q l) g.letters)) i;
     free = false ∷ [];
   }
   given-add (product factors inverted) = λ i. record nothing {
     records =
-        (outcome-add (note c) (x c) (y c) (string_of n factors) f.letters g.letters
+        (outcome-add (strings c) (x c) (y c) (string_of n factors) f.letters g.letters
         ∙ parity-comm (flips_outcome left c (string_of n factors) f.letters) (flips_outcome right c (string_of n factors) g.letters)) i ∷ [];
     free = false ∷ [];
   }
@@ -159,7 +148,7 @@ module _ (n : ℕ) (note : ℕ → Option (List Letter)) (x y : ℕ → Bool) (s
   given-match (two h p q) = record { records = refl; free = refl; detectors = refl; observables = refl }
   given-match (controlled l k q) = record { records = refl; free = refl; detectors = refl; observables = refl }
   given-match (collapse l q recorded inverted resets) =
-      record { records = as-many recorded (flips_outcome right c (single n q l) g.letters) (flips_outcome left c (single n q l) f.letters); free = refl; detectors = refl; observables = refl }
+      record { records = same-when recorded (flips_outcome right c (single n q l) g.letters) (flips_outcome left c (single n q l) f.letters); free = refl; detectors = refl; observables = refl }
   given-match (product factors inverted) = record { records = refl; free = refl; detectors = refl; observables = refl }
   given-match (detector ks) = record { records = refl; free = refl; detectors = refl; observables = refl }
   given-match (observable j ks) = record { records = refl; free = refl; detectors = refl; observables = refl }
@@ -180,18 +169,18 @@ module _ (n : ℕ) (note : ℕ → Option (List Letter)) (x y : ℕ → Bool) (s
 
 -- steps
 pub frames-add : FramesAdd
-frames-add n note x y [] c f g fits strings lf lg same = (refl, refl)
-frames-add n note x y (z ∷ zs) c f g fits strings lf lg same =
-    let left : Notes = record { strings = note; changes = x } in
-    let right : Notes = record { strings = note; changes = y } in
-    let sum : Notes = record { strings = note; changes = λ t. x t ⊕ y t } in
+frames-add n strings x y [] c f g fits sized lf lg same = (refl, refl)
+frames-add n strings x y (z ∷ zs) c f g fits sized lf lg same =
+    let left : Notes = notes_of strings x in
+    let right : Notes = notes_of strings y in
+    let sum : Notes = notes_of strings (λ t. x t ⊕ y t) in
     let here : StepFits n z = All-head (StepFits n) z zs fits in
-    let later = frames-add n note x y zs (c + coins_of z) (frame_after n left z c f) (frame_after n right z c g) (All-tail (StepFits n) z zs fits) strings
-    (letters-length n left strings z c f lf) (letters-length n right strings z c g lg)
-    (after-same n note x y strings c f g lf lg same z) in
-    let next = after-add n note x y strings c f g lf lg same z here in (
-      (λ i. joined (given-add n note x y strings c f g lf lg same z i) ((ap (flips_over n sum zs (c + coins_of z)) next ∙ later.0) i))
+    let later = frames-add n strings x y zs (c + coins_of z) (frame_after n left z c f) (frame_after n right z c g) (All-tail (StepFits n) z zs fits) sized
+    (letters-length n left sized z c f lf) (letters-length n right sized z c g lg)
+    (after-same n strings x y sized c f g lf lg same z) in
+    let next = after-add n strings x y sized c f g lf lg same z here in (
+      (λ i. joined (given-add n strings x y sized c f g lf lg same z i) ((ap (flips_over n sum zs (c + coins_of z)) next ∙ later.0) i))
           ∙ sym (flipped-joined (flips_given n left z c f) (flips_over n left zs (c + coins_of z) (frame_after n left z c f))
-          (flips_given n right z c g) (flips_over n right zs (c + coins_of z) (frame_after n right z c g)) (given-match n note x y strings c f g lf lg same z)),
+          (flips_given n right z c g) (flips_over n right zs (c + coins_of z) (frame_after n right z c g)) (given-match n strings x y sized c f g lf lg same z)),
       ap (frame_over n sum zs (c + coins_of z)) next ∙ later.1,
     )

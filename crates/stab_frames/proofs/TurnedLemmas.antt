@@ -4,7 +4,7 @@ use Rattle.stab_pauli.specs.declared.letter.Letter.{Letter}
 use Rattle.stab_pauli.specs.declared.letter.Letter.TheVariants as letter
 use Rattle.stab_pauli.specs.Letters.{◌⊕◌}
 use Rattle.stab_pauli.specs.Paulis.{Signed, single, with_sign, strings_anticommute, string_product}
-use Rattle.stab_pauli.proofs.StringLemmas.{string_product-comm, strings_anticommute-blank, strings_anticommute-product}
+use Rattle.stab_pauli.proofs.StringLemmas.{string_product-comm, length-string_product, strings_anticommute-blank, strings_anticommute-product}
 use Rattle.stab_tableau.specs.declared.gate.Gate.{Gate}
 use Rattle.stab_tableau.specs.declared.gate.PairGate.{PairGate}
 use Rattle.stab_tableau.specs.Gates.{inverse, image, image_pair, back, back_pair}
@@ -86,6 +86,11 @@ turned-frame_product n l q lt f size u v h =
     (ap (λ (p : Signed). p.letters) (back-letter n q l (plus f) size lt)) u v h
 
 -- a letter that is applied where a bit is 1, which is flipped on one side
+
+pub length-times : (n : ℕ) (bit : Bool) (more f : List Letter) → length more ≡ n → length f ≡ n → length (times_where bit more f) ≡ n
+length-times n true more f lm lf = length-string_product n f more lf lm
+length-times n false more f lm lf = lf
+
 pub turned-where : (n : ℕ) (l : Letter) (q : ℕ) → q < n → (bit flip : Bool) (f : List Letter) → length f ≡ n → (s t : List Event)
     → IsTurned n f (member s) (member t)
     → IsTurned n (times_where flip (single n q l).letters f) (member (applied_where bit l q s)) (member (applied_where (flip ⊕ bit) l q t))

@@ -6,13 +6,12 @@ use Rattle.stab_pauli.specs.declared.letter.Letter.{Letter}
 use Rattle.stab_pauli.specs.Letters.{◌⊕◌}
 use Rattle.stab_pauli.specs.Paulis.{Signed, single, strings_anticommute}
 use Rattle.stab_tableau.specs.Gates.{image, image_pair}
-use Rattle.stab_tableau.specs.Traces.{member}
 use Rattle.stab_circuit.specs.Steps.{Step, one, two, controlled, collapse, product, detector, observable}
 use Rattle.stab_run.specs.Records.{looked_up, parity}
 use Rattle.stab_run.specs.Runs.{when, string_of, flip_of}
-use Rattle.stab_run.specs.Points.{Point, RunOutput, nothing, joined, coins_of, next_point}
+use Rattle.stab_run.specs.Points.{RunOutput, nothing, joined, coins_of}
 use Rattle.stab_frames.specs.Frames.{plus, Frame, times_where}
-use Rattle.stab_frames.specs.Notes.{Notes, IsNoteOf, IsEnough}
+use Rattle.stab_frames.specs.Notes.{Notes}
 
 -- whether an outcome is flipped: a fixed one where the frame anticommutes with what is measured, a free one where the coins differ
 abbrev pub flipped_by : Option (List Letter) → Bool → Signed → List Letter → Bool
@@ -72,34 +71,3 @@ frame_over n notes (x ∷ xs) coin f = frame_over n notes xs (coin + coins_of x)
 abbrev pub flips_over : ℕ → Notes → List Step → ℕ → Frame → RunOutput
 flips_over n notes [] coin f = nothing
 flips_over n notes (x ∷ xs) coin f = joined (flips_given n notes x coin f) (flips_over n notes xs (coin + coins_of x) (frame_after n notes x coin f))
-
--- the note of what a step at a point measures is right
-abbrev pub IsRightAt : ℕ → (ℕ → Option (List Letter)) → Step → Point → Type 0
-IsRightAt n strings (one g q) a = Unit {0}
-IsRightAt n strings (two g q r) a = Unit {0}
-IsRightAt n strings (controlled l k q) a = Unit {0}
-IsRightAt n strings (collapse l q recorded inverted resets) a = IsNoteOf n (member a.trace) (single n q l) (strings a.coin)
-IsRightAt n strings (product factors inverted) a = IsNoteOf n (member a.trace) (string_of n factors) (strings a.coin)
-IsRightAt n strings (detector ks) a = Unit {0}
-IsRightAt n strings (observable j ks) a = Unit {0}
-
--- the notes of the measurements of steps are right
-abbrev pub AreRight : ℕ → (ℕ → Bool) → (ℕ → Option (List Letter)) → List Step → Point → Type 0
-AreRight n coins strings [] a = Unit {0}
-AreRight n coins strings (x ∷ xs) a = IsRightAt n strings x a × AreRight n coins strings xs (next_point n coins x a)
-
--- the note of what a step measures is enough for a frame
-abbrev pub IsEnoughAt : ℕ → Notes → Step → List Letter → Point → Type 0
-IsEnoughAt n notes (one g q) f a = Unit {0}
-IsEnoughAt n notes (two g q r) f a = Unit {0}
-IsEnoughAt n notes (controlled l k q) f a = Unit {0}
-IsEnoughAt n notes (collapse l q recorded inverted resets) f a = IsEnough n (member a.trace) (single n q l) f (notes.changes a.coin) (notes.strings a.coin)
-IsEnoughAt n notes (product factors inverted) f a = IsEnough n (member a.trace) (string_of n factors) f (notes.changes a.coin) (notes.strings a.coin)
-IsEnoughAt n notes (detector ks) f a = Unit {0}
-IsEnoughAt n notes (observable j ks) f a = Unit {0}
-
--- the notes of the measurements of steps are enough for the frame before the first of them
-abbrev pub AreEnough : ℕ → (ℕ → Bool) → Notes → List Step → Frame → Point → Type 0
-AreEnough n coins notes [] f a = Unit {0}
-AreEnough n coins notes (x ∷ xs) f a =
-    IsEnoughAt n notes x f.letters a × AreEnough n coins notes xs (frame_after n notes x a.coin f) (next_point n coins x a)

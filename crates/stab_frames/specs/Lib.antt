@@ -2,6 +2,7 @@ pub mod Flips
 pub mod Frames
 pub mod Notes
 pub mod FrameSteps
+pub mod StepNotes
 pub mod Starts
 pub mod Ends
 pub mod Fronts
@@ -9,6 +10,7 @@ pub mod TurnedTableaus
 pub mod StepLaws
 pub mod NoteLaws
 pub mod StartLaws
+pub mod GateLaws
 pub mod EndLaws
 pub mod RunLaws
 pub mod TableauLaws

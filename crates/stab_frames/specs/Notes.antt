@@ -13,9 +13,17 @@ pub record Notes : Type 0 where
   pub strings : ℕ → Option (List Letter)
   pub changes : ℕ → Bool
 
--- notes for another run with the same coins
+-- notes for another run whose coins differ where the bits are 1
+abbrev pub notes_of : (ℕ → Option (List Letter)) → (ℕ → Bool) → Notes
+notes_of strings changes = record { strings = strings; changes = changes }
+
+-- for one with the same coins
 abbrev pub same_coins : (ℕ → Option (List Letter)) → Notes
-same_coins strings = record { strings = strings; changes = λ t. false }
+same_coins strings = notes_of strings (λ t. false)
+
+-- and where no string is noted
+abbrev pub no_strings : (ℕ → Bool) → Notes
+no_strings changes = notes_of (λ t. None) changes
 
 -- coins that differ from others where the bits are 1
 abbrev pub changed : (ℕ → Bool) → (ℕ → Bool) → ℕ → Bool

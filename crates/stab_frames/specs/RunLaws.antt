@@ -8,7 +8,8 @@ use Rattle.stab_run.specs.ProgramStates.{StepFits}
 use Rattle.stab_frames.specs.Flips.{unflipped}
 use Rattle.stab_frames.specs.Frames.{Frame, PointsDifferBy, identity_frame}
 use Rattle.stab_frames.specs.Notes.{Notes, same_coins, changed}
-use Rattle.stab_frames.specs.FrameSteps.{frame_over, flips_over, AreEnough}
+use Rattle.stab_frames.specs.FrameSteps.{frame_over, flips_over}
+use Rattle.stab_frames.specs.StepNotes.{AreEnough}
 use Rattle.stab_frames.specs.Fronts.{AreFronts, IsFlippedRun, with_letters, edit_frame, edit_flips}
 
 -- behind fronts that differ by a frame the same steps make the one run the other, flipped, and lead to points that differ by a frame

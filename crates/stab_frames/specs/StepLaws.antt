@@ -10,8 +10,9 @@ use Rattle.stab_run.specs.Points.{Point, origin, given, next_point, point_after,
 use Rattle.stab_run.specs.ProgramStates.{StepFits}
 use Rattle.stab_frames.specs.Flips.{flipped_output}
 use Rattle.stab_frames.specs.Frames.{Frame, PointsDifferBy, identity_frame, frame_product}
-use Rattle.stab_frames.specs.Notes.{Notes, changed}
-use Rattle.stab_frames.specs.FrameSteps.{frame_after, frame_over, flips_given, flips_over, IsEnoughAt, AreEnough}
+use Rattle.stab_frames.specs.Notes.{Notes, notes_of, changed}
+use Rattle.stab_frames.specs.FrameSteps.{frame_after, frame_over, flips_given, flips_over}
+use Rattle.stab_frames.specs.StepNotes.{IsEnoughAt, AreEnough}
 
 -- from points that differ by a frame a step leads to points that differ by the frame behind it, and gives what its flips make of the other
 abbrev pub StepsKeepFrames : Type 0
@@ -44,10 +45,6 @@ FramesCompose =
 -- strings that are noted have n letters
 abbrev pub AreStrings : ℕ → (ℕ → Option (List Letter)) → Type 0
 AreStrings n strings = (t : ℕ) (s : List Letter) → strings t ≡ Some s → length s ≡ n
-
--- notes for coins that differ from others of the run
-abbrev pub notes_of : (ℕ → Option (List Letter)) → (ℕ → Bool) → Notes
-notes_of strings changes = record { strings = strings; changes = changes }
 
 -- what the product of two frames flips is what each flips, added; so it is where some coins change in the one and some in the other
 abbrev pub FramesAdd : Type 0

@@ -10,7 +10,8 @@ use Rattle.stab_run.specs.ProgramStates.{StepFits}
 use Rattle.stab_run.specs.Cuts.{lengths_of}
 use Rattle.stab_frames.specs.Frames.{Frame, PointsDifferBy}
 use Rattle.stab_frames.specs.Notes.{Notes, changed}
-use Rattle.stab_frames.specs.FrameSteps.{frame_over, AreEnough}
+use Rattle.stab_frames.specs.FrameSteps.{frame_over}
+use Rattle.stab_frames.specs.StepNotes.{AreEnough}
 use Rattle.stab_frames.specs.Fronts.{AreFronts}
 use Rattle.stab_frames.specs.TurnedTableaus.{turned_tableau}
 

@@ -1,10 +1,20 @@
 //! Laws of notes: what has to be known of a run's measurements for a frame to follow it.
 
-ghost use Rattle.stab_frames.specs.NoteLaws.{MeasurementsHaveNotes, NotesAreEnoughBefore, RightNotesAreEnough};
+ghost use Rattle.stab_frames.specs.NoteLaws.{ColumnsExchange, FlagsTellNotes, MeasurementsHaveNotes, NotesAreEnoughBefore, RightNotesAreEnough, TurnedCoinsNeedNoStrings};
 
 /// Notes that are right of each measurement of a run are enough for every frame.
 pub fn right_notes_are_enough()
     ensures law { RightNotesAreEnough }
+{}
+
+/// Where the coins of the other run are turned with the frame, it needs no strings.
+pub fn turned_coins_need_no_strings()
+    ensures law { TurnedCoinsNeedNoStrings }
+{}
+
+/// Notes that are enough for steps are enough for the first of them.
+pub fn notes_are_enough_before()
+    ensures law { NotesAreEnoughBefore }
 {}
 
 /// Of each measurement in a sound trace there is a note: none, for its outcome is fixed, or a string
@@ -13,7 +23,13 @@ pub fn measurements_have_notes()
     ensures law { MeasurementsHaveNotes }
 {}
 
-/// Notes that are enough for steps are enough for the first of them.
-pub fn notes_are_enough_before()
-    ensures law { NotesAreEnoughBefore }
+/// Right notes have a string just where the flags of the run say that the coin decided.
+pub fn flags_tell_notes()
+    ensures law { FlagsTellNotes }
+{}
+
+/// A stabiliser of a tableau exchanges the outcomes of each string whose preimage has X or Y at its
+/// place.
+pub fn columns_exchange()
+    ensures law { ColumnsExchange }
 {}

@@ -1,4 +1,4 @@
-use Rattle.stab_frames.proofs.StartLemmas.{framed-gates}
+use Rattle.stab_frames.proofs.GateLemmas.{framed-gates}
 use Rattle.stab_frames.proofs.start_laws.gates_make_frames.Goals as goal
 
 pub returns : goal.returns
