@@ -186,19 +186,3 @@ module _ (n : ℕ) (f : List Letter) (u v : Signed → Bool) (h : IsTurned n f u
   pub length-measured : length f ≡ n → (note : Option (List Letter)) (change : Bool) → IsEnough n u q f change note → length (letters_by note change q f) ≡ n
   length-measured size None change enough = size
   length-measured size (Some s) change enough = exchanged-length size s change (strings_anticommute f q.letters) enough
-
--- groups stay groups
-
--- the other sign of an outcome does not stabilise
-pub outcome-only : (n : ℕ) (u : Signed → Bool) → IsStabiliserGroup n u → (q : Signed) → length q.letters ≡ n → (coin : Bool)
-    → u (minus (with_sign (outcome_by u q coin) q)) ≡ false
-outcome-only n u group q lq coin = ruled_out (u q) (u (minus q)) refl refl
-  where
-    ruled_out : (x y : Bool) → u q ≡ x → u (minus q) ≡ y → u (minus (with_sign (if x then false else (if y then true else coin)) q)) ≡ false
-    ruled_out true y e g = group.one_sign q lq e
-    ruled_out false true e g = ap u (sign-twice true q) ∙ e
-    ruled_out false false e g = by_coin coin
-      where
-        by_coin : (c : Bool) → u (minus (with_sign c q)) ≡ false
-        by_coin true = ap u (sign-twice true q) ∙ e
-        by_coin false = g

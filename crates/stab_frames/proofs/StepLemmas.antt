@@ -11,6 +11,7 @@ use Rattle.stab_tableau.specs.Groups.{IsStabiliserGroup}
 use Rattle.stab_tableau.proofs.OneLetterLemmas.{length-one_letter}
 use Rattle.stab_tableau.proofs.SymmetryLemmas.{IsSymmetry-image, IsSymmetry-pair, image-length, pair-length}
 use Rattle.stab_tableau.proofs.GroupLemmas.{group-back, group-projected}
+use Rattle.stab_tableau.proofs.TraceLemmas.{outcome-only}
 use Rattle.stab_circuit.specs.Steps.{Step, one, two, controlled, collapse, product, detector, observable}
 use Rattle.stab_run.specs.Records.{looked_up, parity}
 use Rattle.stab_run.specs.Runs.{when, string_of, gate_of, flip_of, applied_where, outcome_at}
@@ -23,7 +24,7 @@ use Rattle.stab_frames.specs.FrameSteps.{flips_outcome, letters_measured, letter
 use Rattle.stab_frames.specs.StepNotes.{IsEnoughAt}
 use Rattle.stab_frames.specs.StepLaws.{StepsKeepFrames, RunsKeepFrames}
 use Rattle.stab_frames.proofs.TurnedLemmas.{turned-applied, turned-applied_pair, turned-where, length-times}
-use Rattle.stab_frames.proofs.MeasuredLemmas.{turned-free, outcome-flipped, measured-turned, length-measured, outcome-only}
+use Rattle.stab_frames.proofs.MeasuredLemmas.{turned-free, outcome-flipped, measured-turned, length-measured}
 use Rattle.stab_frames.proofs.FlipLemmas.{looked_up-flipped, parity-flipped, flipped-append, flipped-joined, joined-matches, flipped-when, and-parity, same-when}
 use Rattle.stab_run.proofs.ProductLemmas.{length-string_of}
 

@@ -1,21 +1,20 @@
 -- Tableaus turned by a frame.
-use Rattle.std.proofs.Common.{◌≡◌, ℕ, refl, sym, ◌∙◌, ap, Bool, List, [], ◌∷◌, length, arith}
+use Rattle.std.proofs.Common.{◌≡◌, ℕ, suc, refl, sym, ◌∙◌, ap, Bool, List, [], ◌∷◌, length, arith}
 use Rattle.stab_pauli.specs.declared.letter.Letter.{Letter}
 use Rattle.stab_pauli.specs.declared.letter.Letter.TheVariants as letter
 use Rattle.stab_pauli.specs.Letters.{◌⊕◌, letters_anticommute}
 use Rattle.stab_pauli.specs.Paulis.{Signed, with_sign, strings_anticommute}
 use Rattle.stab_pauli.proofs.LetterLemmas.{each_letter}
-use Rattle.stab_tableau.specs.Traces.{member}
-use Rattle.stab_tableau.specs.Groups.{SameGroup}
 use Rattle.stab_tableau.specs.Tableaus.{TableauState, stabilises}
 use Rattle.stab_tableau.specs.inner.InverseRows.{InverseRows}
 use Rattle.stab_tableau.specs.inner.ColumnLetters.{letter_anticommuting}
 use Rattle.stab_tableau.specs.inner.Pairs.{paired}
 use Rattle.stab_tableau.specs.inner.Frames.{SameLetters, sign_frame}
 use Rattle.stab_tableau.proofs.SignFrameLemmas.{frame-stabilises}
-use Rattle.stab_run.specs.Points.{Point}
-use Rattle.stab_frames.specs.Frames.{IsTurned, Frame, PointsDifferBy}
+use Rattle.stab_tableau.proofs.SignTableLemmas.{same-table, same-onto}
+use Rattle.stab_frames.specs.Frames.{IsTurned}
 use Rattle.stab_frames.specs.TurnedTableaus.{turned_rows, turned_tableau, turned_pairs}
+use Rattle.stab_frames.specs.TableauLaws.{TableausTurn, PairsTurn, TurnedRowsAreTableaus}
 
 -- turned rows
 
@@ -26,13 +25,13 @@ turned-letters (l ∷ f) [] = tt
 turned-letters (l ∷ f) (r ∷ rows) = (refl, refl, turned-letters f rows)
 
 letter-back : (l : Letter) (a b : Bool) → letter_anticommuting (a ⊕ (letters_anticommute l letter.X ⊕ a)) (b ⊕ (letters_anticommute l letter.Z ⊕ b)) ≡ l
-letter-back l a b = (λ i. letter_anticommuting (cancels a (letters_anticommute l letter.X) i) (cancels b (letters_anticommute l letter.Z) i)) ∙ note l
+letter-back l a b = (λ i. letter_anticommuting (cancels a (letters_anticommute l letter.X) i) (cancels b (letters_anticommute l letter.Z) i)) ∙ told l
   where
     cancels : (x y : Bool) → x ⊕ (y ⊕ x) ≡ y
     cancels x y = grind arith
 
-    note : (l : Letter) → letter_anticommuting (letters_anticommute l letter.X) (letters_anticommute l letter.Z) ≡ l
-    note = each_letter (λ l. letter_anticommuting (letters_anticommute l letter.X) (letters_anticommute l letter.Z) ≡ l) refl refl refl refl
+    told : (l : Letter) → letter_anticommuting (letters_anticommute l letter.X) (letters_anticommute l letter.Z) ≡ l
+    told = each_letter (λ l. letter_anticommuting (letters_anticommute l letter.X) (letters_anticommute l letter.Z) ≡ l) refl refl refl refl
 
 turned-frame : (f : List Letter) (rows : List InverseRows) → length f ≡ length rows → sign_frame rows (turned_rows f rows) ≡ f
 turned-frame [] [] e = refl
@@ -47,8 +46,7 @@ turned-stabilises n f t e p l =
     ∙ ap (λ s. stabilises t (with_sign (strings_anticommute s p.letters) p)) (turned-frame f t.rows e)
 
 -- so a tableau that has the group at one point has, turned, the group at the other
-pub turned-group : (n : ℕ) (f : Frame) (a b : Point) → PointsDifferBy n f a b → (t : TableauState) → length t.rows ≡ n
-    → SameGroup n (stabilises t) (member a.trace) → SameGroup n (stabilises (turned_tableau f.letters t)) (member b.trace)
+pub turned-group : TableausTurn
 turned-group n f a b framed t rows same p l =
     turned-stabilises n f.letters t (framed.size ∙ sym rows) p l
     ∙ same (with_sign (strings_anticommute f.letters p.letters) p) l
@@ -61,3 +59,22 @@ paired-turned (l ∷ f) [] = refl
 paired-turned (l ∷ f) (x ∷ []) = refl
 paired-turned (l ∷ f) (x ∷ z ∷ rows) =
     ap (λ m. record { x = with_sign (letters_anticommute l letter.X) x; z = with_sign (letters_anticommute l letter.Z) z } ∷ m) (paired-turned f rows)
+
+same-count : (f : List Letter) (rows : List InverseRows) → length (turned_rows f rows) ≡ length rows
+same-count [] rows = refl
+same-count (l ∷ f) [] = refl
+same-count (l ∷ f) (r ∷ rows) = ap suc (same-count f rows)
+
+pub pairs-turned : PairsTurn
+pairs-turned f rows = λ i. record {
+  qubits = (ap length (paired-turned f rows) ∙ same-count f (paired rows)) i;
+  rows = paired-turned f rows i;
+}
+
+-- turned rows are a tableau again
+pub turned-tableau : TurnedRowsAreTableaus
+turned-tableau n f rows scratch size is = record {
+  table = same-table n rows (turned_rows f rows) (turned-letters f rows) is.table;
+  onto = same-onto n rows (turned_rows f rows) (turned-letters f rows) is.onto;
+  size = is.size;
+}

@@ -1,9 +1,13 @@
 -- Laws of tableaus: a tableau of one run, with the signs of its rows turned by the frame, is one of the other.
 -- Source: this project's own, for the tableau of Aaronson and Gottesman 2004, section III.
 use Rattle.std.specs.Prelude.{◌≡◌, ℕ, Bool, List, ◌++◌, All, length}
+use Rattle.stab_pauli.specs.declared.letter.Letter.{Letter}
+use Rattle.stab_pauli.specs.Paulis.{Signed}
 use Rattle.stab_tableau.specs.Traces.{member}
 use Rattle.stab_tableau.specs.Groups.{SameGroup}
 use Rattle.stab_tableau.specs.Tableaus.{TableauState, stabilises}
+use Rattle.stab_tableau.specs.inner.InverseRows.{InverseRows}
+use Rattle.stab_tableau.specs.inner.Tables.{IsTableau}
 use Rattle.stab_circuit.specs.Steps.{Step}
 use Rattle.stab_run.specs.Points.{Point, RunOutput, origin, point_after, outputs}
 use Rattle.stab_run.specs.ProgramStates.{StepFits}
@@ -13,7 +17,7 @@ use Rattle.stab_frames.specs.Notes.{Notes, changed}
 use Rattle.stab_frames.specs.FrameSteps.{frame_over}
 use Rattle.stab_frames.specs.StepNotes.{AreEnough}
 use Rattle.stab_frames.specs.Fronts.{AreFronts}
-use Rattle.stab_frames.specs.TurnedTableaus.{turned_tableau}
+use Rattle.stab_frames.specs.TurnedTableaus.{turned_rows, turned_tableau, tableau_of_pairs, turned_pairs}
 
 -- where points differ by a frame, a tableau of the group at the one, turned, has the group at the other
 abbrev pub TableausTurn : Type 0
@@ -31,3 +35,13 @@ CopiesTurn =
     SameGroup n (stabilises (turned_tableau (frame_over n notes xs (point_after n coins us origin).coin f).letters t))
     (member (point_after n (changed coins notes.changes) (vs ++ xs) origin).trace)
     × (lengths_of (outputs n (changed coins notes.changes) (vs ++ xs) origin) ≡ lengths_of (outputs n coins (us ++ xs) origin))
+
+-- turned rows are a tableau again
+abbrev pub TurnedRowsAreTableaus : Type 0
+TurnedRowsAreTableaus =
+    (n : ℕ) (f : List Letter) (rows : List InverseRows) (scratch : InverseRows) → length f ≡ n →
+    IsTableau n rows scratch → IsTableau n (turned_rows f rows) scratch
+
+-- and where they lie two by two they are turned by the signs of rows 2q and 2q + 1
+abbrev pub PairsTurn : Type 0
+PairsTurn = (f : List Letter) (rows : List Signed) → tableau_of_pairs (turned_pairs f rows) ≡ turned_tableau f (tableau_of_pairs rows)
