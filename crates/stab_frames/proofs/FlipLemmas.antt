@@ -86,6 +86,14 @@ joined-matches a b flips others here later = record {
       ∙ sym (map-append (λ (a : Addition). a.observable) a.additions b.additions);
 }
 
+pub matches-between : (o flips others : RunOutput) → Matches o flips → Matches o others → Matches flips others
+matches-between o flips others here there = record {
+  records = there.records ∙ sym here.records;
+  free = there.free ∙ sym here.free;
+  detectors = there.detectors ∙ sym here.detectors;
+  observables = there.observables ∙ sym here.observables;
+}
+
 -- a bit that is given where a record is made, or counts where a reset is
 
 pub flipped-when : (recorded flip bit : Bool) → flipped (when recorded bit) (when recorded flip) ≡ when recorded (flip ⊕ bit)

@@ -4,6 +4,7 @@ pub mod MeasuredLemmas
 pub mod FlipLemmas
 pub mod StepLemmas
 pub mod NoteLemmas
+pub mod RunNoteLemmas
 pub mod StartLemmas
 pub mod GateLemmas
 pub mod LookbackLemmas

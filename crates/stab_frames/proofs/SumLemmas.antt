@@ -13,7 +13,7 @@ use Rattle.stab_tableau.proofs.SymmetryLemmas.{IsSymmetry-image, IsSymmetry-pair
 use Rattle.stab_circuit.specs.Steps.{Step, one, two, controlled, collapse, product, detector, observable}
 use Rattle.stab_run.specs.Records.{looked_up}
 use Rattle.stab_run.specs.Runs.{when, string_of, flip_of}
-use Rattle.stab_run.specs.Points.{RunOutput, nothing, joined, coins_of}
+use Rattle.stab_run.specs.Points.{RunOutput, nothing, joined, coins_of, origin, given}
 use Rattle.stab_run.specs.ProgramStates.{StepFits}
 use Rattle.stab_frames.specs.Flips.{flipped, flipped_output, Matches}
 use Rattle.stab_frames.specs.Frames.{plus, Frame, frame_product, times_where}
@@ -21,7 +21,8 @@ use Rattle.stab_frames.specs.Notes.{Notes, notes_of}
 use Rattle.stab_frames.specs.FrameSteps.{flipped_by, letters_by, flips_outcome, letters_measured, letters_after, flips_given, frame_after, frame_over, flips_over}
 use Rattle.stab_frames.specs.StepLaws.{AreStrings, FramesAdd}
 use Rattle.stab_frames.proofs.TurnedLemmas.{length-times}
-use Rattle.stab_frames.proofs.FlipLemmas.{looked_up-flipped, parity-flipped, flipped-append, flipped-joined, and-parity, same-when}
+use Rattle.stab_frames.proofs.FlipLemmas.{matches-between, looked_up-flipped, parity-flipped, flipped-append, flipped-joined, and-parity}
+use Rattle.stab_frames.proofs.StepLemmas.{given-matches}
 
 -- strings of letters
 
@@ -144,14 +145,8 @@ module _ (n : ℕ) (strings : ℕ → Option (List Letter)) (x y : ℕ → Bool)
   given-add (observable j ks) = λ i. record nothing { additions = record { observable = j; bit = parity-flipped f.flips g.flips same ks i } ∷ [] }
 
   given-match : (z : Step) → Matches (flips_given n left z c f) (flips_given n right z c g)
-  given-match (one h q) = record { records = refl; free = refl; detectors = refl; observables = refl }
-  given-match (two h p q) = record { records = refl; free = refl; detectors = refl; observables = refl }
-  given-match (controlled l k q) = record { records = refl; free = refl; detectors = refl; observables = refl }
-  given-match (collapse l q recorded inverted resets) =
-      record { records = same-when recorded (flips_outcome right c (single n q l) g.letters) (flips_outcome left c (single n q l) f.letters); free = refl; detectors = refl; observables = refl }
-  given-match (product factors inverted) = record { records = refl; free = refl; detectors = refl; observables = refl }
-  given-match (detector ks) = record { records = refl; free = refl; detectors = refl; observables = refl }
-  given-match (observable j ks) = record { records = refl; free = refl; detectors = refl; observables = refl }
+  given-match z = matches-between (given n (λ t. false) z origin) (flips_given n left z c f) (flips_given n right z c g)
+      (given-matches n (λ t. false) left z origin c f) (given-matches n (λ t. false) right z origin c g)
 
   after-add : (z : Step) → StepFits n z → frame_after n sum z c (frame_product f g) ≡ frame_product (frame_after n left z c f) (frame_after n right z c g)
   after-add z fits = λ i. record {

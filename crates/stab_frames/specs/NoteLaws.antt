@@ -12,7 +12,7 @@ use Rattle.stab_tableau.specs.Tableaus.{TableauState, stabilises}
 use Rattle.stab_tableau.specs.inner.InverseRows.{string_preimage, IsTable, IsOnto}
 use Rattle.stab_tableau.specs.inner.ColumnLetters.{column}
 use Rattle.stab_circuit.specs.Steps.{Step}
-use Rattle.stab_run.specs.Points.{Point, all_coins_of, outputs}
+use Rattle.stab_run.specs.Points.{Point, origin, all_coins_of, outputs}
 use Rattle.stab_run.specs.ProgramStates.{StepFits}
 use Rattle.stab_frames.specs.Frames.{Frame}
 use Rattle.stab_frames.specs.Notes.{Notes, no_strings, Exchanges, IsNoteOf}
@@ -41,6 +41,11 @@ abbrev pub MeasurementsHaveNotes : Type 0
 MeasurementsHaveNotes =
     (n : ℕ) (trace : List Event) → Fits n trace → IsSound trace → (measured : Signed) → length measured.letters ≡ n →
     (note : Option (List Letter)) × IsNoteOf n (member trace) measured note
+
+-- so there are right notes of each run
+abbrev pub RunsHaveNotes : Type 0
+RunsHaveNotes =
+    (n : ℕ) (coins : ℕ → Bool) (xs : List Step) → All (StepFits n) xs → (strings : ℕ → Option (List Letter)) × AreRight n coins strings xs origin
 
 -- right notes have strings just where the flags that the steps give say that the coin decided
 abbrev pub FlagsTellNotes : Type 0

@@ -1,6 +1,6 @@
 //! Laws of notes: what has to be known of a run's measurements for a frame to follow it.
 
-ghost use Rattle.stab_frames.specs.NoteLaws.{ColumnsExchange, FlagsTellNotes, MeasurementsHaveNotes, NotesAreEnoughBefore, RightNotesAreEnough, TurnedCoinsNeedNoStrings};
+ghost use Rattle.stab_frames.specs.NoteLaws.{ColumnsExchange, FlagsTellNotes, MeasurementsHaveNotes, NotesAreEnoughBefore, RightNotesAreEnough, RunsHaveNotes, TurnedCoinsNeedNoStrings};
 
 /// Notes that are right of each measurement of a run are enough for every frame.
 pub fn right_notes_are_enough()
@@ -21,6 +21,11 @@ pub fn notes_are_enough_before()
 /// that exchanges its outcomes.
 pub fn measurements_have_notes()
     ensures law { MeasurementsHaveNotes }
+{}
+
+/// So there are right notes of each run, and what the laws of steps and runs ask of notes can be met.
+pub fn runs_have_notes()
+    ensures law { RunsHaveNotes }
 {}
 
 /// Right notes have a string just where the flags of the run say that the coin decided.

@@ -17,7 +17,7 @@ use Rattle.stab_run.specs.Laws.{AgreeWhere, DependsOnCoinsAt}
 same_point : (t : List Event) (c : ℕ) (r : List Bool) → ◌≡◌ {A = Point} (record { trace = t; coin = c; records = r }) (record { trace = t; coin = c + 0; records = r ++ [] })
 same_point t c r = λ i. record { trace = t; coin = sym (add-zero c) i; records = sym (append-nil r) i }
 
-next-point : (n : ℕ) (coins : ℕ → Bool) (x : Step) (s : State) → point_of (effect n coins x s) ≡ next_point n coins x (point_of s)
+pub next-point : (n : ℕ) (coins : ℕ → Bool) (x : Step) (s : State) → point_of (effect n coins x s) ≡ next_point n coins x (point_of s)
 next-point n coins (one g q) s = same_point (applied g q ∷ s.trace) s.coin s.records
 next-point n coins (two g a b) s = same_point (applied_pair g a b ∷ s.trace) s.coin s.records
 next-point n coins (controlled l k q) s = same_point (applied_where (looked_up s.records k) l q s.trace) s.coin s.records
