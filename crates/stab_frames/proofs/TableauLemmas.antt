@@ -73,7 +73,7 @@ pairs-turned f rows = λ i. record {
 
 -- turned rows are a tableau again
 pub turned-tableau : TurnedRowsAreTableaus
-turned-tableau n f rows scratch size is = record {
+turned-tableau n f rows scratch is = record {
   table = same-table n rows (turned_rows f rows) (turned-letters f rows) is.table;
   onto = same-onto n rows (turned_rows f rows) (turned-letters f rows) is.onto;
   size = is.size;

@@ -13,18 +13,18 @@ use Rattle.stab_frames.specs.FrameSteps.{flips_over}
 use Rattle.stab_frames.specs.Starts.{letters_on}
 
 -- steps with some coins and steps with others lead from the start to points that differ by a frame, and give what differs by flips
-pub record AreFronts (n : ℕ) (coins others : ℕ → Bool) (us vs : List Step) (f : Frame) (flips : RunOutput) : Type 0 where
-  pub framed : PointsDifferBy n f (point_after n coins us origin) (point_after n others vs origin)
-  pub given : outputs n others vs origin ≡ flipped_output (outputs n coins us origin) flips
-  pub matches : Matches (outputs n coins us origin) flips
+pub record AreFronts (n : ℕ) (coins others : ℕ → Bool) (old new : List Step) (f : Frame) (flips : RunOutput) : Type 0 where
+  pub framed : PointsDifferBy n f (point_after n coins old origin) (point_after n others new origin)
+  pub given : outputs n others new origin ≡ flipped_output (outputs n coins old origin) flips
+  pub matches : Matches (outputs n coins old origin) flips
 
 -- the run of other steps with other coins shows what the one shows, flipped, however many observables there are
-pub record IsFlippedRun (n : ℕ) (coins others : ℕ → Bool) (xs ys : List Step) (flips : RunOutput) : Type 0 where
-  pub records : (k : ℕ) → (run n others ys (start k)).records ≡ flipped (run n coins xs (start k)).records flips.records
-  pub free : (k : ℕ) → (run n others ys (start k)).free ≡ flipped (run n coins xs (start k)).free flips.free
-  pub detectors : (k : ℕ) → (run n others ys (start k)).detectors ≡ flipped (run n coins xs (start k)).detectors flips.detectors
-  pub observables : (k : ℕ) → (run n others ys (start k)).observables
-      ≡ flipped (run n coins xs (start k)).observables (with_additions flips.additions (replicate k false))
+pub record IsFlippedRun (n : ℕ) (coins others : ℕ → Bool) (old new : List Step) (flips : RunOutput) : Type 0 where
+  pub records : (k : ℕ) → (run n others new (start k)).records ≡ flipped (run n coins old (start k)).records flips.records
+  pub free : (k : ℕ) → (run n others new (start k)).free ≡ flipped (run n coins old (start k)).free flips.free
+  pub detectors : (k : ℕ) → (run n others new (start k)).detectors ≡ flipped (run n coins old (start k)).detectors flips.detectors
+  pub observables : (k : ℕ) → (run n others new (start k)).observables
+      ≡ flipped (run n coins old (start k)).observables (with_additions flips.additions (replicate k false))
 
 -- steps with a letter applied to each of some qubits behind them
 abbrev pub with_letters : List Step → Letter → List ℕ → List Step

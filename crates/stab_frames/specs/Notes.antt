@@ -7,8 +7,8 @@ use Rattle.stab_pauli.specs.Letters.{◌⊕◌}
 use Rattle.stab_pauli.specs.Paulis.{Signed, strings_anticommute}
 use Rattle.stab_tableau.specs.Rules.{is_free_by}
 
--- by coin number: of a measurement that was free a string that exchanges its outcomes, and none of one that was fixed; and
--- whether the coin of the other run differs
+-- by coin number: a string that exchanges the outcomes, where the outcome was free, and none where it was fixed; and whether the
+-- coin of the other run differs
 pub record Notes : Type 0 where
   pub strings : ℕ → Option (List Letter)
   pub changes : ℕ → Bool
@@ -41,7 +41,7 @@ abbrev pub IsNoteOf : ℕ → (Signed → Bool) → Signed → Option (List Lett
 IsNoteOf n member measured None = is_free_by member measured ≡ false
 IsNoteOf n member measured (Some letters) = Exchanges n member measured letters
 
--- it is right, or no frame needs it: where the coins differ just if the frame anticommutes with what is measured, both runs
--- project on outcomes that the frame as it is makes of each other
+-- it is enough for a frame: right, unless the coins differ just where the frame anticommutes with what is measured, for then
+-- each outcome, fixed or free, is flipped as the frame has it
 abbrev pub IsEnough : ℕ → (Signed → Bool) → Signed → List Letter → Bool → Option (List Letter) → Type 0
 IsEnough n member measured f change note = change ⊕ strings_anticommute f measured.letters ≡ true → IsNoteOf n member measured note

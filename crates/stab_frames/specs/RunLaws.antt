@@ -15,12 +15,12 @@ use Rattle.stab_frames.specs.Fronts.{AreFronts, IsFlippedRun, with_letters, edit
 -- behind fronts that differ by a frame the same steps make the one run the other, flipped, and lead to points that differ by a frame
 abbrev pub FrontsFlip : Type 0
 FrontsFlip =
-    (n : ℕ) (coins : ℕ → Bool) (notes : Notes) (us vs xs : List Step) (f : Frame) (flips : RunOutput) →
-    All (StepFits n) us → All (StepFits n) xs → AreFronts n coins (changed coins notes.changes) us vs f flips →
-    AreEnough n coins notes xs f (point_after n coins us origin) →
-    IsFlippedRun n coins (changed coins notes.changes) (us ++ xs) (vs ++ xs) (joined flips (flips_over n notes xs (point_after n coins us origin).coin f))
-    × PointsDifferBy n (frame_over n notes xs (point_after n coins us origin).coin f) (point_after n coins (us ++ xs) origin)
-    (point_after n (changed coins notes.changes) (vs ++ xs) origin)
+    (n : ℕ) (coins : ℕ → Bool) (notes : Notes) (old new back : List Step) (f : Frame) (flips : RunOutput) →
+    All (StepFits n) old → All (StepFits n) back → AreFronts n coins (changed coins notes.changes) old new f flips →
+    AreEnough n coins notes back f (point_after n coins old origin) →
+    IsFlippedRun n coins (changed coins notes.changes) (old ++ back) (new ++ back) (joined flips (flips_over n notes back (point_after n coins old origin).coin f))
+    × PointsDifferBy n (frame_over n notes back (point_after n coins old origin).coin f) (point_after n coins (old ++ back) origin)
+    (point_after n (changed coins notes.changes) (new ++ back) origin)
 
 -- Pauli gates in the place of others, behind the same steps, make such fronts
 abbrev pub PauliFronts : Type 0

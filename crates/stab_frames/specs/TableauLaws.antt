@@ -28,19 +28,18 @@ TableausTurn =
 -- so it is of a copy of the state in one of two runs behind fronts that differ by a frame; and both have given as much there
 abbrev pub CopiesTurn : Type 0
 CopiesTurn =
-    (n : ℕ) (coins : ℕ → Bool) (notes : Notes) (us vs xs : List Step) (f : Frame) (flips : RunOutput) →
-    All (StepFits n) us → All (StepFits n) xs → AreFronts n coins (changed coins notes.changes) us vs f flips →
-    AreEnough n coins notes xs f (point_after n coins us origin) →
-    (t : TableauState) → length t.rows ≡ n → SameGroup n (stabilises t) (member (point_after n coins (us ++ xs) origin).trace) →
-    SameGroup n (stabilises (turned_tableau (frame_over n notes xs (point_after n coins us origin).coin f).letters t))
-    (member (point_after n (changed coins notes.changes) (vs ++ xs) origin).trace)
-    × (lengths_of (outputs n (changed coins notes.changes) (vs ++ xs) origin) ≡ lengths_of (outputs n coins (us ++ xs) origin))
+    (n : ℕ) (coins : ℕ → Bool) (notes : Notes) (old new back : List Step) (f : Frame) (flips : RunOutput) →
+    All (StepFits n) old → All (StepFits n) back → AreFronts n coins (changed coins notes.changes) old new f flips →
+    AreEnough n coins notes back f (point_after n coins old origin) →
+    (t : TableauState) → length t.rows ≡ n → SameGroup n (stabilises t) (member (point_after n coins (old ++ back) origin).trace) →
+    SameGroup n (stabilises (turned_tableau (frame_over n notes back (point_after n coins old origin).coin f).letters t))
+    (member (point_after n (changed coins notes.changes) (new ++ back) origin).trace)
+    × (lengths_of (outputs n (changed coins notes.changes) (new ++ back) origin) ≡ lengths_of (outputs n coins (old ++ back) origin))
 
 -- turned rows are a tableau again
 abbrev pub TurnedRowsAreTableaus : Type 0
 TurnedRowsAreTableaus =
-    (n : ℕ) (f : List Letter) (rows : List InverseRows) (scratch : InverseRows) → length f ≡ n →
-    IsTableau n rows scratch → IsTableau n (turned_rows f rows) scratch
+    (n : ℕ) (f : List Letter) (rows : List InverseRows) (scratch : InverseRows) → IsTableau n rows scratch → IsTableau n (turned_rows f rows) scratch
 
 -- and where they lie two by two they are turned by the signs of rows 2q and 2q + 1
 abbrev pub PairsTurn : Type 0
