@@ -28,15 +28,15 @@ get_or-flipped (bit ∷ bits) [] e i = absurd (omega arith)
 get_or-flipped (bit ∷ bits) (flip ∷ flips) e zero = refl
 get_or-flipped (bit ∷ bits) (flip ∷ flips) e (suc i) = get_or-flipped bits flips (omega arith) i
 
-frame_product-kept : (c x y : Bool) → (if c then false else (x ⊕ y)) ≡ (if c then false else x) ⊕ (if c then false else y)
-frame_product-kept true x y = refl
-frame_product-kept false x y = refl
+both-kept : (c x y : Bool) → (if c then false else (x ⊕ y)) ≡ (if c then false else x) ⊕ (if c then false else y)
+both-kept true x y = refl
+both-kept false x y = refl
 
 pub looked_up-flipped : (bits flips : List Bool) → length flips ≡ length bits → (k : ℕ) → looked_up (flipped bits flips) k ≡ looked_up flips k ⊕ looked_up bits k
 looked_up-flipped bits flips e k =
     (λ i. if nat_lt (length-flipped bits flips i) k then false else get_or (flipped bits flips) (length-flipped bits flips i - k) false)
     ∙ ap (λ z. if nat_lt (length bits) k then false else z) (get_or-flipped bits flips e (length bits - k))
-    ∙ frame_product-kept (nat_lt (length bits) k) (get_or flips (length bits - k) false) (get_or bits (length bits - k) false)
+    ∙ both-kept (nat_lt (length bits) k) (get_or flips (length bits - k) false) (get_or bits (length bits - k) false)
     ∙ ap (λ m. (if nat_lt m k then false else get_or flips (m - k) false) ⊕ looked_up bits k) (sym e)
 
 pub parity-flipped : (bits flips : List Bool) → length flips ≡ length bits → (ks : List ℕ) → parity (flipped bits flips) ks ≡ parity flips ks ⊕ parity bits ks
@@ -127,6 +127,16 @@ pub flipped-back : (bits flips : List Bool) → length flips ≡ length bits →
 flipped-back [] flips e = refl
 flipped-back (b ∷ bits) [] e = absurd (omega arith)
 flipped-back (b ∷ bits) (f ∷ flips) e = λ i. parity-twice f b i ∷ flipped-back bits flips (omega arith) i
+
+-- bits are others, flipped where they differ
+pub flipped-apart : (bits others : List Bool) → length others ≡ length bits → flipped bits (flipped bits others) ≡ others
+flipped-apart [] [] e = refl
+flipped-apart [] (o ∷ others) e = absurd (omega arith)
+flipped-apart (b ∷ bits) [] e = absurd (omega arith)
+flipped-apart (b ∷ bits) (o ∷ others) e = λ i. parity-back o b i ∷ flipped-apart bits others (omega arith) i
+  where
+    parity-back : (x y : Bool) → (x ⊕ y) ⊕ y ≡ x
+    parity-back x y = grind arith
 
 additions-none : (adds : List Addition) → flipped_additions adds (map (λ a. record { observable = a.observable; bit = false }) adds) ≡ adds
 additions-none [] = refl

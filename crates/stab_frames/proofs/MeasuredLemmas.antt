@@ -28,28 +28,6 @@ pub turned-free : (n : ℕ) (f : List Letter) (u v : Signed → Bool) → IsTurn
     → is_free_by v q ≡ is_free_by u q
 turned-free n f u v h q l = free-sides u v q (strings_anticommute f q.letters) (h q l) (h (minus q) l)
 
--- a fixed outcome is flipped where the letters anticommute with what is measured, whatever the coins
-
-fixed_sides : (m k coin other : Bool) → (m ≡ true → k ≡ false) → (not m && not k) ≡ false
-    → (if k then false else (if m then true else other)) ≡ not (if m then false else (if k then true else coin))
-fixed_sides true true coin other apart e = let f : true ≡ false = apart refl in cc
-fixed_sides true false coin other apart e = refl
-fixed_sides false true coin other apart e = refl
-fixed_sides false false coin other apart e = cc
-
-outcome-sides : (u v : Signed → Bool) (q : Signed) (coin other : Bool) (x : Bool) → v q ≡ u (with_sign x q) → v (minus q) ≡ u (with_sign x (minus q))
-    → (u q ≡ true → u (minus q) ≡ false) → is_free_by u q ≡ false → outcome_by v q other ≡ x ⊕ outcome_by u q coin
-outcome-sides u v q coin other false e g apart fixed =
-    (λ i. if e i then false else (if g i then true else other)) ∙ both_false (u q) (u (minus q)) other coin fixed
-outcome-sides u v q coin other true e g apart fixed =
-    (λ i. if e i then false else (if (g ∙ ap u (sign-twice true q)) i then true else other))
-    ∙ fixed_sides (u q) (u (minus q)) coin other apart fixed
-
-pub turned-outcome : (n : ℕ) (f : List Letter) (u v : Signed → Bool) → IsTurned n f u v → IsStabiliserGroup n u → (q : Signed) → length q.letters ≡ n
-    → (coin other : Bool) → is_free_by u q ≡ false → outcome_by v q other ≡ strings_anticommute f q.letters ⊕ outcome_by u q coin
-turned-outcome n f u v h group q l coin other fixed =
-    outcome-sides u v q coin other (strings_anticommute f q.letters) (h q l) (h (minus q) l) (group.one_sign q l) fixed
-
 -- on the other coin each outcome is flipped, fixed or free, where the letters anticommute with what is measured
 
 opposite : (m k coin : Bool) → (m ≡ true → k ≡ false) → (if k then false else (if m then true else not coin)) ≡ not (if m then false else (if k then true else coin))
@@ -136,6 +114,14 @@ module _ (n : ℕ) (f : List Letter) (u v : Signed → Bool) (h : IsTurned n f u
       let free : is_free_by u q ≡ true = exchanged-free n u group q lq s e in
       (both_true (u q) (u (minus q)) coin free, both_true (v q) (v (minus q)) other (turned-free n f u v h q lq ∙ free))
 
+  -- and a fixed outcome depends on no coin
+  outcome-fixed : (coin other b : Bool) → strings_anticommute f q.letters ≡ b → is_free_by u q ≡ false → outcome_by v q other ≡ b ⊕ outcome_by u q coin
+  outcome-fixed coin other false e fixed = outcome-commuting other e ∙ both_false (u q) (u (minus q)) other coin fixed
+  outcome-fixed coin other true e fixed =
+      ap (outcome_by v q) (sym (not-twice other))
+      ∙ outcome-opposite (not other) e
+      ∙ ap not (both_false (u q) (u (minus q)) (not other) coin fixed)
+
   flipped-same : (note : Option (List Letter)) (change : Bool) → strings_anticommute f q.letters ≡ change → flipped_by note change q f ≡ change
   flipped-same None change e = e
   flipped-same (Some s) change e = refl
@@ -143,7 +129,7 @@ module _ (n : ℕ) (f : List Letter) (u v : Signed → Bool) (h : IsTurned n f u
   -- by a right note
   outcome-noted : (note : Option (List Letter)) (change : Bool) → IsNoteOf n u q note → (coin : Bool)
       → outcome_by v q (change ⊕ coin) ≡ flipped_by note change q f ⊕ outcome_by u q coin
-  outcome-noted None change right coin = turned-outcome n f u v h group q lq coin (change ⊕ coin) right
+  outcome-noted None change right coin = outcome-fixed coin (change ⊕ coin) (strings_anticommute f q.letters) refl right
   outcome-noted (Some s) change right coin =
       let free = outcome-free s right coin (change ⊕ coin) in
       free.1 ∙ ap (λ o. change ⊕ o) (sym free.0)

@@ -79,9 +79,9 @@ turned-left n l q lt f u v h =
     (turned-over n (single n q l).letters f (λ p. u (back (gate_of l) q p)) u v
     (turned-back n (single n q l).letters u (λ p. u (back (gate_of l) q p)) (turned-pauli n l q lt u)) h)
 
-turned-frame_product : (n : ℕ) (l : Letter) (q : ℕ) → q < n → (f : List Letter) → length f ≡ n → (u v : Signed → Bool) → IsTurned n f u v
+turned-both : (n : ℕ) (l : Letter) (q : ℕ) → q < n → (f : List Letter) → length f ≡ n → (u v : Signed → Bool) → IsTurned n f u v
     → IsTurned n f (λ p. u (back (gate_of l) q p)) (λ p. v (back (gate_of l) q p))
-turned-frame_product n l q lt f size u v h =
+turned-both n l q lt f size u v h =
     turned-symmetry n (back (gate_of l) q) (IsSymmetry-image n (inverse (gate_of l)) q) f f size
     (ap (λ (p : Signed). p.letters) (back-letter n q l (plus f) size lt)) u v h
 
@@ -95,7 +95,7 @@ pub turned-where : (n : ℕ) (l : Letter) (q : ℕ) → q < n → (bit flip : Bo
     → IsTurned n f (member s) (member t)
     → IsTurned n (times_where flip (single n q l).letters f) (member (applied_where bit l q s)) (member (applied_where (flip ⊕ bit) l q t))
 turned-where n l q lt false false f size s t h = h
-turned-where n l q lt true false f size s t h = turned-frame_product n l q lt f size (member s) (member t) h
+turned-where n l q lt true false f size s t h = turned-both n l q lt f size (member s) (member t) h
 turned-where n l q lt false true f size s t h = turned-right n l q lt f (member s) (member t) h
 turned-where n l q lt true true f size s t h = turned-left n l q lt f (member s) (member t) h
 

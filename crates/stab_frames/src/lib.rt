@@ -8,11 +8,15 @@
 //! The laws stand in this order; each function of these modules does nothing, and its contract is a law:
 //!
 //! - `step_laws`: steps keep two points apart by a frame; frames multiply, and what they flip adds.
-//! - `note_laws`: which notes are enough for a frame, and that each measurement has one.
+//! - `note_laws`: which notes are enough for a frame, that each run has right ones, and what tells them.
 //! - `start_laws`: Pauli gates, feedback, inverted records and pairs of gates that begin a frame.
 //! - `end_laws`: when a frame is none, and how far back it may have flipped records by then.
 //! - `run_laws`: whole runs, after an edit by Pauli gates or with other coins, are old ones, flipped.
-//! - `tableau_laws`: a tableau of one run is one of the other, once signs of its rows are turned.
+//! - `tableau_laws`: a tableau of one run is one of the other, once signs of its rows are turned, and
+//!   what signs tell of a frame.
+//!
+//! In `specs/`, `Frames`, `Notes` and `FrameSteps` say what a frame is and what a step makes of it, `Flips`
+//! and `StepNotes` what it flips and which notes it needs; the laws stand in files named after these modules.
 //!
 //! Sources: C. Gidney, Stim: a fast stabilizer circuit simulator (2021), for Pauli frames; S. Aaronson and
 //! D. Gottesman, Improved simulation of stabilizer circuits (2004), for measurements. It differs in that
