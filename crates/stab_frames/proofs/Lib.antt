@@ -5,6 +5,7 @@ pub mod FlipLemmas
 pub mod StepLemmas
 pub mod NoteLemmas
 pub mod RunNoteLemmas
+pub mod TurnedCoinLemmas
 pub mod StartLemmas
 pub mod GateLemmas
 pub mod LookbackLemmas

@@ -4,7 +4,7 @@ use Rattle.std.specs.Prelude.{Option, None, IfSome, All, if◌then◌else◌}
 use Rattle.std.proofs.lemmas.List.Elements.{All-head, All-tail}
 use Rattle.std.proofs.lemmas.Option.{IfSome_then}
 use Rattle.stab_pauli.specs.declared.letter.Letter.{Letter}
-use Rattle.stab_pauli.specs.Paulis.{single}
+use Rattle.stab_pauli.specs.Paulis.{Signed, single}
 use Rattle.stab_tableau.specs.Traces.{member}
 use Rattle.stab_tableau.proofs.OneLetterLemmas.{length-one_letter}
 use Rattle.stab_circuit.specs.Steps.{Step, one, two, controlled, collapse, product, detector, observable}
@@ -14,7 +14,7 @@ use Rattle.stab_run.specs.ProgramStates.{StepFits}
 use Rattle.stab_run.proofs.ProductLemmas.{length-string_of}
 use Rattle.stab_run.proofs.SoundLemmas.{IsGood, good-next}
 use Rattle.stab_frames.specs.Notes.{IsNoteOf}
-use Rattle.stab_frames.specs.StepNotes.{measured_by, IsRightAt, AreRight}
+use Rattle.stab_frames.specs.StepNotes.{measured_by, AreRight}
 use Rattle.stab_frames.specs.NoteLaws.{RunsHaveNotes}
 use Rattle.stab_frames.proofs.NoteLemmas.{measurement-note}
 
@@ -39,31 +39,31 @@ step-note n (product factors inverted) a good =
 step-note n (detector ks) a good = (None, tt)
 step-note n (observable j ks) a good = (None, tt)
 
--- a note for one coin number put before others
-abbrev noted : ℕ → Option (List Letter) → (ℕ → Option (List Letter)) → ℕ → Option (List Letter)
-noted coin note others k = if k == coin then note else others k
+-- what is said of one coin number put before what is said of others
+abbrev pub said_at : {X : Type 0} → ℕ → X → (ℕ → X) → ℕ → X
+said_at coin here others k = if k == coin then here else others k
 
-noted-here : (coin : ℕ) (note : Option (List Letter)) (others : ℕ → Option (List Letter)) → noted coin note others coin ≡ note
-noted-here coin note others = ap (λ b. if b then note else others coin) same
+pub said-here : {X : Type 0} (coin : ℕ) (here : X) (others : ℕ → X) → said_at coin here others coin ≡ here
+said-here coin here others = ap (λ b. if b then here else others coin) same
   where
     same : (coin == coin) ≡ true
     same = grind arith
 
-noted-beyond : (coin : ℕ) (note : Option (List Letter)) (others : ℕ → Option (List Letter)) (k : ℕ) → coin < k → others k ≡ noted coin note others k
-noted-beyond coin note others k lt = ap (λ b. if b then note else others k) (sym other)
+pub said-beyond : {X : Type 0} (coin : ℕ) (here : X) (others : ℕ → X) (k : ℕ) → coin < k → others k ≡ said_at coin here others k
+said-beyond coin here others k lt = ap (λ b. if b then here else others k) (sym other)
   where
     other : (k == coin) ≡ false
     other = grind arith
 
 -- a step that uses up no coin measures nothing
-unmeasured : (n : ℕ) (strings : ℕ → Option (List Letter)) (x : Step) (a : Point) → coins_of x ≡ 0 → IsRightAt n strings x a
-unmeasured n strings (one g q) a none = tt
-unmeasured n strings (two g p q) a none = tt
-unmeasured n strings (controlled l k q) a none = tt
-unmeasured n strings (collapse l q recorded inverted resets) a none = absurd (omega (arith, none))
-unmeasured n strings (product factors inverted) a none = absurd (omega (arith, none))
-unmeasured n strings (detector ks) a none = tt
-unmeasured n strings (observable j ks) a none = tt
+pub unmeasured : (n : ℕ) (P : Signed → Type 0) (x : Step) → coins_of x ≡ 0 → IfSome (measured_by n x) P
+unmeasured n P (one g q) none = tt
+unmeasured n P (two g p q) none = tt
+unmeasured n P (controlled l k q) none = tt
+unmeasured n P (collapse l q recorded inverted resets) none = absurd (omega (arith, none))
+unmeasured n P (product factors inverted) none = absurd (omega (arith, none))
+unmeasured n P (detector ks) none = tt
+unmeasured n P (observable j ks) none = tt
 
 -- notes of steps, by those of all but the first
 notes-before : (n : ℕ) (coins : ℕ → Bool) (x : Step) (xs : List Step) (a : Point) → IsGood n a.trace
@@ -75,13 +75,13 @@ notes-before n coins x xs a good later = by_coins (coins_of x) refl
     here = step-note n x a good
 
     by_coins : (c : ℕ) → coins_of x ≡ c → (strings : ℕ → Option (List Letter)) × AreRight n coins strings (x ∷ xs) a
-    by_coins zero e = (later.0, (unmeasured n later.0 x a e, later.1))
+    by_coins zero e = (later.0, (unmeasured n (λ m. IsNoteOf n (member a.trace) m (later.0 a.coin)) x e, later.1))
     by_coins (suc c) e = (
-      noted a.coin here.0 later.0,
+      said_at a.coin here.0 later.0,
       (
-        IfSome_then (measured_by n x) here.1 (λ m is. subst (IsNoteOf n (member a.trace) m) (sym (noted-here a.coin here.0 later.0)) is),
-        right-beyond n coins later.0 (noted a.coin here.0 later.0) xs (next_point n coins x a)
-            (λ k le. noted-beyond a.coin here.0 later.0 k (omega (arith, e, le))) later.1,
+        IfSome_then (measured_by n x) here.1 (λ m is. subst (IsNoteOf n (member a.trace) m) (sym (said-here a.coin here.0 later.0)) is),
+        right-beyond n coins later.0 (said_at a.coin here.0 later.0) xs (next_point n coins x a)
+            (λ k le. said-beyond a.coin here.0 later.0 k (omega (arith, e, le))) later.1,
       ),
     )
 

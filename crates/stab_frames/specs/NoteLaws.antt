@@ -30,6 +30,10 @@ TurnedCoinsNeedNoStrings =
     (n : ℕ) (coins changes : ℕ → Bool) (xs : List Step) (f : Frame) (a : Point) →
     AreTurned n changes xs a.coin f → AreEnough n coins (no_strings changes) xs f a
 
+-- each frame has such coins for the steps behind it, whatever the run
+abbrev pub FramesHaveCoins : Type 0
+FramesHaveCoins = (n : ℕ) (xs : List Step) (coin : ℕ) (f : Frame) → (changes : ℕ → Bool) × AreTurned n changes xs coin f
+
 -- notes that are enough for steps are enough for the first of them
 abbrev pub NotesAreEnoughBefore : Type 0
 NotesAreEnoughBefore =

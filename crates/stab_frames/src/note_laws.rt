@@ -1,6 +1,6 @@
 //! Laws of notes: what has to be known of a run's measurements for a frame to follow it.
 
-ghost use Rattle.stab_frames.specs.NoteLaws.{ColumnsExchange, FlagsTellNotes, MeasurementsHaveNotes, NotesAreEnoughBefore, RightNotesAreEnough, RunsHaveNotes, TurnedCoinsNeedNoStrings};
+ghost use Rattle.stab_frames.specs.NoteLaws.{ColumnsExchange, FlagsTellNotes, FramesHaveCoins, MeasurementsHaveNotes, NotesAreEnoughBefore, RightNotesAreEnough, RunsHaveNotes, TurnedCoinsNeedNoStrings};
 
 /// Notes that are right of each measurement of a run are enough for every frame.
 pub fn right_notes_are_enough()
@@ -10,6 +10,11 @@ pub fn right_notes_are_enough()
 /// Where the coins of the other run are turned with the frame, it needs no strings.
 pub fn turned_coins_need_no_strings()
     ensures law { TurnedCoinsNeedNoStrings }
+{}
+
+/// Each frame has such coins, whatever the run that it starts from.
+pub fn frames_have_coins()
+    ensures law { FramesHaveCoins }
 {}
 
 /// Notes that are enough for steps are enough for the first of them.
