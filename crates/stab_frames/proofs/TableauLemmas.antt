@@ -1,5 +1,5 @@
 -- Tableaus turned by a frame.
-use Rattle.std.proofs.Common.{◌≡◌, ℕ, suc, refl, sym, ◌∙◌, ap, Bool, true, List, [], ◌∷◌, length, arith}
+use Rattle.std.proofs.Common.{◌≡◌, ℕ, refl, sym, ◌∙◌, ap, Bool, true, List, [], ◌∷◌, length, arith}
 use Rattle.stab_pauli.specs.declared.letter.Letter.{Letter}
 use Rattle.stab_pauli.specs.declared.letter.Letter.TheVariants as letter
 use Rattle.stab_pauli.specs.Letters.{◌⊕◌, letters_anticommute}
@@ -12,7 +12,7 @@ use Rattle.stab_tableau.specs.inner.ColumnLetters.{letter_anticommuting}
 use Rattle.stab_tableau.specs.inner.Pairs.{paired}
 use Rattle.stab_tableau.specs.inner.Frames.{SameLetters, sign_frame}
 use Rattle.stab_tableau.proofs.SignFrameLemmas.{length-frame, frame-stabilises, frame-same, same-frame}
-use Rattle.stab_tableau.proofs.SignTableLemmas.{same-table, same-onto}
+use Rattle.stab_tableau.proofs.SignTableLemmas.{same-count, same-table, same-onto}
 use Rattle.stab_frames.specs.Frames.{IsTurned}
 use Rattle.stab_frames.specs.TurnedTableaus.{turned_rows, turned_tableau, turned_pairs}
 use Rattle.stab_frames.specs.TableauLaws.{TableausTurn, PairsTurn, TurnedRowsAreTableaus, SignsMakeFrames, TableausTellWhatTurns}
@@ -62,14 +62,9 @@ paired-turned (l ∷ f) (x ∷ []) = refl
 paired-turned (l ∷ f) (x ∷ z ∷ rows) =
     ap (λ m. record { x = with_sign (letters_anticommute l letter.X) x; z = with_sign (letters_anticommute l letter.Z) z } ∷ m) (paired-turned f rows)
 
-same-count : (f : List Letter) (rows : List InverseRows) → length (turned_rows f rows) ≡ length rows
-same-count [] rows = refl
-same-count (l ∷ f) [] = refl
-same-count (l ∷ f) (r ∷ rows) = ap suc (same-count f rows)
-
 pub pairs-turned : PairsTurn
 pairs-turned f rows = λ i. record {
-  qubits = (ap length (paired-turned f rows) ∙ same-count f (paired rows)) i;
+  qubits = (ap length (paired-turned f rows) ∙ same-count (paired rows) (turned_rows f (paired rows)) (turned-letters f (paired rows))) i;
   rows = paired-turned f rows i;
 }
 

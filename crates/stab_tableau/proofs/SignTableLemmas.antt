@@ -1,9 +1,7 @@
 -- Rows that differ in their signs alone from those of a table are a table too.
-use Rattle.std.proofs.Common.{◌≡◌, ℕ, zero, suc, ◌<◌, Bool, false, refl, sym, ◌∙◌, ap, List, [], ◌∷◌, length}
+use Rattle.std.proofs.Common.{◌≡◌, ℕ, zero, suc, Bool, refl, sym, ◌∙◌, ap, List, [], ◌∷◌, length}
 use Rattle.stab_pauli.specs.declared.letter.Letter.{Letter}
-use Rattle.stab_pauli.specs.declared.phase.Phase.TheVariants.{Zero}
-use Rattle.stab_pauli.specs.Phases.{phase_of_sign, phase_add}
-use Rattle.stab_pauli.specs.Letters.{◌⊕◌}
+use Rattle.stab_pauli.specs.Phases.{phase_of_sign}
 use Rattle.stab_pauli.specs.Paulis.{strings_anticommute, string_product}
 use Rattle.stab_pauli.specs.Phaseds.{Phased, plain, times_phase, phased_product}
 use Rattle.stab_pauli.proofs.ParityLemmas.{parity-self}
@@ -13,7 +11,7 @@ use Rattle.stab_pauli.proofs.PhasedLemmas.{times_phase-times_phase, times_phase-
 use Rattle.stab_tableau.specs.inner.InverseRows.{InverseRows, IsOver, IsHomomorphism, IsTable, IsOnto, blank, rows_at, string_preimage, extend}
 use Rattle.stab_tableau.specs.inner.Frames.{SameLetters, sign_frame}
 use Rattle.stab_tableau.proofs.HomomorphismLemmas.{extend-times_phase, after-homomorphism, same-homomorphism}
-use Rattle.stab_tableau.proofs.SignFrameLemmas.{length-frame, frame-preimage, times_phase_both}
+use Rattle.stab_tableau.proofs.SignFrameLemmas.{frame-preimage, times_phase_both}
 
 -- a string with its sign turned where it anticommutes with another
 abbrev turned : List Letter → List Letter → Phased
@@ -37,7 +35,7 @@ same-over n (r ∷ rows) [] s q is = absurd s
 same-over n (r ∷ rows) (t ∷ others) s zero is = record { x = ap length (sym s.0) ∙ is.x; z = ap length (sym s.1) ∙ is.z }
 same-over n (r ∷ rows) (t ∷ others) s (suc q) is = same-over n rows others s.2 q is
 
-same-count : (rows others : List InverseRows) → SameLetters rows others → length others ≡ length rows
+pub same-count : (rows others : List InverseRows) → SameLetters rows others → length others ≡ length rows
 same-count [] [] s = refl
 same-count [] (t ∷ others) s = absurd s
 same-count (r ∷ rows) [] s = absurd s
