@@ -1,5 +1,5 @@
 pub mod RecordLemmas
-mod ProductLemmas
+pub mod ProductLemmas
 pub mod RunLemmas
 pub mod StateLemmas
 pub mod FutureLemmas

@@ -1,5 +1,5 @@
 -- Sound runs: steps on n qubits keep a trace on n qubits and sound.
-use Rattle.std.proofs.Common.{◌≡◌, ℕ, ◌<◌, refl, Bool, true, false, List, [], ◌∷◌, All, length}
+use Rattle.std.proofs.Common.{◌≡◌, ℕ, ◌<◌, refl, subst, Bool, true, false, List, [], ◌∷◌, All, length}
 use Rattle.std.specs.Prelude.{None}
 use Rattle.std.proofs.lemmas.List.Elements.{All-head, All-tail}
 use Rattle.stab_pauli.specs.declared.letter.Letter.{Letter}
@@ -11,15 +11,17 @@ use Rattle.stab_circuit.specs.Items.{Items}
 use Rattle.stab_circuit.specs.Steps.{Step, one, two, controlled, collapse, product, detector, observable, unroll, observables_of, check_within}
 use Rattle.stab_circuit.specs.Cursors.{IsApart}
 use Rattle.stab_run.specs.Runs.{State, start, string_of, applied_where, effect, run, run_of}
+use Rattle.stab_run.specs.Points.{Point, nothing, trace_after, state_at}
 use Rattle.stab_run.specs.Laws.{IsSoundRun}
 use Rattle.stab_run.specs.ProgramStates.{StepFits}
 use Rattle.stab_run.proofs.ProductLemmas.{length-string_of}
+use Rattle.stab_run.proofs.StateLemmas.{next-point}
 use Rattle.stab_run.proofs.FitLemmas.{check-fits}
 
 -- the trace is on n qubits and sound
-record IsGood (n : ℕ) (trace : List Event) : Type 0 where
-  fits : Fits n trace
-  sound : IsSound trace
+pub record IsGood (n : ℕ) (trace : List Event) : Type 0 where
+  pub fits : Fits n trace
+  pub sound : IsSound trace
 
 good-applied : (n : ℕ) (bit : Bool) (l : Letter) (q : ℕ) (t : List Event) → q < n → IsGood n t → IsGood n (applied_where bit l q t)
 good-applied n true l q t lt good = record { fits = (lt, good.fits); sound = good.sound }
@@ -38,6 +40,12 @@ good-effect n coins (product factors inverted) s fits good =
     good-projected n (string_of n factors) s.trace (coins s.coin) (length-string_of n factors) good
 good-effect n coins (detector ks) s fits good = good
 good-effect n coins (observable j ks) s fits good = good
+
+-- and at a point: that of a state which has given nothing
+pub good-next : (n : ℕ) (coins : ℕ → Bool) (x : Step) (p : Point) → StepFits n x → IsGood n p.trace → IsGood n (trace_after n coins x p)
+good-next n coins x p fits good =
+    let s : State = state_at p nothing (start 0) in
+    subst (λ (q : Point). IsGood n q.trace) (next-point n coins x s) (good-effect n coins x s fits good)
 
 good-run : (n : ℕ) (coins : ℕ → Bool) (xs : List Step) (s : State) → All (StepFits n) xs → IsGood n s.trace → IsGood n (run n coins xs s).trace
 good-run n coins [] s fits good = good

@@ -17,7 +17,7 @@ use Rattle.stab_run.specs.Laws.{AgreeWhere, DependsOnCoinsAt}
 same_point : (t : List Event) (c : ℕ) (r : List Bool) → ◌≡◌ {A = Point} (record { trace = t; coin = c; records = r }) (record { trace = t; coin = c + 0; records = r ++ [] })
 same_point t c r = λ i. record { trace = t; coin = sym (add-zero c) i; records = sym (append-nil r) i }
 
-next-point : (n : ℕ) (coins : ℕ → Bool) (x : Step) (s : State) → point_of (effect n coins x s) ≡ next_point n coins x (point_of s)
+pub next-point : (n : ℕ) (coins : ℕ → Bool) (x : Step) (s : State) → point_of (effect n coins x s) ≡ next_point n coins x (point_of s)
 next-point n coins (one g q) s = same_point (applied g q ∷ s.trace) s.coin s.records
 next-point n coins (two g a b) s = same_point (applied_pair g a b ∷ s.trace) s.coin s.records
 next-point n coins (controlled l k q) s = same_point (applied_where (looked_up s.records k) l q s.trace) s.coin s.records
@@ -48,12 +48,12 @@ run-state n coins (x ∷ xs) s =
 
 -- coins that do not decide
 
-both_false : (a b coin other : Bool) → (not a && not b) ≡ false → (if a then false else (if b then true else coin)) ≡ (if a then false else (if b then true else other))
+pub both_false : (a b coin other : Bool) → (not a && not b) ≡ false → (if a then false else (if b then true else coin)) ≡ (if a then false else (if b then true else other))
 both_false true b coin other e = refl
 both_false false true coin other e = refl
 both_false false false coin other e = cc
 
-both_true : (a b coin : Bool) → (not a && not b) ≡ true → (if a then false else (if b then true else coin)) ≡ coin
+pub both_true : (a b coin : Bool) → (not a && not b) ≡ true → (if a then false else (if b then true else coin)) ≡ coin
 both_true true b coin e = cc
 both_true false true coin e = cc
 both_true false false coin e = refl

@@ -42,6 +42,7 @@ pub mod EliminationStepLemmas
 pub mod EliminationEndLemmas
 pub mod SameGroupLemmas
 pub mod SignFrameLemmas
+pub mod SignTableLemmas
 pub mod BasisLemmas
 pub mod FrameLemmas
 pub mod SameStateLemmas

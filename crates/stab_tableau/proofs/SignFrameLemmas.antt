@@ -57,7 +57,7 @@ other-sign p q e =
     back a b = grind arith
 
 -- signs of two factors
-times_phase_both : (a b : Bool) (p q : Phased) → phased_product (times_phase (phase_of_sign a) p) (times_phase (phase_of_sign b) q) ≡ times_phase (phase_of_sign (a ⊕ b)) (phased_product p q)
+pub times_phase_both : (a b : Bool) (p q : Phased) → phased_product (times_phase (phase_of_sign a) p) (times_phase (phase_of_sign b) q) ≡ times_phase (phase_of_sign (a ⊕ b)) (phased_product p q)
 times_phase_both a b p q =
     phased_product-times_phase_left (phase_of_sign a) p (times_phase (phase_of_sign b) q)
     ∙ ap (times_phase (phase_of_sign a)) (phased_product-times_phase_right (phase_of_sign b) p q)

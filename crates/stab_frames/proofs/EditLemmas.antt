@@ -1,0 +1,86 @@
+-- Edits that put Pauli gates in the place of others: the run of the edited circuit is the old one, flipped.
+use Rattle.std.proofs.Common.{◌≡◌, ℕ, ◌<◌, refl, ◌∙◌, ap, Bool, List, [], ◌∷◌, ◌++◌, map}
+use Rattle.std.specs.Prelude.{All}
+use Rattle.std.proofs.lemmas.List.Elements.{All-nil, All-cons, All-head, All-tail, All-append}
+use Rattle.stab_pauli.specs.declared.letter.Letter.{Letter}
+use Rattle.stab_circuit.specs.Steps.{Step, one}
+use Rattle.stab_run.specs.Runs.{gate_of}
+use Rattle.stab_run.specs.Points.{RunOutput, origin, nothing, joined, point_after, outputs}
+use Rattle.stab_run.specs.ProgramStates.{StepFits}
+use Rattle.stab_run.specs.Cuts.{lengths_of}
+use Rattle.stab_frames.specs.Flips.{Matches, flipped_output, unflipped}
+use Rattle.stab_frames.specs.Frames.{identity_frame}
+use Rattle.stab_frames.specs.Notes.{same_coins, changed}
+use Rattle.stab_frames.specs.FrameSteps.{frame_over, flips_over}
+use Rattle.stab_frames.specs.Fronts.{edit_frame, IsFlippedRun}
+use Rattle.stab_frames.specs.RunLaws.{FrontsFlip, PauliFronts, PauliEditsFlip, CoinsFlip}
+use Rattle.stab_frames.specs.TableauLaws.{CopiesTurn}
+use Rattle.stab_frames.proofs.FlipLemmas.{length-flipped, length-flipped_additions}
+use Rattle.stab_frames.proofs.StartLemmas.{framed-same}
+use Rattle.stab_frames.proofs.TableauLemmas.{turned-group}
+use Rattle.stab_frames.proofs.FrontLemmas.{fronts-outputs, fronts-matches, fronts-framed, paulis-front, paulis-given, paulis-match, records-flipped, flags-flipped, detectors-flipped, observables-flipped}
+
+gates-fit : (n : ℕ) (l : Letter) (qs : List ℕ) → All (λ q. q < n) qs → All (StepFits n) (map (one (gate_of l)) qs)
+gates-fit n l [] fits = All-nil (StepFits n)
+gates-fit n l (q ∷ qs) fits =
+    All-cons (StepFits n) (one (gate_of l) q) (map (one (gate_of l)) qs) (All-head (λ q. q < n) q qs fits) (gates-fit n l qs (All-tail (λ q. q < n) q qs fits))
+
+pub flipped-run : (n : ℕ) (coins others : ℕ → Bool) (xs ys : List Step) (flips : RunOutput)
+    → outputs n others ys origin ≡ flipped_output (outputs n coins xs origin) flips
+    → Matches (outputs n coins xs origin) flips → IsFlippedRun n coins others xs ys flips
+flipped-run n coins others xs ys flips given matches = record {
+  records = λ k. records-flipped n coins others xs ys k flips given matches;
+  free = λ k. flags-flipped n coins others xs ys k flips given matches;
+  detectors = λ k. detectors-flipped n coins others xs ys k flips given matches;
+  observables = λ k. observables-flipped n coins others xs ys k flips given matches;
+}
+
+pub fronts-flip : FrontsFlip
+fronts-flip n coins notes us vs xs f flips fits later fronts enough = (
+  flipped-run n coins (changed coins notes.changes) (us ++ xs) (vs ++ xs) (joined flips (flips_over n notes xs (point_after n coins us origin).coin f))
+      (fronts-outputs n coins notes us vs xs f flips fits later fronts enough)
+      (fronts-matches n coins notes us vs xs f flips fits later fronts enough),
+  fronts-framed n coins notes us vs xs f flips fits later fronts enough,
+)
+
+-- Pauli gates
+
+pub pauli-fronts : PauliFronts
+pauli-fronts n coins front l m qs rs left right = record {
+  framed = paulis-front n coins l m qs rs left right front;
+  given = paulis-given n coins l m qs rs front;
+  matches = paulis-match n coins l qs front;
+}
+
+pub paulis-flip : PauliEditsFlip
+paulis-flip n coins strings front back l m qs rs fits later left right enough =
+    (fronts-flip n coins (same_coins strings) (front ++ map (one (gate_of l)) qs) (front ++ map (one (gate_of m)) rs) back
+    (edit_frame n coins front l qs m rs) (unflipped (outputs n coins front origin))
+    (All-append (StepFits n) front (map (one (gate_of l)) qs) fits (gates-fit n l qs left)) later
+    (pauli-fronts n coins front l m qs rs left right) enough).0
+
+-- coins
+
+pub coins-flip : CoinsFlip
+coins-flip n coins notes xs fits enough =
+    (fronts-flip n coins notes [] [] xs (identity_frame n 0) nothing (All-nil (StepFits n)) fits
+    (record { framed = framed-same n origin; given = refl; matches = record { records = refl; free = refl; detectors = refl; observables = refl } })
+    enough).0
+
+-- copies
+
+same-lengths : (o flips : RunOutput) → lengths_of (flipped_output o flips) ≡ lengths_of o
+same-lengths o flips = λ i. record {
+  records = length-flipped o.records flips.records i;
+  free = length-flipped o.free flips.free i;
+  detectors = length-flipped o.detectors flips.detectors i;
+  additions = length-flipped_additions o.additions flips.additions i;
+}
+
+pub copies-turn : CopiesTurn
+copies-turn n coins notes us vs xs f flips fits later fronts enough t rows same = (
+  turned-group n (frame_over n notes xs (point_after n coins us origin).coin f) (point_after n coins (us ++ xs) origin)
+      (point_after n (changed coins notes.changes) (vs ++ xs) origin) (fronts-framed n coins notes us vs xs f flips fits later fronts enough) t rows same,
+  ap lengths_of (fronts-outputs n coins notes us vs xs f flips fits later fronts enough)
+      ∙ same-lengths (outputs n coins (us ++ xs) origin) (joined flips (flips_over n notes xs (point_after n coins us origin).coin f)),
+)

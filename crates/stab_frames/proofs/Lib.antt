@@ -1,0 +1,16 @@
+pub mod SignLemmas
+pub mod TurnedLemmas
+pub mod MeasuredLemmas
+pub mod FlipLemmas
+pub mod StepLemmas
+pub mod NoteLemmas
+pub mod RunNoteLemmas
+pub mod TurnedCoinLemmas
+pub mod StartLemmas
+pub mod GateLemmas
+pub mod LookbackLemmas
+pub mod EndLemmas
+pub mod TableauLemmas
+pub mod FrontLemmas
+pub mod EditLemmas
+pub mod SumLemmas

@@ -1,0 +1,174 @@
+-- Measured tests: what a measurement answers and leaves by two tests that differ by the letters of a frame, with a note of it.
+use Rattle.std.proofs.Common.{◌≡◌, ℕ, refl, sym, ◌∙◌, ap, subst, Bool, true, false, not, ◌&&◌, ◌||◌, List, length, arith}
+use Rattle.std.specs.Prelude.{Option, Some, None, if◌then◌else◌}
+use Rattle.stab_pauli.specs.declared.letter.Letter.{Letter}
+use Rattle.stab_pauli.specs.Letters.{◌⊕◌}
+use Rattle.stab_pauli.specs.Paulis.{Signed, minus, with_sign, anticommute, strings_anticommute, string_product, product}
+use Rattle.stab_pauli.proofs.StringLemmas.{strings_anticommute-product_right, length-string_product}
+use Rattle.stab_tableau.specs.Rules.{outcome_by, is_free_by, projected_by}
+use Rattle.stab_tableau.specs.Groups.{IsStabiliserGroup}
+use Rattle.stab_tableau.proofs.TestLemmas.{not-true, not_both}
+use Rattle.stab_run.proofs.StateLemmas.{both_false, both_true}
+use Rattle.stab_frames.specs.Frames.{IsTurned, times_where}
+use Rattle.stab_frames.specs.Notes.{Exchanges, IsNoteOf, IsEnough}
+use Rattle.stab_frames.specs.FrameSteps.{flipped_by, letters_by}
+use Rattle.stab_frames.proofs.SignLemmas.{sign-sign, sign-twice, product-sign_left, product-sign_right}
+use Rattle.stab_frames.proofs.TurnedLemmas.{turned-over, turned-comm, turned-stabiliser}
+
+-- what is free stays free
+free-sides : (u v : Signed → Bool) (q : Signed) (x : Bool) → v q ≡ u (with_sign x q) → v (minus q) ≡ u (with_sign x (minus q)) → is_free_by v q ≡ is_free_by u q
+free-sides u v q false e g = λ i. not (e i) && not (g i)
+free-sides u v q true e g =
+    (λ i. not (e i) && not ((g ∙ ap u (sign-twice true q)) i)) ∙ swapped (u (minus q)) (u q)
+  where
+    swapped : (a b : Bool) → (not a && not b) ≡ (not b && not a)
+    swapped a b = grind arith
+
+pub turned-free : (n : ℕ) (f : List Letter) (u v : Signed → Bool) → IsTurned n f u v → (q : Signed) → length q.letters ≡ n
+    → is_free_by v q ≡ is_free_by u q
+turned-free n f u v h q l = free-sides u v q (strings_anticommute f q.letters) (h q l) (h (minus q) l)
+
+-- on the other coin each outcome is flipped, fixed or free, where the letters anticommute with what is measured
+
+opposite : (m k coin : Bool) → (m ≡ true → k ≡ false) → (if k then false else (if m then true else not coin)) ≡ not (if m then false else (if k then true else coin))
+opposite true true coin apart = let f : true ≡ false = apart refl in cc
+opposite true false coin apart = refl
+opposite false true coin apart = refl
+opposite false false coin apart = refl
+
+-- a projection, on outcomes that differ where the letters anticommute with what is measured
+
+parities : (x a o : Bool) → (x ⊕ a) ⊕ (x ⊕ o) ≡ o ⊕ a
+parities x a o = grind arith
+
+module _ (n : ℕ) (f : List Letter) (u v : Signed → Bool) (h : IsTurned n f u v) (q : Signed) (lq : length q.letters ≡ n) (o : Bool) where
+  abbrev x : Bool
+  x = strings_anticommute f q.letters
+
+  product-turned : (p : Signed) → length p.letters ≡ n → anticommute q p ≡ false
+      → v (product (with_sign (x ⊕ o) q) p) ≡ u (product (with_sign o q) (with_sign (strings_anticommute f p.letters) p))
+  product-turned p lp e =
+      ap v (product-sign_left (x ⊕ o) q p e)
+      ∙ h (with_sign (x ⊕ o) (product q p)) (length-both)
+      ∙ ap u (sign-sign (strings_anticommute f (string_product q.letters p.letters)) (x ⊕ o) (product q p))
+      ∙ ap (λ b. u (with_sign b (product q p)))
+      (ap (λ b. b ⊕ (x ⊕ o)) (strings_anticommute-product_right f q.letters p.letters) ∙ parities x (strings_anticommute f p.letters) o)
+      ∙ ap u (sym (sign-sign o (strings_anticommute f p.letters) (product q p)))
+      ∙ ap (λ r. u (with_sign o r)) (sym (product-sign_right (strings_anticommute f p.letters) q p e))
+      ∙ ap u (sym (product-sign_left o q (with_sign (strings_anticommute f p.letters) p) e))
+    where
+      length-both : length (string_product q.letters p.letters) ≡ n
+      length-both = length-string_product n q.letters p.letters lq lp
+
+  projected-sides : (p : Signed) → length p.letters ≡ n → (b : Bool) → anticommute q p ≡ b
+      → projected_by v q (x ⊕ o) p ≡ projected_by u q o (with_sign (strings_anticommute f p.letters) p)
+  projected-sides p lp true e =
+      ap (λ c. not c && (v p || v (product (with_sign (x ⊕ o) q) p))) e
+      ∙ sym (ap (λ c. not c && (u (with_sign (strings_anticommute f p.letters) p)
+      || u (product (with_sign o q) (with_sign (strings_anticommute f p.letters) p)))) e)
+  projected-sides p lp false e = λ i. not (anticommute q p) && (h p lp i || product-turned p lp e i)
+
+  pub turned-projected : IsTurned n f (projected_by u q o) (projected_by v q (strings_anticommute f q.letters ⊕ o))
+  turned-projected p lp = projected-sides p lp (anticommute q p) refl
+
+-- with a string that exchanges the outcomes multiplied on, the outcomes differ where without it they don't
+pub turned-exchanged : (n : ℕ) (f s : List Letter) (u v : Signed → Bool) → IsTurned n f u v → IsStabiliserGroup n u → (q : Signed) → length q.letters ≡ n
+    → Exchanges n u q s → (o : Bool) → IsTurned n (string_product f s) (projected_by u q o) (projected_by v q (strings_anticommute f q.letters ⊕ not o))
+turned-exchanged n f s u v h group q lq e o =
+    turned-comm n s f (projected_by u q o) (projected_by v q (strings_anticommute f q.letters ⊕ not o))
+    (turned-over n s f (projected_by u q o) (projected_by u q (not o)) (projected_by v q (strings_anticommute f q.letters ⊕ not o))
+    (subst (λ b. IsTurned n s (projected_by u q o) (projected_by u q (b ⊕ o))) e.apart
+    (turned-projected n s u u (turned-stabiliser n s u group e.size e.negative e.stabilises) q lq o))
+    (turned-projected n f u v h q lq (not o)))
+
+-- where a string exchanges the outcomes, the outcome is free
+pub exchanged-free : (n : ℕ) (u : Signed → Bool) → IsStabiliserGroup n u → (q : Signed) → length q.letters ≡ n → (s : List Letter) → Exchanges n u q s
+    → is_free_by u q ≡ true
+exchanged-free n u group q lq s e = λ i. not (out q lq e.apart i) && not (out (minus q) lq e.apart i)
+  where
+    out : (r : Signed) → length r.letters ≡ n → strings_anticommute s r.letters ≡ true → u r ≡ false
+    out r lr apart = not-true (u r) (λ m. not_both _ (group.commuting (record { negative = e.negative; letters = s }) r e.size lr e.stabilises m) apart)
+
+-- a measurement, with a note of it
+
+not-twice : (b : Bool) → not (not b) ≡ b
+not-twice b = grind arith
+
+module _ (n : ℕ) (f : List Letter) (u v : Signed → Bool) (h : IsTurned n f u v) (group : IsStabiliserGroup n u) (q : Signed) (lq : length q.letters ≡ n) where
+  -- what commutes with the letters has the same outcome
+  outcome-commuting : (coin : Bool) → strings_anticommute f q.letters ≡ false → outcome_by v q coin ≡ outcome_by u q coin
+  outcome-commuting coin e = λ i.
+      if (h q lq ∙ ap (λ b. u (with_sign b q)) e) i then false
+      else (if (h (minus q) lq ∙ ap (λ b. u (with_sign b (minus q))) e) i then true else coin)
+
+  -- what anticommutes has the other outcome on the other coin
+  outcome-opposite : (coin : Bool) → strings_anticommute f q.letters ≡ true → outcome_by v q (not coin) ≡ not (outcome_by u q coin)
+  outcome-opposite coin e =
+      (λ i. if (h q lq ∙ ap (λ b. u (with_sign b q)) e) i then false
+      else (if (h (minus q) lq ∙ ap (λ b. u (with_sign b (minus q))) e ∙ ap u (sign-twice true q)) i then true else not coin))
+      ∙ opposite (u q) (u (minus q)) coin (group.one_sign q lq)
+
+  -- a free outcome is the coin in both
+  outcome-free : (s : List Letter) → Exchanges n u q s → (coin other : Bool) → (outcome_by u q coin ≡ coin) × (outcome_by v q other ≡ other)
+  outcome-free s e coin other =
+      let free : is_free_by u q ≡ true = exchanged-free n u group q lq s e in
+      (both_true (u q) (u (minus q)) coin free, both_true (v q) (v (minus q)) other (turned-free n f u v h q lq ∙ free))
+
+  -- and a fixed outcome depends on no coin
+  outcome-fixed : (coin other b : Bool) → strings_anticommute f q.letters ≡ b → is_free_by u q ≡ false → outcome_by v q other ≡ b ⊕ outcome_by u q coin
+  outcome-fixed coin other false e fixed = outcome-commuting other e ∙ both_false (u q) (u (minus q)) other coin fixed
+  outcome-fixed coin other true e fixed =
+      ap (outcome_by v q) (sym (not-twice other))
+      ∙ outcome-opposite (not other) e
+      ∙ ap not (both_false (u q) (u (minus q)) (not other) coin fixed)
+
+  flipped-same : (note : Option (List Letter)) (change : Bool) → strings_anticommute f q.letters ≡ change → flipped_by note change q f ≡ change
+  flipped-same None change e = e
+  flipped-same (Some s) change e = refl
+
+  -- by a right note
+  outcome-noted : (note : Option (List Letter)) (change : Bool) → IsNoteOf n u q note → (coin : Bool)
+      → outcome_by v q (change ⊕ coin) ≡ flipped_by note change q f ⊕ outcome_by u q coin
+  outcome-noted None change right coin = outcome-fixed coin (change ⊕ coin) (strings_anticommute f q.letters) refl right
+  outcome-noted (Some s) change right coin =
+      let free = outcome-free s right coin (change ⊕ coin) in
+      free.1 ∙ ap (λ o. change ⊕ o) (sym free.0)
+
+  outcome-enough : (note : Option (List Letter)) (change b : Bool) → strings_anticommute f q.letters ≡ b → (change ⊕ b ≡ true → IsNoteOf n u q note) → (coin : Bool)
+      → outcome_by v q (change ⊕ coin) ≡ flipped_by note change q f ⊕ outcome_by u q coin
+  outcome-enough note false false e enough coin = outcome-commuting coin e ∙ ap (λ b. b ⊕ outcome_by u q coin) (sym (flipped-same note false e))
+  outcome-enough note true true e enough coin = outcome-opposite coin e ∙ ap (λ b. b ⊕ outcome_by u q coin) (sym (flipped-same note true e))
+  outcome-enough note true false e enough coin = outcome-noted note true (enough refl) coin
+  outcome-enough note false true e enough coin = outcome-noted note false (enough refl) coin
+
+  pub outcome-flipped : (note : Option (List Letter)) (change : Bool) → IsEnough n u q f change note → (coin : Bool)
+      → outcome_by v q (change ⊕ coin) ≡ flipped_by note change q f ⊕ outcome_by u q coin
+  outcome-flipped note change enough coin = outcome-enough note change (strings_anticommute f q.letters) refl enough coin
+
+  -- the letters behind a measurement of which a string is noted, by whether the coins differ and the letters anticommute with what is measured
+  exchanged-turned : (s : List Letter) (change b : Bool) → strings_anticommute f q.letters ≡ b → (change ⊕ b ≡ true → Exchanges n u q s) → (o : Bool)
+      → IsTurned n (times_where (change ⊕ b) s f) (projected_by u q o) (projected_by v q (change ⊕ o))
+  exchanged-turned s false false e enough o =
+      subst (λ b. IsTurned n f (projected_by u q o) (projected_by v q (b ⊕ o))) e (turned-projected n f u v h q lq o)
+  exchanged-turned s true true e enough o =
+      subst (λ b. IsTurned n f (projected_by u q o) (projected_by v q (b ⊕ o))) e (turned-projected n f u v h q lq o)
+  exchanged-turned s true false e enough o =
+      subst (λ b. IsTurned n (string_product f s) (projected_by u q o) (projected_by v q (b ⊕ not o))) e (turned-exchanged n f s u v h group q lq (enough refl) o)
+  exchanged-turned s false true e enough o =
+      subst (λ b. IsTurned n (string_product f s) (projected_by u q o) (projected_by v q b)) (not-twice o)
+      (subst (λ b. IsTurned n (string_product f s) (projected_by u q o) (projected_by v q (b ⊕ not o))) e (turned-exchanged n f s u v h group q lq (enough refl) o))
+
+  pub measured-turned : (note : Option (List Letter)) (change : Bool) → IsEnough n u q f change note → (o : Bool)
+      → IsTurned n (letters_by note change q f) (projected_by u q o) (projected_by v q (flipped_by note change q f ⊕ o))
+  measured-turned None change enough o = turned-projected n f u v h q lq o
+  measured-turned (Some s) change enough o = exchanged-turned s change (strings_anticommute f q.letters) refl enough o
+
+  exchanged-length : length f ≡ n → (s : List Letter) (change b : Bool) → (change ⊕ b ≡ true → Exchanges n u q s) → length (times_where (change ⊕ b) s f) ≡ n
+  exchanged-length size s false false enough = size
+  exchanged-length size s true true enough = size
+  exchanged-length size s true false enough = length-string_product n f s size (enough refl).size
+  exchanged-length size s false true enough = length-string_product n f s size (enough refl).size
+
+  pub length-measured : length f ≡ n → (note : Option (List Letter)) (change : Bool) → IsEnough n u q f change note → length (letters_by note change q f) ≡ n
+  length-measured size None change enough = size
+  length-measured size (Some s) change enough = exchanged-length size s change (strings_anticommute f q.letters) enough

@@ -1,0 +1,37 @@
+-- Laws of ends: when a frame is none, and what follows is the same.
+-- Source: this project's own.
+use Rattle.std.specs.Prelude.{◌≡◌, ℕ, ◌+◌, Bool, true, false, List, ◌++◌, length, replicate}
+use Rattle.stab_pauli.specs.declared.letter.Letter.{Letter}
+use Rattle.stab_pauli.specs.declared.letter.Letter.TheVariants.{I}
+use Rattle.stab_pauli.specs.Paulis.{Signed, string_product}
+use Rattle.stab_tableau.specs.Traces.{member}
+use Rattle.stab_tableau.specs.Groups.{IsStabiliserGroup}
+use Rattle.stab_circuit.specs.Steps.{Step, records_of, looks_too_far}
+use Rattle.stab_run.specs.Points.{Point, point_after, outputs}
+use Rattle.stab_frames.specs.Frames.{IsTurned, Frame, PointsDifferBy}
+use Rattle.stab_frames.specs.Ends.{AgreeBack}
+
+-- letters I turn no sign of a stabiliser, nor does a string of which one sign stabilises
+abbrev pub StabilisersTurnNothing : Type 0
+StabilisersTurnNothing =
+    (n : ℕ) (member : Signed → Bool) →
+    IsTurned n (replicate n I) member member
+    × (IsStabiliserGroup n member → (p : Signed) → length p.letters ≡ n → member p ≡ true → IsTurned n p.letters member member)
+
+-- a frame may be multiplied by letters that turn nothing at the point that it starts from
+abbrev pub FramesUpToStabilisers : Type 0
+FramesUpToStabilisers =
+    (n : ℕ) (f : Frame) (more : List Letter) (a b : Point) → length more ≡ n → IsTurned n more (member a.trace) (member a.trace) →
+    PointsDifferBy n f a b → PointsDifferBy n (record { letters = string_product more f.letters; flips = f.flips }) a b
+
+-- where a frame turns nothing and its last m flips are 0, both points agree as far back as rec[-m]
+abbrev pub FramesEnd : Type 0
+FramesEnd =
+    (n m : ℕ) (f : Frame) (early : List Bool) (a b : Point) → PointsDifferBy n f a b → IsTurned n f.letters (member a.trace) (member a.trace) →
+    f.flips ≡ early ++ replicate m false → AgreeBack n m a b
+
+-- points that agree as far back as steps look give the same by these steps, and lead to points that agree so much further back
+abbrev pub SameFutureBack : Type 0
+SameFutureBack =
+    (n : ℕ) (coins : ℕ → Bool) (m : ℕ) (xs : List Step) (a b : Point) → looks_too_far m xs ≡ false → AgreeBack n m a b →
+    (outputs n coins xs a ≡ outputs n coins xs b) × AgreeBack n (m + records_of xs) (point_after n coins xs a) (point_after n coins xs b)

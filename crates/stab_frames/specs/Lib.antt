@@ -1,0 +1,16 @@
+pub mod Flips
+pub mod Frames
+pub mod Notes
+pub mod FrameSteps
+pub mod StepNotes
+pub mod Starts
+pub mod Ends
+pub mod Fronts
+pub mod TurnedTableaus
+pub mod StepLaws
+pub mod NoteLaws
+pub mod StartLaws
+pub mod GateLaws
+pub mod EndLaws
+pub mod RunLaws
+pub mod TableauLaws

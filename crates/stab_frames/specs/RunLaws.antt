@@ -1,0 +1,44 @@
+-- Laws of whole runs: the run of an edited circuit, or with other coins, is the old one, flipped.
+-- Source: this project's own.
+use Rattle.std.specs.Prelude.{ℕ, ◌<◌, Bool, List, ◌++◌, All, Option}
+use Rattle.stab_pauli.specs.declared.letter.Letter.{Letter}
+use Rattle.stab_circuit.specs.Steps.{Step}
+use Rattle.stab_run.specs.Points.{RunOutput, origin, joined, point_after, outputs}
+use Rattle.stab_run.specs.ProgramStates.{StepFits}
+use Rattle.stab_frames.specs.Flips.{unflipped}
+use Rattle.stab_frames.specs.Frames.{Frame, PointsDifferBy, identity_frame}
+use Rattle.stab_frames.specs.Notes.{Notes, same_coins, changed}
+use Rattle.stab_frames.specs.FrameSteps.{frame_over, flips_over}
+use Rattle.stab_frames.specs.StepNotes.{AreEnough}
+use Rattle.stab_frames.specs.Fronts.{AreFronts, IsFlippedRun, with_letters, edit_frame, edit_flips}
+
+-- behind fronts that differ by a frame the same steps make the one run the other, flipped, and lead to points that differ by a frame
+abbrev pub FrontsFlip : Type 0
+FrontsFlip =
+    (n : ℕ) (coins : ℕ → Bool) (notes : Notes) (old new back : List Step) (f : Frame) (flips : RunOutput) →
+    All (StepFits n) old → All (StepFits n) back → AreFronts n coins (changed coins notes.changes) old new f flips →
+    AreEnough n coins notes back f (point_after n coins old origin) →
+    IsFlippedRun n coins (changed coins notes.changes) (old ++ back) (new ++ back) (joined flips (flips_over n notes back (point_after n coins old origin).coin f))
+    × PointsDifferBy n (frame_over n notes back (point_after n coins old origin).coin f) (point_after n coins (old ++ back) origin)
+    (point_after n (changed coins notes.changes) (new ++ back) origin)
+
+-- Pauli gates in the place of others, behind the same steps, make such fronts
+abbrev pub PauliFronts : Type 0
+PauliFronts =
+    (n : ℕ) (coins : ℕ → Bool) (front : List Step) (l m : Letter) (qs rs : List ℕ) → All (λ q. q < n) qs → All (λ q. q < n) rs →
+    AreFronts n coins coins (with_letters front l qs) (with_letters front m rs)
+    (edit_frame n coins front l qs m rs) (unflipped (outputs n coins front origin))
+
+-- so an edit that puts Pauli gates in the place of others, puts some in or takes some out, flips the run
+abbrev pub PauliEditsFlip : Type 0
+PauliEditsFlip =
+    (n : ℕ) (coins : ℕ → Bool) (strings : ℕ → Option (List Letter)) (front back : List Step) (l m : Letter) (qs rs : List ℕ) →
+    All (StepFits n) front → All (StepFits n) back → All (λ q. q < n) qs → All (λ q. q < n) rs →
+    AreEnough n coins (same_coins strings) back (edit_frame n coins front l qs m rs) (point_after n coins (with_letters front l qs) origin) →
+    IsFlippedRun n coins coins (with_letters front l qs ++ back) (with_letters front m rs ++ back) (edit_flips n coins strings front l qs m rs back)
+
+-- and a run with other coins is the run with some, flipped: the frame begins as the identity
+abbrev pub CoinsFlip : Type 0
+CoinsFlip =
+    (n : ℕ) (coins : ℕ → Bool) (notes : Notes) (xs : List Step) → All (StepFits n) xs → AreEnough n coins notes xs (identity_frame n 0) origin →
+    IsFlippedRun n coins (changed coins notes.changes) xs xs (flips_over n notes xs 0 (identity_frame n 0))

@@ -1,0 +1,57 @@
+-- Laws of steps: steps keep points apart by a frame, and frames multiply.
+-- Source: C. Gidney, Stim (2021), for frames that follow the steps of a circuit; that they are exact, given notes, is this project's own.
+use Rattle.std.specs.Prelude.{◌≡◌, ℕ, Bool, List, All, Option, Some, length}
+use Rattle.stab_pauli.specs.declared.letter.Letter.{Letter}
+use Rattle.stab_pauli.specs.Letters.{◌⊕◌}
+use Rattle.stab_tableau.specs.Traces.{member}
+use Rattle.stab_tableau.specs.Groups.{IsStabiliserGroup}
+use Rattle.stab_circuit.specs.Steps.{Step}
+use Rattle.stab_run.specs.Points.{Point, origin, given, next_point, point_after, outputs}
+use Rattle.stab_run.specs.ProgramStates.{StepFits}
+use Rattle.stab_frames.specs.Flips.{flipped_output}
+use Rattle.stab_frames.specs.Frames.{Frame, PointsDifferBy, identity_frame, frame_product}
+use Rattle.stab_frames.specs.Notes.{Notes, notes_of, changed}
+use Rattle.stab_frames.specs.FrameSteps.{frame_after, frame_over, flips_given, flips_over}
+use Rattle.stab_frames.specs.StepNotes.{IsEnoughAt, AreEnough}
+
+-- from points that differ by a frame a step leads to points that differ by the frame behind it, and gives what its flips make of the other
+abbrev pub StepsKeepFrames : Type 0
+StepsKeepFrames =
+    (n : ℕ) (coins : ℕ → Bool) (notes : Notes) (x : Step) (f : Frame) (a b : Point) →
+    StepFits n x → IsStabiliserGroup n (member a.trace) → IsEnoughAt n notes x f.letters a → PointsDifferBy n f a b →
+    (given n (changed coins notes.changes) x b ≡ flipped_output (given n coins x a) (flips_given n notes x a.coin f))
+    × PointsDifferBy n (frame_after n notes x a.coin f) (next_point n coins x a) (next_point n (changed coins notes.changes) x b)
+
+-- so do steps
+abbrev pub RunsKeepFrames : Type 0
+RunsKeepFrames =
+    (n : ℕ) (coins : ℕ → Bool) (notes : Notes) (xs : List Step) (f : Frame) (a b : Point) →
+    All (StepFits n) xs → IsStabiliserGroup n (member a.trace) → AreEnough n coins notes xs f a → PointsDifferBy n f a b →
+    (outputs n (changed coins notes.changes) xs b ≡ flipped_output (outputs n coins xs a) (flips_over n notes xs a.coin f))
+    × PointsDifferBy n (frame_over n notes xs a.coin f) (point_after n coins xs a) (point_after n (changed coins notes.changes) xs b)
+
+-- where steps lead from the start the strings that stabilise are a group
+abbrev pub PointsHaveGroups : Type 0
+PointsHaveGroups =
+    (n : ℕ) (coins : ℕ → Bool) (xs : List Step) → All (StepFits n) xs → IsStabiliserGroup n (member (point_after n coins xs origin).trace)
+
+-- frames between points: the identity, one after another, and back
+abbrev pub FramesCompose : Type 0
+FramesCompose =
+    ((n : ℕ) (a : Point) → PointsDifferBy n (identity_frame n (length a.records)) a a)
+    × ((n : ℕ) (f g : Frame) (a b c : Point) → PointsDifferBy n f a b → PointsDifferBy n g b c → PointsDifferBy n (frame_product f g) a c)
+    × ((n : ℕ) (f : Frame) (a b : Point) → PointsDifferBy n f a b → PointsDifferBy n f b a)
+
+-- strings that are noted have n letters
+abbrev pub AreStrings : ℕ → (ℕ → Option (List Letter)) → Type 0
+AreStrings n strings = (t : ℕ) (s : List Letter) → strings t ≡ Some s → length s ≡ n
+
+-- what the product of two frames flips is what each flips, added; so it is where some coins change in the one and some in the other
+abbrev pub FramesAdd : Type 0
+FramesAdd =
+    (n : ℕ) (strings : ℕ → Option (List Letter)) (x y : ℕ → Bool) (xs : List Step) (coin : ℕ) (f g : Frame) →
+    All (StepFits n) xs → AreStrings n strings → length f.letters ≡ n → length g.letters ≡ n → length g.flips ≡ length f.flips →
+    (flips_over n (notes_of strings (λ t. x t ⊕ y t)) xs coin (frame_product f g)
+    ≡ flipped_output (flips_over n (notes_of strings x) xs coin f) (flips_over n (notes_of strings y) xs coin g))
+    × (frame_over n (notes_of strings (λ t. x t ⊕ y t)) xs coin (frame_product f g)
+    ≡ frame_product (frame_over n (notes_of strings x) xs coin f) (frame_over n (notes_of strings y) xs coin g))

@@ -1,0 +1,51 @@
+-- Step notes: notes of what the steps of a run measure, and whether they are enough for a frame that follows these steps.
+-- Source: this project's own.
+use Rattle.std.specs.Prelude.{◌≡◌, ℕ, ◌+◌, Bool, List, [], ◌∷◌, Option, Some, None, IfSome}
+use Rattle.stab_pauli.specs.declared.letter.Letter.{Letter}
+use Rattle.stab_pauli.specs.Paulis.{Signed, single, strings_anticommute}
+use Rattle.stab_tableau.specs.Traces.{member}
+use Rattle.stab_circuit.specs.Steps.{Step, one, two, controlled, collapse, product, detector, observable}
+use Rattle.stab_run.specs.Runs.{string_of}
+use Rattle.stab_run.specs.Points.{Point, coins_of, next_point}
+use Rattle.stab_frames.specs.Frames.{Frame}
+use Rattle.stab_frames.specs.Notes.{Notes, no_strings, IsNoteOf, IsEnough}
+use Rattle.stab_frames.specs.FrameSteps.{frame_after}
+
+-- what a step measures, if anything
+abbrev pub measured_by : ℕ → Step → Option Signed
+measured_by n (one g q) = None
+measured_by n (two g a b) = None
+measured_by n (controlled l k q) = None
+measured_by n (collapse l q recorded inverted resets) = Some (single n q l)
+measured_by n (product factors inverted) = Some (string_of n factors)
+measured_by n (detector ks) = None
+measured_by n (observable j ks) = None
+
+-- the note of what a step at a point measures is right
+abbrev pub IsRightAt : ℕ → (ℕ → Option (List Letter)) → Step → Point → Type 0
+IsRightAt n strings x a = IfSome (measured_by n x) (λ m. IsNoteOf n (member a.trace) m (strings a.coin))
+
+-- the notes of what steps measure are right
+abbrev pub AreRight : ℕ → (ℕ → Bool) → (ℕ → Option (List Letter)) → List Step → Point → Type 0
+AreRight n coins strings [] a = Unit {0}
+AreRight n coins strings (x ∷ xs) a = IsRightAt n strings x a × AreRight n coins strings xs (next_point n coins x a)
+
+-- the note of what a step at a point measures is enough for a frame
+abbrev pub IsEnoughAt : ℕ → Notes → Step → List Letter → Point → Type 0
+IsEnoughAt n notes x f a = IfSome (measured_by n x) (λ m. IsEnough n (member a.trace) m f (notes.changes a.coin) (notes.strings a.coin))
+
+-- the notes of what steps measure are enough for the frame before the first of them
+abbrev pub AreEnough : ℕ → (ℕ → Bool) → Notes → List Step → Frame → Point → Type 0
+AreEnough n coins notes [] f a = Unit {0}
+AreEnough n coins notes (x ∷ xs) f a =
+    IsEnoughAt n notes x f.letters a × AreEnough n coins notes xs (frame_after n notes x a.coin f) (next_point n coins x a)
+
+-- the coin of a step's measurement is changed just where the frame anticommutes with what is measured
+abbrev pub IsTurnedAt : ℕ → (ℕ → Bool) → Step → ℕ → Frame → Type 0
+IsTurnedAt n changes x coin f = IfSome (measured_by n x) (λ m. changes coin ≡ strings_anticommute f.letters m.letters)
+
+-- the coins of steps are turned with the frame that follows them, which then is multiplied by no string at a measurement
+abbrev pub AreTurned : ℕ → (ℕ → Bool) → List Step → ℕ → Frame → Type 0
+AreTurned n changes [] coin f = Unit {0}
+AreTurned n changes (x ∷ xs) coin f =
+    IsTurnedAt n changes x coin f × AreTurned n changes xs (coin + coins_of x) (frame_after n (no_strings changes) x coin f)

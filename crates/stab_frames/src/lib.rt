@@ -1,0 +1,35 @@
+//! Pauli frames: how a run differs from another whose circuit differs by Pauli gates, or whose coins differ.
+//!
+//! A frame is a Pauli string, which turns the sign of each stabiliser that it anticommutes with, and a bit
+//! for each record, 1 where it is flipped. It follows the steps of a circuit at the cost of some bits,
+//! where a run costs a tableau. A note of each free measurement, a stabiliser that exchanges its outcomes,
+//! tells which string is multiplied on where two runs project on different outcomes.
+//!
+//! The laws stand in this order; each function of these modules does nothing, and its contract is a law:
+//!
+//! - `step_laws`: steps keep two points apart by a frame; frames multiply, and what they flip adds.
+//! - `note_laws`: which notes are enough for a frame, that each run has right ones, and what tells them.
+//! - `start_laws`: Pauli gates, feedback, inverted records and pairs of gates that begin a frame.
+//! - `end_laws`: when a frame is none, and how far back it may have flipped records by then.
+//! - `run_laws`: whole runs, after an edit by Pauli gates or with other coins, are old ones, flipped.
+//! - `tableau_laws`: a tableau of one run is one of the other, once signs of its rows are turned, and
+//!   what signs tell of a frame.
+//!
+//! In `specs/`, `Frames`, `Notes` and `FrameSteps` say what a frame is and what a step makes of it, `Flips`
+//! and `StepNotes` what it flips and which notes it needs; the laws stand in files named after these modules.
+//!
+//! Sources: C. Gidney, Stim: a fast stabilizer circuit simulator (2021), for Pauli frames; S. Aaronson and
+//! D. Gottesman, Improved simulation of stabilizer circuits (2004), for measurements. It differs in that
+//! coins are numbered: both runs are given, and a frame tells each bit of the one from the other's, where
+//! Stim's frames are right up to outcomes that are drawn again.
+//!
+//! Proved: the laws, over the group rules that runs themselves are stated by (`stab_run`, `specs/Runs.antt`).
+//! No program is among them yet: what keeps frames, in sessions or in many shots, will cite them.
+#![tactic(auto)]
+
+pub mod end_laws;
+pub mod note_laws;
+pub mod run_laws;
+pub mod start_laws;
+pub mod step_laws;
+pub mod tableau_laws;

@@ -1,0 +1,25 @@
+//! Laws of whole runs: what an edit by Pauli gates, or other coins, make of a run.
+
+ghost use Rattle.stab_frames.specs.RunLaws.{CoinsFlip, FrontsFlip, PauliEditsFlip, PauliFronts};
+
+/// Behind fronts that differ by a frame the same steps make the one run the other, flipped: its
+/// records, flags, detectors and observables.
+pub fn fronts_flip()
+    ensures law { FrontsFlip }
+{}
+
+/// Pauli gates in the place of others, behind the same steps, make such fronts.
+pub fn pauli_fronts()
+    ensures law { PauliFronts }
+{}
+
+/// So an edit that puts Pauli gates in the place of others, puts some in or takes some out, makes of
+/// the run the old one, flipped.
+pub fn pauli_edits_flip()
+    ensures law { PauliEditsFlip }
+{}
+
+/// The run of a circuit with other coins is that with some, flipped.
+pub fn coins_flip()
+    ensures law { CoinsFlip }
+{}
