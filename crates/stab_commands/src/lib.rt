@@ -44,7 +44,7 @@ mod status;
 
 pub use check::run_check;
 pub use fault_line::write_fault;
-pub use job::{Command, Job, QubitCount, Shots, Source, Stride};
+pub use job::{Command, FaultLayout, Job, QubitCount, Shots, Source, Stride};
 pub use run::{run_detect, run_sample};
 pub use script::edit::{run_edit, run_edit_watched};
 pub use script::logged_input::{KeepsLog, LoggedInput, LoggedRead};
