@@ -4,6 +4,9 @@ pub mod FaultLines
 pub mod Outputs
 pub mod Stabilisers
 pub mod Checks
+pub mod StepPaths
+pub mod Deterministic
+pub mod FaultTables
 pub mod script
 pub mod Jobs
 pub mod inner

@@ -4,3 +4,5 @@ pub mod Requests
 pub mod Replies
 pub mod Editors
 pub mod SessionAnswers
+pub mod FaultSites
+pub mod Faults

@@ -32,8 +32,13 @@
 #![tactic(auto)]
 
 mod check;
+mod deterministic;
 mod ending;
+mod fault_bits;
 mod fault_line;
+mod fault_lines;
+mod fault_sites;
+mod faults;
 mod job;
 pub mod laws;
 mod run;
@@ -41,9 +46,13 @@ mod script;
 mod shots;
 mod stabilisers;
 mod status;
+mod stubs;
+mod unsure;
 
 pub use check::run_check;
-pub use fault_line::write_fault;
+pub use deterministic::run_deterministic;
+pub use fault_line::{write_fault, write_refused};
+pub use faults::run_faults;
 pub use job::{Command, FaultLayout, Job, QubitCount, Shots, Source, Stride};
 pub use run::{run_detect, run_sample};
 pub use script::edit::{run_edit, run_edit_watched};
@@ -51,3 +60,4 @@ pub use script::logged_input::{KeepsLog, LoggedInput, LoggedRead};
 pub use script::watcher::{NoWatcher, Watcher};
 pub use stabilisers::run_stabilisers;
 pub use status::{run_job, run_job_watched};
+pub use unsure::{Bit, FaultsRefused, Unsure};
