@@ -28,6 +28,8 @@ mod JudgementLemmas
 mod EditResultLemmas
 mod ChunkEditLemmas
 mod CommitLemmas
+mod PathLemmas
+mod StepPathLemmas
 pub mod EditingLemmas
 pub mod UndoLemmas
 pub mod ClearLemmas

@@ -51,12 +51,12 @@ mod step;
 mod summary;
 mod walk;
 
-pub use circuit::{Circuit, circuit_of_text, read_circuit, read_item};
+pub use circuit::{Circuit, StepItem, circuit_of_text, read_circuit, read_item};
 pub use cursor::Cursor;
 pub use edit::{Edit, Refused, Span};
 pub use input::read_text;
 pub use item::Item;
-pub use path::Path;
+pub use path::{Path, write_path};
 pub use print::write_circuit;
 pub use stab_lines::{Axis, Factor, Qubit};
 pub use step::Step;

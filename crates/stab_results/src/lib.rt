@@ -20,4 +20,4 @@ mod one_places;
 mod shot;
 
 pub use format::{Format, Kinds};
-pub use shot::write_shot;
+pub use shot::{write_entries, write_shot};
