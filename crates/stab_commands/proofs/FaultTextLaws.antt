@@ -3,6 +3,10 @@ use Rattle.std.proofs.Common.{◌≡◌, refl, sym, ap, ap₂, ◌∙◌, subst,
 use Rattle.std.specs.List.{flat_map, slice_get}
 use Rattle.std.proofs.lemmas.List.{length-append, drop_all}
 use Rattle.std.proofs.lemmas.Option.{slice_get_past, slice_get_within, slice_get-get_or, get_or_from_slice_get}
+use Rattle.stab_io.specs.Devices.{OutputView, TookAndFailed}
+use Rattle.stab_io.specs.declared.refusal.Fault.{Fault}
+use Rattle.stab_io.proofs.DeviceLemmas.{failed_within}
+use Rattle.stab_results.specs.Formats.{entry}
 use Rattle.stab_pauli.specs.declared.letter.Letter.{Letter}
 use Rattle.stab_pauli.specs.declared.letter.Letter.TheVariants as letter
 use Rattle.stab_pauli.specs.Texts.{letter_text}
@@ -12,7 +16,7 @@ use Rattle.stab_circuit.specs.Paths.{Path}
 use Rattle.stab_commands.specs.StepPaths.{path_text, paths_of, outside}
 use Rattle.stab_results.specs.declared.format.Kinds.{Kinds}
 use Rattle.stab_regions.specs.Faults.{FaultPlace, Site, fault_on, faults_on, faults_from, sites_at}
-use Rattle.stab_commands.specs.FaultLines.{bit_text, unsure_line}
+use Rattle.stab_commands.specs.FaultLines.{bit_text, fault_line, told_text, unsure_line}
 use Rattle.stab_commands.specs.FaultTables.{place_text, table_line, table_lines, path_at}
 use Rattle.stab_commands.specs.inner.Texts.{texts_joined}
 use Rattle.stab_commands.specs.declared.unsure.Bit.{Bit}
@@ -36,6 +40,18 @@ joined-unsure u name number n is_bit is_number =
       ∙ ap (λ l. l ++ (codes ", item " ++ rest)) (sym is_bit)
     )
 
+-- the two lines at a place, by how many steps are in front of it
+pub joined-site : (kinds : Kinds) (path : Path) (step before : ℕ) (s : Site) (by_x by_z : List ℕ) → before ≡ (fault_on step s letter.X).before
+    → (place_text before path letter.X s.qubit ++ (flat_map (entry kinds) by_x ++ codes "\n")) ++ (place_text before path letter.Z s.qubit ++ (flat_map (entry kinds) by_z ++ codes "\n"))
+    ≡ table_line kinds path (fault_on step s letter.X) by_x ++ table_line kinds path (fault_on step s letter.Z) by_z
+joined-site kinds path step before s by_x by_z e =
+    ap (λ b. (place_text b path letter.X s.qubit ++ (flat_map (entry kinds) by_x ++ codes "\n")) ++ (place_text b path letter.Z s.qubit ++ (flat_map (entry kinds) by_z ++ codes "\n"))) e
+
+-- what is cut off within a fault's line is cut off within what tells the fault
+pub failed_told : {a b : OutputView} (f : Fault) (u : Option Unsure) → TookAndFailed a b (fault_line f) → TookAndFailed a b (told_text f u)
+failed_told f None failed = failed
+failed_told f (Some u) failed = failed_within (fault_line f) (unsure_line u) failed
+
 -- lists
 
 -- the element at a place, and those behind it
@@ -54,13 +70,17 @@ past-missed [] k e = omega arith
 past-missed (x ∷ xs) zero e = absurd (cc)
 past-missed (x ∷ xs) (suc k) e = omega (arith, past-missed xs k e)
 
+drop-none : {A : Type 0} (m : ℕ) → drop {A = A} m [] ≡ []
+drop-none zero = refl
+drop-none (suc m) = refl
+
+get-none : {A : Type 0} (m : ℕ) → slice_get {X = A} [] m ≡ None
+get-none zero = refl
+get-none (suc m) = refl
+
 drop-more : {A : Type 0} (xs : List A) (j k : ℕ) → drop k (drop j xs) ≡ drop (j + k) xs
 drop-more xs zero k = let same : k ≡ 0 + k = omega arith in ap (λ m. drop m xs) same
-drop-more [] (suc j) k = no_rest k ∙ sym (no_rest (suc j + k))
-  where
-    no_rest : (m : ℕ) → drop m [] ≡ []
-    no_rest zero = refl
-    no_rest (suc m) = refl
+drop-more {A = A} [] (suc j) k = drop-none {A = A} k ∙ sym (drop-none {A = A} (suc j + k))
 drop-more (x ∷ xs) (suc j) k = let same : suc (j + k) ≡ suc j + k = omega arith in drop-more xs j k ∙ ap (λ m. drop m (x ∷ xs)) same
 
 -- the first of equal elements
@@ -74,11 +94,7 @@ stretch_rest (x ∷ xs) n p e = cc
 
 get-drop : {A : Type 0} (xs : List A) (j k : ℕ) → slice_get (drop j xs) k ≡ slice_get xs (j + k)
 get-drop xs zero k = let same : k ≡ 0 + k = omega arith in ap (slice_get xs) same
-get-drop [] (suc j) k = none_there k ∙ sym (none_there (suc j + k))
-  where
-    none_there : (m : ℕ) → slice_get [] m ≡ None
-    none_there zero = refl
-    none_there (suc m) = refl
+get-drop {A = A} [] (suc j) k = get-none {A = A} k ∙ sym (get-none {A = A} (suc j + k))
 get-drop (x ∷ xs) (suc j) k = let same : suc (j + k) ≡ suc j + k = omega arith in get-drop xs j k ∙ ap (slice_get (x ∷ xs)) same
 
 -- the element where equal ones begin
@@ -159,3 +175,20 @@ pub length-from : (everywhere : Bool) (t : ℕ) (x : Step) (xs : List Step)
 length-from everywhere t x xs =
     length-append (flat_map (faults_on t) (sites_at everywhere x)) (faults_from everywhere (t + 1) xs)
     ∙ ap (λ m. m + length (faults_from everywhere (t + 1) xs)) (length-faults t (sites_at everywhere x))
+
+-- the two lines at the place of a number, and those behind them
+pub lines_here : (kinds : Kinds) (p : Path) (t : ℕ) (sites : List Site) (rows : List (List ℕ)) (place next : ℕ) (s : Site) → slice_get sites place ≡ Some s → next + 1 < length rows
+    → table_lines kinds (λ _. p) (flat_map (faults_on t) (drop place sites)) (drop next rows)
+    ≡ (table_line kinds p (fault_on t s letter.X) (get_or rows next []) ++ table_line kinds p (fault_on t s letter.Z) (get_or rows (next + 1) []))
+        ++ table_lines kinds (λ _. p) (flat_map (faults_on t) (drop (place + 1) sites)) (drop (next + 2) rows)
+lines_here kinds p t sites rows place next s e h =
+    ap (λ ss. table_lines kinds (λ _. p) (flat_map (faults_on t) ss) (drop next rows)) (drop-found sites place s e) ∙ lines_at_place kinds (λ _. p) t s (drop (place + 1) sites) rows next h
+
+-- no lines are behind the last place
+pub lines_past : (kinds : Kinds) (p : Path) (t : ℕ) (sites : List Site) (rows : List (List ℕ)) (place next : ℕ) → slice_get sites place ≡ None
+    → table_lines kinds (λ _. p) (flat_map (faults_on t) (drop place sites)) (drop next rows) ≡ []
+lines_past kinds p t sites rows place next e = ap (λ ss. table_lines kinds (λ _. p) (flat_map (faults_on t) ss) (drop next rows)) (drop-missed sites place e)
+
+-- the paths of the steps of a stretch but its first
+pub stretch_next : (items : Items) (t n : ℕ) (p : Path) → 0 < n → take n (drop t (paths_of items)) ≡ replicate n p → take (n - 1) (drop (t + 1) (paths_of items)) ≡ replicate (n - 1) p
+stretch_next items t n p h e = stretch_on (paths_of items) t n p h e

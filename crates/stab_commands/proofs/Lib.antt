@@ -2,6 +2,8 @@ pub mod FaultLineLaws
 pub mod SendingLaws
 pub mod RunLaws
 pub mod FaultBitLaws
+pub mod FaultSiteLaws
+pub mod FoundLaws
 pub mod FaultTextLaws
 pub mod UnsureLaws
 pub mod WritingLaws

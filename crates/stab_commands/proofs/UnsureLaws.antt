@@ -126,7 +126,8 @@ behind_front (b ∷ ds) os (suc i) (suc d) e h = let less : i - d ≡ suc i - su
 unnamed_bit : (n count : ℕ) (coins : ℕ → Bool) (xs : List Step) (i : ℕ) → detectors_of xs ≤ i → some_adds (i - detectors_of xs) xs ≡ false → bit n count coins xs i ≡ false
 unnamed_bit n count coins xs i h e =
     let s = run n coins xs (start count) in
-    behind_front s.detectors s.observables i (detectors_of xs) (detectors_grow n coins xs (start count)) h
+    let none : 0 + detectors_of xs ≡ detectors_of xs = omega arith in
+    behind_front s.detectors s.observables i (detectors_of xs) (detectors_grow n coins xs (start count) ∙ none) h
     ∙ observable_stays n coins (i - detectors_of xs) xs (start count) e
     ∙ zero_at count (i - detectors_of xs)
 
@@ -154,3 +155,8 @@ sure_before n items sure k are h front i less = (are.exact i (subst (λ m. i < m
 
 pub all_sure : (n : ℕ) (items : Items) (sure : List Bool) → AreSure n items sure → ((i : ℕ) → i < length sure → get_or sure i false ≡ true) → (i : ℕ) → i < bits_in items → IsSure n items i
 all_sure n items sure are front i less = (are.exact i less).0 (front i (subst (λ m. i < m) (sym are.count) less))
+
+-- no step makes a bit where there are none
+pub none_before : (b : Bit) → length (steps_before_bit b []) ≡ 0
+none_before (Detector d) = refl
+none_before (Observable j) = refl

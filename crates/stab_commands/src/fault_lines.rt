@@ -97,6 +97,8 @@ fn write_step<O: Output>(
     ensures writes { WritesAll (O.seen out.old) (O.seen out.new) (table_lines kinds (λ _. path.now) (flat_map (faults_on number) (sites_at everywhere (step_shown step.entry))) (drop row table.now.rows)) result }
     ensures next { IfOk result (λ next. next ≡ row + 2 * length (sites_at everywhere (step_shown step.entry))) }
 {
+    // Rows are numbered by a usize, so no sum below is too great.
+    let _ = table.len();
     let mut next = row;
     let mut place = 0;
     'places: while let Some(site) = site_at(step, everywhere, place) {
