@@ -30,6 +30,7 @@ mod ChunkEditLemmas
 mod CommitLemmas
 mod PathLemmas
 mod StepPathLemmas
+mod StepsLeftLemmas
 pub mod EditingLemmas
 pub mod UndoLemmas
 pub mod ClearLemmas

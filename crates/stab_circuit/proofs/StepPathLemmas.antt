@@ -1,17 +1,15 @@
 -- The item that each unrolled step is of.
 use Rattle.std.proofs.Common.{◌≡◌, ◌≤◌, ◌<◌, refl, ap, sym, ◌∙◌, subst, ℕ, ◌+◌, ◌*◌, ◌-◌, ◌/◌, ◌%◌, zero, suc, min, List, [], ◌∷◌, ◌++◌, length, take, drop, get_or, map, replicate, arith, append_assoc, append-nil}
-use Rattle.std.proofs.lemmas.List.{length-append, length-take, length-drop, length-map, length-replicate, take-append-drop, map-append, drop-map, drop-replicate, drop-append-le}
+use Rattle.std.proofs.lemmas.List.{length-append, length-drop, length-map, length-replicate, map-append, drop-map, drop-replicate, drop-append-le}
 use Rattle.std.proofs.Math.Seq.{drop-append-add}
 use Rattle.std.proofs.Math.Nat.{div-lt_iff_lt-mul, div-add-mod, mod-lt}
 use Rattle.stab_lines.specs.declared.operation.Operation.{Operation}
-use Rattle.stab_circuit.specs.declared.circuit.step_items.FoundItem.{FoundItem}
 use Rattle.stab_circuit.specs.declared.chunks.SkippedChunks.{SkippedChunks}
 use Rattle.stab_circuit.specs.Items.{Items, OneItem, operation, repeat, done, next, block, before, listed}
-use Rattle.stab_circuit.specs.Steps.{Step, steps_of, rounds, unroll}
+use Rattle.stab_circuit.specs.Steps.{steps_of, rounds, unroll}
 use Rattle.stab_circuit.specs.Paths.{Path, numbers}
 use Rattle.stab_circuit.specs.StepPaths.{outside, within, path_rounds, paths_from, paths_of}
 use Rattle.stab_circuit.specs.inner.Chunks.{Skips}
-use Rattle.stab_circuit.specs.inner.StepItems.{IsFoundItem}
 use Rattle.stab_circuit.proofs.StepLemmas.{length-rounds}
 use Rattle.stab_circuit.proofs.WalkLemmas.{unroll_before, items_from}
 use Rattle.stab_circuit.proofs.PathLemmas.{path_is}
@@ -49,7 +47,7 @@ paths_before place (repeat count tag body) rest =
     let own = path_rounds count (map (within place) (paths_from 0 body)) in
     ap (λ l. l ++ paths_from (place + 1) rest) (sym (append-nil own))
 
-steps_split : (n : ℕ) (xs : List OneItem) → length (unroll (listed xs)) ≡ length (unroll (listed (take n xs))) + length (unroll (listed (drop n xs)))
+pub steps_split : (n : ℕ) (xs : List OneItem) → length (unroll (listed xs)) ≡ length (unroll (listed (take n xs))) + length (unroll (listed (drop n xs)))
 steps_split zero xs = omega arith
 steps_split (suc n) [] = omega arith
 steps_split (suc n) (x ∷ xs) =
@@ -133,6 +131,8 @@ within_item xs p w x h e k = omega (arith, k, steps_at xs p x h e)
 -- the round of a block that a step is in, and how many steps of that round come before it
 pub record InRound (n kept l w : ℕ) : Type 0 where
   pub some : 0 < kept
+  pub exact : kept ≡ l
+  pub below : w < n * l
   pub few : l ≤ 1048576
   pub round : w / kept < n
   pub at : w ≡ w / kept * l + w % kept
@@ -151,6 +151,8 @@ in_round n l w h k =
     let some = some_steps n l w h in
     let turned : w / l * l ≡ l * (w / l) = omega arith in record {
       some = some;
+      exact = refl;
+      below = h;
       few = few_times n l w h k;
       round = (div-lt_iff_lt-mul {k = l} {x = w} {y = n} some).1 h;
       at = sym (div-add-mod w l) ∙ ap (λ m. m + w % l) (sym turned);

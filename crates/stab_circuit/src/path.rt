@@ -7,8 +7,8 @@ use itoa::Buffer;
 use stab_io::{Output, Refusal, write_all};
 use std::marker::Model;
 
-/// Where an edit is made: the places of the blocks around, the outermost first, of which there are
-/// at most 16, and a place in the innermost list. Places are counted from 0.
+/// Where an item stands or an edit is made: the places of the blocks around, the outermost first, of
+/// which there are at most 16, and a place in the innermost list. Places are counted from 0.
 #[derive(Clone, Copy, Debug, PartialEq, Eq)]
 pub struct Path {
     /// The blocks' places, and then zeros.

@@ -68,7 +68,7 @@ impl Circuit {
     ghost use Rattle.std.specs.Prelude.{◌≡◌, ◌<◌, None, length, take, drop, replicate};
     ghost use Rattle.stab_circuit.specs.Steps.{unroll, check_of};
     ghost use Rattle.stab_circuit.specs.Views.{circuit_items};
-    ghost use Rattle.stab_circuit.specs.StepPaths.{paths_of};
+    ghost use Rattle.stab_circuit.specs.StepPaths.{paths_of, item_steps_left};
 
     /// The item of a step, counted from 0, and how many steps from there on are the item's in the
     /// same round. It takes no memory, and looks at no step.
@@ -79,6 +79,7 @@ impl Circuit {
         requires checked { check_of (circuit_items self.now) ≡ None }
         requires in_range { step < length (unroll (circuit_items self.now)) }
         ensures some { 0 < result.steps }
+        ensures steps { result.steps ≡ item_steps_left (circuit_items self.now) step }
         ensures path { take result.steps (drop step (paths_of (circuit_items self.now))) ≡ replicate result.steps result.path }
     {
         let skipped = self.skip(step as u32);

@@ -1,11 +1,9 @@
-use Rattle.std.proofs.Common.{[], ◌∙◌, ◌++◌, ◌+◌, drop, ap, sym, arith}
-use Rattle.std.specs.Fmt.{decimal}
-use Rattle.std.proofs.lemmas.List.{drop_all}
+use Rattle.std.proofs.Common.{[], ◌∙◌, ◌+◌, drop, ap, sym}
 use Rattle.std.proofs.lemmas.Result.{err_from_is_err_and}
 use Rattle.stab_io.proofs.DeviceLemmas.{took_none}
 use Rattle.stab_circuit.specs.Paths.{path_text}
-use Rattle.stab_lines.proofs.WriteLemmas.{written_more, written_failed, writes_then, writes_as}
-use Rattle.stab_circuit.proofs.PathLemmas.{places_text, path_text_is, next_block, no_block}
+use Rattle.stab_lines.proofs.WriteLemmas.{written_more, written_failed}
+use Rattle.stab_circuit.proofs.PathLemmas.{places_text, path_text_is, next_block}
 use Rattle.stab_circuit.proofs.path.write_path.Goals as goal
 
 pub loop-block-init : goal.loop-block-init
