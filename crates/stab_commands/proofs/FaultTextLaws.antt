@@ -12,8 +12,8 @@ use Rattle.stab_pauli.specs.declared.letter.Letter.TheVariants as letter
 use Rattle.stab_pauli.specs.Texts.{letter_text}
 use Rattle.stab_circuit.specs.Items.{Items}
 use Rattle.stab_circuit.specs.Steps.{Step}
-use Rattle.stab_circuit.specs.Paths.{Path}
-use Rattle.stab_commands.specs.StepPaths.{path_text, paths_of, outside}
+use Rattle.stab_circuit.specs.Paths.{Path, path_text}
+use Rattle.stab_circuit.specs.StepPaths.{paths_of, outside}
 use Rattle.stab_results.specs.declared.format.Kinds.{Kinds}
 use Rattle.stab_regions.specs.Faults.{FaultPlace, Site, fault_on, faults_on, faults_from, sites_at}
 use Rattle.stab_commands.specs.FaultLines.{bit_text, fault_line, told_text, unsure_line}

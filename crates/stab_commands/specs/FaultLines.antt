@@ -4,7 +4,7 @@ use Rattle.std.specs.Prelude.{ℕ, List, [], ◌++◌, codes, decimal, ◌==◌,
 use Rattle.stab_io.specs.declared.refusal.Refusal.{Refusal}
 use Rattle.stab_io.specs.declared.refusal.Fault.{Fault}
 use Rattle.stab_io.specs.Refusals.{number_of, name_of}
-use Rattle.stab_commands.specs.StepPaths.{path_text}
+use Rattle.stab_circuit.specs.Paths.{path_text}
 use Rattle.stab_commands.specs.declared.unsure.Bit.{Bit}
 use Rattle.stab_commands.specs.declared.unsure.Bit.TheVariants.{Detector, Observable}
 use Rattle.stab_commands.specs.declared.unsure.Unsure.{Unsure}

@@ -10,9 +10,8 @@ use Rattle.stab_pauli.specs.declared.letter.Letter.{Letter}
 use Rattle.stab_pauli.specs.Texts.{letter_text}
 use Rattle.stab_circuit.specs.Items.{Items}
 use Rattle.stab_circuit.specs.Steps.{Step, observable, unroll, qubits_of}
-use Rattle.stab_circuit.specs.Paths.{Path}
-use Rattle.stab_commands.specs.StepPaths.{path_text}
-use Rattle.stab_commands.specs.StepPaths.{outside, paths_of}
+use Rattle.stab_circuit.specs.Paths.{Path, path_text}
+use Rattle.stab_circuit.specs.StepPaths.{outside, paths_of}
 use Rattle.stab_circuit.specs.Readings.{IsCircuit, IsFaultOf}
 use Rattle.stab_results.specs.declared.format.Format.{Format}
 use Rattle.stab_results.specs.declared.format.Kinds.{Kinds}

@@ -4,7 +4,6 @@ pub mod FaultLines
 pub mod Outputs
 pub mod Stabilisers
 pub mod Checks
-pub mod StepPaths
 pub mod Deterministic
 pub mod FaultTables
 pub mod script

@@ -6,3 +6,4 @@ pub mod Editors
 pub mod SessionAnswers
 pub mod FaultSites
 pub mod Faults
+pub mod Stub

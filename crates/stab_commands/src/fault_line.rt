@@ -4,8 +4,8 @@ ghost use Rattle.stab_io.specs.Devices.{WritesAll};
 ghost use Rattle.stab_commands.specs.FaultLines.{bit_text, fault_line, told_text, unsure_line};
 ghost use Rattle.stab_commands.specs.inner.Texts.{texts_joined};
 
-use crate::stubs::write_path;
 use crate::unsure::{Bit, FaultsRefused, Unsure};
+use stab_circuit::write_path;
 use stab_io::{Fault, Output, Refusal, write_all};
 
 /// Writes texts one after another.

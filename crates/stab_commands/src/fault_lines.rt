@@ -13,12 +13,12 @@ ghost use Rattle.stab_commands.specs.inner.FaultSites.{IsStretch, site_shown};
 
 use crate::fault_line::write_texts;
 use crate::fault_sites::{Site, site_at};
-use crate::stubs::{FaultTable, StepItem, item_of_step, write_entries, write_path};
+use crate::stubs::FaultTable;
 use itoa::Buffer;
-use stab_circuit::{Circuit, Cursor, Path, Step};
+use stab_circuit::{Circuit, Cursor, Path, Step, StepItem, write_path};
 use stab_io::{Output, Refusal, write_all};
 use stab_pauli::Letter;
-use stab_results::Kinds;
+use stab_results::{Kinds, write_entries};
 
 /// Writes where a fault is.
 fn write_place<O: Output>(
@@ -122,7 +122,7 @@ fn item_at(circuit: &Circuit, step: usize, found: StepItem) -> StepItem
     if found.steps > 0 {
         found
     } else {
-        item_of_step(circuit, step)
+        circuit.item_of_step(step)
     }
 }
 

@@ -18,7 +18,7 @@ use crate::ending::finish;
 use crate::fault_bits::write_shots;
 use crate::fault_lines::write_lines;
 use crate::job::FaultLayout;
-use crate::stubs::{FaultTable, faults, item_of_step};
+use crate::stubs::{FaultTable, faults};
 use crate::unsure::{Bit, FaultsRefused, Unsure};
 use stab_circuit::{Circuit, Cursor, Step, read_circuit};
 use stab_io::{Fault, Input, Output, Refusal};
@@ -137,7 +137,7 @@ fn unsure_at(
 {
     let bit = bit_of(detectors, number);
     let step = first_step(alloc, circuit, bit)?;
-    let path = item_of_step(circuit, step).path;
+    let path = circuit.item_of_step(step).path;
     Ok(Unsure { bit, path })
 }
 

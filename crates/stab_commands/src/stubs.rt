@@ -8,47 +8,11 @@ ghost use Rattle.stab_circuit.specs.Steps.{unroll, check_of, check_within};
 ghost use Rattle.stab_circuit.specs.Views.{circuit_items};
 ghost use Rattle.stab_results.specs.Formats.{entry};
 ghost use Rattle.stab_regions.specs.Faults.{AreSure, IsFaultTable};
-ghost use Rattle.stab_commands.specs.StepPaths.{paths_of, path_text};
 
-use stab_circuit::{Circuit, Path};
-use stab_io::{Fault, Output, Refusal, write_all};
-use stab_results::Kinds;
+use stab_circuit::Circuit;
+use stab_io::{Fault, Refusal};
 use std::alloc::Global;
 use std::marker::Model;
-
-#[derive(Clone, Copy, Debug, PartialEq, Eq)]
-pub struct StepItem {
-    pub path: Path,
-    pub steps: usize,
-}
-
-pub fn item_of_step(circuit: &Circuit, step: usize) -> StepItem
-    requires checked { check_of (circuit_items circuit.now) ≡ None }
-    requires in_range { step < length (unroll (circuit_items circuit.now)) }
-    ensures some { 0 < result.steps }
-    ensures path { take result.steps (drop step (paths_of (circuit_items circuit.now))) ≡ replicate result.steps result.path }
-{
-    let _ = circuit.items();
-    StepItem {
-        path: Path::new(&[step]),
-        steps: 1,
-    }
-}
-
-pub fn write_path<O: Output>(out: &mut O, path: &Path) -> Result<(), Refusal>
-    ensures writes { WritesAll (O.seen out.old) (O.seen out.new) (path_text path.now) result }
-{
-    let _ = path.first();
-    write_all(out, b"0")
-}
-
-pub fn write_entries<O: Output>(out: &mut O, kinds: Kinds, places: &[u32]) -> Result<(), Refusal>
-    ensures writes { WritesAll (O.seen out.old) (O.seen out.new) (flat_map (entry kinds) places.now) result }
-{
-    let _ = kinds;
-    let _ = places.len();
-    write_all(out, b" D0")
-}
 
 #[derive(Drop)]
 pub struct FaultTable {
@@ -58,7 +22,7 @@ pub struct FaultTable {
 
 impl Model for FaultTable {
     ghost use Rattle.std.specs.Prelude.{map};
-    ghost use Rattle.stab_commands.specs.StepPaths.{TableState};
+    ghost use Rattle.stab_commands.specs.inner.Stub.{TableState};
 
     ghost Value = { TableState };
 

@@ -1,7 +1,7 @@
 use Rattle.std.proofs.Common.{◌≡◌, ◌∙◌, ◌++◌, [], ◌∷◌, codes, subst}
 use Rattle.stab_io.specs.Devices.{TookAndFailed, WritesAll}
 use Rattle.stab_io.proofs.DeviceLemmas.{failed_on, failed_within}
-use Rattle.stab_commands.specs.StepPaths.{path_text}
+use Rattle.stab_circuit.specs.Paths.{path_text}
 use Rattle.stab_commands.specs.FaultLines.{unsure_line}
 use Rattle.stab_commands.specs.inner.Texts.{texts_joined}
 use Rattle.stab_commands.proofs.FaultTextLaws.{joined-unsure}

@@ -2,7 +2,7 @@ use Rattle.std.proofs.Common.{◌≡◌, ◌∙◌, ◌++◌, [], ◌∷◌, cod
 use Rattle.stab_io.specs.Devices.{TookAndFailed, WritesAll}
 use Rattle.stab_io.proofs.DeviceLemmas.{failed_on, failed_within}
 use Rattle.stab_pauli.specs.Texts.{letter_text}
-use Rattle.stab_commands.specs.StepPaths.{path_text}
+use Rattle.stab_circuit.specs.Paths.{path_text}
 use Rattle.stab_commands.specs.FaultTables.{place_text}
 use Rattle.stab_commands.specs.inner.Texts.{texts_joined}
 use Rattle.stab_commands.proofs.FaultTextLaws.{joined-place}

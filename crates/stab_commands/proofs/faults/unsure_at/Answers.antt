@@ -2,7 +2,7 @@ use Rattle.std.proofs.Common.{◌≡◌, ◌<◌, ◌∙◌, sym, ap, subst, len
 use Rattle.std.specs.List.{slice_get}
 use Rattle.stab_circuit.specs.Steps.{qubits_of, unroll}
 use Rattle.stab_circuit.specs.Views.{circuit_items}
-use Rattle.stab_commands.specs.StepPaths.{paths_of}
+use Rattle.stab_circuit.specs.StepPaths.{paths_of}
 use Rattle.stab_commands.specs.FaultTables.{bit_of}
 use Rattle.stab_commands.proofs.FaultTextLaws.{stretch_here}
 use Rattle.stab_commands.proofs.UnsureLaws.{unsure_within}
