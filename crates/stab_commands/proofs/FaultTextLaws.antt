@@ -17,14 +17,14 @@ use Rattle.stab_circuit.specs.StepPaths.{paths_of, outside}
 use Rattle.stab_results.specs.declared.format.Kinds.{Kinds}
 use Rattle.stab_regions.specs.Faults.{FaultPlace, Site, fault_on, faults_on, faults_from, sites_at}
 use Rattle.stab_commands.specs.FaultLines.{bit_text, fault_line, told_text, unsure_line}
-use Rattle.stab_commands.specs.FaultTables.{place_text, table_line, table_lines, path_at}
+use Rattle.stab_commands.specs.FaultTables.{fault_text, table_line, table_lines, path_at}
 use Rattle.stab_commands.specs.inner.Texts.{texts_joined}
 use Rattle.stab_commands.specs.declared.unsure.Bit.{Bit}
 use Rattle.stab_commands.specs.declared.unsure.Unsure.{Unsure}
 
 -- where a fault is, by its three parts
 pub joined-place : (before qubit : ℕ) (path : Path) (l : Letter) (front symbol back : List ℕ) → front ≡ decimal before → symbol ≡ letter_text l → back ≡ decimal qubit
-    → texts_joined (front ∷ codes " " ∷ []) ++ (path_text path ++ texts_joined (codes " " ∷ symbol ∷ back ∷ [])) ≡ place_text before path l qubit
+    → texts_joined (front ∷ codes " " ∷ []) ++ (path_text path ++ texts_joined (codes " " ∷ symbol ∷ back ∷ [])) ≡ fault_text before path l qubit
 joined-place before qubit path l front symbol back is_front is_symbol is_back =
     rw (is_front, is_symbol, is_back, append-nil (decimal qubit)) (append_assoc (decimal before) (codes " ") (path_text path ++ (codes " " ++ (letter_text l ++ decimal qubit))))
 
@@ -42,10 +42,10 @@ joined-unsure u name number n is_bit is_number =
 
 -- the two lines at a place, by how many steps are in front of it
 pub joined-site : (kinds : Kinds) (path : Path) (step before : ℕ) (s : Site) (by_x by_z : List ℕ) → before ≡ (fault_on step s letter.X).before
-    → (place_text before path letter.X s.qubit ++ (flat_map (entry kinds) by_x ++ codes "\n")) ++ (place_text before path letter.Z s.qubit ++ (flat_map (entry kinds) by_z ++ codes "\n"))
+    → (fault_text before path letter.X s.qubit ++ (flat_map (entry kinds) by_x ++ codes "\n")) ++ (fault_text before path letter.Z s.qubit ++ (flat_map (entry kinds) by_z ++ codes "\n"))
     ≡ table_line kinds path (fault_on step s letter.X) by_x ++ table_line kinds path (fault_on step s letter.Z) by_z
 joined-site kinds path step before s by_x by_z e =
-    ap (λ b. (place_text b path letter.X s.qubit ++ (flat_map (entry kinds) by_x ++ codes "\n")) ++ (place_text b path letter.Z s.qubit ++ (flat_map (entry kinds) by_z ++ codes "\n"))) e
+    ap (λ b. (fault_text b path letter.X s.qubit ++ (flat_map (entry kinds) by_x ++ codes "\n")) ++ (fault_text b path letter.Z s.qubit ++ (flat_map (entry kinds) by_z ++ codes "\n"))) e
 
 -- what is cut off within a fault's line is cut off within what tells the fault
 pub failed_told : {a b : OutputView} (f : Fault) (u : Option Unsure) → TookAndFailed a b (fault_line f) → TookAndFailed a b (told_text f u)

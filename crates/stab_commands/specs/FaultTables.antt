@@ -1,6 +1,6 @@
 -- Fault tables: what `faults` writes of a table of faults for the items of a circuit, and how a call of it ends.
 -- Source: this project's own.
-use Rattle.std.specs.Prelude.{◌≡◌, ℕ, ◌+◌, ◌-◌, ◌<◌, ◌==◌, nat_lt, Bool, true, false, List, [], ◌∷◌, ◌++◌, length, replicate, slice_index_or, slice_get, slice_set, codes, decimal, Option, Some, None, Result, Ok, Err, if◌then◌else◌}
+use Rattle.std.specs.Prelude.{◌≡◌, ℕ, ◌-◌, ◌<◌, ◌==◌, nat_lt, Bool, true, false, List, [], ◌∷◌, ◌++◌, length, replicate, slice_index_or, slice_get, slice_set, codes, decimal, Option, Some, None, Result, Ok, Err, if◌then◌else◌}
 use Rattle.std.specs.List.{flat_map}
 use Rattle.stab_io.specs.Devices.{InputView, OutputView}
 use Rattle.stab_io.specs.declared.refusal.Refusal.TheVariants.{NotDeterministic}
@@ -28,12 +28,12 @@ use Rattle.stab_commands.specs.Endings.{Ends, SendsFound}
 use Rattle.stab_commands.specs.Deterministic.{kinds_of}
 
 -- where a fault is: how many steps are in front of it, the path of the item that it is at, and its letter and qubit
-abbrev pub place_text : (before : ℕ) → Path → Letter → (qubit : ℕ) → List ℕ
-place_text before path l q = decimal before ++ (codes " " ++ (path_text path ++ (codes " " ++ (letter_text l ++ decimal q))))
+abbrev pub fault_text : (before : ℕ) → Path → Letter → (qubit : ℕ) → List ℕ
+fault_text before path l q = decimal before ++ (codes " " ++ (path_text path ++ (codes " " ++ (letter_text l ++ decimal q))))
 
 -- the line of a fault: where it is, and what it flips, as `1207 3/0/2 X17 D24 L0`
 abbrev pub table_line : Kinds → Path → FaultPlace → (flipped : List ℕ) → List ℕ
-table_line kinds path f flipped = place_text f.before path f.letter f.qubit ++ (flat_map (entry kinds) flipped ++ codes "\n")
+table_line kinds path f flipped = fault_text f.before path f.letter f.qubit ++ (flat_map (entry kinds) flipped ++ codes "\n")
 
 -- the lines of faults in order, each by the path of its step and by its row
 abbrev pub table_lines : Kinds → (path_of : ℕ → Path) → List FaultPlace → (rows : List (List ℕ)) → List ℕ

@@ -8,7 +8,7 @@ ghost use Rattle.stab_circuit.specs.Cursors.{step_shown};
 ghost use Rattle.stab_circuit.specs.Views.{circuit_items};
 ghost use Rattle.stab_results.specs.Formats.{entry};
 ghost use Rattle.stab_regions.specs.Faults.{fault_on, faults_of, faults_on, sites_at};
-ghost use Rattle.stab_commands.specs.FaultTables.{path_at, place_text, table_line, table_lines};
+ghost use Rattle.stab_commands.specs.FaultTables.{path_at, fault_text, table_line, table_lines};
 ghost use Rattle.stab_commands.specs.inner.FaultSites.{IsStretch, site_shown};
 
 use crate::fault_line::write_texts;
@@ -28,7 +28,7 @@ fn write_place<O: Output>(
     letter: Letter,
     qubit: usize,
 ) -> Result<(), Refusal>
-    ensures writes { WritesAll (O.seen out.old) (O.seen out.new) (place_text before path.now letter qubit) result }
+    ensures writes { WritesAll (O.seen out.old) (O.seen out.new) (fault_text before path.now letter qubit) result }
 {
     let mut digits = Buffer::new();
     write_texts(out, &[digits.format(before).as_bytes(), b" "])?;
@@ -47,7 +47,7 @@ fn write_line<O: Output>(
     qubit: usize,
     row: &[u32],
 ) -> Result<(), Refusal>
-    ensures writes { WritesAll (O.seen out.old) (O.seen out.new) (place_text before path.now letter qubit ++ (flat_map (entry kinds) row.now ++ codes "\n")) result }
+    ensures writes { WritesAll (O.seen out.old) (O.seen out.new) (fault_text before path.now letter qubit ++ (flat_map (entry kinds) row.now ++ codes "\n")) result }
 {
     write_place(out, before, path, letter, qubit)?;
     write_entries(out, kinds, row)?;

@@ -263,12 +263,12 @@ fn send_faults<O: Output>(
 }
 
 /// Reads a circuit, and writes which of its detectors and observables each fault flips: a Pauli X or
-/// Z that is put in at a place between two steps, and flips a bit where it is then the other one,
-/// whatever the coins of both runs, on as many qubits as the circuit names.
+/// Z that is put in at a place between two steps, and flips a bit where the run without it gives the
+/// other one, whatever the coins, on as many qubits as the circuit names.
 ///
 /// The faults are those at the targets of the gate `I`; or, `everywhere`, those behind each target of
-/// each gate, and in front of each measured qubit and behind it. They come in the order of the steps,
-/// and X before Z. With `FaultLayout::Lines` each has a line, such as `1207 3/0/2 X17 D24 L0`: how
+/// each gate and reset, and in front of each measured qubit and behind it. They come in the order of
+/// the steps, and X before Z. With `FaultLayout::Lines` each has a line, such as `1207 3/0/2 X17 D24 L0`: how
 /// many steps are in front of it, the path of its item, its letter and qubit, and what it flips. With
 /// `FaultLayout::Shots` each has a shot, of all detectors and then all observables.
 ///

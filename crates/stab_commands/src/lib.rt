@@ -31,7 +31,7 @@
 //! where a text was refused, the fault is that of the text, and some bytes were sent, of which nothing
 //! more is claimed. `run_deterministic` and `run_faults` end by the cases of `run_stabilisers`, over the
 //! bits that are the same whatever the coins, and over what each fault flips: by runs with it and
-//! without it, whatever their coins (`specs/FaultTables.antt`). Where a bit is not the same for all coins,
+//! without it, whatever the coins (`specs/FaultTables.antt`). Where a bit is not the same for all coins,
 //! `run_faults` names the first such before it writes anything. `run_edit` writes exactly the replies
 //! that `specs/script/Scripts.antt` gives for the script and the circuit's items, or ends by its own cases
 //! (`specs/script/ScriptEndings.antt`). `run_job` carries the same for a job, with its status and the

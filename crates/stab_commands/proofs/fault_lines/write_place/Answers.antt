@@ -3,7 +3,7 @@ use Rattle.stab_io.specs.Devices.{TookAndFailed, WritesAll}
 use Rattle.stab_io.proofs.DeviceLemmas.{failed_on, failed_within}
 use Rattle.stab_pauli.specs.Texts.{letter_text}
 use Rattle.stab_circuit.specs.Paths.{path_text}
-use Rattle.stab_commands.specs.FaultTables.{place_text}
+use Rattle.stab_commands.specs.FaultTables.{fault_text}
 use Rattle.stab_commands.specs.inner.Texts.{texts_joined}
 use Rattle.stab_commands.proofs.FaultTextLaws.{joined-place}
 use Rattle.stab_commands.proofs.WritingLaws.{failed_second, writes_third}
@@ -14,7 +14,7 @@ returns-in_err-write_texts g c =
     let path = c.args.path.now in
     let text = joined-place c.args.before c.args.qubit path c.args.letter c.as_bytes.result.now (letter_text c.args.letter) (decimal c.args.qubit) (c.as_bytes.ensures.value ∙ c.format.ensures.text) refl refl in
     let back = texts_joined (codes " " ∷ letter_text c.args.letter ∷ decimal c.args.qubit ∷ []) in record {
-      writes = failed_on (g.O.Output.seen c.args.out.now) (g.O.Output.seen c.write_texts.new.out) (place_text c.args.before path c.args.letter c.args.qubit) c.in_err-write_texts.field-0.0 c.from_residual.result c.from_residual.ensures.1
+      writes = failed_on (g.O.Output.seen c.args.out.now) (g.O.Output.seen c.write_texts.new.out) (fault_text c.args.before path c.args.letter c.args.qubit) c.in_err-write_texts.field-0.0 c.from_residual.result c.from_residual.ensures.1
           c.in_err-write_texts.ensures.writes.0
           (subst (λ l. TookAndFailed (g.O.Output.seen c.args.out.now) (g.O.Output.seen c.write_texts.new.out) l) text
             (failed_within (texts_joined (c.as_bytes.result.now ∷ codes " " ∷ [])) (path_text path ++ back) c.in_err-write_texts.ensures.writes.1));
@@ -25,7 +25,7 @@ returns-in_err-write_path g c =
     let path = c.args.path.now in
     let text = joined-place c.args.before c.args.qubit path c.args.letter c.as_bytes.result.now (letter_text c.args.letter) (decimal c.args.qubit) (c.as_bytes.ensures.value ∙ c.format.ensures.text) refl refl in
     let back = texts_joined (codes " " ∷ letter_text c.args.letter ∷ decimal c.args.qubit ∷ []) in record {
-      writes = failed_on (g.O.Output.seen c.args.out.now) (g.O.Output.seen c.write_path.new.out) (place_text c.args.before path c.args.letter c.args.qubit) c.in_err-write_path.field-0.0 c.from_residual-in_err-write_path.result c.from_residual-in_err-write_path.ensures.1
+      writes = failed_on (g.O.Output.seen c.args.out.now) (g.O.Output.seen c.write_path.new.out) (fault_text c.args.before path c.args.letter c.args.qubit) c.in_err-write_path.field-0.0 c.from_residual-in_err-write_path.result c.from_residual-in_err-write_path.ensures.1
           c.in_err-write_path.ensures.writes.0
           (subst (λ l. TookAndFailed (g.O.Output.seen c.args.out.now) (g.O.Output.seen c.write_path.new.out) l) text
             (failed_second (texts_joined (c.as_bytes.result.now ∷ codes " " ∷ [])) (path_text path) back c.in_ok-write_texts.ensures.writes c.in_err-write_path.ensures.writes.1));
