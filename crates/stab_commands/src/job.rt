@@ -143,6 +143,15 @@ pub enum Source {
     List(Vec<bool>),
 }
 
+/// How a table of faults is written.
+#[derive(Clone, Copy, Debug, PartialEq, Eq)]
+pub enum FaultLayout {
+    /// A line for each fault: where it is, its letter and qubit, and what it flips.
+    Lines,
+    /// A shot for each fault, whose bits are 1 where it flips them.
+    Shots(Format),
+}
+
 /// A command, with the options that are its own.
 #[derive(Clone, Copy, Debug, PartialEq, Eq)]
 pub enum Command {
@@ -161,6 +170,18 @@ pub enum Command {
     Stabilisers,
     /// Writes the numbers of a circuit, or what is wrong with it.
     Check,
+    /// Writes a bit for each detector and then each observable: 1 where it is the same for all coins.
+    Deterministic {
+        format: Format,
+    },
+    /// Writes which detectors and observables each fault flips, at the places that the circuit marks
+    /// or `everywhere`. A circuit in which one is not the same for all coins is refused, but where
+    /// `sure_only` leaves such ones out.
+    Faults {
+        layout: FaultLayout,
+        everywhere: bool,
+        sure_only: bool,
+    },
     /// Edits the circuit by a script, on so many qubits or on as many as it names, and writes the
     /// replies.
     Edit {

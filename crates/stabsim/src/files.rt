@@ -91,10 +91,11 @@ impl Read for ReadFile {
 }
 
 /// The refusals whose line says all that there is to say.
-const PLAIN: [Refusal; 4] = [
+const PLAIN: [Refusal; 5] = [
     Refusal::TooLong,
     Refusal::ReadFault,
     Refusal::WriteFault,
+    Refusal::NotDeterministic,
     Refusal::OutOfMemory,
 ];
 
