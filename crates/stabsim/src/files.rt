@@ -90,11 +90,12 @@ impl Read for ReadFile {
     }
 }
 
-/// The refusals whose line says all that there is to say.
-const PLAIN: [Refusal; 4] = [
+/// The refusals of which `check` has no more to say.
+const PLAIN: [Refusal; 5] = [
     Refusal::TooLong,
     Refusal::ReadFault,
     Refusal::WriteFault,
+    Refusal::NotDeterministic,
     Refusal::OutOfMemory,
 ];
 
