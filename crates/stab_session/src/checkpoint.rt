@@ -28,20 +28,15 @@ pub fn shifted(old: usize, new: usize, value: usize) -> usize
     new.saturating_add(value.saturating_sub(old))
 }
 
-impl Lengths {
-    ghost use Rattle.std.specs.Prelude.{◌≡◌};
-    ghost use Rattle.stab_session.specs.inner.Checkpoints.{moved_lengths};
-
-    /// These lengths, moved with others.
-    fn moved(self, old: Lengths, new: Lengths) -> Lengths
-        ensures value { result ≡ moved_lengths old new self }
-    {
-        Lengths {
-            records: shifted(old.records, new.records, self.records),
-            free: shifted(old.free, new.free, self.free),
-            detectors: shifted(old.detectors, new.detectors, self.detectors),
-            additions: shifted(old.additions, new.additions, self.additions),
-        }
+/// Lengths, moved with others.
+fn lengths_moved(lengths: Lengths, old: Lengths, new: Lengths) -> Lengths
+    ensures value { result ≡ moved_lengths old new lengths }
+{
+    Lengths {
+        records: shifted(old.records, new.records, lengths.records),
+        free: shifted(old.free, new.free, lengths.free),
+        detectors: shifted(old.detectors, new.detectors, lengths.detectors),
+        additions: shifted(old.additions, new.additions, lengths.additions),
     }
 }
 
@@ -56,7 +51,7 @@ fn moved_with(meeting: Meeting, copy: Checkpoint) -> Checkpoint
     } = copy;
     Checkpoint {
         step: shifted(meeting.old_step, meeting.new_step, step),
-        lengths: lengths.moved(meeting.old_lengths, meeting.new_lengths),
+        lengths: lengths_moved(lengths, meeting.old_lengths, meeting.new_lengths),
         tableau,
     }
 }

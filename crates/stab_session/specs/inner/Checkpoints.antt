@@ -5,6 +5,7 @@ use Rattle.stab_tableau.specs.Traces.{member}
 use Rattle.stab_tableau.specs.Groups.{SameGroup}
 use Rattle.stab_tableau.specs.Tableaus.{stabilises}
 use Rattle.stab_circuit.specs.Steps.{Step}
+use Rattle.stab_run.specs.declared.records.Lengths.{Lengths}
 use Rattle.stab_session.specs.declared.checkpoint.Checkpoint.{Checkpoint}
 use Rattle.stab_session.specs.declared.checkpoint.Meeting.{Meeting}
 use Rattle.stab_run.specs.Points.{RunOutput, origin, point_after, outputs}
