@@ -16,6 +16,7 @@ const TABLES: u32 = 3;
 const ASKED: usize = 100;
 
 /// How many faults a table has, and the processor time of making it.
+#[derive(Clone, Copy)]
 struct Table {
     faults: usize,
     time: Duration,
