@@ -63,9 +63,15 @@ def expect(holds, what):
 
 
 def look(done, words, whole, line):
-    """A run that was refused memory: it ended as if nothing had been refused, or with 1, a prefix and the line that tells of it."""
+    """A run that was refused memory: it ended as if nothing had been refused, or with 1, a prefix and the line that tells of it.
+
+    Of a circuit that is refused all the same, a prefix of what `check` explains and the line of its own fault will do too.
+    """
     expect(done.returncode in (whole.returncode, 1), f"{words}: status {done.returncode}")
-    if done.returncode == whole.returncode:
+    if whole.returncode == 1:
+        expect(whole.stdout.startswith(done.stdout), f"{words}: what was written is no prefix")
+        expect(done.stderr in (line, whole.stderr), f"{words}: told {done.stderr!r}")
+    elif done.returncode == whole.returncode:
         same = (done.stdout, done.stderr) == (whole.stdout, whole.stderr)
         expect(same, f"{words}: other bytes, though the status tells of no refusal")
     else:
@@ -148,14 +154,26 @@ def try_calls(library, folder, is_written):
         print("docs/robustness.md shows other counts: tools/refuse.py --page renews them")
 
 
+def runs_with_files(folder):
+    """Runs of files that are made for them: coins, and circuits that `check` explains the fault of, by its line and by its item."""
+    coins, far, line = folder / "some.coins", folder / "far.stim", folder / "line.stim"
+    coins.write_text("0110\n")
+    far.write_text("M 0\nREPEAT 3 {\n    M 1\n    DETECTOR rec[-3]\n}\n")
+    line.write_text("H 0\nMPP X0*Z1 X0*Y0\n")
+    yield ["sample", "--coins_in", str(coins), "--in", str(TOP / "examples" / "five_qubit_code.stim")]
+    yield ["check", "--in", str(far)]
+    yield ["check", "--in", str(line)]
+
+
 def try_memory(library, folder):
-    for words in RUNS:
+    for words in [*RUNS, *runs_with_files(folder)]:
         for onwards in (False, True):
             refused, answered = refuse_each(library, folder, words, onwards)
             expect(refused > 0, f"{words}: no request was refused")
             expect(answered > 0, f"{words}: no run answered 20")
             how = "from one on" if onwards else "one"
-            print(f"{words[0]} {how}: {refused} runs with memory refused, {answered} answered 20")
+            named = " ".join(pathlib.Path(word).name for word in words)
+            print(f"{named}, {how}: {refused} runs with memory refused, {answered} answered 20")
 
 
 def expect_fault(what, done, number, path=None):

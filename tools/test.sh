@@ -11,6 +11,7 @@ steps='tools/wrong_bodies.py "$told/gate"
 tools/check_version.sh
 tools/check_words.py
 tools/check_gates.py
+tools/check_pages.py
 tools/check_circuits.py
 tools/check_program.py --seconds 3
 tools/fuzz.py --seconds 8

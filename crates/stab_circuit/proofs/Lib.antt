@@ -28,6 +28,9 @@ mod JudgementLemmas
 mod EditResultLemmas
 mod ChunkEditLemmas
 mod CommitLemmas
+mod PathLemmas
+mod StepPathLemmas
+mod StepsLeftLemmas
 pub mod EditingLemmas
 pub mod UndoLemmas
 pub mod ClearLemmas

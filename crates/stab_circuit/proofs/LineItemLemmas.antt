@@ -14,7 +14,6 @@ use Rattle.stab_circuit.specs.declared.edit.Edit.{Edit}
 use Rattle.stab_circuit.specs.declared.edit.Edit.TheVariants.{Insert, Replace, Delete}
 use Rattle.stab_circuit.specs.Items.{Items, OneItem, operation, repeat, done, next, block, before, listed, entries, depth}
 use Rattle.stab_circuit.specs.Circuits.{Meaning, Joins, line_meanings, fault_from}
-use Rattle.stab_circuit.specs.Paths.{Path}
 use Rattle.stab_circuit.specs.Edits.{edit_path, edited_in, edited, behind_taken, inner, taken_in, taken}
 use Rattle.stab_circuit.specs.Laws.{AreOfLines, PutsLines}
 use Rattle.stab_circuit.proofs.BlankLemmas.{lines_of, lines_join, fault_operation, same_faultless}

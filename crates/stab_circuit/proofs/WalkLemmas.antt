@@ -15,7 +15,7 @@ use Rattle.stab_circuit.proofs.StepLemmas.{unroll-join}
 
 -- an item before others
 
-unroll_before : (x : OneItem) (rest : Items) → unroll (before x rest) ≡ unroll (before x done) ++ unroll rest
+pub unroll_before : (x : OneItem) (rest : Items) → unroll (before x rest) ≡ unroll (before x done) ++ unroll rest
 unroll_before x rest = ap unroll (before-join x done rest) ∙ unroll-join (before x done) rest
 
 weight_before : (x : OneItem) (rest : Items) → weight (before x rest) ≡ weight (before x done) + weight rest
@@ -23,7 +23,7 @@ weight_before (operation op) rest = omega arith
 weight_before (repeat count tag body) rest = omega arith
 
 -- the items from a place on
-items_from : (xs : List OneItem) (p : ℕ) (x : OneItem) → p < length xs → x ≡ get_or xs p x → listed (drop p xs) ≡ before x (listed (drop (p + 1) xs))
+pub items_from : (xs : List OneItem) (p : ℕ) (x : OneItem) → p < length xs → x ≡ get_or xs p x → listed (drop p xs) ≡ before x (listed (drop (p + 1) xs))
 items_from xs p x h e =
     let next' : suc p ≡ p + 1 = omega arith in
     ap listed (drop-cons xs p x h) ∙ ap (λ y. before y (listed (drop (suc p) xs))) (sym e) ∙ ap (λ n. before x (listed (drop n xs))) next'

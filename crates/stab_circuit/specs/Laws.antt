@@ -13,6 +13,7 @@ use Rattle.stab_circuit.specs.Steps.{unroll}
 use Rattle.stab_circuit.specs.Cursors.{IsApart}
 use Rattle.stab_circuit.specs.Readings.{IsCircuit, IsFaultOf}
 use Rattle.stab_circuit.specs.Steps.{unroll}
+use Rattle.stab_circuit.specs.StepPaths.{paths_of}
 use Rattle.stab_circuit.specs.Edits.{edited, taken, put_item, first_changed, old_end, new_end}
 
 -- the text stands for the items, and for no others
@@ -93,3 +94,7 @@ EditedItemsAreOfLines = (edit : Edit) (old new : List OneItem) → AreOfLines (l
 -- an item that is taken out of items of lines is of lines
 abbrev pub TakenItemsAreOfLines : Type 0
 TakenItemsAreOfLines = (edit : Edit) (old : List OneItem) (item : OneItem) → AreOfLines (listed old) → taken edit old ≡ Some item → AreOfLines (before item done)
+
+-- each unrolled step has one path
+abbrev pub StepsHaveOnePath : Type 0
+StepsHaveOnePath = (items : Items) → length (paths_of items) ≡ length (unroll items)

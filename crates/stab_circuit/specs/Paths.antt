@@ -1,6 +1,8 @@
--- Paths: where an edit is made.
+-- Paths: where an item stands or an edit is made.
 -- Source: this project's own.
-use Rattle.std.specs.Prelude.{ℕ, List, [], ◌∷◌, ◌++◌}
+use Rattle.std.specs.Prelude.{ℕ, List, [], ◌∷◌, ◌++◌, map}
+use Rattle.std.specs.List.{join_with_byte}
+use Rattle.std.specs.Fmt.{decimal}
 
 -- a path: the places of the blocks around, the outermost first, and a place in the innermost list
 pub record Path : Type 0 where
@@ -10,6 +12,14 @@ pub record Path : Type 0 where
 -- the numbers of a path
 abbrev pub numbers : Path → List ℕ
 numbers p = p.blocks ++ p.place ∷ []
+
+-- the byte of a slash
+abbrev pub slash : ℕ
+slash = 47
+
+-- the text of a path: its numbers in decimal, joined by slashes
+abbrev pub path_text : Path → List ℕ
+path_text p = join_with_byte slash (map decimal (numbers p))
 
 -- the most blocks around a place
 abbrev pub most_blocks : ℕ

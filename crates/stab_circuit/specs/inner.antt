@@ -11,3 +11,4 @@ pub mod Splices
 pub mod Judgements
 pub mod EditResults
 pub mod Chunks
+pub mod StepItems

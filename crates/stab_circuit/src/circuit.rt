@@ -5,6 +5,7 @@ ghost use Rattle.stab_circuit.specs.Views.{circuit_items};
 ghost use Rattle.stab_circuit.specs.Readings.{ReadsCircuit, ReadsInput, ReadsItem, IsPlaced, is_of_circuit, is_of_item};
 
 mod edits;
+mod step_items;
 
 use crate::chunks::{Chunk, SkippedChunks, cut, front_summary, skip_chunks};
 use crate::input::{MOST_BYTES, read_text};
@@ -14,6 +15,7 @@ use crate::summary::{STEPS_CAP, Summary};
 use stab_io::{Fault, Input, Refusal};
 use std::alloc::Global;
 use std::marker::Model;
+pub use step_items::StepItem;
 
 /// A list of items. Contracts see them one by one.
 ///

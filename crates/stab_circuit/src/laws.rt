@@ -1,7 +1,7 @@
 //! Laws of circuit texts. Each function does nothing: its contract is the law, and the check
 //! proves it.
 
-ghost use Rattle.stab_circuit.specs.Laws.{CircuitsHaveNoFault, EachTextHasAMeaning, EditedItemsAreOfLines, EditsLeaveTheRest, ItemTextsAreLines, ItemTextsHaveOneMeaning, LinesKeepQubitsApart, PrintedItemsAreReadBack, TakenItemsAreOfLines, TextsAreLines, TextsAreOfOneCircuit, TextsHaveOneFault, TextsHaveOneMeaning};
+ghost use Rattle.stab_circuit.specs.Laws.{CircuitsHaveNoFault, EachTextHasAMeaning, EditedItemsAreOfLines, EditsLeaveTheRest, ItemTextsAreLines, ItemTextsHaveOneMeaning, LinesKeepQubitsApart, PrintedItemsAreReadBack, StepsHaveOnePath, TakenItemsAreOfLines, TextsAreLines, TextsAreOfOneCircuit, TextsHaveOneFault, TextsHaveOneMeaning};
 
 /// A text without a faulty line stands for one list of items, and for no other.
 pub fn texts_have_one_meaning()
@@ -74,4 +74,9 @@ pub fn edited_items_are_of_lines()
 /// An item that an edit takes out of items of lines is of lines, so that it may be put in again.
 pub fn taken_items_are_of_lines()
     ensures law { TakenItemsAreOfLines }
+{}
+
+/// Each unrolled step of items is of one item: there are as many paths as steps.
+pub fn steps_have_one_path()
+    ensures law { StepsHaveOnePath }
 {}

@@ -7,16 +7,17 @@
 //! - `input`: reading an input whole.
 //! - `summary`: the numbers that are kept.
 //! - `chunks`: those of chunks of a circuit's items, so that a long circuit is added up fast.
-//! - `path`, `edit`: where a circuit is edited, and how, and which steps that changes.
+//! - `path`: the places of items.
+//! - `edit`: how a circuit is edited at a path, and which steps that changes.
 //! - `judge`, `commit`: judging an edit by what items keep, and making it.
-//! - `circuit`: circuits, reading one, and editing one.
+//! - `circuit`: circuits, reading one, editing one, and the item that a step is of.
 //! - `print`: the one text of a circuit.
 //! - `step`, `instruction`: the steps of an instruction.
 //! - `walk`, `cursor`: the unrolled steps of a circuit, from any place on.
 //! - `laws`: what holds between all texts and all items.
 //!
-//! `specs/` says which items a text stands for, what its fault is, what its unrolled steps are, and
-//! what an edit leaves of items;
+//! `specs/` says which items a text stands for, what its fault is, what its unrolled steps are, which
+//! item each is of, and what an edit leaves of items;
 //! `specs/inner` has what private contracts alone speak of.
 //!
 //! Sources: Stim's circuit file format (.stim) without noise, in Stim's repository
@@ -26,12 +27,12 @@
 //! Proved: every text is that of one circuit or has one fault, and never both; it is read as exactly
 //! the items that it stands for, or refused with exactly its fault, and behind the limit of a text
 //! nothing is read but what one read brings; qubits and observables are those of its items, and
-//! steps, records and what refuses a whole circuit those of its unrolled steps; one item's text
-//! without a fault stands for one item; what is printed of the items of any lines stands for these
-//! items and no others, within the limit of a text, and edits of items of lines leave such items; an
-//! edit leaves exactly the items that `specs/Edits.antt` gives, and the steps before the first
-//! changed one and behind the outermost item around its place, or is refused by what refuses it first
-//! and leaves the circuit as it was.
+//! steps, records and what refuses a whole circuit those of its unrolled steps; the path that is told
+//! of a step is that of its item; one item's text without a fault stands for one item; what is printed
+//! of the items of any lines stands for these items and no others, within the limit of a text, and
+//! edits of items of lines leave such items; an edit leaves exactly the items that `specs/Edits.antt`
+//! gives, and the steps before the first changed one and behind the outermost item around its place,
+//! or is refused by what refuses it first and leaves the circuit as it was.
 #![tactic(auto)]
 
 mod chunks;
@@ -51,12 +52,12 @@ mod step;
 mod summary;
 mod walk;
 
-pub use circuit::{Circuit, circuit_of_text, read_circuit, read_item};
+pub use circuit::{Circuit, StepItem, circuit_of_text, read_circuit, read_item};
 pub use cursor::Cursor;
 pub use edit::{Edit, Refused, Span};
 pub use input::read_text;
 pub use item::Item;
-pub use path::Path;
+pub use path::{Path, write_path};
 pub use print::write_circuit;
 pub use stab_lines::{Axis, Factor, Qubit};
 pub use step::Step;

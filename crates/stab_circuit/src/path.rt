@@ -1,7 +1,14 @@
+ghost use Rattle.std.specs.Prelude.{◌++◌, codes};
+ghost use Rattle.std.specs.Fmt.{decimal};
+ghost use Rattle.stab_io.specs.Devices.{WritesAll};
+ghost use Rattle.stab_circuit.specs.Paths.{path_text};
+
+use itoa::Buffer;
+use stab_io::{Output, Refusal, write_all};
 use std::marker::Model;
 
-/// Where an edit is made: the places of the blocks around, the outermost first, of which there are
-/// at most 16, and a place in the innermost list. Places are counted from 0.
+/// Where an item stands or an edit is made: the places of the blocks around, the outermost first, of
+/// which there are at most 16, and a place in the innermost list. Places are counted from 0.
 #[derive(Clone, Copy, Debug, PartialEq, Eq)]
 pub struct Path {
     /// The blocks' places, and then zeros.
@@ -58,16 +65,46 @@ impl Path {
     }
 
     /// The places of the blocks around, the outermost first.
-    pub(crate) fn blocks(&self) -> &[usize]
+    pub fn blocks(&self) -> &[usize]
         ensures value { result.now ≡ self.now.blocks }
     {
         &self.blocks[..self.depth]
     }
 
     /// The place in the innermost list.
-    pub(crate) fn place(&self) -> usize
+    pub fn place(&self) -> usize
         ensures value { result ≡ self.now.place }
     {
         self.place
     }
+}
+
+/// Writes a number in decimal.
+fn write_number<O: Output>(out: &mut O, number: usize) -> Result<(), Refusal>
+    ensures writes { WritesAll (O.seen out.old) (O.seen out.new) (decimal number) result }
+{
+    let mut digits = Buffer::new();
+    write_all(out, digits.format(number).as_bytes())
+}
+
+/// Writes the place of a block, with a slash behind it.
+fn write_block<O: Output>(out: &mut O, place: usize) -> Result<(), Refusal>
+    ensures writes { WritesAll (O.seen out.old) (O.seen out.new) (decimal place ++ codes "/") result }
+{
+    write_number(out, place)?;
+    write_all(out, b"/")
+}
+
+/// Writes a path's numbers in decimal, joined by slashes, and takes no memory. It does not flush.
+///
+/// Refusal `WriteFault` where a write failed; what was written is then a prefix of the text, and
+/// nothing more is tried.
+pub fn write_path<O: Output>(out: &mut O, path: &Path) -> Result<(), Refusal>
+    ensures writes { WritesAll (O.seen out.old) (O.seen out.new) (path_text path.now) result }
+{
+    let blocks = path.blocks();
+    for block in blocks {
+        write_block(out, *block)?;
+    }
+    write_number(out, path.place())
 }

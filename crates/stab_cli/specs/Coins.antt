@@ -1,4 +1,5 @@
 -- Coins: the text of coins, that of a file of them, and how reading one ends.
+-- Source: this project's own.
 use Rattle.std.specs.Prelude.{◌≡◌, ◌≤◌, ◌⊎◌, ℕ, Bool, if◌then◌else◌, List, [], ◌∷◌, ◌++◌, map, Result, Ok, Err}
 use Rattle.std.specs.Global.{Vec}
 use Rattle.clap.specs.Words.{Text}

@@ -11,7 +11,8 @@ use Rattle.stab_circuit.specs.Items.{Items}
 use Rattle.stab_circuit.specs.Steps.{Step, one, two, controlled, collapse, product, detector, observable, unroll, makes, records_of, looks_too_far, check_of, most_steps, steps_cap}
 use Rattle.stab_run.specs.Points.{all_coins_of, coins_of}
 use Rattle.stab_explain.specs.Explanations.{AppendsSome}
-use Rattle.stab_commands.specs.Checks.{SendsSome, detectors_in, detectors_of}
+use Rattle.stab_regions.specs.Tables.{is_detector, detectors_of}
+use Rattle.stab_commands.specs.Checks.{SendsSome, detectors_in}
 use Rattle.stab_commands.proofs.SendingLaws.{took_some_none}
 
 -- a circuit that nothing refuses has at most as many steps as it may
@@ -61,10 +62,18 @@ records_few : (ss : List Step) → records_of ss ≤ length ss
 records_few [] = omega arith
 records_few (s ∷ ss) = omega (arith, one_record s, records_few ss)
 
+-- the detectors of a step and of those behind it
+pub detectors_more : (s : Step) (ss : List Step) → detectors_of (s ∷ ss) ≡ detectors_in s + detectors_of ss
+detectors_more s ss = by_kind (is_detector s)
+  where
+    by_kind : (b : Bool) → (if b then 1 + detectors_of ss else detectors_of ss) ≡ (if b then 1 else 0) + detectors_of ss
+    by_kind true = refl
+    by_kind false = omega arith
+
 -- steps make at most as many detectors as they are
 pub detectors_few : (ss : List Step) → detectors_of ss ≤ length ss
 detectors_few [] = omega arith
-detectors_few (s ∷ ss) = omega (arith, one_detector s, detectors_few ss)
+detectors_few (s ∷ ss) = omega (arith, detectors_more s ss, one_detector s, detectors_few ss)
 
 -- steps use up at most as many coin numbers as they are
 pub coins_few : (ss : List Step) → all_coins_of ss ≤ length ss

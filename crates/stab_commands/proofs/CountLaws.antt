@@ -1,5 +1,5 @@
 -- Laws of counts: what steps are counted to make is what any run of them makes.
-use Rattle.std.proofs.Common.{◌≡◌, refl, ◌∙◌, ℕ, ◌+◌, Bool, true, false, List, [], ◌∷◌, ◌++◌, length, slice_index_or, arith}
+use Rattle.std.proofs.Common.{◌≡◌, refl, sym, subst, ◌∙◌, ℕ, ◌+◌, Bool, true, false, List, [], ◌∷◌, ◌++◌, length, slice_index_or, arith}
 use Rattle.std.proofs.lemmas.List.{length-append, length-replicate, length-set}
 use Rattle.stab_pauli.specs.Letters.{◌⊕◌}
 use Rattle.stab_pauli.specs.Paulis.{single}
@@ -8,7 +8,9 @@ use Rattle.stab_circuit.specs.Steps.{Step, one, two, controlled, collapse, produ
 use Rattle.stab_run.specs.Points.{all_coins_of, coins_of}
 use Rattle.stab_run.specs.Records.{parity}
 use Rattle.stab_run.specs.Runs.{State, start, string_of, outcome_at, effect, run, run_of}
-use Rattle.stab_commands.specs.Checks.{detectors_in, detectors_of, numbers_of, IsCountedBy}
+use Rattle.stab_regions.specs.Tables.{detectors_of}
+use Rattle.stab_commands.specs.Checks.{detectors_in, numbers_of, IsCountedBy}
+use Rattle.stab_commands.proofs.CheckLaws.{detectors_more}
 
 -- a run has come from another by so many records, detectors and coins more
 record Grows (before after : State) (r d k : ℕ) : Type 0 where
@@ -67,8 +69,10 @@ grows_on a b c r r' d d' k k' here later = record {
 -- what steps make
 run_grows : (n : ℕ) (coins : ℕ → Bool) (xs : List Step) (s : State) → Grows s (run n coins xs s) (records_of xs) (detectors_of xs) (all_coins_of xs)
 run_grows n coins [] s = record { records = none_more _; detectors = none_more _; coins = none_more _; observables = refl }
-run_grows n coins (x ∷ xs) s = grows_on s (effect n coins x s) (run n coins xs (effect n coins x s)) (makes x) (records_of xs) (detectors_in x) (detectors_of xs) (coins_of x) (all_coins_of xs)
-    (step_grows n coins x s) (run_grows n coins xs (effect n coins x s))
+run_grows n coins (x ∷ xs) s =
+    let later = run n coins xs (effect n coins x s) in
+    subst (λ d. Grows s later (makes x + records_of xs) d (coins_of x + all_coins_of xs)) (sym (detectors_more x xs))
+    (grows_on s (effect n coins x s) later (makes x) (records_of xs) (detectors_in x) (detectors_of xs) (coins_of x) (all_coins_of xs) (step_grows n coins x s) (run_grows n coins xs (effect n coins x s)))
 
 -- the numbers of a circuit are those of any run of it
 pub numbers_of_runs : (n : ℕ) (coins : ℕ → Bool) (items : Items) → IsCountedBy (numbers_of items) (run_of n coins items)

@@ -7,7 +7,7 @@ use Rattle.stab_io.specs.declared.refusal.Refusal.{Refusal}
 use Rattle.stab_io.specs.declared.refusal.Fault.{Fault}
 use Rattle.stab_io.specs.Refusals.{number_of, name_of}
 use Rattle.stab_commands.specs.FaultLines.{fault_line, refused_text}
-use Rattle.stab_commands.specs.Jobs.{TellsFault}
+use Rattle.stab_commands.specs.Jobs.{TookOrFailed}
 use Rattle.stab_commands.specs.inner.Texts.{texts_joined}
 
 -- the text at a place, and those after it
@@ -29,7 +29,7 @@ joined-line f line number name some is_line is_number is_name = rw (is_line, is_
 pub not_zero : (n : ℕ) → (n ≡ 0 → ⊥) → (n == 0) ≡ false
 not_zero n h = grind (arith, nat_tests)
 
--- a fault whose line was written, or some first bytes of it, is told
-pub told : (old new : OutputView) (f : Fault) (r : Result (Unit {0}) Refusal) → WritesAll old new (fault_line f) r → TellsFault f old new
-told old new f (Ok u) writes = inl writes
-told old new f (Err r) writes = inr writes.1
+-- a text that was written, or some first bytes of it, is told
+pub told : (old new : OutputView) (text : List ℕ) (r : Result (Unit {0}) Refusal) → WritesAll old new text r → TookOrFailed old new text
+told old new text (Ok u) writes = inl writes
+told old new text (Err r) writes = inr writes.1

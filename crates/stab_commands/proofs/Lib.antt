@@ -1,6 +1,12 @@
 pub mod FaultLineLaws
 pub mod SendingLaws
 pub mod RunLaws
+pub mod FaultBitLaws
+pub mod FaultSiteLaws
+pub mod FoundLaws
+pub mod FaultTextLaws
+pub mod UnsureLaws
+pub mod WritingLaws
 pub mod RowLaws
 pub mod CheckLaws
 pub mod CountLaws

@@ -28,6 +28,13 @@ abbrev pub Sends : {T : Type 0} → List ℕ → OutputView → OutputView → R
 Sends bytes old new (Ok x) = TookAndFlushed old new bytes
 Sends bytes old new (Err f) = ((f ≡ whole WriteFault) × FailsToSend old new bytes) ⊎ ((f ≡ whole OutOfMemory) × TookSome old new bytes)
 
+-- Bytes like these were sent, which were gathered first: all were written, and flushed once; or the output failed; or memory was refused
+-- before the first.
+abbrev pub SendsFound : {T : Type 0} → (List ℕ → Type 0) → OutputView → OutputView → Result T Fault → Type 0
+SendsFound are old new (Ok x) = (bytes : List ℕ) × are bytes × TookAndFlushed old new bytes
+SendsFound are old new (Err f) =
+    ((f ≡ whole WriteFault) × (bytes : List ℕ) × are bytes × FailsToSend old new bytes) ⊎ ((f ≡ whole OutOfMemory) × (new ≡ old))
+
 -- How a call ends that reads a text whole and goes on with it: the text was refused and all else is untouched; or it was given whole, and
 -- the rest says how the call went on.
 abbrev pub Ends : {T : Type 0} → (own : List ℕ → Fault → Type 0) → (untouched : Type 0)

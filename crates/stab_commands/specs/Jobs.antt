@@ -1,16 +1,19 @@
 -- Jobs: how the command of a job ends, the status of a program's run, and how its fault is told.
 -- Source: this project's own.
-use Rattle.std.specs.Prelude.{◌≡◌, ℕ, Bool, true, false, List, ◌⊎◌, Result, Ok, Err}
+use Rattle.std.specs.Prelude.{◌≡◌, ℕ, Bool, true, false, List, ◌⊎◌, Option, None, Result, Ok, Err}
 use Rattle.stab_io.specs.Devices.{InputView, OutputView, Took, TookAndFailed}
 use Rattle.stab_io.specs.declared.refusal.Fault.{Fault}
-use Rattle.stab_commands.specs.FaultLines.{fault_line}
+use Rattle.stab_commands.specs.FaultLines.{fault_line, told_text}
 use Rattle.stab_commands.specs.Outputs.{EndsRun, sample_of, detect_of}
 use Rattle.stab_commands.specs.Stabilisers.{EndsStabilisers}
 use Rattle.stab_commands.specs.Checks.{EndsCheck}
+use Rattle.stab_commands.specs.Deterministic.{EndsDeterministic}
+use Rattle.stab_commands.specs.FaultTables.{EndsFaults}
 use Rattle.stab_commands.specs.script.ScriptEndings.{EndsEdit}
+use Rattle.stab_commands.specs.declared.unsure.Unsure.{Unsure}
 use Rattle.stab_commands.specs.declared.job.Source.{Source}
 use Rattle.stab_commands.specs.declared.job.Command.{Command}
-use Rattle.stab_commands.specs.declared.job.Command.TheVariants.{Sample, Detect, Stabilisers, Check, Edit}
+use Rattle.stab_commands.specs.declared.job.Command.TheVariants.{Sample, Detect, Stabilisers, Check, Deterministic, Faults, Edit}
 use Rattle.stab_commands.specs.declared.job.Job.{Job}
 
 -- a call that reads no script refuses no line of it
@@ -22,13 +25,19 @@ refusing_none (Err f) = Err f
 abbrev pub RefusesNone : (Result (Unit {0}) Fault → Type 0) → Result Bool Fault → Type 0
 RefusesNone ends r = (answer : Result (Unit {0}) Fault) × ends answer × (r ≡ refusing_none answer)
 
--- how the call of a command ends, with coins from the source, and whether a line of the script was refused
-abbrev pub EndsCommand : Command → Source → InputView → InputView → InputView → InputView → OutputView → OutputView → Result Bool Fault → Type 0
-EndsCommand (Sample format shots) source i i' s s' o o' = RefusesNone (EndsRun (sample_of format shots source) i i' o o')
-EndsCommand (Detect format shots append) source i i' s s' o o' = RefusesNone (EndsRun (detect_of format append shots source) i i' o o')
-EndsCommand Stabilisers source i i' s s' o o' = RefusesNone (EndsStabilisers source i i' o o')
-EndsCommand Check source i i' s s' o o' = RefusesNone (EndsCheck i i' o o')
-EndsCommand (Edit qubits stride) source i i' s s' o o' = EndsEdit qubits source i i' s s' o o'
+-- no bit was named as one that is not sure, no line of a script was refused, and the call ended so
+abbrev pub NamesNone : (Result (Unit {0}) Fault → Type 0) → Result Bool Fault → Option Unsure → Type 0
+NamesNone ends r unsure = (unsure ≡ None) × RefusesNone ends r
+
+-- how the call of a command ends, with coins from the source: whether a line of the script was refused, and which bit was named as one that is not sure
+abbrev pub EndsCommand : Command → Source → InputView → InputView → InputView → InputView → OutputView → OutputView → Result Bool Fault → Option Unsure → Type 0
+EndsCommand (Sample format shots) source i i' s s' o o' r unsure = NamesNone (EndsRun (sample_of format shots source) i i' o o') r unsure
+EndsCommand (Detect format shots append) source i i' s s' o o' r unsure = NamesNone (EndsRun (detect_of format append shots source) i i' o o') r unsure
+EndsCommand Stabilisers source i i' s s' o o' r unsure = NamesNone (EndsStabilisers source i i' o o') r unsure
+EndsCommand Check source i i' s s' o o' r unsure = NamesNone (EndsCheck i i' o o') r unsure
+EndsCommand (Deterministic format) source i i' s s' o o' r unsure = NamesNone (EndsDeterministic format i i' o o') r unsure
+EndsCommand (Faults layout everywhere sure_only) source i i' s s' o o' r unsure = RefusesNone (λ answer. EndsFaults layout everywhere sure_only i i' o o' answer unsure) r
+EndsCommand (Edit qubits stride) source i i' s s' o o' r unsure = (unsure ≡ None) × EndsEdit qubits source i i' s s' o o' r
 
 -- whether a command reads a script
 abbrev pub reads_script : Command → Bool
@@ -49,14 +58,15 @@ TookOrFailed old new bytes = Took old new bytes ⊎ TookAndFailed old new bytes
 abbrev pub TellsFault : Fault → OutputView → OutputView → Type 0
 TellsFault f old new = TookOrFailed old new (fault_line f)
 
--- a run's fault is told, and without one the error output is untouched
-abbrev pub Tells : {T : Type 0} → Result T Fault → OutputView → OutputView → Type 0
-Tells (Ok x) old new = new ≡ old
-Tells (Err f) old new = TellsFault f old new
+-- a run's fault is told, with the bit that it names, if any; and without a fault the error output is untouched
+abbrev pub Tells : {T : Type 0} → Result T Fault → Option Unsure → OutputView → OutputView → Type 0
+Tells (Ok x) unsure old new = new ≡ old
+Tells (Err f) unsure old new = TookOrFailed old new (told_text f unsure)
 
 -- How a run of a job ends: as the call of its command ends, with that call's status, and its fault told.
 pub record EndsJob (job : Job) (i i' s s' : InputView) (o o' e e' : OutputView) (status : ℕ) : Type 0 where
   pub answer : Result Bool Fault
-  pub ends : EndsCommand job.command job.source i i' s s' o o' answer
+  pub unsure : Option Unsure
+  pub ends : EndsCommand job.command job.source i i' s s' o o' answer unsure
   pub status_is : status ≡ status_of answer
-  pub told : Tells answer e e'
+  pub told : Tells answer unsure e e'

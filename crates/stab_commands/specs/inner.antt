@@ -4,3 +4,6 @@ pub mod Requests
 pub mod Replies
 pub mod Editors
 pub mod SessionAnswers
+pub mod FaultSites
+pub mod Faults
+pub mod Stub

@@ -1,9 +1,11 @@
-//! The line that tells a fault.
-ghost use Rattle.std.specs.Prelude.{map};
+//! The lines that tell a fault.
+ghost use Rattle.std.specs.Prelude.{◌≡◌, ◌++◌, decimal, map};
 ghost use Rattle.stab_io.specs.Devices.{WritesAll};
-ghost use Rattle.stab_commands.specs.FaultLines.{fault_line};
+ghost use Rattle.stab_commands.specs.FaultLines.{bit_text, fault_line, told_text, unsure_line};
 ghost use Rattle.stab_commands.specs.inner.Texts.{texts_joined};
 
+use crate::unsure::{Bit, FaultsRefused, Unsure};
+use stab_circuit::write_path;
 use stab_io::{Fault, Output, Refusal, write_all};
 
 /// Writes texts one after another.
@@ -45,5 +47,42 @@ pub fn write_fault<O: Output>(out: &mut O, fault: Fault) -> Result<(), Refusal>
                 b"\n",
             ],
         )
+    }
+}
+
+/// What a detector or an observable is called, and its number.
+fn bit_name(bit: Bit) -> (&'static [u8], usize)
+    ensures value { bit_text bit ≡ result.0.now ++ decimal result.1 }
+{
+    match bit {
+        Bit::Detector(number) => (b"detector ", number),
+        Bit::Observable(number) => (b"observable ", number),
+    }
+}
+
+/// Writes the line that names a detector or observable that is not the same for all coins.
+fn write_unsure<O: Output>(out: &mut O, unsure: &Unsure) -> Result<(), Refusal>
+    ensures writes { WritesAll (O.seen out.old) (O.seen out.new) (unsure_line unsure.now) result }
+{
+    let (name, number) = bit_name(unsure.bit);
+    let mut digits = itoa::Buffer::new();
+    let digits = digits.format(number).as_bytes();
+    write_texts(out, &[b"stabsim: ", name, digits, b", item "])?;
+    write_path(out, &unsure.path)?;
+    write_all(out, b", is not the same for all coins\n")
+}
+
+/// Writes the line that tells a fault, as `write_fault` does, and behind it, where the fault names a
+/// detector or observable, a line such as `stabsim: detector 3, item 0/2, is not the same for all
+/// coins`. It takes no memory.
+///
+/// Refusal `WriteFault` after a prefix of the lines.
+pub fn write_refused<O: Output>(out: &mut O, refused: &FaultsRefused) -> Result<(), Refusal>
+    ensures writes { WritesAll (O.seen out.old) (O.seen out.new) (told_text refused.now.fault refused.now.unsure) result }
+{
+    write_fault(out, refused.fault)?;
+    match &refused.unsure {
+        Some(unsure) => write_unsure(out, unsure),
+        None => Ok(()),
     }
 }

@@ -1,16 +1,20 @@
 //! Running a job, with the status of the program.
-ghost use Rattle.std.specs.Prelude.{◌≡◌, ◌≤◌, IfSome, false};
+ghost use Rattle.std.specs.Prelude.{◌≡◌, ◌≤◌, IfSome, None, false};
 ghost use Rattle.stab_tableau.specs.Limits.{most_qubits};
+ghost use Rattle.stab_commands.specs.FaultTables.{fault_of, unsure_of};
 ghost use Rattle.stab_commands.specs.Jobs.{EndsCommand, EndsJob, reads_script, refusing_none};
 ghost use Rattle.stab_commands.specs.script.ScriptTurns.{CommandInTurn};
 
 use crate::check::run_check;
-use crate::fault_line::write_fault;
+use crate::deterministic::run_deterministic;
+use crate::fault_line::write_refused;
+use crate::faults::run_faults;
 use crate::job::{Command, Job, QubitCount};
 use crate::run::{run_detect, run_sample};
 use crate::script::edit::run_edit_watched;
 use crate::script::watcher::{NoWatcher, Watcher};
 use crate::stabilisers::run_stabilisers;
+use crate::unsure::FaultsRefused;
 use stab_io::{Fault, Input, Output};
 use std::alloc::Global;
 
@@ -25,13 +29,25 @@ fn number_of(qubits: Option<QubitCount>) -> Option<usize>
     }
 }
 
+/// A call of any command but `faults` names no detector or observable.
+fn names_none<T>(answer: Result<T, Fault>) -> Result<T, FaultsRefused>
+    ensures value { fault_of result ≡ answer }
+    ensures none { unsure_of result ≡ None }
+{
+    match answer {
+        Ok(value) => Ok(value),
+        Err(fault) => Err(FaultsRefused::from(fault)),
+    }
+}
+
 /// A call that reads no script refuses no line of it.
-fn refuses_none(answer: Result<(), Fault>) -> Result<bool, Fault>
-    ensures value { result ≡ refusing_none answer }
+fn refuses_none(answer: Result<(), FaultsRefused>) -> Result<bool, FaultsRefused>
+    ensures value { fault_of result ≡ refusing_none (fault_of answer) }
+    ensures same { unsure_of result ≡ unsure_of answer }
 {
     match answer {
         Ok(()) => Ok(false),
-        Err(fault) => Err(fault),
+        Err(refused) => Err(refused),
     }
 }
 
@@ -42,34 +58,46 @@ fn run_command<I: Input, S: Input, O: Output, W: Watcher<S, O>>(
     input: &mut I,
     script: &mut S,
     out: &mut O,
-) -> Result<bool, Fault>
-    ensures ends { EndsCommand job.now.command job.now.source (I.seen input.old) (I.seen input.new) (S.seen script.old) (S.seen script.new) (O.seen out.old) (O.seen out.new) result }
+) -> Result<bool, FaultsRefused>
+    ensures ends { EndsCommand job.now.command job.now.source (I.seen input.old) (I.seen input.new) (S.seen script.old) (S.seen script.new) (O.seen out.old) (O.seen out.new) (fault_of result) (unsure_of result) }
     ensures script { reads_script job.now.command ≡ false → script.new ≡ script.old }
     ensures turns { CommandInTurn job.now.command job.now.source (I.seen input.old) (I.seen input.new) (S.seen script.old) (S.seen script.new) (O.seen out.old) (W.log script.old) (W.log script.new) }
 {
     let source = &job.source;
     match job.command {
         Command::Sample { format, shots } => {
-            refuses_none(run_sample(alloc, input, out, format, shots.number(), source))
+            let answer = run_sample(alloc, input, out, format, shots.number(), source);
+            refuses_none(names_none(answer))
         }
         Command::Detect {
             format,
             shots,
             append,
-        } => refuses_none(run_detect(alloc, input, out, format, append, shots.number(), source)),
-        Command::Stabilisers => refuses_none(run_stabilisers(alloc, input, out, source)),
-        Command::Check => refuses_none(run_check(alloc, input, out)),
-        Command::Edit { qubits, stride } => {
-            run_edit_watched::<I, S, O, W>(
-                alloc,
-                input,
-                script,
-                out,
-                number_of(qubits),
-                stride.steps(),
-                source,
-            )
+        } => {
+            let answer = run_detect(alloc, input, out, format, append, shots.number(), source);
+            refuses_none(names_none(answer))
         }
+        Command::Stabilisers => {
+            refuses_none(names_none(run_stabilisers(alloc, input, out, source)))
+        }
+        Command::Check => refuses_none(names_none(run_check(alloc, input, out))),
+        Command::Deterministic { format } => {
+            refuses_none(names_none(run_deterministic(alloc, input, out, format)))
+        }
+        Command::Faults {
+            layout,
+            everywhere,
+            sure_only,
+        } => refuses_none(run_faults(alloc, input, out, layout, everywhere, sure_only)),
+        Command::Edit { qubits, stride } => names_none(run_edit_watched::<I, S, O, W>(
+            alloc,
+            input,
+            script,
+            out,
+            number_of(qubits),
+            stride.steps(),
+            source,
+        )),
     }
 }
 
@@ -93,8 +121,8 @@ pub fn run_job_watched<I: Input, S: Input, O: Output, E: Output, W: Watcher<S, O
     match run_command::<I, S, O, W>(alloc, job, input, script, out) {
         Ok(false) => 0,
         Ok(true) => 3,
-        Err(fault) => {
-            let _ = write_fault(err, fault);
+        Err(refused) => {
+            let _ = write_refused(err, &refused);
             1
         }
     }
@@ -102,7 +130,7 @@ pub fn run_job_watched<I: Input, S: Input, O: Output, E: Output, W: Watcher<S, O
 
 /// Runs a job over these devices, tells its fault on `err`, and answers the status of the program:
 /// 0 without a fault, 1 with one, and 3 where the script was read to its end and a line of it was
-/// refused, whether or not `err` fails.
+/// refused, whether or not `err` fails. A fault that names a detector or observable has a line more.
 ///
 /// The paths of the job are the caller's to open. No command but `edit` reads the script.
 pub fn run_job<I: Input, S: Input, O: Output, E: Output>(

@@ -1,4 +1,5 @@
 -- Explanations: what a call leaves of the output that some words are written to.
+-- Source: this project's own.
 use Rattle.std.specs.Prelude.{◌≡◌, ℕ, List, ◌⊎◌, Result, Ok, Err}
 use Rattle.stab_io.specs.Devices.{OutputView, Took, TookAndFailed}
 use Rattle.stab_io.specs.declared.refusal.Refusal.{Refusal}

@@ -16,6 +16,9 @@
 //! - `shown`: a line with carets under a part of it.
 //! - `explanation`: all of it, and `write_explanation`, which the other crates call.
 //!
+//! Sources: Stim's circuit file format and its list of gates, for what a line may have and for the names that are
+//! left out. The words are this project's own.
+//!
 //! Proved: what is written is some bytes behind what was written before, all of them where the call
 //! is done, and a first part of them where the output failed; where memory is refused, nothing is
 //! written. The words themselves are tested.

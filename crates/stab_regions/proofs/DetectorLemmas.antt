@@ -59,10 +59,15 @@ before-front (suc d) (x ∷ xs) = by_kind (is_detector x) refl (before-front d x
     by_kind false e next other = (other.0, ap (λ ys. x ∷ ys) other.1 ∙ ap (λ ys. ys ++ other.0) (sym (before-other x xs (suc d) e)))
 
 -- a front fits where all do
-fits-front : (n : ℕ) (xs ys : List Step) → All (StepFits n) (xs ++ ys) → All (StepFits n) xs
+pub fits-front : (n : ℕ) (xs ys : List Step) → All (StepFits n) (xs ++ ys) → All (StepFits n) xs
 fits-front n [] ys fits = All-nil (StepFits n)
 fits-front n (x ∷ xs) ys fits =
     All-cons (StepFits n) x xs (All-head (StepFits n) x (xs ++ ys) fits) (fits-front n xs ys (All-tail (StepFits n) x (xs ++ ys) fits))
+
+-- and so does what follows it
+pub fits-back : (n : ℕ) (xs ys : List Step) → All (StepFits n) (xs ++ ys) → All (StepFits n) ys
+fits-back n [] ys fits = fits
+fits-back n (x ∷ xs) ys fits = fits-back n xs ys (All-tail (StepFits n) x (xs ++ ys) fits)
 
 -- so the steps before a detector fit
 pub fits-before : (n d : ℕ) (xs : List Step) → All (StepFits n) xs → All (StepFits n) (steps_before d xs)

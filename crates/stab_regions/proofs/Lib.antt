@@ -15,3 +15,7 @@ mod DetectorLemmas
 mod ObservableLemmas
 mod TableLemmas
 mod FaultLemmas
+mod BitLemmas
+mod FaultBitLemmas
+mod TwoFaultLemmas
+mod ManyFaultLemmas

@@ -32,7 +32,7 @@ tables-are-whole law n coins xs count = record {
 }
 
 -- what is the same of bits is the same of bits that equal them
-same-of : (bit asked : (ℕ → Bool) → Bool) → ((coins : ℕ → Bool) → bit coins ≡ asked coins) → (sure : Bool)
+pub same-of : (bit asked : (ℕ → Bool) → Bool) → ((coins : ℕ → Bool) → bit coins ≡ asked coins) → (sure : Bool)
     → ((sure ≡ true) ↔ ((coins others : ℕ → Bool) → asked others ≡ asked coins)) → (sure ≡ true) ↔ ((coins others : ℕ → Bool) → bit others ≡ bit coins)
 same-of bit asked is sure exact = (
   λ e coins others. is others ∙ exact.0 e coins others ∙ sym (is coins),

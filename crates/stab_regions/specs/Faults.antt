@@ -1,11 +1,10 @@
 -- Faults: one Pauli X or Z that goes wrong between two steps, where they are asked for, and which bits of a run each flips.
-use Rattle.std.specs.Prelude.{◌≡◌, ℕ, suc, ◌+◌, ◌<◌, Bool, true, false, List, [], ◌∷◌, ◌++◌, map, take, drop, length, ◌↔◌, slice_index_or, if◌then◌else◌, ◌&&◌}
+use Rattle.std.specs.Prelude.{◌≡◌, ℕ, zero, suc, ◌+◌, ◌<◌, Bool, true, false, List, [], ◌∷◌, ◌++◌, map, take, drop, length, ◌↔◌, slice_index_or, if◌then◌else◌, ◌&&◌}
 use Rattle.std.specs.List.{flat_map}
 use Rattle.stab_pauli.specs.declared.letter.Letter.{Letter}
 use Rattle.stab_pauli.specs.declared.letter.Letter.TheVariants as letter
 use Rattle.stab_pauli.specs.Letters.{◌⊕◌}
 use Rattle.stab_tableau.specs.declared.gate.Gate.TheVariants as gate
-use Rattle.stab_tableau.specs.declared.gate.Gate.{Gate}
 use Rattle.stab_circuit.specs.Items.{Items}
 use Rattle.stab_circuit.specs.Steps.{Step, one, two, controlled, collapse, product, detector, observable, unroll, observables_of}
 use Rattle.stab_run.specs.Runs.{State, start, run, gate_of}
@@ -16,8 +15,10 @@ pub record Site : Type 0 where
   pub qubit : ℕ
   pub behind : Bool
 
-abbrev pub in_front behind : ℕ → Site
+abbrev pub in_front : ℕ → Site
 in_front q = record { qubit = q; behind = false }
+
+abbrev pub behind : ℕ → Site
 behind q = record { qubit = q; behind = true }
 
 -- where a circuit marks places for faults: at each target of the gate that does nothing
@@ -94,7 +95,7 @@ flips n items coins f i = bit n (observables_of items) coins (with_gate f (unrol
 
 -- the numbers from i on below i + k with this property, ascending
 abbrev pub numbers_where : (ℕ → Bool) → (i k : ℕ) → List ℕ
-numbers_where f i 0 = []
+numbers_where f i zero = []
 numbers_where f i (suc k) = if f i then i ∷ numbers_where f (i + 1) k else numbers_where f (i + 1) k
 
 -- the sure bits that a fault flips, by their numbers, ascending
@@ -103,5 +104,5 @@ flipped n items sure coins f = numbers_where (λ i. slice_index_or sure i false 
 
 -- a table of faults: which bits are sure, and for each fault that is asked for, in order, which of these it flips, whatever the coins
 pub record IsFaultTable (n : ℕ) (everywhere : Bool) (items : Items) (sure : List Bool) (rows : List (List ℕ)) : Type 0 where
-  pub sure : AreSure n items sure
-  pub rows : (coins : ℕ → Bool) → rows ≡ map (flipped n items sure coins) (faults_of everywhere (unroll items))
+  pub are_sure : AreSure n items sure
+  pub are_flipped : (coins : ℕ → Bool) → rows ≡ map (flipped n items sure coins) (faults_of everywhere (unroll items))

@@ -6,3 +6,4 @@ pub mod Tables
 pub mod TableLaws
 pub mod Parities
 pub mod Faults
+pub mod FaultLaws

@@ -1,5 +1,6 @@
 -- Parities: detectors and observables under one numbering, and what one pass backwards finds of each. Of D detectors in all and so
 -- many observables, parity i below D is detector i, and parity D + j is observable j.
+-- Source: this project's own.
 use Rattle.std.specs.Prelude.{ℕ, ◌-◌, nat_lt, Bool, true, ◌&&◌, List, [], if◌then◌else◌}
 use Rattle.stab_pauli.specs.declared.letter.Letter.{Letter}
 use Rattle.stab_pauli.specs.Paulis.{single, anticommute}

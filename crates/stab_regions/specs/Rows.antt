@@ -1,4 +1,5 @@
 -- Rows: the parities that X and Z flip on each qubit, as lists of their numbers, and what they say of the parities' regions.
+-- Source: this project's own.
 use Rattle.std.specs.Prelude.{◌≡◌, ◌≢◌, ℕ, ◌==◌, ◌+◌, Bool, false, List, [], ◌∷◌, length, slice_index_or}
 use Rattle.stab_pauli.specs.declared.letter.Letter.{Letter}
 use Rattle.stab_pauli.specs.declared.letter.Letter.TheVariants.{I, X, Y, Z}

@@ -1,5 +1,6 @@
 ghost use Rattle.std.specs.Prelude.{◌≡◌, ◌≤◌, ◌∷◌, [], ◌++◌, length};
 ghost use Rattle.std.specs.Fmt.{decimal};
+ghost use Rattle.std.specs.List.{flat_map};
 ghost use Rattle.stab_results.specs.Formats.{digit, f01_bytes, number, b8_bytes, run_bytes, r8_bytes, hits_bytes, entry, dets_bytes, shot_bytes};
 
 use crate::byte_buffer::ByteBuffer;
@@ -119,10 +120,37 @@ impl ByteBuffer {
     {
         self.put(out, b"shot")?;
         for place in OnePlaces::new(bits) {
-            let (prefix, number) = entry(kinds, place);
-            self.put_item(out, prefix, number)?;
+            self.put_entry(out, kinds, place)?;
         }
         self.push(out, b'\n')
+    }
+
+    /// Puts the entries of the 1 bits at some places, in dets.
+    pub(crate) fn put_entries<O: Output>(
+        &mut self,
+        out: &mut O,
+        kinds: Kinds,
+        places: &[u32],
+    ) -> Result<(), Refusal>
+        ensures puts { Puts (O.seen out.old) (O.seen out.new) self.old self.new (flat_map (entry kinds) places.now) result }
+    {
+        for place in places {
+            self.put_entry(out, kinds, *place as usize)?;
+        }
+        Ok(())
+    }
+
+    /// Puts the entry of the 1 bit at a place, in dets.
+    fn put_entry<O: Output>(
+        &mut self,
+        out: &mut O,
+        kinds: Kinds,
+        place: usize,
+    ) -> Result<(), Refusal>
+        ensures puts { Puts (O.seen out.old) (O.seen out.new) self.old self.new (entry kinds place) result }
+    {
+        let (prefix, number) = entry(kinds, place);
+        self.put_item(out, prefix, number)
     }
 
     /// Puts a prefix and a number.

@@ -1,6 +1,7 @@
 ghost use Rattle.std.specs.Prelude.{◌≤◌, [], length};
-ghost use Rattle.stab_io.specs.Devices.{WritesAllOrFault};
-ghost use Rattle.stab_results.specs.Formats.{shot_bytes, detectors_of};
+ghost use Rattle.std.specs.List.{flat_map};
+ghost use Rattle.stab_io.specs.Devices.{WritesAll, WritesAllOrFault};
+ghost use Rattle.stab_results.specs.Formats.{entry, shot_bytes, detectors_of};
 ghost use Rattle.stab_results.specs.inner.ByteBuffer.{Puts};
 
 use crate::byte_buffer::ByteBuffer;
@@ -43,4 +44,28 @@ pub fn write_shot<O: Output>(
         Ok(()) => Ok(()),
         Err(refusal) => Err(Fault::whole(refusal)),
     }
+}
+
+/// Gathers the entries of some places, and sends them.
+fn send_entries<O: Output>(out: &mut O, kinds: Kinds, places: &[u32]) -> Result<(), Refusal>
+    ensures puts { Puts (O.seen out.old) (O.seen out.new) [] [] (flat_map (entry kinds) places.now) result }
+{
+    let mut byte_buffer = ByteBuffer::new();
+    byte_buffer.put_entries(out, kinds, places)?;
+    byte_buffer.send(out)
+}
+
+/// Writes the entries of the 1 bits at these places as `dets` has them, each behind a space, with
+/// no line end, and takes no memory.
+///
+/// With `Kinds::Detectors(count)` the places below `count` are detectors and the others are
+/// observables, each kind numbered from 0. So `dets` is `shot`, the entries of its 1 bits and a line
+/// end.
+///
+/// It does not flush. Refusal `WriteFault` alone: a prefix of the bytes was then written, and
+/// nothing more is tried.
+pub fn write_entries<O: Output>(out: &mut O, kinds: Kinds, places: &[u32]) -> Result<(), Refusal>
+    ensures writes { WritesAll (O.seen out.old) (O.seen out.new) (flat_map (entry kinds) places.now) result }
+{
+    send_entries(out, kinds, places)
 }

@@ -90,7 +90,7 @@ impl Read for ReadFile {
     }
 }
 
-/// The refusals of which `check` has no more to say.
+/// The refusals whose line says all that there is to say.
 const PLAIN: [Refusal; 5] = [
     Refusal::TooLong,
     Refusal::ReadFault,

@@ -1,7 +1,7 @@
 //! Shots in each result format.
 
 use stab_pauli::{Fault, MemoryOutput, Refusal};
-use stab_results::{Format, Kinds, write_shot};
+use stab_results::{Format, Kinds, write_entries, write_shot};
 use std::alloc::Global;
 use std::test::Fail;
 
@@ -89,5 +89,43 @@ fn long_shots_have_their_last_byte(rt: HostRuntime) -> Result<(), Fail> {
     let zeros = right(rt.alloc(), Format::R8, M, &many, b"\xff\x00\x00")?;
     let ones = right(rt.alloc(), Format::F01, M, &[true; 2100], &digits)?;
     assert_eq!(rt; (zeros, ones), (4, 2102));
+    Ok(())
+}
+
+// How many outputs, with room for each number of the bytes up to all, answer and have what they should where
+// the entries of some places are written.
+fn right_entries(
+    alloc: Global,
+    kinds: Kinds,
+    places: &[u32],
+    bytes: &[u8],
+) -> Result<usize, Refusal> {
+    let refusal = Err(Refusal::WriteFault);
+    let mut count: usize = 0;
+    for room in 0..=bytes.len() {
+        let mut out = MemoryOutput::new(alloc, room)?;
+        let answer = write_entries(&mut out, kinds, places);
+        let kept = out.bytes() == &bytes[..room];
+        if kept && answer == if room < bytes.len() { refusal } else { Ok(()) } {
+            count = count.saturating_add(1);
+        }
+    }
+    Ok(count)
+}
+
+const ENTRIES: &[(Kinds, &[u32], &[u8])] = &[
+    (M, &[], b""),
+    (M, &[0, 12, 4_294_967_295], b" M0 M12 M4294967295"),
+    (D, &[0, 1, 2, 5], b" D0 D1 L0 L3"),
+    // They come in the order of the places.
+    (D, &[3, 0], b" L1 D0"),
+];
+
+#[test]
+fn an_entry_is_that_of_its_place(rt: HostRuntime) -> Result<(), Fail> {
+    for &(kinds, places, bytes) in ENTRIES {
+        let found = right_entries(rt.alloc(), kinds, places, bytes)?;
+        assert_eq!(rt; found, bytes.len().wrapping_add(1), "{places:?}");
+    }
     Ok(())
 }

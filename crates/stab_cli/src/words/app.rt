@@ -99,8 +99,8 @@ Examples, at the top of the repository:
   printf 'H 0\\nFOO 1\\n' | ./stabsim check
 
 It writes how many qubits, items, steps, records, detectors, observables and coins the circuit has, a line
-each, and runs nothing. Of a circuit that is refused it writes what is wrong and where; the refusal itself
-goes to standard error, as with every command, and the status is 1.
+each, and runs nothing. Of a circuit that is refused it writes what is wrong and where, also over an older
+file of --out; the refusal itself goes to standard error, as with every command, and the status is 1.
 Refusals, by number and name, are explained in docs/refusals.md.
 ";
 
@@ -153,7 +153,8 @@ const HELP_IN: &str = "Reads the circuit from a file in place of standard input"
 
 const HELP_OUT: &str =
     "Writes to a file in place of standard output, and never to one that is read; \
-    an older one is kept until there is output, so also by a run that is refused";
+    an older one is kept until there is output, so also by a run that is refused; one that fails \
+    later leaves what it wrote";
 
 const HELP_APPEND: &str = "Appends the observables to the detectors";
 

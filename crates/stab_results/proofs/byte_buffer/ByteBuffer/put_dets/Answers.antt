@@ -17,11 +17,11 @@ loop-place-init g c =
 
 pub loop-place-preserved : goal.loop-place-preserved
 loop-place-preserved g c =
-    goes_on c.loop-place.invariant c.in_ok-put_item.ensures.puts (next_piece (entry c.args.kinds) _ _ _ _ (codes "\n") c.in-Some.ensures.steps c.entry-number.ensures.value)
+    goes_on c.loop-place.invariant c.in_ok-put_entry.ensures.puts (next_piece (entry c.args.kinds) _ _ _ _ (codes "\n") c.in-Some.ensures.steps refl)
 
-pub returns-in_err-put_item : goal.returns-in_err-put_item
-returns-in_err-put_item g c = record {
-  puts = breaks_off c.from_residual-in_err-put_item.result _ c.loop-place.invariant c.in_err-put_item.ensures.puts (next_piece (entry c.args.kinds) _ _ _ _ (codes "\n") c.in-Some.ensures.steps c.entry-number.ensures.value) c.from_residual-in_err-put_item.ensures.1;
+pub returns-in_err-put_entry : goal.returns-in_err-put_entry
+returns-in_err-put_entry g c = record {
+  puts = breaks_off c.from_residual-in_err-put_entry.result _ c.loop-place.invariant c.in_err-put_entry.ensures.puts (next_piece (entry c.args.kinds) _ _ _ _ (codes "\n") c.in-Some.ensures.steps refl) c.from_residual-in_err-put_entry.ensures.1;
 }
 
 pub returns : goal.returns

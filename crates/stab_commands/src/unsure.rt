@@ -1,0 +1,44 @@
+//! What a table of faults is refused for.
+
+
+use stab_circuit::Path;
+use stab_io::Fault;
+
+/// A detector or an observable of a circuit, by its number.
+#[derive(Clone, Copy, Debug, PartialEq, Eq)]
+pub enum Bit {
+    Detector(usize),
+    Observable(usize),
+}
+
+/// A detector or observable that is not the same for all coins.
+#[derive(Clone, Copy, Debug, PartialEq, Eq)]
+pub struct Unsure {
+    pub bit: Bit,
+    /// Where the item is that makes it: its `DETECTOR`, or the first `OBSERVABLE_INCLUDE` of its
+    /// number.
+    pub path: Path,
+}
+
+/// Why no table of faults was written.
+#[derive(Clone, Copy, Debug, PartialEq, Eq)]
+pub struct FaultsRefused {
+    pub fault: Fault,
+    /// With refusal `NotDeterministic`, the first detector or observable that is not the same for
+    /// all coins, in the order of a shot's bits; with any other none.
+    pub unsure: Option<Unsure>,
+}
+
+impl From<Fault> for FaultsRefused {
+    ghost use Rattle.std.specs.Prelude.{◌≡◌, None};
+
+    ghost from_gives = { λ f r. r ≡ record { fault = f; unsure = None } };
+
+    /// A fault that names no detector or observable.
+    fn from(fault: Fault) -> FaultsRefused {
+        FaultsRefused {
+            fault,
+            unsure: None,
+        }
+    }
+}

@@ -1,0 +1,101 @@
+-- Bits by their numbers: a bit of a run is that of a detector or an observable, and what the pass finds of a parity is what it
+-- finds of that one.
+use Rattle.std.proofs.Common.{◌≡◌, ℕ, ◌-◌, ◌<◌, ◌≤◌, ◌⊎◌, inl, inr, sym, ◌∙◌, ap, arith, Bool, false, List, [], ◌++◌, nat_lt, lt-ltb, le-ltb}
+use Rattle.std.proofs.lemmas.Bool.{cases_lt, cond-true, cond-false}
+use Rattle.std.proofs.lemmas.List.{get_or_append_left, get_or-append_right}
+use Rattle.std.specs.Prelude.{◌&&◌}
+use Rattle.stab_pauli.specs.declared.letter.Letter.{Letter}
+use Rattle.stab_pauli.specs.Paulis.{single, anticommute}
+use Rattle.stab_pauli.proofs.StringLemmas.{strings_anticommute-blank_right}
+use Rattle.stab_tableau.specs.Traces.{diagonal}
+use Rattle.stab_circuit.specs.Steps.{Step}
+use Rattle.stab_run.specs.Runs.{State, start, run}
+use Rattle.stab_run.specs.Laws.{RunsArePointsWithOutputs}
+use Rattle.stab_regions.specs.Regions.{region_of, region_through, keep_region, asks_nothing, asks_observable, is_sure}
+use Rattle.stab_regions.specs.Laws.{flips_asked}
+use Rattle.stab_regions.specs.Tables.{detectors_of, steps_before, named_by, region_of_detector, is_sure_detector, flips_detector}
+use Rattle.stab_regions.specs.TableLaws.{detector_bit, observable_bit}
+use Rattle.stab_regions.specs.Parities.{detectors_before, parity_region, parity_kept, parity_sure, parity_flips}
+use Rattle.stab_regions.specs.Faults.{bit}
+use Rattle.stab_regions.proofs.DetectorLemmas.{count-detectors}
+use Rattle.stab_regions.proofs.FaultLemmas.{count-append}
+
+-- the bits of a run
+
+module _ (law : RunsArePointsWithOutputs) (n count : ℕ) (coins : ℕ → Bool) (xs : List Step) (i : ℕ) where
+  -- those of detectors come first
+  pub bit-detector : i < detectors_of xs → bit n count coins xs i ≡ detector_bit n coins xs count i
+  bit-detector lt =
+      let s : State = run n coins xs (start count) in
+      get_or_append_left s.detectors s.observables false i (omega (arith, lt, count-detectors law n coins xs count))
+
+  -- then those of observables
+  pub bit-observable : detectors_of xs ≤ i → bit n count coins xs i ≡ observable_bit n coins xs count (i - detectors_of xs)
+  bit-observable le =
+      let s : State = run n coins xs (start count) in
+      get_or-append_right s.detectors s.observables (detectors_of xs) i false (count-detectors law n coins xs count) le
+
+-- the region of a parity before the last steps, and whether they keep it
+
+module _ (n D i : ℕ) (back : List Step) where
+  -- of a detector that stands before them nothing is asked there
+  region-none : i < D → i < detectors_before D back → parity_region n D i back ≡ region_of n []
+  region-none lt before = cond-true (nat_lt i D) _ _ (lt-ltb i D lt) ∙ cond-true (nat_lt i (detectors_before D back)) _ _ (lt-ltb i (detectors_before D back) before)
+
+  -- one that stands among them has its own region
+  region-detector : i < D → detectors_before D back ≤ i → parity_region n D i back ≡ region_of_detector n (i - detectors_before D back) back
+  region-detector lt le = cond-true (nat_lt i D) _ _ (lt-ltb i D lt) ∙ cond-false (nat_lt i (detectors_before D back)) _ _ (le-ltb i (detectors_before D back) le)
+
+  kept-detector : i < D → detectors_before D back ≤ i
+      → parity_kept n D i back
+      ≡ keep_region n asks_nothing (steps_before (i - detectors_before D back) back) (region_of n (named_by (i - detectors_before D back) back))
+  kept-detector lt le = cond-true (nat_lt i D) _ _ (lt-ltb i D lt) ∙ cond-false (nat_lt i (detectors_before D back)) _ _ (le-ltb i (detectors_before D back) le)
+
+  -- and so has an observable
+  region-observable : D ≤ i → parity_region n D i back ≡ region_through n (asks_observable (i - D)) back (region_of n [])
+  region-observable le = cond-false (nat_lt i D) _ _ (le-ltb i D le)
+
+  kept-observable : D ≤ i → parity_kept n D i back ≡ keep_region n (asks_observable (i - D)) back (region_of n [])
+  kept-observable le = cond-false (nat_lt i D) _ _ (le-ltb i D le)
+
+-- what the pass over all steps finds sure
+
+module _ (n i : ℕ) (xs : List Step) where
+  -- a detector's number among all
+  place : i - detectors_before (detectors_of xs) xs ≡ i
+  place = omega arith
+
+  pub sure-detector : i < detectors_of xs → parity_sure n (detectors_of xs) i xs ≡ is_sure_detector n i xs
+  sure-detector lt =
+      (λ t. kept-detector n (detectors_of xs) i xs lt (omega arith) t && diagonal (region-detector n (detectors_of xs) i xs lt (omega arith) t).string.letters)
+      ∙ ap (λ d. is_sure_detector n d xs) place
+
+  pub sure-observable : detectors_of xs ≤ i → parity_sure n (detectors_of xs) i xs ≡ is_sure n (asks_observable (i - detectors_of xs)) xs []
+  sure-observable le =
+      (λ t. kept-observable n (detectors_of xs) i xs le t && diagonal (region-observable n (detectors_of xs) i xs le t).string.letters)
+
+-- what it says of an inserted letter
+
+module _ (n i : ℕ) (front : List Step) (l : Letter) (q : ℕ) (back : List Step) where
+  -- how many detectors stand in front of it
+  before : detectors_before (detectors_of (front ++ back)) back ≡ detectors_of front
+  before = omega (arith, count-append front back)
+
+  pub flips-detector : i < detectors_of (front ++ back) → parity_flips n (detectors_of (front ++ back)) i l q back ≡ flips_detector n i front l q back
+  flips-detector lt = by_place (cases_lt i (detectors_of front))
+    where
+      D : ℕ
+      D = detectors_of (front ++ back)
+
+      by_place : (i < detectors_of front) ⊎ (detectors_of front ≤ i) → parity_flips n D i l q back ≡ flips_detector n i front l q back
+      by_place (inl less) =
+          ap (λ r. anticommute (single n q l) r.string) (region-none n D i back lt (omega (arith, less, before)))
+          ∙ strings_anticommute-blank_right n (single n q l).letters
+          ∙ sym (cond-true (nat_lt i (detectors_of front)) _ _ (lt-ltb i (detectors_of front) less))
+      by_place (inr more) =
+          ap (λ r. anticommute (single n q l) r.string) (region-detector n D i back lt (omega (arith, more, before)))
+          ∙ ap (λ k. anticommute (single n q l) (region_of_detector n (i - k) back).string) before
+          ∙ sym (cond-false (nat_lt i (detectors_of front)) _ _ (le-ltb i (detectors_of front) more))
+
+  pub flips-observable : (D : ℕ) → D ≤ i → parity_flips n D i l q back ≡ flips_asked n (asks_observable (i - D)) l q back []
+  flips-observable D le = ap (λ r. anticommute (single n q l) r.string) (region-observable n D i back le)

@@ -1,0 +1,47 @@
+//! Laws of faults. Each function does nothing: its contract is the law, and the check proves it.
+
+ghost use Rattle.stab_regions.specs.FaultLaws.{SureParities, FaultsFlipSureParities, PlacesFlipSureParities, FaultsFlipParitiesWithTheirCoins, FaultsAdd, AllFaultsAdd};
+
+use stab_run::laws::runs_are_points_with_outputs;
+
+/// The pass backwards finds sure exactly the detectors and observables whose bits are the same
+/// whatever the coins.
+pub fn sure_parities()
+    ensures law { SureParities }
+{
+    runs_are_points_with_outputs();
+}
+
+/// An inserted letter flips a sure bit exactly where the pass says so, whatever the coins; and so
+/// does the fault at a place.
+pub fn faults_flip_sure_parities()
+    ensures law { FaultsFlipSureParities }
+    ensures places { PlacesFlipSureParities }
+{
+    runs_are_points_with_outputs();
+}
+
+/// An inserted letter flips any bit, sure or not, exactly where the pass says so, once the coins of
+/// the outcomes that it flips are turned with it. Which coins these are is the same for all bits.
+pub fn faults_flip_parities_with_their_coins()
+    ensures law { FaultsFlipParitiesWithTheirCoins }
+{
+    runs_are_points_with_outputs();
+}
+
+/// Where two faults, at one place or one behind the other, go wrong in one run, a sure bit is
+/// flipped exactly where one of them alone flips it and the other does not. So Y, which is X and Z at
+/// one place, and letters on both qubits of a pair, are told by X and Z on each.
+pub fn faults_add()
+    ensures law { FaultsAdd }
+{
+    runs_are_points_with_outputs();
+}
+
+/// However many faults there are, they flip a sure bit together exactly where an odd number of them
+/// flip it alone.
+pub fn all_faults_add()
+    ensures law { AllFaultsAdd }
+{
+    runs_are_points_with_outputs();
+}
