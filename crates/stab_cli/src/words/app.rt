@@ -125,7 +125,7 @@ A circuit in which one of these differs with the coins is refused 18: --sure_onl
 
 Examples, at the top of the repository:
   ./stabsim faults --in examples/surface_code_with_faults.stim
-  printf 'R 0\nI 0\nM 0\nDETECTOR rec[-1]\n' | ./stabsim faults
+  printf 'R 0\\nI 0\\nM 0\\nDETECTOR rec[-1]\\n' | ./stabsim faults
 
 See docs/faults.md. Refusals, by number and name, are explained in docs/refusals.md.
 ";
