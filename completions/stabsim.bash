@@ -17,8 +17,10 @@ _stabsim() {
         stabilisers | stabilizers) choices="--seed --coins --coins_in --in --out --help" ;;
         edit) choices="--qubits --stride --seed --coins --coins_in --in --out --help" ;;
         check) choices="--in --out --help" ;;
+        deterministic) choices="--out_format --in --out --help" ;;
+        faults) choices="--out_format --everywhere --sure_only --in --out --help" ;;
         esac
-        [ "$COMP_CWORD" -eq 1 ] && choices="sample detect stabilisers edit check help --help --version"
+        [ "$COMP_CWORD" -eq 1 ] && choices="sample detect stabilisers edit check deterministic faults help --help --version"
         ;;
     esac
     mapfile -t COMPREPLY < <(compgen -W "$choices" -- "$word")

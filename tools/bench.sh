@@ -1,5 +1,5 @@
 #!/bin/sh
-# Times the tableau, reading, whole runs and edits of circuits that tools/circuits.py makes in a temporary
+# Times the tableau, reading, whole runs, edits and tables of faults of circuits that tools/circuits.py makes in a temporary
 # folder, by the program of crates/bench, which is proved and built first, for this processor.
 # docs/benchmarks.md says what is printed. It takes about a minute on a machine that does nothing else.
 set -eu
@@ -29,6 +29,11 @@ for distance in 7 13 21; do
     python3 "$tools/circuits.py" surface_code --distance "$distance" --deepest --written-out \
         >"$folder/surface_code_${distance}_written_out.stim"
 done
+# Written out, so that a session can put a fault into one round alone.
+for distance in 7 21; do
+    python3 "$tools/circuits.py" surface_code --distance "$distance" --rounds "$distance" --written-out \
+        >"$folder/surface_code_${distance}_rounds_$distance.stim"
+done
 for distance in 7 21; do
     python3 "$tools/circuits.py" colour_code --distance "$distance" --deepest \
         >"$folder/colour_code_$distance.stim"
@@ -49,3 +54,4 @@ for distance in 7 13 21; do
         "$bench/out/bench" edit $((2 * distance + 3)) "surface_code_$distance$form.stim"
     done
 done
+"$bench/out/bench" faults surface_code_7_rounds_7.stim surface_code_21_rounds_21.stim

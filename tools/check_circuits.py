@@ -53,6 +53,7 @@ def unrolled(items):
 
 # What gates send X and Z of each of their qubits to.
 ONE = {
+    "I": {"X": "+X", "Z": "+Z"},
     "X": {"X": "+X", "Z": "-Z"},
     "Y": {"X": "-X", "Z": "-Z"},
     "Z": {"X": "-X", "Z": "+Z"},

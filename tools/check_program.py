@@ -5,7 +5,8 @@
 
 It takes the circuits in files, or those in examples/ and one of each code of tools/circuits.py, and then dense random ones for some
 seconds. Each is run with random coins. The simulator says which coin numbers decide, and each record, detector and observable as a
-sum of these coins: `edit`, `sample` and `detect` have to give the same bits. It prints how many circuits agreed, and ends with 1
+sum of these coins: `edit`, `sample` and `detect` have to give the same bits. A detector or observable in whose sum there is no coin is
+sure, as `deterministic` has to say; and some lines of `faults --everywhere` are compared with a run that has the fault in it. It prints how many circuits agreed, and ends with 1
 where one did not. It needs the program: build it by `./stabsim --help`.
 """
 import argparse
@@ -27,6 +28,8 @@ CODES = {
     "colour code": circuits.colour_code(5), "Bacon-Shor code": circuits.bacon_shor(3),
 }
 ROUNDS = 3
+# How many faults of a circuit are looked at.
+MOST_FAULTS = 4
 
 
 class CountedState(check_circuits.State):
@@ -49,6 +52,38 @@ class CountedRun(check_circuits.Run):
     State = CountedState
 
 
+class FaultRun(check_circuits.Run):
+    """A run with a Pauli put in where so many steps were made."""
+
+    def __init__(self, items, before, letter, qubit):
+        self.left = before
+        self.fault = check_circuits.pauli(f"+{letter}", [qubit])
+        super().__init__(items)
+
+    def unit(self):
+        """One step more is about to be made."""
+        if self.left == 0:
+            self.state.flip_if((1, 0), self.fault)
+        self.left -= 1
+
+    def step(self, name, argument, targets):
+        if name in ("DETECTOR", "OBSERVABLE_INCLUDE"):
+            self.unit()
+        super().step(name, argument, targets)
+
+    def pair(self, name, first, second):
+        self.unit()
+        super().pair(name, first, second)
+
+    def product(self, factors):
+        self.unit()
+        super().product(factors)
+
+    def one(self, name, qubit, inverted):
+        self.unit()
+        super().one(name, qubit, inverted)
+
+
 def bits_of(outcomes, ran, coins):
     """Sums of unknowns as characters 0 and 1: the unknown of a free outcome is the coin of its number."""
     decided = [coin for coin, free in zip(coins, ran.state.free) if free]
@@ -66,20 +101,38 @@ def expected(ran, coins):
     """What each command writes, by the simulator."""
     free = "".join(str(int(it)) for it in ran.state.free)
     records, detectors = (bits_of(it, ran, coins) for it in (ran.records, ran.detectors))
-    return {"edit": f"{free}\n", "sample": f"{records}\n", "detect": f"{detectors}{bits_of(observables_of(ran), ran, coins)}\n"}
+    sure = "".join(str(int(is_sure)) for is_sure in sure_of(ran))
+    return {"edit": f"{free}\n", "sample": f"{records}\n", "detect": f"{detectors}{bits_of(observables_of(ran), ran, coins)}\n",
+            "deterministic": f"{sure}\n"}
+
+
+def sure_of(ran):
+    """Of each detector and then each observable whether no coin is in its sum."""
+    return [unknowns == 0 for _, unknowns in ran.detectors + observables_of(ran)]
+
+
+def flipped_of(ran, items, fault):
+    """What a fault flips, as the words of its line."""
+    before, _, place = fault
+    other = FaultRun(items, int(before), place[0], int(place[1:]))
+    pairs = zip(ran.detectors + observables_of(ran), other.detectors + observables_of(other), sure_of(ran))
+    flipped = [bit for bit, (one, two, is_sure) in enumerate(pairs) if is_sure and one != two]
+    return [f"D{bit}" if bit < len(ran.detectors) else f"L{bit - len(ran.detectors)}" for bit in flipped]
 
 
 def written(kind, file, coins):
     """What the program writes, or its status and what it told."""
-    words = {"edit": [], "sample": [], "detect": ["--append_observables"]}[kind]
-    words = [PROGRAM, kind, *words, "--in", file, "--coins", "".join(map(str, coins))]
+    words = ["--coins", "".join(map(str, coins))]
+    words = {"detect": ["--append_observables", *words], "deterministic": [], "faults": ["--everywhere", "--sure_only"]}.get(kind, words)
+    words = [PROGRAM, kind, *words, "--in", file]
     done = subprocess.run(words, input="show free\n", capture_output=True, text=True, timeout=TIME_LIMIT, check=False)
     return done.stdout if (done.returncode, done.stderr) == (0, "") else f"status {done.returncode}, {done.stderr}"
 
 
 def agrees(name, text, dice, folder):
     """Whether the program gives what the simulator says; else both are told."""
-    ran = CountedRun(check_circuits.items_of(iter(text.split("\n"))))
+    items = check_circuits.items_of(iter(text.split("\n")))
+    ran = CountedRun(items)
     coins = [dice.randrange(2) for _ in ran.state.free]
     file = pathlib.Path(folder) / "circuit.stim"
     file.write_text(text)
@@ -89,7 +142,18 @@ def agrees(name, text, dice, folder):
         if got != wanted:
             print(f"WRONG: {name}, {kind}, coins {coins}\nthe program: {got}\nthe simulator: {wanted}\n{text}", file=sys.stderr)
             right = False
-    return right
+    return right and faults_agree(name, ran, items, dice, file)
+
+
+def faults_agree(name, ran, items, dice, file):
+    """Whether some lines of `faults` say what a run with the fault gives; else one is told."""
+    lines = [line.split(" ") for line in written("faults", file, []).splitlines()]
+    for line in dice.sample(lines, min(MOST_FAULTS, len(lines))):
+        wanted = flipped_of(ran, items, line[:3]) if len(line) >= 3 else None
+        if line[3:] != wanted:
+            print(f"WRONG: {name}, faults\nthe program: {line}\nthe simulator: {wanted}", file=sys.stderr)
+            return False
+    return True
 
 
 def codes():

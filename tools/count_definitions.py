@@ -19,6 +19,8 @@ SHOWN = re.compile(r"(?<=```sh\ntools/count_definitions.py\n```\n\n```output\n).
 THEOREMS = {
     "sample and detect": ["stab_commands.Outputs.EndsRun", "stab_commands.Outputs.sample_of", "stab_commands.Outputs.detect_of"],
     "stabilisers": ["stab_commands.Stabilisers.EndsStabilisers"],
+    "deterministic": ["stab_commands.Deterministic.EndsDeterministic"],
+    "faults": ["stab_commands.FaultTables.EndsFaults"],
     "edit": ["stab_commands.script.ScriptEndings.EndsEdit"],
     "a job and its status": ["stab_commands.Jobs.EndsJob"],
     "what a session is": ["stab_session.Headline.IsRunOfItems"],

@@ -51,7 +51,7 @@ trap 'exit 130' INT TERM
 : >"$told/input"
 case $asks_help$command$has_file in
 # rt try waits two seconds for a pipe and no longer, so all of it is read first.
-edit | edityes | sample | detect | stabilisers | stabilizers | check) cat >"$told/input" ;;
+edit | edityes | sample | detect | stabilisers | stabilizers | check | deterministic | faults) cat >"$told/input" ;;
 esac
 
 echo "first_look: this program is compiled and not proved; compiling takes a minute or so" >&2

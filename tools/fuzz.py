@@ -3,14 +3,17 @@
 
     tools/fuzz.py --seconds 60
     tools/fuzz.py --laws --seconds 20
+    tools/fuzz.py --faults --seconds 20
 
 The oracle (`tools/oracle`) is written from the definitions: it reads texts and scripts, asks backwards which strings stabilise
-a state of up to four qubits, and writes the result formats. Larger circuits are undone again and must measure zeros, are edited
-and compared with a session opened anew and with other strides, and are written in each format; what `check` counts is compared
-with what a run writes, and the fault that it tells with that of a run. The first difference is cut down to a small text and
-printed with its seed, and the status is then 1. So it is where some way of comparing was never taken, also in a minute more.
-With `--laws` those of `tools/oracle/laws.py` are tried alone, which ask no oracle of states. The same seed makes the same
-cases. It needs the program: build it by `./stabsim --help`.
+a state of up to four qubits, and writes the result formats. Which bits are sure, and which of them faults flip, it finds by runs
+over amplitudes, with many lists of coins, and with each fault and without it. Larger circuits are undone again and must measure
+zeros, are edited and compared with a session opened anew and with other strides, and are written in each format; what `check`
+counts is compared with what a run writes, and the fault that it tells with that of a run; and what `faults` says is compared with
+edits that put the faults in. The first difference is cut down to a small text and printed with its seed, and the status is then 1.
+So it is where some way of comparing was never taken, also in a minute more. With `--laws` those of `tools/oracle/laws.py` are
+tried alone, which ask no oracle of states, and with `--faults` the tables of `faults` and `deterministic`. The same seed makes
+the same cases. It needs the program: build it by `./stabsim --help`.
 """
 
 import argparse
@@ -23,7 +26,7 @@ import sys
 import tempfile
 import time
 
-from oracle import formats, making, numbers, scripts, script_making, states
+from oracle import fault_making, faults, formats, making, numbers, scripts, script_making, states
 from oracle.coins import seed_coins
 from oracle.laws import LAWS
 from oracle.reading import REFUSALS, Refused, items_of
@@ -36,6 +39,8 @@ MOST_OVER = 60
 # What the oracle goes through in a moment: more is run, and only its status is looked at.
 MOST_QUBITS = 4
 MOST_STEPS = 300
+MOST_FAULT_STEPS = 60
+TABLES = ("deterministic", "faults")
 
 
 class TooLarge(Exception):
@@ -74,7 +79,7 @@ class Program:
     def kinds(self):
         """The commands of the program that the oracle knows."""
         told = subprocess.run([self.path, "--help"], capture_output=True, text=True, check=True).stdout
-        return [kind for kind in ("sample", "detect", "stabilisers", "edit") if f"\n  {kind} " in told]
+        return [kind for kind in ("sample", "detect", "stabilisers", "edit", *TABLES) if f"\n  {kind} " in told]
 
 
 def refusal(refused):
@@ -109,9 +114,14 @@ def expected(case):
     try:
         items = items_of(case.text)
         numbers.check(items)
+        if case.kind in TABLES:
+            return expected_table(case, items)
         return expected_edits(case, items) if case.kind == "edit" else expected_shots(case, items)
     except Refused as refused:
         return refusal(refused)
+    except faults.NotSure as unsure:
+        status, written, told = refusal(Refused(18))
+        return status, written, told + unsure.args[0]
     except TooLarge:
         return None
 
@@ -120,6 +130,16 @@ def expected_edits(case, items):
     session = session_of(items, case.settings)
     scripts.play(session, case.script)
     return 3 if session.refused else 0, b"".join(session.replies), b""
+
+
+def expected_table(case, items):
+    if numbers.qubits(items) > MOST_QUBITS or numbers.summary(items)[0] > MOST_FAULT_STEPS:
+        raise TooLarge
+    settings = case.settings
+    if case.kind == "deterministic":
+        return 0, faults.deterministic(items, settings["format"]), b""
+    layout = settings["format"] if settings["in_shots"] else None
+    return 0, faults.table(items, layout, settings["everywhere"], settings["sure_only"]), b""
 
 
 def expected_shots(case, items):
@@ -148,10 +168,22 @@ def settings_of(dice):
         "coins": coins, "seed": dice.choice((0, 1, dice.randrange(2**64))), "shots": dice.choice((0, 1, 1, 1, 2, 5)),
         "format": dice.choice(formats.FORMATS), "append": dice.random() < 0.5,
         "qubits": dice.choice((None, None, 0, 1, 2, 3, 4)), "stride": dice.choice((1, 1, 2, 3, 7, 8192, 65536)),
+        "in_shots": dice.random() < 0.3, "everywhere": dice.random() < 0.6, "sure_only": dice.random() < 0.6,
     }
 
 
+def table_words(kind, settings):
+    words = [kind]
+    if kind == "deterministic" or settings["in_shots"]:
+        words += ["--out_format", settings["format"]]
+    if kind == "faults":
+        words += [f"--{flag}" for flag in ("everywhere", "sure_only") if settings[flag]]
+    return words
+
+
 def words_of(kind, settings):
+    if kind in TABLES:
+        return table_words(kind, settings)
     words = [kind, "--seed", str(settings["seed"])]
     if settings["coins"] is not None:
         words += ["--coins", settings["coins"]]
@@ -166,11 +198,20 @@ def words_of(kind, settings):
 
 
 def command_case(dice, kinds, text):
-    kind = dice.choice([kind for kind in kinds if kind != "edit"])
+    # A table of faults takes the oracle many runs.
+    few = ("edit", "faults") if dice.random() < 0.97 else ("edit",)
+    kind = dice.choice([kind for kind in kinds if kind not in few])
     settings = settings_of(dice)
     if kind == "stabilisers":
         settings["shots"] = 1
     return Case(kind, words_of(kind, settings), text, settings)
+
+
+def table_case(dice, kinds):
+    """A table of a circuit that has marked places and sure parities."""
+    kind = dice.choice([kind for kind in kinds if kind in TABLES])
+    settings = settings_of(dice)
+    return Case(kind, words_of(kind, settings), fault_making.fault_circuit(dice), settings)
 
 
 def script_case(dice, text):
@@ -187,7 +228,7 @@ def script_case(dice, text):
     return Case("edit", words_of("edit", settings), text, settings, script)
 
 
-WAYS = ["by a script", "by the grammar", "damaged", "undone", *LAWS]
+WAYS = ["by a script", "by the grammar", "damaged", "undone", "with sure parities", *LAWS]
 
 
 def law_case(seed, _):
@@ -195,10 +236,17 @@ def law_case(seed, _):
     return list(LAWS)[seed % len(LAWS)], Case("law", [], b"", random.Random(seed))
 
 
+def fault_case(seed, kinds):
+    """A table of a circuit made for it."""
+    return "with sure parities", table_case(random.Random(seed), kinds)
+
+
 def make_case(seed, kinds):
-    """The case of a seed: a circuit by the grammar, a damaged one, one that is undone, a script, or a law."""
+    """The case of a seed: a circuit by the grammar, a damaged one, one that is undone, a script, a table, or a law."""
     dice = random.Random(seed)
     way = dice.random()
+    if "faults" in kinds and way > 0.99:
+        return "with sure parities", table_case(dice, kinds)
     text = making.small_circuit(dice)
     if "edit" in kinds and way < 0.35:
         return "by a script", script_case(dice, text)
@@ -283,9 +331,14 @@ def main():
     words.add_argument("--seconds", type=float, default=60, help="how long to go on (default 60)")
     words.add_argument("--seed", type=int, default=0, help="the seed of the first case (default 0)")
     words.add_argument("--laws", action="store_true", help="try the laws alone")
+    words.add_argument("--faults", action="store_true", help="try tables of faults and of sure bits alone")
     words.add_argument("--program", default=PROGRAM, help="the program, where it is not the built one")
     asked = words.parse_args()
-    make, ways = (law_case, LAWS) if asked.laws else (make_case, WAYS)
+    make, ways = make_case, WAYS
+    if asked.laws:
+        make, ways = law_case, LAWS
+    elif asked.faults:
+        make, ways = fault_case, ["with sure parities"]
     counts = collections.Counter()
     end = time.monotonic() + asked.seconds
     with tempfile.TemporaryDirectory() as folder:

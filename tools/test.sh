@@ -16,6 +16,7 @@ tools/check_circuits.py
 tools/check_program.py --seconds 3
 tools/fuzz.py --seconds 8
 tools/fuzz.py --laws --seconds 5
+tools/fuzz.py --faults --seconds 8
 tools/refuse.sh
 tools/try_files.py
 tools/try_drive.sh

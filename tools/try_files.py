@@ -69,7 +69,7 @@ def try_shared(folder: pathlib.Path) -> None:
     soft.symlink_to(circuit)
     hard.hardlink_to(circuit)
     for out in (circuit, soft, hard):
-        for command in ("sample", "detect", "stabilisers", "edit", "check"):
+        for command in ("sample", "detect", "stabilisers", "edit", "check", "deterministic", "faults"):
             told = run([command, "--in", str(circuit), "--out", str(out)])
             expect(f"{command} into {out.name}", told, (2, "", SHARED))
     with circuit.open("rb") as given:

@@ -5,6 +5,7 @@ answers with what is wrong, or None; where its circuit is refused, it raises `Re
 """
 
 from . import formats
+from .fault_laws import faults_as_edits
 from .making import Maker, damaged, small_circuit
 from .numbers import check
 from .reading import items_of
@@ -76,4 +77,7 @@ def checked_as_run(random, run):
     return None if counted == lengths else f"check counts {counted} bits, and there are {lengths}\n{text!r}"
 
 
-LAWS = {"edited as anew": edited_as_anew, "formats of one another": bits_in_each_format, "checked as run": checked_as_run}
+LAWS = {
+    "edited as anew": edited_as_anew, "formats of one another": bits_in_each_format, "checked as run": checked_as_run,
+    "faults as edits": faults_as_edits,
+}

@@ -95,18 +95,31 @@ def small_circuit(random):
     return "\n".join(Maker(random, n).lines(random.randint(0, 18))).encode()
 
 
-def undone_circuit(random, n):
-    """Gates, then what undoes them backwards, then a measurement of all qubits: all zeros."""
+def random_gates(random, n, count):
+    """So many gates on n qubits, two at least, each by its name and targets."""
     gates = []
-    for _ in range(random.randint(1, 6 * n)):
+    for _ in range(count):
         if random.random() < 0.4:
             name = random.choice(("CX", "CY", "CZ", "SWAP"))
             gates.append((name, "{} {}".format(*random.sample(range(n), 2))))
         else:
             gates.append((random.choice(ONE_QUBIT), str(random.randrange(n))))
-    back = [(UNDONE_BY.get(name, name), targets) for name, targets in reversed(gates)]
-    lines = [f"{name} {targets}" for name, targets in gates + back]
-    return "\n".join(lines + ["M " + " ".join(map(str, range(n)))]).encode()
+    return gates
+
+
+def undoing(gates):
+    """What undoes gates."""
+    return [(UNDONE_BY.get(name, name), targets) for name, targets in reversed(gates)]
+
+
+def lines_of(gates):
+    return [f"{name} {targets}" for name, targets in gates]
+
+
+def undone_circuit(random, n):
+    """Gates, then what undoes them backwards, then a measurement of all qubits: all zeros."""
+    gates = random_gates(random, n, random.randint(1, 6 * n))
+    return "\n".join(lines_of(gates + undoing(gates)) + ["M " + " ".join(map(str, range(n)))]).encode()
 
 
 def damaged(random, text, other):

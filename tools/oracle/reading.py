@@ -20,7 +20,7 @@ MOST_COUNT_DIGITS = 18
 REFUSALS = {
     1: "UnsupportedName", 2: "BadArguments", 3: "BadTarget", 4: "BadPairing", 5: "BadBlock", 6: "QubitOutOfRange",
     7: "ObservableOutOfRange", 8: "LookbackTooFar", 9: "TooManySteps", 10: "TooDeep", 11: "BadLine",
-    12: "PlaceOutOfRange", 13: "BadCommand", 14: "TooLong", 17: "NotABlock",
+    12: "PlaceOutOfRange", 13: "BadCommand", 14: "TooLong", 17: "NotABlock", 18: "NotDeterministic",
 }
 
 ONE_QUBIT = ["I", "X", "Y", "Z", "H", "S", "S_DAG", "SQRT_X", "SQRT_X_DAG", "SQRT_Y", "SQRT_Y_DAG", "C_XYZ", "C_ZYX"]

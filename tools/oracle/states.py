@@ -137,8 +137,10 @@ def parity(records, ks):
 class Run:
     """The run of unrolled steps on n qubits with a list of coins, which are 0 past its end."""
 
+    State = State
+
     def __init__(self, n, observables, steps, coins):
-        self.state = State(n)
+        self.state = self.State(n)
         self.coins = coins
         self.records, self.free, self.detectors = [], [], []
         self.observables = [False] * observables

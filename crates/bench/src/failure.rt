@@ -6,7 +6,7 @@ use thiserror::Error;
 /// Why nothing was measured.
 #[derive(Debug, Drop, Error)]
 pub enum Failure {
-    #[error("the words are measure, run and the paths of circuits, or edit, a qubit and paths")]
+    #[error("the words are measure, run or faults and the paths of circuits, or edit, a qubit and paths")]
     Words,
     #[error("the system gave no time or took no text")]
     System(#[from] io::Error),

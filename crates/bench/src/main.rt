@@ -4,7 +4,8 @@
 //! the time to read a long circuit text, and the times to edit one. With the word `run` and paths it
 //! prints, for the circuit in each of these files, the times to read it and to run it once, and those
 //! of a cursor over its steps. With the word `edit`, a qubit and paths it prints what edits of a
-//! session on each of these circuits take.
+//! session on each of these circuits take. With the word `faults` and paths it prints what the table of
+//! all faults of each of these circuits takes, beside a session that is asked for them by edits.
 //!
 //! - `work`: what is timed.
 //! - `state`: the states and the string that the works take.
@@ -17,6 +18,7 @@
 //! - `editing`: a circuit of many items, and the time to edit it.
 //! - `running`: circuits in files, and the times to read and to run them.
 //! - `replaying`: edits of a session on a circuit, each beside a whole run.
+//! - `faulting`: tables of all faults, each beside a session that is asked for some of them.
 //! - `walking`: the times of a cursor over the steps of a circuit.
 //!
 //! It is proved safe, and nothing is claimed of the times.
@@ -25,6 +27,7 @@
 mod bytes;
 mod editing;
 mod failure;
+mod faulting;
 mod groups;
 mod reading;
 mod replaying;
@@ -71,6 +74,7 @@ fn measure_by<R: CpuClock + Files + AllocGlobal + Print>(
         "measure" if rest.is_empty() => measure_layers(rt),
         "run" if !rest.is_empty() => running::print_table(rt, rest),
         "edit" => measure_edits(rt, rest),
+        "faults" if !rest.is_empty() => faulting::print_table(rt, rest),
         _ => Err(Failure::Words),
     }
 }

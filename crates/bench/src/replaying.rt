@@ -120,7 +120,7 @@ fn print_edit<R: CpuClock + AllocGlobal + Print>(
 }
 
 /// A session on a circuit's own qubits, with the coins of seed 0 and shot 0.
-fn opened(alloc: Global, circuit: Circuit) -> Result<Session<SeedCoins>, Failure> {
+pub fn opened(alloc: Global, circuit: Circuit) -> Result<Session<SeedCoins>, Failure> {
     let qubits = circuit.qubits();
     match Session::open(alloc, circuit, qubits, STRIDE, SeedCoins::new(0, 0)) {
         Ok(session) => Ok(session),
@@ -145,7 +145,7 @@ fn timed_edit<R: CpuClock + AllocGlobal>(
 }
 
 /// Makes an edit.
-fn apply(session: &mut Session<SeedCoins>, edit: Edit) -> Result<Report, Failure> {
+pub fn apply(session: &mut Session<SeedCoins>, edit: Edit) -> Result<Report, Failure> {
     match session.apply(edit) {
         Ok(report) => Ok(report),
         Err(refused) => Err(Failure::Circuit(refused.fault)),

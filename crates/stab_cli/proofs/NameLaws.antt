@@ -159,7 +159,7 @@ entered_name own a (Some p) name options are e other =
 
 -- the commands as the reader finds them, one of them by two names
 abbrev own_labels : Names
-own_labels = (codes "sample", []) ∷ (codes "detect", []) ∷ (codes "stabilisers", codes "stabilizers" ∷ []) ∷ (codes "edit", []) ∷ (codes "check", []) ∷ []
+own_labels = (codes "sample", []) ∷ (codes "detect", []) ∷ (codes "stabilisers", codes "stabilizers" ∷ []) ∷ (codes "edit", []) ∷ (codes "check", []) ∷ (codes "deterministic", []) ∷ (codes "faults", []) ∷ []
 
 -- Where the reader finds no fault, the command that the words name is one of the program's own.
 pub own_name : (formats : Kept) (words : List Text) (name : Text) (options : List Row) → fault_of (stabsim formats) words ≡ [] → subcommand_of (stabsim formats) words ≡ Some (name, options)

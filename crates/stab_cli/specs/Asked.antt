@@ -18,7 +18,9 @@ use Rattle.stab_cli.specs.declared.words.Usage.{Usage}
 use Rattle.stab_cli.specs.declared.words.Usage.TheVariants.{Help, Fault, Memory}
 use Rattle.stab_commands.specs.declared.job.Job.{Job}
 use Rattle.stab_commands.specs.declared.job.Command.{Command}
-use Rattle.stab_commands.specs.declared.job.Command.TheVariants.{Sample, Detect, Stabilisers, Check, Edit}
+use Rattle.stab_commands.specs.declared.job.Command.TheVariants.{Sample, Detect, Stabilisers, Check, Deterministic, Faults, Edit}
+use Rattle.stab_commands.specs.declared.job.FaultLayout.{FaultLayout}
+use Rattle.stab_commands.specs.declared.job.FaultLayout.TheVariants.{Lines, Shots}
 use Rattle.stab_commands.specs.declared.job.Source.{Source}
 use Rattle.stab_commands.specs.declared.job.Source.TheVariants.{Seed, List as Listed}
 
@@ -33,6 +35,11 @@ format_name Dets = codes "dets"
 -- a format is the one that its option names
 abbrev pub IsNamed : Option Text → Format → Type 0
 IsNamed text format = IfSome text (λ t. (f : Format) → t ≡ format_name f → format ≡ f)
+
+-- faults are laid out as shots in the format that the option names, and in lines where it isn't given
+abbrev pub IsLayout : Option Text → FaultLayout → Type 0
+IsLayout None layout = layout ≡ Lines
+IsLayout (Some t) layout = (f : Format) → t ≡ format_name f → layout ≡ Shots f
 
 -- a number is the one that its option writes, where the text is that of a number within the limits
 abbrev pub IsWritten : (least most : ℕ) → Option Text → ℕ → Type 0
@@ -64,6 +71,10 @@ IsCommand name options (Sample format shots) = (name ≡ codes "sample") × HasS
 IsCommand name options (Detect format shots append) = (name ≡ codes "detect") × HasShots options format shots × IsSet (one_of (codes "append_observables") options) append
 IsCommand name options Stabilisers = name ≡ codes "stabilisers"
 IsCommand name options Check = name ≡ codes "check"
+IsCommand name options (Deterministic format) = (name ≡ codes "deterministic") × IsNamed (first_of (codes "out_format") options) format
+IsCommand name options (Faults layout everywhere sure_only) =
+    (name ≡ codes "faults") × IsLayout (first_of (codes "out_format") options) layout
+    × IsSet (one_of (codes "everywhere") options) everywhere × IsSet (one_of (codes "sure_only") options) sure_only
 IsCommand name options (Edit qubits stride) =
     (name ≡ codes "edit") × IsWrittenIfGiven 0 most_qubits (one_of (codes "qubits") options) qubits × IsWritten 1 most_stride (one_of (codes "stride") options) stride
 

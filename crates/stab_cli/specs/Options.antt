@@ -30,9 +30,13 @@ ranged id least most = record (valued id) { parser = Some (Unsigned least most) 
 abbrev pub numbered : Text → (least most : ℕ) → Text → Rule
 numbered id least most default = record (ranged id least most) { defaults = default ∷ [] }
 
+-- an option whose value is one of these names
+abbrev pub one_name : Text → Kept → Rule
+one_name id names = record (valued id) { parser = Some (Names names) }
+
 -- an option whose value is one of these names, with its default
 abbrev pub named : Text → Kept → Text → Rule
-named id names default = record (valued id) { parser = Some (Names names); defaults = default ∷ [] }
+named id names default = record (one_name id names) { defaults = default ∷ [] }
 
 -- an option `--id` without a value
 abbrev pub flag : Text → Rule
@@ -82,10 +86,23 @@ edit = record (new_shape (codes "edit")) { rules = ranged (codes "qubits") 0 mos
 abbrev pub check : Shape
 check = record (new_shape (codes "check")) { rules = file_options }
 
+-- the command `deterministic`, which takes no coins
+abbrev pub deterministic : Kept → Shape
+deterministic formats = record (new_shape (codes "deterministic")) { rules = named (codes "out_format") formats (codes "01") ∷ file_options }
+
+-- the command `faults`, which takes no coins, and has a layout of its own where no format is named
+abbrev pub faults : Kept → Shape
+faults formats = record (new_shape (codes "faults")) { rules = one_name (codes "out_format") formats ∷ flag (codes "everywhere") ∷ flag (codes "sure_only") ∷ file_options }
+
 -- the program without its commands, of which some command is wanted, and which tells its version
 abbrev pub bare : App
 bare = on_top (λ s. record s { subcommand_required = true; has_version = true }) (new_app (codes "stabsim"))
 
+-- a program with these commands
+abbrev pub with_commands : App → List Shape → App
+with_commands app [] = app
+with_commands app (command ∷ commands) = with_commands (with_subcommand app command) commands
+
 -- the program
 abbrev pub stabsim : Kept → App
-stabsim formats = with_subcommand (with_subcommand (with_subcommand (with_subcommand (with_subcommand bare (sample formats)) (detect formats)) stabilisers) edit) check
+stabsim formats = with_commands bare (sample formats ∷ detect formats ∷ stabilisers ∷ edit ∷ check ∷ deterministic formats ∷ faults formats ∷ [])

@@ -73,6 +73,8 @@ fn help_names_no_option_of_another_command(rt: HostRuntime) -> Result<(), Fail> 
     for (command, option) in [
         ("sample", "--append_observables"),
         ("stabilisers", "--shots"),
+        ("deterministic", "--seed"),
+        ("faults", "--coins"),
     ] {
         for words in [["stabsim", command, "--help"], ["stabsim", "help", command]] {
             let text = help_of(parse_words(rt.alloc(), &words)).ok_or(command)?;

@@ -18,7 +18,7 @@ fn text_of(alloc: Global, words: &[&str]) -> Result<String, Fail> {
 }
 
 // Words, and the text of their job.
-const JOBS: [(&[&str], &str); 38] = [
+const JOBS: [(&[&str], &str); 45] = [
     (
         &["stabsim", "sample"],
         "Sample { format: F01, shots: Shots { number: 1 } } Seed(0) None None",
@@ -204,6 +204,46 @@ const JOBS: [(&[&str], &str); 38] = [
         &["stabsim", "check", "--out=b.txt", "--in", "a.stim"],
         "Check Seed(0) Some(\"a.stim\") Some(\"b.txt\")",
     ),
+    (
+        &["stabsim", "deterministic"],
+        "Deterministic { format: F01 } Seed(0) None None",
+    ),
+    (
+        &[
+            "stabsim",
+            "deterministic",
+            "--out_format=hits",
+            "--in",
+            "a.stim",
+        ],
+        "Deterministic { format: Hits } Seed(0) Some(\"a.stim\") None",
+    ),
+    (
+        &["stabsim", "faults"],
+        "Faults { layout: Lines, everywhere: false, sure_only: false } Seed(0) None None",
+    ),
+    (
+        &["stabsim", "faults", "--everywhere", "--out=b.txt"],
+        "Faults { layout: Lines, everywhere: true, sure_only: false } Seed(0) None Some(\"b.txt\")",
+    ),
+    (
+        &["stabsim", "faults", "--sure_only", "--out_format", "01"],
+        "Faults { layout: Shots(F01), everywhere: false, sure_only: true } Seed(0) None None",
+    ),
+    (
+        &["stabsim", "faults", "--out_format", "r8"],
+        "Faults { layout: Shots(R8), everywhere: false, sure_only: false } Seed(0) None None",
+    ),
+    (
+        &[
+            "stabsim",
+            "faults",
+            "--out_format=dets",
+            "--sure_only",
+            "--everywhere",
+        ],
+        "Faults { layout: Shots(Dets), everywhere: true, sure_only: true } Seed(0) None None",
+    ),
 ];
 
 #[test]
@@ -222,6 +262,8 @@ fn edit_alone_reads_a_script(rt: HostRuntime) -> Result<(), Fail> {
         ("detect", false),
         ("stabilisers", false),
         ("check", false),
+        ("deterministic", false),
+        ("faults", false),
         ("edit", true),
     ] {
         let job = job_of(rt.alloc(), &["stabsim", command])?;

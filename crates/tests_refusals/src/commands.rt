@@ -1,8 +1,9 @@
-//! The four commands from bytes to bytes: where memory is refused, a prefix of the output was written.
+//! The commands from bytes to bytes: where memory is refused, a prefix of the output was written.
 use crate::stop::Stop;
 use crate::trial::{Ending, print_ending};
 use crate::window;
 use crate::writings::{Writing, coins};
+use stab_cli::FaultLayout;
 use stab_pauli::MemoryOutput;
 use stab_results::Format;
 use std::alloc::Global;
@@ -59,6 +60,12 @@ pub fn print_all<R: AllocGlobal + Print>(rt: &R) -> io::Result<()> {
         ("run_sample", Writing::Sample(Format::F01)),
         ("run_detect", Writing::Detect(Format::Dets)),
         ("run_stabilisers", Writing::Stabilisers),
+        ("run_deterministic", Writing::Deterministic(Format::F01)),
+        ("run_faults", Writing::Faults(FaultLayout::Lines)),
+        (
+            "run_faults, shots",
+            Writing::Faults(FaultLayout::Shots(Format::F01)),
+        ),
         ("run_edit", Writing::Edit),
     ];
     for (name, command) in commands {

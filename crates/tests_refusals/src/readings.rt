@@ -1,9 +1,12 @@
 //! Inputs that are read a byte a read, and fail at their jth read.
 use crate::stop::Stop;
 use crate::trial::print_places;
-use crate::writings::{BELL, PARITIES, SCRIPT, coins};
+use crate::writings::{BELL, MARKED, PARITIES, SCRIPT, coins};
 use stab_circuit::read_circuit;
-use stab_cli::{Source, run_detect, run_edit, run_sample, run_stabilisers};
+use stab_cli::{
+    FaultLayout, Source, run_detect, run_deterministic, run_edit, run_faults, run_sample,
+    run_stabilisers,
+};
 use stab_pauli::{CutInput, Fault, MemoryInput, MemoryOutput, Refusal};
 use stab_results::Format;
 use std::alloc::Global;
@@ -18,6 +21,8 @@ enum Reading {
     Sample,
     Detect,
     Stabilisers,
+    Deterministic,
+    Faults,
     EditedCircuit,
     /// The script of edits.
     Script,
@@ -28,7 +33,8 @@ impl Reading {
     fn bytes(self) -> &'static [u8] {
         match self {
             Reading::Script => SCRIPT,
-            Reading::Detect => PARITIES,
+            Reading::Detect | Reading::Deterministic => PARITIES,
+            Reading::Faults => MARKED,
             _ => BELL,
         }
     }
@@ -60,6 +66,8 @@ impl Reading {
             Reading::Sample => run_sample(alloc, input, out, format, 2, coins),
             Reading::Detect => run_detect(alloc, input, out, format, true, 2, coins),
             Reading::Stabilisers => run_stabilisers(alloc, input, out, coins),
+            Reading::Deterministic => run_deterministic(alloc, input, out, format),
+            Reading::Faults => read_faults(alloc, input, out),
             Reading::EditedCircuit => read_edited(alloc, coins, input, out),
             Reading::Script => read_script(alloc, coins, input, out),
         }
@@ -71,6 +79,14 @@ fn read_alone(alloc: Global, input: &mut CutInput) -> Result<(), Fault> {
     let circuit = read_circuit(alloc, input)?;
     drop(circuit);
     Ok(())
+}
+
+/// Reads the circuit of a table of faults.
+fn read_faults(alloc: Global, input: &mut CutInput, out: &mut MemoryOutput) -> Result<(), Fault> {
+    match run_faults(alloc, input, out, FaultLayout::Lines, false, false) {
+        Ok(()) => Ok(()),
+        Err(refused) => Err(refused.fault),
+    }
 }
 
 /// Reads the circuit that the script edits.
@@ -127,6 +143,8 @@ pub fn print_all<R: AllocGlobal + Print>(rt: &R) -> io::Result<()> {
         ("run_sample", Reading::Sample),
         ("run_detect", Reading::Detect),
         ("run_stabilisers", Reading::Stabilisers),
+        ("run_deterministic", Reading::Deterministic),
+        ("run_faults", Reading::Faults),
         ("run_edit, circuit", Reading::EditedCircuit),
         ("run_edit, script", Reading::Script),
     ];

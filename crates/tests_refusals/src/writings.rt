@@ -4,7 +4,10 @@ use crate::sheet::circuit_of;
 use crate::stop::Stop;
 use crate::trial::print_places;
 use stab_circuit::write_circuit;
-use stab_cli::{Source, run_detect, run_edit, run_sample, run_stabilisers};
+use stab_cli::{
+    FaultLayout, Source, run_detect, run_deterministic, run_edit, run_faults, run_sample,
+    run_stabilisers,
+};
 use stab_pauli::{Fault, Letter, MemoryInput, MemoryOutput, Output, Pauli, Refusal};
 use stab_results::{Format, Kinds, write_shot};
 use std::alloc::Global;
@@ -16,6 +19,9 @@ pub const BELL: &[u8] = b"H 0\nCX 0 1\nM 0 1";
 /// The same with a record and a parity of records for detectors, and a record for an observable.
 pub const PARITIES: &[u8] =
     b"H 0\nCX 0 1\nM 0 1\nDETECTOR rec[-1]\nDETECTOR rec[-1] rec[-2]\nOBSERVABLE_INCLUDE(0) rec[-2]";
+
+/// A zero with a marked place in front of its measurement, whose record is a detector and an observable.
+pub const MARKED: &[u8] = b"R 0\nI 0\nM 0\nDETECTOR rec[-1]\nOBSERVABLE_INCLUDE(0) rec[-1]";
 
 /// A script for the Bell pair; each line has a reply of three bytes.
 pub const SCRIPT: &[u8] =
@@ -30,6 +36,10 @@ pub enum Writing {
     Detect(Format),
     /// The reduced rows of the strings that stabilise it.
     Stabilisers,
+    /// Which of its bits are the same for all coins.
+    Deterministic(Format),
+    /// What the faults of the marked zero flip.
+    Faults(FaultLayout),
     /// The replies to the script.
     Edit,
     /// The nested circuit.
@@ -57,6 +67,11 @@ impl Writing {
                 run_detect(alloc, input, out, format, true, 2, coins)?;
             }
             Writing::Stabilisers => run_stabilisers(alloc, bell, out, coins)?,
+            Writing::Deterministic(format) => {
+                let input = &mut MemoryInput::new(PARITIES);
+                run_deterministic(alloc, input, out, format)?;
+            }
+            Writing::Faults(layout) => write_faults(alloc, out, layout)?,
             Writing::Edit => {
                 let script = &mut MemoryInput::new(SCRIPT);
                 run_edit(alloc, bell, script, out, None, 2, coins)?;
@@ -74,6 +89,21 @@ impl Writing {
     }
 }
 
+/// Writes what the faults of the marked zero flip.
+fn write_faults<O: Output>(alloc: Global, out: &mut O, layout: FaultLayout) -> Result<(), Stop> {
+    match run_faults(
+        alloc,
+        &mut MemoryInput::new(MARKED),
+        out,
+        layout,
+        false,
+        false,
+    ) {
+        Ok(()) => Ok(()),
+        Err(refused) => Err(Stop(refused.fault)),
+    }
+}
+
 /// The string that is written: -X, 64 letters I and Z.
 fn long_string(alloc: Global) -> Result<Pauli, Stop> {
     let mut string = Pauli::single(alloc, 66, 0, Letter::X)?;
@@ -85,7 +115,7 @@ fn long_string(alloc: Global) -> Result<Pauli, Stop> {
 /// What is written, with its name and all of its bytes.
 type Row = (&'static str, Writing, &'static [u8]);
 
-const ROWS: [Row; 19] = [
+const ROWS: [Row; 26] = [
     ("run_sample, 01", Writing::Sample(Format::F01), b"11\n11\n"),
     ("run_sample, b8", Writing::Sample(Format::B8), b"\x03\x03"),
     (
@@ -125,6 +155,41 @@ const ROWS: [Row; 19] = [
         b"shot D0 L0\nshot D0 L0\n",
     ),
     ("run_stabilisers", Writing::Stabilisers, b"-Z_\n-_Z\n"),
+    (
+        "run_deterministic, 01",
+        Writing::Deterministic(Format::F01),
+        b"010\n",
+    ),
+    (
+        "run_faults",
+        Writing::Faults(FaultLayout::Lines),
+        b"1 1 X0 D0 L0\n1 1 Z0\n",
+    ),
+    (
+        "run_faults, 01",
+        Writing::Faults(FaultLayout::Shots(Format::F01)),
+        b"11\n00\n",
+    ),
+    (
+        "run_faults, b8",
+        Writing::Faults(FaultLayout::Shots(Format::B8)),
+        b"\x03\x00",
+    ),
+    (
+        "run_faults, r8",
+        Writing::Faults(FaultLayout::Shots(Format::R8)),
+        b"\x00\x00\x00\x02",
+    ),
+    (
+        "run_faults, hits",
+        Writing::Faults(FaultLayout::Shots(Format::Hits)),
+        b"0,1\n\n",
+    ),
+    (
+        "run_faults, dets",
+        Writing::Faults(FaultLayout::Shots(Format::Dets)),
+        b"shot D0 L0\nshot\n",
+    ),
     ("run_edit", Writing::Edit, b"ok\n10\nok\n01\n00\n"),
     ("write_circuit", Writing::Circuit, NESTED),
     (

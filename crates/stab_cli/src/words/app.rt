@@ -1,7 +1,7 @@
 //! The commands of the program and their options, as the command line reader is told of them.
 ghost use Rattle.std.specs.Prelude.{IfOk};
 ghost use Rattle.clap.specs.Words.{App};
-ghost use Rattle.stab_cli.specs.Options.{alone, check, edit, flag, named, numbered, ranged, shot_command, stabilisers, stabsim, valued};
+ghost use Rattle.stab_cli.specs.Options.{alone, check, deterministic, edit, faults, flag, named, numbered, one_name, ranged, shot_command, stabilisers, stabsim, valued};
 ghost use Rattle.stab_cli.specs.inner.Parts.{IsApp, IsOption, with_common, with_files};
 
 use clap::builder::ValueParser;
@@ -24,6 +24,10 @@ const ABOUT_DETECT: &str = "Writes the detectors of each shot of a circuit";
 const ABOUT_STABILISERS: &str = "Writes the stabilisers of the state that a circuit leaves";
 
 const ABOUT_CHECK: &str = "Says what a circuit is, or what is wrong with it and where";
+
+const ABOUT_DETERMINISTIC: &str = "Says which detectors and observables are the same for all coins";
+
+const ABOUT_FAULTS: &str = "Says which detectors and observables each fault flips";
 
 const ABOUT_EDIT: &str = "Edits a circuit by a script, and writes the reply to each line";
 
@@ -100,9 +104,43 @@ file of --out; the refusal itself goes to standard error, as with every command,
 Refusals, by number and name, are explained in docs/refusals.md.
 ";
 
+const AFTER_DETERMINISTIC: &str = "\
+Example, at the top of the repository:
+  ./stabsim deterministic --in examples/repetition_code.stim
+
+It writes one bit for each detector and then for each observable, in the order of `detect` with
+--append_observables: 1 where its bit is the same for all coins, as `faults` wants it.
+See docs/faults.md. Refusals, by number and name, are explained in docs/refusals.md.
+";
+
+const AFTER_FAULTS: &str = "\
+A fault is a Pauli X or Z that goes wrong on one qubit between two steps. A circuit marks the places of
+faults by I: there X and then Z is tried at each target. Each fault has a line: how many steps are in
+front of it, the path of the item that it is at, the Pauli, and what flips, as in
+
+  1207 3/0/2 X17 D24 D31 L0
+
+With --out_format each fault is a shot over all detectors and then all observables.
+A circuit in which one of these differs with the coins is refused 18: --sure_only leaves it out.
+
+Examples, at the top of the repository:
+  ./stabsim faults --in examples/surface_code_with_faults.stim
+  printf 'R 0\\nI 0\\nM 0\\nDETECTOR rec[-1]\\n' | ./stabsim faults
+
+See docs/faults.md. Refusals, by number and name, are explained in docs/refusals.md.
+";
+
 const HELP_SHOTS: &str = "How many shots, from 0 to 1000000";
 
 const HELP_FORMAT: &str = "The result format, as docs/result-formats.md explains it";
+
+const HELP_LAYOUT: &str = "Writes each fault as a shot in this result format, in place of a line";
+
+const HELP_EVERYWHERE: &str =
+    "Tries faults at each gate, measurement and reset, and not where the circuit marks them";
+
+const HELP_SURE_ONLY: &str =
+    "Leaves out detectors and observables that are not the same for all coins";
 
 const HELP_SEED: &str = "The seed of the coins that decide free outcomes";
 
@@ -156,6 +194,13 @@ fn numbered<'a>(
 }
 
 /// An option `--id` with one of these names.
+fn one_name<'a>(alloc: Global, id: &'a str, names: &'a [&'a str], help: &'a str) -> Arg<'a>
+    ensures rule { IsOption (one_name id.entry.now names.entry) result }
+{
+    valued(alloc, id, "NAME", help).value_parser(names)
+}
+
+/// The same with a default.
 fn named<'a>(
     alloc: Global,
     id: &'a str,
@@ -165,9 +210,7 @@ fn named<'a>(
 ) -> Arg<'a>
     ensures rule { IsOption (named id.entry.now names.entry default.entry.now) result }
 {
-    valued(alloc, id, "NAME", help)
-        .value_parser(names)
-        .default_value(default)
+    one_name(alloc, id, names, help).default_value(default)
 }
 
 /// An option `--id` without a value.
@@ -251,6 +294,33 @@ fn check_command<'a>(alloc: Global) -> Result<Command<'a>, AllocError>
     with_files(alloc, command)
 }
 
+/// The command `deterministic`, which takes no coins.
+fn deterministic_command<'a>(
+    alloc: Global,
+    formats: &'a [&'a str],
+) -> Result<Command<'a>, AllocError>
+    ensures app { IfOk result (IsApp (alone (deterministic formats.entry))) }
+{
+    let command = Command::new(alloc, "deterministic")
+        .about(ABOUT_DETERMINISTIC)
+        .after_help(AFTER_DETERMINISTIC)
+        .arg(named(alloc, "out_format", formats, "01", HELP_FORMAT))?;
+    with_files(alloc, command)
+}
+
+/// The command `faults`, which takes no coins.
+fn faults_command<'a>(alloc: Global, formats: &'a [&'a str]) -> Result<Command<'a>, AllocError>
+    ensures app { IfOk result (IsApp (alone (faults formats.entry))) }
+{
+    let command = Command::new(alloc, "faults")
+        .about(ABOUT_FAULTS)
+        .after_help(AFTER_FAULTS)
+        .arg(one_name(alloc, "out_format", formats, HELP_LAYOUT))?
+        .arg(flag(alloc, "everywhere", HELP_EVERYWHERE))?
+        .arg(flag(alloc, "sure_only", HELP_SURE_ONLY))?;
+    with_files(alloc, command)
+}
+
 /// The program with its commands.
 pub(crate) fn app<'a>(alloc: Global, formats: &'a [&'a str]) -> Result<Command<'a>, AllocError>
     ensures app { IfOk result (IsApp (stabsim formats.entry)) }
@@ -261,6 +331,8 @@ pub(crate) fn app<'a>(alloc: Global, formats: &'a [&'a str]) -> Result<Command<'
     let stabilisers = stabilisers_command(alloc)?;
     let edit = edit_command(alloc)?;
     let check = check_command(alloc)?;
+    let deterministic = deterministic_command(alloc, formats)?;
+    let faults = faults_command(alloc, formats)?;
     Command::new(alloc, "stabsim")
         .version(VERSION)
         .about(ABOUT)
@@ -270,5 +342,7 @@ pub(crate) fn app<'a>(alloc: Global, formats: &'a [&'a str]) -> Result<Command<'
         .subcommand(detect)?
         .subcommand(stabilisers)?
         .subcommand(edit)?
-        .subcommand(check)
+        .subcommand(check)?
+        .subcommand(deterministic)?
+        .subcommand(faults)
 }

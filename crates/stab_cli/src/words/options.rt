@@ -4,7 +4,7 @@ ghost use Rattle.clap.specs.Words.{IsUnsignedIn, first_of, found_of, has_subcomm
 ghost use Rattle.stab_tableau.specs.Limits.{most_qubits};
 ghost use Rattle.stab_session.specs.Limits.{most_stride};
 ghost use Rattle.stab_commands.specs.Limits.{most_shots};
-ghost use Rattle.stab_cli.specs.Asked.{IsCommand, IsJob, IsNamed, IsSet, IsSource, IsWritten, IsWrittenIfGiven, RefusesCoins};
+ghost use Rattle.stab_cli.specs.Asked.{IsCommand, IsJob, IsLayout, IsNamed, IsSet, IsSource, IsWritten, IsWrittenIfGiven, RefusesCoins};
 ghost use Rattle.stab_cli.specs.Options.{most_seed};
 ghost use Rattle.stab_cli.specs.declared.words.Usage.{Usage};
 ghost use Rattle.stab_cli.specs.inner.Parts.{IsCommandName};
@@ -12,7 +12,7 @@ ghost use Rattle.stab_cli.specs.inner.Parts.{IsCommandName};
 use crate::coins::{NO_COINS, coins_of};
 use crate::words::Usage;
 use clap::ArgMatches;
-use stab_commands::{Command, Job, QubitCount, Shots, Source, Stride};
+use stab_commands::{Command, FaultLayout, Job, QubitCount, Shots, Source, Stride};
 use stab_results::Format;
 use std::alloc::{AllocError, Global};
 
@@ -52,6 +52,16 @@ fn format(options: &ArgMatches) -> Format
         Some("hits") => Format::Hits,
         Some("dets") => Format::Dets,
         _ => Format::F01,
+    }
+}
+
+/// The layout of faults: shots in the format that `--out_format` names, and lines where it names none.
+fn layout(options: &ArgMatches) -> FaultLayout
+    ensures layout { IsLayout (first_of (codes "out_format") (rows_of (found_of options.now))) result }
+{
+    match text(options, "out_format") {
+        Some(_) => FaultLayout::Shots(format(options)),
+        None => FaultLayout::Lines,
     }
 }
 
@@ -131,6 +141,14 @@ fn command(name: &str, options: &ArgMatches) -> Command
         },
         "stabilisers" => Command::Stabilisers,
         "check" => Command::Check,
+        "deterministic" => Command::Deterministic {
+            format: format(options),
+        },
+        "faults" => Command::Faults {
+            layout: layout(options),
+            everywhere: flag(options, "everywhere"),
+            sure_only: flag(options, "sure_only"),
+        },
         _ => Command::Edit {
             qubits: qubits(options),
             stride: stride(options),

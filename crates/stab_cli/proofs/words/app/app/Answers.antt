@@ -13,4 +13,6 @@ returns c =
     let second = with_command _ c.in_ok-subcommand-2.field-0 c.in_ok-detect.detect _ _ c.in_ok-subcommand-2.ensures detect first in
     let third = with_command _ c.in_ok-subcommand-3.field-0 c.in_ok-stabilisers.stabilisers _ _ c.in_ok-subcommand-3.ensures c.in_ok-stabilisers.ensures.app second in
     let fourth = with_command _ c.in_ok-subcommand-4.field-0 c.in_ok-edit.edit _ _ c.in_ok-subcommand-4.ensures c.in_ok-edit.ensures.app third in
-    record { app = IfOk-weaker c.subcommand-5.result _ _ (λ command adds. with_command _ command c.in_ok-check.check _ _ adds c.in_ok-check.ensures.app fourth) c.subcommand-5.ensures }
+    let fifth = with_command _ c.in_ok-subcommand-5.field-0 c.in_ok-check.check _ _ c.in_ok-subcommand-5.ensures c.in_ok-check.ensures.app fourth in
+    let sixth = with_command _ c.in_ok-subcommand-6.field-0 c.in_ok-deterministic.deterministic _ _ c.in_ok-subcommand-6.ensures c.in_ok-deterministic.ensures.app fifth in
+    record { app = IfOk-weaker c.subcommand-7.result _ _ (λ command adds. with_command _ command c.in_ok-faults.faults _ _ adds c.in_ok-faults.ensures.app sixth) c.subcommand-7.ensures }
