@@ -1,5 +1,5 @@
 -- Sweeps: the pass goes on before one step and before several, over pieces of a circuit's steps.
-use Rattle.std.proofs.Common.{◌≡◌, ℕ, zero, suc, ◌+◌, ◌-◌, ◌*◌, ◌<◌, ◌≤◌, refl, sym, ap, ◌∙◌, subst, Bool, true, false, List, [], ◌∷◌, ◌++◌, map, length, get_or, take, drop, reverse, arith}
+use Rattle.std.proofs.Common.{◌≡◌, ℕ, zero, suc, ◌+◌, ◌-◌, ◌<◌, ◌≤◌, sym, ap, ◌∙◌, subst, Bool, true, false, List, [], ◌∷◌, ◌++◌, map, length, get_or, take, drop, reverse, arith}
 use Rattle.std.specs.Prelude.{All, if◌then◌else◌, None}
 use Rattle.std.specs.List.{flat_map}
 use Rattle.std.proofs.lemmas.List.{drop_more, drop-drop, drop-map, get_or-map, length-drop, length-map, take_more, take-append-drop}
@@ -10,7 +10,6 @@ use Rattle.stab_circuit.specs.Cursors.{IsApart}
 use Rattle.stab_run.specs.ProgramStates.{StepFits}
 use Rattle.stab_run.proofs.FitLemmas.{check-steps}
 use Rattle.stab_regions.specs.Tables.{is_detector, detectors_of}
-use Rattle.stab_regions.specs.Parities.{detectors_before}
 use Rattle.stab_regions.specs.declared.regions.Regions.{Regions}
 use Rattle.stab_regions.specs.declared.sites.Asked.{Asked}
 use Rattle.stab_regions.specs.declared.sweep.Sweep.{Sweep}
