@@ -43,10 +43,6 @@ not-named i from below [] lt a = refl
 not-named i from below (k ∷ ks) lt a =
     ap (λ b. b ⊕ odd i ks) (different k i (omega (arith, a.0))) ∙ not-named i (k + 1) below ks (omega (arith, a.0)) a.2
 
-pub ascends-from : (from later below : ℕ) (ks : List ℕ) → later ≤ from → Ascends from below ks → Ascends later below ks
-ascends-from from later below [] le a = tt
-ascends-from from later below (k ∷ ks) le a = (omega (arith, a.0), a.1, a.2)
-
 -- with so many numbers behind the first, where the list is known for those
 abbrev pub Known : ℕ → Type 0
 Known k = (i : ℕ) (ks : List ℕ) → Ascends i (i + k) ks → ks ≡ numbers_where (λ m. odd m ks) i k
