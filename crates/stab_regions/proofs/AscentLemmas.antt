@@ -7,7 +7,7 @@ use Rattle.stab_pauli.specs.Letters.{◌⊕◌}
 use Rattle.stab_regions.specs.Rows.{odd}
 use Rattle.stab_regions.specs.Faults.{numbers_where}
 use Rattle.stab_regions.specs.inner.StoredRows.{is_kept, kept_of}
-use Rattle.stab_regions.specs.Ascending.{AscendsFrom, IsAscending}
+use Rattle.stab_regions.specs.Ascending.{AscendsFrom}
 
 -- numbers ascend, from one on up to below another
 abbrev pub Ascends : (from below : ℕ) → List ℕ → Type 0
@@ -42,10 +42,6 @@ pub not-named : (i from below : ℕ) (ks : List ℕ) → i < from → Ascends fr
 not-named i from below [] lt a = refl
 not-named i from below (k ∷ ks) lt a =
     ap (λ b. b ⊕ odd i ks) (different k i (omega (arith, a.0))) ∙ not-named i (k + 1) below ks (omega (arith, a.0)) a.2
-
-pub ascends-from : (from later below : ℕ) (ks : List ℕ) → later ≤ from → Ascends from below ks → Ascends later below ks
-ascends-from from later below [] le a = tt
-ascends-from from later below (k ∷ ks) le a = (omega (arith, a.0), a.1, a.2)
 
 -- with so many numbers behind the first, where the list is known for those
 abbrev pub Known : ℕ → Type 0

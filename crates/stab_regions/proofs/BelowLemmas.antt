@@ -1,5 +1,5 @@
 -- Observables that steps name: those of a circuit's items are some of so many.
-use Rattle.std.proofs.Common.{◌≡◌, ℕ, zero, suc, ◌+◌, ◌<◌, ◌≤◌, max, false, true, List, [], ◌∷◌, ◌++◌, map, length, get_or, arith}
+use Rattle.std.proofs.Common.{ℕ, zero, suc, ◌≤◌, max, false, true, List, [], ◌∷◌, map, get_or, arith}
 use Rattle.std.specs.Prelude.{All}
 use Rattle.std.proofs.lemmas.List.Elements.{All-nil, All-cons, All-append, All-map}
 use Rattle.stab_tableau.specs.declared.gate.PairGate.TheVariants as gate

@@ -1,5 +1,5 @@
 -- Fault tables: bits that the pass finds sure are sure, and its rows, of which these bits are kept, are those that faults flip.
-use Rattle.std.proofs.Common.{◌≡◌, ℕ, ◌+◌, ◌<◌, ◌≤◌, refl, sym, ap, ◌∙◌, subst, Bool, true, false, List, [], ◌∷◌, map, length, reverse, arith}
+use Rattle.std.proofs.Common.{◌≡◌, ℕ, ◌+◌, ◌<◌, refl, sym, ap, ◌∙◌, subst, Bool, true, false, List, [], ◌∷◌, map, length, reverse, arith}
 use Rattle.std.specs.Prelude.{All, ◌&&◌, ◌↔◌, slice_index_or}
 use mathlib.Core.List.{reverse_aux}
 use Rattle.std.proofs.lemmas.List.Elements.{All-head, All-tail}
@@ -8,8 +8,8 @@ use Rattle.stab_circuit.specs.Steps.{Step, unroll, observables_of}
 use Rattle.stab_run.specs.ProgramStates.{StepFits}
 use Rattle.stab_regions.specs.Rows.{odd}
 use Rattle.stab_regions.specs.Tables.{detectors_of}
-use Rattle.stab_regions.specs.Parities.{parity_sure, parity_flips}
-use Rattle.stab_regions.specs.Faults.{Site, FaultPlace, faults_of, sites_at, bits_in, IsSure, AreSure, flips, flipped, numbers_where}
+use Rattle.stab_regions.specs.Parities.{parity_sure}
+use Rattle.stab_regions.specs.Faults.{Site, FaultPlace, faults_of, sites_at, bits_in, IsSure, AreSure, flips, flipped}
 use Rattle.stab_regions.specs.FaultLaws.{SureParities, PlacesFlipSureParities}
 use Rattle.stab_regions.specs.declared.regions.Regions.{Regions}
 use Rattle.stab_regions.specs.inner.StoredRows.{is_kept, kept_of}

@@ -1,20 +1,19 @@
 -- Inserted letters: their rows, where these are put together, and the letters that the faults of a circuit insert.
-use Rattle.std.proofs.Common.{◌≡◌, ℕ, zero, suc, ◌+◌, ◌-◌, ◌*◌, ◌<◌, ◌≤◌, refl, sym, ap, ◌∙◌, subst, Bool, true, false, List, [], ◌∷◌, ◌++◌, map, length, get_or, take, drop, arith}
+use Rattle.std.proofs.Common.{◌≡◌, ℕ, zero, suc, ◌+◌, ◌-◌, ◌*◌, ◌<◌, refl, sym, ap, ◌∙◌, subst, Bool, true, false, List, [], ◌∷◌, ◌++◌, map, length, get_or, drop, arith}
 use Rattle.std.specs.Prelude.{All, if◌then◌else◌}
 use Rattle.std.specs.List.{flat_map}
-use Rattle.std.proofs.lemmas.List.{append_assoc, drop_more, drop-drop, map-append}
+use Rattle.std.proofs.lemmas.List.{append_assoc, drop-drop, map-append}
 use Rattle.std.proofs.lemmas.List.Concat.{flat_map-append}
 use Rattle.std.proofs.lemmas.List.Elements.{All-nil, All-cons, All-head, All-tail, All-append}
 use Rattle.stab_pauli.specs.declared.letter.Letter.{Letter}
 use Rattle.stab_pauli.specs.declared.letter.Letter.TheVariants as letter
 use Rattle.stab_circuit.specs.Steps.{Step}
 use Rattle.stab_run.specs.ProgramStates.{StepFits}
-use Rattle.stab_regions.specs.declared.sites.Sides.{Sides}
 use Rattle.stab_regions.specs.Faults.{Site, FaultPlace, fault_on, faults_on, faults_from, sites_at}
 use Rattle.stab_regions.specs.declared.regions.Regions.{Regions}
 use Rattle.stab_regions.specs.inner.Sites.{where_asked}
 use Rattle.stab_regions.specs.inner.RegionsAt.{IsRegionsAt, AreFlipped}
-use Rattle.stab_regions.specs.inner.Sweeps.{Inserted, inserted_on, inserted_at, inserted_by, inserted_from, IsRowOf, HaveRows, AreKept}
+use Rattle.stab_regions.specs.inner.Sweeps.{Inserted, inserted_on, inserted_at, inserted_from, IsRowOf, HaveRows, AreKept}
 use Rattle.stab_regions.proofs.SiteLemmas.{sites-within}
 
 -- the rows of X and of Z on a qubit
@@ -88,24 +87,6 @@ pub rows-asked : (n D count q : ℕ) (asked : Bool) (back : List Step) (others :
     HaveRows n D count (where_asked asked (inserted_on q back) ++ others) new
 rows-asked n D count q true back others by_x by_z old new e r is o = subst (HaveRows n D count (inserted_on q back ++ others)) (sym is) (r.0, (r.1, o))
 rows-asked n D count q false back others by_x by_z old new e r is o = cc
-
-pub rows-not-asked : (n D count q : ℕ) (asked : Bool) (back : List Step) (others : List Inserted) (rows : List (List ℕ)) → asked ≡ false →
-    HaveRows n D count others rows → HaveRows n D count (where_asked asked (inserted_on q back) ++ others) rows
-rows-not-asked n D count q false back others rows e o = o
-rows-not-asked n D count q true back others rows e o = cc
-
-pub rows-step : (n D count : ℕ) (sides : Sides) (x : Step) (back : List Step) (qs : List ℕ) (others : List Inserted) (k : ℕ) (rows : List (List ℕ)) → k < length qs →
-    HaveRows n D count (where_asked sides.front (inserted_on (get_or qs k 0) (x ∷ back)) ++ (where_asked sides.behind (inserted_on (get_or qs k 0) back)
-    ++ (flat_map (inserted_by sides x back) (drop (k + 1) qs) ++ others))) rows →
-    HaveRows n D count (flat_map (inserted_by sides x back) (drop k qs) ++ others) rows
-rows-step n D count sides x back qs others k rows lt r =
-    let q : ℕ = get_or qs k 0 in
-    let front : List Inserted = where_asked sides.front (inserted_on q (x ∷ back)) in
-    let behind : List Inserted = where_asked sides.behind (inserted_on q back) in
-    let later : List Inserted = flat_map (inserted_by sides x back) (drop (k + 1) qs) in
-    subst (λ (ps : List ℕ). HaveRows n D count (flat_map (inserted_by sides x back) ps ++ others) rows) (sym (drop_more qs k 0 lt))
-    (subst (λ (fs : List Inserted). HaveRows n D count fs rows)
-    (sym (append_assoc front behind (later ++ others)) ∙ sym (append_assoc (front ++ behind) later others)) r)
 
 -- the letters of faults
 

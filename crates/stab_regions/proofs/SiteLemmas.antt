@@ -1,5 +1,5 @@
 -- Sites: those of a step, by its qubits.
-use Rattle.std.proofs.Common.{◌≡◌, ℕ, ◌<◌, refl, sym, ap, Bool, true, false, List, [], ◌∷◌, ◌++◌, map, length, arith}
+use Rattle.std.proofs.Common.{◌≡◌, ℕ, ◌<◌, refl, sym, ap, Bool, true, false, List, [], ◌∷◌, arith}
 use Rattle.std.specs.Prelude.{All}
 use Rattle.std.specs.List.{flat_map}
 use Rattle.std.proofs.lemmas.List.Elements.{All-nil, All-cons, All-tail, All-map}
@@ -12,7 +12,7 @@ use Rattle.stab_regions.specs.declared.sites.Asked.{Asked}
 use Rattle.stab_regions.specs.declared.sites.Asked.TheVariants.{Nowhere, Marked, Everywhere}
 use Rattle.stab_regions.specs.Faults.{Site, in_front, behind, marked_at, all_at, sites_at}
 use Rattle.stab_regions.specs.inner.Sites.{sites_asked, step_qubits, sides_asked}
-use Rattle.stab_regions.specs.inner.Sweeps.{Inserted, inserted_on, inserted_at, inserted_by}
+use Rattle.stab_regions.specs.inner.Sweeps.{Inserted, inserted_at, inserted_by}
 
 none : (x : Step) (back : List Step) (qs : List ℕ) → flat_map (inserted_by (record { front = false; behind = false }) x back) qs ≡ []
 none x back [] = refl

@@ -1,21 +1,19 @@
 -- Sweeps: the pass goes on before one step and before several, over pieces of a circuit's steps.
-use Rattle.std.proofs.Common.{◌≡◌, ℕ, zero, suc, ◌+◌, ◌-◌, ◌*◌, ◌<◌, ◌≤◌, refl, sym, ap, ◌∙◌, subst, Bool, true, false, List, [], ◌∷◌, ◌++◌, map, length, get_or, take, drop, reverse, arith}
+use Rattle.std.proofs.Common.{◌≡◌, ℕ, zero, suc, ◌+◌, ◌-◌, ◌<◌, ◌≤◌, sym, ap, ◌∙◌, subst, Bool, true, false, List, [], ◌∷◌, ◌++◌, map, length, get_or, take, drop, reverse, arith}
 use Rattle.std.specs.Prelude.{All, if◌then◌else◌, None}
 use Rattle.std.specs.List.{flat_map}
 use Rattle.std.proofs.lemmas.List.{drop_more, drop-drop, drop-map, get_or-map, length-drop, length-map, take_more, take-append-drop}
 use Rattle.std.proofs.lemmas.List.Elements.{All-nil, All-cons, All-head, All-tail, All-take, All-drop}
 use Rattle.stab_circuit.specs.Items.{Items}
-use Rattle.stab_circuit.specs.Steps.{Step, one, two, controlled, collapse, product, detector, observable, unroll, check_of}
+use Rattle.stab_circuit.specs.Steps.{Step, unroll, check_of}
 use Rattle.stab_circuit.specs.Cursors.{IsApart}
 use Rattle.stab_run.specs.ProgramStates.{StepFits}
 use Rattle.stab_run.proofs.FitLemmas.{check-steps}
 use Rattle.stab_regions.specs.Tables.{is_detector, detectors_of}
-use Rattle.stab_regions.specs.Parities.{detectors_before}
-use Rattle.stab_regions.specs.declared.regions.Regions.{Regions}
 use Rattle.stab_regions.specs.declared.sites.Asked.{Asked}
 use Rattle.stab_regions.specs.declared.sweep.Sweep.{Sweep}
 use Rattle.stab_regions.specs.inner.Sites.{sites_asked, sides_asked, step_qubits}
-use Rattle.stab_regions.specs.inner.RegionsAt.{IsRegionsAt, HasParity}
+use Rattle.stab_regions.specs.inner.RegionsAt.{IsRegionsAt}
 use Rattle.stab_regions.specs.inner.Sweeps.{Inserted, inserted_by, inserted_from, HaveRows, IsSwept, NamesBelow, MayPass, StandsBehind, Sweeps}
 use Rattle.stab_regions.proofs.SiteLemmas.{sites-split}
 
@@ -112,9 +110,6 @@ passes-piece n count begin end xs le fits apart below = record {
 
 -- the pass before several steps
 
-pub sweeps-none : (asked : Asked) (s : Sweep) (xs : List Step) → xs ≡ [] → Sweeps asked xs s s
-sweeps-none asked s xs e = λ n D count back passes swept. subst (λ (ys : List Step). IsSwept n D count asked (ys ++ back) s) (sym e) swept
-
 pub sweeps-more : (asked : Asked) (x : Step) (xs : List Step) (old mid new : Sweep) → Sweeps asked xs old mid → Sweeps asked (x ∷ []) mid new → Sweeps asked (x ∷ xs) old new
 sweeps-more asked x xs old mid new first then_one = λ n D count back passes swept.
     then_one n D count (xs ++ back) (passes-head n D count x xs back passes) (first n D count back (passes-tail n D count x xs back passes) swept)
@@ -134,21 +129,6 @@ stands-next asked xs k x old s here p sweeps =
     }
 
 -- the pass before one step
-
-counted-inside : (b : Bool) (D d : ℕ) → b ≡ true → (if b then 1 + d else d) ≤ D → 0 < D - d
-counted-inside true D d e le = omega (arith, le)
-counted-inside false D d e le = cc
-
-pub has-parity : (n D count : ℕ) (x : Step) (back : List Step) (r : Regions) → MayPass n D count (x ∷ []) back → IsRegionsAt n D count back r → HasParity r x
-has-parity n D count (one g q) back r p at = tt
-has-parity n D count (two g a b) back r p at = tt
-has-parity n D count (controlled l k q) back r p at = tt
-has-parity n D count (collapse l q recorded inverted resets) back r p at = tt
-has-parity n D count (product factors inverted) back r p at = tt
-has-parity n D count (detector ks) back r p at = omega (arith, at.before, p.detectors)
-has-parity n D count (observable j ks) back r p at =
-    let below : j < count = p.observables 0 (observable j ks) (omega arith) in
-    omega (arith, at.detectors, at.marks, below)
 
 pub swept-more : (n D count : ℕ) (asked : Asked) (x : Step) (back : List Step) (new : Sweep) → IsRegionsAt n D count (x ∷ back) new.regions →
     HaveRows n D count (flat_map (inserted_by (sides_asked asked x) x back) (step_qubits x) ++ inserted_from (sites_asked asked) back) (reverse new.rows) →

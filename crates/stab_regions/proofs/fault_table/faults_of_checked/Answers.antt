@@ -1,7 +1,6 @@
-use Rattle.std.proofs.Common.{◌≡◌, ◌∙◌, List, ℕ, map, reverse}
+use Rattle.std.proofs.Common.{◌∙◌, reverse}
 use Rattle.stab_circuit.specs.Views.{circuit_items}
 use Rattle.stab_regions.specs.inner.Sites.{sites_asked}
-use Rattle.stab_regions.specs.inner.StoredRows.{kept_of}
 use Rattle.stab_regions.proofs.FaultTableLemmas.{are-sure, tell-long, tell-found, table-flips, table-backwards}
 use Rattle.stab_regions.proofs.fault_table.faults_of_checked.Goals as goal
 

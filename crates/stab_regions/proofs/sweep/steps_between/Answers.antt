@@ -1,4 +1,4 @@
-use Rattle.std.proofs.Common.{◌≡◌, ◌+◌, ◌<◌, sym, ap, subst, ◌∙◌, ◌++◌, ◌∷◌, [], List, ℕ, length, take, drop, map, arith}
+use Rattle.std.proofs.Common.{◌≡◌, ◌+◌, sym, ap, ◌∙◌, ◌++◌, ◌∷◌, [], List, length, take, drop, map, arith}
 use Rattle.std.proofs.lemmas.List.{map_push, length_push, length-drop}
 use Rattle.stab_circuit.specs.Steps.{Step, unroll}
 use Rattle.stab_circuit.specs.Views.{circuit_items}

@@ -1,4 +1,4 @@
-use Rattle.std.proofs.Common.{◌≡◌, ℕ, ◌-◌, ◌≤◌, min, refl, sym, ap, subst, ◌∙◌, ◌++◌, [], List, length, take, drop, map, arith}
+use Rattle.std.proofs.Common.{◌≡◌, ◌-◌, ◌≤◌, refl, sym, ap, subst, ◌∙◌, ◌++◌, [], List, length, take, drop, map, arith}
 use Rattle.std.specs.Prelude.{All}
 use Rattle.std.proofs.lemmas.List.{drop_all}
 use Rattle.stab_circuit.specs.Steps.{Step, unroll, observables_of}

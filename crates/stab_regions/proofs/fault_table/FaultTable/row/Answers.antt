@@ -1,4 +1,4 @@
-use Rattle.std.proofs.Common.{◌≡◌, ◌<◌, ◌-◌, ap, sym, subst, ◌∙◌, length, get_or, [], arith}
+use Rattle.std.proofs.Common.{◌<◌, ◌-◌, ap, sym, ◌∙◌, length, get_or, [], arith}
 use Rattle.std.proofs.lemmas.List.{length-reverse, get_or-reverse}
 use Rattle.stab_regions.proofs.fault_table.FaultTable.row.Goals as goal
 

@@ -1,4 +1,4 @@
-use Rattle.std.proofs.Common.{ℕ, ◌<◌, ◌∷◌, ◌++◌, sym, subst, List, length, reverse, arith}
+use Rattle.std.proofs.Common.{◌<◌, ◌++◌, sym, subst, reverse, arith}
 use Rattle.std.specs.Prelude.{All}
 use Rattle.std.specs.List.{flat_map}
 use Rattle.stab_circuit.specs.Cursors.{step_shown}
@@ -6,7 +6,7 @@ use Rattle.stab_regions.specs.declared.sites.Sides.{Sides}
 use Rattle.stab_regions.specs.inner.Sites.{step_qubits, sites_asked}
 use Rattle.stab_regions.specs.inner.Sweeps.{inserted_by, inserted_from, HaveRows}
 use Rattle.stab_regions.proofs.SiteLemmas.{step-within}
-use Rattle.stab_regions.proofs.SweepLemmas.{has-parity, swept-more}
+use Rattle.stab_regions.proofs.SweepLemmas.{swept-more}
 use Rattle.stab_regions.proofs.sweep.Sweep.before.Goals as goal
 
 pub keep_all-requires-clause-in_range : goal.keep_all-requires-clause-in_range

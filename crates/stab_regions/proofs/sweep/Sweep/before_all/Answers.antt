@@ -1,4 +1,4 @@
-use Rattle.std.proofs.Common.{◌≡◌, ℕ, ◌+◌, ◌-◌, sym, subst, List, ◌∷◌, ◌∙◌, ap, drop, map, arith}
+use Rattle.std.proofs.Common.{◌≡◌, ◌-◌, sym, subst, List, ◌∷◌, ◌∙◌, ap, drop, map, arith}
 use Rattle.std.proofs.lemmas.List.{drop-map}
 use Rattle.stab_circuit.specs.Steps.{Step}
 use Rattle.stab_circuit.specs.Cursors.{step_shown}
