@@ -70,7 +70,7 @@ toggles_set old place numbers new lt same = record {
 }
 
 -- a row that is there is what is looked up, whatever the other answer
-row-in : (rows : List (List ℕ)) (k : ℕ) (d : List ℕ) → k < length rows → get_or rows k d ≡ row rows k
+pub row-in : (rows : List (List ℕ)) (k : ℕ) (d : List ℕ) → k < length rows → get_or rows k d ≡ row rows k
 row-in [] k d lt = absurd (omega arith)
 row-in (r ∷ rows) zero d lt = refl
 row-in (r ∷ rows) (suc k) d lt = row-in rows k d (omega arith)

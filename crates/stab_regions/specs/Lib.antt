@@ -1,4 +1,5 @@
 pub mod Regions
+pub mod Ascending
 pub mod Rows
 pub mod Frames
 pub mod Laws
@@ -6,4 +7,6 @@ pub mod Tables
 pub mod TableLaws
 pub mod Parities
 pub mod Faults
+pub mod FaultTables
+pub mod inner
 pub mod FaultLaws

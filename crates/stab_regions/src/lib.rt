@@ -5,22 +5,38 @@
 //! - `parities`: some parities by their numbers, and those that are in one of two lists alone.
 //! - `rows`: for each qubit the parities that X flips there, and those that Z does.
 //! - `looks`: for each lookback the parities whose regions have that record.
-//! - `gates`, `steps`: how these rows change from behind a step to before it.
+//! - `gates`, `steps`, `products`: how these rows change from behind a step to before it.
+//! - `marks`, `regions`: all of this for one place, moved a step backwards.
+//! - `sites`, `fault_rows`: where faults are asked for at a step, and what each of them flips.
+//! - `sweep`, `fault_table`: the pass over a whole circuit, and the calls that answer by it.
 //!
 //! Sources: M. McEwen, D. Bacon and C. Gidney, Relaxing hardware requirements for surface code circuits using
 //! time-dynamics (2023), for regions, and C. Gidney, Stim: a fast stabilizer circuit simulator (2021), for frames.
 //! Regions with signs, tables of them and their laws are this project's own.
 //!
-//! Proved: the laws; and that rows which show the regions behind a gate, a letter that a record
-//! controls, or a measurement or reset of a letter are changed to such as show those before it, up to
-//! signs (`specs/Rows.antt`).
+//! Proved: the laws; that `sure` tells of each detector and observable whether its bit is the same
+//! whatever the coins, and that `faults` gives for each fault exactly the sure bits by which the runs
+//! with it and without it differ, whatever the coins: `specs/Faults.antt`. Within: rows which show the
+//! regions behind a step are changed to such as show those before it, up to signs (`specs/Rows.antt`);
+//! and the regions of all parities at the end of steps, moved backwards over one after another, are
+//! those at each place before it, with marks at those that a step does not keep
+//! (`specs/inner/RegionsAt.antt`).
 #![tactic(auto)]
 
 pub mod fault_laws;
+mod fault_rows;
+mod fault_table;
 mod gates;
 pub mod laws;
 mod looks;
+mod marks;
 mod parities;
+mod products;
+mod regions;
 mod rows;
+mod sites;
 mod steps;
+mod sweep;
 pub mod table_laws;
+
+pub use fault_table::{FaultTable, faults, sure};

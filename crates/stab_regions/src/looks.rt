@@ -1,5 +1,6 @@
-ghost use Rattle.std.specs.Prelude.{◌≡◌, ℕ, ◌+◌, ◌-◌, ◌<◌, length, OnOk};
-ghost use Rattle.stab_regions.specs.Rows.{row, Toggles, SameRows};
+ghost use Rattle.std.specs.Prelude.{◌≡◌, ◌≢◌, ℕ, ◌+◌, ◌-◌, ◌<◌, List, ◌++◌, length, OnOk};
+ghost use Rattle.stab_regions.specs.Regions.{look_where};
+ghost use Rattle.stab_regions.specs.Rows.{odd, row, Toggles, SameRows, ShowsLooks};
 
 use crate::parities::Parities;
 use std::alloc::{AllocError, Global};
@@ -37,7 +38,43 @@ pub fn look(
 ) -> Result<(), AllocError>
     ensures value { OnOk result (Toggles records.old.items records.new.items place parities.now) }
 {
+    if parities.is_empty() {
+        return Ok(());
+    }
     pad(alloc, records, place)?;
     records[place] = records[place].merged(alloc, parities)?;
+    Ok(())
+}
+
+/// Toggles `rec[-k]` in the regions of these parities; `rec[-0]` is no record.
+pub fn look_back(
+    alloc: Global,
+    records: &mut VecDeque<Parities>,
+    k: u32,
+    parities: &Parities,
+) -> Result<(), AllocError>
+    ensures looks { OnOk result ((i : ℕ) (looks : List ℕ) → ShowsLooks i records.old.items looks → ShowsLooks i records.new.items (look_where (odd i parities.now) k looks)) }
+{
+    if k == 0 {
+        return Ok(());
+    }
+    look(alloc, records, k as usize - 1, parities)?;
+    Ok(())
+}
+
+/// Toggles these `rec[-k]` in the region of one parity, each as often as it stands there; `rec[-0]` is no record.
+pub fn look_each(
+    alloc: Global,
+    records: &mut VecDeque<Parities>,
+    lookbacks: &[u32],
+    parity: u32,
+) -> Result<(), AllocError>
+    ensures own { OnOk result ((looks : List ℕ) → ShowsLooks parity records.old.items looks → ShowsLooks parity records.new.items (lookbacks.now ++ looks)) }
+    ensures others { OnOk result ((i : ℕ) (looks : List ℕ) → i ≢ parity → ShowsLooks i records.old.items looks → ShowsLooks i records.new.items looks) }
+{
+    let parities = Parities::one(alloc, parity)?;
+    for k in lookbacks {
+        look_back(alloc, records, *k, &parities)?;
+    }
     Ok(())
 }

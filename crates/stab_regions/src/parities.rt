@@ -1,5 +1,6 @@
 ghost use Rattle.std.specs.Prelude.{◌≡◌, ℕ, IfOk};
 ghost use Rattle.stab_pauli.specs.Letters.{◌⊕◌};
+ghost use Rattle.stab_regions.specs.Ascending.{IsAscending};
 ghost use Rattle.stab_regions.specs.Rows.{odd};
 
 use std::alloc::{AllocError, Global};
@@ -13,15 +14,19 @@ pub struct Parities {
 
 impl Model for Parities {
     ghost use Rattle.std.specs.Prelude.{ℕ, List};
+    ghost use Rattle.stab_regions.specs.Ascending.{IsAscending};
 
     ghost Value = { List ℕ };
 
     ghost view = { λ p. p.numbers.items };
+
+    ghost invariant = { λ p. IsAscending p.numbers.items };
 }
 
 impl Parities {
-    ghost use Rattle.std.specs.Prelude.{◌≡◌, ℕ, [], ◌∷◌, IfOk};
+    ghost use Rattle.std.specs.Prelude.{◌≡◌, ℕ, false, [], ◌∷◌, nat_eq, length, IfOk};
     ghost use Rattle.stab_pauli.specs.Letters.{◌⊕◌};
+    ghost use Rattle.stab_regions.specs.Ascending.{IsAscending};
     ghost use Rattle.stab_regions.specs.Rows.{odd};
 
     /// None, which takes no memory.
@@ -45,8 +50,16 @@ impl Parities {
     /// Their numbers.
     pub fn numbers(&self) -> &[u32]
         ensures value { result.now ≡ self.now }
+        ensures ascending { IsAscending self.now }
     {
         self.numbers.as_slice()
+    }
+
+    /// Whether there are none.
+    pub fn is_empty(&self) -> bool
+        ensures value { result ≡ nat_eq (length self.now) 0 }
+    {
+        self.numbers.is_empty()
     }
 
     /// The same again.
@@ -65,11 +78,23 @@ impl Parities {
         let numbers = merge(alloc, self.numbers.as_slice(), others.numbers.as_slice())?;
         Ok(Parities { numbers })
     }
+
+    /// The same of these themselves, which takes no memory where there are no others.
+    pub fn with(self, alloc: Global, others: &Parities) -> Result<Parities, AllocError>
+        ensures odd { IfOk result (λ p. (i : ℕ) → odd i p ≡ odd i self ⊕ odd i others.now) }
+    {
+        if others.is_empty() {
+            return Ok(self);
+        }
+        self.merged(alloc, others)
+    }
 }
 
-/// The numbers of one list or the other, and not of both: of lists in increasing order one in
-/// increasing order.
+/// The numbers of one list or the other, and not of both, in increasing order.
 fn merge(alloc: Global, left: &[u32], right: &[u32]) -> Result<Vec<u32>, AllocError>
+    requires left { IsAscending left.now }
+    requires right { IsAscending right.now }
+    ensures ascending { IfOk result (λ v. IsAscending v.items) }
     ensures odd { IfOk result (λ v. (i : ℕ) → odd i v.items ≡ odd i left.now ⊕ odd i right.now) }
 {
     let mut merged = Vec::with_capacity(alloc, left.len() + right.len())?;

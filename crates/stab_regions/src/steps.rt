@@ -1,10 +1,9 @@
-ghost use Rattle.std.specs.Prelude.{◌≡◌, ℕ, Bool, List, ◌+◌, ◌<◌, ◌&&◌, length, IfOk, OnOk, if◌then◌else◌};
+ghost use Rattle.std.specs.Prelude.{◌≡◌, ℕ, Bool, ◌+◌, ◌<◌, ◌&&◌, length, IfOk, OnOk, if◌then◌else◌};
 ghost use Rattle.stab_circuit.specs.Steps.{controlled, collapse};
 ghost use Rattle.stab_run.specs.Runs.{flip_of};
-ghost use Rattle.stab_regions.specs.Regions.{look_where};
-ghost use Rattle.stab_regions.specs.Rows.{odd, row, bits_at, ShowsLooks, MovesRegion};
+ghost use Rattle.stab_regions.specs.Rows.{odd, row, bits_at, MovesRegion};
 
-use crate::looks::{look, newest};
+use crate::looks::{look_back, newest};
 use crate::parities::Parities;
 use crate::rows::{flipped, multiply};
 use stab_pauli::Letter;
@@ -19,22 +18,6 @@ fn correction(letter: Letter) -> Letter
         Letter::I | Letter::Y | Letter::Z => Letter::X,
         Letter::X => Letter::Z,
     }
-}
-
-/// Toggles `rec[-k]` in the regions of these parities; `rec[-0]` is no record.
-fn look_back(
-    alloc: Global,
-    records: &mut VecDeque<Parities>,
-    k: u32,
-    parities: &Parities,
-) -> Result<(), AllocError>
-    ensures looks { OnOk result ((i : ℕ) (looks : List ℕ) → ShowsLooks i records.old.items looks → ShowsLooks i records.new.items (look_where (odd i parities.now) k looks)) }
-{
-    if k == 0 {
-        return Ok(());
-    }
-    look(alloc, records, k as usize - 1, parities)?;
-    Ok(())
 }
 
 /// Moves regions to the place before a letter that a record controls: the record counts where the
@@ -109,7 +92,7 @@ pub fn before_collapse(
 {
     let corrected = corrected(alloc, by_x, by_z, letter, qubit, reset)?;
     let taken = taken(alloc, records, recorded);
-    let counted = taken.merged(alloc, &corrected)?;
+    let counted = taken.with(alloc, &corrected)?;
     multiply(alloc, by_x, by_z, letter, qubit, &counted)?;
     Ok(())
 }

@@ -6,8 +6,8 @@ use Rattle.stab_circuit.specs.Items.{OneItem, listed}
 use Rattle.stab_circuit.specs.Steps.{unroll}
 use Rattle.stab_circuit.specs.StepPaths.{paths_from, item_steps_left}
 
--- the item is the one that a step is of, counted from the item at a place on, with so many of its steps before the step; so that step
--- stands before those of the items behind, its path and the number of its item's steps left are the same
+-- the item is the one that a step is of, counted from the item at a place on: so many of its steps come before the step, those of the
+-- items behind do not, and the paths from the step on and the number of its item's steps left are the same
 pub record IsFoundItem (xs : List OneItem) (start step : ℕ) (f : FoundItem) : Type 0 where
   pub in_range : f.place < length xs
   pub within : f.within + length (unroll (listed (drop (f.place + 1) xs))) < length (unroll (listed (drop f.place xs)))

@@ -1,5 +1,6 @@
-use Rattle.std.proofs.Common.{◌≡◌, ℕ, ◌+◌, ◌≤◌, length, drop}
+use Rattle.std.proofs.Common.{◌≡◌, ℕ, ◌+◌, ◌≤◌, ◌++◌, length, drop}
 use Rattle.stab_pauli.specs.Letters.{◌⊕◌}
+use Rattle.stab_regions.specs.Ascending.{IsAscending}
 use Rattle.stab_regions.specs.Rows.{odd}
 use Rattle.stab_regions.proofs.parities.merge.Given as goal
 
@@ -7,6 +8,8 @@ abbrev pub invariant-heads : goal.invariant-heads
 invariant-heads l = record {
   left_in : l.a ≤ length l.left;
   right_in : l.b ≤ length l.right;
+  left_next : IsAscending (l.merged.items ++ drop l.a l.left);
+  right_next : IsAscending (l.merged.items ++ drop l.b l.right);
   odd : (i : ℕ) → odd i l.merged.items ⊕ (odd i (drop l.a l.left) ⊕ odd i (drop l.b l.right)) ≡ odd i l.left ⊕ odd i l.right;
 }
 

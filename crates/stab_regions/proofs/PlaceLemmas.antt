@@ -1,0 +1,139 @@
+-- Places: what regions at one say of what a letter flips there, of the end of all steps, and of what is sure at the start.
+use Rattle.std.proofs.Common.{◌≡◌, ℕ, zero, suc, ◌+◌, ◌-◌, ◌^◌, ◌<◌, refl, sym, ◌∙◌, ap, subst, arith, Bool, true, false, not, ◌||◌, ◌&&◌, List, [], ◌∷◌, length}
+use Rattle.std.specs.Prelude.{if◌then◌else◌, nat_lt, slice_index_or, replicate}
+use Rattle.std.specs.List.{list_any}
+use Rattle.std.proofs.lemmas.List.{length-replicate, get_or-replicate}
+use Rattle.stab_pauli.specs.declared.letter.Letter.{Letter}
+use Rattle.stab_pauli.specs.declared.letter.Letter.TheVariants.{I, X, Y, Z}
+use Rattle.stab_pauli.specs.Letters.{letters_anticommute}
+use Rattle.stab_tableau.specs.Gates.{letter_at}
+use Rattle.stab_tableau.specs.Traces.{diagonal}
+use Rattle.stab_regions.specs.declared.regions.Regions.{Regions}
+use Rattle.stab_regions.specs.Regions.{region_of, keep_region, asks_nothing, asks_observable}
+use Rattle.stab_regions.specs.Tables.{steps_before, named_by}
+use Rattle.stab_regions.specs.Parities.{detectors_before, parity_region, parity_kept}
+use Rattle.stab_regions.specs.Ascending.{IsAscending}
+use Rattle.stab_regions.specs.Rows.{odd, row, ShowsRegion}
+use Rattle.stab_regions.specs.inner.RegionsAt.{Shows, IsRegionsAt, AreFlipped, TellSure}
+use Rattle.stab_regions.proofs.FactorLemmas.{blank-at}
+use Rattle.stab_regions.proofs.ShowLemmas.{bits-anticommute}
+use Rattle.stab_regions.proofs.MoveLemmas.{region_where, long-parity}
+
+-- what X flips, and what Z does
+
+none-flipped : (n q : ℕ) (p : Letter) → letters_anticommute p (letter_at (replicate n I) q) ≡ false
+none-flipped n q p = ap (letters_anticommute p) (blank-at n q) ∙ nothing p
+  where
+    nothing : (p : Letter) → letters_anticommute p I ≡ false
+    nothing p = grind arith
+
+pub flipped-by_x : (r : Regions) (q : ℕ) (numbers : List ℕ) → q < length r.by_x.items → numbers ≡ row r.by_x.items q → IsAscending numbers → AreFlipped r X q numbers
+flipped-by_x r q numbers lt is ascending = record {
+  ascending = ascending;
+  value = λ n D count back h i less.
+      ap (odd i) is
+      ∙ bits-anticommute i n q X r.by_x.items r.by_z.items (parity_region n D i back).string (subst (λ k. q < k) h.qubits lt) (long-parity n D i back) (h.regions i less).letters;
+  others = λ n D count back h i le. ap (odd i) is ∙ (h.others i le).letters.x q ∙ none-flipped n q X;
+}
+
+pub flipped-by_z : (r : Regions) (q : ℕ) (numbers : List ℕ) → q < length r.by_z.items → numbers ≡ row r.by_z.items q → IsAscending numbers → AreFlipped r Z q numbers
+flipped-by_z r q numbers lt is ascending = record {
+  ascending = ascending;
+  value = λ n D count back h i less.
+      ap (odd i) is
+      ∙ bits-anticommute i n q Z r.by_x.items r.by_z.items (parity_region n D i back).string (subst (λ k. q < k) (h.sized.rows ∙ h.qubits) lt) (long-parity n D i back) (h.regions i less).letters;
+  others = λ n D count back h i le. ap (odd i) is ∙ (h.others i le).letters.z q ∙ none-flipped n q Z;
+}
+
+-- the end of all steps
+
+row-none : (n q : ℕ) → row (replicate n []) q ≡ []
+row-none zero q = refl
+row-none (suc n) zero = refl
+row-none (suc n) (suc q) = row-none n q
+
+end-region : (n D i : ℕ) → parity_region n D i [] ≡ region_of n []
+end-region n D i = by_place (nat_lt i D) (nat_lt i (detectors_before D []))
+  where
+    by_place : (b c : Bool) → region_where n D i [] b c ≡ region_of n []
+    by_place true true = refl
+    by_place true false = refl
+    by_place false c = refl
+
+end-kept : (n D i : ℕ) → parity_kept n D i [] ≡ true
+end-kept n D i = by_place (nat_lt i D) (nat_lt i (detectors_before D []))
+  where
+    by_place : (b c : Bool)
+        → (if b then (if c then true else keep_region n asks_nothing (steps_before (i - detectors_before D []) []) (region_of n (named_by (i - detectors_before D []) [])))
+        else keep_region n (asks_observable (i - D)) [] (region_of n []))
+        ≡ true
+    by_place true true = refl
+    by_place true false = refl
+    by_place false c = refl
+
+end-shown : (n i : ℕ) (by_x by_z records : List (List ℕ)) → by_x ≡ replicate n [] → by_z ≡ replicate n [] → records ≡ []
+    → ShowsRegion i by_x by_z records (region_of n [])
+end-shown n i by_x by_z records is_x is_z is_records = record {
+  letters = record {
+    x = λ q. ap (λ rows. odd i (row rows q)) is_x ∙ ap (odd i) (row-none n q) ∙ sym (none-flipped n q X);
+    z = λ q. ap (λ rows. odd i (row rows q)) is_z ∙ ap (odd i) (row-none n q) ∙ sym (none-flipped n q Z);
+  };
+  looks = λ k. ap (λ rows. odd i (row rows k)) is_records;
+}
+
+pub is-at-end : (n D count : ℕ) (r : Regions) → D + count < 2 ^ 32 → r.by_x.items ≡ replicate n [] → r.by_z.items ≡ replicate n [] → r.records.items ≡ []
+    → r.detectors ≡ D → r.before ≡ D → r.unsure.items ≡ replicate (D + count) false → IsRegionsAt n D count [] r
+is-at-end n D count r few is_x is_z is_records detectors before unsure =
+    let rows_x : length r.by_x.items ≡ n = ap length is_x ∙ length-replicate n [] in
+    let rows_z : length r.by_z.items ≡ n = ap length is_z ∙ length-replicate n [] in
+    let marks : length r.unsure.items ≡ D + count = ap length unsure ∙ length-replicate (D + count) false in
+    let none : (i : ℕ) → Shows r i (region_of n []) = λ i. end-shown n i r.by_x.items r.by_z.items r.records.items is_x is_z is_records in
+    record {
+      sized = record {
+        rows = rows_z ∙ sym rows_x;
+        before = omega (arith, before, detectors);
+        detectors = omega (arith, detectors, marks);
+        few = subst (λ k. k < 2 ^ 32) (sym marks) few;
+      };
+      qubits = rows_x;
+      detectors = detectors;
+      before = before ∙ omega arith;
+      marks = marks;
+      regions = λ i lt. subst (Shows r i) (sym (end-region n D i)) (none i);
+      others = λ i le. none i;
+      unsure = λ i lt.
+          ap (λ bits. slice_index_or bits i false) unsure ∙ get_or-replicate (D + count) i false false lt ∙ ap not (sym (end-kept n D i));
+    }
+
+-- the start
+
+-- letters are I and Z alone where Z flips nothing of them
+diagonal-rows : (i : ℕ) (letters : List Letter) (by_z : List (List ℕ)) → length by_z ≡ length letters
+    → ((q : ℕ) → odd i (row by_z q) ≡ letters_anticommute Z (letter_at letters q)) → not (list_any (odd i) by_z) ≡ diagonal letters
+diagonal-rows i [] [] long shows = refl
+diagonal-rows i [] (r ∷ rows) long shows = absurd (omega arith)
+diagonal-rows i (l ∷ letters) [] long shows = absurd (omega arith)
+diagonal-rows i (l ∷ letters) (r ∷ rows) long shows =
+    ap (λ b. not (b || list_any (odd i) rows)) (shows 0)
+    ∙ by_letter l (diagonal-rows i letters rows (omega arith) (λ q. shows (suc q)))
+  where
+    by_letter : (m : Letter) → not (list_any (odd i) rows) ≡ diagonal letters → not (letters_anticommute Z m || list_any (odd i) rows) ≡ diagonal (m ∷ letters)
+    by_letter I e = e
+    by_letter X e = refl
+    by_letter Y e = refl
+    by_letter Z e = e
+
+neither : (a b c d : Bool) → not a ≡ d → b ≡ not c → not (a || b) ≡ (c && d)
+neither a b c d ed ec = grind arith
+
+pub tells-sure : (r : Regions) (sure : List Bool) → length sure ≡ length r.unsure.items
+    → ((i : ℕ) → i < length r.unsure.items → slice_index_or sure i false ≡ not (list_any (odd i) r.by_z.items || slice_index_or r.unsure.items i false))
+    → TellSure r sure
+tells-sure r sure long each = record {
+  count = long;
+  value = λ n D count back h i lt.
+      each i (omega (arith, lt, h.marks))
+      ∙ neither (list_any (odd i) r.by_z.items) (slice_index_or r.unsure.items i false) (parity_kept n D i back) (diagonal (parity_region n D i back).string.letters)
+      (diagonal-rows i (parity_region n D i back).string.letters r.by_z.items (h.sized.rows ∙ h.qubits ∙ sym (long-parity n D i back)) (h.regions i lt).letters.z)
+      (h.unsure i lt);
+}

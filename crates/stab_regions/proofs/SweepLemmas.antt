@@ -1,0 +1,159 @@
+-- Sweeps: the pass goes on before one step and before several, over pieces of a circuit's steps.
+use Rattle.std.proofs.Common.{◌≡◌, ℕ, zero, suc, ◌+◌, ◌-◌, ◌*◌, ◌<◌, ◌≤◌, refl, sym, ap, ◌∙◌, subst, Bool, true, false, List, [], ◌∷◌, ◌++◌, map, length, get_or, take, drop, reverse, arith}
+use Rattle.std.specs.Prelude.{All, if◌then◌else◌, None}
+use Rattle.std.specs.List.{flat_map}
+use Rattle.std.proofs.lemmas.List.{drop_more, drop-drop, drop-map, get_or-map, length-drop, length-map, take_more, take-append-drop}
+use Rattle.std.proofs.lemmas.List.Elements.{All-nil, All-cons, All-head, All-tail, All-take, All-drop}
+use Rattle.stab_circuit.specs.Items.{Items}
+use Rattle.stab_circuit.specs.Steps.{Step, one, two, controlled, collapse, product, detector, observable, unroll, check_of}
+use Rattle.stab_circuit.specs.Cursors.{IsApart}
+use Rattle.stab_run.specs.ProgramStates.{StepFits}
+use Rattle.stab_run.proofs.FitLemmas.{check-steps}
+use Rattle.stab_regions.specs.Tables.{is_detector, detectors_of}
+use Rattle.stab_regions.specs.Parities.{detectors_before}
+use Rattle.stab_regions.specs.declared.regions.Regions.{Regions}
+use Rattle.stab_regions.specs.declared.sites.Asked.{Asked}
+use Rattle.stab_regions.specs.declared.sweep.Sweep.{Sweep}
+use Rattle.stab_regions.specs.inner.Sites.{sites_asked, sides_asked, step_qubits}
+use Rattle.stab_regions.specs.inner.RegionsAt.{IsRegionsAt, HasParity}
+use Rattle.stab_regions.specs.inner.Sweeps.{Inserted, inserted_by, inserted_from, HaveRows, IsSwept, NamesBelow, MayPass, StandsBehind, Sweeps}
+use Rattle.stab_regions.proofs.SiteLemmas.{sites-split}
+
+-- how many detectors there are
+
+counted-more : (b : Bool) (d : ℕ) → d ≤ (if b then 1 + d else d)
+counted-more true d = omega arith
+counted-more false d = omega arith
+
+counted-one : (b : Bool) (d m : ℕ) → d ≤ m → (if b then 1 + d else d) ≤ suc m
+counted-one true d m le = omega (arith, le)
+counted-one false d m le = omega (arith, le)
+
+pub detectors-few : (xs : List Step) → detectors_of xs ≤ length xs
+detectors-few [] = omega arith
+detectors-few (x ∷ xs) = counted-one (is_detector x) (detectors_of xs) (length xs) (detectors-few xs)
+
+detectors-fewer : (x : Step) (xs : List Step) → detectors_of xs ≤ detectors_of (x ∷ xs)
+detectors-fewer x xs = counted-more (is_detector x) (detectors_of xs)
+
+counted-apart : (b : Bool) (d : ℕ) → (if b then 1 + 0 else 0) + d ≡ (if b then 1 + d else d)
+counted-apart true d = omega arith
+counted-apart false d = omega arith
+
+-- a count so far, one more, and those behind are all
+pub detectors-fit : (items : Items) (so_far more : ℕ) (x : Step) (rest : List Step) → check_of items ≡ None → more ≡ detectors_of (x ∷ []) →
+    so_far + detectors_of (x ∷ rest) ≡ detectors_of (unroll items) → so_far + more ≤ 1048576
+detectors-fit items so_far more x rest checked is all =
+    omega (arith, check-steps items checked, detectors-few (unroll items), counted-apart (is_detector x) (detectors_of rest), is, all)
+
+-- steps that are taken one by one
+
+pub taken-more : (k : ℕ) (xs : List Step) (x : Step) (rest : List Step) → drop k xs ≡ x ∷ rest →
+    (take (k + 1) xs ≡ take k xs ++ x ∷ []) × (rest ≡ drop (k + 1) xs)
+taken-more k xs x rest e =
+    let lt : k < length xs = omega (arith, length-drop k xs, ap length e) in
+    let here : get_or xs k x ≡ x = ap (λ (ys : List Step). get_or ys 0 x) (sym (drop_more xs k x lt) ∙ e) in
+    (take_more xs k x lt ∙ ap (λ y. take k xs ++ y ∷ []) here, ap (drop 1) (sym e) ∙ drop-drop 1 k xs)
+
+-- a piece, and what is behind it
+pub piece : (begin end : ℕ) (xs : List Step) → begin ≤ end → take (end - begin) (drop begin xs) ++ drop end xs ≡ drop begin xs
+piece begin end xs le =
+    let there : begin + (end - begin) ≡ end = omega (arith, le) in
+    ap (λ (ys : List Step). take (end - begin) (drop begin xs) ++ ys) (ap (λ n. drop n xs) (sym there) ∙ sym (drop-drop (end - begin) begin xs))
+    ∙ take-append-drop (end - begin) (drop begin xs)
+
+-- the last of the first so many values that stand for steps
+pub mapped-last : {A : Type 0} (f : A → Step) (xs : List A) (left : ℕ) (item : A) → 0 < left → left ≤ length xs → item ≡ get_or xs (left - 1) item →
+    (drop (left - 1) (map f xs) ≡ f item ∷ drop ((left - 1) + 1) (map f xs)) × (map f (drop left xs) ≡ drop ((left - 1) + 1) (map f xs))
+mapped-last f xs left item some le is =
+    let next : (left - 1) + 1 ≡ left = omega (arith, some) in
+    let inside : left - 1 < length (map f xs) = omega (arith, some, le, length-map xs f) in
+    let here : get_or (map f xs) (left - 1) (f item) ≡ f item = get_or-map f xs (left - 1) item (f item) (omega (arith, some, le)) ∙ ap f (sym is) in (
+      drop_more (map f xs) (left - 1) (f item) inside ∙ ap (λ y. y ∷ drop ((left - 1) + 1) (map f xs)) here,
+      sym (drop-map f left xs) ∙ ap (λ n. drop n (map f xs)) (sym next),
+    )
+
+-- which steps may be passed
+
+pub passes-head : (n D count : ℕ) (x : Step) (xs back : List Step) → MayPass n D count (x ∷ xs) back → MayPass n D count (x ∷ []) (xs ++ back)
+passes-head n D count x xs back p = record {
+  fits = All-cons (StepFits n) x [] (All-head (StepFits n) x xs p.fits) (All-nil (StepFits n));
+  apart = All-cons IsApart x [] (All-head IsApart x xs p.apart) (All-nil IsApart);
+  detectors = p.detectors;
+  observables = All-cons (NamesBelow count) x [] (All-head (NamesBelow count) x xs p.observables) (All-nil (NamesBelow count));
+}
+
+pub passes-tail : (n D count : ℕ) (x : Step) (xs back : List Step) → MayPass n D count (x ∷ xs) back → MayPass n D count xs back
+passes-tail n D count x xs back p = record {
+  fits = All-tail (StepFits n) x xs p.fits;
+  apart = All-tail IsApart x xs p.apart;
+  detectors = omega (arith, p.detectors, detectors-fewer x (xs ++ back));
+  observables = All-tail (NamesBelow count) x xs p.observables;
+}
+
+passes-drop : (n D count k : ℕ) (xs back : List Step) → MayPass n D count xs back → MayPass n D count (drop k xs) back
+passes-drop n D count zero xs back p = p
+passes-drop n D count (suc k) [] back p = p
+passes-drop n D count (suc k) (x ∷ xs) back p = passes-drop n D count k xs back (passes-tail n D count x xs back p)
+
+detectors-drop : (k : ℕ) (xs : List Step) → detectors_of (drop k xs) ≤ detectors_of xs
+detectors-drop zero xs = omega arith
+detectors-drop (suc k) [] = omega arith
+detectors-drop (suc k) (x ∷ xs) = omega (arith, detectors-drop k xs, detectors-fewer x xs)
+
+pub passes-piece : (n count begin end : ℕ) (xs : List Step) → begin ≤ end → All (StepFits n) xs → All IsApart xs → All (NamesBelow count) xs →
+    MayPass n (detectors_of xs) count (take (end - begin) (drop begin xs)) (drop end xs)
+passes-piece n count begin end xs le fits apart below = record {
+  fits = All-take (StepFits n) (end - begin) (drop begin xs) (All-drop (StepFits n) begin xs fits);
+  apart = All-take IsApart (end - begin) (drop begin xs) (All-drop IsApart begin xs apart);
+  detectors = omega (arith, ap detectors_of (piece begin end xs le), detectors-drop begin xs);
+  observables = All-take (NamesBelow count) (end - begin) (drop begin xs) (All-drop (NamesBelow count) begin xs below);
+}
+
+-- the pass before several steps
+
+pub sweeps-none : (asked : Asked) (s : Sweep) (xs : List Step) → xs ≡ [] → Sweeps asked xs s s
+sweeps-none asked s xs e = λ n D count back passes swept. subst (λ (ys : List Step). IsSwept n D count asked (ys ++ back) s) (sym e) swept
+
+pub sweeps-more : (asked : Asked) (x : Step) (xs : List Step) (old mid new : Sweep) → Sweeps asked xs old mid → Sweeps asked (x ∷ []) mid new → Sweeps asked (x ∷ xs) old new
+sweeps-more asked x xs old mid new first then_one = λ n D count back passes swept.
+    then_one n D count (xs ++ back) (passes-head n D count x xs back passes) (first n D count back (passes-tail n D count x xs back passes) swept)
+
+-- where it stands behind all of them, and went before those from number k + 1 on, it stands behind that with number k
+pub stands-next : (asked : Asked) (xs : List Step) (k : ℕ) (x : Step) (old s : Sweep) → drop k xs ≡ x ∷ drop (k + 1) xs → StandsBehind asked xs old →
+    Sweeps asked (drop (k + 1) xs) old s → StandsBehind asked (x ∷ []) s
+stands-next asked xs k x old s here p sweeps =
+    let passes : MayPass p.n p.D p.count (x ∷ drop (k + 1) xs) p.back = subst (λ (ys : List Step). MayPass p.n p.D p.count ys p.back) here (passes-drop p.n p.D p.count k xs p.back p.passes) in
+    record {
+      n = p.n;
+      D = p.D;
+      count = p.count;
+      back = drop (k + 1) xs ++ p.back;
+      swept = sweeps p.n p.D p.count p.back (passes-tail p.n p.D p.count x (drop (k + 1) xs) p.back passes) p.swept;
+      passes = passes-head p.n p.D p.count x (drop (k + 1) xs) p.back passes;
+    }
+
+-- the pass before one step
+
+counted-inside : (b : Bool) (D d : ℕ) → b ≡ true → (if b then 1 + d else d) ≤ D → 0 < D - d
+counted-inside true D d e le = omega (arith, le)
+counted-inside false D d e le = cc
+
+pub has-parity : (n D count : ℕ) (x : Step) (back : List Step) (r : Regions) → MayPass n D count (x ∷ []) back → IsRegionsAt n D count back r → HasParity r x
+has-parity n D count (one g q) back r p at = tt
+has-parity n D count (two g a b) back r p at = tt
+has-parity n D count (controlled l k q) back r p at = tt
+has-parity n D count (collapse l q recorded inverted resets) back r p at = tt
+has-parity n D count (product factors inverted) back r p at = tt
+has-parity n D count (detector ks) back r p at = omega (arith, at.before, p.detectors)
+has-parity n D count (observable j ks) back r p at =
+    let below : j < count = p.observables 0 (observable j ks) (omega arith) in
+    omega (arith, at.detectors, at.marks, below)
+
+pub swept-more : (n D count : ℕ) (asked : Asked) (x : Step) (back : List Step) (new : Sweep) → IsRegionsAt n D count (x ∷ back) new.regions →
+    HaveRows n D count (flat_map (inserted_by (sides_asked asked x) x back) (step_qubits x) ++ inserted_from (sites_asked asked) back) (reverse new.rows) →
+    IsSwept n D count asked (x ∷ back) new
+swept-more n D count asked x back new at rows = record {
+  regions = at;
+  rows = subst (λ (fs : List Inserted). HaveRows n D count (fs ++ inserted_from (sites_asked asked) back) (reverse new.rows)) (sym (sites-split asked x back)) rows;
+}

@@ -1,0 +1,11 @@
+use Rattle.std.proofs.Common.{◌≡◌, ◌≤◌, ◌++◌, length, take, drop}
+use Rattle.stab_regions.specs.inner.StoredRows.{Rises, ends_kept}
+use Rattle.stab_regions.proofs.fault_rows.move_ends.Given as goal
+
+abbrev pub invariant-rows : goal.invariant-rows
+invariant-rows l = record {
+  counted : l.count ≤ l.begin;
+  within : l.begin ≤ length l.numbers;
+  rises : Rises l.begin (drop l.k l.ends) (length l.numbers);
+  ends : take l.k l.ends ++ ends_kept l.kept l.count l.begin (drop l.k l.ends) (drop l.begin l.numbers) ≡ ends_kept l.kept 0 0 l.initial.ends l.numbers;
+}

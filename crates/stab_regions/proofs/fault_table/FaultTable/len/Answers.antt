@@ -1,0 +1,6 @@
+use Rattle.std.proofs.Common.{ap, sym, ◌∙◌, length}
+use Rattle.std.proofs.lemmas.List.{length-reverse}
+use Rattle.stab_regions.proofs.fault_table.FaultTable.len.Goals as goal
+
+pub returns : goal.returns
+returns c = record { value = c.len.ensures.value ∙ sym (length-reverse c.self.inside.rows) ∙ ap (λ t. length t.rows) c.self.view_is }

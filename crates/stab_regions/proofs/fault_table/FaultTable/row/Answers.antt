@@ -1,0 +1,15 @@
+use Rattle.std.proofs.Common.{◌≡◌, ◌<◌, ◌-◌, ap, sym, subst, ◌∙◌, length, get_or, [], arith}
+use Rattle.std.proofs.lemmas.List.{length-reverse, get_or-reverse}
+use Rattle.stab_regions.proofs.fault_table.FaultTable.row.Goals as goal
+
+pub returns : goal.returns
+returns c =
+    let rows = c.self.inside.rows in
+    let inside : c.args.fault < length rows = omega (arith, c.requires.in_range, length-reverse rows, ap (λ t. length t.rows) c.self.view_is) in
+    record {
+      value =
+          c.row.ensures.value
+          ∙ ap (λ k. get_or rows (k - 1 - c.args.fault) []) c.len.ensures.value
+          ∙ sym (get_or-reverse rows c.args.fault [] inside)
+          ∙ ap (λ t. get_or t.rows c.args.fault []) c.self.view_is;
+    }

@@ -1,0 +1,9 @@
+use Rattle.std.proofs.Common.{◌≡◌, ℕ, ◌<◌, ◌≤◌, false, not, length, slice_index_or}
+use Rattle.stab_regions.proofs.marks.invert.Given as goal
+
+abbrev pub invariant-loop-place : goal.invariant-loop-place
+invariant-loop-place l = record {
+  same_length : length l.bits ≡ length l.initial.bits;
+  done : (i : ℕ) → i < l.place → slice_index_or l.bits i false ≡ not (slice_index_or l.initial.bits i false);
+  left : (i : ℕ) → l.place ≤ i → slice_index_or l.bits i false ≡ slice_index_or l.initial.bits i false;
+}

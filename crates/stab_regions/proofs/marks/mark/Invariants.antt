@@ -1,0 +1,11 @@
+use Rattle.std.proofs.Common.{◌≡◌, ℕ, ◌<◌, false, ◌||◌, length, take, slice_index_or}
+use Rattle.std.specs.Prelude.{◌==◌}
+use Rattle.std.specs.List.{list_any}
+use Rattle.stab_regions.proofs.marks.mark.Given as goal
+
+abbrev pub invariant-loop-number : goal.invariant-loop-number
+invariant-loop-number l = record {
+  same_length : length l.bits ≡ length l.initial.bits;
+  marked : (i : ℕ) → i < length l.initial.bits
+      → slice_index_or l.bits i false ≡ (list_any (λ k. k == i) (take l.number-index l.numbers) || slice_index_or l.initial.bits i false);
+}

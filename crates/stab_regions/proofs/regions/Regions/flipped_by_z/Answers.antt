@@ -1,0 +1,14 @@
+use Rattle.std.proofs.Common.{◌∙◌, sym, subst}
+use Rattle.stab_regions.specs.Ascending.{IsAscending}
+use Rattle.stab_regions.proofs.RowLemmas.{row-in}
+use Rattle.stab_regions.proofs.PlaceLemmas.{flipped-by_z}
+use Rattle.stab_regions.proofs.regions.Regions.flipped_by_z.Goals as goal
+
+pub returns : goal.returns
+returns c = record {
+  flipped =
+      let r = c.args.self.now in
+      flipped-by_z r c.args.qubit _ c.requires.in_range
+      (c.numbers.ensures.value ∙ c.index.ensures ∙ row-in r.by_z.items c.args.qubit _ c.requires.in_range)
+      (subst IsAscending (sym c.numbers.ensures.value) c.numbers.ensures.ascending);
+}

@@ -1,0 +1,41 @@
+use Rattle.std.proofs.Common.{ℕ, ◌<◌, ◌∷◌, ◌++◌, sym, subst, List, length, reverse, arith}
+use Rattle.std.specs.Prelude.{All}
+use Rattle.std.specs.List.{flat_map}
+use Rattle.stab_circuit.specs.Cursors.{step_shown}
+use Rattle.stab_regions.specs.declared.sites.Sides.{Sides}
+use Rattle.stab_regions.specs.inner.Sites.{step_qubits, sites_asked}
+use Rattle.stab_regions.specs.inner.Sweeps.{inserted_by, inserted_from, HaveRows}
+use Rattle.stab_regions.proofs.SiteLemmas.{step-within}
+use Rattle.stab_regions.proofs.SweepLemmas.{has-parity, swept-more}
+use Rattle.stab_regions.proofs.sweep.Sweep.before.Goals as goal
+
+pub keep_all-requires-clause-in_range : goal.keep_all-requires-clause-in_range
+keep_all-requires-clause-in_range c =
+    let p = c.requires.place in
+    let x = step_shown c.args.step in
+    subst (λ m. All (λ q. q < m) (step_qubits x)) (sym p.swept.regions.qubits) (step-within p.n x (p.passes.fits 0 x (omega arith)))
+
+pub add_all-requires-clause-in_range : goal.add_all-requires-clause-in_range
+add_all-requires-clause-in_range c =
+    let p = c.requires.place in
+    let x = step_shown c.args.step in
+    let at = c.in_ok-before.ensures.state p.n p.D p.count p.back p.swept.regions in
+    subst (λ m. All (λ q. q < m) (step_qubits x)) (sym at.qubits) (step-within p.n x (p.passes.fits 0 x (omega arith)))
+
+pub add_all-requires-clause-same_length : goal.add_all-requires-clause-same_length
+add_all-requires-clause-same_length c =
+    let p = c.requires.place in
+    let at = c.in_ok-before.ensures.state p.n p.D p.count p.back p.swept.regions in
+    at.sized.rows
+
+pub returns : goal.returns
+returns c = record {
+  sweeps = λ n D count back passes swept.
+      let x = step_shown c.args.step in
+      let at = c.in_ok-before.ensures.state n D count back swept.regions in
+      swept-more n D count c.args.asked x back _ at
+      (subst (λ (sides : Sides). HaveRows n D count (flat_map (inserted_by sides x back) (step_qubits x) ++ inserted_from (sites_asked c.args.asked) back) (reverse c.add_all.new.rows))
+      c.sides_at-sides.ensures.value
+      (c.in_ok-add_all.ensures.rows n D count back (inserted_from (sites_asked c.args.asked) back) at
+      (λ behind. c.in_ok-keep_all.ensures.kept n D count back swept.regions behind) swept.rows));
+}

@@ -1,0 +1,36 @@
+use Rattle.std.proofs.Common.{◌≡◌, ℕ, ◌+◌, ◌-◌, sym, subst, List, ◌∷◌, ◌∙◌, ap, drop, map, arith}
+use Rattle.std.proofs.lemmas.List.{drop-map}
+use Rattle.stab_circuit.specs.Steps.{Step}
+use Rattle.stab_circuit.specs.Cursors.{step_shown}
+use Rattle.stab_regions.specs.inner.Sweeps.{Sweeps}
+use Rattle.stab_regions.proofs.SweepLemmas.{mapped-last, sweeps-more, stands-next}
+use Rattle.stab_regions.proofs.sweep.Sweep.before_all.Goals as goal
+
+pub before-requires : goal.before-requires
+before-requires c =
+    let xs : List Step = map step_shown c.args.steps.now in
+    let last = mapped-last step_shown c.args.steps.now c.steps.left c.index-steps-left.result (omega (arith, c.steps-test.true)) c.steps.invariant.within c.index-steps-left.is in
+    record {
+      place =
+          stands-next c.args.asked xs (c.steps.left - 1) (step_shown c.index-steps-left.result) c.args.self.now c.steps.self last.0 c.requires.place
+          (subst (λ (ys : List Step). Sweeps c.args.asked ys c.args.self.now c.steps.self) last.1 c.steps.invariant.sweeps);
+    }
+
+pub steps-preserved : goal.steps-preserved
+steps-preserved c =
+    let xs : List Step = map step_shown c.args.steps.now in
+    let x : Step = step_shown c.index-steps-left.result in
+    let last = mapped-last step_shown c.args.steps.now c.steps.left c.index-steps-left.result (omega (arith, c.steps-test.true)) c.steps.invariant.within c.index-steps-left.is in
+    record {
+      within = omega (arith, c.steps.invariant.within);
+      sweeps =
+          subst (λ (ys : List Step). Sweeps c.args.asked ys c.args.self.now c.before-in-steps.new.self)
+          (ap (λ (ys : List Step). x ∷ ys) last.1 ∙ sym last.0 ∙ drop-map step_shown (c.steps.left - 1) c.args.steps.now)
+          (sweeps-more c.args.asked x (map step_shown (drop c.steps.left c.args.steps.now)) c.args.self.now c.steps.self c.before-in-steps.new.self c.steps.invariant.sweeps
+          c.in_ok-before.ensures.sweeps);
+    }
+
+pub returns : goal.returns
+returns c =
+    let none : c.steps.left ≡ 0 = omega (arith, c.steps-test.false) in
+    record { sweeps = subst (λ k. Sweeps c.args.asked (map step_shown (drop k c.args.steps.now)) c.args.self.now c.steps.self) none c.steps.invariant.sweeps }

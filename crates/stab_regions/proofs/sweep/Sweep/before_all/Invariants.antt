@@ -1,0 +1,13 @@
+use Rattle.std.proofs.Common.{◌≤◌, length, drop, map}
+use Rattle.stab_circuit.specs.Cursors.{step_shown}
+use Rattle.stab_regions.specs.inner.Sweeps.{Sweeps}
+use Rattle.stab_regions.proofs.sweep.Sweep.before_all.Given as goal
+
+abbrev pub invariant-steps : goal.invariant-steps
+invariant-steps l = record {
+  within : l.left ≤ length l.steps;
+  sweeps : Sweeps l.asked (map step_shown (drop l.left l.steps)) l.initial.self l.self;
+}
+
+abbrev pub decreases-steps : goal.decreases-steps
+decreases-steps l = l.left

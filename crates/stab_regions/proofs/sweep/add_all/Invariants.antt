@@ -1,0 +1,21 @@
+use Rattle.std.proofs.Common.{◌≡◌, ℕ, ◌*◌, ◌≤◌, ◌∷◌, ◌++◌, true, List, length, drop, reverse}
+use Rattle.std.specs.List.{flat_map}
+use Rattle.stab_circuit.specs.Steps.{Step}
+use Rattle.stab_circuit.specs.Cursors.{step_shown}
+use Rattle.stab_regions.specs.inner.Sites.{step_qubits}
+use Rattle.stab_regions.specs.inner.RegionsAt.{IsRegionsAt}
+use Rattle.stab_regions.specs.inner.Sweeps.{Inserted, inserted_by, HaveRows, AreKept}
+use Rattle.stab_regions.proofs.sweep.add_all.Given as goal
+
+abbrev pub invariant-qubits : goal.invariant-qubits
+invariant-qubits l = record {
+  within : l.left ≤ length (step_qubits (step_shown l.step));
+  end : l.sides.behind ≡ true → l.end ≡ 2 * l.left;
+  kept : l.sides.behind ≡ true → length l.kept ≡ 2 * length (step_qubits (step_shown l.step));
+  rows : (n D count : ℕ) (back : List Step) (others : List Inserted) → IsRegionsAt n D count (step_shown l.step ∷ back) l.regions
+      → (l.sides.behind ≡ true → AreKept n D count back (step_qubits (step_shown l.step)) l.kept) → HaveRows n D count others (reverse l.initial.rows)
+      → HaveRows n D count (flat_map (inserted_by l.sides (step_shown l.step) back) (drop l.left (step_qubits (step_shown l.step))) ++ others) (reverse l.rows);
+}
+
+abbrev pub decreases-qubits : goal.decreases-qubits
+decreases-qubits l = l.left

@@ -1,0 +1,16 @@
+use Rattle.std.proofs.Common.{◌≤◌, length, drop}
+use Rattle.stab_circuit.specs.Steps.{unroll, observables_of}
+use Rattle.stab_circuit.specs.Views.{circuit_items}
+use Rattle.stab_regions.specs.Tables.{detectors_of}
+use Rattle.stab_regions.specs.inner.Sweeps.{IsSwept}
+use Rattle.stab_regions.proofs.sweep.sweep_back.Given as goal
+
+abbrev pub invariant-pieces : goal.invariant-pieces
+invariant-pieces l = record {
+  within : l.end ≤ length (unroll (circuit_items l.circuit));
+  swept : IsSwept l.qubits (detectors_of (unroll (circuit_items l.circuit))) (observables_of (circuit_items l.circuit)) l.asked
+      (drop l.end (unroll (circuit_items l.circuit))) l.sweep;
+}
+
+abbrev pub decreases-pieces : goal.decreases-pieces
+decreases-pieces l = l.end

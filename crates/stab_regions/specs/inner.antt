@@ -1,0 +1,4 @@
+pub mod StoredRows
+pub mod Sites
+pub mod RegionsAt
+pub mod Sweeps

@@ -1,0 +1,142 @@
+ghost use Rattle.std.specs.Prelude.{◌≡◌, ◌≤◌, None, IfOk, IfErr};
+ghost use Rattle.stab_io.specs.Refusals.{Refuses};
+ghost use Rattle.stab_io.specs.declared.refusal.Refusal.TheVariants.{OutOfMemory};
+ghost use Rattle.stab_tableau.specs.Limits.{most_qubits};
+ghost use Rattle.stab_circuit.specs.Steps.{Step, check_within};
+ghost use Rattle.stab_circuit.specs.Views.{circuit_items};
+ghost use Rattle.stab_regions.specs.Faults.{AreSure, IsFaultTable, sites_at};
+ghost use Rattle.stab_regions.specs.inner.Sites.{sites_asked};
+
+use crate::fault_laws::{faults_flip_sure_parities, sure_parities};
+use crate::fault_rows::FaultRows;
+use crate::sites::Asked;
+use crate::sweep::{Sweep, sweep_back};
+use stab_circuit::Circuit;
+use stab_io::{Fault, Refusal};
+use std::alloc::Global;
+use std::marker::Model;
+
+/// Which detectors and observables are sure, and which of these each fault flips.
+///
+/// Contracts see a bit for each detector and then each observable, and for each fault, in the order
+/// of `specs/Faults.antt`, the numbers of the sure ones that it flips, ascending: detectors are
+/// numbered from 0, and observables behind them.
+#[derive(Drop)]
+pub struct FaultTable {
+    sure: Vec<bool>,
+    // The last fault's row first.
+    rows: FaultRows,
+}
+
+impl Model for FaultTable {
+    ghost use Rattle.std.specs.Prelude.{reverse};
+    ghost use Rattle.stab_regions.specs.FaultTables.{FaultTableState};
+
+    ghost Value = { FaultTableState };
+
+    ghost view = { λ t. record { sure = t.sure.items; rows = reverse t.rows } };
+}
+
+impl FaultTable {
+    ghost use Rattle.std.specs.Prelude.{◌≡◌, ◌<◌, [], length, slice_index_or};
+
+    /// For each detector and then each observable, whether its bit is the same whatever the coins.
+    pub fn sure(&self) -> &[bool]
+        ensures value { result.now ≡ self.now.sure }
+    {
+        self.sure.as_slice()
+    }
+
+    /// How many faults there are.
+    pub fn len(&self) -> usize
+        ensures value { result ≡ length self.now.rows }
+    {
+        self.rows.len()
+    }
+
+    /// The numbers of the sure detectors and observables that a fault flips, ascending. Faults are
+    /// numbered from 0.
+    pub fn row(&self, fault: usize) -> &[u32]
+        requires in_range { fault < length self.now.rows }
+        ensures value { result.now ≡ slice_index_or self.now.rows fault [] }
+    {
+        self.rows.row(self.rows.len() - 1 - fault)
+    }
+}
+
+/// For each detector of a circuit on n qubits, at most 1,024, and then each observable, whether its
+/// bit is the same whatever the coins.
+///
+/// Refused as `Circuit::check` refuses, else `OutOfMemory`, always with line 0.
+pub fn sure(alloc: Global, circuit: &Circuit, n: usize) -> Result<Vec<bool>, Fault>
+    requires in_range { n ≤ most_qubits }
+    ensures sure { IfOk result (λ s. AreSure n (circuit_items circuit.now) s.items) }
+    ensures refused { Refuses result (check_within n (circuit_items circuit.now)) }
+{
+    circuit.check(n)?;
+    sure_of_checked(alloc, circuit, n).map_err(Fault::whole)
+}
+
+/// The table of the faults of a circuit on n qubits, at most 1,024: a letter X or Z between two steps,
+/// at each place that the circuit marks by a gate I, or everywhere, on each qubit of a step, in front
+/// of it where it makes a record, and behind it.
+///
+/// Refused as `Circuit::check` refuses, else `OutOfMemory`, always with line 0.
+pub fn faults(
+    alloc: Global,
+    circuit: &Circuit,
+    n: usize,
+    everywhere: bool,
+) -> Result<FaultTable, Fault>
+    requires in_range { n ≤ most_qubits }
+    ensures table { IfOk result (λ t. IsFaultTable n everywhere (circuit_items circuit.now) t.sure t.rows) }
+    ensures refused { Refuses result (check_within n (circuit_items circuit.now)) }
+{
+    circuit.check(n)?;
+    faults_of_checked(alloc, circuit, n, everywhere).map_err(Fault::whole)
+}
+
+/// Which bits of a circuit that was checked are sure.
+fn sure_of_checked(alloc: Global, circuit: &Circuit, n: usize) -> Result<Vec<bool>, Refusal>
+    requires checked { check_within n (circuit_items circuit.now) ≡ None }
+    ensures sure { IfOk result (λ s. AreSure n (circuit_items circuit.now) s.items) }
+    ensures err { IfErr result (λ r. r ≡ OutOfMemory) }
+{
+    let Sweep { regions, .. } = sweep_back(alloc, circuit, n, Asked::Nowhere)?;
+    sure_parities();
+    Ok(regions.sure())
+}
+
+/// Where faults are asked for.
+fn asked_for(everywhere: bool) -> Asked
+    ensures value { (x : Step) → sites_asked result x ≡ sites_at everywhere x }
+{
+    if everywhere {
+        Asked::Everywhere
+    } else {
+        Asked::Marked
+    }
+}
+
+/// The fault table of a circuit that was checked.
+fn faults_of_checked(
+    alloc: Global,
+    circuit: &Circuit,
+    n: usize,
+    everywhere: bool,
+) -> Result<FaultTable, Refusal>
+    requires checked { check_within n (circuit_items circuit.now) ≡ None }
+    ensures table { IfOk result (λ t. IsFaultTable n everywhere (circuit_items circuit.now) t.sure t.rows) }
+    ensures err { IfErr result (λ r. r ≡ OutOfMemory) }
+{
+    let Sweep {
+        regions,
+        mut rows,
+        ..
+    } = sweep_back(alloc, circuit, n, asked_for(everywhere))?;
+    sure_parities();
+    faults_flip_sure_parities();
+    let sure = regions.sure();
+    rows.keep(sure.as_slice());
+    Ok(FaultTable { sure, rows })
+}
