@@ -13,11 +13,11 @@ ghost use Rattle.stab_commands.specs.inner.FaultSites.{IsStretch, site_shown};
 
 use crate::fault_line::write_texts;
 use crate::fault_sites::{Site, site_at};
-use crate::stubs::FaultTable;
 use itoa::Buffer;
 use stab_circuit::{Circuit, Cursor, Path, Step, StepItem, write_path};
 use stab_io::{Output, Refusal, write_all};
 use stab_pauli::Letter;
+use stab_regions::FaultTable;
 use stab_results::{Kinds, write_entries};
 
 /// Writes where a fault is.
