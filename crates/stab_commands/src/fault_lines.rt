@@ -34,7 +34,10 @@ fn write_place<O: Output>(
     write_texts(out, &[digits.format(before).as_bytes(), b" "])?;
     write_path(out, path)?;
     let mut digits = Buffer::new();
-    write_texts(out, &[b" ", &[letter.symbol()], digits.format(qubit).as_bytes()])
+    write_texts(
+        out,
+        &[b" ", &[letter.symbol()], digits.format(qubit).as_bytes()],
+    )
 }
 
 /// Writes the line of a fault, by what it flips.
