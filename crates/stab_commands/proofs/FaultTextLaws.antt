@@ -34,10 +34,10 @@ pub joined-unsure : (u : Unsure) (name number : List ℕ) (n : ℕ) → bit_text
 joined-unsure u name number n is_bit is_number =
     let rest = path_text u.path ++ codes ", is not the same for all coins\n" in
     ap (λ l. codes "stabsim: " ++ l) (
-      append_assoc name (number ++ codes ", item ") rest
-      ∙ ap (λ l. name ++ l) (append_assoc number (codes ", item ") rest ∙ ap (λ l. l ++ (codes ", item " ++ rest)) is_number)
-      ∙ sym (append_assoc name (decimal n) (codes ", item " ++ rest))
-      ∙ ap (λ l. l ++ (codes ", item " ++ rest)) (sym is_bit)
+    append_assoc name (number ++ codes ", item ") rest
+    ∙ ap (λ l. name ++ l) (append_assoc number (codes ", item ") rest ∙ ap (λ l. l ++ (codes ", item " ++ rest)) is_number)
+    ∙ sym (append_assoc name (decimal n) (codes ", item " ++ rest))
+    ∙ ap (λ l. l ++ (codes ", item " ++ rest)) (sym is_bit)
     )
 
 -- the two lines at a place, by how many steps are in front of it
@@ -137,7 +137,7 @@ lines-append kinds path_of (f ∷ fs) gs (row ∷ rows) =
 pub lines_at_place : (kinds : Kinds) (path_of : ℕ → Path) (t : ℕ) (s : Site) (ss : List Site) (rows : List (List ℕ)) (k : ℕ) → k + 1 < length rows
     → table_lines kinds path_of (flat_map (faults_on t) (s ∷ ss)) (drop k rows)
     ≡ (table_line kinds (path_of t) (fault_on t s letter.X) (get_or rows k []) ++ table_line kinds (path_of t) (fault_on t s letter.Z) (get_or rows (k + 1) []))
-        ++ table_lines kinds path_of (flat_map (faults_on t) ss) (drop (k + 2) rows)
+    ++ table_lines kinds path_of (flat_map (faults_on t) ss) (drop (k + 2) rows)
 lines_at_place kinds path_of t s ss rows k h =
     let first : drop k rows ≡ get_or rows k [] ∷ drop (suc k) rows = drop-cons rows k [] (omega arith) in
     let one : suc k ≡ k + 1 = omega arith in
@@ -145,7 +145,7 @@ lines_at_place kinds path_of t s ss rows k h =
     let second : drop (suc k) rows ≡ get_or rows (k + 1) [] ∷ drop (k + 2) rows = ap (λ m. drop m rows) one ∙ drop-cons rows (k + 1) [] h ∙ ap (λ m. get_or rows (k + 1) [] ∷ drop m rows) two in
     ap (table_lines kinds path_of (flat_map (faults_on t) (s ∷ ss))) (first ∙ ap (λ l. get_or rows k [] ∷ l) second)
     ∙ sym (append_assoc (table_line kinds (path_of t) (fault_on t s letter.X) (get_or rows k [])) (table_line kinds (path_of t) (fault_on t s letter.Z) (get_or rows (k + 1) []))
-        (table_lines kinds path_of (flat_map (faults_on t) ss) (drop (k + 2) rows)))
+    (table_lines kinds path_of (flat_map (faults_on t) ss) (drop (k + 2) rows)))
 
 -- lines of faults at one step need its path alone
 pub lines_same : (kinds : Kinds) (path_of : ℕ → Path) (p : Path) (t : ℕ) → path_of t ≡ p → (ss : List Site) (rows : List (List ℕ))
@@ -161,13 +161,13 @@ lines_same kinds path_of p t e (s ∷ ss) (a ∷ b ∷ rows) =
 pub lines_at_step : (kinds : Kinds) (path_of : ℕ → Path) (everywhere : Bool) (p : Path) (t : ℕ) (x : Step) (xs : List Step) (rows : List (List ℕ)) (k : ℕ) → path_of t ≡ p
     → table_lines kinds path_of (faults_from everywhere t (x ∷ xs)) (drop k rows)
     ≡ table_lines kinds (λ _. p) (flat_map (faults_on t) (sites_at everywhere x)) (drop k rows)
-        ++ table_lines kinds path_of (faults_from everywhere (t + 1) xs) (drop (k + 2 * length (sites_at everywhere x)) rows)
+    ++ table_lines kinds path_of (faults_from everywhere (t + 1) xs) (drop (k + 2 * length (sites_at everywhere x)) rows)
 lines_at_step kinds path_of everywhere p t x xs rows k e =
     let here = flat_map (faults_on t) (sites_at everywhere x) in
     let later = faults_from everywhere (t + 1) xs in
     lines-append kinds path_of here later (drop k rows)
     ∙ ap₂ (λ a b. a ++ b) (lines_same kinds path_of p t e (sites_at everywhere x) (drop k rows))
-        (ap (table_lines kinds path_of later) (drop-more rows k (length here) ∙ ap (λ m. drop (k + m) rows) (length-faults t (sites_at everywhere x))))
+    (ap (table_lines kinds path_of later) (drop-more rows k (length here) ∙ ap (λ m. drop (k + m) rows) (length-faults t (sites_at everywhere x))))
 
 -- how many faults are at a step and behind it
 pub length-from : (everywhere : Bool) (t : ℕ) (x : Step) (xs : List Step)
@@ -180,7 +180,7 @@ length-from everywhere t x xs =
 pub lines_here : (kinds : Kinds) (p : Path) (t : ℕ) (sites : List Site) (rows : List (List ℕ)) (place next : ℕ) (s : Site) → slice_get sites place ≡ Some s → next + 1 < length rows
     → table_lines kinds (λ _. p) (flat_map (faults_on t) (drop place sites)) (drop next rows)
     ≡ (table_line kinds p (fault_on t s letter.X) (get_or rows next []) ++ table_line kinds p (fault_on t s letter.Z) (get_or rows (next + 1) []))
-        ++ table_lines kinds (λ _. p) (flat_map (faults_on t) (drop (place + 1) sites)) (drop (next + 2) rows)
+    ++ table_lines kinds (λ _. p) (flat_map (faults_on t) (drop (place + 1) sites)) (drop (next + 2) rows)
 lines_here kinds p t sites rows place next s e h =
     ap (λ ss. table_lines kinds (λ _. p) (flat_map (faults_on t) ss) (drop next rows)) (drop-found sites place s e) ∙ lines_at_place kinds (λ _. p) t s (drop (place + 1) sites) rows next h
 

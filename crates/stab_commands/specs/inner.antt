@@ -6,4 +6,3 @@ pub mod Editors
 pub mod SessionAnswers
 pub mod FaultSites
 pub mod Faults
-pub mod Stub

@@ -7,9 +7,9 @@ ghost use Rattle.stab_commands.specs.Endings.{SendsFound};
 ghost use Rattle.stab_commands.specs.Deterministic.{EndsDeterministic, IsSureText, kinds_of};
 
 use crate::ending::finish;
-use crate::stubs::sure;
 use stab_circuit::{Circuit, read_circuit};
 use stab_io::{Fault, Input, Output};
+use stab_regions::sure;
 use stab_results::{Format, Kinds, write_shot};
 use std::alloc::Global;
 

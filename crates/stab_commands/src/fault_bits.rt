@@ -5,8 +5,8 @@ ghost use Rattle.stab_io.specs.Devices.{WritesAllOrFault};
 ghost use Rattle.stab_results.specs.Formats.{shot_bytes, detectors_of};
 ghost use Rattle.stab_commands.specs.FaultTables.{set_all};
 
-use crate::stubs::FaultTable;
 use stab_io::{Fault, Output};
+use stab_regions::FaultTable;
 use stab_results::{Format, Kinds, write_shot};
 
 /// Sets the bits at these places.

@@ -13,11 +13,11 @@ ghost use Rattle.stab_commands.specs.inner.FaultSites.{IsStretch, site_shown};
 
 use crate::fault_line::write_texts;
 use crate::fault_sites::{Site, site_at};
-use crate::stubs::FaultTable;
 use itoa::Buffer;
 use stab_circuit::{Circuit, Cursor, Path, Step, StepItem, write_path};
 use stab_io::{Output, Refusal, write_all};
 use stab_pauli::Letter;
+use stab_regions::FaultTable;
 use stab_results::{Kinds, write_entries};
 
 /// Writes where a fault is.
@@ -34,7 +34,10 @@ fn write_place<O: Output>(
     write_texts(out, &[digits.format(before).as_bytes(), b" "])?;
     write_path(out, path)?;
     let mut digits = Buffer::new();
-    write_texts(out, &[b" ", &[letter.symbol()], digits.format(qubit).as_bytes()])
+    write_texts(
+        out,
+        &[b" ", &[letter.symbol()], digits.format(qubit).as_bytes()],
+    )
 }
 
 /// Writes the line of a fault, by what it flips.

@@ -106,7 +106,9 @@ fn any_site(step: Step, number: usize) -> Option<Site>
         Step::Two(_, first, second) => two_sites(behind(first), behind(second), number),
         Step::Controlled(_, _, qubit) => one_site(behind(qubit), number),
         Step::Collapse {
-            qubit, recorded, ..
+            qubit,
+            recorded,
+            ..
         } => collapse_site(qubit, recorded, number),
         Step::Product { factors, .. } => factor_site(factors, number),
         Step::Detector(_) => None,

@@ -18,10 +18,10 @@ use crate::ending::finish;
 use crate::fault_bits::write_shots;
 use crate::fault_lines::write_lines;
 use crate::job::FaultLayout;
-use crate::stubs::{FaultTable, faults};
 use crate::unsure::{Bit, FaultsRefused, Unsure};
 use stab_circuit::{Circuit, Cursor, Step, read_circuit};
 use stab_io::{Fault, Input, Output, Refusal};
+use stab_regions::{FaultTable, faults};
 use stab_results::{Format, Kinds};
 use std::alloc::Global;
 

@@ -54,7 +54,6 @@ mod script;
 mod shots;
 mod stabilisers;
 mod status;
-mod stubs;
 mod unsure;
 
 pub use check::run_check;

@@ -1,6 +1,5 @@
 //! What a table of faults is refused for.
 
-
 use stab_circuit::Path;
 use stab_io::Fault;
 

@@ -13,7 +13,7 @@ returns-in_err-write_shot g c =
       sends = found_at_once (IsSureText c.args.format items) (g.O.Output.seen c.args.out.now) (g.O.Output.seen c.write_shot.new.out) bytes c.from_residual-in_err-write_shot.result
           (c.in_ok-sure.sure.items, (rw c.qubits.ensures.value at c.in_ok-sure.ensures.sure), is)
           (at_once_failed (g.O.Output.seen c.args.out.now) (g.O.Output.seen c.write_shot.new.out) bytes c.in_err-write_shot.field-0.0 c.from_residual-in_err-write_shot.result c.from_residual-in_err-write_shot.ensures.1
-            c.in_err-write_shot.ensures.writes.0 c.in_err-write_shot.ensures.writes.1);
+          c.in_err-write_shot.ensures.writes.0 c.in_err-write_shot.ensures.writes.1);
     }
 
 pub returns : goal.returns

@@ -15,7 +15,7 @@ returns-in_err-write_texts g c =
     let front = texts_joined (codes "stabsim: " ∷ c.bit_name-number.result.0.now ∷ c.as_bytes-digits.result.now ∷ codes ", item " ∷ []) in record {
       writes = failed_on (g.O.Output.seen c.args.out.now) (g.O.Output.seen c.write_texts.new.out) (unsure_line u) c.in_err-write_texts.field-0.0 c.from_residual.result c.from_residual.ensures.1 c.in_err-write_texts.ensures.writes.0
           (subst (λ l. TookAndFailed (g.O.Output.seen c.args.out.now) (g.O.Output.seen c.write_texts.new.out) l) text
-            (failed_within front (path_text u.path ++ codes ", is not the same for all coins\n") c.in_err-write_texts.ensures.writes.1));
+          (failed_within front (path_text u.path ++ codes ", is not the same for all coins\n") c.in_err-write_texts.ensures.writes.1));
     }
 
 pub returns-in_err-write_path : goal.returns-in_err-write_path
@@ -25,7 +25,7 @@ returns-in_err-write_path g c =
     let front = texts_joined (codes "stabsim: " ∷ c.bit_name-number.result.0.now ∷ c.as_bytes-digits.result.now ∷ codes ", item " ∷ []) in record {
       writes = failed_on (g.O.Output.seen c.args.out.now) (g.O.Output.seen c.write_path.new.out) (unsure_line u) c.in_err-write_path.field-0.0 c.from_residual-in_err-write_path.result c.from_residual-in_err-write_path.ensures.1 c.in_err-write_path.ensures.writes.0
           (subst (λ l. TookAndFailed (g.O.Output.seen c.args.out.now) (g.O.Output.seen c.write_path.new.out) l) text
-            (failed_second front (path_text u.path) (codes ", is not the same for all coins\n") c.in_ok-write_texts.ensures.writes c.in_err-write_path.ensures.writes.1));
+          (failed_second front (path_text u.path) (codes ", is not the same for all coins\n") c.in_ok-write_texts.ensures.writes c.in_err-write_path.ensures.writes.1));
     }
 
 pub returns : goal.returns

@@ -16,7 +16,7 @@ write_step-requires-clause-few g c = omega (arith, c.steps.invariant.count, few_
 pub write_step-requires-clause-rows : goal.write_step-requires-clause-rows
 write_step-requires-clause-rows g c =
     let count : length (faults_from c.args.everywhere c.steps.number c.steps.cursor.left) ≡ 2 * length (sites_at c.args.everywhere (step_shown c.in-Some.step)) + length (faults_from c.args.everywhere (c.steps.number + 1) c.next.new.self.left) =
-        ap (λ xs. length (faults_from c.args.everywhere c.steps.number xs)) c.in-Some.ensures.some ∙ length-from c.args.everywhere c.steps.number (step_shown c.in-Some.step) c.next.new.self.left in
+    ap (λ xs. length (faults_from c.args.everywhere c.steps.number xs)) c.in-Some.ensures.some ∙ length-from c.args.everywhere c.steps.number (step_shown c.in-Some.step) c.next.new.self.left in
     omega (arith, c.steps.invariant.rows, count)
 
 pub returns-in_err-row : goal.returns-in_err-row
@@ -60,7 +60,7 @@ steps-preserved g c =
     let path = path_here items number item.steps item.path c.item_at-item.ensures.some c.item_at-item.ensures.found in
     let here = ap (λ xs. table_lines kinds (path_at items) (faults_from everywhere number xs) (drop c.steps.row rows)) c.in-Some.ensures.some ∙ lines_at_step kinds (path_at items) everywhere item.path number step later rows c.steps.row path in
     let count : length (faults_from c.args.everywhere c.steps.number c.steps.cursor.left) ≡ 2 * length (sites_at c.args.everywhere (step_shown c.in-Some.step)) + length (faults_from c.args.everywhere (c.steps.number + 1) c.next.new.self.left) =
-        ap (λ xs. length (faults_from c.args.everywhere c.steps.number xs)) c.in-Some.ensures.some ∙ length-from c.args.everywhere c.steps.number (step_shown c.in-Some.step) c.next.new.self.left in
+    ap (λ xs. length (faults_from c.args.everywhere c.steps.number xs)) c.in-Some.ensures.some ∙ length-from c.args.everywhere c.steps.number (step_shown c.in-Some.step) c.next.new.self.left in
     let one_less : length c.steps.cursor.left ≡ suc (length later) = ap length c.in-Some.ensures.some in record {
       count = omega (arith, c.steps.invariant.count, one_less);
       rows = omega (arith, c.steps.invariant.rows, count, c.in_ok-row.ensures.next);

@@ -17,7 +17,7 @@ returns-in_err-write_texts g c =
       writes = failed_on (g.O.Output.seen c.args.out.now) (g.O.Output.seen c.write_texts.new.out) (fault_text c.args.before path c.args.letter c.args.qubit) c.in_err-write_texts.field-0.0 c.from_residual.result c.from_residual.ensures.1
           c.in_err-write_texts.ensures.writes.0
           (subst (λ l. TookAndFailed (g.O.Output.seen c.args.out.now) (g.O.Output.seen c.write_texts.new.out) l) text
-            (failed_within (texts_joined (c.as_bytes.result.now ∷ codes " " ∷ [])) (path_text path ++ back) c.in_err-write_texts.ensures.writes.1));
+          (failed_within (texts_joined (c.as_bytes.result.now ∷ codes " " ∷ [])) (path_text path ++ back) c.in_err-write_texts.ensures.writes.1));
     }
 
 pub returns-in_err-write_path : goal.returns-in_err-write_path
@@ -28,7 +28,7 @@ returns-in_err-write_path g c =
       writes = failed_on (g.O.Output.seen c.args.out.now) (g.O.Output.seen c.write_path.new.out) (fault_text c.args.before path c.args.letter c.args.qubit) c.in_err-write_path.field-0.0 c.from_residual-in_err-write_path.result c.from_residual-in_err-write_path.ensures.1
           c.in_err-write_path.ensures.writes.0
           (subst (λ l. TookAndFailed (g.O.Output.seen c.args.out.now) (g.O.Output.seen c.write_path.new.out) l) text
-            (failed_second (texts_joined (c.as_bytes.result.now ∷ codes " " ∷ [])) (path_text path) back c.in_ok-write_texts.ensures.writes c.in_err-write_path.ensures.writes.1));
+          (failed_second (texts_joined (c.as_bytes.result.now ∷ codes " " ∷ [])) (path_text path) back c.in_ok-write_texts.ensures.writes c.in_err-write_path.ensures.writes.1));
     }
 
 pub returns : goal.returns

@@ -48,7 +48,7 @@ returns-in_err-write_site-clause-writes g c =
     let rest = table_lines c.args.kinds (λ _. path) (flat_map (faults_on c.args.number) (drop (c.places.place + 1) sites)) (drop (c.places.next + 2) rows) in
     let here = lines_here c.args.kinds path c.args.number sites rows c.places.place c.places.next site found enough ∙ ap₂ (λ x z. (line_x x ++ line_z z) ++ rest) (sym c.row-by_x.ensures.value) (sym c.row-by_z.ensures.value) in
     failed_on (g.O.Output.seen c.args.out.now) (g.O.Output.seen c.write_site.new.out) all c.in_err-write_site.field-0.0 c.from_residual.result c.from_residual.ensures.1 c.in_err-write_site.ensures.writes.0
-        (wrote_and_failed all left (line_x c.row-by_x.result.now ++ line_z c.row-by_z.result.now) rest here c.places.invariant.wrote c.in_err-write_site.ensures.writes.1)
+    (wrote_and_failed all left (line_x c.row-by_x.result.now ++ line_z c.row-by_z.result.now) rest here c.places.invariant.wrote c.in_err-write_site.ensures.writes.1)
 
 pub overflow_add-next-in-Some : goal.overflow_add-next-in-Some
 overflow_add-next-in-Some g c =
@@ -97,7 +97,7 @@ returns-clause-writes g c =
     let missed : slice_get sites c.places.place ≡ None = sym c.site_at.ensures.value ∙ found_none c.site_at.result c.in_default.not-Some in
     let rest = table_lines c.args.kinds (λ _. path) (flat_map (faults_on c.args.number) (drop c.places.place sites)) (drop c.places.next rows) in
     wrote_all (table_lines c.args.kinds (λ _. path) (flat_map (faults_on c.args.number) sites) (drop c.args.row rows)) rest
-        (lines_past c.args.kinds path c.args.number sites rows c.places.place c.places.next missed) c.places.invariant.wrote
+    (lines_past c.args.kinds path c.args.number sites rows c.places.place c.places.next missed) c.places.invariant.wrote
 
 pub returns-clause-next : goal.returns-clause-next
 returns-clause-next g c =

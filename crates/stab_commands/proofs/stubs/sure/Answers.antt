@@ -1,3 +1,0 @@
-use Rattle.stab_commands.proofs.stubs.sure.Goals as goal
-pub returns-clause-refused : goal.returns-clause-refused
-returns-clause-refused c = ?
