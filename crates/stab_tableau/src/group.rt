@@ -10,7 +10,7 @@ ghost use Rattle.stab_tableau.specs.inner.Frames.{SameLetters, sign_frame};
 
 use super::inverse_rows::letter_where;
 use super::rows;
-use super::table::{InverseRow, Table};
+use super::table::{CompactTable, InverseRow, Table};
 use stab_pauli::{Letter, Pauli, PauliRows};
 
 /// Whether two tables whose rows differ in their signs alone have one group.
@@ -42,6 +42,20 @@ fn write_frame(table: &Table, others: &Table, out: &mut Pauli)
             ^ others.is_negative(InverseRow::OfX, qubit);
         let z = table.is_negative(InverseRow::OfZ, qubit)
             ^ others.is_negative(InverseRow::OfZ, qubit);
+        out.set(qubit, letter_where(x, z));
+    }
+}
+
+/// Makes the letters of a string those that tell where the signs of the rows of a kept table and of another differ,
+/// whose letters are the same.
+pub fn write_kept_frame(table: &CompactTable, others: &Table, out: &mut Pauli)
+    requires same_letters { SameLetters table.now others.now }
+    requires out_length { length out.old.letters ≡ length table.now }
+    ensures value { out.new ≡ record out.old { letters = sign_frame table.now others.now } }
+{
+    for qubit in 0..table.len() {
+        let x = table.signs_differ(others, InverseRow::OfX, qubit);
+        let z = table.signs_differ(others, InverseRow::OfZ, qubit);
         out.set(qubit, letter_where(x, z));
     }
 }

@@ -1,4 +1,5 @@
 use super::Tableau;
+use crate::group;
 use crate::table::CompactTable;
 use stab_io::Refusal;
 use stab_pauli::{Letter, Pauli};
@@ -101,7 +102,11 @@ impl CompactTableau {
         ensures turned { result ≡ true → IsTurned self.now.qubits frame.new.letters (stabilises self.now) (stabilises tableau.now) }
         ensures kept { result ≡ false → frame.new ≡ frame.old }
     {
-        false
+        if !self.table.same_letters(&tableau.table) {
+            return false;
+        }
+        group::write_kept_frame(&self.table, &tableau.table, frame);
+        true
     }
 
     /// Whether this is a copy of that very state.

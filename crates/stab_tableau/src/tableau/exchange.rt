@@ -1,4 +1,6 @@
 use super::Tableau;
+use crate::table::InverseRow;
+use crate::{inverse_rows, rows};
 use stab_pauli::{Letter, Pauli};
 
 impl Tableau {
@@ -20,7 +22,8 @@ impl Tableau {
         ensures exchanges { result ≡ true → Exchanges self.old.qubits (stabilises self.old) measured.now string.new.letters }
         ensures kept { result ≡ false → string.new ≡ string.old }
     {
-        false
+        rows::write_preimage(&self.table, measured, &mut self.preimage);
+        rows::write_exchange(&self.table, self.preimage.first_x(), string)
     }
 
     /// `exchange` of one letter on a qubit: of the string with that letter alone, which isn't built.
@@ -33,6 +36,18 @@ impl Tableau {
         ensures exchanges { result ≡ true → Exchanges self.old.qubits (stabilises self.old) (single self.old.qubits qubit letter) string.new.letters }
         ensures kept { result ≡ false → string.new ≡ string.old }
     {
-        false
+        let table = &self.table;
+        match letter {
+            Letter::X => {
+                rows::write_exchange(table, table.first_x(InverseRow::OfX, qubit), string)
+            }
+            Letter::Z => {
+                rows::write_exchange(table, table.first_x(InverseRow::OfZ, qubit), string)
+            }
+            Letter::I | Letter::Y => {
+                inverse_rows::copy_into(table, qubit, letter, &mut self.preimage);
+                rows::write_exchange(table, self.preimage.first_x(), string)
+            }
+        }
     }
 }
