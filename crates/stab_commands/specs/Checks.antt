@@ -1,6 +1,6 @@
 -- Checks: the numbers of a circuit, what `check` writes for its items, and how a call of it ends.
 -- Source: this project's own; what is counted, but coins, has Stim's names.
-use Rattle.std.specs.Prelude.{ℕ, Bool, ◌+◌, List, [], ◌∷◌, ◌++◌, length, codes, decimal, ◌≡◌, ◌⊎◌, Result, Ok, Err, if◌then◌else◌}
+use Rattle.std.specs.Prelude.{ℕ, Bool, List, [], ◌∷◌, ◌++◌, length, codes, decimal, ◌≡◌, ◌⊎◌, Result, Ok, Err}
 use Rattle.std.specs.List.{flat_map}
 use Rattle.stab_io.specs.Devices.{InputView, OutputView}
 use Rattle.stab_io.specs.declared.refusal.Refusal.{Refusal}
