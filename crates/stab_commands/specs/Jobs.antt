@@ -31,8 +31,8 @@ NamesNone ends r unsure = (unsure ≡ None) × RefusesNone ends r
 
 -- how the call of a command ends, with coins from the source: whether a line of the script was refused, and which bit was named as one that is not sure
 abbrev pub EndsCommand : Command → Source → InputView → InputView → InputView → InputView → OutputView → OutputView → Result Bool Fault → Option Unsure → Type 0
-EndsCommand (Sample format shots) source i i' s s' o o' r unsure = NamesNone (EndsRun (sample_of format shots source) i i' o o') r unsure
-EndsCommand (Detect format shots append) source i i' s s' o o' r unsure = NamesNone (EndsRun (detect_of format append shots source) i i' o o') r unsure
+EndsCommand (Sample format shots) source i i' s s' o o' r unsure = NamesNone (EndsRun (sample_of format shots.first shots.number source) i i' o o') r unsure
+EndsCommand (Detect format shots append) source i i' s s' o o' r unsure = NamesNone (EndsRun (detect_of format append shots.first shots.number source) i i' o o') r unsure
 EndsCommand Stabilisers source i i' s s' o o' r unsure = NamesNone (EndsStabilisers source i i' o o') r unsure
 EndsCommand Check source i i' s s' o o' r unsure = NamesNone (EndsCheck i i' o o') r unsure
 EndsCommand (Deterministic format) source i i' s s' o o' r unsure = NamesNone (EndsDeterministic format i i' o o') r unsure

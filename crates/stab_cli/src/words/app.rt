@@ -132,6 +132,9 @@ See docs/faults.md. Refusals, by number and name, are explained in docs/refusals
 
 const HELP_SHOTS: &str = "How many shots, from 0 to 1000000";
 
+const HELP_FIRST_SHOT: &str =
+    "Begins at this shot of the seed in place of shot 0, so that a run in parts writes the bytes of one";
+
 const HELP_FORMAT: &str = "The result format, as docs/result-formats.md explains it";
 
 const HELP_LAYOUT: &str = "Writes each fault as a shot in this result format, in place of a line";
@@ -257,6 +260,7 @@ fn shot_command<'a>(
         .about(about)
         .after_help(after_help)
         .arg(numbered(alloc, "shots", 0, Shots::MOST as u64, "1", HELP_SHOTS))?
+        .arg(ranged(alloc, "first_shot", 0, u64::MAX, HELP_FIRST_SHOT))?
         .arg(named(alloc, "out_format", formats, "01", HELP_FORMAT))?;
     with_common(alloc, command)
 }
