@@ -34,3 +34,4 @@ pub use coins::{Coins, ListCoins, SeedCoins};
 pub use records::{Addition, Lengths, Outputs, observables};
 pub use run::{Shot, run_steps};
 pub use sampler::{Sampler, run_once};
+pub use step::write_product;

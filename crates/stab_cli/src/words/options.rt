@@ -150,6 +150,7 @@ fn command(name: &str, options: &ArgMatches) -> Command
             sure_only: flag(options, "sure_only"),
         },
         _ => Command::Edit {
+            framed: flag(options, "framed"),
             qubits: qubits(options),
             stride: stride(options),
         },

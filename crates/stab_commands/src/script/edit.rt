@@ -5,11 +5,13 @@ ghost use Rattle.stab_tableau.specs.Limits.{most_qubits};
 ghost use Rattle.stab_circuit.specs.Steps.{check_within};
 ghost use Rattle.stab_circuit.specs.Views.{circuit_items};
 ghost use Rattle.stab_session.specs.Limits.{most_stride};
+ghost use Rattle.stab_commands.specs.script.Scripts.{opened};
 ghost use Rattle.stab_commands.specs.script.ScriptEndings.{EndsScript, EndsOn, EndsEdit};
 ghost use Rattle.stab_commands.specs.script.ScriptTurns.{TakesTurns, EditsInTurn};
 
 use crate::job::Source;
 use crate::script::editor::{Answer, Editor};
+use crate::script::request::Request;
 use crate::script::session_answers::SessionAnswers;
 use crate::script::watcher::{NoWatcher, Watcher};
 use stab_circuit::{Circuit, read_circuit};
@@ -21,17 +23,20 @@ use std::alloc::Global;
 /// The most bytes of a script.
 const MOST_SCRIPT: usize = 67_108_864;
 
-/// Reads a script to its end, and writes the reply to each request before it reads on.
+/// Reads a script to its end, and writes the reply to each request before it reads on. A framed one
+/// is greeted first.
 pub(crate) fn run_script<A: Answer, S: Input, O: Output, W: Watcher<S, O>>(
     alloc: Global,
     answers: A,
     script: &mut S,
     out: &mut O,
 ) -> Result<bool, Fault>
-    ensures ends { EndsScript (A.setting answers) (A.items answers) (S.seen script.old) (S.seen script.new) (O.seen out.old) (O.seen out.new) result }
-    ensures turns { TakesTurns (A.setting answers) (A.items answers) (S.seen script.old) (S.seen script.new) (O.seen out.old) (W.log script.old) (W.log script.new) }
+    requires opened { A.held answers ≡ opened (A.setting answers) (A.held answers).items }
+    ensures ends { EndsScript (A.setting answers) (A.held answers).items (S.seen script.old) (S.seen script.new) (O.seen out.old) (O.seen out.new) result }
+    ensures turns { TakesTurns (A.setting answers) (A.held answers).items (S.seen script.old) (S.seen script.new) (O.seen out.old) (W.log script.old) (W.log script.new) }
 {
     let mut editor = Editor::new(alloc, answers);
+    editor.tell_request(out, Request::Begin)?;
     let mut buf = [0u8; 4096];
     let mut taken = 0;
     'reads: loop {
@@ -79,6 +84,7 @@ fn open_session<C: Coins>(
 /// Opens a session of the circuit, and answers the script on it.
 fn edit_circuit<C: Coins, S: Input, O: Output, W: Watcher<S, O>>(
     alloc: Global,
+    framed: bool,
     circuit: Circuit,
     n: usize,
     stride: usize,
@@ -89,11 +95,11 @@ fn edit_circuit<C: Coins, S: Input, O: Output, W: Watcher<S, O>>(
     requires in_range { n ≤ most_qubits }
     requires stride_above { 1 ≤ stride }
     requires stride_within { stride ≤ most_stride }
-    ensures ends { EndsOn (record { qubits = n; coins = C.sequence coins }) (circuit_items circuit) (S.seen script.old) (S.seen script.new) (O.seen out.old) (O.seen out.new) result }
-    ensures turns { (script.new ≡ script.old) ⊎ TakesTurns (record { qubits = n; coins = C.sequence coins }) (circuit_items circuit) (S.seen script.old) (S.seen script.new) (O.seen out.old) (W.log script.old) (W.log script.new) }
+    ensures ends { EndsOn (record { framed = framed; qubits = n; coins = C.sequence coins }) (circuit_items circuit) (S.seen script.old) (S.seen script.new) (O.seen out.old) (O.seen out.new) result }
+    ensures turns { (script.new ≡ script.old) ⊎ TakesTurns (record { framed = framed; qubits = n; coins = C.sequence coins }) (circuit_items circuit) (S.seen script.old) (S.seen script.new) (O.seen out.old) (W.log script.old) (W.log script.new) }
 {
     let session = open_session(alloc, circuit, n, stride, coins)?;
-    let answers = SessionAnswers::new(alloc, session);
+    let answers = SessionAnswers::new(alloc, framed, session)?;
     run_script::<SessionAnswers<C>, S, O, W>(alloc, answers, script, out)
 }
 
@@ -107,6 +113,7 @@ pub fn run_edit_watched<I: Input, S: Input, O: Output, W: Watcher<S, O>>(
     circuit_input: &mut I,
     script_input: &mut S,
     out: &mut O,
+    framed: bool,
     qubits: Option<usize>,
     stride: usize,
     source: &Source,
@@ -114,8 +121,8 @@ pub fn run_edit_watched<I: Input, S: Input, O: Output, W: Watcher<S, O>>(
     requires in_range { IfSome qubits (λ n. n ≤ most_qubits) }
     requires stride_above { 1 ≤ stride }
     requires stride_within { stride ≤ most_stride }
-    ensures ends { EndsEdit qubits source.now (I.seen circuit_input.old) (I.seen circuit_input.new) (S.seen script_input.old) (S.seen script_input.new) (O.seen out.old) (O.seen out.new) result }
-    ensures turns { EditsInTurn qubits source.now (I.seen circuit_input.old) (I.seen circuit_input.new) (S.seen script_input.old) (S.seen script_input.new) (O.seen out.old) (W.log script_input.old) (W.log script_input.new) }
+    ensures ends { EndsEdit framed qubits source.now (I.seen circuit_input.old) (I.seen circuit_input.new) (S.seen script_input.old) (S.seen script_input.new) (O.seen out.old) (O.seen out.new) result }
+    ensures turns { EditsInTurn framed qubits source.now (I.seen circuit_input.old) (I.seen circuit_input.new) (S.seen script_input.old) (S.seen script_input.new) (O.seen out.old) (W.log script_input.old) (W.log script_input.new) }
 {
     let circuit = read_circuit(alloc, circuit_input)?;
     let n = match qubits {
@@ -125,11 +132,29 @@ pub fn run_edit_watched<I: Input, S: Input, O: Output, W: Watcher<S, O>>(
     match source {
         Source::Seed(seed) => {
             let coins = SeedCoins::new(*seed, 0);
-            edit_circuit::<SeedCoins, S, O, W>(alloc, circuit, n, stride, coins, script_input, out)
+            edit_circuit::<SeedCoins, S, O, W>(
+                alloc,
+                framed,
+                circuit,
+                n,
+                stride,
+                coins,
+                script_input,
+                out,
+            )
         }
         Source::List(list) => {
             let coins = ListCoins::new(list.as_slice());
-            edit_circuit::<ListCoins, S, O, W>(alloc, circuit, n, stride, coins, script_input, out)
+            edit_circuit::<ListCoins, S, O, W>(
+                alloc,
+                framed,
+                circuit,
+                n,
+                stride,
+                coins,
+                script_input,
+                out,
+            )
         }
     }
 }
@@ -138,7 +163,9 @@ pub fn run_edit_watched<I: Input, S: Input, O: Output, W: Watcher<S, O>>(
 /// line is read.
 ///
 /// The circuit is read whole first; its faults, and `QubitOutOfRange` where it names a qubit past
-/// those asked for, leave the script unread and the output untouched. It has as many qubits as are
+/// those asked for, leave the script unread and the output untouched. A framed script is greeted by a
+/// line of numbers, each reply says first how many lines it has, and some lines are requests that are
+/// refused in any other. The circuit has as many qubits as are
 /// asked for, at most 1,024, or as it names. The stride is from 1 to 65,536. Coins are those of shot
 /// 0. True where a line was refused. Faults: those of the circuit; `ReadFault` where an input
 /// failed and `TooLong` for a script of more than 67,108,864 bytes, both after exactly the replies
@@ -149,6 +176,7 @@ pub fn run_edit<I: Input, S: Input, O: Output>(
     circuit_input: &mut I,
     script_input: &mut S,
     out: &mut O,
+    framed: bool,
     qubits: Option<usize>,
     stride: usize,
     source: &Source,
@@ -156,13 +184,14 @@ pub fn run_edit<I: Input, S: Input, O: Output>(
     requires in_range { IfSome qubits (λ n. n ≤ most_qubits) }
     requires stride_above { 1 ≤ stride }
     requires stride_within { stride ≤ most_stride }
-    ensures ends { EndsEdit qubits source.now (I.seen circuit_input.old) (I.seen circuit_input.new) (S.seen script_input.old) (S.seen script_input.new) (O.seen out.old) (O.seen out.new) result }
+    ensures ends { EndsEdit framed qubits source.now (I.seen circuit_input.old) (I.seen circuit_input.new) (S.seen script_input.old) (S.seen script_input.new) (O.seen out.old) (O.seen out.new) result }
 {
     run_edit_watched::<I, S, O, NoWatcher>(
         alloc,
         circuit_input,
         script_input,
         out,
+        framed,
         qubits,
         stride,
         source,
