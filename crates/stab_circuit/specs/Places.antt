@@ -1,6 +1,7 @@
 -- Places: the item at the place of a path.
 -- Source: this project's own.
-use Rattle.std.specs.Prelude.{ℕ, List, [], ◌∷◌, slice_get, Option, Some, None, Result, Ok, Err}
+use Rattle.std.specs.Prelude.{◌≡◌, ℕ, List, [], ◌∷◌, slice_get, Option, Some, None, Result, Ok, Err}
+use Rattle.std.specs.Borrow.{Bor}
 use Rattle.stab_io.specs.declared.refusal.Refusal.{Refusal}
 use Rattle.stab_io.specs.declared.refusal.Refusal.TheVariants.{PlaceOutOfRange, NotABlock}
 use Rattle.stab_circuit.specs.Items.{OneItem, operation, repeat, entries}
@@ -25,3 +26,8 @@ item_in (b ∷ bs) place xs = found_inside (item_in bs place) (slice_get xs b)
 -- the item at the place of a path, or why the path leads to none
 abbrev pub item_at : Path → List OneItem → Result OneItem Refusal
 item_at path xs = item_in path.blocks path.place xs
+
+-- the call gave the item that the definition gives, or refused as it does
+abbrev pub FindsItem : Result (Bor OneItem) Refusal → Result OneItem Refusal → Type 0
+FindsItem (Ok found) given = given ≡ Ok found.now
+FindsItem (Err r) given = given ≡ Err r

@@ -23,7 +23,7 @@ use Rattle.stab_commands.specs.Stabilisers.{lines_of}
 use Rattle.stab_circuit.specs.Places.{item_at}
 use Rattle.stab_commands.specs.script.ScriptWords.{first_word, behind_word, place_of, Gathered, more, is_nothing}
 use Rattle.stab_commands.specs.script.FramedRequests.{FramedRequest, mark, numbers, changed, changed_records, sign, item, framed_show}
-use Rattle.stab_commands.specs.script.FramedReplies.{reply_text, made_text, greeting, numbers_of, numbers_line}
+use Rattle.stab_commands.specs.script.FramedReplies.{reply_text, made_text, greeting, session_numbers, numbers_line}
 use Rattle.stab_commands.specs.script.Changes.{Mark, mark_of, no_mark, changed_text, changed_records_text}
 use Rattle.stab_commands.specs.script.Signs.{string_of_word, sign_in, sign_line}
 use Rattle.stab_commands.specs.declared.script.request.ItemEdit.{ItemEdit}
@@ -297,7 +297,7 @@ item_shown (Err r) = Err r
 -- what only a framed script is shown of what is held and its run, or why not
 abbrev pub framed_shown : ℕ → State → Held → FramedRequest → Result (List ℕ) Refusal
 framed_shown n run held mark = Ok []
-framed_shown n run held numbers = Ok (numbers_line (numbers_of n run held.items))
+framed_shown n run held numbers = Ok (numbers_line (session_numbers n run held.items))
 framed_shown n run held changed = Ok (changed_text held.mark run)
 framed_shown n run held changed_records = Ok (changed_records_text held.mark run)
 framed_shown n run held (sign word) = sign_shown run (string_of_word n word)
@@ -320,7 +320,7 @@ framed_answer true n run held request = shown_or_refused true held (held_behind 
 
 -- the answer to a request, where this is held
 abbrev pub IsAnswer : Setting → Held → Request → Answer → Type 0
-IsAnswer s held begin a = a ≡ replying held (greeting s.framed (numbers_of s.qubits (run_held s held) held.items))
+IsAnswer s held begin a = a ≡ replying held (greeting s.framed (session_numbers s.qubits (run_held s held) held.items))
 IsAnswer s held (put how place text) a = IsPut s.framed held (λ item. edited_items s.qubits (edit_of how place item) held.items) text a
 IsAnswer s held (delete place) a = a ≡ decided s.framed held (edited_items s.qubits (circuit_edit.Delete place) held.items)
 IsAnswer s held (show what) a = (text : List ℕ) × Shows s.qubits (run_held s held) held.items what text × (a ≡ replying held (reply_text s.framed text))

@@ -56,7 +56,7 @@ pub(crate) fn push_changes(
     let places = old.len().min(new.len());
     bits.reserve(places)?;
     'places: for place in 0..places {
-        bits.push(old[place] != new[place])?;
+        bits.push(old[place] ^ new[place])?;
     }
     Ok(())
 }

@@ -1,5 +1,5 @@
 //! The command that edits a circuit by a script.
-ghost use Rattle.std.specs.Prelude.{◌≡◌, ◌≤◌, ◌⊎◌, IfOk, IfSome, IfErr};
+ghost use Rattle.std.specs.Prelude.{◌≡◌, ◌≤◌, ◌⊎◌, None, false, IfOk, IfSome, IfErr, OnOk};
 ghost use Rattle.stab_io.specs.Refusals.{IsCallFault};
 ghost use Rattle.stab_tableau.specs.Limits.{most_qubits};
 ghost use Rattle.stab_circuit.specs.Steps.{check_within};
@@ -73,6 +73,7 @@ fn open_session<C: Coins>(
     ensures qubits { IfOk result (λ s. s.qubits ≡ n) }
     ensures stride { IfOk result (λ s. s.stride ≡ stride) }
     ensures coins { IfOk result (λ s. C.sequence s.coins ≡ C.sequence coins) }
+    ensures accepted { OnOk result (check_within n (circuit_items circuit) ≡ None) }
     ensures refused { IfErr result (IsCallFault (check_within n (circuit_items circuit))) }
 {
     match Session::open(alloc, circuit, n, stride, coins) {
@@ -108,6 +109,9 @@ fn edit_circuit<C: Coins, S: Input, O: Output, W: Watcher<S, O>>(
 ///
 /// Where the script's input keeps a log, each read of it found exactly the replies written to what
 /// was handed over before, in whole lines, behind what the output held at first.
+///
+/// A framed script is one that a program drives: it is greeted by a line of numbers before it is
+/// read, each reply that is no refusal says first how many lines it has, and it may ask for more.
 pub fn run_edit_watched<I: Input, S: Input, O: Output, W: Watcher<S, O>>(
     alloc: Global,
     circuit_input: &mut I,
@@ -163,9 +167,7 @@ pub fn run_edit_watched<I: Input, S: Input, O: Output, W: Watcher<S, O>>(
 /// line is read.
 ///
 /// The circuit is read whole first; its faults, and `QubitOutOfRange` where it names a qubit past
-/// those asked for, leave the script unread and the output untouched. A framed script is greeted by a
-/// line of numbers, each reply says first how many lines it has, and some lines are requests that are
-/// refused in any other. The circuit has as many qubits as are
+/// those asked for, leave the script unread and the output untouched. It has as many qubits as are
 /// asked for, at most 1,024, or as it names. The stride is from 1 to 65,536. Coins are those of shot
 /// 0. True where a line was refused. Faults: those of the circuit; `ReadFault` where an input
 /// failed and `TooLong` for a script of more than 67,108,864 bytes, both after exactly the replies
@@ -176,7 +178,6 @@ pub fn run_edit<I: Input, S: Input, O: Output>(
     circuit_input: &mut I,
     script_input: &mut S,
     out: &mut O,
-    framed: bool,
     qubits: Option<usize>,
     stride: usize,
     source: &Source,
@@ -184,14 +185,14 @@ pub fn run_edit<I: Input, S: Input, O: Output>(
     requires in_range { IfSome qubits (λ n. n ≤ most_qubits) }
     requires stride_above { 1 ≤ stride }
     requires stride_within { stride ≤ most_stride }
-    ensures ends { EndsEdit framed qubits source.now (I.seen circuit_input.old) (I.seen circuit_input.new) (S.seen script_input.old) (S.seen script_input.new) (O.seen out.old) (O.seen out.new) result }
+    ensures ends { EndsEdit false qubits source.now (I.seen circuit_input.old) (I.seen circuit_input.new) (S.seen script_input.old) (S.seen script_input.new) (O.seen out.old) (O.seen out.new) result }
 {
     run_edit_watched::<I, S, O, NoWatcher>(
         alloc,
         circuit_input,
         script_input,
         out,
-        framed,
+        false,
         qubits,
         stride,
         source,

@@ -24,6 +24,17 @@ use stab_results::{Format, Kinds, write_shot};
 use std::alloc::Global;
 use std::marker::Model;
 
+/// The numbers of a session: of its qubits, and of the steps, records, detectors and observables of its
+/// run.
+#[derive(Clone, Copy)]
+pub(crate) struct SessionNumbers {
+    pub(crate) qubits: usize,
+    pub(crate) steps: usize,
+    pub(crate) records: usize,
+    pub(crate) detectors: usize,
+    pub(crate) observables: usize,
+}
+
 /// A reply while it is gathered: an output in memory that grows, and fails where memory is refused.
 /// Contracts see it as the output that it is.
 #[derive(Drop)]
@@ -107,6 +118,7 @@ impl Reply {
     }
 
     /// The reply that is no refusal with this text: a framed one says first how many lines it has.
+    #[tactic(auto, using(crate::proofs::FramedReplyLaws::told_text))]
     pub(crate) fn told(self, alloc: Global, framed: bool) -> Result<Reply, Fault>
         ensures written { IfOk result (λ r. r.written ≡ reply_text framed self.written) }
         ensures err { IfErr result (λ f. f ≡ whole OutOfMemory) }
@@ -120,7 +132,8 @@ impl Reply {
     }
 
     /// The first line of a framed script's replies, which no other has.
-    pub(crate) fn greeting(alloc: Global, framed: bool, numbers: [usize; 5]) -> Result<Reply, Fault>
+    #[tactic(auto, using(crate::proofs::FramedReplyLaws::greeting_text))]
+    pub(crate) fn greeting(alloc: Global, framed: bool, numbers: SessionNumbers) -> Result<Reply, Fault>
         ensures written { IfOk result (λ r. r.written ≡ greeting_of framed numbers) }
         ensures err { IfErr result (λ f. f ≡ whole OutOfMemory) }
     {
@@ -132,30 +145,27 @@ impl Reply {
     }
 
     /// A line of numbers.
-    pub(crate) fn numbers(alloc: Global, numbers: [usize; 5]) -> Result<Reply, Fault>
+    pub(crate) fn numbers(alloc: Global, numbers: SessionNumbers) -> Result<Reply, Fault>
         ensures written { IfOk result (λ r. r.written ≡ numbers_line numbers) }
         ensures err { IfErr result (λ f. f ≡ whole OutOfMemory) }
     {
-        let mut digits = [
-            itoa::Buffer::new(),
-            itoa::Buffer::new(),
-            itoa::Buffer::new(),
-            itoa::Buffer::new(),
-            itoa::Buffer::new(),
-        ];
-        let [a, b, c, d, e] = &mut digits;
+        let mut qubits = itoa::Buffer::new();
+        let mut steps = itoa::Buffer::new();
+        let mut records = itoa::Buffer::new();
+        let mut detectors = itoa::Buffer::new();
+        let mut observables = itoa::Buffer::new();
         Reply::of(
             alloc,
             &[
-                a.format(numbers[0]).as_bytes(),
+                qubits.format(numbers.qubits).as_bytes(),
                 b" ",
-                b.format(numbers[1]).as_bytes(),
+                steps.format(numbers.steps).as_bytes(),
                 b" ",
-                c.format(numbers[2]).as_bytes(),
+                records.format(numbers.records).as_bytes(),
                 b" ",
-                d.format(numbers[3]).as_bytes(),
+                detectors.format(numbers.detectors).as_bytes(),
                 b" ",
-                e.format(numbers[4]).as_bytes(),
+                observables.format(numbers.observables).as_bytes(),
                 b"\n",
             ],
         )
@@ -199,6 +209,7 @@ impl Reply {
     }
 
     /// A line of the entries of 1 bits.
+    #[tactic(auto, using(crate::proofs::FramedReplyLaws::one_text_joined, crate::proofs::FramedReplyLaws::no_entry, crate::proofs::FramedReplyLaws::some_entry))]
     pub(crate) fn entries(alloc: Global, kinds: Kinds, bits: &[bool]) -> Result<Reply, Fault>
         requires within { detectors_of kinds ≤ length bits.now }
         ensures written { IfOk result (λ r. r.written ≡ entries_line kinds bits.now) }
@@ -215,6 +226,7 @@ impl Reply {
     }
 
     /// Appends a line of two numbers of bits, where these differ.
+    #[tactic(auto, using(crate::proofs::FramedReplyLaws::nothing_behind))]
     pub(crate) fn add_count(&mut self, name: &[u8], old: &[bool], new: &[bool]) -> Result<(), Fault>
         ensures written { OnOk result (self.new.written ≡ self.old.written ++ count_line name.now old.now new.now) }
         ensures err { IfErr result (λ f. f ≡ whole OutOfMemory) }

@@ -3,12 +3,13 @@ ghost use Rattle.std.specs.Prelude.{◌≡◌, IfOk, IfErr};
 ghost use Rattle.stab_io.specs.Refusals.{whole};
 ghost use Rattle.stab_io.specs.declared.refusal.Refusal.TheVariants.{OutOfMemory};
 ghost use Rattle.stab_commands.specs.script.Changes.{mark_of};
+ghost use Rattle.stab_commands.specs.script.Scripts.{first_mark as first_mark_of};
 ghost use Rattle.stab_commands.specs.inner.SessionAnswers.{mark_shown, session_run};
 
 use crate::script::changes::{MarkedBits, push_changes};
 use crate::script::editor::{Answer, Answered};
 use crate::script::framed::FramedRequest;
-use crate::script::reply::Reply;
+use crate::script::reply::{Reply, SessionNumbers};
 use crate::script::request::{ItemEdit, Request, Show};
 use crate::script::signs::read_string;
 use stab_circuit::{Item, Path, read_item};
@@ -36,9 +37,9 @@ impl<C: Coins> SessionAnswers<C> {
     ghost use Rattle.stab_circuit.specs.Places.{item_at};
     ghost use Rattle.stab_commands.specs.FaultLines.{refused_text};
     ghost use Rattle.stab_commands.specs.script.Changes.{changed_text, changed_records_text, mark_of};
-    ghost use Rattle.stab_commands.specs.script.FramedReplies.{numbers_of, reply_text};
+    ghost use Rattle.stab_commands.specs.script.FramedReplies.{session_numbers, reply_text};
     ghost use Rattle.stab_commands.specs.script.Signs.{string_of_word};
-    ghost use Rattle.stab_commands.specs.script.Scripts.{IsPut, decided, edited_items, edit_of, first_mark, framed_answer, framed_shown, held_behind, item_shown, sign_shown};
+    ghost use Rattle.stab_commands.specs.script.Scripts.{IsPut, decided, edited_items, edit_of, first_mark as first_mark_of, framed_answer, framed_shown, held_behind, item_shown, sign_shown};
     ghost use Rattle.stab_commands.specs.inner.FramedAnswers.{GivesText};
     ghost use Rattle.stab_commands.specs.inner.Requests.{framed_asked};
     ghost use Rattle.stab_commands.specs.inner.SessionAnswers.{ShowsOf, session_setting, session_run, mark_shown, held_of, answered};
@@ -53,14 +54,10 @@ impl<C: Coins> SessionAnswers<C> {
     ) -> Result<SessionAnswers<C>, Fault>
         ensures session { IfOk result (λ a. a.session ≡ session) }
         ensures framed { IfOk result (λ a. a.framed ≡ framed) }
-        ensures mark { IfOk result (λ a. mark_shown a.mark ≡ first_mark framed (session_run C.sequence session)) }
+        ensures mark { IfOk result (λ a. mark_shown a.mark ≡ first_mark_of framed (session_run C.sequence session)) }
         ensures err { IfErr result (λ f. f ≡ whole OutOfMemory) }
     {
-        let mark = if framed {
-            mark_at(alloc, &session)?
-        } else {
-            MarkedBits::none(alloc)
-        };
+        let mark = first_mark(alloc, framed, &session)?;
         Ok(SessionAnswers {
             alloc,
             framed,
@@ -71,7 +68,9 @@ impl<C: Coins> SessionAnswers<C> {
 
     /// The reduced rows of the session's group.
     fn show_rows(&mut self) -> Result<Reply, Fault>
-        ensures unchanged { self.new ≡ self.old }
+        ensures session { self.new.session ≡ self.old.session }
+        ensures framed { self.new.framed ≡ self.old.framed }
+        ensures mark { self.new.mark ≡ self.old.mark }
         ensures shows { IfOk result (λ r. ShowsOf C.sequence self.old.session Stabilisers r.written) }
         ensures err { IfErr result (λ f. f ≡ whole OutOfMemory) }
     {
@@ -85,7 +84,9 @@ impl<C: Coins> SessionAnswers<C> {
 
     /// What `show` writes of the session.
     fn show(&mut self, what: Show) -> Result<Reply, Fault>
-        ensures unchanged { self.new ≡ self.old }
+        ensures session { self.new.session ≡ self.old.session }
+        ensures framed { self.new.framed ≡ self.old.framed }
+        ensures mark { self.new.mark ≡ self.old.mark }
         ensures shows { IfOk result (λ r. ShowsOf C.sequence self.old.session what r.written) }
         ensures err { IfErr result (λ f. f ≡ whole OutOfMemory) }
     {
@@ -100,16 +101,16 @@ impl<C: Coins> SessionAnswers<C> {
     }
 
     /// The numbers of the session.
-    fn numbers(&self) -> [usize; 5]
-        ensures value { result ≡ numbers_of self.now.session.qubits (session_run C.sequence self.now.session) self.now.session.items }
+    fn numbers(&self) -> SessionNumbers
+        ensures value { result ≡ session_numbers self.now.session.qubits (session_run C.sequence self.now.session) self.now.session.items }
     {
-        [
-            self.session.qubits(),
-            self.session.circuit().steps(),
-            self.session.records().len(),
-            self.session.detectors().len(),
-            self.session.observables().len(),
-        ]
+        SessionNumbers {
+            qubits: self.session.qubits(),
+            steps: self.session.circuit().steps(),
+            records: self.session.records().len(),
+            detectors: self.session.detectors().len(),
+            observables: self.session.observables().len(),
+        }
     }
 
     /// What changed of detectors and observables.
@@ -148,7 +149,9 @@ impl<C: Coins> SessionAnswers<C> {
 
     /// The sign of the string of a word.
     fn sign(&mut self, word: &[u8]) -> Result<Reply, Refusal>
-        ensures unchanged { self.new ≡ self.old }
+        ensures session { self.new.session ≡ self.old.session }
+        ensures framed { self.new.framed ≡ self.old.framed }
+        ensures mark { self.new.mark ≡ self.old.mark }
         ensures shows { GivesText result (sign_shown (session_run C.sequence self.old.session) (string_of_word self.old.session.qubits word.now)) }
     {
         let string = read_string(self.alloc, self.session.qubits(), word)?;
@@ -288,6 +291,21 @@ fn mark_at<C: Coins>(alloc: Global, session: &Session<C>) -> Result<MarkedBits, 
     let detectors = session.detectors();
     let mark = MarkedBits::of(alloc, records, detectors, session.observables())?;
     Ok(mark)
+}
+
+/// The mark before a script, which only a framed one has.
+fn first_mark<C: Coins>(
+    alloc: Global,
+    framed: bool,
+    session: &Session<C>,
+) -> Result<MarkedBits, Fault>
+    ensures value { IfOk result (λ m. mark_shown m ≡ first_mark_of framed (session_run C.sequence session.now)) }
+    ensures err { IfErr result (λ f. f ≡ whole OutOfMemory) }
+{
+    if framed {
+        return mark_at(alloc, session);
+    }
+    Ok(MarkedBits::none(alloc))
 }
 
 /// A reply that only want of memory refuses.

@@ -61,7 +61,7 @@ fn is_inverted(factors: &[Factor]) -> bool
 {
     let mut inverted = false;
     for factor in factors {
-        inverted = inverted != factor.inverted;
+        inverted ^= factor.inverted;
     }
     inverted
 }
