@@ -1,7 +1,7 @@
 -- Laws of answers from a session: what its calls say is what scripts are answered.
-use Rattle.std.proofs.Common.{◌≡◌, ◌≢◌, ℕ, Bool, true, false, nat_lt, min, length, if◌then◌else◌, List, refl, sym, ap, ◌∙◌, codes, Option, Some, None, Result, Ok, Err, inl, inr}
+use Rattle.std.proofs.Common.{◌≡◌, ◌≢◌, ℕ, Bool, true, false, min, length, List, refl, sym, ap, ◌∙◌, codes, Option, Some, None, Result, Ok, Err, inl, inr}
 use Rattle.stab_io.specs.declared.refusal.Refusal.{Refusal}
-use Rattle.stab_io.specs.declared.refusal.Refusal.TheVariants.{OutOfMemory, QubitOutOfRange}
+use Rattle.stab_io.specs.declared.refusal.Refusal.TheVariants.{OutOfMemory}
 use Rattle.stab_io.specs.declared.refusal.Fault.{Fault}
 use Rattle.stab_io.specs.Refusals.{whole, IsCallFault}
 use Rattle.stab_circuit.specs.Items.{Items, OneItem, listed, entries}
@@ -10,11 +10,12 @@ use Rattle.stab_circuit.specs.Edits.{edited, verdict, list_verdict}
 use Rattle.stab_circuit.proofs.EditLemmas.{listed-entries}
 use Rattle.stab_session.specs.Sessions.{SessionState}
 use Rattle.stab_session.specs.SessionEdits.{IsEditedBy, IsAsBefore}
-use Rattle.stab_circuit.specs.Steps.{unroll, steps_cap, check_of, check_within, qubits_of}
+use Rattle.stab_circuit.specs.Steps.{unroll, steps_cap, check_within}
 use Rattle.stab_circuit.specs.Readings.{ReadsItem}
 use Rattle.stab_run.specs.Runs.{State, run_of}
 use Rattle.stab_commands.specs.declared.script.reply.SessionNumbers.{SessionNumbers}
 use Rattle.stab_commands.specs.script.FramedRequests.{FramedRequest}
+use Rattle.stab_run.proofs.FitLemmas.{check-whole}
 use Rattle.stab_commands.proofs.CheckLaws.{steps_counted}
 use Rattle.stab_commands.specs.FaultLines.{refused_text}
 use Rattle.stab_commands.specs.script.Scripts.{Setting, Held, first_mark, opened, unless, judged, decided, refusing, IsPut, framed_shown, held_behind, shown_or_refused, framed_answer}
@@ -88,17 +89,9 @@ pub put_refused : (kept : Bool) (held : Held) (after : OneItem → Result Items 
 put_refused kept held after text f reply refused (inl memory) some same true_is = absurd (some (ap (λ (g : Fault). g.refusal) memory))
 put_refused kept held after text f reply refused (inr fault) some same true_is = inl (f, fault, same_refusal f.refusal refl same true_is)
 
--- what nothing refuses on so many qubits nothing refuses without them
-within_checked : (n : ℕ) (items : Items) → check_within n items ≡ None → check_of items ≡ None
-within_checked n items e = by_test (nat_lt n (qubits_of items)) refl
-  where
-    by_test : (b : Bool) → nat_lt n (qubits_of items) ≡ b → check_of items ≡ None
-    by_test true f = absurd (let refused : check_within n items ≡ Some QubitOutOfRange = ap (λ b. if b then Some QubitOutOfRange else check_of items) f in cc)
-    by_test false f = sym (ap (λ b. if b then Some QubitOutOfRange else check_of items) f) ∙ e
-
 -- the steps of a circuit that nothing refuses are counted to the end
 pub steps_told : (n k : ℕ) (items : Items) → check_within n items ≡ None → k ≡ min (length (unroll items)) steps_cap → k ≡ length (unroll items)
-steps_told n k items e f = f ∙ steps_counted items (within_checked n items e)
+steps_told n k items e f = f ∙ steps_counted items (check-whole n items e)
 
 abbrev numbers_with : (q t r d o : ℕ) → SessionNumbers
 numbers_with q t r d o = record { qubits = q; steps = t; records = r; detectors = d; observables = o }

@@ -46,6 +46,7 @@ impl MarkedBits {
 }
 
 /// Appends, for each place that both lists have, whether their bits differ there.
+#[tactic(auto, using(crate::proofs::ChangeLaws::changes_more, crate::proofs::ChangeLaws::changes_all))]
 pub(crate) fn push_changes(
     bits: &mut Vec<bool>,
     old: &[bool],

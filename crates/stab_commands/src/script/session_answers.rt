@@ -101,6 +101,7 @@ impl<C: Coins> SessionAnswers<C> {
     }
 
     /// The numbers of the session.
+    #[tactic(auto, using(crate::proofs::SessionAnswerLaws::steps_told))]
     fn numbers(&self) -> SessionNumbers
         ensures value { result ≡ session_numbers self.now.session.qubits (session_run C.sequence self.now.session) self.now.session.items }
     {
@@ -197,6 +198,7 @@ impl<C: Coins> SessionAnswers<C> {
     }
 
     /// The answer to what only a framed script may ask for.
+    #[tactic(auto, using(crate::proofs::SessionAnswerLaws::told_framed, crate::proofs::SessionAnswerLaws::refused_framed))]
     fn answer_framed(&mut self, request: &FramedRequest) -> Result<Answered, Fault>
         ensures setting { OnOk result (session_setting C.sequence self.new.framed self.new.session ≡ session_setting C.sequence self.old.framed self.old.session) }
         ensures answers { IfOk result (λ a. answered (held_of self.new.session self.new.mark) a.reply.written a.refused ≡ framed_answer self.old.framed self.old.session.qubits (session_run C.sequence self.old.session) (held_of self.old.session self.old.mark) (framed_asked request.now)) }

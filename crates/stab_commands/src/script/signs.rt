@@ -1,5 +1,5 @@
 //! The Pauli strings of words.
-ghost use Rattle.std.specs.Prelude.{◌≡◌, ◌<◌, All, length};
+ghost use Rattle.std.specs.Prelude.{◌≡◌, ◌<◌, All, IfOk, length};
 ghost use Rattle.std.specs.List.{list_all};
 ghost use Rattle.stab_lines.specs.Results.{Gives};
 ghost use Rattle.stab_circuit.specs.Steps.{is_inverted as inverted_of};
@@ -33,17 +33,22 @@ fn is_letter(byte: u8) -> bool
 fn letter_at(byte: u8) -> Letter
     ensures value { result ≡ letter_of byte }
 {
-    match byte {
-        b'X' => Letter::X,
-        b'Y' => Letter::Y,
-        b'Z' => Letter::Z,
-        _ => Letter::I,
+    if byte == b'X' {
+        Letter::X
+    } else if byte == b'Y' {
+        Letter::Y
+    } else if byte == b'Z' {
+        Letter::Z
+    } else {
+        Letter::I
     }
 }
 
 /// The string of one letter for each qubit.
+#[tactic(auto, using(crate::proofs::SignLaws::letters_more, crate::proofs::SignLaws::letters_all))]
 fn read_letters(alloc: Global, n: usize, word: &[u8]) -> Result<Pauli, Refusal>
     ensures gives { Gives result (lettered n word.now) }
+    ensures size { IfOk result (λ p. length p.letters ≡ n) }
 {
     if word.len() != n {
         return Err(Refusal::BadTarget);
@@ -67,8 +72,10 @@ fn is_inverted(factors: &[Factor]) -> bool
 }
 
 /// The string of factors, where all are on qubits below n.
+#[tactic(auto, using(crate::proofs::SignLaws::all_within))]
 fn string_of_factors(alloc: Global, n: usize, factors: &[Factor]) -> Result<Pauli, Refusal>
     ensures gives { Gives result (string_within n factors.now) }
+    ensures size { IfOk result (λ p. length p.letters ≡ n) }
 {
     if !factors.iter().all(|f| f.qubit.number() < n) {
         return Err(Refusal::QubitOutOfRange);
@@ -82,6 +89,7 @@ fn string_of_factors(alloc: Global, n: usize, factors: &[Factor]) -> Result<Paul
 /// The string of letters, or of a product.
 fn read_string_without_sign(alloc: Global, n: usize, word: &[u8]) -> Result<Pauli, Refusal>
     ensures gives { Gives result (string_without_sign n word.now) }
+    ensures size { IfOk result (λ p. length p.letters ≡ n) }
 {
     if word.iter().all(|b| is_letter(*b)) {
         return read_letters(alloc, n, word);
@@ -98,6 +106,7 @@ fn read_string_without_sign(alloc: Global, n: usize, word: &[u8]) -> Result<Paul
 #[tactic(auto, unfolding(crate::specs::script::Signs::string_of_word))]
 pub(crate) fn read_string(alloc: Global, n: usize, word: &[u8]) -> Result<Pauli, Refusal>
     ensures gives { Gives result (string_of_word n word.now) }
+    ensures size { IfOk result (λ p. length p.letters ≡ n) }
 {
     let mut string = read_string_without_sign(alloc, n, unsigned(word))?;
     string.negate_if(starts_with(word, b'-'));
