@@ -22,7 +22,7 @@ use Rattle.stab_run.specs.Laws.{IsSoundRun, RunsAreSound}
 use Rattle.stab_results.specs.Formats.{f01_bytes}
 use Rattle.stab_circuit.specs.Prints.{printed}
 use Rattle.stab_commands.specs.Stabilisers.{lines_of}
-use Rattle.stab_commands.specs.script.Scripts.{Setting, Request, begin, put, delete, show, framed, refuse, Held, run_held, opened, Answer, IsPut, Shows, IsAnswer, IsAnswerToAll, both, unless, judged, decided, refusing, replying, edit_of, edited_items, framed_shown, held_behind, shown_or_refused, framed_answer}
+use Rattle.stab_commands.specs.script.Scripts.{Setting, Request, begin, put, delete, show, ask, refuse, Held, run_held, opened, Answer, IsPut, Shows, IsAnswer, IsAnswerToAll, both, unless, judged, decided, refusing, replying, edit_of, edited_items, framed_shown, held_behind, shown_or_refused, framed_answer}
 use Rattle.stab_commands.specs.script.FramedReplies.{reply_text, greeting, session_numbers}
 use Rattle.stab_commands.specs.script.FramedRequests.{FramedRequest, mark, numbers, changed, changed_records, sign, item}
 use Rattle.stab_commands.specs.script.ScriptLaws.{CanBeEdited}
@@ -128,7 +128,7 @@ module _ (meanings : ItemTextsHaveOneMeaning) (lines : ItemTextsAreLines) (edits
   request_answered s held (show what) can =
       let shown = text_shown some one s.qubits s.coins held.items (sound s.qubits s.coins can.0.0 held.items can.0.1 can.1) what in
       (replying held (reply_text s.framed shown.0), (shown.0, shown.1, refl), can)
-  request_answered s held (framed r) can = (
+  request_answered s held (ask r) can = (
     framed_answer s.framed s.qubits (run_held s held) held r,
     refl,
     subst (λ (x : Items). CanBeEdited s.qubits x) (sym (framed_keeps s.framed s.qubits (run_held s held) held r)) can,

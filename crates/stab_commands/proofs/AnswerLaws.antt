@@ -6,7 +6,7 @@ use Rattle.stab_circuit.specs.Items.{Items, OneItem}
 use Rattle.stab_circuit.specs.Circuits.{item_fault, StandsForOne}
 use Rattle.stab_circuit.specs.Laws.{ItemTextsHaveOneMeaning}
 use Rattle.stab_run.specs.Runs.{State}
-use Rattle.stab_commands.specs.script.Scripts.{Setting, Request, begin, put, delete, show, framed, refuse, Held, run_held, Answer, IsPut, Shows, IsAnswer, IsAnswerToAll, both, decided, refusing, replying, edit_of, edited_items}
+use Rattle.stab_commands.specs.script.Scripts.{Setting, Request, begin, put, delete, show, ask, refuse, Held, run_held, Answer, IsPut, Shows, IsAnswer, IsAnswerToAll, both, decided, refusing, replying, edit_of, edited_items}
 use Rattle.stab_commands.specs.script.FramedReplies.{reply_text}
 use Rattle.stab_commands.specs.Stabilisers.{lines_of}
 use Rattle.stab_commands.specs.declared.script.request.Show.{Show}
@@ -45,7 +45,7 @@ one_answer law s held (put edit place text) a b p q = one_put law s.framed held 
 one_answer law s held (delete place) a b p q = q ∙ sym p
 one_answer law s held (show what) a b p q =
     q.2 ∙ ap (λ l. replying held (reply_text s.framed l)) (one_text s.qubits (run_held s held) held.items what p.0 q.0 p.1 q.1) ∙ sym p.2
-one_answer law s held (framed request) a b p q = q ∙ sym p
+one_answer law s held (ask request) a b p q = q ∙ sym p
 one_answer law s held (refuse r) a b p q = q ∙ sym p
 
 -- requests, however many, have one answer

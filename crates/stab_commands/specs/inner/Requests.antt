@@ -1,7 +1,7 @@
 -- Requests: what contracts see of the code's own forms of requests and of what is gathered.
 -- Source: this project's own.
 use Rattle.std.specs.Prelude.{List, ℕ, [], ◌∷◌, Option, Some, None}
-use Rattle.stab_commands.specs.script.Scripts.{Request, begin, put, delete, show, framed, refuse, Gathering}
+use Rattle.stab_commands.specs.script.Scripts.{Request, begin, put, delete, show, ask, refuse, Gathering}
 use Rattle.stab_commands.specs.script.FramedRequests.{FramedRequest, mark, numbers, changed, changed_records, sign, item}
 use Rattle.stab_commands.specs.declared.script.framed.FramedRequest.{FramedRequest as FramedAsked}
 use Rattle.stab_commands.specs.declared.script.framed.FramedRequest.TheVariants as framed_asks
@@ -28,7 +28,7 @@ request_asked asks.Begin = begin
 request_asked (asks.Put edit place text) = put edit place text.items
 request_asked (asks.Delete place) = delete place
 request_asked (asks.Show what) = show what
-request_asked (asks.Framed request) = framed (framed_asked request)
+request_asked (asks.Framed request) = ask (framed_asked request)
 request_asked (asks.Refuse r) = refuse r
 
 -- the request, where there is one

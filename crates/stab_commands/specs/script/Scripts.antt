@@ -38,7 +38,7 @@ pub data Request : Type 0 where
   put : ItemEdit → (place : Path) → (text : List ℕ) → Request
   delete : (place : Path) → Request
   show : Show → Request
-  framed : FramedRequest → Request
+  ask : FramedRequest → Request
   refuse : Refusal → Request
 
 -- an edit that puts in an item, where there are a place and a text
@@ -54,11 +54,11 @@ delete_at (Some place) text = if length text == 0 then delete place else refuse 
 -- what only a framed script asks for, where it asks for anything
 abbrev pub framed_of : Option FramedRequest → Request
 framed_of None = refuse BadCommand
-framed_of (Some request) = framed request
+framed_of (Some request) = ask request
 
 -- that changes are counted from now on, where nothing stands behind the word
 abbrev pub mark_at : (rest : List ℕ) → Request
-mark_at rest = if length rest == 0 then framed mark else refuse BadCommand
+mark_at rest = if length rest == 0 then ask mark else refuse BadCommand
 
 -- what the words behind `show` ask for
 abbrev pub show_of : List ℕ → Request
@@ -324,7 +324,7 @@ IsAnswer s held begin a = a ≡ replying held (greeting s.framed (session_number
 IsAnswer s held (put how place text) a = IsPut s.framed held (λ item. edited_items s.qubits (edit_of how place item) held.items) text a
 IsAnswer s held (delete place) a = a ≡ decided s.framed held (edited_items s.qubits (circuit_edit.Delete place) held.items)
 IsAnswer s held (show what) a = (text : List ℕ) × Shows s.qubits (run_held s held) held.items what text × (a ≡ replying held (reply_text s.framed text))
-IsAnswer s held (framed request) a = a ≡ framed_answer s.framed s.qubits (run_held s held) held request
+IsAnswer s held (ask request) a = a ≡ framed_answer s.framed s.qubits (run_held s held) held request
 IsAnswer s held (refuse r) a = a ≡ refusing held r
 
 -- first one answer, then the other

@@ -1,5 +1,6 @@
 //! The bits at a mark, and what changed since.
 ghost use Rattle.std.specs.Prelude.{◌≡◌, ◌++◌, OnOk};
+ghost use Rattle.stab_pauli.specs.Letters.{◌⊕◌};
 ghost use Rattle.stab_commands.specs.script.Changes.{changes as changes_of};
 
 use std::alloc::{AllocError, Global};
@@ -45,6 +46,13 @@ impl MarkedBits {
     }
 }
 
+/// Whether two bits differ.
+fn differ(first: bool, second: bool) -> bool
+    ensures value { result ≡ first ⊕ second }
+{
+    first ^ second
+}
+
 /// Appends, for each place that both lists have, whether their bits differ there.
 #[tactic(auto, using(crate::proofs::ChangeLaws::changes_more, crate::proofs::ChangeLaws::changes_all))]
 pub(crate) fn push_changes(
@@ -57,7 +65,7 @@ pub(crate) fn push_changes(
     let places = old.len().min(new.len());
     bits.reserve(places)?;
     'places: for place in 0..places {
-        bits.push(old[place] ^ new[place])?;
+        bits.push(differ(old[place], new[place]))?;
     }
     Ok(())
 }
