@@ -15,7 +15,7 @@ _stabsim() {
         sample) choices="--shots --first_shot --out_format --seed --coins --coins_in --in --out --help" ;;
         detect) choices="--shots --first_shot --out_format --seed --coins --coins_in --in --out --append_observables --help" ;;
         stabilisers | stabilizers) choices="--seed --coins --coins_in --in --out --help" ;;
-        edit) choices="--qubits --stride --seed --coins --coins_in --in --out --help" ;;
+        edit) choices="--framed --qubits --stride --seed --coins --coins_in --in --out --help" ;;
         check) choices="--in --out --help" ;;
         deterministic) choices="--out_format --in --out --help" ;;
         faults) choices="--out_format --everywhere --sure_only --in --out --help" ;;

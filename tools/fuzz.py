@@ -106,7 +106,7 @@ def session_of(items, settings):
     qubits = numbers.qubits(items) if settings["qubits"] is None else settings["qubits"]
     if numbers.qubits(items) > qubits:
         raise Refused(6)
-    return SmallSession(items, qubits, lambda steps: coins_of(settings, 0, steps))
+    return SmallSession(items, qubits, lambda steps: coins_of(settings, 0, steps), settings["framed"])
 
 
 def expected(case):
@@ -173,7 +173,7 @@ def settings_of(dice):
         "first_shot": first_shot,
         "format": dice.choice(formats.FORMATS), "append": dice.random() < 0.5,
         "qubits": dice.choice((None, None, 0, 1, 2, 3, 4)), "stride": dice.choice((1, 1, 2, 3, 7, 8192, 65536)),
-        "in_shots": dice.random() < 0.3, "everywhere": dice.random() < 0.6, "sure_only": dice.random() < 0.6,
+        "framed": dice.random() < 0.5, "in_shots": dice.random() < 0.3, "everywhere": dice.random() < 0.6, "sure_only": dice.random() < 0.6,
     }
 
 
@@ -198,7 +198,7 @@ def words_of(kind, settings):
     if kind == "detect" and settings["append"]:
         words.append("--append_observables")
     if kind == "edit":
-        words += ["--stride", str(settings["stride"])]
+        words += ["--stride", str(settings["stride"]), *(["--framed"] if settings["framed"] else [])]
         words += [] if settings["qubits"] is None else ["--qubits", str(settings["qubits"])]
     return words
 

@@ -89,8 +89,8 @@ IsCommand name options (Deterministic format) = (name ≡ codes "deterministic")
 IsCommand name options (Faults layout everywhere sure_only) =
     (name ≡ codes "faults") × IsLayout (first_of (codes "out_format") options) layout
     × IsSet (one_of (codes "everywhere") options) everywhere × IsSet (one_of (codes "sure_only") options) sure_only
-IsCommand name options (Edit qubits stride) =
-    (name ≡ codes "edit") × IsWrittenIfGiven 0 most_qubits (one_of (codes "qubits") options) qubits × IsWritten 1 most_stride (one_of (codes "stride") options) stride
+IsCommand name options (Edit framed qubits stride) =
+    (name ≡ codes "edit") × IsSet (one_of (codes "framed") options) framed × IsWrittenIfGiven 0 most_qubits (one_of (codes "qubits") options) qubits × IsWritten 1 most_stride (one_of (codes "stride") options) stride
 
 -- a job is what a command's name and options say
 pub record IsJob (name : Text) (options : List Row) (job : Job) : Type 0 where

@@ -81,7 +81,7 @@ stabilisers = record (new_shape (codes "stabilisers")) { aliases = codes "stabil
 
 -- the command `edit`
 abbrev pub edit : Shape
-edit = record (new_shape (codes "edit")) { rules = ranged (codes "qubits") 0 most_qubits ∷ numbered (codes "stride") 1 most_stride (codes "8192") ∷ common_options }
+edit = record (new_shape (codes "edit")) { rules = ranged (codes "qubits") 0 most_qubits ∷ numbered (codes "stride") 1 most_stride (codes "8192") ∷ flag (codes "framed") ∷ common_options }
 
 -- the command `check`, which takes no coins
 abbrev pub check : Shape

@@ -206,8 +206,9 @@ pub enum Command {
         sure_only: bool,
     },
     /// Edits the circuit by a script, on so many qubits or on as many as it names, and writes the
-    /// replies.
+    /// replies, framed where a program is to read them.
     Edit {
+        framed: bool,
         qubits: Option<QubitCount>,
         stride: Stride,
     },

@@ -89,11 +89,16 @@ fn run_command<I: Input, S: Input, O: Output, W: Watcher<S, O>>(
             everywhere,
             sure_only,
         } => refuses_none(run_faults(alloc, input, out, layout, everywhere, sure_only)),
-        Command::Edit { qubits, stride } => names_none(run_edit_watched::<I, S, O, W>(
+        Command::Edit {
+            framed,
+            qubits,
+            stride,
+        } => names_none(run_edit_watched::<I, S, O, W>(
             alloc,
             input,
             script,
             out,
+            framed,
             number_of(qubits),
             stride.steps(),
             source,

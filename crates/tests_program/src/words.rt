@@ -156,23 +156,27 @@ const JOBS: [(&[&str], &str); 47] = [
     ),
     (
         &["stabsim", "edit"],
-        "Edit { qubits: None, stride: Stride { steps: 8192 } } Seed(0) None None",
+        "Edit { framed: false, qubits: None, stride: Stride { steps: 8192 } } Seed(0) None None",
     ),
     (
         &["stabsim", "edit", "--qubits", "0"],
-        "Edit { qubits: Some(QubitCount { number: 0 }), stride: Stride { steps: 8192 } } Seed(0) None None",
+        "Edit { framed: false, qubits: Some(QubitCount { number: 0 }), stride: Stride { steps: 8192 } } Seed(0) None None",
     ),
     (
         &["stabsim", "edit", "--qubits", "0017"],
-        "Edit { qubits: Some(QubitCount { number: 17 }), stride: Stride { steps: 8192 } } Seed(0) None None",
+        "Edit { framed: false, qubits: Some(QubitCount { number: 17 }), stride: Stride { steps: 8192 } } Seed(0) None None",
     ),
     (
         &["stabsim", "edit", "--stride=1", "--qubits=1024"],
-        "Edit { qubits: Some(QubitCount { number: 1024 }), stride: Stride { steps: 1 } } Seed(0) None None",
+        "Edit { framed: false, qubits: Some(QubitCount { number: 1024 }), stride: Stride { steps: 1 } } Seed(0) None None",
+    ),
+    (
+        &["stabsim", "edit", "--framed"],
+        "Edit { framed: true, qubits: None, stride: Stride { steps: 8192 } } Seed(0) None None",
     ),
     (
         &["stabsim", "edit", "--stride", "65536"],
-        "Edit { qubits: None, stride: Stride { steps: 65536 } } Seed(0) None None",
+        "Edit { framed: false, qubits: None, stride: Stride { steps: 65536 } } Seed(0) None None",
     ),
     (
         &[
@@ -184,7 +188,7 @@ const JOBS: [(&[&str], &str); 47] = [
             "--in",
             "a.stim",
         ],
-        "Edit { qubits: None, stride: Stride { steps: 8192 } } Seed(34) Some(\"a.stim\") Some(\"b/c.01\")",
+        "Edit { framed: false, qubits: None, stride: Stride { steps: 8192 } } Seed(34) Some(\"a.stim\") Some(\"b/c.01\")",
     ),
     (&["stabsim", "stabilisers"], "Stabilisers Seed(0) None None"),
     (

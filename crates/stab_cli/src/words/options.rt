@@ -186,6 +186,7 @@ fn command(alloc: Global, name: &str, options: &ArgMatches) -> Result<Command, U
             sure_only: flag(options, "sure_only"),
         },
         _ => Command::Edit {
+            framed: flag(options, "framed"),
             qubits: qubits(options),
             stride: stride(options),
         },
