@@ -1,0 +1,308 @@
+"""An editing session: one process of `stabsim edit --framed`, which answers each line by a reply of a told length."""
+
+import subprocess
+import tempfile
+import threading
+from collections.abc import Callable
+from dataclasses import dataclass, field
+from types import TracebackType
+
+import numpy as np
+from numpy.typing import NDArray
+
+from stabsim import bits, program
+from stabsim.errors import Refused, SessionEnded
+from stabsim.history import Change, History
+from stabsim.script import Path, edit_lines, path_text
+
+Bits = NDArray[np.bool_]
+Places = NDArray[np.int64]
+
+# The form of replies that this module reads.
+FRAMED_VERSION = 1
+
+# How long a process may take to end once its script has ended.
+LAST_SECONDS = 5.0
+
+
+@dataclass(frozen=True)
+class SessionNumbers:
+    """How many of each thing the circuit has, as it is now; of qubits, as many as the session has."""
+
+    qubits: int
+    steps: int
+    records: int
+    detectors: int
+    observables: int
+
+
+@dataclass(frozen=True)
+class Place:
+    """Where an item stands once blocks are written out: the first of its steps, how many they are, and so on."""
+
+    first_step: int
+    steps: int
+    first_record: int
+    records: int
+    first_detector: int
+    detectors: int
+    first_coin: int
+    coins: int
+
+
+@dataclass(frozen=True)
+class Changed:
+    """What differs from the mark, place by place: numbers of detectors, observables and records, int64 (changed,) each.
+
+    lengths has, for each of the three whose number of places has changed, that number at the mark and now.
+    """
+
+    detectors: Places
+    observables: Places
+    records: Places
+    lengths: dict[str, tuple[int, int]] = field(default_factory=dict)
+
+
+class Session:
+    """A circuit that is run, kept, and changed by edits. Made by `Circuit.edit`.
+
+    It is a context manager, and its process ends with it. One thread at a time uses it. An edit that is refused raises
+    stabsim.Refused and changes nothing. Where the process has ended, or was interrupted in a reply, every call raises
+    stabsim.SessionEnded.
+    """
+
+    def __init__(self, text: str, *, qubits: int | None = None, seed: int = 0, stride: int | None = None) -> None:
+        words = ["edit", "--framed", "--seed", str(seed)]
+        words += [] if qubits is None else ["--qubits", str(qubits)]
+        words += [] if stride is None else ["--stride", str(stride)]
+        self.lock = threading.Lock()
+        self.ended: str | None = None
+        self.history = History()
+        self.program = program.find_program()
+        with tempfile.NamedTemporaryFile(prefix="stabsim-", suffix=".stim") as file:
+            file.write(text.encode())
+            file.flush()
+            self.process = subprocess.Popen([self.program, *words, "--in", file.name], stdin=subprocess.PIPE,
+                                            stdout=subprocess.PIPE, stderr=subprocess.PIPE)
+            self.await_ready()
+
+    def __repr__(self) -> str:
+        state = "ended" if self.ended else "closed" if self.process.poll() is not None else f"process {self.process.pid}"
+        return f"<stabsim.Session: {state}, {len(self.history.done)} edits to undo>"
+
+    def __enter__(self) -> "Session":
+        return self
+
+    def __exit__(self, kind: type[BaseException] | None, fault: BaseException | None, trace: TracebackType | None) -> None:
+        self.close()
+
+    def close(self) -> None:
+        """Ends the session and its process. A session that has ended stays so."""
+        self.ended = self.ended or "it was closed"
+        self.end_process()
+        for pipe in (self.process.stdout, self.process.stderr):
+            if pipe:
+                pipe.close()
+
+    # Edits.
+
+    def insert(self, path: Path, text: str) -> None:
+        """Puts an item, one instruction or one whole block, in front of the one at the path, or behind all of its list."""
+        at = path_text(path)
+        self.change(Change([edit_lines(f"insert {at}", text)], [f"delete {at}\n".encode()]))
+
+    def replace(self, path: Path, text: str) -> None:
+        """Puts an item in the stead of the one at the path."""
+        at = path_text(path)
+        self.change(Change([edit_lines(f"replace {at}", text)], [edit_lines(f"replace {at}", self.old_item(at))]))
+
+    def delete(self, path: Path) -> None:
+        """Takes the item at the path out."""
+        at = path_text(path)
+        self.change(Change([f"delete {at}\n".encode()], [edit_lines(f"insert {at}", self.old_item(at))]))
+
+    def undo(self) -> bool:
+        """Takes the last edit back, by the edit that is its inverse; False where there is none."""
+        return self.retrace(self.history.last_done(), self.history.undone)
+
+    def redo(self) -> bool:
+        """Makes the edit again that was last taken back; False where there is none."""
+        return self.retrace(self.history.last_undone(), self.history.redone)
+
+    # Questions.
+
+    def numbers(self) -> SessionNumbers:
+        """How many qubits, steps, records, detectors and observables there are now."""
+        return SessionNumbers(*map(int, self.line("show numbers").split()))
+
+    @property
+    def records(self) -> Bits:
+        """The records, bool (records,)."""
+        return bits.of_text(self.line("show measurements"))
+
+    @property
+    def free(self) -> Bits:
+        """For each measured target or product and each reset whether its coin decided the outcome, bool (coins,)."""
+        return bits.of_text(self.line("show free"))
+
+    @property
+    def detectors(self) -> Bits:
+        """The detectors, bool (detectors,): raw parities of records."""
+        return bits.of_text(self.line("show detectors"))
+
+    @property
+    def observables(self) -> Bits:
+        """The observables, bool (observables,)."""
+        return bits.of_text(self.line("show observables"))
+
+    @property
+    def deterministic(self) -> Bits:
+        """Which detectors, and behind them which observables, are the same for all coins, bool (detectors + observables,)."""
+        return bits.of_text(self.line("show deterministic"))
+
+    @property
+    def stabilisers(self) -> list[str]:
+        """The reduced rows of the group that stabilises the state behind the circuit: a signed string for each qubit."""
+        return [line.decode() for line in self.ask(b"show stabilisers\n")]
+
+    @property
+    def circuit(self) -> str:
+        """The text of the circuit as it is now."""
+        return "".join(line.decode() + "\n" for line in self.ask(b"show circuit\n"))
+
+    def item(self, path: Path) -> str:
+        """The text of the item at the path."""
+        return "".join(line.decode() + "\n" for line in self.ask(f"show item {path_text(path)}\n".encode()))
+
+    def place(self, path: Path) -> Place:
+        """The unrolled steps, records, detectors and coin numbers of the item at the path."""
+        return Place(*map(int, self.line(f"show place {path_text(path)}").split()))
+
+    def sign(self, pauli: str) -> int:
+        """1 where the string, as X0*Z3 or -X0 or with a letter for each qubit, stabilises the state, -1 where its negative
+        does, 0 where neither does."""
+        return {b"+": 1, b"-": -1, b"0": 0}[self.line(f"show sign {pauli}")]
+
+    def mark(self) -> None:
+        """From here on `changed` counts; the opening is the first mark."""
+        self.ask(b"mark\n")
+
+    def changed(self, *, records: bool = False) -> Changed:
+        """What differs from the mark: detectors and observables, and records where they are asked for."""
+        lines = self.ask(b"show changed\n") + (self.ask(b"show changed records\n") if records else [])
+        places: dict[str, list[int]] = {"D": [], "L": [], "M": []}
+        lengths = {}
+        for line in lines:
+            words = line.decode().split()
+            if words and words[0] in ("detectors", "observables", "records"):
+                lengths[words[0]] = (int(words[1]), int(words[2]))
+            else:
+                for word in words:
+                    places[word[0]].append(int(word[1:]))
+        found = {kind: np.array(numbers, dtype=np.int64) for kind, numbers in places.items()}
+        return Changed(found["D"], found["L"], found["M"], lengths)
+
+    # The process.
+
+    def change(self, change: Change) -> None:
+        """Makes an edit, and keeps how to take it back."""
+        for lines in change.forth:
+            self.ask(lines)
+        self.history.add(change)
+
+    def retrace(self, way: list[bytes] | None, moved: Callable[[], None]) -> bool:
+        """Makes the edits of a change backwards or forwards again."""
+        if way is None:
+            return False
+        for lines in way:
+            self.ask(lines)
+        moved()
+        return True
+
+    def old_item(self, path: str) -> str:
+        """The text of an item that an edit is to take out; where there is none the edit itself is refused."""
+        try:
+            return self.item(path)
+        except Refused:
+            return ""
+
+    def line(self, request: str) -> bytes:
+        """The reply of one line to a question."""
+        if "\n" in request:
+            raise ValueError("a question is one line")
+        lines = self.ask(request.encode() + b"\n")
+        if len(lines) != 1:
+            raise self.broken(f"{request} was answered by {len(lines)} lines")
+        return lines[0]
+
+    def ask(self, request: bytes) -> list[bytes]:
+        """The lines of the reply to one request; raises Refused where it is one."""
+        if not self.lock.acquire(blocking=False):
+            raise RuntimeError("another thread is in a call of this session")
+        try:
+            if self.ended:
+                raise SessionEnded(f"the session has ended: {self.ended}")
+            return self.reply(request)
+        except (Refused, SessionEnded):
+            raise
+        except BaseException as fault:
+            # What was sent or read so far is not known, so no later reply could be told from this one.
+            self.ended = self.ended or f"a call was broken off: {fault!r}"
+            raise
+        finally:
+            self.lock.release()
+
+    def reply(self, request: bytes) -> list[bytes]:
+        """Sends a request and reads its reply."""
+        assert self.process.stdin
+        try:
+            self.process.stdin.write(request)
+            self.process.stdin.flush()
+        except BrokenPipeError:
+            raise self.broken("its process takes no more lines") from None
+        words = self.read_line().split()
+        if len(words) == 2 and words[0] == b"ok":
+            return [self.read_line() for _ in range(int(words[1]))]
+        if len(words) == 3 and words[0] == b"refused":
+            raise Refused(int(words[1]), words[2].decode())
+        raise self.broken(f"it said {b' '.join(words)!r}, which is no reply")
+
+    def read_line(self) -> bytes:
+        assert self.process.stdout
+        line = self.process.stdout.readline()
+        if not line.endswith(b"\n"):
+            raise self.broken("its process ended in a reply")
+        return line[:-1]
+
+    def await_ready(self) -> None:
+        """Reads the first line, `ready 1 ..`; raises what the circuit is refused by."""
+        try:
+            words = self.read_line().split()
+        except SessionEnded as fault:
+            raise fault.__cause__ or fault from None
+        if words[:2] != [b"ready", str(FRAMED_VERSION).encode()]:
+            self.close()
+            raise SessionEnded(f"{self.program} said {b' '.join(words)!r} in place of `ready {FRAMED_VERSION}`")
+
+    def end_process(self) -> int:
+        """Ends the script, waits for the process to end by that, or else ends it, and answers its status."""
+        assert self.process.stdin
+        try:
+            self.process.stdin.close()
+        except BrokenPipeError:
+            pass
+        try:
+            return self.process.wait(timeout=LAST_SECONDS)
+        except subprocess.TimeoutExpired:
+            self.process.kill()
+            return self.process.wait()
+
+    def broken(self, why: str) -> SessionEnded:
+        """Ends the session, and says why, with what the process said at its end."""
+        assert self.process.stderr
+        status = self.end_process()
+        said = self.process.stderr.read().decode(errors="replace")
+        self.ended = f"{why} (status {status}{': ' + said.strip() if said.strip() else ''})"
+        ended = SessionEnded(f"the session has ended: {self.ended}")
+        ended.__cause__ = program.failure(self.program, status, said)
+        return ended
