@@ -87,8 +87,7 @@ class Session:
             self.await_ready()
 
     def __repr__(self) -> str:
-        state = "ended" if self.ended else "closed" if self.process.poll() is not None else f"process {self.process.pid}"
-        return f"<stabsim.Session: {state}, {len(self.history.done)} edits to undo>"
+        return f"<stabsim.Session: {self.ended or f'process {self.process.pid}'}, {len(self.history.done)} edits to undo>"
 
     def __enter__(self) -> "Session":
         return self
@@ -120,6 +119,27 @@ class Session:
         """Takes the item at the path out."""
         at = path_text(path)
         self.change(Change([f"delete {at}\n".encode()], [edit_lines(f"insert {at}", self.old_item(at))]))
+
+    def split(self, path: Path, round: int) -> None:
+        """Makes of the block at the path the rounds before one of them, that round by itself, and the rounds behind it, so that one
+        round can be edited; rounds are counted from 0. The steps stay as they are, so nothing is run."""
+        at = path_text(path)
+        old = self.old_item(at)
+        self.ask(f"split {at} {round}\n".encode())
+        self.history.add(Change([f"split {at} {round}\n".encode()], self.lines_to_join(at, round, old)))
+
+    def lines_to_join(self, at: str, round: int, old: str) -> list[bytes]:
+        """The edits that put a block in the stead of the parts that it was split into.
+
+        It takes the place of the first part, and then the other parts are deleted: at no time are there fewer records than before, so
+        no lookback is refused. Where the steps of both together are too many, the first edit is refused, and nothing has changed.
+        """
+        opening, body = old.split("\n", 1)
+        count = int(opening.split()[1])
+        parts = (round > 0) + 1 + (round < count - 1)
+        *outer, place = at.split("/")
+        behind = "/".join([*outer, str(int(place) + 1)])
+        return [edit_lines(f"replace {at}", old)] + (parts - 1) * [f"delete {behind}\n".encode()]
 
     def undo(self) -> bool:
         """Takes the last edit back, by the edit that is its inverse; False where there is none."""
@@ -214,8 +234,13 @@ class Session:
         """Makes the edits of a change backwards or forwards again."""
         if way is None:
             return False
-        for lines in way:
-            self.ask(lines)
+        for number, lines in enumerate(way):
+            try:
+                self.ask(lines)
+            except Refused as refused:
+                if number:
+                    self.ended = f"an edit was taken back in part: {refused}"
+                raise
         moved()
         return True
 

@@ -11,13 +11,13 @@ import stabsim
 from stabsim import codes, shot_parts
 
 CIRCUIT = stabsim.Circuit(codes.surface_code(3, 2).replace("R 1", "R 1 1"))
-SHOTS = 1000
+SHOTS = 150
 
 
 def test_parts_join_to_the_shots_of_one_run():
     whole = CIRCUIT.sample(SHOTS, seed=8)
     with ThreadPoolExecutor(3) as executor:
-        for parts in (1, 7, 64, 5000):
+        for parts in (1, 7, 64, 500):
             assert np.array_equal(CIRCUIT.sample(SHOTS, seed=8, executor=executor, parts=parts), whole)
 
 
