@@ -101,7 +101,8 @@ class Circuit:
         both = self.shots("detect_both", has.detectors + has.observables, shots, seed, first_shot, executor, parts)
         return both[:, : has.detectors], both[:, has.detectors :]
 
-    def shots(self, what: shot_parts.What, width: int, shots: int, seed: int, first_shot: int, executor: Executor | None, count: int) -> Bits:
+    def shots(self, what: shot_parts.What, width: int, shots: int, seed: int, first_shot: int,
+              executor: Executor | None, count: int) -> Bits:
         """Shots of so many bits, from one run of the program or from several."""
         asked = shot_parts.Shots(self.text, what, seed, first_shot, shots)
         return bits.of_b8(shot_parts.bytes_of(asked, executor, count), shots, width)

@@ -10,7 +10,7 @@ from dataclasses import dataclass, field
 import numpy as np
 from numpy.typing import NDArray
 
-from stabsim.reading import Block, Instruction, Item, items_of
+from stabsim.reading import Block, Item, items_of
 
 # The names of the instructions that coordinates come of.
 NAMES = ("DETECTOR", "QUBIT_COORDS", "SHIFT_COORDS")

@@ -1,8 +1,5 @@
-"""An editing session: one process of `stabsim edit --framed`, which answers each line by a reply of a told length."""
+"""An editing session: a circuit that is run and kept, its edits, and what is asked of it."""
 
-import subprocess
-import tempfile
-import threading
 from collections.abc import Callable
 from dataclasses import dataclass, field
 from types import TracebackType
@@ -10,19 +7,14 @@ from types import TracebackType
 import numpy as np
 from numpy.typing import NDArray
 
-from stabsim import bits, program
-from stabsim.errors import Refused, SessionEnded
+from stabsim import bits
+from stabsim.errors import Refused
+from stabsim.framed import FramedProcess
 from stabsim.history import Change, History
 from stabsim.script import Path, edit_lines, path_text
 
 Bits = NDArray[np.bool_]
 Places = NDArray[np.int64]
-
-# The form of replies that this module reads.
-FRAMED_VERSION = 1
-
-# How long a process may take to end once its script has ended.
-LAST_SECONDS = 5.0
 
 
 @dataclass(frozen=True)
@@ -72,22 +64,15 @@ class Session:
     """
 
     def __init__(self, text: str, *, qubits: int | None = None, seed: int = 0, stride: int | None = None) -> None:
-        words = ["edit", "--framed", "--seed", str(seed)]
+        words = ["--seed", str(seed)]
         words += [] if qubits is None else ["--qubits", str(qubits)]
         words += [] if stride is None else ["--stride", str(stride)]
-        self.lock = threading.Lock()
-        self.ended: str | None = None
         self.history = History()
-        self.program = program.find_program()
-        with tempfile.NamedTemporaryFile(prefix="stabsim-", suffix=".stim") as file:
-            file.write(text.encode())
-            file.flush()
-            self.process = subprocess.Popen([self.program, *words, "--in", file.name], stdin=subprocess.PIPE,
-                                            stdout=subprocess.PIPE, stderr=subprocess.PIPE)
-            self.await_ready()
+        self.process = FramedProcess(words, text)
 
     def __repr__(self) -> str:
-        return f"<stabsim.Session: {self.ended or f'process {self.process.pid}'}, {len(self.history.done)} edits to undo>"
+        state = self.process.ended or f"process {self.process.number}"
+        return f"<stabsim.Session: {state}, {len(self.history.done)} edits to undo>"
 
     def __enter__(self) -> "Session":
         return self
@@ -97,11 +82,7 @@ class Session:
 
     def close(self) -> None:
         """Ends the session and its process. A session that has ended stays so."""
-        self.ended = self.ended or "it was closed"
-        self.end_process()
-        for pipe in (self.process.stdout, self.process.stderr):
-            if pipe:
-                pipe.close()
+        self.process.close()
 
     # Edits.
 
@@ -125,7 +106,7 @@ class Session:
         round can be edited; rounds are counted from 0. The steps stay as they are, so nothing is run."""
         at = path_text(path)
         old = self.old_item(at)
-        self.ask(f"split {at} {round}\n".encode())
+        self.process.ask(f"split {at} {round}\n".encode())
         self.history.add(Change([f"split {at} {round}\n".encode()], self.lines_to_join(at, round, old)))
 
     def lines_to_join(self, at: str, round: int, old: str) -> list[bytes]:
@@ -183,16 +164,16 @@ class Session:
     @property
     def stabilisers(self) -> list[str]:
         """The reduced rows of the group that stabilises the state behind the circuit: a signed string for each qubit."""
-        return [line.decode() for line in self.ask(b"show stabilisers\n")]
+        return [line.decode() for line in self.process.ask(b"show stabilisers\n")]
 
     @property
     def circuit(self) -> str:
         """The text of the circuit as it is now."""
-        return "".join(line.decode() + "\n" for line in self.ask(b"show circuit\n"))
+        return "".join(line.decode() + "\n" for line in self.process.ask(b"show circuit\n"))
 
     def item(self, path: Path) -> str:
         """The text of the item at the path."""
-        return "".join(line.decode() + "\n" for line in self.ask(f"show item {path_text(path)}\n".encode()))
+        return "".join(line.decode() + "\n" for line in self.process.ask(f"show item {path_text(path)}\n".encode()))
 
     def place(self, path: Path) -> Place:
         """The unrolled steps, records, detectors and coin numbers of the item at the path."""
@@ -205,11 +186,11 @@ class Session:
 
     def mark(self) -> None:
         """From here on `changed` counts; the opening is the first mark."""
-        self.ask(b"mark\n")
+        self.process.ask(b"mark\n")
 
     def changed(self, *, records: bool = False) -> Changed:
         """What differs from the mark: detectors and observables, and records where they are asked for."""
-        lines = self.ask(b"show changed\n") + (self.ask(b"show changed records\n") if records else [])
+        lines = self.process.ask(b"show changed\n") + (self.process.ask(b"show changed records\n") if records else [])
         places: dict[str, list[int]] = {"D": [], "L": [], "M": []}
         lengths = {}
         for line in lines:
@@ -222,12 +203,12 @@ class Session:
         found = {kind: np.array(numbers, dtype=np.int64) for kind, numbers in places.items()}
         return Changed(found["D"], found["L"], found["M"], lengths)
 
-    # The process.
+    # How edits are kept.
 
     def change(self, change: Change) -> None:
         """Makes an edit, and keeps how to take it back."""
         for lines in change.forth:
-            self.ask(lines)
+            self.process.ask(lines)
         self.history.add(change)
 
     def retrace(self, way: list[bytes] | None, moved: Callable[[], None]) -> bool:
@@ -236,10 +217,10 @@ class Session:
             return False
         for number, lines in enumerate(way):
             try:
-                self.ask(lines)
+                self.process.ask(lines)
             except Refused as refused:
                 if number:
-                    self.ended = f"an edit was taken back in part: {refused}"
+                    self.process.ended = f"an edit was taken back in part: {refused}"
                 raise
         moved()
         return True
@@ -255,79 +236,7 @@ class Session:
         """The reply of one line to a question."""
         if "\n" in request:
             raise ValueError("a question is one line")
-        lines = self.ask(request.encode() + b"\n")
+        lines = self.process.ask(request.encode() + b"\n")
         if len(lines) != 1:
-            raise self.broken(f"{request} was answered by {len(lines)} lines")
+            raise self.process.broken(f"{request} was answered by {len(lines)} lines")
         return lines[0]
-
-    def ask(self, request: bytes) -> list[bytes]:
-        """The lines of the reply to one request; raises Refused where it is one."""
-        if not self.lock.acquire(blocking=False):
-            raise RuntimeError("another thread is in a call of this session")
-        try:
-            if self.ended:
-                raise SessionEnded(f"the session has ended: {self.ended}")
-            return self.reply(request)
-        except (Refused, SessionEnded):
-            raise
-        except BaseException as fault:
-            # What was sent or read so far is not known, so no later reply could be told from this one.
-            self.ended = self.ended or f"a call was broken off: {fault!r}"
-            raise
-        finally:
-            self.lock.release()
-
-    def reply(self, request: bytes) -> list[bytes]:
-        """Sends a request and reads its reply."""
-        assert self.process.stdin
-        try:
-            self.process.stdin.write(request)
-            self.process.stdin.flush()
-        except BrokenPipeError:
-            raise self.broken("its process takes no more lines") from None
-        words = self.read_line().split()
-        if len(words) == 2 and words[0] == b"ok":
-            return [self.read_line() for _ in range(int(words[1]))]
-        if len(words) == 3 and words[0] == b"refused":
-            raise Refused(int(words[1]), words[2].decode())
-        raise self.broken(f"it said {b' '.join(words)!r}, which is no reply")
-
-    def read_line(self) -> bytes:
-        assert self.process.stdout
-        line = self.process.stdout.readline()
-        if not line.endswith(b"\n"):
-            raise self.broken("its process ended in a reply")
-        return line[:-1]
-
-    def await_ready(self) -> None:
-        """Reads the first line, `ready 1 ..`; raises what the circuit is refused by."""
-        try:
-            words = self.read_line().split()
-        except SessionEnded as fault:
-            raise fault.__cause__ or fault from None
-        if words[:2] != [b"ready", str(FRAMED_VERSION).encode()]:
-            self.close()
-            raise SessionEnded(f"{self.program} said {b' '.join(words)!r} in place of `ready {FRAMED_VERSION}`")
-
-    def end_process(self) -> int:
-        """Ends the script, waits for the process to end by that, or else ends it, and answers its status."""
-        assert self.process.stdin
-        try:
-            self.process.stdin.close()
-        except BrokenPipeError:
-            pass
-        try:
-            return self.process.wait(timeout=LAST_SECONDS)
-        except subprocess.TimeoutExpired:
-            self.process.kill()
-            return self.process.wait()
-
-    def broken(self, why: str) -> SessionEnded:
-        """Ends the session, and says why, with what the process said at its end."""
-        assert self.process.stderr
-        status = self.end_process()
-        said = self.process.stderr.read().decode(errors="replace")
-        self.ended = f"{why} (status {status}{': ' + said.strip() if said.strip() else ''})"
-        ended = SessionEnded(f"the session has ended: {self.ended}")
-        ended.__cause__ = program.failure(self.program, status, said)
-        return ended

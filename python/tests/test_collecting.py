@@ -3,14 +3,11 @@
 import csv
 import multiprocessing
 import os
-import pathlib
 import signal
 import subprocess
 import sys
-import time
 from concurrent.futures import ProcessPoolExecutor, ThreadPoolExecutor
 
-import numpy as np
 import pytest
 import stabsim
 from stabsim import codes

@@ -230,7 +230,7 @@ def process_ends(number):
 
 def test_a_session_ends_its_process():
     with stabsim.Circuit("M 0\n").edit() as session:
-        process = session.process.pid
+        process = session.process.number
         assert process_runs(process) and str(process) in repr(session)
     assert process_ends(process) and "closed" in repr(session)
     for _ in range(2):
@@ -241,8 +241,8 @@ def test_a_session_ends_its_process():
 
 def test_a_session_whose_process_was_killed_says_so_at_each_call():
     session = stabsim.Circuit("M 0\n").edit()
-    os.kill(session.process.pid, signal.SIGKILL)
-    session.process.wait()
+    os.kill(session.process.number, signal.SIGKILL)
+    session.process.process.wait()
     for _ in range(3):
         with pytest.raises(stabsim.SessionEnded, match="status -9"):
             session.insert(0, "X 0")
@@ -254,7 +254,7 @@ def test_a_call_that_is_broken_off_ends_the_session(monkeypatch):
         def interrupted():
             raise KeyboardInterrupt
 
-        monkeypatch.setattr(session, "read_line", interrupted)
+        monkeypatch.setattr(session.process, "read_line", interrupted)
         with pytest.raises(KeyboardInterrupt):
             session.detectors
         monkeypatch.undo()
@@ -263,7 +263,7 @@ def test_a_call_that_is_broken_off_ends_the_session(monkeypatch):
 
 
 def test_two_threads_at_once_are_told():
-    with stabsim.Circuit("M 0\n").edit() as session, session.lock:
+    with stabsim.Circuit("M 0\n").edit() as session, session.process.lock:
         found = []
 
         def ask():
@@ -281,7 +281,7 @@ def test_two_threads_at_once_are_told():
 DRIVER = """
 import stabsim, time
 session = stabsim.Circuit("M 0\\n").edit()
-print(session.process.pid, flush=True)
+print(session.process.number, flush=True)
 while True:
     session.insert(0, "X 0")
     session.delete(0)
