@@ -49,7 +49,7 @@ class Circuit:
     @classmethod
     def from_file(cls, path: str | PathLike[str]) -> "Circuit":
         """The circuit whose text a file has now."""
-        return cls(pathlib.Path(path).read_text(encoding="utf-8"))
+        return cls(program.text_of(pathlib.Path(path).read_bytes()))
 
     def __repr__(self) -> str:
         if self.known_numbers is None:
@@ -109,7 +109,7 @@ class Circuit:
 
     def stabilisers(self, *, seed: int = 0) -> list[str]:
         """The reduced rows of the group that stabilises the state after shot 0 of a seed: a signed string, as +XZ_, for each qubit."""
-        return program.run(["stabilisers", "--seed", str(seed)], self.text).decode().split()
+        return program.run(["stabilisers", *program.seed_words(seed)], self.text).decode().split()
 
     def deterministic(self) -> Sure:
         """Which detectors, bool (detectors,), and observables, bool (observables,), are the same for all coins."""

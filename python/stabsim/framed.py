@@ -27,7 +27,7 @@ class FramedProcess:
         self.said = ""
         self.program = program.find_program()
         with tempfile.NamedTemporaryFile(prefix="stabsim-", suffix=".stim") as file:
-            file.write(text.encode())
+            file.write(program.bytes_of(text))
             file.flush()
             self.process = subprocess.Popen([self.program, "edit", "--framed", *words, "--in", file.name], stdin=subprocess.PIPE,
                                             stdout=subprocess.PIPE, stderr=subprocess.PIPE)

@@ -51,6 +51,23 @@ def checked(path: str, where: str) -> str:
     return path
 
 
+def bytes_of(text: str) -> bytes:
+    """A text as it stood in its file, also where some bytes of it are no UTF-8."""
+    return text.encode("utf-8", "surrogateescape")
+
+
+def text_of(data: bytes) -> str:
+    """The text of bytes, which `bytes_of` gives back."""
+    return data.decode("utf-8", "surrogateescape")
+
+
+def seed_words(seed: int) -> list[str]:
+    """The option of a seed; raises ValueError where it is out of range."""
+    if not 0 <= seed < 2**64:
+        raise ValueError(f"the seed {seed} is not in 0..2**64")
+    return ["--seed", str(seed)]
+
+
 def version_text(version: tuple[int, int, int]) -> str:
     return ".".join(map(str, version))
 
@@ -60,7 +77,7 @@ def run(words: list[str], text: str) -> bytes:
     program = find_program()
     # A file, not a pipe: the program then reads by itself while its output is taken here.
     with tempfile.NamedTemporaryFile(prefix="stabsim-", suffix=".stim") as file:
-        file.write(text.encode())
+        file.write(bytes_of(text))
         file.flush()
         done = subprocess.run([program, *words, "--in", file.name], stdin=subprocess.DEVNULL, capture_output=True, check=False)
     if done.returncode:
@@ -75,7 +92,6 @@ def failure(program: str, status: int, said: str) -> Exception:
         line = int(refused[1]) if refused[1] else None
         rest = said[refused.end():].replace("stabsim: ", "").strip()
         return Refused(int(refused[2]), refused[3], line, "; ".join(rest.split("\n")) if rest else "")
-    if status == 2 and "--" in said:
-        return MissingProgram(f"{program} does not know what it was asked for, so it is too old for this package, or a "
-                              f"number is out of range: {said.strip()}")
+    if status == 2 and "unexpected argument" in said:
+        return MissingProgram(f"{program} is too old for this package: {said.strip()}. {WHAT_TO_DO}")
     return ProgramFailed(f"{program} ended with status {status}: {said.strip() or 'it said nothing'}")

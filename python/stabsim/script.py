@@ -3,6 +3,7 @@
 import re
 from collections.abc import Sequence
 
+from stabsim import program
 from stabsim.errors import Refused
 
 MOST_LINE_BYTES = 65_536
@@ -27,7 +28,7 @@ def edit_lines(words: str, item: str) -> bytes:
     A text of several lines is taken as a block's, up to the line that closes it. Any line behind that would be a command of
     its own, so a text that is not exactly one item is refused here.
     """
-    lines = f"{words} {item.strip(SPACING)}".encode().split(b"\n")
+    lines = program.bytes_of(f"{words} {item.strip(SPACING)}").split(b"\n")
     if len(lines) > 1:
         if len(lines[0]) > MOST_LINE_BYTES:
             raise Refused(14, "TooLong")

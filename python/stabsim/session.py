@@ -7,7 +7,7 @@ from types import TracebackType
 import numpy as np
 from numpy.typing import NDArray
 
-from stabsim import bits
+from stabsim import bits, program
 from stabsim.errors import Refused
 from stabsim.framed import FramedProcess
 from stabsim.history import Change, History
@@ -64,7 +64,7 @@ class Session:
     """
 
     def __init__(self, text: str, *, qubits: int | None = None, seed: int = 0, stride: int | None = None) -> None:
-        words = ["--seed", str(seed)]
+        words = program.seed_words(seed)
         words += [] if qubits is None else ["--qubits", str(qubits)]
         words += [] if stride is None else ["--stride", str(stride)]
         self.history = History()
@@ -169,11 +169,11 @@ class Session:
     @property
     def circuit(self) -> str:
         """The text of the circuit as it is now."""
-        return "".join(line.decode() + "\n" for line in self.process.ask(b"show circuit\n"))
+        return text_of_lines(self.process.ask(b"show circuit\n"))
 
     def item(self, path: Path) -> str:
         """The text of the item at the path."""
-        return "".join(line.decode() + "\n" for line in self.process.ask(f"show item {path_text(path)}\n".encode()))
+        return text_of_lines(self.process.ask(f"show item {path_text(path)}\n".encode()))
 
     def place(self, path: Path) -> Place:
         """The unrolled steps, records, detectors and coin numbers of the item at the path."""
@@ -240,3 +240,7 @@ class Session:
         if len(lines) != 1:
             raise self.process.broken(f"{request} was answered by {len(lines)} lines")
         return lines[0]
+
+
+def text_of_lines(lines: list[bytes]) -> str:
+    return "".join(program.text_of(line) + "\n" for line in lines)

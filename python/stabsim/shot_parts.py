@@ -28,11 +28,11 @@ class Shots:
 
 def bytes_of(shots: Shots, executor: Executor | None, parts: int) -> bytes:
     """The shots in the format b8, one after another; with an executor its workers take parts, as many as these or more."""
-    if shots.count < 0 or parts < 1:
-        raise ValueError("shots are 0 or more, and parts 1 or more")
+    if shots.count < 0 or shots.first < 0 or shots.first + shots.count > 2**64 or parts < 1:
+        raise ValueError("shots are 0 or more, of numbers below 2**64, and parts 1 or more")
     if executor is None:
         return b"".join(map(run, split(shots, 1)))
-    return b"".join(executor.map(run, split(shots, parts)))
+    return b"".join(executor.map(run, list(split(shots, parts))))
 
 
 def split(shots: Shots, parts: int) -> Iterator[Shots]:
@@ -45,6 +45,6 @@ def split(shots: Shots, parts: int) -> Iterator[Shots]:
 
 def run(shots: Shots) -> bytes:
     """One run of the program. A worker in another process, or on another machine, finds its program by itself."""
-    words = [*WORDS[shots.what], "--shots", str(shots.count), "--seed", str(shots.seed), "--out_format", "b8"]
+    words = [*WORDS[shots.what], "--shots", str(shots.count), *program.seed_words(shots.seed), "--out_format", "b8"]
     # Where shots begin at 0, also a program that knows no other serves.
     return program.run(words + (["--first_shot", str(shots.first)] if shots.first else []), shots.text)

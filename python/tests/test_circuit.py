@@ -206,6 +206,27 @@ def test_the_program_is_found_on_the_path(monkeypatch, tmp_path):
     assert subprocess.run([link, "--version"], capture_output=True, check=True).stdout.startswith(b"stabsim ")
 
 
+def test_bytes_that_are_no_text_stay_as_they_are(tmp_path):
+    path = tmp_path / "circuit.stim"
+    path.write_bytes(b"M 0 # \xff\r\nDETECTOR[\xfe] rec[-1]\n")
+    circuit = stabsim.Circuit.from_file(path)
+    assert program.bytes_of(circuit.text) == path.read_bytes() and circuit.numbers().detectors == 1
+    with circuit.edit() as session:
+        assert program.bytes_of(session.circuit) == b"M 0\nDETECTOR[\xfe] rec[-1]\n"
+        session.delete(1)
+        assert session.undo() and program.bytes_of(session.item(1)) == b"DETECTOR[\xfe] rec[-1]\n"
+
+
+def test_numbers_out_of_range_are_value_errors():
+    circuit = stabsim.Circuit(BELL)
+    for wrong in (lambda: circuit.sample(-1), lambda: circuit.sample(1, seed=-1), lambda: circuit.sample(1, seed=2**64),
+                  lambda: circuit.detect(1, first_shot=2**64), lambda: circuit.stabilisers(seed=-1), lambda: circuit.edit(seed=2**64)):
+        with pytest.raises(ValueError):
+            wrong()
+    with pytest.raises(stabsim.ProgramFailed, match="status 2"):
+        circuit.edit(qubits=2000)
+
+
 def test_circuits_of_one_text_are_one():
     assert stabsim.Circuit(BELL) == stabsim.Circuit(BELL) != stabsim.Circuit(MANY)
     assert len({stabsim.Circuit(BELL), stabsim.Circuit(BELL)}) == 1
