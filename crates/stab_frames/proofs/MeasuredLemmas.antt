@@ -7,10 +7,12 @@ use Rattle.stab_pauli.specs.Paulis.{Signed, minus, with_sign, anticommute, strin
 use Rattle.stab_pauli.proofs.StringLemmas.{strings_anticommute-product_right, length-string_product}
 use Rattle.stab_tableau.specs.Rules.{outcome_by, is_free_by, projected_by}
 use Rattle.stab_tableau.specs.Groups.{IsStabiliserGroup}
+use Rattle.stab_tableau.specs.Turns.{IsTurned}
+use Rattle.stab_tableau.specs.Exchanges.{Exchanges}
 use Rattle.stab_tableau.proofs.TestLemmas.{not-true, not_both}
 use Rattle.stab_run.proofs.StateLemmas.{both_false, both_true}
-use Rattle.stab_frames.specs.Frames.{IsTurned, times_where}
-use Rattle.stab_frames.specs.Notes.{Exchanges, IsNoteOf, IsEnough}
+use Rattle.stab_frames.specs.Frames.{times_where}
+use Rattle.stab_frames.specs.Notes.{IsNoteOf, IsEnough}
 use Rattle.stab_frames.specs.FrameSteps.{flipped_by, letters_by}
 use Rattle.stab_frames.proofs.SignLemmas.{sign-sign, sign-twice, product-sign_left, product-sign_right}
 use Rattle.stab_frames.proofs.TurnedLemmas.{turned-over, turned-comm, turned-stabiliser}

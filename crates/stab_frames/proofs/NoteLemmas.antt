@@ -16,6 +16,7 @@ use Rattle.stab_tableau.specs.Groups.{IsStabiliserGroup}
 use Rattle.stab_tableau.specs.Columns.{stabiliser_of}
 use Rattle.stab_tableau.specs.inner.InverseRows.{string_preimage}
 use Rattle.stab_tableau.specs.inner.ColumnLetters.{column}
+use Rattle.stab_tableau.specs.Exchanges.{Exchanges}
 use Rattle.stab_tableau.proofs.TestLemmas.{not_both}
 use Rattle.stab_tableau.proofs.HomomorphismLemmas.{kept-anticommute}
 use Rattle.stab_tableau.proofs.OneLetterLemmas.{one_letter-anticommute, length-one_letter}
@@ -27,7 +28,7 @@ use Rattle.stab_run.specs.Runs.{string_of}
 use Rattle.stab_run.specs.Points.{Point, given, coins_of, all_coins_of, next_point, outputs}
 use Rattle.stab_run.specs.ProgramStates.{StepFits}
 use Rattle.stab_run.proofs.ProductLemmas.{length-string_of}
-use Rattle.stab_frames.specs.Notes.{no_strings, Exchanges, IsNoteOf}
+use Rattle.stab_frames.specs.Notes.{no_strings, IsNoteOf}
 use Rattle.stab_frames.specs.FrameSteps.{frame_after}
 use Rattle.stab_frames.specs.StepNotes.{measured_by, IsRightAt, AreEnough}
 use Rattle.stab_frames.specs.NoteLaws.{RightNotesAreEnough, TurnedCoinsNeedNoStrings, NotesAreEnoughBefore, MeasurementsHaveNotes, FlagsTellNotes, ColumnsExchange}

@@ -8,6 +8,7 @@ use Rattle.stab_pauli.specs.Paulis.{Signed, single}
 use Rattle.stab_tableau.specs.Gates.{inverse, back, back_pair}
 use Rattle.stab_tableau.specs.Traces.{Event, projected, member, is_free}
 use Rattle.stab_tableau.specs.Groups.{IsStabiliserGroup}
+use Rattle.stab_tableau.specs.Turns.{IsTurned}
 use Rattle.stab_tableau.proofs.OneLetterLemmas.{length-one_letter}
 use Rattle.stab_tableau.proofs.SymmetryLemmas.{IsSymmetry-image, IsSymmetry-pair, image-length, pair-length}
 use Rattle.stab_tableau.proofs.GroupLemmas.{group-back, group-projected}
@@ -18,7 +19,7 @@ use Rattle.stab_run.specs.Runs.{when, string_of, gate_of, flip_of, applied_where
 use Rattle.stab_run.specs.Points.{Point, nothing, joined, given, trace_after, coins_of, next_point, outputs}
 use Rattle.stab_run.specs.ProgramStates.{StepFits}
 use Rattle.stab_frames.specs.Flips.{flipped_output, Matches}
-use Rattle.stab_frames.specs.Frames.{plus, IsTurned, Frame, PointsDifferBy, times_where}
+use Rattle.stab_frames.specs.Frames.{plus, Frame, PointsDifferBy, times_where}
 use Rattle.stab_frames.specs.Notes.{Notes, changed, IsEnough}
 use Rattle.stab_frames.specs.FrameSteps.{flips_outcome, letters_measured, letters_after, flips_given, frame_after, flips_over}
 use Rattle.stab_frames.specs.StepNotes.{IsEnoughAt}

@@ -11,9 +11,9 @@ use Rattle.stab_tableau.specs.inner.InverseRows.{InverseRows, string_preimage, I
 use Rattle.stab_tableau.specs.inner.ColumnLetters.{letter_anticommuting}
 use Rattle.stab_tableau.specs.inner.Pairs.{paired}
 use Rattle.stab_tableau.specs.inner.Frames.{SameLetters, sign_frame}
+use Rattle.stab_tableau.specs.Turns.{IsTurned}
 use Rattle.stab_tableau.proofs.SignFrameLemmas.{length-frame, frame-stabilises, frame-same, same-frame}
 use Rattle.stab_tableau.proofs.SignTableLemmas.{same-count, same-table, same-onto}
-use Rattle.stab_frames.specs.Frames.{IsTurned}
 use Rattle.stab_frames.specs.TurnedTableaus.{turned_rows, turned_tableau, turned_pairs}
 use Rattle.stab_frames.specs.TableauLaws.{TableausTurn, PairsTurn, TurnedRowsAreTableaus, SignsMakeFrames, TableausTellWhatTurns}
 use Rattle.stab_frames.proofs.FlipLemmas.{length-flipped, flipped-apart}

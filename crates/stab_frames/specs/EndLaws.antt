@@ -6,9 +6,10 @@ use Rattle.stab_pauli.specs.declared.letter.Letter.TheVariants.{I}
 use Rattle.stab_pauli.specs.Paulis.{Signed, string_product}
 use Rattle.stab_tableau.specs.Traces.{member}
 use Rattle.stab_tableau.specs.Groups.{IsStabiliserGroup}
+use Rattle.stab_tableau.specs.Turns.{IsTurned}
 use Rattle.stab_circuit.specs.Steps.{Step, records_of, looks_too_far}
 use Rattle.stab_run.specs.Points.{Point, point_after, outputs}
-use Rattle.stab_frames.specs.Frames.{IsTurned, Frame, PointsDifferBy}
+use Rattle.stab_frames.specs.Frames.{Frame, PointsDifferBy}
 use Rattle.stab_frames.specs.Ends.{AgreeBack}
 
 -- letters I turn no sign of a stabiliser, nor does a string of which one sign stabilises

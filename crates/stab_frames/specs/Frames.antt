@@ -4,18 +4,15 @@
 use Rattle.std.specs.Prelude.{◌≡◌, ℕ, Bool, true, false, List, length, replicate}
 use Rattle.stab_pauli.specs.declared.letter.Letter.{Letter}
 use Rattle.stab_pauli.specs.declared.letter.Letter.TheVariants.{I}
-use Rattle.stab_pauli.specs.Paulis.{Signed, with_sign, strings_anticommute, string_product}
+use Rattle.stab_pauli.specs.Paulis.{Signed, string_product}
 use Rattle.stab_tableau.specs.Traces.{member}
+use Rattle.stab_tableau.specs.Turns.{IsTurned}
 use Rattle.stab_run.specs.Points.{Point}
 use Rattle.stab_frames.specs.Flips.{flipped}
 
 -- letters with the sign +
 abbrev pub plus : List Letter → Signed
 plus letters = record { negative = false; letters = letters }
-
--- a string of n letters passes the test b where it passes the test a with its sign turned, if it anticommutes with f
-abbrev pub IsTurned : ℕ → List Letter → (Signed → Bool) → (Signed → Bool) → Type 0
-IsTurned n f a b = (p : Signed) → length p.letters ≡ n → b p ≡ a (with_sign (strings_anticommute f p.letters) p)
 
 -- a Pauli string, whose sign is of no account, and a bit for each record so far, 1 where it is flipped
 pub record Frame : Type 0 where

@@ -1,11 +1,12 @@
 -- Notes: what a frame has to know of the measurements of the run that it starts from.
 -- Source: the two cases of a measurement in Aaronson and Gottesman 2004, section III: a free outcome is exchanged for the other
 -- by a stabiliser that anticommutes with what is measured.
-use Rattle.std.specs.Prelude.{◌≡◌, ℕ, Bool, true, false, List, length, Option, Some, None}
+use Rattle.std.specs.Prelude.{◌≡◌, ℕ, Bool, true, false, List, Option, Some, None}
 use Rattle.stab_pauli.specs.declared.letter.Letter.{Letter}
 use Rattle.stab_pauli.specs.Letters.{◌⊕◌}
 use Rattle.stab_pauli.specs.Paulis.{Signed, strings_anticommute}
 use Rattle.stab_tableau.specs.Rules.{is_free_by}
+use Rattle.stab_tableau.specs.Exchanges.{Exchanges}
 
 -- by coin number: a string that exchanges the outcomes, where the outcome was free, and none where it was fixed; and whether the
 -- coin of the other run differs
@@ -28,13 +29,6 @@ no_strings changes = notes_of (λ t. None) changes
 -- coins that differ from others where the bits are 1
 abbrev pub changed : (ℕ → Bool) → (ℕ → Bool) → ℕ → Bool
 changed coins changes t = changes t ⊕ coins t
-
--- a string that with one of its signs stabilises, and that anticommutes with what is measured, exchanges the outcomes
-pub record Exchanges (n : ℕ) (member : Signed → Bool) (measured : Signed) (letters : List Letter) : Type 0 where
-  pub size : length letters ≡ n
-  pub negative : Bool
-  pub stabilises : member (record { negative = negative; letters = letters }) ≡ true
-  pub apart : strings_anticommute letters measured.letters ≡ true
 
 -- a note is right of a measurement: none where the outcome is fixed, and a string only if it exchanges the outcomes
 abbrev pub IsNoteOf : ℕ → (Signed → Bool) → Signed → Option (List Letter) → Type 0

@@ -117,6 +117,15 @@ power_of-tells v v' el e =
     (phase_add-comm (string_power v.letters) (phase_of_sign v.negative) ∙ e ∙ ap (λ l. phase_add (phase_of_sign v'.negative) (string_power l)) (sym el)
     ∙ phase_add-comm (phase_of_sign v'.negative) (string_power v.letters)))
 
+-- and their difference is that of the signs
+pub powers_differ : (v v' : Signed) → v.letters ≡ v'.letters → sign_of_phase (phase_add (phase_inverse (power_of v)) (power_of v')) ≡ v.negative ⊕ v'.negative
+powers_differ v v' el =
+    ap (λ l. sign_of_phase (phase_add (phase_inverse (power_of v)) (phase_add (phase_of_sign v'.negative) (string_power l)))) (sym el)
+    ∙ differ (string_power v.letters) v.negative v'.negative
+  where
+    differ : (t : Phase) (a b : Bool) → sign_of_phase (phase_add (phase_inverse (phase_add (phase_of_sign a) t)) (phase_add (phase_of_sign b) t)) ≡ a ⊕ b
+    differ t a b = grind arith
+
 power_of-factors : (v v' : Signed)
     → phase_add (phase_add (power_of v) (power_of v')) (phase_of_sign (strings_meet v.letters v'.letters)) ≡ phase_add (product_phase v v') (string_power (string_product v.letters v'.letters))
 power_of-factors v v' =

@@ -5,6 +5,8 @@ pub mod Rules
 pub mod Traces
 pub mod Groups
 pub mod Reduced
+pub mod Exchanges
+pub mod Turns
 pub mod Laws
 pub mod Tableaus
 pub mod Columns

@@ -10,8 +10,8 @@ ghost use Rattle.stab_tableau.specs.inner.Frames.{SameLetters, sign_frame};
 
 use super::inverse_rows::letter_where;
 use super::rows;
-use super::table::{InverseRow, Table};
-use stab_pauli::{Letter, Pauli, PauliRows};
+use super::table::{CompactTable, InverseRow, Table};
+use stab_pauli::{Pauli, PauliRows};
 
 /// Whether two tables whose rows differ in their signs alone have one group.
 ///
@@ -46,6 +46,20 @@ fn write_frame(table: &Table, others: &Table, out: &mut Pauli)
     }
 }
 
+/// Makes the letters of a string those that tell where the signs of the rows of a kept table and of another differ,
+/// whose letters are the same.
+pub fn write_kept_frame(table: &CompactTable, others: &Table, out: &mut Pauli)
+    requires same_letters { SameLetters table.now others.now }
+    requires out_length { length out.old.letters ≡ length table.now }
+    ensures value { out.new ≡ record out.old { letters = sign_frame table.now others.now } }
+{
+    for qubit in 0..table.len() {
+        let x = table.signs_differ(others, InverseRow::OfX, qubit);
+        let z = table.signs_differ(others, InverseRow::OfZ, qubit);
+        out.set(qubit, letter_where(x, z));
+    }
+}
+
 /// Makes a string stabiliser k of a table.
 pub fn write_stabiliser(table: &Table, k: usize, preimage: &mut Pauli, out: &mut Pauli)
     requires tableau { IsTableau (length table.now) table.now (record { x = preimage.old; z = out.old }) }
@@ -53,8 +67,7 @@ pub fn write_stabiliser(table: &Table, k: usize, preimage: &mut Pauli, out: &mut
     ensures tableau { IsTableau (length table.now) table.now (record { x = preimage.new; z = out.new }) }
     ensures value { out.new ≡ stabiliser_of (record { qubits = length table.now; rows = table.now }) k }
 {
-    out.clear();
-    rows::write_column(table, Letter::Z, k, out);
+    rows::write_stabiliser_letters(table, k, out);
     rows::write_preimage(table, out, preimage);
     out.negate_if(preimage.is_negative());
 }

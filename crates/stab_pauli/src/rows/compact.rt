@@ -65,7 +65,10 @@ impl PauliRows {
 }
 
 impl CompactRows {
-    ghost use Rattle.std.specs.Prelude.{◌≡◌, ◌↔◌, IsTrue, IfOk, IfErr, length};
+    ghost use Rattle.std.specs.Prelude.{◌≡◌, ◌<◌, ◌↔◌, IsTrue, IfOk, IfErr, length};
+    ghost use Rattle.stab_pauli.specs.Letters.{◌⊕◌};
+    ghost use Rattle.stab_pauli.specs.Paulis.{with_sign};
+    ghost use Rattle.stab_pauli.specs.Rows.{row_at, with_row, unsigned_rows};
     ghost use Rattle.stab_io.specs.declared.refusal.Refusal.TheVariants.{OutOfMemory};
 
     /// The number of qubits.
@@ -121,5 +124,41 @@ impl CompactRows {
         are_short(words);
         are_short(self.words.kept.as_slice());
         self.words.are(words)
+    }
+
+    /// Whether both have as many strings over as many qubits, with the same letters, whatever their signs.
+    pub fn same_letters(&self, rows: &PauliRows) -> bool
+        ensures value { IsTrue result ↔ (self.now.qubits ≡ rows.now.qubits) × (unsigned_rows self.now ≡ unsigned_rows rows.now) }
+    {
+        if self.qubits != rows.qubits {
+            return false;
+        }
+        if self.powers.len() != rows.powers.len() {
+            return false;
+        }
+        let words = rows.words.as_slice();
+        are_short(words);
+        are_short(self.words.kept.as_slice());
+        self.words.are(words)
+    }
+
+    /// Whether the signs of row a differ in both, where its letters are the same: then none has to be looked at.
+    #[inline(always)]
+    pub fn signs_differ(&self, rows: &PauliRows, a: usize) -> bool
+        requires in_range { a < length self.now.rows }
+        requires other_in_range { a < length rows.now.rows }
+        requires same_letters { (row_at self.now a).letters ≡ (row_at rows.now a).letters }
+        ensures value { result ≡ (row_at self.now a).negative ⊕ (row_at rows.now a).negative }
+    {
+        self.powers[a].inverse().times(rows.powers[a]).sign()
+    }
+
+    /// Turns the sign of row a where the bit is 1.
+    #[inline(always)]
+    pub fn negate_if(&mut self, a: usize, bit: bool)
+        requires in_range { a < length self.old.rows }
+        ensures value { self.new ≡ with_row self.old a (with_sign bit (row_at self.old a)) }
+    {
+        self.powers[a] = self.powers[a].times(Phase::of_sign(bit));
     }
 }

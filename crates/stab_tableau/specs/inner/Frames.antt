@@ -2,7 +2,9 @@
 -- Source: this project's own.
 use Rattle.std.specs.Prelude.{◌≡◌, List, [], ◌∷◌}
 use Rattle.stab_pauli.specs.declared.letter.Letter.{Letter}
-use Rattle.stab_pauli.specs.Letters.{◌⊕◌}
+use Rattle.stab_pauli.specs.declared.letter.Letter.TheVariants.{X, Z}
+use Rattle.stab_pauli.specs.Letters.{◌⊕◌, letters_anticommute}
+use Rattle.stab_pauli.specs.Paulis.{with_sign}
 use Rattle.stab_tableau.specs.inner.InverseRows.{InverseRows}
 use Rattle.stab_tableau.specs.inner.ColumnLetters.{letter_anticommuting}
 
@@ -12,6 +14,10 @@ SameLetters [] [] = Unit {0}
 SameLetters [] (s ∷ others) = ⊥
 SameLetters (r ∷ rows) [] = ⊥
 SameLetters (r ∷ rows) (s ∷ others) = (r.x.letters ≡ s.x.letters) × (r.z.letters ≡ s.z.letters) × SameLetters rows others
+
+-- a qubit's rows with the signs of those turned that a letter on it anticommutes with
+abbrev pub turned_row : Letter → InverseRows → InverseRows
+turned_row l r = record { x = with_sign (letters_anticommute l X) r.x; z = with_sign (letters_anticommute l Z) r.z }
 
 -- the letter that anticommutes with X where the signs of the preimages of X differ, and with Z where those of Z do
 abbrev pub frame_letter : InverseRows → InverseRows → Letter

@@ -1,6 +1,6 @@
-use super::Table;
+use super::{InverseRow, Table};
 use stab_io::Refusal;
-use stab_pauli::CompactRows;
+use stab_pauli::{CompactRows, Letter};
 use std::alloc::Global;
 use std::marker::Model;
 
@@ -39,8 +39,13 @@ impl Table {
 }
 
 impl CompactTable {
-    ghost use Rattle.std.specs.Prelude.{◌≡◌, ◌↔◌, IsTrue, IfOk, IfErr, length};
+    ghost use Rattle.std.specs.Prelude.{◌≡◌, ◌<◌, ◌↔◌, IsTrue, IfOk, IfErr, length, slice_set};
     ghost use Rattle.stab_io.specs.declared.refusal.Refusal.TheVariants.{OutOfMemory};
+    ghost use Rattle.stab_pauli.specs.Letters.{◌⊕◌};
+    ghost use Rattle.stab_pauli.specs.Paulis.{with_sign};
+    ghost use Rattle.stab_tableau.specs.inner.Frames.{SameLetters, turned_row};
+    ghost use Rattle.stab_tableau.specs.inner.InverseRows.{rows_at};
+    ghost use Rattle.stab_tableau.specs.inner.Pairs.{row_string, put};
 
     /// The number of qubits.
     pub fn len(&self) -> usize
@@ -71,5 +76,40 @@ impl CompactTable {
         ensures value { IsTrue result ↔ (self.now ≡ table.now) }
     {
         self.rows.are(&table.rows)
+    }
+
+    /// Whether both have rows with the same letters, whatever their signs.
+    pub fn same_letters(&self, table: &Table) -> bool
+        ensures value { IsTrue result ↔ SameLetters self.now table.now }
+    {
+        self.rows.same_letters(&table.rows)
+    }
+
+    /// Whether the signs of a row differ in both, whose letters are the same.
+    #[inline(always)]
+    pub fn signs_differ(&self, table: &Table, row: InverseRow, qubit: usize) -> bool
+        requires in_range { qubit < length self.now }
+        requires same_letters { SameLetters self.now table.now }
+        ensures value { result ≡ (row_string row (rows_at self.now qubit)).negative ⊕ (row_string row (rows_at table.now qubit)).negative }
+    {
+        self.rows.signs_differ(&table.rows, row.place(qubit))
+    }
+
+    /// Turns the signs of those rows of a qubit that a letter on it anticommutes with.
+    pub fn turn(&mut self, letter: Letter, qubit: usize)
+        requires in_range { qubit < length self.old }
+        ensures value { self.new ≡ slice_set self.old qubit (turned_row letter (rows_at self.old qubit)) }
+    {
+        self.negate_if(InverseRow::OfX, qubit, letter.anticommutes(Letter::X));
+        self.negate_if(InverseRow::OfZ, qubit, letter.anticommutes(Letter::Z));
+    }
+
+    // Turns the sign of a row where the bit is 1.
+    #[inline(always)]
+    fn negate_if(&mut self, row: InverseRow, qubit: usize, bit: bool)
+        requires in_range { qubit < length self.old }
+        ensures value { self.new ≡ put row qubit (with_sign bit (row_string row (rows_at self.old qubit))) self.old }
+    {
+        self.rows.negate_if(row.place(qubit), bit);
     }
 }

@@ -1,7 +1,8 @@
 use super::Tableau;
+use crate::group;
 use crate::table::CompactTable;
 use stab_io::Refusal;
-use stab_pauli::Pauli;
+use stab_pauli::{Letter, Pauli};
 use std::alloc::Global;
 use std::marker::Model;
 
@@ -49,8 +50,19 @@ impl Tableau {
 }
 
 impl CompactTableau {
-    ghost use Rattle.std.specs.Prelude.{◌≡◌, ◌↔◌, IsTrue, IfOk, IfErr};
+    ghost use Rattle.std.specs.Prelude.{◌≡◌, ◌<◌, ◌↔◌, true, false, length, IsTrue, IfOk, IfErr};
     ghost use Rattle.stab_io.specs.declared.refusal.Refusal.TheVariants.{OutOfMemory};
+    ghost use Rattle.stab_pauli.specs.Paulis.{single};
+    ghost use Rattle.stab_tableau.specs.Tableaus.{stabilises};
+    ghost use Rattle.stab_tableau.specs.Turns.{IsTurned};
+    ghost use Rattle.stab_tableau.specs.inner.Frames.{SameLetters};
+
+    /// The number of qubits.
+    pub fn len(&self) -> usize
+        ensures value { result ≡ self.now.qubits }
+    {
+        self.table.len()
+    }
 
     /// The same state as a tableau, in the memory of a spare one that has as many qubits, else in memory of its own.
     ///
@@ -73,6 +85,37 @@ impl CompactTableau {
             preimage,
             multiplier,
         })
+    }
+
+    /// Applies a Pauli gate to a qubit of the kept state, where it lies: at most two signs are turned. It takes no memory.
+    ///
+    /// A string stabilises the new state where it stabilised the old one with its sign turned, if it anticommutes with
+    /// the letter.
+    pub fn turn_letter(&mut self, letter: Letter, qubit: usize)
+        requires in_range { qubit < self.old.qubits }
+        ensures qubits { self.new.qubits ≡ self.old.qubits }
+        ensures turned { IsTurned self.old.qubits (single self.old.qubits qubit letter).letters (stabilises self.old) (stabilises self.new) }
+    {
+        self.table.turn(letter, qubit);
+    }
+
+    /// Whether the rows of a tableau differ from the kept ones in their signs alone; if so a string gets the letters by
+    /// which the two states differ, its sign is of no account, and else it stays as it was. It takes no memory.
+    ///
+    /// A string stabilises the tableau's state where it stabilises the kept one with its sign turned, if it
+    /// anticommutes with these letters.
+    pub fn frame_to(&self, tableau: &Tableau, frame: &mut Pauli) -> bool
+        requires same_length { length frame.old.letters ≡ self.now.qubits }
+        ensures length { length frame.new.letters ≡ length frame.old.letters }
+        ensures same { (result ≡ true) ↔ SameLetters self.now.rows tableau.now.rows }
+        ensures turned { result ≡ true → IsTurned self.now.qubits frame.new.letters (stabilises self.now) (stabilises tableau.now) }
+        ensures kept { result ≡ false → frame.new ≡ frame.old }
+    {
+        if !self.table.same_letters(&tableau.table) {
+            return false;
+        }
+        group::write_kept_frame(&self.table, &tableau.table, frame);
+        true
     }
 
     /// Whether this is a copy of that very state.
