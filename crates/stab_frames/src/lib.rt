@@ -28,8 +28,10 @@
 #![tactic(auto)]
 
 pub mod end_laws;
+mod letters;
 pub mod note_laws;
 mod noting;
+mod pass;
 pub mod run_laws;
 pub mod start_laws;
 pub mod step_laws;

@@ -1,4 +1,5 @@
-ghost use Rattle.std.specs.Prelude.{◌≡◌, ◌≤◌, length};
+ghost use Rattle.std.specs.Prelude.{◌≡◌};
+ghost use Rattle.stab_frames.specs.Limits.{most_strings};
 
 use stab_io::Refusal;
 use stab_pauli::Pauli;
@@ -27,7 +28,7 @@ impl Model for KeptStrings {
 }
 
 impl KeptStrings {
-    ghost use Rattle.std.specs.Prelude.{◌≡◌, ◌≤◌, ◌<◌, [], ◌∷◌, length, take, drop, OnOk, OnErr, IfOk, IfErr};
+    ghost use Rattle.std.specs.Prelude.{◌≡◌, ◌≤◌, ◌<◌, [], ◌∷◌, All, length, map, take, drop, slice_index_or, OnOk, OnErr, IfOk, IfErr};
     ghost use Rattle.stab_io.specs.declared.refusal.Refusal.TheVariants.{OutOfMemory};
     ghost use Rattle.stab_frames.specs.KeptStrings.{kept_with};
 
@@ -58,7 +59,10 @@ impl KeptStrings {
         ensures unchanged { OnErr result (self.new ≡ self.old) }
         ensures err { IfErr result (λ r. r ≡ OutOfMemory) }
     {
-        Err(Refusal::OutOfMemory)
+        if self.strings.len() < most_strings(self.qubits) {
+            self.strings.push(string.copy(alloc)?)?;
+        }
+        Ok(())
     }
 
     /// Leaves the first ones, up to so many.
@@ -75,7 +79,9 @@ impl KeptStrings {
         ensures value { IfOk result (λ k. k ≡ record { qubits = self.now.qubits; strings = take count self.now.strings }) }
         ensures err { IfErr result (λ r. r ≡ OutOfMemory) }
     {
-        Err(Refusal::OutOfMemory)
+        let mut front = KeptStrings::new(alloc, self.qubits);
+        front.append(alloc, self.strings.split_at(count.min(self.strings.len())).0)?;
+        Ok(front)
     }
 
     /// Puts copies of others behind these, from the one with this number on, as far as there may be
@@ -93,6 +99,35 @@ impl KeptStrings {
         ensures strings { OnOk result (self.new.strings ≡ kept_with self.old.qubits self.old.strings (drop from other.now.strings)) }
         ensures err { IfErr result (λ r. r ≡ OutOfMemory) }
     {
-        Err(Refusal::OutOfMemory)
+        let (_, rest) = other.strings.split_at(from.min(other.strings.len()));
+        self.append(alloc, rest)
     }
+
+    /// Puts copies of strings behind these, as far as there may be as many.
+    fn append(&mut self, alloc: Global, strings: &[Pauli]) -> Result<(), Refusal>
+        requires same_length { All (λ p. length p.letters ≡ self.old.qubits) strings.now }
+        ensures qubits { self.new.qubits ≡ self.old.qubits }
+        ensures strings { OnOk result (self.new.strings ≡ kept_with self.old.qubits self.old.strings (map (λ p. p.letters) strings.now)) }
+        ensures err { IfErr result (λ r. r ≡ OutOfMemory) }
+    {
+        for string in strings {
+            self.push(alloc, string)?;
+        }
+        Ok(())
+    }
+
+    /// The one with a number.
+    pub(crate) fn string(&self, number: usize) -> &Pauli
+        requires in_range { number < length self.now.strings }
+        ensures letters { result.now.letters ≡ slice_index_or self.now.strings number [] }
+    {
+        &self.strings[number]
+    }
+}
+
+/// How many strings of n letters are kept at most.
+fn most_strings(n: usize) -> usize
+    ensures value { result ≡ most_strings n }
+{
+    16_777_216 / (n / 4 + 128)
 }
