@@ -12,6 +12,10 @@ use stab_tableau::{Gate, PairGate};
 pub fn image(gate: Gate, letter: Letter) -> Letter
     ensures value { result ≡ (letter_image gate letter).letter }
 {
+    // Most letters of a frame are I.
+    if letter == Letter::I {
+        return Letter::I;
+    }
     match gate {
         Gate::I | Gate::X | Gate::Y | Gate::Z => letter,
         Gate::H | Gate::SqrtY | Gate::SqrtYDag => match letter {

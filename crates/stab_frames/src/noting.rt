@@ -4,7 +4,7 @@ ghost use Rattle.stab_io.specs.declared.refusal.Refusal.TheVariants.{OutOfMemory
 ghost use Rattle.stab_run.specs.Records.{ones};
 ghost use Rattle.stab_run.specs.Points.{all_coins_of};
 ghost use Rattle.stab_run.specs.ProgramStates.{StepFits, IsRun, program_state, output_of};
-ghost use Rattle.stab_frames.specs.KeptStrings.{IsNumbered, KeepsTrue};
+ghost use Rattle.stab_frames.specs.KeptStrings.{KeepsTrue};
 ghost use Rattle.stab_frames.specs.Lookbacks.{LooksWithin};
 
 use crate::strings::KeptStrings;
@@ -46,7 +46,6 @@ pub fn run_noting<C: Coins>(
     requires few { applied.old + length cursor.old.left < 2 ^ 63 }
     requires notes_length { length notes.old.string.letters ≡ tableau.old.qubits }
     requires strings_length { notes.old.strings.qubits ≡ tableau.old.qubits }
-    requires numbered { IsNumbered notes.old.strings outputs.old.free.items }
     ensures counted { OnOk result (applied.new ≡ applied.old + length (take most cursor.old.left)) }
     ensures all { cursor.new.all ≡ cursor.old.all }
     ensures left { OnOk result (cursor.new.left ≡ drop most cursor.old.left) }
@@ -58,10 +57,10 @@ pub fn run_noting<C: Coins>(
     ensures run { OnOk result (IsRun tableau.old.qubits (C.sequence coins.old) (take most cursor.old.left) (program_state tableau.old (output_of outputs.old)) (program_state tableau.new (output_of outputs.new))) }
     ensures notes_length { length notes.new.string.letters ≡ tableau.old.qubits }
     ensures strings_length { notes.new.strings.qubits ≡ tableau.old.qubits }
-    ensures numbered { OnOk result (IsNumbered notes.new.strings outputs.new.free.items) }
+    ensures most { notes.new.strings.most ≡ notes.old.strings.most }
     ensures raised { notes.old.reach ≤ notes.new.reach }
     ensures reach { OnOk result (All (LooksWithin notes.new.reach) (take most cursor.old.left)) }
-    ensures noted { OnOk result (KeepsTrue tableau.old.qubits (C.sequence coins.old) (take most cursor.old.left) notes.old.strings.strings notes.new.strings.strings (program_state tableau.old (output_of outputs.old)) (program_state tableau.new (output_of outputs.new))) }
+    ensures noted { OnOk result (KeepsTrue tableau.old.qubits (C.sequence coins.old) (take most cursor.old.left) notes.old.strings notes.new.strings (program_state tableau.old (output_of outputs.old)) (program_state tableau.new (output_of outputs.new))) }
     ensures err { IfErr result (λ r. r ≡ OutOfMemory) }
 {
     let mut left = most;
@@ -116,6 +115,7 @@ impl RunNotes {
         ensures string { length string.new.letters ≡ length string.old.letters }
         ensures notes_length { length self.new.string.letters ≡ tableau.old.qubits }
         ensures strings_length { self.new.strings.qubits ≡ tableau.old.qubits }
+        ensures most { self.new.strings.most ≡ self.old.strings.most }
         ensures raised { self.old.reach ≤ self.new.reach }
         ensures reach { OnOk result (LooksWithin self.new.reach (step_shown step.entry)) }
         ensures noted { OnOk result (IsNoted tableau.old.qubits (stabilises tableau.old) (step_shown step.entry) self.old.strings self.new.strings) }

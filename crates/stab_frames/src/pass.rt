@@ -1,6 +1,6 @@
 //! One step on the way of a frame.
 
-ghost use Rattle.std.specs.Prelude.{◌≡◌, ◌+◌, ◌<◌, Bool, true, false, ◌&&◌, [], ◌∷◌, All, length, IfSome, IfNone, IfOk, OnOk};
+ghost use Rattle.std.specs.Prelude.{◌≡◌, ◌+◌, ◌^◌, ◌<◌, Bool, true, false, ◌&&◌, [], ◌∷◌, All, length, slice_index_or, IfSome, IfNone, IfOk, OnOk};
 ghost use Rattle.stab_pauli.specs.Paulis.{single};
 ghost use Rattle.stab_tableau.specs.Gates.{image as image_of, image_pair};
 ghost use Rattle.stab_run.specs.Records.{looked_up as looked_up_of, parity as parity_of};
@@ -13,7 +13,7 @@ ghost use Rattle.stab_circuit.specs.Cursors.{step_shown, IsApart};
 ghost use Rattle.stab_run.specs.ProgramStates.{StepFits};
 ghost use Rattle.stab_frames.specs.KeptStrings.{note_at};
 ghost use Rattle.stab_frames.specs.Walks.{IsPlaced};
-ghost use Rattle.stab_frames.specs.inner.Passes.{Passes, IsToldBy, IsTold, flip_by, letters_for, factors_anticommute, one_coin};
+ghost use Rattle.stab_frames.specs.inner.Passes.{Passes, IsToldBy, IsTold, IsPassed, factors_anticommute};
 
 use crate::letters::{first_image, image, second_image};
 use crate::strings::KeptStrings;
@@ -36,6 +36,7 @@ pub fn pass(
     requires fits { StepFits (length walk.old.letters) (step_shown step) }
     requires apart { IsApart (step_shown step) }
     requires placed { IsPlaced free.now walk.old }
+    requires few { walk.old.coin < 2 ^ 63 }
     ensures length { length walk.new.letters ≡ length walk.old.letters }
     ensures passes { IfOk result (λ gone. gone ≡ true → Passes (length walk.old.letters) (note_at strings.now.strings free.now) (step_shown step.entry) walk.old walk.new) }
     ensures told { IfOk result (λ gone. gone ≡ true → IsTold (length walk.old.letters) strings.now.strings free.now (step_shown step.entry) walk.old.coin walk.old.letters) }
@@ -68,10 +69,8 @@ fn pass_gate(walk: &mut FrameWalk, gate: Gate, qubit: usize)
     requires in_range { qubit < length walk.old.letters }
     ensures value { walk.new ≡ record walk.old { letters = (image_of gate qubit (plus walk.old.letters)).letters } }
 {
-    let letter = walk.letters()[qubit];
-    if letter != Letter::I {
-        walk.set(qubit, image(gate, letter));
-    }
+    let old = walk.letter(qubit);
+    walk.set(qubit, image(gate, old));
 }
 
 /// Leads a frame over a gate on two qubits.
@@ -80,12 +79,10 @@ fn pass_pair(walk: &mut FrameWalk, gate: PairGate, first: usize, second: usize)
     requires second_in_range { second < length walk.old.letters }
     ensures value { walk.new ≡ record walk.old { letters = (image_pair gate first second (plus walk.old.letters)).letters } }
 {
-    let letter = walk.letters()[first];
-    let other = walk.letters()[second];
-    if letter != Letter::I || other != Letter::I {
-        walk.set(first, first_image(gate, letter, other));
-        walk.set(second, second_image(gate, letter, other));
-    }
+    let old = walk.letter(first);
+    let other = walk.letter(second);
+    walk.set(first, first_image(gate, old, other));
+    walk.set(second, second_image(gate, old, other));
 }
 
 /// Leads a frame over a letter that a record controls.
@@ -93,9 +90,25 @@ fn pass_controlled(walk: &mut FrameWalk, letter: Letter, k: u32, qubit: usize)
     requires in_range { qubit < length walk.old.letters }
     ensures value { walk.new ≡ record walk.old { letters = times_where (looked_up_of walk.old.flips.records k) (single (length walk.old.letters) qubit letter).letters walk.old.letters } }
 {
-    if looked_up(walk.records(), k) {
+    let flipped = looked_up(walk.records(), k);
+    multiply_if(walk, flipped, letter, qubit);
+}
+
+/// Multiplies a letter on at a qubit, where the bit is 1.
+fn multiply_if(walk: &mut FrameWalk, bit: bool, letter: Letter, qubit: usize)
+    requires in_range { qubit < length walk.old.letters }
+    ensures value { walk.new ≡ record walk.old { letters = times_where bit (single (length walk.old.letters) qubit letter).letters walk.old.letters } }
+{
+    if bit {
         walk.multiply_letter(letter, qubit);
     }
+}
+
+/// Whether the outcome of a coin number was free, by the flags of a run.
+fn flag_at(free: &[bool], coin: usize) -> bool
+    ensures value { result ≡ slice_index_or free.now coin false }
+{
+    free.get(coin).copied().unwrap_or(false)
 }
 
 /// Leads a frame over the measurement of the next coin, of something with which it anticommutes or
@@ -108,36 +121,28 @@ fn pass_outcome(
 ) -> Option<bool>
     requires same_length { strings.now.qubits ≡ length walk.old.letters }
     requires placed { IsPlaced free.now walk.old }
+    requires few { walk.old.coin < 2 ^ 63 }
     ensures length { length walk.new.letters ≡ length walk.old.letters }
-    ensures flipped { IfSome result (λ flipped. flipped ≡ flip_by (note_at strings.now.strings free.now walk.old.coin) apart) }
-    ensures letters { IfSome result (λ flipped. walk.new.letters ≡ letters_for (note_at strings.now.strings free.now walk.old.coin) apart walk.old.letters) }
-    ensures flips { IfSome result (λ flipped. walk.new.flips ≡ joined walk.old.flips one_coin) }
-    ensures coin { IfSome result (λ flipped. walk.new.coin ≡ walk.old.coin + 1) }
+    ensures passed { IfSome result (λ flipped. IsPassed (note_at strings.now.strings free.now) apart flipped walk.old walk.new) }
     ensures told { IfSome result (λ flipped. IsToldBy strings.now.strings free.now walk.old.coin apart) }
     ensures placed { IsPlaced free.now walk.new }
     ensures unchanged { IfNone result (walk.new ≡ walk.old) }
 {
-    let is_free = free.get(walk.coin()).copied().unwrap_or(false);
+    if !flag_at(free, walk.coin()) {
+        walk.pass_coin(false);
+        return Some(apart);
+    }
+    if !apart {
+        walk.pass_coin(true);
+        return Some(false);
+    }
     let number = walk.number();
-    let kept = number < strings.len();
-    if is_free && apart && !kept {
+    if number >= strings.len() {
         return None;
     }
-    walk.pass_coin(is_free);
-    if is_free && apart {
-        walk.multiply(strings.string(number));
-    }
-    Some(apart && !is_free)
-}
-
-/// Flips a qubit that was measured by a letter, where that resets a flipped outcome.
-fn reset_if(walk: &mut FrameWalk, letter: Letter, qubit: usize, resets: bool, flipped: bool)
-    requires in_range { qubit < length walk.old.letters }
-    ensures value { walk.new ≡ record walk.old { letters = times_where (resets && flipped) (single (length walk.old.letters) qubit (flip_of letter)).letters walk.old.letters } }
-{
-    if resets && flipped {
-        walk.multiply_letter(flip(letter), qubit);
-    }
+    walk.pass_coin(true);
+    walk.multiply(strings.string(number));
+    Some(false)
 }
 
 /// Flips the next record, or not, where there is one.
@@ -164,16 +169,17 @@ fn pass_collapse(
     requires same_length { strings.now.qubits ≡ length walk.old.letters }
     requires in_range { qubit < length walk.old.letters }
     requires placed { IsPlaced free.now walk.old }
+    requires few { walk.old.coin < 2 ^ 63 }
     ensures length { length walk.new.letters ≡ length walk.old.letters }
     ensures passes { IfOk result (λ gone. gone ≡ true → (inverted : Bool) → Passes (length walk.old.letters) (note_at strings.now.strings free.now) (collapse letter qubit recorded inverted resets) walk.old walk.new) }
     ensures told { IfOk result (λ gone. gone ≡ true → (inverted : Bool) → IsTold (length walk.old.letters) strings.now.strings free.now (collapse letter qubit recorded inverted resets) walk.old.coin walk.old.letters) }
     ensures placed { OnOk result (IsPlaced free.now walk.new) }
     ensures unchanged { IfOk result (λ gone. gone ≡ false → walk.new ≡ walk.old) }
 {
-    let apart = walk.letters()[qubit].anticommutes(letter);
+    let apart = walk.letter(qubit).anticommutes(letter);
     match pass_outcome(walk, strings, free, apart) {
         Some(flipped) => {
-            reset_if(walk, letter, qubit, resets, flipped);
+            multiply_if(walk, resets && flipped, flip(letter), qubit);
             flip_record_when(walk, recorded, flipped)?;
             Ok(true)
         }
@@ -204,6 +210,7 @@ fn pass_product(
     requires in_range { All (λ f. f.qubit < length walk.old.letters) factors.now }
     requires apart { names_twice factors.now ≡ false }
     requires placed { IsPlaced free.now walk.old }
+    requires few { walk.old.coin < 2 ^ 63 }
     ensures length { length walk.new.letters ≡ length walk.old.letters }
     ensures passes { IfOk result (λ gone. gone ≡ true → (inverted : Bool) → Passes (length walk.old.letters) (note_at strings.now.strings free.now) (product factors.now inverted) walk.old walk.new) }
     ensures told { IfOk result (λ gone. gone ≡ true → (inverted : Bool) → IsTold (length walk.old.letters) strings.now.strings free.now (product factors.now inverted) walk.old.coin walk.old.letters) }

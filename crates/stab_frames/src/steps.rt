@@ -1,4 +1,4 @@
-ghost use Rattle.std.specs.Prelude.{◌≡◌, ◌≢◌, ℕ, ◌≤◌, Bool, All, length, take, drop, OnOk, IfOk};
+ghost use Rattle.std.specs.Prelude.{◌≡◌, ◌≢◌, ℕ, ◌+◌, ◌^◌, ◌<◌, ◌≤◌, Bool, All, length, take, drop, OnOk, IfOk};
 ghost use Rattle.stab_circuit.specs.Steps.{Step};
 ghost use Rattle.stab_run.specs.Points.{Point, outputs};
 ghost use Rattle.stab_run.specs.ProgramStates.{StepFits};
@@ -46,6 +46,7 @@ pub fn walk_steps(
     requires same_length { strings.now.qubits ≡ length walk.old.letters }
     requires fits { All (StepFits (length walk.old.letters)) cursor.old.left }
     requires placed { IsPlaced free.now walk.old }
+    requires few { walk.old.coin + length cursor.old.left < 2 ^ 63 }
     ensures all { cursor.new.all ≡ cursor.old.all }
     ensures length { length walk.new.letters ≡ length walk.old.letters }
     ensures placed { OnOk result (IsPlaced free.now walk.new) }

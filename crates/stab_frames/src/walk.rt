@@ -21,8 +21,8 @@ pub struct FrameWalk {
     additions: Vec<Addition>,
     // None of the newest records is flipped, as many as this.
     still: usize,
-    // The coin number where it began, and how many coins it has passed.
-    begin: usize,
+    coin: usize,
+    // How many coins it has passed.
     passed: usize,
     number: usize,
 }
@@ -31,22 +31,22 @@ impl Model for FrameWalk {
     ghost use Rattle.std.specs.Prelude.{◌≡◌, ℕ, ◌+◌, ◌≤◌, false, replicate};
     ghost use Rattle.stab_run.specs.Records.{looked_up};
     ghost use Rattle.stab_frames.specs.Walks.{WalkState};
-    ghost use Rattle.stab_frames.specs.inner.Weights.{weight};
+    ghost use Rattle.stab_frames.specs.inner.Weights.{string_weight};
 
     ghost Value = { WalkState };
 
     ghost view = { λ w. record {
         letters = w.letters.items;
         flips = record { records = w.records.items; free = replicate w.passed false; detectors = w.detectors.items; additions = w.additions.items };
-        coin = w.begin + w.passed;
+        coin = w.coin;
         number = w.number;
     } };
 
-    ghost invariant = { λ w. (w.weight ≡ weight w.letters.items) × ((k : ℕ) → k ≤ w.still → looked_up w.records.items k ≡ false) };
+    ghost invariant = { λ w. (w.weight ≡ string_weight w.letters.items) × ((k : ℕ) → k ≤ w.still → looked_up w.records.items k ≡ false) × (w.passed ≤ w.coin) × (w.number ≤ w.coin) };
 }
 
 impl FrameWalk {
-    ghost use Rattle.std.specs.Prelude.{◌≡◌, ℕ, ◌+◌, ◌≤◌, ◌<◌, ◌∷◌, [], ◌++◌, true, length, replicate, take, slice_set, OnOk, IfOk};
+    ghost use Rattle.std.specs.Prelude.{◌≡◌, ℕ, ◌+◌, ◌^◌, ◌≤◌, ◌<◌, ◌∷◌, [], ◌++◌, true, length, replicate, take, slice_index_or, slice_set, OnOk, IfOk};
     ghost use Rattle.stab_pauli.specs.declared.letter.Letter.TheVariants.{I};
     ghost use Rattle.stab_pauli.specs.Paulis.{single, string_product};
     ghost use Rattle.stab_run.specs.Records.{ones};
@@ -58,9 +58,10 @@ impl FrameWalk {
     /// The identity on n qubits, which has flipped nothing, before the coin with this number of a
     /// run with these flags.
     pub fn new(alloc: Global, n: usize, free: &[bool], coin: usize) -> Result<FrameWalk, AllocError>
+        requires in_range { coin ≤ length free.now }
         ensures value { IfOk result (λ w. w ≡ record { letters = replicate n I; flips = nothing; coin = coin; number = ones (take coin free.now) }) }
     {
-        let (front, _) = free.split_at(coin.min(free.len()));
+        let (front, _) = free.split_at(coin);
         Ok(FrameWalk {
             letters: vec![in alloc; Letter::I; n]?,
             weight: 0,
@@ -68,7 +69,7 @@ impl FrameWalk {
             detectors: Vec::new(alloc),
             additions: Vec::new(alloc),
             still: usize::MAX,
-            begin: coin,
+            coin,
             passed: 0,
             number: count_ones(front),
         })
@@ -89,7 +90,7 @@ impl FrameWalk {
         ensures value { self.new ≡ record self.old { letters = string_product self.old.letters string.now.letters } }
     {
         for qubit in 0..self.letters.len() {
-            let product = self.letters[qubit].times(string.letter(qubit));
+            let product = self.letter(qubit).times(string.letter(qubit));
             self.set(qubit, product);
         }
     }
@@ -100,8 +101,8 @@ impl FrameWalk {
         requires same_length { length others.now ≡ length records.now }
         ensures value { OnOk result (self.new ≡ record self.old { flips = record self.old.flips { records = self.old.flips.records ++ flipped records.now others.now } }) }
     {
-        for (record, other) in records.iter().zip(others) {
-            self.flip_record(*other ^ *record)?;
+        for place in 0..records.len() {
+            self.flip_record(others[place] ^ records[place])?;
         }
         Ok(())
     }
@@ -111,6 +112,14 @@ impl FrameWalk {
         ensures value { result.now ≡ self.now.letters }
     {
         self.letters.as_slice()
+    }
+
+    /// The letter at a qubit.
+    pub fn letter(&self, qubit: usize) -> Letter
+        requires in_range { qubit < length self.now.letters }
+        ensures value { result ≡ slice_index_or self.now.letters qubit I }
+    {
+        self.letters[qubit]
     }
 
     /// Which records it has flipped since it began.
@@ -138,7 +147,7 @@ impl FrameWalk {
     pub fn coin(&self) -> usize
         ensures value { result ≡ self.now.coin }
     {
-        self.begin + self.passed
+        self.coin
     }
 
     /// How many outcomes before the next coin's were free.
@@ -195,8 +204,10 @@ impl FrameWalk {
 
     /// Goes over the measurement of the next coin, whose outcome was free or not.
     pub(crate) fn pass_coin(&mut self, free: bool)
+        requires few { self.old.coin < 2 ^ 63 }
         ensures value { self.new ≡ record self.old { flips = joined self.old.flips one_coin; coin = self.old.coin + 1; number = self.old.number + ones (free ∷ []) } }
     {
+        self.coin += 1;
         self.passed += 1;
         self.number += usize::from(free);
     }

@@ -13,7 +13,7 @@ use Rattle.stab_frames.specs.KeptStrings.{StringsState, kept_with}
 pub record IsAdded (n : ℕ) (member : Signed → Bool) (m : Signed) (old new : StringsState) : Type 0 where
   pub string : List Letter
   pub exchanges : Exchanges n member m string
-  pub strings : new.strings ≡ kept_with old.qubits old.strings (string ∷ [])
+  pub strings : new.strings ≡ kept_with old.most old.strings (string ∷ [])
 
 -- where the outcome of what is measured is free, a string is added, and else none
 abbrev pub IsNotedOf : ℕ → (Signed → Bool) → Option Signed → StringsState → StringsState → Type 0

@@ -41,6 +41,13 @@ letters_for (Some s) apart f = times_where apart s f
 abbrev pub one_coin : RunOutput
 one_coin = record nothing { free = false ∷ [] }
 
+-- over the outcome of something with which the frame anticommutes or not, which is flipped or not
+pub record IsPassed (strings : ℕ → Option (List Letter)) (apart flip : Bool) (old new : WalkState) : Type 0 where
+  pub outcome : flip ≡ flip_by (strings old.coin) apart
+  pub letters : new.letters ≡ letters_for (strings old.coin) apart old.letters
+  pub flips : new.flips ≡ joined old.flips one_coin
+  pub coin : new.coin ≡ old.coin + 1
+
 -- over one step
 pub record Passes (n : ℕ) (strings : ℕ → Option (List Letter)) (x : Step) (old new : WalkState) : Type 0 where
   pub letters : new.letters ≡ letters_after n (same_coins strings) x old.coin (frame_at 0 old)
