@@ -9,6 +9,9 @@ use Rattle.stab_frames.specs.KeptStrings.{StringsState, kept_with}
 abbrev pub letters_of : List Signed → List (List Letter)
 letters_of strings = map (λ (p : Signed). p.letters) strings
 
+pub letters_front : (count : ℕ) (strings : List Signed) → map (λ (p : Signed). p.letters) (take count strings) ≡ take count (map (λ (p : Signed). p.letters) strings)
+letters_front count strings = sym (take-map (λ (p : Signed). p.letters) count strings)
+
 pub kept-front : (n most count : ℕ) (strings left : List Signed) → left ≡ take count strings
     → ◌≡◌ {A = StringsState} (record { qubits = n; most = most; strings = letters_of left }) (record { qubits = n; most = most; strings = take count (letters_of strings) })
 kept-front n most count strings left e =

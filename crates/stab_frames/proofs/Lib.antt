@@ -27,3 +27,4 @@ pub mod NotedLemmas
 pub mod KeptLemmas
 pub mod ImageLemmas
 pub mod StepsWalkedLemmas
+pub mod GoneLemmas

@@ -1,5 +1,5 @@
 -- Measured passes: what a frame's way over one step, as programs go it, comes to.
-use Rattle.std.proofs.Common.{◌≡◌, ℕ, zero, suc, ◌+◌, ◌<◌, ⊥, refl, sym, ◌∙◌, ap, subst, Bool, true, false, ◌&&◌, List, [], ◌∷◌, ◌++◌, append-nil, length, replicate, take, get_or, arith}
+use Rattle.std.proofs.Common.{◌≡◌, ℕ, zero, suc, ◌+◌, ◌<◌, refl, sym, ◌∙◌, ap, subst, Bool, true, false, ◌&&◌, List, [], ◌∷◌, ◌++◌, append-nil, length, replicate, take, get_or, arith}
 use Rattle.std.specs.Prelude.{Option, Some, None, IfSome, slice_get, if◌then◌else◌}
 use Rattle.std.proofs.lemmas.Option.{slice_get-get_or}
 use Rattle.stab_pauli.specs.declared.letter.Letter.{Letter}
@@ -137,14 +137,14 @@ pub passed-apart : (strings : List (List Letter)) (free : List Bool) (string : L
     → IsPlaced free old → old.number < length strings → string ≡ get_or strings old.number []
     → mid ≡ behind_coin true old → new ≡ record mid { letters = string_product mid.letters string }
     → IsPassed (note_at strings free) true false old new
-passed-apart strings free string old mid new e placed lt is_string first then = record {
+passed-apart strings free string old mid new e placed lt is_string first last = record {
   outcome = ap (λ o. flip_by o true) (sym note);
   letters =
-      ap (λ (w : WalkState). w.letters) then
+      ap (λ (w : WalkState). w.letters) last
       ∙ (λ i. string_product (first i).letters (is_string i))
       ∙ ap (λ o. letters_for o true old.letters) (sym note);
-  flips = ap (λ (w : WalkState). w.flips) then ∙ ap (λ (w : WalkState). w.flips) first;
-  coin = ap (λ (w : WalkState). w.coin) then ∙ ap (λ (w : WalkState). w.coin) first;
+  flips = ap (λ (w : WalkState). w.flips) last ∙ ap (λ (w : WalkState). w.flips) first;
+  coin = ap (λ (w : WalkState). w.coin) last ∙ ap (λ (w : WalkState). w.coin) first;
 }
   where
     note : note_at strings free old.coin ≡ Some (get_or strings old.number [])

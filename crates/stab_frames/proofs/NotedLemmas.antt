@@ -34,9 +34,9 @@ module _ (n : ℕ) (coins : ℕ → Bool) (xs : List Step) (kept : StringsState)
   front-true is =
       true-same n coins (note_at kept.strings free) (note_at (take kept.most (kept.strings ++ more)) (free ++ flags)) xs origin
       (λ t lt.
-          ap (note_at kept.strings free) (none t)
-          ∙ sym (note-before kept.most kept.strings more free flags t numbered (omega (arith, count, coin-after n coins xs origin, lt)))
-          ∙ ap (note_at (take kept.most (kept.strings ++ more)) (free ++ flags)) (sym (none t))) is
+      ap (note_at kept.strings free) (none t)
+      ∙ sym (note-before kept.most kept.strings more free flags t numbered (omega (arith, count, coin-after n coins xs origin, lt)))
+      ∙ ap (note_at (take kept.most (kept.strings ++ more)) (free ++ flags)) (sym (none t))) is
     where
       none : (t : ℕ) → 0 + t ≡ t
       none t = omega arith
@@ -54,12 +54,11 @@ keeps-unmeasured : (n : ℕ) (coins : ℕ → Bool) (x : Step) (kept behind : St
 keeps-unmeasured n coins x kept behind old new none gives same most run xs at numbered is =
     let p = point_after n coins xs origin in
     let flags : new.output.free ≡ old.output.free =
-        ap (λ o. o.free) (run p at).output ∙ ap (λ bits. old.output.free ++ (bits ++ [])) (gives p) ∙ append-nil old.output.free in
-    (
+    ap (λ o. o.free) (run p at).output ∙ ap (λ bits. old.output.free ++ (bits ++ [])) (gives p) ∙ append-nil old.output.free in (
       subst (λ k. length behind.strings ≡ min k behind.most) (sym (ap ones flags)) (ap length same ∙ numbered ∙ ap (λ k. min (ones old.output.free) k) (sym most)),
       subst (λ s. AreTrue n coins (note_at s new.output.free) (xs ++ x ∷ []) origin) (sym same)
-      (subst (λ bits. AreTrue n coins (note_at kept.strings bits) (xs ++ x ∷ []) origin) (sym flags)
-      (true-append n coins (note_at kept.strings old.output.free) xs (x ∷ []) origin is (none (member p.trace) (note_at kept.strings old.output.free p.coin), tt))),
+          (subst (λ bits. AreTrue n coins (note_at kept.strings bits) (xs ++ x ∷ []) origin) (sym flags)
+          (true-append n coins (note_at kept.strings old.output.free) xs (x ∷ []) origin is (none (member p.trace) (note_at kept.strings old.output.free p.coin), tt))),
     )
 
 -- a measurement whose outcome is fixed, and one whose outcome is free
@@ -82,17 +81,18 @@ module _ (n : ℕ) (coins : ℕ → Bool) (x : Step) (m : Signed) (kept behind :
   keeps-fixed xs at numbered fixed same is =
       let p = point_after n coins xs origin in
       let free = old.output.free in
-      let flags = flags-of xs false at fixed in
-      (
+      let flags = flags-of xs false at fixed in (
         subst (λ bits. length behind.strings ≡ min (ones bits) behind.most) (sym flags)
-        (ap length same ∙ numbered-fixed kept.most kept.strings free numbered ∙ ap (λ k. min (ones (free ++ false ∷ [])) k) (sym most)),
+            (ap length same ∙ numbered-fixed kept.most kept.strings free numbered ∙ ap (λ k. min (ones (free ++ false ∷ [])) k) (sym most)),
         subst (λ s. AreTrue n coins (note_at s new.output.free) (xs ++ x ∷ []) origin) (as_many kept free numbered ∙ sym same)
-        (subst (λ bits. AreTrue n coins (note_at (take kept.most (kept.strings ++ [])) bits) (xs ++ x ∷ []) origin) (sym flags)
-        (true-append n coins (note_at (take kept.most (kept.strings ++ [])) (free ++ false ∷ [])) xs (x ∷ []) origin
-        (front-true n coins xs kept free (false ∷ []) [] numbered at.coin is)
-        (true-of (note_at (take kept.most (kept.strings ++ [])) (free ++ false ∷ [])) p
-        (subst (λ c. IfSome (note_at (take kept.most (kept.strings ++ [])) (free ++ false ∷ []) c) (λ s. Exchanges n (member p.trace) m s)) at.coin
-        (subst (λ o. IfSome o (λ s. Exchanges n (member p.trace) m s)) (sym (note-fixed (take kept.most (kept.strings ++ [])) free)) tt)), tt))),
+            (subst (λ bits. AreTrue n coins (note_at (take kept.most (kept.strings ++ [])) bits) (xs ++ x ∷ []) origin) (sym flags)
+            (true-append n coins (note_at (take kept.most (kept.strings ++ [])) (free ++ false ∷ [])) xs (x ∷ []) origin
+            (front-true n coins xs kept free (false ∷ []) [] numbered at.coin is) (
+              true-of (note_at (take kept.most (kept.strings ++ [])) (free ++ false ∷ [])) p
+                  (subst (λ c. IfSome (note_at (take kept.most (kept.strings ++ [])) (free ++ false ∷ []) c) (λ s. Exchanges n (member p.trace) m s)) at.coin
+                  (subst (λ o. IfSome o (λ s. Exchanges n (member p.trace) m s)) (sym (note-fixed (take kept.most (kept.strings ++ [])) free)) tt)),
+              tt,
+            ))),
       )
 
   keeps-free : (xs : List Step) → IsAt n old (point_after n coins xs origin) → IsNumbered kept old.output.free
@@ -104,17 +104,18 @@ module _ (n : ℕ) (coins : ℕ → Bool) (x : Step) (m : Signed) (kept behind :
       let free = old.output.free in
       let flags = flags-of xs true at is_free in
       let s = added.string in
-      let exchanges = exchanges-same n old.stabilised (member p.trace) m s at.group added.exchanges in
-      (
+      let exchanges = exchanges-same n old.stabilised (member p.trace) m s at.group added.exchanges in (
         subst (λ bits. length behind.strings ≡ min (ones bits) behind.most) (sym flags)
-        (ap length added.strings ∙ numbered-free kept.most kept.strings s free numbered ∙ ap (λ k. min (ones (free ++ true ∷ [])) k) (sym most)),
+            (ap length added.strings ∙ numbered-free kept.most kept.strings s free numbered ∙ ap (λ k. min (ones (free ++ true ∷ [])) k) (sym most)),
         subst (λ t. AreTrue n coins (note_at t new.output.free) (xs ++ x ∷ []) origin) (sym added.strings)
-        (subst (λ bits. AreTrue n coins (note_at (take kept.most (kept.strings ++ s ∷ [])) bits) (xs ++ x ∷ []) origin) (sym flags)
-        (true-append n coins (note_at (take kept.most (kept.strings ++ s ∷ [])) (free ++ true ∷ [])) xs (x ∷ []) origin
-        (front-true n coins xs kept free (true ∷ []) (s ∷ []) numbered at.coin is)
-        (true-of (note_at (take kept.most (kept.strings ++ s ∷ [])) (free ++ true ∷ [])) p
-        (subst (λ c. IfSome (note_at (take kept.most (kept.strings ++ s ∷ [])) (free ++ true ∷ []) c) (λ t. Exchanges n (member p.trace) m t)) at.coin
-        (note-free (λ t. Exchanges n (member p.trace) m t) kept.most kept.strings s free numbered exchanges)), tt))),
+            (subst (λ bits. AreTrue n coins (note_at (take kept.most (kept.strings ++ s ∷ [])) bits) (xs ++ x ∷ []) origin) (sym flags)
+            (true-append n coins (note_at (take kept.most (kept.strings ++ s ∷ [])) (free ++ true ∷ [])) xs (x ∷ []) origin
+            (front-true n coins xs kept free (true ∷ []) (s ∷ []) numbered at.coin is) (
+              true-of (note_at (take kept.most (kept.strings ++ s ∷ [])) (free ++ true ∷ [])) p
+                  (subst (λ c. IfSome (note_at (take kept.most (kept.strings ++ s ∷ [])) (free ++ true ∷ []) c) (λ t. Exchanges n (member p.trace) m t)) at.coin
+                  (note-free (λ t. Exchanges n (member p.trace) m t) kept.most kept.strings s free numbered exchanges)),
+              tt,
+            ))),
       )
 
   keeps-measured : IsNotedOf n old.stabilised (Some m) kept behind → KeepsTrue n coins (x ∷ []) kept behind old new
@@ -173,7 +174,6 @@ keeps-rest n m c d xs x rest kept mid behind a b new e same_size same_coins run 
 
 pub within-rest : (m k : ℕ) (xs : List Step) (x : Step) (rest : List Step) → xs ≡ x ∷ rest → m ≤ k → LooksWithin m x → All (LooksWithin k) rest → All (LooksWithin k) xs
 within-rest m k xs x rest e le here all = subst (All (LooksWithin k)) (sym e) (All-cons (LooksWithin k) x rest (near-more m k le (lookbacks x) here) all)
-
 
 -- steps that look back no further than so many records do not look too far where there are as many
 pub within-near : (m k : ℕ) (xs : List Step) → m ≤ k → All (LooksWithin m) xs → looks_too_far k xs ≡ false

@@ -44,7 +44,7 @@ flips-append n notes (x ∷ xs) ys coin f =
     (flips-append n notes xs ys (coin + coins_of x) g
     ∙ ap (λ c. joined (flips_over n notes xs (coin + coins_of x) g) (flips_over n notes ys c (frame_over n notes xs (coin + coins_of x) g))) (more coin (coins_of x) (all_coins_of xs)))
     ∙ sym (joined-assoc (flips_given n notes x coin f) (flips_over n notes xs (coin + coins_of x) g)
-        (flips_over n notes ys (coin + (coins_of x + all_coins_of xs)) (frame_over n notes xs (coin + coins_of x) g)))
+    (flips_over n notes ys (coin + (coins_of x + all_coins_of xs)) (frame_over n notes xs (coin + coins_of x) g)))
 
 pub enough-append : (n : ℕ) (coins : ℕ → Bool) (notes : Notes) (xs ys : List Step) (f : Frame) (a : Point) → AreEnough n coins notes xs f a
     → AreEnough n coins notes ys (frame_over n notes xs a.coin f) (point_after n coins xs a) → AreEnough n coins notes (xs ++ ys) f a

@@ -158,5 +158,5 @@ told-enough n coins strings free [] f a told is rest flags = tt
 told-enough n coins strings free (x ∷ xs) f a told is rest flags =
     let next = next_point n coins x a in
     let here = step-enough n coins strings free x f.letters a told.0 is.0 ((outputs n coins xs next).free ++ rest)
-        (flags ∙ append_assoc (given n coins x a).free (outputs n coins xs next).free rest) in
+    (flags ∙ append_assoc (given n coins x a).free (outputs n coins xs next).free rest) in
     (here.0, told-enough n coins strings free xs (frame_after n (same_coins (note_at strings free)) x a.coin f) next told.1 is.1 rest here.1)

@@ -74,9 +74,11 @@ pub told-further : (n : ℕ) (strings : List (List Letter)) (free : List Bool) (
     → AreTold n strings free (take (k + 1) xs) old.coin (frame_at base old)
 told-further n strings free k xs x rest old now base e over told here =
     subst (λ ys. AreTold n strings free ys old.coin (frame_at base old)) (sym (take-further k xs x rest e))
-    (told-append n strings free (take k xs) (x ∷ []) old.coin (frame_at base old) told
-    (subst (λ c. IsTold n strings free x c (frame_over n (same_coins (note_at strings free)) (take k xs) old.coin (frame_at base old)).letters) over.coin
-    (subst (λ (f : Frame). IsTold n strings free x now.coin f.letters) (over.frame base) here), tt))
+    (told-append n strings free (take k xs) (x ∷ []) old.coin (frame_at base old) told (
+      subst (λ c. IsTold n strings free x c (frame_over n (same_coins (note_at strings free)) (take k xs) old.coin (frame_at base old)).letters) over.coin
+          (subst (λ (f : Frame). IsTold n strings free x now.coin f.letters) (over.frame base) here),
+      tt,
+    ))
 
 coins-few : (xs : List Step) → all_coins_of xs ≤ length xs
 coins-few [] = omega arith

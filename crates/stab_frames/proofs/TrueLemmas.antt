@@ -118,8 +118,7 @@ pub true-framed : (n : ℕ) (coins : ℕ → Bool) (strings : ℕ → Option (Li
 true-framed n coins strings [] f a b fits group enough apart is = tt
 true-framed n coins strings (x ∷ xs) f a b fits group enough apart is =
     let fit = All-head (StepFits n) x xs fits in
-    let next = step-framed n coins (same_coins strings) x f a b fit group enough.0 apart in
-    (
+    let next = step-framed n coins (same_coins strings) x f a b fit group enough.0 apart in (
       if-some n (member a.trace) (member b.trace) (measured_by n x) (strings a.coin) (strings b.coin) (ap strings (sym apart.coin))
           (λ m s e. exchanges-turned n f.letters (member a.trace) (member b.trace) m s apart.group e) is.0,
       true-framed n coins strings xs (frame_after n (same_coins strings) x a.coin f) (next_point n coins x a) (next_point n coins x b)

@@ -92,9 +92,9 @@ pub product-single : (p : List Letter) (q : ℕ) (l r : Letter) → q < length p
 product-single p q l r lt e =
     ap (set p q) e
     ∙ sym
-        (ap (λ w. string_product w (set (replicate (length p) I) q l)) (sym (set-get_or p q I))
-        ∙ string_product-set (length p) p (replicate (length p) I) q (get_or p q I) l refl (length-replicate (length p) I) lt
-        ∙ ap (λ w. set w q (letter_product (get_or p q I) l)) (string_product-blank_right (length p) p refl))
+    (ap (λ w. string_product w (set (replicate (length p) I) q l)) (sym (set-get_or p q I))
+    ∙ string_product-set (length p) p (replicate (length p) I) q (get_or p q I) l refl (length-replicate (length p) I) lt
+    ∙ ap (λ w. set w q (letter_product (get_or p q I) l)) (string_product-blank_right (length p) p refl))
 
 -- flips one after another
 pub flipped-next : (i : ℕ) (bits flips : List Bool) → length flips ≡ length bits → i < length bits

@@ -89,6 +89,7 @@ fn pass_pair(walk: &mut FrameWalk, gate: PairGate, first: usize, second: usize)
 fn pass_controlled(walk: &mut FrameWalk, letter: Letter, k: u32, qubit: usize)
     requires in_range { qubit < length walk.old.letters }
     ensures value { walk.new ≡ record walk.old { letters = times_where (looked_up_of walk.old.flips.records k) (single (length walk.old.letters) qubit letter).letters walk.old.letters } }
+    ensures length { length walk.new.letters ≡ length walk.old.letters }
 {
     let flipped = looked_up(walk.records(), k);
     multiply_if(walk, flipped, letter, qubit);
@@ -98,6 +99,7 @@ fn pass_controlled(walk: &mut FrameWalk, letter: Letter, k: u32, qubit: usize)
 fn multiply_if(walk: &mut FrameWalk, bit: bool, letter: Letter, qubit: usize)
     requires in_range { qubit < length walk.old.letters }
     ensures value { walk.new ≡ record walk.old { letters = times_where bit (single (length walk.old.letters) qubit letter).letters walk.old.letters } }
+    ensures length { length walk.new.letters ≡ length walk.old.letters }
 {
     if bit {
         walk.multiply_letter(letter, qubit);
@@ -179,7 +181,7 @@ fn pass_collapse(
     let apart = walk.letter(qubit).anticommutes(letter);
     match pass_outcome(walk, strings, free, apart) {
         Some(flipped) => {
-            multiply_if(walk, resets && flipped, flip(letter), qubit);
+            multiply_if(walk, resets & flipped, flip(letter), qubit);
             flip_record_when(walk, recorded, flipped)?;
             Ok(true)
         }

@@ -60,17 +60,30 @@ pub fn walk_steps(
     let mut steps = 0;
     while steps < most {
         if walk.is_gone(reach) {
-            return Ok(Walked { stop: Stop::Gone, steps });
+            return Ok(Walked {
+                stop: Stop::Gone,
+                steps,
+            });
         }
         match cursor.next() {
             Some(step) => {
-                if !pass(walk, strings, free, step)? {
-                    return Ok(Walked { stop: Stop::NoString, steps });
+                let went = pass(walk, strings, free, step)?;
+                if !went {
+                    return Ok(Walked {
+                        stop: Stop::NoString,
+                        steps,
+                    });
                 }
             }
-            None => return Ok(Walked { stop: Stop::Behind, steps }),
+            None => return Ok(Walked {
+                stop: Stop::Behind,
+                steps,
+            }),
         }
         steps += 1;
     }
-    Ok(Walked { stop: Stop::Behind, steps })
+    Ok(Walked {
+        stop: Stop::Behind,
+        steps,
+    })
 }

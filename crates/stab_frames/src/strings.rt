@@ -71,6 +71,7 @@ impl KeptStrings {
     }
 
     /// Leaves the first ones, up to so many.
+    #[tactic(auto, using(crate::proofs::KeptLemmas::letters_front))]
     pub fn truncate(&mut self, count: usize)
         ensures value { self.new ≡ record self.old { strings = take count self.old.strings } }
     {
@@ -117,7 +118,10 @@ impl KeptStrings {
         ensures strings { OnOk result (self.new.strings ≡ kept_with self.old.most self.old.strings (drop from other.now.strings)) }
         ensures err { IfErr result (λ r. r ≡ OutOfMemory) }
     {
-        let (_, rest) = other.strings.as_slice().split_at(from.min(other.strings.len()));
+        let (_, rest) = other
+            .strings
+            .as_slice()
+            .split_at(from.min(other.strings.len()));
         self.append(alloc, rest)
     }
 
@@ -141,6 +145,7 @@ impl KeptStrings {
     pub(crate) fn string(&self, number: usize) -> &Pauli
         requires in_range { number < length self.now.strings }
         ensures letters { result.now.letters ≡ slice_index_or self.now.strings number [] }
+        ensures length { length result.now.letters ≡ self.now.qubits }
     {
         &self.strings[number]
     }

@@ -36,10 +36,10 @@ impl Model for FrameWalk {
     ghost Value = { WalkState };
 
     ghost view = { λ w. record {
-        letters = w.letters.items;
-        flips = record { records = w.records.items; free = replicate w.passed false; detectors = w.detectors.items; additions = w.additions.items };
-        coin = w.coin;
-        number = w.number;
+      letters = w.letters.items;
+      flips = record { records = w.records.items; free = replicate w.passed false; detectors = w.detectors.items; additions = w.additions.items };
+      coin = w.coin;
+      number = w.number;
     } };
 
     ghost invariant = { λ w. (w.weight ≡ string_weight w.letters.items) × ((k : ℕ) → k ≤ w.still → looked_up w.records.items k ≡ false) × (w.passed ≤ w.coin) × (w.number ≤ w.coin) };
@@ -79,6 +79,7 @@ impl FrameWalk {
     pub fn multiply_letter(&mut self, letter: Letter, qubit: usize)
         requires in_range { qubit < length self.old.letters }
         ensures value { self.new ≡ record self.old { letters = string_product self.old.letters (single (length self.old.letters) qubit letter).letters } }
+        ensures length { length self.new.letters ≡ length self.old.letters }
     {
         let product = self.letters[qubit].times(letter);
         self.set(qubit, product);
@@ -88,6 +89,7 @@ impl FrameWalk {
     pub fn multiply(&mut self, string: &Pauli)
         requires same_length { length string.now.letters ≡ length self.old.letters }
         ensures value { self.new ≡ record self.old { letters = string_product self.old.letters string.now.letters } }
+        ensures length { length self.new.letters ≡ length self.old.letters }
     {
         for qubit in 0..self.letters.len() {
             let product = self.letter(qubit).times(string.letter(qubit));
@@ -180,7 +182,11 @@ impl FrameWalk {
         ensures letters { self.new.letters ≡ self.old.letters }
     {
         self.records.push(flip)?;
-        self.still = if flip { 0 } else { self.still.saturating_add(1) };
+        self.still = if flip {
+            0
+        } else {
+            self.still.saturating_add(1)
+        };
         Ok(())
     }
 

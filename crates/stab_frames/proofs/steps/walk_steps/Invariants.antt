@@ -12,7 +12,7 @@ invariant-loop-steps l = record {
   within : l.steps ≤ length l.initial.cursor.left;
   left : l.cursor.left ≡ drop l.steps l.initial.cursor.left;
   all : l.cursor.all ≡ l.initial.cursor.all;
-  length : length l.walk.letters ≡ length l.initial.walk.letters;
+  size : length l.walk.letters ≡ length l.initial.walk.letters;
   placed : IsPlaced l.free l.walk;
   over : WalksOver (length l.initial.walk.letters) (note_at l.strings.strings l.free) (take l.steps l.initial.cursor.left) l.initial.walk l.walk;
   told : (base : ℕ) → AreTold (length l.initial.walk.letters) l.strings.strings l.free (take l.steps l.initial.cursor.left) l.initial.walk.coin (frame_at base l.initial.walk);

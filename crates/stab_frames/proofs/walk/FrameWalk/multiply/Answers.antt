@@ -7,11 +7,6 @@ letter-requires c =
     let size = multiplied-length c.loop-qubit.qubit c.args.string.now.letters c.args.self.now c.loop-qubit.self c.requires.same_length c.loop-qubit.invariant in
     record { in_range = grind (arith, size) }
 
-pub letter-requires-2 : goal.letter-requires-2
-letter-requires-2 c =
-    let size = multiplied-length c.loop-qubit.qubit c.args.string.now.letters c.args.self.now c.loop-qubit.self c.requires.same_length c.loop-qubit.invariant in
-    record { in_range = grind (arith, size) }
-
 pub set-requires : goal.set-requires
 set-requires c =
     let size = multiplied-length c.loop-qubit.qubit c.args.string.now.letters c.args.self.now c.loop-qubit.self c.requires.same_length c.loop-qubit.invariant in
@@ -24,5 +19,6 @@ loop-qubit-preserved c =
 
 pub returns : goal.returns
 returns c = record {
+  length = multiplied-length c.loop-qubit.qubit c.args.string.now.letters c.args.self.now c.loop-qubit.self c.requires.same_length c.loop-qubit.invariant;
   value = multiplied-all c.loop-qubit.qubit c.args.string.now.letters c.args.self.now c.loop-qubit.self c.requires.same_length (grind arith) c.loop-qubit.invariant;
 }

@@ -1,10 +1,12 @@
 use Rattle.std.proofs.Common.{arith, rules, ◌∙◌, ap, length}
 use Rattle.stab_frames.specs.Walks.{WalkState}
+use Rattle.std.proofs.lemmas.List.{length-set}
 use Rattle.stab_frames.proofs.WalkLemmas.{product-single, read-letter}
 use Rattle.stab_frames.proofs.walk.FrameWalk.multiply_letter.Goals as goal
 
 pub returns : goal.returns
 returns c = record {
+  length = ap (λ (w : WalkState). length w.letters) c.set.ensures.value ∙ length-set c.args.self.now.letters c.args.qubit c.times-product.result;
   value =
       c.set.ensures.value
       ∙ ap (λ w. record c.args.self.now { letters = w })
