@@ -1,5 +1,5 @@
 -- Factors: whether a string anticommutes with a product, by its factors one after another, and with one letter.
-use Rattle.std.proofs.Common.{◌≡◌, ◌≢◌, ℕ, zero, suc, ◌+◌, ◌<◌, refl, sym, ◌∙◌, ap, subst, Bool, true, false, ◌||◌, List, [], ◌∷◌, length, replicate, get_or, set, All, arith}
+use Rattle.std.proofs.Common.{◌≡◌, ◌≢◌, ℕ, zero, suc, ◌<◌, refl, sym, ◌∙◌, ap, subst, Bool, true, false, ◌||◌, List, [], ◌∷◌, length, replicate, get_or, set, All, arith}
 use Rattle.std.specs.Prelude.{◌==◌}
 use Rattle.std.proofs.lemmas.List.{length-replicate, length-set, get_or-set_other}
 use Rattle.std.proofs.lemmas.List.Elements.{All-head, All-tail}

@@ -1,6 +1,6 @@
 -- Noted: a run that notes strings on its way keeps them numbered and true.
-use Rattle.std.proofs.Common.{◌≡◌, ℕ, suc, ◌+◌, ◌<◌, ◌≤◌, min, refl, sym, ◌∙◌, ap, subst, Bool, true, false, List, [], ◌∷◌, ◌++◌, append_assoc, append-nil, length, take, nat_lt, All, arith}
-use Rattle.std.specs.Prelude.{Option, Some, None, IfSome}
+use Rattle.std.proofs.Common.{◌≡◌, ℕ, ◌+◌, ◌≤◌, min, refl, sym, ◌∙◌, ap, subst, Bool, true, false, List, [], ◌∷◌, ◌++◌, append_assoc, append-nil, length, take, nat_lt, All, arith}
+use Rattle.std.specs.Prelude.{Option, Some, IfSome}
 use Rattle.std.specs.List.{list_any}
 use Rattle.std.proofs.lemmas.List.{take_all}
 use Rattle.std.proofs.lemmas.List.Elements.{All-cons, All-head, All-tail}
@@ -14,11 +14,11 @@ use Rattle.stab_tableau.proofs.MemberLemmas.{same-free}
 use Rattle.stab_circuit.specs.Steps.{Step, one, two, controlled, collapse, product, detector, observable, lookbacks, makes, looks_too_far}
 use Rattle.stab_run.specs.Records.{ones}
 use Rattle.stab_run.specs.Runs.{string_of}
-use Rattle.stab_run.specs.Points.{Point, origin, joined, nothing, given, coins_of, all_coins_of, point_after, outputs}
+use Rattle.stab_run.specs.Points.{Point, origin, given, point_after}
 use Rattle.stab_run.specs.ProgramStates.{ProgramState, IsAt, IsRun}
-use Rattle.stab_run.proofs.RunLemmas.{after-append, joined-nothing}
+use Rattle.stab_run.proofs.RunLemmas.{after-append}
 use Rattle.stab_run.proofs.ProductLemmas.{length-string_of}
-use Rattle.stab_frames.specs.KeptStrings.{StringsState, note_at, IsNumbered, IsTrueAt, AreTrue, KeepsTrue, kept_with}
+use Rattle.stab_frames.specs.KeptStrings.{StringsState, note_at, IsNumbered, IsTrueAt, AreTrue, KeepsTrue}
 use Rattle.stab_frames.specs.Lookbacks.{LooksWithin}
 use Rattle.stab_frames.specs.StepNotes.{measured_by}
 use Rattle.stab_frames.specs.inner.Noted.{IsAdded, IsNotedOf, IsNoted}

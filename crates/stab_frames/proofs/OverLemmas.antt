@@ -1,6 +1,5 @@
 -- Over: frames, what they flip and their notes, over steps one after another.
-use Rattle.std.proofs.Common.{◌≡◌, ℕ, ◌+◌, refl, sym, ◌∙◌, ap, subst, Bool, List, [], ◌∷◌, ◌++◌, arith, Option}
-use Rattle.stab_pauli.specs.declared.letter.Letter.{Letter}
+use Rattle.std.proofs.Common.{◌≡◌, ℕ, ◌+◌, sym, ◌∙◌, ap, Bool, List, [], ◌∷◌, ◌++◌, arith}
 use Rattle.stab_circuit.specs.Steps.{Step}
 use Rattle.stab_run.specs.Points.{Point, joined, coins_of, all_coins_of, next_point, point_after}
 use Rattle.stab_run.proofs.RunLemmas.{joined-assoc}

@@ -1,22 +1,21 @@
 -- Passes: a frame over one step, and over steps one after another.
-use Rattle.std.proofs.Common.{◌≡◌, ℕ, zero, suc, ◌+◌, ◌<◌, ◌≤◌, refl, sym, ◌∙◌, ap, subst, Bool, true, false, List, [], ◌∷◌, ◌++◌, append_assoc, append-nil, length, take, drop, replicate, get_or, arith}
+use Rattle.std.proofs.Common.{◌≡◌, ℕ, zero, suc, ◌+◌, refl, sym, ◌∙◌, ap, subst, Bool, false, List, [], ◌∷◌, ◌++◌, append_assoc, drop, replicate, get_or, arith}
 use Rattle.std.specs.Prelude.{Option, Some, None, IfSome}
 use Rattle.stab_pauli.specs.declared.letter.Letter.{Letter}
-use Rattle.stab_pauli.specs.Letters.{◌⊕◌}
-use Rattle.stab_pauli.specs.Paulis.{Signed, single, strings_anticommute}
+use Rattle.stab_pauli.specs.Paulis.{Signed, single}
 use Rattle.stab_tableau.specs.Traces.{Event, member, is_free}
 use Rattle.stab_tableau.specs.Exchanges.{Exchanges}
 use Rattle.stab_circuit.specs.Steps.{Step, one, two, controlled, collapse, product, detector, observable}
 use Rattle.stab_run.specs.Runs.{string_of}
-use Rattle.stab_run.specs.Points.{Point, RunOutput, nothing, joined, coins_of, all_coins_of, given, next_point, point_after, outputs}
+use Rattle.stab_run.specs.Points.{Point, RunOutput, nothing, joined, coins_of, all_coins_of, given, next_point, outputs}
 use Rattle.stab_run.proofs.RunLemmas.{joined-nothing, joined-assoc}
 use Rattle.stab_frames.specs.Frames.{Frame, times_where}
 use Rattle.stab_frames.specs.Notes.{Notes, same_coins, IsNoteOf}
 use Rattle.stab_frames.specs.FrameSteps.{letters_after, flips_given, frame_after, frame_over, flips_over}
-use Rattle.stab_frames.specs.StepNotes.{measured_by, IsEnoughAt, AreEnough}
+use Rattle.stab_frames.specs.StepNotes.{IsEnoughAt, AreEnough}
 use Rattle.stab_frames.specs.KeptStrings.{note_at, IsTrueAt, AreTrue}
 use Rattle.stab_frames.specs.Walks.{WalkState, frame_at, WalksOver}
-use Rattle.stab_frames.specs.inner.Passes.{Passes, IsTold, IsToldBy, AreTold}
+use Rattle.stab_frames.specs.inner.Passes.{Passes, IsTold, AreTold}
 use Rattle.stab_frames.proofs.StillLemmas.{looked_up-base, parity-base}
 use Rattle.stab_frames.proofs.OverLemmas.{coins-append, frame-append, flips-append}
 

@@ -1,12 +1,12 @@
 -- True strings: in parts, by the notes of their coins, and from one run to another.
-use Rattle.std.proofs.Common.{◌≡◌, ℕ, ◌+◌, ◌<◌, ◌≤◌, refl, sym, ◌∙◌, ap, subst, Bool, true, false, List, [], ◌∷◌, ◌++◌, All, length, arith}
+use Rattle.std.proofs.Common.{◌≡◌, ℕ, ◌+◌, ◌<◌, refl, sym, ◌∙◌, ap, subst, Bool, true, false, List, [], ◌∷◌, ◌++◌, All, arith}
 use Rattle.std.specs.Prelude.{Option, Some, None, IfSome}
 use Rattle.std.proofs.lemmas.List.Elements.{All-head, All-tail}
 use Rattle.std.specs.List.{list_any}
 use Rattle.std.proofs.Common.{nat_lt}
 use Rattle.stab_pauli.specs.declared.letter.Letter.{Letter}
 use Rattle.stab_pauli.specs.Letters.{◌⊕◌}
-use Rattle.stab_pauli.specs.Paulis.{Signed, single, strings_anticommute, with_sign}
+use Rattle.stab_pauli.specs.Paulis.{Signed, single, strings_anticommute}
 use Rattle.stab_tableau.specs.Traces.{member}
 use Rattle.stab_tableau.specs.Groups.{SameGroup, IsStabiliserGroup}
 use Rattle.stab_tableau.specs.Turns.{IsTurned}
@@ -16,11 +16,11 @@ use Rattle.stab_run.specs.Runs.{string_of}
 use Rattle.stab_run.specs.Points.{Point, coins_of, all_coins_of, next_point, point_after}
 use Rattle.stab_run.specs.ProgramStates.{StepFits}
 use Rattle.stab_frames.specs.Frames.{Frame, PointsDifferBy}
-use Rattle.stab_frames.specs.Notes.{Notes, same_coins, changed}
+use Rattle.stab_frames.specs.Notes.{same_coins}
 use Rattle.stab_frames.specs.Ends.{AgreeBack}
 use Rattle.stab_frames.specs.FrameSteps.{frame_after}
 use Rattle.stab_frames.specs.StepNotes.{measured_by, AreEnough}
-use Rattle.stab_frames.specs.KeptStrings.{IsTrueAt, AreTrue}
+use Rattle.stab_frames.specs.KeptStrings.{AreTrue}
 use Rattle.stab_frames.proofs.LookbackLemmas.{or-left, or-right}
 use Rattle.stab_frames.proofs.EndLemmas.{next-back}
 use Rattle.stab_frames.proofs.StepLemmas.{step-framed, group-next}

@@ -1,9 +1,8 @@
-use Rattle.std.proofs.Common.{◌≡◌, ℕ, ◌+◌, ◌<◌, ◌≤◌, arith, refl, sym, ◌∙◌, ap, subst, length, take, drop, [], ◌∷◌, All}
+use Rattle.std.proofs.Common.{arith, refl, sym, ◌∙◌, subst, length, take}
 use Rattle.std.proofs.lemmas.List.{length-take}
 use Rattle.stab_circuit.specs.Cursors.{step_shown}
-use Rattle.stab_run.specs.Points.{all_coins_of}
 use Rattle.stab_frames.specs.KeptStrings.{note_at}
-use Rattle.stab_frames.specs.Walks.{WalkState, frame_at, WalksOver, IsGone}
+use Rattle.stab_frames.specs.Walks.{frame_at, WalksOver, IsGone}
 use Rattle.stab_frames.specs.inner.Passes.{Passes, IsTold}
 use Rattle.stab_frames.proofs.PassLemmas.{over-none}
 use Rattle.stab_frames.proofs.StepsWalkedLemmas.{left-first, left-none, drop-further, fits-first, over-further, told-further, coin-few, walk-enough}

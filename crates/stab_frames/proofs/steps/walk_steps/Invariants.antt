@@ -1,6 +1,4 @@
 use Rattle.std.proofs.Common.{◌≡◌, ℕ, ◌-◌, ◌≤◌, length, take, drop}
-use Rattle.stab_circuit.specs.Cursors.{IsApart}
-use Rattle.stab_run.specs.ProgramStates.{StepFits}
 use Rattle.stab_frames.specs.KeptStrings.{note_at}
 use Rattle.stab_frames.specs.Walks.{frame_at, IsPlaced, WalksOver}
 use Rattle.stab_frames.specs.inner.Passes.{AreTold}

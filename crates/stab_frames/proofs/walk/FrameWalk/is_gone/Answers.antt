@@ -1,4 +1,4 @@
-use Rattle.std.proofs.Common.{arith, sym, subst, length, ℕ}
+use Rattle.std.proofs.Common.{arith, subst}
 use Rattle.stab_frames.specs.Walks.{WalkState}
 use Rattle.stab_frames.proofs.StillLemmas.{IsStill, gone-frame}
 use Rattle.stab_frames.proofs.walk.FrameWalk.is_gone.Goals as goal

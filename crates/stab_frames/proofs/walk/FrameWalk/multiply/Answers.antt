@@ -1,4 +1,4 @@
-use Rattle.std.proofs.Common.{arith, rules, length}
+use Rattle.std.proofs.Common.{arith, rules}
 use Rattle.stab_frames.proofs.WalkLemmas.{multiplied-length, multiplied-next, multiplied-all}
 use Rattle.stab_frames.proofs.walk.FrameWalk.multiply.Goals as goal
 

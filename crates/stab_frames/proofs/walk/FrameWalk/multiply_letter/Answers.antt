@@ -1,4 +1,4 @@
-use Rattle.std.proofs.Common.{arith, rules, ◌∙◌, ap, length}
+use Rattle.std.proofs.Common.{arith, ◌∙◌, ap, length}
 use Rattle.stab_frames.specs.Walks.{WalkState}
 use Rattle.std.proofs.lemmas.List.{length-set}
 use Rattle.stab_frames.proofs.WalkLemmas.{product-single, read-letter}
