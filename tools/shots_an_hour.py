@@ -3,7 +3,7 @@
 
     tools/shots_an_hour.py [--seconds 5] [--program PROGRAM]
 
-For five surface codes of tools/circuits.py and each result format it runs the built program with more and more shots,
+For five surface codes of `stabsim.codes` (python/) and each result format it runs the built program with more and more shots,
 until a run takes so many seconds of processor time or has the most shots of a run. A line has the circuit's steps and
 detectors, the format, the shots that an hour of that is good for, the bytes of a shot, and the gigabytes of an hour.
 The program is that of `./stabsim`, which builds it for this processor. Do nothing else on the machine meanwhile.
@@ -35,7 +35,7 @@ class Speed(NamedTuple):
 def make_circuit(path: pathlib.Path, distance: int, rounds: int) -> None:
     """Writes a surface code that keeps a logical 0."""
     words = ["surface_code", "--distance", str(distance), "--rounds", str(rounds)]
-    made = subprocess.run([sys.executable, TOP / "tools" / "circuits.py", *words], capture_output=True, check=True)
+    made = subprocess.run([sys.executable, "-m", "stabsim.codes", *words], capture_output=True, check=True, cwd=TOP / "python")
     path.write_bytes(made.stdout)
 
 
