@@ -1,4 +1,4 @@
-use Rattle.stab_commands.proofs.run.run_detect.Goals as goal
+use Rattle.stab_commands.proofs.run.run_detect_shots.Goals as goal
 
 pub returns-then-append : goal.returns-then-append
 returns-then-append g c = record { ends = rw c.if-append.true c.run_circuit.ensures.ends }
