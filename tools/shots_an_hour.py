@@ -3,7 +3,7 @@
 
     tools/shots_an_hour.py [--seconds 5] [--program PROGRAM]
 
-For five surface codes of stabsim.codes in python/ and each result format it runs the built program with more and more shots,
+For five surface codes of `stabsim.codes` (python/) and each result format it runs the built program with more and more shots,
 until a run takes so many seconds of processor time or has the most shots of a run. A line has the circuit's steps and
 detectors, the format, the shots that an hour of that is good for, the bytes of a shot, and the gigabytes of an hour.
 The program is that of `./stabsim`, which builds it for this processor. Do nothing else on the machine meanwhile.
@@ -18,10 +18,6 @@ import tempfile
 from typing import NamedTuple
 
 TOP = pathlib.Path(__file__).resolve().parent.parent
-sys.path.insert(0, str(TOP / "python"))
-
-from stabsim import codes  # noqa: E402
-
 PROGRAM = TOP / "crates" / "stabsim" / "out" / "stabsim"
 SIZES = ((3, 3), (7, 7), (13, 13), (21, 21), (21, 349))
 FORMATS = ("01", "b8", "r8", "hits", "dets")
@@ -38,7 +34,9 @@ class Speed(NamedTuple):
 
 def make_circuit(path: pathlib.Path, distance: int, rounds: int) -> None:
     """Writes a surface code that keeps a logical 0."""
-    path.write_text(codes.surface_code(distance, rounds), encoding="utf-8")
+    words = ["surface_code", "--distance", str(distance), "--rounds", str(rounds)]
+    made = subprocess.run([sys.executable, "-m", "stabsim.codes", *words], capture_output=True, check=True, cwd=TOP / "python")
+    path.write_bytes(made.stdout)
 
 
 def numbers_of(program: pathlib.Path, path: pathlib.Path) -> dict[str, int]:

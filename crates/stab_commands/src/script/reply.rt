@@ -133,7 +133,11 @@ impl Reply {
 
     /// The first line of a framed script's replies, which no other has.
     #[tactic(auto, using(crate::proofs::FramedReplyLaws::greeting_text))]
-    pub(crate) fn greeting(alloc: Global, framed: bool, numbers: SessionNumbers) -> Result<Reply, Fault>
+    pub(crate) fn greeting(
+        alloc: Global,
+        framed: bool,
+        numbers: SessionNumbers,
+    ) -> Result<Reply, Fault>
         ensures written { IfOk result (λ r. r.written ≡ greeting_of framed numbers) }
         ensures err { IfErr result (λ f. f ≡ whole OutOfMemory) }
     {

@@ -1,0 +1,159 @@
+ghost use Rattle.std.specs.Prelude.{◌≡◌};
+ghost use Rattle.stab_frames.specs.Limits.{most_strings as most_of};
+
+use stab_io::Refusal;
+use stab_pauli::Pauli;
+use std::alloc::Global;
+use std::marker::Model;
+
+/// Strings of letters that a run keeps, packed, at most 16 MiB of them. Contracts see how many
+/// letters each has, and the list of their letters.
+#[derive(Drop)]
+pub struct KeptStrings {
+    qubits: usize,
+    // How many may be kept.
+    most: usize,
+    // Their signs are of no account.
+    strings: Vec<Pauli>,
+}
+
+impl Model for KeptStrings {
+    ghost use Rattle.std.specs.Prelude.{◌≡◌, ◌≤◌, All, length, map};
+    ghost use Rattle.stab_frames.specs.Limits.{most_strings};
+    ghost use Rattle.stab_frames.specs.KeptStrings.{StringsState};
+
+    ghost Value = { StringsState };
+
+    ghost view = { λ k. record { qubits = k.qubits; most = k.most; strings = map (λ p. p.letters) k.strings.items } };
+
+    ghost invariant = { λ k. All (λ p. length p.letters ≡ k.qubits) k.strings.items × (length k.strings.items ≤ k.most) × (k.most ≤ most_strings k.qubits) };
+}
+
+impl KeptStrings {
+    ghost use Rattle.std.specs.Prelude.{◌≡◌, ◌≤◌, ◌<◌, [], ◌∷◌, All, length, map, take, drop, slice_index_or, OnOk, OnErr, IfOk, IfErr};
+    ghost use Rattle.stab_io.specs.declared.refusal.Refusal.TheVariants.{OutOfMemory};
+    ghost use Rattle.stab_frames.specs.KeptStrings.{kept_with, front_kept};
+    ghost use Rattle.stab_frames.specs.Limits.{most_strings as most_of};
+
+    /// None, of n letters each, with leave to keep as many as the limit says. It takes no memory.
+    pub fn new(alloc: Global, n: usize) -> KeptStrings
+        ensures value { result ≡ record { qubits = n; most = most_of n; strings = [] } }
+    {
+        KeptStrings {
+            qubits: n,
+            most: most_strings(n),
+            strings: Vec::new(alloc),
+        }
+    }
+
+    /// How many there are.
+    pub fn len(&self) -> usize
+        ensures value { result ≡ length self.now.strings }
+    {
+        self.strings.len()
+    }
+
+    /// Puts the letters of a string behind the others, unless as many are kept as may be.
+    ///
+    /// Refusal `OutOfMemory` alone.
+    pub fn push(&mut self, alloc: Global, string: &Pauli) -> Result<(), Refusal>
+        requires same_length { length string.now.letters ≡ self.old.qubits }
+        ensures qubits { self.new.qubits ≡ self.old.qubits }
+        ensures most { self.new.most ≡ self.old.most }
+        ensures strings { OnOk result (self.new.strings ≡ kept_with self.old.most self.old.strings (string.now.letters ∷ [])) }
+        ensures unchanged { OnErr result (self.new ≡ self.old) }
+        ensures err { IfErr result (λ r. r ≡ OutOfMemory) }
+    {
+        if self.strings.len() < self.most {
+            self.strings.push(string.copy(alloc)?)?;
+        }
+        Ok(())
+    }
+
+    /// Leaves the first ones, up to so many.
+    #[tactic(auto, using(crate::proofs::KeptLemmas::letters_front))]
+    pub fn truncate(&mut self, count: usize)
+        ensures value { self.new ≡ record self.old { strings = take count self.old.strings } }
+    {
+        self.strings.truncate(count);
+    }
+
+    /// A copy of the first ones, up to so many.
+    ///
+    /// Refusal `OutOfMemory` alone.
+    pub fn front(&self, alloc: Global, count: usize) -> Result<KeptStrings, Refusal>
+        ensures value { IfOk result (λ k. k ≡ front_kept count self.now) }
+        ensures err { IfErr result (λ r. r ≡ OutOfMemory) }
+    {
+        let len = self.strings.len();
+        let mut front = KeptStrings::new(alloc, self.qubits);
+        let (strings, _) = self.strings.as_slice().split_at(count.min(len));
+        front.append(alloc, strings)?;
+        if len < count {
+            front.most = self.most;
+        }
+        Ok(front)
+    }
+
+    /// Keeps no further ones.
+    pub fn close(&mut self)
+        ensures value { self.new ≡ record self.old { most = length self.old.strings } }
+    {
+        self.most = self.strings.len();
+    }
+
+    /// Puts copies of others behind these, from the one with this number on, as far as there may be
+    /// as many.
+    ///
+    /// Refusal `OutOfMemory` alone.
+    pub fn append_rest(
+        &mut self,
+        alloc: Global,
+        other: &KeptStrings,
+        from: usize,
+    ) -> Result<(), Refusal>
+        requires same_length { other.now.qubits ≡ self.old.qubits }
+        ensures qubits { self.new.qubits ≡ self.old.qubits }
+        ensures most { self.new.most ≡ self.old.most }
+        ensures strings { OnOk result (self.new.strings ≡ kept_with self.old.most self.old.strings (drop from other.now.strings)) }
+        ensures err { IfErr result (λ r. r ≡ OutOfMemory) }
+    {
+        let (_, rest) = other
+            .strings
+            .as_slice()
+            .split_at(from.min(other.strings.len()));
+        self.append(alloc, rest)
+    }
+
+    /// Puts copies of strings behind these, as far as there may be as many.
+    fn append(&mut self, alloc: Global, strings: &[Pauli]) -> Result<(), Refusal>
+        requires same_length { All (λ p. length p.letters ≡ self.old.qubits) strings.now }
+        ensures qubits { self.new.qubits ≡ self.old.qubits }
+        ensures most { self.new.most ≡ self.old.most }
+        ensures strings { OnOk result (self.new.strings ≡ kept_with self.old.most self.old.strings (map (λ p. p.letters) strings.now)) }
+        ensures err { IfErr result (λ r. r ≡ OutOfMemory) }
+    {
+        // What a struct keeps is known where a field of it is looked at.
+        let _ = &self.strings;
+        for string in strings {
+            self.push(alloc, string)?;
+        }
+        Ok(())
+    }
+
+    /// The one with a number.
+    pub(crate) fn string(&self, number: usize) -> &Pauli
+        requires in_range { number < length self.now.strings }
+        ensures letters { result.now.letters ≡ slice_index_or self.now.strings number [] }
+        ensures length { length result.now.letters ≡ self.now.qubits }
+    {
+        &self.strings[number]
+    }
+}
+
+/// How many strings of n letters are kept at most.
+fn most_strings(n: usize) -> usize
+    ensures value { result ≡ most_of n }
+{
+    16_777_216 / (n / 4 + 128)
+}
