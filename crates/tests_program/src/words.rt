@@ -18,7 +18,7 @@ fn text_of(alloc: Global, words: &[&str]) -> Result<String, Fail> {
 }
 
 // Words, and the text of their job.
-const JOBS: [(&[&str], &str); 47] = [
+const JOBS: [(&[&str], &str); 48] = [
     (
         &["stabsim", "sample"],
         "Sample { format: F01, shots: Shots { first: 0, number: 1 } } Seed(0) None None",
