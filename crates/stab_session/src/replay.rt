@@ -10,11 +10,12 @@ ghost use Rattle.stab_session.specs.inner.Replays.{IsAtStep, IsReplay, Ascending
 
 use crate::checkpoint::{Checkpoint, shifted};
 use stab_circuit::Cursor;
+use stab_frames::{RunNotes, run_noting};
 use stab_io::Refusal;
 use stab_pauli::Pauli;
-use stab_run::{Coins, Outputs, run_steps};
+use stab_run::{Coins, Outputs};
 use stab_tableau::{CompactTableau, Tableau};
-use std::alloc::{AllocError, Global};
+use std::alloc::Global;
 
 /// A run from some step on, on its way.
 #[derive(Drop)]
@@ -23,6 +24,8 @@ pub struct Replay<'a> {
     // A string on the tableau's qubits, for products to be written into.
     pub string: Pauli,
     pub outputs: Outputs,
+    /// What it notes of its steps, from the first on.
+    pub notes: RunNotes,
     pub cursor: Cursor<'a>,
     /// How many steps of the circuit are behind.
     pub step: usize,
@@ -102,7 +105,14 @@ impl Plan {
 
 impl<'a> Replay<'a> {
     /// Carries out the steps up to one.
-    fn run_to<C: Coins>(&mut self, coins: &mut C, stop: usize) -> Result<(), AllocError>
+    ///
+    /// Refusal `OutOfMemory` alone.
+    fn run_to<C: Coins>(
+        &mut self,
+        alloc: Global,
+        coins: &mut C,
+        stop: usize,
+    ) -> Result<(), Refusal>
         requires begun { IsAtStep self.old.tableau.qubits (C.sequence coins.old) self.old.cursor.all self.old }
         requires fits { All (StepFits self.old.tableau.qubits) self.old.cursor.all }
         requires order { self.old.step ≤ stop }
@@ -119,8 +129,10 @@ impl<'a> Replay<'a> {
         ensures asks { C.asks coins.new + self.old.step ≤ C.asks coins.old + stop }
         ensures asks_free { OnOk result (C.asks coins.new + ones self.old.outputs.free.items ≤ C.asks coins.old + ones self.new.outputs.free.items) }
         ensures asked { C.asks coins.new + all_coins_of (drop stop self.old.cursor.all) ≤ C.asks coins.old + all_coins_of (drop self.old.step self.old.cursor.all) }
+        ensures err { IfErr result (λ r. r ≡ OutOfMemory) }
     {
-        run_steps(
+        run_noting(
+            alloc,
             &mut self.tableau,
             &mut self.string,
             coins,
@@ -128,6 +140,7 @@ impl<'a> Replay<'a> {
             &mut self.cursor,
             stop - self.step,
             &mut self.applied,
+            &mut self.notes,
         )?;
         self.step = stop;
         Ok(())
@@ -246,7 +259,7 @@ impl<'a> Replay<'a> {
         let mut spare: Option<Tableau> = None;
         loop {
             let stop = plan.stop(self.step, plan.place(copies, next));
-            self.run_to(coins, stop)?;
+            self.run_to(alloc, coins, stop)?;
             match self.arrive(alloc, copies, records, plan, next, &mut spare)? {
                 Arrival::Met => return Ok(End::Joined(next)),
                 Arrival::Behind => return Ok(End::Last),

@@ -18,13 +18,24 @@ use Rattle.stab_run.specs.Laws.{AgreeAt}
 use Rattle.stab_run.specs.ProgramStates.{program_state, output_of}
 use Rattle.stab_session.specs.inner.Spacing.{IsSpaced, Near}
 use Rattle.stab_run.specs.Cuts.{lengths_of}
+use Rattle.stab_frames.specs.KeptStrings.{StringsState, IsNumbered, AreTrue, note_at}
+use Rattle.stab_frames.specs.Lookbacks.{LooksWithin}
 use Rattle.stab_session.specs.inner.Checkpoints.{IsRunFromStart, IsCheckpoint, checkpoint_steps, moved}
+
+-- strings that were kept of the run of these steps, which has these flags, exchange its free outcomes; and the steps look back to
+-- no more records than the reach
+pub record IsNoted (n : ℕ) (coins : ℕ → Bool) (xs : List Step) (strings : StringsState) (free : List Bool) (reach : ℕ) : Type 0 where
+  pub size : strings.qubits ≡ n
+  pub numbered : IsNumbered strings free
+  pub are_true : AreTrue n coins (note_at strings.strings free) xs origin
+  pub near : All (LooksWithin reach) xs
 
 -- what is kept is the run of these steps, with so many observables, and copies at most K steps apart
 pub record IsKeptRun (n : ℕ) (coins : ℕ → Bool) (K : ℕ) (xs : List Step) (count : ℕ) (r : KeptRun) : Type 0 where
   pub qubits : r.tableau.qubits ≡ n
   pub run : IsRunFromStart n coins xs (program_state r.tableau (output_of r.outputs))
   pub observables : r.observables.items ≡ with_additions r.outputs.additions.items (replicate count false)
+  pub noted : IsNoted n coins xs r.strings r.outputs.free.items r.reach
   pub checkpoints : All (IsCheckpoint n coins xs) r.checkpoints.items
   pub spaced : IsSpaced K (length xs) (checkpoint_steps r.checkpoints.items)
 
@@ -33,6 +44,8 @@ pub record IsSameKept (a b : KeptRun) : Type 0 where
   pub tableau : a.tableau ≡ b.tableau
   pub output : output_of a.outputs ≡ output_of b.outputs
   pub observables : a.observables.items ≡ b.observables.items
+  pub strings : a.strings ≡ b.strings
+  pub reach : a.reach ≡ b.reach
   pub checkpoints : a.checkpoints.items ≡ b.checkpoints.items
 
 -- two lists of steps are the same before one step, and behind another of each
@@ -74,6 +87,8 @@ pub record IsAtStep (n : ℕ) (coins : ℕ → Bool) (ys : List Step) (r : Repla
   pub left : r.cursor.left ≡ drop r.step ys
   pub within : r.step ≤ length ys
   pub run : IsRunFromStart n coins (take r.step ys) (program_state r.tableau (output_of r.outputs))
+  pub scratch : length r.notes.string.letters ≡ n
+  pub noted : IsNoted n coins (take r.step ys) r.notes.strings r.outputs.free.items r.notes.reach
 
 -- a replay that began at a step has come so far, and laid copies on its way
 pub record IsReplay (n : ℕ) (coins : ℕ → Bool) (K begin : ℕ) (ys : List Step) (r : Replay) : Type 0 where
