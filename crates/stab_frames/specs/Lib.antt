@@ -3,6 +3,11 @@ pub mod Frames
 pub mod Notes
 pub mod FrameSteps
 pub mod StepNotes
+pub mod Limits
+pub mod KeptStrings
+pub mod Lookbacks
+pub mod Walks
+pub mod Stops
 pub mod Starts
 pub mod Ends
 pub mod Fronts
@@ -14,3 +19,4 @@ pub mod GateLaws
 pub mod EndLaws
 pub mod RunLaws
 pub mod TableauLaws
+pub mod inner

@@ -29,7 +29,16 @@
 
 pub mod end_laws;
 pub mod note_laws;
+mod noting;
 pub mod run_laws;
 pub mod start_laws;
 pub mod step_laws;
+mod steps;
+mod strings;
 pub mod tableau_laws;
+mod walk;
+
+pub use noting::{RunNotes, run_noting};
+pub use steps::{Stop, Walked, walk_steps};
+pub use strings::KeptStrings;
+pub use walk::FrameWalk;

@@ -31,6 +31,7 @@ mod sampler;
 mod step;
 
 pub use coins::{Coins, ListCoins, SeedCoins};
-pub use records::{Addition, Lengths, Outputs, observables};
+pub use records::{Addition, Lengths, Outputs, looked_up, observables, parity};
 pub use run::{Shot, run_steps};
 pub use sampler::{Sampler, run_once};
+pub use step::{apply_step, flip, write_product};

@@ -28,7 +28,7 @@ fn as_gate(letter: Letter) -> Gate
 }
 
 /// A letter that exchanges the two outcomes of a letter, with which it anticommutes.
-fn flip(letter: Letter) -> Letter
+pub fn flip(letter: Letter) -> Letter
     ensures value { result ≡ flip_of letter }
 {
     match letter {

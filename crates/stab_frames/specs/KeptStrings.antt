@@ -1,0 +1,44 @@
+-- Kept strings: strings that exchange the free outcomes of a run, the first of them in their order, and the notes that they are.
+-- Source: this project's own.
+use Rattle.std.specs.Prelude.{◌≡◌, ℕ, Bool, false, List, [], ◌∷◌, ◌++◌, length, take, min, slice_get, slice_index_or, if◌then◌else◌, Option, None, IfSome}
+use Rattle.stab_pauli.specs.declared.letter.Letter.{Letter}
+use Rattle.stab_tableau.specs.Traces.{member}
+use Rattle.stab_tableau.specs.Exchanges.{Exchanges}
+use Rattle.stab_circuit.specs.Steps.{Step}
+use Rattle.stab_run.specs.Records.{ones}
+use Rattle.stab_run.specs.Points.{Point, origin, next_point, point_after}
+use Rattle.stab_run.specs.ProgramStates.{ProgramState, IsAt}
+use Rattle.stab_frames.specs.Limits.{most_strings}
+use Rattle.stab_frames.specs.StepNotes.{measured_by}
+
+-- strings of so many letters each
+pub record StringsState : Type 0 where
+  pub qubits : ℕ
+  pub strings : List (List Letter)
+
+-- the note of a coin number, by the kept strings and the run's flags: where the outcome was free, the string of its place among the free ones, if it was kept
+abbrev pub note_at : List (List Letter) → List Bool → ℕ → Option (List Letter)
+note_at strings free t = if slice_index_or free t false then slice_get strings (ones (take t free)) else None
+
+-- there is a string for each free outcome, as far as they are kept
+abbrev pub IsNumbered : StringsState → List Bool → Type 0
+IsNumbered kept free = length kept.strings ≡ min (ones free) (most_strings kept.qubits)
+
+-- the string noted of what a step at a point measures, if there is one, exchanges the outcomes
+abbrev pub IsTrueAt : ℕ → (ℕ → Option (List Letter)) → Step → Point → Type 0
+IsTrueAt n strings x a = IfSome (measured_by n x) (λ m. IfSome (strings a.coin) (λ s. Exchanges n (member a.trace) m s))
+
+-- so do those noted of what steps measure
+abbrev pub AreTrue : ℕ → (ℕ → Bool) → (ℕ → Option (List Letter)) → List Step → Point → Type 0
+AreTrue n coins strings [] a = Unit {0}
+AreTrue n coins strings (x ∷ xs) a = IsTrueAt n strings x a × AreTrue n coins strings xs (next_point n coins x a)
+
+-- strings with another behind them, cut to as many as are kept
+abbrev pub kept_with : ℕ → List (List Letter) → List (List Letter) → List (List Letter)
+kept_with n strings more = take (most_strings n) (strings ++ more)
+
+-- a program that went over steps kept its strings true: those of the steps that led to where it was, and of these
+abbrev pub KeepsTrue : ℕ → (ℕ → Bool) → List Step → List (List Letter) → List (List Letter) → ProgramState → ProgramState → Type 0
+KeepsTrue n coins ys strings strings_behind old new =
+    (xs : List Step) → IsAt n old (point_after n coins xs origin) → AreTrue n coins (note_at strings old.output.free) xs origin →
+    AreTrue n coins (note_at strings_behind new.output.free) (xs ++ ys) origin

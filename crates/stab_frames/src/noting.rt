@@ -1,0 +1,67 @@
+ghost use Rattle.std.specs.Prelude.{◌≡◌, ◌+◌, ◌<◌, ◌≤◌, ◌^◌, All, length, take, drop, OnOk, IfErr};
+ghost use Rattle.stab_io.specs.declared.refusal.Refusal.TheVariants.{OutOfMemory};
+ghost use Rattle.stab_run.specs.Records.{ones};
+ghost use Rattle.stab_run.specs.Points.{all_coins_of};
+ghost use Rattle.stab_run.specs.ProgramStates.{StepFits, IsRun, program_state, output_of};
+ghost use Rattle.stab_frames.specs.KeptStrings.{IsNumbered, KeepsTrue};
+ghost use Rattle.stab_frames.specs.Lookbacks.{LooksWithin};
+
+use crate::strings::KeptStrings;
+use stab_circuit::Cursor;
+use stab_io::Refusal;
+use stab_pauli::Pauli;
+use stab_run::{Coins, Outputs};
+use stab_tableau::Tableau;
+use std::alloc::Global;
+
+/// What a run notes on its way, for frames to go over its steps.
+#[derive(Drop)]
+pub struct RunNotes {
+    /// Strings that exchange its free outcomes, the first of them in their order.
+    pub strings: KeptStrings,
+    /// No step so far looks back further than so many records.
+    pub reach: u32,
+    /// A string on the run's qubits, for the tableau to write into.
+    pub string: Pauli,
+}
+
+/// Carries out the steps that a cursor has left, up to so many, as `run_steps` does, and notes the
+/// strings of free outcomes and how far the steps look back.
+///
+/// Refusal `OutOfMemory` alone.
+pub fn run_noting<C: Coins>(
+    alloc: Global,
+    tableau: &mut Tableau,
+    string: &mut Pauli,
+    coins: &mut C,
+    outputs: &mut Outputs,
+    cursor: &mut Cursor,
+    most: usize,
+    applied: &mut u64,
+    notes: &mut RunNotes,
+) -> Result<(), Refusal>
+    requires same_length { length string.old.letters ≡ tableau.old.qubits }
+    requires fits { All (StepFits tableau.old.qubits) cursor.old.left }
+    requires few { applied.old + length cursor.old.left < 2 ^ 63 }
+    requires notes_length { length notes.old.string.letters ≡ tableau.old.qubits }
+    requires strings_length { notes.old.strings.qubits ≡ tableau.old.qubits }
+    requires numbered { IsNumbered notes.old.strings outputs.old.free.items }
+    ensures counted { OnOk result (applied.new ≡ applied.old + length (take most cursor.old.left)) }
+    ensures all { cursor.new.all ≡ cursor.old.all }
+    ensures left { OnOk result (cursor.new.left ≡ drop most cursor.old.left) }
+    ensures qubits { tableau.new.qubits ≡ tableau.old.qubits }
+    ensures string { length string.new.letters ≡ length string.old.letters }
+    ensures same_coins { C.sequence coins.new ≡ C.sequence coins.old }
+    ensures asks { C.asks coins.new ≤ C.asks coins.old + all_coins_of (take most cursor.old.left) }
+    ensures asks_free { OnOk result (C.asks coins.new + ones outputs.old.free.items ≤ C.asks coins.old + ones outputs.new.free.items) }
+    ensures run { OnOk result (IsRun tableau.old.qubits (C.sequence coins.old) (take most cursor.old.left) (program_state tableau.old (output_of outputs.old)) (program_state tableau.new (output_of outputs.new))) }
+    ensures notes_length { length notes.new.string.letters ≡ tableau.old.qubits }
+    ensures strings_length { notes.new.strings.qubits ≡ tableau.old.qubits }
+    ensures numbered { OnOk result (IsNumbered notes.new.strings outputs.new.free.items) }
+    ensures raised { notes.old.reach ≤ notes.new.reach }
+    ensures reach { OnOk result (All (LooksWithin notes.new.reach) (take most cursor.old.left)) }
+    ensures noted { OnOk result (KeepsTrue tableau.old.qubits (C.sequence coins.old) (take most cursor.old.left) notes.old.strings.strings notes.new.strings.strings (program_state tableau.old (output_of outputs.old)) (program_state tableau.new (output_of outputs.new))) }
+    ensures err { IfErr result (λ r. r ≡ OutOfMemory) }
+{
+    Err(Refusal::OutOfMemory)
+}

@@ -1,0 +1,58 @@
+ghost use Rattle.std.specs.Prelude.{◌≡◌, ◌≢◌, ℕ, ◌≤◌, Bool, All, length, take, drop, OnOk, IfOk};
+ghost use Rattle.stab_circuit.specs.Steps.{Step};
+ghost use Rattle.stab_run.specs.Points.{Point, outputs};
+ghost use Rattle.stab_run.specs.ProgramStates.{StepFits};
+ghost use Rattle.stab_frames.specs.Notes.{same_coins};
+ghost use Rattle.stab_frames.specs.StepNotes.{AreEnough};
+ghost use Rattle.stab_frames.specs.KeptStrings.{note_at, AreTrue};
+ghost use Rattle.stab_frames.specs.Walks.{WalkState, frame_at, IsPlaced, WalksOver};
+ghost use Rattle.stab_frames.specs.Stops.{IsStop};
+ghost use Rattle.stab_frames.specs.declared.steps.Stop.TheVariants.{NoString};
+
+use crate::strings::KeptStrings;
+use crate::walk::FrameWalk;
+use stab_circuit::Cursor;
+use std::alloc::AllocError;
+
+/// Why a walk ended.
+#[derive(Clone, Copy, Debug, PartialEq, Eq)]
+pub enum Stop {
+    /// It went over as many steps as were asked for, or there are no more.
+    Behind,
+    /// The frame is gone: what is behind is as it was.
+    Gone,
+    /// The string of a free outcome wasn't kept, and the frame anticommutes with what is measured.
+    NoString,
+}
+
+/// How a walk ended, and how many steps it went over.
+#[derive(Clone, Copy, Debug, PartialEq, Eq)]
+pub struct Walked {
+    pub stop: Stop,
+    pub steps: usize,
+}
+
+/// Leads a frame over the steps that a cursor has left, up to so many, of a run with these kept
+/// strings and flags, none of whose steps looks back further than `reach` records.
+pub fn walk_steps(
+    walk: &mut FrameWalk,
+    strings: &KeptStrings,
+    free: &[bool],
+    cursor: &mut Cursor,
+    most: usize,
+    reach: u32,
+) -> Result<Walked, AllocError>
+    requires same_length { strings.now.qubits ≡ length walk.old.letters }
+    requires fits { All (StepFits (length walk.old.letters)) cursor.old.left }
+    requires placed { IsPlaced free.now walk.old }
+    ensures all { cursor.new.all ≡ cursor.old.all }
+    ensures length { length walk.new.letters ≡ length walk.old.letters }
+    ensures placed { OnOk result (IsPlaced free.now walk.new) }
+    ensures within { IfOk result (λ w. w.steps ≤ length (take most cursor.old.left)) }
+    ensures left { IfOk result (λ w. w.stop ≢ NoString → cursor.new.left ≡ drop w.steps cursor.old.left) }
+    ensures walked { IfOk result (λ w. WalksOver (length walk.old.letters) (note_at strings.now.strings free.now) (take w.steps cursor.old.left) walk.old walk.new) }
+    ensures stop { IfOk result (λ w. IsStop (length walk.old.letters) reach w.steps (length (take most cursor.old.left)) walk.new w.stop) }
+    ensures enough { IfOk result (λ w. (coins : ℕ → Bool) (a : Point) (base : ℕ) → a.coin ≡ walk.old.coin → AreTrue (length walk.old.letters) coins (note_at strings.now.strings free.now) cursor.old.left a → (outputs (length walk.old.letters) coins cursor.old.left a).free ≡ drop walk.old.coin free.now → AreEnough (length walk.old.letters) coins (same_coins (note_at strings.now.strings free.now)) (take w.steps cursor.old.left) (frame_at base walk.old) a) }
+{
+    Err(AllocError)
+}
