@@ -8,12 +8,12 @@ use Rattle.stab_circuit.specs.Steps.{Step}
 use Rattle.stab_run.specs.Records.{ones}
 use Rattle.stab_run.specs.Points.{Point, origin, next_point, point_after}
 use Rattle.stab_run.specs.ProgramStates.{ProgramState, IsAt}
-use Rattle.stab_frames.specs.Limits.{most_strings}
 use Rattle.stab_frames.specs.StepNotes.{measured_by}
 
--- strings of so many letters each
+-- strings of so many letters each, and how many of them may be kept
 pub record StringsState : Type 0 where
   pub qubits : ℕ
+  pub most : ℕ
   pub strings : List (List Letter)
 
 -- the note of a coin number, by the kept strings and the run's flags: where the outcome was free, the string of its place among the free ones, if it was kept
@@ -22,7 +22,7 @@ note_at strings free t = if slice_index_or free t false then slice_get strings (
 
 -- there is a string for each free outcome, as far as they are kept
 abbrev pub IsNumbered : StringsState → List Bool → Type 0
-IsNumbered kept free = length kept.strings ≡ min (ones free) (most_strings kept.qubits)
+IsNumbered kept free = length kept.strings ≡ min (ones free) kept.most
 
 -- the string noted of what a step at a point measures, if there is one, exchanges the outcomes
 abbrev pub IsTrueAt : ℕ → (ℕ → Option (List Letter)) → Step → Point → Type 0
@@ -35,7 +35,7 @@ AreTrue n coins strings (x ∷ xs) a = IsTrueAt n strings x a × AreTrue n coins
 
 -- strings with another behind them, cut to as many as are kept
 abbrev pub kept_with : ℕ → List (List Letter) → List (List Letter) → List (List Letter)
-kept_with n strings more = take (most_strings n) (strings ++ more)
+kept_with most strings more = take most (strings ++ more)
 
 -- a program that went over steps kept its strings true: those of the steps that led to where it was, and of these
 abbrev pub KeepsTrue : ℕ → (ℕ → Bool) → List Step → List (List Letter) → List (List Letter) → ProgramState → ProgramState → Type 0

@@ -57,6 +57,7 @@ pub fn run_noting<C: Coins>(
     ensures run { OnOk result (IsRun tableau.old.qubits (C.sequence coins.old) (take most cursor.old.left) (program_state tableau.old (output_of outputs.old)) (program_state tableau.new (output_of outputs.new))) }
     ensures notes_length { length notes.new.string.letters ≡ tableau.old.qubits }
     ensures strings_length { notes.new.strings.qubits ≡ tableau.old.qubits }
+    ensures most { notes.new.strings.most ≡ notes.old.strings.most }
     ensures numbered { OnOk result (IsNumbered notes.new.strings outputs.new.free.items) }
     ensures raised { notes.old.reach ≤ notes.new.reach }
     ensures reach { OnOk result (All (LooksWithin notes.new.reach) (take most cursor.old.left)) }

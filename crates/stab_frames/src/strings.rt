@@ -10,6 +10,8 @@ use std::marker::Model;
 #[derive(Drop)]
 pub struct KeptStrings {
     qubits: usize,
+    // How many there may be.
+    most: usize,
     // Their signs are of no account.
     strings: Vec<Pauli>,
 }
@@ -21,22 +23,24 @@ impl Model for KeptStrings {
 
     ghost Value = { StringsState };
 
-    ghost view = { λ k. record { qubits = k.qubits; strings = map (λ p. p.letters) k.strings.items } };
+    ghost view = { λ k. record { qubits = k.qubits; most = k.most; strings = map (λ p. p.letters) k.strings.items } };
 
-    ghost invariant = { λ k. All (λ p. length p.letters ≡ k.qubits) k.strings.items × (length k.strings.items ≤ most_strings k.qubits) };
+    ghost invariant = { λ k. All (λ p. length p.letters ≡ k.qubits) k.strings.items × (length k.strings.items ≤ k.most) × (k.most ≤ most_strings k.qubits) };
 }
 
 impl KeptStrings {
-    ghost use Rattle.std.specs.Prelude.{◌≡◌, ◌≤◌, ◌<◌, [], ◌∷◌, length, take, drop, OnOk, OnErr, IfOk, IfErr};
+    ghost use Rattle.std.specs.Prelude.{◌≡◌, ◌≤◌, ◌<◌, ◌⊎◌, [], ◌∷◌, length, take, drop, OnOk, OnErr, IfOk, IfErr};
     ghost use Rattle.stab_io.specs.declared.refusal.Refusal.TheVariants.{OutOfMemory};
+    ghost use Rattle.stab_frames.specs.Limits.{most_strings};
     ghost use Rattle.stab_frames.specs.KeptStrings.{kept_with};
 
     /// None, of n letters each. It takes no memory.
     pub fn new(alloc: Global, n: usize) -> KeptStrings
-        ensures value { result ≡ record { qubits = n; strings = [] } }
+        ensures value { result ≡ record { qubits = n; most = most_strings n; strings = [] } }
     {
         KeptStrings {
             qubits: n,
+            most: 16777216 / (n / 4 + 128),
             strings: Vec::new(alloc),
         }
     }
@@ -54,7 +58,8 @@ impl KeptStrings {
     pub fn push(&mut self, alloc: Global, string: &Pauli) -> Result<(), Refusal>
         requires same_length { length string.now.letters ≡ self.old.qubits }
         ensures qubits { self.new.qubits ≡ self.old.qubits }
-        ensures strings { OnOk result (self.new.strings ≡ kept_with self.old.qubits self.old.strings (string.now.letters ∷ [])) }
+        ensures most { self.new.most ≡ self.old.most }
+        ensures strings { OnOk result (self.new.strings ≡ kept_with self.old.most self.old.strings (string.now.letters ∷ [])) }
         ensures unchanged { OnErr result (self.new ≡ self.old) }
         ensures err { IfErr result (λ r. r ≡ OutOfMemory) }
     {
@@ -72,10 +77,19 @@ impl KeptStrings {
     ///
     /// Refusal `OutOfMemory` alone.
     pub fn front(&self, alloc: Global, count: usize) -> Result<KeptStrings, Refusal>
-        ensures value { IfOk result (λ k. k ≡ record { qubits = self.now.qubits; strings = take count self.now.strings }) }
+        ensures qubits { IfOk result (λ k. k.qubits ≡ self.now.qubits) }
+        ensures strings { IfOk result (λ k. k.strings ≡ take count self.now.strings) }
+        ensures most { IfOk result (λ k. (count ≤ length self.now.strings) × (length k.strings ≤ k.most) ⊎ (length self.now.strings < count) × (k.most ≡ self.now.most)) }
         ensures err { IfErr result (λ r. r ≡ OutOfMemory) }
     {
         Err(Refusal::OutOfMemory)
+    }
+
+    /// Keeps no more than these.
+    pub fn close(&mut self)
+        ensures value { self.new ≡ record self.old { most = length self.old.strings } }
+    {
+        self.most = self.strings.len();
     }
 
     /// Puts copies of others behind these, from the one with this number on, as far as there may be
@@ -90,7 +104,8 @@ impl KeptStrings {
     ) -> Result<(), Refusal>
         requires same_length { other.now.qubits ≡ self.old.qubits }
         ensures qubits { self.new.qubits ≡ self.old.qubits }
-        ensures strings { OnOk result (self.new.strings ≡ kept_with self.old.qubits self.old.strings (drop from other.now.strings)) }
+        ensures most { self.new.most ≡ self.old.most }
+        ensures strings { OnOk result (self.new.strings ≡ kept_with self.old.most self.old.strings (drop from other.now.strings)) }
         ensures err { IfErr result (λ r. r ≡ OutOfMemory) }
     {
         Err(Refusal::OutOfMemory)

@@ -11,3 +11,5 @@ mod PendingLemmas
 mod EditedLemmas
 mod SpacingLemmas
 mod CheckpointLemmas
+mod FramedLemmas
+mod NotedLemmas

@@ -124,6 +124,7 @@ impl<'a> Replay<'a> {
         ensures same_coins { C.sequence coins.new ≡ C.sequence coins.old }
         ensures at_step { OnOk result (IsAtStep self.old.tableau.qubits (C.sequence coins.old) self.old.cursor.all self.new) }
         ensures step { OnOk result (self.new.step ≡ stop) }
+        ensures raised { self.old.notes.reach ≤ self.new.notes.reach }
         ensures records { OnOk result (self.old.outputs.records.items ≡ take (length self.old.outputs.records.items) self.new.outputs.records.items) }
         ensures counted { OnOk result (self.new.applied + self.old.step ≡ self.old.applied + stop) }
         ensures asks { C.asks coins.new + self.old.step ≤ C.asks coins.old + stop }
@@ -245,6 +246,7 @@ impl<'a> Replay<'a> {
         ensures all { self.new.cursor.all ≡ self.old.cursor.all }
         ensures qubits { self.new.tableau.qubits ≡ self.old.tableau.qubits }
         ensures replay { OnOk result (IsReplay self.old.tableau.qubits (C.sequence coins.old) plan.stride self.old.step self.old.cursor.all self.new) }
+        ensures raised { OnOk result (self.old.notes.reach ≤ self.new.notes.reach) }
         ensures counted { OnOk result (self.new.applied + self.old.step ≡ self.new.step) }
         ensures asks { OnOk result (C.asks coins.new + self.old.step ≤ C.asks coins.old + self.new.step) }
         ensures asks_free { OnOk result (C.asks coins.new + ones self.old.outputs.free.items ≤ C.asks coins.old + ones self.new.outputs.free.items) }

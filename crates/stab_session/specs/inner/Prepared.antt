@@ -1,6 +1,6 @@
 -- Prepared runs: what a replay of an edited circuit begins with, what it leaves, and what is kept once that is put in place.
 -- Source: this project's own.
-use Rattle.std.specs.Prelude.{◌≡◌, ℕ, ◌+◌, ◌<◌, ◌≤◌, min, false, List, [], ◌++◌, All, IfSome, length, take, drop, map, reverse, replicate, slice_get, vec_capacity}
+use Rattle.std.specs.Prelude.{◌≡◌, ℕ, ◌+◌, ◌<◌, ◌≤◌, ◌⊎◌, min, false, List, [], ◌++◌, All, IfSome, length, take, drop, map, reverse, replicate, slice_get, vec_capacity}
 use Rattle.stab_tableau.specs.Tableaus.{TableauState}
 use Rattle.stab_circuit.specs.Steps.{Step}
 use Rattle.stab_circuit.specs.Cursors.{IsApart}
@@ -20,11 +20,11 @@ use Rattle.stab_run.specs.Cuts.{lengths_of, front_of, rest_of}
 use Rattle.stab_frames.specs.KeptStrings.{StringsState}
 use Rattle.stab_session.specs.inner.Checkpoints.{moved_copy, all_laid}
 
--- so many of the first of some strings, among which more are kept if none is missing
+-- so many of the first of some strings, behind which others may be kept if none is missing
 pub record IsFrontOf (strings : StringsState) (count : ℕ) (front : StringsState) : Type 0 where
   pub size : front.qubits ≡ strings.qubits
   pub strings : front.strings ≡ take count strings.strings
-  pub numbered : length front.strings ≡ min count front.most
+  pub most : (count ≤ length strings.strings) × (length front.strings ≤ front.most) ⊎ (length strings.strings < count) × (front.most ≡ strings.most)
 
 -- strings with others behind them, from one of these on, where so many outcomes are free in all
 pub record IsSpliced (strings others : StringsState) (from count : ℕ) (new : StringsState) : Type 0 where

@@ -65,7 +65,7 @@ end_of : (g : Over) (c : In_ok-end g)
 end_of g c f few first begins behind =
     let plan = planned c.steps.result c.args.stride c.args.span c.max.result c.len.result in
     has-ended f few first begins behind plan refl refl (omega (arith, c.steps.ensures.value, few)) c.max.ensures c.follow.new.self c.in_ok-end.end
-    c.in_ok-end.ensures.replay
+    c.in_ok-end.ensures.replay c.in_ok-end.ensures.raised
     (seen-end c.in_ok-replay.replay.tableau.qubits plan c.follow.new.self c.in_ok-end.end c.as_slice-3.ensures.value c.as_slice-4.ensures.value c.in_ok-end.ensures.end)
 
 pub overflow_add-span : goal.overflow_add-span
@@ -185,7 +185,7 @@ prepare-requires g c =
     let at = goal.at.prepare-requires g c in
     let begins = begun g at.In_ok-replay (few g at.After-as_slice) (first g at.After-count_before-before) in
     let ended = end_of g at.In_ok-end c.requires.follows (few g at.After-as_slice) (first g at.After-count_before-before) begins (behind g at.After-as_slice-3) in
-    record { in_range = ended.copy }
+    record { in_range = ended.copy; same_length = ended.strings }
 
 pub returns-in_err-prepared-clause-unchanged : goal.returns-in_err-prepared-clause-unchanged
 returns-in_err-prepared-clause-unchanged g c =
@@ -197,7 +197,7 @@ commit-requires-clause-behind g c =
     let at = goal.at.commit-requires-clause-behind g c in
     let begins = begun g at.In_ok-replay (few g at.After-as_slice) (first g at.After-count_before-before) in
     let ended = end_of g at.In_ok-end c.requires.follows (few g at.After-as_slice) (first g at.After-count_before-before) begins (behind g at.After-as_slice-3) in
-    let ready = ended.ready _ (record { tableau = refl; output = refl; observables = refl; checkpoints = refl }) c.observables.result c.in_ok-prepared.prepared c.in_ok-prepared.ensures.prepared in
+    let ready = ended.ready _ (record { tableau = refl; output = refl; observables = refl; strings = refl; reach = refl; checkpoints = refl }) c.observables.result c.in_ok-prepared.prepared c.in_ok-prepared.ensures.prepared in
     ready.behind c.prepare.new.self c.prepare.ensures.unchanged
 
 pub returns-clause-kept : goal.returns-clause-kept
@@ -205,7 +205,7 @@ returns-clause-kept g c =
     let at = goal.at.returns-clause-kept g c in
     let begins = begun g at.In_ok-replay (few g at.After-as_slice) (first g at.After-count_before-before) in
     let ended = end_of g at.In_ok-end c.requires.follows (few g at.After-as_slice) (first g at.After-count_before-before) begins (behind g at.After-as_slice-3) in
-    let ready = ended.ready _ (record { tableau = refl; output = refl; observables = refl; checkpoints = refl }) c.observables.result c.in_ok-prepared.prepared c.in_ok-prepared.ensures.prepared in
+    let ready = ended.ready _ (record { tableau = refl; output = refl; observables = refl; strings = refl; reach = refl; checkpoints = refl }) c.observables.result c.in_ok-prepared.prepared c.in_ok-prepared.ensures.prepared in
     subst (λ count. IsKeptRun c.args.self.now.tableau.qubits (g.C.Coins.sequence c.args.coins.now) c.args.stride (unroll (circuit_items c.args.circuit.now)) count c.commit.new.self)
     c.observables.ensures.value
     (ready.kept c.prepare.new.self c.prepare.ensures.unchanged c.commit.new.self c.commit.ensures.committed)
@@ -221,7 +221,7 @@ returns-clause-qubits g c =
     let at = goal.at.returns-clause-qubits g c in
     let begins = begun g at.In_ok-replay (few g at.After-as_slice) (first g at.After-count_before-before) in
     let ended = end_of g at.In_ok-end c.requires.follows (few g at.After-as_slice) (first g at.After-count_before-before) begins (behind g at.After-as_slice-3) in
-    let ready = ended.ready _ (record { tableau = refl; output = refl; observables = refl; checkpoints = refl }) c.observables.result c.in_ok-prepared.prepared c.in_ok-prepared.ensures.prepared in
+    let ready = ended.ready _ (record { tableau = refl; output = refl; observables = refl; strings = refl; reach = refl; checkpoints = refl }) c.observables.result c.in_ok-prepared.prepared c.in_ok-prepared.ensures.prepared in
     (ready.kept c.prepare.new.self c.prepare.ensures.unchanged c.commit.new.self c.commit.ensures.committed).qubits
 
 pub returns-clause-asks_free : goal.returns-clause-asks_free
@@ -229,7 +229,7 @@ returns-clause-asks_free g c =
     let at = goal.at.returns-clause-asks_free g c in
     let begins = begun g at.In_ok-replay (few g at.After-as_slice) (first g at.After-count_before-before) in
     let ended = end_of g at.In_ok-end c.requires.follows (few g at.After-as_slice) (first g at.After-count_before-before) begins (behind g at.After-as_slice-3) in
-    let ready = ended.ready _ (record { tableau = refl; output = refl; observables = refl; checkpoints = refl }) c.observables.result c.in_ok-prepared.prepared c.in_ok-prepared.ensures.prepared in
+    let ready = ended.ready _ (record { tableau = refl; output = refl; observables = refl; strings = refl; reach = refl; checkpoints = refl }) c.observables.result c.in_ok-prepared.prepared c.in_ok-prepared.ensures.prepared in
     let asks = c.in_ok-end.ensures.asks_free in
     omega (arith, asks, ready.flags c.prepare.new.self c.prepare.ensures.unchanged c.commit.new.self c.commit.ensures.committed)
 
