@@ -46,3 +46,5 @@ pub mod SignTableLemmas
 pub mod BasisLemmas
 pub mod FrameLemmas
 pub mod SameStateLemmas
+pub mod TurnedRowLemmas
+pub mod ExchangedOutcomeLemmas

@@ -259,7 +259,8 @@ impl Table {
     pub fn first_x(&self, row: InverseRow, qubit: usize) -> Option<usize>
         requires in_range { qubit < length self.now }
         ensures none { IfNone result (list_any has_x (row_string row (rows_at self.now qubit)).letters ≡ false) }
-        ensures some { IfSome result (λ k. (k < length self.now) × (has_x (letter_at (row_string row (rows_at self.now qubit)).letters k) ≡ true)) }
+        ensures in_range { IfSome result (λ k. k < length self.now) }
+        ensures has_x { IfSome result (λ k. has_x (letter_at (row_string row (rows_at self.now qubit)).letters k) ≡ true) }
     {
         self.rows.first_x(row.place(qubit))
     }

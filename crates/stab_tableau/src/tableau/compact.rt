@@ -88,7 +88,9 @@ impl CompactTableau {
         requires in_range { qubit < self.old.qubits }
         ensures qubits { self.new.qubits ≡ self.old.qubits }
         ensures turned { IsTurned self.old.qubits (single self.old.qubits qubit letter).letters (stabilises self.old) (stabilises self.new) }
-    {}
+    {
+        self.table.turn(letter, qubit);
+    }
 
     /// Whether the rows of a tableau differ from the kept ones in their signs alone; if so a string gets the letters by
     /// which the two states differ, its sign is of no account, and else it stays as it was. It takes no memory.

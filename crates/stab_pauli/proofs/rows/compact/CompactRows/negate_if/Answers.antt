@@ -1,4 +1,4 @@
-use Rattle.std.proofs.Common.{◌∙◌, ap, length}
+use Rattle.std.proofs.Common.{◌∙◌, ap}
 use Rattle.stab_pauli.specs.Phases.{phase_add}
 use Rattle.stab_pauli.proofs.SeenLemmas.{counted_seen, seen_of, in_seen, negated_seen}
 use Rattle.stab_pauli.proofs.rows.compact.CompactRows.negate_if.Goals as goal
