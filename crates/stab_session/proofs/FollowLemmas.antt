@@ -69,6 +69,7 @@ rest-same a b t o strings step Last new new_strings rest same h = (
   ap (copies_behind rest) (sym same.checkpoints) ∙ h.0,
   ap (tableau_behind rest) (sym same.tableau) ∙ h.1,
   h.2,
+  h.3,
 )
 rest-same a b t o strings step (Joined number) new new_strings rest same h =
     IfSome_then (slice_get b.checkpoints.items number)
@@ -353,7 +354,7 @@ module _ (n : ℕ) (coins : ℕ → Bool) (K : ℕ) (xs : List Step) (count : �
         → IsRest old r.tableau (output_of r.outputs) r.notes.strings r.step end (output_of q.outputs) q.strings q.rest → q.reach ≡ r.notes.reach
         → reverse q.laid.items ≡ r.laid.items → IsCommitted old q m K new → IsKeptRun n coins K ys total new
     kept-end p Last q old_end new_end total few next end rest reach laid committed =
-        kept-last (end ∙ total) (committed.tableau ∙ rest.1) (committed.output ∙ rest.2.0) (committed.strings ∙ rest.2.1) (committed.reach ∙ reach)
+        kept-last (end ∙ total) (committed.tableau ∙ rest.1) (committed.output ∙ rest.2) (committed.strings ∙ rest.3) (committed.reach ∙ reach)
         (committed.checkpoints ∙ (λ i. all_laid K (rest.0 i) (all_laid K (laid i) (take m old.checkpoints.items))))
     kept-end p (Joined j) q old_end new_end total few next end rest reach laid committed =
         let found = some-and (λ c. (step_among_new p c ≡ r.step) × Meets n r.tableau (output_of r.outputs) old.outputs.records.items c) (slice_get old.checkpoints.items j) end.1 in
@@ -372,7 +373,7 @@ module _ (n : ℕ) (coins : ℕ → Bool) (K : ℕ) (xs : List Step) (count : �
 pub end-flags : (n : ℕ) (p : Plan) (r : Replay) (old : KeptRun) (end : End) (new : RunOutput) (strings : StringsState) (rest : Rest)
     → IsEnd n p r old.checkpoints.items old.outputs.records.items end → IsRest old r.tableau (output_of r.outputs) r.notes.strings r.step end new strings rest
     → ones r.outputs.free.items ≤ ones new.free
-end-flags n p r old Last new strings rest end is = omega (arith, ap (λ (o : RunOutput). ones o.free) is.2.0)
+end-flags n p r old Last new strings rest end is = omega (arith, ap (λ (o : RunOutput). ones o.free) is.2)
 end-flags n p r old (Joined j) new strings rest end is =
     let found = some-and (λ c. (step_among_new p c ≡ r.step) × Meets n r.tableau (output_of r.outputs) old.outputs.records.items c) (slice_get old.checkpoints.items j) end.1 in
     let d = found.0 in

@@ -1,6 +1,6 @@
 -- Framed runs: behind a point where it differs by a frame from another, a run gives what the other gives, flipped, as far as the frame
 -- goes, and then the same.
-use Rattle.std.proofs.Common.{◌≡◌, ℕ, zero, suc, ◌+◌, ◌-◌, ◌<◌, ◌≤◌, min, refl, sym, ◌∙◌, ap, subst, Bool, true, false, ◌⊎◌, inl, inr, List, [], ◌∷◌, ◌++◌, length, take, drop, All, replicate, nat_lt, Option, None, Some, arith}
+use Rattle.std.proofs.Common.{◌≡◌, ℕ, zero, suc, ◌+◌, ◌-◌, ◌<◌, ◌≤◌, min, refl, sym, ◌∙◌, ap, subst, Bool, true, false, ◌||◌, ◌⊎◌, inl, inr, List, [], ◌∷◌, ◌++◌, length, take, drop, All, replicate, nat_lt, Option, None, Some, arith}
 use Rattle.std.specs.Prelude.{IfSome}
 use Rattle.std.specs.List.{list_any}
 use Rattle.std.proofs.lemmas.Bool.{cases_lt}
@@ -16,6 +16,7 @@ use Rattle.stab_tableau.specs.Groups.{SameGroup, IsStabiliserGroup}
 use Rattle.stab_tableau.specs.Exchanges.{Exchanges}
 use Rattle.stab_tableau.specs.Turns.{IsTurned}
 use Rattle.stab_circuit.specs.Steps.{Step, makes, lookbacks, looks_too_far}
+use Rattle.stab_run.specs.declared.records.Addition.{Addition}
 use Rattle.stab_run.specs.Records.{looked_up}
 use Rattle.stab_run.specs.Points.{Point, RunOutput, nothing, joined, coins_of, next_point, point_after, outputs}
 use Rattle.stab_run.specs.ProgramStates.{StepFits}
@@ -28,6 +29,7 @@ use Rattle.stab_frames.specs.StepNotes.{AreEnough, measured_by}
 use Rattle.stab_frames.specs.KeptStrings.{IsTrueAt, AreTrue}
 use Rattle.stab_frames.specs.Walks.{IsGone}
 use Rattle.stab_frames.specs.Ends.{AgreeBack}
+use Rattle.stab_session.proofs.PointLemmas.{take-more}
 use Rattle.stab_frames.proofs.SignLemmas.{sign-twice}
 use Rattle.stab_frames.proofs.TurnedLemmas.{turned-blank}
 use Rattle.stab_frames.proofs.LookbackLemmas.{or-left, or-right}
@@ -74,15 +76,16 @@ flipped-empty : (bits : List Bool) → flipped bits [] ≡ bits
 flipped-empty [] = refl
 flipped-empty (bit ∷ bits) = refl
 
-additions-empty : (o : RunOutput) → flipped_additions o.additions [] ≡ o.additions
-additions-empty o = elim o.additions [ [] ↦ refl | a ∷ more ↦ refl ]
+additions-empty : (additions : List Addition) → flipped_additions additions [] ≡ additions
+additions-empty [] = refl
+additions-empty (a ∷ more) = refl
 
 flipped-nothing : (o : RunOutput) → flipped_output o nothing ≡ o
 flipped-nothing o = λ i. record {
   records = flipped-empty o.records i;
   free = flipped-empty o.free i;
   detectors = flipped-empty o.detectors i;
-  additions = additions-empty o i;
+  additions = additions-empty o.additions i;
 }
 
 -- the first of steps that look back so far look back so far
@@ -164,11 +167,6 @@ module _ (n : ℕ) (coins : ℕ → Bool) (strings : ℕ → Option (List Letter
 
     cut-at : (m : ℕ) → count ≤ m → take m back ≡ take count back ++ take (m - count) (drop count back)
     cut-at m le = ap (λ k. take k back) (omega arith) ∙ take-more count (m - count) back
-      where
-        take-more : (i m : ℕ) (xs : List Step) → take (i + m) xs ≡ take i xs ++ take m (drop i xs)
-        take-more zero m xs = refl
-        take-more (suc i) m [] = refl
-        take-more (suc i) m (x ∷ xs) = ap (λ l. x ∷ l) (take-more i m xs)
 
     at-count : (m : ℕ) → count ≤ m → (c : Point) → point_after n coins (take m back) c ≡ point_after n coins (take (m - count) (drop count back)) (point_after n coins (take count back) c)
     at-count m le c = ap (λ xs. point_after n coins xs c) (cut-at m le) ∙ after-append n coins (take count back) (take (m - count) (drop count back)) c

@@ -1,8 +1,9 @@
 -- Noted strings: those that exchange the free outcomes of a run, cut and put together where runs are.
-use Rattle.std.proofs.Common.{◌≡◌, ℕ, zero, suc, ◌+◌, ◌-◌, ◌<◌, ◌≤◌, min, refl, sym, ◌∙◌, ap, subst, Bool, true, false, ◌⊎◌, inl, inr, List, [], ◌∷◌, ◌++◌, length, take, drop, All, slice_get, get_or, replicate, nat_lt, Option, None, Some, arith}
+use Rattle.std.proofs.Common.{◌≡◌, ℕ, zero, suc, ◌+◌, ◌-◌, ◌<◌, ◌≤◌, min, refl, sym, ◌∙◌, ap, subst, Bool, true, false, ◌||◌, ◌⊎◌, inl, inr, List, [], ◌∷◌, ◌++◌, length, take, drop, All, slice_get, get_or, replicate, nat_lt, nat_le, Option, None, Some, arith}
 use Rattle.std.specs.Prelude.{IfSome, if◌then◌else◌}
 use Rattle.std.specs.List.{list_any}
 use Rattle.std.proofs.lemmas.Bool.{cases_lt}
+use Rattle.std.proofs.lemmas.Bool.Decides.{leb_tells}
 use Rattle.std.proofs.lemmas.List.{length-append, length-take-le, length-drop, take-append-drop}
 use Rattle.std.proofs.lemmas.List.Elements.{All-head, All-tail, All-append, All-drop, All-take, All-nil, All-weaker}
 use Rattle.stab_pauli.specs.declared.letter.Letter.{Letter}
@@ -20,11 +21,12 @@ use Rattle.stab_run.specs.ProgramStates.{ProgramState, IsAt}
 use Rattle.stab_run.proofs.RecordLemmas.{ones-append}
 use Rattle.stab_run.proofs.RunLemmas.{after-append}
 use Rattle.stab_run.proofs.PointLemmas.{flags-are-coins, front-output}
-use Rattle.stab_frames.specs.KeptStrings.{StringsState, IsNumbered, IsTrueAt, AreTrue, KeepsTrue, note_at}
+use Rattle.stab_frames.specs.Limits.{most_strings}
+use Rattle.stab_frames.specs.KeptStrings.{StringsState, IsNumbered, IsTrueAt, AreTrue, KeepsTrue, note_at, front_kept}
 use Rattle.stab_frames.specs.Lookbacks.{LooksWithin}
 use Rattle.stab_frames.proofs.LookbackLemmas.{or-left, or-right}
 use Rattle.stab_session.specs.inner.Replays.{IsNoted}
-use Rattle.stab_session.specs.inner.Prepared.{IsFrontOf, IsSpliced}
+use Rattle.stab_session.specs.inner.Prepared.{IsSpliced}
 use Rattle.stab_session.proofs.FramedLemmas.{AreTurnedBehind, true-turned}
 
 -- how far back steps look
@@ -101,6 +103,12 @@ coins-are n coins (x ∷ xs) a = omega (arith, coins-are n coins xs (next_point 
 
 -- elements of lists that are cut
 
+none-more : (j : ℕ) → 0 + j ≡ j
+none-more j = omega arith
+
+one-more : (k j : ℕ) → suc k + j ≡ suc (k + j)
+one-more k j = omega arith
+
 get-take : {X : Type 0} (k j : ℕ) (xs : List X) → (slice_get (take k xs) j ≡ None) ⊎ (slice_get (take k xs) j ≡ slice_get xs j)
 get-take zero j xs = inl refl
 get-take (suc k) j [] = inr refl
@@ -119,13 +127,13 @@ get-left (x ∷ xs) ys zero lt = refl
 get-left (x ∷ xs) ys (suc j) lt = get-left xs ys j (omega arith)
 
 get-right : {X : Type 0} (xs ys : List X) (j : ℕ) → slice_get (xs ++ ys) (length xs + j) ≡ slice_get ys j
-get-right [] ys j = refl
-get-right (x ∷ xs) ys j = get-right xs ys j
+get-right [] ys j = ap (slice_get ys) (none-more j)
+get-right (x ∷ xs) ys j = ap (slice_get (x ∷ xs ++ ys)) (one-more (length xs) j) ∙ get-right xs ys j
 
 get-drop : {X : Type 0} (k j : ℕ) (xs : List X) → slice_get (drop k xs) j ≡ slice_get xs (k + j)
-get-drop zero j xs = refl
+get-drop zero j xs = ap (slice_get xs) (sym (none-more j))
 get-drop (suc k) j [] = refl
-get-drop (suc k) j (x ∷ xs) = get-drop k j xs
+get-drop (suc k) j (x ∷ xs) = get-drop k j xs ∙ ap (slice_get (x ∷ xs)) (sym (one-more k j))
 
 bit-take : (m t : ℕ) (bits : List Bool) → t < m → get_or (take m bits) t false ≡ get_or bits t false
 bit-take zero t bits lt = absurd (omega arith)
@@ -139,13 +147,13 @@ bit-left (x ∷ xs) ys zero lt = refl
 bit-left (x ∷ xs) ys (suc t) lt = bit-left xs ys t (omega arith)
 
 bit-right : (xs ys : List Bool) (t : ℕ) → get_or (xs ++ ys) (length xs + t) false ≡ get_or ys t false
-bit-right [] ys t = refl
-bit-right (x ∷ xs) ys t = bit-right xs ys t
+bit-right [] ys t = ap (λ k. get_or ys k false) (none-more t)
+bit-right (x ∷ xs) ys t = ap (λ k. get_or (x ∷ xs ++ ys) k false) (one-more (length xs) t) ∙ bit-right xs ys t
 
 bit-drop : (c t : ℕ) (bits : List Bool) → get_or (drop c bits) t false ≡ get_or bits (c + t) false
-bit-drop zero t bits = refl
+bit-drop zero t bits = ap (λ k. get_or bits k false) (sym (none-more t))
 bit-drop (suc c) t [] = refl
-bit-drop (suc c) t (b ∷ bits) = bit-drop c t bits
+bit-drop (suc c) t (b ∷ bits) = bit-drop c t bits ∙ ap (λ k. get_or (b ∷ bits) k false) (sym (one-more c t))
 
 take-left : (xs ys : List Bool) (t : ℕ) → t < length xs → take t (xs ++ ys) ≡ take t xs
 take-left [] ys t lt = absurd (omega arith)
@@ -153,8 +161,8 @@ take-left (x ∷ xs) ys zero lt = refl
 take-left (x ∷ xs) ys (suc t) lt = ap (λ l. x ∷ l) (take-left xs ys t (omega arith))
 
 take-right : (xs ys : List Bool) (t : ℕ) → take (length xs + t) (xs ++ ys) ≡ xs ++ take t ys
-take-right [] ys t = refl
-take-right (x ∷ xs) ys t = ap (λ l. x ∷ l) (take-right xs ys t)
+take-right [] ys t = ap (λ k. take k ys) (none-more t)
+take-right (x ∷ xs) ys t = ap (λ k. take k (x ∷ xs ++ ys)) (one-more (length xs) t) ∙ ap (λ l. x ∷ l) (take-right xs ys t)
 
 take-again : (m t : ℕ) (bits : List Bool) → t < m → take t (take m bits) ≡ take t bits
 take-again zero t bits lt = absurd (omega arith)
@@ -163,14 +171,15 @@ take-again (suc m) (suc t) [] lt = refl
 take-again (suc m) (suc t) (b ∷ bits) lt = ap (λ l. b ∷ l) (take-again m t bits (omega arith))
 
 take-on : (c t : ℕ) (bits : List Bool) → ones (take (c + t) bits) ≡ ones (take c bits) + ones (take t (drop c bits))
-take-on zero t bits = refl
-take-on (suc c) t [] = take-none t
+take-on zero t bits = ap (λ k. ones (take k bits)) (none-more t) ∙ sym (none-more (ones (take t bits)))
+take-on (suc c) t [] = ap (λ k. ones (take k [])) (one-more c t) ∙ take-none t
   where
-    take-none : (t : ℕ) → 0 ≡ ones (take t [])
+    take-none : (t : ℕ) → 0 ≡ 0 + ones (take t [])
     take-none zero = refl
     take-none (suc t) = refl
-take-on (suc c) t (true ∷ bits) = omega (arith, take-on c t bits)
-take-on (suc c) t (false ∷ bits) = take-on c t bits
+take-on (suc c) t (true ∷ bits) =
+    ap (λ k. ones (take k (true ∷ bits))) (one-more c t) ∙ (let e = take-on c t bits in omega (arith, e))
+take-on (suc c) t (false ∷ bits) = ap (λ k. ones (take k (false ∷ bits))) (one-more c t) ∙ take-on c t bits
 
 ones-take : (c : ℕ) (bits : List Bool) → ones (take c bits) + ones (drop c bits) ≡ ones bits
 ones-take c bits = sym (ones-append (take c bits) (drop c bits)) ∙ ap ones (take-append-drop c bits)
@@ -247,11 +256,11 @@ module _ (s : StringsState) (flags : List Bool) (numbered : IsNumbered s flags) 
               elim (get-take s.most (ones flags + ones (take u (drop c free))) (s.strings ++ drop (ones (take c free)) strings)) [
                 | inl e ↦ inl e
                 | inr e ↦ inr (
-                  e
-                      ∙ ap (λ k. slice_get (s.strings ++ drop (ones (take c free)) strings) (k + ones (take u (drop c free)))) (omega (arith, numbered, all))
-                      ∙ get-right s.strings (drop (ones (take c free)) strings) (ones (take u (drop c free)))
-                      ∙ get-drop (ones (take c free)) (ones (take u (drop c free))) strings
-                )
+                    e
+                    ∙ ap (λ k. slice_get (s.strings ++ drop (ones (take c free)) strings) (k + ones (take u (drop c free)))) (omega (arith, numbered, all))
+                    ∙ get-right s.strings (drop (ones (take c free)) strings) (ones (take u (drop c free)))
+                    ∙ get-drop (ones (take c free)) (ones (take u (drop c free))) strings
+                    )
               ]
 
 -- points that agree go on so, and differ by no letter
@@ -265,10 +274,12 @@ agree-turned n coins xs a b agree = (
 )
 
 -- what a run of no steps notes
-pub noted-nothing : (n : ℕ) (coins : ℕ → Bool) (s : StringsState) (free : List Bool) (reach : ℕ) → s.qubits ≡ n → s.strings ≡ [] → free ≡ [] → IsNoted n coins [] s free reach
-noted-nothing n coins s free reach size none empty = record {
-  size = size;
-  numbered = ap length none ∙ sym (ap (λ bits. min (ones bits) s.most) empty);
+pub noted-nothing : (n : ℕ) (coins : ℕ → Bool) (s : StringsState) (free : List Bool) (reach : ℕ) → s ≡ record { qubits = n; most = most_strings n; strings = [] } → free ≡ []
+    → IsNoted n coins [] s free reach
+noted-nothing n coins s free reach is empty = record {
+  size = ap (λ (t : StringsState). t.qubits) is;
+  within = omega (arith, ap (λ (t : StringsState). t.most) is);
+  numbered = omega (arith, ap (λ (t : StringsState). length t.strings) is, ap ones empty);
   are_true = tt;
   near = All-nil (LooksWithin reach);
 }
@@ -284,14 +295,15 @@ module _ (n : ℕ) (coins : ℕ → Bool) (xs : List Step) (s : StringsState) (f
       (λ j. take (sym (front-coins i) j) (flags j))
       ∙ ap (λ (o : RunOutput). o.free) (front-output n coins xs i)
 
-  pub noted-front : (i : ℕ) (t : StringsState) (bits : List Bool) → bits ≡ (outputs n coins (take i xs) origin).free → IsFrontOf s (ones bits) t
+  pub noted-front : (i : ℕ) (t : StringsState) (bits : List Bool) → bits ≡ (outputs n coins (take i xs) origin).free → t ≡ front_kept (ones bits) s
       → IsNoted n coins (take i xs) t bits reach
   noted-front i t bits is front = record {
-    size = front.size ∙ noted.size;
-    numbered = numbered;
+    size = ap (λ (u : StringsState). u.qubits) front ∙ noted.size;
+    within = (numbered_within).1;
+    numbered = (numbered_within).0;
     are_true =
         true-changed n coins (note_at s.strings free) (note_at t.strings bits) (take i xs) origin
-        (λ k le lt. subst (λ x. x) (λ j. IsNoneOr (note_at (sym front.strings j) (front_is j) k) (note_at s.strings free k))
+        (λ k le lt. subst (λ x. x) (λ j. IsNoneOr (note_at (sym (ap (λ (u : StringsState). u.strings) front) j) (front_is j) k) (note_at s.strings free k))
         (note-front s.strings free (ones bits) (all_coins_of (take i xs)) k (omega (arith, lt))))
         (true-front n coins (note_at s.strings free) (take i xs) (drop i xs) origin
         (subst (λ zs. AreTrue n coins (note_at s.strings free) zs origin) (sym (take-append-drop i xs)) noted.are_true));
@@ -305,28 +317,38 @@ module _ (n : ℕ) (coins : ℕ → Bool) (xs : List Step) (s : StringsState) (f
       few = omega (arith, ones-take (all_coins_of (take i xs)) free, ap ones front_is)
 
       long : length t.strings ≡ min (ones bits) (length s.strings)
-      long = ap length front.strings ∙ length-min (ones bits) s.strings
+      long = ap (λ (u : StringsState). length u.strings) front ∙ length-min (ones bits) s.strings
         where
           length-min : (k : ℕ) (xs : List (List Letter)) → length (take k xs) ≡ min k (length xs)
           length-min zero xs = omega arith
           length-min (suc k) [] = omega arith
           length-min (suc k) (x ∷ xs) = omega (arith, length-min k xs)
 
-      numbered : IsNumbered t bits
-      numbered =
-          elim front.most [
-            | inl h ↦ let a = h.0 in let b = h.1 in omega (arith, long, a, b)
-            | inr h ↦ let a = h.0 in let b = h.1 in omega (arith, long, a, b, noted.numbered, few)
+      limit : (b : Bool) → nat_le (ones bits) (length s.strings) ≡ b → t.most ≡ (if b then most_strings s.qubits else s.most)
+      limit b e = ap (λ (u : StringsState). u.most) front ∙ ap (λ c. if c then most_strings s.qubits else s.most) e
+
+      numbered_within : IsNumbered t bits × (t.most ≤ most_strings n)
+      numbered_within =
+          elim (leb_tells (ones bits) (length s.strings)) [
+            | inl h ↦
+                let most : t.most ≡ most_strings n = limit true h.0 ∙ ap most_strings noted.size in
+                let le = h.1 in
+                (omega (arith, long, most, le, noted.numbered, noted.within), omega (arith, most))
+            | inr h ↦
+                let most : t.most ≡ s.most = limit false h.0 in
+                let lt = h.1 in
+                (omega (arith, long, most, lt, noted.numbered, few), omega (arith, most, noted.within))
           ]
 
 -- a run that goes on, and notes its strings
 pub noted-on : (n : ℕ) (coins : ℕ → Bool) (xs zs : List Step) (s t : StringsState) (old new : ProgramState) (before after : ℕ) → IsNoted n coins xs s old.output.free before
-    → IsAt n old (point_after n coins xs origin) → t.qubits ≡ n → IsNumbered t new.output.free → before ≤ after → All (LooksWithin after) zs
-    → KeepsTrue n coins zs s.strings t.strings old new → IsNoted n coins (xs ++ zs) t new.output.free after
-noted-on n coins xs zs s t old new before after noted at size numbered raised near keeps = record {
+    → IsAt n old (point_after n coins xs origin) → t.qubits ≡ n → t.most ≡ s.most → before ≤ after → All (LooksWithin after) zs
+    → KeepsTrue n coins zs s t old new → IsNoted n coins (xs ++ zs) t new.output.free after
+noted-on n coins xs zs s t old new before after noted at size most raised near keeps = record {
   size = size;
-  numbered = numbered;
-  are_true = keeps xs at noted.are_true;
+  within = omega (arith, most, noted.within);
+  numbered = (keeps xs at noted.numbered noted.are_true).0;
+  are_true = (keeps xs at noted.numbered noted.are_true).1;
   near = All-append (LooksWithin after) xs zs (within-more before after xs raised noted.near) near;
 }
 
@@ -342,6 +364,7 @@ pub noted-spliced : (n : ℕ) (coins : ℕ → Bool) (xs ys : List Step) (i k : 
     → IsNoted n coins ys u all reach
 noted-spliced n coins xs ys i k same coin turned s t u free flags all c old_reach reach old old_flags noted new_flags raised at is spliced = record {
   size = spliced.size ∙ noted.size;
+  within = let le = spliced.most in omega (arith, le, noted.within);
   numbered = spliced.numbered (omega (arith, long, ap ones is, ones-append flags (drop c free), ones-take c free, old.numbered, noted.numbered));
   are_true =
       subst (λ zs. AreTrue n coins (note_at u.strings all) zs origin) (take-append-drop k ys)

@@ -18,7 +18,7 @@ use Rattle.stab_run.specs.ProgramStates.{ProgramState, IsAt, IsRun, program_stat
 use Rattle.stab_session.specs.inner.Spacing.{Near, last_of}
 use Rattle.stab_run.specs.Cuts.{lengths_of}
 use Rattle.stab_session.specs.inner.Checkpoints.{IsRunFromStart, IsCheckpoint, checkpoint_steps}
-use Rattle.stab_frames.specs.KeptStrings.{IsNumbered, KeepsTrue}
+use Rattle.stab_frames.specs.KeptStrings.{KeepsTrue}
 use Rattle.stab_frames.specs.Lookbacks.{LooksWithin}
 use Rattle.stab_session.specs.inner.Replays.{IsNoted, IsAtStep, IsReplay, Ascending, Meets, MeetsAt, IsPlacedAt, IsArrival, Misses, EndsSoon, step_among_new, copy_of}
 use Rattle.stab_run.proofs.PointLemmas.{flags-are-coins, records-are-records}
@@ -94,12 +94,12 @@ pub run-on : (n : ℕ) (coins : ℕ → Bool) (ys : List Step) (old new : Replay
     → new.tableau.qubits ≡ old.tableau.qubits → length new.string.letters ≡ length old.string.letters
     → new.cursor.all ≡ old.cursor.all → new.cursor.left ≡ drop (new.step - old.step) old.cursor.left
     → IsRun n coins (take (new.step - old.step) old.cursor.left) (program_state old.tableau (output_of old.outputs)) (program_state new.tableau (output_of new.outputs))
-    → length new.notes.string.letters ≡ n → new.notes.strings.qubits ≡ n → IsNumbered new.notes.strings new.outputs.free.items → old.notes.reach ≤ new.notes.reach
+    → length new.notes.string.letters ≡ n → new.notes.strings.qubits ≡ n → new.notes.strings.most ≡ old.notes.strings.most → old.notes.reach ≤ new.notes.reach
     → All (LooksWithin new.notes.reach) (take (new.step - old.step) old.cursor.left)
-    → KeepsTrue n coins (take (new.step - old.step) old.cursor.left) old.notes.strings.strings new.notes.strings.strings
+    → KeepsTrue n coins (take (new.step - old.step) old.cursor.left) old.notes.strings new.notes.strings
     (program_state old.tableau (output_of old.outputs)) (program_state new.tableau (output_of new.outputs))
     → IsAtStep n coins ys new
-run-on n coins ys old new h order within qubits string all left run scratch size numbered raised near keeps = record {
+run-on n coins ys old new h order within qubits string all left run scratch size most raised near keeps = record {
   qubits = qubits ∙ h.qubits;
   string = string ∙ h.string;
   all = all ∙ h.all;
@@ -113,9 +113,9 @@ run-on n coins ys old new h order within qubits string all left run scratch size
   noted =
       subst (λ xs. IsNoted n coins xs new.notes.strings new.outputs.free.items new.notes.reach) (sym (take-more old.step (new.step - old.step) ys) ∙ ap (λ k. take k ys) further)
       (noted-on n coins (take old.step ys) (take (new.step - old.step) (drop old.step ys)) old.notes.strings new.notes.strings before now old.notes.reach new.notes.reach h.noted
-      (shows-from-start n coins (take old.step ys) before h.run) size numbered raised
+      (shows-from-start n coins (take old.step ys) before h.run) size most raised
       (subst (λ xs. All (LooksWithin new.notes.reach) (take (new.step - old.step) xs)) h.left near)
-      (subst (λ xs. KeepsTrue n coins (take (new.step - old.step) xs) old.notes.strings.strings new.notes.strings.strings before now) h.left keeps));
+      (subst (λ xs. KeepsTrue n coins (take (new.step - old.step) xs) old.notes.strings new.notes.strings before now) h.left keeps));
 }
   where
     before : ProgramState

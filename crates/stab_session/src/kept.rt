@@ -9,6 +9,7 @@ ghost use Rattle.stab_io.specs.Refusals.{Refuses};
 ghost use Rattle.stab_run.specs.Points.{all_coins_of};
 ghost use Rattle.stab_session.specs.Bounds.{IsCounted};
 ghost use Rattle.stab_run.specs.ProgramStates.{output_of};
+ghost use Rattle.stab_frames.specs.KeptStrings.{front_kept};
 ghost use Rattle.stab_session.specs.inner.Checkpoints.{checkpoint_steps, all_laid};
 ghost use Rattle.stab_session.specs.inner.Replays.{IsKeptRun, IsSameKept, IsSpan, Follows, AgreeBehindSpan};
 ghost use Rattle.stab_session.specs.inner.Prepared.{Begins, HasCopy, IsSpliced, IsRest, HasRoom, IsPrepared, copies_behind, IsCommitted};
@@ -82,6 +83,24 @@ impl KeptRun {
         })
     }
 
+    /// The notes of the first steps, which have these flags.
+    ///
+    /// Refusal `OutOfMemory` alone.
+    fn front_notes(&self, alloc: Global, free: &[bool]) -> Result<RunNotes, Refusal>
+        ensures strings { IfOk result (λ notes. notes.strings ≡ front_kept (ones free.now) self.now.strings) }
+        ensures reach { IfOk result (λ notes. notes.reach ≡ self.now.reach) }
+        ensures string { IfOk result (λ notes. length notes.string.letters ≡ self.now.tableau.qubits) }
+        ensures err { IfErr result (λ r. r ≡ OutOfMemory) }
+    {
+        let string = Pauli::identity(alloc, self.tableau.len())?;
+        let strings = self.strings.front(alloc, count_ones(free))?;
+        Ok(RunNotes {
+            strings,
+            reach: self.reach,
+            string,
+        })
+    }
+
     /// A replay from the copy with a number on, in the memory of a spare tableau if there is one.
     fn resume<'a>(
         &self,
@@ -100,13 +119,7 @@ impl KeptRun {
         let string = Pauli::identity(alloc, self.tableau.len())?;
         let tableau = copy.tableau.tableau(alloc, spare)?;
         let outputs = self.outputs.front(alloc, copy.lengths)?;
-        let notes = RunNotes {
-            strings: self
-                .strings
-                .front(alloc, count_ones(outputs.free.as_slice()))?,
-            reach: self.reach,
-            string: Pauli::identity(alloc, self.tableau.len())?,
-        };
+        let notes = self.front_notes(alloc, outputs.free.as_slice())?;
         let cursor = Cursor::at(alloc, circuit, copy.step)?;
         Ok(Replay {
             tableau,
@@ -201,7 +214,9 @@ impl KeptRun {
             ..
         } = replay;
         let RunNotes {
-            mut strings, reach, ..
+            mut strings,
+            reach,
+            ..
         } = notes;
         let rest = self.rest(alloc, tableau, &mut outputs, &mut strings, step, end, spare)?;
         let observables = observables(alloc, count, outputs.additions.as_slice())?;

@@ -107,12 +107,7 @@ impl<'a> Replay<'a> {
     /// Carries out the steps up to one.
     ///
     /// Refusal `OutOfMemory` alone.
-    fn run_to<C: Coins>(
-        &mut self,
-        alloc: Global,
-        coins: &mut C,
-        stop: usize,
-    ) -> Result<(), Refusal>
+    fn run_to<C: Coins>(&mut self, alloc: Global, coins: &mut C, stop: usize) -> Result<(), Refusal>
         requires begun { IsAtStep self.old.tableau.qubits (C.sequence coins.old) self.old.cursor.all self.old }
         requires fits { All (StepFits self.old.tableau.qubits) self.old.cursor.all }
         requires order { self.old.step ≤ stop }

@@ -1,6 +1,6 @@
 -- Prepared runs: what a replay of an edited circuit begins with, what it leaves, and what is kept once that is put in place.
 -- Source: this project's own.
-use Rattle.std.specs.Prelude.{◌≡◌, ℕ, ◌+◌, ◌<◌, ◌≤◌, ◌⊎◌, min, false, List, [], ◌++◌, All, IfSome, length, take, drop, map, reverse, replicate, slice_get, vec_capacity}
+use Rattle.std.specs.Prelude.{◌≡◌, ℕ, ◌+◌, ◌<◌, ◌≤◌, min, false, List, [], All, IfSome, length, take, drop, map, reverse, replicate, slice_get, vec_capacity}
 use Rattle.stab_tableau.specs.Tableaus.{TableauState}
 use Rattle.stab_circuit.specs.Steps.{Step}
 use Rattle.stab_circuit.specs.Cursors.{IsApart}
@@ -17,19 +17,14 @@ use Rattle.stab_run.specs.Records.{ones}
 use Rattle.stab_run.specs.Points.{RunOutput, joined, with_additions}
 use Rattle.stab_run.specs.ProgramStates.{output_of}
 use Rattle.stab_run.specs.Cuts.{lengths_of, front_of, rest_of}
-use Rattle.stab_frames.specs.KeptStrings.{StringsState}
+use Rattle.stab_frames.specs.KeptStrings.{StringsState, kept_with, front_kept}
 use Rattle.stab_session.specs.inner.Checkpoints.{moved_copy, all_laid}
 
--- so many of the first of some strings, behind which others may be kept if none is missing
-pub record IsFrontOf (strings : StringsState) (count : ℕ) (front : StringsState) : Type 0 where
-  pub size : front.qubits ≡ strings.qubits
-  pub strings : front.strings ≡ take count strings.strings
-  pub most : (count ≤ length strings.strings) × (length front.strings ≤ front.most) ⊎ (length strings.strings < count) × (front.most ≡ strings.most)
-
 -- strings with others behind them, from one of these on, where so many outcomes are free in all
-pub record IsSpliced (strings others : StringsState) (from count : ℕ) (new : StringsState) : Type 0 where
-  pub size : new.qubits ≡ strings.qubits
-  pub strings : new.strings ≡ take strings.most (strings.strings ++ drop from others.strings)
+pub record IsSpliced (front others : StringsState) (from count : ℕ) (new : StringsState) : Type 0 where
+  pub size : new.qubits ≡ front.qubits
+  pub most : new.most ≤ front.most
+  pub strings : new.strings ≡ kept_with front.most front.strings (drop from others.strings)
   pub numbered : length new.strings ≤ count → length new.strings ≡ min count new.most
 
 -- a replay of some steps begins at a copy that is kept: it has done nothing yet
@@ -38,7 +33,7 @@ pub record Begins (ys : List Step) (kept : KeptRun) (c : Checkpoint) (r : Replay
   pub string : length r.string.letters ≡ kept.tableau.qubits
   pub output : output_of r.outputs ≡ front_of c.lengths (output_of kept.outputs)
   pub scratch : length r.notes.string.letters ≡ kept.tableau.qubits
-  pub strings : IsFrontOf kept.strings (ones r.outputs.free.items) r.notes.strings
+  pub strings : r.notes.strings ≡ front_kept (ones r.outputs.free.items) kept.strings
   pub reach : r.notes.reach ≡ kept.reach
   pub all : r.cursor.all ≡ ys
   pub left : r.cursor.left ≡ drop c.step ys
@@ -71,11 +66,11 @@ abbrev pub meeting_of : RunOutput → ℕ → Checkpoint → Meeting
 meeting_of o step c = record { old_step = c.step; new_step = step; old_lengths = c.lengths; new_lengths = lengths_of o }
 
 -- from an old copy on the kept run comes behind a replay: its copies, its tableau, what it gave, and its strings
-pub record IsOldRest (kept : KeptRun) (o : RunOutput) (strings : StringsState) (step number : ℕ) (new : RunOutput) (new_strings : StringsState) (rest : Rest) (c : Checkpoint) : Type 0 where
+pub record IsOldRest (kept : KeptRun) (o : RunOutput) (noted : StringsState) (step number : ℕ) (new : RunOutput) (new_strings : StringsState) (rest : Rest) (c : Checkpoint) : Type 0 where
   pub copies : copies_behind rest kept.checkpoints.items ≡ map (moved_copy (meeting_of o step c)) (drop number kept.checkpoints.items)
   pub tableau : tableau_behind rest kept.tableau ≡ kept.tableau
   pub output : new ≡ joined o (rest_of c.lengths (output_of kept.outputs))
-  pub strings : IsSpliced strings kept.strings (ones (take c.lengths.free kept.outputs.free.items)) (ones new.free) new_strings
+  pub strings : IsSpliced noted kept.strings (ones (take c.lengths.free kept.outputs.free.items)) (ones new.free) new_strings
 
 -- what comes behind a replay that ended before a step with this tableau and output, and what the output is then
 abbrev pub IsRest : KeptRun → TableauState → RunOutput → StringsState → ℕ → End → RunOutput → StringsState → Rest → Type 0

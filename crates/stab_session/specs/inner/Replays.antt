@@ -18,6 +18,7 @@ use Rattle.stab_run.specs.Laws.{AgreeAt}
 use Rattle.stab_run.specs.ProgramStates.{program_state, output_of}
 use Rattle.stab_session.specs.inner.Spacing.{IsSpaced, Near}
 use Rattle.stab_run.specs.Cuts.{lengths_of}
+use Rattle.stab_frames.specs.Limits.{most_strings}
 use Rattle.stab_frames.specs.KeptStrings.{StringsState, IsNumbered, AreTrue, note_at}
 use Rattle.stab_frames.specs.Lookbacks.{LooksWithin}
 use Rattle.stab_session.specs.inner.Checkpoints.{IsRunFromStart, IsCheckpoint, checkpoint_steps, moved}
@@ -26,6 +27,7 @@ use Rattle.stab_session.specs.inner.Checkpoints.{IsRunFromStart, IsCheckpoint, c
 -- no more records than the reach
 pub record IsNoted (n : ℕ) (coins : ℕ → Bool) (xs : List Step) (strings : StringsState) (free : List Bool) (reach : ℕ) : Type 0 where
   pub size : strings.qubits ≡ n
+  pub within : strings.most ≤ most_strings n
   pub numbered : IsNumbered strings free
   pub are_true : AreTrue n coins (note_at strings.strings free) xs origin
   pub near : All (LooksWithin reach) xs

@@ -24,7 +24,7 @@ returns-clause-at_step g c =
     let done = c.in_ok-run_noting.ensures in
     run-on c.args.self.now.tableau.qubits (g.C.Coins.sequence c.args.coins.now) c.args.self.now.cursor.all c.args.self.now _ c.requires.begun c.requires.order
     c.requires.within done.qubits done.string done.all done.left done.run
-    (c.run_noting.ensures.notes_length ∙ c.requires.begun.qubits) (c.run_noting.ensures.strings_length ∙ c.requires.begun.qubits) done.numbered done.raised done.reach done.noted
+    done.notes_length done.strings_length done.most done.raised done.reach done.noted
 
 pub returns-clause-records : goal.returns-clause-records
 returns-clause-records g c =
