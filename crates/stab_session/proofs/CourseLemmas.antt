@@ -20,7 +20,7 @@ use Rattle.stab_session.specs.Bounds.{EndsAt, IsCounted}
 use Rattle.stab_run.specs.ProgramStates.{output_of}
 use Rattle.stab_frames.specs.KeptStrings.{StringsState}
 use Rattle.stab_session.specs.inner.Checkpoints.{checkpoint_steps, moved_copy}
-use Rattle.stab_session.specs.inner.Replays.{IsKeptRun, IsSameKept, Follows, AgreeBehindSpan, IsReplay, Ascending, Meets, IsEnd, EndsSoon, step_among_new}
+use Rattle.stab_session.specs.inner.Replays.{IsKeptRun, IsSameKept, Follows, AgreeBehindSpan, AgreeBackBehindSpan, IsReplay, Ascending, Meets, IsEnd, EndsSoon, step_among_new}
 use Rattle.stab_session.specs.inner.Prepared.{Begins, HasCopy, IsRest, IsOldRest, IsPrepared, IsCommitted, copies_behind, meeting_of}
 use Rattle.stab_session.proofs.ReplayLemmas.{coins-steps}
 use Rattle.stab_session.proofs.SpacingLemmas.{IsBefore}
@@ -50,7 +50,7 @@ same-trans a b c f g = record {
 has-copy : (n : ℕ) (p : Plan) (r : Replay) (copies : List Checkpoint) (bits : List Bool) (end : End) → IsEnd n p r copies bits end → HasCopy copies end
 has-copy n p r copies bits Last is = tt
 has-copy n p r copies bits (Joined j) is =
-    let found = some-and (λ c. (step_among_new p c ≡ r.step) × Meets n r.tableau (output_of r.outputs) bits c) (slice_get copies j) is.1 in
+    let found = some-and (λ c. (step_among_new p c ≡ r.step) × Meets n p.reach r.tableau (output_of r.outputs) bits c) (slice_get copies j) is.1 in
     slice_get_within copies j found.0 found.1
 
 -- a replay ended at copies and records that are those that were kept
@@ -73,7 +73,7 @@ few-behind : (n : ℕ) (p : Plan) (r : Replay) (old : KeptRun) (end : End) (new 
     → m + length (copies_behind rest old.checkpoints.items) ≤ length old.checkpoints.items
 few-behind n p r old Last new strings rest m next within end is = omega (arith, ap length is.0)
 few-behind n p r old (Joined j) new strings rest m next within end is =
-    let found = some-and (λ c. (step_among_new p c ≡ r.step) × Meets n r.tableau (output_of r.outputs) old.outputs.records.items c) (slice_get old.checkpoints.items j) end.1 in
+    let found = some-and (λ c. (step_among_new p c ≡ r.step) × Meets n p.reach r.tableau (output_of r.outputs) old.outputs.records.items c) (slice_get old.checkpoints.items j) end.1 in
     let d = found.0 in
     let old_rest = some-at (IsOldRest old (output_of r.outputs) r.notes.strings r.step j new strings rest) old.checkpoints.items j d found.1 is in
     let later = end.0 in
@@ -110,7 +110,7 @@ pub record HasEnded (n : ℕ) (coins : ℕ → Bool) (K : ℕ) (ys : List Step) 
       → AgreeBehindSpan n coins xs ys s far → applied ≤ ((s.new_end - s.first) + 2 * K) + far
   pub at_least : (applied : ℕ) → applied + begin ≡ r.step → s.new_end ≤ s.first + applied
   pub counted : (applied : ℕ) → applied + begin ≡ r.step → EndsSoon n coins p ys old.checkpoints.items old.outputs.records.items r.step
-      → IsCounted (AgreeBehindSpan n coins xs ys s) (checkpoint_steps old.checkpoints.items) s.first s.old_end s.new_end (length ys) applied
+      → IsCounted (AgreeBehindSpan n coins xs ys s) (AgreeBackBehindSpan n coins xs ys s) (checkpoint_steps old.checkpoints.items) s.first s.old_end s.new_end (length ys) applied
   pub ready : (mid : KeptRun) → IsSameKept mid old → (observables : ℕ) (q : Prepared) → IsPrepared mid r observables end q → IsReady n coins K ys m r mid observables q
 
 module _ {n : ℕ} {coins : ℕ → Bool} {K : ℕ} {ys : List Step} {s : Span} {old : KeptRun} (f : Follows n coins K ys s old) (few : length ys ≤ 1048576)
@@ -155,7 +155,7 @@ module _ {n : ℕ} {coins : ℕ → Bool} {K : ℕ} {ys : List Step} {s : Span} 
       omega (arith, asked, step, from, coins-steps (drop r.step r.cursor.all), length-drop r.step r.cursor.all, ap length begins.all)
 
   module _ {r0 : Replay} (begins : HasBegun n coins K ys old m r0) {e : ℕ} (behind : IsCount s.old_end old.checkpoints.items e) (p : Plan)
-      (old_end : p.old_end ≡ s.old_end) (new_end : p.new_end ≡ s.new_end) (total : p.total ≡ length ys) (next : p.next ≡ max e m) where
+      (old_end : p.old_end ≡ s.old_end) (new_end : p.new_end ≡ s.new_end) (total : p.total ≡ length ys) (next : p.next ≡ max e m) (reach : p.reach ≡ old.reach) where
     step_is : r0.step ≡ near.copy.step
     step_is = some-at (λ c. r0.step ≡ c.step) old.checkpoints.items (m - 1) near.copy near.here begins.at
 
@@ -178,9 +178,9 @@ module _ {n : ℕ} {coins : ℕ → Bool} {K : ℕ} {ys : List Step} {s : Span} 
       end_here : IsEnd n p r old.checkpoints.items old.outputs.records.items end
       end_here = subst (λ k. IsEnd k p r old.checkpoints.items old.outputs.records.items end) begins.qubits is_end
 
-      ends-here : EndsAt (AgreeBehindSpan n coins f.old ys s) (checkpoint_steps old.checkpoints.items) s.first s.old_end s.new_end (length ys) r.step
+      ends-here : EndsAt (AgreeBackBehindSpan n coins f.old ys s) (checkpoint_steps old.checkpoints.items) s.first s.old_end s.new_end (length ys) r.step
       ends-here =
-          ends-at n coins K f.old f.count old f.kept ys s f.span p old_end new_end total (omega (arith, few)) next-there m (omega (arith, next)) count.behind r end done.at_step.run
+          ends-at n coins K f.old f.count old f.kept ys s f.span p reach old_end new_end total (omega (arith, few)) next-there m (omega (arith, next)) count.behind r end done.at_step.run
           end_here
 
       module _ (mid : KeptRun) (same : IsSameKept mid old) (observables : ℕ) (q : Prepared) (prepared : IsPrepared mid r observables end q) where
@@ -196,7 +196,7 @@ module _ {n : ℕ} {coins : ℕ → Bool} {K : ℕ} {ys : List Step} {s : Span} 
             (put.observables
             ∙ prepared_here.observables
             ∙ ap (λ (o : RunOutput). with_additions o.additions (replicate observables false)) (sym put.output))
-            p end q old_end new_end total (omega (arith, few)) next-there end_here prepared_here.rest prepared_here.reach prepared_here.laid put
+            p end q reach old_end new_end total (omega (arith, few)) next-there end_here prepared_here.rest prepared_here.reach prepared_here.laid put
 
         flags-here : (new : KeptRun) → IsCommitted old q m K new → ones r.outputs.free.items ≤ ones new.outputs.free.items
         flags-here new put =

@@ -20,7 +20,8 @@ use Rattle.stab_session.specs.declared.kept.Prepared.{Prepared}
 use Rattle.stab_session.specs.declared.kept.Rest.{Rest}
 use Rattle.stab_run.specs.Records.{ones}
 use Rattle.stab_run.specs.Points.{RunOutput, origin, joined, point_after, outputs, all_coins_of, with_additions}
-use Rattle.stab_run.specs.Laws.{AgreeAt}
+use Rattle.stab_frames.specs.Ends.{AgreeBack}
+use Rattle.stab_frames.specs.Lookbacks.{LooksWithin}
 use Rattle.stab_run.specs.ProgramStates.{program_state, output_of}
 use Rattle.stab_session.specs.inner.Spacing.{Near, IsSpaced, last_of}
 use Rattle.stab_run.specs.Cuts.{lengths_of, front_of, rest_of}
@@ -31,8 +32,9 @@ use Rattle.stab_session.specs.inner.Prepared.{Begins, IsSpliced, IsRest, IsOldRe
 use Rattle.stab_run.specs.declared.records.Lengths.{Lengths}
 use Rattle.stab_run.proofs.RecordLemmas.{ones-append}
 use Rattle.stab_run.proofs.PointLemmas.{flags-are-coins, front-output}
-use Rattle.stab_session.proofs.NotedLemmas.{agree-turned, noted-front, noted-spliced}
-use Rattle.stab_session.proofs.PointLemmas.{take-same, checkpoint-before, begun-from-start, meets-agree, agree-end, kept-tail, checkpoint-moved}
+use Rattle.stab_session.proofs.NotedLemmas.{near-enough, noted-front, noted-spliced}
+use Rattle.stab_session.proofs.FramedLemmas.{future-back, future-turned}
+use Rattle.stab_session.proofs.PointLemmas.{take-same, checkpoint-before, begun-from-start, meets-agree, HaveSameFuture, group-end, kept-tail, checkpoint-moved}
 use Rattle.stab_session.proofs.SpacingLemmas.{IsBefore, before-near, all-behind, ascending-behind, spaced-front, spaced-all, all-laid-all, all-laid-append, moved-within, moved-near, steps-moved, near-drop, near-join}
 
 -- lists and their elements
@@ -238,28 +240,28 @@ module _ (n : ℕ) (coins : ℕ → Bool) (K : ℕ) (xs : List Step) (count : �
             replay.at_step.run
 
     -- at an old copy that it meets
-    kept-joined : (j : ℕ) (d : Checkpoint) → slice_get old.checkpoints.items j ≡ Some d → s.old_end ≤ d.step → moved s.old_end s.new_end d.step ≡ r.step
-        → Meets n r.tableau (output_of r.outputs) old.outputs.records.items d → length ys < 2 ^ 64 → new.tableau ≡ old.tableau
+    kept-joined : (j reach : ℕ) → reach ≡ old.reach → (d : Checkpoint) → slice_get old.checkpoints.items j ≡ Some d → s.old_end ≤ d.step → moved s.old_end s.new_end d.step ≡ r.step
+        → Meets n reach r.tableau (output_of r.outputs) old.outputs.records.items d → length ys < 2 ^ 64 → new.tableau ≡ old.tableau
         → output_of new.outputs ≡ joined (output_of r.outputs) (rest_of d.lengths (output_of old.outputs))
         → IsSpliced r.notes.strings old.strings (ones (take d.lengths.free old.outputs.free.items)) (ones new.outputs.free.items) new.strings
         → new.reach ≡ r.notes.reach
         → new.checkpoints.items
         ≡ all_laid K (map (moved_copy (meeting_of (output_of r.outputs) r.step d)) (drop j old.checkpoints.items)) (all_laid K r.laid.items (take m old.checkpoints.items))
         → IsKeptRun n coins K ys total new
-    kept-joined j d here behind place meets few tableau output strings reach copies = record {
+    kept-joined j reach reach_is d here behind place meets few tableau output strings new_reach copies = record {
       qubits = ap (λ (t : TableauState). t.qubits) tableau ∙ kept.qubits;
       run = record {
-        group = λ p size. ap (λ t. stabilises t p) tableau ∙ kept.run.group p size ∙ (agree-end n coins xs ys d.step r.step same agree).group p size;
+        group = λ p size. ap (λ t. stabilises t p) tableau ∙ kept.run.group p size ∙ group-end n coins xs ys d.step r.step same future p size;
         output =
             output
             ∙ (λ i. joined (replay.at_step.run.output i) (rest_of (is.lengths i) (kept.run.output i)))
-            ∙ sym (kept-tail n coins xs ys d.step r.step same agree);
+            ∙ sym (kept-tail n coins xs ys d.step r.step same future);
       };
       observables = observables;
       noted =
-          subst (IsNoted n coins ys new.strings new.outputs.free.items) (sym reach)
-          (noted-spliced n coins xs ys d.step r.step same (sym agree.coin) (λ k. agree-turned n coins (take k (drop d.step xs)) (point_after n coins (take d.step xs) origin)
-          (point_after n coins (take r.step ys) origin) agree)
+          subst (IsNoted n coins ys new.strings new.outputs.free.items) (sym new_reach)
+          (noted-spliced n coins xs ys d.step r.step same (sym agree.coin)
+          (future-turned n coins (drop d.step xs) (point_after n coins (take d.step xs) origin) (point_after n coins (take r.step ys) origin) future)
           old.strings r.notes.strings new.strings old.outputs.free.items r.outputs.free.items new.outputs.free.items d.lengths.free old.reach r.notes.reach
           kept.noted (ap (λ (o : RunOutput). o.free) kept.run.output) replay.at_step.noted (ap (λ (o : RunOutput). o.free) replay.at_step.run.output) raised
           (ap (λ (l : Lengths). l.free) is.lengths ∙ flags-are-coins n coins (take d.step xs)) (ap (λ (o : RunOutput). o.free) output) strings);
@@ -291,10 +293,15 @@ module _ (n : ℕ) (coins : ℕ → Bool) (K : ℕ) (xs : List Step) (count : �
             ∙ drop-drop (d.step - s.old_end) s.new_end ys
             ∙ ap (λ k. drop k ys) (sym step)
 
-        agree : AgreeAt n (point_after n coins (take d.step xs) origin) (point_after n coins (take r.step ys) origin)
+        agree : AgreeBack n reach (point_after n coins (take d.step xs) origin) (point_after n coins (take r.step ys) origin)
         agree =
-            meets-agree n coins xs (take r.step ys) d r.tableau (output_of r.outputs) old.outputs.records.items is
+            meets-agree n reach coins xs (take r.step ys) d r.tableau (output_of r.outputs) old.outputs.records.items is
             (ap (λ (o : RunOutput). o.records) kept.run.output) replay.at_step.run meets
+
+        future : HaveSameFuture n coins (drop d.step xs) (point_after n coins (take d.step xs) origin) (point_after n coins (take r.step ys) origin)
+        future =
+            future-back n reach coins (drop d.step xs) (point_after n coins (take d.step xs) origin) (point_after n coins (take r.step ys) origin)
+            (near-enough old.reach reach (drop d.step xs) (omega (arith, reach_is)) (All-drop (LooksWithin old.reach) d.step xs kept.noted.near)) agree
 
         meeting : Meeting
         meeting = meeting_of (output_of r.outputs) r.step d
@@ -310,7 +317,7 @@ module _ (n : ℕ) (coins : ℕ → Bool) (K : ℕ) (xs : List Step) (count : �
 
         each_moved : All (λ c. IsCheckpoint n coins ys (moved_copy (meeting_of (output_of r.outputs) r.step d) c)) (drop j old.checkpoints.items)
         each_moved = λ k e lt.
-            checkpoint-moved n coins xs ys d.step r.step same agree (meeting_of (output_of r.outputs) r.step d) (get_or (drop j old.checkpoints.items) k e) refl refl is.lengths
+            checkpoint-moved n coins xs ys d.step r.step same future (meeting_of (output_of r.outputs) r.step d) (get_or (drop j old.checkpoints.items) k e) refl refl is.lengths
             (ap lengths_of replay.at_step.run.output)
             (all-behind K (length xs) d.step j old.checkpoints.items kept.spaced.near
             (subst (λ o. IfSome o (λ c. d.step ≤ c.step)) (sym here) (omega arith)) k e lt).0
@@ -348,19 +355,19 @@ module _ (n : ℕ) (coins : ℕ → Bool) (K : ℕ) (xs : List Step) (count : �
             (sym (map-append (λ c. c.step) r.laid.items (map (moved_copy (meeting_of (output_of r.outputs) r.step d)) (drop j old.checkpoints.items)))))
 
     -- however it ends
-    pub kept-end : (p : Plan) (end : End) (q : Prepared) → p.old_end ≡ s.old_end → p.new_end ≡ s.new_end → p.total ≡ length ys → length ys < 2 ^ 64
+    pub kept-end : (p : Plan) (end : End) (q : Prepared) → p.reach ≡ old.reach → p.old_end ≡ s.old_end → p.new_end ≡ s.new_end → p.total ≡ length ys → length ys < 2 ^ 64
         → IfSome (slice_get old.checkpoints.items p.next) (λ c. s.old_end ≤ c.step)
         → IsEnd n p r old.checkpoints.items old.outputs.records.items end
         → IsRest old r.tableau (output_of r.outputs) r.notes.strings r.step end (output_of q.outputs) q.strings q.rest → q.reach ≡ r.notes.reach
         → reverse q.laid.items ≡ r.laid.items → IsCommitted old q m K new → IsKeptRun n coins K ys total new
-    kept-end p Last q old_end new_end total few next end rest reach laid committed =
+    kept-end p Last q reach_is old_end new_end total few next end rest reach laid committed =
         kept-last (end ∙ total) (committed.tableau ∙ rest.1) (committed.output ∙ rest.2) (committed.strings ∙ rest.3) (committed.reach ∙ reach)
         (committed.checkpoints ∙ (λ i. all_laid K (rest.0 i) (all_laid K (laid i) (take m old.checkpoints.items))))
-    kept-end p (Joined j) q old_end new_end total few next end rest reach laid committed =
-        let found = some-and (λ c. (step_among_new p c ≡ r.step) × Meets n r.tableau (output_of r.outputs) old.outputs.records.items c) (slice_get old.checkpoints.items j) end.1 in
+    kept-end p (Joined j) q reach_is old_end new_end total few next end rest reach laid committed =
+        let found = some-and (λ c. (step_among_new p c ≡ r.step) × Meets n p.reach r.tableau (output_of r.outputs) old.outputs.records.items c) (slice_get old.checkpoints.items j) end.1 in
         let d = found.0 in
         let is = some-at (IsOldRest old (output_of r.outputs) r.notes.strings r.step j (output_of q.outputs) q.strings q.rest) old.checkpoints.items j d found.1 rest in
-        kept-joined j d found.1 (some-at (λ c. s.old_end ≤ c.step) old.checkpoints.items j d found.1 (from-drop (λ c. s.old_end ≤ c.step) old.checkpoints.items p.next j end.0 (all-next p.next next)))
+        kept-joined j p.reach reach_is d found.1 (some-at (λ c. s.old_end ≤ c.step) old.checkpoints.items j d found.1 (from-drop (λ c. s.old_end ≤ c.step) old.checkpoints.items p.next j end.0 (all-next p.next next)))
         ((λ i. moved (sym old_end i) (sym new_end i) d.step) ∙ found.2.0) found.2.1 few
         (committed.tableau ∙ is.tableau) (committed.output ∙ is.output)
         (subst (λ x. x) (λ i. IsSpliced r.notes.strings old.strings (ones (take d.lengths.free old.outputs.free.items)) (ones (sym committed.output i).free) (sym committed.strings i))
@@ -375,7 +382,7 @@ pub end-flags : (n : ℕ) (p : Plan) (r : Replay) (old : KeptRun) (end : End) (n
     → ones r.outputs.free.items ≤ ones new.free
 end-flags n p r old Last new strings rest end is = omega (arith, ap (λ (o : RunOutput). ones o.free) is.2)
 end-flags n p r old (Joined j) new strings rest end is =
-    let found = some-and (λ c. (step_among_new p c ≡ r.step) × Meets n r.tableau (output_of r.outputs) old.outputs.records.items c) (slice_get old.checkpoints.items j) end.1 in
+    let found = some-and (λ c. (step_among_new p c ≡ r.step) × Meets n p.reach r.tableau (output_of r.outputs) old.outputs.records.items c) (slice_get old.checkpoints.items j) end.1 in
     let d = found.0 in
     let old_rest = some-at (IsOldRest old (output_of r.outputs) r.notes.strings r.step j new strings rest) old.checkpoints.items j d found.1 is in
     omega (arith, ap (λ (o : RunOutput). ones o.free) old_rest.output, ones-append r.outputs.free.items (drop d.lengths.free old.outputs.free.items))

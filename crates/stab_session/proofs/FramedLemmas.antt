@@ -29,7 +29,7 @@ use Rattle.stab_frames.specs.StepNotes.{AreEnough, measured_by}
 use Rattle.stab_frames.specs.KeptStrings.{IsTrueAt, AreTrue}
 use Rattle.stab_frames.specs.Walks.{IsGone}
 use Rattle.stab_frames.specs.Ends.{AgreeBack}
-use Rattle.stab_session.proofs.PointLemmas.{take-more}
+use Rattle.stab_session.proofs.PointLemmas.{HaveSameFuture, take-more}
 use Rattle.stab_frames.proofs.SignLemmas.{sign-twice}
 use Rattle.stab_frames.proofs.TurnedLemmas.{turned-blank}
 use Rattle.stab_frames.proofs.LookbackLemmas.{or-left, or-right}
@@ -100,6 +100,19 @@ looks-front m (suc k) (x ∷ xs) near =
   where
     both-false : (a b : Bool) → a ≡ false → b ≡ false → (a || b) ≡ false
     both-false a b e f = grind arith
+
+-- points that agree as far back as steps look have the same future by these
+pub future-back : (n reach : ℕ) (coins : ℕ → Bool) (back : List Step) (a b : Point) → looks_too_far reach back ≡ false → AgreeBack n reach a b → HaveSameFuture n coins back a b
+future-back n reach coins back a b near agree m =
+    let both = same-future-back n coins reach (take m back) a b (looks-front reach m back near) agree in
+    (both.0, both.1.group)
+
+-- and differ by no letter
+pub future-turned : (n : ℕ) (coins : ℕ → Bool) (back : List Step) (a b : Point) → HaveSameFuture n coins back a b → AreTurnedBehind n coins back a b
+future-turned n coins back a b future m = (
+  replicate n I,
+  (λ p size. sym ((future m).1 p size) ∙ turned-blank n (member (point_after n coins (take m back) a).trace) p size),
+)
 
 -- a run behind a point that differs by a frame, which went over so many steps and then was gone, or over all
 

@@ -263,16 +263,6 @@ module _ (s : StringsState) (flags : List Bool) (numbered : IsNumbered s flags) 
                     )
               ]
 
--- points that agree go on so, and differ by no letter
-pub agree-turned : (n : ℕ) (coins : ℕ → Bool) (xs : List Step) (a b : Point) → AgreeAt n a b
-    → (g : List Letter) × IsTurned n g (member (point_after n coins xs a).trace) (member (point_after n coins xs b).trace)
-agree-turned n coins xs a b agree = (
-  replicate n I,
-  (λ p size.
-      sym ((same-future n coins xs a b agree).1.group p size)
-      ∙ turned-blank n (member (point_after n coins xs a).trace) p size),
-)
-
 -- what a run of no steps notes
 pub noted-nothing : (n : ℕ) (coins : ℕ → Bool) (s : StringsState) (free : List Bool) (reach : ℕ) → s ≡ record { qubits = n; most = most_strings n; strings = [] } → free ≡ []
     → IsNoted n coins [] s free reach

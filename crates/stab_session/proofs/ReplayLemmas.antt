@@ -1,7 +1,7 @@
 -- Replays: a run that goes on from a copy of an earlier one, what it asks of coins, and where it meets another copy.
-use Rattle.std.proofs.Common.{◌≡◌, ℕ, zero, suc, ◌+◌, ◌-◌, ◌<◌, ◌≤◌, ◌↔◌, refl, sym, ◌∙◌, ap, subst, Bool, ◌⊎◌, inl, inr, List, [], ◌∷◌, ◌++◌, All, IfSome, IsSomeAnd, Option, None, Some, slice_get, length, take, drop, arith}
+use Rattle.std.proofs.Common.{◌≡◌, ℕ, zero, suc, ◌+◌, ◌-◌, ◌<◌, ◌≤◌, ◌↔◌, refl, sym, ◌∙◌, ap, subst, Bool, ◌⊎◌, inl, inr, List, [], ◌∷◌, ◌++◌, All, IfSome, IsSomeAnd, Option, None, Some, slice_get, length, take, drop, min, arith}
 use Rattle.std.specs.Option.{option_map}
-use Rattle.std.proofs.lemmas.List.{length-take, length-drop, take-append-drop, take_at, take-take, drop-drop, drop-take, map-append}
+use Rattle.std.proofs.lemmas.List.{length-take, length-drop, take-append-drop, take_at, take-take, drop_all, drop-drop, drop-take, map-append}
 use Rattle.std.proofs.lemmas.List.Elements.{All-push}
 use Rattle.std.proofs.lemmas.Bool.{cases_lt}
 use Rattle.std.proofs.lemmas.Option.{none-some, same_Some, IfSome_then}
@@ -42,6 +42,39 @@ begins-behind xs ys b le same = (to, from)
 
     from : xs ≡ take (length xs) ys → drop b xs ≡ take (length (drop b xs)) (drop b ys)
     from e = ap (drop b) (e ∙ ap (λ k. take k ys) rest) ∙ drop-take b (length (drop b xs)) ys
+
+-- the last bits of a list at their places in another
+
+cut-least : (from : ℕ) (xs : List Bool) → drop (min from (length xs)) xs ≡ drop from xs
+cut-least from xs =
+    elim (cases_lt (length xs) from) [
+      | inl lt ↦ ap (λ k. drop k xs) (omega (arith, lt)) ∙ drop_all (length xs) xs (omega arith) ∙ sym (drop_all from xs (omega (arith, lt)))
+      | inr le ↦ ap (λ k. drop k xs) (omega (arith, le))
+    ]
+
+pub same-place : (bits others : List Bool) (from cut : ℕ) → from ≤ length bits → cut ≡ min from (length others)
+    → take (length (drop from bits)) (drop cut others) ≡ drop from (take (length bits) others)
+same-place bits others from cut le is =
+    ap (take (length (drop from bits))) (ap (λ k. drop k others) is ∙ cut-least from others)
+    ∙ sym (drop-take from (length (drop from bits)) others)
+    ∙ ap (λ k. drop from (take k others)) (omega (arith, le, length-drop from bits))
+
+none-taken : (k : ℕ) (xs ys : List Bool) → k ≡ 0 → take k xs ≡ take k ys
+none-taken k xs ys e = ap (λ j. take j xs) e ∙ sym (ap (λ j. take j ys) e)
+
+pub same-front : (bits others : List Bool) (base from cut : ℕ) → take base bits ≡ take base others → cut ≡ min from (length others)
+    → take (base - from) (drop from bits) ≡ take (base - from) (drop cut others)
+same-front bits others base from cut same is =
+    elim (cases_lt base from) [
+      | inl lt ↦ none-taken (base - from) (drop from bits) (drop cut others) (omega (arith, lt))
+      | inr le ↦
+          sym (drop-take from (base - from) bits)
+          ∙ ap (λ k. drop from (take k bits)) (omega (arith, le))
+          ∙ ap (drop from) same
+          ∙ ap (λ k. drop from (take k others)) (omega (arith, le))
+          ∙ drop-take from (base - from) others
+          ∙ ap (take (base - from)) (sym (ap (λ k. drop k others) is ∙ cut-least from others))
+    ]
 
 -- the coins that steps use up
 
@@ -151,10 +184,10 @@ near-more K a e (b ∷ xs) h = (h.0, h.1, near-more K b e xs h.2)
 
 -- where a run agrees with an old one at a copy, it meets that copy
 
-agree-meets : (n : ℕ) (coins : ℕ → Bool) (xs zs : List Step) (c : Checkpoint) (t : TableauState) (o : RunOutput) (records : List Bool) → IsRunFromStart n coins zs (program_state t o)
+agree-meets : (n reach : ℕ) (coins : ℕ → Bool) (xs zs : List Step) (c : Checkpoint) (t : TableauState) (o : RunOutput) (records : List Bool) → IsRunFromStart n coins zs (program_state t o)
     → IsCheckpoint n coins xs c → take c.lengths.records records ≡ (outputs n coins (take c.step xs) origin).records
-    → AgreeAt n (point_after n coins (take c.step xs) origin) (point_after n coins zs origin) → Meets n t o records c
-agree-meets n coins xs zs c t o records run h kept agree = record {
+    → AgreeAt n (point_after n coins (take c.step xs) origin) (point_after n coins zs origin) → Meets n reach t o records c
+agree-meets n reach coins xs zs c t o records run h kept agree = record {
   group = λ p size. run.group p size ∙ sym (agree.group p size) ∙ sym (h.group p size);
   coin =
       now.coin
@@ -162,7 +195,7 @@ agree-meets n coins xs zs c t o records run h kept agree = record {
       ∙ sym (flags-are-coins n coins (take c.step xs))
       ∙ sym (ap (λ (l : Lengths). l.free) h.lengths);
   count = ap length same ∙ sym (ap (λ (l : Lengths). l.records) h.lengths);
-  records = same ∙ sym kept;
+  records = ap (drop (c.lengths.records - reach)) (same ∙ sym kept);
 }
   where
     now : IsAt n (program_state t o) (point_after n coins zs origin)
@@ -286,7 +319,7 @@ module _ (n : ℕ) (coins : ℕ → Bool) (begin : ℕ) (p : Plan) (ys : List St
   misses r c h place apart xs is_copy kept agree =
       apart (
         place,
-        agree-meets n coins xs (take r.step ys) c r.tableau (output_of r.outputs) old h.run is_copy kept
+        agree-meets n p.reach coins xs (take r.step ys) c r.tableau (output_of r.outputs) old h.run is_copy kept
             (subst (λ k. AgreeAt n (point_after n coins (take c.step xs) origin) (point_after n coins (take k ys) origin)) place agree),
       )
 

@@ -11,7 +11,7 @@ ghost use Rattle.stab_session.specs.Bounds.{IsCounted};
 ghost use Rattle.stab_run.specs.ProgramStates.{output_of};
 ghost use Rattle.stab_frames.specs.KeptStrings.{front_kept};
 ghost use Rattle.stab_session.specs.inner.Checkpoints.{checkpoint_steps, all_laid};
-ghost use Rattle.stab_session.specs.inner.Replays.{IsKeptRun, IsSameKept, IsSpan, Follows, AgreeBehindSpan};
+ghost use Rattle.stab_session.specs.inner.Replays.{IsKeptRun, IsSameKept, IsSpan, Follows, AgreeBehindSpan, AgreeBackBehindSpan};
 ghost use Rattle.stab_session.specs.inner.Prepared.{Begins, HasCopy, IsSpliced, IsRest, HasRoom, IsPrepared, copies_behind, IsCommitted};
 
 use crate::checkpoint::{Checkpoint, Meeting, count_before, lay_all, take_moved};
@@ -162,7 +162,7 @@ impl KeptRun {
         ensures applied { IfOk result (λ applied. applied ≤ (length (unroll (circuit_items circuit.now)) - span.first) + stride) }
         ensures few { IfOk result (λ applied. (xs : List Step) (count far : ℕ) → IsKeptRun self.old.tableau.qubits (C.sequence coins.old) stride xs count self.old → IsSpan xs (unroll (circuit_items circuit.now)) span → AgreeBehindSpan self.old.tableau.qubits (C.sequence coins.old) xs (unroll (circuit_items circuit.now)) span far → applied ≤ ((span.new_end - span.first) + 2 * stride) + far) }
         ensures at_least { IfOk result (λ applied. span.new_end ≤ span.first + applied) }
-        ensures counted { IfOk result (λ applied. (xs : List Step) (count : ℕ) → IsKeptRun self.old.tableau.qubits (C.sequence coins.old) stride xs count self.old → IsSpan xs (unroll (circuit_items circuit.now)) span → IsCounted (AgreeBehindSpan self.old.tableau.qubits (C.sequence coins.old) xs (unroll (circuit_items circuit.now)) span) (checkpoint_steps self.old.checkpoints.items) span.first span.old_end span.new_end (length (unroll (circuit_items circuit.now))) applied) }
+        ensures counted { IfOk result (λ applied. (xs : List Step) (count : ℕ) → IsKeptRun self.old.tableau.qubits (C.sequence coins.old) stride xs count self.old → IsSpan xs (unroll (circuit_items circuit.now)) span → IsCounted (AgreeBehindSpan self.old.tableau.qubits (C.sequence coins.old) xs (unroll (circuit_items circuit.now)) span) (AgreeBackBehindSpan self.old.tableau.qubits (C.sequence coins.old) xs (unroll (circuit_items circuit.now)) span) (checkpoint_steps self.old.checkpoints.items) span.first span.old_end span.new_end (length (unroll (circuit_items circuit.now))) applied) }
         ensures err { IfErr result (λ r. r ≡ OutOfMemory) }
     {
         let before = count_before(self.checkpoints.as_slice(), span.first + 1);
@@ -174,6 +174,7 @@ impl KeptRun {
             new_end: span.new_end,
             next: count_before(self.checkpoints.as_slice(), span.old_end).max(before),
             base: replay.outputs.records.len(),
+            reach: self.reach,
         };
         let end = replay.follow(
             alloc,

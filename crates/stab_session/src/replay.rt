@@ -1,4 +1,4 @@
-ghost use Rattle.std.specs.Prelude.{◌≡◌, ◌+◌, ◌*◌, ◌<◌, ◌≤◌, ◌^◌, ◌↔◌, [], ◌∷◌, ◌++◌, All, IsTrue, OnOk, IfOk, IfErr, length, take, drop};
+ghost use Rattle.std.specs.Prelude.{◌≡◌, ◌+◌, ◌-◌, ◌*◌, ◌<◌, ◌≤◌, ◌^◌, ◌↔◌, [], ◌∷◌, ◌++◌, All, IsTrue, OnOk, IfOk, IfErr, length, take, drop};
 ghost use Rattle.stab_io.specs.declared.refusal.Refusal.TheVariants.{OutOfMemory};
 ghost use Rattle.stab_tableau.specs.Groups.{SameGroup};
 ghost use Rattle.stab_tableau.specs.Tableaus.{stabilises};
@@ -48,6 +48,8 @@ pub struct Plan {
     pub next: usize,
     /// So many records are those of the old run.
     pub base: usize,
+    /// The old steps look back to no more records than so many.
+    pub reach: u32,
 }
 
 /// How a replay ended.
@@ -158,7 +160,8 @@ impl<'a> Replay<'a> {
     }
 
     /// Whether the replay meets an old copy, whose run has these records, the first of which are
-    /// the same: what is cheap to compare comes first.
+    /// the same, and whose steps look back no further than its reach: what is cheap to compare
+    /// comes first.
     ///
     /// Refusal `OutOfMemory` alone.
     fn meets(
@@ -167,18 +170,24 @@ impl<'a> Replay<'a> {
         copy: &Checkpoint,
         records: &[bool],
         base: usize,
+        reach: u32,
         spare: &mut Option<Tableau>,
     ) -> Result<bool, Refusal>
         requires same_qubits { copy.now.tableau.qubits ≡ self.old.tableau.qubits }
         requires base { base ≤ length self.old.outputs.records.items }
         requires same_records { take base self.old.outputs.records.items ≡ take base records.now }
         ensures unchanged { self.new ≡ self.old }
-        ensures value { IfOk result (λ meets. IsTrue meets ↔ Meets self.old.tableau.qubits self.old.tableau (output_of self.old.outputs) records.now copy.now) }
+        ensures value { IfOk result (λ meets. IsTrue meets ↔ Meets self.old.tableau.qubits reach self.old.tableau (output_of self.old.outputs) records.now copy.now) }
         ensures err { IfErr result (λ r. r ≡ OutOfMemory) }
     {
         let alike = self.outputs.free.len() == copy.lengths.free
             && self.outputs.records.len() == copy.lengths.records
-            && same_behind(self.outputs.records.as_slice(), records, base);
+            && same_last(
+                self.outputs.records.as_slice(),
+                records,
+                base,
+                reach as usize,
+            );
         if !alike {
             return Ok(false);
         }
@@ -206,7 +215,14 @@ impl<'a> Replay<'a> {
         ensures err { IfErr result (λ r. r ≡ OutOfMemory) }
     {
         let placed = plan.place(copies, next) == Some(self.step);
-        if placed && self.meets(alloc, &copies[next], records, plan.base, spare)? {
+        if placed && self.meets(
+                alloc,
+                &copies[next],
+                records,
+                plan.base,
+                plan.reach,
+                spare,
+            )? {
             Ok(Arrival::Met)
         } else if self.step == plan.total {
             Ok(Arrival::Behind)
@@ -289,6 +305,19 @@ fn has_group_of(
     let same = tableau.same_group(&mut other);
     *spare = Some(other);
     Ok(same)
+}
+
+/// Whether the last bits of a list, so many, stand at their places in another one, where both have the
+/// same bits before the base.
+fn same_last(bits: &[bool], others: &[bool], base: usize, reach: usize) -> bool
+    requires base { base ≤ length bits.now }
+    requires same { take base bits.now ≡ take base others.now }
+    ensures value { IsTrue result ↔ (drop (length bits.now - reach) bits.now ≡ drop (length bits.now - reach) (take (length bits.now) others.now)) }
+{
+    let from = bits.len().saturating_sub(reach);
+    let (_, last) = bits.split_at(from);
+    let (_, others) = others.split_at(from.min(others.len()));
+    same_behind(last, others, base.saturating_sub(from))
 }
 
 /// Whether a list goes on behind so many bits, which are the same, as another one begins.

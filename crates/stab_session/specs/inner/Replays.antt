@@ -15,6 +15,7 @@ use Rattle.stab_session.specs.declared.kept.KeptRun.{KeptRun}
 use Rattle.stab_circuit.specs.declared.edit.Span.{Span}
 use Rattle.stab_run.specs.Points.{RunOutput, origin, point_after, outputs, with_additions}
 use Rattle.stab_run.specs.Laws.{AgreeAt}
+use Rattle.stab_session.specs.Bounds.{AgreeAsFarAsLooked}
 use Rattle.stab_run.specs.ProgramStates.{program_state, output_of}
 use Rattle.stab_session.specs.inner.Spacing.{IsSpaced, Near}
 use Rattle.stab_run.specs.Cuts.{lengths_of}
@@ -71,6 +72,11 @@ abbrev pub AgreeBehindSpan : ℕ → (ℕ → Bool) → List Step → List Step 
 AgreeBehindSpan n coins xs ys s far =
     AgreeAt n (point_after n coins (take (s.old_end + far) xs) origin) (point_after n coins (take (s.new_end + far) ys) origin)
 
+-- and so they have the same records as far back as the steps behind look, where these differ before that
+abbrev pub AgreeBackBehindSpan : ℕ → (ℕ → Bool) → List Step → List Step → Span → ℕ → Type 0
+AgreeBackBehindSpan n coins xs ys s far =
+    AgreeAsFarAsLooked n (drop (s.new_end + far) ys) (point_after n coins (take (s.old_end + far) xs) origin) (point_after n coins (take (s.new_end + far) ys) origin)
+
 -- where an old copy stands among the new steps
 abbrev pub step_among_new : Plan → Checkpoint → ℕ
 step_among_new p c = moved p.old_end p.new_end c.step
@@ -103,13 +109,13 @@ abbrev pub Ascending : Plan → ℕ → List Checkpoint → Type 0
 Ascending p step [] = step ≤ p.total
 Ascending p step (c ∷ more) = (step ≤ step_among_new p c) × Ascending p (step_among_new p c) more
 
--- where an old copy is of a state that a replay has come to: the same strings stabilise, and the number of the next coin and the
--- records are the same
-pub record Meets (n : ℕ) (t : TableauState) (o : RunOutput) (old : List Bool) (c : Checkpoint) : Type 0 where
+-- where an old copy is of a state that a replay has come to: the same strings stabilise, and the number of the next coin, that of the
+-- records and the newest of them are the same
+pub record Meets (n reach : ℕ) (t : TableauState) (o : RunOutput) (old : List Bool) (c : Checkpoint) : Type 0 where
   pub group : SameGroup n (stabilises t) (stabilises c.tableau)
   pub coin : length o.free ≡ c.lengths.free
   pub count : length o.records ≡ c.lengths.records
-  pub records : o.records ≡ take c.lengths.records old
+  pub records : drop (c.lengths.records - reach) o.records ≡ drop (c.lengths.records - reach) (take c.lengths.records old)
 
 -- an old copy stands at this step among the new ones
 abbrev pub IsPlacedAt : Plan → List Checkpoint → ℕ → ℕ → Type 0
@@ -121,7 +127,7 @@ copy_of r = record { step = r.step; lengths = lengths_of (output_of r.outputs); 
 
 -- a replay is at the place of an old copy, and meets it
 abbrev pub MeetsAt : ℕ → Plan → Replay → List Bool → Checkpoint → Type 0
-MeetsAt n p r records c = (step_among_new p c ≡ r.step) × Meets n r.tableau (output_of r.outputs) records c
+MeetsAt n p r records c = (step_among_new p c ≡ r.step) × Meets n p.reach r.tableau (output_of r.outputs) records c
 
 -- what a replay comes to at the step where it stops: the old copy that may be met next, or the last step, or neither, and which copy
 -- may be met then
