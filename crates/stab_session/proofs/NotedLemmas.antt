@@ -1,25 +1,17 @@
 -- Noted strings: those that exchange the free outcomes of a run, cut and put together where runs are.
-use Rattle.std.proofs.Common.{◌≡◌, ℕ, zero, suc, ◌+◌, ◌-◌, ◌<◌, ◌≤◌, min, refl, sym, ◌∙◌, ap, subst, Bool, true, false, ◌||◌, ◌⊎◌, inl, inr, List, [], ◌∷◌, ◌++◌, length, take, drop, All, slice_get, get_or, replicate, nat_lt, nat_le, Option, None, Some, arith}
+use Rattle.std.proofs.Common.{◌≡◌, ℕ, zero, suc, ◌+◌, ◌-◌, ◌<◌, ◌≤◌, min, refl, sym, ◌∙◌, ap, subst, Bool, true, false, ◌||◌, ◌⊎◌, inl, inr, List, [], ◌∷◌, ◌++◌, length, take, drop, All, slice_get, get_or, nat_lt, nat_le, Option, None, arith}
 use Rattle.std.specs.Prelude.{IfSome, if◌then◌else◌}
 use Rattle.std.specs.List.{list_any}
 use Rattle.std.proofs.lemmas.Bool.{cases_lt}
 use Rattle.std.proofs.lemmas.Bool.Decides.{leb_tells}
-use Rattle.std.proofs.lemmas.List.{length-append, length-take-le, length-drop, take-append-drop}
+use Rattle.std.proofs.lemmas.List.{length-append, length-drop, take-append-drop}
 use Rattle.std.proofs.lemmas.List.Elements.{All-head, All-tail, All-append, All-drop, All-take, All-nil, All-weaker}
 use Rattle.stab_pauli.specs.declared.letter.Letter.{Letter}
-use Rattle.stab_tableau.specs.Traces.{member}
-use Rattle.stab_tableau.specs.Exchanges.{Exchanges}
-use Rattle.stab_tableau.specs.Turns.{IsTurned}
-use Rattle.stab_pauli.specs.declared.letter.Letter.TheVariants.{I}
-use Rattle.stab_run.specs.Laws.{AgreeAt}
-use Rattle.stab_run.proofs.FutureLemmas.{same-future}
-use Rattle.stab_frames.proofs.TurnedLemmas.{turned-blank}
 use Rattle.stab_circuit.specs.Steps.{Step, one, two, controlled, collapse, product, detector, observable, makes, lookbacks, looks_too_far}
 use Rattle.stab_run.specs.Records.{ones}
 use Rattle.stab_run.specs.Points.{Point, RunOutput, origin, coins_of, all_coins_of, next_point, point_after, outputs}
 use Rattle.stab_run.specs.ProgramStates.{ProgramState, IsAt}
 use Rattle.stab_run.proofs.RecordLemmas.{ones-append}
-use Rattle.stab_run.proofs.RunLemmas.{after-append}
 use Rattle.stab_run.proofs.PointLemmas.{flags-are-coins, front-output}
 use Rattle.stab_frames.specs.Limits.{most_strings}
 use Rattle.stab_frames.specs.KeptStrings.{StringsState, IsNumbered, IsTrueAt, AreTrue, KeepsTrue, note_at, front_kept}

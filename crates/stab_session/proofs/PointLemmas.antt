@@ -1,15 +1,15 @@
 -- Points: runs that go on from states on the way, copies of these, and meetings, where two runs come to points of one future.
-use Rattle.std.proofs.Common.{◌≡◌, ℕ, ◌+◌, ◌-◌, ◌^◌, ◌<◌, ◌≤◌, refl, sym, ◌∙◌, ap, subst, Bool, true, false, List, [], ◌∷◌, ◌++◌, append_assoc, append-nil, length, take, drop, get_or, nat_lt, arith}
+use Rattle.std.proofs.Common.{◌≡◌, ℕ, ◌+◌, ◌-◌, ◌^◌, ◌<◌, ◌≤◌, sym, ◌∙◌, ap, subst, Bool, false, List, ◌++◌, length, take, drop, get_or, nat_lt, arith}
 use Rattle.std.specs.Prelude.{if◌then◌else◌}
-use Rattle.std.proofs.lemmas.List.{length-append, length-take-le, length-drop, take-append-drop, take-take, take_at, take_all, drop_at, drop-take, get_or-drop}
+use Rattle.std.proofs.lemmas.List.{length-append, length-take-le, length-drop, take-append-drop, take-take, take_all, drop-take, get_or-drop}
 use Rattle.stab_tableau.specs.Traces.{member}
 use Rattle.stab_tableau.specs.Groups.{SameGroup}
 use Rattle.stab_tableau.specs.Tableaus.{TableauState, stabilises}
-use Rattle.stab_circuit.specs.Steps.{Step, one, two, controlled, collapse, product, detector, observable}
+use Rattle.stab_circuit.specs.Steps.{Step}
 use Rattle.stab_run.specs.declared.records.Lengths.{Lengths}
 use Rattle.stab_session.specs.declared.checkpoint.Checkpoint.{Checkpoint}
 use Rattle.stab_session.specs.declared.checkpoint.Meeting.{Meeting}
-use Rattle.stab_run.specs.Points.{Point, RunOutput, origin, joined, given, coins_of, next_point, point_after, outputs}
+use Rattle.stab_run.specs.Points.{Point, RunOutput, origin, joined, point_after, outputs}
 use Rattle.stab_run.specs.Records.{looked_up}
 use Rattle.stab_run.specs.Laws.{AgreeAt}
 use Rattle.stab_frames.specs.Ends.{AgreeBack}

@@ -215,14 +215,7 @@ impl<'a> Replay<'a> {
         ensures err { IfErr result (λ r. r ≡ OutOfMemory) }
     {
         let placed = plan.place(copies, next) == Some(self.step);
-        if placed && self.meets(
-                alloc,
-                &copies[next],
-                records,
-                plan.base,
-                plan.reach,
-                spare,
-            )? {
+        if placed && self.meets(alloc, &copies[next], records, plan.base, plan.reach, spare)? {
             Ok(Arrival::Met)
         } else if self.step == plan.total {
             Ok(Arrival::Behind)
