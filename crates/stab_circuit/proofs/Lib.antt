@@ -29,6 +29,7 @@ mod EditResultLemmas
 mod ChunkEditLemmas
 mod CommitLemmas
 mod PathLemmas
+mod PlaceLemmas
 mod StepPathLemmas
 mod StepsLeftLemmas
 pub mod EditingLemmas

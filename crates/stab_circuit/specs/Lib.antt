@@ -7,6 +7,7 @@ pub mod Readings
 pub mod Cursors
 pub mod Prints
 pub mod Paths
+pub mod Places
 pub mod StepPaths
 pub mod Edits
 pub mod Editings

@@ -100,6 +100,25 @@ abbrev pub records_of : List Step → ℕ
 records_of [] = 0
 records_of (s ∷ ss) = makes s + records_of ss
 
+-- whether a step is a detector
+abbrev pub is_detector : Step → Bool
+is_detector (detector ks) = true
+is_detector (one g q) = false
+is_detector (two g a b) = false
+is_detector (controlled l k q) = false
+is_detector (collapse l q recorded inverted resets) = false
+is_detector (product factors inverted) = false
+is_detector (observable j ks) = false
+
+-- how many detectors a step has
+abbrev pub detectors_in : Step → ℕ
+detectors_in x = if is_detector x then 1 else 0
+
+-- how many detectors steps have
+abbrev pub detectors_of : List Step → ℕ
+detectors_of [] = 0
+detectors_of (x ∷ xs) = if is_detector x then 1 + detectors_of xs else detectors_of xs
+
 -- how far back a step looks: the numbers k of its rec[-k]
 abbrev pub lookbacks : Step → List ℕ
 lookbacks (detector ks) = ks

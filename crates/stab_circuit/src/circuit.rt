@@ -5,6 +5,7 @@ ghost use Rattle.stab_circuit.specs.Views.{circuit_items};
 ghost use Rattle.stab_circuit.specs.Readings.{ReadsCircuit, ReadsInput, ReadsItem, IsPlaced, is_of_circuit, is_of_item};
 
 mod edits;
+mod places;
 mod step_items;
 
 use crate::chunks::{Chunk, SkippedChunks, cut, front_summary, skip_chunks};

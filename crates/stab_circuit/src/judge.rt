@@ -42,13 +42,13 @@ pub(crate) struct EditResult {
 
 /// A block: its count of rounds, and its items.
 #[derive(Clone, Copy)]
-struct Block<'a> {
-    count: Count,
-    body: &'a [Item],
+pub(crate) struct Block<'a> {
+    pub(crate) count: Count,
+    pub(crate) body: &'a [Item],
 }
 
 /// The block at a place.
-fn block_at(items: &[Item], place: usize) -> Result<Block<'_>, Refusal>
+pub(crate) fn block_at(items: &[Item], place: usize) -> Result<Block<'_>, Refusal>
     ensures value { IsBlockAt (slice_get items.now place) result }
 {
     match items.get(place) {

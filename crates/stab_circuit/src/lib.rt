@@ -10,7 +10,7 @@
 //! - `path`: the places of items.
 //! - `edit`: how a circuit is edited at a path, and which steps that changes.
 //! - `judge`, `commit`: judging an edit by what items keep, and making it.
-//! - `circuit`: circuits, reading one, editing one, and the item that a step is of.
+//! - `circuit`: circuits, reading one, editing one, the item at a path, and the item that a step is of.
 //! - `print`: the one text of a circuit.
 //! - `step`, `instruction`: the steps of an instruction.
 //! - `walk`, `cursor`: the unrolled steps of a circuit, from any place on.
@@ -58,6 +58,6 @@ pub use edit::{Edit, Refused, Span};
 pub use input::read_text;
 pub use item::Item;
 pub use path::{Path, write_path};
-pub use print::write_circuit;
+pub use print::{write_circuit, write_one_item};
 pub use stab_lines::{Axis, Factor, Qubit};
 pub use step::Step;

@@ -106,3 +106,13 @@ pub fn write_circuit<O: Output>(out: &mut O, circuit: &Circuit) -> Result<(), Fa
 {
     write_items(out, &Margin::None, circuit.items()).map_err(Fault::whole)
 }
+
+/// Writes the text of one item, as `write_circuit` does that of a circuit of this item alone.
+///
+/// Refusal `WriteFault` where a write failed; what was written is then a prefix of the text, and
+/// nothing more is tried.
+pub fn write_one_item<O: Output>(out: &mut O, item: &Item) -> Result<(), Refusal>
+    ensures writes { WritesAll (O.seen out.old) (O.seen out.new) (printed (before item.now done)) result }
+{
+    write_item(out, &Margin::None, item)
+}

@@ -8,11 +8,10 @@ use Rattle.stab_io.specs.declared.refusal.Refusal.{Refusal}
 use Rattle.stab_io.specs.declared.refusal.Refusal.TheVariants.{LookbackTooFar, TooManySteps}
 use Rattle.stab_io.specs.Refusals.{whole}
 use Rattle.stab_circuit.specs.Items.{Items}
-use Rattle.stab_circuit.specs.Steps.{Step, one, two, controlled, collapse, product, detector, observable, unroll, makes, records_of, looks_too_far, check_of, most_steps, steps_cap}
+use Rattle.stab_circuit.specs.Steps.{Step, one, two, controlled, collapse, product, detector, observable, unroll, makes, records_of, looks_too_far, check_of, most_steps, steps_cap, is_detector, detectors_of, detectors_in}
 use Rattle.stab_run.specs.Points.{all_coins_of, coins_of}
 use Rattle.stab_explain.specs.Explanations.{AppendsSome}
-use Rattle.stab_regions.specs.Tables.{is_detector, detectors_of}
-use Rattle.stab_commands.specs.Checks.{SendsSome, detectors_in}
+use Rattle.stab_commands.specs.Checks.{SendsSome}
 use Rattle.stab_commands.proofs.SendingLaws.{took_some_none}
 
 -- a circuit that nothing refuses has at most as many steps as it may

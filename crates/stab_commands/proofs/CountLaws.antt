@@ -4,12 +4,11 @@ use Rattle.std.proofs.lemmas.List.{length-append, length-replicate, length-set}
 use Rattle.stab_pauli.specs.Letters.{◌⊕◌}
 use Rattle.stab_pauli.specs.Paulis.{single}
 use Rattle.stab_circuit.specs.Items.{Items}
-use Rattle.stab_circuit.specs.Steps.{Step, one, two, controlled, collapse, product, detector, observable, unroll, makes, records_of, observables_of}
+use Rattle.stab_circuit.specs.Steps.{Step, one, two, controlled, collapse, product, detector, observable, unroll, makes, records_of, observables_of, detectors_of, detectors_in}
 use Rattle.stab_run.specs.Points.{all_coins_of, coins_of}
 use Rattle.stab_run.specs.Records.{parity}
 use Rattle.stab_run.specs.Runs.{State, start, string_of, outcome_at, effect, run, run_of}
-use Rattle.stab_regions.specs.Tables.{detectors_of}
-use Rattle.stab_commands.specs.Checks.{detectors_in, numbers_of, IsCountedBy}
+use Rattle.stab_commands.specs.Checks.{numbers_of, IsCountedBy}
 use Rattle.stab_commands.proofs.CheckLaws.{detectors_more}
 
 -- a run has come from another by so many records, detectors and coins more

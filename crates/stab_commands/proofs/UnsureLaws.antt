@@ -4,10 +4,10 @@ use Rattle.std.proofs.lemmas.Bool.{ltb-true, ltb-false}
 use Rattle.std.proofs.lemmas.Bool.Decides.{nat_tests}
 use Rattle.std.proofs.lemmas.List.{get_or-set_other, length-append}
 use Rattle.stab_circuit.specs.Items.{Items}
-use Rattle.stab_circuit.specs.Steps.{Step, one, two, controlled, collapse, product, detector, observable, unroll, observables_of}
+use Rattle.stab_circuit.specs.Steps.{Step, one, two, controlled, collapse, product, detector, observable, unroll, observables_of, is_detector, detectors_of}
 use Rattle.stab_run.specs.Records.{parity}
 use Rattle.stab_run.specs.Runs.{State, start, run, effect, added}
-use Rattle.stab_regions.specs.Tables.{is_detector, detectors_of, steps_before}
+use Rattle.stab_regions.specs.Tables.{steps_before_detector}
 use Rattle.stab_regions.specs.Faults.{IsSure, AreSure, bits_in, bit}
 use Rattle.stab_commands.specs.declared.unsure.Bit.{Bit}
 use Rattle.stab_commands.specs.declared.unsure.Bit.TheVariants.{Detector, Observable}
@@ -17,17 +17,17 @@ use Rattle.stab_commands.specs.inner.Faults.{PassesStep}
 -- a detector that is another's step, or not
 
 pub passes_other : (d : ℕ) (x : Step) → is_detector x ≡ false → PassesStep (Detector d) x (Some (Detector d))
-passes_other zero x e xs = ap (λ b. if b then [] else x ∷ steps_before zero xs) e
-passes_other (suc d) x e xs = ap (λ b. x ∷ (if b then steps_before d xs else steps_before (suc d) xs)) e
+passes_other zero x e xs = ap (λ b. if b then [] else x ∷ steps_before_detector zero xs) e
+passes_other (suc d) x e xs = ap (λ b. x ∷ (if b then steps_before_detector d xs else steps_before_detector (suc d) xs)) e
 
 pub passes_earlier : (d : ℕ) (x : Step) → is_detector x ≡ true → 0 < d → PassesStep (Detector d) x (Some (Detector (d - 1)))
 passes_earlier zero x e h xs = absurd (omega arith)
 passes_earlier (suc d) x e h xs =
     let less : suc d - 1 ≡ d = omega arith in
-    ap (λ b. x ∷ (if b then steps_before d xs else steps_before (suc d) xs)) e ∙ ap (λ k. x ∷ steps_before k xs) (sym less)
+    ap (λ b. x ∷ (if b then steps_before_detector d xs else steps_before_detector (suc d) xs)) e ∙ ap (λ k. x ∷ steps_before_detector k xs) (sym less)
 
 pub stops_at_detector : (d : ℕ) (x : Step) → is_detector x ≡ true → d ≡ 0 → PassesStep (Detector d) x None
-stops_at_detector zero x e h xs = ap (λ b. if b then [] else x ∷ steps_before zero xs) e
+stops_at_detector zero x e h xs = ap (λ b. if b then [] else x ∷ steps_before_detector zero xs) e
 stops_at_detector (suc d) x e h xs = absurd (omega arith)
 
 -- an observable that a step adds to, or not
@@ -40,19 +40,19 @@ stops_at_adding j x e xs = ap (λ b. if b then [] else x ∷ steps_before_adding
 
 -- some step makes a detector
 
-detector_within : (d : ℕ) (xs : List Step) → d < detectors_of xs → length (steps_before d xs) < length xs
+detector_within : (d : ℕ) (xs : List Step) → d < detectors_of xs → length (steps_before_detector d xs) < length xs
 detector_within d [] h = absurd (omega arith)
 detector_within zero (x ∷ xs) h = by_test (detector_within zero xs) (is_detector x) h
   where
-    by_test : (0 < detectors_of xs → length (steps_before zero xs) < length xs) → (b : Bool) → 0 < (if b then 1 + detectors_of xs else detectors_of xs)
-        → length (if b then [] else x ∷ steps_before zero xs) < suc (length xs)
+    by_test : (0 < detectors_of xs → length (steps_before_detector zero xs) < length xs) → (b : Bool) → 0 < (if b then 1 + detectors_of xs else detectors_of xs)
+        → length (if b then [] else x ∷ steps_before_detector zero xs) < suc (length xs)
     by_test later true l = omega arith
     by_test later false l = let less = later l in omega arith
 detector_within (suc d) (x ∷ xs) h = by_test (detector_within d xs) (detector_within (suc d) xs) (is_detector x) h
   where
-    by_test : (d < detectors_of xs → length (steps_before d xs) < length xs) → (suc d < detectors_of xs → length (steps_before (suc d) xs) < length xs)
+    by_test : (d < detectors_of xs → length (steps_before_detector d xs) < length xs) → (suc d < detectors_of xs → length (steps_before_detector (suc d) xs) < length xs)
         → (b : Bool) → suc d < (if b then 1 + detectors_of xs else detectors_of xs)
-        → suc (length (if b then steps_before d xs else steps_before (suc d) xs)) < suc (length xs)
+        → suc (length (if b then steps_before_detector d xs else steps_before_detector (suc d) xs)) < suc (length xs)
     by_test earlier later true l = let less = earlier (omega arith) in omega arith
     by_test earlier later false l = let less = later l in omega arith
 

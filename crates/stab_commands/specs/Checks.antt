@@ -1,6 +1,6 @@
 -- Checks: the numbers of a circuit, what `check` writes for its items, and how a call of it ends.
 -- Source: this project's own; what is counted, but coins, has Stim's names.
-use Rattle.std.specs.Prelude.{ℕ, Bool, ◌+◌, List, [], ◌∷◌, ◌++◌, length, codes, decimal, ◌≡◌, ◌⊎◌, Result, Ok, Err, if◌then◌else◌}
+use Rattle.std.specs.Prelude.{ℕ, Bool, List, [], ◌∷◌, ◌++◌, length, codes, decimal, ◌≡◌, ◌⊎◌, Result, Ok, Err}
 use Rattle.std.specs.List.{flat_map}
 use Rattle.stab_io.specs.Devices.{InputView, OutputView}
 use Rattle.stab_io.specs.declared.refusal.Refusal.{Refusal}
@@ -8,19 +8,14 @@ use Rattle.stab_io.specs.declared.refusal.Refusal.TheVariants.{TooLong}
 use Rattle.stab_io.specs.declared.refusal.Fault.{Fault}
 use Rattle.stab_io.specs.Refusals.{whole}
 use Rattle.stab_circuit.specs.Items.{Items, entries}
-use Rattle.stab_circuit.specs.Steps.{Step, unroll, records_of, qubits_of, observables_of}
+use Rattle.stab_circuit.specs.Steps.{unroll, records_of, qubits_of, observables_of, detectors_of}
 use Rattle.stab_circuit.specs.Inputs.{GaveText, IsUnread}
 use Rattle.stab_circuit.specs.Readings.{ReadsCircuit}
 use Rattle.stab_run.specs.Points.{all_coins_of}
 use Rattle.stab_run.specs.Runs.{State, run_of}
-use Rattle.stab_regions.specs.Tables.{is_detector, detectors_of}
 use Rattle.stab_commands.specs.Endings.{Sends}
 use Rattle.stab_commands.specs.Outputs.{SendsOutput}
 use Rattle.stab_commands.specs.declared.check.Numbers.{Numbers}
-
--- how many detectors a step makes
-abbrev pub detectors_in : Step → ℕ
-detectors_in x = if is_detector x then 1 else 0
 
 -- the numbers of a circuit of these items: of its items those of the outermost list, a block being one, and of all else that of its unrolled steps
 abbrev pub numbers_of : Items → Numbers

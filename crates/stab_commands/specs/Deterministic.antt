@@ -4,13 +4,12 @@ use Rattle.std.specs.Prelude.{◌≡◌, ℕ, Bool, List, Result}
 use Rattle.stab_io.specs.Devices.{InputView, OutputView}
 use Rattle.stab_io.specs.declared.refusal.Fault.{Fault}
 use Rattle.stab_circuit.specs.Items.{Items}
-use Rattle.stab_circuit.specs.Steps.{unroll, qubits_of}
+use Rattle.stab_circuit.specs.Steps.{unroll, qubits_of, detectors_of}
 use Rattle.stab_circuit.specs.Readings.{IsCircuit, IsFaultOf}
 use Rattle.stab_results.specs.declared.format.Format.{Format}
 use Rattle.stab_results.specs.declared.format.Kinds.{Kinds}
 use Rattle.stab_results.specs.declared.format.Kinds.TheVariants.{Detectors}
 use Rattle.stab_results.specs.Formats.{shot_bytes}
-use Rattle.stab_regions.specs.Tables.{detectors_of}
 use Rattle.stab_regions.specs.Faults.{AreSure}
 use Rattle.stab_commands.specs.Endings.{Ends, SendsFound}
 

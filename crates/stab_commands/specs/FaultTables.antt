@@ -9,14 +9,14 @@ use Rattle.stab_io.specs.Refusals.{whole}
 use Rattle.stab_pauli.specs.declared.letter.Letter.{Letter}
 use Rattle.stab_pauli.specs.Texts.{letter_text}
 use Rattle.stab_circuit.specs.Items.{Items}
-use Rattle.stab_circuit.specs.Steps.{Step, observable, unroll, qubits_of}
+use Rattle.stab_circuit.specs.Steps.{Step, observable, unroll, qubits_of, detectors_of}
 use Rattle.stab_circuit.specs.Paths.{Path, path_text}
 use Rattle.stab_circuit.specs.StepPaths.{outside, paths_of}
 use Rattle.stab_circuit.specs.Readings.{IsCircuit, IsFaultOf}
 use Rattle.stab_results.specs.declared.format.Format.{Format}
 use Rattle.stab_results.specs.declared.format.Kinds.{Kinds}
 use Rattle.stab_results.specs.Formats.{entry, shot_bytes}
-use Rattle.stab_regions.specs.Tables.{detectors_of, steps_before}
+use Rattle.stab_regions.specs.Tables.{steps_before_detector}
 use Rattle.stab_regions.specs.Faults.{FaultPlace, faults_of, bits_in, IsSure, IsFaultTable}
 use Rattle.stab_commands.specs.declared.unsure.Bit.{Bit}
 use Rattle.stab_commands.specs.declared.unsure.Bit.TheVariants.{Detector, Observable}
@@ -83,7 +83,7 @@ steps_before_adding j (x ∷ xs) = if adds_to j x then [] else x ∷ steps_befor
 
 -- the steps in front of the first that makes a bit
 abbrev pub steps_before_bit : Bit → List Step → List Step
-steps_before_bit (Detector d) xs = steps_before d xs
+steps_before_bit (Detector d) xs = steps_before_detector d xs
 steps_before_bit (Observable j) xs = steps_before_adding j xs
 
 -- the first bit that is not the same whatever the coins, and the path of its first item

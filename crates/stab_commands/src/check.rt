@@ -5,12 +5,11 @@ ghost use Rattle.stab_io.specs.Devices.{WritesAll};
 ghost use Rattle.stab_io.specs.Refusals.{whole};
 ghost use Rattle.stab_io.specs.declared.refusal.Refusal.TheVariants.{OutOfMemory, TooLong};
 ghost use Rattle.stab_circuit.specs.Cursors.{step_shown};
-ghost use Rattle.stab_circuit.specs.Steps.{check_of, unroll};
+ghost use Rattle.stab_circuit.specs.Steps.{check_of, unroll, detectors_of, detectors_in};
 ghost use Rattle.stab_circuit.specs.Views.{circuit_items};
 ghost use Rattle.stab_run.specs.Points.{all_coins_of, coins_of};
-ghost use Rattle.stab_regions.specs.Tables.{detectors_of};
 ghost use Rattle.stab_commands.specs.Endings.{Sends};
-ghost use Rattle.stab_commands.specs.Checks.{EndsCheck, SendsSome, check_text, detectors_in, number_line, numbers_of, numbers_text};
+ghost use Rattle.stab_commands.specs.Checks.{EndsCheck, SendsSome, check_text, number_line, numbers_of, numbers_text};
 
 use crate::ending::finish;
 use crate::fault_line::write_texts;

@@ -2,10 +2,9 @@
 ghost use Rattle.std.specs.Prelude.{◌≡◌, ◌<◌, ℕ, false, true, None, length, slice_index_or, IfOk, IfErr, IfSome, IfNone};
 ghost use Rattle.stab_io.specs.declared.refusal.Refusal.TheVariants.{OutOfMemory};
 ghost use Rattle.stab_io.specs.Refusals.{whole};
-ghost use Rattle.stab_circuit.specs.Steps.{check_of, qubits_of, unroll};
+ghost use Rattle.stab_circuit.specs.Steps.{check_of, qubits_of, unroll, is_detector, detectors_of};
 ghost use Rattle.stab_circuit.specs.Cursors.{step_shown};
 ghost use Rattle.stab_circuit.specs.Views.{circuit_items};
-ghost use Rattle.stab_regions.specs.Tables.{detectors_of, is_detector};
 ghost use Rattle.stab_regions.specs.Faults.{AreSure, IsFaultTable, IsSure, bits_in};
 ghost use Rattle.stab_commands.specs.Deterministic.{kinds_of};
 ghost use Rattle.stab_commands.specs.declared.unsure.Bit.TheVariants.{Detector, Observable};

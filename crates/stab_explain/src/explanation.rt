@@ -3,11 +3,11 @@ ghost use Rattle.stab_explain.specs.Explanations.{AppendsSome};
 
 use crate::faulty_line::find;
 use crate::finding::Finding;
+use crate::line_part::LinePart;
 use crate::lookback::find_lookback;
+use crate::refused_item::{RefusedItem, find_item};
 use crate::sentences::{self, Sentences};
 use crate::shown::push_line;
-use crate::span::Span;
-use crate::walk::{FoundItem, find_item};
 use itoa::Buffer;
 use stab_io::{Fault, Output, Refusal, write_all};
 use std::alloc::{AllocError, Global};
@@ -63,7 +63,7 @@ fn push_finding(
     line: &[u8],
     finding: Finding,
 ) -> Result<(), AllocError> {
-    push_line(words, number, line, finding.span)?;
+    push_line(words, number, line, finding.part)?;
     push_sentences(words, finding.sentences)
 }
 
@@ -119,7 +119,7 @@ fn push_on_steps(alloc: Global, words: &mut Vec<u8>, text: &[u8]) -> Result<(), 
         return push_sentences(words, sentences::STEPS);
     };
     let line = line_of(text, item.line);
-    push_line(words, item.line, line, Span::of_content(line))?;
+    push_line(words, item.line, line, LinePart::of_content(line))?;
     words.extend_from_slice(b"There are more than 1048576 steps up to the end of item ")?;
     push_path(words, item.path.as_slice())?;
     push_round(words, &item)?;
@@ -155,7 +155,7 @@ fn push_path(words: &mut Vec<u8>, path: &[u64]) -> Result<(), AllocError> {
 }
 
 /// Puts the round behind other words, where the item stands in a block.
-fn push_round(words: &mut Vec<u8>, item: &FoundItem) -> Result<(), AllocError> {
+fn push_round(words: &mut Vec<u8>, item: &RefusedItem) -> Result<(), AllocError> {
     if item.path.len() > 1 {
         words.extend_from_slice(b", in the first round of its block")?;
     }

@@ -1,10 +1,10 @@
 //! The word at fault in a line, but for its targets.
 use crate::finding::Finding;
 use crate::form::{Form, form_of, refusal_of};
+use crate::instruction_parts::{InstructionParts, parts_of};
+use crate::line_part::{LinePart, Separator, pieces, words};
 use crate::names::sentences_on_name;
-use crate::parts::{Parts, parts_of};
 use crate::sentences;
-use crate::span::{Separator, Span, pieces, words};
 use stab_io::Refusal;
 use stab_lines::is_close;
 use std::alloc::{AllocError, Global};
@@ -14,14 +14,14 @@ use std::alloc::{AllocError, Global};
 pub(crate) struct FaultyLine<'a> {
     pub(crate) alloc: Global,
     pub(crate) line: &'a [u8],
-    pub(crate) content: Span,
-    pub(crate) parts: Parts,
+    pub(crate) content: LinePart,
+    pub(crate) parts: InstructionParts,
     pub(crate) form: Form,
 }
 
 /// The word for which a line is refused like this.
 pub(crate) fn find(alloc: Global, line: &[u8], refusal: Refusal) -> Result<Finding, AllocError> {
-    let content = Span::of_content(line);
+    let content = LinePart::of_content(line);
     if is_close(content.bytes(line)) {
         return Ok(Finding::new(content, sentences::NO_BLOCK_OPEN));
     }
@@ -90,7 +90,7 @@ impl<'a> FaultyLine<'a> {
         Ok(Finding::new(brackets, sentences::NO_COORDINATE))
     }
 
-    fn is_coordinate(&self, argument: Span) -> Result<bool, AllocError> {
+    fn is_coordinate(&self, argument: LinePart) -> Result<bool, AllocError> {
         let texts: [&[u8]; 3] = [b"SHIFT_COORDS(", argument.bytes(self.line), b")"];
         let refusal = refusal_of(self.alloc, &texts)?;
         Ok(!argument.is_empty() && refusal.is_none())
@@ -109,7 +109,7 @@ impl<'a> FaultyLine<'a> {
         }
     }
 
-    fn find_at_count(&self, count: Span) -> Result<Finding, AllocError> {
+    fn find_at_count(&self, count: LinePart) -> Result<Finding, AllocError> {
         let texts: [&[u8]; 3] = [b"REPEAT ", count.bytes(self.line), b" {"];
         if refusal_of(self.alloc, &texts)?.is_some() {
             return Ok(Finding::new(count, sentences::COUNT_RANGE));

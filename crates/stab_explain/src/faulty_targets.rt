@@ -2,15 +2,15 @@
 use crate::faulty_line::FaultyLine;
 use crate::finding::Finding;
 use crate::form::{Form, refusal_of};
+use crate::line_part::{LinePart, Separator, pieces, words};
 use crate::sentences::{self, Sentences};
-use crate::span::{Separator, Span, pieces, words};
 use stab_io::Refusal;
 use std::alloc::AllocError;
 
 /// A target, and whether it is the second of a pair.
 #[derive(Clone, Copy)]
-struct Target {
-    word: Span,
+struct TargetWord {
+    word: LinePart,
     is_second: bool,
 }
 
@@ -19,7 +19,7 @@ impl<'a> FaultyLine<'a> {
     pub(crate) fn find_target(&self, refusal: Refusal) -> Result<Finding, AllocError> {
         let words = words(self.alloc, self.line, self.parts.targets)?;
         for (place, word) in words.iter().enumerate() {
-            let target = Target {
+            let target = TargetWord {
                 word: *word,
                 is_second: self.takes_pairs() && place % 2 == 1,
             };
@@ -35,7 +35,7 @@ impl<'a> FaultyLine<'a> {
     }
 
     /// What refuses the instruction with this target, which stands behind another if it is a second.
-    fn refusal_of_target(&self, target: Target) -> Result<Option<Refusal>, AllocError> {
+    fn refusal_of_target(&self, target: TargetWord) -> Result<Option<Refusal>, AllocError> {
         let before: &[u8] = match self.form {
             Form::Observable => b"(0) ",
             _ if target.is_second => b" 0 ",
@@ -46,7 +46,7 @@ impl<'a> FaultyLine<'a> {
     }
 
     /// What is wrong with a target, or in a product with one of its factors.
-    fn find_in_target(&self, target: Target, refusal: Refusal) -> Result<Finding, AllocError> {
+    fn find_in_target(&self, target: TargetWord, refusal: Refusal) -> Result<Finding, AllocError> {
         let word = target.word.bytes(self.line);
         if word.starts_with(b"(") || word.starts_with(b"[") {
             return Ok(Finding::new(target.word, sentences::BRACKETS_APART));
@@ -62,7 +62,7 @@ impl<'a> FaultyLine<'a> {
     }
 
     /// The first factor that is refused like this; where none is, the product has a qubit twice.
-    fn find_factor(&self, product: Span, refusal: Refusal) -> Result<Finding, AllocError> {
+    fn find_factor(&self, product: LinePart, refusal: Refusal) -> Result<Finding, AllocError> {
         let sentences = match refusal {
             Refusal::QubitOutOfRange => sentences::QUBIT_RANGE,
             _ => sentences::NO_FACTOR,
@@ -82,11 +82,11 @@ impl<'a> FaultyLine<'a> {
         for pair in words.as_slice().chunks(2) {
             if let [first, second] = pair {
                 if self.is_refused_pair(*first, *second)? {
-                    let span = Span {
+                    let part = LinePart {
                         start: first.start,
                         end: second.end,
                     };
-                    return Ok(Finding::new(span, sentences::ONE_QUBIT_PAIR));
+                    return Ok(Finding::new(part, sentences::ONE_QUBIT_PAIR));
                 }
             }
         }
@@ -96,7 +96,7 @@ impl<'a> FaultyLine<'a> {
         }
     }
 
-    fn is_refused_pair(&self, first: Span, second: Span) -> Result<bool, AllocError> {
+    fn is_refused_pair(&self, first: LinePart, second: LinePart) -> Result<bool, AllocError> {
         let name = self.parts.name.bytes(self.line);
         let texts: [&[u8]; 5] = [
             name,

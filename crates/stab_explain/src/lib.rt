@@ -4,14 +4,14 @@
 //! the whole text the item: the line is shown with carets under the word, and two sentences say what is
 //! wrong with it and what to do.
 //!
-//! - `span`: parts of a line, by their places in it.
+//! - `line_part`: parts of a line, by their places in it.
 //! - `sentences`: what is wrong and what to do, for each kind of word.
 //! - `finding`: a part of a line with the sentences on it.
-//! - `parts`: a line cut into its name, arguments and targets, or what has no line's shape in it.
+//! - `instruction_parts`: a line cut into its name, arguments and targets, or what has no line's shape in it.
 //! - `form`: what an instruction takes, and what refuses a line, both as `stab_lines` reads them.
 //! - `names`: names that Stim reads and stabsim doesn't.
 //! - `faulty_line`, `faulty_targets`: the word at fault in a line.
-//! - `counts`, `walk`: the item that looks back too far, or behind which the steps are too many.
+//! - `counts`, `refused_item`: the item that looks back too far, or behind which the steps are too many.
 //! - `lookback`: the word of a line that looks back too far.
 //! - `shown`: a line with carets under a part of it.
 //! - `explanation`: all of it, and `write_explanation`, which the other crates call.
@@ -30,12 +30,12 @@ mod faulty_line;
 mod faulty_targets;
 mod finding;
 mod form;
+mod instruction_parts;
+mod line_part;
 mod lookback;
 mod names;
-mod parts;
+mod refused_item;
 mod sentences;
 mod shown;
-mod span;
-mod walk;
 
 pub use explanation::write_explanation;

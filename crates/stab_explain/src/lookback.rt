@@ -1,15 +1,19 @@
 //! The word of a line that looks back too far.
 use crate::counts::Counts;
 use crate::form::joined;
-use crate::parts::parts_of;
-use crate::span::{Span, words};
+use crate::instruction_parts::parts_of;
+use crate::line_part::{LinePart, words};
 use stab_io::Refusal;
 use stab_lines::{Line, meaning};
 use std::alloc::{AllocError, Global};
 
 /// The first word of a line that looks back over more than so many records.
-pub(crate) fn find_lookback(alloc: Global, line: &[u8], records: u64) -> Result<Span, AllocError> {
-    let content = Span::of_content(line);
+pub(crate) fn find_lookback(
+    alloc: Global,
+    line: &[u8],
+    records: u64,
+) -> Result<LinePart, AllocError> {
+    let content = LinePart::of_content(line);
     let Ok(parts) = parts_of(line, content) else {
         return Ok(content);
     };

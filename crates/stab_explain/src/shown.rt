@@ -1,5 +1,5 @@
 //! A line with carets under a part of it.
-use crate::span::Span;
+use crate::line_part::LinePart;
 use itoa::Buffer;
 use stab_lines::is_spacing;
 use std::alloc::AllocError;
@@ -23,10 +23,10 @@ pub(crate) fn push_line(
     words: &mut Vec<u8>,
     number: u64,
     line: &[u8],
-    span: Span,
+    part: LinePart,
 ) -> Result<(), AllocError> {
     let line = line.strip_suffix(b"\r").unwrap_or(line);
-    let window = window_round(line, span);
+    let window = window_round(line, part);
     let mut buffer = Buffer::new();
     let digits = buffer.format(number).as_bytes();
     words.extend_from_slice(digits)?;
@@ -41,21 +41,21 @@ pub(crate) fn push_line(
         .len()
         .saturating_add(cut_before.len())
         .saturating_add(2);
-    let column = span.start.saturating_sub(window.start);
+    let column = part.start.saturating_sub(window.start);
     push_repeated(words, b' ', margin.saturating_add(column))?;
-    let carets = span.end.min(window.end).saturating_sub(span.start).max(1);
+    let carets = part.end.min(window.end).saturating_sub(part.start).max(1);
     push_repeated(words, b'^', carets)?;
     words.push(b'\n')?;
     Ok(())
 }
 
 /// What is shown of a line: all of it, or so many bytes with the part's beginning.
-fn window_round(line: &[u8], span: Span) -> Span {
+fn window_round(line: &[u8], part: LinePart) -> LinePart {
     if line.len() <= MOST_WHOLE {
-        return Span::of_length(0, line.len());
+        return LinePart::of_length(0, line.len());
     }
-    let start = span.start.saturating_sub(BEFORE);
-    Span {
+    let start = part.start.saturating_sub(BEFORE);
+    LinePart {
         start,
         end: start.saturating_add(WINDOW).min(line.len()),
     }

@@ -45,7 +45,7 @@ module _ (n m : ℕ) (coins : ℕ → Bool) (a b : Point) (same : AgreeBack n m 
   given-back : given n coins x a ≡ given n coins x b
   given-back = given-same n coins a b same.group same.coin x (parity-same m a.records b.records same.records (lookbacks x) near)
 
-  next-back : AgreeBack n (m + makes x) (next_point n coins x a) (next_point n coins x b)
+  pub next-back : AgreeBack n (m + makes x) (next_point n coins x a) (next_point n coins x b)
   next-back = record {
     group = trace-same n coins a b same.group same.coin x (parity-same m a.records b.records same.records (lookbacks x) near);
     coin = ap (λ t. t + coins_of x) same.coin;

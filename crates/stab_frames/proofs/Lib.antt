@@ -14,3 +14,17 @@ pub mod TableauLemmas
 pub mod FrontLemmas
 pub mod EditLemmas
 pub mod SumLemmas
+pub mod WeightLemmas
+pub mod StillLemmas
+pub mod OverLemmas
+pub mod TrueLemmas
+pub mod NoteAtLemmas
+pub mod PassLemmas
+pub mod WalkLemmas
+pub mod FactorLemmas
+pub mod MeasuredPassLemmas
+pub mod NotedLemmas
+pub mod KeptLemmas
+pub mod ImageLemmas
+pub mod StepsWalkedLemmas
+pub mod GoneLemmas

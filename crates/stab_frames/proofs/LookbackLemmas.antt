@@ -28,7 +28,7 @@ looked_up-near xs ys k le =
     index : length (xs ++ ys) - k ≡ length xs + (length ys - k)
     index = omega (arith, length-append xs ys)
 
-looked_up-far : (xs ys : List Bool) (k : ℕ) → length ys < k → looked_up (xs ++ ys) k ≡ looked_up xs (k - length ys)
+pub looked_up-far : (xs ys : List Bool) (k : ℕ) → length ys < k → looked_up (xs ++ ys) k ≡ looked_up xs (k - length ys)
 looked_up-far xs ys k lt = by_size (cases_lt (length xs) (k - length ys))
   where
     by_size : (length xs < k - length ys) ⊎ (k - length ys ≤ length xs) → looked_up (xs ++ ys) k ≡ looked_up xs (k - length ys)

@@ -100,7 +100,7 @@ flags-given n coins strings (product factors inverted) a group right =
 flags-given n coins strings (detector ks) a group right = refl
 flags-given n coins strings (observable j ks) a group right = refl
 
-few-coins : (x : Step) → coins_of x ≤ 1
+pub few-coins : (x : Step) → coins_of x ≤ 1
 few-coins (one g q) = omega arith
 few-coins (two g p q) = omega arith
 few-coins (controlled l k q) = omega arith

@@ -1,6 +1,6 @@
 -- Kept strings: strings that exchange the free outcomes of a run, the first of them in their order, and the notes that they are.
 -- Source: this project's own.
-use Rattle.std.specs.Prelude.{◌≡◌, ℕ, Bool, false, List, [], ◌∷◌, ◌++◌, length, take, min, slice_get, slice_index_or, if◌then◌else◌, Option, None, IfSome}
+use Rattle.std.specs.Prelude.{◌≡◌, ℕ, Bool, false, List, [], ◌∷◌, ◌++◌, length, take, min, slice_get, slice_index_or, nat_le, if◌then◌else◌, Option, None, IfSome}
 use Rattle.stab_pauli.specs.declared.letter.Letter.{Letter}
 use Rattle.stab_tableau.specs.Traces.{member}
 use Rattle.stab_tableau.specs.Exchanges.{Exchanges}
@@ -10,7 +10,7 @@ use Rattle.stab_run.specs.Points.{Point, origin, next_point, point_after}
 use Rattle.stab_run.specs.ProgramStates.{ProgramState, IsAt}
 use Rattle.stab_frames.specs.StepNotes.{measured_by}
 
--- strings of so many letters each, and how many of them may be kept
+-- strings of so many letters each, and how many may be kept
 pub record StringsState : Type 0 where
   pub qubits : ℕ
   pub most : ℕ
@@ -33,12 +33,20 @@ abbrev pub AreTrue : ℕ → (ℕ → Bool) → (ℕ → Option (List Letter)) �
 AreTrue n coins strings [] a = Unit {0}
 AreTrue n coins strings (x ∷ xs) a = IsTrueAt n strings x a × AreTrue n coins strings xs (next_point n coins x a)
 
--- strings with another behind them, cut to as many as are kept
-abbrev pub kept_with : ℕ → List (List Letter) → List (List Letter) → List (List Letter)
+-- strings with others behind them, cut to as many as may be kept
+abbrev pub kept_with : (most : ℕ) → List (List Letter) → List (List Letter) → List (List Letter)
 kept_with most strings more = take most (strings ++ more)
 
--- a program that went over steps kept its strings true: those of the steps that led to where it was, and of these
-abbrev pub KeepsTrue : ℕ → (ℕ → Bool) → List Step → List (List Letter) → List (List Letter) → ProgramState → ProgramState → Type 0
-KeepsTrue n coins ys strings strings_behind old new =
-    (xs : List Step) → IsAt n old (point_after n coins xs origin) → AreTrue n coins (note_at strings old.output.free) xs origin →
-    AreTrue n coins (note_at strings_behind new.output.free) (xs ++ ys) origin
+-- the first ones, up to so many: where there are as many, others may follow up to the limit
+abbrev pub front_kept : ℕ → StringsState → StringsState
+front_kept count kept = record {
+  qubits = kept.qubits;
+  most = if nat_le count (length kept.strings) then most_strings kept.qubits else kept.most;
+  strings = take count kept.strings;
+}
+
+-- a program that went over steps kept its strings numbered, and true of the steps that led to where it was, and of these
+abbrev pub KeepsTrue : ℕ → (ℕ → Bool) → List Step → StringsState → StringsState → ProgramState → ProgramState → Type 0
+KeepsTrue n coins ys kept kept_behind old new =
+    (xs : List Step) → IsAt n old (point_after n coins xs origin) → IsNumbered kept old.output.free → AreTrue n coins (note_at kept.strings old.output.free) xs origin →
+    IsNumbered kept_behind new.output.free × AreTrue n coins (note_at kept_behind.strings new.output.free) (xs ++ ys) origin

@@ -1,6 +1,6 @@
 -- Lookbacks: how far back steps look, wherever they stand.
 -- Source: this project's own.
-use Rattle.std.specs.Prelude.{◌≡◌, ℕ, nat_lt, Bool, false, List, All}
+use Rattle.std.specs.Prelude.{◌≡◌, ℕ, nat_lt, false}
 use Rattle.std.specs.List.{list_any}
 use Rattle.stab_circuit.specs.Steps.{Step, lookbacks}
 

@@ -1,2 +1,4 @@
 -- Definitions that only private contracts cite.
 pub mod Weights
+pub mod Passes
+pub mod Noted

@@ -15,8 +15,18 @@
 //! - `tableau_laws`: a tableau of one run is one of the other, once signs of its rows are turned, and
 //!   what signs tell of a frame.
 //!
+//! And the calls that keep frames, in the order in which data flows:
+//!
+//! - `strings`: strings that exchange the free outcomes of a run, within a bound of memory.
+//! - `noting`: a run that keeps them on its way, and how far back its steps look.
+//! - `letters`: what gates make of the letters of a frame.
+//! - `walk`: a frame on its way, with what it has flipped.
+//! - `pass`: one step on its way.
+//! - `steps`: steps, until all are behind, the frame is gone, or a string is missing.
+//!
 //! In `specs/`, `Frames`, `Notes` and `FrameSteps` say what a frame is and what a step makes of it, `Flips`
-//! and `StepNotes` what it flips and which notes it needs; the laws stand in files named after these modules.
+//! and `StepNotes` what it flips and which notes it needs; `KeptStrings`, `Lookbacks`, `Walks` and `Stops` say
+//! what the calls keep and where they end; the laws stand in files named after these modules.
 //!
 //! Sources: C. Gidney, Stim: a fast stabilizer circuit simulator (2021), for Pauli frames; S. Aaronson and
 //! D. Gottesman, Improved simulation of stabilizer circuits (2004), for measurements. It differs in that
@@ -24,12 +34,16 @@
 //! Stim's frames are right up to outcomes that are drawn again.
 //!
 //! Proved: the laws, over the group rules that runs themselves are stated by (`stab_run`, `specs/Runs.antt`).
-//! No program is among them yet: what keeps frames, in sessions or in many shots, will cite them.
+//! A run that notes strings is the run, and its strings are true of it; a frame that went over steps has the
+//! letters and flips that the laws say, and its notes are enough for them. `specs/inner/` has what only
+//! private contracts cite.
 #![tactic(auto)]
 
 pub mod end_laws;
+mod letters;
 pub mod note_laws;
 mod noting;
+mod pass;
 pub mod run_laws;
 pub mod start_laws;
 pub mod step_laws;

@@ -1,4 +1,4 @@
-ghost use Rattle.std.specs.Prelude.{◌≡◌, ◌≢◌, ℕ, ◌≤◌, Bool, All, length, take, drop, OnOk, IfOk};
+ghost use Rattle.std.specs.Prelude.{◌≡◌, ◌≢◌, ℕ, ◌+◌, ◌^◌, ◌<◌, ◌≤◌, Bool, All, length, take, drop, OnOk, IfOk};
 ghost use Rattle.stab_circuit.specs.Steps.{Step};
 ghost use Rattle.stab_run.specs.Points.{Point, outputs};
 ghost use Rattle.stab_run.specs.ProgramStates.{StepFits};
@@ -9,6 +9,7 @@ ghost use Rattle.stab_frames.specs.Walks.{WalkState, frame_at, IsPlaced, WalksOv
 ghost use Rattle.stab_frames.specs.Stops.{IsStop};
 ghost use Rattle.stab_frames.specs.declared.steps.Stop.TheVariants.{NoString};
 
+use crate::pass::pass;
 use crate::strings::KeptStrings;
 use crate::walk::FrameWalk;
 use stab_circuit::Cursor;
@@ -45,6 +46,7 @@ pub fn walk_steps(
     requires same_length { strings.now.qubits ≡ length walk.old.letters }
     requires fits { All (StepFits (length walk.old.letters)) cursor.old.left }
     requires placed { IsPlaced free.now walk.old }
+    requires few { walk.old.coin + length cursor.old.left < 2 ^ 63 }
     ensures all { cursor.new.all ≡ cursor.old.all }
     ensures length { length walk.new.letters ≡ length walk.old.letters }
     ensures placed { OnOk result (IsPlaced free.now walk.new) }
@@ -54,5 +56,34 @@ pub fn walk_steps(
     ensures stop { IfOk result (λ w. IsStop (length walk.old.letters) reach w.steps (length (take most cursor.old.left)) walk.new w.stop) }
     ensures enough { IfOk result (λ w. (coins : ℕ → Bool) (a : Point) (base : ℕ) → a.coin ≡ walk.old.coin → AreTrue (length walk.old.letters) coins (note_at strings.now.strings free.now) cursor.old.left a → (outputs (length walk.old.letters) coins cursor.old.left a).free ≡ drop walk.old.coin free.now → AreEnough (length walk.old.letters) coins (same_coins (note_at strings.now.strings free.now)) (take w.steps cursor.old.left) (frame_at base walk.old) a) }
 {
-    Err(AllocError)
+    let reach = reach as usize;
+    let mut steps = 0;
+    while steps < most {
+        if walk.is_gone(reach) {
+            return Ok(Walked {
+                stop: Stop::Gone,
+                steps,
+            });
+        }
+        match cursor.next() {
+            Some(step) => {
+                let went = pass(walk, strings, free, step)?;
+                if !went {
+                    return Ok(Walked {
+                        stop: Stop::NoString,
+                        steps,
+                    });
+                }
+            }
+            None => return Ok(Walked {
+                stop: Stop::Behind,
+                steps,
+            }),
+        }
+        steps += 1;
+    }
+    Ok(Walked {
+        stop: Stop::Behind,
+        steps,
+    })
 }

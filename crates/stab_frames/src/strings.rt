@@ -1,4 +1,5 @@
-ghost use Rattle.std.specs.Prelude.{◌≡◌, ◌≤◌, length};
+ghost use Rattle.std.specs.Prelude.{◌≡◌};
+ghost use Rattle.stab_frames.specs.Limits.{most_strings as most_of};
 
 use stab_io::Refusal;
 use stab_pauli::Pauli;
@@ -10,7 +11,7 @@ use std::marker::Model;
 #[derive(Drop)]
 pub struct KeptStrings {
     qubits: usize,
-    // How many there may be.
+    // How many may be kept.
     most: usize,
     // Their signs are of no account.
     strings: Vec<Pauli>,
@@ -29,18 +30,18 @@ impl Model for KeptStrings {
 }
 
 impl KeptStrings {
-    ghost use Rattle.std.specs.Prelude.{◌≡◌, ◌≤◌, ◌<◌, ◌⊎◌, [], ◌∷◌, length, take, drop, OnOk, OnErr, IfOk, IfErr};
+    ghost use Rattle.std.specs.Prelude.{◌≡◌, ◌≤◌, ◌<◌, [], ◌∷◌, All, length, map, take, drop, slice_index_or, OnOk, OnErr, IfOk, IfErr};
     ghost use Rattle.stab_io.specs.declared.refusal.Refusal.TheVariants.{OutOfMemory};
-    ghost use Rattle.stab_frames.specs.Limits.{most_strings};
-    ghost use Rattle.stab_frames.specs.KeptStrings.{kept_with};
+    ghost use Rattle.stab_frames.specs.KeptStrings.{kept_with, front_kept};
+    ghost use Rattle.stab_frames.specs.Limits.{most_strings as most_of};
 
-    /// None, of n letters each. It takes no memory.
+    /// None, of n letters each, with leave to keep as many as the limit says. It takes no memory.
     pub fn new(alloc: Global, n: usize) -> KeptStrings
-        ensures value { result ≡ record { qubits = n; most = most_strings n; strings = [] } }
+        ensures value { result ≡ record { qubits = n; most = most_of n; strings = [] } }
     {
         KeptStrings {
             qubits: n,
-            most: 16777216 / (n / 4 + 128),
+            most: most_strings(n),
             strings: Vec::new(alloc),
         }
     }
@@ -63,10 +64,14 @@ impl KeptStrings {
         ensures unchanged { OnErr result (self.new ≡ self.old) }
         ensures err { IfErr result (λ r. r ≡ OutOfMemory) }
     {
-        Err(Refusal::OutOfMemory)
+        if self.strings.len() < self.most {
+            self.strings.push(string.copy(alloc)?)?;
+        }
+        Ok(())
     }
 
     /// Leaves the first ones, up to so many.
+    #[tactic(auto, using(crate::proofs::KeptLemmas::letters_front))]
     pub fn truncate(&mut self, count: usize)
         ensures value { self.new ≡ record self.old { strings = take count self.old.strings } }
     {
@@ -77,12 +82,24 @@ impl KeptStrings {
     ///
     /// Refusal `OutOfMemory` alone.
     pub fn front(&self, alloc: Global, count: usize) -> Result<KeptStrings, Refusal>
-        ensures qubits { IfOk result (λ k. k.qubits ≡ self.now.qubits) }
-        ensures strings { IfOk result (λ k. k.strings ≡ take count self.now.strings) }
-        ensures most { IfOk result (λ k. (count ≤ length self.now.strings) × (length k.strings ≤ k.most) ⊎ (length self.now.strings < count) × (k.most ≡ self.now.most)) }
+        ensures value { IfOk result (λ k. k ≡ front_kept count self.now) }
         ensures err { IfErr result (λ r. r ≡ OutOfMemory) }
     {
-        Err(Refusal::OutOfMemory)
+        let len = self.strings.len();
+        let mut front = KeptStrings::new(alloc, self.qubits);
+        let (strings, _) = self.strings.as_slice().split_at(count.min(len));
+        front.append(alloc, strings)?;
+        if len < count {
+            front.most = self.most;
+        }
+        Ok(front)
+    }
+
+    /// Keeps no further ones.
+    pub fn close(&mut self)
+        ensures value { self.new ≡ record self.old { most = length self.old.strings } }
+    {
+        self.most = self.strings.len();
     }
 
     /// Keeps no more than these.
@@ -108,6 +125,42 @@ impl KeptStrings {
         ensures strings { OnOk result (self.new.strings ≡ kept_with self.old.most self.old.strings (drop from other.now.strings)) }
         ensures err { IfErr result (λ r. r ≡ OutOfMemory) }
     {
-        Err(Refusal::OutOfMemory)
+        let (_, rest) = other
+            .strings
+            .as_slice()
+            .split_at(from.min(other.strings.len()));
+        self.append(alloc, rest)
     }
+
+    /// Puts copies of strings behind these, as far as there may be as many.
+    fn append(&mut self, alloc: Global, strings: &[Pauli]) -> Result<(), Refusal>
+        requires same_length { All (λ p. length p.letters ≡ self.old.qubits) strings.now }
+        ensures qubits { self.new.qubits ≡ self.old.qubits }
+        ensures most { self.new.most ≡ self.old.most }
+        ensures strings { OnOk result (self.new.strings ≡ kept_with self.old.most self.old.strings (map (λ p. p.letters) strings.now)) }
+        ensures err { IfErr result (λ r. r ≡ OutOfMemory) }
+    {
+        // What a struct keeps is known where a field of it is looked at.
+        let _ = &self.strings;
+        for string in strings {
+            self.push(alloc, string)?;
+        }
+        Ok(())
+    }
+
+    /// The one with a number.
+    pub(crate) fn string(&self, number: usize) -> &Pauli
+        requires in_range { number < length self.now.strings }
+        ensures letters { result.now.letters ≡ slice_index_or self.now.strings number [] }
+        ensures length { length result.now.letters ≡ self.now.qubits }
+    {
+        &self.strings[number]
+    }
+}
+
+/// How many strings of n letters are kept at most.
+fn most_strings(n: usize) -> usize
+    ensures value { result ≡ most_of n }
+{
+    16_777_216 / (n / 4 + 128)
 }

@@ -1,5 +1,7 @@
-ghost use Rattle.std.specs.Prelude.{◌≡◌, ◌≤◌, length};
+ghost use Rattle.std.specs.Prelude.{◌≡◌};
+ghost use Rattle.stab_run.specs.Records.{ones};
 
+use crate::letters::weight_of;
 use stab_pauli::{Letter, Pauli};
 use stab_run::Addition;
 use std::alloc::{AllocError, Global};
@@ -19,8 +21,8 @@ pub struct FrameWalk {
     additions: Vec<Addition>,
     // None of the newest records is flipped, as many as this.
     still: usize,
-    // The coin number where it began, and how many coins it has passed.
-    begin: usize,
+    coin: usize,
+    // How many coins it has passed.
     passed: usize,
     number: usize,
 }
@@ -29,50 +31,70 @@ impl Model for FrameWalk {
     ghost use Rattle.std.specs.Prelude.{◌≡◌, ℕ, ◌+◌, ◌≤◌, false, replicate};
     ghost use Rattle.stab_run.specs.Records.{looked_up};
     ghost use Rattle.stab_frames.specs.Walks.{WalkState};
-    ghost use Rattle.stab_frames.specs.inner.Weights.{weight};
+    ghost use Rattle.stab_frames.specs.inner.Weights.{string_weight};
 
     ghost Value = { WalkState };
 
     ghost view = { λ w. record {
-        letters = w.letters.items;
-        flips = record { records = w.records.items; free = replicate w.passed false; detectors = w.detectors.items; additions = w.additions.items };
-        coin = w.begin + w.passed;
-        number = w.number;
+      letters = w.letters.items;
+      flips = record { records = w.records.items; free = replicate w.passed false; detectors = w.detectors.items; additions = w.additions.items };
+      coin = w.coin;
+      number = w.number;
     } };
 
-    ghost invariant = { λ w. (w.weight ≡ weight w.letters.items) × ((k : ℕ) → k ≤ w.still → looked_up w.records.items k ≡ false) };
+    ghost invariant = { λ w. (w.weight ≡ string_weight w.letters.items) × ((k : ℕ) → k ≤ w.still → looked_up w.records.items k ≡ false) × (w.passed ≤ w.coin) × (w.number ≤ w.coin) };
 }
 
 impl FrameWalk {
-    ghost use Rattle.std.specs.Prelude.{◌≡◌, ◌≤◌, ◌<◌, ◌∷◌, [], ◌++◌, length, replicate, take, OnOk, IfOk};
+    ghost use Rattle.std.specs.Prelude.{◌≡◌, ℕ, ◌+◌, ◌^◌, ◌≤◌, ◌<◌, ◌∷◌, [], ◌++◌, true, length, replicate, take, slice_index_or, slice_set, OnOk, IfOk};
     ghost use Rattle.stab_pauli.specs.declared.letter.Letter.TheVariants.{I};
     ghost use Rattle.stab_pauli.specs.Paulis.{single, string_product};
     ghost use Rattle.stab_run.specs.Records.{ones};
-    ghost use Rattle.stab_run.specs.Points.{nothing};
+    ghost use Rattle.stab_run.specs.Points.{nothing, joined};
+    ghost use Rattle.stab_frames.specs.Walks.{frame_at, IsGone};
+    ghost use Rattle.stab_frames.specs.inner.Passes.{one_coin};
     ghost use Rattle.stab_frames.specs.Flips.{flipped};
 
     /// The identity on n qubits, which has flipped nothing, before the coin with this number of a
     /// run with these flags.
     pub fn new(alloc: Global, n: usize, free: &[bool], coin: usize) -> Result<FrameWalk, AllocError>
+        requires in_range { coin ≤ length free.now }
         ensures value { IfOk result (λ w. w ≡ record { letters = replicate n I; flips = nothing; coin = coin; number = ones (take coin free.now) }) }
     {
-        Err(AllocError)
+        let (front, _) = free.split_at(coin);
+        Ok(FrameWalk {
+            letters: vec![in alloc; Letter::I; n]?,
+            weight: 0,
+            records: Vec::new(alloc),
+            detectors: Vec::new(alloc),
+            additions: Vec::new(alloc),
+            still: usize::MAX,
+            coin,
+            passed: 0,
+            number: count_ones(front),
+        })
     }
 
     /// Multiplies a letter on, at a qubit.
     pub fn multiply_letter(&mut self, letter: Letter, qubit: usize)
         requires in_range { qubit < length self.old.letters }
         ensures value { self.new ≡ record self.old { letters = string_product self.old.letters (single (length self.old.letters) qubit letter).letters } }
+        ensures length { length self.new.letters ≡ length self.old.letters }
     {
-        let _ = (letter, qubit);
+        let product = self.letters[qubit].times(letter);
+        self.set(qubit, product);
     }
 
     /// Multiplies the letters of a string on.
     pub fn multiply(&mut self, string: &Pauli)
         requires same_length { length string.now.letters ≡ length self.old.letters }
         ensures value { self.new ≡ record self.old { letters = string_product self.old.letters string.now.letters } }
+        ensures length { length self.new.letters ≡ length self.old.letters }
     {
-        let _ = string;
+        for qubit in 0..self.letters.len() {
+            let product = self.letter(qubit).times(string.letter(qubit));
+            self.set(qubit, product);
+        }
     }
 
     /// Flips further records, behind those that it has gone over: where one list differs from
@@ -81,8 +103,10 @@ impl FrameWalk {
         requires same_length { length others.now ≡ length records.now }
         ensures value { OnOk result (self.new ≡ record self.old { flips = record self.old.flips { records = self.old.flips.records ++ flipped records.now others.now } }) }
     {
-        let _count = records.len() + others.len();
-        Err(AllocError)
+        for place in 0..records.len() {
+            self.flip_record(others[place] ^ records[place])?;
+        }
+        Ok(())
     }
 
     /// The letters, one a qubit.
@@ -90,6 +114,14 @@ impl FrameWalk {
         ensures value { result.now ≡ self.now.letters }
     {
         self.letters.as_slice()
+    }
+
+    /// The letter at a qubit.
+    pub fn letter(&self, qubit: usize) -> Letter
+        requires in_range { qubit < length self.now.letters }
+        ensures value { result ≡ slice_index_or self.now.letters qubit I }
+    {
+        self.letters[qubit]
     }
 
     /// Which records it has flipped since it began.
@@ -112,4 +144,88 @@ impl FrameWalk {
     {
         self.additions.as_slice()
     }
+
+    /// The number of the next coin.
+    pub fn coin(&self) -> usize
+        ensures value { result ≡ self.now.coin }
+    {
+        self.coin
+    }
+
+    /// How many outcomes before the next coin's were free.
+    pub(crate) fn number(&self) -> usize
+        ensures value { result ≡ self.now.number }
+    {
+        self.number
+    }
+
+    /// Whether the letters are I and none of the newest records is flipped, as many as this.
+    pub(crate) fn is_gone(&self, reach: usize) -> bool
+        ensures gone { result ≡ true → (base : ℕ) → IsGone (length self.now.letters) reach (frame_at base self.now) }
+    {
+        self.weight == 0 && reach <= self.still
+    }
+
+    /// Puts a letter at a qubit.
+    pub(crate) fn set(&mut self, qubit: usize, letter: Letter)
+        requires in_range { qubit < length self.old.letters }
+        ensures value { self.new ≡ record self.old { letters = slice_set self.old.letters qubit letter } }
+    {
+        let old = self.letters[qubit];
+        self.letters[qubit] = letter;
+        self.weight = self.weight - weight_of(old) + weight_of(letter);
+    }
+
+    /// Flips the next record, or not.
+    pub(crate) fn flip_record(&mut self, flip: bool) -> Result<(), AllocError>
+        ensures value { OnOk result (self.new ≡ record self.old { flips = record self.old.flips { records = self.old.flips.records ++ flip ∷ [] } }) }
+        ensures letters { self.new.letters ≡ self.old.letters }
+    {
+        self.records.push(flip)?;
+        self.still = if flip {
+            0
+        } else {
+            self.still.saturating_add(1)
+        };
+        Ok(())
+    }
+
+    /// Flips the next detector, or not.
+    pub(crate) fn flip_detector(&mut self, flip: bool) -> Result<(), AllocError>
+        ensures value { OnOk result (self.new ≡ record self.old { flips = record self.old.flips { detectors = self.old.flips.detectors ++ flip ∷ [] } }) }
+        ensures letters { self.new.letters ≡ self.old.letters }
+    {
+        self.detectors.push(flip)?;
+        Ok(())
+    }
+
+    /// Flips the next addition to an observable, or not.
+    pub(crate) fn flip_addition(&mut self, addition: Addition) -> Result<(), AllocError>
+        ensures value { OnOk result (self.new ≡ record self.old { flips = record self.old.flips { additions = self.old.flips.additions ++ addition ∷ [] } }) }
+        ensures letters { self.new.letters ≡ self.old.letters }
+    {
+        self.additions.push(addition)?;
+        Ok(())
+    }
+
+    /// Goes over the measurement of the next coin, whose outcome was free or not.
+    pub(crate) fn pass_coin(&mut self, free: bool)
+        requires few { self.old.coin < 2 ^ 63 }
+        ensures value { self.new ≡ record self.old { flips = joined self.old.flips one_coin; coin = self.old.coin + 1; number = self.old.number + ones (free ∷ []) } }
+    {
+        self.coin += 1;
+        self.passed += 1;
+        self.number += usize::from(free);
+    }
+}
+
+/// How many bits are 1.
+fn count_ones(bits: &[bool]) -> usize
+    ensures value { result ≡ ones bits.now }
+{
+    let mut count = 0;
+    for bit in bits {
+        count += usize::from(*bit);
+    }
+    count
 }

@@ -103,9 +103,11 @@ fn names_twice(factors: &[Factor]) -> bool
     false
 }
 
-/// The product of a word.
+/// The product of a word: factors joined by `*`, each a letter on a qubit, perhaps with `!` before it.
+///
+/// Refusals: `BadTarget` for another spelling or a qubit that stands twice, `QubitOutOfRange`, `OutOfMemory`.
 #[tactic(auto, unfolding(crate::specs::Products::product_of))]
-fn product(alloc: Global, word: &[u8]) -> Result<Product, Refusal>
+pub fn read_product(alloc: Global, word: &[u8]) -> Result<Product, Refusal>
     ensures gives { Gives result (product_of word.now) }
 {
     if !are_factors(word) {
@@ -127,7 +129,7 @@ impl Target for ProductTargets {
     ghost meaning = { product_of };
 
     fn of(alloc: Global, word: &[u8]) -> Result<Product, Refusal> {
-        product(alloc, word)
+        read_product(alloc, word)
     }
 
     fn at_front(_bytes: &[u8]) -> Option<(Product, &[u8])> {

@@ -8,12 +8,12 @@ use Rattle.stab_pauli.specs.declared.letter.Letter.{Letter}
 use Rattle.stab_pauli.specs.Paulis.{single, anticommute}
 use Rattle.stab_pauli.proofs.StringLemmas.{strings_anticommute-blank_right}
 use Rattle.stab_tableau.specs.Traces.{diagonal}
-use Rattle.stab_circuit.specs.Steps.{Step}
+use Rattle.stab_circuit.specs.Steps.{Step, detectors_of}
 use Rattle.stab_run.specs.Runs.{State, start, run}
 use Rattle.stab_run.specs.Laws.{RunsArePointsWithOutputs}
 use Rattle.stab_regions.specs.Regions.{region_of, region_through, keep_region, asks_nothing, asks_observable, is_sure}
 use Rattle.stab_regions.specs.Laws.{flips_asked}
-use Rattle.stab_regions.specs.Tables.{detectors_of, steps_before, named_by, region_of_detector, is_sure_detector, flips_detector}
+use Rattle.stab_regions.specs.Tables.{steps_before_detector, named_by, region_of_detector, is_sure_detector, flips_detector}
 use Rattle.stab_regions.specs.TableLaws.{detector_bit, observable_bit}
 use Rattle.stab_regions.specs.Parities.{detectors_before, parity_region, parity_kept, parity_sure, parity_flips}
 use Rattle.stab_regions.specs.Faults.{bit}
@@ -48,7 +48,7 @@ module _ (n D i : ℕ) (back : List Step) where
 
   kept-detector : i < D → detectors_before D back ≤ i
       → parity_kept n D i back
-      ≡ keep_region n asks_nothing (steps_before (i - detectors_before D back) back) (region_of n (named_by (i - detectors_before D back) back))
+      ≡ keep_region n asks_nothing (steps_before_detector (i - detectors_before D back) back) (region_of n (named_by (i - detectors_before D back) back))
   kept-detector lt le = cond-true (nat_lt i D) _ _ (lt-ltb i D lt) ∙ cond-false (nat_lt i (detectors_before D back)) _ _ (le-ltb i (detectors_before D back) le)
 
   -- and so has an observable

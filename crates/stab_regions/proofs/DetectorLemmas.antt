@@ -3,7 +3,7 @@ use Rattle.std.proofs.Common.{◌≡◌, ℕ, zero, suc, ◌+◌, ◌<◌, refl,
 use Rattle.std.specs.Prelude.{if◌then◌else◌, slice_index_or}
 use Rattle.std.proofs.lemmas.List.{get_or-map, length-map}
 use Rattle.std.proofs.lemmas.List.Elements.{All-nil, All-cons, All-head, All-tail}
-use Rattle.stab_circuit.specs.Steps.{Step, one, two, controlled, collapse, product, detector, observable}
+use Rattle.stab_circuit.specs.Steps.{Step, one, two, controlled, collapse, product, detector, observable, is_detector, detectors_of}
 use Rattle.stab_run.specs.Records.{parity}
 use Rattle.stab_run.specs.Runs.{State, start, run, when}
 use Rattle.stab_run.specs.Points.{Point, origin, given, next_point, outputs}
@@ -11,7 +11,7 @@ use Rattle.stab_run.specs.ProgramStates.{StepFits}
 use Rattle.stab_run.specs.Laws.{RunsArePointsWithOutputs}
 use Rattle.stab_regions.specs.Regions.{region_of, region_through, keep_region, asks_nothing}
 use Rattle.stab_regions.specs.Laws.{bit_asked}
-use Rattle.stab_regions.specs.Tables.{Tracked, tracked_before, begun_at, tracked_at, is_detector, named, detectors_of, steps_before, named_by}
+use Rattle.stab_regions.specs.Tables.{Tracked, tracked_before, begun_at, tracked_at, named, steps_before_detector, named_by}
 use Rattle.stab_regions.specs.TableLaws.{detector_bit, TablesAreRegions}
 
 -- the first step, where it is a detector and where it is not: how many there are, the steps before detector d, and what it names
@@ -23,38 +23,38 @@ module _ (x : Step) (xs : List Step) where
   pub count-detector : is_detector x ≡ true → detectors_of (x ∷ xs) ≡ 1 + detectors_of xs
   count-detector e = ap (λ b. if b then 1 + detectors_of xs else detectors_of xs) e
 
-  pub before-other : (d : ℕ) → is_detector x ≡ false → steps_before d (x ∷ xs) ≡ x ∷ steps_before d xs
-  before-other zero e = ap (λ b. if b then [] else x ∷ steps_before zero xs) e
-  before-other (suc d) e = ap (λ b. x ∷ (if b then steps_before d xs else steps_before (suc d) xs)) e
+  pub before-other : (d : ℕ) → is_detector x ≡ false → steps_before_detector d (x ∷ xs) ≡ x ∷ steps_before_detector d xs
+  before-other zero e = ap (λ b. if b then [] else x ∷ steps_before_detector zero xs) e
+  before-other (suc d) e = ap (λ b. x ∷ (if b then steps_before_detector d xs else steps_before_detector (suc d) xs)) e
 
   pub named-other : (d : ℕ) → is_detector x ≡ false → named_by d (x ∷ xs) ≡ named_by d xs
   named-other zero e = ap (λ b. if b then named x else named_by zero xs) e
   named-other (suc d) e = ap (λ b. if b then named_by d xs else named_by (suc d) xs) e
 
-  pub before-first : is_detector x ≡ true → steps_before zero (x ∷ xs) ≡ []
-  before-first e = ap (λ b. if b then [] else x ∷ steps_before zero xs) e
+  pub before-first : is_detector x ≡ true → steps_before_detector zero (x ∷ xs) ≡ []
+  before-first e = ap (λ b. if b then [] else x ∷ steps_before_detector zero xs) e
 
   pub named-first : is_detector x ≡ true → named_by zero (x ∷ xs) ≡ named x
   named-first e = ap (λ b. if b then named x else named_by zero xs) e
 
-  pub before-next : (d : ℕ) → is_detector x ≡ true → steps_before (suc d) (x ∷ xs) ≡ x ∷ steps_before d xs
-  before-next d e = ap (λ b. x ∷ (if b then steps_before d xs else steps_before (suc d) xs)) e
+  pub before-next : (d : ℕ) → is_detector x ≡ true → steps_before_detector (suc d) (x ∷ xs) ≡ x ∷ steps_before_detector d xs
+  before-next d e = ap (λ b. x ∷ (if b then steps_before_detector d xs else steps_before_detector (suc d) xs)) e
 
   pub named-next : (d : ℕ) → is_detector x ≡ true → named_by (suc d) (x ∷ xs) ≡ named_by d xs
   named-next d e = ap (λ b. if b then named_by d xs else named_by (suc d) xs) e
 
 -- the steps before a detector are a front of all
-pub before-front : (d : ℕ) (xs : List Step) → (rest : List Step) × (xs ≡ steps_before d xs ++ rest)
+pub before-front : (d : ℕ) (xs : List Step) → (rest : List Step) × (xs ≡ steps_before_detector d xs ++ rest)
 before-front d [] = ([], refl)
 before-front zero (x ∷ xs) = by_kind (is_detector x) refl (before-front zero xs)
   where
-    by_kind : (b : Bool) → is_detector x ≡ b → (rest : List Step) × (xs ≡ steps_before zero xs ++ rest) → (rest : List Step) × (x ∷ xs ≡ steps_before zero (x ∷ xs) ++ rest)
+    by_kind : (b : Bool) → is_detector x ≡ b → (rest : List Step) × (xs ≡ steps_before_detector zero xs ++ rest) → (rest : List Step) × (x ∷ xs ≡ steps_before_detector zero (x ∷ xs) ++ rest)
     by_kind true e later = (x ∷ xs, ap (λ ys. ys ++ x ∷ xs) (sym (before-first x xs e)))
     by_kind false e later = (later.0, ap (λ ys. x ∷ ys) later.1 ∙ ap (λ ys. ys ++ later.0) (sym (before-other x xs zero e)))
 before-front (suc d) (x ∷ xs) = by_kind (is_detector x) refl (before-front d xs) (before-front (suc d) xs)
   where
-    by_kind : (b : Bool) → is_detector x ≡ b → (rest : List Step) × (xs ≡ steps_before d xs ++ rest) → (rest : List Step) × (xs ≡ steps_before (suc d) xs ++ rest)
-        → (rest : List Step) × (x ∷ xs ≡ steps_before (suc d) (x ∷ xs) ++ rest)
+    by_kind : (b : Bool) → is_detector x ≡ b → (rest : List Step) × (xs ≡ steps_before_detector d xs ++ rest) → (rest : List Step) × (xs ≡ steps_before_detector (suc d) xs ++ rest)
+        → (rest : List Step) × (x ∷ xs ≡ steps_before_detector (suc d) (x ∷ xs) ++ rest)
     by_kind true e next other = (next.0, ap (λ ys. x ∷ ys) next.1 ∙ ap (λ ys. ys ++ next.0) (sym (before-next x xs d e)))
     by_kind false e next other = (other.0, ap (λ ys. x ∷ ys) other.1 ∙ ap (λ ys. ys ++ other.0) (sym (before-other x xs (suc d) e)))
 
@@ -70,10 +70,10 @@ fits-back n [] ys fits = fits
 fits-back n (x ∷ xs) ys fits = fits-back n xs ys (All-tail (StepFits n) x (xs ++ ys) fits)
 
 -- so the steps before a detector fit
-pub fits-before : (n d : ℕ) (xs : List Step) → All (StepFits n) xs → All (StepFits n) (steps_before d xs)
+pub fits-before : (n d : ℕ) (xs : List Step) → All (StepFits n) xs → All (StepFits n) (steps_before_detector d xs)
 fits-before n d xs fits =
     let front = before-front d xs in
-    fits-front n (steps_before d xs) front.0 (subst (All (StepFits n)) front.1 fits)
+    fits-front n (steps_before_detector d xs) front.0 (subst (All (StepFits n)) front.1 fits)
 
 -- there is no such number
 pub none : (d : ℕ) → d < 0 → ⊥
@@ -106,12 +106,12 @@ row n ys ks = record { region = region_through n asks_nothing ys (region_of n ks
 
 -- the table has each detector's row
 abbrev HasRows : ℕ → List Step → Type 0
-HasRows n xs = (d : ℕ) (other : Tracked) → d < detectors_of xs → slice_index_or (tracked_at n xs) d other ≡ row n (steps_before d xs) (named_by d xs)
+HasRows n xs = (d : ℕ) (other : Tracked) → d < detectors_of xs → slice_index_or (tracked_at n xs) d other ≡ row n (steps_before_detector d xs) (named_by d xs)
 
 module _ (n : ℕ) (x : Step) (xs : List Step) (later : HasRows n xs) where
   -- a row behind the first step
   row-behind : (d : ℕ) (other : Tracked) → d < detectors_of xs
-      → slice_index_or (map (tracked_before n x) (tracked_at n xs)) d other ≡ row n (x ∷ steps_before d xs) (named_by d xs)
+      → slice_index_or (map (tracked_before n x) (tracked_at n xs)) d other ≡ row n (x ∷ steps_before_detector d xs) (named_by d xs)
   row-behind d other lt =
       get_or-map (tracked_before n x) (tracked_at n xs) d other other (omega (arith, lt, length-tracked n xs))
       ∙ ap (tracked_before n x) (later d other lt)
@@ -162,7 +162,7 @@ detectors-given n coins (observable j ks) p = refl
 -- what steps give has each detector's bit
 abbrev HasBits : ℕ → (ℕ → Bool) → List Step → Point → Type 0
 HasBits n coins xs p =
-    (d : ℕ) → d < detectors_of xs → slice_index_or (outputs n coins xs p).detectors d false ≡ bit_asked n coins asks_nothing (steps_before d xs) (named_by d xs) p
+    (d : ℕ) → d < detectors_of xs → slice_index_or (outputs n coins xs p).detectors d false ≡ bit_asked n coins asks_nothing (steps_before_detector d xs) (named_by d xs) p
 
 module _ (n : ℕ) (coins : ℕ → Bool) (x : Step) (xs : List Step) (p : Point) (later : HasBits n coins xs (next_point n coins x p)) where
   abbrev bits_behind : List Bool
@@ -193,7 +193,7 @@ has-bits n coins (x ∷ xs) p d lt = bits-next n coins x xs p (has-bits n coins 
 
 -- a detector of a run is the parity that is asked for behind the steps before it
 pub detector-bit : RunsArePointsWithOutputs → (n : ℕ) (coins : ℕ → Bool) (xs : List Step) (count d : ℕ) → d < detectors_of xs
-    → detector_bit n coins xs count d ≡ bit_asked n coins asks_nothing (steps_before d xs) (named_by d xs) origin
+    → detector_bit n coins xs count d ≡ bit_asked n coins asks_nothing (steps_before_detector d xs) (named_by d xs) origin
 detector-bit law n coins xs count d lt = ap (λ (s : State). slice_index_or s.detectors d false) (law n coins xs (start count)) ∙ has-bits n coins xs origin d lt
 
 -- steps give a bit for each detector

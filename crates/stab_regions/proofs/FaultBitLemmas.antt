@@ -4,12 +4,12 @@ use Rattle.std.proofs.lemmas.Bool.{cases_lt}
 use Rattle.stab_pauli.specs.declared.letter.Letter.{Letter}
 use Rattle.stab_pauli.specs.Letters.{◌⊕◌}
 use Rattle.stab_pauli.proofs.ParityLemmas.{parity-comm, parity-twice}
-use Rattle.stab_circuit.specs.Steps.{Step, unroll, observables_of}
+use Rattle.stab_circuit.specs.Steps.{Step, unroll, observables_of, detectors_of}
 use Rattle.stab_run.specs.Laws.{RunsArePointsWithOutputs}
 use Rattle.stab_run.specs.ProgramStates.{StepFits}
 use Rattle.stab_regions.specs.Regions.{asks_observable, is_sure}
 use Rattle.stab_regions.specs.Laws.{with_fault, flips_asked, turned_with}
-use Rattle.stab_regions.specs.Tables.{detectors_of, is_sure_detector, flips_detector}
+use Rattle.stab_regions.specs.Tables.{is_sure_detector, flips_detector}
 use Rattle.stab_regions.specs.TableLaws.{detector_bit, observable_bit}
 use Rattle.stab_regions.specs.Parities.{parity_sure, parity_flips}
 use Rattle.stab_regions.specs.Faults.{bit}

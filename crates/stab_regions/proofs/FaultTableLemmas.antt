@@ -4,10 +4,9 @@ use Rattle.std.specs.Prelude.{All, ◌&&◌, ◌↔◌, slice_index_or}
 use mathlib.Core.List.{reverse_aux}
 use Rattle.std.proofs.lemmas.List.Elements.{All-head, All-tail}
 use Rattle.stab_circuit.specs.Items.{Items}
-use Rattle.stab_circuit.specs.Steps.{Step, unroll, observables_of}
+use Rattle.stab_circuit.specs.Steps.{Step, unroll, observables_of, detectors_of}
 use Rattle.stab_run.specs.ProgramStates.{StepFits}
 use Rattle.stab_regions.specs.Rows.{odd}
-use Rattle.stab_regions.specs.Tables.{detectors_of}
 use Rattle.stab_regions.specs.Parities.{parity_sure}
 use Rattle.stab_regions.specs.Faults.{Site, FaultPlace, faults_of, sites_at, bits_in, IsSure, AreSure, flips, flipped}
 use Rattle.stab_regions.specs.FaultLaws.{SureParities, PlacesFlipSureParities}

@@ -6,10 +6,10 @@ use Rattle.std.proofs.Math.ListN.{drop_of_length-le}
 use Rattle.std.proofs.Math.Seq.{take-length}
 use Rattle.std.proofs.lemmas.List.{length-replicate}
 use Rattle.stab_pauli.specs.declared.letter.Letter.TheVariants.{I}
-use Rattle.stab_circuit.specs.Steps.{Step, one, two, controlled, collapse, product, detector, observable}
+use Rattle.stab_circuit.specs.Steps.{Step, one, two, controlled, collapse, product, detector, observable, is_detector}
 use Rattle.stab_regions.specs.declared.regions.Regions.{Regions}
 use Rattle.stab_regions.specs.Regions.{Region, region_of, region_before, region_through, with_looks, keeps_region, asks_nothing, asks_observable}
-use Rattle.stab_regions.specs.Tables.{is_detector, named, steps_before, named_by, region_of_detector}
+use Rattle.stab_regions.specs.Tables.{named, steps_before_detector, named_by, region_of_detector}
 use Rattle.stab_regions.specs.Parities.{detectors_before, parity_region, parity_kept}
 use Rattle.stab_regions.specs.Rows.{ShowsRegion, MovesRegion}
 use Rattle.stab_regions.specs.inner.RegionsAt.{Shows, HasParity, asked_of, in_front_of, MovesBack, MovesTo}
@@ -90,7 +90,7 @@ long-parity n D i back = by_place (nat_lt i D) (nat_lt i (detectors_before D bac
     by_place : (b c : Bool) → length (region_where n D i back b c).string.letters ≡ n
     by_place true true = none []
     by_place true false =
-        size-through n asks_nothing (steps_before (i - detectors_before D back) back) (region_of n (named_by (i - detectors_before D back) back)) (none (named_by (i - detectors_before D back) back))
+        size-through n asks_nothing (steps_before_detector (i - detectors_before D back) back) (region_of n (named_by (i - detectors_before D back) back)) (none (named_by (i - detectors_before D back) back))
     by_place false c = size-through n (asks_observable (i - D)) back (region_of n []) (none [])
 
 -- none of the observables that are counted is beyond them

@@ -13,10 +13,10 @@ use Rattle.stab_pauli.proofs.SignedLemmas.{signed_path}
 use Rattle.stab_tableau.specs.declared.gate.Gate.{Gate}
 use Rattle.stab_tableau.specs.declared.gate.PairGate.{PairGate}
 use Rattle.stab_tableau.specs.Gates.{letter_at, letter_image, inverse, put_letter, put_letters, pair_letters, back, back_pair}
-use Rattle.stab_circuit.specs.Steps.{Step, one, two, controlled, collapse, product, detector, observable}
+use Rattle.stab_circuit.specs.Steps.{Step, one, two, controlled, collapse, product, detector, observable, is_detector}
 use Rattle.stab_run.specs.Runs.{string_of, flip_of}
 use Rattle.stab_regions.specs.Regions.{Region, region_of, look_where, before_measured, region_before, region_through, with_looks, keeps_region, keep_region, asks_nothing, asks_observable}
-use Rattle.stab_regions.specs.Tables.{is_detector, named, steps_before, named_by, region_of_detector}
+use Rattle.stab_regions.specs.Tables.{named, steps_before_detector, named_by, region_of_detector}
 use Rattle.stab_regions.specs.Parities.{detectors_before, parity_region, parity_kept}
 use Rattle.stab_regions.specs.inner.RegionsAt.{asked_of}
 use Rattle.stab_regions.proofs.FactorLemmas.{blank-at}
@@ -82,7 +82,7 @@ module _ (n D i : ℕ) (back : List Step) where
   kept-observable : D ≤ i → parity_kept n D i back ≡ keep_region n (asks_observable (i - D)) back (region_of n [])
   kept-observable le =
       ap (λ b. if b then (if nat_lt i (detectors_before D back) then true
-      else keep_region n asks_nothing (steps_before (i - detectors_before D back) back) (region_of n (named_by (i - detectors_before D back) back)))
+      else keep_region n asks_nothing (steps_before_detector (i - detectors_before D back) back) (region_of n (named_by (i - detectors_before D back) back)))
       else keep_region n (asks_observable (i - D)) back (region_of n [])) (le-ltb i D le)
 
   region-front : i < D → i < detectors_before D back → parity_region n D i back ≡ region_of n []
@@ -93,7 +93,7 @@ module _ (n D i : ℕ) (back : List Step) where
   kept-front : i < D → i < detectors_before D back → parity_kept n D i back ≡ true
   kept-front lt front =
       λ t. if lt-ltb i D lt t then (if lt-ltb i (detectors_before D back) front t then true
-      else keep_region n asks_nothing (steps_before (i - detectors_before D back) back) (region_of n (named_by (i - detectors_before D back) back)))
+      else keep_region n asks_nothing (steps_before_detector (i - detectors_before D back) back) (region_of n (named_by (i - detectors_before D back) back)))
       else keep_region n (asks_observable (i - D)) back (region_of n [])
 
   behind : (d : ℕ) → detectors_before D back + d ≡ i → detectors_before D back ≤ i
@@ -109,12 +109,12 @@ module _ (n D i : ℕ) (back : List Step) where
       ∙ ap (λ k. region_of_detector n k back) (number d e)
 
   kept-among : (d : ℕ) → i < D → detectors_before D back + d ≡ i
-      → parity_kept n D i back ≡ keep_region n asks_nothing (steps_before d back) (region_of n (named_by d back))
+      → parity_kept n D i back ≡ keep_region n asks_nothing (steps_before_detector d back) (region_of n (named_by d back))
   kept-among d lt e =
       (λ t. if lt-ltb i D lt t then (if le-ltb i (detectors_before D back) (behind d e) t then true
-      else keep_region n asks_nothing (steps_before (i - detectors_before D back) back) (region_of n (named_by (i - detectors_before D back) back)))
+      else keep_region n asks_nothing (steps_before_detector (i - detectors_before D back) back) (region_of n (named_by (i - detectors_before D back) back)))
       else keep_region n (asks_observable (i - D)) back (region_of n []))
-      ∙ ap (λ k. keep_region n asks_nothing (steps_before k back) (region_of n (named_by k back))) (number d e)
+      ∙ ap (λ k. keep_region n asks_nothing (steps_before_detector k back) (region_of n (named_by k back))) (number d e)
 
 -- what a step asks for of each
 

@@ -10,7 +10,7 @@ use Rattle.stab_tableau.specs.Gates.{letter_at}
 use Rattle.stab_tableau.specs.Traces.{diagonal}
 use Rattle.stab_regions.specs.declared.regions.Regions.{Regions}
 use Rattle.stab_regions.specs.Regions.{region_of, keep_region, asks_nothing, asks_observable}
-use Rattle.stab_regions.specs.Tables.{steps_before, named_by}
+use Rattle.stab_regions.specs.Tables.{steps_before_detector, named_by}
 use Rattle.stab_regions.specs.Parities.{detectors_before, parity_region, parity_kept}
 use Rattle.stab_regions.specs.Ascending.{IsAscending}
 use Rattle.stab_regions.specs.Rows.{odd, row, ShowsRegion}
@@ -64,7 +64,7 @@ end-kept : (n D i : ℕ) → parity_kept n D i [] ≡ true
 end-kept n D i = by_place (nat_lt i D) (nat_lt i (detectors_before D []))
   where
     by_place : (b c : Bool)
-        → (if b then (if c then true else keep_region n asks_nothing (steps_before (i - detectors_before D []) []) (region_of n (named_by (i - detectors_before D []) [])))
+        → (if b then (if c then true else keep_region n asks_nothing (steps_before_detector (i - detectors_before D []) []) (region_of n (named_by (i - detectors_before D []) [])))
         else keep_region n (asks_observable (i - D)) [] (region_of n []))
         ≡ true
     by_place true true = refl

@@ -5,11 +5,10 @@ use Rattle.std.specs.List.{flat_map}
 use Rattle.std.proofs.lemmas.List.{drop_more, drop-drop, drop-map, get_or-map, length-drop, length-map, take_more, take-append-drop}
 use Rattle.std.proofs.lemmas.List.Elements.{All-nil, All-cons, All-head, All-tail, All-take, All-drop}
 use Rattle.stab_circuit.specs.Items.{Items}
-use Rattle.stab_circuit.specs.Steps.{Step, unroll, check_of}
+use Rattle.stab_circuit.specs.Steps.{Step, unroll, check_of, is_detector, detectors_of}
 use Rattle.stab_circuit.specs.Cursors.{IsApart}
 use Rattle.stab_run.specs.ProgramStates.{StepFits}
 use Rattle.stab_run.proofs.FitLemmas.{check-steps}
-use Rattle.stab_regions.specs.Tables.{is_detector, detectors_of}
 use Rattle.stab_regions.specs.declared.sites.Asked.{Asked}
 use Rattle.stab_regions.specs.declared.sweep.Sweep.{Sweep}
 use Rattle.stab_regions.specs.inner.Sites.{sites_asked, sides_asked, step_qubits}

@@ -7,14 +7,14 @@ use Rattle.stab_pauli.specs.declared.letter.Letter.{Letter}
 use Rattle.stab_pauli.specs.Letters.{◌⊕◌}
 use Rattle.stab_pauli.specs.Paulis.{single, anticommute}
 use Rattle.stab_pauli.proofs.ParityLemmas.{parity-false}
-use Rattle.stab_circuit.specs.Steps.{Step, one}
+use Rattle.stab_circuit.specs.Steps.{Step, one, detectors_of}
 use Rattle.stab_run.specs.Runs.{gate_of}
 use Rattle.stab_run.specs.Points.{origin, all_coins_of}
 use Rattle.stab_run.specs.Laws.{RunsArePointsWithOutputs}
 use Rattle.stab_run.specs.ProgramStates.{StepFits}
 use Rattle.stab_regions.specs.Regions.{asks_nothing, asks_observable, is_sure}
 use Rattle.stab_regions.specs.Laws.{bit_asked, with_fault, flips_asked, turned_with}
-use Rattle.stab_regions.specs.Tables.{detectors_of, steps_before, named_by, region_of_detector, is_sure_detector, flips_detector}
+use Rattle.stab_regions.specs.Tables.{steps_before_detector, named_by, region_of_detector, is_sure_detector, flips_detector}
 use Rattle.stab_regions.specs.TableLaws.{detector_bit, observable_bit, TablesAreWhole, SureDetectors, SureObservables, FlipsDetector, FaultsFlipDetectors, FaultsFlipObservables}
 use Rattle.stab_regions.proofs.SureLemmas.{sure-bits, faults-flip}
 use Rattle.stab_regions.proofs.TouchLemmas.{turned-before}
@@ -42,11 +42,11 @@ same-of bit asked is sure exact = (
 -- the law of sure detectors
 pub sure-detectors : RunsArePointsWithOutputs → SureDetectors
 sure-detectors law n xs count d fits lt = record {
-  bit = λ sure coins. detector-bit law n coins xs count d lt ∙ sure-bits n coins asks_nothing (steps_before d xs) (named_by d xs) (fits-before n d xs fits) sure;
+  bit = λ sure coins. detector-bit law n coins xs count d lt ∙ sure-bits n coins asks_nothing (steps_before_detector d xs) (named_by d xs) (fits-before n d xs fits) sure;
   exact =
-      same-of (λ coins. detector_bit n coins xs count d) (λ coins. bit_asked n coins asks_nothing (steps_before d xs) (named_by d xs) origin)
+      same-of (λ coins. detector_bit n coins xs count d) (λ coins. bit_asked n coins asks_nothing (steps_before_detector d xs) (named_by d xs) origin)
       (λ coins. detector-bit law n coins xs count d lt) (is_sure_detector n d xs)
-      (sure-where-the-same n asks_nothing (steps_before d xs) (named_by d xs) (fits-before n d xs fits));
+      (sure-where-the-same n asks_nothing (steps_before_detector d xs) (named_by d xs) (fits-before n d xs fits));
 }
 
 -- the law of sure observables
@@ -71,7 +71,7 @@ module _ (law : RunsArePointsWithOutputs) (n : ℕ) (front back : List Step) (l 
   module _ (d : ℕ) (lt : d < detectors_of front) where
     -- its bit is asked for in front, whatever follows
     bit-first : (coins : ℕ → Bool) (ys : List Step)
-        → detector_bit n coins (front ++ ys) count d ≡ bit_asked n coins asks_nothing (steps_before d front) (named_by d front) origin
+        → detector_bit n coins (front ++ ys) count d ≡ bit_asked n coins asks_nothing (steps_before_detector d front) (named_by d front) origin
     bit-first coins ys =
         let there = stands-first d front ys lt in
         detector-bit law n coins (front ++ ys) count d (omega (arith, lt, count-append front ys))
@@ -82,7 +82,7 @@ module _ (law : RunsArePointsWithOutputs) (n : ℕ) (front back : List Step) (l 
     flips-none = ap (λ b. if b then false else anticommute (single n q l) (region_of_detector n (d - detectors_of front) back).string) (lt-ltb d (detectors_of front) lt)
 
     -- it is sure by the steps in front
-    sure-first : is_sure_detector n d (front ++ back) ≡ true → is_sure n asks_nothing (steps_before d front) (named_by d front) ≡ true
+    sure-first : is_sure_detector n d (front ++ back) ≡ true → is_sure n asks_nothing (steps_before_detector d front) (named_by d front) ≡ true
     sure-first sure =
         let there = stands-first d front back lt in
         (λ i. is_sure n asks_nothing (sym there.0 i) (sym there.1 i)) ∙ sure
@@ -93,15 +93,15 @@ module _ (law : RunsArePointsWithOutputs) (n : ℕ) (front back : List Step) (l 
       sure = λ sure coins others.
           kept-bit (detector_bit n others (with_fault front l q back) count d) (detector_bit n coins (front ++ back) count d) (flips_detector n d front l q back)
           (bit-first others (one (gate_of l) q ∷ back)
-          ∙ sure-bits n others asks_nothing (steps_before d front) (named_by d front) (fits-before n d front ff) (sure-first sure)
-          ∙ sym (sure-bits n coins asks_nothing (steps_before d front) (named_by d front) (fits-before n d front ff) (sure-first sure))
+          ∙ sure-bits n others asks_nothing (steps_before_detector d front) (named_by d front) (fits-before n d front ff) (sure-first sure)
+          ∙ sym (sure-bits n coins asks_nothing (steps_before_detector d front) (named_by d front) (fits-before n d front ff) (sure-first sure))
           ∙ sym (bit-first coins back))
           flips-none;
       any = λ coins.
           let others : ℕ → Bool = turned_with n front l q back coins in
           kept-bit (detector_bit n others (with_fault front l q back) count d) (detector_bit n coins (front ++ back) count d) (flips_detector n d front l q back)
           (bit-first others (one (gate_of l) q ∷ back)
-          ∙ bit-same n coins others asks_nothing (steps_before d front) (named_by d front) origin
+          ∙ bit-same n coins others asks_nothing (steps_before_detector d front) (named_by d front) origin
           (λ t less. turned-before (all_coins_of front) _ coins t (omega (arith, less, coins-before d front)))
           ∙ sym (bit-first coins back))
           flips-none;
@@ -112,7 +112,7 @@ module _ (law : RunsArePointsWithOutputs) (n : ℕ) (front back : List Step) (l 
   module _ (d : ℕ) (lt : d < detectors_of back) where
     -- the steps between the letter and the detector
     abbrev ys : List Step
-    ys = steps_before d back
+    ys = steps_before_detector d back
 
     -- what it names
     abbrev ks : List ℕ

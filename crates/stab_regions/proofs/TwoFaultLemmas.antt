@@ -4,12 +4,11 @@ use Rattle.std.proofs.lemmas.List.{take-take, take-append-le, drop-append-le}
 use Rattle.std.proofs.lemmas.List.Elements.{All-append, All-cons}
 use Rattle.stab_pauli.specs.declared.letter.Letter.{Letter}
 use Rattle.stab_pauli.specs.Letters.{◌⊕◌}
-use Rattle.stab_circuit.specs.Steps.{Step, one}
+use Rattle.stab_circuit.specs.Steps.{Step, one, detectors_of}
 use Rattle.stab_run.specs.Runs.{gate_of}
 use Rattle.stab_run.specs.Laws.{RunsArePointsWithOutputs}
 use Rattle.stab_run.specs.ProgramStates.{StepFits}
 use Rattle.stab_regions.specs.Laws.{with_fault}
-use Rattle.stab_regions.specs.Tables.{detectors_of}
 use Rattle.stab_regions.specs.Parities.{parity_flips}
 use Rattle.stab_regions.specs.Faults.{FaultPlace, with_gate, bit}
 use Rattle.stab_regions.proofs.DetectorLemmas.{fits-front, fits-back}

@@ -4,10 +4,9 @@ use Rattle.std.specs.List.{AllPairs}
 use Rattle.stab_pauli.specs.declared.letter.Letter.{Letter}
 use Rattle.stab_pauli.specs.Letters.{◌⊕◌}
 use Rattle.stab_circuit.specs.Items.{Items}
-use Rattle.stab_circuit.specs.Steps.{Step, unroll, observables_of}
+use Rattle.stab_circuit.specs.Steps.{Step, unroll, observables_of, detectors_of}
 use Rattle.stab_run.specs.ProgramStates.{StepFits}
 use Rattle.stab_regions.specs.Laws.{with_fault, turned_with}
-use Rattle.stab_regions.specs.Tables.{detectors_of}
 use Rattle.stab_regions.specs.Parities.{parity_sure, parity_flips}
 use Rattle.stab_regions.specs.Faults.{FaultPlace, with_gate, bit, bits_in, IsSure, flips}
 

@@ -6,9 +6,8 @@ use Rattle.stab_pauli.specs.declared.letter.Letter.TheVariants as letter
 use Rattle.stab_pauli.specs.Letters.{◌⊕◌}
 use Rattle.stab_tableau.specs.declared.gate.Gate.TheVariants as gate
 use Rattle.stab_circuit.specs.Items.{Items}
-use Rattle.stab_circuit.specs.Steps.{Step, one, two, controlled, collapse, product, detector, observable, unroll, observables_of}
+use Rattle.stab_circuit.specs.Steps.{Step, one, two, controlled, collapse, product, detector, observable, unroll, observables_of, detectors_of}
 use Rattle.stab_run.specs.Runs.{State, start, run, gate_of}
-use Rattle.stab_regions.specs.Tables.{detectors_of}
 
 -- a place for faults: a qubit, in front of a step or behind it
 pub record Site : Type 0 where

@@ -5,9 +5,9 @@ use Rattle.std.specs.Prelude.{ℕ, ◌-◌, nat_lt, Bool, true, ◌&&◌, List, 
 use Rattle.stab_pauli.specs.declared.letter.Letter.{Letter}
 use Rattle.stab_pauli.specs.Paulis.{single, anticommute}
 use Rattle.stab_tableau.specs.Traces.{diagonal}
-use Rattle.stab_circuit.specs.Steps.{Step}
+use Rattle.stab_circuit.specs.Steps.{Step, detectors_of}
 use Rattle.stab_regions.specs.Regions.{Region, region_of, region_through, keep_region, asks_nothing, asks_observable}
-use Rattle.stab_regions.specs.Tables.{detectors_of, steps_before, named_by, region_of_detector}
+use Rattle.stab_regions.specs.Tables.{steps_before_detector, named_by, region_of_detector}
 
 -- how many of D detectors stand before these steps, which are the last ones
 abbrev pub detectors_before : ℕ → List Step → ℕ
@@ -25,7 +25,7 @@ abbrev pub parity_kept : (n D i : ℕ) → (back : List Step) → Bool
 parity_kept n D i back =
     if nat_lt i D then
     (if nat_lt i (detectors_before D back) then true
-    else keep_region n asks_nothing (steps_before (i - detectors_before D back) back) (region_of n (named_by (i - detectors_before D back) back)))
+    else keep_region n asks_nothing (steps_before_detector (i - detectors_before D back) back) (region_of n (named_by (i - detectors_before D back) back)))
     else keep_region n (asks_observable (i - D)) back (region_of n [])
 
 -- whether the pass over all steps finds parity i sure: all keep it, and at the start its letters are I and Z alone

@@ -3,12 +3,12 @@
 use Rattle.std.specs.Prelude.{◌≡◌, ℕ, ◌<◌, Bool, true, false, List, [], ◌++◌, length, All, ◌↔◌, slice_index_or}
 use Rattle.stab_pauli.specs.declared.letter.Letter.{Letter}
 use Rattle.stab_pauli.specs.Letters.{◌⊕◌}
-use Rattle.stab_circuit.specs.Steps.{Step}
+use Rattle.stab_circuit.specs.Steps.{Step, detectors_of}
 use Rattle.stab_run.specs.Runs.{start, run}
 use Rattle.stab_run.specs.ProgramStates.{StepFits}
 use Rattle.stab_regions.specs.Regions.{region_of, keep_region, asks_nothing, asks_observable, is_sure, sure_bit}
 use Rattle.stab_regions.specs.Laws.{with_fault, flips_asked, turned_with}
-use Rattle.stab_regions.specs.Tables.{Tracked, tracked_at, detectors_of, steps_before, named_by, region_of_detector, is_sure_detector, sure_detector_bit, flips_detector}
+use Rattle.stab_regions.specs.Tables.{Tracked, tracked_at, steps_before_detector, named_by, region_of_detector, is_sure_detector, sure_detector_bit, flips_detector}
 
 -- a detector and an observable of the run of steps, with so many observables
 abbrev pub detector_bit : ℕ → (ℕ → Bool) → List Step → ℕ → ℕ → Bool
@@ -31,7 +31,7 @@ abbrev pub TablesAreRegions : Type 0
 TablesAreRegions =
     (n : ℕ) (xs : List Step) (d : ℕ) (other : Tracked) → d < detectors_of xs →
     slice_index_or (tracked_at n xs) d other
-    ≡ record { region = region_of_detector n d xs; kept = keep_region n asks_nothing (steps_before d xs) (region_of n (named_by d xs)) }
+    ≡ record { region = region_of_detector n d xs; kept = keep_region n asks_nothing (steps_before_detector d xs) (region_of n (named_by d xs)) }
 
 -- a detector that is found sure is this bit, whatever the coins, and no other is the same whatever the coins
 pub record IsSureDetector (n : ℕ) (xs : List Step) (count d : ℕ) : Type 0 where

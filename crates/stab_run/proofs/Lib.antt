@@ -7,4 +7,4 @@ pub mod PointLemmas
 pub mod FitLemmas
 pub mod SoundLemmas
 mod ShotLemmas
-mod StepsLeftLemmas
+pub mod StepsLeftLemmas

@@ -55,7 +55,7 @@ pub record IsPlaceOf (n : ℕ) (x : Signed) (place : Option ℕ) : Type 0 where
 -- the letters of the stabiliser at a place are written, if there is one
 abbrev pub IsWrittenAt : List InverseRows → Option ℕ → Signed → Signed → Type 0
 IsWrittenAt rows place old new =
-    IfNone place (new ≡ old) × IfSome place (λ k. new ≡ record { negative = old.negative; letters = column Z k rows })
+    IfNone place (new ≡ old) × IfSome place (λ k. new ≡ record { negative = false; letters = column Z k rows })
 
 module _ (rows : List InverseRows) (scratch : InverseRows) (is : IsTableau (length rows) rows scratch) (t : TableauState)
     (view : record { qubits = length rows; rows = rows } ≡ t) where

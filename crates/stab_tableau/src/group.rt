@@ -11,7 +11,7 @@ ghost use Rattle.stab_tableau.specs.inner.Frames.{SameLetters, sign_frame};
 use super::inverse_rows::letter_where;
 use super::rows;
 use super::table::{CompactTable, InverseRow, Table};
-use stab_pauli::{Letter, Pauli, PauliRows};
+use stab_pauli::{Pauli, PauliRows};
 
 /// Whether two tables whose rows differ in their signs alone have one group.
 ///
@@ -67,8 +67,7 @@ pub fn write_stabiliser(table: &Table, k: usize, preimage: &mut Pauli, out: &mut
     ensures tableau { IsTableau (length table.now) table.now (record { x = preimage.new; z = out.new }) }
     ensures value { out.new ≡ stabiliser_of (record { qubits = length table.now; rows = table.now }) k }
 {
-    out.clear();
-    rows::write_column(table, Letter::Z, k, out);
+    rows::write_stabiliser_letters(table, k, out);
     rows::write_preimage(table, out, preimage);
     out.negate_if(preimage.is_negative());
 }

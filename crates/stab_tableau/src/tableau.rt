@@ -233,7 +233,7 @@ impl Tableau {
         ensures err { IfErr result (λ r. r ≡ OutOfMemory) }
     {
         let mut stabiliser = Pauli::identity(alloc, self.len())?;
-        rows::write_column(&self.table, Letter::Z, k, &mut stabiliser);
+        rows::write_stabiliser_letters(&self.table, k, &mut stabiliser);
         rows::write_preimage(&self.table, &stabiliser, &mut self.preimage);
         stabiliser.negate_if(self.preimage.is_negative());
         Ok(stabiliser)

@@ -3,7 +3,8 @@
 //! They are proved, and never run: where a clause came to say less than it does, the proof of its
 //! caller here would fail.
 
-ghost use Rattle.std.specs.Prelude.{◌≡◌, ◌<◌, ◌≤◌, [], length, min, slice_get, Some, Ok, true, IfOk, IfErr, OnOk};
+ghost use Rattle.std.specs.Prelude.{◌≡◌, ◌<◌, ◌≤◌, [], length, min, slice_get, Some, None, Ok, true, IfOk, IfErr, OnOk};
+ghost use Rattle.stab_pauli.specs.Letters.{letter_phase};
 ghost use Rattle.stab_pauli.specs.Paulis.{commute};
 ghost use Rattle.stab_io.specs.MemoryDevices.{GivesWhatFits, GivesAPiece, TakesWhatFits, FlushesAsSet};
 ghost use Rattle.stab_tableau.specs.Limits.{most_qubits};
@@ -13,17 +14,27 @@ ghost use Rattle.stab_tableau.specs.Traces.{member};
 ghost use Rattle.stab_circuit.specs.Paths.{numbers};
 ghost use Rattle.stab_circuit.specs.Edits.{edited, steps_before};
 ghost use Rattle.stab_circuit.specs.declared.edit.Edit.TheVariants.{Insert as inserting};
-ghost use Rattle.stab_circuit.specs.Steps.{unroll, records_of, steps_cap};
+ghost use Rattle.stab_circuit.specs.Steps.{unroll, records_of, steps_cap, check_of};
+ghost use Rattle.stab_circuit.specs.StepPaths.{item_steps_left};
 ghost use Rattle.stab_circuit.specs.Views.{circuit_items};
 ghost use Rattle.stab_session.specs.Limits.{most_stride};
 ghost use Rattle.stab_run.specs.Runs.{run_of};
 ghost use Rattle.stab_session.specs.Sessions.{IsSignIn};
 
 use stab_circuit::{Circuit, Item, Path, Refused};
-use stab_pauli::{CutInput, DeviceFault, Input, MemoryInput, MemoryOutput, Output, Pauli, Refusal};
+use stab_pauli::{
+    CutInput, DeviceFault, Input, Letter, MemoryInput, MemoryOutput, Output, Pauli, Phase, Refusal,
+};
 use stab_session::{Coins, Edit, OpenRefused, Report, Session, Shot, run_once};
 use stab_tableau::Tableau;
 use std::alloc::Global;
+
+/// The phase of a product of two letters is that of the letters' table.
+fn phase_of_letters(letter: Letter, other: Letter) -> Phase
+    ensures value { result ≡ letter_phase letter other }
+{
+    letter.product_phase(other)
+}
 
 /// Strings are told to commute where they do.
 fn told_to_commute(string: &Pauli, other: &Pauli) -> bool
@@ -117,6 +128,15 @@ fn steps_counted(circuit: &Circuit, path: Path) -> usize
     ensures value { result ≡ min (length (steps_before path circuit.now)) steps_cap }
 {
     circuit.steps_before(path)
+}
+
+/// Of the item of a step so many steps are left in the same round.
+fn steps_left_of_item(circuit: &Circuit, step: usize) -> usize
+    requires checked { check_of (circuit_items circuit.now) ≡ None }
+    requires in_range { step < length (unroll (circuit_items circuit.now)) }
+    ensures steps { result ≡ item_steps_left (circuit_items circuit.now) step }
+{
+    circuit.item_of_step(step).steps
 }
 
 /// The first number of a path is that of its outermost place.

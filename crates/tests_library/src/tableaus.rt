@@ -2,10 +2,12 @@
 mod calls;
 mod collapses;
 mod copies;
+mod exchanges;
 mod gates;
 mod groups;
 mod matrices;
 mod resets;
+mod turns;
 
 use calls::Asked::{Apply, Pair};
 use calls::Place::{First, Last};

@@ -6,8 +6,7 @@ use Rattle.stab_io.specs.declared.refusal.Refusal.TheVariants.{WriteFault, OutOf
 use Rattle.stab_io.specs.declared.refusal.Fault.{Fault}
 use Rattle.stab_io.specs.Refusals.{whole}
 use Rattle.stab_circuit.specs.Items.{Items}
-use Rattle.stab_circuit.specs.Steps.{Step, unroll}
-use Rattle.stab_regions.specs.Tables.{detectors_of}
+use Rattle.stab_circuit.specs.Steps.{Step, unroll, detectors_of}
 use Rattle.stab_circuit.specs.StepPaths.{paths_of}
 use Rattle.stab_commands.specs.declared.unsure.Bit.{Bit}
 use Rattle.stab_commands.specs.declared.unsure.Unsure.{Unsure}

@@ -12,6 +12,6 @@ letter_weight Y = 1
 letter_weight Z = 1
 
 -- how many letters are not I
-abbrev pub weight : List Letter → ℕ
-weight [] = 0
-weight (l ∷ letters) = letter_weight l + weight letters
+abbrev pub string_weight : List Letter → ℕ
+string_weight [] = 0
+string_weight (l ∷ letters) = letter_weight l + string_weight letters

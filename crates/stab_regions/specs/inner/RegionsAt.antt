@@ -1,10 +1,10 @@
 -- Regions at a place: what the pass backwards holds between two steps, and how one step changes it.
 use Rattle.std.specs.Prelude.{◌≡◌, ℕ, ◌+◌, ◌-◌, ◌==◌, ◌<◌, ◌≤◌, ◌^◌, nat_lt, Bool, false, not, ◌&&◌, ◌||◌, List, [], ◌∷◌, length, slice_index_or, if◌then◌else◌}
 use Rattle.stab_pauli.specs.declared.letter.Letter.{Letter}
-use Rattle.stab_circuit.specs.Steps.{Step, one, two, controlled, collapse, product, detector, observable}
+use Rattle.stab_circuit.specs.Steps.{Step, one, two, controlled, collapse, product, detector, observable, is_detector}
 use Rattle.stab_regions.specs.declared.regions.Regions.{Regions}
 use Rattle.stab_regions.specs.Regions.{Region, region_of, region_before, keeps_region, with_looks, asks_observable}
-use Rattle.stab_regions.specs.Tables.{is_detector, named}
+use Rattle.stab_regions.specs.Tables.{named}
 use Rattle.stab_regions.specs.Parities.{detectors_before, parity_region, parity_kept, parity_flips, parity_sure}
 use Rattle.stab_regions.specs.Ascending.{IsAscending}
 use Rattle.stab_regions.specs.Rows.{odd, ShowsRegion}

@@ -57,6 +57,13 @@ impl CompactTableau {
     ghost use Rattle.stab_tableau.specs.Turns.{IsTurned};
     ghost use Rattle.stab_tableau.specs.inner.Frames.{SameLetters};
 
+    /// The number of qubits.
+    pub fn len(&self) -> usize
+        ensures value { result ≡ self.now.qubits }
+    {
+        self.table.len()
+    }
+
     /// The same state as a tableau, in the memory of a spare one that has as many qubits, else in memory of its own.
     ///
     /// Refusal `OutOfMemory` alone.

@@ -32,7 +32,7 @@ pub(super) enum Asked {
     Rows(&'static [&'static str]),
 }
 
-fn qubit(tableau: &Tableau, place: Place) -> usize {
+pub(super) fn qubit(tableau: &Tableau, place: Place) -> usize {
     match place {
         Place::First => 0,
         Place::Last => tableau.len().saturating_sub(1),
@@ -56,7 +56,7 @@ fn apply_pair(tableau: &mut Tableau, gate: PairGate, first: usize, second: usize
 }
 
 // The Pauli that has the first letter of a text on qubit 0 among n, and the second on the last qubit.
-fn spread(alloc: Global, n: usize, text: &str) -> Result<Pauli, Refusal> {
+pub(super) fn spread(alloc: Global, n: usize, text: &str) -> Result<Pauli, Refusal> {
     let pair = read(alloc, text)?;
     let mut pauli = Pauli::identity(alloc, n)?;
     if n > 1 && pair.len() == 2 && pauli.len() == n {

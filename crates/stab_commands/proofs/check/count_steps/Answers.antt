@@ -1,9 +1,8 @@
 use Rattle.std.proofs.Common.{ap, arith}
-use Rattle.stab_circuit.specs.Steps.{unroll}
+use Rattle.stab_circuit.specs.Steps.{unroll, detectors_of}
 use Rattle.stab_circuit.specs.Cursors.{step_shown}
 use Rattle.stab_circuit.specs.Views.{circuit_items}
 use Rattle.stab_run.specs.Points.{all_coins_of}
-use Rattle.stab_regions.specs.Tables.{detectors_of}
 use Rattle.stab_commands.proofs.CheckLaws.{few_steps, detectors_few, detectors_more, coins_few}
 use Rattle.stab_commands.proofs.check.count_steps.Goals as goal
 

@@ -1,8 +1,7 @@
 use Rattle.std.proofs.Common.{◌≡◌, ◌+◌, length}
-use Rattle.stab_circuit.specs.Steps.{unroll}
+use Rattle.stab_circuit.specs.Steps.{unroll, detectors_of}
 use Rattle.stab_circuit.specs.Views.{circuit_items}
 use Rattle.stab_run.specs.Points.{all_coins_of}
-use Rattle.stab_regions.specs.Tables.{detectors_of}
 use Rattle.stab_commands.proofs.check.count_steps.Given as goal
 
 abbrev pub invariant-steps : goal.invariant-steps

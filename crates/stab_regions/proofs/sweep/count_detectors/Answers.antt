@@ -1,7 +1,7 @@
 use Rattle.std.proofs.Common.{ap, sym, ◌∙◌, ◌+◌, arith}
 use Rattle.stab_circuit.specs.Cursors.{step_shown}
 use Rattle.stab_circuit.specs.Views.{circuit_items}
-use Rattle.stab_regions.specs.Tables.{detectors_of}
+use Rattle.stab_circuit.specs.Steps.{detectors_of}
 use Rattle.stab_regions.proofs.SweepLemmas.{detectors-fit}
 use Rattle.stab_regions.proofs.sweep.count_detectors.Goals as goal
 

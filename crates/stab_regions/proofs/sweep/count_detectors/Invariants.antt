@@ -1,7 +1,6 @@
 use Rattle.std.proofs.Common.{◌≡◌, ◌+◌, length}
-use Rattle.stab_circuit.specs.Steps.{unroll}
+use Rattle.stab_circuit.specs.Steps.{unroll, detectors_of}
 use Rattle.stab_circuit.specs.Views.{circuit_items}
-use Rattle.stab_regions.specs.Tables.{detectors_of}
 use Rattle.stab_regions.proofs.sweep.count_detectors.Given as goal
 
 abbrev pub invariant-steps : goal.invariant-steps

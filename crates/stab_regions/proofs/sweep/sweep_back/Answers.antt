@@ -1,12 +1,11 @@
 use Rattle.std.proofs.Common.{◌≡◌, ◌-◌, ◌≤◌, refl, sym, ap, subst, ◌∙◌, ◌++◌, [], List, length, take, drop, map, arith}
 use Rattle.std.specs.Prelude.{All}
 use Rattle.std.proofs.lemmas.List.{drop_all}
-use Rattle.stab_circuit.specs.Steps.{Step, unroll, observables_of}
+use Rattle.stab_circuit.specs.Steps.{Step, unroll, observables_of, detectors_of}
 use Rattle.stab_circuit.specs.Views.{circuit_items}
 use Rattle.stab_circuit.specs.Cursors.{step_shown}
 use Rattle.stab_run.specs.ProgramStates.{StepFits}
 use Rattle.stab_run.proofs.FitLemmas.{check-fits, check-whole, check-steps}
-use Rattle.stab_regions.specs.Tables.{detectors_of}
 use Rattle.stab_regions.specs.inner.Sweeps.{IsSwept, MayPass}
 use Rattle.stab_regions.proofs.SweepLemmas.{piece, passes-piece}
 use Rattle.stab_regions.proofs.BelowLemmas.{names-below}

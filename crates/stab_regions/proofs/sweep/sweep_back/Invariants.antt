@@ -1,7 +1,6 @@
 use Rattle.std.proofs.Common.{◌≤◌, length, drop}
-use Rattle.stab_circuit.specs.Steps.{unroll, observables_of}
+use Rattle.stab_circuit.specs.Steps.{unroll, observables_of, detectors_of}
 use Rattle.stab_circuit.specs.Views.{circuit_items}
-use Rattle.stab_regions.specs.Tables.{detectors_of}
 use Rattle.stab_regions.specs.inner.Sweeps.{IsSwept}
 use Rattle.stab_regions.proofs.sweep.sweep_back.Given as goal
 

@@ -12,7 +12,7 @@ const MOST_STEPS: u64 = 1_048_576;
 
 /// An item for which a whole circuit is refused.
 #[derive(Drop)]
-pub(crate) struct FoundItem {
+pub(crate) struct RefusedItem {
     /// Its line, or that of its opening.
     pub(crate) line: u64,
     /// Its path: the places of the blocks round it, the outermost first, and its own place.
@@ -21,9 +21,9 @@ pub(crate) struct FoundItem {
     pub(crate) records: u64,
 }
 
-/// A block that is open: its line, place and count, and the numbers before it.
+/// A block around the next item: its line, place and count, and the numbers before it.
 #[derive(Clone, Copy)]
-struct OpenBlock {
+struct EnclosingBlock {
     line: u64,
     place: u64,
     count: Count,
@@ -31,12 +31,12 @@ struct OpenBlock {
     records: u64,
 }
 
-/// The blocks that are open, the place of the next item in the innermost, and the numbers so far.
+/// A search through a text: the blocks around the next item, its place in the innermost, and the numbers so far.
 #[derive(Drop)]
-struct Walk {
+struct ItemSearch {
     alloc: Global,
     refusal: Refusal,
-    open_blocks: Vec<OpenBlock>,
+    enclosing_blocks: Vec<EnclosingBlock>,
     place: u64,
     steps: u64,
     records: u64,
@@ -47,11 +47,11 @@ pub(crate) fn find_item(
     alloc: Global,
     text: &[u8],
     refusal: Refusal,
-) -> Result<Option<FoundItem>, AllocError> {
-    let mut walk = Walk {
+) -> Result<Option<RefusedItem>, AllocError> {
+    let mut search = ItemSearch {
         alloc,
         refusal,
-        open_blocks: Vec::new(alloc),
+        enclosing_blocks: Vec::new(alloc),
         place: 0,
         steps: 0,
         records: 0,
@@ -59,7 +59,7 @@ pub(crate) fn find_item(
     let mut number: u64 = 0;
     for line in text.split(|byte| *byte == b'\n') {
         number = number.saturating_add(1);
-        let found = walk.take_line(number, content(line))?;
+        let found = search.take_line(number, content(line))?;
         if found.is_some() {
             return Ok(found);
         }
@@ -67,8 +67,12 @@ pub(crate) fn find_item(
     Ok(None)
 }
 
-impl Walk {
-    fn take_line(&mut self, number: u64, content: &[u8]) -> Result<Option<FoundItem>, AllocError> {
+impl ItemSearch {
+    fn take_line(
+        &mut self,
+        number: u64,
+        content: &[u8],
+    ) -> Result<Option<RefusedItem>, AllocError> {
         match meaning(self.alloc, content) {
             Ok(line) => self.take(number, &line),
             Err(Refusal::OutOfMemory) => Err(AllocError),
@@ -76,7 +80,7 @@ impl Walk {
         }
     }
 
-    fn take(&mut self, number: u64, line: &Line) -> Result<Option<FoundItem>, AllocError> {
+    fn take(&mut self, number: u64, line: &Line) -> Result<Option<RefusedItem>, AllocError> {
         match line {
             Line::Blank => Ok(None),
             Line::Open { count, .. } => {
@@ -89,7 +93,7 @@ impl Walk {
     }
 
     fn open(&mut self, line: u64, count: Count) -> Result<(), AllocError> {
-        self.open_blocks.push(OpenBlock {
+        self.enclosing_blocks.push(EnclosingBlock {
             line,
             place: self.place,
             count,
@@ -101,8 +105,8 @@ impl Walk {
     }
 
     /// Counts all rounds of the innermost block.
-    fn close(&mut self) -> Result<Option<FoundItem>, AllocError> {
-        let Some(block) = self.open_blocks.pop() else {
+    fn close(&mut self) -> Result<Option<RefusedItem>, AllocError> {
+        let Some(block) = self.enclosing_blocks.pop() else {
             return Ok(None);
         };
         self.place = block.place;
@@ -112,7 +116,11 @@ impl Walk {
         self.end_item(block.line)
     }
 
-    fn take_operation(&mut self, line: u64, kind: &Kind) -> Result<Option<FoundItem>, AllocError> {
+    fn take_operation(
+        &mut self,
+        line: u64,
+        kind: &Kind,
+    ) -> Result<Option<RefusedItem>, AllocError> {
         let counts = Counts::of_kind(kind);
         if self.refusal == Refusal::LookbackTooFar && counts.lookback > self.records {
             return Ok(Some(self.found(line)?));
@@ -123,7 +131,7 @@ impl Walk {
     }
 
     /// Goes on to the next item, unless the steps are too many behind this one.
-    fn end_item(&mut self, line: u64) -> Result<Option<FoundItem>, AllocError> {
+    fn end_item(&mut self, line: u64) -> Result<Option<RefusedItem>, AllocError> {
         if self.refusal == Refusal::TooManySteps && self.steps > MOST_STEPS {
             return Ok(Some(self.found(line)?));
         }
@@ -132,13 +140,13 @@ impl Walk {
     }
 
     /// The item at the place.
-    fn found(&self, line: u64) -> Result<FoundItem, AllocError> {
+    fn found(&self, line: u64) -> Result<RefusedItem, AllocError> {
         let mut path = Vec::new(self.alloc);
-        for block in self.open_blocks.iter() {
+        for block in self.enclosing_blocks.iter() {
             path.push(block.place)?;
         }
         path.push(self.place)?;
-        Ok(FoundItem {
+        Ok(RefusedItem {
             line,
             path,
             records: self.records,

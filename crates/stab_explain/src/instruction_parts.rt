@@ -1,7 +1,7 @@
 //! A line cut into its name, arguments and targets, or what has no line's shape in it.
 use crate::finding::Finding;
+use crate::line_part::LinePart;
 use crate::sentences;
-use crate::span::Span;
 use stab_lines::{ends_with, first_piece, is_spacing};
 
 /// The bytes of a byte order mark in UTF-8.
@@ -9,11 +9,11 @@ const BYTE_ORDER_MARK: &[u8] = b"\xEF\xBB\xBF";
 
 /// The parts of a line that has the shape of one.
 #[derive(Clone, Copy)]
-pub(crate) struct Parts {
-    pub(crate) name: Span,
+pub(crate) struct InstructionParts {
+    pub(crate) name: LinePart,
     /// With their brackets; empty where there are none.
-    pub(crate) arguments: Span,
-    pub(crate) targets: Span,
+    pub(crate) arguments: LinePart,
+    pub(crate) targets: LinePart,
     /// Whether a brace stands last.
     pub(crate) opens: bool,
 }
@@ -31,7 +31,7 @@ fn is_brace(byte: u8) -> bool {
 }
 
 /// The parts of the content of a line, or from the left the first that has no line's shape.
-pub(crate) fn parts_of(line: &[u8], content: Span) -> Result<Parts, Finding> {
+pub(crate) fn parts_of(line: &[u8], content: LinePart) -> Result<InstructionParts, Finding> {
     let bytes = content.bytes(line);
     match bytes.first() {
         Some(first) if is_letter(*first) => {}
@@ -49,7 +49,7 @@ pub(crate) fn parts_of(line: &[u8], content: Span) -> Result<Parts, Finding> {
     let targets = if opens { rest.without_last() } else { rest };
     is_apart(line, targets)?;
     without_brace(line, targets)?;
-    Ok(Parts {
+    Ok(InstructionParts {
         name,
         arguments,
         targets,
@@ -58,7 +58,7 @@ pub(crate) fn parts_of(line: &[u8], content: Span) -> Result<Parts, Finding> {
 }
 
 /// What stands in the place of a name.
-fn no_name(bytes: &[u8], content: Span) -> Finding {
+fn no_name(bytes: &[u8], content: LinePart) -> Finding {
     if bytes.starts_with(BYTE_ORDER_MARK) {
         return Finding::new(content.front(3), sentences::BYTE_ORDER_MARK);
     }
@@ -72,31 +72,31 @@ fn no_name(bytes: &[u8], content: Span) -> Finding {
 /// What brackets directly in front hold, with them, or nothing where there are none.
 fn bracketed(
     line: &[u8],
-    span: Span,
+    part: LinePart,
     opening: u8,
     closing: u8,
     not_closed: sentences::Sentences,
-) -> Result<Span, Finding> {
-    let bytes = span.bytes(line);
+) -> Result<LinePart, Finding> {
+    let bytes = part.bytes(line);
     if bytes.first() != Some(&opening) {
-        return Ok(span.front(0));
+        return Ok(part.front(0));
     }
     match first_piece(bytes, closing) {
-        (inside, Some(_)) => Ok(span.front(inside.len().saturating_add(1))),
-        (_, None) => Err(Finding::new(span.front(1), not_closed)),
+        (inside, Some(_)) => Ok(part.front(inside.len().saturating_add(1))),
+        (_, None) => Err(Finding::new(part.front(1), not_closed)),
     }
 }
 
 /// The first brace in a part, where it can't stand.
-fn without_brace(line: &[u8], span: Span) -> Result<(), Finding> {
-    match span.bytes(line).iter().position(|b| is_brace(*b)) {
-        Some(place) => Err(Finding::new(span.behind(place).front(1), sentences::BRACE_WITHIN)),
+fn without_brace(line: &[u8], part: LinePart) -> Result<(), Finding> {
+    match part.bytes(line).iter().position(|b| is_brace(*b)) {
+        Some(place) => Err(Finding::new(part.behind(place).front(1), sentences::BRACE_WITHIN)),
         None => Ok(()),
     }
 }
 
 /// The first byte of targets that no spacing parts from what stands before.
-fn is_apart(line: &[u8], targets: Span) -> Result<(), Finding> {
+fn is_apart(line: &[u8], targets: LinePart) -> Result<(), Finding> {
     match targets.bytes(line).first() {
         Some(first) if !is_spacing(*first) => {
             Err(Finding::new(targets.front(1), sentences::NOT_APART))

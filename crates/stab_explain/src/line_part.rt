@@ -4,23 +4,23 @@ use std::alloc::{AllocError, Global};
 
 /// A part of a line: the places of its first byte and of the one behind its last.
 #[derive(Clone, Copy)]
-pub(crate) struct Span {
+pub(crate) struct LinePart {
     pub(crate) start: usize,
     pub(crate) end: usize,
 }
 
-impl Span {
+impl LinePart {
     /// The part from a place on that is so many bytes long.
-    pub(crate) fn of_length(start: usize, length: usize) -> Span {
-        Span {
+    pub(crate) fn of_length(start: usize, length: usize) -> LinePart {
+        LinePart {
             start,
             end: start.saturating_add(length),
         }
     }
 
     /// What is left of a line without its comment and the spacing at both ends.
-    pub(crate) fn of_content(line: &[u8]) -> Span {
-        Span::of_length(0, line.len()).trimmed(line)
+    pub(crate) fn of_content(line: &[u8]) -> LinePart {
+        LinePart::of_length(0, line.len()).trimmed(line)
     }
 
     /// Its bytes.
@@ -34,44 +34,44 @@ impl Span {
     }
 
     /// Its first bytes, so many.
-    pub(crate) fn front(self, count: usize) -> Span {
-        Span {
+    pub(crate) fn front(self, count: usize) -> LinePart {
+        LinePart {
             start: self.start,
             end: self.start.saturating_add(count).min(self.end),
         }
     }
 
     /// What stands behind its first bytes, so many.
-    pub(crate) fn behind(self, count: usize) -> Span {
-        Span {
+    pub(crate) fn behind(self, count: usize) -> LinePart {
+        LinePart {
             start: self.start.saturating_add(count).min(self.end),
             end: self.end,
         }
     }
 
     /// It without its last byte.
-    pub(crate) fn without_last(self) -> Span {
-        Span {
+    pub(crate) fn without_last(self) -> LinePart {
+        LinePart {
             start: self.start,
             end: self.end.saturating_sub(1),
         }
     }
 
     /// Its last byte.
-    pub(crate) fn last(self) -> Span {
-        Span {
+    pub(crate) fn last(self) -> LinePart {
+        LinePart {
             start: self.end.saturating_sub(1),
             end: self.end,
         }
     }
 
     /// It without a comment and the spacing at both ends.
-    pub(crate) fn trimmed(self, line: &[u8]) -> Span {
+    pub(crate) fn trimmed(self, line: &[u8]) -> LinePart {
         let bytes = self.bytes(line);
         let spacing = bytes
             .len()
             .saturating_sub(without_spacing_in_front(bytes).len());
-        Span::of_length(self.start.saturating_add(spacing), content(bytes).len())
+        LinePart::of_length(self.start.saturating_add(spacing), content(bytes).len())
     }
 }
 
@@ -95,29 +95,33 @@ impl Separator {
 pub(crate) fn pieces(
     alloc: Global,
     line: &[u8],
-    span: Span,
+    part: LinePart,
     separator: Separator,
-) -> Result<Vec<Span>, AllocError> {
+) -> Result<Vec<LinePart>, AllocError> {
     let mut pieces = Vec::new(alloc);
-    let mut start = span.start;
-    for (place, byte) in span.bytes(line).iter().enumerate() {
+    let mut start = part.start;
+    for (place, byte) in part.bytes(line).iter().enumerate() {
         if separator.is(*byte) {
-            let end = span.start.saturating_add(place);
-            pieces.push(Span { start, end })?;
+            let end = part.start.saturating_add(place);
+            pieces.push(LinePart { start, end })?;
             start = end.saturating_add(1);
         }
     }
-    pieces.push(Span {
+    pieces.push(LinePart {
         start,
-        end: span.end,
+        end: part.end,
     })?;
     Ok(pieces)
 }
 
 /// The words between spacing.
-pub(crate) fn words(alloc: Global, line: &[u8], span: Span) -> Result<Vec<Span>, AllocError> {
+pub(crate) fn words(
+    alloc: Global,
+    line: &[u8],
+    part: LinePart,
+) -> Result<Vec<LinePart>, AllocError> {
     let mut words = Vec::new(alloc);
-    for piece in pieces(alloc, line, span, Separator::Spacing)? {
+    for piece in pieces(alloc, line, part, Separator::Spacing)? {
         if !piece.is_empty() {
             words.push(piece)?;
         }

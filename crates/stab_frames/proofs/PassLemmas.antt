@@ -1,0 +1,161 @@
+-- Passes: a frame over one step, and over steps one after another.
+use Rattle.std.proofs.Common.{◌≡◌, ℕ, zero, suc, ◌+◌, refl, sym, ◌∙◌, ap, subst, Bool, false, List, [], ◌∷◌, ◌++◌, append_assoc, drop, replicate, get_or, arith}
+use Rattle.std.specs.Prelude.{Option, Some, None, IfSome}
+use Rattle.stab_pauli.specs.declared.letter.Letter.{Letter}
+use Rattle.stab_pauli.specs.Paulis.{Signed, single}
+use Rattle.stab_tableau.specs.Traces.{Event, member, is_free}
+use Rattle.stab_tableau.specs.Exchanges.{Exchanges}
+use Rattle.stab_circuit.specs.Steps.{Step, one, two, controlled, collapse, product, detector, observable}
+use Rattle.stab_run.specs.Runs.{string_of}
+use Rattle.stab_run.specs.Points.{Point, RunOutput, nothing, joined, coins_of, all_coins_of, given, next_point, outputs}
+use Rattle.stab_run.proofs.RunLemmas.{joined-nothing, joined-assoc}
+use Rattle.stab_frames.specs.Frames.{Frame, times_where}
+use Rattle.stab_frames.specs.Notes.{Notes, same_coins, IsNoteOf}
+use Rattle.stab_frames.specs.FrameSteps.{letters_after, flips_given, frame_after, frame_over, flips_over}
+use Rattle.stab_frames.specs.StepNotes.{IsEnoughAt, AreEnough}
+use Rattle.stab_frames.specs.KeptStrings.{note_at, IsTrueAt, AreTrue}
+use Rattle.stab_frames.specs.Walks.{WalkState, frame_at, WalksOver}
+use Rattle.stab_frames.specs.inner.Passes.{Passes, IsTold, AreTold}
+use Rattle.stab_frames.proofs.StillLemmas.{looked_up-base, parity-base}
+use Rattle.stab_frames.proofs.OverLemmas.{coins-append, frame-append, flips-append}
+
+-- where a frame began is of no account to a step
+
+letters-base : (n : ℕ) (strings : ℕ → Option (List Letter)) (x : Step) (coin base : ℕ) (w : WalkState)
+    → letters_after n (same_coins strings) x coin (frame_at base w) ≡ letters_after n (same_coins strings) x coin (frame_at 0 w)
+letters-base n strings (one g q) coin base w = refl
+letters-base n strings (two g a b) coin base w = refl
+letters-base n strings (controlled l k q) coin base w = ap (λ b. times_where b (single n q l).letters w.letters) (looked_up-base base w.flips.records k)
+letters-base n strings (collapse l q recorded inverted resets) coin base w = refl
+letters-base n strings (product factors inverted) coin base w = refl
+letters-base n strings (detector ks) coin base w = refl
+letters-base n strings (observable j ks) coin base w = refl
+
+flips-base : (n : ℕ) (strings : ℕ → Option (List Letter)) (x : Step) (coin base : ℕ) (w : WalkState)
+    → flips_given n (same_coins strings) x coin (frame_at base w) ≡ flips_given n (same_coins strings) x coin (frame_at 0 w)
+flips-base n strings (one g q) coin base w = refl
+flips-base n strings (two g a b) coin base w = refl
+flips-base n strings (controlled l k q) coin base w = refl
+flips-base n strings (collapse l q recorded inverted resets) coin base w = refl
+flips-base n strings (product factors inverted) coin base w = refl
+flips-base n strings (detector ks) coin base w =
+    ap (λ b. record nothing { detectors = b ∷ [] }) (parity-base base w.flips.records ks)
+flips-base n strings (observable j ks) coin base w =
+    ap (λ b. record nothing { additions = record { observable = j; bit = b } ∷ [] }) (parity-base base w.flips.records ks)
+
+-- over one step, none, and steps one after another
+
+pub over-step : (n : ℕ) (strings : ℕ → Option (List Letter)) (x : Step) (old new : WalkState) → Passes n strings x old new → WalksOver n strings (x ∷ []) old new
+over-step n strings x old new p = record {
+  frame = λ base i. record {
+    letters = (p.letters ∙ sym (letters-base n strings x old.coin base old)) i;
+    flips =
+        (ap (λ (o : RunOutput). replicate base false ++ o.records) p.flips
+        ∙ sym (append_assoc (replicate base false) old.flips.records (flips_given n (same_coins strings) x old.coin (frame_at 0 old)).records)
+        ∙ ap (λ (o : RunOutput). (replicate base false ++ old.flips.records) ++ o.records) (sym (flips-base n strings x old.coin base old))) i;
+  };
+  flips = λ base.
+      p.flips
+      ∙ ap (joined old.flips) (sym (flips-base n strings x old.coin base old) ∙ sym (joined-nothing (flips_given n (same_coins strings) x old.coin (frame_at base old))));
+  coin = p.coin ∙ one_more old.coin (coins_of x);
+}
+  where
+    one_more : (a b : ℕ) → a + b ≡ a + (b + 0)
+    one_more a b = omega arith
+
+pub over-none : (n : ℕ) (strings : ℕ → Option (List Letter)) (w : WalkState) → WalksOver n strings [] w w
+over-none n strings w = record {
+  frame = λ base. refl;
+  flips = λ base. sym (joined-nothing w.flips);
+  coin = none w.coin;
+}
+  where
+    none : (a : ℕ) → a ≡ a + 0
+    none a = omega arith
+
+pub over-append : (n : ℕ) (strings : ℕ → Option (List Letter)) (xs ys : List Step) (a b c : WalkState) → WalksOver n strings xs a b
+    → WalksOver n strings ys b c → WalksOver n strings (xs ++ ys) a c
+over-append n strings xs ys a b c first then = record {
+  frame = λ base.
+      then.frame base
+      ∙ (λ i. frame_over n notes ys (first.coin i) (first.frame base i))
+      ∙ sym (frame-append n notes xs ys a.coin (frame_at base a));
+  flips = λ base.
+      then.flips base
+      ∙ (λ i. joined (first.flips base i) (flips_over n notes ys (first.coin i) (first.frame base i)))
+      ∙ joined-assoc a.flips (flips_over n notes xs a.coin (frame_at base a)) (flips_over n notes ys (a.coin + all_coins_of xs) (frame_over n notes xs a.coin (frame_at base a)))
+      ∙ ap (joined a.flips) (sym (flips-append n notes xs ys a.coin (frame_at base a)));
+  coin = then.coin ∙ ap (λ k. k + all_coins_of ys) first.coin ∙ more a.coin (all_coins_of xs) (all_coins_of ys) ∙ ap (λ k. a.coin + k) (sym (coins-append xs ys));
+}
+  where
+    notes : Notes
+    notes = same_coins strings
+
+    more : (a b c : ℕ) → (a + b) + c ≡ a + (b + c)
+    more a b c = omega arith
+
+-- what has to be told, over steps one after another
+
+pub told-append : (n : ℕ) (strings : List (List Letter)) (free : List Bool) (xs ys : List Step) (coin : ℕ) (f : Frame) → AreTold n strings free xs coin f
+    → AreTold n strings free ys (coin + all_coins_of xs) (frame_over n (same_coins (note_at strings free)) xs coin f) → AreTold n strings free (xs ++ ys) coin f
+told-append n strings free [] ys coin f front rest = subst (λ c. AreTold n strings free ys c f) (none coin) rest
+  where
+    none : (a : ℕ) → a + 0 ≡ a
+    none a = omega arith
+told-append n strings free (x ∷ xs) ys coin f front rest = (
+  front.0,
+  told-append n strings free xs ys (coin + coins_of x) (frame_after n notes x coin f) front.1
+      (subst (λ c. AreTold n strings free ys c (frame_over n notes xs (coin + coins_of x) (frame_after n notes x coin f))) (more coin (coins_of x) (all_coins_of xs)) rest),
+)
+  where
+    notes : Notes
+    notes = same_coins (note_at strings free)
+
+    more : (a b c : ℕ) → a + (b + c) ≡ (a + b) + c
+    more a b c = omega arith
+
+none : (k : ℕ) → k + 0 ≡ k
+none k = omega arith
+
+-- what is told, strings that are true and the run's flags are enough
+
+note-enough : (n : ℕ) (trace : List Event) (m : Signed) (note : Option (List Letter)) (flag : Bool) → (note ≡ None → flag ≡ false)
+    → flag ≡ is_free trace m → IfSome note (λ s. Exchanges n (member trace) m s) → IsNoteOf n (member trace) m note
+note-enough n trace m None flag told e is = sym e ∙ told refl
+note-enough n trace m (Some s) flag told e is = is
+
+first-flag : (free : List Bool) (coin : ℕ) (b : Bool) (bits : List Bool) → drop coin free ≡ b ∷ bits → (get_or free coin false ≡ b) × (drop (coin + 1) free ≡ bits)
+first-flag [] zero b bits e = cc
+first-flag [] (suc coin) b bits e = cc
+first-flag (x ∷ free) zero b bits e = (cc, cc)
+first-flag (x ∷ free) (suc coin) b bits e =
+    let later = first-flag free coin b bits e in
+    (later.0, ap (λ k. drop k (x ∷ free)) one_more ∙ later.1)
+  where
+    one_more : suc coin + 1 ≡ suc (coin + 1)
+    one_more = omega arith
+
+step-enough : (n : ℕ) (coins : ℕ → Bool) (strings : List (List Letter)) (free : List Bool) (x : Step) (f : List Letter) (a : Point)
+    → IsTold n strings free x a.coin f → IsTrueAt n (note_at strings free) x a → (rest : List Bool) → drop a.coin free ≡ (given n coins x a).free ++ rest
+    → IsEnoughAt n (same_coins (note_at strings free)) x f a × (drop (a.coin + coins_of x) free ≡ rest)
+step-enough n coins strings free (one g q) f a told is rest flags = (tt, ap (λ k. drop k free) (none a.coin) ∙ flags)
+step-enough n coins strings free (two g p q) f a told is rest flags = (tt, ap (λ k. drop k free) (none a.coin) ∙ flags)
+step-enough n coins strings free (controlled l k q) f a told is rest flags = (tt, ap (λ k. drop k free) (none a.coin) ∙ flags)
+step-enough n coins strings free (collapse l q recorded inverted resets) f a told is rest flags =
+    let first = first-flag free a.coin (is_free a.trace (single n q l)) rest flags in
+    ((λ apart. note-enough n a.trace (single n q l) (note_at strings free a.coin) (get_or free a.coin false) (told apart) first.0 is), first.1)
+step-enough n coins strings free (product factors inverted) f a told is rest flags =
+    let first = first-flag free a.coin (is_free a.trace (string_of n factors)) rest flags in
+    ((λ apart. note-enough n a.trace (string_of n factors) (note_at strings free a.coin) (get_or free a.coin false) (told apart) first.0 is), first.1)
+step-enough n coins strings free (detector ks) f a told is rest flags = (tt, ap (λ k. drop k free) (none a.coin) ∙ flags)
+step-enough n coins strings free (observable j ks) f a told is rest flags = (tt, ap (λ k. drop k free) (none a.coin) ∙ flags)
+
+pub told-enough : (n : ℕ) (coins : ℕ → Bool) (strings : List (List Letter)) (free : List Bool) (xs : List Step) (f : Frame) (a : Point)
+    → AreTold n strings free xs a.coin f → AreTrue n coins (note_at strings free) xs a → (rest : List Bool) → drop a.coin free ≡ (outputs n coins xs a).free ++ rest
+    → AreEnough n coins (same_coins (note_at strings free)) xs f a
+told-enough n coins strings free [] f a told is rest flags = tt
+told-enough n coins strings free (x ∷ xs) f a told is rest flags =
+    let next = next_point n coins x a in
+    let here = step-enough n coins strings free x f.letters a told.0 is.0 ((outputs n coins xs next).free ++ rest)
+    (flags ∙ append_assoc (given n coins x a).free (outputs n coins xs next).free rest) in
+    (here.0, told-enough n coins strings free xs (frame_after n (same_coins (note_at strings free)) x a.coin f) next told.1 is.1 rest here.1)

@@ -1,0 +1,60 @@
+-- Still: records of which the newest are not flipped, and records behind others.
+use Rattle.std.proofs.Common.{◌≡◌, ℕ, zero, suc, ◌+◌, ◌-◌, ◌<◌, ◌≤◌, refl, sym, ◌∙◌, ap, Bool, false, List, [], ◌∷◌, ◌++◌, append-nil, length, replicate, arith, ◌⊎◌, inl, inr}
+use Rattle.std.proofs.lemmas.Bool.{cases_lt}
+use Rattle.stab_pauli.specs.Letters.{◌⊕◌}
+use Rattle.stab_run.specs.Records.{looked_up, parity}
+use Rattle.stab_frames.specs.Walks.{WalkState, frame_at, IsGone}
+use Rattle.stab_frames.specs.inner.Weights.{string_weight}
+use Rattle.stab_frames.proofs.WeightLemmas.{weight-none}
+use Rattle.stab_frames.proofs.LookbackLemmas.{looked_up-near, looked_up-far, looked_up-more, looked_up-zeros}
+
+-- records behind others that are 0, and behind none
+
+pub looked_up-base : (base : ℕ) (bits : List Bool) (k : ℕ) → looked_up (replicate base false ++ bits) k ≡ looked_up bits k
+looked_up-base base bits k = by_place (cases_lt (length bits) k)
+  where
+    by_place : (length bits < k) ⊎ (k ≤ length bits) → looked_up (replicate base false ++ bits) k ≡ looked_up bits k
+    by_place (inl far) =
+        looked_up-far (replicate base false) bits k far
+        ∙ looked_up-zeros base (k - length bits)
+        ∙ sym (looked_up-zeros 0 (k - length bits))
+        ∙ sym (looked_up-far [] bits k far)
+    by_place (inr near) = looked_up-near (replicate base false) bits k near
+
+pub parity-base : (base : ℕ) (bits : List Bool) (ks : List ℕ) → parity (replicate base false ++ bits) ks ≡ parity bits ks
+parity-base base bits [] = refl
+parity-base base bits (k ∷ ks) = λ i. looked_up-base base bits k i ⊕ parity-base base bits ks i
+
+-- where none of the newest is flipped
+
+abbrev pub IsStill : ℕ → List Bool → Type 0
+IsStill m bits = (k : ℕ) → k ≤ m → looked_up bits k ≡ false
+
+pub still-none : (m : ℕ) → IsStill m []
+still-none m k le = looked_up-zeros 0 k
+
+pub looked_up-zero : (bits : List Bool) → looked_up bits 0 ≡ false
+looked_up-zero bits = sym (ap (λ b. looked_up b 0) (append-nil bits)) ∙ looked_up-near bits [] 0 (omega arith) ∙ looked_up-zeros 0 0
+
+pub still-start : (bits : List Bool) → IsStill 0 bits
+still-start bits zero le = looked_up-zero bits
+still-start bits (suc k) le = absurd (omega arith)
+
+pub still-less : (m j : ℕ) (bits : List Bool) → j ≤ m → IsStill m bits → IsStill j bits
+still-less m j bits le is k lk = is k (omega arith)
+
+pub still-more : (m j : ℕ) (bits : List Bool) → j ≤ m + 1 → IsStill m bits → IsStill j (bits ++ false ∷ [])
+still-more m j bits le is k lk =
+    looked_up-more m bits [] (false ∷ []) (λ i l. is i l ∙ sym (looked_up-zeros 0 i)) k (omega arith)
+    ∙ looked_up-zeros 1 k
+
+pub still-base : (base m : ℕ) (bits : List Bool) → IsStill m bits → IsStill m (replicate base false ++ bits)
+still-base base m bits is k le = looked_up-base base bits k ∙ is k le
+
+-- a frame of weight 0 that is still so far back is gone
+pub gone-frame : (base m still : ℕ) (w : WalkState) → string_weight w.letters ≡ 0 → m ≤ still → IsStill still w.flips.records
+    → IsGone (length w.letters) m (frame_at base w)
+gone-frame base m still w none le is = record {
+  letters = weight-none w.letters none;
+  flips = still-base base m w.flips.records (still-less still m w.flips.records le is);
+}

@@ -1,0 +1,138 @@
+-- True strings: in parts, by the notes of their coins, and from one run to another.
+use Rattle.std.proofs.Common.{◌≡◌, ℕ, ◌+◌, ◌<◌, refl, sym, ◌∙◌, ap, subst, Bool, true, false, List, [], ◌∷◌, ◌++◌, All, arith}
+use Rattle.std.specs.Prelude.{Option, Some, None, IfSome}
+use Rattle.std.proofs.lemmas.List.Elements.{All-head, All-tail}
+use Rattle.std.specs.List.{list_any}
+use Rattle.std.proofs.Common.{nat_lt}
+use Rattle.stab_pauli.specs.declared.letter.Letter.{Letter}
+use Rattle.stab_pauli.specs.Letters.{◌⊕◌}
+use Rattle.stab_pauli.specs.Paulis.{Signed, single, strings_anticommute}
+use Rattle.stab_tableau.specs.Traces.{member}
+use Rattle.stab_tableau.specs.Groups.{SameGroup, IsStabiliserGroup}
+use Rattle.stab_tableau.specs.Turns.{IsTurned}
+use Rattle.stab_tableau.specs.Exchanges.{Exchanges}
+use Rattle.stab_circuit.specs.Steps.{Step, one, two, controlled, collapse, product, detector, observable, lookbacks, makes, looks_too_far}
+use Rattle.stab_run.specs.Runs.{string_of}
+use Rattle.stab_run.specs.Points.{Point, coins_of, all_coins_of, next_point, point_after}
+use Rattle.stab_run.specs.ProgramStates.{StepFits}
+use Rattle.stab_frames.specs.Frames.{Frame, PointsDifferBy}
+use Rattle.stab_frames.specs.Notes.{same_coins}
+use Rattle.stab_frames.specs.Ends.{AgreeBack}
+use Rattle.stab_frames.specs.FrameSteps.{frame_after}
+use Rattle.stab_frames.specs.StepNotes.{measured_by, AreEnough}
+use Rattle.stab_frames.specs.KeptStrings.{AreTrue}
+use Rattle.stab_frames.proofs.LookbackLemmas.{or-left, or-right}
+use Rattle.stab_frames.proofs.EndLemmas.{next-back}
+use Rattle.stab_frames.proofs.StepLemmas.{step-framed, group-next}
+
+-- in parts
+
+pub true-append : (n : ℕ) (coins : ℕ → Bool) (strings : ℕ → Option (List Letter)) (xs ys : List Step) (a : Point) → AreTrue n coins strings xs a
+    → AreTrue n coins strings ys (point_after n coins xs a) → AreTrue n coins strings (xs ++ ys) a
+true-append n coins strings [] ys a front rest = rest
+true-append n coins strings (x ∷ xs) ys a front rest = (front.0, true-append n coins strings xs ys (next_point n coins x a) front.1 rest)
+
+pub true-front : (n : ℕ) (coins : ℕ → Bool) (strings : ℕ → Option (List Letter)) (xs ys : List Step) (a : Point) → AreTrue n coins strings (xs ++ ys) a
+    → AreTrue n coins strings xs a
+true-front n coins strings [] ys a is = tt
+true-front n coins strings (x ∷ xs) ys a is = (is.0, true-front n coins strings xs ys (next_point n coins x a) is.1)
+
+pub true-rest : (n : ℕ) (coins : ℕ → Bool) (strings : ℕ → Option (List Letter)) (xs ys : List Step) (a : Point) → AreTrue n coins strings (xs ++ ys) a
+    → AreTrue n coins strings ys (point_after n coins xs a)
+true-rest n coins strings [] ys a is = is
+true-rest n coins strings (x ∷ xs) ys a is = true-rest n coins strings xs ys (next_point n coins x a) is.1
+
+-- by the notes of the coins of what is measured
+
+true-step : (n : ℕ) (u : Signed → Bool) (x : Step) (note other : Option (List Letter)) → (0 < coins_of x → note ≡ other)
+    → IfSome (measured_by n x) (λ m. IfSome note (λ s. Exchanges n u m s)) → IfSome (measured_by n x) (λ m. IfSome other (λ s. Exchanges n u m s))
+true-step n u (one g q) note other same is = tt
+true-step n u (two g p q) note other same is = tt
+true-step n u (controlled l k q) note other same is = tt
+true-step n u (collapse l q recorded inverted resets) note other same is =
+    subst (λ o. IfSome o (λ s. Exchanges n u (single n q l) s)) (same (omega arith)) is
+true-step n u (product factors inverted) note other same is =
+    subst (λ o. IfSome o (λ s. Exchanges n u (string_of n factors) s)) (same (omega arith)) is
+true-step n u (detector ks) note other same is = tt
+true-step n u (observable j ks) note other same is = tt
+
+pub true-same : (n : ℕ) (coins : ℕ → Bool) (strings others : ℕ → Option (List Letter)) (xs : List Step) (a : Point)
+    → ((t : ℕ) → t < all_coins_of xs → strings (a.coin + t) ≡ others (a.coin + t)) → AreTrue n coins strings xs a → AreTrue n coins others xs a
+true-same n coins strings others [] a same is = tt
+true-same n coins strings others (x ∷ xs) a same is = (
+  true-step n (member a.trace) x (strings a.coin) (others a.coin) here is.0,
+  true-same n coins strings others xs (next_point n coins x a) later is.1,
+)
+  where
+    none : a.coin + 0 ≡ a.coin
+    none = omega arith
+
+    here : 0 < coins_of x → strings a.coin ≡ others a.coin
+    here lt = ap strings (sym none) ∙ same 0 (omega arith) ∙ ap others none
+
+    later : (t : ℕ) → t < all_coins_of xs → strings ((a.coin + coins_of x) + t) ≡ others ((a.coin + coins_of x) + t)
+    later t lt =
+        let e : (a.coin + coins_of x) + t ≡ a.coin + (coins_of x + t) = omega arith in
+        ap strings e ∙ same (coins_of x + t) (omega arith) ∙ ap others (sym e)
+
+-- from one run to another whose groups are turned, or the same
+
+exchanges-turned : (n : ℕ) (f : List Letter) (u v : Signed → Bool) (m : Signed) (s : List Letter) → IsTurned n f u v → Exchanges n u m s → Exchanges n v m s
+exchanges-turned n f u v m s turned is = record {
+  size = is.size;
+  negative = strings_anticommute f s ⊕ is.negative;
+  stabilises =
+      turned (record { negative = strings_anticommute f s ⊕ is.negative; letters = s }) is.size
+      ∙ ap (λ b. u (record { negative = b; letters = s })) (twice (strings_anticommute f s) is.negative)
+      ∙ is.stabilises;
+  apart = is.apart;
+}
+  where
+    twice : (a b : Bool) → a ⊕ (a ⊕ b) ≡ b
+    twice false b = refl
+    twice true false = refl
+    twice true true = refl
+
+pub exchanges-same : (n : ℕ) (u v : Signed → Bool) (m : Signed) (s : List Letter) → SameGroup n u v → Exchanges n u m s → Exchanges n v m s
+exchanges-same n u v m s same is = record {
+  size = is.size;
+  negative = is.negative;
+  stabilises = sym (same (record { negative = is.negative; letters = s }) is.size) ∙ is.stabilises;
+  apart = is.apart;
+}
+
+if-some : (n : ℕ) (u v : Signed → Bool) (measured : Option Signed) (note other : Option (List Letter)) → note ≡ other
+    → ((m : Signed) (s : List Letter) → Exchanges n u m s → Exchanges n v m s)
+    → IfSome measured (λ m. IfSome note (λ s. Exchanges n u m s)) → IfSome measured (λ m. IfSome other (λ s. Exchanges n v m s))
+if-some n u v None note other e over is = tt
+if-some n u v (Some m) note other e over is = subst (λ o. IfSome o (λ s. Exchanges n v m s)) e (inner note is)
+  where
+    inner : (o : Option (List Letter)) → IfSome o (λ s. Exchanges n u m s) → IfSome o (λ s. Exchanges n v m s)
+    inner None is = tt
+    inner (Some s) is = over m s is
+
+-- where points differ by a frame for which the strings are enough, they are true of the one run as of the other
+pub true-framed : (n : ℕ) (coins : ℕ → Bool) (strings : ℕ → Option (List Letter)) (xs : List Step) (f : Frame) (a b : Point) → All (StepFits n) xs
+    → IsStabiliserGroup n (member a.trace) → AreEnough n coins (same_coins strings) xs f a → PointsDifferBy n f a b
+    → AreTrue n coins strings xs a → AreTrue n coins strings xs b
+true-framed n coins strings [] f a b fits group enough apart is = tt
+true-framed n coins strings (x ∷ xs) f a b fits group enough apart is =
+    let fit = All-head (StepFits n) x xs fits in
+    let next = step-framed n coins (same_coins strings) x f a b fit group enough.0 apart in (
+      if-some n (member a.trace) (member b.trace) (measured_by n x) (strings a.coin) (strings b.coin) (ap strings (sym apart.coin))
+          (λ m s e. exchanges-turned n f.letters (member a.trace) (member b.trace) m s apart.group e) is.0,
+      true-framed n coins strings xs (frame_after n (same_coins strings) x a.coin f) (next_point n coins x a) (next_point n coins x b)
+          (All-tail (StepFits n) x xs fits) (group-next n coins x a fit group) enough.1 next.1 is.1,
+    )
+
+-- and where they agree as far back as the steps look
+pub true-agree : (n : ℕ) (coins : ℕ → Bool) (strings : ℕ → Option (List Letter)) (m : ℕ) (xs : List Step) (a b : Point) → looks_too_far m xs ≡ false
+    → AgreeBack n m a b → AreTrue n coins strings xs a → AreTrue n coins strings xs b
+true-agree n coins strings m [] a b near same is = tt
+true-agree n coins strings m (x ∷ xs) a b near same is = (
+  if-some n (member a.trace) (member b.trace) (measured_by n x) (strings a.coin) (strings b.coin) (ap strings same.coin)
+      (λ q s e. exchanges-same n (member a.trace) (member b.trace) q s same.group e) is.0,
+  true-agree n coins strings (m + makes x) xs (next_point n coins x a) (next_point n coins x b)
+      (or-right (list_any (nat_lt m) (lookbacks x)) (looks_too_far (m + makes x) xs) near)
+      (next-back n m coins a b same x (or-left (list_any (nat_lt m) (lookbacks x)) (looks_too_far (m + makes x) xs) near)) is.1,
+)

@@ -1,0 +1,10 @@
+use Rattle.std.proofs.Common.{arith, subst}
+use Rattle.stab_frames.specs.Walks.{WalkState}
+use Rattle.stab_frames.proofs.StillLemmas.{IsStill, gone-frame}
+use Rattle.stab_frames.proofs.walk.FrameWalk.is_gone.Goals as goal
+
+pub returns-then-self-eq0 : goal.returns-then-self-eq0
+returns-then-self-eq0 c = record {
+  gone = λ le base.
+      gone-frame base c.args.reach c.self.inside.still c.args.self.now (grind (arith, c.self.invariant.0)) (grind (arith, le)) (subst (λ (w : WalkState). IsStill c.self.inside.still w.flips.records) c.self.view_is c.self.invariant.1);
+}

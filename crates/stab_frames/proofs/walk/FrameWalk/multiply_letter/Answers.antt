@@ -1,0 +1,14 @@
+use Rattle.std.proofs.Common.{arith, ◌∙◌, ap, length}
+use Rattle.stab_frames.specs.Walks.{WalkState}
+use Rattle.std.proofs.lemmas.List.{length-set}
+use Rattle.stab_frames.proofs.WalkLemmas.{product-single, read-letter}
+use Rattle.stab_frames.proofs.walk.FrameWalk.multiply_letter.Goals as goal
+
+pub returns : goal.returns
+returns c = record {
+  length = ap (λ (w : WalkState). length w.letters) c.set.ensures.value ∙ length-set c.args.self.now.letters c.args.qubit c.times-product.result;
+  value =
+      c.set.ensures.value
+      ∙ ap (λ w. record c.args.self.now { letters = w })
+      (product-single c.args.self.now.letters c.args.qubit c.args.letter c.times-product.result c.requires.in_range (grind (arith, c.times-product.ensures.value, read-letter c.args.self.now.letters c.args.qubit c.index.result.now)));
+}

@@ -1,0 +1,26 @@
+-- Noted: what a run keeps of a step that it comes to.
+-- Source: this project's own.
+use Rattle.std.specs.Prelude.{◌≡◌, ℕ, Bool, true, false, List, [], ◌∷◌, Option, Some, None}
+use Rattle.stab_pauli.specs.declared.letter.Letter.{Letter}
+use Rattle.stab_pauli.specs.Paulis.{Signed}
+use Rattle.stab_tableau.specs.Rules.{is_free_by}
+use Rattle.stab_tableau.specs.Exchanges.{Exchanges}
+use Rattle.stab_circuit.specs.Steps.{Step}
+use Rattle.stab_frames.specs.StepNotes.{measured_by}
+use Rattle.stab_frames.specs.KeptStrings.{StringsState, kept_with}
+
+-- another string was put behind those that are kept: one that exchanges the outcomes of what is measured
+pub record IsAdded (n : ℕ) (member : Signed → Bool) (m : Signed) (old new : StringsState) : Type 0 where
+  pub string : List Letter
+  pub exchanges : Exchanges n member m string
+  pub strings : new.strings ≡ kept_with old.most old.strings (string ∷ [])
+
+-- where the outcome of what is measured is free, a string is added, and else none
+abbrev pub IsNotedOf : ℕ → (Signed → Bool) → Option Signed → StringsState → StringsState → Type 0
+IsNotedOf n member None old new = new.strings ≡ old.strings
+IsNotedOf n member (Some m) old new =
+    (is_free_by member m ≡ true → IsAdded n member m old new) × (is_free_by member m ≡ false → new.strings ≡ old.strings)
+
+-- so it is of a step
+abbrev pub IsNoted : ℕ → (Signed → Bool) → Step → StringsState → StringsState → Type 0
+IsNoted n member x old new = IsNotedOf n member (measured_by n x) old new

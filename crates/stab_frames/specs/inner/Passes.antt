@@ -1,0 +1,70 @@
+-- Passes: a frame on its way over one step, and what it must know of a measurement.
+-- Source: this project's own.
+use Rattle.std.specs.Prelude.{◌≡◌, ℕ, ◌+◌, Bool, true, false, List, [], ◌∷◌, Option, Some, None, IfSome, slice_index_or}
+use Rattle.stab_pauli.specs.declared.letter.Letter.{Letter}
+use Rattle.stab_pauli.specs.declared.letter.Letter.TheVariants.{I}
+use Rattle.stab_pauli.specs.Letters.{◌⊕◌, letters_anticommute}
+use Rattle.stab_pauli.specs.Paulis.{strings_anticommute}
+use Rattle.stab_tableau.specs.Gates.{letter_at}
+use Rattle.stab_lines.specs.declared.product.Factor.{Factor}
+use Rattle.stab_lines.specs.Axes.{letter_of}
+use Rattle.stab_circuit.specs.Steps.{Step}
+use Rattle.stab_run.specs.Points.{RunOutput, nothing, joined, coins_of}
+use Rattle.stab_frames.specs.Frames.{Frame, times_where}
+use Rattle.stab_frames.specs.Notes.{same_coins}
+use Rattle.stab_frames.specs.FrameSteps.{letters_after, flips_given, frame_after}
+use Rattle.stab_frames.specs.StepNotes.{measured_by}
+use Rattle.stab_frames.specs.KeptStrings.{note_at}
+use Rattle.stab_frames.specs.Walks.{WalkState, frame_at}
+
+-- the letter, or I where the bit is 0
+abbrev pub letter_where : Bool → Letter → Letter
+letter_where true l = l
+letter_where false l = I
+
+-- whether a string anticommutes with a product, by its factors one after another
+abbrev pub factors_anticommute : List Letter → List Factor → Bool
+factors_anticommute f [] = false
+factors_anticommute f (x ∷ xs) = letters_anticommute (letter_at f x.qubit) (letter_of x.letter) ⊕ factors_anticommute f xs
+
+-- whether an outcome is flipped, by the note of it and whether the frame anticommutes with what is measured, where the coins are the same
+abbrev pub flip_by : Option (List Letter) → Bool → Bool
+flip_by None apart = apart
+flip_by (Some s) apart = false
+
+-- and the frame's letters behind it
+abbrev pub letters_for : Option (List Letter) → Bool → List Letter → List Letter
+letters_for None apart f = f
+letters_for (Some s) apart f = times_where apart s f
+
+-- what is flipped by one that gives no record
+abbrev pub one_coin : RunOutput
+one_coin = record nothing { free = false ∷ [] }
+
+-- over the outcome of something with which the frame anticommutes or not, which is flipped or not
+pub record IsPassed (strings : ℕ → Option (List Letter)) (apart flip : Bool) (old new : WalkState) : Type 0 where
+  pub outcome : flip ≡ flip_by (strings old.coin) apart
+  pub letters : new.letters ≡ letters_for (strings old.coin) apart old.letters
+  pub flips : new.flips ≡ joined old.flips one_coin
+  pub coin : new.coin ≡ old.coin + 1
+
+-- over one step
+pub record Passes (n : ℕ) (strings : ℕ → Option (List Letter)) (x : Step) (old new : WalkState) : Type 0 where
+  pub letters : new.letters ≡ letters_after n (same_coins strings) x old.coin (frame_at 0 old)
+  pub flips : new.flips ≡ joined old.flips (flips_given n (same_coins strings) x old.coin (frame_at 0 old))
+  pub coin : new.coin ≡ old.coin + coins_of x
+
+-- where the frame anticommutes with what is measured, its string was kept, or its outcome was fixed
+abbrev pub IsToldBy : List (List Letter) → List Bool → ℕ → Bool → Type 0
+IsToldBy strings free coin apart = apart ≡ true → note_at strings free coin ≡ None → slice_index_or free coin false ≡ false
+
+-- so it is at a step
+abbrev pub IsTold : ℕ → List (List Letter) → List Bool → Step → ℕ → List Letter → Type 0
+IsTold n strings free x coin f = IfSome (measured_by n x) (λ m. IsToldBy strings free coin (strings_anticommute f m.letters))
+
+-- and at steps
+abbrev pub AreTold : ℕ → List (List Letter) → List Bool → List Step → ℕ → Frame → Type 0
+AreTold n strings free [] coin f = Unit {0}
+AreTold n strings free (x ∷ xs) coin f =
+    IsTold n strings free x coin f.letters
+    × AreTold n strings free xs (coin + coins_of x) (frame_after n (same_coins (note_at strings free)) x coin f)

@@ -1,0 +1,54 @@
+use Rattle.std.proofs.Common.{◌<◌, ◌≤◌, ◌∙◌, refl, sym, length, arith}
+use Rattle.std.proofs.lemmas.List.{length-set, length-replicate, get_or-set_other}
+use Rattle.stab_pauli.specs.declared.letter.Letter.TheVariants.{I, Z}
+use Rattle.stab_pauli.proofs.SignedLemmas.{signed_path}
+use Rattle.stab_tableau.specs.Gates.{letter_at}
+use Rattle.stab_tableau.specs.inner.InverseRows.{rows_at}
+use Rattle.stab_tableau.specs.inner.ColumnLetters.{letter_anticommuting}
+use Rattle.stab_tableau.proofs.PlaceLemmas.{get_or-blank}
+use Rattle.stab_tableau.proofs.TableauColumnLemmas.{column-more, column-all, x-with_Z}
+use Rattle.stab_tableau.proofs.rows.write_stabiliser_letters.Goals as goal
+
+pub loop-qubit-init : goal.loop-qubit-init
+loop-qubit-init c =
+    rw c.clear.ensures.value
+    (record {
+      size = length-replicate (length c.args.out.now.letters) I ∙ c.requires.out_length;
+      sign = refl;
+      done = λ q lt. absurd (omega arith);
+      blank = λ q le. get_or-blank (length c.args.out.now.letters) q;
+    })
+
+pub put_letter_where-requires : goal.put_letter_where-requires
+put_letter_where-requires c = record {
+  in_range = (let lt = c.loop-qubit-test.true in let e = c.len-qubit-end.ensures.value in let s = c.loop-qubit.invariant.size in omega arith);
+  blank = c.loop-qubit.invariant.blank c.loop-qubit.qubit (omega arith);
+}
+
+pub loop-qubit-preserved : goal.loop-qubit-preserved
+loop-qubit-preserved c =
+    let below : c.loop-qubit.qubit < length c.args.table.now = (let lt = c.loop-qubit-test.true in let e = c.len-qubit-end.ensures.value in omega arith) in
+    let letter = letter_anticommuting c.has_x-x.result c.has_x-z.result in
+    rw c.put_letter_where.ensures.value
+    (record {
+      size = length-set c.loop-qubit.out.letters c.loop-qubit.qubit letter ∙ c.loop-qubit.invariant.size;
+      sign = c.loop-qubit.invariant.sign;
+      done = column-more Z c.args.k c.loop-qubit.qubit c.args.table.now c.loop-qubit.out.letters letter
+          c.loop-qubit.invariant.size below
+          (λ i. letter_anticommuting
+          ((c.has_x-x.ensures.value ∙ sym (x-with_Z (letter_at (rows_at c.args.table.now c.loop-qubit.qubit).x.letters c.args.k))) i)
+          ((c.has_x-z.ensures.value ∙ sym (x-with_Z (letter_at (rows_at c.args.table.now c.loop-qubit.qubit).z.letters c.args.k))) i))
+          c.loop-qubit.invariant.done;
+      blank = λ q le.
+          get_or-set_other c.loop-qubit.out.letters c.loop-qubit.qubit q letter I (omega arith)
+          ∙ c.loop-qubit.invariant.blank q (omega arith);
+    })
+
+pub returns : goal.returns
+returns c =
+    let past : length c.args.table.now ≤ c.loop-qubit.qubit = (let le = c.loop-qubit-test.false in let e = c.len-qubit-end.ensures.value in omega arith) in
+    record {
+      value = signed_path _ _ c.loop-qubit.invariant.sign
+          (column-all Z c.args.k c.loop-qubit.qubit c.args.table.now c.loop-qubit.out.letters c.loop-qubit.invariant.size
+          past c.loop-qubit.invariant.done);
+    }
