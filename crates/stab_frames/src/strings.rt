@@ -102,13 +102,6 @@ impl KeptStrings {
         self.most = self.strings.len();
     }
 
-    /// Keeps no more than these.
-    pub fn close(&mut self)
-        ensures value { self.new ≡ record self.old { most = length self.old.strings } }
-    {
-        self.most = self.strings.len();
-    }
-
     /// Puts copies of others behind these, from the one with this number on, as far as there may be
     /// as many.
     ///
