@@ -9,13 +9,13 @@ _stabsim() {
         return
         ;;
     --out_format) choices="01 b8 r8 hits dets" ;;
-    --shots | --seed | --coins | --qubits | --stride) return ;;
+    --shots | --first_shot | --seed | --coins | --qubits | --stride) return ;;
     *)
         case $command in
-        sample) choices="--shots --out_format --seed --coins --coins_in --in --out --help" ;;
-        detect) choices="--shots --out_format --seed --coins --coins_in --in --out --append_observables --help" ;;
+        sample) choices="--shots --first_shot --out_format --seed --coins --coins_in --in --out --help" ;;
+        detect) choices="--shots --first_shot --out_format --seed --coins --coins_in --in --out --append_observables --help" ;;
         stabilisers | stabilizers) choices="--seed --coins --coins_in --in --out --help" ;;
-        edit) choices="--qubits --stride --seed --coins --coins_in --in --out --help" ;;
+        edit) choices="--framed --qubits --stride --seed --coins --coins_in --in --out --help" ;;
         check) choices="--in --out --help" ;;
         deterministic) choices="--out_format --in --out --help" ;;
         faults) choices="--out_format --everywhere --sure_only --in --out --help" ;;

@@ -1,10 +1,11 @@
 #!/bin/sh
-# Times the tableau, reading, whole runs, edits and tables of faults of circuits that tools/circuits.py makes in a temporary
+# Times the tableau, reading, whole runs, edits and tables of faults of circuits that stabsim.codes of python/ makes in a temporary
 # folder, by the program of crates/bench, which is proved and built first, for this processor.
 # docs/benchmarks.md says what is printed. It takes about a minute on a machine that does nothing else.
 set -eu
 tools=$(CDPATH='' cd -- "$(dirname -- "$0")" && pwd)
 bench=$tools/../crates/bench
+export PYTHONPATH="$tools/../python" PYTHONDONTWRITEBYTECODE=1
 
 folder=$(mktemp -d)
 trap 'rm -rf "$folder"' EXIT
@@ -22,25 +23,25 @@ if ! (cd "$bench" && rt run $cpu) </dev/null >"$folder/log" 2>&1; then
 fi
 
 for distance in 3 7 13 21; do
-    python3 "$tools/circuits.py" surface_code --distance "$distance" --deepest \
+    python3 -m stabsim.codes surface_code --distance "$distance" --deepest \
         >"$folder/surface_code_$distance.stim"
 done
 for distance in 7 13 21; do
-    python3 "$tools/circuits.py" surface_code --distance "$distance" --deepest --written-out \
+    python3 -m stabsim.codes surface_code --distance "$distance" --deepest --written-out \
         >"$folder/surface_code_${distance}_written_out.stim"
 done
 # Written out, so that a session can put a fault into one round alone.
 for distance in 7 21; do
-    python3 "$tools/circuits.py" surface_code --distance "$distance" --rounds "$distance" --written-out \
+    python3 -m stabsim.codes surface_code --distance "$distance" --rounds "$distance" --written-out \
         >"$folder/surface_code_${distance}_rounds_$distance.stim"
 done
 for distance in 7 21; do
-    python3 "$tools/circuits.py" colour_code --distance "$distance" --deepest \
+    python3 -m stabsim.codes colour_code --distance "$distance" --deepest \
         >"$folder/colour_code_$distance.stim"
-    python3 "$tools/circuits.py" bacon_shor --distance "$distance" --deepest \
+    python3 -m stabsim.codes bacon_shor_code --distance "$distance" --deepest \
         >"$folder/bacon_shor_$distance.stim"
 done
-python3 "$tools/circuits.py" dense --qubits 1024 --steps 1048576 --seed 1 >"$folder/dense_1024.stim"
+python3 -m stabsim.codes dense_circuit --qubits 1024 --steps 1048576 --seed 1 >"$folder/dense_1024.stim"
 
 "$bench/out/bench" measure
 cd "$folder"

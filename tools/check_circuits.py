@@ -1,7 +1,7 @@
 #!/usr/bin/env python3
-"""Checks the circuits of tools/circuits.py, and circuits in files, with a small simulator of its own.
+"""Checks the circuits of stabsim.codes in python/, and circuits in files, with a small simulator of its own.
 
-    python3 tools/check_circuits.py                              the generator's circuits
+    python3 tools/check_circuits.py                              the package's circuits
     python3 tools/check_circuits.py examples/surface_code.stim   circuits in files
 
 Of a memory experiment it checks that each detector and the observable is 0 whatever the outcomes
@@ -13,13 +13,17 @@ distances. Stim was not at hand, so nothing was compared with what Stim prints o
 
 The simulator keeps stabilisers and destabilisers (Aaronson and Gottesman 2004). A free outcome is
 a new unknown, so that signs and outcomes are sums of unknowns, and a detector is deterministic
-exactly where no unknown is left in its parity. It knows what circuits.py prints and all instructions
+exactly where no unknown is left in its parity. It knows what the package makes and all instructions
 of stabsim by the first of their names; blocks are written out.
 """
+import pathlib
 import re
 import sys
 
-import circuits
+sys.path.insert(0, str(pathlib.Path(__file__).resolve().parent.parent / "python"))
+
+from stabsim import codes  # noqa: E402
+from stabsim.codes import surface  # noqa: E402
 
 LINE = re.compile(r"(\w+)(?:\(([^)]*)\))?((?: [^ ]+)*)")
 
@@ -202,7 +206,7 @@ class Run:
 
     def step(self, name, argument, targets):
         qubits = qubits_of(name, targets)
-        assert all(qubit < circuits.MOST_QUBITS for qubit in qubits)
+        assert all(qubit < codes.MOST_QUBITS for qubit in qubits)
         if name in ("DETECTOR", "OBSERVABLE_INCLUDE"):
             self.steps += 1
             parity = added(self.record(target) for target in targets)
@@ -286,7 +290,7 @@ def told_of(text):
 
 def counts_are_told(text, ran):
     """The first line tells the steps and the records that there are."""
-    return told_of(text) == (ran.steps, len(ran.records)) and ran.steps <= circuits.MOST_STEPS
+    return told_of(text) == (ran.steps, len(ran.records)) and ran.steps <= codes.MOST_STEPS
 
 
 def check_simulator():
@@ -328,43 +332,42 @@ def check_memories():
     for distance, rounds in [(2, 2), (3, 1), (3, 4), (4, 3), (5, 2), (7, 3)]:
         # The checks of Z speak at the start and at the end too; they are half of all, rounded down.
         checks = distance**2 - 1
-        text = circuits.surface_code(distance).text(rounds)
+        text = codes.surface_code(distance, rounds)
         right &= check_memory(text, checks // 2 + checks * (rounds - 1) + checks // 2)
-        text = circuits.repetition_code(distance).text(rounds)
+        text = codes.repetition_code(distance, rounds)
         right &= check_memory(text, (distance - 1) * (rounds + 1))
         # Of each letter there is a check for each gap, and those of Z speak at the start and at the end too.
-        text = circuits.bacon_shor(distance).text(rounds)
+        text = codes.bacon_shor_code(distance, rounds)
         right &= check_memory(text, (distance - 1) * 2 * rounds)
     for distance in (3, 4):
-        code = circuits.SurfaceCode(distance)
+        code = surface.SurfaceCode(distance, surface.ORDERS)
         side = [code.number[place] for place in code.data if place[0] == 1]
-        right &= check_errors(circuits.surface_code(distance), code.numbers(code.data), side)
+        right &= check_errors(codes.memory("surface_code", distance), code.numbers(code.data), side)
         data = list(range(0, 2 * distance, 2))
-        right &= check_errors(circuits.repetition_code(distance), data, data)
+        right &= check_errors(codes.memory("repetition_code", distance), data, data)
         across = list(range(distance))
-        right &= check_errors(circuits.bacon_shor(distance), range(distance**2), across)
+        right &= check_errors(codes.memory("bacon_shor_code", distance), range(distance**2), across)
     for distance, rounds in [(3, 1), (3, 4), (5, 2), (7, 2)]:
         # There are (3 d^2 - 3) / 8 faces, with two checks each.
         faces = (3 * distance**2 - 3) // 8
-        right &= check_memory(circuits.colour_code(distance).text(rounds), 2 * faces * rounds)
+        right &= check_memory(codes.colour_code(distance, rounds), 2 * faces * rounds)
     for distance in (3, 5):
         qubits, bottom = (3 * distance**2 + 1) // 4, list(range(distance))
-        right &= check_errors(circuits.colour_code(distance), range(qubits), bottom, most=3)
-    surface_codes = [circuits.surface_code(distance) for distance in (3, circuits.MOST_DISTANCE)]
-    products = [circuits.colour_code(circuits.MOST_COLOUR_DISTANCE)]
-    products.append(circuits.bacon_shor(circuits.MOST_BACON_SHOR_DISTANCE))
-    for memory in surface_codes + products + [circuits.repetition_code(3)]:
+        right &= check_errors(codes.memory("colour_code", distance), range(qubits), bottom, most=3)
+    deepest = [("surface_code", 3), ("repetition_code", 3)] + [(name, most) for name, most in codes.MOST_DISTANCES.items() if name != "repetition_code"]
+    for memory in (codes.memory(*it) for it in deepest):
         right &= check_deepest(memory)
     # An error of a measured qubit halfway through its check spreads to the last two qubits that it
     # meets. They lie side by side across the logical operator of their kind.
-    across = circuits.X_ORDER[2][1] == circuits.X_ORDER[3][1] and circuits.Z_ORDER[2][0] == circuits.Z_ORDER[3][0]
+    x_order, z_order = surface.ORDERS["X"], surface.ORDERS["Z"]
+    across = x_order[2][1] == x_order[3][1] and z_order[2][0] == z_order[3][0]
     return right & say("errors of measured qubits spread across the surface code", across)
 
 
 def check_dense():
     right = True
     for qubits, steps, seed in [(2, 100, 0), (5, 301, 1), (16, 1000, 2)]:
-        text = circuits.dense(qubits, steps, seed)
+        text = codes.dense_circuit(qubits, steps, seed)
         ran = run(text)
         right &= say(text.split("\n")[0], counts_are_told(text, ran) and ran.steps == steps)
     return right
@@ -389,7 +392,7 @@ def check_errors(memory, data, side, most=2):
 
     def flipped(qubits):
         """The detectors that are 1, and how many observables are."""
-        ran = run("\n".join(lines[:place] + [circuits.words("X", qubits)] + lines[place:]))
+        ran = run("\n".join(lines[:place] + [" ".join(["X", *map(str, qubits)])] + lines[place:]))
         assert all(unknowns == 0 for _, unknowns in ran.detectors + list(ran.observables.values()))
         detectors = [i for i, (known, _) in enumerate(ran.detectors) if known]
         return detectors, sum(known for known, _ in ran.observables.values())
@@ -402,7 +405,8 @@ def check_errors(memory, data, side, most=2):
 def check_deepest(memory):
     """The deepest circuit fits, and with one round more it would not."""
     rounds = memory.deepest()
-    fits = told_of(memory.text(rounds))[0] <= circuits.MOST_STEPS < told_of(memory.text(rounds + 1))[0]
+    steps = told_of(memory.text(rounds))[0]
+    fits = steps <= codes.MOST_STEPS < steps + memory.body.steps
     return say(f"deepest: {memory.title}, {rounds} rounds", fits)
 
 

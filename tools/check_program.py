@@ -3,7 +3,7 @@
 
     tools/check_program.py [--seconds 20] [FILE ...]
 
-It takes the circuits in files, or those in examples/ and one of each code of tools/circuits.py, and then dense random ones for some
+It takes the circuits in files, or those in examples/ and one of each code of stabsim.codes in python/, and then dense random ones for some
 seconds. Each is run with random coins. The simulator says which coin numbers decide, and each record, detector and observable as a
 sum of these coins: `edit`, `sample` and `detect` have to give the same bits. A detector or observable in whose sum there is no coin is
 sure, as `deterministic` has to say; and some lines of `faults --everywhere` are compared with a run that has the fault in it. It prints how many circuits agreed, and ends with 1
@@ -18,16 +18,19 @@ import tempfile
 import time
 
 import check_circuits
-import circuits
+
+# check_circuits has put the package where it is found.
+from stabsim import codes
 
 TOP = pathlib.Path(__file__).resolve().parent.parent
 PROGRAM = TOP / "crates" / "stabsim" / "out" / "stabsim"
 TIME_LIMIT = 60
-CODES = {
-    "surface code": circuits.surface_code(3), "repetition code": circuits.repetition_code(5),
-    "colour code": circuits.colour_code(5), "Bacon-Shor code": circuits.bacon_shor(3),
-}
 ROUNDS = 3
+CODES = {
+    "surface code": codes.surface_code(3, ROUNDS), "logical X of the surface code": codes.surface_code(3, ROUNDS, basis="X"),
+    "repetition code": codes.repetition_code(5, ROUNDS), "colour code": codes.colour_code(5, ROUNDS),
+    "Bacon-Shor code": codes.bacon_shor_code(3, ROUNDS), "Steane code": codes.steane_code(ROUNDS),
+}
 # How many faults of a circuit are looked at.
 MOST_FAULTS = 4
 
@@ -156,14 +159,10 @@ def faults_agree(name, ran, items, dice, file):
     return True
 
 
-def codes():
-    return [(name, code.text(ROUNDS)) for name, code in CODES.items()]
-
-
 def dense(dice):
     qubits = dice.randint(2, 24)
     seed = dice.randrange(2**32)
-    return f"dense, {qubits} qubits, seed {seed}", circuits.dense(qubits, dice.randint(20, 900), seed)
+    return f"dense, {qubits} qubits, seed {seed}", codes.dense_circuit(qubits, dice.randint(20, 900), seed)
 
 
 def main():
@@ -176,7 +175,7 @@ def main():
     named = [(str(file), pathlib.Path(file).read_text(encoding="utf-8")) for file in files]
     dice = random.Random(asked.seed)
     with tempfile.TemporaryDirectory() as folder:
-        right = [agrees(name, text, dice, folder) for name, text in named + ([] if asked.files else codes())]
+        right = [agrees(name, text, dice, folder) for name, text in named + ([] if asked.files else list(CODES.items()))]
         end = time.monotonic() + (0 if asked.files else asked.seconds)
         while time.monotonic() < end:
             right.append(agrees(*dense(dice), dice, folder))

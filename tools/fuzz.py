@@ -106,7 +106,7 @@ def session_of(items, settings):
     qubits = numbers.qubits(items) if settings["qubits"] is None else settings["qubits"]
     if numbers.qubits(items) > qubits:
         raise Refused(6)
-    return SmallSession(items, qubits, lambda steps: coins_of(settings, 0, steps))
+    return SmallSession(items, qubits, lambda steps: coins_of(settings, 0, steps), settings["framed"])
 
 
 def expected(case):
@@ -147,7 +147,9 @@ def expected_shots(case, items):
     steps = numbers.summary(items)[0]
     if n > MOST_QUBITS or steps > MOST_STEPS:
         raise TooLarge
-    return 0, b"".join(shot_of(case, items, n, steps, shot) for shot in range(case.settings["shots"])), b""
+    first = case.settings.get("first_shot") or 0
+    shots = range(first, first + case.settings["shots"])
+    return 0, b"".join(shot_of(case, items, n, steps, shot) for shot in shots), b""
 
 
 def shot_of(case, items, n, steps, shot):
@@ -164,11 +166,14 @@ def shot_of(case, items, n, steps, shot):
 
 def settings_of(dice):
     coins = "".join(dice.choice("01") for _ in range(dice.randint(0, 12))) if dice.random() < 0.6 else None
+    # A first shot is one of a seed, and not beside coins.
+    first_shot = dice.choice((None, 0, 1, 63, 2**32 - 2, 2**64 - 5, dice.randrange(2**64 - 5))) if coins is None else None
     return {
         "coins": coins, "seed": dice.choice((0, 1, dice.randrange(2**64))), "shots": dice.choice((0, 1, 1, 1, 2, 5)),
+        "first_shot": first_shot,
         "format": dice.choice(formats.FORMATS), "append": dice.random() < 0.5,
         "qubits": dice.choice((None, None, 0, 1, 2, 3, 4)), "stride": dice.choice((1, 1, 2, 3, 7, 8192, 65536)),
-        "in_shots": dice.random() < 0.3, "everywhere": dice.random() < 0.6, "sure_only": dice.random() < 0.6,
+        "framed": dice.random() < 0.5, "in_shots": dice.random() < 0.3, "everywhere": dice.random() < 0.6, "sure_only": dice.random() < 0.6,
     }
 
 
@@ -189,10 +194,11 @@ def words_of(kind, settings):
         words += ["--coins", settings["coins"]]
     if kind in ("sample", "detect"):
         words += ["--shots", str(settings["shots"]), "--out_format", settings["format"]]
+        words += [] if settings["first_shot"] is None else ["--first_shot", str(settings["first_shot"])]
     if kind == "detect" and settings["append"]:
         words.append("--append_observables")
     if kind == "edit":
-        words += ["--stride", str(settings["stride"])]
+        words += ["--stride", str(settings["stride"]), *(["--framed"] if settings["framed"] else [])]
         words += [] if settings["qubits"] is None else ["--qubits", str(settings["qubits"])]
     return words
 
@@ -203,7 +209,7 @@ def command_case(dice, kinds, text):
     kind = dice.choice([kind for kind in kinds if kind not in few])
     settings = settings_of(dice)
     if kind == "stabilisers":
-        settings["shots"] = 1
+        settings["shots"], settings["first_shot"] = 1, None
     return Case(kind, words_of(kind, settings), text, settings)
 
 

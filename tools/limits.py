@@ -17,6 +17,10 @@ import sys
 import tempfile
 
 TOP = pathlib.Path(__file__).resolve().parent.parent
+sys.path.insert(0, str(TOP / "python"))
+
+from stabsim import codes  # noqa: E402
+
 PROGRAM = TOP / "crates" / "stabsim" / "out" / "stabsim"
 MOST_BYTES = 16_777_216
 MOST_DEPTH = 16
@@ -57,8 +61,7 @@ def comments(length):
 
 def plain(length):
     """A surface code written out: its first lines, as many as fit."""
-    made = subprocess.run([sys.executable, str(TOP / "tools" / "circuits.py"), "surface_code", "--distance", "21", "--deepest", "--written-out"],
-                          check=True, capture_output=True).stdout
+    made = codes.surface_code(21, codes.deepest("surface_code", 21), written_out=True).encode()
     return made[:made.rindex(b"\n", 0, length) + 1]
 
 

@@ -20,6 +20,8 @@ tools/fuzz.py --faults --seconds 8
 tools/refuse.sh
 tools/try_files.py
 tools/try_drive.sh
+tools/try_scaling.sh
+tools/try_python.sh
 tools/try_docs.sh
 tools/try_first_look.sh'
 

@@ -5,6 +5,7 @@ from .reading import Block
 from .scripts import Script
 
 SHOWN = ("measurements", "free", "detectors", "observables", "stabilisers", "circuit")
+FRAMED = ("mark", "show numbers", "show changed", "show changed", "show changed records", "show sign", "show item")
 
 
 def path_to(random, items, past_end):
@@ -46,12 +47,38 @@ def spoilt(random, line):
     return random.choice((line + " 0", line.upper(), line[1:], "  " + line + "\t# why", line.replace(" ", "  ", 1), ""))
 
 
+def string_word(random, qubits):
+    """A Pauli string for a session, by its letters or as a product, and sometimes one that is none."""
+    sign = random.choice(("", "", "+", "-"))
+    if random.random() < 0.4:
+        return sign + "".join(random.choice("IXYZ_") for _ in range(qubits + (random.random() < 0.05)))
+    places = random.sample(range(qubits + 1), random.randint(1, min(3, qubits + 1)))
+    if random.random() < 0.9:
+        places = [place for place in places if place < qubits] or [0]
+    return sign + "*".join(random.choice(("", "", "", "!")) + random.choice("XYZ") + str(place) for place in places)
+
+
+def framed_line(random, session):
+    """A line that only a framed script has."""
+    line = random.choice(FRAMED)
+    if line == "show sign":
+        return f"{line} {string_word(random, session.qubits)}"
+    return f"{line} {path_to(random, session.items, False)}" if line == "show item" else line
+
+
+def lines_that_show(random, session):
+    """A line that shows something; in a script that is not framed seldom one that only a framed one has."""
+    if random.random() < (0.6 if session.framed else 0.05):
+        return [framed_line(random, session)]
+    return ["show " + random.choice(SHOWN)]
+
+
 def script(random, session):
     """A script for a session, which is played on the way so that its lines suit what they meet."""
     played = Script(session)
     lines = []
-    for _ in range(random.randint(1, 12)):
-        more = edit_lines(random, session) if random.random() < 0.6 else ["show " + random.choice(SHOWN)]
+    for _ in range(random.randint(100, 300) if session.framed and random.random() < 0.05 else random.randint(1, 12)):
+        more = edit_lines(random, session) if random.random() < 0.6 else lines_that_show(random, session)
         if random.random() < 0.06:
             more[0] = spoilt(random, more[0])
         lines += more

@@ -3,7 +3,7 @@
 import copy
 
 from . import formats, numbers, printing, states
-from .reading import MOST_BYTES, MOST_DEPTH, REFUSALS, SPACING, Block, Refused, content_of, is_digits, item_of
+from .reading import MOST_BYTES, MOST_DEPTH, REFUSALS, SPACING, Block, Refused, content_of, is_digits, item_of, product_of
 
 MOST_LINE = 65_536
 MOST_PLACE_DIGITS = 18
@@ -47,22 +47,70 @@ def edited(items, path, change):
     return items[:place] + put + items[place + (kind != "insert"):]
 
 
-class Session:
-    """The items between two lines of a script, and what the lines so far were replied."""
+def item_at(items, path):
+    """The item at a path: 12 and 17 along it."""
+    place, inner = path[0], path[1:]
+    if place >= len(items):
+        raise Refused(12)
+    if not inner:
+        return items[place]
+    if not isinstance(items[place], Block):
+        raise Refused(17)
+    return item_at(items[place].body, inner)
 
-    def __init__(self, items, qubits, coins):
+
+def string_of_word(word, qubits):
+    """A signed string by its letters, or by a product as MPP has it."""
+    bare = word[1:] if word[:1] in (b"+", b"-") else word
+    negative = word[:1] == b"-"
+    if all(byte in b"I_XYZ" for byte in bare):
+        if len(bare) != qubits:
+            raise Refused(3)
+        return negative, tuple(bare.decode().replace("_", "I"))
+    factors = product_of(bare)
+    if any(qubit >= qubits for _, qubit, _ in factors):
+        raise Refused(6)
+    letters = ["I"] * qubits
+    for letter, qubit, inverted in factors:
+        letters[qubit] = letter
+        negative ^= inverted
+    return negative, tuple(letters)
+
+
+def changed_places(old, new):
+    return [place for place, (before, after) in enumerate(zip(old, new)) if before != after]
+
+
+def count_lines(*kinds):
+    """A line for each kind of which there are more or fewer bits than there were."""
+    return "".join(f"{name} {len(old)} {len(new)}\n" for name, old, new in kinds if len(old) != len(new))
+
+
+class Session:
+    """The items between two lines of a script, and what the lines so far were replied.
+
+    A framed one keeps the bits at the mark too; the first mark is at the opening.
+    """
+
+    def __init__(self, items, qubits, coins, framed=False):
         self.items = items
         self.qubits = qubits
         self.coins = coins
+        self.framed = framed
         self.replies = []
         self.refused = False
+        if framed:
+            self.mark = self.run()
+            self.replies.append(b"ready 1 " + self.numbers())
 
     def reply(self, text):
-        self.replies.append(text)
+        """A reply that is no refusal, with its number of lines before it where it is framed."""
+        lines = text.count(b"\n")
+        self.replies.append(b"ok %d\n%b" % (lines, text) if self.framed else text)
 
     def refuse(self, refused):
         self.refused = True
-        self.reply(f"refused {refused.number} {REFUSALS[refused.number]}\n".encode())
+        self.replies.append(f"refused {refused.number} {REFUSALS[refused.number]}\n".encode())
 
     def change(self, path, kind, item):
         """Edits the items, unless something refuses it."""
@@ -73,7 +121,7 @@ class Session:
             raise Refused(6)
         numbers.check(after)
         self.items = after
-        self.reply(b"ok\n")
+        self.reply(b"" if self.framed else b"ok\n")
 
     def put(self, kind, path, text):
         if len(text) > MOST_BYTES:
@@ -93,8 +141,56 @@ class Session:
             run = self.run()
             bits = {b"measurements": run.records, b"free": run.free, b"detectors": run.detectors, b"observables": run.observables}
             self.reply(formats.shot("01", bits[what]))
+        elif self.framed:
+            self.show_framed(*first_word(what))
         else:
             raise Refused(13)
+
+    def numbers(self):
+        run = self.run()
+        shown = (self.qubits, numbers.summary(self.items)[0], len(run.records), len(run.detectors), len(run.observables))
+        return " ".join(map(str, shown)).encode() + b"\n"
+
+    def set_mark(self, rest):
+        if rest or not self.framed:
+            raise Refused(13)
+        self.mark = self.run()
+        self.reply(b"")
+
+    def show_framed(self, word, rest):
+        """What only a framed script is shown."""
+        operand, more = first_word(rest)
+        if word == b"numbers" and not rest:
+            self.reply(self.numbers())
+        elif word == b"changed" and rest in (b"", b"records"):
+            self.show_changed(rest == b"records")
+        elif word == b"sign" and operand and not more:
+            self.show_sign(operand)
+        elif word == b"item":
+            path = place_of(operand)
+            if more:
+                raise Refused(13)
+            self.reply(printing.printed([item_at(self.items, path)]))
+        else:
+            raise Refused(13)
+
+    def show_changed(self, records):
+        """The bits that differ from those at the mark, and the numbers of bits that do."""
+        old, new = self.mark, self.run()
+        if records:
+            names = [f"M{place}" for place in changed_places(old.records, new.records)]
+            counts = count_lines(("records", old.records, new.records))
+        else:
+            names = [f"D{place}" for place in changed_places(old.detectors, new.detectors)]
+            names += [f"L{place}" for place in changed_places(old.observables, new.observables)]
+            counts = count_lines(("detectors", old.detectors, new.detectors), ("observables", old.observables, new.observables))
+        self.reply((" ".join(names) + "\n" + counts).encode())
+
+    def show_sign(self, word):
+        negative, letters = string_of_word(word, self.qubits)
+        state = self.run().state
+        signs = [sign for sign, minus in ((b"+\n", False), (b"-\n", True)) if state.stabilises((negative ^ minus, letters))]
+        self.reply(signs[0] if signs else b"0\n")
 
 
 class Script:
@@ -137,6 +233,8 @@ class Script:
             self.session.change(path, "delete", None)
         elif word == b"show":
             self.session.show(rest)
+        elif word == b"mark":
+            self.session.set_mark(rest)
         else:
             raise Refused(13)
 

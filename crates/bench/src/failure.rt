@@ -10,8 +10,8 @@ pub enum Failure {
     Words,
     #[error("the system gave no time or took no text")]
     System(#[from] io::Error),
-    #[error("{0} was not read")]
-    File(String),
+    #[error("a file was not read")]
+    File,
     #[error(transparent)]
     Refused(#[from] Refusal),
     #[error("memory was refused")]

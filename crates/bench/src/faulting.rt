@@ -1,6 +1,6 @@
 //! Tables of all faults everywhere, each beside a session that is asked for some of them by edits.
 use super::failure::Failure;
-use super::{reading, replaying, running};
+use super::{replaying, running};
 use stab_circuit::{Circuit, Item, Path, read_item};
 use stab_regions::faults;
 use stab_session::{Edit, SeedCoins, Session};
@@ -22,6 +22,15 @@ struct Table {
     time: Duration,
 }
 
+/// What a line of the output tells of a circuit: its steps, its table of faults, and the processor time in
+/// which a session answers what some faults flip.
+#[derive(Clone, Copy)]
+struct Measured {
+    steps: usize,
+    table: Table,
+    asked: Duration,
+}
+
 /// Prints a line for the circuit in each of these files: how many faults there are everywhere, what a
 /// table of all takes, and what a session would take that puts each in, looks and takes it out again.
 pub fn print_table<R: CpuClock + Files + AllocGlobal + Print>(
@@ -32,21 +41,19 @@ pub fn print_table<R: CpuClock + Files + AllocGlobal + Print>(
         "    steps   faults   table ms  us a fault  us by edits  all by edits ms     faster  circuit"
     )?;
     for path in paths {
-        print_line(rt, path.as_str())?;
+        let circuit = running::circuit_of_file(rt, path.as_str())?;
+        print_line(rt, measure(rt, circuit)?, path.as_str())?;
     }
     Ok(())
 }
 
-/// Prints the line of the circuit in a file.
-fn print_line<R: CpuClock + Files + AllocGlobal + Print>(
-    rt: &R,
-    path: &str,
-) -> Result<(), Failure> {
-    let text = running::text_of_file(rt, path)?;
-    let circuit = reading::circuit_of_text(rt.alloc(), text.as_slice())?;
-    let steps = circuit.steps();
-    let Table { faults, time } = best_table(rt, &circuit)?;
-    let asked = time_of_asking(rt, circuit)?;
+/// Prints what was measured of the circuit in a file.
+fn print_line<R: Print>(rt: &R, measured: Measured, path: &str) -> Result<(), Failure> {
+    let Measured {
+        steps,
+        table: Table { faults, time },
+        asked,
+    } = measured;
     let table = time.as_secs_f64() * 1e3;
     let each = table * 1e3 / nearest_usize_to_f64(faults.max(1));
     let edit = asked.as_secs_f64() * 1e6 / nearest_usize_to_f64(ASKED);
@@ -56,6 +63,18 @@ fn print_line<R: CpuClock + Files + AllocGlobal + Print>(
         edits / table
     )?;
     Ok(())
+}
+
+/// Measures a circuit.
+fn measure<R: CpuClock + AllocGlobal>(rt: &R, circuit: Circuit) -> Result<Measured, Failure> {
+    let steps = circuit.steps();
+    let table = best_table(rt, &circuit)?;
+    let asked = time_of_asking(rt, circuit)?;
+    Ok(Measured {
+        steps,
+        table,
+        asked,
+    })
 }
 
 /// The table of a circuit's faults, by the best of several.
@@ -88,16 +107,38 @@ fn time_of_asking<R: CpuClock + AllocGlobal>(
 ) -> Result<Duration, Failure> {
     let mut session = replaying::opened(rt.alloc(), circuit)?;
     let before = Vec::from_slice(rt.alloc(), session.detectors())?;
+    ask_for_all(rt, &mut session, before.as_slice())
+}
+
+/// The processor time in which a session with these detectors answers what some faults flip.
+fn ask_for_all<R: CpuClock + AllocGlobal>(
+    rt: &R,
+    session: &mut Session<SeedCoins>,
+    before: &[bool],
+) -> Result<Duration, Failure> {
     let apart = session.circuit().items().len() / ASKED;
     let mut time = Duration::ZERO;
     for number in 0..ASKED {
-        let place = apart.saturating_mul(number);
-        let item = letter_item(rt.alloc(), number % session.qubits().max(1))?;
-        let start = rt.thread_cpu_time()?;
-        ask(&mut session, Path::new(&[place]), item, before.as_slice())?;
-        time = time.saturating_add(rt.thread_cpu_time()?.saturating_sub(start));
+        let place = Path::new(&[apart.saturating_mul(number)]);
+        let qubit = number % session.qubits().max(1);
+        let asked = time_of_fault(rt, session, place, qubit, before)?;
+        time = time.saturating_add(asked);
     }
     Ok(time)
+}
+
+/// The processor time in which a session answers what X on a qubit flips.
+fn time_of_fault<R: CpuClock + AllocGlobal>(
+    rt: &R,
+    session: &mut Session<SeedCoins>,
+    place: Path,
+    qubit: usize,
+    before: &[bool],
+) -> Result<Duration, Failure> {
+    let item = letter_item(rt.alloc(), qubit)?;
+    let start = rt.thread_cpu_time()?;
+    ask(session, place, item, before)?;
+    Ok(rt.thread_cpu_time()?.saturating_sub(start))
 }
 
 /// The item that is X on a qubit.

@@ -1,10 +1,11 @@
 //! Comparing the groups of two states, and the reduced rows of one.
-ghost use Rattle.std.specs.Prelude.{◌≡◌, ◌<◌, ◌≤◌, IfOk};
+ghost use Rattle.std.specs.Prelude.{◌≡◌, ◌<◌, ◌≤◌, length, IfOk};
 ghost use Rattle.stab_tableau.specs.Limits.{most_qubits};
 
 use super::failure::Failure;
-use super::{report, state};
-use stab_pauli::{Letter, Refusal};
+use super::report::{Yardsticks, print_line};
+use super::state;
+use stab_pauli::{Letter, Pauli, Refusal};
 use stab_tableau::{Gate, PairGate, Tableau};
 use std::alloc::Global;
 use std::num::nearest_usize_to_f64;
@@ -53,72 +54,68 @@ impl Difference {
 pub fn print_lines<R: CpuClock + AllocGlobal + Print>(
     rt: &R,
     n: usize,
-    xor: f64,
-    cx: f64,
+    yardsticks: Yardsticks,
 ) -> Result<(), Failure>
     requires several { 1 < n }
     requires in_range { n ≤ most_qubits }
 {
-    let mut first = state::scrambled(rt.alloc(), n)?;
     for (difference, name) in Difference::ALL {
-        let time = time_of_difference(rt, &mut first, difference)?;
-        report::print_line(rt, name, time, xor, cx)?;
+        let time = time_of_difference(rt, n, difference)?;
+        print_line(rt, name, time, yardsticks)?;
     }
-    let time = time_of_rows(rt, &mut first)?;
-    report::print_line(rt, "reduced rows", time, xor, cx)
+    let time = time_of_rows(rt, n)?;
+    print_line(rt, "reduced rows", time, yardsticks)
 }
 
 /// How many nanoseconds of processor time it takes to compare the scrambled state with one that
 /// differs from it in this way.
 fn time_of_difference<R: CpuClock + AllocGlobal>(
     rt: &R,
-    first: &mut Tableau,
+    n: usize,
     difference: Difference,
 ) -> Result<f64, Failure>
-    requires several { 1 < first.old.qubits }
-    requires in_range { first.old.qubits ≤ most_qubits }
-    ensures qubits { first.new.qubits ≡ first.old.qubits }
+    requires several { 1 < n }
+    requires in_range { n ≤ most_qubits }
 {
-    let calls = difference.calls(first.len());
-    let mut second = state_with(rt.alloc(), first, difference)?;
-    time_of_comparison(rt, first, &mut second, calls)
+    let mut first = state::scrambled(rt.alloc(), n)?;
+    let mut second = second_state(rt.alloc(), n, difference)?;
+    time_of_comparison(rt, &mut first, &mut second, difference.calls(n))
 }
 
-/// A state that differs from the scrambled one in this way.
-fn state_with(
-    alloc: Global,
-    first: &mut Tableau,
-    difference: Difference,
-) -> Result<Tableau, Refusal>
-    requires several { 1 < first.old.qubits }
-    requires in_range { first.old.qubits ≤ most_qubits }
-    ensures qubits { first.new.qubits ≡ first.old.qubits }
-    ensures qubits_of_result { IfOk result (λ t. t.qubits ≡ first.old.qubits) }
+/// A state of n qubits that differs from the scrambled one in this way.
+fn second_state(alloc: Global, n: usize, difference: Difference) -> Result<Tableau, Refusal>
+    requires several { 1 < n }
+    requires in_range { n ≤ most_qubits }
+    ensures qubits { IfOk result (λ t. t.qubits ≡ n) }
 {
     match difference {
-        Difference::Nothing => first.copy(alloc),
-        Difference::Signs => with_other_signs(alloc, first),
-        Difference::Rows => with_other_rows(alloc, first.len()),
-        Difference::Group => {
-            let mut second = first.copy(alloc)?;
-            second.apply(Gate::H, 0);
-            Ok(second)
-        }
+        Difference::Nothing => state::scrambled(alloc, n),
+        Difference::Signs => with_other_signs(alloc, n),
+        Difference::Rows => with_other_rows(alloc, n),
+        Difference::Group => with_other_group(alloc, n),
     }
 }
 
-/// A state to which a stabiliser of its own was applied, letter by letter.
-fn with_other_signs(alloc: Global, first: &mut Tableau) -> Result<Tableau, Refusal>
-    requires several { 1 < first.old.qubits }
-    ensures qubits { first.new.qubits ≡ first.old.qubits }
-    ensures qubits_of_result { IfOk result (λ t. t.qubits ≡ first.old.qubits) }
+/// The scrambled state of n qubits, to which a stabiliser of its own was applied, letter by letter.
+fn with_other_signs(alloc: Global, n: usize) -> Result<Tableau, Refusal>
+    requires several { 1 < n }
+    requires in_range { n ≤ most_qubits }
+    ensures qubits { IfOk result (λ t. t.qubits ≡ n) }
 {
-    let stabiliser = first.stabiliser(alloc, 0)?;
-    let mut second = first.copy(alloc)?;
-    for qubit in 0..stabiliser.len() {
-        second.apply(gate_of(stabiliser.letter(qubit)), qubit);
+    let mut tableau = state::scrambled(alloc, n)?;
+    let stabiliser = tableau.stabiliser(alloc, 0)?;
+    apply_letters(&mut tableau, &stabiliser);
+    Ok(tableau)
+}
+
+/// Applies the letters of a string to a state.
+fn apply_letters(tableau: &mut Tableau, string: &Pauli)
+    requires same_length { length string.now.letters ≡ tableau.old.qubits }
+    ensures qubits { tableau.new.qubits ≡ tableau.old.qubits }
+{
+    for qubit in 0..string.len() {
+        tableau.apply(gate_of(string.letter(qubit)), qubit);
     }
-    Ok(second)
 }
 
 fn gate_of(letter: Letter) -> Gate {
@@ -139,6 +136,17 @@ fn with_other_rows(alloc: Global, n: usize) -> Result<Tableau, Refusal>
     let mut tableau = Tableau::new(alloc, n)?;
     tableau.apply_pair(PairGate::Cx, 0, 1);
     state::scramble(&mut tableau);
+    Ok(tableau)
+}
+
+/// The scrambled state of n qubits, to which a gate H was applied.
+fn with_other_group(alloc: Global, n: usize) -> Result<Tableau, Refusal>
+    requires several { 1 < n }
+    requires in_range { n ≤ most_qubits }
+    ensures qubits { IfOk result (λ t. t.qubits ≡ n) }
+{
+    let mut tableau = state::scrambled(alloc, n)?;
+    tableau.apply(Gate::H, 0);
     Ok(tableau)
 }
 
@@ -187,14 +195,25 @@ fn time_of_round<R: CpuClock>(
     Ok(rt.thread_cpu_time()?.saturating_sub(start))
 }
 
-/// How many nanoseconds of processor time the reduced rows of a state take, by the best of several
-/// rounds.
-fn time_of_rows<R: CpuClock + AllocGlobal>(rt: &R, tableau: &mut Tableau) -> Result<f64, Failure> {
+/// How many nanoseconds of processor time the reduced rows of the scrambled state take, by the best of
+/// several rounds.
+fn time_of_rows<R: CpuClock + AllocGlobal>(rt: &R, n: usize) -> Result<f64, Failure>
+    requires in_range { n ≤ most_qubits }
+{
+    let mut tableau = state::scrambled(rt.alloc(), n)?;
     let mut least = Duration::MAX;
     for _ in 0..ROUNDS {
-        let start = rt.thread_cpu_time()?;
-        let _ = tableau.reduced_rows(rt.alloc())?;
-        least = least.min(rt.thread_cpu_time()?.saturating_sub(start));
+        least = least.min(time_of_reducing(rt, &mut tableau)?);
     }
     Ok(least.as_secs_f64() * 1e9)
+}
+
+/// The processor time of finding the reduced rows of a state once, and letting them go.
+fn time_of_reducing<R: CpuClock + AllocGlobal>(
+    rt: &R,
+    tableau: &mut Tableau,
+) -> Result<Duration, Failure> {
+    let start = rt.thread_cpu_time()?;
+    let _ = tableau.reduced_rows(rt.alloc())?;
+    Ok(rt.thread_cpu_time()?.saturating_sub(start))
 }

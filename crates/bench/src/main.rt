@@ -10,8 +10,7 @@
 //! - `work`: what is timed.
 //! - `state`: the states and the string that the works take.
 //! - `bytes`: the plain loop.
-//! - `subject`: does each work.
-//! - `timing`: the best of several rounds.
+//! - `timing`: does each work, and gives the best of several rounds.
 //! - `groups`: comparing the groups of two states, and reduced rows.
 //! - `report`: the tables.
 //! - `reading`: a long circuit text, and the time to read it.
@@ -34,7 +33,6 @@ mod replaying;
 mod report;
 mod running;
 mod state;
-mod subject;
 mod timing;
 mod walking;
 mod work;

@@ -37,13 +37,17 @@ fn print_circuit<R: CpuClock + Files + AllocGlobal + Print>(
     qubit: &str,
     path: &str,
 ) -> Result<(), Failure> {
+    let whole = whole_of_file(rt, path)?;
+    let (read, run) = (whole.read, whole.run);
+    println!(rt; "{path}: read {read:.1} ms, run {run:.1} ms")?;
     let text = running::text_of_file(rt, path)?;
-    let whole = running::whole_of(rt, text.as_slice())?;
-    println!(rt;
-        "{path}: read {:.1} ms, run {:.1} ms",
-        whole.read, whole.run
-    )?;
     print_session(rt, qubit, text.as_slice(), whole)
+}
+
+/// The numbers of the circuit in a file, and the times that reading and running it take.
+fn whole_of_file<R: CpuClock + Files + AllocGlobal>(rt: &R, path: &str) -> Result<Whole, Failure> {
+    let text = running::text_of_file(rt, path)?;
+    running::whole_of(rt, text.as_slice())
 }
 
 /// Opens a session on a circuit, and prints what that and edits of it take.

@@ -1,54 +1,56 @@
-ghost use Rattle.std.specs.Prelude.{◌≡◌, ◌<◌, ◌≤◌};
+ghost use Rattle.std.specs.Prelude.{◌<◌, ◌≤◌};
 ghost use Rattle.stab_tableau.specs.Limits.{most_qubits};
 
 use super::failure::Failure;
-use super::subject::Subject;
-use super::work::Work;
-use super::{groups, state, timing};
-use stab_tableau::PairGate;
+use super::work::{self, CX};
+use super::{bytes, groups, timing};
 use std::time::CpuClock;
 
+/// The times that others are compared with, in nanoseconds: of the plain loop and of a gate CX.
+#[derive(Clone, Copy)]
+pub struct Yardsticks {
+    pub xor: f64,
+    pub cx: f64,
+}
+
 /// Prints a table of the times at n qubits, and of their ratios to the plain loop and to a gate CX.
-pub(super) fn print_table<R: CpuClock + AllocGlobal + Print>(
-    rt: &R,
-    n: usize,
-) -> Result<(), Failure>
+pub fn print_table<R: CpuClock + AllocGlobal + Print>(rt: &R, n: usize) -> Result<(), Failure>
     requires several { 1 < n }
     requires in_range { n ≤ most_qubits }
 {
-    let mut subject = Subject::new(rt.alloc(), n)?;
-    let xor = timing::nanoseconds(rt, &mut subject, Work::Xor)?;
-    let cx = timing::nanoseconds(rt, &mut subject, Work::PairGate(PairGate::Cx))?;
+    let xor = bytes::nanoseconds(rt, n)?;
+    let cx = timing::nanoseconds(rt, n, CX)?;
+    let yardsticks = Yardsticks { xor, cx };
     println!(rt; "n = {n}: nanoseconds a call, times n bytes XORed, times a gate Cx")?;
-    print_works(rt, &mut subject, xor, cx)?;
-    groups::print_lines(rt, n, xor, cx)?;
-    println!(rt; "outcomes that were free: {}", subject.free_outcomes())?;
-    Ok(())
+    print_line(rt, "n bytes XORed", xor, yardsticks)?;
+    print_works(rt, n, yardsticks)?;
+    groups::print_lines(rt, n, yardsticks)
 }
 
 /// Prints the lines of all works.
 fn print_works<R: CpuClock + AllocGlobal + Print>(
     rt: &R,
-    subject: &mut Subject,
-    xor: f64,
-    cx: f64,
-) -> Result<(), Failure> {
-    for (work, name) in Work::ALL {
-        let time = timing::nanoseconds(rt, subject, work)?;
-        print_line(rt, name, time, xor, cx)?;
+    n: usize,
+    yardsticks: Yardsticks,
+) -> Result<(), Failure>
+    requires several { 1 < n }
+    requires in_range { n ≤ most_qubits }
+{
+    for timed in work::ALL {
+        let time = timing::nanoseconds(rt, n, timed)?;
+        print_line(rt, timed.name, time, yardsticks)?;
     }
     Ok(())
 }
 
 /// Prints a line of the table: a time, and its ratios to the plain loop and to a gate CX.
-pub(super) fn print_line<R: Print>(
+pub fn print_line<R: Print>(
     rt: &R,
     name: &str,
     time: f64,
-    xor: f64,
-    cx: f64,
+    yardsticks: Yardsticks,
 ) -> Result<(), Failure> {
-    let (to_xor, to_cx) = (time / xor, time / cx);
+    let (to_xor, to_cx) = (time / yardsticks.xor, time / yardsticks.cx);
     println!(rt; "{time:>12.1} {to_xor:>10.2} {to_cx:>8.2}  {name}")?;
     Ok(())
 }

@@ -1,3 +1,7 @@
+ghost use Rattle.std.specs.Prelude.{◌≡◌, None, IfOk};
+ghost use Rattle.stab_circuit.specs.Steps.{check_of};
+ghost use Rattle.stab_circuit.specs.Views.{circuit_items};
+
 use super::failure::Failure;
 use super::{reading, walking};
 use stab_circuit::Circuit;
@@ -40,8 +44,10 @@ fn print_line<R: CpuClock + Files + AllocGlobal + Print>(
     path: &str,
 ) -> Result<(), Failure> {
     let text = text_of_file(rt, path)?;
+    let bytes = text.len();
     let whole = whole_of(rt, text.as_slice())?;
-    print_whole(rt, whole, text.len(), path)
+    drop(text);
+    print_whole(rt, whole, bytes, path)
 }
 
 /// Prints what reading a circuit and running it take, with the bytes of its text and its path.
@@ -74,16 +80,23 @@ fn print_walk<R: CpuClock + Files + AllocGlobal + Print>(
     rt: &R,
     path: &str,
 ) -> Result<(), Failure> {
-    let text = text_of_file(rt, path)?;
-    let circuit = reading::circuit_of_text(rt.alloc(), text.as_slice())?;
+    let circuit = circuit_of_file(rt, path)?;
     walking::print_line(rt, &circuit, path)
+}
+
+/// The circuit in a file.
+pub fn circuit_of_file<R: Files + AllocGlobal>(rt: &R, path: &str) -> Result<Circuit, Failure>
+    ensures checked { IfOk result (λ c. check_of (circuit_items c) ≡ None) }
+{
+    let text = text_of_file(rt, path)?;
+    reading::circuit_of_text(rt.alloc(), text.as_slice())
 }
 
 /// The bytes of a file.
 pub fn text_of_file<R: Files + AllocGlobal>(rt: &R, path: &str) -> Result<Vec<u8>, Failure> {
     match fs::read(rt, path) {
         Ok(text) => Ok(text),
-        Err(_) => Err(Failure::File(String::from_str(rt.alloc(), path)?)),
+        Err(_) => Err(Failure::File),
     }
 }
 

@@ -1,64 +1,145 @@
-ghost use Rattle.std.specs.Prelude.{◌<◌};
+ghost use Rattle.std.specs.Prelude.{◌≡◌, ◌<◌, ◌≤◌, length, IfOk};
+ghost use Rattle.stab_tableau.specs.Limits.{most_qubits};
 
 use super::failure::Failure;
-use super::subject::Subject;
-use super::work::Work;
+use super::state;
+use super::work::{TimedWork, Work};
+use stab_pauli::{Letter, Pauli, Refusal};
+use stab_tableau::{Gate, Tableau};
+use std::alloc::Global;
 use std::num::nearest_usize_to_f64;
 use std::time::{CpuClock, Duration};
 
 /// The best of so many rounds counts, since other programs disturb the rest.
 const ROUNDS: u32 = 9;
 
-/// What a round does: some passes, and in each pass a work once on each of the first qubits.
-#[derive(Clone, Copy)]
-struct MeasuredRound {
-    passes: usize,
-    calls: usize,
-}
-
-/// A round that takes about a millisecond or more. A scrambled state bears one pass of measurements
-/// alone, since a second would find fixed outcomes.
-fn round_of(work: Work, n: usize) -> MeasuredRound
-    requires above_zero { 0 < n }
-{
-    let (passes, calls) = match work {
-        Work::FreeScrambled => (1, n),
-        Work::Sign | Work::Copy => (1, n.min(16)),
-        Work::FreeApart => (4096 / n, n),
-        _ => (65_536 / n, n),
-    };
-    MeasuredRound { passes, calls }
-}
-
-/// How many nanoseconds of processor time a call takes, by the best of several rounds.
+/// How many nanoseconds of processor time a call of a work takes on n qubits, by the best of several
+/// rounds.
 pub fn nanoseconds<R: CpuClock + AllocGlobal>(
     rt: &R,
-    subject: &mut Subject,
-    work: Work,
-) -> Result<f64, Failure> {
-    let round = round_of(work, subject.len());
+    n: usize,
+    timed: TimedWork,
+) -> Result<f64, Failure>
+    requires several { 1 < n }
+    requires in_range { n ≤ most_qubits }
+{
+    let observable = state::observable(rt.alloc(), n)?;
     let mut least = Duration::MAX;
     for _ in 0..ROUNDS {
-        subject.restart(rt.alloc(), work)?;
-        least = least.min(time_of(rt, subject, work, round)?);
+        least = least.min(time_of_round(rt, &observable, timed)?);
     }
-    Ok(
-        least.as_secs_f64() * 1e9
-            / nearest_usize_to_f64(round.passes)
-            / nearest_usize_to_f64(round.calls),
-    )
+    let (passes, calls) = (passes(timed, n), n.min(timed.qubits));
+    Ok(least.as_secs_f64() * 1e9 / nearest_usize_to_f64(passes) / nearest_usize_to_f64(calls))
 }
 
-/// The processor time of a round.
-fn time_of<R: CpuClock + AllocGlobal>(
+/// How many passes over the qubits a round has.
+fn passes(timed: TimedWork, n: usize) -> usize
+    requires above_zero { 0 < n }
+{
+    (timed.calls / n).max(1)
+}
+
+/// The processor time of a round, from the state that its work starts from.
+fn time_of_round<R: CpuClock + AllocGlobal>(
     rt: &R,
-    subject: &mut Subject,
-    work: Work,
-    round: MeasuredRound,
-) -> Result<Duration, Failure> {
+    observable: &Pauli,
+    timed: TimedWork,
+) -> Result<Duration, Failure>
+    requires several { 1 < length observable.now.letters }
+    requires in_range { length observable.now.letters ≤ most_qubits }
+{
+    let mut tableau = start_of(rt.alloc(), observable.len(), timed.from_zeros)?;
+    time_of_passes(rt, &mut tableau, observable, timed)
+}
+
+/// The state of n qubits that a work starts from.
+fn start_of(alloc: Global, n: usize, from_zeros: bool) -> Result<Tableau, Refusal>
+    requires in_range { n ≤ most_qubits }
+    ensures qubits { IfOk result (λ t. t.qubits ≡ n) }
+{
+    if from_zeros {
+        Tableau::new(alloc, n)
+    } else {
+        state::scrambled(alloc, n)
+    }
+}
+
+/// The processor time of the passes of a round.
+fn time_of_passes<R: CpuClock + AllocGlobal>(
+    rt: &R,
+    tableau: &mut Tableau,
+    observable: &Pauli,
+    timed: TimedWork,
+) -> Result<Duration, Failure>
+    requires several { 1 < tableau.old.qubits }
+    requires same_length { length observable.now.letters ≡ tableau.old.qubits }
+{
     let start = rt.thread_cpu_time()?;
-    for _ in 0..round.passes {
-        subject.perform_on_first(rt.alloc(), work, round.calls)?;
+    for _ in 0..passes(timed, observable.len()) {
+        perform_on_first(rt.alloc(), tableau, observable, timed.work, timed.qubits)?;
     }
     Ok(rt.thread_cpu_time()?.saturating_sub(start))
+}
+
+/// Does a work once on each of the first so many qubits.
+fn perform_on_first(
+    alloc: Global,
+    tableau: &mut Tableau,
+    observable: &Pauli,
+    work: Work,
+    qubits: usize,
+) -> Result<(), Refusal>
+    requires several { 1 < tableau.old.qubits }
+    requires same_length { length observable.now.letters ≡ tableau.old.qubits }
+    ensures qubits { tableau.new.qubits ≡ tableau.old.qubits }
+{
+    for qubit in 0..qubits.min(tableau.len()) {
+        perform(alloc, tableau, observable, work, qubit)?;
+    }
+    Ok(())
+}
+
+/// Does a work once on a qubit.
+fn perform(
+    alloc: Global,
+    tableau: &mut Tableau,
+    observable: &Pauli,
+    work: Work,
+    qubit: usize,
+) -> Result<(), Refusal>
+    requires several { 1 < tableau.old.qubits }
+    requires in_range { qubit < tableau.old.qubits }
+    requires same_length { length observable.now.letters ≡ tableau.old.qubits }
+    ensures qubits { tableau.new.qubits ≡ tableau.old.qubits }
+{
+    match work {
+        Work::Gate(gate) => tableau.apply(gate, qubit),
+        Work::PairGate(gate) => {
+            let other = state::after(qubit, 1, tableau.len());
+            tableau.apply_pair(gate, qubit, other);
+        }
+        Work::Measure => measure(tableau, qubit),
+        Work::FixedLetter => {
+            let _ = tableau.fixed_letter(Letter::Z, qubit);
+        }
+        Work::FreeApart => {
+            tableau.apply(Gate::H, qubit);
+            measure(tableau, qubit);
+        }
+        Work::Sign => {
+            let _ = tableau.sign_of(observable);
+        }
+        Work::Copy => {
+            let _ = tableau.copy(alloc)?;
+        }
+    }
+    Ok(())
+}
+
+/// Measures Z on a qubit.
+fn measure(tableau: &mut Tableau, qubit: usize)
+    requires in_range { qubit < tableau.old.qubits }
+    ensures qubits { tableau.new.qubits ≡ tableau.old.qubits }
+{
+    let _ = tableau.collapse_letter(Letter::Z, qubit, true);
 }

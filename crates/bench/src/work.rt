@@ -1,48 +1,126 @@
 use stab_tableau::{Gate, PairGate};
 
-/// Something that is timed.
+/// What is timed of a tableau.
 #[derive(Clone, Copy)]
 pub enum Work {
-    /// A byte for each qubit, each XORed with another: the plain loop.
-    Xor,
     /// A gate on one qubit.
     Gate(Gate),
     /// A gate on a qubit and the one after it.
     PairGate(PairGate),
-    /// The measurement of Z on a qubit where the outcome is fixed.
-    Fixed,
+    /// The measurement of Z on a qubit.
+    Measure,
     /// Whether the outcome of Z on a qubit is fixed, and which it is, where it is fixed.
     FixedLetter,
     /// The gate H and then the measurement of Z, which it makes free, on a qubit apart from all others.
     FreeApart,
-    /// The measurement of Z on a qubit of a scrambled state, where it is free.
-    FreeScrambled,
     /// The sign of a string with a letter other than I on each qubit.
     Sign,
     /// A copy in memory of its own, which is let go again.
     Copy,
 }
 
-impl Work {
-    /// All works, in the order of the table, with what it calls them.
-    pub const ALL: [(Work, &'static str); 13] = [
-        (Work::Xor, "n bytes XORed"),
-        (Work::Gate(Gate::H), "gate H"),
-        (Work::Gate(Gate::S), "gate S"),
-        (Work::PairGate(PairGate::Cx), "gate Cx"),
-        (Work::PairGate(PairGate::Cy), "gate Cy"),
-        (Work::PairGate(PairGate::Cz), "gate Cz"),
-        (Work::PairGate(PairGate::Swap), "gate Swap"),
-        (Work::Fixed, "fixed collapse"),
-        (Work::FixedLetter, "fixed letter"),
-        (Work::FreeApart, "H, free collapse"),
-        (Work::FreeScrambled, "free collapse, scrambled"),
-        (Work::Sign, "sign of n letters"),
-        (Work::Copy, "copy"),
-    ];
-
-    /// Whether the work starts from the zero state, and not from a scrambled one.
-    pub fn starts_from_zeros(self) -> bool {
-        matches!(self, Work::Fixed | Work::FixedLetter | Work::FreeApart)
-    }
+/// A work, and how it is timed: in rounds that take about a millisecond or more.
+#[derive(Clone, Copy)]
+pub struct TimedWork {
+    /// What the table calls it.
+    pub name: &'static str,
+    pub work: Work,
+    /// Whether it starts from the zero state, and not from a scrambled one.
+    pub from_zeros: bool,
+    /// How many calls a round has, in passes over the qubits; one pass, where it has fewer than qubits.
+    pub calls: usize,
+    /// On how many qubits it is done, the first ones.
+    pub qubits: usize,
 }
+
+/// The gate that all others are compared with.
+pub const CX: TimedWork = TimedWork {
+    name: "gate Cx",
+    work: Work::PairGate(PairGate::Cx),
+    from_zeros: false,
+    calls: 65_536,
+    qubits: 1024,
+};
+
+/// All works, in the order of the table.
+pub const ALL: [TimedWork; 12] = [
+    TimedWork {
+        name: "gate H",
+        work: Work::Gate(Gate::H),
+        from_zeros: false,
+        calls: 65_536,
+        qubits: 1024,
+    },
+    TimedWork {
+        name: "gate S",
+        work: Work::Gate(Gate::S),
+        from_zeros: false,
+        calls: 65_536,
+        qubits: 1024,
+    },
+    CX,
+    TimedWork {
+        name: "gate Cy",
+        work: Work::PairGate(PairGate::Cy),
+        from_zeros: false,
+        calls: 65_536,
+        qubits: 1024,
+    },
+    TimedWork {
+        name: "gate Cz",
+        work: Work::PairGate(PairGate::Cz),
+        from_zeros: false,
+        calls: 65_536,
+        qubits: 1024,
+    },
+    TimedWork {
+        name: "gate Swap",
+        work: Work::PairGate(PairGate::Swap),
+        from_zeros: false,
+        calls: 65_536,
+        qubits: 1024,
+    },
+    TimedWork {
+        name: "fixed collapse",
+        work: Work::Measure,
+        from_zeros: true,
+        calls: 65_536,
+        qubits: 1024,
+    },
+    TimedWork {
+        name: "fixed letter",
+        work: Work::FixedLetter,
+        from_zeros: true,
+        calls: 65_536,
+        qubits: 1024,
+    },
+    TimedWork {
+        name: "H, free collapse",
+        work: Work::FreeApart,
+        from_zeros: true,
+        calls: 4096,
+        qubits: 1024,
+    },
+    // A second pass would find fixed outcomes.
+    TimedWork {
+        name: "free collapse, scrambled",
+        work: Work::Measure,
+        from_zeros: false,
+        calls: 1,
+        qubits: 1024,
+    },
+    TimedWork {
+        name: "sign of n letters",
+        work: Work::Sign,
+        from_zeros: false,
+        calls: 1,
+        qubits: 16,
+    },
+    TimedWork {
+        name: "copy",
+        work: Work::Copy,
+        from_zeros: false,
+        calls: 1,
+        qubits: 16,
+    },
+];

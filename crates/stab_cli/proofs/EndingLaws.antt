@@ -1,7 +1,7 @@
 -- How reading the words of a command line ends.
-use Rattle.std.proofs.Common.{◌≡◌, List, Option, Some, None, option_map, IfOk, true, codes, inl, inr, refl, ap, ap₂}
+use Rattle.std.proofs.Common.{◌≡◌, List, Option, Some, None, option_map, IfOk, true, inl, inr, refl, ap, ap₂}
 use Rattle.std.specs.Prelude.{Result, Ok, Err, IfErr}
-use Rattle.clap.specs.Words.{App, HasKind, Row, Text, first_of, found_of, is_simple, kind_of, rows_of, subcommand_name_of, subcommand_rows_of}
+use Rattle.clap.specs.Words.{App, HasKind, Row, Text, found_of, is_simple, kind_of, rows_of, subcommand_name_of, subcommand_rows_of}
 use Rattle.clap.specs.Faults.{fault_of, is_simple_and_free}
 use Rattle.std.specs.Box.{box_value}
 use Rattle.clap.specs.declared.parser.matches.ArgMatches.{ArgMatches}
@@ -9,7 +9,7 @@ use Rattle.clap.specs.declared.parser.matches.ArgMatches.TheViews.{out-ArgMatche
 use Rattle.clap.specs.declared.error.Error.{Error}
 use Rattle.clap.specs.declared.error.kind.ErrorKind.TheVariants.{OutOfMemory}
 use Rattle.stab_cli.specs.Options.{Kept, stabsim}
-use Rattle.stab_cli.specs.Asked.{EndsBy, IsJob, IsTold, RefusesCoins, Takes}
+use Rattle.stab_cli.specs.Asked.{EndsBy, IsJob, IsTold, RefusesOptions, Takes}
 use Rattle.stab_cli.specs.declared.words.Usage.{Usage}
 use Rattle.stab_cli.specs.declared.words.Usage.TheVariants.{Memory}
 use Rattle.stab_commands.specs.declared.job.Job.{Job}
@@ -32,9 +32,9 @@ pub found_command : (matches : ArgMatches) (name : Text) (options : List Row) �
     → option_map (λ p. p.1) (subcommand_rows_of matches) ≡ Some options → subcommand_rows_of matches ≡ Some (name, options)
 found_command matches name options = found_both (λ b. ((out-SubCommand (box_value b)).name.now, rows_of (found_of (out-SubCommand (box_value b)).matches))) (out-ArgMatches matches).subcommand name options
 
--- an end with the job of a command, or with its coins refused
+-- an end with the job of a command, or with its options refused
 pub ends_with_command : (app : App) (words : List Text) (name : Text) (options : List Row) (result : Result Job Usage) → Takes app words (name, options)
-    → IfOk result (IsJob name options) → IfErr result (RefusesCoins (first_of (codes "coins") options) (first_of (codes "coins_in") options)) → EndsBy app words result
+    → IfOk result (IsJob name options) → IfErr result (RefusesOptions options) → EndsBy app words result
 ends_with_command app words name options (Ok job) takes is refused = ((name, options), takes, is)
 ends_with_command app words name options (Err usage) takes is refused = inr (inr ((name, options), takes, refused))
 

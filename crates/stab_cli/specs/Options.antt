@@ -8,7 +8,7 @@ use Rattle.clap.specs.declared.builder.action.ArgAction.TheVariants.{SetTrue}
 use Rattle.clap.specs.declared.builder.value_parser.ValueParser.TheVariants.{Names, Unsigned}
 use Rattle.stab_tableau.specs.Limits.{most_qubits}
 use Rattle.stab_session.specs.Limits.{most_stride}
-use Rattle.stab_commands.specs.Limits.{most_shots}
+use Rattle.stab_commands.specs.Limits.{last_shot, most_shots}
 
 -- names where the reader keeps them
 abbrev pub Kept : Type 0
@@ -56,7 +56,8 @@ common_options = numbered (codes "seed") 0 most_seed (codes "0") ∷ valued (cod
 
 -- the options of a command that takes shots, in the order of the help
 abbrev pub shot_options : Kept → List Rule
-shot_options formats = numbered (codes "shots") 0 most_shots (codes "1") ∷ named (codes "out_format") formats (codes "01") ∷ common_options
+shot_options formats =
+    numbered (codes "shots") 0 most_shots (codes "1") ∷ ranged (codes "first_shot") 0 last_shot ∷ named (codes "out_format") formats (codes "01") ∷ common_options
 
 -- a command that takes shots
 abbrev pub shot_command : Text → Kept → Shape
@@ -80,7 +81,7 @@ stabilisers = record (new_shape (codes "stabilisers")) { aliases = codes "stabil
 
 -- the command `edit`
 abbrev pub edit : Shape
-edit = record (new_shape (codes "edit")) { rules = ranged (codes "qubits") 0 most_qubits ∷ numbered (codes "stride") 1 most_stride (codes "8192") ∷ common_options }
+edit = record (new_shape (codes "edit")) { rules = ranged (codes "qubits") 0 most_qubits ∷ numbered (codes "stride") 1 most_stride (codes "8192") ∷ flag (codes "framed") ∷ common_options }
 
 -- the command `check`, which takes no coins
 abbrev pub check : Shape

@@ -18,9 +18,9 @@ mod words;
 pub use coins::{CoinsFault, NO_COINS, read_coins};
 pub use stab_commands::{
     Bit, Command, FaultLayout, FaultsRefused, Job, KeepsLog, LoggedInput, LoggedRead, NoWatcher,
-    QubitCount, Shots, Source, Stride, Unsure, Watcher, run_check, run_detect, run_deterministic,
-    run_edit, run_edit_watched, run_faults, run_job, run_job_watched, run_sample, run_stabilisers,
-    write_fault, write_refused,
+    QubitCount, Shots, Source, Stride, Unsure, Watcher, run_check, run_detect, run_detect_shots,
+    run_deterministic, run_edit, run_edit_watched, run_faults, run_job, run_job_watched,
+    run_sample, run_sample_shots, run_stabilisers, write_fault, write_refused,
 };
 pub use usage::write_usage;
 pub use words::{Usage, parse_words};

@@ -56,8 +56,9 @@ fn usage_of(alloc: Global, error: &Error) -> Usage
 /// Reads the words of a command line, the program's name first.
 ///
 /// No job comes of words that ask for help or the version (`Usage::Help`), of words that the command
-/// line reader doesn't take, or whose coins are not characters 0 and 1 (`Usage::Fault`), or where
-/// memory was refused (`Usage::Memory`). The coins are looked at last.
+/// line reader doesn't take, whose shots go beyond the last of a seed or have a first beside coins, or
+/// whose coins are not characters 0 and 1 (`Usage::Fault`), or where memory was refused
+/// (`Usage::Memory`). A first shot beside coins is looked for first of these, and the coins last.
 pub fn parse_words(alloc: Global, words: &[&str]) -> Result<Job, Usage>
     ensures ends { EndsReading (map (λ w. w.now) words.now) result }
 {

@@ -17,12 +17,14 @@ use Rattle.stab_circuit.specs.Circuits.{item_fault, StandsForOne}
 use Rattle.stab_circuit.specs.Readings.{IsCircuit}
 use Rattle.stab_circuit.specs.Laws.{AreOfLines, PutsLines, TextsAreLines, ItemTextsAreLines, ItemTextsHaveOneMeaning, EditedItemsAreOfLines}
 use Rattle.stab_circuit.proofs.EditLemmas.{listed-entries}
-use Rattle.stab_run.specs.Runs.{run_of}
+use Rattle.stab_run.specs.Runs.{State, run_of}
 use Rattle.stab_run.specs.Laws.{IsSoundRun, RunsAreSound}
 use Rattle.stab_results.specs.Formats.{f01_bytes}
 use Rattle.stab_circuit.specs.Prints.{printed}
 use Rattle.stab_commands.specs.Stabilisers.{lines_of}
-use Rattle.stab_commands.specs.script.Scripts.{Setting, Request, put, delete, show, refuse, Answer, IsPut, Shows, IsAnswer, IsAnswerToAll, both, unless, judged, decided, refusing, replying, edit_of, edited_items}
+use Rattle.stab_commands.specs.script.Scripts.{Setting, Request, begin, put, delete, show, ask, refuse, Held, run_held, opened, Answer, IsPut, Shows, IsAnswer, IsAnswerToAll, both, unless, judged, decided, refusing, replying, edit_of, edited_items, framed_shown, held_behind, shown_or_refused, framed_answer}
+use Rattle.stab_commands.specs.script.FramedReplies.{reply_text, greeting, session_numbers}
+use Rattle.stab_commands.specs.script.FramedRequests.{FramedRequest, mark, numbers, changed, changed_records, sign, item}
 use Rattle.stab_commands.specs.script.ScriptLaws.{CanBeEdited}
 use Rattle.stab_commands.specs.declared.script.request.ItemEdit.{ItemEdit}
 use Rattle.stab_commands.specs.declared.script.request.ItemEdit.TheVariants.{Insert, Replace}
@@ -47,18 +49,18 @@ verdict_passed n ys e = by_test (nat_lt 16 (depth (listed ys))) refl e
     by_test false t v = ((let le = ltb-false 16 (depth (listed ys)) t in omega arith), v)
 
 -- an edit that puts in an item of lines leaves items that can be edited, made or refused
-edit_keeps : EditedItemsAreOfLines → (n : ℕ) (what : Edit) (items : Items) → PutsLines what → CanBeEdited n items
-    → CanBeEdited n (decided items (edited_items n what items)).items
-edit_keeps edits n what items puts can = by_result (edited what (entries items)) refl
+edit_keeps : EditedItemsAreOfLines → (n : ℕ) (what : Edit) (kept : Bool) (held : Held) → PutsLines what → CanBeEdited n held.items
+    → CanBeEdited n (decided kept held (edited_items n what held.items)).held.items
+edit_keeps edits n what kept held puts can = by_result (edited what (entries held.items)) refl
   where
-    by_verdict : (list : List OneItem) → edited what (entries items) ≡ Ok list → (v : Option Refusal) → list_verdict n (Ok list) ≡ v
-        → CanBeEdited n (decided items (unless v (listed list))).items
+    by_verdict : (list : List OneItem) → edited what (entries held.items) ≡ Ok list → (v : Option Refusal) → list_verdict n (Ok list) ≡ v
+        → CanBeEdited n (decided kept held (unless v (listed list))).held.items
     by_verdict list e (Some r) given = can
     by_verdict list e None given =
         let passed = verdict_passed n list given in
-        (edits what (entries items) list (subst AreOfLines (sym (listed-entries items)) can.0) puts e passed.0, passed.1)
+        (edits what (entries held.items) list (subst AreOfLines (sym (listed-entries held.items)) can.0) puts e passed.0, passed.1)
 
-    by_result : (r : Result (List OneItem) Refusal) → edited what (entries items) ≡ r → CanBeEdited n (decided items (judged n r)).items
+    by_result : (r : Result (List OneItem) Refusal) → edited what (entries held.items) ≡ r → CanBeEdited n (decided kept held (judged n r)).held.items
     by_result (Ok list) e = by_verdict list e (list_verdict n (Ok list)) refl
     by_result (Err r) e = can
 
@@ -82,37 +84,61 @@ text_shown some one n coins items sound Stabilisers =
     (lines_of rows.0, (rows.0, (rows.1, λ other are. one n (run_of n coins items).trace sound.0 sound.1 other rows.0 are rows.1), refl))
 text_shown some one n coins items sound Circuit = (printed items, refl)
 
+-- what only a framed script asks for leaves the items as they are
+behind_keeps : (run : State) (held : Held) (r : FramedRequest) → (held_behind run held r).items ≡ held.items
+behind_keeps run held mark = refl
+behind_keeps run held numbers = refl
+behind_keeps run held changed = refl
+behind_keeps run held changed_records = refl
+behind_keeps run held (sign word) = refl
+behind_keeps run held (item place) = refl
+
+-- so does its answer
+framed_keeps : (kept : Bool) (n : ℕ) (run : State) (held : Held) (r : FramedRequest) → (framed_answer kept n run held r).held.items ≡ held.items
+framed_keeps false n run held r = refl
+framed_keeps true n run held r = by_shown (framed_shown n run held r)
+  where
+    by_shown : (shown : Result (List ℕ) Refusal) → (shown_or_refused true held (held_behind run held r) shown).held.items ≡ held.items
+    by_shown (Ok text) = behind_keeps run held r
+    by_shown (Err e) = refl
+
 module _ (meanings : ItemTextsHaveOneMeaning) (lines : ItemTextsAreLines) (edits : EditedItemsAreOfLines) (sound : RunsAreSound)
     (some : TracesHaveReducedRows) (one : TracesHaveOneList) where
   -- an edit that puts in the item of a text has an answer
-  put_answered : (s : Setting) (items : Items) (how : ItemEdit) (place : Path) (text : List ℕ) → CanBeEdited s.qubits items
-      → (a : Answer) × IsPut items (λ item. edited_items s.qubits (edit_of how place item) items) text a × CanBeEdited s.qubits a.items
-  put_answered s items how place text can = by_fault (item_fault text) refl
+  put_answered : (s : Setting) (held : Held) (how : ItemEdit) (place : Path) (text : List ℕ) → CanBeEdited s.qubits held.items
+      → (a : Answer) × IsPut s.framed held (λ item. edited_items s.qubits (edit_of how place item) held.items) text a × CanBeEdited s.qubits a.held.items
+  put_answered s held how place text can = by_fault (item_fault text) refl
     where
       by_fault : (f : Option Fault) → item_fault text ≡ f
-          → (a : Answer) × IsPut items (λ item. edited_items s.qubits (edit_of how place item) items) text a × CanBeEdited s.qubits a.items
-      by_fault (Some f) e = (refusing items f.refusal, inl (f, e, refl), can)
+          → (a : Answer) × IsPut s.framed held (λ item. edited_items s.qubits (edit_of how place item) held.items) text a × CanBeEdited s.qubits a.held.items
+      by_fault (Some f) e = (refusing held f.refusal, inl (f, e, refl), can)
       by_fault None e =
           let m = meanings text e in (
-            decided items (edited_items s.qubits (edit_of how place m.0) items),
+            decided s.framed held (edited_items s.qubits (edit_of how place m.0) held.items),
             inr (m.0, m.1.0, refl),
-            edit_keeps edits s.qubits (edit_of how place m.0) items (puts_lines lines text m.0 m.1.0 place how) can,
+            edit_keeps edits s.qubits (edit_of how place m.0) s.framed held (puts_lines lines text m.0 m.1.0 place how) can,
           )
 
   -- a request has an answer
-  request_answered : (s : Setting) (items : Items) (r : Request) → CanBeEdited s.qubits items → (a : Answer) × IsAnswer s items r a × CanBeEdited s.qubits a.items
-  request_answered s items (put how place text) can = put_answered s items how place text can
-  request_answered s items (delete place) can =
-      (decided items (edited_items s.qubits (circuit_edit.Delete place) items), refl, edit_keeps edits s.qubits (circuit_edit.Delete place) items (puts_none place) can)
-  request_answered s items (show what) can =
-      let shown = text_shown some one s.qubits s.coins items (sound s.qubits s.coins can.0.0 items can.0.1 can.1) what in
-      (replying items shown.0, (shown.0, shown.1, refl), can)
-  request_answered s items (refuse r) can = (refusing items r, refl, can)
+  request_answered : (s : Setting) (held : Held) (r : Request) → CanBeEdited s.qubits held.items → (a : Answer) × IsAnswer s held r a × CanBeEdited s.qubits a.held.items
+  request_answered s held begin can = (replying held (greeting s.framed (session_numbers s.qubits (run_held s held) held.items)), refl, can)
+  request_answered s held (put how place text) can = put_answered s held how place text can
+  request_answered s held (delete place) can =
+      (decided s.framed held (edited_items s.qubits (circuit_edit.Delete place) held.items), refl, edit_keeps edits s.qubits (circuit_edit.Delete place) s.framed held (puts_none place) can)
+  request_answered s held (show what) can =
+      let shown = text_shown some one s.qubits s.coins held.items (sound s.qubits s.coins can.0.0 held.items can.0.1 can.1) what in
+      (replying held (reply_text s.framed shown.0), (shown.0, shown.1, refl), can)
+  request_answered s held (ask r) can = (
+    framed_answer s.framed s.qubits (run_held s held) held r,
+    refl,
+    subst (λ (x : Items). CanBeEdited s.qubits x) (sym (framed_keeps s.framed s.qubits (run_held s held) held r)) can,
+  )
+  request_answered s held (refuse r) can = (refusing held r, refl, can)
 
   -- requests, however many, have an answer
-  pub all_answered : (s : Setting) (items : Items) (rs : List Request) → CanBeEdited s.qubits items → (a : Answer) × IsAnswerToAll s items rs a × CanBeEdited s.qubits a.items
-  all_answered s items [] can = (replying items [], refl, can)
-  all_answered s items (r ∷ rs) can =
-      let first = request_answered s items r can in
-      let rest = all_answered s first.0.items rs first.2 in
+  pub all_answered : (s : Setting) (held : Held) (rs : List Request) → CanBeEdited s.qubits held.items → (a : Answer) × IsAnswerToAll s held rs a × CanBeEdited s.qubits a.held.items
+  all_answered s held [] can = (replying held [], refl, can)
+  all_answered s held (r ∷ rs) can =
+      let first = request_answered s held r can in
+      let rest = all_answered s first.0.held rs first.2 in
       (both first.0 rest.0, (first.0, rest.0, first.1, rest.1, refl), rest.2)

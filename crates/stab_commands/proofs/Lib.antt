@@ -12,6 +12,9 @@ pub mod CheckLaws
 pub mod CountLaws
 pub mod LineLaws
 pub mod PlaceLaws
+pub mod ChangeLaws
+pub mod SignLaws
+pub mod FramedReplyLaws
 pub mod AnswerLaws
 pub mod AnswerExistLaws
 pub mod ReadingLaws

@@ -1,5 +1,5 @@
 -- Laws of script runs: what was read and answered so far, and how a script ends from there.
-use Rattle.std.proofs.Common.{◌≡◌, ◌≤◌, ◌<◌, ℕ, ◌+◌, ◌-◌, Bool, false, ◌||◌, List, [], ◌++◌, length, take, refl, sym, ap, ◌∙◌, subst, arith, append_assoc, length-append, Result, Ok, Err, inl, inr}
+use Rattle.std.proofs.Common.{◌≡◌, ◌≤◌, ◌<◌, ℕ, ◌+◌, ◌-◌, Bool, false, ◌||◌, List, [], ◌∷◌, ◌++◌, length, take, refl, sym, ap, ◌∙◌, subst, arith, append_assoc, length-append, Result, Ok, Err, inl, inr}
 use Rattle.std.proofs.lemmas.List.{append-nil, take_all}
 use Rattle.std.proofs.Math.Seq.{take-append-add}
 use Rattle.std.specs.Result.{IsErrAnd}
@@ -9,7 +9,7 @@ use Rattle.stab_io.specs.declared.refusal.Fault.{Fault}
 use Rattle.stab_io.specs.Refusals.{whole}
 use Rattle.stab_io.proofs.DeviceLemmas.{gave_none, gave_more, gave_and_failed, took_more}
 use Rattle.stab_circuit.specs.Items.{Items}
-use Rattle.stab_commands.specs.script.Scripts.{Setting, Request, IsAnswerToAll, both, ScriptReader, Reading, read, read_end, requests_of, empty_reader, most_script}
+use Rattle.stab_commands.specs.script.Scripts.{Setting, Request, begin, opened, IsAnswerToAll, both, ScriptReader, Reading, read, read_end, requests_in, requests_of, empty_reader, most_script}
 use Rattle.stab_commands.specs.script.ScriptEndings.{AnswersScript, BreaksOff, AnswersFront, EndsScript}
 use Rattle.stab_commands.specs.inner.Editors.{Sitting, Told, ToldSome, FlushFails, Sent, Finishes}
 use Rattle.stab_commands.proofs.ReadingLaws.{read_append, read_none}
@@ -17,7 +17,7 @@ use Rattle.stab_commands.proofs.TellingLaws.{answers_then, told_none, told_then,
 
 -- the sitting before a script
 abbrev pub before_script : Setting → Items → Sitting
-before_script setting items = record { setting = setting; items = items; refused = false }
+before_script setting items = record { setting = setting; held = opened setting items; refused = false }
 
 -- what was read of a script so far, and answered
 pub record AnsweredSoFar (setting : Setting) (items : Items) (now : Sitting) (reader : ScriptReader) (taken : ℕ) (s s' : InputView) (o o' : OutputView) : Type 0 where
@@ -25,32 +25,31 @@ pub record AnsweredSoFar (setting : Setting) (items : Items) (now : Sitting) (re
   pub gave : Gave s s' bytes
   pub counted : length bytes ≡ taken
   pub reading : reader ≡ (read empty_reader bytes).reader
-  pub told : Told (before_script setting items) now (read empty_reader bytes).requests o o'
+  pub told : Told (before_script setting items) now (requests_in bytes) o o'
 
--- nothing was read yet
-unfoldable pub so_far_none : (setting : Setting) (items : Items) (now : Sitting) (reader : ScriptReader) (s : InputView) (o : OutputView) → now ≡ before_script setting items → reader ≡ empty_reader
-    → AnsweredSoFar setting items now reader 0 s s o o
-so_far_none setting items now reader s o is e = record {
+-- nothing was read yet, and the script's beginning was answered
+unfoldable pub so_far_none : (setting : Setting) (items : Items) (now : Sitting) (reader : ScriptReader) (s : InputView) (o o' : OutputView) → Told (before_script setting items) now (begin ∷ []) o o' → reader ≡ empty_reader
+    → AnsweredSoFar setting items now reader 0 s s o o'
+so_far_none setting items now reader s o o' told e = record {
   bytes = [];
   gave = gave_none s;
   counted = refl;
   reading = e ∙ sym (ap (λ (r : Reading). r.reader) (read_none empty_reader));
-  told = subst (λ (r : Reading). Told (before_script setting items) now r.requests o o) (sym (read_none empty_reader))
-      (subst (λ (x : Sitting). Told (before_script setting items) x [] o o) (sym is) (told_none (before_script setting items) o));
+  told = subst (λ (r : Reading). Told (before_script setting items) now (begin ∷ r.requests) o o') (sym (read_none empty_reader)) told;
 }
 
 -- what bytes ask for behind others
-behind_requests : (bytes piece : List ℕ) → (read empty_reader (bytes ++ piece)).requests ≡ (read empty_reader bytes).requests ++ (read (read empty_reader bytes).reader piece).requests
-behind_requests bytes piece = ap (λ (r : Reading). r.requests) (read_append empty_reader bytes piece)
+behind_requests : (bytes piece : List ℕ) → requests_in (bytes ++ piece) ≡ requests_in bytes ++ (read (read empty_reader bytes).reader piece).requests
+behind_requests bytes piece = ap (λ (r : Reading). begin ∷ r.requests) (read_append empty_reader bytes piece)
 
 -- a piece more was read and answered
 pub told_more : {setting : Setting} {items : Items} {mid new : Sitting} {reader : ScriptReader} {o o' o'' : OutputView} (bytes piece : List ℕ)
-    → reader ≡ (read empty_reader bytes).reader → Told (before_script setting items) mid (read empty_reader bytes).requests o o' → Told mid new (read reader piece).requests o' o''
-    → Told (before_script setting items) new (read empty_reader (bytes ++ piece)).requests o o''
+    → reader ≡ (read empty_reader bytes).reader → Told (before_script setting items) mid (requests_in bytes) o o' → Told mid new (read reader piece).requests o' o''
+    → Told (before_script setting items) new (requests_in (bytes ++ piece)) o o''
 told_more {setting} {items} {mid} {new} {reader} {o} {o'} {o''} bytes piece e before more =
     let here : Told mid new (read (read empty_reader bytes).reader piece).requests o' o'' = subst (λ (d : ScriptReader). Told mid new (read d piece).requests o' o'') e more in
     subst (λ (l : List Request). Told (before_script setting items) new l o o'') (sym (behind_requests bytes piece))
-    (told_then (read empty_reader bytes).requests (read (read empty_reader bytes).reader piece).requests before here)
+    (told_then (requests_in bytes) (read (read empty_reader bytes).reader piece).requests before here)
 
 unfoldable pub so_far_more : {setting : Setting} {items : Items} {mid new : Sitting} {reader reader' : ScriptReader} {taken : ℕ} {s s' s'' : InputView} {o o' o'' : OutputView} (piece : List ℕ) (taken' : ℕ)
     → AnsweredSoFar setting items mid reader taken s s' o o' → Gave s' s'' piece → taken' ≡ taken + length piece
@@ -74,23 +73,23 @@ script_failed {setting} {items} {now} f before few failed e =
       bytes = before.bytes;
       within = inl (e, gave_and_failed before.bytes before.gave failed, omega (arith, before.counted));
       answer = before.told.answer;
-      answers = subst (λ (l : List ℕ). IsAnswerToAll setting items (read empty_reader l).requests before.told.answer) (sym same) before.told.answers;
+      answers = subst (λ (l : List ℕ). IsAnswerToAll setting (opened setting items) (requests_in l) before.told.answer) (sym same) before.told.answers;
       took = before.told.took;
     }
 
 -- what first bytes of a script ask for comes first
-front_requests : (front behind : List ℕ) → (more : List Request) × (requests_of (front ++ behind) ≡ (read empty_reader front).requests ++ more)
+front_requests : (front behind : List ℕ) → (more : List Request) × (requests_of (front ++ behind) ≡ requests_in front ++ more)
 front_requests front behind =
     let r = read empty_reader (front ++ behind) in
     let later = (read (read empty_reader front).reader behind).requests in (
       later ++ (read_end r.reader).requests,
       ap (λ l. l ++ (read_end r.reader).requests) (behind_requests front behind)
-          ∙ append_assoc (read empty_reader front).requests later (read_end r.reader).requests,
+          ∙ append_assoc (requests_in front) later (read_end r.reader).requests,
     )
 
 -- the output failed, or memory was refused, in what some first bytes of the script ask for
 pub script_broke : (setting : Setting) (items : Items) (s s' : InputView) (o o' : OutputView) (f : Fault) (front behind : List ℕ)
-    → Gave s s' (front ++ behind) → ToldSome (before_script setting items) (read empty_reader front).requests o o' f → BreaksOff setting items s s' o o' f
+    → Gave s s' (front ++ behind) → ToldSome (before_script setting items) (requests_in front) o o' f → BreaksOff setting items s s' o o' f
 script_broke setting items s s' o o' f front behind gave some =
     let more = front_requests front (behind ++ s'.unread) in
     record {
@@ -106,6 +105,11 @@ script_broke setting items s s' o o' f front behind gave some =
       cut = inl some.cut;
     }
 
+-- the output failed, or memory was refused, before the script was read
+pub greeting_broke : {setting : Setting} {items : Items} {o o' : OutputView} (s : InputView) (f : Fault) → ToldSome (before_script setting items) (begin ∷ []) o o' f → BreaksOff setting items s s o o' f
+greeting_broke {setting} {items} {o} {o'} s f some =
+    script_broke setting items s s o o' f [] [] (gave_none s) (subst (λ (r : Reading). ToldSome (before_script setting items) (begin ∷ r.requests) o o' f) (sym (read_none empty_reader)) some)
+
 -- the same, behind what was answered so far
 pub broke_behind : {setting : Setting} {items : Items} {now : Sitting} {reader : ScriptReader} {taken : ℕ} {s s' s'' : InputView} {o o' o'' : OutputView} (f : Fault) (part behind : List ℕ)
     → AnsweredSoFar setting items now reader taken s s' o o' → Gave s' s'' (part ++ behind) → ToldSome now (read reader part).requests o' o'' f
@@ -115,7 +119,7 @@ broke_behind {setting} {items} {now} {reader} {taken} {s} {s'} {s''} {o} {o'} {o
     let whole_gave : Gave s s'' ((before.bytes ++ part) ++ behind) = subst (λ (l : List ℕ). Gave s s'' l) (sym (append_assoc before.bytes part behind)) (gave_more before.bytes (part ++ behind) before.gave gave) in
     script_broke setting items s s'' o o'' f (before.bytes ++ part) behind whole_gave
     (subst (λ (l : List Request). ToldSome (before_script setting items) l o o'' f) (sym (behind_requests before.bytes part))
-    (told_some_behind (read empty_reader before.bytes).requests (read (read empty_reader before.bytes).reader part).requests f before.told here))
+    (told_some_behind (requests_in before.bytes) (read (read empty_reader before.bytes).reader part).requests f before.told here))
 
 -- the script goes past its limit
 pub script_too_long : {setting : Setting} {items : Items} {now new : Sitting} {reader : ScriptReader} {taken : ℕ} {s s' s'' : InputView} {o o' o'' : OutputView} (f : Fault) (piece part : List ℕ)
@@ -130,7 +134,7 @@ script_too_long {setting} {items} {now} {new} {reader} {taken} {s} {s'} {s''} {o
       bytes = before.bytes ++ piece;
       within = inr (e, gave_more before.bytes piece before.gave gave, omega (arith, length-append before.bytes piece, before.counted), omega (arith, length-append before.bytes piece, before.counted));
       answer = all.answer;
-      answers = subst (λ (l : List ℕ). IsAnswerToAll setting items (read empty_reader l).requests all.answer) (sym cut) all.answers;
+      answers = subst (λ (l : List ℕ). IsAnswerToAll setting (opened setting items) (requests_in l) all.answer) (sym cut) all.answers;
       took = all.took;
     }
   where
@@ -157,13 +161,13 @@ ended_sent {setting} {items} {now} {reader} {taken} {s} {s'} {s''} {o} {o'} {o''
     let last = (read_end whole_read.reader).requests in
     let a = before.told.answer in
     let sent : Sent now last o' o'' refused = subst (λ (d : ScriptReader). Sent now (read_end d).requests o' o'' refused) before.reading ends in
-    let here : IsAnswerToAll setting a.items last sent.answer = subst (λ (x : Sitting). IsAnswerToAll x.setting x.items last sent.answer) before.told.leaves sent.answers in
+    let here : IsAnswerToAll setting a.held last sent.answer = subst (λ (x : Sitting). IsAnswerToAll x.setting x.held last sent.answer) before.told.leaves sent.answers in
     record {
       script = before.bytes;
       within = omega (arith, before.counted);
       gave = gave_whole before.bytes before.gave gave;
       answer = both a sent.answer;
-      answers = answers_then setting items whole_read.requests last a sent.answer before.told.answers here;
+      answers = answers_then setting (opened setting items) (requests_in before.bytes) last a sent.answer before.told.answers here;
       sent = record { between = sent.sent.between; took = took_more a.reply sent.answer.reply before.told.took sent.sent.took; flushed = sent.sent.flushed };
       flag = sent.flag ∙ ap (λ (x : Sitting). x.refused || sent.answer.refused) before.told.leaves;
     }
@@ -176,7 +180,7 @@ ended_cut {setting} {items} {now} {reader} {taken} {s} {s'} {s''} {o} {o'} {o''}
     let whole_read = read empty_reader before.bytes in
     let last = (read_end whole_read.reader).requests in
     let some : ToldSome now last o' o'' f = subst (λ (d : ScriptReader). ToldSome now (read_end d).requests o' o'' f) before.reading ends in
-    let all = told_some_behind whole_read.requests last f before.told some in
+    let all = told_some_behind (requests_in before.bytes) last f before.told some in
     record {
       bytes = before.bytes;
       unread = [];
@@ -199,7 +203,7 @@ ended_unflushed {setting} {items} {now} {reader} {taken} {s} {s'} {s''} {o} {o'}
     let last = (read_end whole_read.reader).requests in
     let a = before.told.answer in
     let failed : FlushFails now last o' o'' f = subst (λ (d : ScriptReader). FlushFails now (read_end d).requests o' o'' f) before.reading ends in
-    let here : IsAnswerToAll setting a.items last failed.answer = subst (λ (x : Sitting). IsAnswerToAll x.setting x.items last failed.answer) before.told.leaves failed.answers in
+    let here : IsAnswerToAll setting a.held last failed.answer = subst (λ (x : Sitting). IsAnswerToAll x.setting x.held last failed.answer) before.told.leaves failed.answers in
     record {
       bytes = before.bytes;
       unread = [];
@@ -209,7 +213,7 @@ ended_unflushed {setting} {items} {now} {reader} {taken} {s} {s'} {s''} {o} {o'}
       rest = [];
       split = ap requests_of (append-nil before.bytes) ∙ sym (append-nil (requests_of before.bytes));
       answer = both a failed.answer;
-      answers = answers_then setting items whole_read.requests last a failed.answer before.told.answers here;
+      answers = answers_then setting (opened setting items) (requests_in before.bytes) last a failed.answer before.told.answers here;
       cut = inr (failed.fault, record { between = failed.failed.between; took = took_more a.reply failed.answer.reply before.told.took failed.failed.took; failed = failed.failed.failed });
     }
 

@@ -4,7 +4,7 @@ use Rattle.stab_io.specs.Devices.{InputView, OutputView, Gave, Reads}
 use Rattle.stab_io.specs.declared.device.DeviceFault.{DeviceFault}
 use Rattle.stab_io.proofs.DeviceLemmas.{gave_more, gave_and_failed}
 use Rattle.stab_circuit.specs.Items.{Items}
-use Rattle.stab_commands.specs.script.Scripts.{Setting, ScriptReader, read, empty_reader}
+use Rattle.stab_commands.specs.script.Scripts.{Setting, ScriptReader, begin, requests_in, read, empty_reader}
 use Rattle.stab_commands.specs.script.Watchers.{Asked, given_by, asked, Logs}
 use Rattle.stab_commands.specs.script.ScriptTurns.{all_given, Answered, InTurn, LogsInTurn, TakesTurns}
 use Rattle.stab_commands.specs.inner.Editors.{Sitting, Told}
@@ -61,7 +61,7 @@ logs_more {setting} {items} {o} {bytes} a (inr p) (inr q) here = inr (record {
 
 -- what was read so far was answered, so that a read finds exactly its replies
 caught_up : {setting : Setting} {items : Items} {now : Sitting} {o o' : OutputView} (bytes : List ℕ) (r : Result ℕ DeviceFault) (buf : List ℕ)
-    → Told (before_script setting items) now (read empty_reader bytes).requests o o' → IsTrue o.honest → Answered setting items (length o.written) bytes (asked o' r buf)
+    → Told (before_script setting items) now (requests_in bytes) o o' → IsTrue o.honest → Answered setting items (length o.written) bytes (asked o' r buf)
 caught_up {setting} {items} {now} {o} bytes r buf told h =
     (told.answer, told.answers, ap length (told.took.moved h) ∙ length-append o.written told.answer.reply)
 
@@ -93,8 +93,12 @@ unfolding so_far_more
 in_turn_so_far {setting} {items} {mid} {new} {reader} {reader'} {taken} {s} {s'} {s''} {o} {o'} {o''} {log} {log'} {log''} piece taken' n buf before more is gave size e told =
     (so_far_more piece taken' before.0 gave size e told, subst (λ (l : List ℕ). LogsSoFar setting items o (before.0.bytes ++ l) log log'') is (reads_in_turn (Ok n) buf before more))
 
--- a script before its first read
-pub in_turn_at_first : (setting : Setting) (items : Items) (now : Sitting) (reader : ScriptReader) (s : InputView) (o : OutputView) (log : Option (List Asked)) → now ≡ before_script setting items → reader ≡ empty_reader
-    → AnsweredInTurn setting items now reader 0 s s o o log log
+-- a script before its first read, whose beginning was answered
+pub in_turn_at_first : (setting : Setting) (items : Items) (now : Sitting) (reader : ScriptReader) (s : InputView) (o o' : OutputView) (log : Option (List Asked)) → Told (before_script setting items) now (begin ∷ []) o o' → reader ≡ empty_reader
+    → AnsweredInTurn setting items now reader 0 s s o o' log log
 unfolding so_far_none
-in_turn_at_first setting items now reader s o log is e = (so_far_none setting items now reader s o is e, logs_none setting items o log)
+in_turn_at_first setting items now reader s o o' log told e = (so_far_none setting items now reader s o o' told e, logs_none setting items o log)
+
+-- a script that was not read
+pub unread_in_turn : (setting : Setting) (items : Items) (s : InputView) (o : OutputView) (log : Option (List Asked)) → TakesTurns setting items s s o log log
+unread_in_turn setting items s o log = takes_turns s s [] (λ h. refl) (logs_none setting items o log)

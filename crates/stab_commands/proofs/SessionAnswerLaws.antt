@@ -1,76 +1,125 @@
 -- Laws of answers from a session: what its calls say is what scripts are answered.
-use Rattle.std.proofs.Common.{◌≡◌, ◌≢◌, ℕ, Bool, true, false, List, refl, sym, ap, ◌∙◌, codes, Option, Some, None, Result, Ok, Err, inl, inr}
+use Rattle.std.proofs.Common.{◌≡◌, ◌≢◌, ℕ, Bool, true, false, min, length, List, refl, sym, ap, ◌∙◌, codes, Option, Some, None, Result, Ok, Err, inl, inr}
 use Rattle.stab_io.specs.declared.refusal.Refusal.{Refusal}
 use Rattle.stab_io.specs.declared.refusal.Refusal.TheVariants.{OutOfMemory}
 use Rattle.stab_io.specs.declared.refusal.Fault.{Fault}
-use Rattle.stab_io.specs.Refusals.{IsCallFault}
+use Rattle.stab_io.specs.Refusals.{whole, IsCallFault}
 use Rattle.stab_circuit.specs.Items.{Items, OneItem, listed, entries}
 use Rattle.stab_circuit.specs.declared.edit.Edit.{Edit}
 use Rattle.stab_circuit.specs.Edits.{edited, verdict, list_verdict}
 use Rattle.stab_circuit.proofs.EditLemmas.{listed-entries}
 use Rattle.stab_session.specs.Sessions.{SessionState}
 use Rattle.stab_session.specs.SessionEdits.{IsEditedBy, IsAsBefore}
+use Rattle.stab_circuit.specs.Steps.{unroll, steps_cap, check_within}
 use Rattle.stab_circuit.specs.Readings.{ReadsItem}
+use Rattle.stab_run.specs.Runs.{State, run_of}
+use Rattle.stab_commands.specs.declared.script.reply.SessionNumbers.{SessionNumbers}
+use Rattle.stab_commands.specs.script.FramedRequests.{FramedRequest}
+use Rattle.stab_run.proofs.FitLemmas.{check-whole}
+use Rattle.stab_commands.proofs.CheckLaws.{steps_counted}
 use Rattle.stab_commands.specs.FaultLines.{refused_text}
-use Rattle.stab_commands.specs.script.Scripts.{Setting, unless, judged, decided, refusing, IsPut}
-use Rattle.stab_commands.specs.inner.SessionAnswers.{session_setting, answered}
+use Rattle.stab_commands.specs.script.Scripts.{Setting, Held, first_mark, opened, unless, judged, decided, refusing, IsPut, framed_shown, held_behind, shown_or_refused, framed_answer}
+use Rattle.stab_commands.specs.inner.SessionAnswers.{session_setting, held_of, answered}
+use Rattle.stab_commands.specs.script.Changes.{Mark}
+use Rattle.stab_commands.specs.script.FramedReplies.{made_text, reply_text, session_numbers}
+use Rattle.stab_commands.specs.declared.script.changes.MarkedBits.{MarkedBits}
 
--- an edit that was made
-pub made_answer : {C : Type 0} (sequence : C → ℕ → Bool) (e : Edit) (old new : SessionState C) → IsEditedBy sequence e old new
-    → answered new.items (codes "ok\n") false ≡ decided old.items (judged old.qubits (edited e (entries old.items)))
-made_answer sequence e old new is =
+-- items and a mark
+abbrev held_with : Items → Mark → Held
+held_with items m = record { items = items; mark = m }
+
+-- what an edit that was made leaves
+pub made_items : {C : Type 0} (sequence : C → ℕ → Bool) (e : Edit) (old new : SessionState C) → IsEditedBy sequence e old new
+    → judged old.qubits (edited e (entries old.items)) ≡ Ok new.items
+made_items sequence e old new is =
     let after : edited e (entries old.items) ≡ Ok (entries new.items) = is.items in
     let passes : list_verdict old.qubits (Ok (entries new.items)) ≡ None = sym (ap (list_verdict old.qubits) after) ∙ is.accepted in
-    let all : judged old.qubits (edited e (entries old.items)) ≡ Ok new.items =
-    ap (judged old.qubits) after ∙ ap (λ v. unless v (listed (entries new.items))) passes ∙ ap Ok (listed-entries new.items) in
-    sym (ap (decided old.items) all)
+    ap (judged old.qubits) after ∙ ap (λ v. unless v (listed (entries new.items))) passes ∙ ap Ok (listed-entries new.items)
 
 judged_refused : (n : ℕ) (r : Result (List OneItem) Refusal) (x : Refusal) → list_verdict n r ≡ Some x → judged n r ≡ Err x
 judged_refused n (Ok ys) x e = ap (λ v. unless v (listed ys)) e
 judged_refused n (Err y) x e = let same : y ≡ x = cc in ap Err same
 
-refused_by : (n : ℕ) (r : Result (List OneItem) Refusal) (items : Items) (f : Fault) (v : Option Refusal) → list_verdict n r ≡ v → IsCallFault v f → f.refusal ≢ OutOfMemory
-    → refusing items f.refusal ≡ decided items (judged n r)
-refused_by n r items f (Some x) e is some = ap (λ (g : Fault). refusing items g.refusal) is ∙ sym (ap (decided items) (judged_refused n r x e))
-refused_by n r items f None e is some = absurd (some (ap (λ (g : Fault). g.refusal) is))
+refused_by : (kept : Bool) (n : ℕ) (r : Result (List OneItem) Refusal) (held : Held) (f : Fault) (v : Option Refusal) → list_verdict n r ≡ v → IsCallFault v f → f.refusal ≢ OutOfMemory
+    → refusing held f.refusal ≡ decided kept held (judged n r)
+refused_by kept n r held f (Some x) e is some = ap (λ (g : Fault). refusing held g.refusal) is ∙ sym (ap (decided kept held) (judged_refused n r x e))
+refused_by kept n r held f None e is some = absurd (some (ap (λ (g : Fault). g.refusal) is))
 
 -- an edit that was refused, not for want of memory
-pub refused_answer : (n : ℕ) (r : Result (List OneItem) Refusal) (items : Items) (f : Fault) → IsCallFault (list_verdict n r) f → f.refusal ≢ OutOfMemory
-    → refusing items f.refusal ≡ decided items (judged n r)
-refused_answer n r items f is some = refused_by n r items f (list_verdict n r) refl is some
+pub refused_answer : (kept : Bool) (n : ℕ) (r : Result (List OneItem) Refusal) (held : Held) (f : Fault) → IsCallFault (list_verdict n r) f → f.refusal ≢ OutOfMemory
+    → refusing held f.refusal ≡ decided kept held (judged n r)
+refused_answer kept n r held f is some = refused_by kept n r held f (list_verdict n r) refl is some
 
-abbrev setting_with : ℕ → (ℕ → Bool) → Setting
-setting_with qubits coins = record { qubits = qubits; coins = coins }
+abbrev setting_with : Bool → ℕ → (ℕ → Bool) → Setting
+setting_with framed qubits coins = record { framed = framed; qubits = qubits; coins = coins }
 
-same_setting : {n m : ℕ} {f g : ℕ → Bool} → n ≡ m → f ≡ g → setting_with n f ≡ setting_with m g
-same_setting {n} {m} {f} {g} e h = ap (λ k. setting_with k f) e ∙ ap (λ c. setting_with m c) h
+pub same_setting : {b c : Bool} {n m : ℕ} {f g : ℕ → Bool} → b ≡ c → n ≡ m → f ≡ g → setting_with b n f ≡ setting_with c m g
+same_setting {b} {c} {n} {m} {f} {g} d e h = ap (λ k. setting_with k n f) d ∙ ap (λ k. setting_with c k f) e ∙ ap (λ k. setting_with c m k) h
 
 -- an edit keeps qubits and coins
-pub made_setting : {C : Type 0} (sequence : C → ℕ → Bool) (e : Edit) (old new : SessionState C) → IsEditedBy sequence e old new → session_setting sequence new ≡ session_setting sequence old
-made_setting sequence e old new is = same_setting is.qubits is.coins
+pub made_setting : {C : Type 0} (sequence : C → ℕ → Bool) (framed : Bool) (e : Edit) (old new : SessionState C) → IsEditedBy sequence e old new
+    → session_setting sequence framed new ≡ session_setting sequence framed old
+made_setting sequence framed e old new is = same_setting refl is.qubits is.coins
 
 -- so does one that is refused
-pub kept_setting : {C : Type 0} (sequence : C → ℕ → Bool) (old new : SessionState C) → IsAsBefore sequence old new → session_setting sequence new ≡ session_setting sequence old
-kept_setting sequence old new is = same_setting is.qubits is.coins
+pub kept_setting : {C : Type 0} (sequence : C → ℕ → Bool) (framed : Bool) (old new : SessionState C) → IsAsBefore sequence old new
+    → session_setting sequence framed new ≡ session_setting sequence framed old
+kept_setting sequence framed old new is = same_setting refl is.qubits is.coins
 
 -- what is told of an edit that was made
-pub told_made : {C : Type 0} (sequence : C → ℕ → Bool) (e : Edit) (old new : SessionState C) (reply : List ℕ) → IsEditedBy sequence e old new → reply ≡ codes "ok\n"
-    → answered new.items reply false ≡ decided old.items (judged old.qubits (edited e (entries old.items)))
-told_made sequence e old new reply is same = ap (λ l. answered new.items l false) same ∙ made_answer sequence e old new is
+pub told_made : {C : Type 0} (sequence : C → ℕ → Bool) (kept : Bool) (e : Edit) (old new : SessionState C) (m : MarkedBits) (reply : List ℕ) → IsEditedBy sequence e old new → reply ≡ made_text kept
+    → answered (held_of new m) reply false ≡ decided kept (held_of old m) (judged old.qubits (edited e (entries old.items)))
+told_made sequence kept e old new m reply is same =
+    ap (λ l. answered (held_of new m) l false) same ∙ sym (ap (decided kept (held_of old m)) (made_items sequence e old new is))
 
-same_refusal : {items others : Items} {reply : List ℕ} {refused : Bool} (r : Refusal) → items ≡ others → reply ≡ refused_text r → refused ≡ true → answered items reply refused ≡ refusing others r
-same_refusal {items} {others} {reply} {refused} r e f g =
+same_refusal : {held others : Held} {reply : List ℕ} {refused : Bool} (r : Refusal) → held ≡ others → reply ≡ refused_text r → refused ≡ true → answered held reply refused ≡ refusing others r
+same_refusal {held} {others} {reply} {refused} r e f g =
     ap (λ x. answered x reply refused) e ∙ ap (λ l. answered others l refused) f ∙ ap (λ b. answered others (refused_text r) b) g
 
 -- what is told of an edit that was refused
-pub told_refusal : {C : Type 0} (sequence : C → ℕ → Bool) (e : Edit) (old new : SessionState C) (f : Fault) (reply : List ℕ) (refused : Bool) → IsAsBefore sequence old new
+pub told_refusal : {C : Type 0} (sequence : C → ℕ → Bool) (kept : Bool) (e : Edit) (old new : SessionState C) (m : MarkedBits) (f : Fault) (reply : List ℕ) (refused : Bool) → IsAsBefore sequence old new
     → IsCallFault (verdict old.qubits e (entries old.items)) f → f.refusal ≢ OutOfMemory → reply ≡ refused_text f.refusal → refused ≡ true
-    → answered new.items reply refused ≡ decided old.items (judged old.qubits (edited e (entries old.items)))
-told_refusal sequence e old new f reply refused is fault some same true_is =
-    same_refusal f.refusal is.items same true_is ∙ refused_answer old.qubits (edited e (entries old.items)) old.items f fault some
+    → answered (held_of new m) reply refused ≡ decided kept (held_of old m) (judged old.qubits (edited e (entries old.items)))
+told_refusal sequence kept e old new m f reply refused is fault some same true_is =
+    same_refusal f.refusal (ap (λ x. held_with x (held_of old m).mark) is.items) same true_is ∙ refused_answer kept old.qubits (edited e (entries old.items)) (held_of old m) f fault some
 
 -- a text that stands for no item
-pub put_refused : (items : Items) (after : OneItem → Result Items Refusal) (text : List ℕ) (f : Fault) (reply : List ℕ) (refused : Bool)
-    → ReadsItem text (Err f) → f.refusal ≢ OutOfMemory → reply ≡ refused_text f.refusal → refused ≡ true → IsPut items after text (answered items reply refused)
-put_refused items after text f reply refused (inl memory) some same true_is = absurd (some (ap (λ (g : Fault). g.refusal) memory))
-put_refused items after text f reply refused (inr fault) some same true_is = inl (f, fault, same_refusal f.refusal refl same true_is)
+pub put_refused : (kept : Bool) (held : Held) (after : OneItem → Result Items Refusal) (text : List ℕ) (f : Fault) (reply : List ℕ) (refused : Bool)
+    → ReadsItem text (Err f) → f.refusal ≢ OutOfMemory → reply ≡ refused_text f.refusal → refused ≡ true → IsPut kept held after text (answered held reply refused)
+put_refused kept held after text f reply refused (inl memory) some same true_is = absurd (some (ap (λ (g : Fault). g.refusal) memory))
+put_refused kept held after text f reply refused (inr fault) some same true_is = inl (f, fault, same_refusal f.refusal refl same true_is)
+
+-- the steps of a circuit that nothing refuses are counted to the end
+pub steps_told : (n k : ℕ) (items : Items) → check_within n items ≡ None → k ≡ min (length (unroll items)) steps_cap → k ≡ length (unroll items)
+steps_told n k items e f = f ∙ steps_counted items (check-whole n items e)
+
+abbrev numbers_with : (q t r d o : ℕ) → SessionNumbers
+numbers_with q t r d o = record { qubits = q; steps = t; records = r; detectors = d; observables = o }
+
+-- numbers are those of a session, where each is
+pub numbers_told : {q t r d o : ℕ} (n : ℕ) (run : State) (items : Items) → q ≡ n → t ≡ length (unroll items) → r ≡ length run.records → d ≡ length run.detectors → o ≡ length run.observables
+    → numbers_with q t r d o ≡ session_numbers n run items
+numbers_told {q} {t} {r} {d} {o} n run items eq et er ed eo =
+    ap (λ k. numbers_with k t r d o) eq
+    ∙ ap (λ k. numbers_with n k r d o) et
+    ∙ ap (λ k. numbers_with n (length (unroll items)) k d o) er
+    ∙ ap (λ k. numbers_with n (length (unroll items)) (length run.records) k o) ed
+    ∙ ap (λ k. numbers_with n (length (unroll items)) (length run.records) (length run.detectors) k) eo
+
+-- what is held before a script
+pub opened_with : (s : Setting) (items : Items) (m : Mark) → m ≡ first_mark s.framed (run_of s.qubits s.coins items) → held_with items m ≡ opened s items
+opened_with s items m e = ap (held_with items) e
+
+-- want of memory, where nothing refuses the items
+pub unopened : (v : Option Refusal) (f : Fault) → v ≡ None → f ≡ whole OutOfMemory → IsCallFault v f
+unopened None f e is = is
+unopened (Some r) f e is = absurd (cc)
+
+-- a reply to what is shown, and its refusal
+pub told_framed : {run : State} {held behind : Held} (n : ℕ) (r : FramedRequest) (text : List ℕ) → framed_shown n run held r ≡ Ok text → behind ≡ held_behind run held r
+    → answered behind (reply_text true text) false ≡ framed_answer true n run held r
+told_framed {run} {held} n r text e f =
+    ap (λ x. answered x (reply_text true text) false) f ∙ sym (ap (shown_or_refused true held (held_behind run held r)) e)
+
+pub refused_framed : {run : State} {held : Held} (n : ℕ) (r : FramedRequest) (e : Refusal) → framed_shown n run held r ≡ Err e → refusing held e ≡ framed_answer true n run held r
+refused_framed {run} {held} n r e f = sym (ap (shown_or_refused true held (held_behind run held r)) f)

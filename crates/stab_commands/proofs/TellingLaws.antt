@@ -8,8 +8,7 @@ use Rattle.stab_io.specs.declared.refusal.Refusal.{Refusal}
 use Rattle.stab_io.specs.declared.refusal.Fault.{Fault}
 use Rattle.stab_io.specs.Refusals.{whole}
 use Rattle.stab_io.proofs.DeviceLemmas.{took_none, took_more, took_and_failed}
-use Rattle.stab_circuit.specs.Items.{Items}
-use Rattle.stab_commands.specs.script.Scripts.{Setting, Request, Answer, IsAnswer, IsAnswerToAll, both, replying}
+use Rattle.stab_commands.specs.script.Scripts.{Setting, Request, Held, Answer, IsAnswer, IsAnswerToAll, both, replying}
 use Rattle.stab_commands.specs.inner.Editors.{Sitting, after_answer, Told, ToldSome, AnswersRequests}
 
 or_assoc : (a b c : Bool) → (a || b) || c ≡ a || (b || c)
@@ -20,78 +19,78 @@ or_false : (a : Bool) → a || false ≡ a
 or_false true = refl
 or_false false = refl
 
-abbrev answer_with : Items → List ℕ → Bool → Answer
-answer_with items reply refused = record { items = items; reply = reply; refused = refused }
+abbrev answer_with : Held → List ℕ → Bool → Answer
+answer_with held reply refused = record { held = held; reply = reply; refused = refused }
 
 -- answers one after another, in either grouping
 both_assoc : (a b c : Answer) → both (both a b) c ≡ both a (both b c)
 both_assoc a b c =
-    ap (λ l. answer_with c.items l ((a.refused || b.refused) || c.refused)) (append_assoc a.reply b.reply c.reply)
-    ∙ ap (λ r. answer_with c.items (a.reply ++ (b.reply ++ c.reply)) r) (or_assoc a.refused b.refused c.refused)
+    ap (λ l. answer_with c.held l ((a.refused || b.refused) || c.refused)) (append_assoc a.reply b.reply c.reply)
+    ∙ ap (λ r. answer_with c.held (a.reply ++ (b.reply ++ c.reply)) r) (or_assoc a.refused b.refused c.refused)
 
 -- an answer and then none
-both_nothing : (a : Answer) → both a (replying a.items []) ≡ a
+both_nothing : (a : Answer) → both a (replying a.held []) ≡ a
 both_nothing a =
-    ap (λ l. answer_with a.items l (a.refused || false)) (append-nil a.reply)
-    ∙ ap (λ r. answer_with a.items a.reply r) (or_false a.refused)
+    ap (λ l. answer_with a.held l (a.refused || false)) (append-nil a.reply)
+    ∙ ap (λ r. answer_with a.held a.reply r) (or_false a.refused)
 
 -- answers to first requests and to those behind them
-pub answers_then : (s : Setting) (items : Items) (xs ys : List Request) (a b : Answer)
-    → IsAnswerToAll s items xs a → IsAnswerToAll s a.items ys b → IsAnswerToAll s items (xs ++ ys) (both a b)
-answers_then s items [] ys a b p q =
-    let here : IsAnswerToAll s items ys b = subst (λ (x : Answer). IsAnswerToAll s x.items ys b) p q in
-    subst (λ (x : Answer). IsAnswerToAll s items ys (both x b)) (sym p) here
-answers_then s items (r ∷ xs) ys a b p q =
-    let later : IsAnswerToAll s p.1.items ys b = subst (λ (x : Answer). IsAnswerToAll s x.items ys b) p.4 q in
-    (p.0, both p.1 b, p.2, answers_then s p.0.items xs ys p.1 b p.3 later, ap (λ x. both x b) p.4 ∙ both_assoc p.0 p.1 b)
+pub answers_then : (s : Setting) (held : Held) (xs ys : List Request) (a b : Answer)
+    → IsAnswerToAll s held xs a → IsAnswerToAll s a.held ys b → IsAnswerToAll s held (xs ++ ys) (both a b)
+answers_then s held [] ys a b p q =
+    let here : IsAnswerToAll s held ys b = subst (λ (x : Answer). IsAnswerToAll s x.held ys b) p q in
+    subst (λ (x : Answer). IsAnswerToAll s held ys (both x b)) (sym p) here
+answers_then s held (r ∷ xs) ys a b p q =
+    let later : IsAnswerToAll s p.1.held ys b = subst (λ (x : Answer). IsAnswerToAll s x.held ys b) p.4 q in
+    (p.0, both p.1 b, p.2, answers_then s p.0.held xs ys p.1 b p.3 later, ap (λ x. both x b) p.4 ∙ both_assoc p.0 p.1 b)
 
 -- one request alone
-pub answers_one : (s : Setting) (items : Items) (r : Request) (a : Answer) → IsAnswer s items r a → IsAnswerToAll s items (r ∷ []) a
-answers_one s items r a is = (a, replying a.items [], is, refl, sym (both_nothing a))
+pub answers_one : (s : Setting) (held : Held) (r : Request) (a : Answer) → IsAnswer s held r a → IsAnswerToAll s held (r ∷ []) a
+answers_one s held r a is = (a, replying a.held [], is, refl, sym (both_nothing a))
 
-abbrev pub sitting_with : Setting → Items → Bool → Sitting
-sitting_with setting items refused = record { setting = setting; items = items; refused = refused }
+abbrev pub sitting_with : Setting → Held → Bool → Sitting
+sitting_with setting held refused = record { setting = setting; held = held; refused = refused }
 
 -- one request was answered
-pub told_one : {o o' : OutputView} (old : Sitting) (setting : Setting) (r : Request) (a : Answer) → setting ≡ old.setting → IsAnswer old.setting old.items r a → Took o o' a.reply
-    → Told old (sitting_with setting a.items (old.refused || a.refused)) (r ∷ []) o o'
+pub told_one : {o o' : OutputView} (old : Sitting) (setting : Setting) (r : Request) (a : Answer) → setting ≡ old.setting → IsAnswer old.setting old.held r a → Took o o' a.reply
+    → Told old (sitting_with setting a.held (old.refused || a.refused)) (r ∷ []) o o'
 told_one old setting r a kept is took = record {
   answer = a;
-  answers = answers_one old.setting old.items r a is;
+  answers = answers_one old.setting old.held r a is;
   took = took;
-  leaves = ap (λ s. sitting_with s a.items (old.refused || a.refused)) kept;
+  leaves = ap (λ s. sitting_with s a.held (old.refused || a.refused)) kept;
 }
 
 -- the reply to one request was cut off
-pub told_one_cut : {o o' : OutputView} (old : Sitting) (r : Request) (a : Answer) (e : Refusal) (f : Fault) → IsAnswer old.setting old.items r a → f ≡ whole e → (e ≡ WriteFault) × TookAndFailed o o' a.reply
+pub told_one_cut : {o o' : OutputView} (old : Sitting) (r : Request) (a : Answer) (e : Refusal) (f : Fault) → IsAnswer old.setting old.held r a → f ≡ whole e → (e ≡ WriteFault) × TookAndFailed o o' a.reply
     → ToldSome old (r ∷ []) o o' f
 told_one_cut old r a e f is same failed = record {
   first = r ∷ [];
   rest = [];
   split = refl;
   answer = a;
-  answers = answers_one old.setting old.items r a is;
+  answers = answers_one old.setting old.held r a is;
   cut = inl (same ∙ ap whole failed.0, failed.1);
 }
 
 -- nothing was asked for
 pub told_none : (old : Sitting) (o : OutputView) → Told old old [] o o
 told_none old o = record {
-  answer = replying old.items [];
+  answer = replying old.held [];
   answers = refl;
   took = took_none o;
-  leaves = sym (ap (λ b. sitting_with old.setting old.items b) (or_false old.refused));
+  leaves = sym (ap (λ b. sitting_with old.setting old.held b) (or_false old.refused));
 }
 
 -- first some, then others
 pub told_then : {a b c : Sitting} {o p q : OutputView} (xs ys : List Request) → Told a b xs o p → Told b c ys p q → Told a c (xs ++ ys) o q
 told_then {a} {b} {c} {o} {p} {q} xs ys first next =
-    let here : IsAnswerToAll a.setting first.answer.items ys next.answer = subst (λ (x : Sitting). IsAnswerToAll x.setting x.items ys next.answer) first.leaves next.answers in
+    let here : IsAnswerToAll a.setting first.answer.held ys next.answer = subst (λ (x : Sitting). IsAnswerToAll x.setting x.held ys next.answer) first.leaves next.answers in
     record {
       answer = both first.answer next.answer;
-      answers = answers_then a.setting a.items xs ys first.answer next.answer first.answers here;
+      answers = answers_then a.setting a.held xs ys first.answer next.answer first.answers here;
       took = took_more first.answer.reply next.answer.reply first.took next.took;
-      leaves = next.leaves ∙ ap (λ x. after_answer x next.answer) first.leaves ∙ ap (λ r. sitting_with a.setting next.answer.items r) (or_assoc a.refused first.answer.refused next.answer.refused);
+      leaves = next.leaves ∙ ap (λ x. after_answer x next.answer) first.leaves ∙ ap (λ r. sitting_with a.setting next.answer.held r) (or_assoc a.refused first.answer.refused next.answer.refused);
     }
 
 -- what is cut off behind some replies
@@ -104,13 +103,13 @@ cut_behind xs ys f before (inr some) =
 -- first some, and then the others are cut off
 pub told_some_behind : {a b : Sitting} {o p q : OutputView} (xs ys : List Request) (f : Fault) → Told a b xs o p → ToldSome b ys p q f → ToldSome a (xs ++ ys) o q f
 told_some_behind {a} {b} xs ys f before some =
-    let here : IsAnswerToAll a.setting before.answer.items some.first some.answer = subst (λ (x : Sitting). IsAnswerToAll x.setting x.items some.first some.answer) before.leaves some.answers in
+    let here : IsAnswerToAll a.setting before.answer.held some.first some.answer = subst (λ (x : Sitting). IsAnswerToAll x.setting x.held some.first some.answer) before.leaves some.answers in
     record {
       first = xs ++ some.first;
       rest = some.rest;
       split = ap (λ l. xs ++ l) some.split ∙ sym (append_assoc xs some.first some.rest);
       answer = both before.answer some.answer;
-      answers = answers_then a.setting a.items xs some.first before.answer some.answer before.answers here;
+      answers = answers_then a.setting a.held xs some.first before.answer some.answer before.answers here;
       cut = cut_behind before.answer.reply some.answer.reply f before.took some.cut;
     }
 
@@ -131,7 +130,7 @@ told_nothing old requests o f e = record {
   first = [];
   rest = requests;
   split = refl;
-  answer = replying old.items [];
+  answer = replying old.held [];
   answers = refl;
   cut = inr (e, record { front = []; rest = []; split = refl; took = took_none o });
 }

@@ -31,17 +31,17 @@ NamesNone ends r unsure = (unsure ≡ None) × RefusesNone ends r
 
 -- how the call of a command ends, with coins from the source: whether a line of the script was refused, and which bit was named as one that is not sure
 abbrev pub EndsCommand : Command → Source → InputView → InputView → InputView → InputView → OutputView → OutputView → Result Bool Fault → Option Unsure → Type 0
-EndsCommand (Sample format shots) source i i' s s' o o' r unsure = NamesNone (EndsRun (sample_of format shots source) i i' o o') r unsure
-EndsCommand (Detect format shots append) source i i' s s' o o' r unsure = NamesNone (EndsRun (detect_of format append shots source) i i' o o') r unsure
+EndsCommand (Sample format shots) source i i' s s' o o' r unsure = NamesNone (EndsRun (sample_of format shots.first shots.number source) i i' o o') r unsure
+EndsCommand (Detect format shots append) source i i' s s' o o' r unsure = NamesNone (EndsRun (detect_of format append shots.first shots.number source) i i' o o') r unsure
 EndsCommand Stabilisers source i i' s s' o o' r unsure = NamesNone (EndsStabilisers source i i' o o') r unsure
 EndsCommand Check source i i' s s' o o' r unsure = NamesNone (EndsCheck i i' o o') r unsure
 EndsCommand (Deterministic format) source i i' s s' o o' r unsure = NamesNone (EndsDeterministic format i i' o o') r unsure
 EndsCommand (Faults layout everywhere sure_only) source i i' s s' o o' r unsure = RefusesNone (λ answer. EndsFaults layout everywhere sure_only i i' o o' answer unsure) r
-EndsCommand (Edit qubits stride) source i i' s s' o o' r unsure = (unsure ≡ None) × EndsEdit qubits source i i' s s' o o' r
+EndsCommand (Edit framed qubits stride) source i i' s s' o o' r unsure = (unsure ≡ None) × EndsEdit framed qubits source i i' s s' o o' r
 
 -- whether a command reads a script
 abbrev pub reads_script : Command → Bool
-reads_script (Edit qubits stride) = true
+reads_script (Edit framed qubits stride) = true
 reads_script command = false
 
 -- the status of a run: 0 without a fault, 3 where a line of the script was refused, 1 with a fault

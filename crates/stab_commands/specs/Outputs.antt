@@ -1,7 +1,7 @@
 -- Outputs: what `sample` and `detect` write for the items of a circuit, and how a call of one ends.
 -- Source: Stim's commands `sample` and `detect`. It differs in that a shot's coins are given, and that a detector is the parity of
 -- its records.
-use Rattle.std.specs.Prelude.{◌≡◌, ℕ, zero, suc, Bool, true, false, List, [], ◌++◌, length, Result}
+use Rattle.std.specs.Prelude.{◌≡◌, ℕ, zero, suc, ◌+◌, Bool, true, false, List, [], ◌++◌, length, Result}
 use Rattle.stab_io.specs.Devices.{InputView, OutputView}
 use Rattle.stab_io.specs.declared.refusal.Fault.{Fault}
 use Rattle.stab_circuit.specs.Items.{Items}
@@ -25,14 +25,14 @@ coins_of_shot (Listed list) shot = list_coin list.items
 abbrev pub run_of_shot : Source → Items → ℕ → State
 run_of_shot source items shot = run_of (qubits_of items) (coins_of_shot source shot) items
 
--- the bytes of so many shots, one after another from shot 0 on
-abbrev pub of_shots : (ℕ → List ℕ) → ℕ → List ℕ
-of_shots bytes_of zero = []
-of_shots bytes_of (suc n) = of_shots bytes_of n ++ bytes_of n
+-- the bytes of so many shots, one after another from the first on
+abbrev pub of_shots : (bytes_of : ℕ → List ℕ) → (first shots : ℕ) → List ℕ
+of_shots bytes_of first zero = []
+of_shots bytes_of first (suc n) = of_shots bytes_of first n ++ bytes_of (first + n)
 
 -- what `sample` writes for the items: the records of each shot
-abbrev pub sample_of : Format → ℕ → Source → Items → List ℕ
-sample_of format shots source items = of_shots (λ shot. shot_bytes format Measurements (run_of_shot source items shot).records) shots
+abbrev pub sample_of : Format → (first shots : ℕ) → Source → Items → List ℕ
+sample_of format first shots source items = of_shots (λ shot. shot_bytes format Measurements (run_of_shot source items shot).records) first shots
 
 -- a run's detectors, and behind them its observables where they are appended
 abbrev pub detected : Format → (append : Bool) → State → List ℕ
@@ -40,8 +40,20 @@ detected format false run = shot_bytes format (Detectors (length run.detectors))
 detected format true run = shot_bytes format (Detectors (length run.detectors)) (run.detectors ++ run.observables)
 
 -- what `detect` writes for the items
-abbrev pub detect_of : Format → (append : Bool) → ℕ → Source → Items → List ℕ
-detect_of format append shots source items = of_shots (λ shot. detected format append (run_of_shot source items shot)) shots
+abbrev pub detect_of : Format → (append : Bool) → (first shots : ℕ) → Source → Items → List ℕ
+detect_of format append first shots source items = of_shots (λ shot. detected format append (run_of_shot source items shot)) first shots
+
+-- what `sample` writes for some shots, and behind it for those that follow them, is what it writes for all of these
+abbrev pub SampledPartsJoin : Type 0
+SampledPartsJoin =
+    (format : Format) (first n m : ℕ) (source : Source) (items : Items) →
+    sample_of format first n source items ++ sample_of format (first + n) m source items ≡ sample_of format first (n + m) source items
+
+-- and so it is of `detect`
+abbrev pub DetectedPartsJoin : Type 0
+DetectedPartsJoin =
+    (format : Format) (append : Bool) (first n m : ℕ) (source : Source) (items : Items) →
+    detect_of format append first n source items ++ detect_of format append (first + n) m source items ≡ detect_of format append first (n + m) source items
 
 -- The text stands for a circuit, and the output of it was sent.
 pub record SendsOutput {T : Type 0} (output : Items → List ℕ) (old new : OutputView) (text : List ℕ) (r : Result T Fault) : Type 0 where

@@ -4,5 +4,6 @@ pub mod Requests
 pub mod Replies
 pub mod Editors
 pub mod SessionAnswers
+pub mod FramedAnswers
 pub mod FaultSites
 pub mod Faults

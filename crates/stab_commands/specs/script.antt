@@ -1,4 +1,8 @@
 pub mod ScriptWords
+pub mod FramedRequests
+pub mod FramedReplies
+pub mod Changes
+pub mod Signs
 pub mod Scripts
 pub mod ScriptLaws
 pub mod ScriptEndings

@@ -2,43 +2,66 @@
 use stab_results::Format;
 use std::marker::Model;
 
-/// How many shots a command takes, at most 1,000,000.
+/// Which shots a command takes: at most 1,000,000, one after another, and none beyond the last of a
+/// seed, which is shot 2^64 - 1.
 #[derive(Clone, Copy, Debug, PartialEq, Eq)]
 pub struct Shots {
+    first: u64,
     number: usize,
 }
 
 impl Model for Shots {
-    ghost use Rattle.std.specs.Prelude.{ℕ, ◌≤◌};
-    ghost use Rattle.stab_commands.specs.Limits.{most_shots};
+    ghost use Rattle.std.specs.Prelude.{◌+◌, ◌≤◌};
+    ghost use Rattle.stab_commands.specs.Limits.{ShotRange, most_shots, shots_of_seed};
 
-    ghost Value = { ℕ };
+    ghost Value = { ShotRange };
 
-    ghost view = { λ s. s.number };
+    ghost view = { λ s. record { first = s.first; number = s.number } };
 
-    ghost invariant = { λ s. s.number ≤ most_shots };
+    ghost invariant = { λ s. (s.number ≤ most_shots) × (s.first + s.number ≤ shots_of_seed) };
 
-    ghost inverse = { λ n. record { number = n } };
+    ghost inverse = { λ r. record { first = r.first; number = r.number } };
 }
 
 impl Shots {
-    ghost use Rattle.std.specs.Prelude.{◌≡◌, ◌≤◌};
-    ghost use Rattle.stab_commands.specs.Limits.{most_shots};
+    ghost use Rattle.std.specs.Prelude.{◌≡◌, ◌+◌, ◌<◌, ◌≤◌, IfSome, IfNone};
+    ghost use Rattle.stab_commands.specs.Limits.{most_shots, shots_of_seed};
 
     /// The most shots that a command takes.
     pub const MOST: usize = 1_000_000;
 
-    /// So many shots, at most 1,000,000.
+    /// So many shots from shot 0 on, at most 1,000,000.
     pub fn new(number: usize) -> Shots
         requires in_range { number ≤ most_shots }
-        ensures value { result ≡ number }
+        ensures value { result ≡ record { first = 0; number = number } }
     {
-        Shots { number }
+        Shots { first: 0, number }
+    }
+
+    /// So many shots from this one on, at most 1,000,000, or none where they go beyond shot 2^64 - 1.
+    pub fn from_first(first: u64, number: usize) -> Option<Shots>
+        requires in_range { number ≤ most_shots }
+        ensures some { IfSome result (λ shots. shots ≡ record { first = first; number = number }) }
+        ensures none { IfNone result (shots_of_seed < first + number) }
+    {
+        if first <= u64::MAX - number.saturating_sub(1) as u64 {
+            Some(Shots { first, number })
+        } else {
+            None
+        }
+    }
+
+    /// The number of the first shot.
+    pub fn first(self) -> u64
+        ensures value { result ≡ self.first }
+        ensures in_range { result + self.number ≤ shots_of_seed }
+    {
+        self.first
     }
 
     /// How many shots.
     pub fn number(self) -> usize
-        ensures value { result ≡ self }
+        ensures value { result ≡ self.number }
         ensures in_range { result ≤ most_shots }
     {
         self.number
@@ -183,8 +206,9 @@ pub enum Command {
         sure_only: bool,
     },
     /// Edits the circuit by a script, on so many qubits or on as many as it names, and writes the
-    /// replies.
+    /// replies, framed where a program is to read them.
     Edit {
+        framed: bool,
         qubits: Option<QubitCount>,
         stride: Stride,
     },

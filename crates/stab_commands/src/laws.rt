@@ -1,6 +1,7 @@
 //! Laws of what commands write. Each function does nothing: its contract is the law, and the check
 //! proves it.
 ghost use Rattle.stab_commands.specs.Checks.{NumbersAreOfRuns};
+ghost use Rattle.stab_commands.specs.Outputs.{DetectedPartsJoin, SampledPartsJoin};
 ghost use Rattle.stab_commands.specs.Stabilisers.{SameGroupSameLines};
 ghost use Rattle.stab_commands.specs.script.ScriptLaws.{CircuitsCanBeEdited, FirstRepliesComeFirst, ScriptsHaveAnAnswer, ScriptsHaveOneAnswer};
 
@@ -9,6 +10,14 @@ use stab_circuit::laws::{
 };
 use stab_run::laws::runs_are_sound;
 use stab_tableau::laws::{traces_have_one_list, traces_have_reduced_rows};
+
+/// What `sample` and `detect` write for some shots and for those that follow them, one after the
+/// other, is what they write for all of these, in each format: so a run in parts gives the bytes of
+/// one run.
+pub fn joined_parts_are_the_whole()
+    ensures sampled { SampledPartsJoin }
+    ensures detected { DetectedPartsJoin }
+{}
 
 /// Two stabiliser groups are one exactly where the lines of their reduced rows are the same: so texts that `stabilisers`
 /// wrote can be compared in place of states.

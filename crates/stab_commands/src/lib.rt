@@ -16,7 +16,7 @@
 //! - `faults`: the command that writes which detectors and observables each fault flips.
 //! - `script`: the command that edits a circuit by a script, and all that is of a script.
 //! - `status`: running a job, with the status of the program.
-//! - `laws`: what `stabilisers` writes tells the group, what `check` counts is what a run gives, and
+//! - `laws`: outputs of parts are joined to that of all shots, what `stabilisers` writes tells the group, what `check` counts is what a run gives, and
 //!   a script has one answer and no other.
 //!
 //! Sources: Stim's commands `sample` and `detect` with its result formats, for the commands of those names;
@@ -61,7 +61,7 @@ pub use deterministic::run_deterministic;
 pub use fault_line::{write_fault, write_refused};
 pub use faults::run_faults;
 pub use job::{Command, FaultLayout, Job, QubitCount, Shots, Source, Stride};
-pub use run::{run_detect, run_sample};
+pub use run::{run_detect, run_detect_shots, run_sample, run_sample_shots};
 pub use script::edit::{run_edit, run_edit_watched};
 pub use script::logged_input::{KeepsLog, LoggedInput, LoggedRead};
 pub use script::watcher::{NoWatcher, Watcher};

@@ -8,7 +8,7 @@ ghost use Rattle.stab_commands.specs.Outputs.{EndsRun, sample_of, detect_of};
 ghost use Rattle.stab_commands.specs.inner.Sendings.{shots_of};
 
 use crate::ending::finish;
-use crate::job::Source;
+use crate::job::{Shots, Source};
 use crate::shots::{Shown, send_shots};
 use stab_circuit::{Circuit, read_circuit};
 use stab_io::{Fault, Input, Output};
@@ -23,7 +23,7 @@ fn send_circuit<O: Output>(
     out: &mut O,
     format: Format,
     shown: Shown,
-    shots: usize,
+    shots: Shots,
     source: &Source,
 ) -> Result<(), Fault>
     requires checked { check_of (circuit_items circuit.now) ≡ None }
@@ -41,7 +41,7 @@ fn run_circuit<I: Input, O: Output>(
     out: &mut O,
     format: Format,
     shown: Shown,
-    shots: usize,
+    shots: Shots,
     source: &Source,
 ) -> Result<(), Fault>
     ensures ends { EndsRun (shots_of format shown shots source.now) (I.seen input.old) (I.seen input.new) (O.seen out.old) (O.seen out.new) result }
@@ -67,7 +67,24 @@ pub fn run_sample<I: Input, O: Output>(
     source: &Source,
 ) -> Result<(), Fault>
     requires few { shots ≤ most_shots }
-    ensures ends { EndsRun (sample_of format shots source.now) (I.seen input.old) (I.seen input.new) (O.seen out.old) (O.seen out.new) result }
+    ensures ends { EndsRun (sample_of format 0 shots source.now) (I.seen input.old) (I.seen input.new) (O.seen out.old) (O.seen out.new) result }
+{
+    run_sample_shots(alloc, input, out, format, Shots::new(shots), source)
+}
+
+/// Does what `run_sample` does, for these shots and no others.
+///
+/// What is written for some shots and for those that follow them, one after the other, is what is
+/// written for all of them, in each format: `laws::joined_parts_are_the_whole`.
+pub fn run_sample_shots<I: Input, O: Output>(
+    alloc: Global,
+    input: &mut I,
+    out: &mut O,
+    format: Format,
+    shots: Shots,
+    source: &Source,
+) -> Result<(), Fault>
+    ensures ends { EndsRun (sample_of format shots.first shots.number source.now) (I.seen input.old) (I.seen input.new) (O.seen out.old) (O.seen out.new) result }
 {
     run_circuit(alloc, input, out, format, Shown::Records, shots, source)
 }
@@ -87,7 +104,23 @@ pub fn run_detect<I: Input, O: Output>(
     source: &Source,
 ) -> Result<(), Fault>
     requires few { shots ≤ most_shots }
-    ensures ends { EndsRun (detect_of format append shots source.now) (I.seen input.old) (I.seen input.new) (O.seen out.old) (O.seen out.new) result }
+    ensures ends { EndsRun (detect_of format append 0 shots source.now) (I.seen input.old) (I.seen input.new) (O.seen out.old) (O.seen out.new) result }
+{
+    run_detect_shots(alloc, input, out, format, append, Shots::new(shots), source)
+}
+
+/// Does what `run_detect` does, for these shots and no others, which are joined as those of
+/// `run_sample_shots`.
+pub fn run_detect_shots<I: Input, O: Output>(
+    alloc: Global,
+    input: &mut I,
+    out: &mut O,
+    format: Format,
+    append: bool,
+    shots: Shots,
+    source: &Source,
+) -> Result<(), Fault>
+    ensures ends { EndsRun (detect_of format append shots.first shots.number source.now) (I.seen input.old) (I.seen input.new) (O.seen out.old) (O.seen out.new) result }
 {
     if append {
         let shown = Shown::DetectorsAndObservables;

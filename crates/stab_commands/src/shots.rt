@@ -5,7 +5,7 @@ ghost use Rattle.stab_run.specs.Runs.{State, run_of};
 ghost use Rattle.stab_commands.specs.Outputs.{coins_of_shot, of_shots};
 ghost use Rattle.stab_commands.specs.inner.Sendings.{IsShot, SendsUnflushed, shown_bytes};
 
-use crate::job::Source;
+use crate::job::{Shots, Source};
 use stab_io::{Fault, Output, Refusal};
 use stab_results::{Format, Kinds, write_shot};
 use stab_run::{ListCoins, Sampler, SeedCoins, Shot};
@@ -84,7 +84,7 @@ fn send_shot<O: Output>(
     }
 }
 
-/// Runs so many shots, and writes what is shown of each.
+/// Runs these shots, and writes what is shown of each.
 pub(crate) fn send_shots<O: Output>(
     alloc: Global,
     sampler: &mut Sampler,
@@ -92,12 +92,21 @@ pub(crate) fn send_shots<O: Output>(
     format: Format,
     shown: Shown,
     source: &Source,
-    shots: usize,
+    shots: Shots,
 ) -> Result<(), Fault>
-    ensures sends { SendsUnflushed (of_shots (λ shot. shown_bytes format shown (run_of sampler.old.qubits (coins_of_shot source.now shot) sampler.old.items)) shots) (O.seen out.old) (O.seen out.new) result }
+    ensures sends { SendsUnflushed (of_shots (λ shot. shown_bytes format shown (run_of sampler.old.qubits (coins_of_shot source.now shot) sampler.old.items)) shots.first shots.number) (O.seen out.old) (O.seen out.new) result }
 {
-    for shot in 0..shots {
-        send_shot(alloc, sampler, out, format, shown, source, shot as u64)?;
+    let first = shots.first();
+    for shot in 0..shots.number() {
+        send_shot(
+            alloc,
+            sampler,
+            out,
+            format,
+            shown,
+            source,
+            first + shot as u64,
+        )?;
     }
     Ok(())
 }

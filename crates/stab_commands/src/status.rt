@@ -10,7 +10,7 @@ use crate::deterministic::run_deterministic;
 use crate::fault_line::write_refused;
 use crate::faults::run_faults;
 use crate::job::{Command, Job, QubitCount};
-use crate::run::{run_detect, run_sample};
+use crate::run::{run_detect_shots, run_sample_shots};
 use crate::script::edit::run_edit_watched;
 use crate::script::watcher::{NoWatcher, Watcher};
 use crate::stabilisers::run_stabilisers;
@@ -66,7 +66,7 @@ fn run_command<I: Input, S: Input, O: Output, W: Watcher<S, O>>(
     let source = &job.source;
     match job.command {
         Command::Sample { format, shots } => {
-            let answer = run_sample(alloc, input, out, format, shots.number(), source);
+            let answer = run_sample_shots(alloc, input, out, format, shots, source);
             refuses_none(names_none(answer))
         }
         Command::Detect {
@@ -74,7 +74,7 @@ fn run_command<I: Input, S: Input, O: Output, W: Watcher<S, O>>(
             shots,
             append,
         } => {
-            let answer = run_detect(alloc, input, out, format, append, shots.number(), source);
+            let answer = run_detect_shots(alloc, input, out, format, append, shots, source);
             refuses_none(names_none(answer))
         }
         Command::Stabilisers => {
@@ -89,11 +89,16 @@ fn run_command<I: Input, S: Input, O: Output, W: Watcher<S, O>>(
             everywhere,
             sure_only,
         } => refuses_none(run_faults(alloc, input, out, layout, everywhere, sure_only)),
-        Command::Edit { qubits, stride } => names_none(run_edit_watched::<I, S, O, W>(
+        Command::Edit {
+            framed,
+            qubits,
+            stride,
+        } => names_none(run_edit_watched::<I, S, O, W>(
             alloc,
             input,
             script,
             out,
+            framed,
             number_of(qubits),
             stride.steps(),
             source,

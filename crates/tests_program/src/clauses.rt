@@ -5,10 +5,12 @@
 
 ghost use Rattle.std.specs.Prelude.{◌≡◌};
 ghost use Rattle.stab_commands.specs.Jobs.{EndsJob, reads_script};
+ghost use Rattle.stab_commands.specs.Outputs.{EndsRun, detect_of, sample_of};
 ghost use Rattle.stab_commands.specs.script.ScriptTurns.{CommandInTurn};
 
-use stab_commands::{Job, Watcher, run_job, run_job_watched};
-use stab_pauli::{Input, Output};
+use stab_commands::{Job, Source, Watcher, run_detect, run_job, run_job_watched, run_sample};
+use stab_pauli::{Fault, Input, Output};
+use stab_results::Format;
 use std::alloc::Global;
 
 /// A job is told to read a script where its command does.
@@ -30,6 +32,32 @@ fn run_to_its_end<I: Input, S: Input, O: Output, E: Output>(
     ensures ends { EndsJob job.now (I.seen input.old) (I.seen input.new) (S.seen script.old) (S.seen script.new) (O.seen out.old) (O.seen out.new) (E.seen err.old) (E.seen err.new) result }
 {
     run_job::<I, S, O, E>(alloc, job, input, script, out, err)
+}
+
+/// Without a first shot a call begins with shot 0.
+fn sample_seven<I: Input, O: Output>(
+    alloc: Global,
+    input: &mut I,
+    out: &mut O,
+    format: Format,
+    source: &Source,
+) -> Result<(), Fault>
+    ensures ends { EndsRun (sample_of format 0 7 source.now) (I.seen input.old) (I.seen input.new) (O.seen out.old) (O.seen out.new) result }
+{
+    run_sample(alloc, input, out, format, 7, source)
+}
+
+/// And so it is of `detect`.
+fn detect_seven<I: Input, O: Output>(
+    alloc: Global,
+    input: &mut I,
+    out: &mut O,
+    format: Format,
+    source: &Source,
+) -> Result<(), Fault>
+    ensures ends { EndsRun (detect_of format true 0 7 source.now) (I.seen input.old) (I.seen input.new) (O.seen out.old) (O.seen out.new) result }
+{
+    run_detect(alloc, input, out, format, true, 7, source)
 }
 
 /// A script is read in turn with its replies.

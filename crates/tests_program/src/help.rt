@@ -73,6 +73,7 @@ fn help_names_no_option_of_another_command(rt: HostRuntime) -> Result<(), Fail> 
     for (command, option) in [
         ("sample", "--append_observables"),
         ("stabilisers", "--shots"),
+        ("edit", "--first_shot"),
         ("deterministic", "--seed"),
         ("faults", "--coins"),
     ] {

@@ -18,14 +18,14 @@ fn text_of(alloc: Global, words: &[&str]) -> Result<String, Fail> {
 }
 
 // Words, and the text of their job.
-const JOBS: [(&[&str], &str); 45] = [
+const JOBS: [(&[&str], &str); 47] = [
     (
         &["stabsim", "sample"],
-        "Sample { format: F01, shots: Shots { number: 1 } } Seed(0) None None",
+        "Sample { format: F01, shots: Shots { first: 0, number: 1 } } Seed(0) None None",
     ),
     (
         &["stabsim", "detect"],
-        "Detect { format: F01, shots: Shots { number: 1 }, append: false } Seed(0) None None",
+        "Detect { format: F01, shots: Shots { first: 0, number: 1 }, append: false } Seed(0) None None",
     ),
     (
         &[
@@ -42,7 +42,7 @@ const JOBS: [(&[&str], &str); 45] = [
             "--out",
             "b/c.dets",
         ],
-        "Sample { format: Dets, shots: Shots { number: 12 } } Seed(34) Some(\"a.stim\") Some(\"b/c.dets\")",
+        "Sample { format: Dets, shots: Shots { first: 0, number: 12 } } Seed(34) Some(\"a.stim\") Some(\"b/c.dets\")",
     ),
     (
         &[
@@ -56,115 +56,127 @@ const JOBS: [(&[&str], &str); 45] = [
             "--out_format=dets",
             "--shots=12",
         ],
-        "Detect { format: Dets, shots: Shots { number: 12 }, append: true } Seed(34) Some(\"a.stim\") Some(\"b/c.dets\")",
+        "Detect { format: Dets, shots: Shots { first: 0, number: 12 }, append: true } Seed(34) Some(\"a.stim\") Some(\"b/c.dets\")",
+    ),
+    (
+        &["stabsim", "sample", "--first_shot", "5", "--shots=2"],
+        "Sample { format: F01, shots: Shots { first: 5, number: 2 } } Seed(0) None None",
+    ),
+    (
+        &["stabsim", "detect", "--first_shot=18446744073709551615"],
+        "Detect { format: F01, shots: Shots { first: 18446744073709551615, number: 1 }, append: false } Seed(0) None None",
     ),
     (
         &["stabsim", "sample", "--out_format", "01"],
-        "Sample { format: F01, shots: Shots { number: 1 } } Seed(0) None None",
+        "Sample { format: F01, shots: Shots { first: 0, number: 1 } } Seed(0) None None",
     ),
     (
         &["stabsim", "sample", "--out_format", "b8"],
-        "Sample { format: B8, shots: Shots { number: 1 } } Seed(0) None None",
+        "Sample { format: B8, shots: Shots { first: 0, number: 1 } } Seed(0) None None",
     ),
     (
         &["stabsim", "sample", "--out_format", "r8"],
-        "Sample { format: R8, shots: Shots { number: 1 } } Seed(0) None None",
+        "Sample { format: R8, shots: Shots { first: 0, number: 1 } } Seed(0) None None",
     ),
     (
         &["stabsim", "sample", "--out_format", "hits"],
-        "Sample { format: Hits, shots: Shots { number: 1 } } Seed(0) None None",
+        "Sample { format: Hits, shots: Shots { first: 0, number: 1 } } Seed(0) None None",
     ),
     (
         &["stabsim", "sample", "--out_format", "dets"],
-        "Sample { format: Dets, shots: Shots { number: 1 } } Seed(0) None None",
+        "Sample { format: Dets, shots: Shots { first: 0, number: 1 } } Seed(0) None None",
     ),
     (
         &["stabsim", "sample", "--shots", "0"],
-        "Sample { format: F01, shots: Shots { number: 0 } } Seed(0) None None",
+        "Sample { format: F01, shots: Shots { first: 0, number: 0 } } Seed(0) None None",
     ),
     (
         &["stabsim", "sample", "--shots", "1"],
-        "Sample { format: F01, shots: Shots { number: 1 } } Seed(0) None None",
+        "Sample { format: F01, shots: Shots { first: 0, number: 1 } } Seed(0) None None",
     ),
     (
         &["stabsim", "sample", "--shots", "007"],
-        "Sample { format: F01, shots: Shots { number: 7 } } Seed(0) None None",
+        "Sample { format: F01, shots: Shots { first: 0, number: 7 } } Seed(0) None None",
     ),
     (
         &["stabsim", "sample", "--shots", "+7"],
-        "Sample { format: F01, shots: Shots { number: 7 } } Seed(0) None None",
+        "Sample { format: F01, shots: Shots { first: 0, number: 7 } } Seed(0) None None",
     ),
     (
         &["stabsim", "sample", "--shots", "1000000"],
-        "Sample { format: F01, shots: Shots { number: 1000000 } } Seed(0) None None",
+        "Sample { format: F01, shots: Shots { first: 0, number: 1000000 } } Seed(0) None None",
     ),
     (
         &["stabsim", "sample", "--seed", "7"],
-        "Sample { format: F01, shots: Shots { number: 1 } } Seed(7) None None",
+        "Sample { format: F01, shots: Shots { first: 0, number: 1 } } Seed(7) None None",
     ),
     (
         &["stabsim", "detect", "--seed", "007"],
-        "Detect { format: F01, shots: Shots { number: 1 }, append: false } Seed(7) None None",
+        "Detect { format: F01, shots: Shots { first: 0, number: 1 }, append: false } Seed(7) None None",
     ),
     (
         &["stabsim", "sample", "--seed", "+7"],
-        "Sample { format: F01, shots: Shots { number: 1 } } Seed(7) None None",
+        "Sample { format: F01, shots: Shots { first: 0, number: 1 } } Seed(7) None None",
     ),
     (
         &["stabsim", "sample", "--seed", "18446744073709551615"],
-        "Sample { format: F01, shots: Shots { number: 1 } } Seed(18446744073709551615) None None",
+        "Sample { format: F01, shots: Shots { first: 0, number: 1 } } Seed(18446744073709551615) None None",
     ),
     (
         &["stabsim", "sample", "--coins", "1"],
-        "Sample { format: F01, shots: Shots { number: 1 } } List([true]) None None",
+        "Sample { format: F01, shots: Shots { first: 0, number: 1 } } List([true]) None None",
     ),
     (
         &["stabsim", "detect", "--coins", "0110"],
-        "Detect { format: F01, shots: Shots { number: 1 }, append: false } List([false, true, true, false]) None None",
+        "Detect { format: F01, shots: Shots { first: 0, number: 1 }, append: false } List([false, true, true, false]) None None",
     ),
     (
         &["stabsim", "sample", "--coins=10"],
-        "Sample { format: F01, shots: Shots { number: 1 } } List([true, false]) None None",
+        "Sample { format: F01, shots: Shots { first: 0, number: 1 } } List([true, false]) None None",
     ),
     (
         &["stabsim", "sample", "--coins", ""],
-        "Sample { format: F01, shots: Shots { number: 1 } } List([]) None None",
+        "Sample { format: F01, shots: Shots { first: 0, number: 1 } } List([]) None None",
     ),
     (
         &["stabsim", "sample", "--coins="],
-        "Sample { format: F01, shots: Shots { number: 1 } } List([]) None None",
+        "Sample { format: F01, shots: Shots { first: 0, number: 1 } } List([]) None None",
     ),
     (
         &["stabsim", "sample", "--seed", "7", "--coins", "10"],
-        "Sample { format: F01, shots: Shots { number: 1 } } List([true, false]) None None",
+        "Sample { format: F01, shots: Shots { first: 0, number: 1 } } List([true, false]) None None",
     ),
     (
         &["stabsim", "detect", "--coins", "10", "--seed", "7"],
-        "Detect { format: F01, shots: Shots { number: 1 }, append: false } List([true, false]) None None",
+        "Detect { format: F01, shots: Shots { first: 0, number: 1 }, append: false } List([true, false]) None None",
     ),
     (
         &["stabsim", "sample", "--seed", "7", "--coins", ""],
-        "Sample { format: F01, shots: Shots { number: 1 } } List([]) None None",
+        "Sample { format: F01, shots: Shots { first: 0, number: 1 } } List([]) None None",
     ),
     (
         &["stabsim", "edit"],
-        "Edit { qubits: None, stride: Stride { steps: 8192 } } Seed(0) None None",
+        "Edit { framed: false, qubits: None, stride: Stride { steps: 8192 } } Seed(0) None None",
     ),
     (
         &["stabsim", "edit", "--qubits", "0"],
-        "Edit { qubits: Some(QubitCount { number: 0 }), stride: Stride { steps: 8192 } } Seed(0) None None",
+        "Edit { framed: false, qubits: Some(QubitCount { number: 0 }), stride: Stride { steps: 8192 } } Seed(0) None None",
     ),
     (
         &["stabsim", "edit", "--qubits", "0017"],
-        "Edit { qubits: Some(QubitCount { number: 17 }), stride: Stride { steps: 8192 } } Seed(0) None None",
+        "Edit { framed: false, qubits: Some(QubitCount { number: 17 }), stride: Stride { steps: 8192 } } Seed(0) None None",
     ),
     (
         &["stabsim", "edit", "--stride=1", "--qubits=1024"],
-        "Edit { qubits: Some(QubitCount { number: 1024 }), stride: Stride { steps: 1 } } Seed(0) None None",
+        "Edit { framed: false, qubits: Some(QubitCount { number: 1024 }), stride: Stride { steps: 1 } } Seed(0) None None",
+    ),
+    (
+        &["stabsim", "edit", "--framed"],
+        "Edit { framed: true, qubits: None, stride: Stride { steps: 8192 } } Seed(0) None None",
     ),
     (
         &["stabsim", "edit", "--stride", "65536"],
-        "Edit { qubits: None, stride: Stride { steps: 65536 } } Seed(0) None None",
+        "Edit { framed: false, qubits: None, stride: Stride { steps: 65536 } } Seed(0) None None",
     ),
     (
         &[
@@ -176,7 +188,7 @@ const JOBS: [(&[&str], &str); 45] = [
             "--in",
             "a.stim",
         ],
-        "Edit { qubits: None, stride: Stride { steps: 8192 } } Seed(34) Some(\"a.stim\") Some(\"b/c.01\")",
+        "Edit { framed: false, qubits: None, stride: Stride { steps: 8192 } } Seed(34) Some(\"a.stim\") Some(\"b/c.01\")",
     ),
     (&["stabsim", "stabilisers"], "Stabilisers Seed(0) None None"),
     (

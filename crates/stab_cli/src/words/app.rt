@@ -86,6 +86,17 @@ where a line of the script was refused.
   show stabilisers      the reduced rows, one a line
   show circuit          the circuit as it is now
 
+With --framed a program reads the replies: the first line is `ready 1` and numbers of qubits, steps,
+records, detectors and observables; each reply that is no refusal begins with a line `ok N`, and N lines
+follow. It may also ask for these, which are refused 13 without it:
+
+  show numbers          one line, as the first one has them
+  mark                  changes are counted from here; at first they are from the opening
+  show changed          detectors and observables that differ from those at the mark, as D3 D17 L0
+  show changed records  the same for records, as M7 M9
+  show sign X0*Z3       + or -, or 0 where neither is in the group; also -X0, or a letter a qubit
+  show item 2/0         the text of the item
+
 Examples, at the top of the repository; without --qubits 1 the first line of the first is refused 6:
   printf 'insert 0 X 0\\ninsert 1 M 0\\nshow measurements\\n' | ./stabsim edit --qubits 1
   ./stabsim edit --in examples/repetition_code.stim < examples/inserted_x.script
@@ -132,6 +143,9 @@ See docs/faults.md. Refusals, by number and name, are explained in docs/refusals
 
 const HELP_SHOTS: &str = "How many shots, from 0 to 1000000";
 
+const HELP_FIRST_SHOT: &str =
+    "Begins at this shot of the seed in place of shot 0, so that a run in parts writes the bytes of one";
+
 const HELP_FORMAT: &str = "The result format, as docs/result-formats.md explains it";
 
 const HELP_LAYOUT: &str = "Writes each fault as a shot in this result format, in place of a line";
@@ -157,6 +171,10 @@ const HELP_OUT: &str =
     later leaves what it wrote";
 
 const HELP_APPEND: &str = "Appends the observables to the detectors";
+
+const HELP_FRAMED: &str =
+    "For programs: the first line has numbers, each reply says first how many \
+    lines it has, and more can be asked for";
 
 const HELP_QUBITS: &str =
     "How many qubits, from 0 to 1024; those that the circuit names if not given";
@@ -257,6 +275,7 @@ fn shot_command<'a>(
         .about(about)
         .after_help(after_help)
         .arg(numbered(alloc, "shots", 0, Shots::MOST as u64, "1", HELP_SHOTS))?
+        .arg(ranged(alloc, "first_shot", 0, u64::MAX, HELP_FIRST_SHOT))?
         .arg(named(alloc, "out_format", formats, "01", HELP_FORMAT))?;
     with_common(alloc, command)
 }
@@ -280,7 +299,8 @@ fn edit_command<'a>(alloc: Global) -> Result<Command<'a>, AllocError>
         .about(ABOUT_EDIT)
         .after_help(AFTER_EDIT)
         .arg(ranged(alloc, "qubits", 0, QubitCount::MOST as u64, HELP_QUBITS))?
-        .arg(numbered(alloc, "stride", 1, Stride::MOST as u64, "8192", HELP_STRIDE))?;
+        .arg(numbered(alloc, "stride", 1, Stride::MOST as u64, "8192", HELP_STRIDE))?
+        .arg(flag(alloc, "framed", HELP_FRAMED))?;
     with_common(alloc, command)
 }
 

@@ -1,10 +1,10 @@
 //! What the words say to each option.
-ghost use Rattle.std.specs.Prelude.{◌≡◌, ℕ, Option, Some, None, IfOk, IfErr, IfSome, IfNone, option_map, codes, string_bytes};
+ghost use Rattle.std.specs.Prelude.{◌≡◌, ◌≤◌, ℕ, Option, Some, None, IfOk, IfErr, IfSome, IfNone, option_map, codes, string_bytes};
 ghost use Rattle.clap.specs.Words.{IsUnsignedIn, first_of, found_of, has_subcommand, one_of, rows_of, subcommand_rows_of};
 ghost use Rattle.stab_tableau.specs.Limits.{most_qubits};
 ghost use Rattle.stab_session.specs.Limits.{most_stride};
-ghost use Rattle.stab_commands.specs.Limits.{most_shots};
-ghost use Rattle.stab_cli.specs.Asked.{IsCommand, IsJob, IsLayout, IsNamed, IsSet, IsSource, IsWritten, IsWrittenIfGiven, RefusesCoins};
+ghost use Rattle.stab_commands.specs.Limits.{last_shot, most_shots, shots_of_seed};
+ghost use Rattle.stab_cli.specs.Asked.{AreShots, IsCommand, IsFirst, IsJob, IsLayout, IsNamed, IsSet, IsSource, IsWritten, IsWrittenIfGiven, RefusesCoins, RefusesOptions, RefusesShots, first_beside_coins};
 ghost use Rattle.stab_cli.specs.Options.{most_seed};
 ghost use Rattle.stab_cli.specs.declared.words.Usage.{Usage};
 ghost use Rattle.stab_cli.specs.inner.Parts.{IsCommandName};
@@ -18,6 +18,13 @@ use std::alloc::{AllocError, Global};
 
 // What is told of coins that are given twice.
 const COINS_TWICE: &str = "stabsim: coins are given by --coins or by --coins_in, and not by both\n";
+
+// What is told of shots that go beyond the last of a seed.
+const SHOTS_BEYOND: &str = "stabsim: the last shot of a seed is shot 18446744073709551615\n";
+
+// What is told of a first shot beside coins.
+const FIRST_BESIDE_COINS: &str =
+    "stabsim: --first_shot is of a seed, and not beside --coins or --coins_in\n";
 
 /// What the words say to an option, or its default.
 fn text<'a>(options: &ArgMatches<'a>, id: &str) -> Option<&'a str>
@@ -66,13 +73,41 @@ fn layout(options: &ArgMatches) -> FaultLayout
 }
 
 /// The number of `--shots`. The command line reader takes no other number.
-fn shots(options: &ArgMatches) -> Shots
+fn number_of_shots(options: &ArgMatches) -> usize
     ensures written { IsWritten 0 most_shots (one_of (codes "shots") (rows_of (found_of options.now))) result }
+    ensures in_range { result ≤ most_shots }
 {
     match number(options, "shots") {
-        Some(number) if number <= Shots::MOST as u64 => Shots::new(number as usize),
-        _ => Shots::new(1),
+        Some(number) if number <= Shots::MOST as u64 => number as usize,
+        _ => 1,
     }
+}
+
+/// The number of `--first_shot`, and 0 where it isn't given. The command line reader takes no other
+/// number.
+fn first_shot(options: &ArgMatches) -> u64
+    ensures first { IsFirst (one_of (codes "first_shot") (rows_of (found_of options.now))) result }
+{
+    number(options, "first_shot").unwrap_or(0)
+}
+
+/// The shots of `--first_shot` and `--shots`.
+fn shots(alloc: Global, options: &ArgMatches) -> Result<Shots, Usage>
+    ensures shots { IfOk result (AreShots (rows_of (found_of options.now))) }
+    ensures refused { IfErr result (RefusesShots (rows_of (found_of options.now))) }
+{
+    match Shots::from_first(first_shot(options), number_of_shots(options)) {
+        Some(shots) => Ok(shots),
+        None => Err(Usage::Fault(String::from_str(alloc, SHOTS_BEYOND)?)),
+    }
+}
+
+/// Whether a first shot is given beside coins.
+fn first_beside_coins(options: &ArgMatches) -> bool
+    ensures value { result ≡ first_beside_coins (rows_of (found_of options.now)) }
+{
+    text(options, "first_shot").is_some()
+        && (text(options, "coins").is_some() || text(options, "coins_in").is_some())
 }
 
 /// The number of `--qubits`, if it is given. The command line reader takes no other number.
@@ -125,18 +160,19 @@ fn path(alloc: Global, options: &ArgMatches, id: &str) -> Result<Option<String>,
 }
 
 /// The command of a name, with its own options.
-fn command(name: &str, options: &ArgMatches) -> Command
+fn command(alloc: Global, name: &str, options: &ArgMatches) -> Result<Command, Usage>
     requires named { IsCommandName name.now }
-    ensures command { IsCommand name.now (rows_of (found_of options.now)) result }
+    ensures command { IfOk result (IsCommand name.now (rows_of (found_of options.now))) }
+    ensures refused { IfErr result (RefusesShots (rows_of (found_of options.now))) }
 {
-    match name {
+    let command = match name {
         "sample" => Command::Sample {
             format: format(options),
-            shots: shots(options),
+            shots: shots(alloc, options)?,
         },
         "detect" => Command::Detect {
             format: format(options),
-            shots: shots(options),
+            shots: shots(alloc, options)?,
             append: flag(options, "append_observables"),
         },
         "stabilisers" => Command::Stabilisers,
@@ -150,20 +186,26 @@ fn command(name: &str, options: &ArgMatches) -> Command
             sure_only: flag(options, "sure_only"),
         },
         _ => Command::Edit {
+            framed: flag(options, "framed"),
             qubits: qubits(options),
             stride: stride(options),
         },
-    }
+    };
+    Ok(command)
 }
 
 /// The job of a command with these options.
 pub(crate) fn job(alloc: Global, name: &str, options: &ArgMatches) -> Result<Job, Usage>
     requires named { IsCommandName name.now }
     ensures job { IfOk result (IsJob name.now (rows_of (found_of options.now))) }
-    ensures refused { IfErr result (RefusesCoins (first_of (codes "coins") (rows_of (found_of options.now))) (first_of (codes "coins_in") (rows_of (found_of options.now)))) }
+    ensures refused { IfErr result (RefusesOptions (rows_of (found_of options.now))) }
 {
+    if first_beside_coins(options) {
+        let told = String::from_str(alloc, FIRST_BESIDE_COINS)?;
+        return Err(Usage::Fault(told));
+    }
     Ok(Job {
-        command: command(name, options),
+        command: command(alloc, name, options)?,
         source: source(alloc, options)?,
         coins_path: path(alloc, options, "coins_in")?,
         in_path: path(alloc, options, "in")?,

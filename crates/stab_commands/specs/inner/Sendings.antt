@@ -15,6 +15,7 @@ use Rattle.stab_results.specs.Formats.{shot_bytes}
 use Rattle.stab_commands.specs.declared.job.Source.{Source}
 use Rattle.stab_commands.specs.declared.shots.Shown.{Shown}
 use Rattle.stab_commands.specs.declared.shots.Shown.TheVariants.{Records, Detectors, DetectorsAndObservables}
+use Rattle.stab_commands.specs.Limits.{ShotRange}
 use Rattle.stab_commands.specs.Endings.{FailsToSend, TookAndFlushed}
 use Rattle.stab_commands.specs.Outputs.{detected, of_shots, run_of_shot}
 use Rattle.stab_commands.specs.Stabilisers.{lines_of}
@@ -31,9 +32,9 @@ shown_bytes format Records run = shot_bytes format Measurements run.records
 shown_bytes format Detectors run = detected format false run
 shown_bytes format DetectorsAndObservables run = detected format true run
 
--- what is shown of so many shots of the items
-abbrev pub shots_of : Format → Shown → ℕ → Source → Items → List ℕ
-shots_of format shown shots source items = of_shots (λ shot. shown_bytes format shown (run_of_shot source items shot)) shots
+-- what is shown of these shots of the items
+abbrev pub shots_of : Format → Shown → ShotRange → Source → Items → List ℕ
+shots_of format shown shots source items = of_shots (λ shot. shown_bytes format shown (run_of_shot source items shot)) shots.first shots.number
 
 -- these bytes were sent without a flush: all of them, or cut off after a prefix
 abbrev pub SendsUnflushed : {T : Type 0} → List ℕ → OutputView → OutputView → Result T Fault → Type 0

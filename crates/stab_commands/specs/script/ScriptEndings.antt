@@ -12,7 +12,7 @@ use Rattle.stab_circuit.specs.Readings.{IsCircuit, IsFaultOf}
 use Rattle.stab_commands.specs.Endings.{Ends, TookAndFlushed, TookAndFlushFailed}
 use Rattle.stab_commands.specs.Outputs.{coins_of_shot}
 use Rattle.stab_commands.specs.declared.job.Source.{Source}
-use Rattle.stab_commands.specs.script.Scripts.{Setting, Request, Answer, IsAnswerToAll, IsAnswerToScript, requests_of, read, empty_reader, most_script}
+use Rattle.stab_commands.specs.script.Scripts.{Setting, Request, Answer, IsAnswerToAll, IsAnswerToScript, opened, requests_in, requests_of, most_script}
 
 -- the script was read to its end: its answer was written and flushed once, and the call says whether a line was refused
 pub record AnswersScript (setting : Setting) (items : Items) (s s' : InputView) (o o' : OutputView) (refused : Bool) : Type 0 where
@@ -34,7 +34,7 @@ pub record BreaksOff (setting : Setting) (items : Items) (s s' : InputView) (o o
   pub rest : List Request
   pub split : requests_of (bytes ++ unread) ≡ first ++ rest
   pub answer : Answer
-  pub answers : IsAnswerToAll setting items first answer
+  pub answers : IsAnswerToAll setting (opened setting items) first answer
   pub cut : CutOff o o' answer.reply f ⊎ ((f ≡ whole WriteFault) × TookAndFlushFailed o o' answer.reply)
 
 -- why reading a script ends within it: its input failed, or it is too long, of which at most one read too much was read
@@ -49,7 +49,7 @@ pub record AnswersFront (setting : Setting) (items : Items) (s s' : InputView) (
   pub bytes : List ℕ
   pub within : EndsWithin s s' bytes f
   pub answer : Answer
-  pub answers : IsAnswerToAll setting items (read empty_reader (take most_script bytes)).requests answer
+  pub answers : IsAnswerToAll setting (opened setting items) (requests_in (take most_script bytes)) answer
   pub took : Took o o' answer.reply
 
 -- how a script ends that is answered on these items
@@ -62,9 +62,9 @@ abbrev pub qubits_for : Option ℕ → Items → ℕ
 qubits_for (Some n) items = n
 qubits_for None items = qubits_of items
 
--- what a script is answered by: the qubits, and the coins of shot 0
-abbrev pub setting_of : Option ℕ → Source → Items → Setting
-setting_of qubits source items = record { qubits = qubits_for qubits items; coins = coins_of_shot source 0 }
+-- what a script is answered by: whether it is framed, the qubits, and the coins of shot 0
+abbrev pub setting_of : (framed : Bool) → Option ℕ → Source → Items → Setting
+setting_of framed qubits source items = record { framed = framed; qubits = qubits_for qubits items; coins = coins_of_shot source 0 }
 
 -- the items are refused on so many qubits, or memory was refused, before the script was read
 pub record NotOpened (n : ℕ) (items : Items) (s s' : InputView) (o o' : OutputView) (f : Fault) : Type 0 where
@@ -78,11 +78,11 @@ EndsOn setting items s s' o o' (Ok refused) = EndsScript setting items s s' o o'
 EndsOn setting items s s' o o' (Err f) = NotOpened setting.qubits items s s' o o' f ⊎ EndsScript setting items s s' o o' (Err f)
 
 -- the text stands for a circuit, which was edited by the script
-pub record EditsCircuit (qubits : Option ℕ) (source : Source) (s s' : InputView) (o o' : OutputView) (text : List ℕ) (r : Result Bool Fault) : Type 0 where
+pub record EditsCircuit (framed : Bool) (qubits : Option ℕ) (source : Source) (s s' : InputView) (o o' : OutputView) (text : List ℕ) (r : Result Bool Fault) : Type 0 where
   pub items : Items
   pub circuit : IsCircuit text items
-  pub ends : EndsOn (setting_of qubits source items) items s s' o o' r
+  pub ends : EndsOn (setting_of framed qubits source items) items s s' o o' r
 
 -- How a call of `edit` ends, over the inputs of a circuit and of a script, and an output.
-abbrev pub EndsEdit : Option ℕ → Source → InputView → InputView → InputView → InputView → OutputView → OutputView → Result Bool Fault → Type 0
-EndsEdit qubits source i i' s s' o o' r = Ends IsFaultOf ((s' ≡ s) × (o' ≡ o)) (EditsCircuit qubits source s s' o o') i i' r
+abbrev pub EndsEdit : (framed : Bool) → Option ℕ → Source → InputView → InputView → InputView → InputView → OutputView → OutputView → Result Bool Fault → Type 0
+EndsEdit framed qubits source i i' s s' o o' r = Ends IsFaultOf ((s' ≡ s) × (o' ≡ o)) (EditsCircuit framed qubits source s s' o o') i i' r

@@ -5,7 +5,7 @@ use Rattle.stab_circuit.specs.Items.{Items}
 use Rattle.stab_circuit.specs.Steps.{qubits_of, check_within}
 use Rattle.stab_circuit.specs.Readings.{IsCircuit}
 use Rattle.stab_circuit.specs.Laws.{AreOfLines}
-use Rattle.stab_commands.specs.script.Scripts.{Setting, Request, Answer, IsAnswerToAll, IsAnswerToScript}
+use Rattle.stab_commands.specs.script.Scripts.{Setting, Request, Held, Answer, IsAnswerToAll, IsAnswerToScript}
 
 -- items that can be edited on n qubits: some lines stand for them, and nothing refuses them on so many
 abbrev pub CanBeEdited : ℕ → Items → Type 0
@@ -19,7 +19,7 @@ CircuitsCanBeEdited = (n : ℕ) (text : List ℕ) (items : Items) → IsCircuit 
 abbrev pub ScriptsHaveAnAnswer : Type 0
 ScriptsHaveAnAnswer =
     (s : Setting) (items : Items) (script : List ℕ) → CanBeEdited s.qubits items →
-    (a : Answer) × IsAnswerToScript s items script a × CanBeEdited s.qubits a.items
+    (a : Answer) × IsAnswerToScript s items script a × CanBeEdited s.qubits a.held.items
 
 -- on any items it has at most one
 abbrev pub ScriptsHaveOneAnswer : Type 0
@@ -28,5 +28,5 @@ ScriptsHaveOneAnswer = (s : Setting) (items : Items) (script : List ℕ) (a b : 
 -- what first requests are answered begins what all are answered
 abbrev pub FirstRepliesComeFirst : Type 0
 FirstRepliesComeFirst =
-    (s : Setting) (items : Items) (first rest : List Request) (a b : Answer) → IsAnswerToAll s items first a → IsAnswerToAll s items (first ++ rest) b →
+    (s : Setting) (held : Held) (first rest : List Request) (a b : Answer) → IsAnswerToAll s held first a → IsAnswerToAll s held (first ++ rest) b →
     (more : List ℕ) × (b.reply ≡ a.reply ++ more)

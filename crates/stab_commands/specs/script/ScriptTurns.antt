@@ -1,6 +1,6 @@
 -- Script turns: that each reply stands written before more of the script is asked for.
 -- Source: this project's own.
-use Rattle.std.specs.Prelude.{◌≡◌, ℕ, ◌+◌, IsTrue, List, [], ◌∷◌, ◌++◌, length, ◌⊎◌, Option, Some, None}
+use Rattle.std.specs.Prelude.{◌≡◌, ℕ, ◌+◌, Bool, IsTrue, List, [], ◌∷◌, ◌++◌, length, ◌⊎◌, Option, Some, None}
 use Rattle.stab_io.specs.Devices.{InputView, OutputView}
 use Rattle.stab_circuit.specs.Items.{Items}
 use Rattle.stab_circuit.specs.Inputs.{GaveText}
@@ -8,7 +8,7 @@ use Rattle.stab_circuit.specs.Readings.{IsCircuit}
 use Rattle.stab_commands.specs.declared.job.Source.{Source}
 use Rattle.stab_commands.specs.declared.job.Command.{Command}
 use Rattle.stab_commands.specs.declared.job.Command.TheVariants.{Edit}
-use Rattle.stab_commands.specs.script.Scripts.{Setting, Answer, IsAnswerToAll, read, empty_reader}
+use Rattle.stab_commands.specs.script.Scripts.{Setting, Answer, IsAnswerToAll, opened, requests_in}
 use Rattle.stab_commands.specs.script.ScriptEndings.{setting_of}
 use Rattle.stab_commands.specs.script.Watchers.{Asked}
 
@@ -19,7 +19,7 @@ all_given (a ∷ later) = a.given ++ all_given later
 
 -- exactly the replies to these first bytes of a script stood written, in whole lines and behind what stood there at first, when more was asked for
 abbrev pub Answered : Setting → Items → (start : ℕ) → (before : List ℕ) → Asked → Type 0
-Answered setting items start before a = (answer : Answer) × IsAnswerToAll setting items (read empty_reader before).requests answer × (a.written ≡ start + length answer.reply)
+Answered setting items start before a = (answer : Answer) × IsAnswerToAll setting (opened setting items) (requests_in before) answer × (a.written ≡ start + length answer.reply)
 
 -- the same at each read, where these bytes were handed over before the first
 abbrev pub InTurn : Setting → Items → (start : ℕ) → (before : List ℕ) → List Asked → Type 0
@@ -40,11 +40,11 @@ abbrev pub TakesTurns : Setting → Items → InputView → InputView → Output
 TakesTurns setting items s s' o log log' = (log' ≡ None) ⊎ ((bytes : List ℕ) × (IsTrue s.honest → s.unread ≡ bytes ++ s'.unread) × LogsInTurn setting items o bytes log log')
 
 -- How the script of a call of `edit` is read: not at all, or in turn with the replies, on the items of the circuit that was given.
-abbrev pub EditsInTurn : Option ℕ → Source → InputView → InputView → InputView → InputView → OutputView → Option (List Asked) → Option (List Asked) → Type 0
-EditsInTurn qubits source i i' s s' o log log' =
-    (log' ≡ log) ⊎ ((text : List ℕ) × (items : Items) × GaveText i i' text × IsCircuit text items × TakesTurns (setting_of qubits source items) items s s' o log log')
+abbrev pub EditsInTurn : (framed : Bool) → Option ℕ → Source → InputView → InputView → InputView → InputView → OutputView → Option (List Asked) → Option (List Asked) → Type 0
+EditsInTurn framed qubits source i i' s s' o log log' =
+    (log' ≡ log) ⊎ ((text : List ℕ) × (items : Items) × GaveText i i' text × IsCircuit text items × TakesTurns (setting_of framed qubits source items) items s s' o log log')
 
 -- how a command reads a script: `edit` in turn with its replies, and any other not at all
 abbrev pub CommandInTurn : Command → Source → InputView → InputView → InputView → InputView → OutputView → Option (List Asked) → Option (List Asked) → Type 0
-CommandInTurn (Edit qubits stride) source i i' s s' o log log' = EditsInTurn qubits source i i' s s' o log log'
+CommandInTurn (Edit framed qubits stride) source i i' s s' o log log' = EditsInTurn framed qubits source i i' s s' o log log'
 CommandInTurn command source i i' s s' o log log' = log' ≡ log

@@ -9,7 +9,7 @@ use Rattle.stab_tableau.specs.Traces.{member}
 use Rattle.stab_tableau.specs.Reduced.{AreReduced}
 use Rattle.stab_lines.specs.Lines.{content_of, ends_with_byte}
 use Rattle.stab_lines.specs.Meanings.{is_close}
-use Rattle.stab_circuit.specs.Items.{Items, OneItem, listed, entries}
+use Rattle.stab_circuit.specs.Items.{Items, OneItem, done, before, listed, entries}
 use Rattle.stab_circuit.specs.Paths.{Path}
 use Rattle.stab_circuit.specs.declared.edit.Edit.{Edit}
 use Rattle.stab_circuit.specs.declared.edit.Edit.TheVariants as circuit_edit
@@ -20,18 +20,25 @@ use Rattle.stab_run.specs.Runs.{State, run_of}
 use Rattle.stab_results.specs.Formats.{f01_bytes}
 use Rattle.stab_commands.specs.FaultLines.{refused_text}
 use Rattle.stab_commands.specs.Stabilisers.{lines_of}
+use Rattle.stab_circuit.specs.Places.{item_at}
 use Rattle.stab_commands.specs.script.ScriptWords.{first_word, behind_word, place_of, Gathered, more, is_nothing}
+use Rattle.stab_commands.specs.script.FramedRequests.{FramedRequest, mark, numbers, changed, changed_records, sign, item, framed_show}
+use Rattle.stab_commands.specs.script.FramedReplies.{reply_text, made_text, greeting, session_numbers, numbers_line}
+use Rattle.stab_commands.specs.script.Changes.{Mark, mark_of, no_mark, changed_text, changed_records_text}
+use Rattle.stab_commands.specs.script.Signs.{string_of_word, sign_in, sign_line}
 use Rattle.stab_commands.specs.declared.script.request.ItemEdit.{ItemEdit}
 use Rattle.stab_commands.specs.declared.script.request.ItemEdit.TheVariants.{Insert, Replace}
 use Rattle.stab_commands.specs.declared.script.request.Show.{Show}
 use Rattle.stab_commands.specs.declared.script.request.Show.TheVariants.{Measurements, Free, Detectors, Observables, Stabilisers, Circuit}
 
--- what a script asks for: that the item of a text is put in at a place, or that the item at a place is deleted, or that something
--- is shown; or nothing, where a line is refused
+-- what a script asks for: that it begins; that the item of a text is put in at a place, or that the item at a place is deleted, or that
+-- something is shown, or what only a framed script asks for; or nothing, where a line is refused
 pub data Request : Type 0 where
+  begin : Request
   put : ItemEdit → (place : Path) → (text : List ℕ) → Request
   delete : (place : Path) → Request
   show : Show → Request
+  ask : FramedRequest → Request
   refuse : Refusal → Request
 
 -- an edit that puts in an item, where there are a place and a text
@@ -44,7 +51,16 @@ abbrev pub delete_at : Option Path → (text : List ℕ) → Request
 delete_at None text = refuse BadCommand
 delete_at (Some place) text = if length text == 0 then delete place else refuse BadCommand
 
--- what the word behind `show` asks for
+-- what only a framed script asks for, where it asks for anything
+abbrev pub framed_of : Option FramedRequest → Request
+framed_of None = refuse BadCommand
+framed_of (Some request) = ask request
+
+-- that changes are counted from now on, where nothing stands behind the word
+abbrev pub mark_at : (rest : List ℕ) → Request
+mark_at rest = if length rest == 0 then ask mark else refuse BadCommand
+
+-- what the words behind `show` ask for
 abbrev pub show_of : List ℕ → Request
 show_of word =
     if bytes_eq word (codes "measurements") then show Measurements
@@ -53,7 +69,7 @@ show_of word =
     else if bytes_eq word (codes "observables") then show Observables
     else if bytes_eq word (codes "stabilisers") then show Stabilisers
     else if bytes_eq word (codes "circuit") then show Circuit
-    else refuse BadCommand
+    else framed_of (framed_show (first_word word) (behind_word word))
 
 -- what a first word and the rest behind it ask for
 abbrev pub request_by : (word rest : List ℕ) → Request
@@ -62,6 +78,7 @@ request_by word rest =
     else if bytes_eq word (codes "replace") then put_at Replace (place_of (first_word rest)) (behind_word rest)
     else if bytes_eq word (codes "delete") then delete_at (place_of (first_word rest)) (behind_word rest)
     else if bytes_eq word (codes "show") then show_of rest
+    else if bytes_eq word (codes "mark") then mark_at rest
     else refuse BadCommand
 
 -- what a content asks for that is not blank
@@ -178,14 +195,37 @@ read_end reader = then_read (read_last reader) (λ after. closed after.gathering
 abbrev pub empty_reader : ScriptReader
 empty_reader = record { gathering = None; line = Some [] }
 
+-- what the first bytes of a script ask for: that it begins, and what stands in them
+abbrev pub requests_in : List ℕ → List Request
+requests_in bytes = begin ∷ (read empty_reader bytes).requests
+
 -- what a whole script asks for
 abbrev pub requests_of : List ℕ → List Request
-requests_of script = (then_read (read empty_reader script) read_end).requests
+requests_of script = begin ∷ (then_read (read empty_reader script) read_end).requests
 
--- what requests are answered by, beside the items: the number of qubits and the coins
+-- what requests are answered by: whether the script is framed, the number of qubits and the coins
 pub record Setting : Type 0 where
+  pub framed : Bool
   pub qubits : ℕ
   pub coins : ℕ → Bool
+
+-- what requests change: the items, and the bits that changes are counted from
+pub record Held : Type 0 where
+  pub items : Items
+  pub mark : Mark
+
+-- the run of what is held
+abbrev pub run_held : Setting → Held → State
+run_held s held = run_of s.qubits s.coins held.items
+
+-- the mark before a script, which only a framed one has
+abbrev pub first_mark : (framed : Bool) → State → Mark
+first_mark false run = no_mark
+first_mark true run = mark_of run
+
+-- what is held before a script
+abbrev pub opened : Setting → Items → Held
+opened s items = record { items = items; mark = first_mark s.framed (run_of s.qubits s.coins items) }
 
 -- the edit that puts an item in at a place
 abbrev pub edit_of : ItemEdit → Path → OneItem → Edit
@@ -206,30 +246,30 @@ judged n (Err r) = Err r
 abbrev pub edited_items : ℕ → Edit → Items → Result Items Refusal
 edited_items n e items = judged n (edited e (entries items))
 
--- what a request is answered: the items after it, the reply, and whether a line was refused
+-- what a request is answered: what is held after it, the reply, and whether a line was refused
 pub record Answer : Type 0 where
-  pub items : Items
+  pub held : Held
   pub reply : List ℕ
   pub refused : Bool
 
--- a reply that leaves the items as they are
-abbrev pub replying : Items → List ℕ → Answer
-replying items reply = record { items = items; reply = reply; refused = false }
+-- a reply that leaves what is held as it is
+abbrev pub replying : Held → List ℕ → Answer
+replying held reply = record { held = held; reply = reply; refused = false }
 
--- a refusal leaves the items as they are
-abbrev pub refusing : Items → Refusal → Answer
-refusing items r = record { items = items; reply = refused_text r; refused = true }
+-- a refusal leaves what is held as it is
+abbrev pub refusing : Held → Refusal → Answer
+refusing held r = record { held = held; reply = refused_text r; refused = true }
 
 -- an edit is made, or refused
-abbrev pub decided : Items → Result Items Refusal → Answer
-decided items (Ok after) = record { items = after; reply = codes "ok\n"; refused = false }
-decided items (Err r) = refusing items r
+abbrev pub decided : (framed : Bool) → Held → Result Items Refusal → Answer
+decided framed held (Ok after) = record { held = record held { items = after }; reply = made_text framed; refused = false }
+decided framed held (Err r) = refusing held r
 
 -- the item's text has a fault, or it stands for an item, and the edit with that is made or refused
-abbrev pub IsPut : Items → (OneItem → Result Items Refusal) → (text : List ℕ) → Answer → Type 0
-IsPut items after text a =
-    ((fault : Fault) × (item_fault text ≡ Some fault) × (a ≡ refusing items fault.refusal))
-    ⊎ ((item : OneItem) × StandsForOne text item × (a ≡ decided items (after item)))
+abbrev pub IsPut : (framed : Bool) → Held → (OneItem → Result Items Refusal) → (text : List ℕ) → Answer → Type 0
+IsPut framed held after text a =
+    ((fault : Fault) × (item_fault text ≡ Some fault) × (a ≡ refusing held fault.refusal))
+    ⊎ ((item : OneItem) × StandsForOne text item × (a ≡ decided framed held (after item)))
 
 -- the one list of reduced rows of the group after a run
 abbrev pub AreRowsOf : ℕ → State → List Signed → Type 0
@@ -237,29 +277,65 @@ AreRowsOf n run rows = AreReduced n (member run.trace) rows × ((other : List Si
 
 -- what is shown of items and their run
 abbrev pub Shows : ℕ → State → Items → Show → List ℕ → Type 0
-Shows n run items Measurements reply = reply ≡ f01_bytes run.records
-Shows n run items Free reply = reply ≡ f01_bytes run.free
-Shows n run items Detectors reply = reply ≡ f01_bytes run.detectors
-Shows n run items Observables reply = reply ≡ f01_bytes run.observables
-Shows n run items Stabilisers reply = (rows : List Signed) × AreRowsOf n run rows × (reply ≡ lines_of rows)
-Shows n run items Circuit reply = reply ≡ printed items
+Shows n run items Measurements text = text ≡ f01_bytes run.records
+Shows n run items Free text = text ≡ f01_bytes run.free
+Shows n run items Detectors text = text ≡ f01_bytes run.detectors
+Shows n run items Observables text = text ≡ f01_bytes run.observables
+Shows n run items Stabilisers text = (rows : List Signed) × AreRowsOf n run rows × (text ≡ lines_of rows)
+Shows n run items Circuit text = text ≡ printed items
 
--- the answer to a request, where the items are these
-abbrev pub IsAnswer : Setting → Items → Request → Answer → Type 0
-IsAnswer s items (put how place text) a = IsPut items (λ item. edited_items s.qubits (edit_of how place item) items) text a
-IsAnswer s items (delete place) a = a ≡ decided items (edited_items s.qubits (circuit_edit.Delete place) items)
-IsAnswer s items (show what) a = (reply : List ℕ) × Shows s.qubits (run_of s.qubits s.coins items) items what reply × (a ≡ replying items reply)
-IsAnswer s items (refuse r) a = a ≡ refusing items r
+-- the line of the sign of a string in the group after a run, where a word stands for a string
+abbrev pub sign_shown : State → Result Signed Refusal → Result (List ℕ) Refusal
+sign_shown run (Ok p) = Ok (sign_line (sign_in (member run.trace) p))
+sign_shown run (Err r) = Err r
+
+-- the text of an item, where there is one
+abbrev pub item_shown : Result OneItem Refusal → Result (List ℕ) Refusal
+item_shown (Ok x) = Ok (printed (before x done))
+item_shown (Err r) = Err r
+
+-- what only a framed script is shown of what is held and its run, or why not
+abbrev pub framed_shown : ℕ → State → Held → FramedRequest → Result (List ℕ) Refusal
+framed_shown n run held mark = Ok []
+framed_shown n run held numbers = Ok (numbers_line (session_numbers n run held.items))
+framed_shown n run held changed = Ok (changed_text held.mark run)
+framed_shown n run held changed_records = Ok (changed_records_text held.mark run)
+framed_shown n run held (sign word) = sign_shown run (string_of_word n word)
+framed_shown n run held (item place) = item_shown (item_at place (entries held.items))
+
+-- what is held behind it: `mark` alone changes that
+abbrev pub held_behind : State → Held → FramedRequest → Held
+held_behind run held mark = record held { mark = mark_of run }
+held_behind run held request = held
+
+-- a text is shown, or refused
+abbrev pub shown_or_refused : (framed : Bool) → (held behind : Held) → Result (List ℕ) Refusal → Answer
+shown_or_refused framed held behind (Ok text) = record { held = behind; reply = reply_text framed text; refused = false }
+shown_or_refused framed held behind (Err r) = refusing held r
+
+-- the answer to what only a framed script may ask for
+abbrev pub framed_answer : (framed : Bool) → ℕ → State → Held → FramedRequest → Answer
+framed_answer false n run held request = refusing held BadCommand
+framed_answer true n run held request = shown_or_refused true held (held_behind run held request) (framed_shown n run held request)
+
+-- the answer to a request, where this is held
+abbrev pub IsAnswer : Setting → Held → Request → Answer → Type 0
+IsAnswer s held begin a = a ≡ replying held (greeting s.framed (session_numbers s.qubits (run_held s held) held.items))
+IsAnswer s held (put how place text) a = IsPut s.framed held (λ item. edited_items s.qubits (edit_of how place item) held.items) text a
+IsAnswer s held (delete place) a = a ≡ decided s.framed held (edited_items s.qubits (circuit_edit.Delete place) held.items)
+IsAnswer s held (show what) a = (text : List ℕ) × Shows s.qubits (run_held s held) held.items what text × (a ≡ replying held (reply_text s.framed text))
+IsAnswer s held (ask request) a = a ≡ framed_answer s.framed s.qubits (run_held s held) held request
+IsAnswer s held (refuse r) a = a ≡ refusing held r
 
 -- first one answer, then the other
 abbrev pub both : Answer → Answer → Answer
-both first second = record { items = second.items; reply = first.reply ++ second.reply; refused = first.refused || second.refused }
+both first second = record { held = second.held; reply = first.reply ++ second.reply; refused = first.refused || second.refused }
 
 -- the answer to requests, one after another
-abbrev pub IsAnswerToAll : Setting → Items → List Request → Answer → Type 0
-IsAnswerToAll s items [] a = a ≡ replying items []
-IsAnswerToAll s items (r ∷ rs) a = (first rest : Answer) × IsAnswer s items r first × IsAnswerToAll s first.items rs rest × (a ≡ both first rest)
+abbrev pub IsAnswerToAll : Setting → Held → List Request → Answer → Type 0
+IsAnswerToAll s held [] a = a ≡ replying held []
+IsAnswerToAll s held (r ∷ rs) a = (first rest : Answer) × IsAnswer s held r first × IsAnswerToAll s first.held rs rest × (a ≡ both first rest)
 
--- the answer to a whole script
+-- the answer to a whole script, where these are the items at first
 abbrev pub IsAnswerToScript : Setting → Items → (script : List ℕ) → Answer → Type 0
-IsAnswerToScript s items script a = IsAnswerToAll s items (requests_of script) a
+IsAnswerToScript s items script a = IsAnswerToAll s (opened s items) (requests_of script) a

@@ -1,15 +1,17 @@
 //! The command that edits a circuit by a script.
-ghost use Rattle.std.specs.Prelude.{◌≡◌, ◌≤◌, ◌⊎◌, IfOk, IfSome, IfErr};
+ghost use Rattle.std.specs.Prelude.{◌≡◌, ◌≤◌, ◌⊎◌, None, false, IfOk, IfSome, IfErr, OnOk};
 ghost use Rattle.stab_io.specs.Refusals.{IsCallFault};
 ghost use Rattle.stab_tableau.specs.Limits.{most_qubits};
 ghost use Rattle.stab_circuit.specs.Steps.{check_within};
 ghost use Rattle.stab_circuit.specs.Views.{circuit_items};
 ghost use Rattle.stab_session.specs.Limits.{most_stride};
+ghost use Rattle.stab_commands.specs.script.Scripts.{opened};
 ghost use Rattle.stab_commands.specs.script.ScriptEndings.{EndsScript, EndsOn, EndsEdit};
 ghost use Rattle.stab_commands.specs.script.ScriptTurns.{TakesTurns, EditsInTurn};
 
 use crate::job::Source;
 use crate::script::editor::{Answer, Editor};
+use crate::script::request::Request;
 use crate::script::session_answers::SessionAnswers;
 use crate::script::watcher::{NoWatcher, Watcher};
 use stab_circuit::{Circuit, read_circuit};
@@ -21,17 +23,20 @@ use std::alloc::Global;
 /// The most bytes of a script.
 const MOST_SCRIPT: usize = 67_108_864;
 
-/// Reads a script to its end, and writes the reply to each request before it reads on.
+/// Reads a script to its end, and writes the reply to each request before it reads on. A framed one
+/// is greeted first.
 pub(crate) fn run_script<A: Answer, S: Input, O: Output, W: Watcher<S, O>>(
     alloc: Global,
     answers: A,
     script: &mut S,
     out: &mut O,
 ) -> Result<bool, Fault>
-    ensures ends { EndsScript (A.setting answers) (A.items answers) (S.seen script.old) (S.seen script.new) (O.seen out.old) (O.seen out.new) result }
-    ensures turns { TakesTurns (A.setting answers) (A.items answers) (S.seen script.old) (S.seen script.new) (O.seen out.old) (W.log script.old) (W.log script.new) }
+    requires opened { A.held answers ≡ opened (A.setting answers) (A.held answers).items }
+    ensures ends { EndsScript (A.setting answers) (A.held answers).items (S.seen script.old) (S.seen script.new) (O.seen out.old) (O.seen out.new) result }
+    ensures turns { TakesTurns (A.setting answers) (A.held answers).items (S.seen script.old) (S.seen script.new) (O.seen out.old) (W.log script.old) (W.log script.new) }
 {
     let mut editor = Editor::new(alloc, answers);
+    editor.tell_request(out, Request::Begin)?;
     let mut buf = [0u8; 4096];
     let mut taken = 0;
     'reads: loop {
@@ -68,6 +73,7 @@ fn open_session<C: Coins>(
     ensures qubits { IfOk result (λ s. s.qubits ≡ n) }
     ensures stride { IfOk result (λ s. s.stride ≡ stride) }
     ensures coins { IfOk result (λ s. C.sequence s.coins ≡ C.sequence coins) }
+    ensures accepted { OnOk result (check_within n (circuit_items circuit) ≡ None) }
     ensures refused { IfErr result (IsCallFault (check_within n (circuit_items circuit))) }
 {
     match Session::open(alloc, circuit, n, stride, coins) {
@@ -79,6 +85,7 @@ fn open_session<C: Coins>(
 /// Opens a session of the circuit, and answers the script on it.
 fn edit_circuit<C: Coins, S: Input, O: Output, W: Watcher<S, O>>(
     alloc: Global,
+    framed: bool,
     circuit: Circuit,
     n: usize,
     stride: usize,
@@ -89,11 +96,11 @@ fn edit_circuit<C: Coins, S: Input, O: Output, W: Watcher<S, O>>(
     requires in_range { n ≤ most_qubits }
     requires stride_above { 1 ≤ stride }
     requires stride_within { stride ≤ most_stride }
-    ensures ends { EndsOn (record { qubits = n; coins = C.sequence coins }) (circuit_items circuit) (S.seen script.old) (S.seen script.new) (O.seen out.old) (O.seen out.new) result }
-    ensures turns { (script.new ≡ script.old) ⊎ TakesTurns (record { qubits = n; coins = C.sequence coins }) (circuit_items circuit) (S.seen script.old) (S.seen script.new) (O.seen out.old) (W.log script.old) (W.log script.new) }
+    ensures ends { EndsOn (record { framed = framed; qubits = n; coins = C.sequence coins }) (circuit_items circuit) (S.seen script.old) (S.seen script.new) (O.seen out.old) (O.seen out.new) result }
+    ensures turns { (script.new ≡ script.old) ⊎ TakesTurns (record { framed = framed; qubits = n; coins = C.sequence coins }) (circuit_items circuit) (S.seen script.old) (S.seen script.new) (O.seen out.old) (W.log script.old) (W.log script.new) }
 {
     let session = open_session(alloc, circuit, n, stride, coins)?;
-    let answers = SessionAnswers::new(alloc, session);
+    let answers = SessionAnswers::new(alloc, framed, session)?;
     run_script::<SessionAnswers<C>, S, O, W>(alloc, answers, script, out)
 }
 
@@ -102,11 +109,15 @@ fn edit_circuit<C: Coins, S: Input, O: Output, W: Watcher<S, O>>(
 ///
 /// Where the script's input keeps a log, each read of it found exactly the replies written to what
 /// was handed over before, in whole lines, behind what the output held at first.
+///
+/// A framed script is one that a program drives: it is greeted by a line of numbers before it is
+/// read, each reply that is no refusal says first how many lines it has, and it may ask for more.
 pub fn run_edit_watched<I: Input, S: Input, O: Output, W: Watcher<S, O>>(
     alloc: Global,
     circuit_input: &mut I,
     script_input: &mut S,
     out: &mut O,
+    framed: bool,
     qubits: Option<usize>,
     stride: usize,
     source: &Source,
@@ -114,8 +125,8 @@ pub fn run_edit_watched<I: Input, S: Input, O: Output, W: Watcher<S, O>>(
     requires in_range { IfSome qubits (λ n. n ≤ most_qubits) }
     requires stride_above { 1 ≤ stride }
     requires stride_within { stride ≤ most_stride }
-    ensures ends { EndsEdit qubits source.now (I.seen circuit_input.old) (I.seen circuit_input.new) (S.seen script_input.old) (S.seen script_input.new) (O.seen out.old) (O.seen out.new) result }
-    ensures turns { EditsInTurn qubits source.now (I.seen circuit_input.old) (I.seen circuit_input.new) (S.seen script_input.old) (S.seen script_input.new) (O.seen out.old) (W.log script_input.old) (W.log script_input.new) }
+    ensures ends { EndsEdit framed qubits source.now (I.seen circuit_input.old) (I.seen circuit_input.new) (S.seen script_input.old) (S.seen script_input.new) (O.seen out.old) (O.seen out.new) result }
+    ensures turns { EditsInTurn framed qubits source.now (I.seen circuit_input.old) (I.seen circuit_input.new) (S.seen script_input.old) (S.seen script_input.new) (O.seen out.old) (W.log script_input.old) (W.log script_input.new) }
 {
     let circuit = read_circuit(alloc, circuit_input)?;
     let n = match qubits {
@@ -125,11 +136,29 @@ pub fn run_edit_watched<I: Input, S: Input, O: Output, W: Watcher<S, O>>(
     match source {
         Source::Seed(seed) => {
             let coins = SeedCoins::new(*seed, 0);
-            edit_circuit::<SeedCoins, S, O, W>(alloc, circuit, n, stride, coins, script_input, out)
+            edit_circuit::<SeedCoins, S, O, W>(
+                alloc,
+                framed,
+                circuit,
+                n,
+                stride,
+                coins,
+                script_input,
+                out,
+            )
         }
         Source::List(list) => {
             let coins = ListCoins::new(list.as_slice());
-            edit_circuit::<ListCoins, S, O, W>(alloc, circuit, n, stride, coins, script_input, out)
+            edit_circuit::<ListCoins, S, O, W>(
+                alloc,
+                framed,
+                circuit,
+                n,
+                stride,
+                coins,
+                script_input,
+                out,
+            )
         }
     }
 }
@@ -156,13 +185,14 @@ pub fn run_edit<I: Input, S: Input, O: Output>(
     requires in_range { IfSome qubits (λ n. n ≤ most_qubits) }
     requires stride_above { 1 ≤ stride }
     requires stride_within { stride ≤ most_stride }
-    ensures ends { EndsEdit qubits source.now (I.seen circuit_input.old) (I.seen circuit_input.new) (S.seen script_input.old) (S.seen script_input.new) (O.seen out.old) (O.seen out.new) result }
+    ensures ends { EndsEdit false qubits source.now (I.seen circuit_input.old) (I.seen circuit_input.new) (S.seen script_input.old) (S.seen script_input.new) (O.seen out.old) (O.seen out.new) result }
 {
     run_edit_watched::<I, S, O, NoWatcher>(
         alloc,
         circuit_input,
         script_input,
         out,
+        false,
         qubits,
         stride,
         source,

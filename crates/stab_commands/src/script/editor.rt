@@ -2,8 +2,7 @@
 ghost use Rattle.std.specs.Prelude.{◌≡◌, ◌+◌, ◌<◌, ◌^◌, ◌∷◌, ◌||◌, [], false, length, IfOk, IfErr, OnOk};
 ghost use Rattle.stab_io.specs.Refusals.{whole};
 ghost use Rattle.stab_io.specs.declared.refusal.Refusal.TheVariants.{OutOfMemory};
-ghost use Rattle.stab_circuit.specs.Items.{Items};
-ghost use Rattle.stab_commands.specs.script.Scripts.{Setting, IsAnswer, empty_reader, read_byte, read, read_end};
+ghost use Rattle.stab_commands.specs.script.Scripts.{Setting, Held, IsAnswer, empty_reader, read_byte, read, read_end};
 ghost use Rattle.stab_commands.specs.inner.Requests.{request_asked, asked_if_any, opened_in};
 ghost use Rattle.stab_commands.specs.inner.Editors.{AnswersRequests, Finishes, sitting};
 
@@ -21,18 +20,18 @@ pub(crate) struct Answered {
     pub(crate) refused: bool,
 }
 
-/// What answers requests: it keeps the items of a circuit, and edits and shows them.
+/// What answers requests: it keeps the items of a circuit and the bits at a mark, and edits and shows them.
 pub(crate) trait Answer: Drop {
-    // What answers are made by, beside the items.
+    // What answers are made by, beside what is held.
     ghost setting: { Self → Setting };
 
-    // The items as they are now.
-    ghost items: { Self → Items };
+    // What is held now.
+    ghost held: { Self → Held };
 
     /// Answers a request; fault `OutOfMemory` alone.
     fn answer(&mut self, request: Request) -> Result<Answered, Fault>
         ensures setting { OnOk result (setting self.new ≡ setting self.old) }
-        ensures answers { IfOk result (λ a. IsAnswer (setting self.old) (items self.old) (request_asked request) (record { items = items self.new; reply = a.reply.written; refused = a.refused })) }
+        ensures answers { IfOk result (λ a. IsAnswer (setting self.old) (held self.old) (request_asked request) (record { held = held self.new; reply = a.reply.written; refused = a.refused })) }
         ensures err { IfErr result (λ f. f ≡ whole OutOfMemory) };
 }
 
@@ -54,7 +53,7 @@ impl<A: Answer> Editor<A> {
     /// An editor before a script.
     pub(crate) fn new(alloc: Global, answers: A) -> Editor<A>
         ensures reader { result.reader ≡ empty_reader }
-        ensures sitting { sitting A.setting A.items result ≡ record { setting = A.setting answers; items = A.items answers; refused = false } }
+        ensures sitting { sitting A.setting A.held result ≡ record { setting = A.setting answers; held = A.held answers; refused = false } }
     {
         Editor {
             reader: ScriptReader::new(alloc),
@@ -64,9 +63,13 @@ impl<A: Answer> Editor<A> {
     }
 
     /// Answers a request, and writes the reply in one go.
-    fn tell_request<O: Output>(&mut self, out: &mut O, request: Request) -> Result<(), Fault>
+    pub(crate) fn tell_request<O: Output>(
+        &mut self,
+        out: &mut O,
+        request: Request,
+    ) -> Result<(), Fault>
         ensures reader { self.new.reader ≡ self.old.reader }
-        ensures tells { AnswersRequests (sitting A.setting A.items self.old) (sitting A.setting A.items self.new) (request_asked request ∷ []) (O.seen out.old) (O.seen out.new) result }
+        ensures tells { AnswersRequests (sitting A.setting A.held self.old) (sitting A.setting A.held self.new) (request_asked request ∷ []) (O.seen out.old) (O.seen out.new) result }
     {
         let Answered { reply, refused } = self.answers.answer(request)?;
         self.refused = either(self.refused, refused);
@@ -79,7 +82,7 @@ impl<A: Answer> Editor<A> {
     /// Answers a request, where there is one.
     fn tell<O: Output>(&mut self, out: &mut O, request: Option<Request>) -> Result<(), Fault>
         ensures reader { self.new.reader ≡ self.old.reader }
-        ensures tells { AnswersRequests (sitting A.setting A.items self.old) (sitting A.setting A.items self.new) (asked_if_any request) (O.seen out.old) (O.seen out.new) result }
+        ensures tells { AnswersRequests (sitting A.setting A.held self.old) (sitting A.setting A.held self.new) (asked_if_any request) (O.seen out.old) (O.seen out.new) result }
     {
         match request {
             None => Ok(()),
@@ -91,7 +94,7 @@ impl<A: Answer> Editor<A> {
     fn take_byte<O: Output>(&mut self, out: &mut O, byte: u8) -> Result<(), Fault>
         requires few { opened_in self.old.reader.gathering < 2 ^ 63 }
         ensures reader { OnOk result (self.new.reader ≡ (read_byte self.old.reader byte).reader) }
-        ensures tells { AnswersRequests (sitting A.setting A.items self.old) (sitting A.setting A.items self.new) (read_byte self.old.reader byte).requests (O.seen out.old) (O.seen out.new) result }
+        ensures tells { AnswersRequests (sitting A.setting A.held self.old) (sitting A.setting A.held self.new) (read_byte self.old.reader byte).requests (O.seen out.old) (O.seen out.new) result }
     {
         let request = self.reader.take_byte(byte)?;
         self.tell(out, request)
@@ -103,7 +106,7 @@ impl<A: Answer> Editor<A> {
     pub(crate) fn take<O: Output>(&mut self, out: &mut O, piece: &[u8]) -> Result<(), Fault>
         requires few { opened_in self.old.reader.gathering + length piece.now < 2 ^ 63 }
         ensures reader { OnOk result (self.new.reader ≡ (read self.old.reader piece.now).reader) }
-        ensures tells { AnswersRequests (sitting A.setting A.items self.old) (sitting A.setting A.items self.new) (read self.old.reader piece.now).requests (O.seen out.old) (O.seen out.new) result }
+        ensures tells { AnswersRequests (sitting A.setting A.held self.old) (sitting A.setting A.held self.new) (read self.old.reader piece.now).requests (O.seen out.old) (O.seen out.new) result }
     {
         for byte in piece {
             self.take_byte(out, *byte)?;
@@ -115,7 +118,7 @@ impl<A: Answer> Editor<A> {
     /// gathered.
     fn tell_last<O: Output>(&mut self, out: &mut O) -> Result<(), Fault>
         requires few { opened_in self.old.reader.gathering < 2 ^ 63 }
-        ensures tells { AnswersRequests (sitting A.setting A.items self.old) (sitting A.setting A.items self.new) (read_end self.old.reader).requests (O.seen out.old) (O.seen out.new) result }
+        ensures tells { AnswersRequests (sitting A.setting A.held self.old) (sitting A.setting A.held self.new) (read_end self.old.reader).requests (O.seen out.old) (O.seen out.new) result }
     {
         let last = self.reader.end_last()?;
         self.tell(out, last)?;
@@ -126,7 +129,7 @@ impl<A: Answer> Editor<A> {
     /// Ends the script and flushes, and says whether a line was refused.
     pub(crate) fn end<O: Output>(&mut self, out: &mut O) -> Result<bool, Fault>
         requires few { opened_in self.old.reader.gathering < 2 ^ 63 }
-        ensures finishes { Finishes (sitting A.setting A.items self.old) (read_end self.old.reader).requests (O.seen out.old) (O.seen out.new) result }
+        ensures finishes { Finishes (sitting A.setting A.held self.old) (read_end self.old.reader).requests (O.seen out.old) (O.seen out.new) result }
     {
         self.tell_last(out)?;
         finish(out)?;

@@ -138,7 +138,9 @@ impl ScriptReader {
                 None
             }
             Request::Delete { place } => Some(Request::Delete { place }),
+            Request::Begin => Some(Request::Begin),
             Request::Show(what) => Some(Request::Show(what)),
+            Request::Framed(what) => Some(Request::Framed(what)),
             Request::Refuse(refusal) => Some(Request::Refuse(refusal)),
         }
     }

@@ -3,9 +3,10 @@ ghost use Rattle.std.specs.Prelude.{◌≡◌, IfOk, IfErr};
 ghost use Rattle.stab_io.specs.Refusals.{whole};
 ghost use Rattle.stab_io.specs.declared.refusal.Refusal.TheVariants.{OutOfMemory};
 ghost use Rattle.stab_commands.specs.script.ScriptWords.{first_word as first_of, behind_word, place_of};
-ghost use Rattle.stab_commands.specs.script.Scripts.{put_at as put_of, delete_at as delete_of, show_of, request_by as by_word, request_of};
-ghost use Rattle.stab_commands.specs.inner.Requests.{request_asked};
+ghost use Rattle.stab_commands.specs.script.Scripts.{put_at as put_of, delete_at as delete_of, framed_of, mark_at as mark_of, show_of, request_by as by_word, request_of};
+ghost use Rattle.stab_commands.specs.inner.Requests.{request_asked, framed_if_any};
 
+use crate::script::framed::{FramedRequest, read_framed_show};
 use crate::script::place::{first_word, read_place};
 use stab_circuit::Path;
 use stab_io::{Fault, Refusal};
@@ -40,6 +41,8 @@ pub(crate) enum Show {
 /// What a script asks for.
 #[derive(Drop)]
 pub(crate) enum Request {
+    /// That a script begins.
+    Begin,
     /// That the item of a text is put in at a place.
     Put {
         edit: ItemEdit,
@@ -52,6 +55,8 @@ pub(crate) enum Request {
     },
     /// That something is shown.
     Show(Show),
+    /// What only a framed script asks for.
+    Framed(FramedRequest),
     /// Nothing: a line is refused.
     Refuse(Refusal),
 }
@@ -91,24 +96,48 @@ fn delete_at(rest: &[u8]) -> Request
     }
 }
 
-/// What the word behind `show` asks for.
-fn read_show(word: &[u8]) -> Request
-    ensures value { request_asked result ≡ show_of word.now }
+/// What only a framed script asks for, where it asks for anything.
+fn framed_if_some(request: Option<FramedRequest>) -> Request
+    ensures value { request_asked result ≡ framed_of (framed_if_any request) }
 {
-    if word == b"measurements".as_slice() {
-        Request::Show(Show::Measurements)
-    } else if word == b"free".as_slice() {
-        Request::Show(Show::Free)
-    } else if word == b"detectors".as_slice() {
-        Request::Show(Show::Detectors)
-    } else if word == b"observables".as_slice() {
-        Request::Show(Show::Observables)
-    } else if word == b"stabilisers".as_slice() {
-        Request::Show(Show::Stabilisers)
-    } else if word == b"circuit".as_slice() {
-        Request::Show(Show::Circuit)
+    match request {
+        None => Request::Refuse(Refusal::BadCommand),
+        Some(request) => Request::Framed(request),
+    }
+}
+
+/// That changes are counted from now on, where nothing stands behind the word.
+fn mark_at(rest: &[u8]) -> Request
+    ensures value { request_asked result ≡ mark_of rest.now }
+{
+    if rest.is_empty() {
+        Request::Framed(FramedRequest::Mark)
     } else {
         Request::Refuse(Refusal::BadCommand)
+    }
+}
+
+/// What the words behind `show` ask for.
+fn read_show(alloc: Global, word: &[u8]) -> Result<Request, Fault>
+    ensures gives { IfOk result (λ r. request_asked r ≡ show_of word.now) }
+    ensures err { IfErr result (λ f. f ≡ whole OutOfMemory) }
+{
+    if word == b"measurements".as_slice() {
+        Ok(Request::Show(Show::Measurements))
+    } else if word == b"free".as_slice() {
+        Ok(Request::Show(Show::Free))
+    } else if word == b"detectors".as_slice() {
+        Ok(Request::Show(Show::Detectors))
+    } else if word == b"observables".as_slice() {
+        Ok(Request::Show(Show::Observables))
+    } else if word == b"stabilisers".as_slice() {
+        Ok(Request::Show(Show::Stabilisers))
+    } else if word == b"circuit".as_slice() {
+        Ok(Request::Show(Show::Circuit))
+    } else {
+        let (word, rest) = first_word(word);
+        let request = read_framed_show(alloc, word, rest)?;
+        Ok(framed_if_some(request))
     }
 }
 
@@ -124,7 +153,9 @@ fn request_by(alloc: Global, word: &[u8], rest: &[u8]) -> Result<Request, Fault>
     } else if word == b"delete".as_slice() {
         Ok(delete_at(rest))
     } else if word == b"show".as_slice() {
-        Ok(read_show(rest))
+        read_show(alloc, rest)
+    } else if word == b"mark".as_slice() {
+        Ok(mark_at(rest))
     } else {
         Ok(Request::Refuse(Refusal::BadCommand))
     }

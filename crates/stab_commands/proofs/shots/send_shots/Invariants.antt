@@ -9,5 +9,5 @@ abbrev pub invariant-loop-shot : goal.invariant-loop-shot
 invariant-loop-shot g l = record {
   kept : l.sampler ≡ l.initial.sampler;
   sent : Took (g.O.Output.seen l.initial.out) (g.O.Output.seen l.out)
-      (of_shots (λ shot. shown_bytes l.format l.shown (run_of l.initial.sampler.qubits (coins_of_shot l.source shot) l.initial.sampler.items)) l.shot);
+      (of_shots (λ shot. shown_bytes l.format l.shown (run_of l.initial.sampler.qubits (coins_of_shot l.source shot) l.initial.sampler.items)) l.fn.shots.first l.shot);
 }

@@ -1,22 +1,48 @@
-use Rattle.std.proofs.Common.{◌≡◌, ◌+◌, ◌-◌, ◌++◌, [], sym, ap, ◌∙◌, subst, arith, inr, length, length-take, take, drop}
+use Rattle.std.proofs.Common.{◌≡◌, ◌+◌, ◌-◌, ◌++◌, [], ◌∷◌, false, sym, ap, ◌∙◌, subst, arith, inr, length, length-take, take, drop}
 use Rattle.std.proofs.lemmas.List.{append-nil, take-append-drop}
 use Rattle.std.specs.Prelude.{List, ℕ, Ok, Err}
 use Rattle.stab_io.specs.Devices.{Gave}
-use Rattle.stab_commands.specs.script.Scripts.{ScriptReader, read}
+use Rattle.stab_commands.specs.script.Scripts.{ScriptReader, begin, read, empty_reader}
 use Rattle.stab_commands.specs.inner.Requests.{opened_in}
-use Rattle.stab_commands.specs.inner.Editors.{sitting}
+use Rattle.stab_commands.specs.inner.Editors.{Sitting, Told, ToldSome, sitting}
 use Rattle.stab_commands.proofs.ReadingLaws.{opened_read}
-use Rattle.stab_commands.proofs.ScriptRunLaws.{script_failed, broke_behind, script_too_long, gave_end, script_ended, script_err}
-use Rattle.stab_commands.proofs.ScriptTurnLaws.{in_turn_at_first, in_turn_so_far, last_in_turn}
+use Rattle.stab_commands.proofs.TellingLaws.{sitting_with}
+use Rattle.stab_commands.proofs.ScriptRunLaws.{before_script, greeting_broke, script_failed, broke_behind, script_too_long, gave_end, script_ended, script_err}
+use Rattle.stab_commands.proofs.ScriptTurnLaws.{in_turn_at_first, in_turn_so_far, last_in_turn, unread_in_turn}
 use Rattle.stab_commands.proofs.script.edit.run_script.Goals as goal
+
+pub returns-in_err-tell_request : goal.returns-in_err-tell_request
+returns-in_err-tell_request g c =
+    let setting = g.A.Answer.setting c.args.answers in
+    let items = (g.A.Answer.held c.args.answers).items in
+    let s = g.S.Input.seen c.args.script.now in
+    let o = g.O.Output.seen c.args.out.now in
+    let o' = g.O.Output.seen c.tell_request.new.out in
+    let f = c.in_err-tell_request.field-0.0 in
+    let at_first : sitting g.A.Answer.setting g.A.Answer.held c.new-editor.result ≡ before_script setting items =
+    c.new-editor.ensures.sitting ∙ ap (λ h. sitting_with setting h false) c.requires.opened in
+    record {
+      ends = script_err f c.from_residual.result c.from_residual.ensures.1
+          (greeting_broke s f (subst (λ (x : Sitting). ToldSome x (begin ∷ []) o o' f) at_first c.in_err-tell_request.ensures.tells));
+      turns = unread_in_turn setting items s o (g.W.Watcher.log c.args.script.now);
+    }
 
 pub reads-init : goal.reads-init
 reads-init g c =
-    let none : opened_in c.new-editor.result.reader.gathering ≡ 0 = ap (λ (d : ScriptReader). opened_in d.gathering) c.new-editor.ensures.reader in
+    let setting = g.A.Answer.setting c.args.answers in
+    let items = (g.A.Answer.held c.args.answers).items in
+    let o = g.O.Output.seen c.args.out.now in
+    let o' = g.O.Output.seen c.tell_request.new.out in
+    let now = sitting g.A.Answer.setting g.A.Answer.held c.tell_request.new.self in
+    let reader : c.tell_request.new.self.reader ≡ empty_reader = c.tell_request.ensures.reader ∙ c.new-editor.ensures.reader in
+    let none : opened_in c.tell_request.new.self.reader.gathering ≡ 0 = ap (λ (d : ScriptReader). opened_in d.gathering) reader in
+    let at_first : sitting g.A.Answer.setting g.A.Answer.held c.new-editor.result ≡ before_script setting items =
+    c.new-editor.ensures.sitting ∙ ap (λ h. sitting_with setting h false) c.requires.opened in
     record {
       few = omega arith;
       opened = omega arith;
-      so_far = in_turn_at_first _ _ (sitting g.A.Answer.setting g.A.Answer.items c.new-editor.result) c.new-editor.result.reader (g.S.Input.seen c.args.script.now) (g.O.Output.seen c.args.out.now) (g.W.Watcher.log c.args.script.now) c.new-editor.ensures.sitting c.new-editor.ensures.reader;
+      so_far = in_turn_at_first setting items now c.tell_request.new.self.reader (g.S.Input.seen c.args.script.now) o o' (g.W.Watcher.log c.args.script.now)
+          (subst (λ (x : Sitting). Told x now (begin ∷ []) o o') at_first c.in_ok-tell_request.ensures.tells) reader;
     }
 
 pub returns-in-Err : goal.returns-in-Err
@@ -39,7 +65,7 @@ returns-in_err-take-in-Ok g c =
     let given : Gave s' s'' piece = subst (λ (l : List ℕ). Gave s' s'' l) (sym c.split_at.ensures.front) c.in-Ok.ensures.reads.1 in
     let whole : part ++ rest ≡ piece = ap (λ l. l ++ rest) c.split_at-then-count-taken.ensures.front ∙ take-append-drop (67108864 - c.reads.taken) piece in
     record {
-      ends = script_err c.in_err-take-in-Ok.field-0.0 c.from_residual.result c.from_residual.ensures.1
+      ends = script_err c.in_err-take-in-Ok.field-0.0 c.from_residual-in_err-take-in-Ok.result c.from_residual-in_err-take-in-Ok.ensures.1
           (broke_behind c.in_err-take-in-Ok.field-0.0 part rest c.reads.invariant.so_far.0 (subst (λ (l : List ℕ). Gave s' s'' l) (sym whole) given) c.in_err-take-in-Ok.ensures.tells);
       turns = last_in_turn (g.S.Input.seen c.read.new.script) (Ok c.in-Ok.count) c.read.new.buf c.reads.invariant.so_far c.in-Ok.ensures.logs c.in-Ok.ensures.reads;
     }

@@ -9,7 +9,7 @@ use Rattle.stab_commands.proofs.script.editor.Editor.take.Goals as goal
 
 pub loop-byte-init : goal.loop-byte-init
 loop-byte-init g c =
-    let now = sitting g.A.Answer.setting g.A.Answer.items c.args.self.now in
+    let now = sitting g.A.Answer.setting g.A.Answer.held c.args.self.now in
     let o = g.O.Output.seen c.args.out.now in
     record {
       reader = sym (ap (λ (r : Reading). r.reader) (read_none c.args.self.now.reader));
@@ -19,8 +19,8 @@ loop-byte-init g c =
 
 pub returns-in_err-take_byte-clause-tells : goal.returns-in_err-take_byte-clause-tells
 returns-in_err-take_byte-clause-tells g c =
-    let old = sitting g.A.Answer.setting g.A.Answer.items c.args.self.now in
-    let mid = sitting g.A.Answer.setting g.A.Answer.items c.loop-byte.self in
+    let old = sitting g.A.Answer.setting g.A.Answer.held c.args.self.now in
+    let mid = sitting g.A.Answer.setting g.A.Answer.held c.loop-byte.self in
     let reader = c.args.self.now.reader in
     let i = c.loop-byte.byte-index in
     let byte = get_or c.args.piece.now i 0 in
@@ -39,9 +39,9 @@ returns-in_err-take_byte-clause-tells g c =
 
 pub loop-byte-preserved : goal.loop-byte-preserved
 loop-byte-preserved g c =
-    let old = sitting g.A.Answer.setting g.A.Answer.items c.args.self.now in
-    let mid = sitting g.A.Answer.setting g.A.Answer.items c.loop-byte.self in
-    let new = sitting g.A.Answer.setting g.A.Answer.items c.take_byte.new.self in
+    let old = sitting g.A.Answer.setting g.A.Answer.held c.args.self.now in
+    let mid = sitting g.A.Answer.setting g.A.Answer.held c.loop-byte.self in
+    let new = sitting g.A.Answer.setting g.A.Answer.held c.take_byte.new.self in
     let reader = c.args.self.now.reader in
     let i = c.loop-byte.byte-index in
     let byte = get_or c.args.piece.now i 0 in

@@ -8,7 +8,7 @@ use Rattle.stab_commands.proofs.script.editor.Editor.tell_last.Goals as goal
 
 pub returns-in_err-tell : goal.returns-in_err-tell
 returns-in_err-tell g c =
-    let old = sitting g.A.Answer.setting g.A.Answer.items c.args.self.now in
+    let old = sitting g.A.Answer.setting g.A.Answer.held c.args.self.now in
     let last = read_last c.args.self.now.reader in
     let o = g.O.Output.seen c.args.out.now in
     let o' = g.O.Output.seen c.tell.new.out in
@@ -20,9 +20,9 @@ returns-in_err-tell g c =
 
 pub returns : goal.returns
 returns g c =
-    let old = sitting g.A.Answer.setting g.A.Answer.items c.args.self.now in
-    let mid = sitting g.A.Answer.setting g.A.Answer.items c.tell.new.self in
-    let new = sitting g.A.Answer.setting g.A.Answer.items c.tell-2.new.self in
+    let old = sitting g.A.Answer.setting g.A.Answer.held c.args.self.now in
+    let mid = sitting g.A.Answer.setting g.A.Answer.held c.tell.new.self in
+    let new = sitting g.A.Answer.setting g.A.Answer.held c.tell-2.new.self in
     let last = read_last c.args.self.now.reader in
     let o = g.O.Output.seen c.args.out.now in
     let p = g.O.Output.seen c.tell.new.out in

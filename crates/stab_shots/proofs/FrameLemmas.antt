@@ -1,0 +1,111 @@
+-- Frames: the strings of lanes, whose letters are changed at one place.
+use Rattle.std.proofs.Common.{◌≡◌, ℕ, zero, suc, ◌+◌, ◌<◌, refl, sym, ◌∙◌, ap, Bool, true, false, List, [], ◌∷◌, length, get_or, set, take, arith}
+use Rattle.std.proofs.lemmas.List.{map-set, get_or-map, set-get_or, length-replicate, length-map}
+use Rattle.stab_pauli.specs.declared.letter.Letter.{Letter}
+use Rattle.stab_pauli.specs.declared.letter.Letter.TheVariants.{I}
+use Rattle.stab_pauli.specs.Letters.{◌⊕◌, letter_product, letters_anticommute}
+use Rattle.stab_pauli.specs.Paulis.{single, string_product, strings_anticommute}
+use Rattle.stab_pauli.proofs.ParityLemmas.{parity-false, parity-assoc}
+use Rattle.stab_pauli.proofs.StringLemmas.{string_product-empty, string_product-blank_right}
+use Rattle.stab_tableau.specs.declared.gate.Gate.{Gate}
+use Rattle.stab_tableau.specs.declared.gate.PairGate.{PairGate}
+use Rattle.stab_tableau.specs.Gates.{letter_image, letter_at, pair_letters, image, image_pair}
+use Rattle.stab_tableau.specs.inner.InverseRows.{blank}
+use Rattle.stab_tableau.proofs.PlaceLemmas.{string_product-set}
+use Rattle.stab_shots.specs.declared.letters.Letters.{Letters}
+use Rattle.stab_frames.specs.Frames.{plus, times_where}
+use Rattle.stab_shots.specs.Lanes.{letter_in, lane_letters, letter_times}
+
+-- strings one letter longer
+
+product-next : (f s : List Letter) (i : ℕ) → i < length f → i < length s
+    → set (string_product f (take i s)) i (letter_product (get_or (string_product f (take i s)) i I) (get_or s i I)) ≡ string_product f (take (suc i) s)
+product-next [] s i lf ls = absurd (omega arith)
+product-next (x ∷ f) [] i lf ls = absurd (omega arith)
+product-next (x ∷ f) (y ∷ s) zero lf ls = ap (λ r. letter_product x y ∷ r) (sym (string_product-empty f))
+product-next (x ∷ f) (y ∷ s) (suc i) lf ls = ap (λ r. letter_product x y ∷ r) (product-next f s i (omega arith) (omega arith))
+
+pub times-more : (b : Bool) (f s : List Letter) (i : ℕ) → i < length f → i < length s
+    → set (times_where b (take i s) f) i (letter_times b (get_or s i I) (get_or (times_where b (take i s) f) i I)) ≡ times_where b (take (i + 1) s) f
+times-more true f s i lf ls = let e : suc i ≡ i + 1 = omega arith in product-next f s i lf ls ∙ ap (λ k. string_product f (take k s)) e
+times-more false f s i lf ls = set-get_or f i I
+
+anticommute-next : (p q : List Letter) (i : ℕ) → i < length p → i < length q
+    → strings_anticommute (take (suc i) p) (take (suc i) q) ≡ strings_anticommute (take i p) (take i q) ⊕ letters_anticommute (get_or p i I) (get_or q i I)
+anticommute-next [] q i lp lq = absurd (omega arith)
+anticommute-next (x ∷ p) [] i lp lq = absurd (omega arith)
+anticommute-next (x ∷ p) (y ∷ q) zero lp lq = parity-false (letters_anticommute x y)
+anticommute-next (x ∷ p) (y ∷ q) (suc i) lp lq =
+    ap (λ b. letters_anticommute x y ⊕ b) (anticommute-next p q i (omega arith) (omega arith))
+    ∙ sym (parity-assoc (letters_anticommute x y) (strings_anticommute (take i p) (take i q)) (letters_anticommute (get_or p i I) (get_or q i I)))
+
+pub anticommute-more : (p q : List Letter) (i : ℕ) → i < length p → i < length q
+    → strings_anticommute (take (i + 1) p) (take (i + 1) q) ≡ strings_anticommute (take i p) (take i q) ⊕ letters_anticommute (get_or p i I) (get_or q i I)
+anticommute-more p q i lp lq =
+    let e : i + 1 ≡ suc i = omega arith in
+    ap (λ k. strings_anticommute (take k p) (take k q)) e ∙ anticommute-next p q i lp lq
+
+-- a letter at one place
+
+pub times-set : (b : Bool) (n q : ℕ) (letter : Letter) (f : List Letter) → length f ≡ n → q < n
+    → set f q (letter_times b letter (letter_at f q)) ≡ times_where b (single n q letter).letters f
+times-set false n q letter f size lt = set-get_or f q I
+times-set true n q letter f size lt =
+    ap (λ w. set w q (letter_product (get_or f q I) letter)) (sym (string_product-blank_right n f size))
+    ∙ sym (string_product-set n f (blank n) q (get_or f q I) letter size (length-replicate n I) lt)
+    ∙ ap (λ w. string_product w (single n q letter).letters) (set-get_or f q I)
+
+module _ {W : Type 0} (at : W → ℕ → Bool) (l : ℕ) (ws : List (Letters W)) where
+  -- the letter that is read at a place
+  pub letter-read : (q : ℕ) (w : Letters W) → q < length ws → w ≡ get_or ws q w → letter_in at l w ≡ letter_at (lane_letters at l ws) q
+  letter-read q w lt is = ap (letter_in at l) is ∙ sym (get_or-map (letter_in at l) ws q w I lt)
+
+  -- a letter put at a place
+  pub letter-put : (q : ℕ) (v : Letters W) (x : Letter) → letter_in at l v ≡ x → lane_letters at l (set ws q v) ≡ set (lane_letters at l ws) q x
+  letter-put q v x is = map-set (letter_in at l) ws q v ∙ ap (set (lane_letters at l ws) q) is
+
+  pub gate-put : (g : Gate) (q : ℕ) (w v : Letters W) → q < length ws → w ≡ get_or ws q w
+      → letter_in at l v ≡ (letter_image g (letter_in at l w)).letter
+      → lane_letters at l (set ws q v) ≡ (image g q (plus (lane_letters at l ws))).letters
+  gate-put g q w v lt is made = letter-put q v _ (made ∙ ap (λ x. (letter_image g x).letter) (letter-read q w lt is))
+
+  pub pair-put : (g : PairGate) (a b : ℕ) (w v x y : Letters W) → a < length ws → b < length ws → w ≡ get_or ws a w → v ≡ get_or ws b v
+      → letter_in at l x ≡ letter_at (pair_letters g (letter_in at l w) (letter_in at l v)).letters 0
+      → letter_in at l y ≡ letter_at (pair_letters g (letter_in at l w) (letter_in at l v)).letters 1
+      → lane_letters at l (set (set ws a x) b y) ≡ (image_pair g a b (plus (lane_letters at l ws))).letters
+  pair-put g a b w v x y la lb at_a at_b made more =
+      map-set (letter_in at l) (set ws a x) b y
+      ∙ ap (λ r. set r b (letter_in at l y)) (letter-put a x _ (made ∙ (λ i. letter_at (pair_letters g (letter-read a w la at_a i) (letter-read b v lb at_b i)).letters 0)))
+      ∙ ap (set (set (lane_letters at l ws) a _) b) (more ∙ (λ i. letter_at (pair_letters g (letter-read a w la at_a i) (letter-read b v lb at_b i)).letters 1))
+
+  pub times-put : (b : Bool) (letter : Letter) (q n : ℕ) (w v : Letters W) → length (lane_letters at l ws) ≡ n → q < n → q < length ws → w ≡ get_or ws q w
+      → letter_in at l v ≡ letter_times b letter (letter_in at l w)
+      → lane_letters at l (set ws q v) ≡ times_where b (single n q letter).letters (lane_letters at l ws)
+  times-put b letter q n w v size lt within is made =
+      letter-put q v _ (made ∙ ap (letter_times b letter) (letter-read q w within is))
+      ∙ times-set b n q letter (lane_letters at l ws) size lt
+
+  -- a letter of each lane, and of a string, at the next place
+
+  pub anticommute-put : (string : List Letter) (q : ℕ) (w : Letters W) (x : Letter) (before here now : Bool) → q < length ws → q < length string
+      → w ≡ get_or ws q w → x ≡ get_or string q I → before ≡ strings_anticommute (take q (lane_letters at l ws)) (take q string)
+      → here ≡ letters_anticommute (letter_in at l w) x → now ≡ before ⊕ here
+      → now ≡ strings_anticommute (take (q + 1) (lane_letters at l ws)) (take (q + 1) string)
+  anticommute-put string q w x before here now lt within is at_q were is_here are =
+      are
+      ∙ (λ i. were i ⊕ (is_here ∙ (λ j. letters_anticommute (letter-read q w lt is j) (at_q j))) i)
+      ∙ sym (anticommute-more (lane_letters at l ws) string q (omega (arith, length-map ws (letter_in at l), lt)) within)
+
+  pub product-put : (b : Bool) (string letters : List Letter) (q : ℕ) (w v : Letters W) (x : Letter) → q < length ws → q < length string → q < length letters
+      → w ≡ get_or ws q w → x ≡ get_or string q I → lane_letters at l ws ≡ times_where b (take q string) letters
+      → letter_in at l v ≡ letter_times b x (letter_in at l w)
+      → lane_letters at l (set ws q v) ≡ times_where b (take (q + 1) string) letters
+  product-put b string letters q w v x lt within inside is at_q were made =
+      letter-put q v _ (made ∙ (λ i. letter_times b (at_q i) (letter-read q w lt is i)))
+      ∙ (λ i. set (were i) q (letter_times b (get_or string q I) (letter_at (were i) q)))
+      ∙ times-more b letters string q inside within
+
+-- nothing is multiplied by no letters
+pub times-none : (b : Bool) (letters : List Letter) → letters ≡ times_where b [] letters
+times-none true letters = sym (string_product-empty letters)
+times-none false letters = refl

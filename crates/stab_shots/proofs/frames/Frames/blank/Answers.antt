@@ -1,0 +1,10 @@
+use Rattle.std.proofs.Common.{◌∙◌, ap}
+use Rattle.stab_pauli.specs.declared.letter.Letter.TheVariants.{I}
+use Rattle.stab_shots.specs.Lanes.{letter_in, lane_letters}
+use Rattle.stab_shots.proofs.LaneLemmas.{map-replicate}
+use Rattle.stab_shots.proofs.frames.Frames.blank.Goals as goal
+
+pub returns-clause-letters : goal.returns-clause-letters
+returns-clause-letters g c = λ l lt.
+    ap (lane_letters g.W.Word.at l) c.in_ok-repeated.ensures.value
+    ∙ map-replicate (letter_in g.W.Word.at l) c.args.n c.blank.result I (c.blank.ensures.value l lt)

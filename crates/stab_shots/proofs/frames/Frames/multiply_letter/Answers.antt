@@ -1,0 +1,9 @@
+use Rattle.std.proofs.lemmas.List.{length-map}
+use Rattle.stab_shots.specs.Lanes.{letter_in}
+use Rattle.stab_shots.proofs.FrameLemmas.{times-put}
+use Rattle.stab_shots.proofs.frames.Frames.multiply_letter.Goals as goal
+
+pub returns-clause-letters : goal.returns-clause-letters
+returns-clause-letters g c = λ l lt.
+    times-put g.W.Word.at l c.args.self.now.letters.items (g.W.Word.at c.args.lanes l) c.args.letter c.args.qubit _ c.index.result.now c.times.result
+    (length-map c.args.self.now.letters.items (letter_in g.W.Word.at l)) c.requires.in_range c.requires.in_range c.index.ensures (c.times.ensures.value l lt)

@@ -1,0 +1,5 @@
+pub mod Words
+pub mod Lanes
+pub mod LaneRules
+pub mod Shots
+pub mod Seeds

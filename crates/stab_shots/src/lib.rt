@@ -1,0 +1,40 @@
+//! Many shots of one circuit, as lanes of Pauli frames beside one tableau.
+//!
+//! All shots of a circuit go through the same gates and measure the same strings; their states differ
+//! by signs alone, and so by a Pauli string each. A word has a bit for each lane, and each lane is a
+//! shot: a step is carried out once on the tableau, and on all lanes by some operations on words.
+//!
+//! In the order in which data flows; each module uses only those before it:
+//!
+//! - `word`: so many bits, one for each lane.
+//! - `letters`: the letters of all lanes at a qubit, and what gates make of them.
+//! - `repeated`: lists of so many times the same value.
+//! - `frames`: a Pauli string for each lane.
+//! - `lanes`: what each lane has given so far.
+//! - `step`: one step, on a tableau and all lanes.
+//! - `run`: all steps of a circuit.
+//! - `coins`, `seeds`: the coins of all lanes, and those of so many shots of a seed.
+//! - `shots`: so many shots of a circuit, at once.
+//!
+//! Sources: C. Gidney, Stim: a fast stabilizer circuit simulator (2021), for shots as lanes of frames beside a
+//! reference. It differs in that each shot has numbered coins of its own, and so is exactly the run with these.
+//!
+//! Proved: each lane is the run that the group rules of `stab_run` give for the circuit and the coins of its shot.
+#![tactic(auto)]
+
+mod coins;
+mod frames;
+mod lanes;
+mod letters;
+mod repeated;
+mod run;
+mod seeds;
+mod shots;
+mod step;
+mod word;
+
+pub use coins::LaneCoins;
+pub use lanes::write_lane;
+pub use seeds::SeedLanes;
+pub use shots::{Shots, run_lanes};
+pub use word::Word;

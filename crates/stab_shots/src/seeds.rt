@@ -1,0 +1,103 @@
+ghost use Rattle.std.specs.Prelude.{◌≡◌, ◌≢◌, ℕ, ◌+◌, ◌*◌, ◌%◌, ◌<◌, ◌^◌, false, slice_index_or};
+ghost use Rattle.std.specs.Option.{ForSome};
+ghost use Rattle.stab_run.specs.Coins.{seed_coin};
+ghost use Rattle.stab_shots.specs.Words.{word_bit};
+ghost use Rattle.stab_shots.specs.Seeds.{SeededLanes, AreCoins};
+
+use crate::coins::LaneCoins;
+use stab_run::{Coins, SeedCoins};
+use std::marker::Model;
+
+/// The coins of 64 shots of a seed, numbered one after another from a first one on. Contracts see the seed and the first
+/// shot.
+///
+/// Coins are made 64 at a time, and the last 64 are kept.
+pub struct SeedLanes {
+    seed: u64,
+    first: u64,
+    // The last 64 coins begin at 64 times this number.
+    group: Option<u64>,
+    words: [u64; 64],
+}
+
+// Written out, so that to a proof a value that is let go is one call, and not one for each of its parts.
+impl Drop for SeedLanes {
+    fn drop(self) {
+        let SeedLanes {
+            seed: _,
+            first: _,
+            group: _,
+            words: _,
+        } = self;
+    }
+}
+
+impl Model for SeedLanes {
+    ghost Value = { SeededLanes };
+
+    ghost view = { λ c. record { seed = c.seed; first = c.first } };
+
+    ghost invariant = { λ c. ForSome c.group (λ group. AreCoins c.seed c.first group 64 c.words) };
+}
+
+impl SeedLanes {
+    /// The coins of 64 shots under a seed. Nothing is made yet.
+    pub fn new(seed: u64, first: u64) -> SeedLanes
+        ensures value { result ≡ record { seed = seed; first = first } }
+    {
+        SeedLanes {
+            seed,
+            first,
+            group: None,
+            words: [0; 64],
+        }
+    }
+}
+
+impl LaneCoins<u64> for SeedLanes {
+    ghost sequences = { λ c l. seed_coin c.seed ((c.first + l) % 2 ^ 64) };
+
+    fn coins(&mut self, t: u64) -> u64 {
+        let group = t / 64;
+        if self.group != Some(group) {
+            self.words = coins_of_group(self.seed, self.first, group);
+            self.group = Some(group);
+        }
+        self.words[(t % 64) as usize]
+    }
+}
+
+/// The 64 coins from 64 times the group's number on, of 64 shots.
+fn coins_of_group(seed: u64, first: u64, group: u64) -> [u64; 64]
+    requires small { group < 2 ^ 58 }
+    ensures each { AreCoins seed first group 64 result }
+{
+    let mut words = [0; 64];
+    for lane in 0..64 {
+        let shot = first.wrapping_add(lane as u64);
+        put_lane(&mut words, lane, &mut SeedCoins::new(seed, shot), group);
+    }
+    words
+}
+
+/// A word whose bit in a lane is flipped, if it is to be.
+fn flip_lane(word: u64, lane: usize, bit: bool) -> u64
+    requires in_range { lane < 64 }
+    ensures here { word_bit word lane ≡ false → word_bit result lane ≡ bit }
+    ensures others { (l : ℕ) → l ≢ lane → word_bit result l ≡ word_bit word l }
+{
+    word ^ (u64::from(bit) << lane)
+}
+
+/// Puts the 64 coins from 64 times the group's number on into a lane of words whose bits are 0 there.
+fn put_lane<C: Coins>(words: &mut [u64; 64], lane: usize, coins: &mut C, group: u64)
+    requires small { group < 2 ^ 58 }
+    requires in_range { lane < 64 }
+    ensures here { (k : ℕ) → k < 64 → word_bit (slice_index_or words.old k 0) lane ≡ false → word_bit (slice_index_or words.new k 0) lane ≡ C.sequence coins.old (64 * group + k) }
+    ensures others { (k l : ℕ) → k < 64 → l ≢ lane → word_bit (slice_index_or words.new k 0) l ≡ word_bit (slice_index_or words.old k 0) l }
+{
+    for k in 0..64 {
+        let bit = coins.coin(64 * group + k as u64);
+        words[k] = flip_lane(words[k], lane, bit);
+    }
+}

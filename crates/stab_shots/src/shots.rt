@@ -1,0 +1,92 @@
+ghost use Rattle.std.specs.Prelude.{◌≡◌, ℕ, ◌<◌, ◌≤◌, None, IfOk, IfErr};
+ghost use Rattle.stab_io.specs.declared.refusal.Refusal.TheVariants.{OutOfMemory};
+ghost use Rattle.stab_io.specs.Refusals.{Refuses};
+ghost use Rattle.stab_tableau.specs.Limits.{most_qubits};
+ghost use Rattle.stab_circuit.specs.Steps.{check_within};
+ghost use Rattle.stab_circuit.specs.Views.{circuit_items};
+ghost use Rattle.stab_shots.specs.Shots.{AreRuns};
+
+use crate::coins::LaneCoins;
+use crate::lanes::{Lanes, observables};
+use crate::run::run_steps;
+use crate::word::Word;
+use stab_circuit::{Circuit, Cursor};
+use stab_io::{Fault, Refusal};
+use stab_pauli::Pauli;
+use stab_tableau::Tableau;
+use std::alloc::Global;
+
+/// What so many shots give, one in each lane: each list has a word for each bit that a shot gives.
+#[derive(Drop)]
+pub struct Shots<W> {
+    /// The records.
+    pub records: Vec<W>,
+    /// For each coin number whether the coin decided, which is the same in all shots.
+    pub free: Vec<bool>,
+    /// The detectors.
+    pub detectors: Vec<W>,
+    /// The observables, in the order of their numbers.
+    pub observables: Vec<W>,
+}
+
+/// Runs a circuit that nothing refuses once in each lane, with the coins of the lane.
+fn run_checked<W: Word, C: LaneCoins<W>>(
+    alloc: Global,
+    circuit: &Circuit,
+    n: usize,
+    coins: &mut C,
+) -> Result<Shots<W>, Refusal>
+    requires in_range { n ≤ most_qubits }
+    requires checked { check_within n (circuit_items circuit.now) ≡ None }
+    ensures runs { IfOk result (λ s. (l : ℕ) → l < W.lanes → AreRuns W.at l n (C.sequences coins.old l) (circuit_items circuit.now) s) }
+    ensures same_coins { C.sequences coins.new ≡ C.sequences coins.old }
+    ensures err { IfErr result (λ r. r ≡ OutOfMemory) }
+{
+    let mut tableau = Tableau::new(alloc, n)?;
+    let mut string = Pauli::identity(alloc, n)?;
+    let mut exchange = Pauli::identity(alloc, n)?;
+    let mut cursor = Cursor::at(alloc, circuit, 0)?;
+    let mut lanes = Lanes::new(alloc, n, circuit.records())?;
+    run_steps(
+        &mut tableau,
+        &mut string,
+        &mut exchange,
+        coins,
+        &mut lanes,
+        &mut cursor,
+    )?;
+    let Lanes {
+        frames: _,
+        records,
+        free,
+        detectors,
+        sums,
+    } = lanes;
+    let observables = observables(alloc, circuit.observables(), sums.as_slice())?;
+    Ok(Shots {
+        records,
+        free,
+        detectors,
+        observables,
+    })
+}
+
+/// Runs a circuit on n qubits, at most 1,024, once in each lane, with the coins of the lane.
+///
+/// Each lane is the run that `stab_run::run_once` makes with these coins. The tableau goes through the
+/// circuit once, however many lanes there are. Refused as `Circuit::check` refuses, else `OutOfMemory`,
+/// always with line 0.
+pub fn run_lanes<W: Word, C: LaneCoins<W>>(
+    alloc: Global,
+    circuit: &Circuit,
+    n: usize,
+    coins: &mut C,
+) -> Result<Shots<W>, Fault>
+    requires in_range { n ≤ most_qubits }
+    ensures runs { IfOk result (λ s. (l : ℕ) → l < W.lanes → AreRuns W.at l n (C.sequences coins.old l) (circuit_items circuit.now) s) }
+    ensures same_coins { C.sequences coins.new ≡ C.sequences coins.old }
+    ensures refused { Refuses result (check_within n (circuit_items circuit.now)) }
+{
+    circuit.check(n)?;
+    run_checked(alloc, circuit, n, coins).map_err(Fault::whole)
+}

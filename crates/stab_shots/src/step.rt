@@ -1,0 +1,211 @@
+ghost use Rattle.std.specs.Prelude.{◌≡◌, ◌≢◌, ℕ, ◌+◌, ◌<◌, ◌∷◌, [], ◌++◌, Bool, true, false, ◌&&◌, if◌then◌else◌, length, OnOk, All};
+ghost use Rattle.stab_pauli.specs.Letters.{◌⊕◌};
+ghost use Rattle.stab_pauli.specs.Paulis.{Signed, single, strings_anticommute};
+ghost use Rattle.stab_tableau.specs.Tableaus.{stabilises};
+ghost use Rattle.stab_tableau.specs.Rules.{outcome_by, is_free_by, projected_by};
+ghost use Rattle.stab_tableau.specs.Exchanges.{Exchanges};
+ghost use Rattle.stab_frames.specs.Frames.{times_where};
+ghost use Rattle.stab_circuit.specs.Cursors.{step_shown};
+ghost use Rattle.stab_run.specs.Runs.{flip_of, string_of};
+ghost use Rattle.stab_run.specs.ProgramStates.{StepFits, IsRun};
+ghost use Rattle.stab_shots.specs.Lanes.{lane_letters};
+ghost use Rattle.stab_shots.specs.LaneRules.{lane_state, decided_bit, decided_letters, IsProjection};
+
+use crate::coins::LaneCoins;
+use crate::frames::Frames;
+use crate::lanes::{Lanes, Sum, looked_up, parity};
+use crate::word::Word;
+use stab_circuit::{Factor, Step};
+use stab_pauli::{Letter, Pauli};
+use stab_tableau::{Collapse, Tableau};
+use std::alloc::AllocError;
+
+/// A letter that exchanges the two outcomes of a letter, with which it anticommutes.
+fn flip(letter: Letter) -> Letter
+    ensures value { result ≡ flip_of letter }
+{
+    match letter {
+        Letter::I | Letter::Y | Letter::Z => Letter::X,
+        Letter::X => Letter::Z,
+    }
+}
+
+/// Makes a string that of a product: the factors' letters at their qubits, I elsewhere, with the
+/// sign +.
+fn write_product(string: &mut Pauli, factors: &[Factor])
+    requires in_range { All (λ f. f.qubit < length string.old.letters) factors.now }
+    ensures value { string.new ≡ string_of (length string.old.letters) factors.now }
+    ensures same_length { length string.new.letters ≡ length string.old.letters }
+{
+    string.clear();
+    for factor in factors {
+        string.set(factor.qubit.number(), factor.letter.letter());
+    }
+}
+
+/// Measures a letter on a qubit of the tableau, with the coin 0. Where the outcome is free, `exchange` becomes a
+/// stabiliser, up to its sign, that anticommutes with the letter.
+fn project_letter(
+    tableau: &mut Tableau,
+    letter: Letter,
+    qubit: usize,
+    exchange: &mut Pauli,
+) -> Collapse
+    requires in_range { qubit < tableau.old.qubits }
+    requires same_length { length exchange.old.letters ≡ tableau.old.qubits }
+    ensures qubits { tableau.new.qubits ≡ tableau.old.qubits }
+    ensures length { length exchange.new.letters ≡ length exchange.old.letters }
+    ensures projection { IsProjection tableau.old.qubits (stabilises tableau.old) (single tableau.old.qubits qubit letter) result exchange.new.letters (stabilises tableau.new) }
+{
+    match tableau.fixed_letter(letter, qubit) {
+        Some(outcome) => Collapse {
+            outcome,
+            free: false,
+        },
+        None => {
+            tableau.exchange_letter(letter, qubit, exchange);
+            tableau.collapse_letter(letter, qubit, false)
+        }
+    }
+}
+
+/// Measures a string of the tableau, with the coin 0. Where the outcome is free, `exchange` becomes a stabiliser, up to
+/// its sign, that anticommutes with the string.
+fn project(tableau: &mut Tableau, string: &Pauli, exchange: &mut Pauli) -> Collapse
+    requires string_length { length string.now.letters ≡ tableau.old.qubits }
+    requires same_length { length exchange.old.letters ≡ tableau.old.qubits }
+    ensures qubits { tableau.new.qubits ≡ tableau.old.qubits }
+    ensures length { length exchange.new.letters ≡ length exchange.old.letters }
+    ensures projection { IsProjection tableau.old.qubits (stabilises tableau.old) string.now result exchange.new.letters (stabilises tableau.new) }
+{
+    tableau.exchange(string, exchange);
+    tableau.collapse(string, false)
+}
+
+/// The outcomes of all lanes of what the tableau measured, by the lanes that anticommute with it: a fixed outcome is the
+/// tableau's, or the other where a lane anticommutes, and a free one is the lane's coin. Where a free outcome is otherwise
+/// than the lane's string has it, the string is multiplied by the stabiliser that exchanges the outcomes.
+fn decide<W: Word, C: LaneCoins<W>>(
+    frames: &mut Frames<W>,
+    coins: &mut C,
+    coin: u64,
+    measured: Collapse,
+    anticommuting: W,
+    exchange: &Pauli,
+) -> W
+    requires same_length { length exchange.now.letters ≡ length frames.old.letters.items }
+    ensures size { length frames.new.letters.items ≡ length frames.old.letters.items }
+    ensures same_coins { C.sequences coins.new ≡ C.sequences coins.old }
+    ensures outcome { (l : ℕ) → l < W.lanes → W.at result l ≡ decided_bit measured (W.at anticommuting l) (C.sequences coins.old l coin) }
+    ensures letters { (l : ℕ) → l < W.lanes → lane_letters W.at l frames.new.letters.items ≡ decided_letters measured (W.at anticommuting l) (C.sequences coins.old l coin) exchange.now.letters (lane_letters W.at l frames.old.letters.items) }
+{
+    if measured.free {
+        let outcomes = coins.coins(coin);
+        let otherwise = outcomes.xor(anticommuting);
+        frames.multiply(exchange, otherwise);
+        outcomes
+    } else {
+        anticommuting.xor(W::all(measured.outcome))
+    }
+}
+
+/// Multiplies the strings of the lanes whose outcome is 1 by a letter that flips it, where the measurement resets.
+fn reset_if<W: Word>(
+    frames: &mut Frames<W>,
+    letter: Letter,
+    qubit: usize,
+    resets: bool,
+    outcomes: W,
+)
+    requires in_range { qubit < length frames.old.letters.items }
+    ensures size { length frames.new.letters.items ≡ length frames.old.letters.items }
+    ensures letters { (l : ℕ) → l < W.lanes → lane_letters W.at l frames.new.letters.items ≡ times_where (resets && W.at outcomes l) (single (length frames.old.letters.items) qubit (flip_of letter)).letters (lane_letters W.at l frames.old.letters.items) }
+{
+    if resets {
+        frames.multiply_letter(flip(letter), qubit, outcomes);
+    }
+}
+
+/// Appends bits, where there are any.
+fn push_when<W: Word>(words: &mut Vec<W>, test: bool, word: W) -> Result<(), AllocError>
+    ensures value { OnOk result (words.new.items ≡ words.old.items ++ (if test then word ∷ [] else [])) }
+{
+    if test {
+        words.push(word)?;
+    }
+    Ok(())
+}
+
+/// Carries out one step on a tableau and all lanes. The two strings are for products and for
+/// stabilisers to be written into.
+pub fn apply_step<W: Word, C: LaneCoins<W>>(
+    tableau: &mut Tableau,
+    string: &mut Pauli,
+    exchange: &mut Pauli,
+    coins: &mut C,
+    lanes: &mut Lanes<W>,
+    step: Step,
+) -> Result<(), AllocError>
+    requires string_length { length string.old.letters ≡ tableau.old.qubits }
+    requires exchange_length { length exchange.old.letters ≡ tableau.old.qubits }
+    requires frames { length lanes.old.frames.letters.items ≡ tableau.old.qubits }
+    requires fits { StepFits tableau.old.qubits (step_shown step) }
+    ensures qubits { tableau.new.qubits ≡ tableau.old.qubits }
+    ensures string { length string.new.letters ≡ length string.old.letters }
+    ensures exchange { length exchange.new.letters ≡ length exchange.old.letters }
+    ensures frames { length lanes.new.frames.letters.items ≡ length lanes.old.frames.letters.items }
+    ensures same_coins { C.sequences coins.new ≡ C.sequences coins.old }
+    ensures run { OnOk result ((l : ℕ) → l < W.lanes → IsRun tableau.old.qubits (C.sequences coins.old l) (step_shown step.entry ∷ []) (lane_state W.at l tableau.old lanes.old) (lane_state W.at l tableau.new lanes.new)) }
+{
+    // That members are a group is what says how each lane follows a measurement.
+    tableau.stabilises_a_group();
+    let coin = lanes.free.len() as u64;
+    match step {
+        Step::One(gate, qubit) => {
+            tableau.apply(gate, qubit);
+            lanes.frames.apply(gate, qubit);
+        }
+        Step::Two(gate, first, second) => {
+            tableau.apply_pair(gate, first, second);
+            lanes.frames.apply_pair(gate, first, second);
+        }
+        Step::Controlled(letter, k, qubit) => {
+            let controls = looked_up(lanes.records.as_slice(), k);
+            lanes.frames.multiply_letter(letter, qubit, controls);
+        }
+        Step::Collapse {
+            letter,
+            qubit,
+            recorded,
+            inverted,
+            reset,
+        } => {
+            let measured = project_letter(tableau, letter, qubit, exchange);
+            let frames = &mut lanes.frames;
+            let anticommuting = frames.anticommuting_letter(letter, qubit);
+            let outcomes = decide(frames, coins, coin, measured, anticommuting, exchange);
+            reset_if(frames, letter, qubit, reset, outcomes);
+            lanes.free.push(measured.free)?;
+            let bits = W::all(inverted).xor(outcomes);
+            push_when(&mut lanes.records, recorded, bits)?;
+        }
+        Step::Product { factors, inverted } => {
+            write_product(string, factors);
+            let measured = project(tableau, string, exchange);
+            let frames = &mut lanes.frames;
+            let anticommuting = frames.anticommuting(string);
+            let outcomes = decide(frames, coins, coin, measured, anticommuting, exchange);
+            lanes.free.push(measured.free)?;
+            lanes.records.push(W::all(inverted).xor(outcomes))?;
+        }
+        Step::Detector(lookbacks) => {
+            let bits = parity(lanes.records.as_slice(), lookbacks);
+            lanes.detectors.push(bits)?;
+        }
+        Step::Observable(observable, lookbacks) => {
+            let parity = parity(lanes.records.as_slice(), lookbacks);
+            lanes.sums.push(Sum { observable, parity })?;
+        }
+    }
+    Ok(())
+}

@@ -1,0 +1,30 @@
+"""The standard noise of a memory experiment."""
+
+from dataclasses import dataclass
+
+
+@dataclass(frozen=True)
+class Noise:
+    """The chances of four kinds of error, each a float from 0 to 1; those that are 0 are left out of the text.
+
+    before_round: DEPOLARIZE1 on each data qubit in front of each round.
+    after_gate: DEPOLARIZE1 or DEPOLARIZE2 behind each gate.
+    after_reset: the flip that a reset can meet, X_ERROR or, of a reset in X, Z_ERROR.
+    before_measurement: the same in front of each measurement of a qubit; of products, which MPP measures, the chance that
+    the record is wrong.
+    """
+
+    before_round: float = 0.0
+    after_gate: float = 0.0
+    after_reset: float = 0.0
+    before_measurement: float = 0.0
+
+    @classmethod
+    def uniform(cls, chance: float) -> "Noise":
+        """Circuit-level noise of one parameter: each of the four with this chance."""
+        return cls(chance, chance, chance, chance)
+
+    @classmethod
+    def phenomenological(cls, chance: float) -> "Noise":
+        """Errors of data qubits in front of each round, and of measurements, with this chance."""
+        return cls(before_round=chance, before_measurement=chance)

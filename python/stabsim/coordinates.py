@@ -1,0 +1,112 @@
+"""Coordinates of detectors and qubits, by Stim's rules.
+
+SHIFT_COORDS adds its numbers to those that DETECTOR and QUBIT_COORDS name behind it, coordinate by coordinate, as far as they name
+any. A block does so in each of its rounds. Of a qubit that is placed several times the last place counts.
+"""
+
+from collections.abc import Iterable
+from dataclasses import dataclass, field
+
+import numpy as np
+from numpy.typing import NDArray
+
+from stabsim.reading import Block, Item, items_of
+
+# The names of the instructions that coordinates come of.
+NAMES = ("DETECTOR", "QUBIT_COORDS", "SHIFT_COORDS")
+
+
+@dataclass
+class Places:
+    """What some items place, from where nothing was shifted on.
+
+    detectors: float64 (detectors, width), nan where a detector has no coordinate; qubits: the coordinates of each qubit;
+    shift: float64 (k,), by how much what follows is shifted.
+    """
+
+    detectors: list[NDArray[np.float64]] = field(default_factory=list)
+    qubits: dict[int, NDArray[np.float64]] = field(default_factory=dict)
+    shift: NDArray[np.float64] = field(default_factory=lambda: np.zeros(0))
+
+    def add(self, item: Item) -> None:
+        """Places what one item places."""
+        if isinstance(item, Block):
+            self.add_block(places_of(item.items), item.count)
+        elif item.name == "DETECTOR":
+            self.detectors.append(shifted(np.array([item.numbers()]), self.shift))
+        elif item.name == "QUBIT_COORDS":
+            place = shifted(np.array([item.numbers()]), self.shift)[0]
+            self.qubits.update((int(target), place) for target in item.targets)
+        elif item.name == "SHIFT_COORDS":
+            self.shift = sum_of(self.shift, np.array(item.numbers()))
+
+    def add_block(self, body: "Places", count: int) -> None:
+        """Places what a block's body does, in each round by one more of its shifts."""
+        if body.detectors:
+            once = joined(body.detectors)
+            rounds = [shifted(once, sum_of(self.shift, round_ * body.shift)) for round_ in range(count)]
+            self.detectors.append(np.concatenate(rounds))
+        last = sum_of(self.shift, (count - 1) * body.shift)
+        self.qubits.update((qubit, shifted(place[None], last)[0]) for qubit, place in body.qubits.items())
+        self.shift = sum_of(self.shift, count * body.shift)
+
+
+def places_of(items: Iterable[Item]) -> Places:
+    """What items place, one after another."""
+    places = Places()
+    for item in items:
+        places.add(item)
+    return places
+
+
+def sum_of(left: NDArray[np.float64], right: NDArray[np.float64]) -> NDArray[np.float64]:
+    """Coordinate by coordinate, where those that one has not are 0."""
+    total = np.zeros(max(len(left), len(right)))
+    total[: len(left)] += left
+    total[: len(right)] += right
+    return total
+
+
+def shifted(places: NDArray[np.float64], shift: NDArray[np.float64]) -> NDArray[np.float64]:
+    """Places (n, k) with the shift added, as far as they have coordinates."""
+    moved = places.copy()
+    width = min(moved.shape[1], len(shift))
+    moved[:, :width] += shift[:width]
+    return moved
+
+
+def joined(parts: list[NDArray[np.float64]]) -> NDArray[np.float64]:
+    """Places one after another, filled up by nan to the width of the widest."""
+    width = max((part.shape[1] for part in parts), default=0)
+    filled = np.full((sum(len(part) for part in parts), width), np.nan)
+    start = 0
+    for part in parts:
+        filled[start : start + len(part), : part.shape[1]] = part
+        start += len(part)
+    return filled
+
+
+def coordinates_of(text: str) -> Places:
+    """What a circuit's text places. Lines that place nothing are passed over before they are read."""
+    return places_of(items_of("\n".join(line if is_needed(line) else "" for line in text.split("\n"))))
+
+
+def is_needed(line: str) -> bool:
+    """A line that places something, or opens or closes a block."""
+    content = line.split("#", 1)[0].strip().upper()
+    return content.startswith(NAMES) or content.endswith("{") or content == "}"
+
+
+def detector_coordinates(text: str) -> NDArray[np.float64]:
+    """The coordinates of each detector of a text, float64 (detectors, width), nan where a detector has none."""
+    return joined(coordinates_of(text).detectors)
+
+
+def qubit_coordinates(text: str, qubits: int) -> NDArray[np.float64]:
+    """The coordinates of so many qubits of a text, float64 (qubits, width), nan where a qubit has none."""
+    placed = coordinates_of(text).qubits
+    width = max((len(place) for place in placed.values()), default=0)
+    filled = np.full((qubits, width), np.nan)
+    for qubit, place in placed.items():
+        filled[qubit, : len(place)] = place
+    return filled

@@ -1,0 +1,56 @@
+"""What goes wrong: one class of exception for each way."""
+
+
+class StabsimError(Exception):
+    """Anything that this package raises of its own."""
+
+
+class MissingProgram(StabsimError):
+    """There is no program, or one that is too old for this package."""
+
+
+class Refused(StabsimError):
+    """The program refused a circuit, an edit or a question.
+
+    number: int, and name: str, as docs/refusals.md lists them; line: int, counted from 1, or None where
+    the refusal belongs to no line; said: str, what the program said beside that, perhaps nothing.
+    """
+
+    def __init__(self, number: int, name: str, line: int | None = None, said: str = "") -> None:
+        # All of them are arguments of the exception, so that it can be sent from one process to another.
+        super().__init__(number, name, line, said)
+        self.number = number
+        self.name = name
+        self.line = line
+        self.said = said
+
+    def __str__(self) -> str:
+        place = "" if self.line is None else f"line {self.line}: "
+        return f"{place}refused {self.number} {self.name}" + (f"; {self.said}" if self.said else "")
+
+
+class ProgramFailed(StabsimError):
+    """The program ended in a way that is no answer and no refusal, as where it was killed."""
+
+
+class SessionEnded(StabsimError):
+    """A session's program has ended, or what it said is no reply: no more can be asked of the session."""
+
+
+class UnsupportedNoise(StabsimError):
+    """A noise channel, or a probability of one, of which no error model is made.
+
+    line: int, counted from 1; why: str.
+    """
+
+    def __init__(self, line: int, why: str) -> None:
+        super().__init__(line, why)
+        self.line = line
+        self.why = why
+
+    def __str__(self) -> str:
+        return f"line {self.line}: {self.why}"
+
+
+class OtherExperiment(StabsimError):
+    """A file of counts belongs to another seed or another error model, or another process writes to it."""

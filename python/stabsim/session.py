@@ -1,0 +1,246 @@
+"""An editing session: a circuit that is run and kept, its edits, and what is asked of it."""
+
+from collections.abc import Callable
+from dataclasses import dataclass, field
+from types import TracebackType
+
+import numpy as np
+from numpy.typing import NDArray
+
+from stabsim import bits, program
+from stabsim.errors import Refused
+from stabsim.framed import FramedProcess
+from stabsim.history import Change, History
+from stabsim.script import Path, edit_lines, path_text
+
+Bits = NDArray[np.bool_]
+Places = NDArray[np.int64]
+
+
+@dataclass(frozen=True)
+class SessionNumbers:
+    """How many of each thing the circuit has, as it is now; of qubits, as many as the session has."""
+
+    qubits: int
+    steps: int
+    records: int
+    detectors: int
+    observables: int
+
+
+@dataclass(frozen=True)
+class Place:
+    """Where an item stands once blocks are written out: the first of its steps, how many they are, and so on."""
+
+    first_step: int
+    steps: int
+    first_record: int
+    records: int
+    first_detector: int
+    detectors: int
+    first_coin: int
+    coins: int
+
+
+@dataclass(frozen=True)
+class Changed:
+    """What differs from the mark, place by place: numbers of detectors, observables and records, int64 (changed,) each.
+
+    lengths has, for each of the three whose number of places has changed, that number at the mark and now.
+    """
+
+    detectors: Places
+    observables: Places
+    records: Places
+    lengths: dict[str, tuple[int, int]] = field(default_factory=dict)
+
+
+class Session:
+    """A circuit that is run, kept, and changed by edits. Made by `Circuit.edit`.
+
+    It is a context manager, and its process ends with it. One thread at a time uses it. An edit that is refused raises
+    stabsim.Refused and changes nothing. Where the process has ended, or was interrupted in a reply, every call raises
+    stabsim.SessionEnded.
+    """
+
+    def __init__(self, text: str, *, qubits: int | None = None, seed: int = 0, stride: int | None = None) -> None:
+        words = program.seed_words(seed)
+        words += [] if qubits is None else ["--qubits", str(qubits)]
+        words += [] if stride is None else ["--stride", str(stride)]
+        self.history = History()
+        self.process = FramedProcess(words, text)
+
+    def __repr__(self) -> str:
+        state = self.process.ended or f"process {self.process.number}"
+        return f"<stabsim.Session: {state}, {len(self.history.done)} edits to undo>"
+
+    def __enter__(self) -> "Session":
+        return self
+
+    def __exit__(self, kind: type[BaseException] | None, fault: BaseException | None, trace: TracebackType | None) -> None:
+        self.close()
+
+    def close(self) -> None:
+        """Ends the session and its process. A session that has ended stays so."""
+        self.process.close()
+
+    # Edits.
+
+    def insert(self, path: Path, text: str) -> None:
+        """Puts an item, one instruction or one whole block, in front of the one at the path, or behind all of its list."""
+        at = path_text(path)
+        self.change(Change([edit_lines(f"insert {at}", text)], [f"delete {at}\n".encode()]))
+
+    def replace(self, path: Path, text: str) -> None:
+        """Puts an item in the stead of the one at the path."""
+        at = path_text(path)
+        self.change(Change([edit_lines(f"replace {at}", text)], [edit_lines(f"replace {at}", self.old_item(at))]))
+
+    def delete(self, path: Path) -> None:
+        """Takes the item at the path out."""
+        at = path_text(path)
+        self.change(Change([f"delete {at}\n".encode()], [edit_lines(f"insert {at}", self.old_item(at))]))
+
+    def split(self, path: Path, round: int) -> None:
+        """Makes of the block at the path the rounds before one of them, that round by itself, and the rounds behind it, so that one
+        round can be edited; rounds are counted from 0. The steps stay as they are, so nothing is run."""
+        at = path_text(path)
+        old = self.old_item(at)
+        self.process.ask(f"split {at} {round}\n".encode())
+        self.history.add(Change([f"split {at} {round}\n".encode()], self.lines_to_join(at, round, old)))
+
+    def lines_to_join(self, at: str, round: int, old: str) -> list[bytes]:
+        """The edits that put a block in the stead of the parts that it was split into.
+
+        It takes the place of the first part, and then the other parts are deleted: at no time are there fewer records than before, so
+        no lookback is refused. Where the steps of both together are too many, the first edit is refused, and nothing has changed.
+        """
+        opening, body = old.split("\n", 1)
+        count = int(opening.split()[1])
+        parts = (round > 0) + 1 + (round < count - 1)
+        *outer, place = at.split("/")
+        behind = "/".join([*outer, str(int(place) + 1)])
+        return [edit_lines(f"replace {at}", old)] + (parts - 1) * [f"delete {behind}\n".encode()]
+
+    def undo(self) -> bool:
+        """Takes the last edit back, by the edit that is its inverse; False where there is none."""
+        return self.retrace(self.history.last_done(), self.history.undone)
+
+    def redo(self) -> bool:
+        """Makes the edit again that was last taken back; False where there is none."""
+        return self.retrace(self.history.last_undone(), self.history.redone)
+
+    # Questions.
+
+    def numbers(self) -> SessionNumbers:
+        """How many qubits, steps, records, detectors and observables there are now."""
+        return SessionNumbers(*map(int, self.line("show numbers").split()))
+
+    @property
+    def records(self) -> Bits:
+        """The records, bool (records,)."""
+        return bits.of_text(self.line("show measurements"))
+
+    @property
+    def free(self) -> Bits:
+        """For each measured target or product and each reset whether its coin decided the outcome, bool (coins,)."""
+        return bits.of_text(self.line("show free"))
+
+    @property
+    def detectors(self) -> Bits:
+        """The detectors, bool (detectors,): raw parities of records."""
+        return bits.of_text(self.line("show detectors"))
+
+    @property
+    def observables(self) -> Bits:
+        """The observables, bool (observables,)."""
+        return bits.of_text(self.line("show observables"))
+
+    @property
+    def deterministic(self) -> Bits:
+        """Which detectors, and behind them which observables, are the same for all coins, bool (detectors + observables,)."""
+        return bits.of_text(self.line("show deterministic"))
+
+    @property
+    def stabilisers(self) -> list[str]:
+        """The reduced rows of the group that stabilises the state behind the circuit: a signed string for each qubit."""
+        return [line.decode() for line in self.process.ask(b"show stabilisers\n")]
+
+    @property
+    def circuit(self) -> str:
+        """The text of the circuit as it is now."""
+        return text_of_lines(self.process.ask(b"show circuit\n"))
+
+    def item(self, path: Path) -> str:
+        """The text of the item at the path."""
+        return text_of_lines(self.process.ask(f"show item {path_text(path)}\n".encode()))
+
+    def place(self, path: Path) -> Place:
+        """The unrolled steps, records, detectors and coin numbers of the item at the path."""
+        return Place(*map(int, self.line(f"show place {path_text(path)}").split()))
+
+    def sign(self, pauli: str) -> int:
+        """1 where the string, as X0*Z3 or -X0 or with a letter for each qubit, stabilises the state, -1 where its negative
+        does, 0 where neither does."""
+        return {b"+": 1, b"-": -1, b"0": 0}[self.line(f"show sign {pauli}")]
+
+    def mark(self) -> None:
+        """From here on `changed` counts; the opening is the first mark."""
+        self.process.ask(b"mark\n")
+
+    def changed(self, *, records: bool = False) -> Changed:
+        """What differs from the mark: detectors and observables, and records where they are asked for."""
+        lines = self.process.ask(b"show changed\n") + (self.process.ask(b"show changed records\n") if records else [])
+        places: dict[str, list[int]] = {"D": [], "L": [], "M": []}
+        lengths = {}
+        for line in lines:
+            words = line.decode().split()
+            if words and words[0] in ("detectors", "observables", "records"):
+                lengths[words[0]] = (int(words[1]), int(words[2]))
+            else:
+                for word in words:
+                    places[word[0]].append(int(word[1:]))
+        found = {kind: np.array(numbers, dtype=np.int64) for kind, numbers in places.items()}
+        return Changed(found["D"], found["L"], found["M"], lengths)
+
+    # How edits are kept.
+
+    def change(self, change: Change) -> None:
+        """Makes an edit, and keeps how to take it back."""
+        for lines in change.forth:
+            self.process.ask(lines)
+        self.history.add(change)
+
+    def retrace(self, way: list[bytes] | None, moved: Callable[[], None]) -> bool:
+        """Makes the edits of a change backwards or forwards again."""
+        if way is None:
+            return False
+        for number, lines in enumerate(way):
+            try:
+                self.process.ask(lines)
+            except Refused as refused:
+                if number:
+                    self.process.ended = f"an edit was taken back in part: {refused}"
+                raise
+        moved()
+        return True
+
+    def old_item(self, path: str) -> str:
+        """The text of an item that an edit is to take out; where there is none the edit itself is refused."""
+        try:
+            return self.item(path)
+        except Refused:
+            return ""
+
+    def line(self, request: str) -> bytes:
+        """The reply of one line to a question."""
+        if "\n" in request:
+            raise ValueError("a question is one line")
+        lines = self.process.ask(request.encode() + b"\n")
+        if len(lines) != 1:
+            raise self.process.broken(f"{request} was answered by {len(lines)} lines")
+        return lines[0]
+
+
+def text_of_lines(lines: list[bytes]) -> str:
+    return "".join(program.text_of(line) + "\n" for line in lines)

@@ -1,0 +1,41 @@
+"""Decoders for tests, which workers in other processes import."""
+
+import time
+
+import numpy as np
+
+
+def nothing(model):
+    """Predicts that no observable is flipped."""
+    return lambda detectors: np.zeros((len(detectors), model.observables), dtype=bool)
+
+
+def slowly_nothing(model):
+    """The same, some time later."""
+
+    def predict(detectors):
+        time.sleep(0.05)
+        return np.zeros((len(detectors), model.observables), dtype=bool)
+
+    return predict
+
+
+def lookup(model):
+    """Predicts what the likeliest single mechanism flips that has just these detectors, or nothing."""
+    known = {}
+    for mechanism in np.argsort(model.chances):
+        flipped = model.flipped(mechanism)
+        known[tuple(flipped[flipped < model.detectors])] = flipped[flipped >= model.detectors] - model.detectors
+
+    def predict(detectors):
+        predicted = np.zeros((len(detectors), model.observables), dtype=bool)
+        for shot, bits in enumerate(detectors):
+            predicted[shot, known.get(tuple(np.flatnonzero(bits)), [])] = True
+        return predicted
+
+    return predict
+
+
+def too_few(model):
+    """A decoder whose predictions have a wrong shape."""
+    return lambda detectors: np.zeros(len(detectors), dtype=bool)

@@ -1,0 +1,77 @@
+"""What the examples find, against exhaustive search on small codes."""
+
+import importlib.util
+import itertools
+import math
+import pathlib
+
+import numpy as np
+import pytest
+import stabsim
+from stabsim import codes
+
+EXAMPLES = pathlib.Path(__file__).resolve().parents[2] / "examples"
+
+
+def example(name):
+    """The module of an example; what it needs beside numpy may be missing."""
+    pytest.importorskip("networkx")
+    spec = importlib.util.spec_from_file_location(name, EXAMPLES / f"{name}.py")
+    module = importlib.util.module_from_spec(spec)
+    spec.loader.exec_module(module)
+    return module
+
+
+def pairings(seen):
+    """Each way to match some detectors with each other, and all others with the boundary."""
+    if not seen:
+        yield [], []
+        return
+    first, rest = seen[0], seen[1:]
+    for pairs, alone in pairings(rest):
+        yield pairs, [first, *alone]
+    for place, other in enumerate(rest):
+        for pairs, alone in pairings(rest[:place] + rest[place + 1 :]):
+            yield [(first, other), *pairs], alone
+
+
+def test_the_matching_is_the_lightest_of_all():
+    threshold = example("threshold")
+    decoder = threshold.Matching(stabsim.error_model(codes.surface_code(3, 3, noise=codes.Noise.uniform(0.01))))
+    numbers = np.random.default_rng(5)
+    for _ in range(60):
+        seen = sorted(numbers.choice(decoder.checks, size=numbers.integers(1, 7), replace=False).tolist())
+        weights = {}
+        for pairs, alone in pairings(seen):
+            ways = [decoder.between[one][other] for one, other in pairs] + [decoder.to_boundary[one] for one in alone]
+            flips = sum(way[1] for way in ways) % 2 == 1
+            weights[flips] = min(weights.get(flips, math.inf), sum(way[0] for way in ways))
+        if len(weights) == 2 and not math.isclose(weights[True], weights[False]):
+            assert decoder.decode(seen) == (weights[True] < weights[False])
+
+
+def test_the_matching_corrects_each_single_error():
+    threshold = example("threshold")
+    model = stabsim.error_model(codes.surface_code(3, 3, noise=codes.Noise.uniform(0.01)))
+    detectors, observables = (matrix.T for matrix in model.check_matrices())
+    assert np.array_equal(threshold.decoder(model)(detectors), observables)
+
+
+def test_a_picture_is_drawn(tmp_path):
+    pytest.importorskip("matplotlib")
+    threshold = example("threshold")
+    sums = {threshold.name_of(distance, chance): stabsim.Sums("", 100, 5 + distance) for distance, chance in
+            itertools.product(threshold.DISTANCES, threshold.CHANCES)}
+    threshold.draw(sums, str(tmp_path / "picture.png"))
+    assert (tmp_path / "picture.png").read_bytes().startswith(b"\x89PNG")
+
+
+def test_the_worst_fault_has_as_many_errors_as_an_exhaustive_search_finds(monkeypatch, capsys):
+    worst = example("worst_fault")
+    # Of distance 3, where no two errors of the good schedule go unseen and two of the bad one do: test_codes.py looks through all.
+    monkeypatch.setattr(worst, "DISTANCE", 3)
+    worst.main()
+    lines = capsys.readouterr().out.splitlines()
+    assert [line for line in lines if not line.startswith(" ")] == [
+        "as it is: 3 faults flip the observable unseen", "with the middle gates of each round exchanged: 2 faults flip the observable unseen"]
+    assert len(lines) == 2 + 3 + 2

@@ -1,0 +1,212 @@
+"""Error models: mechanisms worked by hand, every fault by itself in a session, and sampled frequencies."""
+
+import itertools
+import math
+
+import numpy as np
+import pytest
+import stabsim
+from stabsim import codes
+
+from single_faults import mechanisms_by_sessions
+
+
+def mechanisms(model):
+    """What each mechanism flips, as words, and its chance."""
+    return {" ".join(map(model.name, model.flipped(place).tolist())): chance for place, chance in enumerate(model.chances)}
+
+
+def close(found, wanted):
+    return set(found) == set(wanted) and all(math.isclose(found[it], wanted[it], rel_tol=1e-9) for it in wanted)
+
+
+def test_a_repetition_code_of_distance_3_has_five_mechanisms_a_round_and_three():
+    # A round has an X of each of three data qubits and two wrong records; the last measurement has three wrong records. X or Y of
+    # a data qubit that depolarises by p come with chance 2p/3; Z flips nothing.
+    p = 0.06
+    found = stabsim.error_model(codes.repetition_code(3, 4, noise=codes.Noise.phenomenological(p)))
+    wanted = {}
+    for now in range(4):
+        left, right = f"D{2 * now}", f"D{2 * now + 1}"
+        wanted |= {left: 2 * p / 3, f"{left} {right}": 2 * p / 3, f"{right} L0": 2 * p / 3}
+        wanted |= {f"{left} D{2 * now + 2}": p, f"{right} D{2 * now + 3}": p}
+    wanted |= {"D8": p, "D8 D9": p, "D9 L0": p}
+    assert len(wanted) == 5 * 4 + 3
+    assert close(mechanisms(found), wanted)
+
+
+def test_equal_errors_are_joined_and_silent_ones_left_out():
+    found = stabsim.error_model("R 0 1\nX_ERROR(0.1) 0\nY_ERROR(0.2) 0\nZ_ERROR(0.3) 0\nX_ERROR(0.4) 1\nX_ERROR(0) 0\nM 0 1\nDETECTOR rec[-2]\n")
+    assert close(mechanisms(found), {"D0": 0.1 * 0.8 + 0.2 * 0.9})
+
+
+def test_an_error_of_several_qubits_flips_what_all_do():
+    found = stabsim.error_model("R 0 1 2\nE(0.1) X0 Z1 Y2\nCORRELATED_ERROR(0.2) X0\nM 0 1 2\nDETECTOR rec[-3]\nDETECTOR rec[-2]\n"
+                                "OBSERVABLE_INCLUDE(0) rec[-1]\n")
+    assert close(mechanisms(found), {"D0 L0": 0.1, "D0": 0.2})
+
+
+def test_a_wrong_record_is_wrong_alone():
+    found = stabsim.error_model("R 0\nM(0.1) 0\nM 0\nDETECTOR rec[-2]\nDETECTOR rec[-1]\n")
+    assert close(mechanisms(found), {"D0": 0.1})
+
+
+def test_a_wrong_record_of_a_measured_reset_is_wrong_alone():
+    for letter in ("", "X", "Y", "Z"):
+        found = stabsim.error_model(f"R{letter} 0\nMR{letter}(0.1) !0\nM{letter} 0\nDETECTOR rec[-2]\nDETECTOR rec[-1]\n")
+        assert close(mechanisms(found), {"D0": 0.1})
+
+
+def test_a_wrong_record_of_a_product_is_wrong_alone():
+    text = "RX 0 1\nR 2\nMPP(0.1) X0*X1 Z2 !X0*!X1*Z2\nMPP X0*X1 Z2\nMX 0 1\n" + "".join(f"DETECTOR rec[-{back}]\n" for back in range(7, 0, -1))
+    assert close(mechanisms(stabsim.error_model(text)), {"D0": 0.1, "D1": 0.1, "D2": 0.1})
+
+
+NOISY = {
+    "surface code": codes.surface_code(3, 2, noise=codes.Noise.uniform(0.01), written_out=True),
+    "logical X": codes.surface_code(2, 2, basis="X", noise=codes.Noise.uniform(0.02), written_out=True),
+    "colour code": codes.colour_code(3, 2, noise=codes.Noise.phenomenological(0.03), written_out=True),
+    "all measurements": "RX 0\nRY 1\nR 2\nPAULI_CHANNEL_1(0.08, 0.02, 0.18) 0 1 2\nE(0.2) X0 Y1 Z2\nMX(0.1) 0 !0 0\nMY(0.2) 1\nMZ 2\nMRX(0.3) 0\nMRY(0.1) 1\n"
+    "MPP(0.25) Z2 !X0*Y1*Z2\nM 2\nDEPOLARIZE2(0.1) 0 2\nMX 0\nM 2\n" + "".join(f"DETECTOR rec[-{back}]\n" for back in range(11, 0, -1)),
+}
+
+
+@pytest.mark.parametrize("name", NOISY)
+def test_every_error_by_itself_in_a_session_makes_the_same_model(name):
+    assert close(mechanisms(stabsim.error_model(NOISY[name])), mechanisms_by_sessions(NOISY[name]))
+
+
+@pytest.mark.parametrize("name, given", [("surface_code", (3, 4)), ("repetition_code", (4, 6)), ("colour_code", (3, 3))])
+def test_blocks_make_the_model_of_the_rounds_written_out(name, given):
+    noise = codes.Noise.uniform(0.01)
+    block, written = (stabsim.error_model(getattr(codes, name)(*given, noise=noise, written_out=it)) for it in (False, True))
+    assert np.array_equal(block.indptr, written.indptr) and np.array_equal(block.indices, written.indices)
+    np.testing.assert_allclose(block.chances, written.chances, rtol=1e-12)
+    assert np.array_equal(block.coordinates, written.coordinates)
+
+
+def test_blocks_in_blocks_repeat_their_errors():
+    body = "M(0.1) 0\nDETECTOR rec[-1]\nREPEAT 2 {\nX_ERROR(0.2) 0\nM 0\nDETECTOR rec[-1] rec[-2]\n}\n"
+    found = stabsim.error_model(f"R 0\nREPEAT 3 {{\n{body}}}\n")
+    written = stabsim.error_model("R 0\n" + 3 * body.replace("REPEAT 2 {\n", "").replace("}\n", "X_ERROR(0.2) 0\nM 0\nDETECTOR rec[-1] rec[-2]\n"))
+    assert mechanisms(found) == mechanisms(written) and len(found) > 6
+
+
+def test_gates_named_I_of_the_circuit_are_no_errors():
+    found = stabsim.error_model("R 0\nI 0\nX_ERROR(0.1) 0\nI 0 1\nM 0\nDETECTOR rec[-1]\n")
+    assert close(mechanisms(found), {"D0": 0.1})
+
+
+def test_the_text_of_a_model_is_this():
+    found = stabsim.error_model("R 0 1\nX_ERROR(0.25) 0\nX_ERROR(0.125) 1\nM 0 1\nDETECTOR(1, 2.5) rec[-2]\nSHIFT_COORDS(1)\n"
+                                "DETECTOR rec[-1] rec[-2]\nOBSERVABLE_INCLUDE(1) rec[-1]\n")
+    assert found.dem == """\
+error(0.25) D0 D1
+error(0.125) D1 L1
+detector(1, 2.5) D0
+detector D1
+logical_observable L0
+logical_observable L1
+"""
+    detectors, observables = found.check_matrices()
+    assert detectors.astype(int).tolist() == [[1, 0], [1, 1]] and observables.astype(int).tolist() == [[0, 0], [0, 1]]
+
+
+def test_disjoint_errors_are_approximated_only_where_that_is_asked_for():
+    text = "R 0\n\nPAULI_CHANNEL_1(0.1, 0, 0.2) 0\nM 0\nDETECTOR rec[-1]\n"
+    with pytest.raises(stabsim.UnsupportedNoise, match="approximate_disjoint_errors") as told:
+        stabsim.error_model(text)
+    assert told.value.line == 3
+    found = stabsim.error_model(text, approximate_disjoint_errors=True)
+    assert close(mechanisms(found), {"D0": 0.1}) and found.approximated == (3,)
+    assert "lines [3] approximated" in repr(found) and found.dem.startswith("# The disjoint errors of line 3")
+
+
+@pytest.mark.parametrize("line", [
+    "ELSE_CORRELATED_ERROR(0.1) X0", "HERALDED_ERASE(0.1) 0", "I_ERROR(0.1) 0", "DEPOLARIZE1(0.8) 0", "DEPOLARIZE2(0.1) 0",
+    "X_ERROR 0", "X_ERROR(1.5) 0", "M(0.1, 0.2) 0", "PAULI_CHANNEL_1(0.5, 0.4, 0.2) 0", "E(0.1) 0",
+])
+def test_other_noise_is_told_with_its_line(line):
+    with pytest.raises(stabsim.UnsupportedNoise) as told:
+        stabsim.error_model(f"R 0\n{line}\nM 0\n")
+    assert told.value.line == 2 and str(told.value).startswith("line 2: ")
+
+
+def test_a_refusal_names_the_line_of_the_noisy_text():
+    with pytest.raises(stabsim.Refused) as told:
+        stabsim.error_model("R 0\nREPEAT 2 {\n\nM(0.1) 0 0\nX_ERROR(0.1) 0 # a comment\n}\nT 0\n")
+    assert (told.value.number, told.value.line) == (1, 7)
+    with pytest.raises(stabsim.Refused) as told:
+        stabsim.error_model("X_ERROR(0.1) a\n")
+    assert (told.value.number, told.value.line) == (3, 1)
+    with pytest.raises(stabsim.Refused) as told:
+        stabsim.error_model("REPEAT 2 {\nX_ERROR(0.1) 0\n")
+    assert (told.value.number, told.value.line) == (5, 1)
+
+
+def test_what_coins_decide_is_refused_or_left_out():
+    text = "R 0\nH 0\nX_ERROR(0.1) 0\nM 0\nDETECTOR rec[-1]\nDETECTOR\n"
+    with pytest.raises(stabsim.Refused, match="18 NotDeterministic"):
+        stabsim.error_model(text)
+    assert len(stabsim.error_model(text, sure_only=True)) == 0
+
+
+def test_a_circuit_without_noise_has_an_empty_model():
+    found = stabsim.error_model("M 0\nDETECTOR rec[-1]\n")
+    assert len(found) == 0 and found.dem == "detector D0\n"
+    assert not found.sample(5, seed=0)[0].any()
+
+
+def test_noise_is_taken_out_and_all_else_stays():
+    text = "# two\nR 0 1 # x\n  X_ERROR(0.1) 0\nREPEAT 2 {\n\tm[a(b)] (0.25)  !0 # M(1)\n depolarize1(0.1) 1\n}\nMPP(0.1) X0*X1\nE(0.1) X0\n" \
+           "ELSE_CORRELATED_ERROR(0.1) X1\nMR(0.1)\nOBSERVABLE_INCLUDE(0) rec[-1]\nDETECTOR(1, 2)"
+    assert stabsim.without_noise(text) == "# two\nR 0 1 # x\nREPEAT 2 {\n\tm[a(b)]  !0 # M(1)\n}\nMPP X0*X1\nMR\n" \
+                                          "OBSERVABLE_INCLUDE(0) rec[-1]\nDETECTOR(1, 2)"
+    with pytest.raises(stabsim.UnsupportedNoise):
+        stabsim.without_noise("HERALDED_ERASE(0.1) 0\n")
+
+
+def exact(model):
+    """The chance of each set of flips, by all combinations of mechanisms."""
+    chances = {}
+    for happened in itertools.product([False, True], repeat=len(model)):
+        flips = np.zeros(model.detectors + model.observables, dtype=bool)
+        chance = 1.0
+        for mechanism, there in enumerate(happened):
+            chance *= model.chances[mechanism] if there else 1 - model.chances[mechanism]
+            if there:
+                flips[model.flipped(mechanism)] ^= True
+        chances[tuple(flips)] = chances.get(tuple(flips), 0) + chance
+    return chances
+
+
+def test_combinations_of_errors_come_as_often_as_they_should():
+    model = stabsim.error_model("R 0 1 2\nX_ERROR(0.3) 0\nX_ERROR(0.05) 1\nDEPOLARIZE2(0.2) 0 1\nCX 0 2 1 2\nM(0.1) 0 1 2\nDETECTOR rec[-3]\n"
+                                "DETECTOR rec[-2]\nOBSERVABLE_INCLUDE(0) rec[-1]\n")
+    shots = 200_000
+    drawn = np.concatenate(model.sample(shots, seed=11), axis=1)
+    for flips, chance in exact(model).items():
+        found = int((drawn == np.array(flips)).all(axis=1).sum())
+        assert abs(found - shots * chance) < 5 * math.sqrt(shots * chance * (1 - chance)) + 1
+
+
+def test_any_split_of_the_shots_is_the_same():
+    model = stabsim.error_model(codes.surface_code(3, 2, noise=codes.Noise.uniform(0.02)))
+    whole = model.sample(4000, seed=2**64 - 1, first_shot=500)
+    for bounds in ([0, 1, 64, 65, 1024, 4000], [0, 524, 525, 3999, 4000]):
+        parts = [model.sample(end - start, seed=2**64 - 1, first_shot=500 + start) for start, end in itertools.pairwise(bounds)]
+        for bits, split in zip(whole, zip(*parts)):
+            assert np.array_equal(bits, np.concatenate(split))
+    assert not np.array_equal(whole[0], model.sample(4000, seed=1, first_shot=500)[0])
+
+
+def test_an_error_is_drawn_always_or_never_at_the_ends_of_chance():
+    model = stabsim.error_model("R 0 1 2\nX_ERROR(1) 0\nX_ERROR(1e-300) 1\nX_ERROR(1e-17) 2\nM 0 1 2\nDETECTOR rec[-3]\nDETECTOR rec[-2]\nDETECTOR rec[-1]\n")
+    detectors, observables = model.sample(3000, seed=3)
+    assert detectors[:, 0].all() and not detectors[:, 1:].any() and observables.shape == (3000, 0)
+
+
+def test_models_of_other_chances_have_other_fingerprints():
+    one, other = (stabsim.error_model(f"R 0\nX_ERROR({chance}) 0\nM 0\nDETECTOR rec[-1]\n") for chance in (0.1, 0.2))
+    assert one.fingerprint != other.fingerprint
+    assert one.fingerprint == stabsim.error_model("R 0\nX_ERROR(0.10) 0\nM 0\nDETECTOR rec[-1]\n").fingerprint

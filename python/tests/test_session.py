@@ -1,0 +1,318 @@
+"""Editing sessions: replies, what edits change, how they are taken back, and how sessions end."""
+
+import os
+import signal
+import subprocess
+import sys
+import threading
+import time
+
+import numpy as np
+import pytest
+import stabsim
+from stabsim import codes
+from stabsim.script import closing_line, edit_lines, path_text
+
+REPETITION = codes.repetition_code(3, 3)
+BLOCK = REPETITION.splitlines().index("REPEAT 2 {") - 1
+
+
+def bits(text):
+    return [it == "1" for it in text]
+
+
+def test_a_session_shows_what_a_run_gives():
+    circuit = stabsim.Circuit(codes.surface_code(3, 3))
+    has = circuit.numbers()
+    detectors, observables = circuit.detect(1, seed=5, separate_observables=True)
+    with circuit.edit(seed=5) as session:
+        assert np.array_equal(session.records, circuit.sample(1, seed=5)[0])
+        assert np.array_equal(session.detectors, detectors[0]) and np.array_equal(session.observables, observables[0])
+        assert session.stabilisers == circuit.stabilisers(seed=5)
+        assert session.numbers() == stabsim.SessionNumbers(has.qubits, has.steps, has.records, has.detectors, has.observables)
+        assert session.free.shape == (has.coins,)
+        assert "".join(session.circuit.split()) == "".join(circuit.text.split("\n", 1)[1].split())
+
+
+def test_an_error_flips_the_detectors_beside_it():
+    # X on the middle data qubit in front of the block is seen by both checks in the next round.
+    with stabsim.Circuit(REPETITION).edit() as session:
+        session.insert(BLOCK, "X 2")
+        changed = session.changed()
+        assert changed.detectors.tolist() == [2, 3] and changed.observables.tolist() == [] and changed.lengths == {}
+        assert session.detectors.tolist() == bits("00110000")
+        session.mark()
+        assert session.changed().detectors.tolist() == []
+        # X on the last data qubit flips the observable, and the records of its check and its own.
+        session.replace(BLOCK, "X 4")
+        changed = session.changed(records=True)
+        assert changed.detectors.tolist() == [2] and changed.observables.tolist() == [0]
+        assert session.detectors.tolist() == bits("00010000") and session.observables.tolist() == [True]
+        assert changed.records.tolist() == [2, 4, 7, 8]
+
+
+def test_numbers_that_change_are_told():
+    with stabsim.Circuit("M 0\nDETECTOR rec[-1]\n").edit(qubits=2) as session:
+        session.insert(2, "MX 1")
+        session.insert(3, "DETECTOR")
+        session.insert(4, "OBSERVABLE_INCLUDE(1)")
+        changed = session.changed(records=True)
+        assert changed.lengths == {"detectors": (1, 2), "observables": (0, 2), "records": (1, 2)}
+        assert session.numbers() == stabsim.SessionNumbers(qubits=2, steps=5, records=2, detectors=2, observables=2)
+
+
+def test_signs_are_those_of_the_group():
+    with stabsim.Circuit("H 0\nCX 0 1\nZ 0\nX 2\n").edit() as session:
+        assert [session.sign(it) for it in ("X0*X1", "-X0*X1", "Z0*Z1", "Y0*Y1", "X0", "ZZI", "Z2", "Z0*Z1*Z2")] == [-1, 1, 1, 1, 0, 1, -1, -1]
+        with pytest.raises(stabsim.Refused):
+            session.sign("X0*")
+        with pytest.raises(ValueError):
+            session.sign("X0\nshow circuit")
+
+
+def test_edits_are_taken_back_and_made_again():
+    with stabsim.Circuit(REPETITION).edit() as session:
+        texts = [session.circuit]
+        for edit in [lambda: session.insert(BLOCK, "X 2"), lambda: session.replace(f"{BLOCK + 1}/1", "CX 0 1 4 3"),
+                     lambda: session.delete([BLOCK + 1, 0]), lambda: session.insert(0, "REPEAT 2 {\n    H 0\n    REPEAT 2 {\n  X 1\n}\n}"),
+                     lambda: session.replace(0, "H 0 # once"), lambda: session.delete(BLOCK + 2)]:
+            edit()
+            texts.append(session.circuit)
+        assert len(set(texts)) == len(texts) == 7
+        for text in texts[-2::-1]:
+            assert session.undo() and session.circuit == text
+        assert not session.undo()
+        for text in texts[1:]:
+            assert session.redo() and session.circuit == text
+        assert not session.redo()
+        assert session.undo()
+        session.insert(0, "TICK")
+        assert not session.redo()
+        assert session.undo() and session.circuit == texts[-2]
+
+
+def test_a_refused_edit_changes_nothing_and_is_not_taken_back():
+    with stabsim.Circuit("M 0\n").edit() as session:
+        for edit, number in [(lambda: session.insert(0, "X 5"), 6), (lambda: session.insert(7, "X 0"), 12), (lambda: session.delete(1), 12),
+                             (lambda: session.replace("0/0", "X 0"), 17), (lambda: session.replace(0, "FOO 0"), 1),
+                             (lambda: session.insert(0, ""), 13), (lambda: session.insert(0, "DETECTOR rec[-1]"), 8)]:
+            with pytest.raises(stabsim.Refused) as told:
+                edit()
+            assert told.value.number == number and told.value.line is None
+        assert session.circuit == "M 0\n" and not session.undo()
+        assert session.records.tolist() == [False]
+
+
+def test_an_item_is_shown_by_its_path():
+    with stabsim.Circuit(REPETITION).edit() as session:
+        assert session.item(0) == "R 0 1 2 3 4\n"
+        assert session.item(f"{BLOCK}/1") == "CX 0 1 2 3\n"
+        assert session.item(BLOCK).startswith("REPEAT 2 {\n    TICK\n") and session.item(BLOCK).endswith("\n}\n")
+        with pytest.raises(stabsim.Refused, match="12 PlaceOutOfRange"):
+            session.item(99)
+
+
+def needs(session, question):
+    """Skips a test where the program does not know a question yet."""
+    try:
+        session.line(question)
+    except stabsim.Refused as refused:
+        if refused.number == 13:
+            pytest.skip(f"the program does not know `{question}`")
+
+
+def test_one_round_of_a_block_is_taken_out_and_put_back():
+    text = "R 0\nREPEAT 2 {\n    REPEAT[it] 5 {\n        X 0\n        M 0\n        DETECTOR rec[-1]\n    }\n}\nDETECTOR rec[-10]\n"
+    with stabsim.Circuit(text).edit() as session:
+        needs(session, "split 99 0")
+        before = session.detectors
+        for round, counts in [(0, [1, 4]), (2, [2, 1, 2]), (4, [4, 1])]:
+            session.split("1/0", round)
+            assert [session.item(f"1/{place}").split("\n")[0] for place in range(len(counts))] == [f"REPEAT[it] {count} {{" for count in counts]
+            assert np.array_equal(session.detectors, before)
+            session.replace(f"1/{int(round > 0)}/0", "TICK")
+            # Without an X the bits are others from there on, up to the one that is left out in the outer block's second round; the last
+            # detector is the first record.
+            assert session.changed().detectors.tolist() == list(range(round, 5 + round)) + [10] * (round == 0)
+            assert session.undo() and session.undo() and session.circuit == text
+            assert session.redo() and session.redo() and session.undo() and session.undo() and session.circuit == text
+        for round in (5, 99):
+            with pytest.raises(stabsim.Refused, match="12 PlaceOutOfRange"):
+                session.split("1/0", round)
+        with pytest.raises(stabsim.Refused, match="17 NotABlock"):
+            session.split("0", 0)
+
+
+def test_the_place_of_an_item_is_counted_with_blocks_written_out():
+    with stabsim.Circuit(REPETITION).edit() as session:
+        needs(session, "show place 0")
+        # Five resets, four gates, two measured qubits and two detectors stand in front of the block.
+        assert session.place(BLOCK) == stabsim.Place(first_step=13, steps=16, first_record=2, records=4, first_detector=2, detectors=4,
+                                                     first_coin=7, coins=4)
+
+
+def test_what_is_the_same_for_all_coins_follows_the_edits():
+    with stabsim.Circuit("R 0\nM 0\nDETECTOR rec[-1]\nOBSERVABLE_INCLUDE(0)\n").edit() as session:
+        needs(session, "show deterministic")
+        assert session.deterministic.tolist() == [True, True]
+        session.insert(1, "H 0")
+        assert session.deterministic.tolist() == [False, True]
+
+
+def test_a_text_that_is_more_than_one_item_is_never_sent():
+    for text in ("X 0\nX 1", "REPEAT 2 {\nX 0\n}\nX 0", "REPEAT 2 {\nX 0", "# a comment\nX 0", "REPEAT 2 {\n}\n}", "REPEAT 2 {"):
+        with pytest.raises(ValueError):
+            edit_lines("insert 0", text)
+    assert edit_lines("insert 0", "\n X 0\t\n") == b"insert 0 X 0\n"
+    assert edit_lines("insert 0", "REPEAT 2 { # {\n# }\n}\r\n") == b"insert 0 REPEAT 2 { # {\n# }\n}\n"
+    with pytest.raises(stabsim.Refused, match="14 TooLong"):
+        edit_lines("insert 0", "REPEAT 2 { #" + "x" * 70_000 + "\n}")
+    assert closing_line([b"REPEAT 1 {", b"}" + b" " * 70_000, b"}"]) == 2
+
+
+def test_a_path_is_numbers():
+    assert path_text(3) == "3" and path_text("3/0/2") == "3/0/2" and path_text([3, 0, 2]) == "3/0/2"
+    for wrong in ("", "a", "3/", "-1", -1, "0\nshow circuit", []):
+        with pytest.raises(ValueError):
+            path_text(wrong)
+
+
+def test_a_long_line_is_refused_and_the_session_goes_on():
+    with stabsim.Circuit("M 0\n").edit() as session:
+        with pytest.raises(stabsim.Refused) as told:
+            session.insert(0, "X" + " 0" * 40_000)
+        assert told.value.number == 14
+        assert session.circuit == "M 0\n"
+
+
+def test_long_replies_are_read_whole():
+    circuit = stabsim.Circuit("R 0\n" + "M 0\n" * 20_000)
+    with circuit.edit() as session:
+        session.insert(1, "X 0")
+        assert session.records.shape == (20_000,) and session.records.all()
+        assert session.changed(records=True).records.tolist() == list(range(20_000))
+        assert session.circuit.count("\n") == 20_002
+
+
+def test_a_long_block_is_put_in_whole():
+    with stabsim.Circuit("R 0\n").edit() as session:
+        block = "REPEAT 1 {\n" + "    X 0\n" * 20_000 + "}\n"
+        session.insert(1, block)
+        assert session.item(1) == block and session.numbers().steps == 20_001
+        assert session.undo() and session.circuit == "R 0\n"
+
+
+def test_a_circuit_that_is_refused_opens_no_session():
+    with pytest.raises(stabsim.Refused) as told:
+        stabsim.Circuit("M 0\nFOO\n").edit()
+    assert (told.value.number, told.value.line) == (1, 2)
+    with pytest.raises(stabsim.Refused) as told:
+        stabsim.Circuit("M 3\n").edit(qubits=2)
+    assert told.value.number == 6
+
+
+def process_runs(number):
+    try:
+        with open(f"/proc/{number}/stat", encoding="ascii") as file:
+            return file.read().rpartition(")")[2].split()[0] != "Z"
+    except FileNotFoundError:
+        return False
+
+
+def process_ends(number):
+    """Whether it does within some seconds."""
+    for _ in range(100):
+        if not process_runs(number):
+            return True
+        time.sleep(0.05)
+    return False
+
+
+def test_a_session_ends_its_process():
+    with stabsim.Circuit("M 0\n").edit() as session:
+        process = session.process.number
+        assert process_runs(process) and str(process) in repr(session)
+    assert process_ends(process) and "closed" in repr(session)
+    for _ in range(2):
+        with pytest.raises(stabsim.SessionEnded, match="closed"):
+            session.detectors
+    session.close()
+
+
+def test_a_session_whose_process_was_killed_says_so_at_each_call():
+    session = stabsim.Circuit("M 0\n").edit()
+    os.kill(session.process.number, signal.SIGKILL)
+    session.process.process.wait()
+    for _ in range(3):
+        with pytest.raises(stabsim.SessionEnded, match="status -9"):
+            session.insert(0, "X 0")
+    session.close()
+
+
+def test_a_call_that_is_broken_off_ends_the_session(monkeypatch):
+    with stabsim.Circuit("M 0\n").edit() as session:
+        def interrupted():
+            raise KeyboardInterrupt
+
+        monkeypatch.setattr(session.process, "read_line", interrupted)
+        with pytest.raises(KeyboardInterrupt):
+            session.detectors
+        monkeypatch.undo()
+        with pytest.raises(stabsim.SessionEnded, match="broken off"):
+            session.detectors
+
+
+def test_two_threads_at_once_are_told():
+    with stabsim.Circuit("M 0\n").edit() as session, session.process.lock:
+        found = []
+
+        def ask():
+            try:
+                session.detectors
+            except RuntimeError as fault:
+                found.append(str(fault))
+
+        thread = threading.Thread(target=ask)
+        thread.start()
+        thread.join()
+        assert found == ["another thread is in a call of this session"]
+
+
+DRIVER = """
+import stabsim, time
+session = stabsim.Circuit("M 0\\n").edit()
+print(session.process.number, flush=True)
+while True:
+    session.insert(0, "X 0")
+    session.delete(0)
+"""
+
+
+def test_a_driver_that_is_killed_leaves_no_process():
+    with subprocess.Popen([sys.executable, "-c", DRIVER], stdout=subprocess.PIPE, text=True) as driver:
+        process = int(driver.stdout.readline())
+        time.sleep(0.2)
+        assert process_runs(process)
+        driver.kill()
+    assert process_ends(process)
+
+
+def test_edits_of_a_session_are_runs_of_the_edited_circuit():
+    numbers = np.random.default_rng(3)
+    with stabsim.Circuit(codes.surface_code(3, 2)).edit(seed=4) as session:
+        for _ in range(25):
+            places = session.circuit.count("\n")
+            kind = numbers.choice(["insert", "insert", "delete", "undo"])
+            try:
+                if kind == "insert":
+                    session.insert(int(numbers.integers(places)), f"{numbers.choice(['X', 'Z', 'H', 'S'])} {numbers.integers(26)}")
+                elif kind == "delete":
+                    session.delete(int(numbers.integers(places)))
+                else:
+                    session.undo()
+            except stabsim.Refused as refused:
+                assert refused.number in (8, 12)
+            again = stabsim.Circuit(session.circuit)
+            detectors, observables = again.detect(1, seed=4, separate_observables=True)
+            assert np.array_equal(session.records, again.sample(1, seed=4)[0])
+            assert np.array_equal(session.detectors, detectors[0]) and np.array_equal(session.observables, observables[0])

@@ -1,0 +1,13 @@
+#!/bin/sh
+# Prints the Python that has what the package python/ and its examples and tests want: the first on the PATH, or Debian's own.
+# Where none has, it says so on standard error and ends with 1. On Debian:
+#     apt install python3-numpy python3-networkx python3-matplotlib python3-pytest python3-distributed
+set -u
+for python in python3 /usr/bin/python3; do
+    if "$python" -c 'import sys, numpy, networkx, matplotlib, pytest, distributed; sys.exit(sys.version_info < (3, 11))' 2>/dev/null; then
+        command -v "$python"
+        exit 0
+    fi
+done
+echo "find_python: no Python of version 3.11 or later has numpy, networkx, matplotlib, pytest and distributed" >&2
+exit 1
