@@ -1,4 +1,5 @@
 mod PointLemmas
+mod LastBitsLemmas
 mod ReplayLemmas
 mod LaidLemmas
 mod KeptLemmas

@@ -1,7 +1,7 @@
 -- Replays: a run that goes on from a copy of an earlier one, what it asks of coins, and where it meets another copy.
-use Rattle.std.proofs.Common.{◌≡◌, ℕ, zero, suc, ◌+◌, ◌-◌, ◌<◌, ◌≤◌, ◌↔◌, refl, sym, ◌∙◌, ap, subst, Bool, ◌⊎◌, inl, inr, List, [], ◌∷◌, ◌++◌, All, IfSome, IsSomeAnd, Option, None, Some, slice_get, length, take, drop, min, arith}
+use Rattle.std.proofs.Common.{◌≡◌, ℕ, zero, suc, ◌+◌, ◌-◌, ◌<◌, ◌≤◌, refl, sym, ◌∙◌, ap, subst, Bool, ◌⊎◌, inl, inr, List, [], ◌∷◌, ◌++◌, All, IfSome, IsSomeAnd, Option, None, Some, slice_get, length, take, drop, arith}
 use Rattle.std.specs.Option.{option_map}
-use Rattle.std.proofs.lemmas.List.{length-take, length-drop, take-append-drop, take_at, take-take, drop_all, drop-drop, drop-take, map-append}
+use Rattle.std.proofs.lemmas.List.{length-take, take-append-drop, take_at, take-take, drop-drop, map-append}
 use Rattle.std.proofs.lemmas.List.Elements.{All-push}
 use Rattle.std.proofs.lemmas.Bool.{cases_lt}
 use Rattle.std.proofs.lemmas.Option.{none-some, same_Some, IfSome_then}
@@ -24,57 +24,6 @@ use Rattle.stab_session.specs.inner.Replays.{IsNoted, IsAtStep, IsReplay, Ascend
 use Rattle.stab_run.proofs.PointLemmas.{flags-are-coins, records-are-records}
 use Rattle.stab_session.proofs.NotedLemmas.{noted-on}
 use Rattle.stab_session.proofs.PointLemmas.{resumed, shows-from-start, take-more}
-
--- two lists that are the same up to a place: one begins the other where it does behind that place
-pub begins-behind : {X : Type 0} (xs ys : List X) (b : ℕ) → b ≤ length xs → take b xs ≡ take b ys
-    → (drop b xs ≡ take (length (drop b xs)) (drop b ys)) ↔ (xs ≡ take (length xs) ys)
-begins-behind xs ys b le same = (to, from)
-  where
-    rest : length xs ≡ b + length (drop b xs)
-    rest = omega (arith, length-drop b xs)
-
-    to : drop b xs ≡ take (length (drop b xs)) (drop b ys) → xs ≡ take (length xs) ys
-    to e =
-        sym (take-append-drop b xs)
-        ∙ (λ i. same i ++ e i)
-        ∙ sym (take-more b (length (drop b xs)) ys)
-        ∙ ap (λ k. take k ys) (sym rest)
-
-    from : xs ≡ take (length xs) ys → drop b xs ≡ take (length (drop b xs)) (drop b ys)
-    from e = ap (drop b) (e ∙ ap (λ k. take k ys) rest) ∙ drop-take b (length (drop b xs)) ys
-
--- the last bits of a list at their places in another
-
-cut-least : (from : ℕ) (xs : List Bool) → drop (min from (length xs)) xs ≡ drop from xs
-cut-least from xs =
-    elim (cases_lt (length xs) from) [
-      | inl lt ↦ ap (λ k. drop k xs) (omega (arith, lt)) ∙ drop_all (length xs) xs (omega arith) ∙ sym (drop_all from xs (omega (arith, lt)))
-      | inr le ↦ ap (λ k. drop k xs) (omega (arith, le))
-    ]
-
-pub same-place : (bits others : List Bool) (from cut : ℕ) → from ≤ length bits → cut ≡ min from (length others)
-    → take (length (drop from bits)) (drop cut others) ≡ drop from (take (length bits) others)
-same-place bits others from cut le is =
-    ap (take (length (drop from bits))) (ap (λ k. drop k others) is ∙ cut-least from others)
-    ∙ sym (drop-take from (length (drop from bits)) others)
-    ∙ ap (λ k. drop from (take k others)) (omega (arith, le, length-drop from bits))
-
-none-taken : (k : ℕ) (xs ys : List Bool) → k ≡ 0 → take k xs ≡ take k ys
-none-taken k xs ys e = ap (λ j. take j xs) e ∙ sym (ap (λ j. take j ys) e)
-
-pub same-front : (bits others : List Bool) (base from cut : ℕ) → take base bits ≡ take base others → cut ≡ min from (length others)
-    → take (base - from) (drop from bits) ≡ take (base - from) (drop cut others)
-same-front bits others base from cut same is =
-    elim (cases_lt base from) [
-      | inl lt ↦ none-taken (base - from) (drop from bits) (drop cut others) (omega (arith, lt))
-      | inr le ↦
-          sym (drop-take from (base - from) bits)
-          ∙ ap (λ k. drop from (take k bits)) (omega (arith, le))
-          ∙ ap (drop from) same
-          ∙ ap (λ k. drop from (take k others)) (omega (arith, le))
-          ∙ drop-take from (base - from) others
-          ∙ ap (take (base - from)) (sym (ap (λ k. drop k others) is ∙ cut-least from others))
-    ]
 
 -- the coins that steps use up
 

@@ -1,6 +1,6 @@
 use Rattle.std.proofs.Common.{◌≡◌, ◌↔◌, sym, ◌∙◌, subst, arith, length, take, drop, List, Bool}
 use Rattle.std.specs.Prelude.{IsTrue}
-use Rattle.stab_session.proofs.ReplayLemmas.{same-place, same-front}
+use Rattle.stab_session.proofs.LastBitsLemmas.{same-place, same-front}
 use Rattle.stab_session.proofs.replay.same_last.Goals as goal
 
 pub same_behind-requires-clause-same : goal.same_behind-requires-clause-same
