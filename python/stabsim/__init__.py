@@ -23,7 +23,7 @@ if TYPE_CHECKING:
     from stabsim.marking import without_noise
     from stabsim.models import ErrorModel, error_model
     from stabsim.program import find_program
-    from stabsim.session import Changed, Place, Session, SessionNumbers
+    from stabsim.session import Changed, Session, SessionNumbers
 
 # Where each name stands. A module is read when one of its names is asked for first, so that `stabsim.codes` needs no numpy.
 HOMES = {
@@ -35,7 +35,7 @@ HOMES = {
     "FaultTable": "faults",
     "without_noise": "marking",
     "find_program": "program",
-    "Changed": "session", "Place": "session", "Session": "session", "SessionNumbers": "session",
+    "Changed": "session", "Session": "session", "SessionNumbers": "session",
 }
 
 __all__ = sorted([*HOMES, "codes"])

@@ -5,10 +5,10 @@ from dataclasses import dataclass
 
 @dataclass(frozen=True)
 class Change:
-    """One edit of a user: the script's lines that make it, and those that take it back, one edit each, in their order."""
+    """One edit: the lines of the script that make it, and those that take it back."""
 
-    forth: list[bytes]
-    back: list[bytes]
+    forth: bytes
+    back: bytes
 
 
 class History:
@@ -23,10 +23,10 @@ class History:
         self.done.append(change)
         self.to_redo.clear()
 
-    def last_done(self) -> list[bytes] | None:
+    def last_done(self) -> bytes | None:
         return self.done[-1].back if self.done else None
 
-    def last_undone(self) -> list[bytes] | None:
+    def last_undone(self) -> bytes | None:
         return self.to_redo[-1].forth if self.to_redo else None
 
     def undone(self) -> None:

@@ -29,20 +29,6 @@ class SessionNumbers:
 
 
 @dataclass(frozen=True)
-class Place:
-    """Where an item stands once blocks are written out: the first of its steps, how many they are, and so on."""
-
-    first_step: int
-    steps: int
-    first_record: int
-    records: int
-    first_detector: int
-    detectors: int
-    first_coin: int
-    coins: int
-
-
-@dataclass(frozen=True)
 class Changed:
     """What differs from the mark, place by place: numbers of detectors, observables and records, int64 (changed,) each.
 
@@ -89,38 +75,17 @@ class Session:
     def insert(self, path: Path, text: str) -> None:
         """Puts an item, one instruction or one whole block, in front of the one at the path, or behind all of its list."""
         at = path_text(path)
-        self.change(Change([edit_lines(f"insert {at}", text)], [f"delete {at}\n".encode()]))
+        self.change(Change(edit_lines(f"insert {at}", text), f"delete {at}\n".encode()))
 
     def replace(self, path: Path, text: str) -> None:
         """Puts an item in the stead of the one at the path."""
         at = path_text(path)
-        self.change(Change([edit_lines(f"replace {at}", text)], [edit_lines(f"replace {at}", self.old_item(at))]))
+        self.change(Change(edit_lines(f"replace {at}", text), edit_lines(f"replace {at}", self.old_item(at))))
 
     def delete(self, path: Path) -> None:
         """Takes the item at the path out."""
         at = path_text(path)
-        self.change(Change([f"delete {at}\n".encode()], [edit_lines(f"insert {at}", self.old_item(at))]))
-
-    def split(self, path: Path, round: int) -> None:
-        """Makes of the block at the path the rounds before one of them, that round by itself, and the rounds behind it, so that one
-        round can be edited; rounds are counted from 0. The steps stay as they are, so nothing is run."""
-        at = path_text(path)
-        old = self.old_item(at)
-        self.process.ask(f"split {at} {round}\n".encode())
-        self.history.add(Change([f"split {at} {round}\n".encode()], self.lines_to_join(at, round, old)))
-
-    def lines_to_join(self, at: str, round: int, old: str) -> list[bytes]:
-        """The edits that put a block in the stead of the parts that it was split into.
-
-        It takes the place of the first part, and then the other parts are deleted: at no time are there fewer records than before, so
-        no lookback is refused. Where the steps of both together are too many, the first edit is refused, and nothing has changed.
-        """
-        opening, body = old.split("\n", 1)
-        count = int(opening.split()[1])
-        parts = (round > 0) + 1 + (round < count - 1)
-        *outer, place = at.split("/")
-        behind = "/".join([*outer, str(int(place) + 1)])
-        return [edit_lines(f"replace {at}", old)] + (parts - 1) * [f"delete {behind}\n".encode()]
+        self.change(Change(f"delete {at}\n".encode(), edit_lines(f"insert {at}", self.old_item(at))))
 
     def undo(self) -> bool:
         """Takes the last edit back, by the edit that is its inverse; False where there is none."""
@@ -157,11 +122,6 @@ class Session:
         return bits.of_text(self.line("show observables"))
 
     @property
-    def deterministic(self) -> Bits:
-        """Which detectors, and behind them which observables, are the same for all coins, bool (detectors + observables,)."""
-        return bits.of_text(self.line("show deterministic"))
-
-    @property
     def stabilisers(self) -> list[str]:
         """The reduced rows of the group that stabilises the state behind the circuit: a signed string for each qubit."""
         return [line.decode() for line in self.process.ask(b"show stabilisers\n")]
@@ -174,10 +134,6 @@ class Session:
     def item(self, path: Path) -> str:
         """The text of the item at the path."""
         return text_of_lines(self.process.ask(f"show item {path_text(path)}\n".encode()))
-
-    def place(self, path: Path) -> Place:
-        """The unrolled steps, records, detectors and coin numbers of the item at the path."""
-        return Place(*map(int, self.line(f"show place {path_text(path)}").split()))
 
     def sign(self, pauli: str) -> int:
         """1 where the string, as X0*Z3 or -X0 or with a letter for each qubit, stabilises the state, -1 where its negative
@@ -207,21 +163,14 @@ class Session:
 
     def change(self, change: Change) -> None:
         """Makes an edit, and keeps how to take it back."""
-        for lines in change.forth:
-            self.process.ask(lines)
+        self.process.ask(change.forth)
         self.history.add(change)
 
-    def retrace(self, way: list[bytes] | None, moved: Callable[[], None]) -> bool:
-        """Makes the edits of a change backwards or forwards again."""
-        if way is None:
+    def retrace(self, edit: bytes | None, moved: Callable[[], None]) -> bool:
+        """Makes the edit that goes a step back, or forth again, where there is one."""
+        if edit is None:
             return False
-        for number, lines in enumerate(way):
-            try:
-                self.process.ask(lines)
-            except Refused as refused:
-                if number:
-                    self.process.ended = f"an edit was taken back in part: {refused}"
-                raise
+        self.process.ask(edit)
         moved()
         return True
 

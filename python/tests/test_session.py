@@ -112,53 +112,6 @@ def test_an_item_is_shown_by_its_path():
             session.item(99)
 
 
-def needs(session, question):
-    """Skips a test where the program does not know a question yet."""
-    try:
-        session.line(question)
-    except stabsim.Refused as refused:
-        if refused.number == 13:
-            pytest.skip(f"the program does not know `{question}`")
-
-
-def test_one_round_of_a_block_is_taken_out_and_put_back():
-    text = "R 0\nREPEAT 2 {\n    REPEAT[it] 5 {\n        X 0\n        M 0\n        DETECTOR rec[-1]\n    }\n}\nDETECTOR rec[-10]\n"
-    with stabsim.Circuit(text).edit() as session:
-        needs(session, "split 99 0")
-        before = session.detectors
-        for round, counts in [(0, [1, 4]), (2, [2, 1, 2]), (4, [4, 1])]:
-            session.split("1/0", round)
-            assert [session.item(f"1/{place}").split("\n")[0] for place in range(len(counts))] == [f"REPEAT[it] {count} {{" for count in counts]
-            assert np.array_equal(session.detectors, before)
-            session.replace(f"1/{int(round > 0)}/0", "TICK")
-            # Without an X the bits are others from there on, up to the one that is left out in the outer block's second round; the last
-            # detector is the first record.
-            assert session.changed().detectors.tolist() == list(range(round, 5 + round)) + [10] * (round == 0)
-            assert session.undo() and session.undo() and session.circuit == text
-            assert session.redo() and session.redo() and session.undo() and session.undo() and session.circuit == text
-        for round in (5, 99):
-            with pytest.raises(stabsim.Refused, match="12 PlaceOutOfRange"):
-                session.split("1/0", round)
-        with pytest.raises(stabsim.Refused, match="17 NotABlock"):
-            session.split("0", 0)
-
-
-def test_the_place_of_an_item_is_counted_with_blocks_written_out():
-    with stabsim.Circuit(REPETITION).edit() as session:
-        needs(session, "show place 0")
-        # Five resets, four gates, two measured qubits and two detectors stand in front of the block.
-        assert session.place(BLOCK) == stabsim.Place(first_step=13, steps=16, first_record=2, records=4, first_detector=2, detectors=4,
-                                                     first_coin=7, coins=4)
-
-
-def test_what_is_the_same_for_all_coins_follows_the_edits():
-    with stabsim.Circuit("R 0\nM 0\nDETECTOR rec[-1]\nOBSERVABLE_INCLUDE(0)\n").edit() as session:
-        needs(session, "show deterministic")
-        assert session.deterministic.tolist() == [True, True]
-        session.insert(1, "H 0")
-        assert session.deterministic.tolist() == [False, True]
-
-
 def test_a_text_that_is_more_than_one_item_is_never_sent():
     for text in ("X 0\nX 1", "REPEAT 2 {\nX 0\n}\nX 0", "REPEAT 2 {\nX 0", "# a comment\nX 0", "REPEAT 2 {\n}\n}", "REPEAT 2 {"):
         with pytest.raises(ValueError):

@@ -1,0 +1,36 @@
+// The one place that talks to the server: questions with answers, and events that every tab hears.
+
+export class Link {
+  #socket;
+  #waiting = new Map();
+  #next = 1;
+
+  // `hear` takes each event; `lose` is called once the server is gone.
+  constructor(hear, lose) {
+    const token = new URLSearchParams(location.search).get("token");
+    this.#socket = new WebSocket(`ws://${location.host}/session?token=${token}`);
+    this.#socket.onmessage = ({ data }) => this.#take(JSON.parse(data), hear);
+    this.#socket.onclose = () => {
+      for (const { fail } of this.#waiting.values()) fail(new Error("the server is gone"));
+      this.#waiting.clear();
+      lose();
+    };
+  }
+
+  #take(message, hear) {
+    if (message.id === undefined) return hear(message);
+    const { settle } = this.#waiting.get(message.id);
+    this.#waiting.delete(message.id);
+    return settle(message);
+  }
+
+  // The answer to a question, {ask: .., ..}; a refusal is an answer with `refused`.
+  ask(question) {
+    return new Promise((settle, fail) => {
+      if (this.#socket.readyState !== WebSocket.OPEN) return fail(new Error("the server is gone"));
+      const id = this.#next++;
+      this.#waiting.set(id, { settle, fail });
+      return this.#socket.send(JSON.stringify({ ...question, id }));
+    });
+  }
+}

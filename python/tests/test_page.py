@@ -1,0 +1,244 @@
+"""The page in a real browser: what a person does there, and who is refused."""
+
+import contextlib
+import http.client
+import importlib.util
+import pathlib
+import shutil
+import signal
+import subprocess
+import sys
+import time
+import urllib.parse
+
+import pytest
+import stabsim
+from stabsim import codes
+
+CHROMIUM = shutil.which("chromium")
+DRIVER = shutil.which("chromedriver")
+MISSING = [name for name in ("selenium", "aiohttp") if importlib.util.find_spec(name) is None]
+pytestmark = pytest.mark.skipif(not CHROMIUM or not DRIVER or bool(MISSING), reason="chromium, chromium-driver, selenium or aiohttp is missing")
+
+if not MISSING:
+    from selenium import webdriver
+    from selenium.webdriver.chrome.service import Service
+    from selenium.webdriver.common.by import By
+    from selenium.webdriver.common.keys import Keys
+    from selenium.webdriver.support.ui import WebDriverWait
+
+CODE = codes.surface_code(3, 3)
+BLOCK = [line.split(" ")[0] for line in CODE.splitlines() if not line.startswith(("#", " ", "}"))].index("REPEAT")
+
+
+class Page:
+    """A server of the page on a circuit, and a browser that looks at it."""
+
+    def __init__(self, browser, folder, text, *words):
+        self.browser = browser
+        file = folder / "circuit.stim"
+        file.write_text(text)
+        self.server = subprocess.Popen([sys.executable, "-B", "-m", "stabsim.page", str(file), *words], stdout=subprocess.PIPE, text=True)
+        self.address = self.server.stdout.readline().strip()
+
+    def open(self):
+        self.browser.get(self.address)
+        self.wait(lambda: self.find("numbers").text)
+
+    def find(self, name):
+        return self.browser.find_element(By.ID, name)
+
+    def texts(self, selector):
+        """The texts of elements, read at one moment, since the page may draw them anew at any time."""
+        return self.browser.execute_script("return Array.from(document.querySelectorAll(arguments[0]), (it) => it.textContent)", selector)
+
+    def row(self, path):
+        """The text of the row of an item, once the row is in sight."""
+        return self.wait(lambda: self.texts(f"#text .row[data-path='{path}']"))[0]
+
+    def click(self, selector):
+        self.wait(lambda: self.browser.execute_script(
+            "const it = document.querySelector(arguments[0]); it?.click(); return Boolean(it);", selector))
+
+    def choose(self, path):
+        self.click(f"#text .row[data-path='{path}']")
+
+    def unfold(self, place):
+        self.browser.execute_script("document.getElementById('text').scrollTop = arguments[0]", place * 22 - 100)
+        self.click(f"#text .row[data-path='{place}'] .fold")
+
+    def history(self):
+        return self.texts("#edits li button")
+
+    def wait(self, test):
+        return WebDriverWait(self.browser, 20).until(lambda _: test())
+
+    def go_to(self, moment):
+        self.browser.execute_script(
+            "const slider = document.getElementById('moment'); slider.value = arguments[0]; slider.dispatchEvent(new Event('input'));", moment)
+
+    def on_qubit(self, number, event):
+        """Has an event happen on a qubit."""
+        self.browser.execute_script(f"document.querySelector(arguments[0]).dispatchEvent({event})", f"[data-qubit='{number}']")
+
+    def type_on(self, number, key):
+        self.on_qubit(number, f"new KeyboardEvent('keydown', {{key: '{key}'}})")
+
+    def put_in(self, words):
+        field = self.browser.find_element(By.CSS_SELECTOR, ".item-form textarea")
+        field.clear()
+        field.send_keys(words, Keys.ENTER)
+
+    def close(self):
+        self.server.send_signal(signal.SIGINT)
+        self.server.wait(timeout=20)
+
+
+@pytest.fixture(scope="module")
+def browser():
+    options = webdriver.ChromeOptions()
+    options.binary_location = CHROMIUM
+    for word in ("--headless=new", "--no-sandbox", "--disable-gpu", "--window-size=1280,900"):
+        options.add_argument(word)
+    driver = webdriver.Chrome(options=options, service=Service(DRIVER))
+    yield driver
+    driver.quit()
+
+
+@pytest.fixture
+def page(browser, tmp_path):
+    opened = Page(browser, tmp_path, CODE)
+    opened.open()
+    yield opened
+    opened.close()
+
+
+def status_of(address, host=None, origin=None, token=True):
+    """The status of a request for the page."""
+    parts = urllib.parse.urlsplit(address)
+    connection = http.client.HTTPConnection(parts.hostname, parts.port)
+    headers = {"Host": host or parts.netloc} | ({"Origin": origin} if origin else {})
+    connection.request("GET", f"/?{parts.query}" if token else "/", headers=headers)
+    with contextlib.closing(connection):
+        return connection.getresponse().status
+
+
+def test_strangers_are_refused(page):
+    assert status_of(page.address) == 200
+    assert status_of(page.address, token=False) == 403
+    assert status_of(page.address, host="example.org") == 403
+    assert status_of(page.address, origin="http://example.org") == 403
+    assert status_of(page.address.replace("token=", "token=x")) == 403
+
+
+def test_it_shows_the_circuit_and_folds_its_blocks(page):
+    numbers = stabsim.Circuit(CODE).numbers()
+    assert page.find("numbers").text.startswith(f"{numbers.qubits} qubits · {numbers.steps} steps · {numbers.records} records")
+    inner = f"#text .row[data-path='{BLOCK}/0']"
+    assert not page.texts(inner)
+    page.unfold(BLOCK)
+    page.wait(lambda: page.texts(inner))
+
+
+def test_an_item_is_put_in_and_taken_back(page):
+    page.choose("0")
+    page.click("#insert")
+    page.put_in("X 1")
+    page.wait(lambda: page.history() == ["opened", "insert 0 X 1"])
+    assert page.row("0") == "0X 1"
+    page.click("#undo")
+    page.wait(lambda: page.texts("#edits .undone"))
+    assert page.row("0") != "0X 1"
+    page.click("#redo")
+    page.wait(lambda: page.row("0") == "0X 1")
+
+
+def test_a_refusal_stands_at_its_item(page):
+    page.choose("0")
+    page.click("#insert")
+    page.put_in("X 1000")
+    page.wait(lambda: "refused 6 QubitOutOfRange" in page.row("0"))
+    assert page.history() == ["opened"]
+
+
+def test_a_pauli_on_a_qubit_flips_detectors_and_is_exported(page, tmp_path):
+    page.go_to(6)
+    page.type_on(10, "x")
+    page.wait(lambda: len(page.history()) == 2)
+    with stabsim.Circuit(CODE).edit() as session:
+        session.insert(page.history()[1].split()[1], "X 10")
+        flipped = session.changed().detectors.tolist()
+    told = page.texts("#edits .now .told")[0]
+    assert flipped and told.startswith(" ".join(f"D{number}" for number in flipped))
+
+
+def test_a_place_tells_what_a_fault_would_flip(page):
+    page.go_to(6)
+    page.wait(lambda: hint_of(page, 10))
+    with stabsim.Circuit(CODE).edit() as session:
+        tick = [line.split("(")[0].split(" ")[0] for line in session.circuit.splitlines() if not line.startswith((" ", "}"))]
+        at = [place for place, name in enumerate(tick) if name == "TICK"][6]
+        session.insert(at, "X 10")
+        flipped = " ".join(f"D{number}" for number in session.changed().detectors)
+    assert f"X flips {flipped} " in hint_of(page, 10) + " "
+
+
+def hint_of(page, qubit):
+    page.on_qubit(qubit, "new PointerEvent('pointerenter')")
+    time.sleep(0.3)
+    return page.find("hint").text
+
+
+def test_two_tabs_see_one_session(page):
+    first = page.browser.current_window_handle
+    page.browser.switch_to.new_window("tab")
+    page.open()
+    page.go_to(6)
+    page.type_on(10, "z")
+    page.wait(lambda: len(page.history()) == 2)
+    page.browser.close()
+    page.browser.switch_to.window(first)
+    page.wait(lambda: len(page.history()) == 2)
+
+
+def test_a_lost_server_is_said(page):
+    page.server.send_signal(signal.SIGINT)
+    page.wait(lambda: "The server is gone" in page.find("message").text)
+
+
+def test_a_round_is_taken_out_of_its_block(page):
+    page.unfold(BLOCK)
+    page.choose(f"{BLOCK}/1")
+    page.click("#insert")
+    page.click(".split")
+    page.wait(lambda: page.history() == ["opened", f"round 0 of {BLOCK} by itself"])
+    assert page.texts("#edits .now .told")[0].startswith("nothing changed")
+
+
+def test_what_is_exported_makes_the_same_circuit(browser, tmp_path):
+    saved = tmp_path / "saved.stim"
+    page = Page(browser, tmp_path, CODE, "--save", str(saved))
+    page.open()
+    page.go_to(6)
+    page.type_on(10, "y")
+    page.wait(lambda: len(page.history()) == 2)
+    page.find("save").click()
+    page.wait(saved.is_file)
+    script = page.browser.execute_async_script(
+        "const done = arguments[0]; const make = URL.createObjectURL;"
+        "URL.createObjectURL = (blob) => { blob.text().then(done); return make(blob); };"
+        "document.getElementById('export-script').click();")
+    page.close()
+    program = stabsim.find_program()
+    replayed = subprocess.run([program, "edit", "--in", str(tmp_path / "circuit.stim")], input=script + "show circuit\n",
+                              capture_output=True, text=True, check=True).stdout
+    assert replayed == "ok\n" * len(script.splitlines()) + saved.read_text()
+
+
+@pytest.mark.parametrize("path", [pathlib.PurePosixPath("/static/../board.py"), pathlib.PurePosixPath("/static/none.js")])
+def test_no_other_file_is_given(page, path):
+    parts = urllib.parse.urlsplit(page.address)
+    connection = http.client.HTTPConnection(parts.hostname, parts.port)
+    connection.request("GET", str(path))
+    with contextlib.closing(connection):
+        assert connection.getresponse().status in (403, 404)
