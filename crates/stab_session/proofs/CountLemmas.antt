@@ -1,12 +1,15 @@
 -- Counts: how many steps a replay of an edited circuit carries out, from where it begins to where it ends.
-use Rattle.std.proofs.Common.{◌≡◌, ℕ, zero, suc, ◌+◌, ◌-◌, ◌*◌, ◌^◌, ◌<◌, ◌≤◌, max, refl, sym, ◌∙◌, ap, subst, Bool, ◌⊎◌, inl, inr, List, [], ◌∷◌, length, take, drop, All, Option, Some, None, arith}
+use Rattle.std.proofs.Common.{◌≡◌, ℕ, zero, suc, ◌+◌, ◌-◌, ◌*◌, ◌^◌, ◌<◌, ◌≤◌, max, false, refl, sym, ◌∙◌, ap, subst, Bool, ◌⊎◌, inl, inr, List, [], ◌∷◌, length, take, drop, All, Option, Some, None, arith}
 use Rattle.std.specs.Prelude.{IfSome, IsSomeAnd, MatchOption, option_map, slice_get, if◌then◌else◌}
 use Rattle.std.proofs.lemmas.Bool.{cases_lt}
 use Rattle.std.proofs.lemmas.Bool.Decides.{leb_tells}
 use Rattle.std.proofs.lemmas.List.{drop-drop}
-use Rattle.std.proofs.lemmas.List.Elements.{All-head, All-tail, All-weaker}
+use Rattle.std.proofs.lemmas.List.Elements.{All-head, All-tail, All-drop, All-weaker}
 use Rattle.std.proofs.lemmas.Option.{slice_get-map}
-use Rattle.stab_circuit.specs.Steps.{Step}
+use Rattle.stab_circuit.specs.Steps.{Step, looks_too_far}
+use Rattle.stab_frames.specs.Ends.{AgreeBack}
+use Rattle.stab_frames.specs.Lookbacks.{LooksWithin}
+use Rattle.stab_session.proofs.NotedLemmas.{near-enough}
 use Rattle.stab_session.specs.declared.checkpoint.Checkpoint.{Checkpoint}
 use Rattle.stab_session.specs.declared.replay.Replay.{Replay}
 use Rattle.stab_session.specs.declared.replay.Plan.{Plan}
@@ -20,7 +23,7 @@ use Rattle.stab_session.specs.Bounds.{last_until, MayBeMet, EndsAt, NoneBefore, 
 use Rattle.stab_run.specs.ProgramStates.{program_state, output_of}
 use Rattle.stab_session.specs.inner.Spacing.{last_of}
 use Rattle.stab_session.specs.inner.Checkpoints.{IsRunFromStart, IsCheckpoint, checkpoint_steps, moved}
-use Rattle.stab_session.specs.inner.Replays.{IsKeptRun, IsSpan, AgreeBehindSpan, Meets, IsEnd, Misses, EndsSoon, step_among_new}
+use Rattle.stab_session.specs.inner.Replays.{IsKeptRun, IsSpan, AgreeBehindSpan, AgreeBackBehindSpan, Meets, IsEnd, Misses, EndsSoon, step_among_new}
 use Rattle.stab_run.proofs.PointLemmas.{front-output}
 use Rattle.stab_session.proofs.PointLemmas.{meets-agree, agree-later}
 use Rattle.stab_session.proofs.SpacingLemmas.{IsBefore, IsNearCopy, near-copy, behind-near, all-behind, moved-within}
@@ -164,14 +167,14 @@ module _ (n : ℕ) (coins : ℕ → Bool) (K : ℕ) (xs : List Step) (count : �
       omega (arith, here, near, counted, last)
 
   -- where it ends
-  pub ends-at : (p : Plan) → p.old_end ≡ s.old_end → p.new_end ≡ s.new_end → p.total ≡ length ys → length ys < 2 ^ 64
+  pub ends-at : (p : Plan) → p.reach ≡ old.reach → p.old_end ≡ s.old_end → p.new_end ≡ s.new_end → p.total ≡ length ys → length ys < 2 ^ 64
       → IfSome (slice_get old.checkpoints.items p.next) (λ c. s.old_end ≤ c.step) → (m : ℕ) → m ≤ p.next
       → IfSome (slice_get old.checkpoints.items m) (λ c. s.first + 1 ≤ c.step) → (r : Replay) (end : End)
       → IsRunFromStart n coins (take r.step ys) (program_state r.tableau (output_of r.outputs)) → IsEnd n p r old.checkpoints.items old.outputs.records.items end
-      → EndsAt (AgreeBehindSpan n coins xs ys s) (checkpoint_steps old.checkpoints.items) s.first s.old_end s.new_end (length ys) r.step
-  ends-at p old_end new_end total few behind m le later r Last run is = inl (is ∙ total)
-  ends-at p old_end new_end total few behind m le later r (Joined j) run is =
-      let found = some-and (λ c. (step_among_new p c ≡ r.step) × Meets n r.tableau (output_of r.outputs) old.outputs.records.items c) (slice_get old.checkpoints.items j) is.1 in
+      → EndsAt (AgreeBackBehindSpan n coins xs ys s) (checkpoint_steps old.checkpoints.items) s.first s.old_end s.new_end (length ys) r.step
+  ends-at p reach old_end new_end total few behind m le later r Last run is = inl (is ∙ total)
+  ends-at p reach old_end new_end total few behind m le later r (Joined j) run is =
+      let found = some-and (λ c. (step_among_new p c ≡ r.step) × Meets n p.reach r.tableau (output_of r.outputs) old.outputs.records.items c) (slice_get old.checkpoints.items j) is.1 in
       let d = found.0 in
       let from = is.0 in
       let after : s.old_end ≤ d.step =
@@ -184,15 +187,24 @@ module _ (n : ℕ) (coins : ℕ → Bool) (K : ℕ) (xs : List Step) (count : �
       (all-behind K (length xs) (s.first + 1) m old.checkpoints.items kept.spaced.near later))) in
       let h : IsCheckpoint n coins xs d = at-get (IsCheckpoint n coins xs) old.checkpoints.items j d kept.checkpoints found.1 in
       let step : r.step ≡ s.new_end + (d.step - s.old_end) = sym found.2.0 ∙ placed p old_end new_end few d h in
-      let agree : AgreeBehindSpan n coins xs ys s (d.step - s.old_end) =
-      subst (λ k. AgreeAt n (point_after n coins (take k xs) origin) (point_after n coins (take (s.new_end + (d.step - s.old_end)) ys) origin)) (omega (arith, after))
-      (subst (λ k. AgreeAt n (point_after n coins (take d.step xs) origin) (point_after n coins (take k ys) origin)) step
-      (meets-agree n coins xs (take r.step ys) d r.tableau (output_of r.outputs) old.outputs.records.items h (ap (λ (o : RunOutput). o.records) kept.run.output) run found.2.1)) in
+      let back : drop d.step xs ≡ drop (s.new_end + (d.step - s.old_end)) ys =
+      ap (λ k. drop k xs) (omega (arith, after))
+      ∙ sym (drop-drop (d.step - s.old_end) s.old_end xs)
+      ∙ ap (drop (d.step - s.old_end)) span.behind
+      ∙ drop-drop (d.step - s.old_end) s.new_end ys in
+      let agree : AgreeBackBehindSpan n coins xs ys s (d.step - s.old_end) = (
+        p.reach,
+        subst (λ zs. looks_too_far p.reach zs ≡ false) back
+            (near-enough old.reach p.reach (drop d.step xs) (omega (arith, reach)) (All-drop (LooksWithin old.reach) d.step xs kept.noted.near)),
+        subst (λ k. AgreeBack n p.reach (point_after n coins (take k xs) origin) (point_after n coins (take (s.new_end + (d.step - s.old_end)) ys) origin)) (omega (arith, after))
+            (subst (λ k. AgreeBack n p.reach (point_after n coins (take d.step xs) origin) (point_after n coins (take k ys) origin)) step
+            (meets-agree n p.reach coins xs (take r.step ys) d r.tableau (output_of r.outputs) old.outputs.records.items h (ap (λ (o : RunOutput). o.records) kept.run.output) run found.2.1)),
+      ) in
       let here : slice_get (checkpoint_steps old.checkpoints.items) j ≡ Some d.step =
       slice_get-map (λ c. c.step) old.checkpoints.items j ∙ ap (option_map (λ c. c.step)) found.1 in
       inr (
         j,
-        subst (λ o. IsSomeAnd o (λ c. MayBeMet s.first s.old_end c × (r.step ≡ s.new_end + (c - s.old_end)) × AgreeBehindSpan n coins xs ys s (c - s.old_end)))
+        subst (λ o. IsSomeAnd o (λ c. MayBeMet s.first s.old_end c × (r.step ≡ s.new_end + (c - s.old_end)) × AgreeBackBehindSpan n coins xs ys s (c - s.old_end)))
             (sym here) ((omega (arith, beyond), after), step, agree),
       )
 
@@ -228,7 +240,7 @@ module _ (n : ℕ) (coins : ℕ → Bool) (K : ℕ) (xs : List Step) (count : �
 
   module _ (m : ℕ) (b : IsBefore K (length xs) s.first m old.checkpoints.items) (begin end applied : ℕ)
       (at : IfSome (slice_get old.checkpoints.items (m - 1)) (λ c. begin ≡ c.step)) (counted : applied + begin ≡ end)
-      (ends : EndsAt (AgreeBehindSpan n coins xs ys s) (checkpoint_steps old.checkpoints.items) s.first s.old_end s.new_end (length ys) end) where
+      (ends : EndsAt (AgreeBackBehindSpan n coins xs ys s) (checkpoint_steps old.checkpoints.items) s.first s.old_end s.new_end (length ys) end) where
     here : begin ≡ b.copy.step
     here = some-at (λ c. begin ≡ c.step) old.checkpoints.items (m - 1) b.copy b.here at
 
@@ -236,7 +248,7 @@ module _ (n : ℕ) (coins : ℕ → Bool) (K : ℕ) (xs : List Step) (count : �
     pub is-counted : m ≤ length old.checkpoints.items → All (λ c. c.step < s.first + 1) (take m old.checkpoints.items)
         → IfSome (slice_get old.checkpoints.items m) (λ c. s.first + 1 ≤ c.step)
         → NoneBefore (AgreeBehindSpan n coins xs ys s) (checkpoint_steps old.checkpoints.items) s.first s.old_end s.new_end end
-        → IsCounted (AgreeBehindSpan n coins xs ys s) (checkpoint_steps old.checkpoints.items) s.first s.old_end s.new_end (length ys) applied
+        → IsCounted (AgreeBehindSpan n coins xs ys s) (AgreeBackBehindSpan n coins xs ys s) (checkpoint_steps old.checkpoints.items) s.first s.old_end s.new_end (length ys) applied
     is-counted within front behind none =
         let last : last_until s.first 0 (checkpoint_steps old.checkpoints.items) ≡ b.copy.step =
         last-is s.first m 0 old.checkpoints.items within front behind ∙ (front-spaced n coins K xs count old kept ys s span m b).1 in
@@ -254,6 +266,6 @@ module _ (n : ℕ) (coins : ℕ → Bool) (K : ℕ) (xs : List Step) (count : �
                 here,
                 from,
                 counted,
-                not-before (AgreeBehindSpan n coins xs ys s) s.first s.old_end s.new_end end (slice_get (checkpoint_steps old.checkpoints.items) stands.0) stands.1,
+                not-before (AgreeBackBehindSpan n coins xs ys s) s.first s.old_end s.new_end end (slice_get (checkpoint_steps old.checkpoints.items) stands.0) stands.1,
               )
         ]

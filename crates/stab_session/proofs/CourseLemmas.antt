@@ -18,8 +18,9 @@ use Rattle.stab_run.specs.Records.{ones}
 use Rattle.stab_run.specs.Points.{RunOutput, all_coins_of, with_additions}
 use Rattle.stab_session.specs.Bounds.{EndsAt, IsCounted}
 use Rattle.stab_run.specs.ProgramStates.{output_of}
+use Rattle.stab_frames.specs.KeptStrings.{StringsState}
 use Rattle.stab_session.specs.inner.Checkpoints.{checkpoint_steps, moved_copy}
-use Rattle.stab_session.specs.inner.Replays.{IsKeptRun, IsSameKept, Follows, AgreeBehindSpan, IsReplay, Ascending, Meets, IsEnd, EndsSoon, step_among_new}
+use Rattle.stab_session.specs.inner.Replays.{IsKeptRun, IsSameKept, Follows, AgreeBehindSpan, AgreeBackBehindSpan, IsReplay, Ascending, Meets, IsEnd, EndsSoon, step_among_new}
 use Rattle.stab_session.specs.inner.Prepared.{Begins, HasCopy, IsRest, IsOldRest, IsPrepared, IsCommitted, copies_behind, meeting_of}
 use Rattle.stab_session.proofs.ReplayLemmas.{coins-steps}
 use Rattle.stab_session.proofs.SpacingLemmas.{IsBefore}
@@ -41,13 +42,15 @@ same-trans a b c f g = record {
   tableau = f.tableau ∙ g.tableau;
   output = f.output ∙ g.output;
   observables = f.observables ∙ g.observables;
+  strings = f.strings ∙ g.strings;
+  reach = f.reach ∙ g.reach;
   checkpoints = f.checkpoints ∙ g.checkpoints;
 }
 
 has-copy : (n : ℕ) (p : Plan) (r : Replay) (copies : List Checkpoint) (bits : List Bool) (end : End) → IsEnd n p r copies bits end → HasCopy copies end
 has-copy n p r copies bits Last is = tt
 has-copy n p r copies bits (Joined j) is =
-    let found = some-and (λ c. (step_among_new p c ≡ r.step) × Meets n r.tableau (output_of r.outputs) bits c) (slice_get copies j) is.1 in
+    let found = some-and (λ c. (step_among_new p c ≡ r.step) × Meets n p.reach r.tableau (output_of r.outputs) bits c) (slice_get copies j) is.1 in
     slice_get_within copies j found.0 found.1
 
 -- a replay ended at copies and records that are those that were kept
@@ -65,14 +68,14 @@ seen-soon {n} {k} coins p {zs} {ys} {seen} {copies} {bits} end qubits all same a
     (subst (λ m. EndsSoon m coins p zs seen bits end) qubits is)))
 
 -- the old copies that come behind a replay stand behind the first of them that may be met
-few-behind : (n : ℕ) (p : Plan) (r : Replay) (old : KeptRun) (end : End) (new : RunOutput) (rest : Rest) (m : ℕ) → m ≤ p.next → m ≤ length old.checkpoints.items
-    → IsEnd n p r old.checkpoints.items old.outputs.records.items end → IsRest old r.tableau (output_of r.outputs) r.step end new rest
+few-behind : (n : ℕ) (p : Plan) (r : Replay) (old : KeptRun) (end : End) (new : RunOutput) (strings : StringsState) (rest : Rest) (m : ℕ) → m ≤ p.next → m ≤ length old.checkpoints.items
+    → IsEnd n p r old.checkpoints.items old.outputs.records.items end → IsRest old r.tableau (output_of r.outputs) r.notes.strings r.step end new strings rest
     → m + length (copies_behind rest old.checkpoints.items) ≤ length old.checkpoints.items
-few-behind n p r old Last new rest m next within end is = omega (arith, ap length is.0)
-few-behind n p r old (Joined j) new rest m next within end is =
-    let found = some-and (λ c. (step_among_new p c ≡ r.step) × Meets n r.tableau (output_of r.outputs) old.outputs.records.items c) (slice_get old.checkpoints.items j) end.1 in
+few-behind n p r old Last new strings rest m next within end is = omega (arith, ap length is.0)
+few-behind n p r old (Joined j) new strings rest m next within end is =
+    let found = some-and (λ c. (step_among_new p c ≡ r.step) × Meets n p.reach r.tableau (output_of r.outputs) old.outputs.records.items c) (slice_get old.checkpoints.items j) end.1 in
     let d = found.0 in
-    let old_rest = some-at (IsOldRest old (output_of r.outputs) r.step j new rest) old.checkpoints.items j d found.1 is in
+    let old_rest = some-at (IsOldRest old (output_of r.outputs) r.notes.strings r.step j new strings rest) old.checkpoints.items j d found.1 is in
     let later = end.0 in
     let there : j < length old.checkpoints.items = slice_get_within old.checkpoints.items j d found.1 in
     omega (arith, ap length old_rest.copies, length-map (drop j old.checkpoints.items) (moved_copy (meeting_of (output_of r.outputs) r.step d)), length-drop j old.checkpoints.items, later, there, next)
@@ -86,6 +89,8 @@ pub record HasBegun (n : ℕ) (coins : ℕ → Bool) (K : ℕ) (ys : List Step) 
   pub applied : r.applied ≡ 0
   pub apart : All IsApart ys
   pub at : IfSome (slice_get old.checkpoints.items (m - 1)) (λ c. r.step ≡ c.step)
+  pub strings : r.notes.strings.qubits ≡ r.tableau.qubits
+  pub reach : r.notes.reach ≡ old.reach
   pub records : take (length r.outputs.records.items) r.outputs.records.items ≡ take (length r.outputs.records.items) old.outputs.records.items
   pub copies : All (λ c. c.tableau.qubits ≡ r.tableau.qubits) old.checkpoints.items
 
@@ -99,12 +104,13 @@ pub record IsReady (n : ℕ) (coins : ℕ → Bool) (K : ℕ) (ys : List Step) (
 pub record HasEnded (n : ℕ) (coins : ℕ → Bool) (K : ℕ) (ys : List Step) (s : Span) (old : KeptRun) (m : ℕ) (xs : List Step) (begin : ℕ) (p : Plan) (r : Replay) (end : End)
     : Type 0 where
   pub copy : HasCopy old.checkpoints.items end
+  pub strings : r.notes.strings.qubits ≡ old.strings.qubits
   pub applied : (applied : ℕ) → applied + begin ≡ r.step → applied ≤ (length ys - s.first) + K
   pub few : (applied : ℕ) → applied + begin ≡ r.step → EndsSoon n coins p ys old.checkpoints.items old.outputs.records.items r.step → (far : ℕ)
       → AgreeBehindSpan n coins xs ys s far → applied ≤ ((s.new_end - s.first) + 2 * K) + far
   pub at_least : (applied : ℕ) → applied + begin ≡ r.step → s.new_end ≤ s.first + applied
   pub counted : (applied : ℕ) → applied + begin ≡ r.step → EndsSoon n coins p ys old.checkpoints.items old.outputs.records.items r.step
-      → IsCounted (AgreeBehindSpan n coins xs ys s) (checkpoint_steps old.checkpoints.items) s.first s.old_end s.new_end (length ys) applied
+      → IsCounted (AgreeBehindSpan n coins xs ys s) (AgreeBackBehindSpan n coins xs ys s) (checkpoint_steps old.checkpoints.items) s.first s.old_end s.new_end (length ys) applied
   pub ready : (mid : KeptRun) → IsSameKept mid old → (observables : ℕ) (q : Prepared) → IsPrepared mid r observables end q → IsReady n coins K ys m r mid observables q
 
 module _ {n : ℕ} {coins : ℕ → Bool} {K : ℕ} {ys : List Step} {s : Span} {old : KeptRun} (f : Follows n coins K ys s old) (few : length ys ≤ 1048576)
@@ -134,6 +140,8 @@ module _ {n : ℕ} {coins : ℕ → Bool} {K : ℕ} {ys : List Step} {s : Span} 
         applied = here.applied;
         apart = here.apart;
         at = IfSome_then (slice_get old.checkpoints.items (m - 1)) begins (λ c h. h.step);
+        strings = at_first.at_step.noted.size ∙ sym at_first.at_step.qubits;
+        reach = here.reach;
         records = same-records n coins K f.old f.count old f.kept ys s f.span near.copy r here;
         copies = all-qubits n coins K f.old f.count old f.kept ys s f.span r.tableau.qubits at_first.at_step.qubits;
       }
@@ -147,7 +155,7 @@ module _ {n : ℕ} {coins : ℕ → Bool} {K : ℕ} {ys : List Step} {s : Span} 
       omega (arith, asked, step, from, coins-steps (drop r.step r.cursor.all), length-drop r.step r.cursor.all, ap length begins.all)
 
   module _ {r0 : Replay} (begins : HasBegun n coins K ys old m r0) {e : ℕ} (behind : IsCount s.old_end old.checkpoints.items e) (p : Plan)
-      (old_end : p.old_end ≡ s.old_end) (new_end : p.new_end ≡ s.new_end) (total : p.total ≡ length ys) (next : p.next ≡ max e m) where
+      (old_end : p.old_end ≡ s.old_end) (new_end : p.new_end ≡ s.new_end) (total : p.total ≡ length ys) (next : p.next ≡ max e m) (reach : p.reach ≡ old.reach) where
     step_is : r0.step ≡ near.copy.step
     step_is = some-at (λ c. r0.step ≡ c.step) old.checkpoints.items (m - 1) near.copy near.here begins.at
 
@@ -159,7 +167,7 @@ module _ {n : ℕ} {coins : ℕ → Bool} {K : ℕ} {ys : List Step} {s : Span} 
         all-ascending n coins K f.old f.count old f.kept ys s f.span p r0.step old_end new_end total (omega (arith, few)) next-there
         (let w = near.within in omega (arith, step_is))
 
-    module _ (r : Replay) (end : End) (replay : IsReplay r0.tableau.qubits coins K r0.step r0.cursor.all r)
+    module _ (r : Replay) (end : End) (replay : IsReplay r0.tableau.qubits coins K r0.step r0.cursor.all r) (raised : r0.notes.reach ≤ r.notes.reach)
         (is_end : IsEnd r0.tableau.qubits p r old.checkpoints.items old.outputs.records.items end) where
       done : IsReplay n coins K near.copy.step ys r
       done =
@@ -170,9 +178,9 @@ module _ {n : ℕ} {coins : ℕ → Bool} {K : ℕ} {ys : List Step} {s : Span} 
       end_here : IsEnd n p r old.checkpoints.items old.outputs.records.items end
       end_here = subst (λ k. IsEnd k p r old.checkpoints.items old.outputs.records.items end) begins.qubits is_end
 
-      ends-here : EndsAt (AgreeBehindSpan n coins f.old ys s) (checkpoint_steps old.checkpoints.items) s.first s.old_end s.new_end (length ys) r.step
+      ends-here : EndsAt (AgreeBackBehindSpan n coins f.old ys s) (checkpoint_steps old.checkpoints.items) s.first s.old_end s.new_end (length ys) r.step
       ends-here =
-          ends-at n coins K f.old f.count old f.kept ys s f.span p old_end new_end total (omega (arith, few)) next-there m (omega (arith, next)) count.behind r end done.at_step.run
+          ends-at n coins K f.old f.count old f.kept ys s f.span p reach old_end new_end total (omega (arith, few)) next-there m (omega (arith, next)) count.behind r end done.at_step.run
           end_here
 
       module _ (mid : KeptRun) (same : IsSameKept mid old) (observables : ℕ) (q : Prepared) (prepared : IsPrepared mid r observables end q) where
@@ -184,27 +192,28 @@ module _ {n : ℕ} {coins : ℕ → Bool} {K : ℕ} {ys : List Step} {s : Span} 
 
         kept-here : (new : KeptRun) → IsCommitted old q m K new → IsKeptRun n coins K ys observables new
         kept-here new put =
-            kept-end n coins K f.old f.count old f.kept ys s f.span m near count.before r done observables new
+            kept-end n coins K f.old f.count old f.kept ys s f.span m near count.before r done (omega (arith, raised, begins.reach)) observables new
             (put.observables
             ∙ prepared_here.observables
             ∙ ap (λ (o : RunOutput). with_additions o.additions (replicate observables false)) (sym put.output))
-            p end q old_end new_end total (omega (arith, few)) next-there end_here prepared_here.rest prepared_here.laid put
+            p end q reach old_end new_end total (omega (arith, few)) next-there end_here prepared_here.rest prepared_here.reach prepared_here.laid put
 
         flags-here : (new : KeptRun) → IsCommitted old q m K new → ones r.outputs.free.items ≤ ones new.outputs.free.items
         flags-here new put =
-            omega (arith, end-flags n p r old end (output_of q.outputs) q.rest end_here prepared_here.rest, ap (λ (o : RunOutput). ones o.free) put.output)
+            omega (arith, end-flags n p r old end (output_of q.outputs) q.strings q.rest end_here prepared_here.rest, ap (λ (o : RunOutput). ones o.free) put.output)
 
         is-ready : IsReady n coins K ys m r mid observables q
         is-ready = record {
           behind = λ there again.
               subst (λ cs. m + length (copies_behind q.rest cs) ≤ length cs) (sym (again.checkpoints ∙ same.checkpoints))
-              (few-behind n p r old end (output_of q.outputs) q.rest m (omega (arith, next)) count.within end_here prepared_here.rest);
+              (few-behind n p r old end (output_of q.outputs) q.strings q.rest m (omega (arith, next)) count.within end_here prepared_here.rest);
           kept = λ there again new committed. kept-here new (placed there again new committed);
           flags = λ there again new committed. flags-here new (placed there again new committed);
         }
 
       pub has-ended : HasEnded n coins K ys s old m f.old r0.step p r end
       has-ended = record {
+        strings = done.at_step.noted.size ∙ sym f.kept.noted.size;
         copy = has-copy n p r old.checkpoints.items old.outputs.records.items end end_here;
         applied = λ applied counted.
             applied-within n coins K f.old f.count old f.kept ys s f.span m near r0.step r.step applied begins.at counted done.at_step.within;

@@ -1,5 +1,5 @@
 -- Edited sessions: from an edit that was begun and run to the statement of the session, and to what the edit cost.
-use Rattle.std.proofs.Common.{◌≡◌, ◌≤◌, ℕ, ◌+◌, ◌-◌, ◌*◌, sym, ◌∙◌, ap, subst, arith, Bool, List, [], ◌∷◌, length, take, All, None, Result, Ok}
+use Rattle.std.proofs.Common.{◌≡◌, ◌≤◌, ℕ, ◌+◌, ◌-◌, ◌*◌, sym, ◌∙◌, ap, subst, arith, Bool, List, [], ◌∷◌, length, take, drop, All, None, Result, Ok}
 use Rattle.std.specs.Prelude.{slice_get}
 use Rattle.stab_io.specs.declared.refusal.Refusal.{Refusal}
 use Rattle.stab_io.specs.declared.refusal.Refusal.TheVariants.{OutOfMemory}
@@ -18,11 +18,11 @@ use Rattle.stab_run.specs.Points.{origin, point_after}
 use Rattle.stab_run.specs.Laws.{AgreeAt}
 use Rattle.stab_session.specs.Sessions.{SessionState}
 use Rattle.stab_session.specs.SessionEdits.{IsEditedBy}
-use Rattle.stab_session.specs.Bounds.{steps_of_item, steps_from_change, steps_behind, unless_refused, most_refused_asks, steps_put, steps_near_change, steps_changed, IsCounted, IsCountOf, AgreeBehind}
+use Rattle.stab_session.specs.Bounds.{steps_of_item, steps_from_change, steps_behind, unless_refused, most_refused_asks, steps_put, steps_near_change, steps_changed, IsCounted, IsCountOf, AgreeBehind, AgreeBackBehind, AgreeAsFarAsLooked}
 use Rattle.stab_session.specs.inner.KeptSessions.{session_of, IsKept}
 use Rattle.stab_session.specs.inner.Pendings.{kept, IsBegun}
 use Rattle.stab_session.specs.inner.Replays.{IsKeptRun}
-use Rattle.stab_session.specs.inner.Replays.{AgreeBehindSpan}
+use Rattle.stab_session.specs.inner.Replays.{AgreeBehindSpan, AgreeBackBehindSpan}
 use Rattle.stab_session.proofs.SessionLemmas.{session-kept}
 use Rattle.stab_session.proofs.PendingLemmas.{verdict-checked}
 use Rattle.stab_session.proofs.SpanLemmas.{put-within}
@@ -44,6 +44,12 @@ same_agree : (n m k : ℕ) (bits others : ℕ → Bool) (xs us ys vs : List Step
 same_agree n m k bits others xs us ys vs i a j c em ek eb ex ey ei ej =
     λ p. AgreeAt (ek p) (point_after (em p) bits (take (ei p) (ex p)) origin) (point_after (ek p) (eb p) (take (ej p) (ey p)) origin)
 
+same_agree_back : (n m k : ℕ) (bits others : ℕ → Bool) (xs us ys vs : List Step) (i a j c : ℕ) → m ≡ n → k ≡ n → others ≡ bits → us ≡ xs → vs ≡ ys → a ≡ i → c ≡ j
+    → AgreeAsFarAsLooked k (drop c vs) (point_after m bits (take a us) origin) (point_after k others (take c vs) origin)
+    ≡ AgreeAsFarAsLooked n (drop j ys) (point_after n bits (take i xs) origin) (point_after n bits (take j ys) origin)
+same_agree_back n m k bits others xs us ys vs i a j c em ek eb ex ey ei ej =
+    λ p. AgreeAsFarAsLooked (ek p) (drop (ej p) (ey p)) (point_after (em p) bits (take (ei p) (ex p)) origin) (point_after (ek p) (eb p) (take (ej p) (ey p)) origin)
+
 -- a run that is kept, and an agreement, on the same number of qubits with the same coins
 
 pub followed : (n m : ℕ) (bits others : ℕ → Bool) (K : ℕ) (xs : List Step) (count : ℕ) (r : KeptRun) → n ≡ m → bits ≡ others → IsKeptRun m bits K xs count r → IsKeptRun n others K xs count r
@@ -53,10 +59,10 @@ pub agreed : (n m : ℕ) (bits others : ℕ → Bool) (xs ys : List Step) (s : S
 agreed n m bits others xs ys s far e f is = subst (λ k. AgreeBehindSpan k bits xs ys s far) e (subst (λ k. AgreeBehindSpan n k xs ys s far) (sym f) is)
 
 pub counted_same : (n m : ℕ) (bits others : ℕ → Bool) (xs ys : List Step) (s : Span) (copies : List ℕ) (total applied : ℕ) → n ≡ m → bits ≡ others
-    → IsCounted (AgreeBehindSpan m bits xs ys s) copies s.first s.old_end s.new_end total applied
-    → IsCounted (AgreeBehindSpan n others xs ys s) copies s.first s.old_end s.new_end total applied
+    → IsCounted (AgreeBehindSpan m bits xs ys s) (AgreeBackBehindSpan m bits xs ys s) copies s.first s.old_end s.new_end total applied
+    → IsCounted (AgreeBehindSpan n others xs ys s) (AgreeBackBehindSpan n others xs ys s) copies s.first s.old_end s.new_end total applied
 counted_same n m bits others xs ys s copies total applied e f h =
-    subst (λ t. t) (λ i. IsCounted (AgreeBehindSpan (sym e i) (f i) xs ys s) copies s.first s.old_end s.new_end total applied) h
+    subst (λ t. t) (λ i. IsCounted (AgreeBehindSpan (sym e i) (f i) xs ys s) (AgreeBackBehindSpan (sym e i) (f i) xs ys s) copies s.first s.old_end s.new_end total applied) h
 
 -- how many steps an edit puts in, by the items that it leaves
 abbrev steps_put_in : Edit → List OneItem → ℕ
@@ -146,12 +152,20 @@ module _ {C : Type 0} (sequence : C → ℕ → Bool) (e : Edit) (s : SessionSta
         (old_end e (entries s.items) + far) (span.new_end + far) (new_end e (entries (listed new)) + far) qubits is.qubits same_coins (ap unroll items)
         (sym new_steps) (ap (λ k. k + far) (sym old_end_is)) (ap (λ k. k + far) (sym new_end_is))
 
+    agreement-back : (far : ℕ) → AgreeBackBehind sequence e s (session_of (listed new) stride coins run) far
+        ≡ AgreeBackBehindSpan n (sequence s.coins) (unroll (listed old)) (unroll (listed mid)) span far
+    agreement-back far =
+        same_agree_back n s.qubits run.tableau.qubits (sequence s.coins) (sequence coins) (unroll (listed old)) (unroll s.items) (unroll (listed mid)) (unroll (listed new))
+        (span.old_end + far) (old_end e (entries s.items) + far) (span.new_end + far) (new_end e (entries (listed new)) + far) qubits is.qubits same_coins (ap unroll items)
+        (sym new_steps) (ap (λ k. k + far) (sym old_end_is)) (ap (λ k. k + far) (sym new_end_is))
+
     -- so it cost just so many
     pub edited-counted : (applied : ℕ) (copies : List ℕ) → copies ≡ s.checkpoints
-        → IsCounted (AgreeBehindSpan n (sequence s.coins) (unroll (listed old)) (unroll (listed mid)) span) copies span.first span.old_end span.new_end (length (unroll (listed mid))) applied
+        → IsCounted (AgreeBehindSpan n (sequence s.coins) (unroll (listed old)) (unroll (listed mid)) span)
+        (AgreeBackBehindSpan n (sequence s.coins) (unroll (listed old)) (unroll (listed mid)) span) copies span.first span.old_end span.new_end (length (unroll (listed mid))) applied
         → IsCountOf sequence e s (session_of (listed new) stride coins run) applied
     edited-counted applied copies same h =
-        subst (λ t. t) (λ i. IsCounted (λ far. sym (agreement far) i) (same i) (first_is i) (old_end_is i) (new_end_is i) (length (new_steps i)) applied) h
+        subst (λ t. t) (λ i. IsCounted (λ far. sym (agreement far) i) (λ far. sym (agreement-back far) i) (same i) (first_is i) (old_end_is i) (new_end_is i) (length (new_steps i)) applied) h
 
     -- where the runs agree so many steps behind what was changed, it cost no more than what was put in, two strides, and as many
 

@@ -19,16 +19,22 @@ use Rattle.stab_circuit.specs.declared.edit.Span.{Span}
 use Rattle.stab_session.specs.declared.kept.Prepared.{Prepared}
 use Rattle.stab_session.specs.declared.kept.Rest.{Rest}
 use Rattle.stab_run.specs.Records.{ones}
-use Rattle.stab_run.specs.Points.{RunOutput, origin, joined, point_after, all_coins_of, with_additions}
-use Rattle.stab_run.specs.Laws.{AgreeAt}
+use Rattle.stab_run.specs.Points.{RunOutput, origin, joined, point_after, outputs, all_coins_of, with_additions}
+use Rattle.stab_frames.specs.Ends.{AgreeBack}
+use Rattle.stab_frames.specs.Lookbacks.{LooksWithin}
 use Rattle.stab_run.specs.ProgramStates.{program_state, output_of}
 use Rattle.stab_session.specs.inner.Spacing.{Near, IsSpaced, last_of}
 use Rattle.stab_run.specs.Cuts.{lengths_of, front_of, rest_of}
 use Rattle.stab_session.specs.inner.Checkpoints.{IsRunFromStart, IsCheckpoint, checkpoint_steps, all_laid, moved, moved_copy}
-use Rattle.stab_session.specs.inner.Replays.{IsKeptRun, IsSameKept, IsSpan, IsReplay, Ascending, Meets, IsEnd, step_among_new}
-use Rattle.stab_session.specs.inner.Prepared.{Begins, IsRest, IsOldRest, IsPrepared, IsCommitted, copies_behind, tableau_behind, meeting_of}
+use Rattle.stab_frames.specs.KeptStrings.{StringsState}
+use Rattle.stab_session.specs.inner.Replays.{IsNoted, IsKeptRun, IsSameKept, IsSpan, IsReplay, Ascending, Meets, IsEnd, step_among_new}
+use Rattle.stab_session.specs.inner.Prepared.{Begins, IsSpliced, IsRest, IsOldRest, IsPrepared, IsCommitted, copies_behind, tableau_behind, meeting_of}
+use Rattle.stab_run.specs.declared.records.Lengths.{Lengths}
 use Rattle.stab_run.proofs.RecordLemmas.{ones-append}
-use Rattle.stab_session.proofs.PointLemmas.{take-same, checkpoint-before, begun-from-start, meets-agree, agree-end, kept-tail, checkpoint-moved}
+use Rattle.stab_run.proofs.PointLemmas.{flags-are-coins, front-output}
+use Rattle.stab_session.proofs.NotedLemmas.{near-enough, noted-front, noted-spliced}
+use Rattle.stab_session.proofs.FramedLemmas.{future-back, future-turned}
+use Rattle.stab_session.proofs.PointLemmas.{take-same, checkpoint-before, begun-from-start, meets-agree, HaveSameFuture, group-end, kept-tail, checkpoint-moved}
 use Rattle.stab_session.proofs.SpacingLemmas.{IsBefore, before-near, all-behind, ascending-behind, spaced-front, spaced-all, all-laid-all, all-laid-append, moved-within, moved-near, steps-moved, near-drop, near-join}
 
 -- lists and their elements
@@ -59,16 +65,17 @@ take-front k bits = take_all (length (take k bits)) (take k bits) (omega arith) 
 
 -- the same kept run
 
-rest-same : (a b : KeptRun) (t : TableauState) (o : RunOutput) (step : ℕ) (end : End) (new : RunOutput) (rest : Rest) → IsSameKept a b
-    → IsRest a t o step end new rest → IsRest b t o step end new rest
-rest-same a b t o step Last new rest same h = (
+rest-same : (a b : KeptRun) (t : TableauState) (o : RunOutput) (strings : StringsState) (step : ℕ) (end : End) (new : RunOutput) (new_strings : StringsState) (rest : Rest)
+    → IsSameKept a b → IsRest a t o strings step end new new_strings rest → IsRest b t o strings step end new new_strings rest
+rest-same a b t o strings step Last new new_strings rest same h = (
   ap (copies_behind rest) (sym same.checkpoints) ∙ h.0,
   ap (tableau_behind rest) (sym same.tableau) ∙ h.1,
   h.2,
+  h.3,
 )
-rest-same a b t o step (Joined number) new rest same h =
+rest-same a b t o strings step (Joined number) new new_strings rest same h =
     IfSome_then (slice_get b.checkpoints.items number)
-    (subst (λ cs. IfSome (slice_get cs number) (IsOldRest a o step number new rest)) same.checkpoints h)
+    (subst (λ cs. IfSome (slice_get cs number) (IsOldRest a o strings step number new new_strings rest)) same.checkpoints h)
     (λ c is. record {
       copies =
           ap (copies_behind rest) (sym same.checkpoints)
@@ -76,11 +83,14 @@ rest-same a b t o step (Joined number) new rest same h =
           ∙ ap (λ cs. map (moved_copy (meeting_of o step c)) (drop number cs)) same.checkpoints;
       tableau = ap (tableau_behind rest) (sym same.tableau) ∙ is.tableau ∙ same.tableau;
       output = is.output ∙ ap (λ given. joined o (rest_of c.lengths given)) same.output;
+      strings =
+          subst (λ x. x) (λ i. IsSpliced strings (same.strings i) (ones (take c.lengths.free (same.output i).free)) (ones new.free) new_strings) is.strings;
     })
 
 pub prepared-same : (a b : KeptRun) (r : Replay) (count : ℕ) (end : End) (p : Prepared) → IsSameKept a b → IsPrepared a r count end p → IsPrepared b r count end p
 prepared-same a b r count end p same h = record {
-  rest = rest-same a b r.tableau (output_of r.outputs) r.step end (output_of p.outputs) p.rest same h.rest;
+  rest = rest-same a b r.tableau (output_of r.outputs) r.notes.strings r.step end (output_of p.outputs) p.strings p.rest same h.rest;
+  reach = h.reach;
   observables = h.observables;
   laid = h.laid;
 }
@@ -90,6 +100,8 @@ committed-same a b p before K new same h = record {
   tableau = h.tableau ∙ ap (tableau_behind p.rest) same.tableau;
   output = h.output;
   observables = h.observables;
+  strings = h.strings;
+  reach = h.reach;
   checkpoints = h.checkpoints ∙ ap (λ cs. all_laid K (copies_behind p.rest cs) (all_laid K (reverse p.laid.items) (take before cs))) same.checkpoints;
 }
 
@@ -118,6 +130,13 @@ module _ (n : ℕ) (coins : ℕ → Bool) (K : ℕ) (xs : List Step) (count : �
           subst (λ k. IsRunFromStart n coins (take k ys) (program_state r.tableau (output_of r.outputs))) (sym begins.step)
           (begun-from-start n coins xs ys c r.tableau (output_of r.outputs) is (take-same c.step s.first xs ys le span.before) begins.tableau
           (begins.output ∙ ap (front_of c.lengths) kept.run.output));
+      scratch = begins.scratch ∙ kept.qubits;
+      noted =
+          subst (λ zs. IsNoted n coins zs r.notes.strings r.outputs.free.items r.notes.reach)
+          (take-same c.step s.first xs ys le span.before ∙ ap (λ k. take k ys) (sym begins.step))
+          (subst (IsNoted n coins (take c.step xs) r.notes.strings r.outputs.free.items) (sym begins.reach)
+          (noted-front n coins xs old.strings old.outputs.free.items old.reach kept.noted (ap (λ (o : RunOutput). o.free) kept.run.output) c.step r.notes.strings
+          r.outputs.free.items flags begins.strings));
     };
     checkpoints = subst (All (IsCheckpoint n coins ys)) (sym begins.laid) (All-nil (IsCheckpoint n coins ys));
     near = subst (λ cs. Near K (r.step ∷ checkpoint_steps cs ++ r.step ∷ [])) (sym begins.laid) (omega arith, omega arith, tt);
@@ -125,6 +144,15 @@ module _ (n : ℕ) (coins : ℕ → Bool) (K : ℕ) (xs : List Step) (count : �
     where
       is : IsCheckpoint n coins ys c
       is = copy-of-new c le (at-get (IsCheckpoint n coins xs) old.checkpoints.items b c kept.checkpoints here)
+
+      was : IsCheckpoint n coins xs c
+      was = at-get (IsCheckpoint n coins xs) old.checkpoints.items b c kept.checkpoints here
+
+      flags : r.outputs.free.items ≡ (outputs n coins (take c.step xs) origin).free
+      flags =
+          ap (λ (o : RunOutput). o.free) begins.output
+          ∙ (λ i. take (was.lengths i).free (kept.run.output i).free)
+          ∙ ap (λ (o : RunOutput). o.free) (front-output n coins xs c.step)
 
   pub same-records : (c : Checkpoint) (r : Replay) → Begins ys old c r
       → take (length r.outputs.records.items) r.outputs.records.items ≡ take (length r.outputs.records.items) old.outputs.records.items
@@ -182,18 +210,20 @@ module _ (n : ℕ) (coins : ℕ → Bool) (K : ℕ) (xs : List Step) (count : �
       here = slice_get-map (λ c. c.step) old.checkpoints.items (m - 1) ∙ ap (option_map (λ c. c.step)) b.here
 
   module _ (m : ℕ) (b : IsBefore K (length xs) s.first m old.checkpoints.items) (front : All (λ c. c.step < s.first + 1) (take m old.checkpoints.items))
-      (r : Replay) (replay : IsReplay n coins K b.copy.step ys r) (total : ℕ) (new : KeptRun)
+      (r : Replay) (replay : IsReplay n coins K b.copy.step ys r) (raised : old.reach ≤ r.notes.reach) (total : ℕ) (new : KeptRun)
       (observables : new.observables.items ≡ with_additions new.outputs.additions.items (replicate total false)) where
     -- behind the last step
-    kept-last : r.step ≡ length ys → new.tableau ≡ r.tableau → output_of new.outputs ≡ output_of r.outputs
+    kept-last : r.step ≡ length ys → new.tableau ≡ r.tableau → output_of new.outputs ≡ output_of r.outputs → new.strings ≡ r.notes.strings → new.reach ≡ r.notes.reach
         → new.checkpoints.items ≡ all_laid K r.laid.items (take m old.checkpoints.items) → IsKeptRun n coins K ys total new
-    kept-last end tableau output copies = record {
+    kept-last end tableau output strings reach copies = record {
       qubits = ap (λ (t : TableauState). t.qubits) tableau ∙ replay.at_step.qubits;
       run = record {
         group = subst (λ t. SameGroup n (stabilises t) (member (point_after n coins ys origin).trace)) (sym tableau) whole.group;
         output = output ∙ whole.output;
       };
       observables = observables;
+      noted =
+          subst (λ x. x) (λ i. IsNoted n coins (take_all r.step ys (omega (arith, end)) i) (sym strings i) (sym output i).free (sym reach i)) replay.at_step.noted;
       checkpoints =
           subst (All (IsCheckpoint n coins ys)) (sym copies)
           (all-laid-all (IsCheckpoint n coins ys) K r.laid.items (take m old.checkpoints.items) replay.checkpoints (front-copies m front));
@@ -210,22 +240,31 @@ module _ (n : ℕ) (coins : ℕ → Bool) (K : ℕ) (xs : List Step) (count : �
             replay.at_step.run
 
     -- at an old copy that it meets
-    kept-joined : (j : ℕ) (d : Checkpoint) → slice_get old.checkpoints.items j ≡ Some d → s.old_end ≤ d.step → moved s.old_end s.new_end d.step ≡ r.step
-        → Meets n r.tableau (output_of r.outputs) old.outputs.records.items d → length ys < 2 ^ 64 → new.tableau ≡ old.tableau
+    kept-joined : (j reach : ℕ) → reach ≡ old.reach → (d : Checkpoint) → slice_get old.checkpoints.items j ≡ Some d → s.old_end ≤ d.step → moved s.old_end s.new_end d.step ≡ r.step
+        → Meets n reach r.tableau (output_of r.outputs) old.outputs.records.items d → length ys < 2 ^ 64 → new.tableau ≡ old.tableau
         → output_of new.outputs ≡ joined (output_of r.outputs) (rest_of d.lengths (output_of old.outputs))
+        → IsSpliced r.notes.strings old.strings (ones (take d.lengths.free old.outputs.free.items)) (ones new.outputs.free.items) new.strings
+        → new.reach ≡ r.notes.reach
         → new.checkpoints.items
         ≡ all_laid K (map (moved_copy (meeting_of (output_of r.outputs) r.step d)) (drop j old.checkpoints.items)) (all_laid K r.laid.items (take m old.checkpoints.items))
         → IsKeptRun n coins K ys total new
-    kept-joined j d here behind place meets few tableau output copies = record {
+    kept-joined j reach reach_is d here behind place meets few tableau output strings new_reach copies = record {
       qubits = ap (λ (t : TableauState). t.qubits) tableau ∙ kept.qubits;
       run = record {
-        group = λ p size. ap (λ t. stabilises t p) tableau ∙ kept.run.group p size ∙ (agree-end n coins xs ys d.step r.step same agree).group p size;
+        group = λ p size. ap (λ t. stabilises t p) tableau ∙ kept.run.group p size ∙ group-end n coins xs ys d.step r.step same future p size;
         output =
             output
             ∙ (λ i. joined (replay.at_step.run.output i) (rest_of (is.lengths i) (kept.run.output i)))
-            ∙ sym (kept-tail n coins xs ys d.step r.step same agree);
+            ∙ sym (kept-tail n coins xs ys d.step r.step same future);
       };
       observables = observables;
+      noted =
+          subst (IsNoted n coins ys new.strings new.outputs.free.items) (sym new_reach)
+          (noted-spliced n coins xs ys d.step r.step same (sym agree.coin)
+          (future-turned n coins (drop d.step xs) (point_after n coins (take d.step xs) origin) (point_after n coins (take r.step ys) origin) future)
+          old.strings r.notes.strings new.strings old.outputs.free.items r.outputs.free.items new.outputs.free.items d.lengths.free old.reach r.notes.reach
+          kept.noted (ap (λ (o : RunOutput). o.free) kept.run.output) replay.at_step.noted (ap (λ (o : RunOutput). o.free) replay.at_step.run.output) raised
+          (ap (λ (l : Lengths). l.free) is.lengths ∙ flags-are-coins n coins (take d.step xs)) (ap (λ (o : RunOutput). o.free) output) strings);
       checkpoints =
           subst (All (IsCheckpoint n coins ys)) (sym all_copies)
           (all-laid-all (IsCheckpoint n coins ys) K (r.laid.items ++ behind_meeting) (take m old.checkpoints.items)
@@ -254,10 +293,15 @@ module _ (n : ℕ) (coins : ℕ → Bool) (K : ℕ) (xs : List Step) (count : �
             ∙ drop-drop (d.step - s.old_end) s.new_end ys
             ∙ ap (λ k. drop k ys) (sym step)
 
-        agree : AgreeAt n (point_after n coins (take d.step xs) origin) (point_after n coins (take r.step ys) origin)
+        agree : AgreeBack n reach (point_after n coins (take d.step xs) origin) (point_after n coins (take r.step ys) origin)
         agree =
-            meets-agree n coins xs (take r.step ys) d r.tableau (output_of r.outputs) old.outputs.records.items is
+            meets-agree n reach coins xs (take r.step ys) d r.tableau (output_of r.outputs) old.outputs.records.items is
             (ap (λ (o : RunOutput). o.records) kept.run.output) replay.at_step.run meets
+
+        future : HaveSameFuture n coins (drop d.step xs) (point_after n coins (take d.step xs) origin) (point_after n coins (take r.step ys) origin)
+        future =
+            future-back n reach coins (drop d.step xs) (point_after n coins (take d.step xs) origin) (point_after n coins (take r.step ys) origin)
+            (near-enough old.reach reach (drop d.step xs) (omega (arith, reach_is)) (All-drop (LooksWithin old.reach) d.step xs kept.noted.near)) agree
 
         meeting : Meeting
         meeting = meeting_of (output_of r.outputs) r.step d
@@ -273,7 +317,7 @@ module _ (n : ℕ) (coins : ℕ → Bool) (K : ℕ) (xs : List Step) (count : �
 
         each_moved : All (λ c. IsCheckpoint n coins ys (moved_copy (meeting_of (output_of r.outputs) r.step d) c)) (drop j old.checkpoints.items)
         each_moved = λ k e lt.
-            checkpoint-moved n coins xs ys d.step r.step same agree (meeting_of (output_of r.outputs) r.step d) (get_or (drop j old.checkpoints.items) k e) refl refl is.lengths
+            checkpoint-moved n coins xs ys d.step r.step same future (meeting_of (output_of r.outputs) r.step d) (get_or (drop j old.checkpoints.items) k e) refl refl is.lengths
             (ap lengths_of replay.at_step.run.output)
             (all-behind K (length xs) d.step j old.checkpoints.items kept.spaced.near
             (subst (λ o. IfSome o (λ c. d.step ≤ c.step)) (sym here) (omega arith)) k e lt).0
@@ -311,32 +355,36 @@ module _ (n : ℕ) (coins : ℕ → Bool) (K : ℕ) (xs : List Step) (count : �
             (sym (map-append (λ c. c.step) r.laid.items (map (moved_copy (meeting_of (output_of r.outputs) r.step d)) (drop j old.checkpoints.items)))))
 
     -- however it ends
-    pub kept-end : (p : Plan) (end : End) (q : Prepared) → p.old_end ≡ s.old_end → p.new_end ≡ s.new_end → p.total ≡ length ys → length ys < 2 ^ 64
+    pub kept-end : (p : Plan) (end : End) (q : Prepared) → p.reach ≡ old.reach → p.old_end ≡ s.old_end → p.new_end ≡ s.new_end → p.total ≡ length ys → length ys < 2 ^ 64
         → IfSome (slice_get old.checkpoints.items p.next) (λ c. s.old_end ≤ c.step)
-        → IsEnd n p r old.checkpoints.items old.outputs.records.items end → IsRest old r.tableau (output_of r.outputs) r.step end (output_of q.outputs) q.rest
+        → IsEnd n p r old.checkpoints.items old.outputs.records.items end
+        → IsRest old r.tableau (output_of r.outputs) r.notes.strings r.step end (output_of q.outputs) q.strings q.rest → q.reach ≡ r.notes.reach
         → reverse q.laid.items ≡ r.laid.items → IsCommitted old q m K new → IsKeptRun n coins K ys total new
-    kept-end p Last q old_end new_end total few next end rest laid committed =
-        kept-last (end ∙ total) (committed.tableau ∙ rest.1) (committed.output ∙ rest.2)
+    kept-end p Last q reach_is old_end new_end total few next end rest reach laid committed =
+        kept-last (end ∙ total) (committed.tableau ∙ rest.1) (committed.output ∙ rest.2) (committed.strings ∙ rest.3) (committed.reach ∙ reach)
         (committed.checkpoints ∙ (λ i. all_laid K (rest.0 i) (all_laid K (laid i) (take m old.checkpoints.items))))
-    kept-end p (Joined j) q old_end new_end total few next end rest laid committed =
-        let found = some-and (λ c. (step_among_new p c ≡ r.step) × Meets n r.tableau (output_of r.outputs) old.outputs.records.items c) (slice_get old.checkpoints.items j) end.1 in
+    kept-end p (Joined j) q reach_is old_end new_end total few next end rest reach laid committed =
+        let found = some-and (λ c. (step_among_new p c ≡ r.step) × Meets n p.reach r.tableau (output_of r.outputs) old.outputs.records.items c) (slice_get old.checkpoints.items j) end.1 in
         let d = found.0 in
-        let is = some-at (IsOldRest old (output_of r.outputs) r.step j (output_of q.outputs) q.rest) old.checkpoints.items j d found.1 rest in
-        kept-joined j d found.1 (some-at (λ c. s.old_end ≤ c.step) old.checkpoints.items j d found.1 (from-drop (λ c. s.old_end ≤ c.step) old.checkpoints.items p.next j end.0 (all-next p.next next)))
+        let is = some-at (IsOldRest old (output_of r.outputs) r.notes.strings r.step j (output_of q.outputs) q.strings q.rest) old.checkpoints.items j d found.1 rest in
+        kept-joined j p.reach reach_is d found.1 (some-at (λ c. s.old_end ≤ c.step) old.checkpoints.items j d found.1 (from-drop (λ c. s.old_end ≤ c.step) old.checkpoints.items p.next j end.0 (all-next p.next next)))
         ((λ i. moved (sym old_end i) (sym new_end i) d.step) ∙ found.2.0) found.2.1 few
         (committed.tableau ∙ is.tableau) (committed.output ∙ is.output)
+        (subst (λ x. x) (λ i. IsSpliced r.notes.strings old.strings (ones (take d.lengths.free old.outputs.free.items)) (ones (sym committed.output i).free) (sym committed.strings i))
+        is.strings)
+        (committed.reach ∙ reach)
         (committed.checkpoints ∙ (λ i. all_laid K (is.copies i) (all_laid K (laid i) (take m old.checkpoints.items))))
 
 -- flags and coins
 
-pub end-flags : (n : ℕ) (p : Plan) (r : Replay) (old : KeptRun) (end : End) (new : RunOutput) (rest : Rest)
-    → IsEnd n p r old.checkpoints.items old.outputs.records.items end → IsRest old r.tableau (output_of r.outputs) r.step end new rest
+pub end-flags : (n : ℕ) (p : Plan) (r : Replay) (old : KeptRun) (end : End) (new : RunOutput) (strings : StringsState) (rest : Rest)
+    → IsEnd n p r old.checkpoints.items old.outputs.records.items end → IsRest old r.tableau (output_of r.outputs) r.notes.strings r.step end new strings rest
     → ones r.outputs.free.items ≤ ones new.free
-end-flags n p r old Last new rest end is = omega (arith, ap (λ (o : RunOutput). ones o.free) is.2)
-end-flags n p r old (Joined j) new rest end is =
-    let found = some-and (λ c. (step_among_new p c ≡ r.step) × Meets n r.tableau (output_of r.outputs) old.outputs.records.items c) (slice_get old.checkpoints.items j) end.1 in
+end-flags n p r old Last new strings rest end is = omega (arith, ap (λ (o : RunOutput). ones o.free) is.2)
+end-flags n p r old (Joined j) new strings rest end is =
+    let found = some-and (λ c. (step_among_new p c ≡ r.step) × Meets n p.reach r.tableau (output_of r.outputs) old.outputs.records.items c) (slice_get old.checkpoints.items j) end.1 in
     let d = found.0 in
-    let old_rest = some-at (IsOldRest old (output_of r.outputs) r.step j new rest) old.checkpoints.items j d found.1 is in
+    let old_rest = some-at (IsOldRest old (output_of r.outputs) r.notes.strings r.step j new strings rest) old.checkpoints.items j d found.1 is in
     omega (arith, ap (λ (o : RunOutput). ones o.free) old_rest.output, ones-append r.outputs.free.items (drop d.lengths.free old.outputs.free.items))
 
 coins-append : (xs ys : List Step) → all_coins_of (xs ++ ys) ≡ all_coins_of xs + all_coins_of ys

@@ -15,6 +15,8 @@ use Rattle.stab_session.specs.inner.Spacing.{IsSpaced}
 use Rattle.stab_run.specs.Cuts.{lengths_of}
 use Rattle.stab_session.specs.inner.Checkpoints.{IsCheckpoint, checkpoint_steps}
 use Rattle.stab_session.specs.inner.Replays.{IsKeptRun, Follows}
+use Rattle.stab_frames.specs.Limits.{most_strings}
+use Rattle.stab_session.proofs.NotedLemmas.{noted-nothing}
 
 -- the run of no steps
 
@@ -23,11 +25,13 @@ first-spaced K s e = subst (λ s. IsSpaced K 0 (s ∷ [])) (sym e) (record { fir
 
 pub kept-nothing : (n : ℕ) (coins : ℕ → Bool) (K : ℕ) (r : KeptRun) (c : Checkpoint) → r.tableau.qubits ≡ n
     → ((p : Signed) → length p.letters ≡ n → stabilises r.tableau p ≡ member [] p) → output_of r.outputs ≡ nothing → r.observables.items ≡ []
-    → r.checkpoints.items ≡ c ∷ [] → c.step ≡ 0 → c.lengths ≡ lengths_of nothing → c.tableau ≡ r.tableau → IsKeptRun n coins K [] 0 r
-kept-nothing n coins K r c qubits zeros empty none one first short same = record {
+    → r.checkpoints.items ≡ c ∷ [] → c.step ≡ 0 → c.lengths ≡ lengths_of nothing → c.tableau ≡ r.tableau
+    → r.strings ≡ record { qubits = n; most = most_strings n; strings = [] } → IsKeptRun n coins K [] 0 r
+kept-nothing n coins K r c qubits zeros empty none one first short same unnoted = record {
   qubits = qubits;
   run = record { group = zeros; output = empty };
   observables = none ∙ ap (λ (o : RunOutput). with_additions o.additions (replicate 0 false)) (sym empty);
+  noted = noted-nothing n coins r.strings r.outputs.free.items r.reach unnoted (ap (λ (o : RunOutput). o.free) empty);
   checkpoints = subst (All (IsCheckpoint n coins [])) (sym one) (All-cons (IsCheckpoint n coins []) c [] (record {
     within = omega arith;
     qubits = ap (λ t. t.qubits) same ∙ qubits;

@@ -1,4 +1,5 @@
 mod PointLemmas
+mod LastBitsLemmas
 mod ReplayLemmas
 mod LaidLemmas
 mod KeptLemmas
@@ -11,3 +12,5 @@ mod PendingLemmas
 mod EditedLemmas
 mod SpacingLemmas
 mod CheckpointLemmas
+mod FramedLemmas
+mod NotedLemmas

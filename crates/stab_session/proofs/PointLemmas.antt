@@ -1,15 +1,18 @@
 -- Points: runs that go on from states on the way, copies of these, and meetings, where two runs come to points of one future.
-use Rattle.std.proofs.Common.{◌≡◌, ℕ, ◌+◌, ◌-◌, ◌^◌, ◌<◌, ◌≤◌, refl, sym, ◌∙◌, ap, subst, Bool, true, false, List, [], ◌∷◌, ◌++◌, append_assoc, append-nil, length, take, drop, arith}
-use Rattle.std.proofs.lemmas.List.{length-append, length-take-le, length-drop, take-append-drop, take-take, take_at, drop_at, drop-take}
+use Rattle.std.proofs.Common.{◌≡◌, ℕ, ◌+◌, ◌-◌, ◌^◌, ◌<◌, ◌≤◌, sym, ◌∙◌, ap, subst, Bool, false, List, ◌++◌, length, take, drop, get_or, nat_lt, arith}
+use Rattle.std.specs.Prelude.{if◌then◌else◌}
+use Rattle.std.proofs.lemmas.List.{length-append, length-take-le, length-drop, take-append-drop, take-take, take_all, drop-take, get_or-drop}
 use Rattle.stab_tableau.specs.Traces.{member}
 use Rattle.stab_tableau.specs.Groups.{SameGroup}
 use Rattle.stab_tableau.specs.Tableaus.{TableauState, stabilises}
-use Rattle.stab_circuit.specs.Steps.{Step, one, two, controlled, collapse, product, detector, observable}
+use Rattle.stab_circuit.specs.Steps.{Step}
 use Rattle.stab_run.specs.declared.records.Lengths.{Lengths}
 use Rattle.stab_session.specs.declared.checkpoint.Checkpoint.{Checkpoint}
 use Rattle.stab_session.specs.declared.checkpoint.Meeting.{Meeting}
-use Rattle.stab_run.specs.Points.{Point, RunOutput, origin, joined, given, coins_of, next_point, point_after, outputs}
+use Rattle.stab_run.specs.Points.{Point, RunOutput, origin, joined, point_after, outputs}
+use Rattle.stab_run.specs.Records.{looked_up}
 use Rattle.stab_run.specs.Laws.{AgreeAt}
+use Rattle.stab_frames.specs.Ends.{AgreeBack}
 use Rattle.stab_run.specs.ProgramStates.{ProgramState, IsAt, IsRun, program_state}
 use Rattle.stab_run.specs.Cuts.{lengths_of, front_of, rest_of}
 use Rattle.stab_session.specs.inner.Checkpoints.{IsRunFromStart, IsCheckpoint, moved, moved_lengths, moved_copy}
@@ -81,35 +84,68 @@ begun-from-start n coins xs ys c t o h same tableau front = record {
     lengths : c.lengths ≡ lengths_of (outputs n coins (take c.step xs) origin)
     lengths = h.lengths ∙ ap (λ zs. lengths_of (outputs n coins zs origin)) (sym same)
 
+-- records that are the same as far back as is looked
+looked-last : (m k : ℕ) (xs ys : List Bool) → length xs ≡ length ys → drop (length xs - m) xs ≡ drop (length xs - m) ys → k ≤ m → looked_up xs k ≡ looked_up ys k
+looked-last m k xs ys same last le =
+    ap (λ b. if nat_lt (length xs) k then false else b) bit
+    ∙ ap (λ l. if nat_lt l k then false else get_or ys (l - k) false) same
+  where
+    place : length xs - k ≡ (length xs - m) + ((length xs - k) - (length xs - m))
+    place = omega arith
+
+    bit : get_or xs (length xs - k) false ≡ get_or ys (length xs - k) false
+    bit =
+        ap (λ j. get_or xs j false) place
+        ∙ sym (get_or-drop (length xs - m) xs ((length xs - k) - (length xs - m)) false)
+        ∙ ap (λ zs. get_or zs ((length xs - k) - (length xs - m)) false) last
+        ∙ get_or-drop (length xs - m) ys ((length xs - k) - (length xs - m)) false
+        ∙ ap (λ j. get_or ys j false) (sym place)
+
 -- a copy of one run that the other meets is at a point of the same future
-pub meets-agree : (n : ℕ) (coins : ℕ → Bool) (xs zs : List Step) (c : Checkpoint) (t : TableauState) (o : RunOutput) (records : List Bool)
-    → IsCheckpoint n coins xs c → records ≡ (outputs n coins xs origin).records → IsRunFromStart n coins zs (program_state t o) → Meets n t o records c
-    → AgreeAt n (point_after n coins (take c.step xs) origin) (point_after n coins zs origin)
-meets-agree n coins xs zs c t o records h kept run meets = record {
+pub meets-agree : (n reach : ℕ) (coins : ℕ → Bool) (xs zs : List Step) (c : Checkpoint) (t : TableauState) (o : RunOutput) (records : List Bool)
+    → IsCheckpoint n coins xs c → records ≡ (outputs n coins xs origin).records → IsRunFromStart n coins zs (program_state t o) → Meets n reach t o records c
+    → AgreeBack n reach (point_after n coins (take c.step xs) origin) (point_after n coins zs origin)
+meets-agree n reach coins xs zs c t o records h kept run meets = record {
   group = λ p size. sym (h.group p size) ∙ sym (meets.group p size) ∙ run.group p size;
   coin =
       sym (flags-are-coins n coins (take c.step xs))
       ∙ sym (ap (λ (l : Lengths). l.free) h.lengths)
       ∙ sym meets.coin
       ∙ shown.coin;
-  records =
-      sym (records-are-records n coins (take c.step xs))
-      ∙ sym (ap (λ (q : RunOutput). q.records) (front-output n coins xs c.step))
-      ∙ (λ i. take (sym (ap (λ (l : Lengths). l.records) h.lengths) i) (sym kept i))
-      ∙ sym meets.records
-      ∙ shown.records;
+  records = λ k le.
+      ap (λ bits. looked_up bits k) (sym old_records)
+      ∙ sym (looked-last reach k o.records (take c.lengths.records records) (meets.count ∙ sym long)
+      (subst (λ l. drop (l - reach) o.records ≡ drop (l - reach) (take c.lengths.records records)) (sym meets.count) meets.records) le)
+      ∙ ap (λ bits. looked_up bits k) shown.records;
 }
   where
     shown : IsAt n (program_state t o) (point_after n coins zs origin)
     shown = shows-from-start n coins zs (program_state t o) run
+
+    old_records : take c.lengths.records records ≡ (point_after n coins (take c.step xs) origin).records
+    old_records =
+        (λ i. take (ap (λ (l : Lengths). l.records) h.lengths i) (kept i))
+        ∙ ap (λ (q : RunOutput). q.records) (front-output n coins xs c.step)
+        ∙ records-are-records n coins (take c.step xs)
+
+    long : length (take c.lengths.records records) ≡ c.lengths.records
+    long =
+        ap length old_records
+        ∙ ap length (sym (records-are-records n coins (take c.step xs)))
+        ∙ sym (ap (λ (l : Lengths). l.records) h.lengths)
 
 -- two runs that come to points of one future before step i of one and step k of the other, and have the same steps from there on
 
 pub take-more : {X : Type 0} (i m : ℕ) (xs : List X) → take (i + m) xs ≡ take i xs ++ take m (drop i xs)
 take-more i m xs = sym (take-append-drop i (take (i + m) xs)) ∙ (λ j. take-take i (i + m) xs (omega arith) j ++ drop-take i m xs j)
 
-module _ (n : ℕ) (coins : ℕ → Bool) (xs ys : List Step) (i k : ℕ) (same : drop i xs ≡ drop k ys)
-    (agree : AgreeAt n (point_after n coins (take i xs) origin) (point_after n coins (take k ys) origin)) where
+-- the first steps, however many, give the same at both points, and lead to the same group
+abbrev pub HaveSameFuture : ℕ → (ℕ → Bool) → List Step → Point → Point → Type 0
+HaveSameFuture n coins back a b =
+    (m : ℕ) → (outputs n coins (take m back) a ≡ outputs n coins (take m back) b)
+    × SameGroup n (member (point_after n coins (take m back) a).trace) (member (point_after n coins (take m back) b).trace)
+
+module _ (n : ℕ) (coins : ℕ → Bool) (xs ys : List Step) (i k : ℕ) (same : drop i xs ≡ drop k ys) where
   old_later : (m : ℕ) → point_after n coins (take (i + m) xs) origin ≡ point_after n coins (take m (drop i xs)) (point_after n coins (take i xs) origin)
   old_later m = ap (λ zs. point_after n coins zs origin) (take-more i m xs) ∙ after-append n coins (take i xs) (take m (drop i xs)) origin
 
@@ -118,79 +154,93 @@ module _ (n : ℕ) (coins : ℕ → Bool) (xs ys : List Step) (i k : ℕ) (same 
       ap (λ zs. point_after n coins zs origin) (take-more k m ys ∙ ap (λ zs. take k ys ++ take m zs) (sym same))
       ∙ after-append n coins (take k ys) (take m (drop i xs)) origin
 
-  old_outputs : (m : ℕ) → outputs n coins (take (i + m) xs) origin
-      ≡ joined (outputs n coins (take i xs) origin) (outputs n coins (take m (drop i xs)) (point_after n coins (take i xs) origin))
-  old_outputs m = ap (λ zs. outputs n coins zs origin) (take-more i m xs) ∙ outputs-append n coins (take i xs) (take m (drop i xs)) origin
-
-  new_outputs : (m : ℕ) → outputs n coins (take (k + m) ys) origin
-      ≡ joined (outputs n coins (take k ys) origin) (outputs n coins (take m (drop i xs)) (point_after n coins (take i xs) origin))
-  new_outputs m =
-      ap (λ zs. outputs n coins zs origin) (take-more k m ys ∙ ap (λ zs. take k ys ++ take m zs) (sym same))
-      ∙ outputs-append n coins (take k ys) (take m (drop i xs)) origin
-      ∙ ap (joined (outputs n coins (take k ys) origin)) (sym (same-future n coins (take m (drop i xs)) _ _ agree).0)
-
-  -- so many steps on they are at points of one future again
-  pub agree-later : (m : ℕ) → AgreeAt n (point_after n coins (take (i + m) xs) origin) (point_after n coins (take (k + m) ys) origin)
-  agree-later m =
+  -- where they agree there, they agree so many steps on
+  pub agree-later : AgreeAt n (point_after n coins (take i xs) origin) (point_after n coins (take k ys) origin)
+      → (m : ℕ) → AgreeAt n (point_after n coins (take (i + m) xs) origin) (point_after n coins (take (k + m) ys) origin)
+  agree-later agree m =
       subst (λ p. AgreeAt n p (point_after n coins (take (k + m) ys) origin)) (sym (old_later m))
       (subst (AgreeAt n (point_after n coins (take m (drop i xs)) (point_after n coins (take i xs) origin))) (sym (new_later m))
       (same-future n coins (take m (drop i xs)) _ _ agree).1)
 
-  -- and so they are behind the last step
-  pub agree-end : AgreeAt n (point_after n coins xs origin) (point_after n coins ys origin)
-  agree-end =
-      subst (λ zs. AgreeAt n (point_after n coins zs origin) (point_after n coins ys origin)) (take-append-drop i xs)
-      (subst (λ zs. AgreeAt n (point_after n coins (take i xs ++ drop i xs) origin) (point_after n coins zs origin))
-      (ap (λ zs. take k ys ++ zs) same ∙ take-append-drop k ys)
-      (subst (λ p. AgreeAt n p (point_after n coins (take k ys ++ drop i xs) origin)) (sym (after-append n coins (take i xs) (drop i xs) origin))
-      (subst (AgreeAt n (point_after n coins (drop i xs) (point_after n coins (take i xs) origin))) (sym (after-append n coins (take k ys) (drop i xs) origin))
-      (same-future n coins (drop i xs) _ _ agree).1)))
+  old_outputs : (m : ℕ) → outputs n coins (take (i + m) xs) origin
+      ≡ joined (outputs n coins (take i xs) origin) (outputs n coins (take m (drop i xs)) (point_after n coins (take i xs) origin))
+  old_outputs m = ap (λ zs. outputs n coins zs origin) (take-more i m xs) ∙ outputs-append n coins (take i xs) (take m (drop i xs)) origin
 
-  -- what the one gives from there on is what the other gives
-  pub kept-tail : outputs n coins ys origin
-      ≡ joined (outputs n coins (take k ys) origin) (rest_of (lengths_of (outputs n coins (take i xs) origin)) (outputs n coins xs origin))
-  kept-tail =
-      cut n coins ys k
-      ∙ ap (joined (outputs n coins (take k ys) origin))
-      (ap (λ zs. outputs n coins zs (point_after n coins (take k ys) origin)) (sym same)
-      ∙ sym (same-future n coins (drop i xs) _ _ agree).0
-      ∙ sym (rest-output n coins xs i))
+  module _ (future : HaveSameFuture n coins (drop i xs) (point_after n coins (take i xs) origin) (point_after n coins (take k ys) origin)) where
+    new_outputs : (m : ℕ) → outputs n coins (take (k + m) ys) origin
+        ≡ joined (outputs n coins (take k ys) origin) (outputs n coins (take m (drop i xs)) (point_after n coins (take i xs) origin))
+    new_outputs m =
+        ap (λ zs. outputs n coins zs origin) (take-more k m ys ∙ ap (λ zs. take k ys ++ take m zs) (sym same))
+        ∙ outputs-append n coins (take k ys) (take m (drop i xs)) origin
+        ∙ ap (joined (outputs n coins (take k ys) origin)) (sym (future m).0)
 
-  -- a copy of the one from there on, moved, is a copy of the other
-  pub checkpoint-moved : (s : Meeting) (c : Checkpoint) → s.old_step ≡ i → s.new_step ≡ k → s.old_lengths ≡ lengths_of (outputs n coins (take i xs) origin)
-      → s.new_lengths ≡ lengths_of (outputs n coins (take k ys) origin) → i ≤ c.step → k ≤ length ys → length ys < 2 ^ 64
-      → IsCheckpoint n coins xs c → IsCheckpoint n coins ys (moved_copy s c)
-  checkpoint-moved s c old new old_lengths new_lengths behind within few h = record {
-    within = omega (arith, place, inside);
-    qubits = h.qubits;
-    group =
-        subst (λ j. SameGroup n (stabilises c.tableau) (member (point_after n coins (take j ys) origin).trace)) (sym place)
-        (λ p size. old_group p size ∙ (agree-later (c.step - i)).group p size);
-    lengths =
-        (λ j. moved_lengths (old_lengths j) (new_lengths j) (shown j))
-        ∙ moved-joined (length (take (k + (c.step - i)) ys)) (outputs n coins (take i xs) origin) (outputs n coins (take k ys) origin)
-        (outputs n coins (take (c.step - i) (drop i xs)) (point_after n coins (take i xs) origin))
-        (omega (arith, length-take-le (k + (c.step - i)) ys inside, inside)) short
-        ∙ ap lengths_of (sym (new_outputs (c.step - i)))
-        ∙ ap (λ j. lengths_of (outputs n coins (take j ys) origin)) (sym place);
-  }
-    where
-      at : c.step ≡ i + (c.step - i)
-      at = omega arith
+    later_group : (m : ℕ) → SameGroup n (member (point_after n coins (take (i + m) xs) origin).trace) (member (point_after n coins (take (k + m) ys) origin).trace)
+    later_group m =
+        subst (λ (p : Point). SameGroup n (member p.trace) (member (point_after n coins (take (k + m) ys) origin).trace)) (sym (old_later m))
+        (subst (λ (p : Point). SameGroup n (member (point_after n coins (take m (drop i xs)) (point_after n coins (take i xs) origin)).trace) (member p.trace)) (sym (new_later m))
+        (future m).1)
 
-      inside : k + (c.step - i) ≤ length ys
-      inside = let w = h.within in omega (arith, ap length same, length-drop i xs, length-drop k ys)
+    whole : take (length (drop i xs)) (drop i xs) ≡ drop i xs
+    whole = take_all (length (drop i xs)) (drop i xs) (omega arith)
 
-      place : moved s.old_step s.new_step c.step ≡ k + (c.step - i)
-      place = omega (arith, inside)
+    -- behind the last step they have the same group
+    pub group-end : SameGroup n (member (point_after n coins xs origin).trace) (member (point_after n coins ys origin).trace)
+    group-end =
+        subst (λ zs. SameGroup n (member (point_after n coins zs origin).trace) (member (point_after n coins ys origin).trace)) (take-append-drop i xs)
+        (subst (λ zs. SameGroup n (member (point_after n coins (take i xs ++ drop i xs) origin).trace) (member (point_after n coins zs origin).trace))
+        (ap (λ zs. take k ys ++ zs) same ∙ take-append-drop k ys)
+        (subst (λ (p : Point). SameGroup n (member p.trace) (member (point_after n coins (take k ys ++ drop i xs) origin).trace)) (sym (after-append n coins (take i xs) (drop i xs) origin))
+        (subst (λ (p : Point). SameGroup n (member (point_after n coins (drop i xs) (point_after n coins (take i xs) origin)).trace) (member p.trace))
+        (sym (after-append n coins (take k ys) (drop i xs) origin))
+        (subst (λ zs. SameGroup n (member (point_after n coins zs (point_after n coins (take i xs) origin)).trace) (member (point_after n coins zs (point_after n coins (take k ys) origin)).trace))
+        whole (future (length (drop i xs))).1))))
 
-      old_group : SameGroup n (stabilises c.tableau) (member (point_after n coins (take (i + (c.step - i)) xs) origin).trace)
-      old_group = subst (λ j. SameGroup n (stabilises c.tableau) (member (point_after n coins (take j xs) origin).trace)) at h.group
+    -- what the one gives from there on is what the other gives
+    pub kept-tail : outputs n coins ys origin
+        ≡ joined (outputs n coins (take k ys) origin) (rest_of (lengths_of (outputs n coins (take i xs) origin)) (outputs n coins xs origin))
+    kept-tail =
+        cut n coins ys k
+        ∙ ap (joined (outputs n coins (take k ys) origin))
+        (ap (λ zs. outputs n coins zs (point_after n coins (take k ys) origin)) (sym same ∙ sym whole)
+        ∙ sym (future (length (drop i xs))).0
+        ∙ ap (λ zs. outputs n coins zs (point_after n coins (take i xs) origin)) whole
+        ∙ sym (rest-output n coins xs i))
 
-      shown : c.lengths
-          ≡ lengths_of (joined (outputs n coins (take i xs) origin) (outputs n coins (take (c.step - i) (drop i xs)) (point_after n coins (take i xs) origin)))
-      shown = h.lengths ∙ ap (λ j. lengths_of (outputs n coins (take j xs) origin)) at ∙ ap lengths_of (old_outputs (c.step - i))
+    -- a copy of the one from there on, moved, is a copy of the other
+    pub checkpoint-moved : (s : Meeting) (c : Checkpoint) → s.old_step ≡ i → s.new_step ≡ k → s.old_lengths ≡ lengths_of (outputs n coins (take i xs) origin)
+        → s.new_lengths ≡ lengths_of (outputs n coins (take k ys) origin) → i ≤ c.step → k ≤ length ys → length ys < 2 ^ 64
+        → IsCheckpoint n coins xs c → IsCheckpoint n coins ys (moved_copy s c)
+    checkpoint-moved s c old new old_lengths new_lengths behind within few h = record {
+      within = omega (arith, place, inside);
+      qubits = h.qubits;
+      group =
+          subst (λ j. SameGroup n (stabilises c.tableau) (member (point_after n coins (take j ys) origin).trace)) (sym place)
+          (λ p size. old_group p size ∙ later_group (c.step - i) p size);
+      lengths =
+          (λ j. moved_lengths (old_lengths j) (new_lengths j) (shown j))
+          ∙ moved-joined (length (take (k + (c.step - i)) ys)) (outputs n coins (take i xs) origin) (outputs n coins (take k ys) origin)
+          (outputs n coins (take (c.step - i) (drop i xs)) (point_after n coins (take i xs) origin))
+          (omega (arith, length-take-le (k + (c.step - i)) ys inside, inside)) short
+          ∙ ap lengths_of (sym (new_outputs (c.step - i)))
+          ∙ ap (λ j. lengths_of (outputs n coins (take j ys) origin)) (sym place);
+    }
+      where
+        at : c.step ≡ i + (c.step - i)
+        at = omega arith
 
-      short : HasAtMost (length (take (k + (c.step - i)) ys))
-          (joined (outputs n coins (take k ys) origin) (outputs n coins (take (c.step - i) (drop i xs)) (point_after n coins (take i xs) origin)))
-      short = subst (HasAtMost (length (take (k + (c.step - i)) ys))) (new_outputs (c.step - i)) (outputs-short n coins (take (k + (c.step - i)) ys) origin)
+        inside : k + (c.step - i) ≤ length ys
+        inside = let w = h.within in omega (arith, ap length same, length-drop i xs, length-drop k ys)
+
+        place : moved s.old_step s.new_step c.step ≡ k + (c.step - i)
+        place = omega (arith, inside)
+
+        old_group : SameGroup n (stabilises c.tableau) (member (point_after n coins (take (i + (c.step - i)) xs) origin).trace)
+        old_group = subst (λ j. SameGroup n (stabilises c.tableau) (member (point_after n coins (take j xs) origin).trace)) at h.group
+
+        shown : c.lengths
+            ≡ lengths_of (joined (outputs n coins (take i xs) origin) (outputs n coins (take (c.step - i) (drop i xs)) (point_after n coins (take i xs) origin)))
+        shown = h.lengths ∙ ap (λ j. lengths_of (outputs n coins (take j xs) origin)) at ∙ ap lengths_of (old_outputs (c.step - i))
+
+        short : HasAtMost (length (take (k + (c.step - i)) ys))
+            (joined (outputs n coins (take k ys) origin) (outputs n coins (take (c.step - i) (drop i xs)) (point_after n coins (take i xs) origin)))
+        short = subst (HasAtMost (length (take (k + (c.step - i)) ys))) (new_outputs (c.step - i)) (outputs-short n coins (take (k + (c.step - i)) ys) origin)

@@ -1,7 +1,7 @@
 -- Replays: a run that goes on from a copy of an earlier one, what it asks of coins, and where it meets another copy.
-use Rattle.std.proofs.Common.{◌≡◌, ℕ, zero, suc, ◌+◌, ◌-◌, ◌<◌, ◌≤◌, ◌↔◌, refl, sym, ◌∙◌, ap, subst, Bool, ◌⊎◌, inl, inr, List, [], ◌∷◌, ◌++◌, All, IfSome, IsSomeAnd, Option, None, Some, slice_get, length, take, drop, arith}
+use Rattle.std.proofs.Common.{◌≡◌, ℕ, zero, suc, ◌+◌, ◌-◌, ◌<◌, ◌≤◌, refl, sym, ◌∙◌, ap, subst, Bool, ◌⊎◌, inl, inr, List, [], ◌∷◌, ◌++◌, All, IfSome, IsSomeAnd, Option, None, Some, slice_get, length, take, drop, arith}
 use Rattle.std.specs.Option.{option_map}
-use Rattle.std.proofs.lemmas.List.{length-take, length-drop, take-append-drop, take_at, take-take, drop-drop, drop-take, map-append}
+use Rattle.std.proofs.lemmas.List.{length-take, take-append-drop, take_at, take-take, drop-drop, map-append}
 use Rattle.std.proofs.lemmas.List.Elements.{All-push}
 use Rattle.std.proofs.lemmas.Bool.{cases_lt}
 use Rattle.std.proofs.lemmas.Option.{none-some, same_Some, IfSome_then}
@@ -18,27 +18,12 @@ use Rattle.stab_run.specs.ProgramStates.{ProgramState, IsAt, IsRun, program_stat
 use Rattle.stab_session.specs.inner.Spacing.{Near, last_of}
 use Rattle.stab_run.specs.Cuts.{lengths_of}
 use Rattle.stab_session.specs.inner.Checkpoints.{IsRunFromStart, IsCheckpoint, checkpoint_steps}
-use Rattle.stab_session.specs.inner.Replays.{IsAtStep, IsReplay, Ascending, Meets, MeetsAt, IsPlacedAt, IsArrival, Misses, EndsSoon, step_among_new, copy_of}
+use Rattle.stab_frames.specs.KeptStrings.{KeepsTrue}
+use Rattle.stab_frames.specs.Lookbacks.{LooksWithin}
+use Rattle.stab_session.specs.inner.Replays.{IsNoted, IsAtStep, IsReplay, Ascending, Meets, MeetsAt, IsPlacedAt, IsArrival, Misses, EndsSoon, step_among_new, copy_of}
 use Rattle.stab_run.proofs.PointLemmas.{flags-are-coins, records-are-records}
+use Rattle.stab_session.proofs.NotedLemmas.{noted-on}
 use Rattle.stab_session.proofs.PointLemmas.{resumed, shows-from-start, take-more}
-
--- two lists that are the same up to a place: one begins the other where it does behind that place
-pub begins-behind : {X : Type 0} (xs ys : List X) (b : ℕ) → b ≤ length xs → take b xs ≡ take b ys
-    → (drop b xs ≡ take (length (drop b xs)) (drop b ys)) ↔ (xs ≡ take (length xs) ys)
-begins-behind xs ys b le same = (to, from)
-  where
-    rest : length xs ≡ b + length (drop b xs)
-    rest = omega (arith, length-drop b xs)
-
-    to : drop b xs ≡ take (length (drop b xs)) (drop b ys) → xs ≡ take (length xs) ys
-    to e =
-        sym (take-append-drop b xs)
-        ∙ (λ i. same i ++ e i)
-        ∙ sym (take-more b (length (drop b xs)) ys)
-        ∙ ap (λ k. take k ys) (sym rest)
-
-    from : xs ≡ take (length xs) ys → drop b xs ≡ take (length (drop b xs)) (drop b ys)
-    from e = ap (drop b) (e ∙ ap (λ k. take k ys) rest) ∙ drop-take b (length (drop b xs)) ys
 
 -- the coins that steps use up
 
@@ -91,8 +76,12 @@ pub run-on : (n : ℕ) (coins : ℕ → Bool) (ys : List Step) (old new : Replay
     → new.tableau.qubits ≡ old.tableau.qubits → length new.string.letters ≡ length old.string.letters
     → new.cursor.all ≡ old.cursor.all → new.cursor.left ≡ drop (new.step - old.step) old.cursor.left
     → IsRun n coins (take (new.step - old.step) old.cursor.left) (program_state old.tableau (output_of old.outputs)) (program_state new.tableau (output_of new.outputs))
+    → length new.notes.string.letters ≡ n → new.notes.strings.qubits ≡ n → new.notes.strings.most ≡ old.notes.strings.most → old.notes.reach ≤ new.notes.reach
+    → All (LooksWithin new.notes.reach) (take (new.step - old.step) old.cursor.left)
+    → KeepsTrue n coins (take (new.step - old.step) old.cursor.left) old.notes.strings new.notes.strings
+    (program_state old.tableau (output_of old.outputs)) (program_state new.tableau (output_of new.outputs))
     → IsAtStep n coins ys new
-run-on n coins ys old new h order within qubits string all left run = record {
+run-on n coins ys old new h order within qubits string all left run scratch size most raised near keeps = record {
   qubits = qubits ∙ h.qubits;
   string = string ∙ h.string;
   all = all ∙ h.all;
@@ -102,6 +91,13 @@ run-on n coins ys old new h order within qubits string all left run = record {
       subst (λ xs. IsRunFromStart n coins xs now) (sym (take-more old.step (new.step - old.step) ys) ∙ ap (λ k. take k ys) further)
       (resumed n coins (take old.step ys) (take (new.step - old.step) (drop old.step ys)) before now h.run
       (subst (λ xs. IsRun n coins (take (new.step - old.step) xs) before now) h.left run));
+  scratch = scratch;
+  noted =
+      subst (λ xs. IsNoted n coins xs new.notes.strings new.outputs.free.items new.notes.reach) (sym (take-more old.step (new.step - old.step) ys) ∙ ap (λ k. take k ys) further)
+      (noted-on n coins (take old.step ys) (take (new.step - old.step) (drop old.step ys)) old.notes.strings new.notes.strings before now old.notes.reach new.notes.reach h.noted
+      (shows-from-start n coins (take old.step ys) before h.run) size most raised
+      (subst (λ xs. All (LooksWithin new.notes.reach) (take (new.step - old.step) xs)) h.left near)
+      (subst (λ xs. KeepsTrue n coins (take (new.step - old.step) xs) old.notes.strings new.notes.strings before now) h.left keeps));
 }
   where
     before : ProgramState
@@ -137,10 +133,10 @@ near-more K a e (b ∷ xs) h = (h.0, h.1, near-more K b e xs h.2)
 
 -- where a run agrees with an old one at a copy, it meets that copy
 
-agree-meets : (n : ℕ) (coins : ℕ → Bool) (xs zs : List Step) (c : Checkpoint) (t : TableauState) (o : RunOutput) (records : List Bool) → IsRunFromStart n coins zs (program_state t o)
+agree-meets : (n reach : ℕ) (coins : ℕ → Bool) (xs zs : List Step) (c : Checkpoint) (t : TableauState) (o : RunOutput) (records : List Bool) → IsRunFromStart n coins zs (program_state t o)
     → IsCheckpoint n coins xs c → take c.lengths.records records ≡ (outputs n coins (take c.step xs) origin).records
-    → AgreeAt n (point_after n coins (take c.step xs) origin) (point_after n coins zs origin) → Meets n t o records c
-agree-meets n coins xs zs c t o records run h kept agree = record {
+    → AgreeAt n (point_after n coins (take c.step xs) origin) (point_after n coins zs origin) → Meets n reach t o records c
+agree-meets n reach coins xs zs c t o records run h kept agree = record {
   group = λ p size. run.group p size ∙ sym (agree.group p size) ∙ sym (h.group p size);
   coin =
       now.coin
@@ -148,7 +144,7 @@ agree-meets n coins xs zs c t o records run h kept agree = record {
       ∙ sym (flags-are-coins n coins (take c.step xs))
       ∙ sym (ap (λ (l : Lengths). l.free) h.lengths);
   count = ap length same ∙ sym (ap (λ (l : Lengths). l.records) h.lengths);
-  records = same ∙ sym kept;
+  records = ap (drop (c.lengths.records - reach)) (same ∙ sym kept);
 }
   where
     now : IsAt n (program_state t o) (point_after n coins zs origin)
@@ -272,7 +268,7 @@ module _ (n : ℕ) (coins : ℕ → Bool) (begin : ℕ) (p : Plan) (ys : List St
   misses r c h place apart xs is_copy kept agree =
       apart (
         place,
-        agree-meets n coins xs (take r.step ys) c r.tableau (output_of r.outputs) old h.run is_copy kept
+        agree-meets n p.reach coins xs (take r.step ys) c r.tableau (output_of r.outputs) old h.run is_copy kept
             (subst (λ k. AgreeAt n (point_after n coins (take c.step xs) origin) (point_after n coins (take k ys) origin)) place agree),
       )
 
@@ -327,6 +323,8 @@ module _ (n : ℕ) (coins : ℕ → Bool) (begin : ℕ) (p : Plan) (ys : List St
           left = h.replay.at_step.left;
           within = h.replay.at_step.within;
           run = h.replay.at_step.run;
+          scratch = h.replay.at_step.scratch;
+          noted = h.replay.at_step.noted;
         };
         checkpoints =
             subst (All (IsCheckpoint n coins ys)) (sym laid)

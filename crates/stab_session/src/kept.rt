@@ -5,31 +5,35 @@ ghost use Rattle.stab_circuit.specs.Steps.{Step, unroll, observables_of, check_o
 ghost use Rattle.stab_circuit.specs.Views.{circuit_items};
 ghost use Rattle.stab_circuit.specs.Cursors.{IsApart};
 ghost use Rattle.stab_run.specs.Records.{ones};
-ghost use Rattle.stab_io.specs.Refusals.{Refuses};
 ghost use Rattle.stab_run.specs.Points.{all_coins_of};
 ghost use Rattle.stab_session.specs.Bounds.{IsCounted};
 ghost use Rattle.stab_run.specs.ProgramStates.{output_of};
+ghost use Rattle.stab_frames.specs.KeptStrings.{front_kept};
 ghost use Rattle.stab_session.specs.inner.Checkpoints.{checkpoint_steps, all_laid};
-ghost use Rattle.stab_session.specs.inner.Replays.{IsKeptRun, IsSameKept, IsSpan, Follows, AgreeBehindSpan};
-ghost use Rattle.stab_session.specs.inner.Prepared.{Begins, HasCopy, IsRest, HasRoom, IsPrepared, copies_behind, IsCommitted};
+ghost use Rattle.stab_session.specs.inner.Replays.{IsKeptRun, IsSameKept, IsSpan, Follows, AgreeBehindSpan, AgreeBackBehindSpan};
+ghost use Rattle.stab_session.specs.inner.Prepared.{Begins, HasCopy, IsSpliced, IsRest, HasRoom, IsPrepared, copies_behind, IsCommitted};
 
 use crate::checkpoint::{Checkpoint, Meeting, count_before, lay_all, take_moved};
 use crate::replay::{End, Plan, Replay};
 use stab_circuit::{Circuit, Cursor, Span};
-use stab_io::{Fault, Refusal};
+use stab_frames::{KeptStrings, RunNotes};
+use stab_io::Refusal;
 use stab_pauli::Pauli;
 use stab_run::{Coins, Outputs, observables};
 use stab_tableau::Tableau;
 use std::alloc::{AllocError, Global};
 
-/// A run that is kept: the state behind the last step, what the steps gave, and copies of the
-/// state on the way, the first before the first step.
+/// A run that is kept: the state behind the last step, what the steps gave, copies of the state on
+/// the way, the first before the first step, and strings that exchange its free outcomes. Its steps
+/// look back to no more records than its reach.
 #[derive(Drop)]
 pub struct KeptRun {
     pub tableau: Tableau,
     pub outputs: Outputs,
     pub observables: Vec<bool>,
     pub checkpoints: Vec<Checkpoint>,
+    pub strings: KeptStrings,
+    pub reach: u32,
 }
 
 /// What a replay leaves, in memory of its own.
@@ -37,6 +41,8 @@ pub struct KeptRun {
 struct Prepared {
     outputs: Outputs,
     observables: Vec<bool>,
+    strings: KeptStrings,
+    reach: u32,
     // The copies laid on the way, the last first.
     laid: Vec<Checkpoint>,
     rest: Rest,
@@ -71,6 +77,26 @@ impl KeptRun {
             outputs,
             observables: Vec::new(alloc),
             checkpoints,
+            strings: KeptStrings::new(alloc, n),
+            reach: 0,
+        })
+    }
+
+    /// The notes of the first steps, which have these flags.
+    ///
+    /// Refusal `OutOfMemory` alone.
+    fn front_notes(&self, alloc: Global, free: &[bool]) -> Result<RunNotes, Refusal>
+        ensures strings { IfOk result (λ notes. notes.strings ≡ front_kept (ones free.now) self.now.strings) }
+        ensures reach { IfOk result (λ notes. notes.reach ≡ self.now.reach) }
+        ensures string { IfOk result (λ notes. length notes.string.letters ≡ self.now.tableau.qubits) }
+        ensures err { IfErr result (λ r. r ≡ OutOfMemory) }
+    {
+        let string = Pauli::identity(alloc, self.tableau.len())?;
+        let strings = self.strings.front(alloc, count_ones(free))?;
+        Ok(RunNotes {
+            strings,
+            reach: self.reach,
+            string,
         })
     }
 
@@ -92,11 +118,13 @@ impl KeptRun {
         let string = Pauli::identity(alloc, self.tableau.len())?;
         let tableau = copy.tableau.tableau(alloc, spare)?;
         let outputs = self.outputs.front(alloc, copy.lengths)?;
+        let notes = self.front_notes(alloc, outputs.free.as_slice())?;
         let cursor = Cursor::at(alloc, circuit, copy.step)?;
         Ok(Replay {
             tableau,
             string,
             outputs,
+            notes,
             cursor,
             step: copy.step,
             applied: 0,
@@ -133,7 +161,7 @@ impl KeptRun {
         ensures applied { IfOk result (λ applied. applied ≤ (length (unroll (circuit_items circuit.now)) - span.first) + stride) }
         ensures few { IfOk result (λ applied. (xs : List Step) (count far : ℕ) → IsKeptRun self.old.tableau.qubits (C.sequence coins.old) stride xs count self.old → IsSpan xs (unroll (circuit_items circuit.now)) span → AgreeBehindSpan self.old.tableau.qubits (C.sequence coins.old) xs (unroll (circuit_items circuit.now)) span far → applied ≤ ((span.new_end - span.first) + 2 * stride) + far) }
         ensures at_least { IfOk result (λ applied. span.new_end ≤ span.first + applied) }
-        ensures counted { IfOk result (λ applied. (xs : List Step) (count : ℕ) → IsKeptRun self.old.tableau.qubits (C.sequence coins.old) stride xs count self.old → IsSpan xs (unroll (circuit_items circuit.now)) span → IsCounted (AgreeBehindSpan self.old.tableau.qubits (C.sequence coins.old) xs (unroll (circuit_items circuit.now)) span) (checkpoint_steps self.old.checkpoints.items) span.first span.old_end span.new_end (length (unroll (circuit_items circuit.now))) applied) }
+        ensures counted { IfOk result (λ applied. (xs : List Step) (count : ℕ) → IsKeptRun self.old.tableau.qubits (C.sequence coins.old) stride xs count self.old → IsSpan xs (unroll (circuit_items circuit.now)) span → IsCounted (AgreeBehindSpan self.old.tableau.qubits (C.sequence coins.old) xs (unroll (circuit_items circuit.now)) span) (AgreeBackBehindSpan self.old.tableau.qubits (C.sequence coins.old) xs (unroll (circuit_items circuit.now)) span) (checkpoint_steps self.old.checkpoints.items) span.first span.old_end span.new_end (length (unroll (circuit_items circuit.now))) applied) }
         ensures err { IfErr result (λ r. r ≡ OutOfMemory) }
     {
         let before = count_before(self.checkpoints.as_slice(), span.first + 1);
@@ -145,6 +173,7 @@ impl KeptRun {
             new_end: span.new_end,
             next: count_before(self.checkpoints.as_slice(), span.old_end).max(before),
             base: replay.outputs.records.len(),
+            reach: self.reach,
         };
         let end = replay.follow(
             alloc,
@@ -169,6 +198,7 @@ impl KeptRun {
         spare: &mut Option<Tableau>,
     ) -> Result<Prepared, Refusal>
         requires in_range { HasCopy self.old.checkpoints.items end }
+        requires same_length { replay.notes.strings.qubits ≡ self.old.strings.qubits }
         ensures unchanged { IsSameKept self.new self.old }
         ensures prepared { IfOk result (IsPrepared self.old replay.entry count end) }
         ensures room { IfOk result (λ p. HasRoom p.rest self.new.checkpoints.items) }
@@ -178,36 +208,50 @@ impl KeptRun {
         let Replay {
             tableau,
             mut outputs,
+            notes,
             mut laid,
             step,
             ..
         } = replay;
-        let rest = self.rest(alloc, tableau, &mut outputs, step, end, spare)?;
+        let RunNotes {
+            mut strings,
+            reach,
+            ..
+        } = notes;
+        let rest = self.rest(alloc, tableau, &mut outputs, &mut strings, step, end, spare)?;
         let observables = observables(alloc, count, outputs.additions.as_slice())?;
         self.checkpoints.reserve(laid.len())?;
         laid.reverse();
         Ok(Prepared {
             outputs,
             observables,
+            strings,
+            reach,
             laid,
             rest,
         })
     }
 
-    /// What comes behind a replay that ended before a step with this tableau and these outputs, to
-    /// which the outputs behind it are appended. A tableau that is not needed is the next spare.
+    /// What comes behind a replay that ended before a step with this tableau, these outputs and
+    /// these strings, to which those behind it are appended. A tableau that is not needed is the next
+    /// spare.
+    ///
+    /// Refusal `OutOfMemory` alone.
     fn rest(
         &self,
         alloc: Global,
         tableau: Tableau,
         outputs: &mut Outputs,
+        strings: &mut KeptStrings,
         step: usize,
         end: End,
         spare: &mut Option<Tableau>,
-    ) -> Result<Rest, AllocError>
+    ) -> Result<Rest, Refusal>
         requires in_range { HasCopy self.now.checkpoints.items end }
-        ensures rest { IfOk result (IsRest self.now tableau (output_of outputs.old) step end (output_of outputs.new)) }
+        requires same_length { strings.old.qubits ≡ self.now.strings.qubits }
+        ensures rest { IfOk result (IsRest self.now tableau (output_of outputs.old) strings.old step end (output_of outputs.new) strings.new) }
         ensures room { IfOk result (λ rest. HasRoom rest self.now.checkpoints.items) }
+        ensures err { IfErr result (λ r. r ≡ OutOfMemory) }
     {
         match end {
             End::Last => Ok(Rest::Nothing(tableau)),
@@ -220,11 +264,40 @@ impl KeptRun {
                     new_lengths: outputs.lengths(),
                 };
                 outputs.append_rest(&self.outputs, copy.lengths)?;
+                self.append_strings(alloc, strings, copy.lengths.free, outputs.free.as_slice())?;
                 let room = Vec::with_capacity(alloc, self.checkpoints.len() - number)?;
                 *spare = Some(tableau);
                 Ok(Rest::Old(number, meeting, room))
             }
         }
+    }
+
+    /// Appends the strings of free outcomes from this coin number on to those before, in a run with
+    /// these flags.
+    ///
+    /// Refusal `OutOfMemory` alone.
+    fn append_strings(
+        &self,
+        alloc: Global,
+        strings: &mut KeptStrings,
+        coin: usize,
+        free: &[bool],
+    ) -> Result<(), Refusal>
+        requires same_length { strings.old.qubits ≡ self.now.strings.qubits }
+        ensures spliced { OnOk result (IsSpliced strings.old self.now.strings (ones (take coin self.now.outputs.free.items)) (ones free.now) strings.new) }
+        ensures err { IfErr result (λ r. r ≡ OutOfMemory) }
+    {
+        let (before, _) = self
+            .outputs
+            .free
+            .as_slice()
+            .split_at(coin.min(self.outputs.free.len()));
+        strings.append_rest(alloc, &self.strings, count_ones(before))?;
+        // Where strings were missing, none may be put behind those that are there.
+        if strings.len() < count_ones(free) {
+            strings.close();
+        }
+        Ok(())
     }
 
     /// Puts what was prepared in place. It takes no memory. A tableau that is replaced is the next
@@ -244,11 +317,15 @@ impl KeptRun {
         let Prepared {
             outputs,
             observables,
+            strings,
+            reach,
             mut laid,
             rest,
         } = prepared;
         self.outputs = outputs;
         self.observables = observables;
+        self.strings = strings;
+        self.reach = reach;
         match rest {
             Rest::Nothing(tableau) => {
                 *spare = Some(std::mem::replace(&mut self.tableau, tableau));
@@ -269,6 +346,8 @@ impl KeptRun {
         ensures tableau { self.new.tableau ≡ self.old.tableau }
         ensures output { output_of self.new.outputs ≡ output_of self.old.outputs }
         ensures observables { self.new.observables.items ≡ self.old.observables.items }
+        ensures strings { self.new.strings ≡ self.old.strings }
+        ensures reach { self.new.reach ≡ self.old.reach }
         ensures checkpoints { self.new.checkpoints.items ≡ all_laid stride (reverse laid.old.items) (take before self.old.checkpoints.items) }
         ensures shorter { length self.new.checkpoints.items ≤ before + length laid.old.items }
         ensures capacity { vec_capacity self.new.checkpoints ≡ vec_capacity self.old.checkpoints }
@@ -278,53 +357,13 @@ impl KeptRun {
     }
 }
 
-/// Runs a circuit once on n qubits, at most 1,024, and keeps the run.
-///
-/// Refused as `Circuit::check` refuses, else `OutOfMemory`, always with line 0.
-pub fn run_kept<C: Coins>(
-    alloc: Global,
-    circuit: &Circuit,
-    n: usize,
-    stride: usize,
-    coins: &mut C,
-) -> Result<KeptRun, Fault>
-    requires in_range { n ≤ most_qubits }
-    requires stride { 1 ≤ stride }
-    ensures kept { IfOk result (IsKeptRun n (C.sequence coins.old) stride (unroll (circuit_items circuit.now)) (observables_of (circuit_items circuit.now))) }
-    ensures apart { OnOk result (All IsApart (unroll (circuit_items circuit.now))) }
-    ensures refused { Refuses result (check_within n (circuit_items circuit.now)) }
-    ensures same_coins { C.sequence coins.new ≡ C.sequence coins.old }
-    ensures asks { C.asks coins.new ≤ C.asks coins.old + all_coins_of (unroll (circuit_items circuit.now)) }
-    ensures asks_free { IfOk result (λ r. C.asks coins.new ≤ C.asks coins.old + ones r.outputs.free.items) }
+/// How many bits are 1.
+fn count_ones(bits: &[bool]) -> usize
+    ensures value { result ≡ ones bits.now }
 {
-    circuit.check(n)?;
-    run_checked(alloc, circuit, n, stride, coins).map_err(Fault::whole)
-}
-
-/// Runs a circuit that was checked: an edit that puts all of its steps in.
-fn run_checked<C: Coins>(
-    alloc: Global,
-    circuit: &Circuit,
-    n: usize,
-    stride: usize,
-    coins: &mut C,
-) -> Result<KeptRun, Refusal>
-    requires in_range { n ≤ most_qubits }
-    requires stride { 1 ≤ stride }
-    requires checked { check_within n (circuit_items circuit.now) ≡ None }
-    ensures kept { IfOk result (IsKeptRun n (C.sequence coins.old) stride (unroll (circuit_items circuit.now)) (observables_of (circuit_items circuit.now))) }
-    ensures apart { OnOk result (All IsApart (unroll (circuit_items circuit.now))) }
-    ensures same_coins { C.sequence coins.new ≡ C.sequence coins.old }
-    ensures asks { C.asks coins.new ≤ C.asks coins.old + all_coins_of (unroll (circuit_items circuit.now)) }
-    ensures asks_free { IfOk result (λ r. C.asks coins.new ≤ C.asks coins.old + ones r.outputs.free.items) }
-    ensures err { IfErr result (λ r. r ≡ OutOfMemory) }
-{
-    let span = Span {
-        first: 0,
-        old_end: 0,
-        new_end: circuit.steps(),
-    };
-    let mut kept = KeptRun::new(alloc, n)?;
-    kept.follow(alloc, circuit, span, stride, coins, &mut None)?;
-    Ok(kept)
+    let mut count = 0;
+    for bit in bits {
+        count += usize::from(*bit);
+    }
+    count
 }

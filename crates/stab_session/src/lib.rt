@@ -5,6 +5,7 @@
 //! - `checkpoint`: copies of the state on the way through a run, and where they are kept.
 //! - `replay`: a run from a copy on, up to a copy of an older run that it meets.
 //! - `kept`: a run that is kept with its copies, and follows the edits of its circuit.
+//! - `opening`: the run of a circuit, kept for the first time.
 //! - `pending`: edits of a circuit that can be taken back.
 //! - `session`: a circuit with what its run gives, to be read and edited.
 //!
@@ -20,6 +21,7 @@
 
 mod checkpoint;
 mod kept;
+mod opening;
 mod pending;
 mod replay;
 mod session;

@@ -1,4 +1,4 @@
-ghost use Rattle.std.specs.Prelude.{◌≡◌, ◌+◌, ◌*◌, ◌<◌, ◌≤◌, ◌^◌, ◌↔◌, [], ◌∷◌, ◌++◌, All, IsTrue, OnOk, IfOk, IfErr, length, take, drop};
+ghost use Rattle.std.specs.Prelude.{◌≡◌, ◌+◌, ◌-◌, ◌*◌, ◌<◌, ◌≤◌, ◌^◌, ◌↔◌, [], ◌∷◌, ◌++◌, All, IsTrue, OnOk, IfOk, IfErr, length, take, drop};
 ghost use Rattle.stab_io.specs.declared.refusal.Refusal.TheVariants.{OutOfMemory};
 ghost use Rattle.stab_tableau.specs.Groups.{SameGroup};
 ghost use Rattle.stab_tableau.specs.Tableaus.{stabilises};
@@ -10,11 +10,12 @@ ghost use Rattle.stab_session.specs.inner.Replays.{IsAtStep, IsReplay, Ascending
 
 use crate::checkpoint::{Checkpoint, shifted};
 use stab_circuit::Cursor;
+use stab_frames::{RunNotes, run_noting};
 use stab_io::Refusal;
 use stab_pauli::Pauli;
-use stab_run::{Coins, Outputs, run_steps};
+use stab_run::{Coins, Outputs};
 use stab_tableau::{CompactTableau, Tableau};
-use std::alloc::{AllocError, Global};
+use std::alloc::Global;
 
 /// A run from some step on, on its way.
 #[derive(Drop)]
@@ -23,6 +24,8 @@ pub struct Replay<'a> {
     // A string on the tableau's qubits, for products to be written into.
     pub string: Pauli,
     pub outputs: Outputs,
+    /// What it notes of its steps, from the first on.
+    pub notes: RunNotes,
     pub cursor: Cursor<'a>,
     /// How many steps of the circuit are behind.
     pub step: usize,
@@ -45,6 +48,8 @@ pub struct Plan {
     pub next: usize,
     /// So many records are those of the old run.
     pub base: usize,
+    /// The old steps look back to no more records than so many.
+    pub reach: u32,
 }
 
 /// How a replay ended.
@@ -102,7 +107,9 @@ impl Plan {
 
 impl<'a> Replay<'a> {
     /// Carries out the steps up to one.
-    fn run_to<C: Coins>(&mut self, coins: &mut C, stop: usize) -> Result<(), AllocError>
+    ///
+    /// Refusal `OutOfMemory` alone.
+    fn run_to<C: Coins>(&mut self, alloc: Global, coins: &mut C, stop: usize) -> Result<(), Refusal>
         requires begun { IsAtStep self.old.tableau.qubits (C.sequence coins.old) self.old.cursor.all self.old }
         requires fits { All (StepFits self.old.tableau.qubits) self.old.cursor.all }
         requires order { self.old.step ≤ stop }
@@ -114,13 +121,16 @@ impl<'a> Replay<'a> {
         ensures same_coins { C.sequence coins.new ≡ C.sequence coins.old }
         ensures at_step { OnOk result (IsAtStep self.old.tableau.qubits (C.sequence coins.old) self.old.cursor.all self.new) }
         ensures step { OnOk result (self.new.step ≡ stop) }
+        ensures raised { self.old.notes.reach ≤ self.new.notes.reach }
         ensures records { OnOk result (self.old.outputs.records.items ≡ take (length self.old.outputs.records.items) self.new.outputs.records.items) }
         ensures counted { OnOk result (self.new.applied + self.old.step ≡ self.old.applied + stop) }
         ensures asks { C.asks coins.new + self.old.step ≤ C.asks coins.old + stop }
         ensures asks_free { OnOk result (C.asks coins.new + ones self.old.outputs.free.items ≤ C.asks coins.old + ones self.new.outputs.free.items) }
         ensures asked { C.asks coins.new + all_coins_of (drop stop self.old.cursor.all) ≤ C.asks coins.old + all_coins_of (drop self.old.step self.old.cursor.all) }
+        ensures err { IfErr result (λ r. r ≡ OutOfMemory) }
     {
-        run_steps(
+        run_noting(
+            alloc,
             &mut self.tableau,
             &mut self.string,
             coins,
@@ -128,6 +138,7 @@ impl<'a> Replay<'a> {
             &mut self.cursor,
             stop - self.step,
             &mut self.applied,
+            &mut self.notes,
         )?;
         self.step = stop;
         Ok(())
@@ -149,7 +160,8 @@ impl<'a> Replay<'a> {
     }
 
     /// Whether the replay meets an old copy, whose run has these records, the first of which are
-    /// the same: what is cheap to compare comes first.
+    /// the same, and whose steps look back no further than its reach: what is cheap to compare
+    /// comes first.
     ///
     /// Refusal `OutOfMemory` alone.
     fn meets(
@@ -158,18 +170,24 @@ impl<'a> Replay<'a> {
         copy: &Checkpoint,
         records: &[bool],
         base: usize,
+        reach: u32,
         spare: &mut Option<Tableau>,
     ) -> Result<bool, Refusal>
         requires same_qubits { copy.now.tableau.qubits ≡ self.old.tableau.qubits }
         requires base { base ≤ length self.old.outputs.records.items }
         requires same_records { take base self.old.outputs.records.items ≡ take base records.now }
         ensures unchanged { self.new ≡ self.old }
-        ensures value { IfOk result (λ meets. IsTrue meets ↔ Meets self.old.tableau.qubits self.old.tableau (output_of self.old.outputs) records.now copy.now) }
+        ensures value { IfOk result (λ meets. IsTrue meets ↔ Meets self.old.tableau.qubits reach self.old.tableau (output_of self.old.outputs) records.now copy.now) }
         ensures err { IfErr result (λ r. r ≡ OutOfMemory) }
     {
         let alike = self.outputs.free.len() == copy.lengths.free
             && self.outputs.records.len() == copy.lengths.records
-            && same_behind(self.outputs.records.as_slice(), records, base);
+            && same_last(
+                self.outputs.records.as_slice(),
+                records,
+                base,
+                reach as usize,
+            );
         if !alike {
             return Ok(false);
         }
@@ -197,7 +215,7 @@ impl<'a> Replay<'a> {
         ensures err { IfErr result (λ r. r ≡ OutOfMemory) }
     {
         let placed = plan.place(copies, next) == Some(self.step);
-        if placed && self.meets(alloc, &copies[next], records, plan.base, spare)? {
+        if placed && self.meets(alloc, &copies[next], records, plan.base, plan.reach, spare)? {
             Ok(Arrival::Met)
         } else if self.step == plan.total {
             Ok(Arrival::Behind)
@@ -232,6 +250,7 @@ impl<'a> Replay<'a> {
         ensures all { self.new.cursor.all ≡ self.old.cursor.all }
         ensures qubits { self.new.tableau.qubits ≡ self.old.tableau.qubits }
         ensures replay { OnOk result (IsReplay self.old.tableau.qubits (C.sequence coins.old) plan.stride self.old.step self.old.cursor.all self.new) }
+        ensures raised { OnOk result (self.old.notes.reach ≤ self.new.notes.reach) }
         ensures counted { OnOk result (self.new.applied + self.old.step ≡ self.new.step) }
         ensures asks { OnOk result (C.asks coins.new + self.old.step ≤ C.asks coins.old + self.new.step) }
         ensures asks_free { OnOk result (C.asks coins.new + ones self.old.outputs.free.items ≤ C.asks coins.old + ones self.new.outputs.free.items) }
@@ -246,7 +265,7 @@ impl<'a> Replay<'a> {
         let mut spare: Option<Tableau> = None;
         loop {
             let stop = plan.stop(self.step, plan.place(copies, next));
-            self.run_to(coins, stop)?;
+            self.run_to(alloc, coins, stop)?;
             match self.arrive(alloc, copies, records, plan, next, &mut spare)? {
                 Arrival::Met => return Ok(End::Joined(next)),
                 Arrival::Behind => return Ok(End::Last),
@@ -279,6 +298,19 @@ fn has_group_of(
     let same = tableau.same_group(&mut other);
     *spare = Some(other);
     Ok(same)
+}
+
+/// Whether the last bits of a list, so many, stand at their places in another one, where both have the
+/// same bits before the base.
+fn same_last(bits: &[bool], others: &[bool], base: usize, reach: usize) -> bool
+    requires base { base ≤ length bits.now }
+    requires same { take base bits.now ≡ take base others.now }
+    ensures value { IsTrue result ↔ (drop (length bits.now - reach) bits.now ≡ drop (length bits.now - reach) (take (length bits.now) others.now)) }
+{
+    let from = bits.len().saturating_sub(reach);
+    let (_, last) = bits.split_at(from);
+    let (_, others) = others.split_at(from.min(others.len()));
+    same_behind(last, others, base.saturating_sub(from))
 }
 
 /// Whether a list goes on behind so many bits, which are the same, as another one begins.

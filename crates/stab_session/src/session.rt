@@ -1,6 +1,7 @@
 mod edits;
 
-use crate::kept::{KeptRun, run_kept};
+use crate::kept::KeptRun;
+use crate::opening::run_kept;
 pub use edits::Report;
 use stab_circuit::Circuit;
 use stab_io::{Fault, Refusal};

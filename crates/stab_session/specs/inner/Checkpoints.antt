@@ -1,6 +1,6 @@
 -- Checkpoints: copies of the state on the way through a run, with how long its lists were there.
 -- Source: this project's own.
-use Rattle.std.specs.Prelude.{◌≡◌, ℕ, ◌+◌, ◌-◌, ◌^◌, ◌≤◌, min, nat_le, Bool, List, [], ◌∷◌, length, take, drop, map, if◌then◌else◌}
+use Rattle.std.specs.Prelude.{◌≡◌, ℕ, ◌+◌, ◌-◌, ◌^◌, ◌≤◌, min, nat_le, Bool, List, [], ◌∷◌, length, take, map, if◌then◌else◌}
 use Rattle.stab_tableau.specs.Traces.{member}
 use Rattle.stab_tableau.specs.Groups.{SameGroup}
 use Rattle.stab_tableau.specs.Tableaus.{stabilises}
@@ -8,7 +8,7 @@ use Rattle.stab_circuit.specs.Steps.{Step}
 use Rattle.stab_run.specs.declared.records.Lengths.{Lengths}
 use Rattle.stab_session.specs.declared.checkpoint.Checkpoint.{Checkpoint}
 use Rattle.stab_session.specs.declared.checkpoint.Meeting.{Meeting}
-use Rattle.stab_run.specs.Points.{RunOutput, origin, point_after, outputs}
+use Rattle.stab_run.specs.Points.{origin, point_after, outputs}
 use Rattle.stab_run.specs.ProgramStates.{ProgramState}
 use Rattle.stab_run.specs.Cuts.{lengths_of}
 

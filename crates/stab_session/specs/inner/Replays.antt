@@ -15,16 +15,30 @@ use Rattle.stab_session.specs.declared.kept.KeptRun.{KeptRun}
 use Rattle.stab_circuit.specs.declared.edit.Span.{Span}
 use Rattle.stab_run.specs.Points.{RunOutput, origin, point_after, outputs, with_additions}
 use Rattle.stab_run.specs.Laws.{AgreeAt}
+use Rattle.stab_session.specs.Bounds.{AgreeAsFarAsLooked}
 use Rattle.stab_run.specs.ProgramStates.{program_state, output_of}
 use Rattle.stab_session.specs.inner.Spacing.{IsSpaced, Near}
 use Rattle.stab_run.specs.Cuts.{lengths_of}
+use Rattle.stab_frames.specs.Limits.{most_strings}
+use Rattle.stab_frames.specs.KeptStrings.{StringsState, IsNumbered, AreTrue, note_at}
+use Rattle.stab_frames.specs.Lookbacks.{LooksWithin}
 use Rattle.stab_session.specs.inner.Checkpoints.{IsRunFromStart, IsCheckpoint, checkpoint_steps, moved}
+
+-- strings that were kept of the run of these steps, which has these flags, exchange its free outcomes; and the steps look back to
+-- no more records than the reach
+pub record IsNoted (n : ℕ) (coins : ℕ → Bool) (xs : List Step) (strings : StringsState) (free : List Bool) (reach : ℕ) : Type 0 where
+  pub size : strings.qubits ≡ n
+  pub within : strings.most ≤ most_strings n
+  pub numbered : IsNumbered strings free
+  pub are_true : AreTrue n coins (note_at strings.strings free) xs origin
+  pub near : All (LooksWithin reach) xs
 
 -- what is kept is the run of these steps, with so many observables, and copies at most K steps apart
 pub record IsKeptRun (n : ℕ) (coins : ℕ → Bool) (K : ℕ) (xs : List Step) (count : ℕ) (r : KeptRun) : Type 0 where
   pub qubits : r.tableau.qubits ≡ n
   pub run : IsRunFromStart n coins xs (program_state r.tableau (output_of r.outputs))
   pub observables : r.observables.items ≡ with_additions r.outputs.additions.items (replicate count false)
+  pub noted : IsNoted n coins xs r.strings r.outputs.free.items r.reach
   pub checkpoints : All (IsCheckpoint n coins xs) r.checkpoints.items
   pub spaced : IsSpaced K (length xs) (checkpoint_steps r.checkpoints.items)
 
@@ -33,6 +47,8 @@ pub record IsSameKept (a b : KeptRun) : Type 0 where
   pub tableau : a.tableau ≡ b.tableau
   pub output : output_of a.outputs ≡ output_of b.outputs
   pub observables : a.observables.items ≡ b.observables.items
+  pub strings : a.strings ≡ b.strings
+  pub reach : a.reach ≡ b.reach
   pub checkpoints : a.checkpoints.items ≡ b.checkpoints.items
 
 -- two lists of steps are the same before one step, and behind another of each
@@ -56,6 +72,11 @@ abbrev pub AgreeBehindSpan : ℕ → (ℕ → Bool) → List Step → List Step 
 AgreeBehindSpan n coins xs ys s far =
     AgreeAt n (point_after n coins (take (s.old_end + far) xs) origin) (point_after n coins (take (s.new_end + far) ys) origin)
 
+-- and so they have the same records as far back as the steps behind look, where these differ before that
+abbrev pub AgreeBackBehindSpan : ℕ → (ℕ → Bool) → List Step → List Step → Span → ℕ → Type 0
+AgreeBackBehindSpan n coins xs ys s far =
+    AgreeAsFarAsLooked n (drop (s.new_end + far) ys) (point_after n coins (take (s.old_end + far) xs) origin) (point_after n coins (take (s.new_end + far) ys) origin)
+
 -- where an old copy stands among the new steps
 abbrev pub step_among_new : Plan → Checkpoint → ℕ
 step_among_new p c = moved p.old_end p.new_end c.step
@@ -74,6 +95,8 @@ pub record IsAtStep (n : ℕ) (coins : ℕ → Bool) (ys : List Step) (r : Repla
   pub left : r.cursor.left ≡ drop r.step ys
   pub within : r.step ≤ length ys
   pub run : IsRunFromStart n coins (take r.step ys) (program_state r.tableau (output_of r.outputs))
+  pub scratch : length r.notes.string.letters ≡ n
+  pub noted : IsNoted n coins (take r.step ys) r.notes.strings r.outputs.free.items r.notes.reach
 
 -- a replay that began at a step has come so far, and laid copies on its way
 pub record IsReplay (n : ℕ) (coins : ℕ → Bool) (K begin : ℕ) (ys : List Step) (r : Replay) : Type 0 where
@@ -86,13 +109,13 @@ abbrev pub Ascending : Plan → ℕ → List Checkpoint → Type 0
 Ascending p step [] = step ≤ p.total
 Ascending p step (c ∷ more) = (step ≤ step_among_new p c) × Ascending p (step_among_new p c) more
 
--- where an old copy is of a state that a replay has come to: the same strings stabilise, and the number of the next coin and the
--- records are the same
-pub record Meets (n : ℕ) (t : TableauState) (o : RunOutput) (old : List Bool) (c : Checkpoint) : Type 0 where
+-- where an old copy is of a state that a replay has come to: the same strings stabilise, and the number of the next coin, that of the
+-- records and the newest of them are the same
+pub record Meets (n reach : ℕ) (t : TableauState) (o : RunOutput) (old : List Bool) (c : Checkpoint) : Type 0 where
   pub group : SameGroup n (stabilises t) (stabilises c.tableau)
   pub coin : length o.free ≡ c.lengths.free
   pub count : length o.records ≡ c.lengths.records
-  pub records : o.records ≡ take c.lengths.records old
+  pub records : drop (c.lengths.records - reach) o.records ≡ drop (c.lengths.records - reach) (take c.lengths.records old)
 
 -- an old copy stands at this step among the new ones
 abbrev pub IsPlacedAt : Plan → List Checkpoint → ℕ → ℕ → Type 0
@@ -104,7 +127,7 @@ copy_of r = record { step = r.step; lengths = lengths_of (output_of r.outputs); 
 
 -- a replay is at the place of an old copy, and meets it
 abbrev pub MeetsAt : ℕ → Plan → Replay → List Bool → Checkpoint → Type 0
-MeetsAt n p r records c = (step_among_new p c ≡ r.step) × Meets n r.tableau (output_of r.outputs) records c
+MeetsAt n p r records c = (step_among_new p c ≡ r.step) × Meets n p.reach r.tableau (output_of r.outputs) records c
 
 -- what a replay comes to at the step where it stops: the old copy that may be met next, or the last step, or neither, and which copy
 -- may be met then

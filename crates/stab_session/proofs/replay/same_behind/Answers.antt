@@ -2,7 +2,7 @@ use Rattle.std.proofs.Common.{subst, ◌≡◌, length, take, List, Bool}
 use Rattle.std.specs.Bool.{Decides}
 use Rattle.std.specs.Cmp.{booleans_Decides}
 use Rattle.std.proofs.lemmas.Slice.Eq.{slice_eq-Decides}
-use Rattle.stab_session.proofs.ReplayLemmas.{begins-behind}
+use Rattle.stab_session.proofs.LastBitsLemmas.{begins-behind}
 use Rattle.stab_session.proofs.replay.same_behind.Goals as goal
 
 pub returns : goal.returns

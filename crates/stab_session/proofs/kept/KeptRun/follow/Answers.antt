@@ -41,8 +41,8 @@ begun : (g : Over) (c : In_ok-replay g) → length (unroll (circuit_items c.args
     c.count_before-before.result c.in_ok-replay.replay
 begun g c few first = has-begun c.requires.follows few first c.in_ok-replay.replay c.in_ok-replay.ensures.begins
 
-abbrev planned : (total stride : ℕ) (s : Span) (next base : ℕ) → Plan
-planned total stride s next base = record { total = total; stride = stride; old_end = s.old_end; new_end = s.new_end; next = next; base = base }
+abbrev planned : (total stride : ℕ) (s : Span) (next base reach : ℕ) → Plan
+planned total stride s next base reach = record { total = total; stride = stride; old_end = s.old_end; new_end = s.new_end; next = next; base = base; reach = reach }
 
 -- no more coins are asked for than all steps use up
 asked : (g : Over) (c : After-follow g) → c.in_ok-replay.replay.cursor.all ≡ unroll (circuit_items c.args.circuit.now)
@@ -60,12 +60,12 @@ end_of : (g : Over) (c : In_ok-end g)
     c.count_before-before.result c.in_ok-replay.replay
     → IsCount c.args.span.old_end c.args.self.now.checkpoints.items c.count_before.result
     → HasEnded c.args.self.now.tableau.qubits (g.C.Coins.sequence c.args.coins.now) c.args.stride (unroll (circuit_items c.args.circuit.now)) c.args.span c.args.self.now
-    c.count_before-before.result f.old c.in_ok-replay.replay.step (planned c.steps.result c.args.stride c.args.span c.max.result c.len.result) c.follow.new.self
+    c.count_before-before.result f.old c.in_ok-replay.replay.step (planned c.steps.result c.args.stride c.args.span c.max.result c.len.result c.args.self.now.reach) c.follow.new.self
     c.in_ok-end.end
 end_of g c f few first begins behind =
-    let plan = planned c.steps.result c.args.stride c.args.span c.max.result c.len.result in
-    has-ended f few first begins behind plan refl refl (omega (arith, c.steps.ensures.value, few)) c.max.ensures c.follow.new.self c.in_ok-end.end
-    c.in_ok-end.ensures.replay
+    let plan = planned c.steps.result c.args.stride c.args.span c.max.result c.len.result c.args.self.now.reach in
+    has-ended f few first begins behind plan refl refl (omega (arith, c.steps.ensures.value, few)) c.max.ensures refl c.follow.new.self c.in_ok-end.end
+    c.in_ok-end.ensures.replay c.in_ok-end.ensures.raised
     (seen-end c.in_ok-replay.replay.tableau.qubits plan c.follow.new.self c.in_ok-end.end c.as_slice-3.ensures.value c.as_slice-4.ensures.value c.in_ok-end.ensures.end)
 
 pub overflow_add-span : goal.overflow_add-span
@@ -127,8 +127,8 @@ pub follow-requires-clause-ascending : goal.follow-requires-clause-ascending
 follow-requires-clause-ascending g c =
     let at = goal.at.follow-requires-clause-ascending g c in
     let begins = begun g at.In_ok-replay (few g at.After-as_slice) (first g at.After-count_before-before) in
-    subst (λ cs. Ascending (planned c.steps.result c.args.stride c.args.span c.max.result c.len.result) c.in_ok-replay.replay.step (drop c.max.result cs)) (sym c.as_slice-3.ensures.value)
-    (ascending-here c.requires.follows (few g at.After-as_slice) (first g at.After-count_before-before) begins (behind g at.After-as_slice-3) (planned c.steps.result c.args.stride c.args.span c.max.result c.len.result) refl refl (omega (arith, c.steps.ensures.value, few g at.After-as_slice)) c.max.ensures)
+    subst (λ cs. Ascending (planned c.steps.result c.args.stride c.args.span c.max.result c.len.result c.args.self.now.reach) c.in_ok-replay.replay.step (drop c.max.result cs)) (sym c.as_slice-3.ensures.value)
+    (ascending-here c.requires.follows (few g at.After-as_slice) (first g at.After-count_before-before) begins (behind g at.After-as_slice-3) (planned c.steps.result c.args.stride c.args.span c.max.result c.len.result c.args.self.now.reach) refl refl (omega (arith, c.steps.ensures.value, few g at.After-as_slice)) c.max.ensures refl)
 
 pub follow-requires-clause-same_qubits : goal.follow-requires-clause-same_qubits
 follow-requires-clause-same_qubits g c =
@@ -185,7 +185,7 @@ prepare-requires g c =
     let at = goal.at.prepare-requires g c in
     let begins = begun g at.In_ok-replay (few g at.After-as_slice) (first g at.After-count_before-before) in
     let ended = end_of g at.In_ok-end c.requires.follows (few g at.After-as_slice) (first g at.After-count_before-before) begins (behind g at.After-as_slice-3) in
-    record { in_range = ended.copy }
+    record { in_range = ended.copy; same_length = ended.strings }
 
 pub returns-in_err-prepared-clause-unchanged : goal.returns-in_err-prepared-clause-unchanged
 returns-in_err-prepared-clause-unchanged g c =
@@ -197,7 +197,7 @@ commit-requires-clause-behind g c =
     let at = goal.at.commit-requires-clause-behind g c in
     let begins = begun g at.In_ok-replay (few g at.After-as_slice) (first g at.After-count_before-before) in
     let ended = end_of g at.In_ok-end c.requires.follows (few g at.After-as_slice) (first g at.After-count_before-before) begins (behind g at.After-as_slice-3) in
-    let ready = ended.ready _ (record { tableau = refl; output = refl; observables = refl; checkpoints = refl }) c.observables.result c.in_ok-prepared.prepared c.in_ok-prepared.ensures.prepared in
+    let ready = ended.ready _ (record { tableau = refl; output = refl; observables = refl; strings = refl; reach = refl; checkpoints = refl }) c.observables.result c.in_ok-prepared.prepared c.in_ok-prepared.ensures.prepared in
     ready.behind c.prepare.new.self c.prepare.ensures.unchanged
 
 pub returns-clause-kept : goal.returns-clause-kept
@@ -205,7 +205,7 @@ returns-clause-kept g c =
     let at = goal.at.returns-clause-kept g c in
     let begins = begun g at.In_ok-replay (few g at.After-as_slice) (first g at.After-count_before-before) in
     let ended = end_of g at.In_ok-end c.requires.follows (few g at.After-as_slice) (first g at.After-count_before-before) begins (behind g at.After-as_slice-3) in
-    let ready = ended.ready _ (record { tableau = refl; output = refl; observables = refl; checkpoints = refl }) c.observables.result c.in_ok-prepared.prepared c.in_ok-prepared.ensures.prepared in
+    let ready = ended.ready _ (record { tableau = refl; output = refl; observables = refl; strings = refl; reach = refl; checkpoints = refl }) c.observables.result c.in_ok-prepared.prepared c.in_ok-prepared.ensures.prepared in
     subst (λ count. IsKeptRun c.args.self.now.tableau.qubits (g.C.Coins.sequence c.args.coins.now) c.args.stride (unroll (circuit_items c.args.circuit.now)) count c.commit.new.self)
     c.observables.ensures.value
     (ready.kept c.prepare.new.self c.prepare.ensures.unchanged c.commit.new.self c.commit.ensures.committed)
@@ -221,7 +221,7 @@ returns-clause-qubits g c =
     let at = goal.at.returns-clause-qubits g c in
     let begins = begun g at.In_ok-replay (few g at.After-as_slice) (first g at.After-count_before-before) in
     let ended = end_of g at.In_ok-end c.requires.follows (few g at.After-as_slice) (first g at.After-count_before-before) begins (behind g at.After-as_slice-3) in
-    let ready = ended.ready _ (record { tableau = refl; output = refl; observables = refl; checkpoints = refl }) c.observables.result c.in_ok-prepared.prepared c.in_ok-prepared.ensures.prepared in
+    let ready = ended.ready _ (record { tableau = refl; output = refl; observables = refl; strings = refl; reach = refl; checkpoints = refl }) c.observables.result c.in_ok-prepared.prepared c.in_ok-prepared.ensures.prepared in
     (ready.kept c.prepare.new.self c.prepare.ensures.unchanged c.commit.new.self c.commit.ensures.committed).qubits
 
 pub returns-clause-asks_free : goal.returns-clause-asks_free
@@ -229,7 +229,7 @@ returns-clause-asks_free g c =
     let at = goal.at.returns-clause-asks_free g c in
     let begins = begun g at.In_ok-replay (few g at.After-as_slice) (first g at.After-count_before-before) in
     let ended = end_of g at.In_ok-end c.requires.follows (few g at.After-as_slice) (first g at.After-count_before-before) begins (behind g at.After-as_slice-3) in
-    let ready = ended.ready _ (record { tableau = refl; output = refl; observables = refl; checkpoints = refl }) c.observables.result c.in_ok-prepared.prepared c.in_ok-prepared.ensures.prepared in
+    let ready = ended.ready _ (record { tableau = refl; output = refl; observables = refl; strings = refl; reach = refl; checkpoints = refl }) c.observables.result c.in_ok-prepared.prepared c.in_ok-prepared.ensures.prepared in
     let asks = c.in_ok-end.ensures.asks_free in
     omega (arith, asks, ready.flags c.prepare.new.self c.prepare.ensures.unchanged c.commit.new.self c.commit.ensures.committed)
 
@@ -246,7 +246,7 @@ returns-clause-few g c =
     let begins = begun g at.In_ok-replay (few g at.After-as_slice) (first g at.After-count_before-before) in
     λ xs count far kept span agree.
     let ended = end_of g at.In_ok-end (record { old = xs; count = count; kept = kept; span = span }) (few g at.After-as_slice) (first g at.After-count_before-before) begins (behind g at.After-as_slice-3) in
-    ended.few c.follow.new.self.applied c.in_ok-end.ensures.counted (seen-soon (g.C.Coins.sequence c.args.coins.now) (planned c.steps.result c.args.stride c.args.span c.max.result c.len.result) c.follow.new.self.step begins.qubits begins.all c.as_slice-3.ensures.value c.as_slice-4.ensures.value c.in_ok-end.ensures.soon) far agree
+    ended.few c.follow.new.self.applied c.in_ok-end.ensures.counted (seen-soon (g.C.Coins.sequence c.args.coins.now) (planned c.steps.result c.args.stride c.args.span c.max.result c.len.result c.args.self.now.reach) c.follow.new.self.step begins.qubits begins.all c.as_slice-3.ensures.value c.as_slice-4.ensures.value c.in_ok-end.ensures.soon) far agree
 
 pub returns-clause-at_least : goal.returns-clause-at_least
 returns-clause-at_least g c =
@@ -261,4 +261,4 @@ returns-clause-counted g c =
     let begins = begun g at.In_ok-replay (few g at.After-as_slice) (first g at.After-count_before-before) in
     λ xs count kept span.
     let ended = end_of g at.In_ok-end (record { old = xs; count = count; kept = kept; span = span }) (few g at.After-as_slice) (first g at.After-count_before-before) begins (behind g at.After-as_slice-3) in
-    ended.counted c.follow.new.self.applied c.in_ok-end.ensures.counted (seen-soon (g.C.Coins.sequence c.args.coins.now) (planned c.steps.result c.args.stride c.args.span c.max.result c.len.result) c.follow.new.self.step begins.qubits begins.all c.as_slice-3.ensures.value c.as_slice-4.ensures.value c.in_ok-end.ensures.soon)
+    ended.counted c.follow.new.self.applied c.in_ok-end.ensures.counted (seen-soon (g.C.Coins.sequence c.args.coins.now) (planned c.steps.result c.args.stride c.args.span c.max.result c.len.result c.args.self.now.reach) c.follow.new.self.step begins.qubits begins.all c.as_slice-3.ensures.value c.as_slice-4.ensures.value c.in_ok-end.ensures.soon)

@@ -102,6 +102,7 @@ loop-spare-preserved g c =
     record {
       all = ap (λ (r : Replay). r.cursor.all) same ∙ done.all ∙ inv.all;
       qubits = ap (λ (r : Replay). r.tableau.qubits) same ∙ done.qubits ∙ inv.qubits;
+      raised = omega (arith, done.raised, inv.raised, ap (λ (r : Replay). r.notes.reach) same);
       same_coins = done.same_coins ∙ inv.same_coins;
       asks = omega (arith, done.asks, inv.asks, step);
       asks_free = omega (arith, done.asks_free, inv.asks_free, ap (λ (r : Replay). ones r.outputs.free.items) same);

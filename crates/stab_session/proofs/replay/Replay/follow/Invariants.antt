@@ -8,6 +8,7 @@ abbrev pub invariant-loop-spare : goal.invariant-loop-spare
 invariant-loop-spare g l = record {
   all : l.self.cursor.all ≡ l.initial.self.cursor.all;
   qubits : l.self.tableau.qubits ≡ l.initial.self.tableau.qubits;
+  raised : l.initial.self.notes.reach ≤ l.self.notes.reach;
   same_coins : g.C.Coins.sequence l.coins ≡ g.C.Coins.sequence l.initial.coins;
   asks : g.C.Coins.asks l.coins + l.initial.self.step ≤ g.C.Coins.asks l.initial.coins + l.self.step;
   asks_free : g.C.Coins.asks l.coins + ones l.initial.self.outputs.free.items ≤ g.C.Coins.asks l.initial.coins + ones l.self.outputs.free.items;

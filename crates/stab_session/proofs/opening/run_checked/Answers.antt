@@ -5,7 +5,7 @@ use Rattle.stab_circuit.specs.Views.{circuit_items}
 use Rattle.stab_session.specs.inner.Replays.{IsKeptRun}
 use Rattle.stab_run.proofs.FitLemmas.{check-whole, check-steps}
 use Rattle.stab_session.proofs.KeptLemmas.{nothing-follows}
-use Rattle.stab_session.proofs.kept.run_checked.Goals as goal
+use Rattle.stab_session.proofs.opening.run_checked.Goals as goal
 
 pub follow-requires-clause-checked : goal.follow-requires-clause-checked
 follow-requires-clause-checked g c =
