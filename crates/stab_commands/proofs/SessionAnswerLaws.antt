@@ -116,10 +116,10 @@ unopened None f e is = is
 unopened (Some r) f e is = absurd (cc)
 
 -- a reply to what is shown, and its refusal
-pub told_framed : {run : State} {held behind : Held} (n : ℕ) (r : FramedRequest) (text : List ℕ) → framed_shown n run held r ≡ Ok text → behind ≡ held_behind run held r
+pub told_framed : (run : State) (held behind : Held) (n : ℕ) (r : FramedRequest) (text : List ℕ) → framed_shown n run held r ≡ Ok text → behind ≡ held_behind run held r
     → answered behind (reply_text true text) false ≡ framed_answer true n run held r
-told_framed {run} {held} n r text e f =
+told_framed run held behind n r text e f =
     ap (λ x. answered x (reply_text true text) false) f ∙ sym (ap (shown_or_refused true held (held_behind run held r)) e)
 
-pub refused_framed : {run : State} {held : Held} (n : ℕ) (r : FramedRequest) (e : Refusal) → framed_shown n run held r ≡ Err e → refusing held e ≡ framed_answer true n run held r
-refused_framed {run} {held} n r e f = sym (ap (shown_or_refused true held (held_behind run held r)) f)
+pub refused_framed : (run : State) (held : Held) (n : ℕ) (r : FramedRequest) (e : Refusal) → framed_shown n run held r ≡ Err e → refusing held e ≡ framed_answer true n run held r
+refused_framed run held n r e f = sym (ap (shown_or_refused true held (held_behind run held r)) f)
