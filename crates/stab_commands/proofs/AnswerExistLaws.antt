@@ -22,7 +22,7 @@ use Rattle.stab_run.specs.Laws.{IsSoundRun, RunsAreSound}
 use Rattle.stab_results.specs.Formats.{f01_bytes}
 use Rattle.stab_circuit.specs.Prints.{printed}
 use Rattle.stab_commands.specs.Stabilisers.{lines_of}
-use Rattle.stab_commands.specs.script.Scripts.{Setting, Request, begin, put, delete, show, ask, refuse, Held, run_held, opened, Answer, IsPut, Shows, IsAnswer, IsAnswerToAll, both, unless, judged, decided, refusing, replying, edit_of, edited_items, framed_shown, held_behind, shown_or_refused, framed_answer}
+use Rattle.stab_commands.specs.script.Scripts.{Setting, Request, begin, put, delete, show, ask, refuse, Held, run_held, Answer, IsPut, Shows, IsAnswer, IsAnswerToAll, both, unless, judged, decided, refusing, replying, edit_of, edited_items, framed_shown, held_behind, shown_or_refused, framed_answer}
 use Rattle.stab_commands.specs.script.FramedReplies.{reply_text, greeting, session_numbers}
 use Rattle.stab_commands.specs.script.FramedRequests.{FramedRequest, mark, numbers, changed, changed_records, sign, item}
 use Rattle.stab_commands.specs.script.ScriptLaws.{CanBeEdited}

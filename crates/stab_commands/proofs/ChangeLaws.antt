@@ -1,5 +1,5 @@
 -- Laws of changes: which places of two lists differ, place by place.
-use Rattle.std.proofs.Common.{◌≡◌, ◌<◌, ℕ, ◌+◌, zero, suc, Bool, false, List, [], ◌∷◌, ◌++◌, length, take, min, get_or, refl, ap, ◌∙◌, sym, subst, arith}
+use Rattle.std.proofs.Common.{◌≡◌, ◌<◌, ℕ, ◌+◌, zero, suc, Bool, false, List, [], ◌∷◌, ◌++◌, length, take, min, get_or, refl, ap, ◌∙◌, arith}
 use Rattle.stab_pauli.specs.Letters.{◌⊕◌}
 use Rattle.stab_commands.specs.script.Changes.{changes}
 

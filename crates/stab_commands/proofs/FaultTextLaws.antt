@@ -1,8 +1,8 @@
 -- Laws of the text of faults: the parts of a line, and lines one after another.
-use Rattle.std.proofs.Common.{◌≡◌, refl, sym, ap, ap₂, ◌∙◌, subst, ℕ, zero, suc, ◌+◌, ◌*◌, ◌-◌, ◌<◌, ◌≤◌, Bool, true, false, nat_lt, List, [], ◌∷◌, ◌++◌, length, take, drop, replicate, get_or, codes, decimal, append_assoc, append-nil, Option, Some, None, arith, add-one, drop-cons}
+use Rattle.std.proofs.Common.{◌≡◌, refl, sym, ap, ap₂, ◌∙◌, ℕ, zero, suc, ◌+◌, ◌*◌, ◌-◌, ◌<◌, ◌≤◌, Bool, List, [], ◌∷◌, ◌++◌, length, take, drop, replicate, get_or, codes, decimal, append_assoc, append-nil, Option, Some, None, arith, add-one, drop-cons}
 use Rattle.std.specs.List.{flat_map, slice_get}
-use Rattle.std.proofs.lemmas.List.{length-append, drop_all}
-use Rattle.std.proofs.lemmas.Option.{slice_get_past, slice_get_within, slice_get-get_or, get_or_from_slice_get}
+use Rattle.std.proofs.lemmas.List.{length-append}
+use Rattle.std.proofs.lemmas.Option.{slice_get_within, get_or_from_slice_get}
 use Rattle.stab_io.specs.Devices.{OutputView, TookAndFailed}
 use Rattle.stab_io.specs.declared.refusal.Fault.{Fault}
 use Rattle.stab_io.proofs.DeviceLemmas.{failed_within}
@@ -19,7 +19,6 @@ use Rattle.stab_regions.specs.Faults.{FaultPlace, Site, fault_on, faults_on, fau
 use Rattle.stab_commands.specs.FaultLines.{bit_text, fault_line, told_text, unsure_line}
 use Rattle.stab_commands.specs.FaultTables.{fault_text, table_line, table_lines, path_at}
 use Rattle.stab_commands.specs.inner.Texts.{texts_joined}
-use Rattle.stab_commands.specs.declared.unsure.Bit.{Bit}
 use Rattle.stab_commands.specs.declared.unsure.Unsure.{Unsure}
 
 -- where a fault is, by its three parts

@@ -1,5 +1,5 @@
 -- Laws of framed replies: what is left of a shot in the notation `dets` is a line of entries.
-use Rattle.std.proofs.Common.{◌≡◌, ℕ, List, [], ◌∷◌, ◌++◌, length, drop, refl, sym, ap, ◌∙◌, codes}
+use Rattle.std.proofs.Common.{◌≡◌, ℕ, List, [], ◌∷◌, ◌++◌, length, drop, refl, sym, ap, codes}
 use Rattle.std.proofs.lemmas.List.{append-nil}
 use Rattle.stab_commands.specs.inner.Texts.{texts_joined}
 

@@ -3,7 +3,7 @@ use Rattle.std.proofs.Common.{◌≡◌, ◌≤◌, ◌<◌, ℕ, ◌+◌, Bool,
 use Rattle.std.proofs.lemmas.List.{append-nil, take_more, take-append-drop}
 use Rattle.stab_lines.specs.Lines.{content_of, ends_with_byte}
 use Rattle.stab_commands.specs.script.ScriptWords.{Gathered}
-use Rattle.stab_commands.specs.script.Scripts.{Request, put, delete, show, refuse, request_of, ScriptReader, Gathering, Reading, silent, line_ended, begun, line_alone, opened_behind, gathered_with, gathering_ended, line_gathered, line_behind, read_line, read_byte, then_read, read}
+use Rattle.stab_commands.specs.script.Scripts.{Request, begin, put, delete, show, ask, refuse, request_of, ScriptReader, Gathering, Reading, silent, line_ended, begun, line_alone, opened_behind, gathered_with, gathering_ended, line_gathered, line_behind, read_line, read_byte, then_read, read}
 use Rattle.stab_commands.specs.inner.Requests.{opened_in}
 
 -- one reading after another, as a whole
@@ -64,8 +64,10 @@ opened_gathered g = opened_choice (g.opened == 0) (gathering_ended g) (line_ende
 
 opened_begun : (r : Request) → opened_by (begun r) ≤ 1
 opened_begun (put edit place text) = opened_choice (ends_with_byte text 123) (line_ended (Some (record { edit = edit; place = place; opened = 1; text = Some text })) []) (line_ended None (put edit place text ∷ [])) 1 (omega arith) (omega arith)
+opened_begun begin = omega arith
 opened_begun (delete place) = omega arith
 opened_begun (show what) = omega arith
+opened_begun (ask request) = omega arith
 opened_begun (refuse r) = omega arith
 
 opened_alone : (line : Gathered) → opened_by (line_alone line) ≤ 1

@@ -13,7 +13,7 @@ use Rattle.stab_commands.specs.script.Scripts.{Setting, Request, begin, opened, 
 use Rattle.stab_commands.specs.script.ScriptEndings.{AnswersScript, BreaksOff, AnswersFront, EndsScript}
 use Rattle.stab_commands.specs.inner.Editors.{Sitting, Told, ToldSome, FlushFails, Sent, Finishes}
 use Rattle.stab_commands.proofs.ReadingLaws.{read_append, read_none}
-use Rattle.stab_commands.proofs.TellingLaws.{answers_then, told_none, told_then, told_some_behind}
+use Rattle.stab_commands.proofs.TellingLaws.{answers_then, told_then, told_some_behind}
 
 -- the sitting before a script
 abbrev pub before_script : Setting → Items → Sitting

@@ -1,13 +1,18 @@
 -- Laws of answers from a session: what its calls say is what scripts are answered.
-use Rattle.std.proofs.Common.{◌≡◌, ◌≢◌, ℕ, Bool, true, false, min, length, List, refl, sym, ap, ◌∙◌, codes, Option, Some, None, Result, Ok, Err, inl, inr}
+use Rattle.std.proofs.Common.{◌≡◌, ◌≢◌, ℕ, Bool, true, false, min, length, List, refl, sym, ap, subst, ◌∙◌, Option, Some, None, Result, Ok, Err, inl, inr, ◌⊎◌}
+use Rattle.std.specs.Prelude.{IfOk, IfErr}
+use Rattle.std.specs.Result.{IsErrAnd}
 use Rattle.stab_io.specs.declared.refusal.Refusal.{Refusal}
 use Rattle.stab_io.specs.declared.refusal.Refusal.TheVariants.{OutOfMemory}
 use Rattle.stab_io.specs.declared.refusal.Fault.{Fault}
 use Rattle.stab_io.specs.Refusals.{whole, IsCallFault}
-use Rattle.stab_circuit.specs.Items.{Items, OneItem, listed, entries}
+use Rattle.stab_circuit.specs.Items.{Items, OneItem, before, done, listed, entries}
+use Rattle.stab_circuit.specs.Paths.{Path}
+use Rattle.stab_circuit.specs.Places.{item_at}
+use Rattle.stab_circuit.specs.Prints.{printed}
 use Rattle.stab_circuit.specs.declared.edit.Edit.{Edit}
 use Rattle.stab_circuit.specs.Edits.{edited, verdict, list_verdict}
-use Rattle.stab_circuit.proofs.EditLemmas.{listed-entries}
+use Rattle.stab_circuit.proofs.EditLemmas.{listed-entries, entries-listed}
 use Rattle.stab_session.specs.Sessions.{SessionState}
 use Rattle.stab_session.specs.SessionEdits.{IsEditedBy, IsAsBefore}
 use Rattle.stab_circuit.specs.Steps.{unroll, steps_cap, check_within}
@@ -18,7 +23,14 @@ use Rattle.stab_commands.specs.script.FramedRequests.{FramedRequest}
 use Rattle.stab_run.proofs.FitLemmas.{check-whole}
 use Rattle.stab_commands.proofs.CheckLaws.{steps_counted}
 use Rattle.stab_commands.specs.FaultLines.{refused_text}
-use Rattle.stab_commands.specs.script.Scripts.{Setting, Held, first_mark, opened, unless, judged, decided, refusing, IsPut, framed_shown, held_behind, shown_or_refused, framed_answer}
+use Rattle.stab_pauli.specs.Paulis.{Signed}
+use Rattle.stab_tableau.specs.Traces.{member}
+use Rattle.stab_session.specs.Sessions.{IsSignIn}
+use Rattle.stab_commands.proofs.SignLaws.{told_sign}
+use Rattle.stab_commands.specs.script.Signs.{sign_line}
+use Rattle.stab_commands.specs.inner.Replies.{ReplyBytes}
+use Rattle.stab_commands.specs.inner.FramedAnswers.{GivesText}
+use Rattle.stab_commands.specs.script.Scripts.{Setting, Held, first_mark, opened, unless, judged, decided, refusing, IsPut, item_shown, sign_shown, framed_shown, held_behind, shown_or_refused, framed_answer}
 use Rattle.stab_commands.specs.inner.SessionAnswers.{session_setting, held_of, answered}
 use Rattle.stab_commands.specs.script.Changes.{Mark}
 use Rattle.stab_commands.specs.script.FramedReplies.{made_text, reply_text, session_numbers}
@@ -123,3 +135,40 @@ told_framed run held behind n r text e f =
 
 pub refused_framed : (run : State) (held : Held) (n : ℕ) (r : FramedRequest) (e : Refusal) → framed_shown n run held r ≡ Err e → refusing held e ≡ framed_answer true n run held r
 refused_framed run held n r e f = sym (ap (shown_or_refused true held (held_behind run held r)) f)
+
+-- the items of a circuit are those of its session
+same_entries : (circuit : List OneItem) (items : Items) → listed circuit ≡ items → entries items ≡ circuit
+same_entries circuit items same = sym (ap entries same) ∙ entries-listed circuit
+
+-- where there is no item at a place of the circuit, none is shown
+pub item_refused : (circuit : List OneItem) (items : Items) (place : Path) (r : Refusal) (result : Result ReplyBytes Refusal) → IsErrAnd result (λ x. x ≡ r) → listed circuit ≡ items
+    → item_at place circuit ≡ Err r → GivesText result (item_shown (item_at place (entries items)))
+item_refused circuit items place r (Ok reply) is same found = absurd is
+item_refused circuit items place r (Err x) is same found =
+    inr (ap (λ xs. item_shown (item_at place xs)) (same_entries circuit items same) ∙ (ap item_shown found ∙ ap Err (sym is)))
+
+-- and where there is one, its text is
+pub item_told : (circuit : List OneItem) (items : Items) (place : Path) (x : OneItem) (made : Result ReplyBytes Fault) (result : Result ReplyBytes Refusal) → listed circuit ≡ items
+    → item_at place circuit ≡ Ok x → IfOk made (λ r. r.written ≡ printed (before x done)) → IfOk result (λ r. made ≡ Ok r) → IfErr result (λ r. r ≡ OutOfMemory)
+    → GivesText result (item_shown (item_at place (entries items)))
+item_told circuit items place x made (Ok reply) same found written is err =
+    let text : reply.written ≡ printed (before x done) = subst (λ (m : Result ReplyBytes Fault). IfOk m (λ r. r.written ≡ printed (before x done))) is written in
+    ap (λ xs. item_shown (item_at place xs)) (same_entries circuit items same) ∙ (ap item_shown found ∙ ap Ok (sym text))
+item_told circuit items place x made (Err r) same found written is err = inl err
+
+-- the sign of a string is told as the group of the run has it
+pub sign_told : (run : State) (given : Result Signed Refusal) (p : Signed) (sign : Option Bool) (made : Result ReplyBytes Fault) (result : Result ReplyBytes Refusal) → given ≡ Ok p
+    → IsSignIn (member run.trace) p sign → IfOk made (λ r. r.written ≡ sign_line sign) → IfOk result (λ r. made ≡ Ok r) → IfErr result (λ r. r ≡ OutOfMemory)
+    → GivesText result (sign_shown run given)
+sign_told run given p sign made (Ok reply) is in_group written same err =
+    let text : reply.written ≡ sign_line sign = subst (λ (m : Result ReplyBytes Fault). IfOk m (λ r. r.written ≡ sign_line sign)) same written in
+    ap (sign_shown run) is ∙ (ap Ok (ap sign_line (sym (told_sign (member run.trace) p sign in_group))) ∙ ap Ok (sym text))
+sign_told run given p sign made (Err r) is in_group written same err = inl err
+
+-- a request that only a framed script makes, refused
+pub framed_refused : (held others : Held) (run : State) (n : ℕ) (request : FramedRequest) (framed : Bool) (r : Refusal) (reply : List ℕ) (refused : Bool) → framed ≡ true → held ≡ others
+    → (r ≡ OutOfMemory) ⊎ (framed_shown n run others request ≡ Err r) → r ≢ OutOfMemory → reply ≡ refused_text r → refused ≡ true
+    → answered held reply refused ≡ framed_answer framed n run others request
+framed_refused held others run n request framed r reply refused is_framed same (inl memory) some text flag = absurd (some memory)
+framed_refused held others run n request framed r reply refused is_framed same (inr shown) some text flag =
+    same_refusal r same text flag ∙ (refused_framed run others n request r shown ∙ ap (λ b. framed_answer b n run others request) (sym is_framed))

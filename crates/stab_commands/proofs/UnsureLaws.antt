@@ -1,12 +1,12 @@
 -- Laws of bits that are not sure: that some step makes each, and which is the first.
-use Rattle.std.proofs.Common.{◌≡◌, ◌≢◌, refl, sym, ap, ◌∙◌, subst, ℕ, zero, suc, ◌+◌, ◌-◌, ◌<◌, ◌≤◌, Bool, true, false, ◌==◌, nat_lt, List, [], ◌∷◌, ◌++◌, length, replicate, get_or, set, if◌then◌else◌, Option, Some, None, arith, ◌↔◌}
+use Rattle.std.proofs.Common.{◌≡◌, ◌≢◌, refl, sym, ap, ◌∙◌, subst, ℕ, zero, suc, ◌+◌, ◌-◌, ◌<◌, ◌≤◌, Bool, true, false, ◌==◌, nat_lt, List, [], ◌∷◌, ◌++◌, length, replicate, get_or, if◌then◌else◌, Some, None, arith}
 use Rattle.std.proofs.lemmas.Bool.{ltb-true, ltb-false}
 use Rattle.std.proofs.lemmas.Bool.Decides.{nat_tests}
 use Rattle.std.proofs.lemmas.List.{get_or-set_other, length-append}
 use Rattle.stab_circuit.specs.Items.{Items}
 use Rattle.stab_circuit.specs.Steps.{Step, one, two, controlled, collapse, product, detector, observable, unroll, observables_of, is_detector, detectors_of}
 use Rattle.stab_run.specs.Records.{parity}
-use Rattle.stab_run.specs.Runs.{State, start, run, effect, added}
+use Rattle.stab_run.specs.Runs.{State, start, run, effect}
 use Rattle.stab_regions.specs.Tables.{steps_before_detector}
 use Rattle.stab_regions.specs.Faults.{IsSure, AreSure, bits_in, bit}
 use Rattle.stab_commands.specs.declared.unsure.Bit.{Bit}

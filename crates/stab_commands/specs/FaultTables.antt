@@ -13,7 +13,6 @@ use Rattle.stab_circuit.specs.Steps.{Step, observable, unroll, qubits_of, detect
 use Rattle.stab_circuit.specs.Paths.{Path, path_text}
 use Rattle.stab_circuit.specs.StepPaths.{outside, paths_of}
 use Rattle.stab_circuit.specs.Readings.{IsCircuit, IsFaultOf}
-use Rattle.stab_results.specs.declared.format.Format.{Format}
 use Rattle.stab_results.specs.declared.format.Kinds.{Kinds}
 use Rattle.stab_results.specs.Formats.{entry, shot_bytes}
 use Rattle.stab_regions.specs.Tables.{steps_before_detector}

@@ -22,7 +22,8 @@ use Rattle.stab_commands.specs.FaultLines.{refused_text}
 use Rattle.stab_commands.specs.Stabilisers.{lines_of}
 use Rattle.stab_circuit.specs.Places.{item_at}
 use Rattle.stab_commands.specs.script.ScriptWords.{first_word, behind_word, place_of, Gathered, more, is_nothing}
-use Rattle.stab_commands.specs.script.FramedRequests.{FramedRequest, mark, numbers, changed, changed_records, sign, item, framed_show}
+use Rattle.stab_commands.specs.script.FramedRequests as framed_asks
+use Rattle.stab_commands.specs.script.FramedRequests.{FramedRequest, mark, numbers, changed, changed_records, sign, framed_show}
 use Rattle.stab_commands.specs.script.FramedReplies.{reply_text, made_text, greeting, session_numbers, numbers_line}
 use Rattle.stab_commands.specs.script.Changes.{Mark, mark_of, no_mark, changed_text, changed_records_text}
 use Rattle.stab_commands.specs.script.Signs.{string_of_word, sign_in, sign_line}
@@ -301,7 +302,7 @@ framed_shown n run held numbers = Ok (numbers_line (session_numbers n run held.i
 framed_shown n run held changed = Ok (changed_text held.mark run)
 framed_shown n run held changed_records = Ok (changed_records_text held.mark run)
 framed_shown n run held (sign word) = sign_shown run (string_of_word n word)
-framed_shown n run held (item place) = item_shown (item_at place (entries held.items))
+framed_shown n run held (framed_asks.item place) = item_shown (item_at place (entries held.items))
 
 -- what is held behind it: `mark` alone changes that
 abbrev pub held_behind : State → Held → FramedRequest → Held

@@ -30,7 +30,7 @@ pub(crate) struct SessionAnswers<C: Coins> {
 }
 
 impl<C: Coins> SessionAnswers<C> {
-    ghost use Rattle.std.specs.Prelude.{◌≡◌, ◌≢◌, [], IfOk, IfErr, OnOk, true};
+    ghost use Rattle.std.specs.Prelude.{◌≡◌, ◌≢◌, [], IfOk, IfErr, OnOk, OnErr, true};
     ghost use Rattle.stab_io.specs.Refusals.{whole};
     ghost use Rattle.stab_io.specs.declared.refusal.Refusal.TheVariants.{OutOfMemory};
     ghost use Rattle.stab_circuit.specs.Items.{entries};
@@ -173,6 +173,7 @@ impl<C: Coins> SessionAnswers<C> {
         ensures session { self.new.session ≡ self.old.session }
         ensures framed { self.new.framed ≡ self.old.framed }
         ensures mark { OnOk result (mark_shown self.new.mark ≡ mark_of (session_run C.sequence self.old.session)) }
+        ensures kept { OnErr result (self.new.mark ≡ self.old.mark) }
         ensures written { IfOk result (λ r. r.written ≡ []) }
         ensures err { IfErr result (λ f. f ≡ whole OutOfMemory) }
     {
@@ -184,6 +185,7 @@ impl<C: Coins> SessionAnswers<C> {
     fn show_framed(&mut self, request: &FramedRequest) -> Result<Reply, Refusal>
         ensures session { self.new.session ≡ self.old.session }
         ensures framed { self.new.framed ≡ self.old.framed }
+        ensures kept { OnErr result (self.new.mark ≡ self.old.mark) }
         ensures held { OnOk result (held_of self.new.session self.new.mark ≡ held_behind (session_run C.sequence self.old.session) (held_of self.old.session self.old.mark) (framed_asked request.now)) }
         ensures shows { GivesText result (framed_shown self.old.session.qubits (session_run C.sequence self.old.session) (held_of self.old.session self.old.mark) (framed_asked request.now)) }
     {
@@ -198,7 +200,7 @@ impl<C: Coins> SessionAnswers<C> {
     }
 
     /// The answer to what only a framed script may ask for.
-    #[tactic(auto, using(crate::proofs::SessionAnswerLaws::told_framed, crate::proofs::SessionAnswerLaws::refused_framed))]
+    #[tactic(auto, using(crate::proofs::SessionAnswerLaws::told_framed, crate::proofs::SessionAnswerLaws::framed_refused))]
     fn answer_framed(&mut self, request: &FramedRequest) -> Result<Answered, Fault>
         ensures setting { OnOk result (session_setting C.sequence self.new.framed self.new.session ≡ session_setting C.sequence self.old.framed self.old.session) }
         ensures answers { IfOk result (λ a. answered (held_of self.new.session self.new.mark) a.reply.written a.refused ≡ framed_answer self.old.framed self.old.session.qubits (session_run C.sequence self.old.session) (held_of self.old.session self.old.mark) (framed_asked request.now)) }
@@ -212,7 +214,10 @@ impl<C: Coins> SessionAnswers<C> {
                 reply: reply.told(self.alloc, true)?,
                 refused: false,
             }),
-            Err(refusal) => self.refuse(refusal),
+            Err(refusal) => {
+                let answered = self.refuse(refusal)?;
+                Ok(answered)
+            }
         }
     }
 

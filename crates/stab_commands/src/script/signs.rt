@@ -1,5 +1,5 @@
 //! The Pauli strings of words.
-ghost use Rattle.std.specs.Prelude.{◌≡◌, ◌<◌, All, IfOk, length};
+ghost use Rattle.std.specs.Prelude.{◌≡◌, ◌<◌, All, IfOk, length, nat_lt, true};
 ghost use Rattle.std.specs.List.{list_all};
 ghost use Rattle.stab_lines.specs.Results.{Gives};
 ghost use Rattle.stab_circuit.specs.Steps.{is_inverted as inverted_of};
@@ -44,6 +44,13 @@ fn letter_at(byte: u8) -> Letter
     }
 }
 
+/// Whether all bytes are letters of a string.
+fn are_letters(word: &[u8]) -> bool
+    ensures value { result ≡ list_all is_letter_of word.now }
+{
+    word.iter().all(|b| is_letter(*b))
+}
+
 /// The string of one letter for each qubit.
 #[tactic(auto, using(crate::proofs::SignLaws::letters_more, crate::proofs::SignLaws::letters_all))]
 fn read_letters(alloc: Global, n: usize, word: &[u8]) -> Result<Pauli, Refusal>
@@ -71,19 +78,45 @@ fn is_inverted(factors: &[Factor]) -> bool
     inverted
 }
 
+/// Whether all factors are on qubits below n.
+fn are_within(n: usize, factors: &[Factor]) -> bool
+    ensures value { result ≡ list_all (λ f. nat_lt f.qubit n) factors.now }
+{
+    factors.iter().all(|f| f.qubit.number() < n)
+}
+
+/// The string of factors that are all on qubits below n.
+#[tactic(auto, using(crate::proofs::SignLaws::all_within))]
+fn string_of_factors_within(alloc: Global, n: usize, factors: &[Factor]) -> Result<Pauli, Refusal>
+    requires within { list_all (λ f. nat_lt f.qubit n) factors.now ≡ true }
+    ensures gives { Gives result (string_within n factors.now) }
+    ensures size { IfOk result (λ p. length p.letters ≡ n) }
+{
+    let mut string = Pauli::identity(alloc, n)?;
+    write_product(&mut string, factors);
+    string.negate_if(is_inverted(factors));
+    Ok(string)
+}
+
 /// The string of factors, where all are on qubits below n.
 #[tactic(auto, using(crate::proofs::SignLaws::all_within))]
 fn string_of_factors(alloc: Global, n: usize, factors: &[Factor]) -> Result<Pauli, Refusal>
     ensures gives { Gives result (string_within n factors.now) }
     ensures size { IfOk result (λ p. length p.letters ≡ n) }
 {
-    if !factors.iter().all(|f| f.qubit.number() < n) {
+    if !are_within(n, factors) {
         return Err(Refusal::QubitOutOfRange);
     }
-    let mut string = Pauli::identity(alloc, n)?;
-    write_product(&mut string, factors);
-    string.negate_if(is_inverted(factors));
-    Ok(string)
+    string_of_factors_within(alloc, n, factors)
+}
+
+/// The string of a word that has letters alone.
+fn read_letters_alone(alloc: Global, n: usize, word: &[u8]) -> Result<Pauli, Refusal>
+    requires letters { list_all is_letter_of word.now ≡ true }
+    ensures gives { Gives result (string_without_sign n word.now) }
+    ensures size { IfOk result (λ p. length p.letters ≡ n) }
+{
+    read_letters(alloc, n, word)
 }
 
 /// The string of letters, or of a product.
@@ -91,8 +124,8 @@ fn read_string_without_sign(alloc: Global, n: usize, word: &[u8]) -> Result<Paul
     ensures gives { Gives result (string_without_sign n word.now) }
     ensures size { IfOk result (λ p. length p.letters ≡ n) }
 {
-    if word.iter().all(|b| is_letter(*b)) {
-        return read_letters(alloc, n, word);
+    if are_letters(word) {
+        return read_letters_alone(alloc, n, word);
     }
     let product = read_product(alloc, word)?;
     string_of_factors(alloc, n, product.as_slice())

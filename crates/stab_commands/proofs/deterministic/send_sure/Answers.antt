@@ -1,4 +1,4 @@
-use Rattle.std.proofs.Common.{◌≡◌, ◌∙◌, ap₂}
+use Rattle.std.proofs.Common.{ap₂}
 use Rattle.stab_circuit.specs.Views.{circuit_items}
 use Rattle.stab_results.specs.Formats.{shot_bytes}
 use Rattle.stab_commands.specs.Deterministic.{IsSureText}

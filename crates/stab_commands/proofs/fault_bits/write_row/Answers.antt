@@ -1,4 +1,4 @@
-use Rattle.std.proofs.Common.{◌≡◌, ◌∙◌, sym, ap, false, true, length}
+use Rattle.std.proofs.Common.{◌∙◌, sym, ap, false, true, length}
 use Rattle.stab_commands.specs.FaultTables.{set_all}
 use Rattle.stab_commands.proofs.FaultBitLaws.{set_back}
 use Rattle.stab_commands.proofs.fault_bits.write_row.Goals as goal

@@ -1,4 +1,4 @@
-use Rattle.std.proofs.Common.{ℕ, List, ◌≡◌, ◌∙◌, ◌+◌, ◌++◌, ◌<◌, ap, ap₂, sym, subst, [], true, drop}
+use Rattle.std.proofs.Common.{ℕ, List, ◌∙◌, ◌+◌, ◌++◌, ◌<◌, ap, ap₂, sym, subst, [], true, drop}
 use Rattle.std.specs.List.{flat_map}
 use Rattle.stab_io.proofs.DeviceLemmas.{wrote_part, wrote_and_failed}
 use Rattle.stab_results.specs.Formats.{shot_bytes}

@@ -1,4 +1,4 @@
-use Rattle.std.proofs.Common.{ℕ, List, ◌≡◌, ◌∙◌, ◌+◌, ◌*◌, ◌≤◌, ◌++◌, suc, sym, ap, length, drop, arith}
+use Rattle.std.proofs.Common.{ℕ, List, ◌≡◌, ◌∙◌, ◌+◌, ◌*◌, ◌++◌, suc, sym, ap, length, drop, arith}
 use Rattle.std.specs.List.{flat_map}
 use Rattle.stab_io.proofs.DeviceLemmas.{wrote_part, wrote_and_failed, failed_on}
 use Rattle.stab_circuit.specs.Steps.{unroll}

@@ -1,4 +1,4 @@
-use Rattle.std.proofs.Common.{◌≡◌, ◌∙◌, ◌++◌, [], ◌∷◌, codes, decimal, refl, subst}
+use Rattle.std.proofs.Common.{◌∙◌, ◌++◌, [], ◌∷◌, codes, decimal, refl, subst}
 use Rattle.stab_io.specs.Devices.{TookAndFailed, WritesAll}
 use Rattle.stab_io.proofs.DeviceLemmas.{failed_on, failed_within}
 use Rattle.stab_pauli.specs.Texts.{letter_text}

@@ -1,4 +1,4 @@
-use Rattle.std.proofs.Common.{◌≡◌, ◌++◌, codes, subst}
+use Rattle.std.proofs.Common.{◌++◌, codes, subst}
 use Rattle.std.specs.List.{flat_map}
 use Rattle.stab_io.specs.Devices.{TookAndFailed, WritesAll}
 use Rattle.stab_io.proofs.DeviceLemmas.{failed_on, failed_within}

@@ -1,4 +1,4 @@
-use Rattle.std.proofs.Common.{ℕ, List, ◌≡◌, ◌∙◌, ◌+◌, ◌*◌, ◌-◌, ◌<◌, ◌≤◌, ◌++◌, [], sym, ap, ap₂, length, drop, Some, None, arith}
+use Rattle.std.proofs.Common.{ℕ, List, ◌≡◌, ◌∙◌, ◌+◌, ◌<◌, ◌++◌, sym, ap₂, length, drop, Some, None, arith}
 use Rattle.std.specs.List.{flat_map, slice_get}
 use Rattle.std.proofs.lemmas.Option.{slice_get_within}
 use Rattle.stab_io.proofs.DeviceLemmas.{wrote_part, wrote_and_failed, failed_on}

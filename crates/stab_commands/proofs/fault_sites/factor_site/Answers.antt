@@ -1,4 +1,4 @@
-use Rattle.std.proofs.Common.{◌≡◌, ◌∙◌, ◌%◌, ◌/◌, [], ◌∷◌, sym, ap, ap₂}
+use Rattle.std.proofs.Common.{◌∙◌, ◌%◌, [], ◌∷◌, sym, ap, ap₂}
 use Rattle.std.specs.List.{slice_get}
 use Rattle.stab_regions.specs.Faults.{in_front, behind}
 use Rattle.stab_commands.proofs.FaultSiteLaws.{site_past, site_of_factor}

@@ -1,5 +1,4 @@
-use Rattle.std.proofs.Common.{◌≡◌, ◌+◌, ◌∙◌, ap, length, suc, arith}
-use Rattle.stab_circuit.specs.Steps.{unroll}
+use Rattle.std.proofs.Common.{◌≡◌, ◌∙◌, ap, length, suc, arith}
 use Rattle.stab_circuit.specs.Views.{circuit_items}
 use Rattle.stab_commands.specs.FaultTables.{steps_before_bit}
 use Rattle.stab_commands.proofs.CheckLaws.{few_steps}

@@ -1,4 +1,4 @@
-use Rattle.std.proofs.Common.{◌≡◌, ◌<◌, ◌∙◌, sym, ap, subst, length}
+use Rattle.std.proofs.Common.{◌<◌, ◌∙◌, sym, ap, subst, length}
 use Rattle.std.specs.List.{slice_get}
 use Rattle.stab_circuit.specs.Steps.{qubits_of, unroll}
 use Rattle.stab_circuit.specs.Views.{circuit_items}
