@@ -150,6 +150,8 @@ export class TextView {
     field.ariaLabel = kind === "replace" ? "the item" : "the item to put in";
     form.append(field, button("Put in", "submit"), button("Leave", "button", () => this.#closeForm()));
     if (path.length > 1) form.append(this.#roundOffer(path));
+    // The row's own words may be out of sight behind the form.
+    if (this.#refusal) form.append(span("refusal", this.#refusal.words));
     field.addEventListener("keydown", (event) => {
       event.stopPropagation();
       if (event.key === "Escape") this.#closeForm();
