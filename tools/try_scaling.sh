@@ -18,10 +18,20 @@ work=$(mktemp -d)
 chmod 755 "$work"
 started=
 end() {
+    status=$?
     for number in $started; do
         kill "$number" 2>/dev/null || :
     done
-    rm -rf "$work"
+    # What was ended may write until it is gone, so it is waited for, ten seconds at most.
+    for number in $started; do
+        tries=0
+        while kill -0 "$number" 2>/dev/null && [ "$tries" -lt 100 ]; do
+            tries=$((tries + 1))
+            sleep 0.1
+        done
+    done
+    rm -rf "$work" || rm -rf "$work"
+    exit "$status"
 }
 trap end EXIT
 trap 'exit 2' INT TERM
