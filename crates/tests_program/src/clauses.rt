@@ -3,7 +3,7 @@
 //! They are proved, and never run: where a clause came to say less than it does, the proof of its
 //! caller here would fail.
 
-ghost use Rattle.std.specs.Prelude.{◌≡◌};
+ghost use Rattle.std.specs.Prelude.{◌≡◌, true};
 ghost use Rattle.stab_commands.specs.Jobs.{EndsJob, reads_script};
 ghost use Rattle.stab_commands.specs.Outputs.{EndsRun, detect_of, sample_of};
 ghost use Rattle.stab_commands.specs.script.ScriptTurns.{CommandInTurn};
