@@ -19,7 +19,7 @@ use Rattle.std.proofs.lemmas.List.{get_or-take, get_or-drop}
 use Rattle.stab_pauli.proofs.PlaceLemmas.{x_place, has_x_at_place}
 
 -- a place before k, or at k or later
-before : (j k : ℕ) → (j < k) ⊎ (k ≤ j)
+pub before : (j k : ℕ) → (j < k) ⊎ (k ≤ j)
 before j k = by_order (cases_order j k)
   where
     by_order : (j ≡ k) ⊎ ((j < k) ⊎ (k < j)) → (j < k) ⊎ (k ≤ j)
@@ -121,18 +121,20 @@ none_in_row n m ws is h =
     let s : HasNoXBefore n (row_letters m ws) = λ j lj. h j (omega arith) in
     any_none n (row_letters m ws) s (rw (length-row m ws is.size) f)
 
+-- what stands past the last letter is I
+pub blank_behind : (n m : ℕ) (ws : List ℕ) (k : ℕ) → IsRow n m ws → n ≤ k → get_or (row_letters m ws) k I ≡ I
+blank_behind n m ws k is h =
+    let there : n + (k - n) ≡ k = omega arith in
+    ap (λ j. get_or (row_letters m ws) j I) (sym there) ∙ sym (get_or-drop n (row_letters m ws) (k - n) I) ∙ ap (λ p. get_or p (k - n) I) is.padded
+    ∙ get_or-replicate (256 * m - n) (k - n) I
+
 -- a letter that is X or Y is no padding
 found_inside : (n m : ℕ) (ws : List ℕ) (k : ℕ) → IsRow n m ws → k < 256 * m → has_x (get_or (row_letters m ws) k I) ≡ true → k < n
 found_inside n m ws k is lt e = by_place (before k n)
   where
     by_place : (k < n) ⊎ (n ≤ k) → k < n
     by_place (inl h) = h
-    by_place (inr h) =
-        let there : n + (k - n) ≡ k = omega arith in
-        let blank : get_or (row_letters m ws) k I ≡ I =
-        ap (λ j. get_or (row_letters m ws) j I) (sym there) ∙ sym (get_or-drop n (row_letters m ws) (k - n) I) ∙ ap (λ p. get_or p (k - n) I) is.padded
-        ∙ get_or-replicate (256 * m - n) (k - n) I in
-        absurd (no_x (ap has_x (sym blank) ∙ e))
+    by_place (inr h) = absurd (no_x (ap has_x (sym (blank_behind n m ws k is h)) ∙ e))
       where
         no_x : has_x I ≡ true → ⊥
         no_x q = cc

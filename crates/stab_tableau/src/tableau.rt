@@ -154,7 +154,7 @@ impl Tableau {
         rows::write_preimage(&self.table, pauli, &mut self.preimage);
         match self.preimage.first_x() {
             Some(_) => None,
-            None => Some(self.preimage.is_negative()),
+            None => Some(self.preimage.fixed_sign()),
         }
     }
 

@@ -1,8 +1,9 @@
 -- Rows of blocks: 256 letters to 8 words, four words with their X bits and then four with their Z bits.
 -- Source: this project's own.
+use Rattle.std.specs.Int.{bit_at}
 use Rattle.std.specs.List.{All}
 use Rattle.std.specs.Simd.Lanes.{zip2, chunk, put_chunk}
-use Rattle.std.specs.Prelude.{◌≡◌, ℕ, zero, suc, ◌+◌, ◌*◌, ◌-◌, ◌/◌, ◌^◌, ◌≤◌, length, List, [], ◌∷◌, ◌++◌, take, drop, replicate, slice_index_or, ◌<◌, true, false}
+use Rattle.std.specs.Prelude.{◌≡◌, ◌≢◌, ℕ, zero, suc, ◌+◌, ◌*◌, ◌-◌, ◌/◌, ◌^◌, ◌≤◌, length, List, [], ◌∷◌, ◌++◌, take, drop, replicate, slice_index_or, ◌<◌, true, false}
 use Rattle.stab_pauli.specs.declared.letter.Letter.{Letter}
 use Rattle.stab_pauli.specs.declared.letter.Letter.TheVariants.{I}
 use Rattle.stab_pauli.specs.declared.phase.Phase.{Phase}
@@ -40,6 +41,24 @@ pub record IsFirstX (size : ℕ) (letters : List Letter) (k : ℕ) : Type 0 wher
   pub in_range : k < size
   pub has_x_here : has_x (slice_index_or letters k I) ≡ true
   pub first : HasNoXBefore k letters
+
+-- the letters from one place on to another are I
+abbrev pub IsBlankFrom : ℕ → ℕ → List Letter → Type 0
+IsBlankFrom from k letters = (j : ℕ) → from ≤ j → j < k → slice_index_or letters j I ≡ I
+
+-- the first of so many letters, from one on, that is not I
+pub record IsNextLetter (from size : ℕ) (letters : List Letter) (k : ℕ) : Type 0 where
+  pub from_there : from ≤ k
+  pub in_range : k < size
+  pub blank : IsBlankFrom from k letters
+  pub here : slice_index_or letters k I ≢ I
+
+-- the first bit of a word that is 1, from one on
+pub record IsNextBit (from word k : ℕ) : Type 0 where
+  pub from_there : from ≤ k
+  pub in_range : k < 64
+  pub blank : (j : ℕ) → from ≤ j → j < k → bit_at word j ≡ 0
+  pub is_one : bit_at word k ≡ 1
 
 -- words that lie as one row of m blocks, for n letters
 pub record IsRow (n m : ℕ) (row : List ℕ) : Type 0 where

@@ -8,7 +8,7 @@ ghost use Rattle.stab_pauli.specs.XParts.{has_x};
 ghost use Rattle.stab_pauli.specs.Paulis.{strings_anticommute};
 ghost use Rattle.stab_pauli.specs.inner.Words.{xor_words, letter_of_bits};
 ghost use Rattle.stab_pauli.specs.inner.Powers.{phase_inverse, letter_power, string_power, strings_meet, sign_power};
-ghost use Rattle.stab_pauli.specs.inner.Blocks.{row_letters, AreBlocks, HasNoXBefore, IsFirstX};
+ghost use Rattle.stab_pauli.specs.inner.Blocks.{row_letters, AreBlocks, HasNoXBefore, IsFirstX, IsBlankFrom, IsNextBit, IsNextLetter};
 
 use crate::letter::Letter;
 use crate::packed::ones;
@@ -175,6 +175,37 @@ fn still_blocks(blocks: usize, row: &[u64]) -> usize
         }
     }
     blocks
+}
+
+/// The first place of a row of so many blocks, from one on, where the letter is not I.
+#[inline(always)]
+pub(crate) fn next_letter(blocks: usize, row: &[u64], from: usize) -> Option<usize>
+    requires few { blocks ≤ 2 ^ 56 }
+    requires length { length row.now ≡ 8 * blocks }
+    ensures none { IfNone result (IsBlankFrom from (256 * blocks) (row_letters blocks row.now)) }
+    ensures some { IfSome result (IsNextLetter from (256 * blocks) (row_letters blocks row.now)) }
+{
+    for word in from / 64..4 * blocks {
+        let at = 8 * (word / 4) + word % 4;
+        if let Some(bit) = next_bit(row[at] | row[at + 4], from.saturating_sub(64 * word)) {
+            return Some(64 * word + bit);
+        }
+    }
+    None
+}
+
+/// The first bit of a word that is 1, from one on.
+#[inline(always)]
+fn next_bit(word: u64, from: usize) -> Option<usize>
+    requires in_range { from < 64 }
+    ensures none { IfNone result ((k : ℕ) → from ≤ k → k < 64 → bit_at word k ≡ 0) }
+    ensures some { IfSome result (IsNextBit from word) }
+{
+    let rest = word >> from;
+    if rest == 0 {
+        return None;
+    }
+    Some(from + rest.trailing_zeros() as usize)
 }
 
 /// The place of the word with the X bit of a qubit.

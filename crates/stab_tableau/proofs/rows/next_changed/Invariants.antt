@@ -1,9 +1,7 @@
-use Rattle.std.proofs.Common.{ℕ, ◌<◌, ◌≤◌, length}
-use Rattle.stab_tableau.specs.Gates.{letter_at}
+use Rattle.std.proofs.Common.{ℕ, ◌<◌, ◌≤◌}
 use Rattle.stab_tableau.specs.inner.InverseRows.{rows_at}
 use Rattle.stab_tableau.specs.inner.Collapses.{IsStill}
-use Rattle.stab_tableau.specs.inner.Observables.{observed}
 use Rattle.stab_tableau.proofs.rows.next_changed.Given as goal
 
 abbrev pub invariant-loop-qubit : goal.invariant-loop-qubit
-invariant-loop-qubit l = (q : ℕ) → l.from ≤ q → q < l.qubit → IsStill l.place (letter_at (observed (length l.table) l.observable).letters q) (rows_at l.table q)
+invariant-loop-qubit l = (q : ℕ) → l.from ≤ q → q < l.qubit → IsStill l.place (rows_at l.table q)

@@ -5,7 +5,7 @@ use Rattle.stab_tableau.specs.inner.InverseRows.{rows_at, letter_preimage, strin
 use Rattle.stab_tableau.specs.Tableaus.{TableauState}
 use Rattle.stab_tableau.proofs.TableRowLemmas.{table-row}
 use Rattle.stab_tableau.proofs.OneLetterLemmas.{length-one_letter}
-use Rattle.stab_tableau.proofs.TableauMeasureLemmas.{letter-sent, measure-tableau}
+use Rattle.stab_tableau.proofs.TableauMeasureLemmas.{letter-sent, letter-tableau}
 use Rattle.stab_tableau.proofs.ExchangedOutcomeLemmas.{IsExchanged, place-of, letter-exchanged}
 use Rattle.stab_tableau.proofs.tableau.Tableau.exchange_letter.Goals as goal
 
@@ -30,14 +30,8 @@ write_exchange-requires-in-I-clause-in_range c =
 
 pub invariant_of-self : goal.invariant_of-self
 invariant_of-self c =
-    let rows = c.self.inside.table in
-    let size : length rows ≡ c.args.self.now.qubits = ap (λ (t : TableauState). t.qubits) c.self.view_is in
-    let lt : c.args.qubit < length rows = omega arith in
-    let p : Signed = single c.args.self.now.qubits c.args.qubit c.args.letter in
-    let lp : length p.letters ≡ length rows = length-one_letter c.args.self.now.qubits c.args.qubit c.args.letter ∙ sym size in
-    measure-tableau rows (record { x = c.self.inside.preimage; z = c.self.inside.multiplier }) c.self.invariant p lp c.copy_into.new.out
-    (letter-sent rows (record { x = c.self.inside.preimage; z = c.self.inside.multiplier }) c.self.invariant c.args.qubit lt c.args.letter c.copy_into.new.out c.copy_into.ensures.value
-    c.args.self.now.qubits size)
+    letter-tableau c.self.inside.table (record { x = c.self.inside.preimage; z = c.self.inside.multiplier }) c.self.invariant c.args.qubit c.args.self.now.qubits
+    (ap (λ (t : TableauState). t.qubits) c.self.view_is) c.requires.in_range c.args.letter c.copy_into.new.out c.copy_into.ensures.value
 
 pub returns-in-X : goal.returns-in-X
 returns-in-X c =
