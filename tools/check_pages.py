@@ -3,11 +3,11 @@
 
     tools/check_pages.py
 
-- The last column of README's table names clauses by their labels, as "`value` of `Letter::times`": some function of that name has
+- The last column of the table of docs/proved.md names clauses by their labels, as "`value` of `Letter::times`": some function of that name has
   a clause of that label.
 - The tables of docs/believe.md name definitions: each stands in the file that its row, or the row above it, names.
 - A file that a page names between backquotes is there, by its path from the top or by its end.
-- A link leads to a page that is there, and to a heading of it.
+- A link leads to a page that is there, and to a heading of it; `docs/README.md` has a link to each page.
 
 It ends with 1 where one is missing. What a clause or a definition says is not looked at.
 """
@@ -19,7 +19,7 @@ from collections.abc import Iterator
 from pathlib import Path
 
 TOP = Path(__file__).resolve().parent.parent
-PAGES = [TOP / "README.md", *sorted((TOP / "docs").glob("*.md"))]
+PAGES = [TOP / "README.md", TOP / "CHANGELOG.md", *sorted((TOP / "docs").glob("*.md"))]
 QUOTED = re.compile(r"`([^`\n]+)`")
 FILE = re.compile(r"[\w./-]+\.(?:rt|antt|md|py|sh|rows|stim|script)")
 FUNCTION = re.compile(r"\s*(?:pub(?:\([^)]*\))? )?fn (\w+)")
@@ -113,10 +113,18 @@ def wrong_links(page: Path) -> Iterator[str]:
             yield f"the link {link}"
 
 
+def unlinked_pages() -> Iterator[str]:
+    """Pages of docs/ that docs/README.md leads to by no link."""
+    text = (TOP / "docs" / "README.md").read_text(encoding="utf-8")
+    pages = {page.name for page in PAGES if page.parent.name == "docs"} - {"README.md"}
+    yield from (f"a link to {name}" for name in sorted(pages - set(re.findall(r"\]\(([\w-]+\.md)\)", text))))
+
+
 def main() -> int:
     """Prints what is missing, and answers the status."""
-    wrong = [f"README.md: {it}" for it in wrong_clauses(TOP / "README.md")]
+    wrong = [f"docs/proved.md: {it}" for it in wrong_clauses(TOP / "docs" / "proved.md")]
     wrong += [f"docs/believe.md: {it}" for it in wrong_definitions(TOP / "docs" / "believe.md")]
+    wrong += [f"docs/README.md: {it}" for it in unlinked_pages()]
     for page in PAGES:
         wrong += [f"{page.relative_to(TOP)}: {it}" for it in (*wrong_files(page), *wrong_links(page))]
     for it in wrong:

@@ -13,7 +13,7 @@ use std::alloc::{AllocError, Global};
 pub(crate) static FORMATS: [&str; 5] = ["01", "b8", "r8", "hits", "dets"];
 
 // The version of the program, and by which kit and logic it was proved.
-const VERSION: &str = "0.1.0\nproved with rattle-kit-13f logic dac8208d650f15bf";
+const VERSION: &str = "0.2.0\nproved with rattle-kit-13f logic dac8208d650f15bf";
 
 const ABOUT: &str = "Simulates Clifford circuits by the stabiliser rules";
 
