@@ -8,6 +8,7 @@
 - The tables of docs/believe.md name definitions: each stands in the file that its row, or the row above it, names.
 - A file that a page names between backquotes is there, by its path from the top or by its end.
 - A link leads to a page that is there, and to a heading of it; `docs/README.md` has a link to each page.
+- A page of over 1,500 words has a link to each of its headings.
 
 It ends with 1 where one is missing. What a clause or a definition says is not looked at.
 """
@@ -24,6 +25,7 @@ QUOTED = re.compile(r"`([^`\n]+)`")
 FILE = re.compile(r"[\w./-]+\.(?:rt|antt|md|py|sh|rows|stim|script)")
 FUNCTION = re.compile(r"\s*(?:pub(?:\([^)]*\))? )?fn (\w+)")
 CLAUSE = re.compile(r"\s*(?:requires|ensures)\*? (\w+) \{")
+WORDS_WITHOUT_CONTENTS = 1500
 DEFINED = re.compile(r"(?:(?:abbrev|unfoldable|opaque|pub|record|data)\s+)+([^\s:({]+)|  (?:pub )?(\S+) :")
 
 
@@ -96,20 +98,32 @@ def wrong_files(page: Path) -> Iterator[str]:
             yield f"`{name}`"
 
 
+def prose(page: Path) -> str:
+    """What a page says, without its blocks of commands and output."""
+    return re.sub(r"^```.*?^```", "", page.read_text(encoding="utf-8"), flags=re.MULTILINE | re.DOTALL)
+
+
 @functools.cache
-def headings(page: Path) -> set[str]:
-    """The headings of a page, as a link writes them."""
-    found = re.findall(r"^#+ (.*)$", page.read_text(encoding="utf-8"), re.MULTILINE)
+def headings(page: Path, ranks: str) -> set[str]:
+    """The headings of a page of these ranks, as a link writes them."""
+    found = re.findall(rf"^{ranks} (.*)$", prose(page), re.MULTILINE)
     return {re.sub(r"[^\w\- ]", "", heading.lower()).strip().replace(" ", "-") for heading in found}
+
+
+def missing_contents(page: Path) -> Iterator[str]:
+    """Headings that a page of over so many words has no link to."""
+    text = page.read_text(encoding="utf-8")
+    if len(text.split()) > WORDS_WITHOUT_CONTENTS:
+        yield from (f"a link to the heading {it}" for it in sorted(headings(page, "##")) if f"](#{it})" not in text)
 
 
 def wrong_links(page: Path) -> Iterator[str]:
     """Links of a page that lead nowhere."""
-    text = re.sub(r"^```.*?^```", "", page.read_text(encoding="utf-8"), flags=re.MULTILINE | re.DOTALL)
+    text = prose(page)
     for link in re.findall(r"\]\(([^)\s:]+)\)", text):
         path, _, heading = link.partition("#")
         there = page.parent / path if path else page
-        if not there.is_file() or heading and heading not in headings(there):
+        if not there.is_file() or heading and heading not in headings(there, "#+"):
             yield f"the link {link}"
 
 
@@ -126,7 +140,8 @@ def main() -> int:
     wrong += [f"docs/believe.md: {it}" for it in wrong_definitions(TOP / "docs" / "believe.md")]
     wrong += [f"docs/README.md: {it}" for it in unlinked_pages()]
     for page in PAGES:
-        wrong += [f"{page.relative_to(TOP)}: {it}" for it in (*wrong_files(page), *wrong_links(page))]
+        found = (*wrong_files(page), *wrong_links(page), *missing_contents(page))
+        wrong += [f"{page.relative_to(TOP)}: {it}" for it in found]
     for it in wrong:
         print(f"{it} is not there", file=sys.stderr)
     print(f"{len(PAGES)} pages compared with what they name: {len(wrong)} wrong")
