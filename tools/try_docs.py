@@ -10,6 +10,7 @@ The program must be built: this copies it, so that no page builds it anew.
 """
 
 import difflib
+import importlib.util
 import os
 import pathlib
 import re
@@ -23,7 +24,10 @@ PROGRAM = pathlib.Path("crates/stabsim/out/stabsim")
 BIN = pathlib.Path("python_of_pages")
 BLOCK = re.compile(r"^```(\S*)[ ]*(.*?)\n(.*?)^```[ ]*$", re.MULTILINE | re.DOTALL)
 TIME_LIMIT = 600
-RUNNERS = {"sh": ["sh", "-eu"], "python": [sys.executable, "-B", "-"]}
+RUNNERS = {"sh": ["sh", "-eu"]}
+# The package asks for numpy: without it Python's blocks are left out.
+if importlib.util.find_spec("numpy"):
+    RUNNERS["python"] = [sys.executable, "-B", "-"]
 
 
 def pages_of(words):

@@ -14,7 +14,7 @@ if [ $# -eq 0 ]; then
         set -- $(printf '%s\n' "$@" | grep -v '^docs/scaling.md$')
     fi
     if [ -z "$python" ]; then
-        echo "try_docs: docs/python.md is left out" >&2
+        echo "try_docs: docs/python.md and the Python of other pages are left out" >&2
         set -- $(printf '%s\n' "$@" | grep -v '^docs/python.md$')
     fi
 fi
