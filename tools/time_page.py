@@ -105,7 +105,7 @@ def measure(driver: webdriver.Chrome, distance: int, rounds: int, edits: int) ->
         address = server.stdout.readline().strip()
         started = time.perf_counter() - begun
         drawn = first_picture(driver, address)
-        print(f"distance {distance}, {rounds} rounds: served after {started:.2f} s, first picture {drawn:.2f} s later")
+        print(f"distance {distance}, {rounds} rounds: served after {started:.2f} s, first picture {drawn:.2f} s later", driver.execute_script("return document.body.dataset.drawn"))
         time.sleep(3)
         last = driver.execute_script("return Number(document.getElementById('moment').max)")
         qubit = middle_qubit(file, distance)

@@ -9,6 +9,7 @@ import numpy as np
 from numpy.typing import NDArray
 
 import stabsim
+from stabsim.coordinates import coordinates_of, detector_rows, qubit_rows
 from stabsim.page.edits import Edit, splitting, undoing
 
 Message = dict[str, Any]
@@ -159,10 +160,11 @@ class Board:
         return {"age": self.age, "numbers": numbers, "position": self.position, "flipped": self.flipped}
 
     def _bits(self, text: str) -> Message:
-        circuit = stabsim.Circuit(text)
+        places = coordinates_of(text)
         return {
             "detectors": line_of(self.session.detectors), "observables": line_of(self.session.observables),
-            "qubit_coordinates": lists_of(circuit.qubit_coordinates()), "detector_coordinates": lists_of(circuit.detector_coordinates()),
+            "qubit_coordinates": lists_of(qubit_rows(places, self.session.numbers().qubits)),
+            "detector_coordinates": lists_of(detector_rows(places)),
         }
 
 

@@ -64,7 +64,8 @@ class Server:
 
     async def tab(self, request: web.Request) -> web.WebSocketResponse:
         """One tab: it is told all there is, and then each event."""
-        socket = web.WebSocketResponse(max_msg_size=MOST_BYTES, heartbeat=30)
+        # Nothing leaves the machine, so packing would only take time.
+        socket = web.WebSocketResponse(max_msg_size=MOST_BYTES, compress=False)
         await socket.prepare(request)
         await self.tell_all_to(socket)
         try:

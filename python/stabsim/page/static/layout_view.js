@@ -6,6 +6,8 @@ import { momentAt, momentsOf } from "./moments.js";
 
 const SVG = "http://www.w3.org/2000/svg";
 const STEP = 46;
+// Names are left out where they would be too small to be read: below this part of their size.
+const LEAST_SCALE = 0.5;
 const LETTER_CLASS = ["", "x", "z", "y"];
 
 export class LayoutView {
@@ -20,6 +22,7 @@ export class LayoutView {
   #dots = [];
   #lines = element("g", {});
   #drawnLines = null;
+  #extent = { width: 1, height: 1 };
   #moment = 0;
   #instructions = [];
   #way = null;
@@ -32,6 +35,7 @@ export class LayoutView {
     this.#act = act;
     slider.addEventListener("input", () => this.goTo(Number(slider.value)));
     place.addEventListener("pointerleave", () => this.#act.leave());
+    new ResizeObserver(() => this.#fit()).observe(place);
   }
 
   // Coordinates are a list for each qubit that has some; the others stand in a row.
@@ -87,9 +91,17 @@ export class LayoutView {
     this.#dots = Array.from({ length: this.#qubits }, (_, qubit) => this.#dotOf(qubit));
     this.#drawnLines = null;
     const ends = endsOf(this.#places);
-    const picture = element("svg", { viewBox: `${ends.left - STEP} ${ends.top - STEP} ${ends.width + 2 * STEP} ${ends.height + 2 * STEP}`, role: "img", "aria-label": "the qubits" });
+    this.#extent = { width: ends.width + 2 * STEP, height: ends.height + 2 * STEP };
+    const { width, height } = this.#extent;
+    const picture = element("svg", { viewBox: `${ends.left - STEP} ${ends.top - STEP} ${width} ${height}`, role: "img", "aria-label": "the qubits" });
     picture.append(this.#lines, ...this.#dots.map((dot) => dot.group));
     this.#place.replaceChildren(picture);
+    this.#fit();
+  }
+
+  #fit() {
+    const scale = Math.min(this.#place.clientWidth / this.#extent.width, this.#place.clientHeight / this.#extent.height);
+    this.#place.classList.toggle("small", scale < LEAST_SCALE);
   }
 
   #dotOf(qubit) {
@@ -161,6 +173,7 @@ function drawDot(dot, qubit, { label, letter, flipped }) {
   dot.shown = shown;
   const kind = label ? (isCollapse(label) ? "collapse" : "gate") : "";
   dot.circle.setAttribute("class", [kind, LETTER_CLASS[letter], flipped ? "flipped" : ""].filter(Boolean).join(" "));
+  dot.name.setAttribute("class", letter ? "name letter" : "name");
   dot.name.textContent = letter ? LETTERS[letter] : label ? short(label) : String(qubit);
   dot.zero.textContent = label && resets(label) ? "0" : "";
   dot.title.textContent = `qubit ${qubit}${label ? `, ${label}` : ""}`;
