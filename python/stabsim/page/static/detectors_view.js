@@ -16,7 +16,9 @@ export class DetectorsView {
   #act;
   #state = null;
   #laid = null;
+  #flipped = null;
   #slices = [];
+  #sliceOf = [];
   #across = 1;
   #size = { width: 0, height: 0 };
   #colours = {};
@@ -52,8 +54,11 @@ export class DetectorsView {
   // over detectors and then observables or null where they are not known yet, coordinates a list for each detector,
   // and sets of the names of what the last edit flipped and of what was flipped since the mark.
   show(state) {
+    const isNew = state.flipped !== this.#flipped;
     this.#state = state;
+    this.#flipped = state.flipped;
     if (state.coordinates !== this.#laid) this.#lay();
+    if (isNew) this.#bringIntoSight();
     this.#draw();
   }
 
@@ -61,6 +66,14 @@ export class DetectorsView {
   since(which) {
     this.#since = which;
     this.#draw();
+  }
+
+  // Scrolls to the first detector that an edit flipped, where none that it flipped is in sight.
+  #bringIntoSight() {
+    const flipped = [...this.#state.flipped].filter((name) => name.startsWith("D")).map((name) => this.#sliceOf[Number(name.slice(1))]);
+    const { scrollLeft } = this.#place;
+    const isInSight = ({ left }) => left + this.#across > scrollLeft && left < scrollLeft + this.#size.width;
+    if (flipped.length && !flipped.some(isInSight)) this.#place.scrollLeft = flipped[0].left - GAP;
   }
 
   #findColours() {
@@ -86,6 +99,8 @@ export class DetectorsView {
     this.#across = width * DOT + GAP;
     const times = [...byTime.keys()].sort((a, b) => a - b);
     this.#slices = times.map((time, i) => ({ time, left: GAP + i * this.#across, spots: byTime.get(time) }));
+    this.#sliceOf = new Array(detectors.length);
+    for (const slice of this.#slices) for (const { number } of slice.spots) this.#sliceOf[number] = slice;
     const sheet = this.#canvas.parentElement;
     sheet.style.width = `${Math.max(GAP + times.length * this.#across, GAP + observables.length * DOT * 2 + 120)}px`;
     sheet.style.height = `${TOP + height * DOT + GAP}px`;
