@@ -99,14 +99,23 @@ def is_needed(line: str) -> bool:
 
 def detector_coordinates(text: str) -> NDArray[np.float64]:
     """The coordinates of each detector of a text, float64 (detectors, width), nan where a detector has none."""
-    return joined(coordinates_of(text).detectors)
+    return detector_rows(coordinates_of(text))
 
 
 def qubit_coordinates(text: str, qubits: int) -> NDArray[np.float64]:
     """The coordinates of so many qubits of a text, float64 (qubits, width), nan where a qubit has none."""
-    placed = coordinates_of(text).qubits
-    width = max((len(place) for place in placed.values()), default=0)
+    return qubit_rows(coordinates_of(text), qubits)
+
+
+def detector_rows(places: Places) -> NDArray[np.float64]:
+    """A row for each detector that is placed, or has no place."""
+    return joined(places.detectors)
+
+
+def qubit_rows(places: Places, qubits: int) -> NDArray[np.float64]:
+    """A row for each of so many qubits."""
+    width = max((len(place) for place in places.qubits.values()), default=0)
     filled = np.full((qubits, width), np.nan)
-    for qubit, place in placed.items():
+    for qubit, place in places.qubits.items():
         filled[qubit, : len(place)] = place
     return filled

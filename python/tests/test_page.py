@@ -201,6 +201,35 @@ def test_two_tabs_see_one_session(page):
     page.wait(lambda: len(page.history()) == 2)
 
 
+# Keeps the first edit from a tab, as where its machine slept.
+DEAF_ONCE = """
+const Real = window.WebSocket;
+window.WebSocket = class extends Real {
+  set onmessage(hear) {
+    let heard = 0;
+    super.onmessage = (message) => {
+      const isFirst = message.data.startsWith('{"event": "edited"') && heard++ === 0;
+      if (!isFirst) hear(message);
+    };
+  }
+};
+"""
+
+
+def test_a_tab_that_missed_an_edit_catches_up(page):
+    page.browser.switch_to.new_window("tab")
+    page.browser.execute_cdp_cmd("Page.addScriptToEvaluateOnNewDocument", {"source": DEAF_ONCE})
+    page.open()
+    page.go_to(6)
+    page.type_on(10, "x")
+    time.sleep(0.5)
+    assert page.history() == ["opened"]
+    page.type_on(12, "z")
+    page.wait(lambda: [line.split()[-2:] for line in page.history()] == [["opened"], ["X", "10"], ["Z", "12"]])
+    page.browser.close()
+    page.browser.switch_to.window(page.browser.window_handles[0])
+
+
 def test_a_lost_server_is_said(page):
     page.server.send_signal(signal.SIGINT)
     page.wait(lambda: "The server is gone" in page.find("message").text)
@@ -213,6 +242,17 @@ def test_a_round_is_taken_out_of_its_block(page):
     page.click(".split")
     page.wait(lambda: page.history() == ["opened", f"round 0 of {BLOCK} by itself"])
     assert page.texts("#edits .now .told")[0].startswith("nothing changed")
+    page.wait(lambda: page.texts(f"#text .row.selected[data-path='{BLOCK}/1']"))
+
+
+def test_a_pauli_in_a_block_is_put_in_one_round_by_one_edit(page):
+    page.go_to(page.browser.execute_script("return Number(document.getElementById('moment').max)") - 2)
+    page.type_on(10, "x")
+    page.wait(lambda: len(page.history()) == 2)
+    assert page.history()[1].startswith("insert ") and page.history()[1].endswith(f" of {BLOCK} alone")
+    page.click("#undo")
+    page.wait(lambda: page.texts("#edits .undone"))
+    assert page.row(str(BLOCK)).startswith(f"{BLOCK}▸REPEAT 2")
 
 
 def test_what_is_exported_makes_the_same_circuit(browser, tmp_path):

@@ -9,6 +9,7 @@ import numpy as np
 from numpy.typing import NDArray
 
 import stabsim
+from stabsim.coordinates import coordinates_of, detector_rows, qubit_rows
 from stabsim.page.edits import Edit, splitting, undoing
 
 Message = dict[str, Any]
@@ -16,14 +17,15 @@ Message = dict[str, Any]
 
 @dataclasses.dataclass
 class Entry:
-    """What a person did in one go: its name, its edits, those that take them back, what they flipped (`D3`, `L0`), and how
-    many seconds they took."""
+    """What a person did in one go: its name, its edits, those that take them back, what they flipped (`D3`, `L0`), how many
+    seconds they took, and whether bits may have come, gone or moved."""
 
     name: str
     forth: list[Edit]
     back: list[Edit]
     changed: list[str]
     seconds: float
+    moves_bits: bool
 
     def message(self) -> Message:
         return {"text": self.name, "changed": self.changed, "seconds": self.seconds}
@@ -38,6 +40,8 @@ class Board:
         self.session = stabsim.Circuit.from_file(file).edit(seed=seed)
         self.entries: list[Entry] = []
         self.position = 0
+        # How often the circuit was changed: a tab tells by it whether it has heard of all changes.
+        self.age = 0
         self.marked_at = 0
         self.flipped: list[str] = []
         self.marked: set[str] = set()
@@ -48,18 +52,26 @@ class Board:
 
     def opened(self) -> Message:
         """All that a tab has to know when it opens."""
+        circuit = self.session.circuit
         return {
-            "event": "opened", "name": self.name, "circuit": self.session.circuit, "sure": self.sure,
-            "entries": self._history(), "marked_at": self.marked_at, "saves": self.save_to is not None, **self._now(), **self._bits(),
+            "event": "opened", "name": self.name, "circuit": circuit, "sure": self.sure,
+            "entries": [entry.message() for entry in self.entries], "marked_at": self.marked_at,
+            "marked": sorted(self.marked, key=place_of), "saves": self.save_to is not None, **self._now(), **self._bits(circuit),
         }
 
     def edit(self, edit: Edit) -> Message:
         """Makes an edit, and says what it changed. Raises stabsim.Refused where it is refused, and nothing has changed."""
-        return self._enter(edit.lines().split("\n")[0], [edit])
+        return self._enter(edit.first_line(), [edit])
+
+    def edit_in_round(self, edit: Edit, place: str, number: int) -> Message:
+        """Makes an edit in one round of a block that is first taken out of it."""
+        parts = splitting(place, self.session.item(place), number)
+        return self._enter(f"{edit.first_line()}, in round {number} of {place} alone", [*parts, edit], parts=len(parts))
 
     def split(self, place: str, number: int) -> Message:
         """Takes one round out of a block."""
-        return self._enter(f"round {number} of {place} by itself", splitting(place, self.session.item(place), number))
+        parts = splitting(place, self.session.item(place), number)
+        return self._enter(f"round {number} of {place} by itself", parts, parts=len(parts))
 
     def go(self, position: int) -> Message:
         """Undoes or redoes edits until so many are made."""
@@ -67,16 +79,16 @@ class Board:
             raise ValueError("no such place in the history")
         made: list[Edit] = []
         flipped: set[str] = set()
-        others = False
+        moves_bits = False
         while self.position != position:
             forward = position > self.position
             entry = self.entries[self.position - (not forward)]
-            done = self._carry_out("", entry.forth if forward else entry.back)
+            edits = entry.forth if forward else entry.back
+            flipped ^= set(self._carry_out("", edits).changed)
             self.position += 1 if forward else -1
-            made += done.forth
-            flipped ^= set(done.changed)
-            others |= self._has_other_bits(done)
-        return self._edited(made, sorted(flipped, key=place_of), others)
+            made += edits
+            moves_bits |= entry.moves_bits
+        return self._edited(made, [], sorted(flipped, key=place_of), moves_bits)
 
     def mark(self) -> Message:
         """From here on counts what is shown as changed since the mark."""
@@ -99,15 +111,17 @@ class Board:
         self.save_to.write_text(self.session.circuit)
         return str(self.save_to)
 
-    def _enter(self, name: str, edits: list[Edit]) -> Message:
-        entry = self._carry_out(name, edits)
+    def _enter(self, name: str, edits: list[Edit], parts: int = 0) -> Message:
+        """Makes edits as one entry. The first `parts` of them take a round out of a block."""
+        entry = self._carry_out(name, edits, parts)
         del self.entries[self.position:]
         self.entries.append(entry)
         self.position += 1
-        return self._edited(edits, entry.changed, self._has_other_bits(entry))
+        return self._edited(edits, [entry], entry.changed, entry.moves_bits)
 
-    def _carry_out(self, name: str, edits: list[Edit]) -> Entry:
-        """Makes edits in their order. Where one is refused, those before it are taken back, and nothing has changed."""
+    def _carry_out(self, name: str, edits: list[Edit], parts: int = 0) -> Entry:
+        """Makes edits in their order. Where one is refused, those before it are taken back, and nothing has changed. The first
+        `parts` of them move no bits."""
         back: list[Edit] = []
         self.session.mark()
         begun = time.perf_counter()
@@ -121,7 +135,8 @@ class Board:
                 self._apply(edit)
             raise
         seconds = time.perf_counter() - begun
-        return Entry(name, edits, back, names_of(self.session.changed()), seconds)
+        others = edits[parts:] + back[:len(edits) - parts]
+        return Entry(name, edits, back, names_of(self.session.changed()), seconds, any(edit.may_move_bits() for edit in others))
 
     def _apply(self, edit: Edit) -> None:
         if edit.kind == "insert":
@@ -131,33 +146,25 @@ class Board:
         else:
             self.session.delete(edit.place)
 
-    def _has_other_bits(self, entry: Entry) -> bool:
-        """Whether bits may have come, gone or moved, so that all are told anew: where more than one edit was made, or a
-        detector, an observable, a coordinate or a block came or went."""
-        texts = [edit.item.upper() for edit in entry.forth + entry.back]
-        return len(entry.forth) > 1 or any(word in text for text in texts for word in ("DETECTOR", "OBSERVABLE", "COORDS", "REPEAT"))
-
-    def _edited(self, edits: list[Edit], flipped: list[str], others: bool) -> Message:
+    def _edited(self, edits: list[Edit], entries: list[Entry], flipped: list[str], moves_bits: bool) -> Message:
+        """What tabs are told of edits: no more than what changed. Entries are the new ones, which end at the position."""
+        self.age += 1
         self.sure = None
         self.flipped = flipped
         self.marked ^= set(flipped)
-        message = {"event": "edited", "edits": [edit.message() for edit in edits], "entries": self._history(), **self._now()}
-        return message | self._bits() if others else message
-
-    def _history(self) -> list[Message]:
-        return [entry.message() for entry in self.entries]
+        told = {"event": "edited", "edits": [edit.message() for edit in edits], "entries": [entry.message() for entry in entries]}
+        return told | self._now() | (self._bits(self.session.circuit) if moves_bits else {})
 
     def _now(self) -> Message:
-        return {
-            "numbers": dataclasses.asdict(self.session.numbers()), "position": self.position,
-            "flipped": self.flipped, "marked": sorted(self.marked, key=place_of),
-        }
+        numbers = dataclasses.asdict(self.session.numbers())
+        return {"age": self.age, "numbers": numbers, "position": self.position, "flipped": self.flipped}
 
-    def _bits(self) -> Message:
-        circuit = stabsim.Circuit(self.session.circuit)
+    def _bits(self, text: str) -> Message:
+        places = coordinates_of(text)
         return {
             "detectors": line_of(self.session.detectors), "observables": line_of(self.session.observables),
-            "qubit_coordinates": lists_of(circuit.qubit_coordinates()), "detector_coordinates": lists_of(circuit.detector_coordinates()),
+            "qubit_coordinates": lists_of(qubit_rows(places, self.session.numbers().qubits)),
+            "detector_coordinates": lists_of(detector_rows(places)),
         }
 
 

@@ -6,6 +6,8 @@ from typing import Any, Literal
 
 Kind = Literal["insert", "replace", "delete"]
 KINDS: tuple[Kind, ...] = ("insert", "replace", "delete")
+# Words of items whose coming or going moves detectors, observables or coordinates.
+MOVING = ("DETECTOR", "OBSERVABLE", "COORDS", "REPEAT")
 
 
 @dataclasses.dataclass(frozen=True)
@@ -26,6 +28,14 @@ class Edit:
 
     def message(self) -> dict[str, Any]:
         return dataclasses.asdict(self)
+
+    def first_line(self) -> str:
+        """What names it in the history."""
+        return self.lines().split("\n")[0]
+
+    def may_move_bits(self) -> bool:
+        """Whether bits may come, go or move where its item is put in or taken out."""
+        return any(word in self.item.upper() for word in MOVING)
 
     def lines(self) -> str:
         """The lines of an edit script that make it."""

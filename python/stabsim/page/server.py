@@ -29,8 +29,8 @@ class Server:
         self.one_thread = concurrent.futures.ThreadPoolExecutor(1)
         self.background = concurrent.futures.ThreadPoolExecutor(1)
         self.faults: MomentFaults | None = None
-        # How many edits were made: what was computed for an earlier number is stale.
-        self.age = 0
+        # All tabs are told of what happens in the order in which it happens.
+        self.telling = asyncio.Lock()
         self.port = 0
 
     def application(self) -> web.Application:
@@ -64,11 +64,10 @@ class Server:
 
     async def tab(self, request: web.Request) -> web.WebSocketResponse:
         """One tab: it is told all there is, and then each event."""
-        socket = web.WebSocketResponse(max_msg_size=MOST_BYTES, heartbeat=30)
+        # Nothing leaves the machine, so packing would only take time.
+        socket = web.WebSocketResponse(max_msg_size=MOST_BYTES, compress=False)
         await socket.prepare(request)
-        await socket.send_json(await self.call(self.board.opened))
-        self.tabs.add(socket)
-        self.later()
+        await self.tell_all_to(socket)
         try:
             async for message in socket:
                 if message.type == WSMsgType.TEXT:
@@ -76,6 +75,13 @@ class Server:
         finally:
             self.tabs.discard(socket)
         return socket
+
+    async def tell_all_to(self, socket: web.WebSocketResponse) -> None:
+        """Tells one tab all there is, when it opens, or has missed an event; each later event it is told of."""
+        async with self.telling:
+            await socket.send_json(await self.call(self.board.opened))
+            self.tabs.add(socket)
+        self.later()
 
     async def close_tabs(self, app: web.Application) -> None:
         """Where a tab is open the server would wait for it."""
@@ -89,7 +95,7 @@ class Server:
         """Answers a question, and tells all tabs what it changed."""
         try:
             question = json.loads(data)
-            answer = await self.answer_to(question)
+            answer = await self.answer_to(socket, question)
         except stabsim.Refused as refused:
             answer = {"refused": f"refused {refused.number} {refused.name}"}
         except (ValueError, KeyError, TypeError, stabsim.StabsimError, OSError) as fault:
@@ -97,16 +103,23 @@ class Server:
         if isinstance(question, dict) and "id" in question:
             await socket.send_json({**answer, "id": question["id"]})
 
-    async def answer_to(self, question: Message) -> Message:
+    async def answer_to(self, socket: web.WebSocketResponse, question: Message) -> Message:
         asked = question["ask"]
         if asked == "edit":
-            return await self.change(self.board.edit, Edit.of_message(question["edit"]))
+            edit, inside = Edit.of_message(question["edit"]), question.get("round")
+            if inside:
+                return await self.change(self.board.edit_in_round, edit, str(inside["place"]), int(inside["number"]))
+            return await self.change(self.board.edit, edit)
         if asked == "split":
             return await self.change(self.board.split, str(question["place"]), int(question["round"]))
         if asked == "go":
             return await self.change(self.board.go, int(question["position"]))
         if asked == "mark":
-            await self.tell(await self.call(self.board.mark))
+            async with self.telling:
+                await self.tell(await self.call(self.board.mark))
+            return {}
+        if asked == "all":
+            await self.tell_all_to(socket)
             return {}
         if asked == "sign":
             return {"sign": "0+-"[await self.call(self.board.session.sign, str(question["pauli"]))]}
@@ -119,10 +132,10 @@ class Server:
         raise ValueError(f"nothing is known of {asked}")
 
     async def change(self, function: Any, *values: Any) -> Message:
-        event = await self.call(function, *values)
-        self.age += 1
-        self.faults = None
-        await self.tell(event)
+        async with self.telling:
+            event = await self.call(function, *values)
+            self.faults = None
+            await self.tell(event)
         self.later()
         return {}
 
@@ -137,24 +150,24 @@ class Server:
 
     def later(self) -> None:
         """What is found out once the edit is answered: sure bits, and the table of faults."""
-        asyncio.get_running_loop().create_task(self.find_out(self.age))
+        asyncio.get_running_loop().create_task(self.find_out(self.board.age))
 
     async def find_out(self, age: int) -> None:
         """Both are of the circuit as text, so that the session's thread is free for edits meanwhile."""
         # A person who edits on is not kept waiting for what would be stale.
         await asyncio.sleep(0.2)
-        if age != self.age:
+        if age != self.board.age:
             return
         try:
             text = await self.call(self.board.text)
             if self.board.sure is None:
                 sure = await self.in_background(sure_line, text)
-                if age == self.age:
+                if age == self.board.age:
                     self.board.sure = sure
-                    await self.tell({"event": "sure", "sure": sure})
-            if self.faults is None and age == self.age:
+                    await self.tell({"event": "sure", "age": age, "sure": sure})
+            if self.faults is None and age == self.board.age:
                 table = await self.in_background(MomentFaults.of_circuit, text)
-                if age == self.age:
+                if age == self.board.age:
                     self.faults = table
         except stabsim.StabsimError:
             # Nothing is told of it; where the session has ended, the next question says so.

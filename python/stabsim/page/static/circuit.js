@@ -1,32 +1,30 @@
 // A circuit as a tree of items, with the counts that the views ask for.
 //
-// An item is {text, name, targets} for one line, or {text, count, items} for a block. Its path is the list
-// of its place in the outermost list, then in the block there, and so on, as the editing session counts them.
+// An item is {text, name, targets} for one line, or {text, count, items, once} for a block. Each has its `ticks`, `records` and
+// `detectors`, a block those of all its rounds, and in `once` those of one. A path is the list of an item's place in the
+// outermost list, then in the block there, and so on, as the editing session counts them.
 
 const HEAD = /^([A-Za-z][A-Za-z0-9_]*)(?:\[[^\]]*\])?(?:\(([^)]*)\))?\s*(.*)$/;
 const NAMES = {
   CNOT: "CX", ZCX: "CX", ZCY: "CY", ZCZ: "CZ", H_XZ: "H", SQRT_Z: "S", SQRT_Z_DAG: "S_DAG", SWAPCX: "SWAPCX",
   MZ: "M", MRZ: "MR", RZ: "R",
 };
-const RECORDED = new Set(["M", "MX", "MY", "MR", "MRX", "MRY"]);
-const COUNTS = ["ticks", "records", "detectors"];
+const RECORDED = new Set(["M", "MX", "MY", "MR", "MRX", "MRY", "MPP"]);
 
 // The items of a circuit's text.
 export function parse(text) {
   const outermost = [];
-  const open = [outermost];
+  const open = [];
   for (const raw of text.split("\n")) {
     const line = withoutComment(raw).trim();
     if (!line) continue;
-    if (line.endsWith("{")) {
-      const block = blockOf(line);
-      open.at(-1).push(block);
-      open.push(block.items);
-    } else if (line === "}") {
-      open.pop();
-    } else {
-      open.at(-1).push(lineOf(line));
+    if (line === "}") {
+      recount(open.pop());
+      continue;
     }
+    const item = line.endsWith("{") ? blockOf(line) : lineOf(line);
+    (open.at(-1)?.items ?? outermost).push(item);
+    if (item.items) open.push(item);
   }
   return outermost;
 }
@@ -38,17 +36,21 @@ function withoutComment(line) {
 
 function blockOf(line) {
   const head = HEAD.exec(line.slice(0, -1).trim());
-  return { text: line.slice(0, -1).trim(), count: Number(head[3]), items: [] };
+  return { text: line.slice(0, -1).trim(), count: Number(head[3]), items: [], once: null, ticks: 0, records: 0, detectors: 0 };
 }
 
 function lineOf(line) {
-  const [, written, brackets, rest] = HEAD.exec(line);
+  const [, written, , rest] = HEAD.exec(line);
   const upper = written.toUpperCase();
+  const name = NAMES[upper] ?? upper;
+  const targets = rest ? rest.split(/\s+/) : [];
   return {
     text: line,
-    name: NAMES[upper] ?? upper,
-    numbers: brackets === undefined ? [] : brackets.split(",").map(Number),
-    targets: rest.split(/\s+/).filter((word) => word),
+    name,
+    targets,
+    ticks: name === "TICK" ? 1 : 0,
+    records: RECORDED.has(name) ? targets.length : 0,
+    detectors: name === "DETECTOR" ? 1 : 0,
   };
 }
 
@@ -66,11 +68,7 @@ export function textOf(item, depth = 0) {
 }
 
 // The list in which a path's last place stands.
-export function listAt(items, path) {
-  let list = items;
-  for (const place of path.slice(0, -1)) list = list[place].items;
-  return list;
-}
+const listAt = (items, path) => blocksAround(items, path).at(-1)?.items ?? items;
 
 export function itemAt(items, path) {
   return listAt(items, path)[path.at(-1)];
@@ -86,43 +84,36 @@ export function applyEdit(items, edit) {
   if (edit.kind === "insert") list.splice(place, 0, itemOf(edit.item));
   else if (edit.kind === "replace") list.splice(place, 1, itemOf(edit.item));
   else if (edit.kind === "delete") list.splice(place, 1);
-  forget(items, path);
+  for (const block of blocksAround(items, path).reverse()) recount(block);
 }
 
-// Counts are kept in blocks; those around a path are counted anew.
-function forget(items, path) {
+// The blocks around a path, the outermost first.
+export function blocksAround(items, path) {
+  const blocks = [];
   let list = items;
   for (const place of path.slice(0, -1)) {
-    delete list[place].counts;
+    blocks.push(list[place]);
     list = list[place].items;
   }
+  return blocks;
 }
 
-// How many ticks, records and detectors an item has, its rounds written out.
-export function countsOf(item) {
-  if (!item.items) return countsOfLine(item);
-  if (!item.counts) {
-    const once = countsOfList(item.items);
-    item.counts = Object.fromEntries(COUNTS.map((name) => [name, once[name] * item.count]));
-  }
-  return item.counts;
+function recount(block) {
+  block.once = countsOfList(block.items);
+  block.ticks = block.once.ticks * block.count;
+  block.records = block.once.records * block.count;
+  block.detectors = block.once.detectors * block.count;
 }
 
+// How many ticks, records and detectors items have, their rounds written out.
 export function countsOfList(items) {
   const sum = { ticks: 0, records: 0, detectors: 0 };
   for (const item of items) {
-    const counts = countsOf(item);
-    for (const name of COUNTS) sum[name] += counts[name];
+    sum.ticks += item.ticks;
+    sum.records += item.records;
+    sum.detectors += item.detectors;
   }
   return sum;
-}
-
-function countsOfLine(item) {
-  return {
-    ticks: item.name === "TICK" ? 1 : 0,
-    records: RECORDED.has(item.name) || item.name === "MPP" ? item.targets.length : 0,
-    detectors: item.name === "DETECTOR" ? 1 : 0,
-  };
 }
 
 // The place of the thing with a number: "detectors" or "ticks". Answers {item, path, rounds, records}, with the
@@ -135,21 +126,19 @@ export function findNumbered(items, name, number) {
   let list = items;
   for (;;) {
     const place = list.findIndex((item) => {
-      const counts = countsOf(item);
-      if (left < counts[name]) return true;
-      left -= counts[name];
-      records += counts.records;
+      if (left < item[name]) return true;
+      left -= item[name];
+      records += item.records;
       return false;
     });
     if (place < 0) return null;
     const item = list[place];
     path.push(place);
     if (!item.items) return { item, path, rounds, records };
-    const once = countsOfList(item.items);
-    const round = Math.floor(left / once[name]);
+    const round = Math.floor(left / item.once[name]);
     rounds.push(round);
-    left -= round * once[name];
-    records += round * once.records;
+    left -= round * item.once[name];
+    records += round * item.once.records;
     list = item.items;
   }
 }

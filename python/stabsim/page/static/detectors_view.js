@@ -6,15 +6,22 @@ import { findNumbered } from "./circuit.js";
 const DOT = 12;
 const GAP = 14;
 const TOP = 40;
+const COLOURS = ["zero", "one", "random", "flip", "quiet", "line", "ink"];
 
 export class DetectorsView {
   #place;
   #canvas;
+  #pen;
   #tip;
   #act;
   #state = null;
-  #spots = [];
+  #laid = null;
+  #flipped = null;
   #slices = [];
+  #sliceOf = [];
+  #across = 1;
+  #size = { width: 0, height: 0 };
+  #colours = {};
   #since = "edit";
 
   // `act.select(path)` shows the item of a detector that is clicked.
@@ -26,6 +33,7 @@ export class DetectorsView {
     this.#canvas.tabIndex = 0;
     this.#canvas.setAttribute("role", "img");
     this.#canvas.setAttribute("aria-label", "detectors over space and time");
+    this.#pen = this.#canvas.getContext("2d");
     const sheet = document.createElement("div");
     sheet.className = "sheet";
     sheet.append(this.#canvas);
@@ -34,16 +42,23 @@ export class DetectorsView {
     this.#canvas.addEventListener("pointermove", (event) => this.#point(event));
     this.#canvas.addEventListener("pointerleave", () => { this.#tip.hidden = true; });
     this.#canvas.addEventListener("click", (event) => this.#choose(event));
-    new ResizeObserver(() => this.#draw()).observe(place);
-    matchMedia("(prefers-color-scheme: dark)").addEventListener("change", () => this.#draw());
+    new ResizeObserver(() => this.#fit()).observe(place);
+    this.#findColours();
+    matchMedia("(prefers-color-scheme: dark)").addEventListener("change", () => {
+      this.#findColours();
+      this.#draw();
+    });
   }
 
   // state: {items, detectors, observables, sure, coordinates, flipped, marked}: bits as arrays of 0 and 1, sure ones
   // over detectors and then observables or null where they are not known yet, coordinates a list for each detector,
-  // and the names of what the last edit flipped and of what was flipped since the mark.
+  // and sets of the names of what the last edit flipped and of what was flipped since the mark.
   show(state) {
+    const isNew = state.flipped !== this.#flipped;
     this.#state = state;
-    this.#lay();
+    this.#flipped = state.flipped;
+    if (state.coordinates !== this.#laid) this.#lay();
+    if (isNew) this.#bringIntoSight();
     this.#draw();
   }
 
@@ -53,110 +68,135 @@ export class DetectorsView {
     this.#draw();
   }
 
+  // Scrolls to the first detector that an edit flipped, where none that it flipped is in sight.
+  #bringIntoSight() {
+    const flipped = [...this.#state.flipped].filter((name) => name.startsWith("D")).map((name) => this.#sliceOf[Number(name.slice(1))]);
+    const { scrollLeft } = this.#place;
+    const isInSight = ({ left }) => left + this.#across > scrollLeft && left < scrollLeft + this.#size.width;
+    if (flipped.length && !flipped.some(isInSight)) this.#place.scrollLeft = flipped[0].left - GAP;
+  }
+
+  #findColours() {
+    const style = getComputedStyle(document.documentElement);
+    for (const name of COLOURS) this.#colours[name] = style.getPropertyValue(`--${name}`).trim();
+  }
+
+  // Detectors stay where they are until coordinates are told anew.
   #lay() {
-    const { detectors } = this.#state;
-    const spots = Array.from({ length: detectors.length }, (_, number) => this.#spotOf(number));
-    const times = [...new Set(spots.map((spot) => spot.time))].sort((a, b) => a - b);
-    const width = 1 + spots.reduce((most, spot) => Math.max(most, spot.x), 0);
-    const height = 1 + spots.reduce((most, spot) => Math.max(most, spot.y), 0);
-    const order = new Map(times.map((time, i) => [time, i]));
-    const across = width * DOT + GAP;
-    this.#slices = times.map((time, i) => ({ time, left: GAP + i * across, across }));
-    this.#spots = spots.map((spot) => ({ left: GAP + order.get(spot.time) * across + spot.x * DOT, top: TOP + spot.y * DOT }));
+    const { detectors, observables, coordinates } = this.#state;
+    this.#laid = coordinates;
+    const byTime = new Map();
+    let [width, height] = [1, 1];
+    for (let number = 0; number < detectors.length; number += 1) {
+      const { time, x, y: given } = spotOf(number, coordinates[number]);
+      if (!byTime.has(time)) byTime.set(time, []);
+      const spots = byTime.get(time);
+      const y = given ?? spots.length;
+      spots.push({ number, x: x * DOT, top: TOP + y * DOT });
+      width = Math.max(width, x + 1);
+      height = Math.max(height, y + 1);
+    }
+    this.#across = width * DOT + GAP;
+    const times = [...byTime.keys()].sort((a, b) => a - b);
+    this.#slices = times.map((time, i) => ({ time, left: GAP + i * this.#across, spots: byTime.get(time) }));
+    this.#sliceOf = new Array(detectors.length);
+    for (const slice of this.#slices) for (const { number } of slice.spots) this.#sliceOf[number] = slice;
     const sheet = this.#canvas.parentElement;
-    sheet.style.width = `${Math.max(GAP + times.length * across, GAP + this.#state.observables.length * DOT * 2 + 120)}px`;
+    sheet.style.width = `${Math.max(GAP + times.length * this.#across, GAP + observables.length * DOT * 2 + 120)}px`;
     sheet.style.height = `${TOP + height * DOT + GAP}px`;
   }
 
-  // By coordinates: the last is time, the first two are place. Without any: the rounds around it, and its order.
-  #spotOf(number) {
-    const at = this.#state.coordinates[number] ?? [];
-    if (at.length >= 3) return { time: at.at(-1), x: at[0], y: at[1] };
-    if (at.length === 2) return { time: at[1], x: 0, y: at[0] };
-    if (at.length === 1) return { time: at[0], x: 0, y: number };
-    const found = findNumbered(this.#state.items, "detectors", number);
-    return { time: Math.floor(number / 32), x: 0, y: number % 32, rounds: found?.rounds };
+  // The canvas is as large as the place through which it is seen.
+  #fit() {
+    const { clientWidth: width, clientHeight: height } = this.#place;
+    this.#size = { width, height };
+    this.#canvas.width = width * devicePixelRatio;
+    this.#canvas.height = height * devicePixelRatio;
+    Object.assign(this.#canvas.style, { width: `${width}px`, height: `${height}px` });
+    this.#draw();
   }
 
   #draw() {
     if (!this.#state) return;
-    const { clientWidth, clientHeight, scrollLeft, scrollTop } = this.#place;
-    const scale = devicePixelRatio;
-    this.#canvas.width = clientWidth * scale;
-    this.#canvas.height = clientHeight * scale;
-    Object.assign(this.#canvas.style, { width: `${clientWidth}px`, height: `${clientHeight}px`, left: `${scrollLeft}px`, top: `${scrollTop}px` });
-    const pen = this.#canvas.getContext("2d");
-    pen.setTransform(scale, 0, 0, scale, -scrollLeft * scale, -scrollTop * scale);
-    const style = getComputedStyle(document.documentElement);
-    const colour = (name) => style.getPropertyValue(`--${name}`).trim();
-    const inSight = { left: scrollLeft - 20, right: scrollLeft + clientWidth + 20 };
-    this.#drawSlices(pen, colour, inSight);
-    const flips = new Set(this.#since === "edit" ? this.#state.flipped : this.#state.marked);
-    this.#spots.forEach((spot, number) => {
-      if (spot.left < inSight.left || spot.left > inSight.right) return;
-      this.#dot(pen, colour, spot, this.#state.detectors[number], this.#isSure(number), flips.has(`D${number}`));
-    });
-    this.#drawObservables(pen, colour, flips);
-  }
-
-  #isSure(number) {
-    return this.#state.sure === null || this.#state.sure[number] === 1;
-  }
-
-  #drawSlices(pen, colour, inSight) {
+    const { scrollLeft, scrollTop } = this.#place;
+    const { width, height } = this.#size;
+    const pen = this.#pen;
+    Object.assign(this.#canvas.style, { left: `${scrollLeft}px`, top: `${scrollTop}px` });
+    pen.setTransform(devicePixelRatio, 0, 0, devicePixelRatio, -scrollLeft * devicePixelRatio, -scrollTop * devicePixelRatio);
+    pen.clearRect(scrollLeft, scrollTop, width, height);
     pen.font = "11px system-ui, sans-serif";
-    for (const slice of this.#slices) {
-      if (slice.left + slice.across < inSight.left || slice.left > inSight.right) continue;
-      pen.fillStyle = colour("quiet");
-      pen.fillText(String(slice.time), slice.left - 4, TOP - 10);
-      pen.fillStyle = colour("line");
-      pen.fillRect(slice.left - GAP / 2 - 2, TOP - 6, 1, this.#canvas.height);
-    }
+    const first = Math.max(0, Math.floor((scrollLeft - 20 - GAP) / this.#across));
+    const slices = this.#slices.slice(first, Math.ceil((scrollLeft + width + 20) / this.#across) + 1);
+    for (const slice of slices) this.#drawTime(slice, scrollTop + height);
+    this.#drawDots(slices.flatMap(({ left, spots }) => spots.map(({ number, x, top }) => ({ left: left + x, top, place: number }))));
+    this.#drawObservables(scrollLeft + GAP + 8);
   }
 
-  #dot(pen, colour, { left, top }, bit, sure, flipped) {
-    pen.beginPath();
-    pen.arc(left, top, 4, 0, 2 * Math.PI);
-    pen.fillStyle = bit ? colour("one") : colour("zero");
-    pen.fill();
-    if (!sure) {
-      pen.strokeStyle = colour("random");
-      pen.setLineDash([2, 2]);
-      pen.stroke();
-      pen.setLineDash([]);
-    }
-    if (flipped) {
-      pen.beginPath();
-      pen.arc(left, top, 5.5, 0, 2 * Math.PI);
-      pen.lineWidth = 2;
-      pen.strokeStyle = colour("flip");
-      pen.stroke();
-      pen.lineWidth = 1;
-    }
+  #drawTime({ time, left }, bottom) {
+    this.#pen.fillStyle = this.#colours.quiet;
+    this.#pen.fillText(String(time), left - 4, TOP - 10);
+    this.#pen.fillStyle = this.#colours.line;
+    this.#pen.fillRect(left - GAP / 2 - 2, TOP - 6, 1, bottom);
   }
 
-  #drawObservables(pen, colour, flips) {
+  #drawObservables(left) {
     const { observables, detectors } = this.#state;
-    const left = this.#place.scrollLeft + GAP;
-    observables.forEach((bit, number) => {
-      const spot = { left: left + 8 + number * 34, top: 12 };
-      this.#dot(pen, colour, spot, bit, this.#isSure(detectors.length + number), flips.has(`L${number}`));
-      pen.fillStyle = colour("ink");
-      pen.fillText(`L${number}`, spot.left + 8, 16);
-    });
+    const spots = Array.from(observables, (_, number) => ({ left: left + number * 34, top: 12, place: detectors.length + number }));
+    this.#drawDots(spots);
+    this.#pen.fillStyle = this.#colours.ink;
+    spots.forEach((spot, number) => this.#pen.fillText(`L${number}`, spot.left + 8, 16));
   }
 
+  // Draws dots with a colour for each bit, and rings for what a coin decides and for what was flipped: each kind by one stroke of
+  // the pen. A place counts over detectors and then observables.
+  #drawDots(spots) {
+    const { detectors, observables, flipped, marked } = this.#state;
+    const flips = this.#since === "edit" ? flipped : marked;
+    const bitAt = (place) => (place < detectors.length ? detectors[place] : observables[place - detectors.length]);
+    const nameOf = (place) => (place < detectors.length ? `D${place}` : `L${place - detectors.length}`);
+    for (const [bit, colour] of [[0, "zero"], [1, "one"]]) {
+      this.#pen.fillStyle = this.#colours[colour];
+      this.#rings(spots.filter(({ place }) => bitAt(place) === bit), 4);
+      this.#pen.fill();
+    }
+    this.#pen.strokeStyle = this.#colours.random;
+    this.#pen.setLineDash([2, 2]);
+    this.#rings(spots.filter(({ place }) => !this.#isSure(place)), 4);
+    this.#pen.stroke();
+    this.#pen.setLineDash([]);
+    this.#pen.strokeStyle = this.#colours.flip;
+    this.#pen.lineWidth = 2;
+    this.#rings(spots.filter(({ place }) => flips.size > 0 && flips.has(nameOf(place))), 5.5);
+    this.#pen.stroke();
+    this.#pen.lineWidth = 1;
+  }
+
+  #rings(spots, radius) {
+    this.#pen.beginPath();
+    for (const { left, top } of spots) {
+      this.#pen.moveTo(left + radius, top);
+      this.#pen.arc(left, top, radius, 0, 2 * Math.PI);
+    }
+  }
+
+  #isSure(place) {
+    return this.#state.sure === null || this.#state.sure[place] === 1;
+  }
+
+  // The detector under the pointer, or null.
   #numberAt(event) {
     const box = this.#canvas.getBoundingClientRect();
     const left = event.clientX - box.left + this.#place.scrollLeft;
     const top = event.clientY - box.top + this.#place.scrollTop;
-    return this.#spots.findIndex((spot) => (spot.left - left) ** 2 + (spot.top - top) ** 2 <= 36);
+    const slice = this.#slices[Math.floor((left - GAP + DOT / 2) / this.#across)];
+    const spot = slice?.spots.find((it) => (slice.left + it.x - left) ** 2 + (it.top - top) ** 2 <= 36);
+    return spot ? spot.number : null;
   }
 
   #point(event) {
     const number = this.#numberAt(event);
-    this.#tip.hidden = number < 0;
-    if (number < 0) return;
+    this.#tip.hidden = number === null;
+    if (number === null) return;
     this.#tip.textContent = this.#saidOf(number);
     this.#tip.style.left = `${event.clientX + 14}px`;
     this.#tip.style.top = `${event.clientY + 14}px`;
@@ -174,7 +214,15 @@ export class DetectorsView {
 
   #choose(event) {
     const number = this.#numberAt(event);
-    if (number < 0) return;
-    this.#act.select(findNumbered(this.#state.items, "detectors", number).path);
+    if (number !== null) this.#act.select(findNumbered(this.#state.items, "detectors", number).path);
   }
+}
+
+// Where a detector stands: by coordinates the last is time, and the first two are place; without any by its number. Those of a
+// time alone stand below each other.
+function spotOf(number, at = []) {
+  if (at.length >= 3) return { time: at.at(-1), x: at[0], y: at[1] };
+  if (at.length === 2) return { time: at[1], x: 0, y: at[0] };
+  if (at.length === 1) return { time: at[0], x: 0, y: null };
+  return { time: Math.floor(number / 32), x: 0, y: number % 32 };
 }

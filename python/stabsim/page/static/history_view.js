@@ -3,36 +3,44 @@
 export class HistoryView {
   #place;
   #go;
+  #lines = [];
+  #shown = [];
 
   // `go(position)` goes back or forward to the state behind so many edits.
   constructor(place, go) {
     this.#place = place;
     this.#go = go;
+    this.#add("opened", "");
   }
 
+  // Lines of entries that are shown already stay.
   show(entries, position, markedAt) {
-    const lines = [this.#line(0, "opened", "", position, markedAt)];
-    entries.forEach((entry, i) => {
-      lines.push(this.#line(i + 1, entry.text, saidOf(entry), position, markedAt));
+    let same = 0;
+    while (same < this.#shown.length && this.#shown[same] === entries[same]) same += 1;
+    for (const line of this.#lines.splice(same + 1)) line.remove();
+    for (const entry of entries.slice(same)) this.#add(entry.text, saidOf(entry));
+    this.#shown = [...entries];
+    this.#lines.forEach((line, number) => {
+      line.classList.toggle("now", number === position);
+      line.classList.toggle("undone", number > position);
+      line.classList.toggle("marked", number === markedAt);
+      line.firstChild.title = number === position ? "the circuit as it is" : "go to the circuit as it was behind this edit";
     });
-    this.#place.replaceChildren(...lines);
-    this.#place.querySelector(".now")?.scrollIntoView({ block: "nearest" });
+    this.#lines[position].scrollIntoView({ block: "nearest" });
   }
 
-  #line(number, text, said, position, markedAt) {
+  #add(text, said) {
+    const number = this.#lines.length;
     const line = document.createElement("li");
     const button = document.createElement("button");
     button.textContent = text;
-    button.title = number === position ? "the circuit as it is" : "go to the circuit as it was behind this edit";
     button.addEventListener("click", () => this.#go(number));
     const told = document.createElement("span");
     told.className = "told";
     told.textContent = said;
     line.append(button, told);
-    line.classList.toggle("now", number === position);
-    line.classList.toggle("undone", number > position);
-    line.classList.toggle("marked", number === markedAt);
-    return line;
+    this.#place.append(line);
+    this.#lines.push(line);
   }
 }
 

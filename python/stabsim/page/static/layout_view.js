@@ -6,6 +6,8 @@ import { momentAt, momentsOf } from "./moments.js";
 
 const SVG = "http://www.w3.org/2000/svg";
 const STEP = 46;
+// Names are left out where they would be too small to be read: below this part of their size.
+const LEAST_SCALE = 0.5;
 const LETTER_CLASS = ["", "x", "z", "y"];
 
 export class LayoutView {
@@ -14,12 +16,18 @@ export class LayoutView {
   #said;
   #act;
   #items = [];
+  #qubits = 0;
+  #coordinates = null;
   #places = new Map();
-  #qubits = [];
+  #dots = [];
+  #lines = element("g", {});
+  #drawnLines = null;
+  #extent = { width: 1, height: 1 };
   #moment = 0;
+  #instructions = [];
   #way = null;
 
-  // `act` has put(letter, qubit, moment, instructions), hover(qubit, moment, instructions) and select(path).
+  // `act` has put(letter, qubit, moment, instructions), choose(qubit, event), hover(qubit, moment), leave() and select(path).
   constructor({ place, slider, said }, act) {
     this.#place = place;
     this.#slider = slider;
@@ -27,26 +35,35 @@ export class LayoutView {
     this.#act = act;
     slider.addEventListener("input", () => this.goTo(Number(slider.value)));
     place.addEventListener("pointerleave", () => this.#act.leave());
+    new ResizeObserver(() => this.#fit()).observe(place);
   }
 
   // Coordinates are a list for each qubit that has some; the others stand in a row.
   show(items, qubits, coordinates) {
     this.#items = items;
-    this.#qubits = Array.from({ length: qubits }, (_, qubit) => qubit);
-    this.#places = placesOf(this.#qubits, coordinates);
-    this.#slider.max = momentsOf(items) - 1;
     this.#way = null;
-    this.goTo(Math.min(this.#moment, momentsOf(items) - 1));
+    if (qubits !== this.#qubits || coordinates !== this.#coordinates) {
+      this.#qubits = qubits;
+      this.#coordinates = coordinates;
+      this.#lay();
+    }
+    this.#slider.max = momentsOf(items) - 1;
+    this.goTo(Math.min(this.#moment, Number(this.#slider.max)));
   }
 
   get moment() {
     return this.#moment;
   }
 
+  get instructions() {
+    return this.#instructions;
+  }
+
   goTo(moment) {
     this.#moment = moment;
     this.#slider.value = moment;
     this.#said.textContent = `tick ${moment} of ${this.#slider.max}`;
+    this.#instructions = momentAt(this.#items, moment);
     this.#draw();
   }
 
@@ -68,79 +85,110 @@ export class LayoutView {
     return { string, flipped };
   }
 
-  #draw() {
-    const instructions = momentAt(this.#items, this.#moment);
-    const picture = document.createElementNS(SVG, "svg");
+  // Makes the picture of all qubits; each moment then changes what differs there.
+  #lay() {
+    this.#places = placesOf(this.#qubits, this.#coordinates);
+    this.#dots = Array.from({ length: this.#qubits }, (_, qubit) => this.#dotOf(qubit));
+    this.#drawnLines = null;
     const ends = endsOf(this.#places);
-    picture.setAttribute("viewBox", `${ends.left - STEP} ${ends.top - STEP} ${ends.width + 2 * STEP} ${ends.height + 2 * STEP}`);
-    picture.setAttribute("role", "img");
-    picture.setAttribute("aria-label", `the qubits at tick ${this.#moment}`);
-    const labels = this.#labels(instructions);
-    for (const { item, path } of instructions) this.#drawPairs(picture, item, path);
-    const way = this.#string();
-    for (const qubit of this.#qubits) picture.append(this.#dot(qubit, labels.get(qubit), way, instructions));
+    this.#extent = { width: ends.width + 2 * STEP, height: ends.height + 2 * STEP };
+    const { width, height } = this.#extent;
+    const picture = element("svg", { viewBox: `${ends.left - STEP} ${ends.top - STEP} ${width} ${height}`, role: "img", "aria-label": "the qubits" });
+    picture.append(this.#lines, ...this.#dots.map((dot) => dot.group));
     this.#place.replaceChildren(picture);
+    this.#fit();
   }
 
-  // The name of what happens on a qubit in a moment.
-  #labels(instructions) {
-    const labels = new Map();
-    for (const { item } of instructions) {
-      if (isPair(item.name)) continue;
-      for (const group of groupsOf(item)) for (const qubit of group) labels.set(qubit, item.name);
-    }
-    return labels;
+  #fit() {
+    const scale = Math.min(this.#place.clientWidth / this.#extent.width, this.#place.clientHeight / this.#extent.height);
+    this.#place.classList.toggle("small", scale < LEAST_SCALE);
   }
 
-  #drawPairs(picture, item, path) {
-    for (const group of groupsOf(item)) {
-      if (group.length < 2) continue;
-      for (let i = 0; i + 1 < group.length; i += 1) {
-        const [a, b] = [this.#places.get(group[i]), this.#places.get(group[i + 1])];
-        if (!a || !b) continue;
-        const line = element("line", { x1: a.x, y1: a.y, x2: b.x, y2: b.y, class: `pair ${item.name.toLowerCase()}` });
-        line.append(titleOf(`${item.name} ${group.join(" ")}, item ${path.join("/")}`));
-        line.addEventListener("click", () => this.#act.select(path));
-        picture.append(line);
-      }
-      if (isPair(item.name)) picture.append(this.#target(item.name, this.#places.get(group[1])));
-    }
-  }
-
-  #target(name, place) {
-    return element("text", { x: place.x + 15, y: place.y - 12, class: "pair-name" }, name === "SWAP" ? "×" : name.slice(1));
-  }
-
-  #dot(qubit, label, way, instructions) {
+  #dotOf(qubit) {
     const { x, y } = this.#places.get(qubit);
     const group = element("g", { class: "qubit", tabindex: 0, role: "button", "aria-label": `qubit ${qubit}`, "data-qubit": qubit });
-    const letter = way?.string.get(qubit) ?? 0;
-    const state = [label ? (isCollapse(label) ? "collapse" : "gate") : "", LETTER_CLASS[letter], way?.flipped.has(qubit) ? "flipped" : ""];
-    group.append(element("circle", { cx: x, cy: y, r: 14, class: state.filter(Boolean).join(" ") }));
-    group.append(element("text", { x, y: y + 4, class: "name" }, letter ? LETTERS[letter] : short(label) ?? String(qubit)));
-    if (label && resets(label)) group.append(element("text", { x: x + 15, y: y + 16, class: "pair-name" }, "0"));
-    group.append(titleOf(`qubit ${qubit}${label ? `, ${label}` : ""}`));
-    group.addEventListener("pointerenter", () => this.#act.hover(qubit, this.#moment, instructions));
-    group.addEventListener("focus", () => this.#act.hover(qubit, this.#moment, instructions));
+    const circle = element("circle", { cx: x, cy: y, r: 14 });
+    const name = element("text", { x, y: y + 4, class: "name" }, "");
+    const zero = element("text", { x: x + 15, y: y + 16, class: "pair-name" }, "");
+    const title = element("title", {}, "");
+    group.append(circle, name, zero, title);
+    group.addEventListener("pointerenter", () => this.#act.hover(qubit, this.#moment));
+    group.addEventListener("focus", () => this.#act.hover(qubit, this.#moment));
     group.addEventListener("click", (event) => this.#act.choose(qubit, event));
     group.addEventListener("keydown", (event) => {
       const typed = "ixzy".indexOf(event.key.toLowerCase());
-      if (typed > 0) this.#act.put(typed, qubit, this.#moment, instructions);
+      if (typed > 0) this.#act.put(typed, qubit, this.#moment, this.#instructions);
       if (event.key === "Enter") this.#act.choose(qubit, event);
     });
-    return group;
+    return { group, circle, name, zero, title, shown: null };
   }
 
-  instructions() {
-    return momentAt(this.#items, this.#moment);
+  #draw() {
+    this.#drawLines();
+    const labels = labelsOf(this.#instructions);
+    const way = this.#string();
+    this.#dots.forEach((dot, qubit) => {
+      const letter = way?.string.get(qubit) ?? 0;
+      drawDot(dot, qubit, { label: labels.get(qubit) ?? "", letter, flipped: Boolean(way?.flipped.has(qubit)) });
+    });
+  }
+
+  // Gates on several qubits, drawn anew only where they are others than those that are drawn, or stand elsewhere.
+  #drawLines() {
+    const joining = this.#instructions.filter(({ item }) => isPair(item.name) || item.name === "MPP");
+    const shown = joining.map(({ item, path }) => `${path.join("/")} ${item.text}`).join("\n");
+    if (shown === this.#drawnLines) return;
+    this.#drawnLines = shown;
+    this.#lines.replaceChildren(...joining.flatMap(({ item, path }) => groupsOf(item).flatMap((group) => this.#linesOf(item, path, group))));
+  }
+
+  #linesOf(item, path, group) {
+    const lines = [];
+    for (let i = 0; i + 1 < group.length; i += 1) {
+      const [a, b] = [this.#places.get(group[i]), this.#places.get(group[i + 1])];
+      const line = element("line", { x1: a.x, y1: a.y, x2: b.x, y2: b.y, class: `pair ${item.name.toLowerCase()}` });
+      line.append(element("title", {}, `${item.name} ${group.join(" ")}, item ${path.join("/")}`));
+      line.addEventListener("click", () => this.#act.select(path));
+      lines.push(line);
+    }
+    if (isPair(item.name) && group.length === 2) lines.push(targetOf(item.name, this.#places.get(group[1])));
+    return lines;
   }
 }
 
-function placesOf(qubits, coordinates) {
-  const places = new Map();
-  let alone = 0;
+// The name of what happens on each qubit in a moment, but for gates on two.
+function labelsOf(instructions) {
+  const labels = new Map();
+  for (const { item } of instructions) {
+    if (isPair(item.name)) continue;
+    for (const group of groupsOf(item)) for (const qubit of group) labels.set(qubit, item.name);
+  }
+  return labels;
+}
+
+// Draws a qubit, where something else is shown on it than before.
+function drawDot(dot, qubit, { label, letter, flipped }) {
+  const shown = `${label} ${letter} ${flipped}`;
+  if (dot.shown === shown) return;
+  dot.shown = shown;
+  const kind = label ? (isCollapse(label) ? "collapse" : "gate") : "";
+  dot.circle.setAttribute("class", [kind, LETTER_CLASS[letter], flipped ? "flipped" : ""].filter(Boolean).join(" "));
+  dot.name.setAttribute("class", letter ? "name letter" : "name");
+  dot.name.textContent = letter ? LETTERS[letter] : label ? short(label) : String(qubit);
+  dot.zero.textContent = label && resets(label) ? "0" : "";
+  dot.title.textContent = `qubit ${qubit}${label ? `, ${label}` : ""}`;
+}
+
+function targetOf(name, place) {
+  return element("text", { x: place.x + 15, y: place.y - 12, class: "pair-name" }, name === "SWAP" ? "×" : name.slice(1));
+}
+
+function placesOf(count, coordinates) {
+  const qubits = Array.from({ length: count }, (_, qubit) => qubit);
   const given = qubits.filter((qubit) => coordinates[qubit]?.length);
   const lowest = given.reduce((low, qubit) => Math.max(low, coordinates[qubit][1] ?? 0), -1);
+  const places = new Map();
+  let alone = 0;
   for (const qubit of qubits) {
     const at = coordinates[qubit];
     if (at?.length) places.set(qubit, { x: at[0] * STEP, y: (at[1] ?? 0) * STEP });
@@ -165,7 +213,6 @@ function endsOf(places) {
 }
 
 function short(label) {
-  if (!label) return null;
   return label.length <= 3 ? label : label.replace("SQRT_", "√").replace("_DAG", "†").replace("C_", "");
 }
 
@@ -174,8 +221,4 @@ function element(name, attributes, text) {
   for (const [key, value] of Object.entries(attributes)) made.setAttribute(key, value);
   if (text !== undefined) made.textContent = text;
   return made;
-}
-
-function titleOf(text) {
-  return element("title", {}, text);
 }

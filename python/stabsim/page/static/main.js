@@ -1,6 +1,6 @@
 // The page: what the server says goes into the views, and what a person does goes to the server.
 
-import { applyEdit, itemAt, parse, pathOf } from "./circuit.js";
+import { applyEdit, parse, pathOf } from "./circuit.js";
 import { DetectorsView } from "./detectors_view.js";
 import { HistoryView } from "./history_view.js";
 import { LayoutView } from "./layout_view.js";
@@ -23,9 +23,14 @@ const link = new Link(hear, () => say("The server is gone: nothing more can be a
 function hear(event) {
   const started = performance.now();
   if (event.event === "opened") open(event);
-  else if (event.event === "edited") take(event);
-  else if (event.event === "sure") state.sure = bitsOf(event.sure);
-  else if (event.event === "marked") Object.assign(state, { marked: [], markedAt: event.position });
+  else if (state && event.event === "edited") {
+    if (event.age <= state.age) return;
+    // An event that did not come, as where the tab slept, had edits that this one goes on from.
+    if (event.age !== state.age + 1) return void ask({ ask: "all" });
+    take(event);
+  } else if (state && event.event === "sure" && event.age === state.age) state.sure = bitsOf(event.sure);
+  else if (state && event.event === "marked") mark(event);
+  else return;
   show(event.event);
   // What a test's clock reads: the time from the event to the picture.
   requestAnimationFrame(() => {
@@ -36,43 +41,38 @@ function hear(event) {
 
 function open(event) {
   state = {
+    age: event.age,
     name: event.name,
     items: parse(event.circuit),
     numbers: event.numbers,
-    detectors: bitsOf(event.detectors),
-    observables: bitsOf(event.observables),
     sure: event.sure === null ? null : bitsOf(event.sure),
-    qubitPlaces: event.qubit_coordinates,
-    coordinates: event.detector_coordinates,
     entries: event.entries,
     position: event.position,
     markedAt: event.marked_at,
-    flipped: event.flipped,
-    marked: event.marked,
+    flipped: new Set(event.flipped),
+    marked: new Set(event.marked),
   };
+  takeBits(event);
   by("save").hidden = !event.saves;
+  by("name").textContent = event.name;
   document.title = `${event.name} · stabsim`;
 }
 
-// Edits that were made, by this tab or another.
+// Edits that were made, by this tab or another. Entries that were undone have gone where new ones came.
 function take(event) {
   for (const made of event.edits) applyEdit(state.items, made);
-  Object.assign(state, {
-    numbers: event.numbers,
-    entries: event.entries,
-    position: event.position,
-    flipped: event.flipped,
-    marked: event.marked,
-    sure: null,
-  });
-  if (event.detectors !== undefined) {
-    state.detectors = bitsOf(event.detectors);
-    state.observables = bitsOf(event.observables);
-    state.coordinates = event.detector_coordinates;
-    state.qubitPlaces = event.qubit_coordinates;
-  } else {
-    event.flipped.forEach(flip);
-  }
+  if (event.entries.length) state.entries.splice(event.position - event.entries.length, Infinity, ...event.entries);
+  Object.assign(state, { age: event.age, numbers: event.numbers, position: event.position, flipped: new Set(event.flipped), sure: null });
+  for (const name of event.flipped) if (!state.marked.delete(name)) state.marked.add(name);
+  if (event.detectors === undefined) event.flipped.forEach(flip);
+  else takeBits(event);
+}
+
+function takeBits(event) {
+  state.detectors = bitsOf(event.detectors);
+  state.observables = bitsOf(event.observables);
+  state.coordinates = event.detector_coordinates;
+  state.qubitPlaces = event.qubit_coordinates;
 }
 
 function flip(name) {
@@ -80,21 +80,27 @@ function flip(name) {
   bits[Number(name.slice(1))] ^= 1;
 }
 
-const bitsOf = (line) => Array.from(line, Number);
+function mark(event) {
+  state.marked.clear();
+  state.markedAt = event.position;
+}
 
+const bitsOf = (line) => Uint8Array.from(line, Number);
+
+// Draws what an event changed: sure bits and marks stand in few views.
 function show(kind) {
-  const { numbers } = state;
-  by("name").textContent = state.name;
-  by("numbers").textContent = `${numbers.qubits} qubits · ${numbers.steps} steps · ${numbers.records} records · ${numbers.detectors} detectors · ${numbers.observables} observables`;
+  const { numbers, items } = state;
   if (kind === "opened" || kind === "edited") {
-    text.show(state.items);
-    layout.show(state.items, numbers.qubits, state.qubitPlaces);
-    history.show(state.entries, state.position, state.markedAt);
+    text.show(items);
+    detectors.show(state);
+    layout.show(items, numbers.qubits, state.qubitPlaces);
+    by("numbers").textContent = `${numbers.qubits} qubits · ${numbers.steps} steps · ${numbers.records} records · ${numbers.detectors} detectors · ${numbers.observables} observables`;
+    by("undo").disabled = state.position === 0;
+    by("redo").disabled = state.position === state.entries.length;
+  } else {
+    detectors.show(state);
   }
-  if (kind === "marked") history.show(state.entries, state.position, state.markedAt);
-  detectors.show(state);
-  by("undo").disabled = state.position === 0;
-  by("redo").disabled = state.position === state.entries.length;
+  if (kind !== "sure") history.show(state.entries, state.position, state.markedAt);
 }
 
 function say(words, bad = false) {
@@ -114,18 +120,23 @@ async function ask(question) {
   }
 }
 
-async function edit(made) {
-  const answer = await ask({ ask: "edit", edit: made });
+// Makes an edit, where `round` is {place, number} in a round of that block that is first taken out of it.
+async function edit(made, round = null) {
+  const answer = await ask({ ask: "edit", edit: made, round });
   if (answer.refused) text.refuse(made.place, answer.refused);
   return !answer.refused;
 }
 
-async function split(block, round) {
-  const place = block.join("/");
-  const answer = await ask({ ask: "split", place, round });
-  if (answer.refused) text.refuse(place, answer.refused);
-  return !answer.refused;
+// Takes a round out of the innermost block around a path, and chooses the path's item in it.
+async function split(path, round) {
+  const block = path.slice(0, -1);
+  const answer = await ask({ ask: "split", place: block.join("/"), round });
+  if (answer.refused) text.refuse(block.join("/"), answer.refused);
+  else text.select([...pathOfRound(block, round), path.at(-1)]);
 }
+
+// Where a round of a block stands once it is taken out: behind the rounds before, where there are some.
+const pathOfRound = (block, round) => [...block.slice(0, -1), block.at(-1) + (round > 0 ? 1 : 0)];
 
 function select(path) {
   text.select(path);
@@ -142,22 +153,22 @@ function placeAtEnd(instructions) {
   return tick ?? { path: [state.items.length], rounds: [] };
 }
 
-// Puts a letter on a qubit at the end of a moment; in one round alone where it stands in a block.
+// Puts a letter on a qubit at the end of a moment; where that stands in a block, in this round alone.
 async function put(letter, qubit, moment, instructions, everyRound = false) {
   const { path, rounds } = placeAtEnd(instructions);
+  const item = `${LETTERS[letter]} ${qubit}`;
   let place = path;
-  if (rounds.length === 1 && !everyRound && itemAt(state.items, [path[0]]).count > 1) {
-    if (!(await split([path[0]], rounds[0]))) return;
-    place = [path[0] + (rounds[0] > 0 ? 1 : 0), ...path.slice(1)];
+  let round = null;
+  if (rounds.length === 1 && !everyRound && state.items[path[0]].count > 1) {
+    round = { place: String(path[0]), number: rounds[0] };
+    place = [...pathOfRound([path[0]], rounds[0]), path[1]];
   }
-  if (await edit({ kind: "insert", place: place.join("/"), item: `${LETTERS[letter]} ${qubit}` })) {
-    layout.follow(letter, qubit, moment);
-  }
+  if (await edit({ kind: "insert", place: place.join("/"), item }, round)) layout.follow(letter, qubit, moment);
 }
 
 function choose(qubit, event) {
   const menu = by("choice");
-  const instructions = layout.instructions();
+  const instructions = layout.instructions;
   const inBlock = placeAtEnd(instructions).rounds.length > 0;
   const offers = [1, 3, 2].map((letter) => offer(`${LETTERS[letter]} here`, () => put(letter, qubit, layout.moment, instructions)));
   if (inBlock) offers.push(...[1, 3, 2].map((letter) => offer(`${LETTERS[letter]} in each round`, () => put(letter, qubit, layout.moment, instructions, true))));

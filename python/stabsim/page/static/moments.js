@@ -1,6 +1,6 @@
 // Moments: what stands between two ticks, with the rounds of blocks written out.
 
-import { countsOf, countsOfList } from "./circuit.js";
+import { countsOfList } from "./circuit.js";
 
 // The instructions of a moment, each {item, path, rounds}. A block without ticks stands in one moment, and is
 // shown by its first round.
@@ -14,7 +14,7 @@ function gather(items, moment, ticks, path, rounds, found) {
   let before = ticks;
   for (let place = 0; place < items.length && before <= moment; place += 1) {
     const item = items[place];
-    const here = countsOf(item).ticks;
+    const here = item.ticks;
     if (before + here >= moment) {
       if (item.items) gatherBlock(item, moment, before, [...path, place], rounds, found);
       else if (before === moment) found.push({ item, path: [...path, place], rounds });
@@ -24,7 +24,7 @@ function gather(items, moment, ticks, path, rounds, found) {
 }
 
 function gatherBlock(block, moment, before, path, rounds, found) {
-  const once = countsOfList(block.items).ticks;
+  const once = block.once.ticks;
   if (once === 0) {
     gather(block.items, moment, before, path, [...rounds, 0], found);
     return;
@@ -42,7 +42,7 @@ export function momentOf(items, path) {
   let moment = 0;
   let list = items;
   for (const place of path) {
-    for (let i = 0; i < place; i += 1) moment += countsOf(list[i]).ticks;
+    for (let i = 0; i < place; i += 1) moment += list[i].ticks;
     list = list[place]?.items ?? [];
   }
   return moment;

@@ -1,43 +1,52 @@
 // The circuit as text: blocks folded, each item with its path, and a form at the item that is edited.
 // Only the rows in sight are in the document.
 
-import { countsOf, itemAt, pathOf, textOf } from "./circuit.js";
+import { blocksAround, pathOf, textOf } from "./circuit.js";
+import { countRows, numberOfRow, rowsBetween } from "./rows.js";
 
 const ROW = 22;
 
 export class TextView {
   #place;
+  #sheet = document.createElement("div");
+  #list = document.createElement("div");
   #act;
   #items = [];
-  #rows = [];
-  #open = new Set();
+  #unfolded = new Set();
   #selected = null;
   #form = null;
   #refusal = null;
+  #height = 0;
 
   // `act` has select(path), edit(edit) and split(path, round).
   constructor(place, act) {
     this.#place = place;
     this.#act = act;
+    this.#sheet.className = "sheet";
+    this.#sheet.append(this.#list);
+    place.append(this.#sheet);
     place.addEventListener("scroll", () => this.#draw());
     place.addEventListener("keydown", (event) => this.#key(event));
-    new ResizeObserver(() => this.#draw()).observe(place);
+    new ResizeObserver(() => {
+      this.#height = place.clientHeight;
+      this.#draw();
+    }).observe(place);
   }
 
   show(items) {
     this.#items = items;
-    this.#lay();
+    this.#draw();
   }
 
   get selected() {
     return this.#selected;
   }
 
-  select(path, { scroll = true } = {}) {
+  select(path) {
     this.#selected = path.join("/");
-    for (let deep = 1; deep < path.length; deep += 1) this.#open.add(path.slice(0, deep).join("/"));
-    this.#lay();
-    if (scroll) this.#bringIntoSight();
+    for (const block of blocksAround(this.#items, path)) this.#unfolded.add(block);
+    this.#bringIntoSight();
+    this.#draw();
   }
 
   // What an edit at a path was refused with.
@@ -46,104 +55,96 @@ export class TextView {
     this.#draw();
   }
 
-  #lay() {
-    this.#rows = [];
-    this.#layList(this.#items, []);
-    // Behind the last item something can be put in, too.
-    this.#rows.push({ path: String(this.#items.length), depth: 0, text: "", end: true });
-    this.#draw();
+  // Behind the last item something can be put in, too, so there is a row more.
+  #rowsBetween(first, last) {
+    const count = countRows(this.#items, this.#unfolded);
+    const rows = rowsBetween(this.#items, this.#unfolded, first, last);
+    if (first <= count && count < last) rows.push({ number: count, path: [this.#items.length], item: null });
+    return { rows, count: count + 1 };
   }
 
-  #layList(items, path) {
-    items.forEach((item, place) => {
-      const own = [...path, place];
-      const name = own.join("/");
-      const open = this.#open.has(name);
-      this.#rows.push({ path: name, depth: path.length, text: item.text, block: Boolean(item.items), open, item });
-      if (item.items && open) this.#layList(item.items, own);
-    });
+  // The row that is selected; null where none is, or an edit has taken it away.
+  #selectedRow() {
+    if (this.#selected === null) return null;
+    const number = numberOfRow(this.#items, this.#unfolded, pathOf(this.#selected));
+    const row = this.#rowsBetween(number, number + 1).rows[0];
+    return row?.path.join("/") === this.#selected ? row : null;
   }
 
   #bringIntoSight() {
-    const at = this.#rows.findIndex((row) => row.path === this.#selected);
-    const top = at * ROW;
-    const { scrollTop, clientHeight } = this.#place;
-    if (top < scrollTop || top + ROW > scrollTop + clientHeight) this.#place.scrollTop = top - clientHeight / 2;
+    const top = numberOfRow(this.#items, this.#unfolded, pathOf(this.#selected)) * ROW;
+    const { scrollTop } = this.#place;
+    if (top >= scrollTop && top + ROW <= scrollTop + this.#height) return;
+    // The sheet is as high as what was unfolded when it was last drawn.
+    this.#sheet.style.height = `${(countRows(this.#items, this.#unfolded) + 1) * ROW}px`;
+    this.#place.scrollTop = top - this.#height / 2;
   }
 
   #draw() {
     const first = Math.max(0, Math.floor(this.#place.scrollTop / ROW) - 5);
-    const last = Math.min(this.#rows.length, first + Math.ceil(this.#place.clientHeight / ROW) + 10);
-    const sheet = document.createElement("div");
-    sheet.className = "sheet";
-    sheet.style.height = `${this.#rows.length * ROW}px`;
-    for (let i = first; i < last; i += 1) sheet.append(this.#rowAt(i));
-    this.#place.replaceChildren(sheet);
-    if (this.#form) this.#drawForm(sheet);
+    const { rows, count } = this.#rowsBetween(first, first + Math.ceil(this.#height / ROW) + 10);
+    this.#sheet.style.height = `${count * ROW}px`;
+    this.#list.replaceChildren(...rows.map((row) => this.#line(row)));
+    if (this.#form) this.#drawForm();
   }
 
-  #rowAt(i) {
-    const row = this.#rows[i];
+  #line({ number, path, item }) {
+    const name = path.join("/");
     const line = document.createElement("div");
-    line.className = "row";
+    line.className = name === this.#selected ? "row selected" : "row";
     line.role = "treeitem";
-    line.style.top = `${i * ROW}px`;
-    line.dataset.path = row.path;
-    line.classList.toggle("selected", row.path === this.#selected);
-    line.append(span("path", row.end ? "end" : row.path), this.#fold(row), span("text", row.text, row.depth));
-    if (row.block) {
-      line.ariaExpanded = row.open;
-      line.append(span("inside", row.open ? "" : `{ ${row.item.items.length} items, ${countsOf(row.item).detectors} detectors }`));
+    line.style.top = `${number * ROW}px`;
+    line.dataset.path = name;
+    line.append(span("path", item ? name : "end"), this.#fold(item), span("text", item?.text ?? "", path.length - 1));
+    if (item?.items) {
+      const isOpen = this.#unfolded.has(item);
+      line.ariaExpanded = isOpen;
+      line.append(span("inside", isOpen ? "" : `{ ${item.items.length} items, ${item.detectors} detectors }`));
     }
-    if (this.#refusal?.place === row.path) line.append(span("refusal", this.#refusal.words));
-    line.addEventListener("click", () => this.#choose(row));
-    line.addEventListener("dblclick", () => this.openForm(row.end ? "insert" : "replace"));
+    if (this.#refusal?.place === name) line.append(span("refusal", this.#refusal.words));
+    line.addEventListener("click", () => this.#choose(path, item));
+    line.addEventListener("dblclick", () => this.openForm(item ? "replace" : "insert"));
     return line;
   }
 
-  #fold(row) {
-    const mark = span("fold", row.block ? (row.open ? "▾" : "▸") : "");
-    if (row.block) {
-      mark.addEventListener("click", (event) => {
-        event.stopPropagation();
-        this.#toggle(row.path);
-      });
-    }
+  #fold(item) {
+    if (!item?.items) return span("fold", "");
+    const mark = span("fold", this.#unfolded.has(item) ? "▾" : "▸");
+    mark.addEventListener("click", (event) => {
+      event.stopPropagation();
+      this.#toggle(item);
+    });
     return mark;
   }
 
-  #toggle(path) {
-    if (this.#open.has(path)) this.#open.delete(path);
-    else this.#open.add(path);
-    this.#lay();
+  #toggle(block) {
+    if (!this.#unfolded.delete(block)) this.#unfolded.add(block);
+    this.#draw();
   }
 
-  #choose(row) {
-    this.#selected = row.path;
+  #choose(path, item) {
+    this.#selected = path.join("/");
     this.#refusal = null;
     this.#draw();
     this.#place.focus();
-    if (!row.end) this.#act.select(pathOf(row.path));
+    if (item) this.#act.select(path);
   }
 
   // A form for the text of an item: kind is "insert" (before), "behind" or "replace".
   openForm(kind) {
-    if (this.#selected === null) return;
-    const path = pathOf(this.#selected);
-    const row = this.#rows.find((candidate) => candidate.path === this.#selected);
-    if (!row || (row.end && kind !== "insert")) return;
-    const text = kind === "replace" ? textOf(itemAt(this.#items, path)) : "";
-    this.#form = { kind, path, text };
+    const row = this.#selectedRow();
+    if (!row || (!row.item && kind !== "insert")) return;
+    this.#form?.element.remove();
     this.#refusal = null;
+    this.#form = { kind, path: row.path, element: this.#formOf(kind, row.path, kind === "replace" ? textOf(row.item) : "") };
+    this.#sheet.append(this.#form.element);
     this.#draw();
+    this.#form.element.querySelector("textarea").focus();
   }
 
-  #drawForm(sheet) {
-    const { kind, path, text } = this.#form;
-    const at = this.#rows.findIndex((row) => row.path === path.join("/"));
+  #formOf(kind, path, text) {
     const form = document.createElement("form");
     form.className = "item-form";
-    form.style.top = `${(at + (kind === "insert" ? 0 : 1)) * ROW}px`;
     const field = document.createElement("textarea");
     field.rows = Math.min(12, text.split("\n").length);
     field.value = text;
@@ -151,7 +152,7 @@ export class TextView {
     form.append(field, button("Put in", "submit"), button("Leave", "button", () => this.#closeForm()));
     if (path.length > 1) form.append(this.#roundOffer(path));
     // The row's own words may be out of sight behind the form.
-    if (this.#refusal) form.append(span("refusal", this.#refusal.words));
+    form.append(span("refusal", ""));
     field.addEventListener("keydown", (event) => {
       event.stopPropagation();
       if (event.key === "Escape") this.#closeForm();
@@ -160,19 +161,23 @@ export class TextView {
         form.requestSubmit();
       }
     });
-    field.addEventListener("input", () => { this.#form.text = field.value; });
     form.addEventListener("submit", (event) => {
       event.preventDefault();
       this.#send(kind, path, field.value);
     });
-    sheet.append(form);
-    field.focus();
+    return form;
+  }
+
+  #drawForm() {
+    const { kind, path, element } = this.#form;
+    const number = numberOfRow(this.#items, this.#unfolded, path);
+    element.style.top = `${(number + (kind === "insert" ? 0 : 1)) * ROW}px`;
+    element.querySelector(".refusal").textContent = this.#refusal?.words ?? "";
   }
 
   // An edit inside a block is one of each of its rounds; one round can be taken out first.
   #roundOffer(path) {
-    const block = path.slice(0, -1);
-    const count = itemAt(this.#items, block).count;
+    const count = blocksAround(this.#items, path).at(-1).count;
     const offer = document.createElement("span");
     offer.className = "offer";
     const round = document.createElement("input");
@@ -184,7 +189,7 @@ export class TextView {
     round.addEventListener("keydown", (event) => event.stopPropagation());
     const split = button("Take out round", "button", () => {
       this.#closeForm();
-      this.#act.split(block, Number(round.value));
+      this.#act.split(path, Number(round.value));
     });
     split.className = "split";
     offer.append(`changes all ${count} rounds`, split, round);
@@ -194,41 +199,50 @@ export class TextView {
   async #send(kind, path, text) {
     const place = [...path];
     if (kind === "behind") place[place.length - 1] += 1;
-    const edit = { kind: kind === "behind" ? "insert" : kind, place: place.join("/"), item: text.trim() };
+    const edit = { kind: kind === "replace" ? kind : "insert", place: place.join("/"), item: text.trim() };
     if (await this.#act.edit(edit)) this.#closeForm();
   }
 
   #closeForm() {
+    this.#form?.element.remove();
     this.#form = null;
     this.#draw();
     this.#place.focus();
   }
 
   #key(event) {
-    const at = this.#rows.findIndex((row) => row.path === this.#selected);
-    const row = this.#rows[at];
     const moves = { ArrowDown: 1, ArrowUp: -1, PageDown: 20, PageUp: -20 };
+    const row = this.#selectedRow();
     if (event.key in moves) {
       event.preventDefault();
-      const next = this.#rows[Math.max(0, Math.min(this.#rows.length - 1, at + moves[event.key]))];
-      this.#choose(next);
-      this.#bringIntoSight();
+      this.#move(row ? row.number + moves[event.key] : 0);
       return;
     }
     if (!row) return;
+    const { path, item } = row;
+    const isOpen = this.#unfolded.has(item);
     const keys = {
-      ArrowRight: () => row.block && !row.open && this.#toggle(row.path),
-      ArrowLeft: () => row.block && row.open && this.#toggle(row.path),
-      Enter: () => this.openForm(row.end ? "insert" : "replace"),
+      ArrowRight: () => item?.items && !isOpen && this.#toggle(item),
+      ArrowLeft: () => isOpen && this.#toggle(item),
+      Enter: () => this.openForm(item ? "replace" : "insert"),
       i: () => this.openForm("insert"),
       a: () => this.openForm("behind"),
-      Delete: () => !row.end && this.#act.edit({ kind: "delete", place: row.path }),
+      Delete: () => item && this.#act.edit({ kind: "delete", place: path.join("/") }),
     };
     const act = keys[event.key];
     if (act) {
       event.preventDefault();
       act();
     }
+  }
+
+  // Selects the row with a number, or the nearest there is.
+  #move(number) {
+    const last = countRows(this.#items, this.#unfolded);
+    const at = Math.max(0, Math.min(last, number));
+    const { path, item } = this.#rowsBetween(at, at + 1).rows[0];
+    this.#choose(path, item);
+    this.#bringIntoSight();
   }
 }
 
