@@ -1,5 +1,6 @@
 pub mod FaultLineLaws
 pub mod SendingLaws
+pub mod ShotLaws
 pub mod RunLaws
 pub mod FaultBitLaws
 pub mod FaultSiteLaws

@@ -13,10 +13,9 @@ use crate::shots::{Shown, send_shots};
 use stab_circuit::{Circuit, read_circuit};
 use stab_io::{Fault, Input, Output};
 use stab_results::Format;
-use stab_run::Sampler;
 use std::alloc::Global;
 
-/// Writes what is shown of a circuit's shots, and flushes. The circuit is unrolled once.
+/// Writes what is shown of a circuit's shots, and flushes.
 fn send_circuit<O: Output>(
     alloc: Global,
     circuit: &Circuit,
@@ -29,8 +28,7 @@ fn send_circuit<O: Output>(
     requires checked { check_of (circuit_items circuit.now) ≡ None }
     ensures sends { Sends (shots_of format shown shots source.now (circuit_items circuit.now)) (O.seen out.old) (O.seen out.new) result }
 {
-    let mut sampler = Sampler::new(alloc, circuit, circuit.qubits())?;
-    send_shots(alloc, &mut sampler, out, format, shown, source, shots)?;
+    send_shots(alloc, circuit, out, format, shown, source, shots)?;
     finish(out)
 }
 

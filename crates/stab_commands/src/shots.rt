@@ -1,15 +1,27 @@
 //! The shots of a circuit, written one after another.
-ghost use Rattle.std.specs.Prelude.{◌≡◌, IfOk, IfErr};
-ghost use Rattle.stab_io.specs.declared.refusal.Refusal.TheVariants.{OutOfMemory};
+//!
+//! All shots of a list of coins are the same run, which is made once. Shots of a seed are run by batches of lanes, so that the
+//! tableau goes through the circuit once for each batch; a shot that is alone is run alone.
+ghost use Rattle.std.specs.Prelude.{◌≡◌, ℕ, ◌+◌, ◌<◌, ◌≤◌, None, Bool, length, IfOk};
+ghost use Rattle.stab_circuit.specs.Items.{Items};
+ghost use Rattle.stab_circuit.specs.Steps.{check_of, qubits_of};
+ghost use Rattle.stab_circuit.specs.Views.{circuit_items};
+ghost use Rattle.stab_results.specs.Formats.{detectors_of};
 ghost use Rattle.stab_run.specs.Runs.{State, run_of};
-ghost use Rattle.stab_commands.specs.Outputs.{coins_of_shot, of_shots};
-ghost use Rattle.stab_commands.specs.inner.Sendings.{IsShot, SendsUnflushed, shown_bytes};
+ghost use Rattle.stab_run.specs.Coins.{list_coin, seed_coin};
+ghost use Rattle.stab_shots.specs.Lanes.{lane_bits};
+ghost use Rattle.stab_shots.specs.Shots.{AreRuns};
+ghost use Rattle.stab_commands.specs.Limits.{shots_of_seed};
+ghost use Rattle.stab_commands.specs.Outputs.{of_shots};
+ghost use Rattle.stab_commands.specs.inner.Sendings.{IsShot, IsShown, SendsUnflushed, shots_of, shown_bytes};
 
 use crate::job::{Shots, Source};
-use stab_io::{Fault, Output, Refusal};
+use stab_circuit::Circuit;
+use stab_io::{Fault, Output};
 use stab_results::{Format, Kinds, write_shot};
-use stab_run::{ListCoins, Sampler, SeedCoins, Shot};
-use std::alloc::Global;
+use stab_run::{Coins, ListCoins, SeedCoins, Shot, run_once};
+use stab_shots::{SeedLanes, Shots as LaneShots, Word, run_lanes, write_lane};
+use std::alloc::{AllocError, Global};
 
 /// Which bits of a shot are shown.
 #[derive(Clone, Copy, Debug, PartialEq, Eq)]
@@ -22,31 +34,17 @@ pub(crate) enum Shown {
     DetectorsAndObservables,
 }
 
-/// Runs a shot with its own coins.
-fn run_shot(
-    alloc: Global,
-    sampler: &mut Sampler,
-    source: &Source,
-    shot: u64,
-) -> Result<Shot, Refusal>
-    ensures kept { sampler.new ≡ sampler.old }
-    ensures ok { IfOk result (λ s. IsShot s (run_of sampler.old.qubits (coins_of_shot source.now shot) sampler.old.items)) }
-    ensures err { IfErr result (λ r. r ≡ OutOfMemory) }
-{
-    match source {
-        Source::Seed(seed) => sampler.shot(alloc, &mut SeedCoins::new(*seed, shot)),
-        Source::List(list) => sampler.shot(alloc, &mut ListCoins::new(list.as_slice())),
-    }
+/// What is shown, and what kinds of bits it is: for each bit a `bool`, or a word of all lanes.
+#[derive(Drop)]
+pub(crate) struct Bits<T> {
+    pub kinds: Kinds,
+    pub items: Vec<T>,
 }
 
-/// Writes what is shown of a shot.
-fn write_shown<O: Output>(
-    out: &mut O,
-    format: Format,
-    shown: Shown,
-    shot: Shot,
-) -> Result<(), Fault>
-    ensures sends { (run : State) → IsShot shot run → SendsUnflushed (shown_bytes format shown run) (O.seen out.old) (O.seen out.new) result }
+/// What is shown of a shot.
+fn shown_bits(shot: Shot, shown: Shown) -> Result<Bits<bool>, AllocError>
+    ensures within { IfOk result (λ b. detectors_of b.kinds ≤ length b.items.items) }
+    ensures shown { IfOk result (λ b. (run : State) → IsShot shot run → IsShown shown run b.kinds b.items.items) }
 {
     let Shot {
         records,
@@ -56,57 +54,202 @@ fn write_shown<O: Output>(
     } = shot;
     let kinds = Kinds::Detectors(detectors.len());
     match shown {
-        Shown::Records => write_shot(out, format, Kinds::Measurements, records.as_slice()),
-        Shown::Detectors => write_shot(out, format, kinds, detectors.as_slice()),
+        Shown::Records => Ok(Bits {
+            kinds: Kinds::Measurements,
+            items: records,
+        }),
+        Shown::Detectors => Ok(Bits {
+            kinds,
+            items: detectors,
+        }),
         Shown::DetectorsAndObservables => {
             detectors.extend_from_slice(observables.as_slice())?;
-            write_shot(out, format, kinds, detectors.as_slice())
+            Ok(Bits {
+                kinds,
+                items: detectors,
+            })
         }
     }
 }
 
-/// Runs a shot, and writes what is shown of it.
-fn send_shot<O: Output>(
-    alloc: Global,
-    sampler: &mut Sampler,
-    out: &mut O,
-    format: Format,
-    shown: Shown,
-    source: &Source,
-    shot: u64,
-) -> Result<(), Fault>
-    ensures kept { sampler.new ≡ sampler.old }
-    ensures sends { SendsUnflushed (shown_bytes format shown (run_of sampler.old.qubits (coins_of_shot source.now shot) sampler.old.items)) (O.seen out.old) (O.seen out.new) result }
+/// What is shown of the shots of all lanes.
+fn shown_words<W: Word>(shots: LaneShots<W>, shown: Shown) -> Result<Bits<W>, AllocError>
+    ensures within { IfOk result (λ b. detectors_of b.kinds ≤ length b.items.items) }
+    ensures shown { IfOk result (λ b. (l n : ℕ) (coins : ℕ → Bool) (items : Items) → AreRuns W.at l n coins items shots → IsShown shown (run_of n coins items) b.kinds (lane_bits W.at l b.items.items)) }
 {
-    match run_shot(alloc, sampler, source, shot) {
-        Ok(found) => write_shown(out, format, shown, found),
-        Err(refusal) => Err(Fault::whole(refusal)),
+    let LaneShots {
+        records,
+        free: _,
+        mut detectors,
+        observables,
+    } = shots;
+    let kinds = Kinds::Detectors(detectors.len());
+    match shown {
+        Shown::Records => Ok(Bits {
+            kinds: Kinds::Measurements,
+            items: records,
+        }),
+        Shown::Detectors => Ok(Bits {
+            kinds,
+            items: detectors,
+        }),
+        Shown::DetectorsAndObservables => {
+            detectors.extend_from_slice(observables.as_slice())?;
+            Ok(Bits {
+                kinds,
+                items: detectors,
+            })
+        }
     }
 }
 
-/// Runs these shots, and writes what is shown of each.
+/// Writes bits so many times.
+fn write_copies<O: Output>(
+    out: &mut O,
+    format: Format,
+    bits: &Bits<bool>,
+    copies: usize,
+) -> Result<(), Fault>
+    requires within { detectors_of bits.now.kinds ≤ length bits.now.items.items }
+    ensures sends { (first : ℕ) (shown : Shown) (run : State) → IsShown shown run bits.now.kinds bits.now.items.items → SendsUnflushed (of_shots (λ shot. shown_bytes format shown run) first copies) (O.seen out.old) (O.seen out.new) result }
+{
+    for written in 0..copies {
+        write_shot(out, format, bits.kinds, bits.items.as_slice())?;
+    }
+    Ok(())
+}
+
+/// Runs a circuit once, and writes what is shown of it so many times.
+fn send_copies<O: Output, C: Coins>(
+    alloc: Global,
+    circuit: &Circuit,
+    out: &mut O,
+    format: Format,
+    shown: Shown,
+    coins: &mut C,
+    copies: usize,
+) -> Result<(), Fault>
+    requires checked { check_of (circuit_items circuit.now) ≡ None }
+    ensures sends { (first : ℕ) → SendsUnflushed (of_shots (λ shot. shown_bytes format shown (run_of (qubits_of (circuit_items circuit.now)) (C.sequence coins.old) (circuit_items circuit.now))) first copies) (O.seen out.old) (O.seen out.new) result }
+{
+    let shot = run_once(alloc, circuit, circuit.qubits(), coins)?;
+    let bits = shown_bits(shot, shown)?;
+    write_copies(out, format, &bits, copies)
+}
+
+/// Writes the bits of so many lanes, one lane after another.
+fn write_lanes<O: Output, W: Word>(
+    alloc: Global,
+    out: &mut O,
+    format: Format,
+    words: &Bits<W>,
+    lanes: usize,
+) -> Result<(), Fault>
+    requires in_range { lanes ≤ W.lanes }
+    requires within { detectors_of words.now.kinds ≤ length words.now.items.items }
+    ensures sends { (first : ℕ) (shown : Shown) (run : ℕ → State) → ((l : ℕ) → l < lanes → IsShown shown (run (first + l)) words.now.kinds (lane_bits W.at l words.now.items.items)) → SendsUnflushed (of_shots (λ shot. shown_bytes format shown (run shot)) first lanes) (O.seen out.old) (O.seen out.new) result }
+{
+    let mut bits = Vec::with_capacity(alloc, words.items.len())?;
+    for lane in 0..lanes {
+        write_lane(words.items.as_slice(), lane, &mut bits)?;
+        write_shot(out, format, words.kinds, bits.as_slice())?;
+    }
+    Ok(())
+}
+
+/// Runs so many shots of a seed from a first one on, at most as many as there are lanes, and writes what is shown of each.
+fn send_batch<O: Output>(
+    alloc: Global,
+    circuit: &Circuit,
+    out: &mut O,
+    format: Format,
+    shown: Shown,
+    seed: u64,
+    first: u64,
+    shots: usize,
+) -> Result<(), Fault>
+    requires checked { check_of (circuit_items circuit.now) ≡ None }
+    requires few { shots ≤ 64 }
+    requires in_range { first + shots ≤ shots_of_seed }
+    ensures sends { SendsUnflushed (of_shots (λ shot. shown_bytes format shown (run_of (qubits_of (circuit_items circuit.now)) (seed_coin seed shot) (circuit_items circuit.now))) first shots) (O.seen out.old) (O.seen out.new) result }
+{
+    let mut coins = SeedLanes::new(seed, first);
+    let found = run_lanes(alloc, circuit, circuit.qubits(), &mut coins)?;
+    let words = shown_words(found, shown)?;
+    write_lanes(alloc, out, format, &words, shots)
+}
+
+/// Runs so many shots of a seed, at most 64, from a first one on, and writes what is shown of each. One shot is run alone.
+fn send_some<O: Output>(
+    alloc: Global,
+    circuit: &Circuit,
+    out: &mut O,
+    format: Format,
+    shown: Shown,
+    seed: u64,
+    first: u64,
+    shots: usize,
+) -> Result<(), Fault>
+    requires checked { check_of (circuit_items circuit.now) ≡ None }
+    requires few { shots ≤ 64 }
+    requires in_range { first + shots ≤ shots_of_seed }
+    ensures sends { SendsUnflushed (of_shots (λ shot. shown_bytes format shown (run_of (qubits_of (circuit_items circuit.now)) (seed_coin seed shot) (circuit_items circuit.now))) first shots) (O.seen out.old) (O.seen out.new) result }
+{
+    if shots == 1 {
+        let mut coins = SeedCoins::new(seed, first);
+        send_copies(alloc, circuit, out, format, shown, &mut coins, 1)
+    } else {
+        send_batch(alloc, circuit, out, format, shown, seed, first, shots)
+    }
+}
+
+/// Runs so many shots of a seed from a first one on, and writes what is shown of each.
+fn send_seeded<O: Output>(
+    alloc: Global,
+    circuit: &Circuit,
+    out: &mut O,
+    format: Format,
+    shown: Shown,
+    seed: u64,
+    first: u64,
+    shots: usize,
+) -> Result<(), Fault>
+    requires checked { check_of (circuit_items circuit.now) ≡ None }
+    requires in_range { first + shots ≤ shots_of_seed }
+    ensures sends { SendsUnflushed (of_shots (λ shot. shown_bytes format shown (run_of (qubits_of (circuit_items circuit.now)) (seed_coin seed shot) (circuit_items circuit.now))) first shots) (O.seen out.old) (O.seen out.new) result }
+{
+    let mut sent = 0;
+    while sent < shots {
+        let batch = (shots - sent).min(64);
+        let next = first + sent as u64;
+        send_some(alloc, circuit, out, format, shown, seed, next, batch)?;
+        sent += batch;
+    }
+    Ok(())
+}
+
+/// Runs these shots of a circuit that nothing refuses, and writes what is shown of each.
 pub(crate) fn send_shots<O: Output>(
     alloc: Global,
-    sampler: &mut Sampler,
+    circuit: &Circuit,
     out: &mut O,
     format: Format,
     shown: Shown,
     source: &Source,
     shots: Shots,
 ) -> Result<(), Fault>
-    ensures sends { SendsUnflushed (of_shots (λ shot. shown_bytes format shown (run_of sampler.old.qubits (coins_of_shot source.now shot) sampler.old.items)) shots.first shots.number) (O.seen out.old) (O.seen out.new) result }
+    requires checked { check_of (circuit_items circuit.now) ≡ None }
+    ensures sends { SendsUnflushed (shots_of format shown shots source.now (circuit_items circuit.now)) (O.seen out.old) (O.seen out.new) result }
 {
     let first = shots.first();
-    for shot in 0..shots.number() {
-        send_shot(
-            alloc,
-            sampler,
-            out,
-            format,
-            shown,
-            source,
-            first + shot as u64,
-        )?;
+    let number = shots.number();
+    match source {
+        Source::Seed(seed) => {
+            send_seeded(alloc, circuit, out, format, shown, *seed, first, number)
+        }
+        Source::List(list) => {
+            let mut coins = ListCoins::new(list.as_slice());
+            send_copies(alloc, circuit, out, format, shown, &mut coins, number)
+        }
     }
-    Ok(())
 }

@@ -1,6 +1,6 @@
 -- Sendings: what is shown of a run, and what a call leaves of an output to which it sends bytes without a flush.
 -- Source: this project's own.
-use Rattle.std.specs.Prelude.{◌≡◌, ℕ, true, false, List, Result, Ok, Err}
+use Rattle.std.specs.Prelude.{◌≡◌, ℕ, Bool, true, false, List, ◌++◌, length, Result, Ok, Err}
 use Rattle.stab_io.specs.Devices.{OutputView, Took, CutOff, Flushed, FlushFailed}
 use Rattle.stab_pauli.specs.Paulis.{Signed}
 use Rattle.stab_io.specs.Refusals.{whole}
@@ -10,7 +10,8 @@ use Rattle.stab_run.specs.declared.run.Shot.{Shot}
 use Rattle.stab_run.specs.Runs.{State}
 use Rattle.stab_circuit.specs.Items.{Items}
 use Rattle.stab_results.specs.declared.format.Format.{Format}
-use Rattle.stab_results.specs.declared.format.Kinds.TheVariants.{Measurements}
+use Rattle.stab_results.specs.declared.format.Kinds.{Kinds}
+use Rattle.stab_results.specs.declared.format.Kinds.TheVariants.{Measurements, Detectors as Detected}
 use Rattle.stab_results.specs.Formats.{shot_bytes}
 use Rattle.stab_commands.specs.declared.job.Source.{Source}
 use Rattle.stab_commands.specs.declared.shots.Shown.{Shown}
@@ -25,6 +26,12 @@ pub record IsShot (shot : Shot) (run : State) : Type 0 where
   pub records : shot.records.items ≡ run.records
   pub detectors : shot.detectors.items ≡ run.detectors
   pub observables : shot.observables.items ≡ run.observables
+
+-- these bits, of these kinds, are what is shown of a run
+abbrev pub IsShown : Shown → State → Kinds → List Bool → Type 0
+IsShown Records run kinds bits = (kinds ≡ Measurements) × (bits ≡ run.records)
+IsShown Detectors run kinds bits = (kinds ≡ Detected (length run.detectors)) × (bits ≡ run.detectors)
+IsShown DetectorsAndObservables run kinds bits = (kinds ≡ Detected (length run.detectors)) × (bits ≡ run.detectors ++ run.observables)
 
 -- the bytes of what is shown of a run
 abbrev pub shown_bytes : Format → Shown → State → List ℕ
