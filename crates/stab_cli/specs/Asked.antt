@@ -19,10 +19,10 @@ use Rattle.stab_cli.specs.declared.words.Usage.TheVariants.{Help, Fault, Memory}
 use Rattle.stab_commands.specs.declared.job.Job.{Job}
 use Rattle.stab_commands.specs.declared.job.Command.{Command}
 use Rattle.stab_commands.specs.declared.job.Command.TheVariants.{Sample, Detect, Stabilisers, Check, Deterministic, Faults, Edit}
-use Rattle.stab_commands.specs.declared.job.FaultLayout.{FaultLayout}
-use Rattle.stab_commands.specs.declared.job.FaultLayout.TheVariants.{Lines, Shots}
-use Rattle.stab_commands.specs.declared.job.Source.{Source}
-use Rattle.stab_commands.specs.declared.job.Source.TheVariants.{Seed, List as Listed}
+use Rattle.stab_tables.specs.declared.faults.FaultLayout.{FaultLayout}
+use Rattle.stab_tables.specs.declared.faults.FaultLayout.TheVariants.{Lines, Shots}
+use Rattle.stab_tables.specs.declared.source.Source.{Source}
+use Rattle.stab_tables.specs.declared.source.Source.TheVariants.{Seed, List as Listed}
 
 -- the name of a format
 abbrev pub format_name : Format → Text

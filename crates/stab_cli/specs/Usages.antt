@@ -4,8 +4,8 @@ use Rattle.std.specs.Prelude.{◌≡◌, ℕ, ◌⊎◌, string_bytes}
 use Rattle.stab_io.specs.Devices.{OutputView}
 use Rattle.stab_io.specs.declared.refusal.Refusal.TheVariants.{WriteFault, OutOfMemory}
 use Rattle.stab_io.specs.Refusals.{whole}
-use Rattle.stab_commands.specs.Endings.{TookAndFlushed, FailsToSend}
-use Rattle.stab_commands.specs.Jobs.{TellsFault, TookOrFailed}
+use Rattle.stab_tables.specs.Endings.{TookAndFlushed, FailsToSend}
+use Rattle.stab_tables.specs.FaultLines.{TellsFault, TookOrFailed}
 use Rattle.stab_cli.specs.declared.words.Usage.{Usage}
 use Rattle.stab_cli.specs.declared.words.Usage.TheVariants.{Help, Fault as Wrong, Memory}
 

@@ -9,10 +9,10 @@ use Rattle.stab_circuit.specs.Inputs.{GaveText, RefusesText}
 use Rattle.stab_circuit.specs.Items.{Items}
 use Rattle.stab_circuit.specs.Steps.{check_of, check_within, qubits_of}
 use Rattle.stab_circuit.specs.Readings.{IsCircuit, IsFaultOf}
-use Rattle.stab_commands.specs.Endings.{Sends}
+use Rattle.stab_tables.specs.Endings.{Sends}
 use Rattle.stab_commands.specs.Outputs.{EndsRun}
-use Rattle.stab_commands.specs.inner.Sendings.{FlushesOrFault}
-use Rattle.stab_commands.proofs.SendingLaws.{took_some_none}
+use Rattle.stab_tables.specs.Endings.{FlushesOrFault}
+use Rattle.stab_tables.proofs.WritingLaws.{took_some_none}
 
 -- nothing refuses a circuit on as many qubits as it names
 pub checked_on_own_qubits : (items : Items) → check_of items ≡ None → check_within (qubits_of items) items ≡ None

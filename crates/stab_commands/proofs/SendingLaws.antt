@@ -2,11 +2,12 @@
 use Rattle.std.proofs.Common.{◌≡◌, refl, sym, ap, ap₂, subst, ◌∙◌, ℕ, ◌+◌, ◌<◌, zero, suc, List, [], ◌++◌, append_assoc, Result, Ok, Err, ◌⊎◌, inl, inr, arith, add-one}
 use Rattle.std.proofs.lemmas.List.{append-nil}
 use Rattle.std.specs.Result.{IsErrAnd}
-use Rattle.stab_io.specs.Devices.{OutputView, Took, TookAndFailed, TookSome, CutOff, WritesAllOrFault}
-use Rattle.stab_io.proofs.DeviceLemmas.{took_none, took_more, took_and_failed, failed_within}
+use Rattle.stab_io.specs.Devices.{OutputView, Took, TookAndFailed, CutOff, WritesAllOrFault}
+use Rattle.stab_io.proofs.DeviceLemmas.{took_more, took_and_failed, failed_within}
 use Rattle.stab_io.specs.declared.refusal.Refusal.TheVariants.{OutOfMemory}
 use Rattle.stab_io.specs.declared.refusal.Fault.{Fault}
 use Rattle.stab_io.specs.Refusals.{whole}
+use Rattle.stab_tables.proofs.WritingLaws.{took_some_none}
 use Rattle.stab_commands.specs.Outputs.{of_shots}
 use Rattle.stab_commands.specs.inner.Sendings.{SendsUnflushed}
 
@@ -51,10 +52,6 @@ parts_join bytes_of first n (suc m) =
     let whole : (before ++ of_shots bytes_of (first + n) m) ++ bytes_of ((first + n) + m) ≡ of_shots bytes_of first (n + m) ++ bytes_of (first + (n + m)) =
     ap₂ (λ sent shot. sent ++ bytes_of shot) (parts_join bytes_of first n m) (regroup first n m) in
     sym (append_assoc before (of_shots bytes_of (first + n) m) (bytes_of ((first + n) + m))) ∙ (whole ∙ ap (of_shots bytes_of first) (sym (next n m)))
-
--- nothing was written yet
-pub took_some_none : (old : OutputView) (bytes : List ℕ) → TookSome old old bytes
-took_some_none old bytes = record { front = []; rest = bytes; split = refl; took = took_none old }
 
 -- a call that writes one text
 pub sends_text : (old new : OutputView) (text bytes : List ℕ) (r : Result (Unit {0}) Fault) → text ≡ bytes → WritesAllOrFault old new text r → SendsUnflushed bytes old new r

@@ -14,7 +14,8 @@ use Rattle.stab_commands.specs.declared.shots.Shown.{Shown}
 use Rattle.stab_commands.specs.declared.shots.Shown.TheVariants.{Records, Detectors, DetectorsAndObservables}
 use Rattle.stab_commands.specs.Outputs.{of_shots}
 use Rattle.stab_commands.specs.inner.Sendings.{IsShown, SendsUnflushed, shown_bytes}
-use Rattle.stab_commands.proofs.SendingLaws.{parts_join, took_some_none, cut_off_behind}
+use Rattle.stab_commands.proofs.SendingLaws.{parts_join, cut_off_behind}
+use Rattle.stab_tables.proofs.WritingLaws.{took_some_none}
 
 -- bits that are what is shown of a run have its bytes
 pub bytes_shown : (format : Format) (shown : Shown) (run : State) (kinds : Kinds) (bits : List Bool) → IsShown shown run kinds bits → shot_bytes format kinds bits ≡ shown_bytes format shown run

@@ -1,17 +1,19 @@
 -- Jobs: how the command of a job ends, the status of a program's run, and how its fault is told.
 -- Source: this project's own.
-use Rattle.std.specs.Prelude.{◌≡◌, ℕ, Bool, true, false, List, ◌⊎◌, Option, None, Result, Ok, Err}
-use Rattle.stab_io.specs.Devices.{InputView, OutputView, Took, TookAndFailed}
+use Rattle.std.specs.Prelude.{◌≡◌, ℕ, Bool, true, false, List, Option, None, Result, Ok, Err}
+use Rattle.stab_io.specs.Devices.{InputView, OutputView}
 use Rattle.stab_io.specs.declared.refusal.Fault.{Fault}
-use Rattle.stab_commands.specs.FaultLines.{fault_line, told_text}
+use Rattle.stab_tables.specs.FaultLines.{TookOrFailed, told_text}
 use Rattle.stab_commands.specs.Outputs.{EndsRun, sample_of, detect_of}
-use Rattle.stab_commands.specs.Stabilisers.{EndsStabilisers}
-use Rattle.stab_commands.specs.Checks.{EndsCheck}
-use Rattle.stab_commands.specs.Deterministic.{EndsDeterministic}
-use Rattle.stab_commands.specs.FaultTables.{EndsFaults}
-use Rattle.stab_commands.specs.script.ScriptEndings.{EndsEdit}
-use Rattle.stab_commands.specs.declared.unsure.Unsure.{Unsure}
-use Rattle.stab_commands.specs.declared.job.Source.{Source}
+use Rattle.stab_tables.specs.Stabilisers.{EndsStabilisers}
+use Rattle.stab_tables.specs.Checks.{EndsCheck}
+use Rattle.stab_tables.specs.Deterministic.{EndsDeterministic}
+use Rattle.stab_tables.specs.FaultTables.{EndsFaults}
+use Rattle.stab_scripts.specs.ScriptEndings.{EndsEdit}
+use Rattle.stab_scripts.specs.ScriptTurns.{EditsInTurn}
+use Rattle.stab_scripts.specs.Watchers.{Asked}
+use Rattle.stab_tables.specs.declared.unsure.Unsure.{Unsure}
+use Rattle.stab_tables.specs.declared.source.Source.{Source}
 use Rattle.stab_commands.specs.declared.job.Command.{Command}
 use Rattle.stab_commands.specs.declared.job.Command.TheVariants.{Sample, Detect, Stabilisers, Check, Deterministic, Faults, Edit}
 use Rattle.stab_commands.specs.declared.job.Job.{Job}
@@ -39,6 +41,11 @@ EndsCommand (Deterministic format) source i i' s s' o o' r unsure = NamesNone (E
 EndsCommand (Faults layout everywhere sure_only) source i i' s s' o o' r unsure = RefusesNone (λ answer. EndsFaults layout everywhere sure_only i i' o o' answer unsure) r
 EndsCommand (Edit framed qubits stride) source i i' s s' o o' r unsure = (unsure ≡ None) × EndsEdit framed qubits source i i' s s' o o' r
 
+-- how a command reads a script: `edit` in turn with its replies, and any other not at all
+abbrev pub CommandInTurn : Command → Source → InputView → InputView → InputView → InputView → OutputView → Option (List Asked) → Option (List Asked) → Type 0
+CommandInTurn (Edit framed qubits stride) source i i' s s' o log log' = EditsInTurn framed qubits source i i' s s' o log log'
+CommandInTurn command source i i' s s' o log log' = log' ≡ log
+
 -- whether a command reads a script
 abbrev pub reads_script : Command → Bool
 reads_script (Edit framed qubits stride) = true
@@ -49,14 +56,6 @@ abbrev pub status_of : Result Bool Fault → ℕ
 status_of (Ok false) = 0
 status_of (Ok true) = 3
 status_of (Err f) = 1
-
--- the output took these bytes, or failed once after some first bytes of them
-abbrev pub TookOrFailed : OutputView → OutputView → List ℕ → Type 0
-TookOrFailed old new bytes = Took old new bytes ⊎ TookAndFailed old new bytes
-
--- a fault is told: its line was written, or the output failed once after some first bytes of it
-abbrev pub TellsFault : Fault → OutputView → OutputView → Type 0
-TellsFault f old new = TookOrFailed old new (fault_line f)
 
 -- a run's fault is told, with the bit that it names, if any; and without a fault the error output is untouched
 abbrev pub Tells : {T : Type 0} → Result T Fault → Option Unsure → OutputView → OutputView → Type 0

@@ -1,11 +1,4 @@
 pub mod Limits
-pub mod Endings
-pub mod FaultLines
 pub mod Outputs
-pub mod Stabilisers
-pub mod Checks
-pub mod Deterministic
-pub mod FaultTables
-pub mod script
 pub mod Jobs
 pub mod inner

@@ -5,25 +5,14 @@ use Rattle.std.specs.Prelude.{◌≡◌, ℕ, zero, suc, ◌+◌, Bool, true, fa
 use Rattle.stab_io.specs.Devices.{InputView, OutputView}
 use Rattle.stab_io.specs.declared.refusal.Fault.{Fault}
 use Rattle.stab_circuit.specs.Items.{Items}
-use Rattle.stab_circuit.specs.Steps.{qubits_of}
-use Rattle.stab_circuit.specs.Readings.{IsCircuit, IsFaultOf}
-use Rattle.stab_run.specs.Coins.{list_coin, seed_coin}
-use Rattle.stab_run.specs.Runs.{State, run_of}
+use Rattle.stab_circuit.specs.Readings.{IsFaultOf}
+use Rattle.stab_run.specs.Runs.{State}
 use Rattle.stab_results.specs.declared.format.Format.{Format}
 use Rattle.stab_results.specs.declared.format.Kinds.TheVariants.{Measurements, Detectors}
 use Rattle.stab_results.specs.Formats.{shot_bytes}
-use Rattle.stab_commands.specs.Endings.{Ends, Sends}
-use Rattle.stab_commands.specs.declared.job.Source.{Source}
-use Rattle.stab_commands.specs.declared.job.Source.TheVariants.{Seed, List as Listed}
-
--- the coins of a shot: those of the shot's own stream under the seed, or the whole list anew
-abbrev pub coins_of_shot : Source → ℕ → ℕ → Bool
-coins_of_shot (Seed seed) shot = seed_coin seed shot
-coins_of_shot (Listed list) shot = list_coin list.items
-
--- the run of a shot, on as many qubits as the items name
-abbrev pub run_of_shot : Source → Items → ℕ → State
-run_of_shot source items shot = run_of (qubits_of items) (coins_of_shot source shot) items
+use Rattle.stab_tables.specs.Endings.{Ends, SendsOutput}
+use Rattle.stab_tables.specs.declared.source.Source.{Source}
+use Rattle.stab_tables.specs.Sources.{run_of_shot}
 
 -- the bytes of so many shots, one after another from the first on
 abbrev pub of_shots : (bytes_of : ℕ → List ℕ) → (first shots : ℕ) → List ℕ
@@ -54,12 +43,6 @@ abbrev pub DetectedPartsJoin : Type 0
 DetectedPartsJoin =
     (format : Format) (append : Bool) (first n m : ℕ) (source : Source) (items : Items) →
     detect_of format append first n source items ++ detect_of format append (first + n) m source items ≡ detect_of format append first (n + m) source items
-
--- The text stands for a circuit, and the output of it was sent.
-pub record SendsOutput {T : Type 0} (output : Items → List ℕ) (old new : OutputView) (text : List ℕ) (r : Result T Fault) : Type 0 where
-  pub items : Items
-  pub circuit : IsCircuit text items
-  pub sends : Sends (output items) old new r
 
 -- How a call of one of them ends, over an input and an output, where it writes this output for the items of a circuit.
 abbrev pub EndsRun : {T : Type 0} → (Items → List ℕ) → InputView → InputView → OutputView → OutputView → Result T Fault → Type 0

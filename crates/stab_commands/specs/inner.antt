@@ -1,9 +1,1 @@
-pub mod Texts
 pub mod Sendings
-pub mod Requests
-pub mod Replies
-pub mod Editors
-pub mod SessionAnswers
-pub mod FramedAnswers
-pub mod FaultSites
-pub mod Faults

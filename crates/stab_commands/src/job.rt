@@ -1,5 +1,6 @@
 //! What the words of a command line ask for.
 use stab_results::Format;
+use stab_tables::{FaultLayout, Source};
 use std::marker::Model;
 
 /// Which shots a command takes: at most 1,000,000, one after another, and none beyond the last of a
@@ -155,24 +156,6 @@ impl Stride {
     {
         self.steps
     }
-}
-
-/// Where coins come from: the outcomes of measurements that no stabiliser decides.
-#[derive(Debug, Drop, PartialEq, Eq)]
-pub enum Source {
-    /// Each shot has its own coins of this seed.
-    Seed(u64),
-    /// Each shot has these coins, and 0 past their end.
-    List(Vec<bool>),
-}
-
-/// How a table of faults is written.
-#[derive(Clone, Copy, Debug, PartialEq, Eq)]
-pub enum FaultLayout {
-    /// A line for each fault: where it is, its letter and qubit, and what it flips.
-    Lines,
-    /// A shot for each fault, whose bits are 1 where it flips them.
-    Shots(Format),
 }
 
 /// A command, with the options that are its own.

@@ -1,15 +1,12 @@
 //! Laws of what commands write. Each function does nothing: its contract is the law, and the check
 //! proves it.
-ghost use Rattle.stab_commands.specs.Checks.{NumbersAreOfRuns};
 ghost use Rattle.stab_commands.specs.Outputs.{DetectedPartsJoin, SampledPartsJoin};
-ghost use Rattle.stab_commands.specs.Stabilisers.{SameGroupSameLines};
-ghost use Rattle.stab_commands.specs.script.ScriptLaws.{CircuitsCanBeEdited, FirstRepliesComeFirst, ScriptsHaveAnAnswer, ScriptsHaveOneAnswer};
 
-use stab_circuit::laws::{
-    edited_items_are_of_lines, item_texts_are_lines, item_texts_have_one_meaning, texts_are_lines,
+pub use stab_scripts::laws::{
+    circuits_can_be_edited, first_replies_come_first, scripts_have_an_answer,
+    scripts_have_one_answer,
 };
-use stab_run::laws::runs_are_sound;
-use stab_tableau::laws::{traces_have_one_list, traces_have_reduced_rows};
+pub use stab_tables::laws::{numbers_are_of_runs, same_group_same_lines};
 
 /// What `sample` and `detect` write for some shots and for those that follow them, one after the
 /// other, is what they write for all of these, in each format: so a run in parts gives the bytes of
@@ -18,51 +15,3 @@ pub fn joined_parts_are_the_whole()
     ensures sampled { SampledPartsJoin }
     ensures detected { DetectedPartsJoin }
 {}
-
-/// Two stabiliser groups are one exactly where the lines of their reduced rows are the same: so texts that `stabilisers`
-/// wrote can be compared in place of states.
-pub fn same_group_same_lines()
-    ensures law { SameGroupSameLines }
-{}
-
-/// The numbers that `check` writes are those of any run of the circuit, whatever its coins: so many
-/// records, detectors and observables, and so many coins that it uses up.
-pub fn numbers_are_of_runs()
-    ensures law { NumbersAreOfRuns }
-{}
-
-/// The items of a circuit's text can be edited on at least as many qubits as they name: lines stand
-/// for them, and nothing refuses them.
-pub fn circuits_can_be_edited()
-    ensures law { CircuitsCanBeEdited }
-{
-    texts_are_lines();
-}
-
-/// A script, however long, has an answer on all items that can be edited, and it leaves items that
-/// can be.
-pub fn scripts_have_an_answer()
-    ensures law { ScriptsHaveAnAnswer }
-{
-    item_texts_have_one_meaning();
-    item_texts_are_lines();
-    edited_items_are_of_lines();
-    runs_are_sound();
-    traces_have_reduced_rows();
-    traces_have_one_list();
-}
-
-/// A script has at most one answer, on any items.
-pub fn scripts_have_one_answer()
-    ensures law { ScriptsHaveOneAnswer }
-{
-    item_texts_have_one_meaning();
-}
-
-/// What the first requests of a script are answered begins what the whole script is answered. So a
-/// run that was cut off behind some replies wrote a prefix.
-pub fn first_replies_come_first()
-    ensures law { FirstRepliesComeFirst }
-{
-    item_texts_have_one_meaning();
-}

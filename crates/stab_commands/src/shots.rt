@@ -15,12 +15,13 @@ ghost use Rattle.stab_commands.specs.Limits.{shots_of_seed};
 ghost use Rattle.stab_commands.specs.Outputs.{of_shots};
 ghost use Rattle.stab_commands.specs.inner.Sendings.{IsShot, IsShown, SendsUnflushed, shots_of, shown_bytes};
 
-use crate::job::{Shots, Source};
+use crate::job::Shots;
 use stab_circuit::Circuit;
 use stab_io::{Fault, Output};
 use stab_results::{Format, Kinds, write_shot};
 use stab_run::{Coins, ListCoins, SeedCoins, Shot, run_once};
 use stab_shots::{SeedLanes, Shots as LaneShots, Word, run_lanes, write_lane};
+use stab_tables::Source;
 use std::alloc::{AllocError, Global};
 
 /// Which bits of a shot are shown.

@@ -1,21 +1,17 @@
 //! Running a job, with the status of the program.
 ghost use Rattle.std.specs.Prelude.{◌≡◌, ◌≤◌, IfSome, None, false};
 ghost use Rattle.stab_tableau.specs.Limits.{most_qubits};
-ghost use Rattle.stab_commands.specs.FaultTables.{fault_of, unsure_of};
+ghost use Rattle.stab_tables.specs.FaultTables.{fault_of, unsure_of};
 ghost use Rattle.stab_commands.specs.Jobs.{EndsCommand, EndsJob, reads_script, refusing_none};
-ghost use Rattle.stab_commands.specs.script.ScriptTurns.{CommandInTurn};
+ghost use Rattle.stab_commands.specs.Jobs.{CommandInTurn};
 
-use crate::check::run_check;
-use crate::deterministic::run_deterministic;
-use crate::fault_line::write_refused;
-use crate::faults::run_faults;
 use crate::job::{Command, Job, QubitCount};
 use crate::run::{run_detect_shots, run_sample_shots};
-use crate::script::edit::run_edit_watched;
-use crate::script::watcher::{NoWatcher, Watcher};
-use crate::stabilisers::run_stabilisers;
-use crate::unsure::FaultsRefused;
 use stab_io::{Fault, Input, Output};
+use stab_scripts::{NoWatcher, Watcher, run_edit_watched};
+use stab_tables::{
+    FaultsRefused, run_check, run_deterministic, run_faults, run_stabilisers, write_refused,
+};
 use std::alloc::Global;
 
 /// How many qubits, where so many are asked for.

@@ -6,7 +6,7 @@
 ghost use Rattle.std.specs.Prelude.{◌≡◌, true};
 ghost use Rattle.stab_commands.specs.Jobs.{EndsJob, reads_script};
 ghost use Rattle.stab_commands.specs.Outputs.{EndsRun, detect_of, sample_of};
-ghost use Rattle.stab_commands.specs.script.ScriptTurns.{CommandInTurn};
+ghost use Rattle.stab_commands.specs.Jobs.{CommandInTurn};
 
 use stab_commands::{Job, Source, Watcher, run_detect, run_job, run_job_watched, run_sample};
 use stab_pauli::{Fault, Input, Output};

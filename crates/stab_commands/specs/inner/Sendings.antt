@@ -1,10 +1,7 @@
 -- Sendings: what is shown of a run, and what a call leaves of an output to which it sends bytes without a flush.
 -- Source: this project's own.
 use Rattle.std.specs.Prelude.{◌≡◌, ℕ, Bool, true, false, List, ◌++◌, length, Result, Ok, Err}
-use Rattle.stab_io.specs.Devices.{OutputView, Took, CutOff, Flushed, FlushFailed}
-use Rattle.stab_pauli.specs.Paulis.{Signed}
-use Rattle.stab_io.specs.Refusals.{whole}
-use Rattle.stab_io.specs.declared.refusal.Refusal.TheVariants.{WriteFault}
+use Rattle.stab_io.specs.Devices.{OutputView, Took, CutOff}
 use Rattle.stab_io.specs.declared.refusal.Fault.{Fault}
 use Rattle.stab_run.specs.declared.run.Shot.{Shot}
 use Rattle.stab_run.specs.Runs.{State}
@@ -13,13 +10,12 @@ use Rattle.stab_results.specs.declared.format.Format.{Format}
 use Rattle.stab_results.specs.declared.format.Kinds.{Kinds}
 use Rattle.stab_results.specs.declared.format.Kinds.TheVariants.{Measurements, Detectors as Detected}
 use Rattle.stab_results.specs.Formats.{shot_bytes}
-use Rattle.stab_commands.specs.declared.job.Source.{Source}
+use Rattle.stab_tables.specs.declared.source.Source.{Source}
 use Rattle.stab_commands.specs.declared.shots.Shown.{Shown}
 use Rattle.stab_commands.specs.declared.shots.Shown.TheVariants.{Records, Detectors, DetectorsAndObservables}
 use Rattle.stab_commands.specs.Limits.{ShotRange}
-use Rattle.stab_commands.specs.Endings.{FailsToSend, TookAndFlushed}
-use Rattle.stab_commands.specs.Outputs.{detected, of_shots, run_of_shot}
-use Rattle.stab_commands.specs.Stabilisers.{lines_of}
+use Rattle.stab_commands.specs.Outputs.{detected, of_shots}
+use Rattle.stab_tables.specs.Sources.{run_of_shot}
 
 -- a shot has the records, detectors and observables of a run
 pub record IsShot (shot : Shot) (run : State) : Type 0 where
@@ -47,13 +43,3 @@ shots_of format shown shots source items = of_shots (λ shot. shown_bytes format
 abbrev pub SendsUnflushed : {T : Type 0} → List ℕ → OutputView → OutputView → Result T Fault → Type 0
 SendsUnflushed bytes old new (Ok x) = Took old new bytes
 SendsUnflushed bytes old new (Err f) = CutOff old new bytes f
-
--- the output was flushed; or the flush failed, which is a fault without a line
-abbrev pub FlushesOrFault : {T : Type 0} → OutputView → OutputView → Result T Fault → Type 0
-FlushesOrFault old new (Ok x) = Flushed old new
-FlushesOrFault old new (Err f) = (f ≡ whole WriteFault) × FlushFailed old new
-
--- the lines of these strings were sent: all of them, with a flush behind them; or the output failed
-abbrev pub SendsLines : {T : Type 0} → List Signed → OutputView → OutputView → Result T Fault → Type 0
-SendsLines rows old new (Ok x) = TookAndFlushed old new (lines_of rows)
-SendsLines rows old new (Err f) = (f ≡ whole WriteFault) × FailsToSend old new (lines_of rows)

@@ -1,6 +1,7 @@
 use Rattle.stab_results.specs.declared.format.Kinds.TheVariants.{Measurements}
 use Rattle.stab_results.specs.Formats.{shot_bytes}
-use Rattle.stab_commands.specs.Outputs.{detected, run_of_shot}
+use Rattle.stab_commands.specs.Outputs.{detected}
+use Rattle.stab_tables.specs.Sources.{run_of_shot}
 use Rattle.stab_commands.proofs.SendingLaws.{parts_join}
 use Rattle.stab_commands.proofs.laws.joined_parts_are_the_whole.Goals as goal
 

@@ -1,5 +1,5 @@
 use Rattle.std.proofs.Common.{subst, sym}
-use Rattle.stab_commands.specs.FaultTables.{EndsFaults, fault_of}
+use Rattle.stab_tables.specs.FaultTables.{EndsFaults, fault_of}
 use Rattle.stab_commands.proofs.status.run_command.Goals as goal
 
 pub returns-in-Faults-clause-ends : goal.returns-in-Faults-clause-ends

@@ -1,0 +1,144 @@
+-- Laws of answers: on items that can be edited each request has one, which leaves such items; so have requests one after another.
+use Rattle.std.proofs.Common.{◌≡◌, ◌≤◌, ℕ, Bool, true, false, nat_lt, List, [], ◌∷◌, refl, sym, subst, Option, Some, None, Result, Ok, Err, inl, inr, if◌then◌else◌, arith}
+use Rattle.std.specs.List.{slice_split}
+use Rattle.std.proofs.lemmas.Bool.{ltb-true, ltb-false}
+use Rattle.stab_io.specs.declared.refusal.Refusal.{Refusal}
+use Rattle.stab_io.specs.declared.refusal.Refusal.TheVariants.{TooDeep, QubitOutOfRange}
+use Rattle.stab_io.specs.declared.refusal.Fault.{Fault}
+use Rattle.stab_tableau.specs.Reduced.{TracesHaveOneList, TracesHaveReducedRows}
+use Rattle.stab_lines.specs.Lines.{is_byte}
+use Rattle.stab_circuit.specs.Items.{Items, OneItem, done, before, listed, entries, depth}
+use Rattle.stab_circuit.specs.Paths.{Path}
+use Rattle.stab_circuit.specs.declared.edit.Edit.{Edit}
+use Rattle.stab_circuit.specs.declared.edit.Edit.TheVariants as circuit_edit
+use Rattle.stab_circuit.specs.Edits.{edited, list_verdict}
+use Rattle.stab_circuit.specs.Steps.{qubits_of, check_of, check_within}
+use Rattle.stab_circuit.specs.Circuits.{item_fault, StandsForOne}
+use Rattle.stab_circuit.specs.Readings.{IsCircuit}
+use Rattle.stab_circuit.specs.Laws.{AreOfLines, PutsLines, TextsAreLines, ItemTextsAreLines, ItemTextsHaveOneMeaning, EditedItemsAreOfLines}
+use Rattle.stab_circuit.proofs.EditLemmas.{listed-entries}
+use Rattle.stab_run.specs.Runs.{State, run_of}
+use Rattle.stab_run.specs.Laws.{IsSoundRun, RunsAreSound}
+use Rattle.stab_results.specs.Formats.{f01_bytes}
+use Rattle.stab_circuit.specs.Prints.{printed}
+use Rattle.stab_tables.specs.Stabilisers.{lines_of}
+use Rattle.stab_scripts.specs.Scripts.{Setting, Request, begin, put, delete, show, ask, refuse, Held, run_held, Answer, IsPut, Shows, IsAnswer, IsAnswerToAll, both, unless, judged, decided, refusing, replying, edit_of, edited_items, framed_shown, held_behind, shown_or_refused, framed_answer}
+use Rattle.stab_scripts.specs.FramedReplies.{reply_text, greeting, session_numbers}
+use Rattle.stab_scripts.specs.FramedRequests.{FramedRequest, mark, numbers, changed, changed_records, sign, item}
+use Rattle.stab_scripts.specs.ScriptLaws.{CanBeEdited}
+use Rattle.stab_scripts.specs.declared.request.ItemEdit.{ItemEdit}
+use Rattle.stab_scripts.specs.declared.request.ItemEdit.TheVariants.{Insert, Replace}
+use Rattle.stab_scripts.specs.declared.request.Show.{Show}
+use Rattle.stab_scripts.specs.declared.request.Show.TheVariants.{Measurements, Free, Detectors, Observables, Stabilisers, Circuit}
+
+-- the items of a circuit's text can be edited
+pub circuit_can : TextsAreLines → (n : ℕ) (text : List ℕ) (items : Items) → IsCircuit text items → qubits_of items ≤ n → CanBeEdited n items
+circuit_can lines n text items is le = ((slice_split (is_byte 10) text, lines text items is.0), by_test (nat_lt n (qubits_of items)) refl)
+  where
+    by_test : (b : Bool) → nat_lt n (qubits_of items) ≡ b → (if b then Some QubitOutOfRange else check_of items) ≡ None
+    by_test false e = is.1
+    by_test true e = let lt = ltb-true n (qubits_of items) e in absurd (omega arith)
+
+-- a verdict that lets an edit pass
+verdict_passed : (n : ℕ) (ys : List OneItem) → list_verdict n (Ok ys) ≡ None → (depth (listed ys) ≤ 16) × (check_within n (listed ys) ≡ None)
+verdict_passed n ys e = by_test (nat_lt 16 (depth (listed ys))) refl e
+  where
+    by_test : (b : Bool) → nat_lt 16 (depth (listed ys)) ≡ b → (if b then Some TooDeep else check_within n (listed ys)) ≡ None
+        → (depth (listed ys) ≤ 16) × (check_within n (listed ys) ≡ None)
+    by_test true t v = absurd (cc)
+    by_test false t v = ((let le = ltb-false 16 (depth (listed ys)) t in omega arith), v)
+
+-- an edit that puts in an item of lines leaves items that can be edited, made or refused
+edit_keeps : EditedItemsAreOfLines → (n : ℕ) (what : Edit) (kept : Bool) (held : Held) → PutsLines what → CanBeEdited n held.items
+    → CanBeEdited n (decided kept held (edited_items n what held.items)).held.items
+edit_keeps edits n what kept held puts can = by_result (edited what (entries held.items)) refl
+  where
+    by_verdict : (list : List OneItem) → edited what (entries held.items) ≡ Ok list → (v : Option Refusal) → list_verdict n (Ok list) ≡ v
+        → CanBeEdited n (decided kept held (unless v (listed list))).held.items
+    by_verdict list e (Some r) given = can
+    by_verdict list e None given =
+        let passed = verdict_passed n list given in
+        (edits what (entries held.items) list (subst AreOfLines (sym (listed-entries held.items)) can.0) puts e passed.0, passed.1)
+
+    by_result : (r : Result (List OneItem) Refusal) → edited what (entries held.items) ≡ r → CanBeEdited n (decided kept held (judged n r)).held.items
+    by_result (Ok list) e = by_verdict list e (list_verdict n (Ok list)) refl
+    by_result (Err r) e = can
+
+-- the item of a text is of lines
+puts_lines : ItemTextsAreLines → (text : List ℕ) (x : OneItem) → StandsForOne text x → (place : Path) (how : ItemEdit) → PutsLines (edit_of how place x)
+puts_lines lines text x stands place Insert y e = let same : x ≡ y = cc in subst (λ z. AreOfLines (before z done)) same (slice_split (is_byte 10) text, lines text x stands)
+puts_lines lines text x stands place Replace y e = let same : x ≡ y = cc in subst (λ z. AreOfLines (before z done)) same (slice_split (is_byte 10) text, lines text x stands)
+
+puts_none : (place : Path) → PutsLines (circuit_edit.Delete place)
+puts_none place y e = absurd (cc)
+
+-- something is shown, whatever is asked for
+text_shown : TracesHaveReducedRows → TracesHaveOneList → (n : ℕ) (coins : ℕ → Bool) (items : Items) → IsSoundRun n coins items → (what : Show)
+    → (reply : List ℕ) × Shows n (run_of n coins items) items what reply
+text_shown some one n coins items sound Measurements = (f01_bytes (run_of n coins items).records, refl)
+text_shown some one n coins items sound Free = (f01_bytes (run_of n coins items).free, refl)
+text_shown some one n coins items sound Detectors = (f01_bytes (run_of n coins items).detectors, refl)
+text_shown some one n coins items sound Observables = (f01_bytes (run_of n coins items).observables, refl)
+text_shown some one n coins items sound Stabilisers =
+    let rows = some n (run_of n coins items).trace sound.0 sound.1 in
+    (lines_of rows.0, (rows.0, (rows.1, λ other are. one n (run_of n coins items).trace sound.0 sound.1 other rows.0 are rows.1), refl))
+text_shown some one n coins items sound Circuit = (printed items, refl)
+
+-- what only a framed script asks for leaves the items as they are
+behind_keeps : (run : State) (held : Held) (r : FramedRequest) → (held_behind run held r).items ≡ held.items
+behind_keeps run held mark = refl
+behind_keeps run held numbers = refl
+behind_keeps run held changed = refl
+behind_keeps run held changed_records = refl
+behind_keeps run held (sign word) = refl
+behind_keeps run held (item place) = refl
+
+-- so does its answer
+framed_keeps : (kept : Bool) (n : ℕ) (run : State) (held : Held) (r : FramedRequest) → (framed_answer kept n run held r).held.items ≡ held.items
+framed_keeps false n run held r = refl
+framed_keeps true n run held r = by_shown (framed_shown n run held r)
+  where
+    by_shown : (shown : Result (List ℕ) Refusal) → (shown_or_refused true held (held_behind run held r) shown).held.items ≡ held.items
+    by_shown (Ok text) = behind_keeps run held r
+    by_shown (Err e) = refl
+
+module _ (meanings : ItemTextsHaveOneMeaning) (lines : ItemTextsAreLines) (edits : EditedItemsAreOfLines) (sound : RunsAreSound)
+    (some : TracesHaveReducedRows) (one : TracesHaveOneList) where
+  -- an edit that puts in the item of a text has an answer
+  put_answered : (s : Setting) (held : Held) (how : ItemEdit) (place : Path) (text : List ℕ) → CanBeEdited s.qubits held.items
+      → (a : Answer) × IsPut s.framed held (λ item. edited_items s.qubits (edit_of how place item) held.items) text a × CanBeEdited s.qubits a.held.items
+  put_answered s held how place text can = by_fault (item_fault text) refl
+    where
+      by_fault : (f : Option Fault) → item_fault text ≡ f
+          → (a : Answer) × IsPut s.framed held (λ item. edited_items s.qubits (edit_of how place item) held.items) text a × CanBeEdited s.qubits a.held.items
+      by_fault (Some f) e = (refusing held f.refusal, inl (f, e, refl), can)
+      by_fault None e =
+          let m = meanings text e in (
+            decided s.framed held (edited_items s.qubits (edit_of how place m.0) held.items),
+            inr (m.0, m.1.0, refl),
+            edit_keeps edits s.qubits (edit_of how place m.0) s.framed held (puts_lines lines text m.0 m.1.0 place how) can,
+          )
+
+  -- a request has an answer
+  request_answered : (s : Setting) (held : Held) (r : Request) → CanBeEdited s.qubits held.items → (a : Answer) × IsAnswer s held r a × CanBeEdited s.qubits a.held.items
+  request_answered s held begin can = (replying held (greeting s.framed (session_numbers s.qubits (run_held s held) held.items)), refl, can)
+  request_answered s held (put how place text) can = put_answered s held how place text can
+  request_answered s held (delete place) can =
+      (decided s.framed held (edited_items s.qubits (circuit_edit.Delete place) held.items), refl, edit_keeps edits s.qubits (circuit_edit.Delete place) s.framed held (puts_none place) can)
+  request_answered s held (show what) can =
+      let shown = text_shown some one s.qubits s.coins held.items (sound s.qubits s.coins can.0.0 held.items can.0.1 can.1) what in
+      (replying held (reply_text s.framed shown.0), (shown.0, shown.1, refl), can)
+  request_answered s held (ask r) can = (
+    framed_answer s.framed s.qubits (run_held s held) held r,
+    refl,
+    subst (λ (x : Items). CanBeEdited s.qubits x) (sym (framed_keeps s.framed s.qubits (run_held s held) held r)) can,
+  )
+  request_answered s held (refuse r) can = (refusing held r, refl, can)
+
+  -- requests, however many, have an answer
+  pub all_answered : (s : Setting) (held : Held) (rs : List Request) → CanBeEdited s.qubits held.items → (a : Answer) × IsAnswerToAll s held rs a × CanBeEdited s.qubits a.held.items
+  all_answered s held [] can = (replying held [], refl, can)
+  all_answered s held (r ∷ rs) can =
+      let first = request_answered s held r can in
+      let rest = all_answered s first.0.held rs first.2 in
+      (both first.0 rest.0, (first.0, rest.0, first.1, rest.1, refl), rest.2)

@@ -1,0 +1,31 @@
+-- Laws of framed replies: what is left of a shot in the notation `dets` is a line of entries.
+use Rattle.std.proofs.Common.{◌≡◌, ℕ, List, [], ◌∷◌, ◌++◌, length, drop, refl, sym, ap, codes}
+use Rattle.std.proofs.lemmas.List.{append-nil}
+use Rattle.stab_tables.specs.Texts.{texts_joined}
+
+-- one text alone
+pub one_text_joined : (t : List ℕ) → texts_joined (t ∷ []) ≡ t
+one_text_joined t = append-nil t
+
+-- a reply behind the number of its lines
+pub told_text : (number text : List ℕ) → texts_joined (codes "ok " ∷ number ∷ codes "\n" ∷ text ∷ []) ≡ codes "ok " ++ (number ++ (codes "\n" ++ text))
+told_text number text = ap (λ t. codes "ok " ++ (number ++ (codes "\n" ++ t))) (append-nil text)
+
+-- a line of numbers behind the words of the first line
+pub greeting_text : (line : List ℕ) → texts_joined (codes "ready 1 " ∷ line ∷ []) ≡ codes "ready 1 " ++ line
+greeting_text line = ap (λ t. codes "ready 1 " ++ t) (append-nil line)
+
+-- nothing put behind a text
+pub nothing_behind : (text : List ℕ) → text ≡ text ++ []
+nothing_behind text = sym (append-nil text)
+
+-- where the line end stands alone there is no entry
+pub no_entry : (entries : List ℕ) → length (entries ++ 10 ∷ []) ≡ 1 → entries ++ 10 ∷ [] ≡ drop 1 entries ++ 10 ∷ []
+no_entry [] e = refl
+no_entry (b ∷ []) e = absurd (cc)
+no_entry (b ∷ c ∷ bs) e = absurd (cc)
+
+-- else the first entry has a space in front
+pub some_entry : (entries : List ℕ) → (length (entries ++ 10 ∷ []) ≡ 1 → ⊥) → drop 1 (entries ++ 10 ∷ []) ≡ drop 1 entries ++ 10 ∷ []
+some_entry [] e = absurd (e refl)
+some_entry (b ∷ bs) e = refl

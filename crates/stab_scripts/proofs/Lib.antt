@@ -1,0 +1,11 @@
+pub mod PlaceLaws
+pub mod ChangeLaws
+pub mod SignLaws
+pub mod FramedReplyLaws
+pub mod AnswerLaws
+pub mod AnswerExistLaws
+pub mod ReadingLaws
+pub mod TellingLaws
+pub mod ScriptRunLaws
+pub mod ScriptTurnLaws
+pub mod SessionAnswerLaws

@@ -1,0 +1,174 @@
+-- Laws of answers from a session: what its calls say is what scripts are answered.
+use Rattle.std.proofs.Common.{◌≡◌, ◌≢◌, ℕ, Bool, true, false, min, length, List, refl, sym, ap, subst, ◌∙◌, Option, Some, None, Result, Ok, Err, inl, inr, ◌⊎◌}
+use Rattle.std.specs.Prelude.{IfOk, IfErr}
+use Rattle.std.specs.Result.{IsErrAnd}
+use Rattle.stab_io.specs.declared.refusal.Refusal.{Refusal}
+use Rattle.stab_io.specs.declared.refusal.Refusal.TheVariants.{OutOfMemory}
+use Rattle.stab_io.specs.declared.refusal.Fault.{Fault}
+use Rattle.stab_io.specs.Refusals.{whole, IsCallFault}
+use Rattle.stab_circuit.specs.Items.{Items, OneItem, before, done, listed, entries}
+use Rattle.stab_circuit.specs.Paths.{Path}
+use Rattle.stab_circuit.specs.Places.{item_at}
+use Rattle.stab_circuit.specs.Prints.{printed}
+use Rattle.stab_circuit.specs.declared.edit.Edit.{Edit}
+use Rattle.stab_circuit.specs.Edits.{edited, verdict, list_verdict}
+use Rattle.stab_circuit.proofs.EditLemmas.{listed-entries, entries-listed}
+use Rattle.stab_session.specs.Sessions.{SessionState}
+use Rattle.stab_session.specs.SessionEdits.{IsEditedBy, IsAsBefore}
+use Rattle.stab_circuit.specs.Steps.{unroll, steps_cap, check_within}
+use Rattle.stab_circuit.specs.Readings.{ReadsItem}
+use Rattle.stab_run.specs.Runs.{State, run_of}
+use Rattle.stab_scripts.specs.declared.reply.SessionNumbers.{SessionNumbers}
+use Rattle.stab_scripts.specs.FramedRequests.{FramedRequest}
+use Rattle.stab_run.proofs.FitLemmas.{check-whole}
+use Rattle.stab_tables.proofs.CheckLaws.{steps_counted}
+use Rattle.stab_tables.specs.FaultLines.{refused_text}
+use Rattle.stab_pauli.specs.Paulis.{Signed}
+use Rattle.stab_tableau.specs.Traces.{member}
+use Rattle.stab_session.specs.Sessions.{IsSignIn}
+use Rattle.stab_scripts.proofs.SignLaws.{told_sign}
+use Rattle.stab_scripts.specs.Signs.{sign_line}
+use Rattle.stab_scripts.specs.inner.Replies.{ReplyBytes}
+use Rattle.stab_scripts.specs.inner.FramedAnswers.{GivesText}
+use Rattle.stab_scripts.specs.Scripts.{Setting, Held, first_mark, opened, unless, judged, decided, refusing, IsPut, item_shown, sign_shown, framed_shown, held_behind, shown_or_refused, framed_answer}
+use Rattle.stab_scripts.specs.inner.SessionAnswers.{session_setting, held_of, answered}
+use Rattle.stab_scripts.specs.Changes.{Mark}
+use Rattle.stab_scripts.specs.FramedReplies.{made_text, reply_text, session_numbers}
+use Rattle.stab_scripts.specs.declared.changes.MarkedBits.{MarkedBits}
+
+-- items and a mark
+abbrev held_with : Items → Mark → Held
+held_with items m = record { items = items; mark = m }
+
+-- what an edit that was made leaves
+pub made_items : {C : Type 0} (sequence : C → ℕ → Bool) (e : Edit) (old new : SessionState C) → IsEditedBy sequence e old new
+    → judged old.qubits (edited e (entries old.items)) ≡ Ok new.items
+made_items sequence e old new is =
+    let after : edited e (entries old.items) ≡ Ok (entries new.items) = is.items in
+    let passes : list_verdict old.qubits (Ok (entries new.items)) ≡ None = sym (ap (list_verdict old.qubits) after) ∙ is.accepted in
+    ap (judged old.qubits) after ∙ ap (λ v. unless v (listed (entries new.items))) passes ∙ ap Ok (listed-entries new.items)
+
+judged_refused : (n : ℕ) (r : Result (List OneItem) Refusal) (x : Refusal) → list_verdict n r ≡ Some x → judged n r ≡ Err x
+judged_refused n (Ok ys) x e = ap (λ v. unless v (listed ys)) e
+judged_refused n (Err y) x e = let same : y ≡ x = cc in ap Err same
+
+refused_by : (kept : Bool) (n : ℕ) (r : Result (List OneItem) Refusal) (held : Held) (f : Fault) (v : Option Refusal) → list_verdict n r ≡ v → IsCallFault v f → f.refusal ≢ OutOfMemory
+    → refusing held f.refusal ≡ decided kept held (judged n r)
+refused_by kept n r held f (Some x) e is some = ap (λ (g : Fault). refusing held g.refusal) is ∙ sym (ap (decided kept held) (judged_refused n r x e))
+refused_by kept n r held f None e is some = absurd (some (ap (λ (g : Fault). g.refusal) is))
+
+-- an edit that was refused, not for want of memory
+pub refused_answer : (kept : Bool) (n : ℕ) (r : Result (List OneItem) Refusal) (held : Held) (f : Fault) → IsCallFault (list_verdict n r) f → f.refusal ≢ OutOfMemory
+    → refusing held f.refusal ≡ decided kept held (judged n r)
+refused_answer kept n r held f is some = refused_by kept n r held f (list_verdict n r) refl is some
+
+abbrev setting_with : Bool → ℕ → (ℕ → Bool) → Setting
+setting_with framed qubits coins = record { framed = framed; qubits = qubits; coins = coins }
+
+pub same_setting : {b c : Bool} {n m : ℕ} {f g : ℕ → Bool} → b ≡ c → n ≡ m → f ≡ g → setting_with b n f ≡ setting_with c m g
+same_setting {b} {c} {n} {m} {f} {g} d e h = ap (λ k. setting_with k n f) d ∙ ap (λ k. setting_with c k f) e ∙ ap (λ k. setting_with c m k) h
+
+-- an edit keeps qubits and coins
+pub made_setting : {C : Type 0} (sequence : C → ℕ → Bool) (framed : Bool) (e : Edit) (old new : SessionState C) → IsEditedBy sequence e old new
+    → session_setting sequence framed new ≡ session_setting sequence framed old
+made_setting sequence framed e old new is = same_setting refl is.qubits is.coins
+
+-- so does one that is refused
+pub kept_setting : {C : Type 0} (sequence : C → ℕ → Bool) (framed : Bool) (old new : SessionState C) → IsAsBefore sequence old new
+    → session_setting sequence framed new ≡ session_setting sequence framed old
+kept_setting sequence framed old new is = same_setting refl is.qubits is.coins
+
+-- what is told of an edit that was made
+pub told_made : {C : Type 0} (sequence : C → ℕ → Bool) (kept : Bool) (e : Edit) (old new : SessionState C) (m : MarkedBits) (reply : List ℕ) → IsEditedBy sequence e old new → reply ≡ made_text kept
+    → answered (held_of new m) reply false ≡ decided kept (held_of old m) (judged old.qubits (edited e (entries old.items)))
+told_made sequence kept e old new m reply is same =
+    ap (λ l. answered (held_of new m) l false) same ∙ sym (ap (decided kept (held_of old m)) (made_items sequence e old new is))
+
+same_refusal : {held others : Held} {reply : List ℕ} {refused : Bool} (r : Refusal) → held ≡ others → reply ≡ refused_text r → refused ≡ true → answered held reply refused ≡ refusing others r
+same_refusal {held} {others} {reply} {refused} r e f g =
+    ap (λ x. answered x reply refused) e ∙ ap (λ l. answered others l refused) f ∙ ap (λ b. answered others (refused_text r) b) g
+
+-- what is told of an edit that was refused
+pub told_refusal : {C : Type 0} (sequence : C → ℕ → Bool) (kept : Bool) (e : Edit) (old new : SessionState C) (m : MarkedBits) (f : Fault) (reply : List ℕ) (refused : Bool) → IsAsBefore sequence old new
+    → IsCallFault (verdict old.qubits e (entries old.items)) f → f.refusal ≢ OutOfMemory → reply ≡ refused_text f.refusal → refused ≡ true
+    → answered (held_of new m) reply refused ≡ decided kept (held_of old m) (judged old.qubits (edited e (entries old.items)))
+told_refusal sequence kept e old new m f reply refused is fault some same true_is =
+    same_refusal f.refusal (ap (λ x. held_with x (held_of old m).mark) is.items) same true_is ∙ refused_answer kept old.qubits (edited e (entries old.items)) (held_of old m) f fault some
+
+-- a text that stands for no item
+pub put_refused : (kept : Bool) (held : Held) (after : OneItem → Result Items Refusal) (text : List ℕ) (f : Fault) (reply : List ℕ) (refused : Bool)
+    → ReadsItem text (Err f) → f.refusal ≢ OutOfMemory → reply ≡ refused_text f.refusal → refused ≡ true → IsPut kept held after text (answered held reply refused)
+put_refused kept held after text f reply refused (inl memory) some same true_is = absurd (some (ap (λ (g : Fault). g.refusal) memory))
+put_refused kept held after text f reply refused (inr fault) some same true_is = inl (f, fault, same_refusal f.refusal refl same true_is)
+
+-- the steps of a circuit that nothing refuses are counted to the end
+pub steps_told : (n k : ℕ) (items : Items) → check_within n items ≡ None → k ≡ min (length (unroll items)) steps_cap → k ≡ length (unroll items)
+steps_told n k items e f = f ∙ steps_counted items (check-whole n items e)
+
+abbrev numbers_with : (q t r d o : ℕ) → SessionNumbers
+numbers_with q t r d o = record { qubits = q; steps = t; records = r; detectors = d; observables = o }
+
+-- numbers are those of a session, where each is
+pub numbers_told : {q t r d o : ℕ} (n : ℕ) (run : State) (items : Items) → q ≡ n → t ≡ length (unroll items) → r ≡ length run.records → d ≡ length run.detectors → o ≡ length run.observables
+    → numbers_with q t r d o ≡ session_numbers n run items
+numbers_told {q} {t} {r} {d} {o} n run items eq et er ed eo =
+    ap (λ k. numbers_with k t r d o) eq
+    ∙ ap (λ k. numbers_with n k r d o) et
+    ∙ ap (λ k. numbers_with n (length (unroll items)) k d o) er
+    ∙ ap (λ k. numbers_with n (length (unroll items)) (length run.records) k o) ed
+    ∙ ap (λ k. numbers_with n (length (unroll items)) (length run.records) (length run.detectors) k) eo
+
+-- what is held before a script
+pub opened_with : (s : Setting) (items : Items) (m : Mark) → m ≡ first_mark s.framed (run_of s.qubits s.coins items) → held_with items m ≡ opened s items
+opened_with s items m e = ap (held_with items) e
+
+-- want of memory, where nothing refuses the items
+pub unopened : (v : Option Refusal) (f : Fault) → v ≡ None → f ≡ whole OutOfMemory → IsCallFault v f
+unopened None f e is = is
+unopened (Some r) f e is = absurd (cc)
+
+-- a reply to what is shown, and its refusal
+pub told_framed : (run : State) (held behind : Held) (n : ℕ) (r : FramedRequest) (text : List ℕ) → framed_shown n run held r ≡ Ok text → behind ≡ held_behind run held r
+    → answered behind (reply_text true text) false ≡ framed_answer true n run held r
+told_framed run held behind n r text e f =
+    ap (λ x. answered x (reply_text true text) false) f ∙ sym (ap (shown_or_refused true held (held_behind run held r)) e)
+
+pub refused_framed : (run : State) (held : Held) (n : ℕ) (r : FramedRequest) (e : Refusal) → framed_shown n run held r ≡ Err e → refusing held e ≡ framed_answer true n run held r
+refused_framed run held n r e f = sym (ap (shown_or_refused true held (held_behind run held r)) f)
+
+-- the items of a circuit are those of its session
+same_entries : (circuit : List OneItem) (items : Items) → listed circuit ≡ items → entries items ≡ circuit
+same_entries circuit items same = sym (ap entries same) ∙ entries-listed circuit
+
+-- where there is no item at a place of the circuit, none is shown
+pub item_refused : (circuit : List OneItem) (items : Items) (place : Path) (r : Refusal) (result : Result ReplyBytes Refusal) → IsErrAnd result (λ x. x ≡ r) → listed circuit ≡ items
+    → item_at place circuit ≡ Err r → GivesText result (item_shown (item_at place (entries items)))
+item_refused circuit items place r (Ok reply) is same found = absurd is
+item_refused circuit items place r (Err x) is same found =
+    inr (ap (λ xs. item_shown (item_at place xs)) (same_entries circuit items same) ∙ (ap item_shown found ∙ ap Err (sym is)))
+
+-- and where there is one, its text is
+pub item_told : (circuit : List OneItem) (items : Items) (place : Path) (x : OneItem) (made : Result ReplyBytes Fault) (result : Result ReplyBytes Refusal) → listed circuit ≡ items
+    → item_at place circuit ≡ Ok x → IfOk made (λ r. r.written ≡ printed (before x done)) → IfOk result (λ r. made ≡ Ok r) → IfErr result (λ r. r ≡ OutOfMemory)
+    → GivesText result (item_shown (item_at place (entries items)))
+item_told circuit items place x made (Ok reply) same found written is err =
+    let text : reply.written ≡ printed (before x done) = subst (λ (m : Result ReplyBytes Fault). IfOk m (λ r. r.written ≡ printed (before x done))) is written in
+    ap (λ xs. item_shown (item_at place xs)) (same_entries circuit items same) ∙ (ap item_shown found ∙ ap Ok (sym text))
+item_told circuit items place x made (Err r) same found written is err = inl err
+
+-- the sign of a string is told as the group of the run has it
+pub sign_told : (run : State) (given : Result Signed Refusal) (p : Signed) (sign : Option Bool) (made : Result ReplyBytes Fault) (result : Result ReplyBytes Refusal) → given ≡ Ok p
+    → IsSignIn (member run.trace) p sign → IfOk made (λ r. r.written ≡ sign_line sign) → IfOk result (λ r. made ≡ Ok r) → IfErr result (λ r. r ≡ OutOfMemory)
+    → GivesText result (sign_shown run given)
+sign_told run given p sign made (Ok reply) is in_group written same err =
+    let text : reply.written ≡ sign_line sign = subst (λ (m : Result ReplyBytes Fault). IfOk m (λ r. r.written ≡ sign_line sign)) same written in
+    ap (sign_shown run) is ∙ (ap Ok (ap sign_line (sym (told_sign (member run.trace) p sign in_group))) ∙ ap Ok (sym text))
+sign_told run given p sign made (Err r) is in_group written same err = inl err
+
+-- a request that only a framed script makes, refused
+pub framed_refused : (held others : Held) (run : State) (n : ℕ) (request : FramedRequest) (framed : Bool) (r : Refusal) (reply : List ℕ) (refused : Bool) → framed ≡ true → held ≡ others
+    → (r ≡ OutOfMemory) ⊎ (framed_shown n run others request ≡ Err r) → r ≢ OutOfMemory → reply ≡ refused_text r → refused ≡ true
+    → answered held reply refused ≡ framed_answer framed n run others request
+framed_refused held others run n request framed r reply refused is_framed same (inl memory) some text flag = absurd (some memory)
+framed_refused held others run n request framed r reply refused is_framed same (inr shown) some text flag =
+    same_refusal r same text flag ∙ (refused_framed run others n request r shown ∙ ap (λ b. framed_answer b n run others request) (sym is_framed))

@@ -1,0 +1,41 @@
+-- Framed requests: what only a framed script asks for, and the words that ask for it.
+-- Source: this project's own.
+use Rattle.std.specs.Prelude.{ℕ, ◌==◌, List, length, codes, bytes_eq, Option, Some, None, if◌then◌else◌}
+use Rattle.stab_circuit.specs.Paths.{Path}
+use Rattle.stab_scripts.specs.ScriptWords.{first_word, behind_word, place_of}
+
+-- that changes are counted from now on; or that this is shown: the numbers of the circuit, what changed of detectors and observables, what
+-- changed of records, the sign of a Pauli string, the item at a place
+pub data FramedRequest : Type 0 where
+  mark : FramedRequest
+  numbers : FramedRequest
+  changed : FramedRequest
+  changed_records : FramedRequest
+  sign : (text : List ℕ) → FramedRequest
+  item : (place : Path) → FramedRequest
+
+-- the request, where nothing stands behind its word
+abbrev pub alone : (rest : List ℕ) → FramedRequest → Option FramedRequest
+alone rest request = if length rest == 0 then Some request else None
+
+-- what the word behind `show changed` asks for
+abbrev pub changed_of : (rest : List ℕ) → Option FramedRequest
+changed_of rest = if bytes_eq rest (codes "records") then Some changed_records else alone rest changed
+
+-- the sign of the string of a word
+abbrev pub sign_of : (word rest : List ℕ) → Option FramedRequest
+sign_of word rest = if length word == 0 then None else alone rest (sign word)
+
+-- the item at a place, where there is one
+abbrev pub item_of : Option Path → (rest : List ℕ) → Option FramedRequest
+item_of None rest = None
+item_of (Some place) rest = alone rest (item place)
+
+-- what the first word behind `show`, and the rest behind that, ask for
+abbrev pub framed_show : (word rest : List ℕ) → Option FramedRequest
+framed_show word rest =
+    if bytes_eq word (codes "numbers") then alone rest numbers
+    else if bytes_eq word (codes "changed") then changed_of rest
+    else if bytes_eq word (codes "sign") then sign_of (first_word rest) (behind_word rest)
+    else if bytes_eq word (codes "item") then item_of (place_of (first_word rest)) (behind_word rest)
+    else None

@@ -1,0 +1,12 @@
+pub mod ScriptWords
+pub mod FramedRequests
+pub mod FramedReplies
+pub mod Changes
+pub mod Signs
+pub mod Scripts
+pub mod ScriptLaws
+pub mod ScriptEndings
+pub mod Watchers
+pub mod LoggedInputs
+pub mod ScriptTurns
+pub mod inner

@@ -1,0 +1,5 @@
+pub mod Requests
+pub mod Replies
+pub mod Editors
+pub mod SessionAnswers
+pub mod FramedAnswers

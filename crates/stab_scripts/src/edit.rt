@@ -1,0 +1,200 @@
+//! The command that edits a circuit by a script.
+ghost use Rattle.std.specs.Prelude.{◌≡◌, ◌≤◌, ◌⊎◌, None, false, IfOk, IfSome, IfErr, OnOk};
+ghost use Rattle.stab_io.specs.Refusals.{IsCallFault};
+ghost use Rattle.stab_tableau.specs.Limits.{most_qubits};
+ghost use Rattle.stab_circuit.specs.Steps.{check_within};
+ghost use Rattle.stab_circuit.specs.Views.{circuit_items};
+ghost use Rattle.stab_session.specs.Limits.{most_stride};
+ghost use Rattle.stab_scripts.specs.Scripts.{opened};
+ghost use Rattle.stab_scripts.specs.ScriptEndings.{EndsScript, EndsOn, EndsEdit};
+ghost use Rattle.stab_scripts.specs.ScriptTurns.{TakesTurns, EditsInTurn};
+
+use crate::editor::{Answer, Editor};
+use crate::request::Request;
+use crate::session_answers::SessionAnswers;
+use crate::watcher::{NoWatcher, Watcher};
+use stab_circuit::{Circuit, read_circuit};
+use stab_io::{DeviceFault, Fault, Input, Output, Refusal};
+use stab_run::{Coins, ListCoins, SeedCoins};
+use stab_session::Session;
+use stab_tables::Source;
+use std::alloc::Global;
+
+/// The most bytes of a script.
+const MOST_SCRIPT: usize = 67_108_864;
+
+/// Reads a script to its end, and writes the reply to each request before it reads on. A framed one
+/// is greeted first.
+pub(crate) fn run_script<A: Answer, S: Input, O: Output, W: Watcher<S, O>>(
+    alloc: Global,
+    answers: A,
+    script: &mut S,
+    out: &mut O,
+) -> Result<bool, Fault>
+    requires opened { A.held answers ≡ opened (A.setting answers) (A.held answers).items }
+    ensures ends { EndsScript (A.setting answers) (A.held answers).items (S.seen script.old) (S.seen script.new) (O.seen out.old) (O.seen out.new) result }
+    ensures turns { TakesTurns (A.setting answers) (A.held answers).items (S.seen script.old) (S.seen script.new) (O.seen out.old) (W.log script.old) (W.log script.new) }
+{
+    let mut editor = Editor::new(alloc, answers);
+    editor.tell_request(out, Request::Begin)?;
+    let mut buf = [0u8; 4096];
+    let mut taken = 0;
+    'reads: loop {
+        match W::read(script, out, &mut buf) {
+            Err(DeviceFault) => return Err(Fault::whole(Refusal::ReadFault)),
+            Ok(count) => {
+                if count == 0 {
+                    return editor.end(out);
+                }
+                let piece = buf.split_at(count).0;
+                if count > MOST_SCRIPT - taken {
+                    editor.take(out, piece.split_at(MOST_SCRIPT - taken).0)?;
+                    return Err(Fault::whole(Refusal::TooLong));
+                }
+                editor.take(out, piece)?;
+                taken += count;
+            }
+        }
+    }
+}
+
+/// Opens the session that a script edits.
+fn open_session<C: Coins>(
+    alloc: Global,
+    circuit: Circuit,
+    n: usize,
+    stride: usize,
+    coins: C,
+) -> Result<Session<C>, Fault>
+    requires in_range { n ≤ most_qubits }
+    requires stride_above { 1 ≤ stride }
+    requires stride_within { stride ≤ most_stride }
+    ensures items { IfOk result (λ s. s.items ≡ circuit_items circuit) }
+    ensures qubits { IfOk result (λ s. s.qubits ≡ n) }
+    ensures stride { IfOk result (λ s. s.stride ≡ stride) }
+    ensures coins { IfOk result (λ s. C.sequence s.coins ≡ C.sequence coins) }
+    ensures accepted { OnOk result (check_within n (circuit_items circuit) ≡ None) }
+    ensures refused { IfErr result (IsCallFault (check_within n (circuit_items circuit))) }
+{
+    match Session::open(alloc, circuit, n, stride, coins) {
+        Ok(session) => Ok(session),
+        Err(refused) => Err(refused.fault),
+    }
+}
+
+/// Opens a session of the circuit, and answers the script on it.
+fn edit_circuit<C: Coins, S: Input, O: Output, W: Watcher<S, O>>(
+    alloc: Global,
+    framed: bool,
+    circuit: Circuit,
+    n: usize,
+    stride: usize,
+    coins: C,
+    script: &mut S,
+    out: &mut O,
+) -> Result<bool, Fault>
+    requires in_range { n ≤ most_qubits }
+    requires stride_above { 1 ≤ stride }
+    requires stride_within { stride ≤ most_stride }
+    ensures ends { EndsOn (record { framed = framed; qubits = n; coins = C.sequence coins }) (circuit_items circuit) (S.seen script.old) (S.seen script.new) (O.seen out.old) (O.seen out.new) result }
+    ensures turns { (script.new ≡ script.old) ⊎ TakesTurns (record { framed = framed; qubits = n; coins = C.sequence coins }) (circuit_items circuit) (S.seen script.old) (S.seen script.new) (O.seen out.old) (W.log script.old) (W.log script.new) }
+{
+    let session = open_session(alloc, circuit, n, stride, coins)?;
+    let answers = SessionAnswers::new(alloc, framed, session)?;
+    run_script::<SessionAnswers<C>, S, O, W>(alloc, answers, script, out)
+}
+
+/// Reads a circuit, and edits it by a script, as `run_edit` does, with each read of the script made
+/// by a watcher, which is shown the output as it then stands.
+///
+/// Where the script's input keeps a log, each read of it found exactly the replies written to what
+/// was handed over before, in whole lines, behind what the output held at first.
+///
+/// A framed script is one that a program drives: it is greeted by a line of numbers before it is
+/// read, each reply that is no refusal says first how many lines it has, and it may ask for more.
+pub fn run_edit_watched<I: Input, S: Input, O: Output, W: Watcher<S, O>>(
+    alloc: Global,
+    circuit_input: &mut I,
+    script_input: &mut S,
+    out: &mut O,
+    framed: bool,
+    qubits: Option<usize>,
+    stride: usize,
+    source: &Source,
+) -> Result<bool, Fault>
+    requires in_range { IfSome qubits (λ n. n ≤ most_qubits) }
+    requires stride_above { 1 ≤ stride }
+    requires stride_within { stride ≤ most_stride }
+    ensures ends { EndsEdit framed qubits source.now (I.seen circuit_input.old) (I.seen circuit_input.new) (S.seen script_input.old) (S.seen script_input.new) (O.seen out.old) (O.seen out.new) result }
+    ensures turns { EditsInTurn framed qubits source.now (I.seen circuit_input.old) (I.seen circuit_input.new) (S.seen script_input.old) (S.seen script_input.new) (O.seen out.old) (W.log script_input.old) (W.log script_input.new) }
+{
+    let circuit = read_circuit(alloc, circuit_input)?;
+    let n = match qubits {
+        Some(n) => n,
+        None => circuit.qubits(),
+    };
+    match source {
+        Source::Seed(seed) => {
+            let coins = SeedCoins::new(*seed, 0);
+            edit_circuit::<SeedCoins, S, O, W>(
+                alloc,
+                framed,
+                circuit,
+                n,
+                stride,
+                coins,
+                script_input,
+                out,
+            )
+        }
+        Source::List(list) => {
+            let coins = ListCoins::new(list.as_slice());
+            edit_circuit::<ListCoins, S, O, W>(
+                alloc,
+                framed,
+                circuit,
+                n,
+                stride,
+                coins,
+                script_input,
+                out,
+            )
+        }
+    }
+}
+
+/// Reads a circuit, and edits it by a script: the reply to each line is written before the next
+/// line is read.
+///
+/// The circuit is read whole first; its faults, and `QubitOutOfRange` where it names a qubit past
+/// those asked for, leave the script unread and the output untouched. It has as many qubits as are
+/// asked for, at most 1,024, or as it names. The stride is from 1 to 65,536. Coins are those of shot
+/// 0. True where a line was refused. Faults: those of the circuit; `ReadFault` where an input
+/// failed and `TooLong` for a script of more than 67,108,864 bytes, both after exactly the replies
+/// to what was read whole; `WriteFault` where the output failed, and `OutOfMemory`, both after a
+/// prefix of all replies.
+pub fn run_edit<I: Input, S: Input, O: Output>(
+    alloc: Global,
+    circuit_input: &mut I,
+    script_input: &mut S,
+    out: &mut O,
+    qubits: Option<usize>,
+    stride: usize,
+    source: &Source,
+) -> Result<bool, Fault>
+    requires in_range { IfSome qubits (λ n. n ≤ most_qubits) }
+    requires stride_above { 1 ≤ stride }
+    requires stride_within { stride ≤ most_stride }
+    ensures ends { EndsEdit false qubits source.now (I.seen circuit_input.old) (I.seen circuit_input.new) (S.seen script_input.old) (S.seen script_input.new) (O.seen out.old) (O.seen out.new) result }
+{
+    run_edit_watched::<I, S, O, NoWatcher>(
+        alloc,
+        circuit_input,
+        script_input,
+        out,
+        false,
+        qubits,
+        stride,
+        source,
+    )
+}

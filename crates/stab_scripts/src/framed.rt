@@ -1,0 +1,93 @@
+//! What only a framed script asks for.
+ghost use Rattle.std.specs.Prelude.{◌≡◌, IfOk, IfErr};
+ghost use Rattle.stab_io.specs.Refusals.{whole};
+ghost use Rattle.stab_io.specs.declared.refusal.Refusal.TheVariants.{OutOfMemory};
+ghost use Rattle.stab_scripts.specs.FramedRequests.{alone as alone_of, changed_of, sign_of, item_of, framed_show as shown_by};
+ghost use Rattle.stab_scripts.specs.ScriptWords.{first_word as first_of, behind_word, place_of};
+ghost use Rattle.stab_scripts.specs.inner.Requests.{framed_asked, framed_if_any};
+
+use crate::place::{first_word, read_place};
+use stab_circuit::Path;
+use stab_io::Fault;
+use std::alloc::Global;
+
+/// What only a framed script asks for.
+#[derive(Drop)]
+pub(crate) enum FramedRequest {
+    /// That changes are counted from now on.
+    Mark,
+    /// The numbers of the circuit.
+    Numbers,
+    /// What changed of detectors and observables.
+    Changed,
+    /// What changed of records.
+    ChangedRecords,
+    /// The sign of the Pauli string of a word.
+    Sign(Vec<u8>),
+    /// The item at a place.
+    Item(Path),
+}
+
+/// The request, where nothing stands behind its word.
+fn alone(rest: &[u8], request: FramedRequest) -> Option<FramedRequest>
+    ensures value { framed_if_any result ≡ alone_of rest.now (framed_asked request) }
+{
+    if rest.is_empty() { Some(request) } else { None }
+}
+
+/// What the words behind `show changed` ask for.
+fn read_changed(rest: &[u8]) -> Option<FramedRequest>
+    ensures value { framed_if_any result ≡ changed_of rest.now }
+{
+    if rest == b"records".as_slice() {
+        Some(FramedRequest::ChangedRecords)
+    } else {
+        alone(rest, FramedRequest::Changed)
+    }
+}
+
+/// The sign of the string of a word.
+fn read_sign(alloc: Global, word: &[u8], rest: &[u8]) -> Result<Option<FramedRequest>, Fault>
+    ensures gives { IfOk result (λ r. framed_if_any r ≡ sign_of word.now rest.now) }
+    ensures err { IfErr result (λ f. f ≡ whole OutOfMemory) }
+{
+    if word.is_empty() {
+        return Ok(None);
+    }
+    let word = Vec::from_slice(alloc, word)?;
+    Ok(alone(rest, FramedRequest::Sign(word)))
+}
+
+/// The item at a place.
+fn read_item_at(rest: &[u8]) -> Option<FramedRequest>
+    ensures value { framed_if_any result ≡ item_of (place_of (first_of rest.now)) (behind_word rest.now) }
+{
+    let (word, rest) = first_word(rest);
+    match read_place(word) {
+        None => None,
+        Some(place) => alone(rest, FramedRequest::Item(place)),
+    }
+}
+
+/// What the first word behind `show`, and the rest behind that, ask for; fault `OutOfMemory` alone.
+pub(crate) fn read_framed_show(
+    alloc: Global,
+    word: &[u8],
+    rest: &[u8],
+) -> Result<Option<FramedRequest>, Fault>
+    ensures gives { IfOk result (λ r. framed_if_any r ≡ shown_by word.now rest.now) }
+    ensures err { IfErr result (λ f. f ≡ whole OutOfMemory) }
+{
+    if word == b"numbers".as_slice() {
+        Ok(alone(rest, FramedRequest::Numbers))
+    } else if word == b"changed".as_slice() {
+        Ok(read_changed(rest))
+    } else if word == b"sign".as_slice() {
+        let (word, rest) = first_word(rest);
+        read_sign(alloc, word, rest)
+    } else if word == b"item".as_slice() {
+        Ok(read_item_at(rest))
+    } else {
+        Ok(None)
+    }
+}

@@ -1,0 +1,11 @@
+pub mod WritingLaws
+pub mod FaultLineLaws
+pub mod FaultBitLaws
+pub mod FaultSiteLaws
+pub mod FoundLaws
+pub mod FaultTextLaws
+pub mod UnsureLaws
+pub mod RowLaws
+pub mod CheckLaws
+pub mod CountLaws
+pub mod LineLaws

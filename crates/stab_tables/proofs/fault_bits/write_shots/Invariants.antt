@@ -1,0 +1,13 @@
+use Rattle.std.proofs.Common.{◌≡◌, drop, true}
+use Rattle.std.specs.List.{flat_map}
+use Rattle.stab_io.proofs.DeviceLemmas.{WroteUpTo}
+use Rattle.stab_results.specs.Formats.{shot_bytes}
+use Rattle.stab_tables.specs.FaultTables.{set_all}
+use Rattle.stab_tables.proofs.fault_bits.write_shots.Given as goal
+
+abbrev pub invariant-loop-fault : goal.invariant-loop-fault
+invariant-loop-fault g l = record {
+  same : l.bits ≡ l.initial.bits;
+  wrote : WroteUpTo (g.O.Output.seen l.initial.out) (g.O.Output.seen l.out) (flat_map (λ row. shot_bytes l.format l.kinds (set_all row true l.initial.bits)) l.table.rows)
+      (flat_map (λ row. shot_bytes l.format l.kinds (set_all row true l.initial.bits)) (drop l.fault l.table.rows));
+}

@@ -1,0 +1,19 @@
+use Rattle.std.proofs.Common.{◌≡◌, ◌≤◌, ◌+◌, ◌*◌, ◌-◌, length, drop}
+use Rattle.std.specs.List.{flat_map}
+use Rattle.stab_io.proofs.DeviceLemmas.{WroteUpTo}
+use Rattle.stab_circuit.specs.Cursors.{step_shown}
+use Rattle.stab_regions.specs.Faults.{faults_on, sites_at}
+use Rattle.stab_tables.specs.FaultTables.{table_lines}
+use Rattle.stab_tables.proofs.fault_lines.write_step.Given as goal
+
+abbrev pub invariant-places : goal.invariant-places
+invariant-places g l = record {
+  next : l.next ≡ l.row + 2 * l.place;
+  within : l.place ≤ length (sites_at l.everywhere (step_shown l.step));
+  wrote : WroteUpTo (g.O.Output.seen l.initial.out) (g.O.Output.seen l.out)
+      (table_lines l.kinds (λ _. l.path) (flat_map (faults_on l.number) (sites_at l.everywhere (step_shown l.step))) (drop l.row l.table.rows))
+      (table_lines l.kinds (λ _. l.path) (flat_map (faults_on l.number) (drop l.place (sites_at l.everywhere (step_shown l.step)))) (drop l.next l.table.rows));
+}
+
+abbrev pub decreases-places : goal.decreases-places
+decreases-places g l = length (sites_at l.everywhere (step_shown l.step)) - l.place

@@ -1,0 +1,14 @@
+use Rattle.std.proofs.Common.{◌≡◌, ◌+◌, length}
+use Rattle.stab_circuit.specs.Steps.{unroll}
+use Rattle.stab_circuit.specs.Views.{circuit_items}
+use Rattle.stab_tables.specs.FaultTables.{steps_before_bit}
+use Rattle.stab_tables.proofs.faults.first_step.Given as goal
+
+abbrev pub invariant-steps : goal.invariant-steps
+invariant-steps l = record {
+  count : l.number + length l.cursor.left ≡ length (unroll (circuit_items l.circuit));
+  front : l.number + length (steps_before_bit l.sought l.cursor.left) ≡ length (steps_before_bit l.fn.bit (unroll (circuit_items l.circuit)));
+}
+
+abbrev pub decreases-steps : goal.decreases-steps
+decreases-steps l = length l.cursor.left

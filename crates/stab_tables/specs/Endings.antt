@@ -1,0 +1,56 @@
+-- Endings: how a call ends that reads a text whole and goes on with it, and how it ends when it sends bytes.
+-- Source: this project's own.
+use Rattle.std.specs.Prelude.{◌≡◌, List, ℕ, ◌⊎◌, Result, Ok, Err}
+use Rattle.stab_io.specs.Devices.{InputView, OutputView, Took, TookAndFailed, TookSome, Flushed, FlushFailed}
+use Rattle.stab_io.specs.declared.refusal.Refusal.TheVariants.{WriteFault, OutOfMemory}
+use Rattle.stab_io.specs.declared.refusal.Fault.{Fault}
+use Rattle.stab_io.specs.Refusals.{whole}
+use Rattle.stab_circuit.specs.Inputs.{GaveText, RefusesText}
+use Rattle.stab_circuit.specs.Items.{Items}
+use Rattle.stab_circuit.specs.Readings.{IsCircuit}
+
+-- the output took these bytes and was flushed once, and did not fail
+pub record TookAndFlushed (old new : OutputView) (bytes : List ℕ) : Type 0 where
+  pub between : OutputView
+  pub took : Took old between bytes
+  pub flushed : Flushed between new
+
+-- the output took these bytes, and the one flush behind them failed
+pub record TookAndFlushFailed (old new : OutputView) (bytes : List ℕ) : Type 0 where
+  pub between : OutputView
+  pub took : Took old between bytes
+  pub failed : FlushFailed between new
+
+-- the output was flushed; or the flush failed, which is a fault without a line
+abbrev pub FlushesOrFault : {T : Type 0} → OutputView → OutputView → Result T Fault → Type 0
+FlushesOrFault old new (Ok x) = Flushed old new
+FlushesOrFault old new (Err f) = (f ≡ whole WriteFault) × FlushFailed old new
+
+-- the output failed once: in a write, after some first bytes of these, or in the one flush behind them all
+abbrev pub FailsToSend : OutputView → OutputView → List ℕ → Type 0
+FailsToSend old new bytes = TookAndFailed old new bytes ⊎ TookAndFlushFailed old new bytes
+
+-- These bytes were sent: all of them were written, and flushed once; or the output failed; or memory was refused after some first bytes.
+abbrev pub Sends : {T : Type 0} → List ℕ → OutputView → OutputView → Result T Fault → Type 0
+Sends bytes old new (Ok x) = TookAndFlushed old new bytes
+Sends bytes old new (Err f) = ((f ≡ whole WriteFault) × FailsToSend old new bytes) ⊎ ((f ≡ whole OutOfMemory) × TookSome old new bytes)
+
+-- Bytes like these were sent, which were gathered first: all were written, and flushed once; or the output failed; or memory was refused
+-- before the first.
+abbrev pub SendsFound : {T : Type 0} → (List ℕ → Type 0) → OutputView → OutputView → Result T Fault → Type 0
+SendsFound are old new (Ok x) = (bytes : List ℕ) × are bytes × TookAndFlushed old new bytes
+SendsFound are old new (Err f) =
+    ((f ≡ whole WriteFault) × (bytes : List ℕ) × are bytes × FailsToSend old new bytes) ⊎ ((f ≡ whole OutOfMemory) × (new ≡ old))
+
+-- How a call ends that reads a text whole and goes on with it: the text was refused and all else is untouched; or it was given whole, and
+-- the rest says how the call went on.
+abbrev pub Ends : {T : Type 0} → (own : List ℕ → Fault → Type 0) → (untouched : Type 0)
+    → (rest : List ℕ → Result T Fault → Type 0) → InputView → InputView → Result T Fault → Type 0
+Ends own untouched rest old new (Ok x) = (text : List ℕ) × GaveText old new text × rest text (Ok x)
+Ends own untouched rest old new (Err f) = (untouched × RefusesText own old new f) ⊎ ((text : List ℕ) × GaveText old new text × rest text (Err f))
+
+-- The text stands for a circuit, and the output of it was sent.
+pub record SendsOutput {T : Type 0} (output : Items → List ℕ) (old new : OutputView) (text : List ℕ) (r : Result T Fault) : Type 0 where
+  pub items : Items
+  pub circuit : IsCircuit text items
+  pub sends : Sends (output items) old new r

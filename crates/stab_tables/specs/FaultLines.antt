@@ -1,0 +1,45 @@
+-- Fault lines: the line that tells a fault, what is written of a refusal, and the line that names a bit that is not sure.
+-- Source: this project's own.
+use Rattle.std.specs.Prelude.{ℕ, List, [], ◌++◌, codes, decimal, ◌==◌, ◌⊎◌, Option, Some, None, if◌then◌else◌}
+use Rattle.stab_io.specs.Devices.{OutputView, Took, TookAndFailed}
+use Rattle.stab_io.specs.declared.refusal.Refusal.{Refusal}
+use Rattle.stab_io.specs.declared.refusal.Fault.{Fault}
+use Rattle.stab_io.specs.Refusals.{number_of, name_of}
+use Rattle.stab_circuit.specs.Paths.{path_text}
+use Rattle.stab_tables.specs.declared.unsure.Bit.{Bit}
+use Rattle.stab_tables.specs.declared.unsure.Bit.TheVariants.{Detector, Observable}
+use Rattle.stab_tables.specs.declared.unsure.Unsure.{Unsure}
+
+-- where the fault is, as its line says it
+abbrev pub place_text : ℕ → List ℕ
+place_text line = if line == 0 then [] else codes "line " ++ (decimal line ++ codes ": ")
+
+-- which refusal it is, as its line says it
+abbrev pub refused_text : Refusal → List ℕ
+refused_text r = codes "refused " ++ (decimal (number_of r) ++ (codes " " ++ (name_of r ++ codes "\n")))
+
+-- the line that tells a fault
+abbrev pub fault_line : Fault → List ℕ
+fault_line f = codes "stabsim: " ++ (place_text f.line ++ refused_text f.refusal)
+
+-- a detector or an observable, as a line names it
+abbrev pub bit_text : Bit → List ℕ
+bit_text (Detector d) = codes "detector " ++ decimal d
+bit_text (Observable j) = codes "observable " ++ decimal j
+
+-- the line that names a bit that is not the same whatever the coins, with the path of its first item
+abbrev pub unsure_line : Unsure → List ℕ
+unsure_line u = codes "stabsim: " ++ (bit_text u.bit ++ (codes ", item " ++ (path_text u.path ++ codes ", is not the same for all coins\n")))
+
+-- what tells a fault: its line, and behind it that of the bit that it names, if any
+abbrev pub told_text : Fault → Option Unsure → List ℕ
+told_text f None = fault_line f
+told_text f (Some u) = fault_line f ++ unsure_line u
+
+-- the output took these bytes, or failed once after some first bytes of them
+abbrev pub TookOrFailed : OutputView → OutputView → List ℕ → Type 0
+TookOrFailed old new bytes = Took old new bytes ⊎ TookAndFailed old new bytes
+
+-- a fault is told: its line was written, or the output failed once after some first bytes of it
+abbrev pub TellsFault : Fault → OutputView → OutputView → Type 0
+TellsFault f old new = TookOrFailed old new (fault_line f)

@@ -1,0 +1,9 @@
+pub mod Sources
+pub mod Endings
+pub mod Texts
+pub mod FaultLines
+pub mod Stabilisers
+pub mod Checks
+pub mod Deterministic
+pub mod FaultTables
+pub mod inner

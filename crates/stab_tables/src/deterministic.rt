@@ -1,0 +1,56 @@
+//! The command that tells which detectors and observables are the same whatever the coins.
+ghost use Rattle.std.specs.Prelude.{◌≡◌, ◌≤◌, ◌+◌, None, length};
+ghost use Rattle.stab_circuit.specs.Steps.{check_of, qubits_of, unroll, observables_of};
+ghost use Rattle.stab_circuit.specs.Views.{circuit_items};
+ghost use Rattle.stab_regions.specs.Faults.{bits_in};
+ghost use Rattle.stab_tables.specs.Endings.{SendsFound};
+ghost use Rattle.stab_tables.specs.Deterministic.{EndsDeterministic, IsSureText, kinds_of};
+
+use crate::ending::finish;
+use stab_circuit::{Circuit, read_circuit};
+use stab_io::{Fault, Input, Output};
+use stab_regions::sure;
+use stab_results::{Format, Kinds, write_shot};
+use std::alloc::Global;
+
+/// Of a circuit's bits, of which there are so many, the first are detectors and the rest observables.
+pub(crate) fn kinds_of(circuit: &Circuit, bits: usize) -> Kinds
+    requires all { bits ≡ bits_in (circuit_items circuit.now) }
+    ensures value { result ≡ kinds_of (circuit_items circuit.now) }
+{
+    Kinds::Detectors(bits - circuit.observables())
+}
+
+/// Writes which of a circuit's bits are sure, and flushes.
+fn send_sure<O: Output>(
+    alloc: Global,
+    circuit: &Circuit,
+    out: &mut O,
+    format: Format,
+) -> Result<(), Fault>
+    requires checked { check_of (circuit_items circuit.now) ≡ None }
+    ensures sends { SendsFound (IsSureText format (circuit_items circuit.now)) (O.seen out.old) (O.seen out.new) result }
+{
+    let sure = sure(alloc, circuit, circuit.qubits())?;
+    let kinds = kinds_of(circuit, sure.len());
+    write_shot(out, format, kinds, sure.as_slice())?;
+    finish(out)
+}
+
+/// Reads a circuit, and writes a bit for each of its detectors and then for each of its observables,
+/// as one shot in a format: 1 where it is the same whatever the coins of a run on as many qubits as
+/// the circuit names.
+///
+/// Reading, the flush and the faults are those of `run_sample`, but that 20 comes before the first
+/// byte.
+pub fn run_deterministic<I: Input, O: Output>(
+    alloc: Global,
+    input: &mut I,
+    out: &mut O,
+    format: Format,
+) -> Result<(), Fault>
+    ensures ends { EndsDeterministic format (I.seen input.old) (I.seen input.new) (O.seen out.old) (O.seen out.new) result }
+{
+    let circuit = read_circuit(alloc, input)?;
+    send_sure(alloc, &circuit, out, format)
+}

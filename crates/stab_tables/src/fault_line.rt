@@ -1,0 +1,88 @@
+//! The lines that tell a fault.
+ghost use Rattle.std.specs.Prelude.{◌≡◌, ◌++◌, decimal, map};
+ghost use Rattle.stab_io.specs.Devices.{WritesAll};
+ghost use Rattle.stab_tables.specs.FaultLines.{bit_text, fault_line, told_text, unsure_line};
+ghost use Rattle.stab_tables.specs.Texts.{texts_joined};
+
+use crate::unsure::{Bit, FaultsRefused, Unsure};
+use stab_circuit::write_path;
+use stab_io::{Fault, Output, Refusal, write_all};
+
+/// Writes texts one after another.
+pub fn write_texts<O: Output>(out: &mut O, texts: &[&[u8]]) -> Result<(), Refusal>
+    ensures writes { WritesAll (O.seen out.old) (O.seen out.new) (texts_joined (map (λ t. t.now) texts.now)) result }
+{
+    for text in texts {
+        write_all(out, text)?;
+    }
+    Ok(())
+}
+
+/// Writes the line that tells a fault: `stabsim: line L: refused N Name`, without `line L: `
+/// where the fault has no line, and a line feed. It takes no memory.
+///
+/// Refusal `WriteFault` after a prefix of the line.
+pub fn write_fault<O: Output>(out: &mut O, fault: Fault) -> Result<(), Refusal>
+    ensures writes { WritesAll (O.seen out.old) (O.seen out.new) (fault_line fault) result }
+{
+    let mut line = itoa::Buffer::new();
+    let mut number = itoa::Buffer::new();
+    let number = number.format(fault.refusal.number()).as_bytes();
+    let name = fault.refusal.name().as_bytes();
+    if fault.line == 0 {
+        write_texts(out, &[b"stabsim: ", b"refused ", number, b" ", name, b"\n"])
+    } else {
+        let line = line.format(fault.line).as_bytes();
+        write_texts(
+            out,
+            &[
+                b"stabsim: ",
+                b"line ",
+                line,
+                b": ",
+                b"refused ",
+                number,
+                b" ",
+                name,
+                b"\n",
+            ],
+        )
+    }
+}
+
+/// What a detector or an observable is called, and its number.
+fn bit_name(bit: Bit) -> (&'static [u8], usize)
+    ensures value { bit_text bit ≡ result.0.now ++ decimal result.1 }
+{
+    match bit {
+        Bit::Detector(number) => (b"detector ", number),
+        Bit::Observable(number) => (b"observable ", number),
+    }
+}
+
+/// Writes the line that names a detector or observable that is not the same for all coins.
+fn write_unsure<O: Output>(out: &mut O, unsure: &Unsure) -> Result<(), Refusal>
+    ensures writes { WritesAll (O.seen out.old) (O.seen out.new) (unsure_line unsure.now) result }
+{
+    let (name, number) = bit_name(unsure.bit);
+    let mut digits = itoa::Buffer::new();
+    let digits = digits.format(number).as_bytes();
+    write_texts(out, &[b"stabsim: ", name, digits, b", item "])?;
+    write_path(out, &unsure.path)?;
+    write_all(out, b", is not the same for all coins\n")
+}
+
+/// Writes the line that tells a fault, as `write_fault` does, and behind it, where the fault names a
+/// detector or observable, a line such as `stabsim: detector 3, item 0/2, is not the same for all
+/// coins`. It takes no memory.
+///
+/// Refusal `WriteFault` after a prefix of the lines.
+pub fn write_refused<O: Output>(out: &mut O, refused: &FaultsRefused) -> Result<(), Refusal>
+    ensures writes { WritesAll (O.seen out.old) (O.seen out.new) (told_text refused.now.fault refused.now.unsure) result }
+{
+    write_fault(out, refused.fault)?;
+    match &refused.unsure {
+        Some(unsure) => write_unsure(out, unsure),
+        None => Ok(()),
+    }
+}

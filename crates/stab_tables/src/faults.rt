@@ -1,0 +1,298 @@
+//! The command that tells which detectors and observables each fault flips.
+ghost use Rattle.std.specs.Prelude.{◌≡◌, ◌<◌, ℕ, false, true, None, length, slice_index_or, IfOk, IfErr, IfSome, IfNone};
+ghost use Rattle.stab_io.specs.declared.refusal.Refusal.TheVariants.{OutOfMemory};
+ghost use Rattle.stab_io.specs.Refusals.{whole};
+ghost use Rattle.stab_circuit.specs.Steps.{check_of, qubits_of, unroll, is_detector, detectors_of};
+ghost use Rattle.stab_circuit.specs.Cursors.{step_shown};
+ghost use Rattle.stab_circuit.specs.Views.{circuit_items};
+ghost use Rattle.stab_regions.specs.Faults.{AreSure, IsFaultTable, IsSure, bits_in};
+ghost use Rattle.stab_tables.specs.Deterministic.{kinds_of};
+ghost use Rattle.stab_tables.specs.declared.unsure.Bit.TheVariants.{Detector, Observable};
+ghost use Rattle.stab_tables.specs.declared.faults.FaultLayout.TheVariants.{Lines, Shots};
+ghost use Rattle.stab_tables.specs.FaultTables.{EndsFaults, GoesOn, IsFirstUnsure, adds_to, bit_of, fault_of, steps_before_bit, table_text, unsure_of};
+ghost use Rattle.stab_tables.specs.inner.Faults.{IsUnsureAt, PassesStep, SendsAtOnce};
+
+use crate::deterministic::kinds_of;
+use crate::ending::finish;
+use crate::fault_bits::write_shots;
+use crate::fault_lines::write_lines;
+use crate::unsure::{Bit, FaultsRefused, Unsure};
+use stab_circuit::{Circuit, Cursor, Step, read_circuit};
+use stab_io::{Fault, Input, Output, Refusal};
+use stab_regions::{FaultTable, faults};
+use stab_results::{Format, Kinds};
+use std::alloc::Global;
+
+/// How a table of faults is written.
+#[derive(Clone, Copy, Debug, PartialEq, Eq)]
+pub enum FaultLayout {
+    /// A line for each fault: where it is, its letter and qubit, and what it flips.
+    Lines,
+    /// A shot for each fault, whose bits are 1 where it flips them.
+    Shots(Format),
+}
+
+/// The number of the first bit that is 0.
+fn first_zero(bits: &[bool]) -> Option<usize>
+    ensures some { IfSome result (λ k. (k < length bits.now) × (slice_index_or bits.now k false ≡ false) × ((i : ℕ) → i < k → slice_index_or bits.now i false ≡ true)) }
+    ensures none { IfNone result ((i : ℕ) → i < length bits.now → slice_index_or bits.now i false ≡ true) }
+{
+    for number in 0..bits.len() {
+        if !bits[number] {
+            return Some(number);
+        }
+    }
+    None
+}
+
+/// The bit of a number, where there are so many detectors.
+fn bit_of(detectors: usize, number: usize) -> Bit
+    ensures value { result ≡ bit_of detectors number }
+{
+    if number < detectors {
+        Bit::Detector(number)
+    } else {
+        Bit::Observable(number - detectors)
+    }
+}
+
+/// Whether a step is a detector.
+fn is_detector(step: Step) -> bool
+    ensures value { result ≡ is_detector (step_shown step.entry) }
+{
+    match step {
+        Step::Detector(_) => true,
+        _ => false,
+    }
+}
+
+/// Whether a step adds to an observable.
+fn adds_to(number: usize, step: Step) -> bool
+    ensures value { result ≡ adds_to number (step_shown step.entry) }
+{
+    match step {
+        Step::Observable(added, _) => added as usize == number,
+        _ => false,
+    }
+}
+
+/// What a detector is called among the steps behind one, or none where that one is it.
+fn detector_behind(number: usize, step: Step) -> Option<Bit>
+    ensures passes { PassesStep (Detector number) (step_shown step.entry) result }
+{
+    if !is_detector(step) {
+        Some(Bit::Detector(number))
+    } else if number > 0 {
+        Some(Bit::Detector(number - 1))
+    } else {
+        None
+    }
+}
+
+/// What an observable is called among the steps behind one, or none where that one adds to it.
+fn observable_behind(number: usize, step: Step) -> Option<Bit>
+    ensures passes { PassesStep (Observable number) (step_shown step.entry) result }
+{
+    if adds_to(number, step) {
+        None
+    } else {
+        Some(Bit::Observable(number))
+    }
+}
+
+/// What a bit is called among the steps behind one, or none where that one makes it.
+fn bit_behind(bit: Bit, step: Step) -> Option<Bit>
+    ensures passes { PassesStep bit (step_shown step.entry) result }
+{
+    match bit {
+        Bit::Detector(number) => detector_behind(number, step),
+        Bit::Observable(number) => observable_behind(number, step),
+    }
+}
+
+/// The number of the first step that makes a bit, or of all steps where there is none.
+fn first_step(alloc: Global, circuit: &Circuit, bit: Bit) -> Result<usize, Refusal>
+    requires checked { check_of (circuit_items circuit.now) ≡ None }
+    ensures value { IfOk result (λ t. t ≡ length (steps_before_bit bit (unroll (circuit_items circuit.now)))) }
+    ensures err { IfErr result (λ r. r ≡ OutOfMemory) }
+{
+    let mut cursor = Cursor::at(alloc, circuit, 0)?;
+    let mut sought = bit;
+    let mut number = 0;
+    'steps: while let Some(step) = cursor.next() {
+        match bit_behind(sought, step) {
+            Some(rest) => sought = rest,
+            None => return Ok(number),
+        }
+        number += 1;
+    }
+    Ok(number)
+}
+
+/// The bit of a number that is not sure, with the path of its first item.
+fn unsure_at(
+    alloc: Global,
+    circuit: &Circuit,
+    detectors: usize,
+    number: usize,
+) -> Result<Unsure, Refusal>
+    requires checked { check_of (circuit_items circuit.now) ≡ None }
+    requires detectors { detectors ≡ detectors_of (unroll (circuit_items circuit.now)) }
+    requires not_sure { IsSure (qubits_of (circuit_items circuit.now)) (circuit_items circuit.now) number → ⊥ }
+    ensures value { IfOk result (λ u. IsUnsureAt (circuit_items circuit.now) number u) }
+    ensures err { IfErr result (λ r. r ≡ OutOfMemory) }
+{
+    let bit = bit_of(detectors, number);
+    let step = first_step(alloc, circuit, bit)?;
+    let path = circuit.item_of_step(step).path;
+    Ok(Unsure { bit, path })
+}
+
+/// The first of a circuit's bits that is not sure.
+fn first_unsure(alloc: Global, circuit: &Circuit, sure: &[bool]) -> Result<Option<Unsure>, Refusal>
+    requires checked { check_of (circuit_items circuit.now) ≡ None }
+    requires sure { AreSure (qubits_of (circuit_items circuit.now)) (circuit_items circuit.now) sure.now }
+    ensures some { IfOk result (λ found. IfSome found (λ u. IsFirstUnsure (circuit_items circuit.now) u)) }
+    ensures none { IfOk result (λ found. IfNone found ((i : ℕ) → i < bits_in (circuit_items circuit.now) → IsSure (qubits_of (circuit_items circuit.now)) (circuit_items circuit.now) i)) }
+    ensures err { IfErr result (λ r. r ≡ OutOfMemory) }
+{
+    match first_zero(sure) {
+        Some(number) => {
+            let detectors = sure.len() - circuit.observables();
+            let unsure = unsure_at(alloc, circuit, detectors, number)?;
+            Ok(Some(unsure))
+        }
+        None => Ok(None),
+    }
+}
+
+/// Sends a table as lines, and flushes.
+fn send_lines<O: Output>(
+    alloc: Global,
+    circuit: &Circuit,
+    out: &mut O,
+    kinds: Kinds,
+    table: &FaultTable,
+    everywhere: bool,
+) -> Result<(), Fault>
+    requires checked { check_of (circuit_items circuit.now) ≡ None }
+    requires kinds { kinds ≡ kinds_of (circuit_items circuit.now) }
+    requires table { IsFaultTable (qubits_of (circuit_items circuit.now)) everywhere (circuit_items circuit.now) table.now.sure table.now.rows }
+    ensures sends { SendsAtOnce (table_text Lines everywhere (circuit_items circuit.now) table.now.rows) (O.seen out.old) (O.seen out.new) result }
+{
+    let cursor = Cursor::at(alloc, circuit, 0).map_err(Fault::whole)?;
+    write_lines(out, circuit, cursor, kinds, table, everywhere).map_err(Fault::whole)?;
+    finish(out)
+}
+
+/// Sends a table as shots, and flushes.
+fn send_shots<O: Output>(
+    alloc: Global,
+    circuit: &Circuit,
+    out: &mut O,
+    format: Format,
+    kinds: Kinds,
+    table: &FaultTable,
+    everywhere: bool,
+) -> Result<(), Fault>
+    requires kinds { kinds ≡ kinds_of (circuit_items circuit.now) }
+    requires table { IsFaultTable (qubits_of (circuit_items circuit.now)) everywhere (circuit_items circuit.now) table.now.sure table.now.rows }
+    ensures sends { SendsAtOnce (table_text (Shots format) everywhere (circuit_items circuit.now) table.now.rows) (O.seen out.old) (O.seen out.new) result }
+{
+    let mut bits = vec![in alloc; false; table.sure().len()]?;
+    write_shots(out, format, kinds, bits.as_mut_slice(), table)?;
+    finish(out)
+}
+
+/// Sends a table of faults in a layout, and flushes.
+fn send_table<O: Output>(
+    alloc: Global,
+    circuit: &Circuit,
+    out: &mut O,
+    layout: FaultLayout,
+    everywhere: bool,
+    table: &FaultTable,
+) -> Result<(), Fault>
+    requires checked { check_of (circuit_items circuit.now) ≡ None }
+    requires table { IsFaultTable (qubits_of (circuit_items circuit.now)) everywhere (circuit_items circuit.now) table.now.sure table.now.rows }
+    ensures sends { SendsAtOnce (table_text layout everywhere (circuit_items circuit.now) table.now.rows) (O.seen out.old) (O.seen out.new) result }
+{
+    let kinds = kinds_of(circuit, table.sure().len());
+    match layout {
+        FaultLayout::Lines => send_lines(alloc, circuit, out, kinds, table, everywhere),
+        FaultLayout::Shots(format) => {
+            send_shots(alloc, circuit, out, format, kinds, table, everywhere)
+        }
+    }
+}
+
+/// The bit that a table is refused for, if any.
+fn refused_for(
+    alloc: Global,
+    circuit: &Circuit,
+    table: &FaultTable,
+    sure_only: bool,
+) -> Result<Option<Unsure>, Refusal>
+    requires checked { check_of (circuit_items circuit.now) ≡ None }
+    requires sure { AreSure (qubits_of (circuit_items circuit.now)) (circuit_items circuit.now) table.now.sure }
+    ensures some { IfOk result (λ found. IfSome found (λ u. (sure_only ≡ false) × IsFirstUnsure (circuit_items circuit.now) u)) }
+    ensures none { IfOk result (λ found. IfNone found (sure_only ≡ false → (i : ℕ) → i < bits_in (circuit_items circuit.now) → IsSure (qubits_of (circuit_items circuit.now)) (circuit_items circuit.now) i)) }
+    ensures err { IfErr result (λ r. r ≡ OutOfMemory) }
+{
+    if sure_only {
+        Ok(None)
+    } else {
+        first_unsure(alloc, circuit, table.sure())
+    }
+}
+
+/// Writes the table of a circuit's faults, and flushes; or names a bit that is not sure.
+fn send_faults<O: Output>(
+    alloc: Global,
+    circuit: &Circuit,
+    out: &mut O,
+    layout: FaultLayout,
+    everywhere: bool,
+    sure_only: bool,
+) -> Result<(), FaultsRefused>
+    requires checked { check_of (circuit_items circuit.now) ≡ None }
+    ensures goes_on { GoesOn layout everywhere sure_only (circuit_items circuit.now) (unsure_of result) (O.seen out.old) (O.seen out.new) (fault_of result) }
+{
+    let table = faults(alloc, circuit, circuit.qubits(), everywhere)?;
+    match refused_for(alloc, circuit, &table, sure_only) {
+        Ok(None) => Ok(send_table(alloc, circuit, out, layout, everywhere, &table)?),
+        Ok(Some(unsure)) => Err(FaultsRefused {
+            fault: Fault::whole(Refusal::NotDeterministic),
+            unsure: Some(unsure),
+        }),
+        Err(refusal) => Err(FaultsRefused::from(Fault::whole(refusal))),
+    }
+}
+
+/// Reads a circuit, and writes which of its detectors and observables each fault flips: a Pauli X or
+/// Z that is put in at a place between two steps, and flips a bit where the run without it gives the
+/// other one, whatever the coins, on as many qubits as the circuit names.
+///
+/// The faults are those at the targets of the gate `I`; or, `everywhere`, those behind each target of
+/// each gate and reset, and in front of each measured qubit and behind it. They come in the order of
+/// the steps, and X before Z. With `FaultLayout::Lines` each has a line, such as `1207 3/0/2 X17 D24 L0`: how
+/// many steps are in front of it, the path of its item, its letter and qubit, and what it flips. With
+/// `FaultLayout::Shots` each has a shot, of all detectors and then all observables.
+///
+/// Where one of these is not the same for all coins, it has no such bit: refusal `NotDeterministic`,
+/// before anything is written, names the first. Where `sure_only` asks for it, such ones are left
+/// out: no fault flips them. Reading, the flush and the other faults are those of `run_sample`, but
+/// that 20 comes before the first byte.
+pub fn run_faults<I: Input, O: Output>(
+    alloc: Global,
+    input: &mut I,
+    out: &mut O,
+    layout: FaultLayout,
+    everywhere: bool,
+    sure_only: bool,
+) -> Result<(), FaultsRefused>
+    ensures ends { EndsFaults layout everywhere sure_only (I.seen input.old) (I.seen input.new) (O.seen out.old) (O.seen out.new) (fault_of result) (unsure_of result) }
+{
+    let circuit = read_circuit(alloc, input)?;
+    send_faults(alloc, &circuit, out, layout, everywhere, sure_only)
+}
