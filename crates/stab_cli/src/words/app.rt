@@ -48,7 +48,7 @@ const AFTER_SAMPLE: &str = "\
 Example, at the top of the repository:
   ./stabsim sample --shots 3 --seed 5 --in examples/bell.stim
 
-Records, and the parities that `detect` makes of them, are raw: no reference sample is subtracted.
+Records are raw: no reference sample is subtracted.
 Refusals, by number and name, are explained in docs/refusals.md, and coins in docs/coins.md.
 ";
 
@@ -151,7 +151,7 @@ const HELP_FORMAT: &str = "The result format, as docs/result-formats.md explains
 const HELP_LAYOUT: &str = "Writes each fault as a shot in this result format, in place of a line";
 
 const HELP_EVERYWHERE: &str =
-    "Tries faults at each gate, measurement and reset, and not where the circuit marks them";
+    "Tries faults at each gate, measurement and reset, in place of the marked places";
 
 const HELP_SURE_ONLY: &str =
     "Leaves out detectors and observables that are not the same for all coins";
@@ -166,8 +166,8 @@ const HELP_COINS_IN: &str = "Reads the coins of each shot from a file of charact
 const HELP_IN: &str = "Reads the circuit from a file in place of standard input";
 
 const HELP_OUT: &str =
-    "Writes to a file in place of standard output, and never to one that is read; \
-    an older one is kept until there is output, so also by a run that is refused; one that fails \
+    "Writes to a file in place of standard output, and never to one that is read. \
+    An older file is kept until there is output: a run that is refused leaves it, and one that fails \
     later leaves what it wrote";
 
 const HELP_APPEND: &str = "Appends the observables to the detectors";
@@ -180,7 +180,7 @@ const HELP_QUBITS: &str =
     "How many qubits, from 0 to 1024; those that the circuit names if not given";
 
 const HELP_STRIDE: &str = "How many steps lie between two checkpoints, from 1 to 65536: \
-    fewer take more memory and make edits shorter, and change no reply. The default suits circuits \
+    fewer take more memory and make edits quicker, and change no reply. The default suits circuits \
     up to the limits; at 1 a session of a million steps took 9.9 GB";
 
 /// An option `--id` with a value.
