@@ -176,7 +176,13 @@ fn breaks_off(alloc: Global, fail_at: u64, replies: &str) -> Result<bool, Fail> 
     let lines = b"show measurements\ninsert 1 H 0\nshow measurements\n";
     let mut circuit = MemoryInput::new(b"H 0\nM 0");
     let mut script = CutInput::new(lines, 1, fail_at);
-    let run = run_over(alloc, "stabsim edit --coins 1", &mut circuit, &mut script, 99)?;
+    let run = run_over(
+        alloc,
+        "stabsim edit --coins 1",
+        &mut circuit,
+        &mut script,
+        99,
+    )?;
     Ok(run.is(1, replies.as_bytes(), b"stabsim: refused 15 ReadFault\n"))
 }
 

@@ -31,7 +31,7 @@ const ROOM: usize = 4096;
 #[derive(Clone, Copy)]
 enum Command {
     /// The records of so many shots of the Bell pair.
-    Sample(u64),
+    Sample(usize),
     /// Its detectors and observable, in two shots.
     Detect,
     /// The reduced rows of the strings that stabilise it.
