@@ -1,8 +1,8 @@
 -- Moved bits: the bits of words that are shifted, cut off and masked.
-use Rattle.std.proofs.Common.{◌≡◌, ℕ, zero, suc, refl, ◌+◌, ◌-◌, ◌*◌, ◌/◌, ◌^◌, ◌<◌, ◌≤◌, ◌%◌, ap, sym, ◌∙◌, eqb, Bool, true, false, ◌&&◌, inl, inr, arith}
-use Rattle.std.specs.Prelude.{bit_xor, bit_and, bit_or, ◌⊎◌, min, max, ◌||◌}
+use Rattle.std.proofs.Common.{◌≡◌, ℕ, ◌+◌, ◌-◌, ◌*◌, ◌/◌, ◌^◌, ◌<◌, ◌≤◌, ◌%◌, ap, sym, ◌∙◌, eqb, false, ◌&&◌, inl, inr, arith}
+use Rattle.std.specs.Prelude.{bit_and, bit_or, ◌⊎◌, min, max, ◌||◌}
 use Rattle.std.specs.Int.{bit_at}
-use Rattle.std.proofs.lemmas.Nat.Bits.{bit_at_and, bit_at_or, bit_at-lt, bit_at-zero, bit_at_cat_low, bit_at_cat_high, bit_at_above}
+use Rattle.std.proofs.lemmas.Nat.Bits.{bit_at_and, bit_at_or, bit_at-lt, bit_at_cat_low, bit_at_cat_high, bit_at_above}
 use Rattle.std.proofs.Math.Nat.{div-div-eq-div-mul}
 use Rattle.std.proofs.lemmas.Nat.{pow-add, pow_pos}
 use Rattle.stab_shots.specs.Words.{word_bit}

@@ -1,10 +1,10 @@
 -- Squares: bytes of words that are put behind one another, and bytes of lanes.
-use Rattle.std.proofs.Common.{◌≡◌, ℕ, zero, suc, refl, ◌+◌, ◌-◌, ◌*◌, ◌^◌, ◌<◌, ◌≤◌, ◌%◌, ap, sym, ◌∙◌, Bool, true, false, ◌||◌, List, [], ◌∷◌, ◌++◌, append_assoc, length, get_or, drop, min, map, arith}
+use Rattle.std.proofs.Common.{◌≡◌, ℕ, zero, suc, refl, ◌+◌, ◌-◌, ◌*◌, ◌<◌, ◌≤◌, ◌%◌, ap, sym, ◌∙◌, Bool, true, false, ◌||◌, List, [], ◌∷◌, ◌++◌, append_assoc, length, get_or, drop, min, arith}
 use Rattle.std.specs.Prelude.{bit_or}
-use Rattle.std.proofs.lemmas.List.{drop_more, get_or-drop, map-append, length-map, append-nil}
+use Rattle.std.proofs.lemmas.List.{drop_more, map-append, length-map}
 use Rattle.stab_shots.specs.Words.{word_bit}
 use Rattle.stab_shots.specs.Lanes.{lane_bits}
-use Rattle.stab_results.specs.Formats.{number, b8_bytes}
+use Rattle.stab_results.specs.Formats.{b8_bytes}
 use Rattle.stab_shots.specs.Squares.{byte_at, lane_bytes}
 use Rattle.stab_shots.proofs.WordLemmas.{word_bit-zero}
 use Rattle.stab_shots.proofs.MovedBitLemmas.{word_bit-or, word_bit-up, word_bit-up_below, word_bit-cut, word_bit-cut_off}

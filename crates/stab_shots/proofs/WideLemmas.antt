@@ -1,5 +1,5 @@
 -- Wide words: the bits of four words that are computed one by one.
-use Rattle.std.proofs.Common.{◌≡◌, ℕ, zero, suc, ◌+◌, ◌*◌, ◌<◌, ◌/◌, ◌%◌, ap, sym, ◌∙◌, Bool, true, List, [], ◌∷◌, arith, get_or}
+use Rattle.std.proofs.Common.{◌≡◌, ℕ, zero, suc, ◌+◌, ◌*◌, ◌<◌, ◌/◌, ◌%◌, ap, ◌∙◌, Bool, List, [], ◌∷◌, arith, get_or}
 use Rattle.std.specs.Prelude.{bit_xor}
 use Rattle.stab_pauli.specs.Letters.{◌⊕◌}
 use Rattle.stab_shots.specs.Words.{word_bit, wide_bit}

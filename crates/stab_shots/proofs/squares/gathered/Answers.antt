@@ -1,4 +1,4 @@
-use Rattle.std.proofs.Common.{rules, ℕ, ◌+◌, ◌-◌, ◌*◌, ◌<◌, arith, ap, ◌∙◌, drop}
+use Rattle.std.proofs.Common.{rules, ℕ, ◌+◌, ◌-◌, ◌*◌, ap, ◌∙◌, drop}
 use Rattle.stab_shots.specs.Words.{word_bit}
 use Rattle.stab_shots.specs.Lanes.{lane_bits}
 use Rattle.stab_shots.proofs.SquareLemmas.{has-more, next-word}

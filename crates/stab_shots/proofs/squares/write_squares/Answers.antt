@@ -1,6 +1,5 @@
-use Rattle.std.proofs.Common.{rules, ◌+◌, ◌*◌, ◌++◌, ◌∷◌, [], ap, ◌∙◌}
+use Rattle.std.proofs.Common.{rules, ◌+◌, ◌*◌}
 use Rattle.std.specs.Slice.Iter.{chunks_rest}
-use Rattle.stab_shots.specs.Squares.{lane_bytes}
 use Rattle.stab_results.specs.Formats.{b8_bytes}
 use Rattle.stab_shots.specs.Lanes.{lane_bits}
 use Rattle.stab_shots.proofs.SquareLemmas.{next-square}

@@ -1,4 +1,4 @@
-use Rattle.std.proofs.Common.{◌+◌, ◌∙◌, ap}
+use Rattle.std.proofs.Common.{◌∙◌, ap}
 use Rattle.stab_shots.specs.Words.{wide_bit}
 use Rattle.stab_shots.specs.Seeds.{lane_coin}
 use Rattle.stab_shots.proofs.SeedLemmas.{still-behind}
