@@ -7,7 +7,7 @@ use Rattle.stab_shots.specs.Lanes.{lane_bits}
 use Rattle.stab_results.specs.Formats.{b8_bytes}
 use Rattle.stab_shots.specs.Squares.{byte_at, lane_bytes}
 use Rattle.stab_shots.proofs.WordLemmas.{word_bit-zero}
-use Rattle.stab_shots.proofs.MovedBitLemmas.{word_bit-or, word_bit-up, word_bit-up_below, word_bit-cut, word_bit-cut_off}
+use Rattle.stab_shots.proofs.MovedBitLemmas.{word_bit-or, word_bit-up, word_bit-up_below, word_bit-cut, word_bit-cut_off, word_bit-byte}
 use Rattle.stab_shots.proofs.DigitLemmas.{byte-of_bits}
 use Rattle.stab_results.proofs.GroupLemmas.{next_group}
 
@@ -51,12 +51,12 @@ has-more square byte first rest bits small has are is (suc k) l few lt =
     ∙ ap (λ r. get_or r (suc k) false) (sym (is l))
 
 -- the word before those that are there
-pub next-word : {W : Type 0} (at : W → ℕ → Bool) (lane : ℕ) (words : List W) (k : ℕ) (w : W) → 0 < k → k ≤ length words → w ≡ get_or words (k - 1) w
-    → lane_bits at lane (drop (k - 1) words) ≡ at w lane ∷ lane_bits at lane (drop k words)
-next-word at lane words k w some within is =
+pub next-word : {W : Type 0} (at : W → ℕ → Bool) (lane : ℕ) (words : List W) (k : ℕ) (w : W) → 0 < k → k ≤ length words
+    → lane_bits at lane (drop (k - 1) words) ≡ at (get_or words (k - 1) w) lane ∷ lane_bits at lane (drop k words)
+next-word at lane words k w some within =
     let next : k - 1 + 1 ≡ k = omega (arith, some) in
     ap (lane_bits at lane) (drop_more words (k - 1) w (omega (arith, some, within)))
-    ∙ (λ i. at (sym is i) lane ∷ lane_bits at lane (drop (next i) words))
+    ∙ ap (λ n. at (get_or words (k - 1) w) lane ∷ lane_bits at lane (drop n words)) next
 
 -- a square more, of eight words or of those that are left
 pub next-square : {W : Type 0} (at : W → ℕ → Bool) (lane l : ℕ) (words rest behind : List W) (group : List W) (size square gathered : ℕ) (squares new total : List ℕ)
@@ -74,3 +74,8 @@ next-square at lane l words rest behind group size square gathered squares new t
     (ap (lane_bits at lane) cut ∙ map-append (λ w. at w lane) group behind) (bits ∙ short ∙ ap (min size) (sym all)) (omega (arith, some, all))
     (byte-of_bits square l (lane_bits at lane group) (omega (arith, bits, short, eight)) (λ k lt. turns k lt ∙ are k lt))))
     ∙ so_far
+
+-- a lane of the bytes of words
+pub column-lane : (place l : ℕ) (words : List ℕ) → l < 8 → lane_bits word_bit l (lane_bytes place words) ≡ lane_bits word_bit (8 * place + l) words
+column-lane place l [] lt = refl
+column-lane place l (w ∷ words) lt = λ i. word_bit-byte w place l lt i ∷ column-lane place l words lt i

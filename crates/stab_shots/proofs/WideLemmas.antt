@@ -3,9 +3,7 @@ use Rattle.std.proofs.Common.{◌≡◌, ℕ, zero, suc, ◌+◌, ◌*◌, ◌<�
 use Rattle.std.specs.Prelude.{bit_xor}
 use Rattle.stab_pauli.specs.Letters.{◌⊕◌}
 use Rattle.stab_shots.specs.Words.{word_bit, wide_bit}
-use Rattle.stab_shots.specs.Squares.{byte_at}
 use Rattle.stab_shots.proofs.WordLemmas.{word_bit-xor}
-use Rattle.stab_shots.proofs.MovedBitLemmas.{word_bit-byte}
 
 -- each of four words has the same bit
 pub wide_bit-all : (word l : ℕ) (bit : Bool) → l < 256 → ((r : ℕ) → r < 64 → word_bit word r ≡ bit) → wide_bit (word ∷ word ∷ word ∷ word ∷ []) l ≡ bit
@@ -31,13 +29,6 @@ wide_bit-xor xs ys l lt = by_part (l / 64) (l % 64) (omega (arith, lt))
     by_part (suc (suc zero)) r few = word_bit-xor (get_or xs 2 0) (get_or ys 2 0) r
     by_part (suc (suc (suc zero))) r few = word_bit-xor (get_or xs 3 0) (get_or ys 3 0) r
     by_part (suc (suc (suc (suc q)))) r few = absurd (omega (arith, few))
-
--- a byte of one of them
-pub wide_bit-byte : (xs : List ℕ) (place l : ℕ) → l < 8 → word_bit (byte_at (get_or xs (place / 8) 0) (place % 8)) l ≡ wide_bit xs (8 * place + l)
-wide_bit-byte xs place l lt =
-    let part : place / 8 ≡ (8 * place + l) / 64 = omega (arith, lt) in
-    let within : 8 * (place % 8) + l ≡ (8 * place + l) % 64 = omega (arith, lt) in
-    word_bit-byte (get_or xs (place / 8) 0) (place % 8) l lt ∙ (λ i. word_bit (get_or xs (part i) 0) (within i))
 
 -- four words that each have the bits of a quarter
 pub wide_bit-quarters : (a b c d : ℕ) (of : ℕ → Bool)

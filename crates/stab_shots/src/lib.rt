@@ -14,7 +14,7 @@
 //! - `step`: one step, on a tableau and all lanes.
 //! - `run`: all steps of a circuit.
 //! - `coins`, `seeds`, `wide_seeds`: the coins of all lanes, and those of 64 or 256 shots of a seed.
-//! - `squares`: the bits of eight lanes at a time as bytes.
+//! - `squares`: the bits of lanes as bytes, for eight lanes at a time.
 //! - `shots`: so many shots of a circuit, at once.
 //!
 //! Sources: C. Gidney, Stim: a fast stabilizer circuit simulator (2021), for shots as lanes of frames beside a
@@ -41,7 +41,7 @@ pub use coins::LaneCoins;
 pub use lanes::write_lane;
 pub use seeds::SeedLanes;
 pub use shots::{Shots, run_lanes};
-pub use squares::{write_lane_bytes, write_squares};
+pub use squares::{write_bytes, write_part, write_squares};
 pub use wide::Wide;
 pub use wide_seeds::WideSeedLanes;
 pub use word::Word;

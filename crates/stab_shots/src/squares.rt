@@ -25,43 +25,63 @@ fn transposed(square: u64) -> u64
     exchanged(fours, 0x0000_0000_F0F0_F0F0, 28)
 }
 
-/// The bytes of words, at most eight, at a place: that of the first word is the lowest.
-fn gathered<W: Word>(words: &[W], place: usize) -> u64
-    requires few { length words.now ≤ 8 }
-    requires in_range { 8 * place + 8 ≤ W.lanes }
-    ensures value { (k l : ℕ) → k < 8 → l < 8 → word_bit result (8 * k + l) ≡ get_or (lane_bits W.at (8 * place + l) words.now) k false }
+/// Writes the bits of the 64 lanes from 64 * place on, of words of more.
+pub fn write_part<W: Word>(words: &[W], place: usize, part: &mut [u64])
+    requires in_range { 64 * place + 64 ≤ W.lanes }
+    requires as_many { length part.old ≡ length words.now }
+    ensures size { length part.new ≡ length part.old }
+    ensures value { (l : ℕ) → l < 64 → lane_bits word_bit l part.new ≡ lane_bits W.at (64 * place + l) words.now }
+{
+    for k in 0..words.len() {
+        part[k] = words[k].part(place);
+    }
+}
+
+/// A word of so many bytes, at most eight: the first is the lowest.
+fn joined(bytes: &[u8], count: usize) -> u64
+    requires all { count ≡ length bytes.now }
+    requires few { count ≤ 8 }
+    ensures value { (k l : ℕ) → k < 8 → l < 8 → word_bit result (8 * k + l) ≡ get_or (lane_bits word_bit l bytes.now) k false }
 {
     let mut square = 0;
-    for k in (0..words.len()).rev() {
-        square = square << 8 | u64::from(words[k].byte(place));
+    for k in (0..count).rev() {
+        square = square << 8 | u64::from(bytes[k]);
     }
     square
 }
 
-/// Writes, in place of what a list has, the bits of eight lanes: a word for each eight bits and for those left, with a byte
-/// for each lane, whose first bit is the lowest.
-pub fn write_squares<W: Word>(
-    words: &[W],
-    place: usize,
-    squares: &mut Vec<u64>,
-) -> Result<(), AllocError>
-    requires in_range { 8 * place + 8 ≤ W.lanes }
-    ensures value { OnOk result ((l : ℕ) → l < 8 → lane_bytes l squares.new.items ≡ b8_bytes (lane_bits W.at (8 * place + l) words.now)) }
+/// A word of bytes, at most eight: the first is the lowest.
+fn gathered(bytes: &[u8]) -> u64
+    requires few { length bytes.now ≤ 8 }
+    ensures value { (k l : ℕ) → k < 8 → l < 8 → word_bit result (8 * k + l) ≡ get_or (lane_bits word_bit l bytes.now) k false }
+{
+    // With the usual number named, the loop becomes one stretch of code.
+    if bytes.len() == 8 {
+        joined(bytes, 8)
+    } else {
+        joined(bytes, bytes.len())
+    }
+}
+
+/// Writes the bits of eight lanes in place of what a list has. They come as bytes, each with a bit of all eight. Each eight bits
+/// of the lanes, and those left, are a word, of which each lane has a byte, the first bit the lowest.
+pub fn write_squares(column: &[u8], squares: &mut Vec<u64>) -> Result<(), AllocError>
+    ensures value { OnOk result ((l : ℕ) → l < 8 → lane_bytes l squares.new.items ≡ b8_bytes (lane_bits word_bit l column.now)) }
 {
     squares.clear();
-    for group in words.chunks(8) {
-        squares.push(transposed(gathered(group, place)))?;
+    for group in column.chunks(8) {
+        squares.push(transposed(gathered(group)))?;
     }
     Ok(())
 }
 
-/// Writes the bytes of one of eight lanes.
-pub fn write_lane_bytes(squares: &[u64], lane: usize, bytes: &mut [u8])
-    requires in_range { lane < 8 }
-    requires as_many { length bytes.old ≡ length squares.now }
-    ensures value { bytes.new ≡ lane_bytes lane squares.now }
+/// Writes the byte at a place of each word, counted from the lowest: eight lanes of words, or one of those of `write_squares`.
+pub fn write_bytes(words: &[u64], place: usize, bytes: &mut [u8])
+    requires in_range { place < 8 }
+    requires as_many { length bytes.old ≡ length words.now }
+    ensures value { bytes.new ≡ lane_bytes place words.now }
 {
-    for i in 0..squares.len() {
-        bytes[i] = byte(squares[i], lane);
+    for i in 0..words.len() {
+        bytes[i] = byte(words[i], place);
     }
 }

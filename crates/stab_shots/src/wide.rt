@@ -1,7 +1,7 @@
 ghost use Rattle.std.specs.Prelude.{◌≡◌, refl, ℕ, ◌<◌};
 ghost use Rattle.stab_shots.specs.Words.{wide_bit};
 
-use crate::word::{Word, byte};
+use crate::word::Word;
 
 /// The bits of 256 lanes: that of lane l is bit l % 64 of word l / 64.
 #[derive(Clone, Copy)]
@@ -41,9 +41,9 @@ impl Word for Wide {
         self.words[lane / 64].bit(lane % 64)
     }
 
-    fn byte(&self, place: usize) -> u8 {
-        byte(self.words[place / 8], place % 8)
+    fn part(&self, place: usize) -> u64 {
+        self.words[place]
     }
 
-    ghost in_bytes = { refl };
+    ghost in_parts = { refl };
 }

@@ -1,4 +1,4 @@
-ghost use Rattle.std.specs.Prelude.{◌≡◌, refl, ℕ, ◌+◌, ◌*◌, ◌%◌, ◌<◌, ◌≤◌, Bool};
+ghost use Rattle.std.specs.Prelude.{◌≡◌, refl, ℕ, ◌+◌, ◌*◌, ◌/◌, ◌%◌, ◌<◌, ◌≤◌, Bool};
 ghost use Rattle.stab_pauli.specs.Letters.{◌⊕◌};
 ghost use Rattle.stab_shots.specs.Words.{word_bit};
 ghost use Rattle.stab_shots.specs.Squares.{byte_at};
@@ -23,13 +23,13 @@ pub trait Word: Copy {
         requires in_range { lane < lanes }
         ensures value { result ≡ at self lane };
 
-    /// The bits of the eight lanes from 8 * place on, the first the lowest.
-    fn byte(&self, place: usize) -> u8
-        requires in_range { 8 * place + 8 ≤ lanes }
-        ensures value { (l : ℕ) → l < 8 → word_bit result l ≡ at self.now (8 * place + l) };
+    /// The bits of the 64 lanes from 64 * place on.
+    fn part(&self, place: usize) -> u64
+        requires in_range { 64 * place + 64 ≤ lanes }
+        ensures value { (l : ℕ) → l < 64 → word_bit result l ≡ at self.now (64 * place + l) };
 
-    // Lanes are eight by eight.
-    ghost in_bytes: { lanes % 8 ≡ 0 };
+    // Lanes are 64 by 64.
+    ghost in_parts: { lanes % 64 ≡ 0 };
 }
 
 impl Word for u64 {
@@ -49,11 +49,11 @@ impl Word for u64 {
         (self >> lane) & 1 == 1
     }
 
-    fn byte(&self, place: usize) -> u8 {
-        byte(*self, place)
+    fn part(&self, place: usize) -> u64 {
+        *self
     }
 
-    ghost in_bytes = { refl };
+    ghost in_parts = { refl };
 }
 
 /// Byte number `place` of a word, counted from the lowest.
