@@ -77,22 +77,31 @@ def checked_as_run(random, run):
     return None if counted == lengths else f"check counts {counted} bits, and there are {lengths}\n{text!r}"
 
 
+def apart(written, form, number):
+    """What is written of so many shots of one circuit, shot by shot: in b8 each has as many bytes, in the others a line."""
+    if form == "b8":
+        size = len(written) // number
+        return [written[size * shot : size * shot + size] for shot in range(number)]
+    return written.splitlines(keepends=True)
+
+
 def shots_by_themselves(random, run):
     """Shots of a seed that are asked for together, against some of the same that are asked for one by one."""
     _, text, _ = large_circuit(random)
-    number = random.choice([2, 3, 63, 64, 65, random.randint(127, 129), random.randint(255, 257), random.randint(1023, 1025)])
+    number = random.choice([2, 3, 63, 64, 65, random.randint(127, 129), random.randint(255, 257), random.randint(319, 321), random.randint(1023, 1025)])
     first = random.choice([0, 1, 63, 2**40, 2**64 - number])
     command = random.choice([["sample"], ["detect", "--append_observables"]])
-    words = [*command, "--seed", str(random.randrange(2**32))]
+    form = random.choice(["01", "b8", "hits", "dets"])
+    words = [*command, "--seed", str(random.randrange(2**32)), "--out_format", form]
     status, written, told = run([*words, "--shots", str(number), "--first_shot", str(first)], text)
-    lines = written.splitlines(keepends=True)
-    if (status, told, len(lines)) != (0, b"", number):
-        return f"{command[0]} ended with status {status}, wrote {len(lines)} shots of {number} and told {told!r}\n{text!r}"
-    chosen = {0, 1, *range(62, 66), number - 1, *(random.randrange(number) for _ in range(3))}
+    shots = apart(written, form, number)
+    if (status, told, len(shots), b"".join(shots)) != (0, b"", number, written):
+        return f"{command[0]} ended with status {status}, wrote {len(shots)} shots of {number} in {form} and told {told!r}\n{text!r}"
+    chosen = {0, 1, *range(62, 66), *range(254, 258), number - 1, *(random.randrange(number) for _ in range(3))}
     for shot in sorted(shot for shot in chosen if shot < number):
         alone = run([*words, "--first_shot", str(first + shot)], text)
-        if alone != (0, lines[shot], b""):
-            return f"shot {first + shot} is another alone\n{words} {first} {number}\n{text!r}\n{alone}\n{lines[shot]!r}"
+        if alone != (0, shots[shot], b""):
+            return f"shot {first + shot} is another alone\n{words} {first} {number}\n{text!r}\n{alone}\n{shots[shot]!r}"
     return None
 
 

@@ -1,3 +1,4 @@
 pub mod SendingLaws
 pub mod ShotLaws
 pub mod RunLaws
+pub mod PackingLaws

@@ -3,6 +3,8 @@
 //! In the order in which data flows; each module uses only those before it:
 //!
 //! - `job`: what a user can ask for.
+//! - `widths`: how many shots go through a circuit at once.
+//! - `packed`: the bits of lanes in `b8`.
 //! - `shots`: the shots of a circuit, written one after another.
 //! - `run`: the commands that write the shots of a circuit.
 //! - `status`: running a job, with the status of the program.
@@ -24,9 +26,11 @@
 
 mod job;
 pub mod laws;
+mod packed;
 mod run;
 mod shots;
 mod status;
+mod widths;
 
 pub use job::{Command, Job, QubitCount, Shots, Stride};
 pub use run::{run_detect, run_detect_shots, run_sample, run_sample_shots};

@@ -16,11 +16,15 @@ ghost use Rattle.stab_commands.specs.Outputs.{of_shots};
 ghost use Rattle.stab_commands.specs.inner.Sendings.{IsShot, IsShown, SendsUnflushed, shots_of, shown_bytes};
 
 use crate::job::Shots;
+use crate::packed::send_packed;
+use crate::widths::shots_at_once;
 use stab_circuit::Circuit;
 use stab_io::{Fault, Output};
 use stab_results::{Format, Kinds, write_shot};
 use stab_run::{Coins, ListCoins, SeedCoins, Shot, run_once};
-use stab_shots::{SeedLanes, Shots as LaneShots, Word, run_lanes, write_lane};
+use stab_shots::{
+    LaneCoins, SeedLanes, Shots as LaneShots, WideSeedLanes, Word, run_lanes, write_lane,
+};
 use stab_tables::Source;
 use std::alloc::{AllocError, Global};
 
@@ -138,7 +142,7 @@ fn send_copies<O: Output, C: Coins>(
     write_copies(out, format, &bits, copies)
 }
 
-/// Writes the bits of so many lanes, one lane after another.
+/// Writes the bits of so many lanes, one lane after another, each from a list of its own.
 fn write_lanes<O: Output, W: Word>(
     alloc: Global,
     out: &mut O,
@@ -158,29 +162,44 @@ fn write_lanes<O: Output, W: Word>(
     Ok(())
 }
 
-/// Runs so many shots of a seed from a first one on, at most as many as there are lanes, and writes what is shown of each.
-fn send_batch<O: Output>(
+/// Writes the bits of so many lanes in a format, one lane after another. In `b8` they are packed for eight lanes at a time.
+fn send_lanes<O: Output, W: Word>(
+    alloc: Global,
+    out: &mut O,
+    format: Format,
+    words: &Bits<W>,
+    lanes: usize,
+) -> Result<(), Fault>
+    requires in_range { lanes ≤ W.lanes }
+    requires within { detectors_of words.now.kinds ≤ length words.now.items.items }
+    ensures sends { (first : ℕ) (shown : Shown) (run : ℕ → State) → ((l : ℕ) → l < lanes → IsShown shown (run (first + l)) words.now.kinds (lane_bits W.at l words.now.items.items)) → SendsUnflushed (of_shots (λ shot. shown_bytes format shown (run shot)) first lanes) (O.seen out.old) (O.seen out.new) result }
+{
+    match format {
+        Format::B8 => send_packed(alloc, out, words.items.as_slice(), lanes),
+        _ => write_lanes(alloc, out, format, words, lanes),
+    }
+}
+
+/// Runs so many shots, at most as many as there are lanes, with the coins of the lanes, and writes what is shown of each.
+fn send_batch<O: Output, W: Word, C: LaneCoins<W>>(
     alloc: Global,
     circuit: &Circuit,
     out: &mut O,
     format: Format,
     shown: Shown,
-    seed: u64,
-    first: u64,
+    coins: &mut C,
     shots: usize,
 ) -> Result<(), Fault>
     requires checked { check_of (circuit_items circuit.now) ≡ None }
-    requires few { shots ≤ 64 }
-    requires in_range { first + shots ≤ shots_of_seed }
-    ensures sends { SendsUnflushed (of_shots (λ shot. shown_bytes format shown (run_of (qubits_of (circuit_items circuit.now)) (seed_coin seed shot) (circuit_items circuit.now))) first shots) (O.seen out.old) (O.seen out.new) result }
+    requires few { shots ≤ W.lanes }
+    ensures sends { (first : ℕ) (run : ℕ → State) → ((l : ℕ) → l < shots → run (first + l) ≡ run_of (qubits_of (circuit_items circuit.now)) (C.sequences coins.old l) (circuit_items circuit.now)) → SendsUnflushed (of_shots (λ shot. shown_bytes format shown (run shot)) first shots) (O.seen out.old) (O.seen out.new) result }
 {
-    let mut coins = SeedLanes::new(seed, first);
-    let found = run_lanes(alloc, circuit, circuit.qubits(), &mut coins)?;
+    let found = run_lanes(alloc, circuit, circuit.qubits(), coins)?;
     let words = shown_words(found, shown)?;
-    write_lanes(alloc, out, format, &words, shots)
+    send_lanes(alloc, out, format, &words, shots)
 }
 
-/// Runs so many shots of a seed, at most 64, from a first one on, and writes what is shown of each. One shot is run alone.
+/// Runs so many shots of a seed, at most 256, from a first one on, and writes what is shown of each. One shot is run alone.
 fn send_some<O: Output>(
     alloc: Global,
     circuit: &Circuit,
@@ -192,15 +211,19 @@ fn send_some<O: Output>(
     shots: usize,
 ) -> Result<(), Fault>
     requires checked { check_of (circuit_items circuit.now) ≡ None }
-    requires few { shots ≤ 64 }
+    requires few { shots ≤ 256 }
     requires in_range { first + shots ≤ shots_of_seed }
     ensures sends { SendsUnflushed (of_shots (λ shot. shown_bytes format shown (run_of (qubits_of (circuit_items circuit.now)) (seed_coin seed shot) (circuit_items circuit.now))) first shots) (O.seen out.old) (O.seen out.new) result }
 {
     if shots == 1 {
         let mut coins = SeedCoins::new(seed, first);
         send_copies(alloc, circuit, out, format, shown, &mut coins, 1)
+    } else if shots <= 64 {
+        let mut coins = SeedLanes::new(seed, first);
+        send_batch(alloc, circuit, out, format, shown, &mut coins, shots)
     } else {
-        send_batch(alloc, circuit, out, format, shown, seed, first, shots)
+        let mut coins = WideSeedLanes::new(seed, first);
+        send_batch(alloc, circuit, out, format, shown, &mut coins, shots)
     }
 }
 
@@ -219,9 +242,10 @@ fn send_seeded<O: Output>(
     requires in_range { first + shots ≤ shots_of_seed }
     ensures sends { SendsUnflushed (of_shots (λ shot. shown_bytes format shown (run_of (qubits_of (circuit_items circuit.now)) (seed_coin seed shot) (circuit_items circuit.now))) first shots) (O.seen out.old) (O.seen out.new) result }
 {
+    let most = shots_at_once(alloc, circuit, shots)?;
     let mut sent = 0;
     while sent < shots {
-        let batch = (shots - sent).min(64);
+        let batch = (shots - sent).min(most);
         let next = first + sent as u64;
         send_some(alloc, circuit, out, format, shown, seed, next, batch)?;
         sent += batch;

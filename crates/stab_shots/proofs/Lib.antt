@@ -1,4 +1,9 @@
 pub mod WordLemmas
+pub mod WideLemmas
+pub mod MovedBitLemmas
+pub mod ExchangeLemmas
+pub mod DigitLemmas
+pub mod SquareLemmas
 pub mod FrameLemmas
 pub mod LaneLemmas
 pub mod StepLemmas

@@ -10,7 +10,7 @@ use Rattle.stab_pauli.specs.Letters.{◌⊕◌}
 use Rattle.stab_pauli.proofs.ParityLemmas.{parity-false}
 use Rattle.stab_run.specs.Coins.{seed_coin}
 use Rattle.stab_shots.specs.Words.{word_bit}
-use Rattle.stab_shots.specs.Seeds.{AreCoins}
+use Rattle.stab_shots.specs.Seeds.{SeededLanes, lane_coin, BeginBehind, AreCoins}
 use Rattle.stab_shots.proofs.WordLemmas.{word_bit-xor, word_bit-zero}
 
 -- 1 or 0, moved to a lane
@@ -60,3 +60,15 @@ pub blank-next : (lane : ℕ) (words new : List ℕ) → ((k j : ℕ) → k < 64
     → (k j : ℕ) → k < 64 → lane + 1 ≤ j → word_bit (get_or new k 0) j ≡ false
 blank-next lane words new blank others k j small le =
     others k j small (λ e. absurd (omega (arith, e, le))) ∙ blank k j small (omega (arith, le))
+
+-- the coins of shots that begin so many behind others
+pub begin-behind : (seed first places : ℕ) → BeginBehind places (record { seed = seed; first = (first + places) % 2 ^ 64 }) (record { seed = seed; first = first })
+begin-behind seed first places l t = ap (λ shot. seed_coin seed shot t) (same first places l)
+  where
+    same : (a p l : ℕ) → ((a + p) % 18446744073709551616 + l) % 18446744073709551616 ≡ (a + (p + l)) % 18446744073709551616
+    same a p l = omega arith
+
+-- the same where each gives the coins that it gave
+pub still-behind : (places : ℕ) (back front back' front' : SeededLanes) → lane_coin back' ≡ lane_coin back → lane_coin front' ≡ lane_coin front → BeginBehind places back front → BeginBehind places back' front'
+still-behind places back front back' front' same_back same_front behind l t =
+    ap (λ coins. coins l t) same_back ∙ behind l t ∙ sym (ap (λ coins. coins (places + l) t) same_front)

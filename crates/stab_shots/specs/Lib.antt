@@ -3,3 +3,4 @@ pub mod Lanes
 pub mod LaneRules
 pub mod Shots
 pub mod Seeds
+pub mod Squares

@@ -1,15 +1,23 @@
--- Seeds: the coins of 64 shots of a seed, as words.
+-- Seeds: the coins of so many shots of a seed, as words.
 -- Source: this project's own.
-use Rattle.std.specs.Prelude.{◌≡◌, ℕ, ◌+◌, ◌*◌, ◌%◌, ◌^◌, ◌<◌, List, slice_index_or}
+use Rattle.std.specs.Prelude.{◌≡◌, ℕ, ◌+◌, ◌*◌, ◌%◌, ◌^◌, ◌<◌, Bool, List, slice_index_or}
 use Rattle.stab_run.specs.Coins.{seed_coin}
 use Rattle.stab_shots.specs.Words.{word_bit}
 
--- what contracts see of coins of 64 shots: the seed, and the number of the first shot
+-- what contracts see of coins of so many shots: the seed, and the number of the first shot
 pub record SeededLanes : Type 0 where
   pub seed : ℕ
   pub first : ℕ
 
--- bit l of word k is coin 64 g + k of the shot l behind the first; numbers of shots go on from 2^64 - 1 with 0
+-- coin t of the shot l behind the first; numbers of shots go on from 2^64 - 1 with 0
+abbrev pub lane_coin : SeededLanes → (l t : ℕ) → Bool
+lane_coin c l t = seed_coin c.seed ((c.first + l) % 2 ^ 64) t
+
+-- the shots of one begin so many behind those of another
+abbrev pub BeginBehind : (places : ℕ) → SeededLanes → SeededLanes → Type 0
+BeginBehind places back front = (l t : ℕ) → lane_coin back l t ≡ lane_coin front (places + l) t
+
+-- bit l of word k is coin 64 g + k of the shot l behind the first
 abbrev pub AreCoins : ℕ → ℕ → ℕ → ℕ → List ℕ → Type 0
 AreCoins seed first group lanes words =
     (k l : ℕ) → k < 64 → l < lanes → word_bit (slice_index_or words k 0) l ≡ seed_coin seed ((first + l) % 2 ^ 64) (64 * group + k)

@@ -6,14 +6,15 @@
 //!
 //! In the order in which data flows; each module uses only those before it:
 //!
-//! - `word`: so many bits, one for each lane.
+//! - `word`, `wide`: so many bits, one for each lane; those of 64 lanes, and of 256.
 //! - `letters`: the letters of all lanes at a qubit, and what gates make of them.
 //! - `repeated`: lists of so many times the same value.
 //! - `frames`: a Pauli string for each lane.
 //! - `lanes`: what each lane has given so far.
 //! - `step`: one step, on a tableau and all lanes.
 //! - `run`: all steps of a circuit.
-//! - `coins`, `seeds`: the coins of all lanes, and those of so many shots of a seed.
+//! - `coins`, `seeds`, `wide_seeds`: the coins of all lanes, and those of 64 or 256 shots of a seed.
+//! - `squares`: the bits of lanes as bytes, for eight lanes at a time.
 //! - `shots`: so many shots of a circuit, at once.
 //!
 //! Sources: C. Gidney, Stim: a fast stabilizer circuit simulator (2021), for shots as lanes of frames beside a
@@ -30,11 +31,17 @@ mod repeated;
 mod run;
 mod seeds;
 mod shots;
+mod squares;
 mod step;
+mod wide;
+mod wide_seeds;
 mod word;
 
 pub use coins::LaneCoins;
 pub use lanes::write_lane;
 pub use seeds::SeedLanes;
 pub use shots::{Shots, run_lanes};
+pub use squares::{write_bytes, write_part, write_squares};
+pub use wide::Wide;
+pub use wide_seeds::WideSeedLanes;
 pub use word::Word;

@@ -2,7 +2,7 @@ ghost use Rattle.std.specs.Prelude.{◌≡◌, ◌≢◌, ℕ, ◌+◌, ◌*◌,
 ghost use Rattle.std.specs.Option.{ForSome};
 ghost use Rattle.stab_run.specs.Coins.{seed_coin};
 ghost use Rattle.stab_shots.specs.Words.{word_bit};
-ghost use Rattle.stab_shots.specs.Seeds.{SeededLanes, AreCoins};
+ghost use Rattle.stab_shots.specs.Seeds.{SeededLanes, lane_coin, AreCoins};
 
 use crate::coins::LaneCoins;
 use stab_run::{Coins, SeedCoins};
@@ -55,7 +55,7 @@ impl SeedLanes {
 }
 
 impl LaneCoins<u64> for SeedLanes {
-    ghost sequences = { λ c l. seed_coin c.seed ((c.first + l) % 2 ^ 64) };
+    ghost sequences = { lane_coin };
 
     fn coins(&mut self, t: u64) -> u64 {
         let group = t / 64;

@@ -1,6 +1,7 @@
-ghost use Rattle.std.specs.Prelude.{◌≡◌, ℕ, ◌<◌, Bool};
+ghost use Rattle.std.specs.Prelude.{◌≡◌, refl, ℕ, ◌+◌, ◌*◌, ◌/◌, ◌%◌, ◌<◌, ◌≤◌, Bool};
 ghost use Rattle.stab_pauli.specs.Letters.{◌⊕◌};
 ghost use Rattle.stab_shots.specs.Words.{word_bit};
+ghost use Rattle.stab_shots.specs.Squares.{byte_at};
 
 /// So many bits, one for each lane.
 pub trait Word: Copy {
@@ -8,10 +9,6 @@ pub trait Word: Copy {
     ghost at: { Self → ℕ → Bool };
     // How many lanes there are.
     ghost lanes: { ℕ };
-
-    /// How many lanes there are.
-    fn lanes() -> usize
-        ensures value { result ≡ lanes };
 
     /// The same bit in all lanes.
     fn all(bit: bool) -> Self
@@ -25,16 +22,20 @@ pub trait Word: Copy {
     fn bit(self, lane: usize) -> bool
         requires in_range { lane < lanes }
         ensures value { result ≡ at self lane };
+
+    /// The bits of the 64 lanes from 64 * place on.
+    fn part(&self, place: usize) -> u64
+        requires in_range { 64 * place + 64 ≤ lanes }
+        ensures value { (l : ℕ) → l < 64 → word_bit result l ≡ at self.now (64 * place + l) };
+
+    // Lanes are 64 by 64.
+    ghost in_parts: { lanes % 64 ≡ 0 };
 }
 
 impl Word for u64 {
     ghost at = { word_bit };
 
     ghost lanes = { 64 };
-
-    fn lanes() -> usize {
-        64
-    }
 
     fn all(bit: bool) -> u64 {
         if bit { u64::MAX } else { 0 }
@@ -47,4 +48,18 @@ impl Word for u64 {
     fn bit(self, lane: usize) -> bool {
         (self >> lane) & 1 == 1
     }
+
+    fn part(&self, place: usize) -> u64 {
+        *self
+    }
+
+    ghost in_parts = { refl };
+}
+
+/// Byte number `place` of a word, counted from the lowest.
+pub fn byte(word: u64, place: usize) -> u8
+    requires in_range { place < 8 }
+    ensures value { result ≡ byte_at word place }
+{
+    (word >> (8 * place) & 0xff) as u8
 }

@@ -1,0 +1,18 @@
+use Rattle.std.proofs.Common.{◌≡◌, ℕ, ◌+◌, ◌-◌, ◌%◌, ◌<◌, ◌≤◌, List, length}
+use Rattle.stab_io.specs.Devices.{Took}
+use Rattle.stab_results.specs.Formats.{b8_bytes}
+use Rattle.stab_shots.specs.Lanes.{lane_bits}
+use Rattle.stab_commands.specs.Outputs.{of_shots}
+use Rattle.stab_commands.proofs.packed.send_packed.Given as goal
+
+abbrev pub invariant-loop-sent : goal.invariant-loop-sent
+invariant-loop-sent g l = record {
+  within : l.sent ≤ l.lanes;
+  whole : l.sent < l.lanes → l.sent % 64 ≡ 0;
+  size : length l.part.items ≡ length l.words;
+  took : (first : ℕ) (bytes_of : ℕ → List ℕ) → ((k : ℕ) → k < l.lanes → b8_bytes (lane_bits g.W.Word.at k l.words) ≡ bytes_of (first + k))
+      → Took (g.O.Output.seen l.initial.out) (g.O.Output.seen l.out) (of_shots bytes_of first l.sent);
+}
+
+abbrev pub decreases-loop-sent : goal.decreases-loop-sent
+decreases-loop-sent g l = l.lanes - l.sent
