@@ -125,6 +125,31 @@ impl KeptStrings {
         self.append(alloc, rest)
     }
 
+    /// Puts copies of others behind these, from the one with a number up to another's, as far as there
+    /// may be as many.
+    ///
+    /// Refusal `OutOfMemory` alone.
+    pub fn append_between(
+        &mut self,
+        alloc: Global,
+        other: &KeptStrings,
+        from: usize,
+        to: usize,
+    ) -> Result<(), Refusal>
+        requires same_length { other.now.qubits ≡ self.old.qubits }
+        ensures qubits { self.new.qubits ≡ self.old.qubits }
+        ensures most { self.new.most ≡ self.old.most }
+        ensures strings { OnOk result (self.new.strings ≡ kept_with self.old.most self.old.strings (drop from (take to other.now.strings))) }
+        ensures err { IfErr result (λ r. r ≡ OutOfMemory) }
+    {
+        let (front, _) = other
+            .strings
+            .as_slice()
+            .split_at(to.min(other.strings.len()));
+        let (_, between) = front.split_at(from.min(front.len()));
+        self.append(alloc, between)
+    }
+
     /// Puts copies of strings behind these, as far as there may be as many.
     fn append(&mut self, alloc: Global, strings: &[Pauli]) -> Result<(), Refusal>
         requires same_length { All (λ p. length p.letters ≡ self.old.qubits) strings.now }

@@ -153,7 +153,7 @@ impl FrameWalk {
     }
 
     /// How many outcomes before the next coin's were free.
-    pub(crate) fn number(&self) -> usize
+    pub fn number(&self) -> usize
         ensures value { result ≡ self.now.number }
     {
         self.number

@@ -20,7 +20,7 @@ use Rattle.stab_run.specs.Cuts.{lengths_of}
 use Rattle.stab_session.specs.inner.Checkpoints.{IsRunFromStart, IsCheckpoint, checkpoint_steps}
 use Rattle.stab_frames.specs.KeptStrings.{KeepsTrue}
 use Rattle.stab_frames.specs.Lookbacks.{LooksWithin}
-use Rattle.stab_session.specs.inner.Replays.{IsNoted, IsAtStep, IsReplay, Ascending, Meets, MeetsAt, IsPlacedAt, IsArrival, Misses, EndsSoon, step_among_new, copy_of}
+use Rattle.stab_session.specs.inner.Replays.{IsNoted, IsAtStep, IsReplay, Ascending, Meets, MeetsAt, IsPlacedAt, IsArrival, Misses, EndsSoon, step_among_new, copy_of, IsAtStop, IsOnWay}
 use Rattle.stab_run.proofs.PointLemmas.{flags-are-coins, records-are-records}
 use Rattle.stab_session.proofs.NotedLemmas.{noted-on}
 use Rattle.stab_session.proofs.PointLemmas.{resumed, shows-from-start, take-more}
@@ -155,22 +155,6 @@ agree-meets n reach coins xs zs c t o records run h kept agree = record {
 
 -- a replay on its way
 
--- at a step where it stops, with this old copy to be met next: those before it were not met
-pub record IsAtStop (n : ℕ) (coins : ℕ → Bool) (begin : ℕ) (p : Plan) (ys : List Step) (copies : List Checkpoint) (old : List Bool) (next : ℕ) (r : Replay) : Type 0 where
-  pub replay : IsReplay n coins p.stride begin ys r
-  pub counted : r.applied + begin ≡ r.step
-  pub order : p.next ≤ next
-  pub within : next ≤ length copies
-  pub ascending : Ascending p r.step (drop next copies)
-  pub base : p.base ≤ length r.outputs.records.items
-  pub same : take p.base r.outputs.records.items ≡ take p.base old
-  pub missed : (number : ℕ) → p.next ≤ number → number < next → IfSome (slice_get copies number) (Misses n coins p ys old)
-
--- and about to go on from there, with the last copy laid there
-pub record IsOnWay (n : ℕ) (coins : ℕ → Bool) (begin : ℕ) (p : Plan) (ys : List Step) (copies : List Checkpoint) (old : List Bool) (next : ℕ) (r : Replay) : Type 0 where
-  pub stop : IsAtStop n coins begin p ys copies old next r
-  pub last : last_of begin (checkpoint_steps r.laid.items) ≡ r.step
-
 -- where the next copy stands
 
 ascending-end : (p : Plan) (step : ℕ) (cs : List Checkpoint) → Ascending p step cs → step ≤ p.total
@@ -233,7 +217,7 @@ module _ (n : ℕ) (coins : ℕ → Bool) (begin : ℕ) (p : Plan) (ys : List St
   -- at the next stop
   pub on-stop : (others : ℕ → Bool) (next stop : ℕ) (place : Option ℕ) (r s : Replay) → IsOnWay n coins begin p ys copies old next r → others ≡ coins
       → IsAtStep r.tableau.qubits others r.cursor.all s → s.laid.items ≡ r.laid.items
-      → r.outputs.records.items ≡ take (length r.outputs.records.items) s.outputs.records.items → s.applied + r.step ≡ r.applied + stop → s.step ≡ stop
+      → r.outputs.records.items ≡ take (length r.outputs.records.items) s.outputs.records.items → (s.applied + s.framed) + r.step ≡ (r.applied + r.framed) + stop → s.step ≡ stop
       → r.step ≤ stop → stop ≤ p.total → stop ≤ r.step + p.stride → place ≡ option_map (step_among_new p) (slice_get copies next) → IfSome place (λ q. stop ≤ q)
       → IsAtStop n coins begin p ys copies old next s
   on-stop others next stop place r s h same_coins at laid records counted step order within near place_is before = record {

@@ -4,3 +4,4 @@ pub mod Spacing
 pub mod Checkpoints
 pub mod Replays
 pub mod Prepared
+pub mod FramedReplays

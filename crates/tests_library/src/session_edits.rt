@@ -120,6 +120,7 @@ fn put<C: Coins>(
             Report {
                 applied,
                 checkpoints,
+                ..
             },
         ) => Ok((applied, checkpoints)),
         Err(refused) => Err(refused.fault),

@@ -17,7 +17,7 @@ use Rattle.stab_run.specs.Points.{RunOutput, origin, point_after, outputs, with_
 use Rattle.stab_run.specs.Laws.{AgreeAt}
 use Rattle.stab_session.specs.Bounds.{AgreeAsFarAsLooked}
 use Rattle.stab_run.specs.ProgramStates.{program_state, output_of}
-use Rattle.stab_session.specs.inner.Spacing.{IsSpaced, Near}
+use Rattle.stab_session.specs.inner.Spacing.{IsSpaced, Near, last_of}
 use Rattle.stab_run.specs.Cuts.{lengths_of}
 use Rattle.stab_frames.specs.Limits.{most_strings}
 use Rattle.stab_frames.specs.KeptStrings.{StringsState, IsNumbered, AreTrue, note_at}
@@ -154,6 +154,24 @@ Misses n coins p ys records c =
 abbrev pub EndsSoon : ℕ → (ℕ → Bool) → Plan → List Step → List Checkpoint → List Bool → ℕ → Type 0
 EndsSoon n coins p ys copies records end =
     (number : ℕ) → p.next ≤ number → IfSome (slice_get copies number) (λ c. step_among_new p c < end → Misses n coins p ys records c)
+
+-- a replay on its way
+
+-- at a step where it stops, with this old copy to be met next: those before it were not met
+pub record IsAtStop (n : ℕ) (coins : ℕ → Bool) (begin : ℕ) (p : Plan) (ys : List Step) (copies : List Checkpoint) (old : List Bool) (next : ℕ) (r : Replay) : Type 0 where
+  pub replay : IsReplay n coins p.stride begin ys r
+  pub counted : (r.applied + r.framed) + begin ≡ r.step
+  pub order : p.next ≤ next
+  pub within : next ≤ length copies
+  pub ascending : Ascending p r.step (drop next copies)
+  pub base : p.base ≤ length r.outputs.records.items
+  pub same : take p.base r.outputs.records.items ≡ take p.base old
+  pub missed : (number : ℕ) → p.next ≤ number → number < next → IfSome (slice_get copies number) (Misses n coins p ys old)
+
+-- and about to go on from there, with the last copy laid there
+pub record IsOnWay (n : ℕ) (coins : ℕ → Bool) (begin : ℕ) (p : Plan) (ys : List Step) (copies : List Checkpoint) (old : List Bool) (next : ℕ) (r : Replay) : Type 0 where
+  pub stop : IsAtStop n coins begin p ys copies old next r
+  pub last : last_of begin (checkpoint_steps r.laid.items) ≡ r.step
 
 -- how many of so many old copies a replay passed
 abbrev pub copies_passed : Plan → ℕ → End → ℕ

@@ -4,30 +4,30 @@ use Rattle.stab_session.specs.declared.replay.Arrival.{Arrival}
 use Rattle.stab_session.specs.declared.replay.Arrival.TheVariants.{Between}
 use Rattle.stab_run.specs.Records.{ones}
 use Rattle.stab_run.specs.Points.{all_coins_of}
-use Rattle.stab_session.specs.inner.Replays.{IsReplay, IsArrival, EndsSoon, copy_of}
-use Rattle.stab_session.proofs.ReplayLemmas.{IsAtStop, place-behind, on-stop, ends-soon, on-further, fewer-left}
+use Rattle.stab_session.specs.inner.Replays.{IsReplay, IsArrival, EndsSoon, IsAtStop, copy_of}
+use Rattle.stab_session.proofs.ReplayLemmas.{place-behind, on-stop, ends-soon, on-further, fewer-left}
 use Rattle.stab_session.proofs.LaidLemmas.{laid-more, laid-end}
 use Rattle.stab_session.proofs.replay.Replay.follow.Given.{Over}
 use Rattle.stab_session.proofs.replay.Replay.follow.Goals as goal
 use Rattle.stab_session.proofs.replay.Replay.follow.Goals.{In_ok-run_to}
 
 stopped : (g : Over) (c : In_ok-run_to g) → IsAtStop c.args.self.now.tableau.qubits (g.C.Coins.sequence c.args.coins.now) c.args.self.now.step c.args.plan
-    c.args.self.now.cursor.all c.args.copies.now c.args.records.now c.loop-spare.next c.run_to.new.self
+    c.args.self.now.cursor.all c.args.copies.now c.args.old.now.records.items c.loop-spare.next c.run_to.new.self
 stopped g c =
     let inv = c.loop-spare.invariant in
     let done = c.in_ok-run_to.ensures in
     let stop = c.stop-stop.ensures in
     on-stop c.args.self.now.tableau.qubits (g.C.Coins.sequence c.args.coins.now) c.args.self.now.step c.args.plan c.args.self.now.cursor.all
-    c.args.copies.now c.args.records.now (g.C.Coins.sequence c.loop-spare.coins) c.loop-spare.next c.stop-stop.result c.place.result c.loop-spare.self c.run_to.new.self
+    c.args.copies.now c.args.old.now.records.items (g.C.Coins.sequence c.loop-spare.coins) c.loop-spare.next c.stop-stop.result c.place.result c.loop-spare.self c.run_to.new.self
     inv.way inv.same_coins done.at_step done.laid done.records done.counted done.step stop.order stop.within stop.near
     c.place.ensures.value stop.before
 
 arrived : (g : Over) (c : In_ok-run_to g) (a b : Arrival) → a ≡ b
-    → IsArrival c.run_to.new.self.tableau.qubits c.args.plan c.run_to.new.self c.args.copies.now c.args.records.now c.loop-spare.next a
-    → IsArrival c.args.self.now.tableau.qubits c.args.plan c.run_to.new.self c.args.copies.now c.args.records.now c.loop-spare.next b
+    → IsArrival c.run_to.new.self.tableau.qubits c.args.plan c.run_to.new.self c.args.copies.now c.args.old.now.records.items c.loop-spare.next a
+    → IsArrival c.args.self.now.tableau.qubits c.args.plan c.run_to.new.self c.args.copies.now c.args.old.now.records.items c.loop-spare.next b
 arrived g c a b same h =
-    subst (λ n. IsArrival n c.args.plan c.run_to.new.self c.args.copies.now c.args.records.now c.loop-spare.next b) (stopped g c).replay.at_step.qubits
-    (subst (IsArrival c.run_to.new.self.tableau.qubits c.args.plan c.run_to.new.self c.args.copies.now c.args.records.now c.loop-spare.next) same h)
+    subst (λ n. IsArrival n c.args.plan c.run_to.new.self c.args.copies.now c.args.old.now.records.items c.loop-spare.next b) (stopped g c).replay.at_step.qubits
+    (subst (IsArrival c.run_to.new.self.tableau.qubits c.args.plan c.run_to.new.self c.args.copies.now c.args.old.now.records.items c.loop-spare.next) same h)
 
 replayed : (g : Over) (c : In_ok-run_to g) (r : Replay) → r ≡ c.run_to.new.self
     → IsReplay c.args.self.now.tableau.qubits (g.C.Coins.sequence c.args.coins.now) c.args.plan.stride c.args.self.now.step c.args.self.now.cursor.all r
@@ -36,11 +36,11 @@ replayed g c r same =
     (stopped g c).replay
 
 ended : (g : Over) (c : In_ok-run_to g) (r : Replay) → r ≡ c.run_to.new.self
-    → EndsSoon c.args.self.now.tableau.qubits (g.C.Coins.sequence c.args.coins.now) c.args.plan c.args.self.now.cursor.all c.args.copies.now c.args.records.now r.step
+    → EndsSoon c.args.self.now.tableau.qubits (g.C.Coins.sequence c.args.coins.now) c.args.plan c.args.self.now.cursor.all c.args.copies.now c.args.old.now.records.items r.step
 ended g c r same =
-    subst (λ (r : Replay). EndsSoon c.args.self.now.tableau.qubits (g.C.Coins.sequence c.args.coins.now) c.args.plan c.args.self.now.cursor.all c.args.copies.now c.args.records.now r.step)
+    subst (λ (r : Replay). EndsSoon c.args.self.now.tableau.qubits (g.C.Coins.sequence c.args.coins.now) c.args.plan c.args.self.now.cursor.all c.args.copies.now c.args.old.now.records.items r.step)
     (sym same)
-    (ends-soon c.args.self.now.tableau.qubits (g.C.Coins.sequence c.args.coins.now) c.args.self.now.step c.args.plan c.args.self.now.cursor.all c.args.copies.now c.args.records.now
+    (ends-soon c.args.self.now.tableau.qubits (g.C.Coins.sequence c.args.coins.now) c.args.self.now.step c.args.plan c.args.self.now.cursor.all c.args.copies.now c.args.old.now.records.items
     c.loop-spare.next c.run_to.new.self (stopped g c))
 
 pub stop-stop-requires-clause-behind : goal.stop-stop-requires-clause-behind
@@ -85,7 +85,7 @@ loop-spare-smaller g c =
     let inv = c.loop-spare.invariant in
     let stop = c.stop-stop.ensures in
     let at = (goal.at.loop-spare-smaller g c).In_ok-run_to in
-    let fewer = fewer-left c.args.self.now.tableau.qubits c.args.plan c.args.copies.now c.args.records.now c.loop-spare.next c.in-Between.later c.loop-spare.self.step
+    let fewer = fewer-left c.args.self.now.tableau.qubits c.args.plan c.args.copies.now c.args.old.now.records.items c.loop-spare.next c.in-Between.later c.loop-spare.self.step
     c.stop-stop.result c.place.result c.run_to.new.self (c.in_ok-run_to.ensures {u = tt}).step stop.order stop.within
     c.place.ensures.value stop.further
     (arrived g at _ (Between c.in-Between.later) c.in-Between.is c.in_ok-arrive.ensures.value) in
@@ -117,7 +117,7 @@ loop-spare-preserved g c =
           );
       few_laid =
           subst (λ k. c.args.plan.stride * length c.lay.new.self.laid.items + c.args.self.now.step ≤ k + c.args.plan.stride * (c.in-Between.later - c.args.plan.next)) (sym step)
-          (laid-more c.args.self.now.tableau.qubits c.args.plan c.args.copies.now c.args.records.now c.loop-spare.next c.in-Between.later c.loop-spare.self.step c.stop-stop.result
+          (laid-more c.args.self.now.tableau.qubits c.args.plan c.args.copies.now c.args.old.now.records.items c.loop-spare.next c.in-Between.later c.loop-spare.self.step c.stop-stop.result
           c.args.self.now.step (length c.loop-spare.self.laid.items) (length c.lay.new.self.laid.items) c.place.result c.run_to.new.self inv.few_laid
           (ap length (c.in_ok-lay.ensures {u = tt}).laid
           ∙ length-append c.arrive.new.self.laid.items (copy_of c.arrive.new.self ∷ [])
@@ -126,7 +126,7 @@ loop-spare-preserved g c =
           (arrived g at _ (Between c.in-Between.later) c.in-Between.is c.in_ok-arrive.ensures.value));
       way =
           on-further c.args.self.now.tableau.qubits (g.C.Coins.sequence c.args.coins.now) c.args.self.now.step c.args.plan c.args.self.now.cursor.all
-          c.args.copies.now c.args.records.now c.loop-spare.next c.in-Between.later c.run_to.new.self c.lay.new.self (stopped g at)
+          c.args.copies.now c.args.old.now.records.items c.loop-spare.next c.in-Between.later c.run_to.new.self c.lay.new.self (stopped g at)
           (arrived g at _ (Between c.in-Between.later) c.in-Between.is c.in_ok-arrive.ensures.value) same
           ((c.in_ok-lay.ensures {u = tt}).laid ∙ ap (λ (r : Replay). r.laid.items ++ copy_of r ∷ []) c.arrive.ensures.unchanged);
     }
