@@ -1,5 +1,5 @@
 -- Replays: a run that goes on from a copy of an earlier one, what it asks of coins, and where it meets another copy.
-use Rattle.std.proofs.Common.{◌≡◌, ℕ, zero, suc, ◌+◌, ◌-◌, ◌<◌, ◌≤◌, refl, sym, ◌∙◌, ap, subst, Bool, ◌⊎◌, inl, inr, List, [], ◌∷◌, ◌++◌, All, IfSome, IsSomeAnd, Option, None, Some, slice_get, length, take, drop, arith}
+use Rattle.std.proofs.Common.{◌≡◌, ◌≢◌, ℕ, zero, suc, ◌+◌, ◌-◌, ◌<◌, ◌≤◌, refl, sym, ◌∙◌, ap, subst, Bool, ◌⊎◌, inl, inr, List, [], ◌∷◌, ◌++◌, All, IfSome, IsSomeAnd, Option, None, Some, slice_get, length, take, drop, arith}
 use Rattle.std.specs.Option.{option_map}
 use Rattle.std.proofs.lemmas.List.{length-take, take-append-drop, take_at, take-take, drop-drop, map-append}
 use Rattle.std.proofs.lemmas.List.Elements.{All-push}
@@ -20,7 +20,7 @@ use Rattle.stab_run.specs.Cuts.{lengths_of}
 use Rattle.stab_session.specs.inner.Checkpoints.{IsRunFromStart, IsCheckpoint, checkpoint_steps}
 use Rattle.stab_frames.specs.KeptStrings.{KeepsTrue}
 use Rattle.stab_frames.specs.Lookbacks.{LooksWithin}
-use Rattle.stab_session.specs.inner.Replays.{IsNoted, IsAtStep, IsReplay, Ascending, Meets, MeetsAt, IsPlacedAt, IsArrival, Misses, EndsSoon, step_among_new, copy_of, IsAtStop, IsOnWay}
+use Rattle.stab_session.specs.inner.Replays.{IsNoted, IsAtStep, IsReplay, Ascending, Meets, MeetsAt, IsPlacedAt, IsArrival, Misses, EndsSoon, step_among_new, copy_of, IsAtStop, IsOnWay, StopsAt}
 use Rattle.stab_run.proofs.PointLemmas.{flags-are-coins, records-are-records}
 use Rattle.stab_session.proofs.NotedLemmas.{noted-on}
 use Rattle.stab_session.proofs.PointLemmas.{resumed, shows-from-start, take-more}
@@ -342,29 +342,46 @@ module _ (n : ℕ) (coins : ℕ → Bool) (begin : ℕ) (p : Plan) (ys : List St
             | inr placed ↦ subst (λ k. IsAtStop n coins begin p ys copies old k r) (sym placed.0) (past next r h placed.1 arrival.1)
           ]
 
--- and fewer steps or fewer copies are left
+-- where it goes on it went a stride, or passed the copy
 
-placed-at : (p : Plan) (o : Option Checkpoint) (step : ℕ) → option_map (step_among_new p) o ≡ Some step → IsSomeAnd o (λ c. step_among_new p c ≡ step)
-placed-at p None step e = absurd (none-some step e)
-placed-at p (Some c) step e = same_Some (step_among_new p c) step e
-
-pub not-stopped : (p : Plan) (copies : List Checkpoint) (next stop : ℕ) (place : Option ℕ) (step : ℕ) → step ≡ stop → place ≡ option_map (step_among_new p) (slice_get copies next)
-    → (step ≡ p.total → ⊥) → (IsPlacedAt p copies next step → ⊥) → (stop ≡ p.total) ⊎ (place ≡ Some stop) → ⊥
-not-stopped p copies next stop place step at place_is further unplaced stopped =
-    elim stopped [
-      | inl e ↦ further (at ∙ e)
-      | inr e ↦ unplaced (placed-at p (slice_get copies next) step (sym place_is ∙ e ∙ ap Some (sym at)))
+not-there : (p : Plan) (copies : List Checkpoint) (next step : ℕ) → step ≢ p.total → (IsPlacedAt p copies next step → ⊥) → (step ≡ p.total) ⊎ IsPlacedAt p copies next step → ⊥
+not-there p copies next step further unplaced at =
+    elim at [
+      | inl e ↦ further e
+      | inr e ↦ unplaced e
     ]
 
-pub fewer-left : (n : ℕ) (p : Plan) (copies : List Checkpoint) (old : List Bool) (next later step stop : ℕ) (place : Option ℕ) (r : Replay) → r.step ≡ stop → step ≤ stop
-    → stop ≤ p.total → place ≡ option_map (step_among_new p) (slice_get copies next) → (step < stop) ⊎ ((stop ≡ p.total) ⊎ (place ≡ Some stop))
-    → IsArrival n p r copies old next (Between later) → (p.total - r.step) + (length copies - later) < (p.total - step) + (length copies - next)
-fewer-left n p copies old next later step stop place r at order within place_is further arrival =
+pub went-on : (n : ℕ) (p : Plan) (copies : List Checkpoint) (old : List Bool) (next later from : ℕ) (r : Replay) → StopsAt p copies next from r.step
+    → IsArrival n p r copies old next (Between later) → ((later ≡ next) × (from + p.stride ≤ r.step)) ⊎ ((later ≡ next + 1) × (next < length copies))
+went-on n p copies old next later from r stops arrival =
     elim arrival.2 [
       | inl same ↦
-          elim further [
-            | inl less ↦ let e = same.0 in omega arith
-            | inr other ↦ absurd (not-stopped p copies next stop place r.step at place_is arrival.0 same.1 other)
+          elim stops [
+            | inl far ↦ inl (same.0, far)
+            | inr at ↦ absurd (not-there p copies next r.step arrival.0 same.1 at)
           ]
-      | inr placed ↦ let e = placed.0 in let le = later-within copies next (λ c. step_among_new p c ≡ r.step) placed.1 in omega arith
+      | inr placed ↦ inr (placed.0, later-within copies next (λ c. step_among_new p c ≡ r.step) placed.1)
     ]
+
+-- and fewer steps or fewer copies are left
+pub fewer-left : (n : ℕ) (p : Plan) (copies : List Checkpoint) (old : List Bool) (first next later from : ℕ) (r : Replay) → 1 ≤ p.stride → from ≤ r.step → r.step ≤ p.total
+    → first ≤ next → next ≤ length copies → StopsAt p copies next from r.step → IsArrival n p r copies old next (Between later)
+    → (p.total - r.step) + (length copies - later) < (p.total - from) + (length copies - first)
+fewer-left n p copies old first next later from r stride further within order among stops arrival =
+    elim (went-on n p copies old next later from r stops arrival) [
+      | inl far ↦ let same = far.0 in let more = far.1 in omega (arith, same, more, stride, within, order, among)
+      | inr passed ↦ let one = passed.0 in let lt = passed.1 in omega (arith, one, lt, further, within, order)
+    ]
+
+-- however it went on
+
+pub went-so : {n m : ℕ} {coins others : ℕ → Bool} {ys zs : List Step} (begin : ℕ) (p : Plan) (copies : List Checkpoint) (old : List Bool) (next later : ℕ) (r s : Replay) → m ≡ n → others ≡ coins
+    → zs ≡ ys → (IsOnWay m others begin p zs copies old next r → IsAtStop m others begin p zs copies old later s) → IsOnWay n coins begin p ys copies old next r
+    → IsAtStop n coins begin p ys copies old later s
+went-so begin p copies old next later r s qubits coins all =
+    subst (λ t. t) (λ i. IsOnWay (qubits i) (coins i) begin p (all i) copies old next r → IsAtStop (qubits i) (coins i) begin p (all i) copies old later s)
+
+-- where it meets a copy it is behind what was changed
+pub met-behind : (n : ℕ) (p : Plan) (r : Replay) (records : List Bool) (o : Option Checkpoint) → p.new_end ≤ 1048576 → IsSomeAnd o (MeetsAt n p r records) → p.new_end ≤ r.step
+met-behind n p r records None few h = absurd h
+met-behind n p r records (Some c) few h = let place = h.0 in omega (arith, place, few)

@@ -142,7 +142,8 @@ impl KeptRun {
     }
 
     /// Makes this the run of an edited circuit, whose steps differ within the span, and tells how
-    /// many steps were carried out for it, and how many a frame went over. The run is as before where memory is refused.
+    /// many steps were carried out for it, and how many a frame went over. The run is as before where
+    /// memory is refused.
     ///
     /// The replay goes on in the memory of a spare tableau if there is one, and one of the two
     /// that are then at hand is the next spare.

@@ -16,7 +16,7 @@ use Rattle.stab_circuit.specs.declared.edit.Span.{Span}
 use Rattle.stab_run.specs.Points.{RunOutput, origin, point_after, outputs, with_additions}
 use Rattle.stab_run.specs.Laws.{AgreeAt}
 use Rattle.stab_session.specs.Bounds.{AgreeAsFarAsLooked}
-use Rattle.stab_run.specs.ProgramStates.{program_state, output_of}
+use Rattle.stab_run.specs.ProgramStates.{StepFits, program_state, output_of}
 use Rattle.stab_session.specs.inner.Spacing.{IsSpaced, Near, last_of}
 use Rattle.stab_run.specs.Cuts.{lengths_of}
 use Rattle.stab_frames.specs.Limits.{most_strings}
@@ -33,11 +33,12 @@ pub record IsNoted (n : ℕ) (coins : ℕ → Bool) (xs : List Step) (strings : 
   pub are_true : AreTrue n coins (note_at strings.strings free) xs origin
   pub near : All (LooksWithin reach) xs
 
--- what is kept is the run of these steps, with so many observables, and copies at most K steps apart
+-- what is kept is the run of these steps, which fit on the qubits, with so many observables, and copies at most K steps apart
 pub record IsKeptRun (n : ℕ) (coins : ℕ → Bool) (K : ℕ) (xs : List Step) (count : ℕ) (r : KeptRun) : Type 0 where
   pub qubits : r.tableau.qubits ≡ n
   pub run : IsRunFromStart n coins xs (program_state r.tableau (output_of r.outputs))
   pub observables : r.observables.items ≡ with_additions r.outputs.additions.items (replicate count false)
+  pub fits : All (StepFits n) xs
   pub noted : IsNoted n coins xs r.strings r.outputs.free.items r.reach
   pub checkpoints : All (IsCheckpoint n coins xs) r.checkpoints.items
   pub spaced : IsSpaced K (length xs) (checkpoint_steps r.checkpoints.items)
@@ -172,6 +173,11 @@ pub record IsAtStop (n : ℕ) (coins : ℕ → Bool) (begin : ℕ) (p : Plan) (y
 pub record IsOnWay (n : ℕ) (coins : ℕ → Bool) (begin : ℕ) (p : Plan) (ys : List Step) (copies : List Checkpoint) (old : List Bool) (next : ℕ) (r : Replay) : Type 0 where
   pub stop : IsAtStop n coins begin p ys copies old next r
   pub last : last_of begin (checkpoint_steps r.laid.items) ≡ r.step
+
+-- where a replay that went on from a step stops: a stride further, or behind the last step, or at the place of the old copy that may
+-- be met next
+abbrev pub StopsAt : Plan → List Checkpoint → ℕ → ℕ → ℕ → Type 0
+StopsAt p copies next from step = (from + p.stride ≤ step) ⊎ ((step ≡ p.total) ⊎ IsPlacedAt p copies next step)
 
 -- how many of so many old copies a replay passed
 abbrev pub copies_passed : Plan → ℕ → End → ℕ
