@@ -1,4 +1,4 @@
--- Starts of frames: the frame by which a replay differs from an old copy, and that the two don't agree where it flips a record.
+-- Starts of frames: the frame by which a replay differs from an old copy, and that the two don't have the same records where it flips one.
 use Rattle.std.proofs.Common.{◌≡◌, ℕ, zero, suc, ◌+◌, ◌-◌, ◌<◌, ◌≤◌, refl, sym, ◌∙◌, ap, subst, Bool, true, false, not, List, [], ◌∷◌, ◌++◌, length, take, drop, get_or, replicate, arith}
 use Rattle.std.proofs.lemmas.List.{take_all}
 use Rattle.stab_pauli.specs.Letters.{◌⊕◌}
@@ -9,7 +9,6 @@ use Rattle.stab_circuit.specs.Steps.{Step}
 use Rattle.stab_run.specs.declared.records.Lengths.{Lengths}
 use Rattle.stab_run.specs.Records.{ones}
 use Rattle.stab_run.specs.Points.{Point, RunOutput, origin, point_after, outputs}
-use Rattle.stab_run.specs.Laws.{AgreeAt}
 use Rattle.stab_run.specs.ProgramStates.{program_state}
 use Rattle.stab_run.proofs.PointLemmas.{flags-are-coins, records-are-records, front-output}
 use Rattle.stab_frames.specs.Flips.{flipped}
@@ -99,7 +98,7 @@ frame-begins n coins xs ys k c t o old base w qubits is kept run within same fro
         ∙ apart-behind base (point_after n coins (take c.step xs) origin).records (point_after n coins (take k ys) origin).records alike
         (omega (arith, within, ap length own, alike)) first
 
--- where a frame flips a record the two don't agree
+-- where a frame flips a record the two don't have the same
 
 flipped-ones : (bits flips : List Bool) → length flips ≡ length bits → bits ≡ flipped bits flips → ones flips ≡ 0
 flipped-ones [] [] size same = refl
@@ -115,6 +114,6 @@ ones-behind : (base : ℕ) (flips : List Bool) → ones (replicate base false ++
 ones-behind zero flips = refl
 ones-behind (suc base) flips = ones-behind base flips
 
-pub flips-differ : (n base : ℕ) (w : WalkState) (a b : Point) → PointsDifferBy n (frame_at base w) a b → 1 ≤ ones w.flips.records → AgreeAt n a b → ⊥
-flips-differ n base w a b framed some agree =
-    absurd (omega (arith, some, ones-behind base w.flips.records, flipped-ones a.records (replicate base false ++ w.flips.records) framed.count (agree.records ∙ framed.records)))
+pub flips-differ : (n base : ℕ) (w : WalkState) (a b : Point) → PointsDifferBy n (frame_at base w) a b → 1 ≤ ones w.flips.records → a.records ≡ b.records → ⊥
+flips-differ n base w a b framed some same =
+    absurd (omega (arith, some, ones-behind base w.flips.records, flipped-ones a.records (replicate base false ++ w.flips.records) framed.count (same ∙ framed.records)))

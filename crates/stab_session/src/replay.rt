@@ -1,4 +1,4 @@
-ghost use Rattle.std.specs.Prelude.{◌≡◌, ℕ, ◌+◌, ◌-◌, ◌*◌, ◌<◌, ◌≤◌, ◌^◌, ◌↔◌, [], ◌∷◌, ◌++◌, None, All, IsTrue, OnOk, IfOk, IfErr, length, take, drop};
+ghost use Rattle.std.specs.Prelude.{◌≡◌, ℕ, ◌+◌, ◌-◌, ◌*◌, ◌<◌, ◌≤◌, ◌^◌, ◌↔◌, ◌⊎◌, [], ◌∷◌, ◌++◌, None, All, IsTrue, OnOk, IfOk, IfErr, length, take, drop};
 ghost use Rattle.stab_io.specs.declared.refusal.Refusal.TheVariants.{OutOfMemory};
 ghost use Rattle.stab_tableau.specs.Groups.{SameGroup};
 ghost use Rattle.stab_tableau.specs.Tableaus.{stabilises};
@@ -7,7 +7,7 @@ ghost use Rattle.stab_circuit.specs.Views.{circuit_items};
 ghost use Rattle.stab_run.specs.Records.{ones};
 ghost use Rattle.stab_run.specs.Points.{all_coins_of};
 ghost use Rattle.stab_run.specs.ProgramStates.{StepFits, output_of};
-ghost use Rattle.stab_session.specs.inner.Replays.{IsAtStep, IsReplay, Ascending, Meets, copy_of, IsArrival, IsEnd, EndsSoon, IsAtStop, IsOnWay, copies_passed};
+ghost use Rattle.stab_session.specs.inner.Replays.{IsAtStep, IsReplay, Ascending, Meets, copy_of, IsArrival, IsEnd, EndsSoon, IsAtStop, IsOnWay, IsPlacedAt, copies_passed};
 ghost use Rattle.stab_session.specs.inner.FramedReplays.{IsOldRun};
 
 use crate::checkpoint::{Checkpoint, shifted};
@@ -124,7 +124,7 @@ impl<'a> Replay<'a> {
         ensures laid { self.new.laid.items ≡ self.old.laid.items }
         ensures same_coins { C.sequence coins.new ≡ C.sequence coins.old }
         ensures at_step { OnOk result (IsAtStep self.old.tableau.qubits (C.sequence coins.old) self.old.cursor.all self.new) }
-        ensures step { OnOk result (self.new.step ≡ stop) }
+        ensures step { self.new.step ≡ stop }
         ensures raised { self.old.notes.reach ≤ self.new.notes.reach }
         ensures records { OnOk result (self.old.outputs.records.items ≡ take (length self.old.outputs.records.items) self.new.outputs.records.items) }
         ensures counted { OnOk result (self.new.applied + self.old.step ≡ self.old.applied + stop) }
@@ -134,6 +134,8 @@ impl<'a> Replay<'a> {
         ensures asked { C.asks coins.new + all_coins_of (drop stop self.old.cursor.all) ≤ C.asks coins.old + all_coins_of (drop self.old.step self.old.cursor.all) }
         ensures err { IfErr result (λ r. r ≡ OutOfMemory) }
     {
+        let most = stop - self.step;
+        self.step = stop;
         run_noting(
             alloc,
             &mut self.tableau,
@@ -141,11 +143,10 @@ impl<'a> Replay<'a> {
             coins,
             &mut self.outputs,
             &mut self.cursor,
-            stop - self.step,
+            most,
             &mut self.applied,
             &mut self.notes,
         )?;
-        self.step = stop;
         Ok(())
     }
 
@@ -256,6 +257,8 @@ impl<'a> Replay<'a> {
         requires same_qubits { All (λ c. c.tableau.qubits ≡ self.old.tableau.qubits) copies.now }
         requires next { next ≤ length copies.now }
         requires ascending { Ascending plan self.old.step (drop next copies.now) }
+        requires base { plan.base ≤ length self.old.outputs.records.items }
+        requires same_records { take plan.base self.old.outputs.records.items ≡ take plan.base old.now.records.items }
         ensures same_coins { C.sequence coins.new ≡ C.sequence coins.old }
         ensures all { self.new.cursor.all ≡ self.old.cursor.all }
         ensures qubits { self.new.tableau.qubits ≡ self.old.tableau.qubits }
@@ -265,6 +268,7 @@ impl<'a> Replay<'a> {
         ensures asks_free { OnOk result (C.asks coins.new + ones self.old.outputs.free.items ≤ C.asks coins.old + ones self.new.outputs.free.items) }
         ensures asked { C.asks coins.new + all_coins_of (drop self.new.step self.old.cursor.all) ≤ C.asks coins.old + all_coins_of (drop self.old.step self.old.cursor.all) }
         ensures few_laid { IfOk result (λ later. plan.stride * length self.new.laid.items + plan.stride * next ≤ plan.stride * length self.old.laid.items + plan.stride * later) }
+        ensures stops { IfOk result (λ later. (self.old.step + plan.stride ≤ self.new.step) ⊎ ((self.new.step ≡ plan.total) ⊎ IsPlacedAt plan copies.now later self.new.step)) }
         ensures order { IfOk result (λ later. next ≤ later) }
         ensures further { self.old.step ≤ self.new.step }
         ensures err { IfErr result (λ r. r ≡ OutOfMemory) }
