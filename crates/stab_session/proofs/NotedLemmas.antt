@@ -177,7 +177,7 @@ pub ones-take : (c : ℕ) (bits : List Bool) → ones (take c bits) + ones (drop
 ones-take c bits = sym (ones-append (take c bits) (drop c bits)) ∙ ap ones (take-append-drop c bits)
 
 -- a bit that is 1 is counted
-counted : (t : ℕ) (bits : List Bool) → get_or bits t false ≡ true → ones (take t bits) < ones bits
+pub counted : (t : ℕ) (bits : List Bool) → get_or bits t false ≡ true → ones (take t bits) < ones bits
 counted t [] e = absurd (cc)
 counted zero (true ∷ bits) e = omega arith
 counted zero (false ∷ bits) e = absurd (cc)

@@ -1,4 +1,4 @@
-ghost use Rattle.std.specs.Prelude.{◌≡◌, ◌≢◌, ◌+◌, ◌^◌, ◌<◌, ◌≤◌, All, length, take, drop, OnOk, OnErr, IfOk, IfErr, IfSome};
+ghost use Rattle.std.specs.Prelude.{◌≡◌, ◌≢◌, ◌+◌, ◌-◌, ◌^◌, ◌<◌, ◌≤◌, All, length, take, drop, OnOk, OnErr, IfOk, IfErr, IfSome};
 ghost use Rattle.stab_io.specs.declared.refusal.Refusal.TheVariants.{OutOfMemory};
 ghost use Rattle.stab_tableau.specs.Tableaus.{stabilises};
 ghost use Rattle.stab_tableau.specs.Turns.{IsTurned};
@@ -63,7 +63,8 @@ fn append_framed(
         &mut outputs.additions,
         between(old.additions.as_slice(), from.additions, to.additions),
         between(walk.additions(), before.additions, walk.additions().len()),
-    )
+    )?;
+    Ok(())
 }
 
 /// A copy of a kept state, turned by letters, one a qubit.
@@ -133,9 +134,12 @@ impl<'a> Replay<'a> {
         ensures walk { IfOk result (λ found. IfSome found (IsFrameFrom self.old.tableau (output_of self.old.outputs) (output_of old.now) base copy.now)) }
         ensures err { IfErr result (λ r. r ≡ OutOfMemory) }
     {
-        let alike = self.outputs.free.len() == copy.lengths.free
-            && self.outputs.records.len() == copy.lengths.records;
-        if !alike || !copy.tableau.frame_to(&self.tableau, &mut self.string) {
+        if self.outputs.free.len() != copy.lengths.free
+            || self.outputs.records.len() != copy.lengths.records
+        {
+            return Ok(None);
+        }
+        if !copy.tableau.frame_to(&self.tableau, &mut self.string) {
             return Ok(None);
         }
         let mut walk = FrameWalk::new(
