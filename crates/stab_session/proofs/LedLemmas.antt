@@ -1,10 +1,11 @@
 -- Led replays: a replay that a frame led to the place of the next old copy is there, and differs still where the frame is not gone.
-use Rattle.std.proofs.Common.{◌≡◌, ◌≢◌, ℕ, ◌+◌, ◌-◌, ◌^◌, ◌<◌, ◌≤◌, refl, sym, ◌∙◌, ap, subst, Bool, List, ◌++◌, All, Option, Some, slice_get, IsSomeAnd, length, take, drop, arith}
-use Rattle.std.proofs.lemmas.List.{length-drop, length-append, take_at}
+use Rattle.std.proofs.Common.{◌≡◌, ◌≢◌, ℕ, ◌+◌, ◌-◌, ◌^◌, ◌<◌, ◌≤◌, refl, sym, ◌∙◌, ap, subst, Bool, List, [], ◌∷◌, ◌++◌, All, Option, Some, slice_get, IsSomeAnd, length, take, drop, arith}
+use Rattle.std.proofs.lemmas.List.{length-drop, length-append, drop-drop, take_at}
 use Rattle.std.proofs.lemmas.List.Elements.{All-get_or}
 use Rattle.std.proofs.lemmas.Option.{slice_get_within, get_or_from_slice_get}
+use Rattle.stab_pauli.specs.declared.letter.Letter.{Letter}
 use Rattle.stab_pauli.specs.Paulis.{Signed}
-use Rattle.stab_tableau.specs.Tableaus.{stabilises}
+use Rattle.stab_tableau.specs.Tableaus.{TableauState, stabilises}
 use Rattle.stab_tableau.specs.Turns.{IsTurned}
 use Rattle.stab_circuit.specs.Steps.{Step, most_steps}
 use Rattle.stab_run.specs.declared.records.Lengths.{Lengths}
@@ -13,18 +14,20 @@ use Rattle.stab_run.specs.Points.{Point, RunOutput, origin, joined, point_after,
 use Rattle.stab_run.specs.ProgramStates.{output_of}
 use Rattle.stab_run.proofs.RecordLemmas.{ones-append}
 use Rattle.stab_run.proofs.PointLemmas.{cut, front-output, records-are-records}
+use Rattle.stab_frames.specs.declared.noting.RunNotes.{RunNotes}
 use Rattle.stab_frames.specs.declared.steps.Stop.{Stop}
 use Rattle.stab_frames.specs.declared.steps.Stop.TheVariants.{Behind, NoString}
 use Rattle.stab_frames.specs.Flips.{flipped, flipped_output}
 use Rattle.stab_frames.specs.KeptStrings.{StringsState}
 use Rattle.stab_frames.specs.Walks.{WalkState, IsPlaced}
+use Rattle.stab_session.specs.declared.led.Passage.TheVariants.{Arrived, Passed}
 use Rattle.stab_session.specs.declared.checkpoint.Checkpoint.{Checkpoint}
 use Rattle.stab_session.specs.declared.replay.Plan.{Plan}
 use Rattle.stab_session.specs.declared.replay.Replay.{Replay}
 use Rattle.stab_session.specs.inner.Checkpoints.{IsCheckpoint}
-use Rattle.stab_session.specs.inner.Replays.{IsAtStep, Misses, step_among_new}
+use Rattle.stab_session.specs.inner.Replays.{IsAtStep, Misses, step_among_new, copy_of}
 use Rattle.stab_session.specs.inner.FramedReplays.{IsFramedAt, IsFramedOver, IsContinued, IsFrameFrom, WentOver, between, flips_since}
-use Rattle.stab_session.specs.inner.LedReplays.{IsBeside, IsAtCopy, IsLed, WentTo, with_cursor}
+use Rattle.stab_session.specs.inner.LedReplays.{IsBeside, IsAtCopy, IsLed, IsPassed, WentTo, with_cursor}
 use Rattle.stab_session.proofs.NotedLemmas.{coins-are, noted-more}
 use Rattle.stab_session.proofs.ReplayLemmas.{coins-few}
 use Rattle.stab_session.proofs.FrameStartLemmas.{frame-begins, flips-differ}
@@ -102,18 +105,18 @@ went-same n p c d o s r q t w v stop went output strings step framed = record {
   framed = framed ∙ went.framed;
 }
 
-module _ (n : ℕ) (coins : ℕ → Bool) (p : Plan) (ys : List Step) (copies : List Checkpoint) (o : RunOutput) (s : StringsState) (last number : ℕ) (c d : Checkpoint)
-    (from : slice_get copies last ≡ Some c) (to : slice_get copies number ≡ Some d) (few : length ys ≤ most_steps) (r : Replay) (w : WalkState) (led : IsLed n coins p ys copies o s last r w) where
+module _ {n : ℕ} {coins : ℕ → Bool} {p : Plan} {ys : List Step} {copies : List Checkpoint} {o : RunOutput} {s : StringsState} {last : ℕ} {c : Checkpoint} {r : Replay} {w : WalkState}
+    (number : ℕ) (d : Checkpoint) (from : slice_get copies last ≡ Some c) (to : slice_get copies number ≡ Some d) (few : length ys ≤ most_steps) (led : IsLed n coins p ys copies o s last r w) where
   here : IsAtCopy n coins p led.old.steps ys o.free r w c
   here = subst (λ m. IsSomeAnd m (IsAtCopy n coins p led.old.steps ys o.free r w)) from led.at_copy
 
   is : IsCheckpoint n coins led.old.steps c
   is = at-number (IsCheckpoint n coins led.old.steps) copies last c from led.old.are_copies
 
-  pub also : IsCheckpoint n coins led.old.steps d
+  also : IsCheckpoint n coins led.old.steps d
   also = at-number (IsCheckpoint n coins led.old.steps) copies number d to led.old.are_copies
 
-  pub letters-long : length w.letters ≡ n
+  letters-long : length w.letters ≡ n
   letters-long = here.framed.framed.size
 
   -- few coins and few steps
@@ -135,74 +138,110 @@ module _ (n : ℕ) (coins : ℕ → Bool) (p : Plan) (ys : List Step) (copies : 
   steps-between le =
       omega (arith, le, led.at_step.within, few, also.within, here.behind, ap length led.old.behind, length-drop p.old_end led.old.steps, length-drop p.new_end ys, led.old.old_within, led.old.new_within)
 
-  module _ (v : WalkState) (stop : Stop) (t : Replay) (went : WentOver n p c d o s r t w v stop) (told : stop ≢ NoString) where
+  module _ {q : Replay} {v : WalkState} {stop : Stop} (walked : WentOver (length w.letters) p c d o s r q w v stop) (told : stop ≢ NoString) where
+    went : WentOver n p c d o s r q w v stop
+    went = subst (λ m. WentOver m p c d o s r q w v stop) letters-long walked
+
     few-steps : length ys < 2 ^ 64
     few-steps = omega (arith, few)
 
-    pub step-there : t.step ≡ r.step + (d.step - c.step)
-    step-there =
-        there n coins p ys copies o s led.old c d is also here.behind went.order few-steps r here.place p.base w v here.framed led.at_step t stop went told
+    pub step-there : q.step ≡ r.step + (d.step - c.step)
+    step-there = there n coins p ys copies o s led.old c d is also here.behind went.order few-steps r here.place p.base w v here.framed led.at_step q stop went told
 
     over-it : IsFramedOver n coins led.old.steps ys c.step r.step (d.step - c.step) o.free p.base w v stop
-    over-it = over n coins p ys copies o s led.old c d is also here.behind went.order few-steps r here.place p.base w v here.framed led.at_step t stop went told
-
-    -- it is at the place of the copy
-    pub went-to : p.reach ≤ r.notes.reach → IsTurned n v.letters (stabilises d.tableau) (stabilises t.tableau) → t.tableau.qubits ≡ n → length t.string.letters ≡ n
-        → length t.notes.string.letters ≡ n → t.notes.reach ≡ r.notes.reach → WentTo n coins p ys r (with_cursor ys t) d
-    went-to raised turned qubits string scratch reach = record {
-      at_step =
-          at-copy n coins p ys copies o s led.old c d is also here.behind went.order few-steps r here.place p.base w v here.framed led.at_step (with_cursor ys t) stop
-          (went-same n p c d o s r t (with_cursor ys t) w v stop went refl refl refl refl) told
-          raised turned qubits string refl refl scratch reach;
-      step = went.step;
-      near = omega (arith, step-there, went.near);
-      records =
-          sym (ap (λ (q : RunOutput). take (length r.outputs.records.items) q.records) went.output
-          ∙ take_at r.outputs.records.items (flipped (between c.lengths d.lengths o).records (flips_since w v).records) (length r.outputs.records.items) refl);
-    }
+    over-it = over n coins p ys copies o s led.old c d is also here.behind went.order few-steps r here.place p.base w v here.framed led.at_step q stop went told
 
     -- with no fewer free outcomes
-    pub free-there : ones r.outputs.free.items ≤ ones t.outputs.free.items
+    pub free-there : ones r.outputs.free.items ≤ ones q.outputs.free.items
     free-there =
         omega (
           arith,
-          ap (λ (q : RunOutput). ones q.free) went.output,
+          ap (λ (x : RunOutput). ones x.free) went.output,
           ones-append r.outputs.free.items (flipped (between c.lengths d.lengths o).free (flips_since w v).free),
         )
 
+    -- which a frame that is not gone leads on from the next copy
     module _ (behind : stop ≡ Behind) (placed : IsPlaced o.free v) where
-      framed-there : (i k : ℕ) → i ≡ c.step + (d.step - c.step) → k ≡ r.step + (d.step - c.step) → IsFramedAt n coins led.old.steps ys i k o.free p.base v
-      framed-there i k old new =
-          subst (λ m. IsFramedAt n coins led.old.steps ys m k o.free p.base v) (sym old)
-          (subst (λ m. IsFramedAt n coins led.old.steps ys (c.step + (d.step - c.step)) m o.free p.base v) (sym new)
-          (over-it.goes_on behind placed))
+      framed-at : (k : ℕ) → k ≡ q.step → IsFramedAt n coins led.old.steps ys d.step k o.free p.base v
+      framed-at k at =
+          subst (λ m. IsFramedAt n coins led.old.steps ys m k o.free p.base v) {x = c.step + (d.step - c.step)} (let le = went.order in omega arith)
+          (subst (λ m. IsFramedAt n coins led.old.steps ys (c.step + (d.step - c.step)) m o.free p.base v) (sym (at ∙ step-there)) (over-it.goes_on behind placed))
 
-      framed-at : (k : ℕ) → k ≡ t.step → IsFramedAt n coins led.old.steps ys d.step k o.free p.base v
-      framed-at k at = framed-there d.step k (let le = went.order in omega arith) (at ∙ step-there)
-
-      -- from there it may be led on
-      pub led-on : (u : Replay) → IsAtStep n coins ys u → u.step ≡ t.step → p.reach ≤ u.notes.reach → IsLed n coins p ys copies o s number u v
-      led-on u at_step step raised = record {
+      led-on : (t : Replay) → IsAtStep n coins ys t → t.step ≡ q.step → p.reach ≤ t.notes.reach → IsLed n coins p ys copies o s number t v
+      led-on t at_step step raised = record {
         old = led.old;
         at_step = at_step;
         raised = raised;
         at_copy =
-            subst (λ m. IsSomeAnd m (IsAtCopy n coins p led.old.steps ys o.free u v)) (sym to)
+            subst (λ m. IsSomeAnd m (IsAtCopy n coins p led.old.steps ys o.free t v)) (sym to)
             (record {
               behind = let le = went.order in let first = here.behind in omega arith;
               place = sym went.step ∙ sym step;
-              framed = framed-at u.step step;
+              framed = framed-at t.step step;
             });
       }
 
       -- and where the frame flips a record the runs differ
-      pub differs : 1 ≤ ones v.flips.records → Misses n coins p ys o.records d
+      differs : 1 ≤ ones v.flips.records → Misses n coins p ys o.records d
       differs some xs same_copy kept agree =
           flips-differ n p.base v (point_after n coins (take d.step led.old.steps) origin) (point_after n coins (take (step_among_new p d) ys) origin)
           (framed-at (step_among_new p d) (sym went.step)).framed some
           (sym (records-are-records n coins (take d.step led.old.steps))
-          ∙ sym (ap (λ (q : RunOutput). q.records) (front-output n coins led.old.steps d.step))
+          ∙ sym (ap (λ (x : RunOutput). x.records) (front-output n coins led.old.steps d.step))
           ∙ (λ i. take (sym (ap (λ (l : Lengths). l.records) also.lengths) i) (sym led.old.output i).records)
           ∙ kept
           ∙ records-are-records n coins (take d.step xs)
           ∙ agree.records)
+
+    -- with the state that a turned copy is of
+    module _ {letters : List Letter} {kept : TableauState} (read : letters ≡ v.letters) (size : kept.qubits ≡ d.tableau.qubits)
+        (turned : IsTurned d.tableau.qubits letters (stabilises d.tableau) (stabilises kept)) where
+      pub qubits-there : (now : TableauState) → now ≡ kept → now.qubits ≡ n
+      qubits-there now same = ap (λ (x : TableauState). x.qubits) same ∙ size ∙ also.qubits
+
+      turned-there : (now : TableauState) → now ≡ kept → IsTurned n v.letters (stabilises d.tableau) (stabilises now)
+      turned-there now same =
+          subst (λ m. IsTurned m v.letters (stabilises d.tableau) (stabilises now)) also.qubits
+          (subst (λ x. IsTurned d.tableau.qubits v.letters (stabilises d.tableau) (stabilises x)) (sym same)
+          (subst (λ l. IsTurned d.tableau.qubits l (stabilises d.tableau) (stabilises kept)) read turned))
+
+      went-to : (t : Replay) → t.tableau ≡ kept → t.string ≡ r.string → output_of t.outputs ≡ output_of q.outputs → t.notes ≡ q.notes → t.cursor.all ≡ ys
+          → t.cursor.left ≡ drop t.step ys → t.step ≡ q.step → t.framed ≡ q.framed → q.notes.string ≡ r.notes.string → q.notes.reach ≡ r.notes.reach → WentTo n coins p ys r t d
+      went-to t tableau string output notes all left step framed scratch reach = record {
+        at_step =
+            at-copy n coins p ys copies o s led.old c d is also here.behind went.order few-steps r here.place p.base w v here.framed led.at_step t stop
+            (went-same n p c d o s r q t w v stop went output (ap (λ (x : RunNotes). x.strings) notes) step framed) told
+            led.raised (turned-there t.tableau tableau) (qubits-there t.tableau tableau) (ap (λ (x : Signed). length x.letters) string ∙ led.at_step.string) all left
+            (ap (λ (x : RunNotes). length x.string.letters) notes ∙ ap (λ (x : Signed). length x.letters) scratch ∙ led.at_step.scratch)
+            (ap (λ (x : RunNotes). x.reach) notes ∙ reach);
+        step = step ∙ went.step;
+        near = omega (arith, step, step-there, went.near);
+        records =
+            sym (ap (λ (x : RunOutput). take (length r.outputs.records.items) x.records) (output ∙ went.output)
+            ∙ take_at r.outputs.records.items (flipped (between c.lengths d.lengths o).records (flips_since w v).records) (length r.outputs.records.items) refl);
+      }
+
+      pub has-arrived : (t : Replay) → t.tableau ≡ kept → t.string ≡ r.string → output_of t.outputs ≡ output_of q.outputs → t.notes ≡ q.notes → t.step ≡ q.step
+          → t.framed ≡ q.framed → q.notes.string ≡ r.notes.string → q.notes.reach ≡ r.notes.reach → t.laid.items ≡ r.laid.items
+          → IsPassed n coins p ys copies o s number r t v Arrived
+      has-arrived t tableau string output notes step framed scratch reach laid = (
+        laid,
+        subst (λ m. IsSomeAnd m (WentTo n coins p ys r (with_cursor ys t))) (sym to)
+            (went-to (with_cursor ys t) tableau string output notes refl refl step framed scratch reach),
+      )
+
+      pub has-passed : (t : Replay) → t.tableau ≡ kept → t.string ≡ r.string → output_of t.outputs ≡ output_of q.outputs → t.notes ≡ q.notes → t.step ≡ q.step
+          → t.framed ≡ q.framed → q.notes.string ≡ r.notes.string → q.notes.reach ≡ r.notes.reach → t.laid.items ≡ r.laid.items ++ copy_of t ∷ []
+          → t.cursor.all ≡ ys → t.cursor.left ≡ drop (d.step - c.step) r.cursor.left → stop ≡ Behind → IsPlaced o.free v → 1 ≤ ones v.flips.records
+          → IsPassed n coins p ys copies o s number r t v Passed
+      has-passed t tableau string output notes step framed scratch reach laid all left behind placed some = (
+        laid,
+        subst (λ m. IsSomeAnd m (λ x. WentTo n coins p ys r t x × Misses n coins p ys o.records x)) (sym to) (there-now, differs behind placed some),
+        led-on behind placed t there-now.at_step step (omega (arith, led.raised, ap (λ (x : RunNotes). x.reach) notes, reach)),
+      )
+        where
+          there-now : WentTo n coins p ys r t d
+          there-now =
+              went-to t tableau string output notes all
+              (left ∙ ap (drop (d.step - c.step)) led.at_step.left ∙ drop-drop (d.step - c.step) r.step ys ∙ ap (λ k. drop k ys) (sym (step ∙ step-there)))
+              step framed scratch reach

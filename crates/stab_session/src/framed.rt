@@ -7,7 +7,7 @@ ghost use Rattle.stab_run.specs.ProgramStates.{StepFits, output_of};
 ghost use Rattle.stab_frames.specs.Flips.{flipped_output};
 ghost use Rattle.stab_frames.specs.KeptStrings.{kept_with};
 ghost use Rattle.stab_frames.specs.Walks.{IsPlaced};
-ghost use Rattle.stab_frames.specs.declared.steps.Stop.TheVariants.{NoString};
+ghost use Rattle.stab_frames.specs.declared.steps.Stop.TheVariants.{Behind, NoString};
 ghost use Rattle.stab_session.specs.inner.FramedReplays.{between as between_lengths, flips_behind, IsFrameFrom, WentOver};
 
 use crate::bits::{append_flipped, append_flipped_additions, between, count_ones};
@@ -190,6 +190,7 @@ impl<'a> Replay<'a> {
         ensures length { length walk.new.letters ≡ length walk.old.letters }
         ensures placed { OnOk result (IsPlaced old.now.free.items walk.new) }
         ensures stuck { IfOk result (λ stop. stop ≡ NoString → self.new ≡ record self.old { cursor = self.new.cursor }) }
+        ensures left { IfOk result (λ stop. stop ≡ Behind → self.new.cursor.left ≡ drop (to.now.step - from.now.step) self.old.cursor.left) }
         ensures refused { OnErr result (self.new.step ≡ self.old.step) }
         ensures went { IfOk result (λ stop. stop ≢ NoString → WentOver (length walk.old.letters) plan from.now to.now (output_of old.now) strings.now self.old self.new walk.old walk.new stop) }
         ensures err { IfErr result (λ r. r ≡ OutOfMemory) }
