@@ -54,6 +54,11 @@ lengths-within n coins xs o c is kept = (
     whole : o ≡ joined front back
     whole = kept ∙ cut n coins xs c.step
 
+pub beside-lengths : (n : ℕ) (coins : ℕ → Bool) (p : Plan) (ys : List Step) (copies : List Checkpoint) (o : RunOutput) (s : StringsState) (last : ℕ) (c : Checkpoint) (r : Replay)
+    → IsBeside n coins p ys copies o s r → slice_get copies last ≡ Some c → (c.lengths.free ≤ length o.free) × (c.lengths.records ≤ length o.records)
+beside-lengths n coins p ys copies o s last c r beside from =
+    lengths-within n coins beside.old.steps o c (at-number (IsCheckpoint n coins beside.old.steps) copies last c from beside.old.are_copies) beside.old.output
+
 -- a frame found at the place of an old copy may lead the replay from there
 pub led-from : (n : ℕ) (coins : ℕ → Bool) (p : Plan) (ys : List Step) (copies : List Checkpoint) (o : RunOutput) (s : StringsState) (last : ℕ) (c : Checkpoint) (r : Replay)
     (string : Signed) (reach : ℕ) (w : WalkState) → IsBeside n coins p ys copies o s r → slice_get copies last ≡ Some c → p.old_end ≤ c.step → step_among_new p c ≡ r.step

@@ -5,11 +5,15 @@ use Rattle.std.proofs.lemmas.List.{length-append}
 use Rattle.std.proofs.lemmas.Option.{none-some, same_Some}
 use Rattle.stab_circuit.specs.Steps.{Step}
 use Rattle.stab_run.specs.Records.{ones}
+use Rattle.stab_run.specs.Points.{RunOutput}
+use Rattle.stab_frames.specs.KeptStrings.{StringsState}
+use Rattle.stab_frames.specs.Walks.{WalkState}
+use Rattle.stab_session.specs.declared.led.Passage.{Passage}
 use Rattle.stab_session.specs.declared.checkpoint.Checkpoint.{Checkpoint}
 use Rattle.stab_session.specs.declared.replay.Plan.{Plan}
 use Rattle.stab_session.specs.declared.replay.Replay.{Replay}
 use Rattle.stab_session.specs.inner.Replays.{IsAtStep, Ascending, Misses, IsAtStop, IsOnWay, step_among_new, copy_of}
-use Rattle.stab_session.specs.inner.LedReplays.{WentTo, LedOn, with_cursor}
+use Rattle.stab_session.specs.inner.LedReplays.{IsLed, IsPassed, WentTo, LedOn, with_cursor}
 use Rattle.stab_session.proofs.ReplayLemmas.{ascending-end, ascending-stop, later-ascending, on-stop, past, with-laid}
 
 -- the element of which something is so
@@ -36,6 +40,19 @@ cursor-there n coins ys r at = λ i. record r { cursor = record { all = sym at.a
 
 pub cursor-only : (ys : List Step) (r s : Replay) → s ≡ record r { cursor = s.cursor } → with_cursor ys s ≡ with_cursor ys r
 cursor-only ys r s same = ap (with_cursor ys) same
+
+-- the same number of qubits and the same steps, by other names
+
+pub led-moved : (m n : ℕ) (coins : ℕ → Bool) (p : Plan) (zs ys : List Step) (copies : List Checkpoint) (o : RunOutput) (s : StringsState) (number : ℕ) (r : Replay) (w : WalkState)
+    → m ≡ n → zs ≡ ys → IsLed n coins p ys copies o s number r w → IsLed m coins p zs copies o s number r w
+led-moved m n coins p zs ys copies o s number r w qubits steps led =
+    subst (λ k. IsLed k coins p zs copies o s number r w) (sym qubits) (subst (λ xs. IsLed n coins p xs copies o s number r w) (sym steps) led)
+
+pub passed-moved : (m n : ℕ) (coins : ℕ → Bool) (p : Plan) (zs ys : List Step) (copies : List Checkpoint) (o : RunOutput) (s : StringsState) (number : ℕ) (r t : Replay) (w : WalkState)
+    (a b : Passage) → m ≡ n → zs ≡ ys → a ≡ b → IsPassed m coins p zs copies o s number r t w a → IsPassed n coins p ys copies o s number r t w b
+passed-moved m n coins p zs ys copies o s number r t w a b qubits steps is passed =
+    subst (λ k. IsPassed k coins p ys copies o s number r t w b) qubits
+    (subst (λ xs. IsPassed m coins p xs copies o s number r t w b) steps (subst (IsPassed m coins p zs copies o s number r t w) is passed))
 
 -- how far a frame led, in parts
 
