@@ -1,15 +1,17 @@
--- Starts of frames: the frame by which a replay differs from an old copy, and that the two don't agree where it flips a record.
+-- Starts of frames: the frame by which a replay differs from an old copy, and that the two don't have the same records where it flips one.
 use Rattle.std.proofs.Common.{◌≡◌, ℕ, zero, suc, ◌+◌, ◌-◌, ◌<◌, ◌≤◌, refl, sym, ◌∙◌, ap, subst, Bool, true, false, not, List, [], ◌∷◌, ◌++◌, length, take, drop, get_or, replicate, arith}
 use Rattle.std.proofs.lemmas.List.{take_all}
+use Rattle.stab_pauli.specs.declared.letter.Letter.TheVariants.{I}
 use Rattle.stab_pauli.specs.Letters.{◌⊕◌}
-use Rattle.stab_pauli.specs.Paulis.{with_sign, strings_anticommute}
+use Rattle.stab_pauli.specs.Paulis.{Signed, with_sign, strings_anticommute, string_product}
+use Rattle.stab_pauli.proofs.StringLemmas.{string_product-blank}
 use Rattle.stab_tableau.specs.Traces.{member}
 use Rattle.stab_tableau.specs.Tableaus.{TableauState, stabilises}
+use Rattle.stab_tableau.specs.Turns.{IsTurned}
 use Rattle.stab_circuit.specs.Steps.{Step}
 use Rattle.stab_run.specs.declared.records.Lengths.{Lengths}
 use Rattle.stab_run.specs.Records.{ones}
-use Rattle.stab_run.specs.Points.{Point, RunOutput, origin, point_after, outputs}
-use Rattle.stab_run.specs.Laws.{AgreeAt}
+use Rattle.stab_run.specs.Points.{Point, RunOutput, nothing, origin, point_after, outputs}
 use Rattle.stab_run.specs.ProgramStates.{program_state}
 use Rattle.stab_run.proofs.PointLemmas.{flags-are-coins, records-are-records, front-output}
 use Rattle.stab_frames.specs.Flips.{flipped}
@@ -33,6 +35,40 @@ apart-behind (suc base) (a ∷ bits) [] size le same = absurd (omega (arith, siz
 apart-behind (suc base) (a ∷ bits) (b ∷ others) size le same =
     λ i. same-bit a b (ap (λ l. get_or l 0 false) same) i
     ∷ apart-behind base bits others (omega (arith, size)) (omega arith) (ap (drop 1) same) i
+
+-- the frame found from an old copy
+pub frame-found : (t : TableauState) (o old : RunOutput) (base n : ℕ) (c : Checkpoint) (string : Signed) (bits others : List Bool) (v u w : WalkState) → n ≡ t.qubits
+    → c.tableau.qubits ≡ t.qubits → length string.letters ≡ t.qubits → IsTurned c.tableau.qubits string.letters (stabilises c.tableau) (stabilises t)
+    → length o.free ≡ c.lengths.free → length o.records ≡ c.lengths.records
+    → v ≡ record { letters = replicate n I; flips = nothing; coin = c.lengths.free; number = ones (take c.lengths.free old.free) }
+    → u ≡ record v { letters = string_product v.letters string.letters }
+    → bits ≡ drop base (take c.lengths.records old.records) → others ≡ drop base (take c.lengths.records o.records)
+    → w ≡ record u { flips = record u.flips { records = u.flips.records ++ flipped bits others } } → IsFrameFrom t o old base c w
+frame-found t o old base n c string bits others v u w qubits alike long turned coins records begun times bits_are others_are flips = record {
+  size = ap length letters ∙ long;
+  turned = subst (λ m. IsTurned m w.letters (stabilises c.tableau) (stabilises t)) alike (subst (λ l. IsTurned c.tableau.qubits l (stabilises c.tableau) (stabilises t)) (sym letters) turned);
+  coin_count = coins;
+  count = records;
+  flips =
+      ap (λ (x : WalkState). x.flips) flips
+      ∙ ap (λ (x : WalkState). record x.flips { records = x.flips.records ++ flipped bits others }) (times ∙ ap (λ (x : WalkState). record x { letters = string_product x.letters string.letters }) begun)
+      ∙ (λ i. record nothing { records = flipped (bits_are i) (others_are i) });
+  coin = coin;
+  placed =
+      ap (λ (x : WalkState). x.number) (flips ∙ ap (λ (x : WalkState). record x { flips = record x.flips { records = x.flips.records ++ flipped bits others } }) times)
+      ∙ ap (λ (x : WalkState). x.number) begun
+      ∙ ap (λ m. ones (take m old.free)) (sym coin);
+}
+  where
+    letters : w.letters ≡ string.letters
+    letters =
+        ap (λ (x : WalkState). x.letters) flips
+        ∙ ap (λ (x : WalkState). x.letters) times
+        ∙ ap (λ (x : WalkState). string_product x.letters string.letters) begun
+        ∙ string_product-blank n string.letters (long ∙ sym qubits)
+
+    coin : w.coin ≡ c.lengths.free
+    coin = ap (λ (x : WalkState). x.coin) flips ∙ ap (λ (x : WalkState). x.coin) times ∙ ap (λ (x : WalkState). x.coin) begun
 
 -- the frame from an old copy is one between the points of both runs
 pub frame-begins : (n : ℕ) (coins : ℕ → Bool) (xs ys : List Step) (k : ℕ) (c : Checkpoint) (t : TableauState) (o old : RunOutput) (base : ℕ) (w : WalkState)
@@ -99,7 +135,7 @@ frame-begins n coins xs ys k c t o old base w qubits is kept run within same fro
         ∙ apart-behind base (point_after n coins (take c.step xs) origin).records (point_after n coins (take k ys) origin).records alike
         (omega (arith, within, ap length own, alike)) first
 
--- where a frame flips a record the two don't agree
+-- where a frame flips a record the two don't have the same
 
 flipped-ones : (bits flips : List Bool) → length flips ≡ length bits → bits ≡ flipped bits flips → ones flips ≡ 0
 flipped-ones [] [] size same = refl
@@ -115,6 +151,6 @@ ones-behind : (base : ℕ) (flips : List Bool) → ones (replicate base false ++
 ones-behind zero flips = refl
 ones-behind (suc base) flips = ones-behind base flips
 
-pub flips-differ : (n base : ℕ) (w : WalkState) (a b : Point) → PointsDifferBy n (frame_at base w) a b → 1 ≤ ones w.flips.records → AgreeAt n a b → ⊥
-flips-differ n base w a b framed some agree =
-    absurd (omega (arith, some, ones-behind base w.flips.records, flipped-ones a.records (replicate base false ++ w.flips.records) framed.count (agree.records ∙ framed.records)))
+pub flips-differ : (n base : ℕ) (w : WalkState) (a b : Point) → PointsDifferBy n (frame_at base w) a b → 1 ≤ ones w.flips.records → a.records ≡ b.records → ⊥
+flips-differ n base w a b framed some same =
+    absurd (omega (arith, some, ones-behind base w.flips.records, flipped-ones a.records (replicate base false ++ w.flips.records) framed.count (same ∙ framed.records)))

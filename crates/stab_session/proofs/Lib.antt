@@ -20,4 +20,6 @@ mod FrameStartLemmas
 mod FramedStepLemmas
 mod NotedSegmentLemmas
 mod OverCopyLemmas
+mod LedLemmas
+mod LedWayLemmas
 mod NotedLemmas

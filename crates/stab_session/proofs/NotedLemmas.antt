@@ -177,7 +177,7 @@ pub ones-take : (c : ℕ) (bits : List Bool) → ones (take c bits) + ones (drop
 ones-take c bits = sym (ones-append (take c bits) (drop c bits)) ∙ ap ones (take-append-drop c bits)
 
 -- a bit that is 1 is counted
-counted : (t : ℕ) (bits : List Bool) → get_or bits t false ≡ true → ones (take t bits) < ones bits
+pub counted : (t : ℕ) (bits : List Bool) → get_or bits t false ≡ true → ones (take t bits) < ones bits
 counted t [] e = absurd (cc)
 counted zero (true ∷ bits) e = omega arith
 counted zero (false ∷ bits) e = absurd (cc)
@@ -321,6 +321,17 @@ module _ (n : ℕ) (coins : ℕ → Bool) (xs : List Step) (s : StringsState) (f
                 let lt = h.1 in
                 (omega (arith, long, most, lt, noted.numbered, few), omega (arith, most, noted.within))
           ]
+
+-- with a greater reach
+pub noted-more : (n : ℕ) (coins : ℕ → Bool) (xs : List Step) (s : StringsState) (free : List Bool) (reach more : ℕ) → reach ≤ more → IsNoted n coins xs s free reach
+    → IsNoted n coins xs s free more
+noted-more n coins xs s free reach more raised noted = record {
+  size = noted.size;
+  within = noted.within;
+  numbered = noted.numbered;
+  are_true = noted.are_true;
+  near = within-more reach more xs raised noted.near;
+}
 
 -- a run that goes on, and notes its strings
 pub noted-on : (n : ℕ) (coins : ℕ → Bool) (xs zs : List Step) (s t : StringsState) (old new : ProgramState) (before after : ℕ) → IsNoted n coins xs s old.output.free before

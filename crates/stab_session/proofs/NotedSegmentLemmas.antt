@@ -1,7 +1,7 @@
 -- Noted segments: the strings of a run that goes on as another did, up to the next copy of that one.
-use Rattle.std.proofs.Common.{◌≡◌, ℕ, zero, suc, ◌+◌, ◌-◌, ◌<◌, ◌≤◌, min, refl, sym, ◌∙◌, ap, subst, Bool, ◌⊎◌, inl, inr, List, [], ◌∷◌, ◌++◌, length, take, drop, arith}
+use Rattle.std.proofs.Common.{◌≡◌, ℕ, zero, suc, ◌+◌, ◌-◌, ◌^◌, ◌<◌, ◌≤◌, min, refl, sym, ◌∙◌, ap, subst, Bool, ◌⊎◌, inl, inr, List, [], ◌∷◌, ◌++◌, length, take, drop, arith}
 use Rattle.std.proofs.lemmas.Bool.{cases_lt}
-use Rattle.std.proofs.lemmas.List.{length-append, length-drop, take-take, drop-take}
+use Rattle.std.proofs.lemmas.List.{length-append, length-take, length-drop, take-take, drop-take}
 use Rattle.stab_pauli.specs.declared.letter.Letter.{Letter}
 use Rattle.stab_tableau.specs.Traces.{member}
 use Rattle.stab_tableau.specs.Turns.{IsTurned}
@@ -11,6 +11,7 @@ use Rattle.stab_run.specs.Points.{RunOutput, origin, point_after, outputs}
 use Rattle.stab_run.proofs.RecordLemmas.{ones-append}
 use Rattle.stab_run.proofs.PointLemmas.{flags-are-coins, front-output}
 use Rattle.stab_frames.specs.KeptStrings.{StringsState, kept_with, front_kept}
+use Rattle.stab_frames.proofs.WalkLemmas.{ones-few}
 use Rattle.stab_session.specs.inner.Replays.{IsNoted}
 use Rattle.stab_session.specs.inner.Prepared.{IsSpliced}
 use Rattle.stab_session.specs.inner.FramedReplays.{IsContinued}
@@ -21,6 +22,22 @@ length-cut : (k : ℕ) (xs : List (List Letter)) → length (take k xs) ≡ min 
 length-cut zero xs = omega arith
 length-cut (suc k) [] = omega arith
 length-cut (suc k) (x ∷ xs) = omega (arith, length-cut k xs)
+
+-- the number of a free outcome and how many follow up to a copy are few
+pub numbers-few : (number coin count from to : ℕ) (free : List Bool) → number ≡ ones (take coin free) → count ≡ ones (drop from (take to free)) → length free < 2 ^ 63
+    → number + count < 2 ^ 64
+numbers-few number coin count from to free is counts few =
+    omega (
+      arith,
+      is,
+      counts,
+      few,
+      ones-few (take coin free),
+      length-take coin free,
+      ones-few (drop from (take to free)),
+      length-drop from (take to free),
+      length-take to free,
+    )
 
 -- they are numbered where those before are
 spliced-front : (s t u : StringsState) (from end before all : ℕ) → IsContinued t s from end u → length t.strings ≡ min before t.most → from ≤ end → all ≡ before + (end - from)

@@ -52,7 +52,7 @@ module _ (n : ℕ) (coins : ℕ → Bool) (p : Plan) (ys : List Step) (copies : 
   further : d.step ≡ c.step + (d.step - c.step)
   further = omega (arith, order)
 
-  there : q.step ≡ r.step + (d.step - c.step)
+  pub there : q.step ≡ r.step + (d.step - c.step)
   there = omega (arith, went.step, here, also.within, same-rest, old.old_within, old.new_within, behind, order, few)
 
   pub over : IsFramedOver n coins old.steps ys c.step r.step (d.step - c.step) o.free base w v stop

@@ -157,7 +157,7 @@ agree-meets n reach coins xs zs c t o records run h kept agree = record {
 
 -- where the next copy stands
 
-ascending-end : (p : Plan) (step : ℕ) (cs : List Checkpoint) → Ascending p step cs → step ≤ p.total
+pub ascending-end : (p : Plan) (step : ℕ) (cs : List Checkpoint) → Ascending p step cs → step ≤ p.total
 ascending-end p step [] h = h
 ascending-end p step (c ∷ cs) h = let le = ascending-end p (step_among_new p c) cs h.1 in omega arith
 
@@ -173,7 +173,7 @@ pub place-behind : (p : Plan) (step k : ℕ) (cs : List Checkpoint) (place : Opt
 place-behind p step k cs place e h = subst (λ o. IfSome o (λ q. step ≤ q)) (sym e) (next-behind p step k cs h)
 
 -- and may stop there at the latest
-ascending-stop : (p : Plan) (step stop k : ℕ) (cs : List Checkpoint) → Ascending p step (drop k cs) → stop ≤ p.total
+pub ascending-stop : (p : Plan) (step stop k : ℕ) (cs : List Checkpoint) → Ascending p step (drop k cs) → stop ≤ p.total
     → IfSome (option_map (step_among_new p) (slice_get cs k)) (λ q. stop ≤ q) → Ascending p stop (drop k cs)
 ascending-stop p step stop zero [] h within before = within
 ascending-stop p step stop (suc k) [] h within before = within
@@ -201,7 +201,7 @@ later-within [] k P h = absurd h
 later-within (c ∷ cs) zero P h = omega arith
 later-within (c ∷ cs) (suc k) P h = let le = later-within cs k P h in omega arith
 
-later-ascending : (p : Plan) (step k : ℕ) (cs : List Checkpoint) → Ascending p step (drop k cs) → IsPlacedAt p cs k step → Ascending p step (drop (k + 1) cs)
+pub later-ascending : (p : Plan) (step k : ℕ) (cs : List Checkpoint) → Ascending p step (drop k cs) → IsPlacedAt p cs k step → Ascending p step (drop (k + 1) cs)
 later-ascending p step zero [] h place = absurd place
 later-ascending p step (suc k) [] h place = absurd place
 later-ascending p step zero (c ∷ cs) h place = subst (λ m. Ascending p m cs) place h.1
@@ -262,14 +262,12 @@ module _ (n : ℕ) (coins : ℕ → Bool) (begin : ℕ) (p : Plan) (ys : List St
   missed r (Some c) h place apart = misses r c h place apart
 
   -- so that one was missed as those before it were
-  all-missed : (next : ℕ) (r : Replay) → IsAtStop n coins begin p ys copies old next r → IfSome (slice_get copies next) (λ c. step_among_new p c ≡ r.step)
-      → IfSome (slice_get copies next) (λ c. MeetsAt n p r old c → ⊥) → (number : ℕ) → p.next ≤ number → number < next + 1
-      → IfSome (slice_get copies number) (Misses n coins p ys old)
-  all-missed next r h place apart number from before =
+  all-missed : (next : ℕ) (r : Replay) → IsAtStop n coins begin p ys copies old next r → IfSome (slice_get copies next) (Misses n coins p ys old)
+      → (number : ℕ) → p.next ≤ number → number < next + 1 → IfSome (slice_get copies number) (Misses n coins p ys old)
+  all-missed next r h apart number from before =
       elim (cases_lt number next) [
         | inl lt ↦ h.missed number from lt
-        | inr le ↦ subst (λ k. IfSome (slice_get copies k) (Misses n coins p ys old)) (omega (arith, le, before))
-            (missed r (slice_get copies next) h.replay.at_step place apart)
+        | inr le ↦ subst (λ k. IfSome (slice_get copies k) (Misses n coins p ys old)) (omega (arith, le, before)) apart
       ]
 
   -- and wherever it ends, it missed each copy that stands before its step
@@ -281,8 +279,8 @@ module _ (n : ℕ) (coins : ℕ → Bool) (begin : ℕ) (p : Plan) (ys : List St
       ]
 
   -- before it the replay goes on, where it passed a copy with the one after it next
-  past : (next : ℕ) (r : Replay) → IsAtStop n coins begin p ys copies old next r → IsPlacedAt p copies next r.step
-      → IfSome (slice_get copies next) (λ c. MeetsAt n p r old c → ⊥) → IsAtStop n coins begin p ys copies old (next + 1) r
+  pub past : (next : ℕ) (r : Replay) → IsAtStop n coins begin p ys copies old next r → IsPlacedAt p copies next r.step
+      → IfSome (slice_get copies next) (Misses n coins p ys old) → IsAtStop n coins begin p ys copies old (next + 1) r
   past next r h placed apart = record {
     replay = h.replay;
     counted = h.counted;
@@ -291,11 +289,11 @@ module _ (n : ℕ) (coins : ℕ → Bool) (begin : ℕ) (p : Plan) (ys : List St
     ascending = later-ascending p r.step next copies h.ascending placed;
     base = h.base;
     same = h.same;
-    missed = all-missed next r h (if-some (slice_get copies next) (λ c. step_among_new p c ≡ r.step) placed) apart;
+    missed = all-missed next r h apart;
   }
 
   -- with a copy laid at its step
-  with-laid : (next : ℕ) (r s : Replay) → IsAtStop n coins begin p ys copies old next r → s.laid.items ≡ r.laid.items ++ copy_of r ∷ []
+  pub with-laid : (next : ℕ) (r s : Replay) → IsAtStop n coins begin p ys copies old next r → s.laid.items ≡ r.laid.items ++ copy_of r ∷ []
       → IsOnWay n coins begin p ys copies old next (record r { laid = s.laid })
   with-laid next r s h laid = record {
     stop = record {
@@ -339,7 +337,9 @@ module _ (n : ℕ) (coins : ℕ → Bool) (begin : ℕ) (p : Plan) (ys : List St
       there =
           elim arrival.2 [
             | inl same ↦ subst (λ k. IsAtStop n coins begin p ys copies old k r) (sym same.0) h
-            | inr placed ↦ subst (λ k. IsAtStop n coins begin p ys copies old k r) (sym placed.0) (past next r h placed.1 arrival.1)
+            | inr placed ↦ subst (λ k. IsAtStop n coins begin p ys copies old k r) (sym placed.0)
+                (past next r h placed.1
+                (missed r (slice_get copies next) h.replay.at_step (if-some (slice_get copies next) (λ c. step_among_new p c ≡ r.step) placed.1) arrival.1))
           ]
 
 -- where it goes on it went a stride, or passed the copy

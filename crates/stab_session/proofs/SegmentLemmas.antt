@@ -66,6 +66,28 @@ is-left Behind = ⊥
 is-left Gone = Unit {0}
 is-left NoString = Unit {0}
 
+-- how far a walk went that went over all
+drop-taken : (k : ℕ) (xs : List Step) → drop (length (take k xs)) xs ≡ drop k xs
+drop-taken zero xs = refl
+drop-taken (suc k) [] = refl
+drop-taken (suc k) (x ∷ xs) = drop-taken k xs
+
+pub left-behind : (n reach steps k : ℕ) (xs ys : List Step) (w : WalkState) (stop : Stop) → IsStop n reach steps (length (take k xs)) w stop → stop ≡ Behind
+    → (stop ≢ NoString → ys ≡ drop steps xs) → ys ≡ drop k xs
+left-behind n reach steps k xs ys w stop is behind left =
+    left (λ e. is-told (sym behind ∙ e))
+    ∙ ap (λ m. drop m xs) (subst (IsStop n reach steps (length (take k xs)) w) behind is)
+    ∙ drop-taken k xs
+  where
+    is-told : Behind ≡ NoString → ⊥
+    is-told e = subst is-left (sym e) tt
+
+-- one that is neither gone nor without a string went over all
+pub all-else : (stop : Stop) → stop ≢ NoString → stop ≢ Gone → stop ≡ Behind
+all-else Behind told still = refl
+all-else Gone told still = absurd (still refl)
+all-else NoString told still = absurd (told refl)
+
 module _ (n : ℕ) (coins : ℕ → Bool) (xs ys : List Step) (i k len : ℕ) (same : drop i xs ≡ drop k ys) (within : i + len ≤ length xs)
     (strings : ℕ → Option (List Letter)) (free : List Bool) (flags : free ≡ (outputs n coins xs origin).free) (are_true : AreTrue n coins strings xs origin)
     (fits : All (StepFits n) xs) (reach : ℕ) (near : All (LooksWithin reach) xs)

@@ -5,3 +5,4 @@ pub mod Checkpoints
 pub mod Replays
 pub mod Prepared
 pub mod FramedReplays
+pub mod LedReplays

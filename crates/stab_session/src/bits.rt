@@ -25,7 +25,8 @@ pub fn append_flipped(to: &mut Vec<bool>, bits: &[bool], flips: &[bool]) -> Resu
         to.push(flips[place] ^ bits[place])?;
     }
     let (_, rest) = bits.split_at(count);
-    to.extend_from_slice(rest)
+    to.extend_from_slice(rest)?;
+    Ok(())
 }
 
 /// Appends additions, whose bits are inverted where those of the flips are 1.
@@ -44,7 +45,8 @@ pub fn append_flipped_additions(
         })?;
     }
     let (_, rest) = additions.split_at(count);
-    to.extend_from_slice(rest)
+    to.extend_from_slice(rest)?;
+    Ok(())
 }
 
 /// The elements of a list from one place to another.

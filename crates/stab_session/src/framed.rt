@@ -1,4 +1,4 @@
-ghost use Rattle.std.specs.Prelude.{◌≡◌, ◌≢◌, ◌+◌, ◌^◌, ◌<◌, ◌≤◌, All, length, take, drop, OnOk, IfOk, IfErr, IfSome};
+ghost use Rattle.std.specs.Prelude.{◌≡◌, ◌≢◌, ◌+◌, ◌-◌, ◌^◌, ◌<◌, ◌≤◌, All, length, take, drop, OnOk, OnErr, IfOk, IfErr, IfSome};
 ghost use Rattle.stab_io.specs.declared.refusal.Refusal.TheVariants.{OutOfMemory};
 ghost use Rattle.stab_tableau.specs.Tableaus.{stabilises};
 ghost use Rattle.stab_tableau.specs.Turns.{IsTurned};
@@ -7,28 +7,18 @@ ghost use Rattle.stab_run.specs.ProgramStates.{StepFits, output_of};
 ghost use Rattle.stab_frames.specs.Flips.{flipped_output};
 ghost use Rattle.stab_frames.specs.KeptStrings.{kept_with};
 ghost use Rattle.stab_frames.specs.Walks.{IsPlaced};
-ghost use Rattle.stab_frames.specs.declared.steps.Stop.TheVariants.{NoString};
+ghost use Rattle.stab_frames.specs.declared.steps.Stop.TheVariants.{Behind, NoString};
 ghost use Rattle.stab_session.specs.inner.FramedReplays.{between as between_lengths, flips_behind, IsFrameFrom, WentOver};
 
-use crate::bits::{append_flipped, append_flipped_additions, between, count_ones, has_one};
+use crate::bits::{append_flipped, append_flipped_additions, between, count_ones};
 use crate::checkpoint::{Checkpoint, shifted};
 use crate::replay::{Plan, Replay};
-use stab_circuit::{Circuit, Cursor};
 use stab_frames::{FrameWalk, KeptStrings, Stop, walk_steps};
 use stab_io::Refusal;
 use stab_pauli::Letter;
 use stab_run::{Lengths, Outputs};
 use stab_tableau::CompactTableau;
 use std::alloc::{AllocError, Global};
-
-/// How far a frame led a replay.
-#[derive(Clone, Copy)]
-pub struct Led {
-    /// The first old copy that it did not pass.
-    pub next: usize,
-    /// Whether the replay is at the place of that one.
-    pub there: bool,
-}
 
 /// How many records, detectors and additions a frame has gone over.
 fn lengths_walked(walk: &FrameWalk) -> Lengths
@@ -73,13 +63,14 @@ fn append_framed(
         &mut outputs.additions,
         between(old.additions.as_slice(), from.additions, to.additions),
         between(walk.additions(), before.additions, walk.additions().len()),
-    )
+    )?;
+    Ok(())
 }
 
 /// A copy of a kept state, turned by letters, one a qubit.
 ///
 /// Refusal `OutOfMemory` alone.
-fn turned_copy(
+pub fn turned_copy(
     alloc: Global,
     copy: &CompactTableau,
     letters: &[Letter],
@@ -127,7 +118,7 @@ impl<'a> Replay<'a> {
     /// have the same letters. So many records are those of the old run.
     ///
     /// Refusal `OutOfMemory` alone.
-    fn frame_from(
+    pub fn frame_from(
         &mut self,
         alloc: Global,
         copy: &Checkpoint,
@@ -143,9 +134,12 @@ impl<'a> Replay<'a> {
         ensures walk { IfOk result (λ found. IfSome found (IsFrameFrom self.old.tableau (output_of self.old.outputs) (output_of old.now) base copy.now)) }
         ensures err { IfErr result (λ r. r ≡ OutOfMemory) }
     {
-        let alike = self.outputs.free.len() == copy.lengths.free
-            && self.outputs.records.len() == copy.lengths.records;
-        if !alike || !copy.tableau.frame_to(&self.tableau, &mut self.string) {
+        if self.outputs.free.len() != copy.lengths.free
+            || self.outputs.records.len() != copy.lengths.records
+        {
+            return Ok(None);
+        }
+        if !copy.tableau.frame_to(&self.tableau, &mut self.string) {
             return Ok(None);
         }
         let mut walk = FrameWalk::new(
@@ -170,7 +164,7 @@ impl<'a> Replay<'a> {
     /// `NoString` where it can't, since a string is missing or the copy is too far.
     ///
     /// Refusal `OutOfMemory` alone.
-    fn frame_to(
+    pub fn frame_to(
         &mut self,
         alloc: Global,
         old: &Outputs,
@@ -185,7 +179,7 @@ impl<'a> Replay<'a> {
         requires fits { All (StepFits (length walk.old.letters)) self.old.cursor.left }
         requires placed { IsPlaced old.now.free.items walk.old }
         requires few { walk.old.coin + length self.old.cursor.left < 2 ^ 63 }
-        requires few_framed { self.old.framed + to.now.step < 2 ^ 63 }
+        requires few_framed { self.old.framed + (to.now.step - from.now.step) < 2 ^ 63 }
         ensures tableau { self.new.tableau ≡ self.old.tableau }
         ensures string { self.new.string ≡ self.old.string }
         ensures laid { self.new.laid.items ≡ self.old.laid.items }
@@ -195,11 +189,14 @@ impl<'a> Replay<'a> {
         ensures scratch { self.new.notes.string ≡ self.old.notes.string }
         ensures length { length walk.new.letters ≡ length walk.old.letters }
         ensures placed { OnOk result (IsPlaced old.now.free.items walk.new) }
+        ensures stuck { IfOk result (λ stop. stop ≡ NoString → self.new ≡ record self.old { cursor = self.new.cursor }) }
+        ensures left { IfOk result (λ stop. stop ≡ Behind → self.new.cursor.left ≡ drop (to.now.step - from.now.step) self.old.cursor.left) }
+        ensures refused { OnErr result (self.new.step ≡ self.old.step) }
         ensures went { IfOk result (λ stop. stop ≢ NoString → WentOver (length walk.old.letters) plan from.now to.now (output_of old.now) strings.now self.old self.new walk.old walk.new stop) }
         ensures err { IfErr result (λ r. r ≡ OutOfMemory) }
     {
         let steps = to.step.saturating_sub(from.step);
-        if steps > plan.stride {
+        if to.step < from.step || steps > plan.stride {
             return Ok(Stop::NoString);
         }
         let before = lengths_walked(walk);
@@ -234,79 +231,5 @@ impl<'a> Replay<'a> {
         self.step = shifted(plan.old_end, plan.new_end, to.step);
         self.framed += steps as u64;
         Ok(walked.stop)
-    }
-
-    /// Leads a frame that begins at the old copy before this one, at whose place a copy was laid last,
-    /// from old copy to old copy. For each that it passes a turned copy is laid. It ends where a copy is
-    /// too far or a string is missing, behind the last copy, or at one where it may have ended.
-    ///
-    /// Refusal `OutOfMemory` alone.
-    fn lead(
-        &mut self,
-        alloc: Global,
-        circuit: &'a Circuit,
-        copies: &[Checkpoint],
-        old: &Outputs,
-        strings: &KeptStrings,
-        plan: Plan,
-        next: usize,
-        walk: FrameWalk,
-    ) -> Result<Led, Refusal> {
-        let mut walk = walk;
-        let mut number = next;
-        let mut there = false;
-        while number < copies.len() && !there {
-            let to = &copies[number];
-            let stop =
-                self.frame_to(alloc, old, strings, plan, &copies[number - 1], to, &mut walk)?;
-            if stop == Stop::NoString {
-                break;
-            }
-            let turned = turned_copy(alloc, &to.tableau, walk.letters())?;
-            self.tableau = turned.tableau(alloc, None)?;
-            if stop == Stop::Behind && has_one(walk.records()) {
-                self.laid.push(Checkpoint {
-                    step: self.step,
-                    lengths: self.outputs.lengths(),
-                    tableau: turned,
-                })?;
-                number += 1;
-            } else {
-                there = true;
-            }
-        }
-        self.cursor = Cursor::at(alloc, circuit, self.step)?;
-        Ok(Led {
-            next: number,
-            there,
-        })
-    }
-
-    /// Goes on by a frame from the place of the old copy before this one, where a copy was laid last, as
-    /// far as it leads.
-    ///
-    /// Refusal `OutOfMemory` alone.
-    pub fn frame_on(
-        &mut self,
-        alloc: Global,
-        circuit: &'a Circuit,
-        copies: &[Checkpoint],
-        old: &Outputs,
-        strings: &KeptStrings,
-        plan: Plan,
-        next: usize,
-    ) -> Result<Led, Refusal> {
-        let stays = Led { next, there: false };
-        if next <= plan.next || next >= copies.len() {
-            return Ok(stays);
-        }
-        let copy = &copies[next - 1];
-        if shifted(plan.old_end, plan.new_end, copy.step) != self.step {
-            return Ok(stays);
-        }
-        match self.frame_from(alloc, copy, old, plan.base)? {
-            Some(walk) => self.lead(alloc, circuit, copies, old, strings, plan, next, walk),
-            None => Ok(stays),
-        }
     }
 }

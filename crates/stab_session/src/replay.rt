@@ -7,7 +7,7 @@ ghost use Rattle.stab_circuit.specs.Views.{circuit_items};
 ghost use Rattle.stab_run.specs.Records.{ones};
 ghost use Rattle.stab_run.specs.Points.{all_coins_of};
 ghost use Rattle.stab_run.specs.ProgramStates.{StepFits, output_of};
-ghost use Rattle.stab_session.specs.inner.Replays.{IsAtStep, IsReplay, Ascending, Meets, copy_of, IsArrival, IsEnd, EndsSoon, IsPlacedAt, IsAtStop, IsOnWay, copies_passed};
+ghost use Rattle.stab_session.specs.inner.Replays.{IsAtStep, IsReplay, Ascending, Meets, copy_of, IsArrival, IsEnd, EndsSoon, IsAtStop, IsOnWay, IsPlacedAt, copies_passed};
 ghost use Rattle.stab_session.specs.inner.FramedReplays.{IsOldRun};
 
 use crate::checkpoint::{Checkpoint, shifted};
@@ -124,7 +124,7 @@ impl<'a> Replay<'a> {
         ensures laid { self.new.laid.items ≡ self.old.laid.items }
         ensures same_coins { C.sequence coins.new ≡ C.sequence coins.old }
         ensures at_step { OnOk result (IsAtStep self.old.tableau.qubits (C.sequence coins.old) self.old.cursor.all self.new) }
-        ensures step { OnOk result (self.new.step ≡ stop) }
+        ensures step { self.new.step ≡ stop }
         ensures raised { self.old.notes.reach ≤ self.new.notes.reach }
         ensures records { OnOk result (self.old.outputs.records.items ≡ take (length self.old.outputs.records.items) self.new.outputs.records.items) }
         ensures counted { OnOk result (self.new.applied + self.old.step ≡ self.old.applied + stop) }
@@ -134,6 +134,8 @@ impl<'a> Replay<'a> {
         ensures asked { C.asks coins.new + all_coins_of (drop stop self.old.cursor.all) ≤ C.asks coins.old + all_coins_of (drop self.old.step self.old.cursor.all) }
         ensures err { IfErr result (λ r. r ≡ OutOfMemory) }
     {
+        let most = stop - self.step;
+        self.step = stop;
         run_noting(
             alloc,
             &mut self.tableau,
@@ -141,11 +143,10 @@ impl<'a> Replay<'a> {
             coins,
             &mut self.outputs,
             &mut self.cursor,
-            stop - self.step,
+            most,
             &mut self.applied,
             &mut self.notes,
         )?;
-        self.step = stop;
         Ok(())
     }
 
@@ -267,9 +268,9 @@ impl<'a> Replay<'a> {
         ensures asks_free { OnOk result (C.asks coins.new + ones self.old.outputs.free.items ≤ C.asks coins.old + ones self.new.outputs.free.items) }
         ensures asked { C.asks coins.new + all_coins_of (drop self.new.step self.old.cursor.all) ≤ C.asks coins.old + all_coins_of (drop self.old.step self.old.cursor.all) }
         ensures few_laid { IfOk result (λ later. plan.stride * length self.new.laid.items + plan.stride * next ≤ plan.stride * length self.old.laid.items + plan.stride * later) }
+        ensures stops { IfOk result (λ later. (self.old.step + plan.stride ≤ self.new.step) ⊎ ((self.new.step ≡ plan.total) ⊎ IsPlacedAt plan copies.now later self.new.step)) }
         ensures order { IfOk result (λ later. next ≤ later) }
         ensures further { self.old.step ≤ self.new.step }
-        ensures stops { IfOk result (λ later. (self.old.step + plan.stride ≤ self.new.step) ⊎ ((self.new.step ≡ plan.total) ⊎ IsPlacedAt plan copies.now later self.new.step)) }
         ensures changed { OnOk result (min self.new.step plan.new_end + self.old.applied ≤ min self.old.step plan.new_end + self.new.applied) }
         ensures err { IfErr result (λ r. r ≡ OutOfMemory) }
     {

@@ -98,6 +98,7 @@ pub record IsContinued (front others : StringsState) (from end : ℕ) (new : Str
 -- a replay went from the place of one old copy to that of the next one by a frame
 pub record WentOver (n : ℕ) (p : Plan) (c d : Checkpoint) (o : RunOutput) (s : StringsState) (old new : Replay) (w v : WalkState) (stop : Stop) : Type 0 where
   pub steps : ℕ
+  pub order : c.step ≤ d.step
   pub near : d.step - c.step ≤ p.stride
   pub few : steps ≤ length (take (d.step - c.step) old.cursor.left)
   pub walked : WalksOver n (note_at s.strings o.free) (take steps old.cursor.left) w v

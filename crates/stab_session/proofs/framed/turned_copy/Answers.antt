@@ -1,14 +1,9 @@
-use Rattle.std.proofs.Common.{◌≡◌, ◌-◌, ◌++◌, sym, ◌∙◌, ap, subst, take, replicate, arith}
+use Rattle.std.proofs.Common.{◌≡◌, ◌-◌, ◌++◌, sym, ◌∙◌, ap, subst, take, get_or, replicate, arith}
 use Rattle.stab_pauli.specs.declared.letter.Letter.TheVariants.{I}
+use Rattle.stab_pauli.specs.Paulis.{single}
 use Rattle.stab_tableau.specs.Tableaus.{TableauState, stabilises}
 use Rattle.stab_tableau.specs.Turns.{IsTurned}
-use Rattle.stab_session.proofs.SegmentLemmas.{over-segment}
 use Rattle.stab_session.proofs.TurnedCopyLemmas.{turned-next, turned-none, turned-all}
-use Rattle.stab_session.proofs.FlippedLemmas.{flipped-more, flipped-rest, additions-more, additions-rest}
-use Rattle.stab_session.proofs.FrameStartLemmas.{frame-begins, flips-differ}
-use Rattle.stab_session.proofs.FramedStepLemmas.{framed-run}
-use Rattle.stab_session.proofs.NotedSegmentLemmas.{noted-segment}
-use Rattle.stab_session.proofs.OverCopyLemmas.{at-copy}
 use Rattle.stab_session.proofs.framed.turned_copy.Goals as goal
 
 pub loop-qubit-init : goal.loop-qubit-init
@@ -29,5 +24,6 @@ loop-qubit-preserved c =
       turned =
           turned-next c.args.copy.now.qubits c.loop-qubit.qubit c.args.letters.now (stabilises c.args.copy.now) (stabilises c.loop-qubit.turned) (stabilises c.turn_letter.new.self)
           c.requires.same_length (omega (arith, c.requires.same_length, c.loop-qubit-test.true)) inv.turned
-          (subst (λ n. IsTurned n _ (stabilises c.loop-qubit.turned) (stabilises c.turn_letter.new.self)) inv.qubits c.turn_letter.ensures.turned);
+          (subst (λ n. IsTurned n (single n c.loop-qubit.qubit (get_or c.args.letters.now c.loop-qubit.qubit I)).letters (stabilises c.loop-qubit.turned) (stabilises c.turn_letter.new.self))
+          inv.qubits c.turn_letter.ensures.turned);
     }
