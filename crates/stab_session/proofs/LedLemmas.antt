@@ -1,5 +1,5 @@
 -- Led replays: a replay that a frame led to the place of the next old copy is there, and differs still where the frame is not gone.
-use Rattle.std.proofs.Common.{◌≡◌, ◌≢◌, ℕ, ◌+◌, ◌-◌, ◌^◌, ◌<◌, ◌≤◌, refl, sym, ◌∙◌, ap, subst, Bool, List, [], ◌∷◌, ◌++◌, All, Option, Some, slice_get, IsSomeAnd, length, take, drop, arith}
+use Rattle.std.proofs.Common.{◌≡◌, ◌≢◌, ℕ, ◌+◌, ◌-◌, ◌^◌, ◌<◌, ◌≤◌, refl, sym, ◌∙◌, ap, subst, Bool, List, [], ◌∷◌, ◌++◌, All, Option, None, Some, slice_get, IsSomeAnd, length, take, drop, arith}
 use Rattle.std.proofs.lemmas.List.{length-drop, length-append, drop-drop, take_at}
 use Rattle.std.proofs.lemmas.List.Elements.{All-get_or}
 use Rattle.std.proofs.lemmas.Option.{slice_get_within, get_or_from_slice_get}
@@ -92,6 +92,15 @@ led-from n coins p ys copies o s last c r string reach w beside from behind plac
   where
     at : IsAtStep n coins ys r
     at = beside.at_step
+
+-- where a frame may lead from is behind what was changed
+pub led-behind : (n : ℕ) (coins : ℕ → Bool) (p : Plan) (ys : List Step) (copies : List Checkpoint) (o : RunOutput) (s : StringsState) (last : ℕ) (r : Replay) (w : WalkState)
+    → length ys ≤ most_steps → IsLed n coins p ys copies o s last r w → p.new_end ≤ r.step
+led-behind n coins p ys copies o s last r w few led = at-place (slice_get copies last) led.at_copy
+  where
+    at-place : (m : Option Checkpoint) → IsSomeAnd m (IsAtCopy n coins p led.old.steps ys o.free r w) → p.new_end ≤ r.step
+    at-place None h = absurd h
+    at-place (Some c) h = omega (arith, h.place, led.old.new_within, few)
 
 -- what went over the steps between two copies may be said of all that gave the same
 pub went-same : (n : ℕ) (p : Plan) (c d : Checkpoint) (o : RunOutput) (s : StringsState) (r q t : Replay) (w v : WalkState) (stop : Stop) → WentOver n p c d o s r q w v stop
