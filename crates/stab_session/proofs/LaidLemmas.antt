@@ -69,3 +69,7 @@ laid-more n p copies old next later step stop begin count more place r few longe
 -- at its end there are no more than before, and it passed no fewer copies
 pub laid-end : (K count same a b begin step stop : ℕ) → K * count + begin ≤ step + K * a → same ≡ count → step ≤ stop → a ≤ b → K * same + begin ≤ stop + K * b
 laid-end K count same a b begin step stop few is le more = omega (arith, few, le, ap (λ t. K * t) is, mul-le-mul_left K more)
+
+-- a frame laid no more copies than it passed
+pub laid-led : (K a b c d same : ℕ) → a + b ≤ c + d → same ≡ a → K * same + K * b ≤ K * c + K * d
+laid-led K a b c d same le is = omega (arith, mul-le-mul_left K le, ap (λ t. K * t) is)
