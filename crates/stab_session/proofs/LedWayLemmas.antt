@@ -204,7 +204,7 @@ module _ (n : ℕ) (coins : ℕ → Bool) (begin : ℕ) (p : Plan) (ys : List St
       with-laid n coins begin p ys copies old (number + 1) before s
       (past n coins begin p ys copies old number before
       (stop-there (number + 1) before some.0 some.1
-      (record { at_step = at-laid n coins ys s r some.2.0.at_step; step = some.2.0.step; near = some.2.0.near; records = some.2.0.records; })
+      (record { at_step = at-laid n coins ys s r some.2.0.at_step; step = some.2.0.step; near = some.2.0.near; records = some.2.0.records })
       (record {
         applied = on.applied;
         counted = on.counted;

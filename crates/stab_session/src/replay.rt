@@ -329,7 +329,14 @@ impl<'a> Replay<'a> {
         let mut spare: Option<Tableau> = None;
         loop {
             next = self.advance(alloc, circuit, copies, old, strings, plan, next, coins)?;
-            match self.arrive(alloc, copies, old.records.as_slice(), plan, next, &mut spare)? {
+            match self.arrive(
+                alloc,
+                copies,
+                old.records.as_slice(),
+                plan,
+                next,
+                &mut spare,
+            )? {
                 Arrival::Met => return Ok(End::Joined(next)),
                 Arrival::Behind => return Ok(End::Last),
                 Arrival::Between(later) => next = later,

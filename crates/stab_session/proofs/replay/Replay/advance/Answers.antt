@@ -44,7 +44,7 @@ returns-in_ok-run_to-clause-way g c = λ begin way.
     on-stop c.args.self.now.tableau.qubits (g.C.Coins.sequence c.args.coins.now) begin c.args.plan c.args.self.now.cursor.all c.args.copies.now c.args.old.now.records.items (g.C.Coins.sequence c.args.coins.now)
     c.in_ok-led.led.next c.stop-stop.result c.place.result c.frame_on.new.self c.run_to.new.self
     (subst (IsLedTo c.args.self.now.tableau.qubits (g.C.Coins.sequence c.args.coins.now) begin c.args.plan c.args.self.now.cursor.all c.args.copies.now c.args.old.now.records.items c.in_ok-led.led.next c.frame_on.new.self) there
-    (c.in_ok-led.ensures.way (g.C.Coins.sequence c.args.coins.now) begin (record { old = c.requires.old; at_step = c.requires.at_step; }) way))
+    (c.in_ok-led.ensures.way (g.C.Coins.sequence c.args.coins.now) begin (record { old = c.requires.old; at_step = c.requires.at_step }) way))
     refl done.at_step done.laid done.records (let counted = done.counted in let framed = done.framed in omega (arith, counted, framed)) done.step stop.order stop.within stop.near c.place.ensures.value stop.before
 
 pub returns-in_ok-run_to-clause-few_laid : goal.returns-in_ok-run_to-clause-few_laid

@@ -13,17 +13,19 @@ use Rattle.stab_session.proofs.replay.Replay.frame_on.Goals as goal
 pub lead-requires-clause-led : goal.lead-requires-clause-led
 lead-requires-clause-led c =
     let found : (coins : ℕ → Bool) (s : StringsState)
-        → IsBeside c.args.self.now.tableau.qubits coins c.args.plan c.args.self.now.cursor.all c.args.copies.now (output_of c.args.old.now) s c.args.self.now
-        → IsLed c.args.self.now.tableau.qubits coins c.args.plan c.args.self.now.cursor.all c.args.copies.now (output_of c.args.old.now) s (c.args.next - 1) c.frame_at.new.self c.in-Some.walk =
+    → IsBeside c.args.self.now.tableau.qubits coins c.args.plan c.args.self.now.cursor.all c.args.copies.now (output_of c.args.old.now) s c.args.self.now
+    → IsLed c.args.self.now.tableau.qubits coins c.args.plan c.args.self.now.cursor.all c.args.copies.now (output_of c.args.old.now) s (c.args.next - 1) c.frame_at.new.self c.in-Some.walk =
     (subst (λ m. IfSome m (λ walk. (1 ≤ c.args.next) × ((coins : ℕ → Bool) (s : StringsState)
     → IsBeside c.args.self.now.tableau.qubits coins c.args.plan c.args.self.now.cursor.all c.args.copies.now (output_of c.args.old.now) s c.args.self.now
     → IsLed c.args.self.now.tableau.qubits coins c.args.plan c.args.self.now.cursor.all c.args.copies.now (output_of c.args.old.now) s (c.args.next - 1) c.frame_at.new.self walk)))
     c.in-Some.is c.in_ok-walk.ensures.found).1 in
     let same = c.frame_at.ensures.unchanged in
     let qubits : c.frame_at.new.self.tableau.qubits ≡ c.args.self.now.tableau.qubits = ap (λ (x : Replay). x.tableau.qubits) same in
-    let all : c.frame_at.new.self.cursor.all ≡ c.args.self.now.cursor.all = ap (λ (x : Replay). x.cursor.all) same in
-    (c.requires.beside.0, (led-moved c.frame_at.new.self.tableau.qubits c.args.self.now.tableau.qubits c.requires.beside.0 c.args.plan c.frame_at.new.self.cursor.all c.args.self.now.cursor.all c.args.copies.now (output_of c.args.old.now) c.args.strings.now
-    (c.args.next - 1) c.frame_at.new.self c.in-Some.walk qubits all (found c.requires.beside.0 c.args.strings.now c.requires.beside.1)))
+    let all : c.frame_at.new.self.cursor.all ≡ c.args.self.now.cursor.all = ap (λ (x : Replay). x.cursor.all) same in (
+      c.requires.beside.0,
+      (led-moved c.frame_at.new.self.tableau.qubits c.args.self.now.tableau.qubits c.requires.beside.0 c.args.plan c.frame_at.new.self.cursor.all c.args.self.now.cursor.all c.args.copies.now (output_of c.args.old.now) c.args.strings.now
+          (c.args.next - 1) c.frame_at.new.self c.in-Some.walk qubits all (found c.requires.beside.0 c.args.strings.now c.requires.beside.1)),
+    )
 
 pub at-requires-clause-in_range : goal.at-requires-clause-in_range
 at-requires-clause-in_range c =
@@ -38,8 +40,8 @@ at-requires-clause-in_range c =
 pub returns-in_ok-self-in-Some-clause-at_step : goal.returns-in_ok-self-in-Some-clause-at_step
 returns-in_ok-self-in-Some-clause-at_step c = λ coins beside.
     let found : (coins : ℕ → Bool) (s : StringsState)
-        → IsBeside c.args.self.now.tableau.qubits coins c.args.plan c.args.self.now.cursor.all c.args.copies.now (output_of c.args.old.now) s c.args.self.now
-        → IsLed c.args.self.now.tableau.qubits coins c.args.plan c.args.self.now.cursor.all c.args.copies.now (output_of c.args.old.now) s (c.args.next - 1) c.frame_at.new.self c.in-Some.walk =
+    → IsBeside c.args.self.now.tableau.qubits coins c.args.plan c.args.self.now.cursor.all c.args.copies.now (output_of c.args.old.now) s c.args.self.now
+    → IsLed c.args.self.now.tableau.qubits coins c.args.plan c.args.self.now.cursor.all c.args.copies.now (output_of c.args.old.now) s (c.args.next - 1) c.frame_at.new.self c.in-Some.walk =
     (subst (λ m. IfSome m (λ walk. (1 ≤ c.args.next) × ((coins : ℕ → Bool) (s : StringsState)
     → IsBeside c.args.self.now.tableau.qubits coins c.args.plan c.args.self.now.cursor.all c.args.copies.now (output_of c.args.old.now) s c.args.self.now
     → IsLed c.args.self.now.tableau.qubits coins c.args.plan c.args.self.now.cursor.all c.args.copies.now (output_of c.args.old.now) s (c.args.next - 1) c.frame_at.new.self walk)))
@@ -59,8 +61,8 @@ returns-in_ok-self-in-Some-clause-at_step c = λ coins beside.
 pub returns-in_ok-self-in-Some-clause-way : goal.returns-in_ok-self-in-Some-clause-way
 returns-in_ok-self-in-Some-clause-way c = λ coins begin beside way.
     let found : (coins : ℕ → Bool) (s : StringsState)
-        → IsBeside c.args.self.now.tableau.qubits coins c.args.plan c.args.self.now.cursor.all c.args.copies.now (output_of c.args.old.now) s c.args.self.now
-        → IsLed c.args.self.now.tableau.qubits coins c.args.plan c.args.self.now.cursor.all c.args.copies.now (output_of c.args.old.now) s (c.args.next - 1) c.frame_at.new.self c.in-Some.walk =
+    → IsBeside c.args.self.now.tableau.qubits coins c.args.plan c.args.self.now.cursor.all c.args.copies.now (output_of c.args.old.now) s c.args.self.now
+    → IsLed c.args.self.now.tableau.qubits coins c.args.plan c.args.self.now.cursor.all c.args.copies.now (output_of c.args.old.now) s (c.args.next - 1) c.frame_at.new.self c.in-Some.walk =
     (subst (λ m. IfSome m (λ walk. (1 ≤ c.args.next) × ((coins : ℕ → Bool) (s : StringsState)
     → IsBeside c.args.self.now.tableau.qubits coins c.args.plan c.args.self.now.cursor.all c.args.copies.now (output_of c.args.old.now) s c.args.self.now
     → IsLed c.args.self.now.tableau.qubits coins c.args.plan c.args.self.now.cursor.all c.args.copies.now (output_of c.args.old.now) s (c.args.next - 1) c.frame_at.new.self walk)))

@@ -36,8 +36,7 @@ pass_copy-requires-clause-ascending c = c.loop-number.invariant.on.ascending
 
 pub pass_copy-requires-clause-led : goal.pass_copy-requires-clause-led
 pass_copy-requires-clause-led c =
-    let inv = c.loop-number.invariant in
-    (
+    let inv = c.loop-number.invariant in (
       c.requires.led.0,
       led-moved c.loop-number.self.tableau.qubits c.args.self.now.tableau.qubits c.requires.led.0 c.args.plan c.loop-number.self.cursor.all c.args.self.now.cursor.all c.args.copies.now (output_of c.args.old.now) c.args.strings.now
           (c.loop-number.number - 1) c.loop-number.self c.loop-number.walk inv.qubits inv.all (inv.led c.requires.led.0 c.requires.led.1),
