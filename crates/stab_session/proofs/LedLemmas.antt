@@ -59,6 +59,20 @@ pub beside-lengths : (n : ℕ) (coins : ℕ → Bool) (p : Plan) (ys : List Step
 beside-lengths n coins p ys copies o s last c r beside from =
     lengths-within n coins beside.old.steps o c (at-number (IsCheckpoint n coins beside.old.steps) copies last c from beside.old.are_copies) beside.old.output
 
+-- another string to write into, and a greater reach
+pub at-noted : (n : ℕ) (coins : ℕ → Bool) (ys : List Step) (r : Replay) (string : Signed) (reach : ℕ) → IsAtStep n coins ys r → length string.letters ≡ length r.string.letters
+    → r.notes.reach ≤ reach → IsAtStep n coins ys (record r { string = string; notes = record r.notes { reach = reach } })
+at-noted n coins ys r string reach at long raised = record {
+  qubits = at.qubits;
+  string = long ∙ at.string;
+  all = at.all;
+  left = at.left;
+  within = at.within;
+  run = at.run;
+  scratch = at.scratch;
+  noted = noted-more n coins (take r.step ys) r.notes.strings r.outputs.free.items r.notes.reach reach raised at.noted;
+}
+
 -- a frame found at the place of an old copy may lead the replay from there
 pub led-from : (n : ℕ) (coins : ℕ → Bool) (p : Plan) (ys : List Step) (copies : List Checkpoint) (o : RunOutput) (s : StringsState) (last : ℕ) (c : Checkpoint) (r : Replay)
     (string : Signed) (reach : ℕ) (w : WalkState) → IsBeside n coins p ys copies o s r → slice_get copies last ≡ Some c → p.old_end ≤ c.step → step_among_new p c ≡ r.step
@@ -67,16 +81,7 @@ pub led-from : (n : ℕ) (coins : ℕ → Bool) (p : Plan) (ys : List Step) (cop
     → IsLed n coins p ys copies o s last (record r { string = string; notes = record r.notes { reach = reach } }) w
 led-from n coins p ys copies o s last c r string reach w beside from behind place within same found long raised far = record {
   old = beside.old;
-  at_step = record {
-    qubits = at.qubits;
-    string = long ∙ at.string;
-    all = at.all;
-    left = at.left;
-    within = at.within;
-    run = at.run;
-    scratch = at.scratch;
-    noted = noted-more n coins (take r.step ys) r.notes.strings r.outputs.free.items r.notes.reach reach raised at.noted;
-  };
+  at_step = at-noted n coins ys r string reach at long raised;
   raised = far;
   at_copy =
       subst (λ m. IsSomeAnd m (IsAtCopy n coins p beside.old.steps ys o.free (record r { string = string; notes = record r.notes { reach = reach } }) w)) (sym from)

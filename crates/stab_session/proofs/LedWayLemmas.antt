@@ -3,7 +3,9 @@ use Rattle.std.proofs.Common.{◌≡◌, ℕ, zero, suc, ◌+◌, ◌<◌, ◌�
 use Rattle.std.specs.Option.{option_map}
 use Rattle.std.proofs.lemmas.List.{length-append}
 use Rattle.std.proofs.lemmas.Option.{none-some, same_Some}
+use Rattle.stab_pauli.specs.Paulis.{Signed}
 use Rattle.stab_circuit.specs.Steps.{Step}
+use Rattle.stab_circuit.specs.Cursors.{CursorState}
 use Rattle.stab_run.specs.Records.{ones}
 use Rattle.stab_run.specs.Points.{RunOutput}
 use Rattle.stab_frames.specs.KeptStrings.{StringsState}
@@ -14,6 +16,7 @@ use Rattle.stab_session.specs.declared.replay.Plan.{Plan}
 use Rattle.stab_session.specs.declared.replay.Replay.{Replay}
 use Rattle.stab_session.specs.inner.Replays.{IsAtStep, Ascending, Misses, IsAtStop, IsOnWay, step_among_new, copy_of}
 use Rattle.stab_session.specs.inner.LedReplays.{IsLed, IsPassed, WentTo, LedOn, with_cursor}
+use Rattle.stab_session.proofs.LedLemmas.{at-noted}
 use Rattle.stab_session.proofs.ReplayLemmas.{ascending-end, ascending-stop, later-ascending, on-stop, past, with-laid}
 
 -- the element of which something is so
@@ -37,6 +40,9 @@ at-laid n coins ys r s at = record {
 
 pub cursor-there : (n : ℕ) (coins : ℕ → Bool) (ys : List Step) (r : Replay) → IsAtStep n coins ys r → with_cursor ys r ≡ r
 cursor-there n coins ys r at = λ i. record r { cursor = record { all = sym at.all i; left = sym at.left i } }
+
+pub cursor-set : (ys : List Step) (r : Replay) (cursor : CursorState) → cursor.all ≡ ys → cursor.left ≡ drop r.step ys → with_cursor ys r ≡ record r { cursor = cursor }
+cursor-set ys r cursor all left = λ i. record r { cursor = record { all = sym all i; left = sym left i } }
 
 pub cursor-only : (ys : List Step) (r s : Replay) → s ≡ record r { cursor = s.cursor } → with_cursor ys s ≡ with_cursor ys r
 cursor-only ys r s same = ap (with_cursor ys) same
@@ -130,6 +136,27 @@ module _ (p : Plan) (copies : List Checkpoint) (number : ℕ) (d : Checkpoint) (
 
 -- on the way
 
+pub way-noted : (n : ℕ) (coins : ℕ → Bool) (begin : ℕ) (p : Plan) (ys : List Step) (copies : List Checkpoint) (old : List Bool) (next : ℕ) (r : Replay) (string : Signed) (reach : ℕ)
+    → IsOnWay n coins begin p ys copies old next r → length string.letters ≡ length r.string.letters → r.notes.reach ≤ reach
+    → IsOnWay n coins begin p ys copies old next (record r { string = string; notes = record r.notes { reach = reach } })
+way-noted n coins begin p ys copies old next r string reach way long raised = record {
+  stop = record {
+    replay = record {
+      at_step = at-noted n coins ys r string reach way.stop.replay.at_step long raised;
+      checkpoints = way.stop.replay.checkpoints;
+      near = way.stop.replay.near;
+    };
+    counted = way.stop.counted;
+    order = way.stop.order;
+    within = way.stop.within;
+    ascending = way.stop.ascending;
+    base = way.stop.base;
+    same = way.stop.same;
+    missed = way.stop.missed;
+  };
+  last = way.last;
+}
+
 module _ (n : ℕ) (coins : ℕ → Bool) (begin : ℕ) (p : Plan) (ys : List Step) (copies : List Checkpoint) (old : List Bool) (number : ℕ) (r : Replay)
     (way : IsOnWay n coins begin p ys copies old number r) where
   -- at the place of the next copy
@@ -177,7 +204,7 @@ module _ (n : ℕ) (coins : ℕ → Bool) (begin : ℕ) (p : Plan) (ys : List St
       with-laid n coins begin p ys copies old (number + 1) before s
       (past n coins begin p ys copies old number before
       (stop-there (number + 1) before some.0 some.1
-      (record { at_step = at-laid n coins ys s r some.2.0.at_step; step = some.2.0.step; near = some.2.0.near; records = some.2.0.records; })
+      (record { at_step = at-laid n coins ys s r some.2.0.at_step; step = some.2.0.step; near = some.2.0.near; records = some.2.0.records })
       (record {
         applied = on.applied;
         counted = on.counted;

@@ -45,13 +45,13 @@ spliced-front : (s t u : StringsState) (from end before all : ℕ) → IsContinu
 spliced-front s t u from end before all is numbered order all_is =
     elim (cases_lt (length s.strings) end) [
       | inl lt ↦ (
-          omega (arith, is.closed lt, long),
-          λ few. omega (arith, is.closed lt, few),
-        )
+        omega (arith, is.closed lt, long),
+        λ few. omega (arith, is.closed lt, few),
+      )
       | inr le ↦ (
-          omega (arith, is.whole le),
-          λ few. omega (arith, is.whole le, long, le, numbered, order, all_is),
-        )
+        omega (arith, is.whole le),
+        λ few. omega (arith, is.whole le, long, le, numbered, order, all_is),
+      )
     ]
   where
     long : length u.strings ≡ min t.most (length t.strings + (min end (length s.strings) - from))
@@ -65,7 +65,7 @@ spliced-front s t u from end before all is numbered order all_is =
 module _ (n : ℕ) (coins : ℕ → Bool) (xs ys : List Step) (i k len : ℕ) (same : drop i xs ≡ drop k ys)
     (coin : (point_after n coins (take k ys) origin).coin ≡ (point_after n coins (take i xs) origin).coin)
     (turned : (m : ℕ) → (g : List Letter) × IsTurned n g (member (point_after n coins (take m (take len (drop i xs))) (point_after n coins (take i xs) origin)).trace)
-        (member (point_after n coins (take m (take len (drop i xs))) (point_after n coins (take k ys) origin)).trace)) where
+    (member (point_after n coins (take m (take len (drop i xs))) (point_after n coins (take k ys) origin)).trace)) where
   old_front : take i (take (i + len) xs) ≡ take i xs
   old_front = take-take i (i + len) xs (omega arith)
 

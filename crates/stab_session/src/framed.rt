@@ -151,11 +151,7 @@ impl<'a> Replay<'a> {
         walk.multiply(&self.string);
         walk.flip_records(
             between(old.records.as_slice(), base, copy.lengths.records),
-            between(
-                self.outputs.records.as_slice(),
-                base,
-                copy.lengths.records,
-            ),
+            between(self.outputs.records.as_slice(), base, copy.lengths.records),
         )?;
         Ok(Some(walk))
     }

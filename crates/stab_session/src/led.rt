@@ -1,10 +1,10 @@
-ghost use Rattle.std.specs.Prelude.{◌≡◌, ℕ, ◌+◌, ◌-◌, ◌<◌, ◌≤◌, min, Bool, None, All, length, take, drop, OnOk, IfOk, IfErr, IfSome};
+ghost use Rattle.std.specs.Prelude.{◌≡◌, ℕ, ◌+◌, ◌-◌, ◌<◌, ◌≤◌, min, Bool, true, None, All, length, take, drop, OnOk, IfOk, IfErr, IfSome};
 ghost use Rattle.stab_io.specs.declared.refusal.Refusal.TheVariants.{OutOfMemory};
 ghost use Rattle.stab_circuit.specs.Steps.{most_steps, unroll, check_of};
 ghost use Rattle.stab_circuit.specs.Views.{circuit_items};
 ghost use Rattle.stab_run.specs.ProgramStates.{StepFits, output_of};
 ghost use Rattle.stab_frames.specs.KeptStrings.{StringsState};
-ghost use Rattle.stab_session.specs.inner.Replays.{IsAtStep, Ascending, IsOnWay};
+ghost use Rattle.stab_session.specs.inner.Replays.{IsAtStep, Ascending, IsOnWay, IsPlacedAt};
 ghost use Rattle.stab_session.specs.inner.LedReplays.{IsBeside, IsLed, IsPassed, LedOn, IsLedTo, later_of, with_cursor};
 
 use crate::bits::has_one;
@@ -111,6 +111,7 @@ impl<'a> Replay<'a> {
         ensures qubits { self.new.tableau.qubits ≡ self.old.tableau.qubits }
         ensures further { self.old.step ≤ self.new.step }
         ensures on { IfOk result (λ led. LedOn plan copies.now next led.next self.old self.new) }
+        ensures placed { IfOk result (λ led. led.there ≡ true → IsPlacedAt plan copies.now led.next self.new.step) }
         ensures at_step { OnOk result ((coins : ℕ → Bool) → IsLed self.old.tableau.qubits coins plan self.old.cursor.all copies.now (output_of old.now) strings.now (next - 1) self.old walk → IsAtStep self.old.tableau.qubits coins self.old.cursor.all (with_cursor self.old.cursor.all self.new)) }
         ensures way { IfOk result (λ led. (coins : ℕ → Bool) (begin : ℕ) → IsLed self.old.tableau.qubits coins plan self.old.cursor.all copies.now (output_of old.now) strings.now (next - 1) self.old walk → IsOnWay self.old.tableau.qubits coins begin plan self.old.cursor.all copies.now old.now.records.items next self.old → IsLedTo self.old.tableau.qubits coins begin plan self.old.cursor.all copies.now old.now.records.items led.next (with_cursor self.old.cursor.all self.new) led.there) }
         ensures err { IfErr result (λ r. r ≡ OutOfMemory) }
@@ -200,6 +201,7 @@ impl<'a> Replay<'a> {
         ensures further { self.old.step ≤ self.new.step }
         ensures on { IfOk result (λ led. LedOn plan copies.now next led.next self.old self.new) }
         ensures behind { OnOk result (min self.new.step plan.new_end ≤ min self.old.step plan.new_end) }
+        ensures placed { IfOk result (λ led. led.there ≡ true → IsPlacedAt plan copies.now led.next self.new.step) }
         ensures at_step { OnOk result ((coins : ℕ → Bool) → IsBeside self.old.tableau.qubits coins plan self.old.cursor.all copies.now (output_of old.now) strings.now self.old → IsAtStep self.old.tableau.qubits coins self.old.cursor.all self.new) }
         ensures way { IfOk result (λ led. (coins : ℕ → Bool) (begin : ℕ) → IsBeside self.old.tableau.qubits coins plan self.old.cursor.all copies.now (output_of old.now) strings.now self.old → IsOnWay self.old.tableau.qubits coins begin plan self.old.cursor.all copies.now old.now.records.items next self.old → IsLedTo self.old.tableau.qubits coins begin plan self.old.cursor.all copies.now old.now.records.items led.next self.new led.there) }
         ensures err { IfErr result (λ r. r ≡ OutOfMemory) }

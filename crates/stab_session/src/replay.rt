@@ -1,4 +1,4 @@
-ghost use Rattle.std.specs.Prelude.{◌≡◌, ℕ, ◌+◌, ◌-◌, ◌*◌, ◌<◌, ◌≤◌, ◌^◌, ◌↔◌, ◌⊎◌, min, [], ◌∷◌, ◌++◌, None, All, IsTrue, OnOk, IfOk, IfErr, length, take, drop};
+ghost use Rattle.std.specs.Prelude.{◌≡◌, ℕ, ◌+◌, ◌-◌, ◌*◌, ◌<◌, ◌≤◌, ◌^◌, ◌↔◌, min, [], ◌∷◌, ◌++◌, None, All, IsTrue, OnOk, IfOk, IfErr, length, take, drop};
 ghost use Rattle.stab_io.specs.declared.refusal.Refusal.TheVariants.{OutOfMemory};
 ghost use Rattle.stab_tableau.specs.Groups.{SameGroup};
 ghost use Rattle.stab_tableau.specs.Tableaus.{stabilises};
@@ -7,7 +7,7 @@ ghost use Rattle.stab_circuit.specs.Views.{circuit_items};
 ghost use Rattle.stab_run.specs.Records.{ones};
 ghost use Rattle.stab_run.specs.Points.{all_coins_of};
 ghost use Rattle.stab_run.specs.ProgramStates.{StepFits, output_of};
-ghost use Rattle.stab_session.specs.inner.Replays.{IsAtStep, IsReplay, Ascending, Meets, copy_of, IsArrival, IsEnd, EndsSoon, IsAtStop, IsOnWay, IsPlacedAt, copies_passed};
+ghost use Rattle.stab_session.specs.inner.Replays.{IsAtStep, IsReplay, Ascending, Meets, copy_of, IsArrival, IsEnd, EndsSoon, IsAtStop, IsOnWay, StopsAt, copies_passed};
 ghost use Rattle.stab_session.specs.inner.FramedReplays.{IsOldRun};
 
 use crate::checkpoint::{Checkpoint, shifted};
@@ -268,7 +268,7 @@ impl<'a> Replay<'a> {
         ensures asks_free { OnOk result (C.asks coins.new + ones self.old.outputs.free.items ≤ C.asks coins.old + ones self.new.outputs.free.items) }
         ensures asked { C.asks coins.new + all_coins_of (drop self.new.step self.old.cursor.all) ≤ C.asks coins.old + all_coins_of (drop self.old.step self.old.cursor.all) }
         ensures few_laid { IfOk result (λ later. plan.stride * length self.new.laid.items + plan.stride * next ≤ plan.stride * length self.old.laid.items + plan.stride * later) }
-        ensures stops { IfOk result (λ later. (self.old.step + plan.stride ≤ self.new.step) ⊎ ((self.new.step ≡ plan.total) ⊎ IsPlacedAt plan copies.now later self.new.step)) }
+        ensures stops { IfOk result (λ later. StopsAt plan copies.now later self.old.step self.new.step) }
         ensures order { IfOk result (λ later. next ≤ later) }
         ensures further { self.old.step ≤ self.new.step }
         ensures changed { OnOk result (min self.new.step plan.new_end + self.old.applied ≤ min self.old.step plan.new_end + self.new.applied) }

@@ -11,7 +11,6 @@ returns-clause-walk c =
     frame-found c.args.self.now.tableau (output_of c.args.self.now.outputs) (output_of c.args.old.now) c.args.base c.len-2.result c.args.copy.now c.frame_to.new.frame
     c.between.result.now c.between-2.result.now c.in_ok-walk.walk c.multiply.new.self c.flip_records.new.self c.len-2.ensures.value c.requires.same_qubits (c.frame_to.ensures.length ∙ c.requires.string)
     (c.frame_to.ensures.turned (grind (arith, c.if-not-frame_to.false))) (grind (arith, c.if-len-copy.false, c.len.ensures)) (grind (arith, c.if-len-copy-2.false, c.len-else-len-copy.ensures))
-   
     (c.in_ok-walk.ensures.value
     ∙ ap (λ bits. record { letters = replicate c.len-2.result I; flips = nothing; coin = c.args.copy.now.lengths.free; number = ones (take c.args.copy.now.lengths.free bits) }) c.as_slice.ensures.value)
     c.multiply.ensures.value

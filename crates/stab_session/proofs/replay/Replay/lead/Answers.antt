@@ -1,7 +1,7 @@
-use Rattle.std.proofs.Common.{◌≡◌, ℕ, ◌+◌, ◌-◌, refl, sym, ◌∙◌, ap, subst, Bool, All, length, slice_get, arith}
+use Rattle.std.proofs.Common.{◌≡◌, ℕ, ◌+◌, ◌-◌, refl, sym, ◌∙◌, ap, subst, Bool, All, IsSomeAnd, length, slice_get, arith}
 use Rattle.stab_run.specs.ProgramStates.{StepFits, output_of}
 use Rattle.stab_session.specs.declared.led.Passage.TheVariants.{Stopped, Arrived, Passed}
-use Rattle.stab_session.specs.inner.Replays.{IsAtStep, IsOnWay}
+use Rattle.stab_session.specs.inner.Replays.{IsAtStep, IsOnWay, step_among_new}
 use Rattle.stab_session.specs.inner.LedReplays.{IsLed, IsPassed, WentTo, LedOn, later_of, with_cursor}
 use Rattle.stab_session.proofs.LedWayLemmas.{some-of, cursor-there, cursor-only, led-moved, passed-moved, led-none, led-further, way-arrived, way-stopped, way-passed}
 use Rattle.stab_session.proofs.replay.Replay.lead.Goals as goal
@@ -36,8 +36,7 @@ pass_copy-requires-clause-ascending c = c.loop-number.invariant.on.ascending
 
 pub pass_copy-requires-clause-led : goal.pass_copy-requires-clause-led
 pass_copy-requires-clause-led c =
-    let inv = c.loop-number.invariant in
-    (
+    let inv = c.loop-number.invariant in (
       c.requires.led.0,
       led-moved c.loop-number.self.tableau.qubits c.args.self.now.tableau.qubits c.requires.led.0 c.args.plan c.loop-number.self.cursor.all c.args.self.now.cursor.all c.args.copies.now (output_of c.args.old.now) c.args.strings.now
           (c.loop-number.number - 1) c.loop-number.self c.loop-number.walk inv.qubits inv.all (inv.led c.requires.led.0 c.requires.led.1),
@@ -75,6 +74,17 @@ returns-in-Arrived-clause-at_step c = λ coins led.
     (c.in_ok-pass_copy.ensures.passed coins (led-moved c.loop-number.self.tableau.qubits c.args.self.now.tableau.qubits coins c.args.plan c.loop-number.self.cursor.all c.args.self.now.cursor.all c.args.copies.now (output_of c.args.old.now) c.args.strings.now
     (c.loop-number.number - 1) c.loop-number.self c.loop-number.walk inv.qubits inv.all (inv.led coins h)))) in
     (some-of (slice_get c.args.copies.now c.loop-number.number) (WentTo c.args.self.now.tableau.qubits coins c.args.plan c.args.self.now.cursor.all c.loop-number.self (with_cursor c.args.self.now.cursor.all c.pass_copy.new.self)) (passed coins led).1).2.at_step
+
+pub returns-in-Arrived-clause-placed : goal.returns-in-Arrived-clause-placed
+returns-in-Arrived-clause-placed c = λ e.
+    let inv = c.loop-number.invariant in
+    let passed : (coins : ℕ → Bool) → IsLed c.args.self.now.tableau.qubits coins c.args.plan c.args.self.now.cursor.all c.args.copies.now (output_of c.args.old.now) c.args.strings.now (c.args.next - 1) c.args.self.now c.args.walk → IsPassed c.args.self.now.tableau.qubits coins c.args.plan c.args.self.now.cursor.all c.args.copies.now (output_of c.args.old.now) c.args.strings.now c.loop-number.number c.loop-number.self c.pass_copy.new.self c.pass_copy.new.walk Arrived = (λ coins h. passed-moved c.loop-number.self.tableau.qubits c.args.self.now.tableau.qubits coins c.args.plan c.loop-number.self.cursor.all c.args.self.now.cursor.all c.args.copies.now (output_of c.args.old.now) c.args.strings.now c.loop-number.number
+    c.loop-number.self c.pass_copy.new.self c.pass_copy.new.walk _ Arrived inv.qubits inv.all c.in-Arrived.is
+    (c.in_ok-pass_copy.ensures.passed coins (led-moved c.loop-number.self.tableau.qubits c.args.self.now.tableau.qubits coins c.args.plan c.loop-number.self.cursor.all c.args.self.now.cursor.all c.args.copies.now (output_of c.args.old.now) c.args.strings.now
+    (c.loop-number.number - 1) c.loop-number.self c.loop-number.walk inv.qubits inv.all (inv.led coins h)))) in
+    let some = some-of (slice_get c.args.copies.now c.loop-number.number) (WentTo c.args.self.now.tableau.qubits c.requires.led.0 c.args.plan c.args.self.now.cursor.all c.loop-number.self (with_cursor c.args.self.now.cursor.all c.pass_copy.new.self))
+    (passed c.requires.led.0 c.requires.led.1).1 in
+    subst (λ m. IsSomeAnd m (λ d. step_among_new c.args.plan d ≡ c.pass_copy.new.self.step)) (sym some.1) (sym some.2.step)
 
 pub returns-in-Arrived-clause-way : goal.returns-in-Arrived-clause-way
 returns-in-Arrived-clause-way c = λ coins begin led way.
