@@ -78,7 +78,7 @@ fn print_opening<R: CpuClock + Files + AllocGlobal + Print>(
     let (items, steps) = (circuit.items().len(), circuit.steps());
     println!(rt; "{items} items, {steps} steps, open {open:.1} ms, {kept:.1} MiB")?;
     println!(rt;
-        "     place  line      edit ms  of a run  faster than reading and running     steps"
+        "     place  line      edit ms  of a run  faster than reading and running     steps    framed"
     )?;
     Ok(())
 }
@@ -111,15 +111,18 @@ fn print_edit<R: CpuClock + AllocGlobal + Print>(
     whole: Whole,
 ) -> Result<(), Failure> {
     let mut least = Duration::MAX;
-    let mut applied = 0;
+    let mut steps = (0, 0);
     for _ in 0..EDITS {
         let (time, report) = timed_edit(rt, session, Path::new(&[place]), line)?;
         least = least.min(time);
-        applied = report.applied;
+        steps = (report.applied, report.framed);
     }
     let edit = least.as_secs_f64() * 1e3;
     let (of, faster) = (edit / whole.run, (whole.read + whole.run) / edit);
-    println!(rt; "{place:>10}  {line:<6} {edit:>10.3} {of:>9.4} {faster:>32.1} {applied:>9}")?;
+    let (applied, framed) = steps;
+    println!(rt;
+        "{place:>10}  {line:<6} {edit:>10.3} {of:>9.4} {faster:>32.1} {applied:>9} {framed:>9}"
+    )?;
     Ok(())
 }
 

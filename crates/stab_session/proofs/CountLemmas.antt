@@ -51,12 +51,6 @@ last-is p (suc m) a (c ∷ cs) within front behind =
       | inr t ↦ let lt = t.1 in let here = All-head (λ c. c.step < p + 1) c (take m cs) front in absurd (omega (arith, lt, here))
     ]
 
--- a step where the new ones end, or an old copy stands, is not before the end of what was put in
-not-before : (agree : ℕ → Type 0) (first old_end new_end step : ℕ) (o : Option ℕ)
-    → IsSomeAnd o (λ c. MayBeMet first old_end c × (step ≡ new_end + (c - old_end)) × agree (c - old_end)) → new_end ≤ step
-not-before agree first old_end new_end step None h = absurd h
-not-before agree first old_end new_end step (Some c) h = let is = h.1 in omega (arith, is)
-
 -- copies and their steps
 
 in-front : {X : Type 0} (P : X → Type 0) (m k : ℕ) (xs : List X) (x : X) → All P (take m xs) → slice_get xs k ≡ Some x → k < m → P x
@@ -253,19 +247,3 @@ module _ (n : ℕ) (coins : ℕ → Bool) (K : ℕ) (xs : List Step) (count : �
         let last : last_until s.first 0 (checkpoint_steps old.checkpoints.items) ≡ b.copy.step =
         last-is s.first m 0 old.checkpoints.items within front behind ∙ (front-spaced n coins K xs count old kept ys s span m b).1 in
         record { end = end; count = omega (arith, here, last, counted); ends = ends; none_before = none }
-
-    -- and at least those to the end of what was put in
-    pub at-least : s.new_end ≤ s.first + applied
-    at-least =
-        let from = b.within in
-        elim ends [
-          | inl e ↦ let w = span.new_within in omega (arith, here, from, counted, e, w)
-          | inr stands ↦
-              omega (
-                arith,
-                here,
-                from,
-                counted,
-                not-before (AgreeBackBehindSpan n coins xs ys s) s.first s.old_end s.new_end end (slice_get (checkpoint_steps old.checkpoints.items) stands.0) stands.1,
-              )
-        ]

@@ -17,15 +17,16 @@ use Rattle.stab_session.specs.declared.kept.Rest.{Rest}
 use Rattle.stab_run.specs.Records.{ones}
 use Rattle.stab_run.specs.Points.{RunOutput, all_coins_of, with_additions}
 use Rattle.stab_session.specs.Bounds.{EndsAt, IsCounted}
-use Rattle.stab_run.specs.ProgramStates.{output_of}
+use Rattle.stab_run.specs.ProgramStates.{StepFits, output_of}
 use Rattle.stab_frames.specs.KeptStrings.{StringsState}
 use Rattle.stab_session.specs.inner.Checkpoints.{checkpoint_steps, moved_copy}
-use Rattle.stab_session.specs.inner.Replays.{IsKeptRun, IsSameKept, Follows, AgreeBehindSpan, AgreeBackBehindSpan, IsReplay, Ascending, Meets, IsEnd, EndsSoon, step_among_new}
+use Rattle.stab_session.specs.inner.FramedReplays.{IsOldRun}
+use Rattle.stab_session.specs.inner.Replays.{IsNoted, IsKeptRun, IsSameKept, Follows, AgreeBehindSpan, AgreeBackBehindSpan, IsReplay, Ascending, Meets, IsEnd, EndsSoon, step_among_new}
 use Rattle.stab_session.specs.inner.Prepared.{Begins, HasCopy, IsRest, IsOldRest, IsPrepared, IsCommitted, copies_behind, meeting_of}
 use Rattle.stab_session.proofs.ReplayLemmas.{coins-steps}
 use Rattle.stab_session.proofs.SpacingLemmas.{IsBefore}
 use Rattle.stab_session.proofs.FollowLemmas.{some-at, some-and, prepared-same, committed-same, before-first, begun, same-records, next-behind, all-ascending, all-qubits, kept-end, end-flags}
-use Rattle.stab_session.proofs.CountLemmas.{applied-within, few-steps, ends-at, none-before, at-least, is-counted}
+use Rattle.stab_session.proofs.CountLemmas.{applied-within, few-steps, ends-at, none-before, is-counted}
 
 -- so many of the first copies are before a step
 pub record IsCount (step : ℕ) (copies : List Checkpoint) (m : ℕ) : Type 0 where
@@ -87,6 +88,7 @@ pub record HasBegun (n : ℕ) (coins : ℕ → Bool) (K : ℕ) (ys : List Step) 
   pub replay : IsReplay r.tableau.qubits coins K r.step r.cursor.all r
   pub laid : r.laid.items ≡ []
   pub applied : r.applied ≡ 0
+  pub framed : r.framed ≡ 0
   pub apart : All IsApart ys
   pub at : IfSome (slice_get old.checkpoints.items (m - 1)) (λ c. r.step ≡ c.step)
   pub strings : r.notes.strings.qubits ≡ r.tableau.qubits
@@ -97,7 +99,7 @@ pub record HasBegun (n : ℕ) (coins : ℕ → Bool) (K : ℕ) (ys : List Step) 
 -- what was prepared can be put in place, and is the run of the new steps then
 pub record IsReady (n : ℕ) (coins : ℕ → Bool) (K : ℕ) (ys : List Step) (m : ℕ) (r : Replay) (mid : KeptRun) (observables : ℕ) (q : Prepared) : Type 0 where
   pub behind : (there : KeptRun) → IsSameKept there mid → m + length (copies_behind q.rest there.checkpoints.items) ≤ length there.checkpoints.items
-  pub kept : (there : KeptRun) → IsSameKept there mid → (new : KeptRun) → IsCommitted there q m K new → IsKeptRun n coins K ys observables new
+  pub kept : (there : KeptRun) → IsSameKept there mid → All (StepFits n) ys → (new : KeptRun) → IsCommitted there q m K new → IsKeptRun n coins K ys observables new
   pub flags : (there : KeptRun) → IsSameKept there mid → (new : KeptRun) → IsCommitted there q m K new → ones r.outputs.free.items ≤ ones new.outputs.free.items
 
 -- how many steps a replay took that has ended, and what is prepared from it
@@ -108,7 +110,7 @@ pub record HasEnded (n : ℕ) (coins : ℕ → Bool) (K : ℕ) (ys : List Step) 
   pub applied : (applied : ℕ) → applied + begin ≡ r.step → applied ≤ (length ys - s.first) + K
   pub few : (applied : ℕ) → applied + begin ≡ r.step → EndsSoon n coins p ys old.checkpoints.items old.outputs.records.items r.step → (far : ℕ)
       → AgreeBehindSpan n coins xs ys s far → applied ≤ ((s.new_end - s.first) + 2 * K) + far
-  pub at_least : (applied : ℕ) → applied + begin ≡ r.step → s.new_end ≤ s.first + applied
+  pub at_least : (applied : ℕ) → s.new_end ≤ begin + applied → s.new_end ≤ s.first + applied
   pub counted : (applied : ℕ) → applied + begin ≡ r.step → EndsSoon n coins p ys old.checkpoints.items old.outputs.records.items r.step
       → IsCounted (AgreeBehindSpan n coins xs ys s) (AgreeBackBehindSpan n coins xs ys s) (checkpoint_steps old.checkpoints.items) s.first s.old_end s.new_end (length ys) applied
   pub ready : (mid : KeptRun) → IsSameKept mid old → (observables : ℕ) (q : Prepared) → IsPrepared mid r observables end q → IsReady n coins K ys m r mid observables q
@@ -138,6 +140,7 @@ module _ {n : ℕ} {coins : ℕ → Bool} {K : ℕ} {ys : List Step} {s : Span} 
             (subst (λ k. IsReplay k coins K r.step ys r) (sym at_first.at_step.qubits) at_first);
         laid = here.laid;
         applied = here.applied;
+        framed = here.framed;
         apart = here.apart;
         at = IfSome_then (slice_get old.checkpoints.items (m - 1)) begins (λ c h. h.step);
         strings = at_first.at_step.noted.size ∙ sym at_first.at_step.qubits;
@@ -167,6 +170,21 @@ module _ {n : ℕ} {coins : ℕ → Bool} {K : ℕ} {ys : List Step} {s : Span} 
         all-ascending n coins K f.old f.count old f.kept ys s f.span p r0.step old_end new_end total (omega (arith, few)) next-there
         (let w = near.within in omega (arith, step_is))
 
+    -- whose steps are the new ones behind what was changed
+    pub old-run : IsOldRun r0.tableau.qubits coins p r0.cursor.all old.checkpoints.items (output_of old.outputs) old.strings
+    old-run =
+        subst (λ zs. IsOldRun r0.tableau.qubits coins p zs old.checkpoints.items (output_of old.outputs) old.strings) (sym begins.all)
+        (subst (λ k. IsOldRun k coins p ys old.checkpoints.items (output_of old.outputs) old.strings) (sym begins.qubits) (record {
+          steps = f.old;
+          are_copies = f.kept.checkpoints;
+          output = f.kept.run.output;
+          noted = subst (IsNoted n coins f.old old.strings old.outputs.free.items) (sym reach) f.kept.noted;
+          fits = f.kept.fits;
+          old_within = let w = f.span.old_within in omega (arith, old_end, w);
+          new_within = let w = f.span.new_within in omega (arith, new_end, w);
+          behind = ap (λ k. drop k f.old) old_end ∙ f.span.behind ∙ ap (λ k. drop k ys) (sym new_end);
+        }))
+
     module _ (r : Replay) (end : End) (replay : IsReplay r0.tableau.qubits coins K r0.step r0.cursor.all r) (raised : r0.notes.reach ≤ r.notes.reach)
         (is_end : IsEnd r0.tableau.qubits p r old.checkpoints.items old.outputs.records.items end) where
       done : IsReplay n coins K near.copy.step ys r
@@ -190,9 +208,9 @@ module _ {n : ℕ} {coins : ℕ → Bool} {K : ℕ} {ys : List Step} {s : Span} 
         placed : (there : KeptRun) → IsSameKept there mid → (new : KeptRun) → IsCommitted there q m K new → IsCommitted old q m K new
         placed there again new committed = committed-same there old q m K new (same-trans there mid old again same) committed
 
-        kept-here : (new : KeptRun) → IsCommitted old q m K new → IsKeptRun n coins K ys observables new
-        kept-here new put =
-            kept-end n coins K f.old f.count old f.kept ys s f.span m near count.before r done (omega (arith, raised, begins.reach)) observables new
+        kept-here : All (StepFits n) ys → (new : KeptRun) → IsCommitted old q m K new → IsKeptRun n coins K ys observables new
+        kept-here fits new put =
+            kept-end n coins K f.old f.count old f.kept ys s f.span m near count.before r done (omega (arith, raised, begins.reach)) fits observables new
             (put.observables
             ∙ prepared_here.observables
             ∙ ap (λ (o : RunOutput). with_additions o.additions (replicate observables false)) (sym put.output))
@@ -207,7 +225,7 @@ module _ {n : ℕ} {coins : ℕ → Bool} {K : ℕ} {ys : List Step} {s : Span} 
           behind = λ there again.
               subst (λ cs. m + length (copies_behind q.rest cs) ≤ length cs) (sym (again.checkpoints ∙ same.checkpoints))
               (few-behind n p r old end (output_of q.outputs) q.strings q.rest m (omega (arith, next)) count.within end_here prepared_here.rest);
-          kept = λ there again new committed. kept-here new (placed there again new committed);
+          kept = λ there again fits new committed. kept-here fits new (placed there again new committed);
           flags = λ there again new committed. flags-here new (placed there again new committed);
         }
 
@@ -220,7 +238,7 @@ module _ {n : ℕ} {coins : ℕ → Bool} {K : ℕ} {ys : List Step} {s : Span} 
         few = λ applied counted soon far agree.
             few-steps n coins K f.old f.count old f.kept ys s f.span p old_end new_end (omega (arith, few)) m e near behind.within behind.before behind.behind next far agree r0.step
             r.step applied soon done.at_step.within begins.at counted;
-        at_least = λ applied counted. at-least n coins K f.old f.count old f.kept ys s f.span m near r0.step r.step applied begins.at counted ends-here;
+        at_least = λ applied changed. let w = near.within in omega (arith, step_is, w, changed);
         counted = λ applied counted soon.
             is-counted n coins K f.old f.count old f.kept ys s f.span m near r0.step r.step applied begins.at counted ends-here count.within count.before count.behind
             (none-before n coins K f.old f.count old f.kept ys s f.span p old_end new_end (omega (arith, few)) m e count.before behind.before next r.step soon);

@@ -22,7 +22,7 @@ use Rattle.stab_run.specs.Records.{ones}
 use Rattle.stab_run.specs.Points.{RunOutput, origin, joined, point_after, outputs, all_coins_of, with_additions}
 use Rattle.stab_frames.specs.Ends.{AgreeBack}
 use Rattle.stab_frames.specs.Lookbacks.{LooksWithin}
-use Rattle.stab_run.specs.ProgramStates.{program_state, output_of}
+use Rattle.stab_run.specs.ProgramStates.{StepFits, program_state, output_of}
 use Rattle.stab_session.specs.inner.Spacing.{Near, IsSpaced, last_of}
 use Rattle.stab_run.specs.Cuts.{lengths_of, front_of, rest_of}
 use Rattle.stab_session.specs.inner.Checkpoints.{IsRunFromStart, IsCheckpoint, checkpoint_steps, all_laid, moved, moved_copy}
@@ -210,7 +210,7 @@ module _ (n : ℕ) (coins : ℕ → Bool) (K : ℕ) (xs : List Step) (count : �
       here = slice_get-map (λ c. c.step) old.checkpoints.items (m - 1) ∙ ap (option_map (λ c. c.step)) b.here
 
   module _ (m : ℕ) (b : IsBefore K (length xs) s.first m old.checkpoints.items) (front : All (λ c. c.step < s.first + 1) (take m old.checkpoints.items))
-      (r : Replay) (replay : IsReplay n coins K b.copy.step ys r) (raised : old.reach ≤ r.notes.reach) (total : ℕ) (new : KeptRun)
+      (r : Replay) (replay : IsReplay n coins K b.copy.step ys r) (raised : old.reach ≤ r.notes.reach) (fits : All (StepFits n) ys) (total : ℕ) (new : KeptRun)
       (observables : new.observables.items ≡ with_additions new.outputs.additions.items (replicate total false)) where
     -- behind the last step
     kept-last : r.step ≡ length ys → new.tableau ≡ r.tableau → output_of new.outputs ≡ output_of r.outputs → new.strings ≡ r.notes.strings → new.reach ≡ r.notes.reach
@@ -222,6 +222,7 @@ module _ (n : ℕ) (coins : ℕ → Bool) (K : ℕ) (xs : List Step) (count : �
         output = output ∙ whole.output;
       };
       observables = observables;
+      fits = fits;
       noted =
           subst (λ x. x) (λ i. IsNoted n coins (take_all r.step ys (omega (arith, end)) i) (sym strings i) (sym output i).free (sym reach i)) replay.at_step.noted;
       checkpoints =
@@ -258,6 +259,7 @@ module _ (n : ℕ) (coins : ℕ → Bool) (K : ℕ) (xs : List Step) (count : �
             ∙ sym (kept-tail n coins xs ys d.step r.step same future);
       };
       observables = observables;
+      fits = fits;
       noted =
           subst (IsNoted n coins ys new.strings new.outputs.free.items) (sym new_reach)
           (noted-spliced n coins xs ys d.step r.step same (sym agree.coin)

@@ -72,7 +72,7 @@ true-turned n coins strings (x ∷ xs) a b coin turned is = (
 
 -- no output is flipped by nothing
 
-flipped-empty : (bits : List Bool) → flipped bits [] ≡ bits
+pub flipped-empty : (bits : List Bool) → flipped bits [] ≡ bits
 flipped-empty [] = refl
 flipped-empty (bit ∷ bits) = refl
 

@@ -10,7 +10,7 @@ use Rattle.stab_circuit.specs.Steps.{Step}
 use Rattle.stab_session.specs.declared.checkpoint.Checkpoint.{Checkpoint}
 use Rattle.stab_session.specs.declared.kept.KeptRun.{KeptRun}
 use Rattle.stab_run.specs.Points.{RunOutput, nothing, origin, point_after, outputs, with_additions}
-use Rattle.stab_run.specs.ProgramStates.{output_of}
+use Rattle.stab_run.specs.ProgramStates.{StepFits, output_of}
 use Rattle.stab_session.specs.inner.Spacing.{IsSpaced}
 use Rattle.stab_run.specs.Cuts.{lengths_of}
 use Rattle.stab_session.specs.inner.Checkpoints.{IsCheckpoint, checkpoint_steps}
@@ -31,6 +31,7 @@ kept-nothing n coins K r c qubits zeros empty none one first short same unnoted 
   qubits = qubits;
   run = record { group = zeros; output = empty };
   observables = none ∙ ap (λ (o : RunOutput). with_additions o.additions (replicate 0 false)) (sym empty);
+  fits = All-nil (StepFits n);
   noted = noted-nothing n coins r.strings r.outputs.free.items r.reach unnoted (ap (λ (o : RunOutput). o.free) empty);
   checkpoints = subst (All (IsCheckpoint n coins [])) (sym one) (All-cons (IsCheckpoint n coins []) c [] (record {
     within = omega arith;

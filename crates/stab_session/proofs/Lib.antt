@@ -13,4 +13,13 @@ mod EditedLemmas
 mod SpacingLemmas
 mod CheckpointLemmas
 mod FramedLemmas
+mod SegmentLemmas
+mod TurnedCopyLemmas
+mod FlippedLemmas
+mod FrameStartLemmas
+mod FramedStepLemmas
+mod NotedSegmentLemmas
+mod OverCopyLemmas
+mod LedLemmas
+mod LedWayLemmas
 mod NotedLemmas

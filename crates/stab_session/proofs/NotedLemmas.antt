@@ -89,7 +89,7 @@ pub true-back : (n : ℕ) (coins : ℕ → Bool) (strings : ℕ → Option (List
 true-back n coins strings [] ys a is = is
 true-back n coins strings (x ∷ xs) ys a is = true-back n coins strings xs ys (next_point n coins x a) is.1
 
-coins-are : (n : ℕ) (coins : ℕ → Bool) (xs : List Step) (a : Point) → (point_after n coins xs a).coin ≡ a.coin + all_coins_of xs
+pub coins-are : (n : ℕ) (coins : ℕ → Bool) (xs : List Step) (a : Point) → (point_after n coins xs a).coin ≡ a.coin + all_coins_of xs
 coins-are n coins [] a = omega arith
 coins-are n coins (x ∷ xs) a = omega (arith, coins-are n coins xs (next_point n coins x a))
 
@@ -173,11 +173,11 @@ take-on (suc c) t (true ∷ bits) =
     ap (λ k. ones (take k (true ∷ bits))) (one-more c t) ∙ (let e = take-on c t bits in omega (arith, e))
 take-on (suc c) t (false ∷ bits) = ap (λ k. ones (take k (false ∷ bits))) (one-more c t) ∙ take-on c t bits
 
-ones-take : (c : ℕ) (bits : List Bool) → ones (take c bits) + ones (drop c bits) ≡ ones bits
+pub ones-take : (c : ℕ) (bits : List Bool) → ones (take c bits) + ones (drop c bits) ≡ ones bits
 ones-take c bits = sym (ones-append (take c bits) (drop c bits)) ∙ ap ones (take-append-drop c bits)
 
 -- a bit that is 1 is counted
-counted : (t : ℕ) (bits : List Bool) → get_or bits t false ≡ true → ones (take t bits) < ones bits
+pub counted : (t : ℕ) (bits : List Bool) → get_or bits t false ≡ true → ones (take t bits) < ones bits
 counted t [] e = absurd (cc)
 counted zero (true ∷ bits) e = omega arith
 counted zero (false ∷ bits) e = absurd (cc)
@@ -321,6 +321,17 @@ module _ (n : ℕ) (coins : ℕ → Bool) (xs : List Step) (s : StringsState) (f
                 let lt = h.1 in
                 (omega (arith, long, most, lt, noted.numbered, few), omega (arith, most, noted.within))
           ]
+
+-- with a greater reach
+pub noted-more : (n : ℕ) (coins : ℕ → Bool) (xs : List Step) (s : StringsState) (free : List Bool) (reach more : ℕ) → reach ≤ more → IsNoted n coins xs s free reach
+    → IsNoted n coins xs s free more
+noted-more n coins xs s free reach more raised noted = record {
+  size = noted.size;
+  within = noted.within;
+  numbered = noted.numbered;
+  are_true = noted.are_true;
+  near = within-more reach more xs raised noted.near;
+}
 
 -- a run that goes on, and notes its strings
 pub noted-on : (n : ℕ) (coins : ℕ → Bool) (xs zs : List Step) (s t : StringsState) (old new : ProgramState) (before after : ℕ) → IsNoted n coins xs s old.output.free before

@@ -1,5 +1,5 @@
 -- Replays: a run that goes on from a copy of an earlier one, what it asks of coins, and where it meets another copy.
-use Rattle.std.proofs.Common.{◌≡◌, ℕ, zero, suc, ◌+◌, ◌-◌, ◌<◌, ◌≤◌, refl, sym, ◌∙◌, ap, subst, Bool, ◌⊎◌, inl, inr, List, [], ◌∷◌, ◌++◌, All, IfSome, IsSomeAnd, Option, None, Some, slice_get, length, take, drop, arith}
+use Rattle.std.proofs.Common.{◌≡◌, ◌≢◌, ℕ, zero, suc, ◌+◌, ◌-◌, ◌<◌, ◌≤◌, refl, sym, ◌∙◌, ap, subst, Bool, ◌⊎◌, inl, inr, List, [], ◌∷◌, ◌++◌, All, IfSome, IsSomeAnd, Option, None, Some, slice_get, length, take, drop, arith}
 use Rattle.std.specs.Option.{option_map}
 use Rattle.std.proofs.lemmas.List.{length-take, take-append-drop, take_at, take-take, drop-drop, map-append}
 use Rattle.std.proofs.lemmas.List.Elements.{All-push}
@@ -20,7 +20,7 @@ use Rattle.stab_run.specs.Cuts.{lengths_of}
 use Rattle.stab_session.specs.inner.Checkpoints.{IsRunFromStart, IsCheckpoint, checkpoint_steps}
 use Rattle.stab_frames.specs.KeptStrings.{KeepsTrue}
 use Rattle.stab_frames.specs.Lookbacks.{LooksWithin}
-use Rattle.stab_session.specs.inner.Replays.{IsNoted, IsAtStep, IsReplay, Ascending, Meets, MeetsAt, IsPlacedAt, IsArrival, Misses, EndsSoon, step_among_new, copy_of}
+use Rattle.stab_session.specs.inner.Replays.{IsNoted, IsAtStep, IsReplay, Ascending, Meets, MeetsAt, IsPlacedAt, IsArrival, Misses, EndsSoon, step_among_new, copy_of, IsAtStop, IsOnWay, StopsAt}
 use Rattle.stab_run.proofs.PointLemmas.{flags-are-coins, records-are-records}
 use Rattle.stab_session.proofs.NotedLemmas.{noted-on}
 use Rattle.stab_session.proofs.PointLemmas.{resumed, shows-from-start, take-more}
@@ -155,25 +155,9 @@ agree-meets n reach coins xs zs c t o records run h kept agree = record {
 
 -- a replay on its way
 
--- at a step where it stops, with this old copy to be met next: those before it were not met
-pub record IsAtStop (n : ℕ) (coins : ℕ → Bool) (begin : ℕ) (p : Plan) (ys : List Step) (copies : List Checkpoint) (old : List Bool) (next : ℕ) (r : Replay) : Type 0 where
-  pub replay : IsReplay n coins p.stride begin ys r
-  pub counted : r.applied + begin ≡ r.step
-  pub order : p.next ≤ next
-  pub within : next ≤ length copies
-  pub ascending : Ascending p r.step (drop next copies)
-  pub base : p.base ≤ length r.outputs.records.items
-  pub same : take p.base r.outputs.records.items ≡ take p.base old
-  pub missed : (number : ℕ) → p.next ≤ number → number < next → IfSome (slice_get copies number) (Misses n coins p ys old)
-
--- and about to go on from there, with the last copy laid there
-pub record IsOnWay (n : ℕ) (coins : ℕ → Bool) (begin : ℕ) (p : Plan) (ys : List Step) (copies : List Checkpoint) (old : List Bool) (next : ℕ) (r : Replay) : Type 0 where
-  pub stop : IsAtStop n coins begin p ys copies old next r
-  pub last : last_of begin (checkpoint_steps r.laid.items) ≡ r.step
-
 -- where the next copy stands
 
-ascending-end : (p : Plan) (step : ℕ) (cs : List Checkpoint) → Ascending p step cs → step ≤ p.total
+pub ascending-end : (p : Plan) (step : ℕ) (cs : List Checkpoint) → Ascending p step cs → step ≤ p.total
 ascending-end p step [] h = h
 ascending-end p step (c ∷ cs) h = let le = ascending-end p (step_among_new p c) cs h.1 in omega arith
 
@@ -189,7 +173,7 @@ pub place-behind : (p : Plan) (step k : ℕ) (cs : List Checkpoint) (place : Opt
 place-behind p step k cs place e h = subst (λ o. IfSome o (λ q. step ≤ q)) (sym e) (next-behind p step k cs h)
 
 -- and may stop there at the latest
-ascending-stop : (p : Plan) (step stop k : ℕ) (cs : List Checkpoint) → Ascending p step (drop k cs) → stop ≤ p.total
+pub ascending-stop : (p : Plan) (step stop k : ℕ) (cs : List Checkpoint) → Ascending p step (drop k cs) → stop ≤ p.total
     → IfSome (option_map (step_among_new p) (slice_get cs k)) (λ q. stop ≤ q) → Ascending p stop (drop k cs)
 ascending-stop p step stop zero [] h within before = within
 ascending-stop p step stop (suc k) [] h within before = within
@@ -217,7 +201,7 @@ later-within [] k P h = absurd h
 later-within (c ∷ cs) zero P h = omega arith
 later-within (c ∷ cs) (suc k) P h = let le = later-within cs k P h in omega arith
 
-later-ascending : (p : Plan) (step k : ℕ) (cs : List Checkpoint) → Ascending p step (drop k cs) → IsPlacedAt p cs k step → Ascending p step (drop (k + 1) cs)
+pub later-ascending : (p : Plan) (step k : ℕ) (cs : List Checkpoint) → Ascending p step (drop k cs) → IsPlacedAt p cs k step → Ascending p step (drop (k + 1) cs)
 later-ascending p step zero [] h place = absurd place
 later-ascending p step (suc k) [] h place = absurd place
 later-ascending p step zero (c ∷ cs) h place = subst (λ m. Ascending p m cs) place h.1
@@ -233,7 +217,7 @@ module _ (n : ℕ) (coins : ℕ → Bool) (begin : ℕ) (p : Plan) (ys : List St
   -- at the next stop
   pub on-stop : (others : ℕ → Bool) (next stop : ℕ) (place : Option ℕ) (r s : Replay) → IsOnWay n coins begin p ys copies old next r → others ≡ coins
       → IsAtStep r.tableau.qubits others r.cursor.all s → s.laid.items ≡ r.laid.items
-      → r.outputs.records.items ≡ take (length r.outputs.records.items) s.outputs.records.items → s.applied + r.step ≡ r.applied + stop → s.step ≡ stop
+      → r.outputs.records.items ≡ take (length r.outputs.records.items) s.outputs.records.items → (s.applied + s.framed) + r.step ≡ (r.applied + r.framed) + stop → s.step ≡ stop
       → r.step ≤ stop → stop ≤ p.total → stop ≤ r.step + p.stride → place ≡ option_map (step_among_new p) (slice_get copies next) → IfSome place (λ q. stop ≤ q)
       → IsAtStop n coins begin p ys copies old next s
   on-stop others next stop place r s h same_coins at laid records counted step order within near place_is before = record {
@@ -278,14 +262,12 @@ module _ (n : ℕ) (coins : ℕ → Bool) (begin : ℕ) (p : Plan) (ys : List St
   missed r (Some c) h place apart = misses r c h place apart
 
   -- so that one was missed as those before it were
-  all-missed : (next : ℕ) (r : Replay) → IsAtStop n coins begin p ys copies old next r → IfSome (slice_get copies next) (λ c. step_among_new p c ≡ r.step)
-      → IfSome (slice_get copies next) (λ c. MeetsAt n p r old c → ⊥) → (number : ℕ) → p.next ≤ number → number < next + 1
-      → IfSome (slice_get copies number) (Misses n coins p ys old)
-  all-missed next r h place apart number from before =
+  all-missed : (next : ℕ) (r : Replay) → IsAtStop n coins begin p ys copies old next r → IfSome (slice_get copies next) (Misses n coins p ys old)
+      → (number : ℕ) → p.next ≤ number → number < next + 1 → IfSome (slice_get copies number) (Misses n coins p ys old)
+  all-missed next r h apart number from before =
       elim (cases_lt number next) [
         | inl lt ↦ h.missed number from lt
-        | inr le ↦ subst (λ k. IfSome (slice_get copies k) (Misses n coins p ys old)) (omega (arith, le, before))
-            (missed r (slice_get copies next) h.replay.at_step place apart)
+        | inr le ↦ subst (λ k. IfSome (slice_get copies k) (Misses n coins p ys old)) (omega (arith, le, before)) apart
       ]
 
   -- and wherever it ends, it missed each copy that stands before its step
@@ -297,8 +279,8 @@ module _ (n : ℕ) (coins : ℕ → Bool) (begin : ℕ) (p : Plan) (ys : List St
       ]
 
   -- before it the replay goes on, where it passed a copy with the one after it next
-  past : (next : ℕ) (r : Replay) → IsAtStop n coins begin p ys copies old next r → IsPlacedAt p copies next r.step
-      → IfSome (slice_get copies next) (λ c. MeetsAt n p r old c → ⊥) → IsAtStop n coins begin p ys copies old (next + 1) r
+  pub past : (next : ℕ) (r : Replay) → IsAtStop n coins begin p ys copies old next r → IsPlacedAt p copies next r.step
+      → IfSome (slice_get copies next) (Misses n coins p ys old) → IsAtStop n coins begin p ys copies old (next + 1) r
   past next r h placed apart = record {
     replay = h.replay;
     counted = h.counted;
@@ -307,11 +289,11 @@ module _ (n : ℕ) (coins : ℕ → Bool) (begin : ℕ) (p : Plan) (ys : List St
     ascending = later-ascending p r.step next copies h.ascending placed;
     base = h.base;
     same = h.same;
-    missed = all-missed next r h (if-some (slice_get copies next) (λ c. step_among_new p c ≡ r.step) placed) apart;
+    missed = all-missed next r h apart;
   }
 
   -- with a copy laid at its step
-  with-laid : (next : ℕ) (r s : Replay) → IsAtStop n coins begin p ys copies old next r → s.laid.items ≡ r.laid.items ++ copy_of r ∷ []
+  pub with-laid : (next : ℕ) (r s : Replay) → IsAtStop n coins begin p ys copies old next r → s.laid.items ≡ r.laid.items ++ copy_of r ∷ []
       → IsOnWay n coins begin p ys copies old next (record r { laid = s.laid })
   with-laid next r s h laid = record {
     stop = record {
@@ -355,32 +337,51 @@ module _ (n : ℕ) (coins : ℕ → Bool) (begin : ℕ) (p : Plan) (ys : List St
       there =
           elim arrival.2 [
             | inl same ↦ subst (λ k. IsAtStop n coins begin p ys copies old k r) (sym same.0) h
-            | inr placed ↦ subst (λ k. IsAtStop n coins begin p ys copies old k r) (sym placed.0) (past next r h placed.1 arrival.1)
+            | inr placed ↦ subst (λ k. IsAtStop n coins begin p ys copies old k r) (sym placed.0)
+                (past next r h placed.1
+                (missed r (slice_get copies next) h.replay.at_step (if-some (slice_get copies next) (λ c. step_among_new p c ≡ r.step) placed.1) arrival.1))
           ]
 
--- and fewer steps or fewer copies are left
+-- where it goes on it went a stride, or passed the copy
 
-placed-at : (p : Plan) (o : Option Checkpoint) (step : ℕ) → option_map (step_among_new p) o ≡ Some step → IsSomeAnd o (λ c. step_among_new p c ≡ step)
-placed-at p None step e = absurd (none-some step e)
-placed-at p (Some c) step e = same_Some (step_among_new p c) step e
-
-pub not-stopped : (p : Plan) (copies : List Checkpoint) (next stop : ℕ) (place : Option ℕ) (step : ℕ) → step ≡ stop → place ≡ option_map (step_among_new p) (slice_get copies next)
-    → (step ≡ p.total → ⊥) → (IsPlacedAt p copies next step → ⊥) → (stop ≡ p.total) ⊎ (place ≡ Some stop) → ⊥
-not-stopped p copies next stop place step at place_is further unplaced stopped =
-    elim stopped [
-      | inl e ↦ further (at ∙ e)
-      | inr e ↦ unplaced (placed-at p (slice_get copies next) step (sym place_is ∙ e ∙ ap Some (sym at)))
+not-there : (p : Plan) (copies : List Checkpoint) (next step : ℕ) → step ≢ p.total → (IsPlacedAt p copies next step → ⊥) → (step ≡ p.total) ⊎ IsPlacedAt p copies next step → ⊥
+not-there p copies next step further unplaced at =
+    elim at [
+      | inl e ↦ further e
+      | inr e ↦ unplaced e
     ]
 
-pub fewer-left : (n : ℕ) (p : Plan) (copies : List Checkpoint) (old : List Bool) (next later step stop : ℕ) (place : Option ℕ) (r : Replay) → r.step ≡ stop → step ≤ stop
-    → stop ≤ p.total → place ≡ option_map (step_among_new p) (slice_get copies next) → (step < stop) ⊎ ((stop ≡ p.total) ⊎ (place ≡ Some stop))
-    → IsArrival n p r copies old next (Between later) → (p.total - r.step) + (length copies - later) < (p.total - step) + (length copies - next)
-fewer-left n p copies old next later step stop place r at order within place_is further arrival =
+pub went-on : (n : ℕ) (p : Plan) (copies : List Checkpoint) (old : List Bool) (next later from : ℕ) (r : Replay) → StopsAt p copies next from r.step
+    → IsArrival n p r copies old next (Between later) → ((later ≡ next) × (from + p.stride ≤ r.step)) ⊎ ((later ≡ next + 1) × (next < length copies))
+went-on n p copies old next later from r stops arrival =
     elim arrival.2 [
       | inl same ↦
-          elim further [
-            | inl less ↦ let e = same.0 in omega arith
-            | inr other ↦ absurd (not-stopped p copies next stop place r.step at place_is arrival.0 same.1 other)
+          elim stops [
+            | inl far ↦ inl (same.0, far)
+            | inr at ↦ absurd (not-there p copies next r.step arrival.0 same.1 at)
           ]
-      | inr placed ↦ let e = placed.0 in let le = later-within copies next (λ c. step_among_new p c ≡ r.step) placed.1 in omega arith
+      | inr placed ↦ inr (placed.0, later-within copies next (λ c. step_among_new p c ≡ r.step) placed.1)
     ]
+
+-- and fewer steps or fewer copies are left
+pub fewer-left : (n : ℕ) (p : Plan) (copies : List Checkpoint) (old : List Bool) (first next later from : ℕ) (r : Replay) → 1 ≤ p.stride → from ≤ r.step → r.step ≤ p.total
+    → first ≤ next → next ≤ length copies → StopsAt p copies next from r.step → IsArrival n p r copies old next (Between later)
+    → (p.total - r.step) + (length copies - later) < (p.total - from) + (length copies - first)
+fewer-left n p copies old first next later from r stride further within order among stops arrival =
+    elim (went-on n p copies old next later from r stops arrival) [
+      | inl far ↦ let same = far.0 in let more = far.1 in omega (arith, same, more, stride, within, order, among)
+      | inr passed ↦ let one = passed.0 in let lt = passed.1 in omega (arith, one, lt, further, within, order)
+    ]
+
+-- however it went on
+
+pub went-so : {n m : ℕ} {coins others : ℕ → Bool} {ys zs : List Step} (begin : ℕ) (p : Plan) (copies : List Checkpoint) (old : List Bool) (next later : ℕ) (r s : Replay) → m ≡ n → others ≡ coins
+    → zs ≡ ys → (IsOnWay m others begin p zs copies old next r → IsAtStop m others begin p zs copies old later s) → IsOnWay n coins begin p ys copies old next r
+    → IsAtStop n coins begin p ys copies old later s
+went-so begin p copies old next later r s qubits coins all =
+    subst (λ t. t) (λ i. IsOnWay (qubits i) (coins i) begin p (all i) copies old next r → IsAtStop (qubits i) (coins i) begin p (all i) copies old later s)
+
+-- where it meets a copy it is behind what was changed
+pub met-behind : (n : ℕ) (p : Plan) (r : Replay) (records : List Bool) (o : Option Checkpoint) → p.new_end ≤ 1048576 → IsSomeAnd o (MeetsAt n p r records) → p.new_end ≤ r.step
+met-behind n p r records None few h = absurd h
+met-behind n p r records (Some c) few h = let place = h.0 in omega (arith, place, few)

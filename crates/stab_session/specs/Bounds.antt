@@ -100,8 +100,8 @@ abbrev pub NoneBefore : (ℕ → Type 0) → List ℕ → ℕ → ℕ → ℕ �
 NoneBefore agree copies first old_end new_end step =
     (number : ℕ) → IfSome (slice_get copies number) (λ c. MayBeMet first old_end c → new_end + (c - old_end) < step → agree (c - old_end) → ⊥)
 
--- so many steps were carried out: from the last old copy at or before the first changed step to one that may be met at which the runs
--- agree as far back as the steps behind look, or to the end; and at none before that do they agree in all
+-- so many steps were carried out, or gone over by a frame: from the last old copy at or before the first changed step to one that may
+-- be met at which the runs agree as far back as the steps behind look, or to the end; and at none before that do they agree in all
 pub record IsCounted (agree agree_back : ℕ → Type 0) (copies : List ℕ) (first old_end new_end total applied : ℕ) : Type 0 where
   pub end : ℕ
   pub count : applied + last_until first 0 copies ≡ end

@@ -4,3 +4,5 @@ pub mod Spacing
 pub mod Checkpoints
 pub mod Replays
 pub mod Prepared
+pub mod FramedReplays
+pub mod LedReplays

@@ -13,6 +13,7 @@ ghost use Rattle.stab_session.specs.inner.Checkpoints.{checkpoint_steps, all_lai
 ghost use Rattle.stab_session.specs.inner.Replays.{IsKeptRun, IsSameKept, IsSpan, Follows, AgreeBehindSpan, AgreeBackBehindSpan};
 ghost use Rattle.stab_session.specs.inner.Prepared.{Begins, HasCopy, IsSpliced, IsRest, HasRoom, IsPrepared, copies_behind, IsCommitted};
 
+use crate::bits::count_ones;
 use crate::checkpoint::{Checkpoint, Meeting, count_before, lay_all, take_moved};
 use crate::replay::{End, Plan, Replay};
 use stab_circuit::{Circuit, Cursor, Span};
@@ -34,6 +35,13 @@ pub struct KeptRun {
     pub checkpoints: Vec<Checkpoint>,
     pub strings: KeptStrings,
     pub reach: u32,
+}
+
+/// How an edit was followed: how many steps were carried out for it, and how many a frame went over.
+#[derive(Clone, Copy)]
+pub struct Followed {
+    pub applied: u64,
+    pub framed: u64,
 }
 
 /// What a replay leaves, in memory of its own.
@@ -128,12 +136,14 @@ impl KeptRun {
             cursor,
             step: copy.step,
             applied: 0,
+            framed: 0,
             laid: Vec::new(alloc),
         })
     }
 
     /// Makes this the run of an edited circuit, whose steps differ within the span, and tells how
-    /// many steps were carried out for it. The run is as before where memory is refused.
+    /// many steps were carried out for it, and how many a frame went over. The run is as before where
+    /// memory is refused.
     ///
     /// The replay goes on in the memory of a spare tableau if there is one, and one of the two
     /// that are then at hand is the next spare.
@@ -145,7 +155,7 @@ impl KeptRun {
         stride: usize,
         coins: &mut C,
         spare: &mut Option<Tableau>,
-    ) -> Result<u64, Refusal>
+    ) -> Result<Followed, Refusal>
         requires checked { check_within self.old.tableau.qubits (circuit_items circuit.now) ≡ None }
         requires stride { 1 ≤ stride }
         requires follows { Follows self.old.tableau.qubits (C.sequence coins.old) stride (unroll (circuit_items circuit.now)) span self.old }
@@ -154,14 +164,14 @@ impl KeptRun {
         ensures qubits { self.new.tableau.qubits ≡ self.old.tableau.qubits }
         ensures unchanged { OnErr result (IsSameKept self.new self.old) }
         ensures same_coins { C.sequence coins.new ≡ C.sequence coins.old }
-        ensures asks { IfOk result (λ applied. C.asks coins.new ≤ C.asks coins.old + applied) }
+        ensures asks { IfOk result (λ f. C.asks coins.new ≤ C.asks coins.old + f.applied) }
         ensures asks_free { OnOk result (C.asks coins.new ≤ C.asks coins.old + ones self.new.outputs.free.items) }
         ensures asked { C.asks coins.new ≤ C.asks coins.old + all_coins_of (unroll (circuit_items circuit.now)) }
         ensures asked_behind { C.asks coins.new ≤ C.asks coins.old + ((length (unroll (circuit_items circuit.now)) - span.first) + stride) }
-        ensures applied { IfOk result (λ applied. applied ≤ (length (unroll (circuit_items circuit.now)) - span.first) + stride) }
-        ensures few { IfOk result (λ applied. (xs : List Step) (count far : ℕ) → IsKeptRun self.old.tableau.qubits (C.sequence coins.old) stride xs count self.old → IsSpan xs (unroll (circuit_items circuit.now)) span → AgreeBehindSpan self.old.tableau.qubits (C.sequence coins.old) xs (unroll (circuit_items circuit.now)) span far → applied ≤ ((span.new_end - span.first) + 2 * stride) + far) }
-        ensures at_least { IfOk result (λ applied. span.new_end ≤ span.first + applied) }
-        ensures counted { IfOk result (λ applied. (xs : List Step) (count : ℕ) → IsKeptRun self.old.tableau.qubits (C.sequence coins.old) stride xs count self.old → IsSpan xs (unroll (circuit_items circuit.now)) span → IsCounted (AgreeBehindSpan self.old.tableau.qubits (C.sequence coins.old) xs (unroll (circuit_items circuit.now)) span) (AgreeBackBehindSpan self.old.tableau.qubits (C.sequence coins.old) xs (unroll (circuit_items circuit.now)) span) (checkpoint_steps self.old.checkpoints.items) span.first span.old_end span.new_end (length (unroll (circuit_items circuit.now))) applied) }
+        ensures applied { IfOk result (λ f. f.applied + f.framed ≤ (length (unroll (circuit_items circuit.now)) - span.first) + stride) }
+        ensures few { IfOk result (λ f. (xs : List Step) (count far : ℕ) → IsKeptRun self.old.tableau.qubits (C.sequence coins.old) stride xs count self.old → IsSpan xs (unroll (circuit_items circuit.now)) span → AgreeBehindSpan self.old.tableau.qubits (C.sequence coins.old) xs (unroll (circuit_items circuit.now)) span far → f.applied + f.framed ≤ ((span.new_end - span.first) + 2 * stride) + far) }
+        ensures at_least { IfOk result (λ f. span.new_end ≤ span.first + f.applied) }
+        ensures counted { IfOk result (λ f. (xs : List Step) (count : ℕ) → IsKeptRun self.old.tableau.qubits (C.sequence coins.old) stride xs count self.old → IsSpan xs (unroll (circuit_items circuit.now)) span → IsCounted (AgreeBehindSpan self.old.tableau.qubits (C.sequence coins.old) xs (unroll (circuit_items circuit.now)) span) (AgreeBackBehindSpan self.old.tableau.qubits (C.sequence coins.old) xs (unroll (circuit_items circuit.now)) span) (checkpoint_steps self.old.checkpoints.items) span.first span.old_end span.new_end (length (unroll (circuit_items circuit.now))) (f.applied + f.framed)) }
         ensures err { IfErr result (λ r. r ≡ OutOfMemory) }
     {
         let before = count_before(self.checkpoints.as_slice(), span.first + 1);
@@ -177,15 +187,20 @@ impl KeptRun {
         };
         let end = replay.follow(
             alloc,
+            circuit,
             self.checkpoints.as_slice(),
-            self.outputs.records.as_slice(),
+            &self.outputs,
+            &self.strings,
             plan,
             coins,
         )?;
-        let applied = replay.applied;
+        let followed = Followed {
+            applied: replay.applied,
+            framed: replay.framed,
+        };
         let prepared = self.prepare(alloc, replay, end, circuit.observables(), spare)?;
         self.commit(prepared, before, stride, spare);
-        Ok(applied)
+        Ok(followed)
     }
 
     /// Gathers what the run of the edited circuit is made of, and takes all memory for it.
@@ -355,15 +370,4 @@ impl KeptRun {
         self.checkpoints.truncate(before);
         lay_all(&mut self.checkpoints, laid, stride);
     }
-}
-
-/// How many bits are 1.
-fn count_ones(bits: &[bool]) -> usize
-    ensures value { result ≡ ones bits.now }
-{
-    let mut count = 0;
-    for bit in bits {
-        count += usize::from(*bit);
-    }
-    count
 }

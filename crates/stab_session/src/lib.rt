@@ -2,7 +2,10 @@
 //!
 //! In the order in which data flows; each module uses only those before it:
 //!
+//! - `bits`: lists of bits, counted, and put behind others as a frame flips them.
 //! - `checkpoint`: copies of the state on the way through a run, and where they are kept.
+//! - `framed`: a replay that goes on by a frame, from a copy of an older run to the next one.
+//! - `led`: a replay that a frame leads from copy to copy, as far as it can.
 //! - `replay`: a run from a copy on, up to a copy of an older run that it meets.
 //! - `kept`: a run that is kept with its copies, and follows the edits of its circuit.
 //! - `opening`: the run of a circuit, kept for the first time.
@@ -19,8 +22,11 @@
 //! `specs/Bounds.antt`. `specs/inner/` has what only private contracts cite.
 #![tactic(auto)]
 
+mod bits;
 mod checkpoint;
+mod framed;
 mod kept;
+mod led;
 mod opening;
 mod pending;
 mod replay;

@@ -1,16 +1,18 @@
-ghost use Rattle.std.specs.Prelude.{◌≡◌, ◌+◌, ◌-◌, ◌*◌, ◌<◌, ◌≤◌, ◌^◌, ◌↔◌, [], ◌∷◌, ◌++◌, All, IsTrue, OnOk, IfOk, IfErr, length, take, drop};
+ghost use Rattle.std.specs.Prelude.{◌≡◌, ℕ, ◌+◌, ◌-◌, ◌*◌, ◌<◌, ◌≤◌, ◌^◌, ◌↔◌, min, [], ◌∷◌, ◌++◌, None, All, IsTrue, OnOk, IfOk, IfErr, length, take, drop};
 ghost use Rattle.stab_io.specs.declared.refusal.Refusal.TheVariants.{OutOfMemory};
 ghost use Rattle.stab_tableau.specs.Groups.{SameGroup};
 ghost use Rattle.stab_tableau.specs.Tableaus.{stabilises};
-ghost use Rattle.stab_circuit.specs.Steps.{most_steps};
+ghost use Rattle.stab_circuit.specs.Steps.{most_steps, unroll, check_of};
+ghost use Rattle.stab_circuit.specs.Views.{circuit_items};
 ghost use Rattle.stab_run.specs.Records.{ones};
 ghost use Rattle.stab_run.specs.Points.{all_coins_of};
 ghost use Rattle.stab_run.specs.ProgramStates.{StepFits, output_of};
-ghost use Rattle.stab_session.specs.inner.Replays.{IsAtStep, IsReplay, Ascending, Meets, copy_of, IsArrival, IsEnd, EndsSoon, copies_passed};
+ghost use Rattle.stab_session.specs.inner.Replays.{IsAtStep, IsReplay, Ascending, Meets, copy_of, IsArrival, IsEnd, EndsSoon, IsAtStop, IsOnWay, StopsAt, copies_passed};
+ghost use Rattle.stab_session.specs.inner.FramedReplays.{IsOldRun};
 
 use crate::checkpoint::{Checkpoint, shifted};
-use stab_circuit::Cursor;
-use stab_frames::{RunNotes, run_noting};
+use stab_circuit::{Circuit, Cursor};
+use stab_frames::{KeptStrings, RunNotes, run_noting};
 use stab_io::Refusal;
 use stab_pauli::Pauli;
 use stab_run::{Coins, Outputs};
@@ -31,6 +33,8 @@ pub struct Replay<'a> {
     pub step: usize,
     /// How many steps were carried out.
     pub applied: u64,
+    /// How many a frame went over.
+    pub framed: u64,
     /// The copies laid on the way.
     pub laid: Vec<Checkpoint>,
 }
@@ -120,15 +124,18 @@ impl<'a> Replay<'a> {
         ensures laid { self.new.laid.items ≡ self.old.laid.items }
         ensures same_coins { C.sequence coins.new ≡ C.sequence coins.old }
         ensures at_step { OnOk result (IsAtStep self.old.tableau.qubits (C.sequence coins.old) self.old.cursor.all self.new) }
-        ensures step { OnOk result (self.new.step ≡ stop) }
+        ensures step { self.new.step ≡ stop }
         ensures raised { self.old.notes.reach ≤ self.new.notes.reach }
         ensures records { OnOk result (self.old.outputs.records.items ≡ take (length self.old.outputs.records.items) self.new.outputs.records.items) }
         ensures counted { OnOk result (self.new.applied + self.old.step ≡ self.old.applied + stop) }
+        ensures framed { self.new.framed ≡ self.old.framed }
         ensures asks { C.asks coins.new + self.old.step ≤ C.asks coins.old + stop }
         ensures asks_free { OnOk result (C.asks coins.new + ones self.old.outputs.free.items ≤ C.asks coins.old + ones self.new.outputs.free.items) }
         ensures asked { C.asks coins.new + all_coins_of (drop stop self.old.cursor.all) ≤ C.asks coins.old + all_coins_of (drop self.old.step self.old.cursor.all) }
         ensures err { IfErr result (λ r. r ≡ OutOfMemory) }
     {
+        let most = stop - self.step;
+        self.step = stop;
         run_noting(
             alloc,
             &mut self.tableau,
@@ -136,11 +143,10 @@ impl<'a> Replay<'a> {
             coins,
             &mut self.outputs,
             &mut self.cursor,
-            stop - self.step,
+            most,
             &mut self.applied,
             &mut self.notes,
         )?;
-        self.step = stop;
         Ok(())
     }
 
@@ -224,13 +230,67 @@ impl<'a> Replay<'a> {
         }
     }
 
+    /// Goes on by a frame where one leads on, and else carries out steps up to the next stop. Tells which
+    /// old copy may be met next.
+    ///
+    /// Refusal `OutOfMemory` alone.
+    fn advance<C: Coins>(
+        &mut self,
+        alloc: Global,
+        circuit: &'a Circuit,
+        copies: &[Checkpoint],
+        old: &Outputs,
+        strings: &KeptStrings,
+        plan: Plan,
+        next: usize,
+        coins: &mut C,
+    ) -> Result<usize, Refusal>
+        requires old { IsOldRun self.old.tableau.qubits (C.sequence coins.old) plan self.old.cursor.all copies.now (output_of old.now) strings.now }
+        requires same_circuit { unroll (circuit_items circuit.now) ≡ self.old.cursor.all }
+        requires checked { check_of (circuit_items circuit.now) ≡ None }
+        requires fits { All (StepFits self.old.tableau.qubits) self.old.cursor.all }
+        requires total { plan.total ≡ length self.old.cursor.all }
+        requires few { plan.total ≤ most_steps }
+        requires few_applied { (self.old.applied + self.old.framed) ≤ self.old.step }
+        requires stride { 1 ≤ plan.stride }
+        requires at_step { IsAtStep self.old.tableau.qubits (C.sequence coins.old) self.old.cursor.all self.old }
+        requires same_qubits { All (λ c. c.tableau.qubits ≡ self.old.tableau.qubits) copies.now }
+        requires next { next ≤ length copies.now }
+        requires ascending { Ascending plan self.old.step (drop next copies.now) }
+        requires base { plan.base ≤ length self.old.outputs.records.items }
+        requires same_records { take plan.base self.old.outputs.records.items ≡ take plan.base old.now.records.items }
+        ensures same_coins { C.sequence coins.new ≡ C.sequence coins.old }
+        ensures all { self.new.cursor.all ≡ self.old.cursor.all }
+        ensures qubits { self.new.tableau.qubits ≡ self.old.tableau.qubits }
+        ensures raised { OnOk result (self.old.notes.reach ≤ self.new.notes.reach) }
+        ensures way { IfOk result (λ later. (begin : ℕ) → IsOnWay self.old.tableau.qubits (C.sequence coins.old) begin plan self.old.cursor.all copies.now (old.now.records.items) next self.old → IsAtStop self.old.tableau.qubits (C.sequence coins.old) begin plan self.old.cursor.all copies.now (old.now.records.items) later self.new) }
+        ensures asks { OnOk result (C.asks coins.new + self.old.applied ≤ C.asks coins.old + self.new.applied) }
+        ensures asks_free { OnOk result (C.asks coins.new + ones self.old.outputs.free.items ≤ C.asks coins.old + ones self.new.outputs.free.items) }
+        ensures asked { C.asks coins.new + all_coins_of (drop self.new.step self.old.cursor.all) ≤ C.asks coins.old + all_coins_of (drop self.old.step self.old.cursor.all) }
+        ensures few_laid { IfOk result (λ later. plan.stride * length self.new.laid.items + plan.stride * next ≤ plan.stride * length self.old.laid.items + plan.stride * later) }
+        ensures stops { IfOk result (λ later. StopsAt plan copies.now later self.old.step self.new.step) }
+        ensures order { IfOk result (λ later. next ≤ later) }
+        ensures further { self.old.step ≤ self.new.step }
+        ensures changed { OnOk result (min self.new.step plan.new_end + self.old.applied ≤ min self.old.step plan.new_end + self.new.applied) }
+        ensures err { IfErr result (λ r. r ≡ OutOfMemory) }
+    {
+        let led = self.frame_on(alloc, circuit, copies, old, strings, plan, next)?;
+        if !led.there {
+            let stop = plan.stop(self.step, plan.place(copies, led.next));
+            self.run_to(alloc, coins, stop)?;
+        }
+        Ok(led.next)
+    }
+
     /// Carries out steps until the replay meets an old copy or is behind the last step, and lays
     /// copies on the way: one for each stride, and one for each old copy that it passes, at most.
     pub fn follow<C: Coins>(
         &mut self,
         alloc: Global,
+        circuit: &'a Circuit,
         copies: &[Checkpoint],
-        records: &[bool],
+        old: &Outputs,
+        strings: &KeptStrings,
         plan: Plan,
         coins: &mut C,
     ) -> Result<End, Refusal>
@@ -241,22 +301,27 @@ impl<'a> Replay<'a> {
         requires few { plan.total ≤ most_steps }
         requires stride { 1 ≤ plan.stride }
         requires nothing_applied { self.old.applied ≡ 0 }
+        requires nothing_framed { self.old.framed ≡ 0 }
+        requires old { IsOldRun self.old.tableau.qubits (C.sequence coins.old) plan self.old.cursor.all copies.now (output_of old.now) strings.now }
+        requires same_circuit { unroll (circuit_items circuit.now) ≡ self.old.cursor.all }
+        requires checked { check_of (circuit_items circuit.now) ≡ None }
         requires next { plan.next ≤ length copies.now }
         requires ascending { Ascending plan self.old.step (drop plan.next copies.now) }
         requires same_qubits { All (λ c. c.tableau.qubits ≡ self.old.tableau.qubits) copies.now }
         requires base { plan.base ≤ length self.old.outputs.records.items }
-        requires same_records { take plan.base self.old.outputs.records.items ≡ take plan.base records.now }
+        requires same_records { take plan.base self.old.outputs.records.items ≡ take plan.base old.now.records.items }
         ensures same_coins { C.sequence coins.new ≡ C.sequence coins.old }
         ensures all { self.new.cursor.all ≡ self.old.cursor.all }
         ensures qubits { self.new.tableau.qubits ≡ self.old.tableau.qubits }
         ensures replay { OnOk result (IsReplay self.old.tableau.qubits (C.sequence coins.old) plan.stride self.old.step self.old.cursor.all self.new) }
         ensures raised { OnOk result (self.old.notes.reach ≤ self.new.notes.reach) }
-        ensures counted { OnOk result (self.new.applied + self.old.step ≡ self.new.step) }
-        ensures asks { OnOk result (C.asks coins.new + self.old.step ≤ C.asks coins.old + self.new.step) }
+        ensures counted { OnOk result ((self.new.applied + self.new.framed) + self.old.step ≡ self.new.step) }
+        ensures changed { OnOk result (plan.new_end ≤ self.old.step + self.new.applied) }
+        ensures asks { OnOk result (C.asks coins.new ≤ C.asks coins.old + self.new.applied) }
         ensures asks_free { OnOk result (C.asks coins.new + ones self.old.outputs.free.items ≤ C.asks coins.old + ones self.new.outputs.free.items) }
         ensures asked { C.asks coins.new ≤ C.asks coins.old + all_coins_of (drop self.old.step self.old.cursor.all) }
-        ensures end { IfOk result (IsEnd self.old.tableau.qubits plan self.new copies.now records.now) }
-        ensures soon { OnOk result (EndsSoon self.old.tableau.qubits (C.sequence coins.old) plan self.old.cursor.all copies.now records.now self.new.step) }
+        ensures end { IfOk result (IsEnd self.old.tableau.qubits plan self.new copies.now old.now.records.items) }
+        ensures soon { OnOk result (EndsSoon self.old.tableau.qubits (C.sequence coins.old) plan self.old.cursor.all copies.now old.now.records.items self.new.step) }
         ensures few_laid { IfOk result (λ end. plan.stride * length self.new.laid.items + self.old.step ≤ self.new.step + plan.stride * copies_passed plan (length copies.now) end) }
         ensures err { IfErr result (λ r. r ≡ OutOfMemory) }
     {
@@ -264,10 +329,10 @@ impl<'a> Replay<'a> {
         // What copies are expanded into, so that memory for it is asked for once at most.
         let mut spare: Option<Tableau> = None;
         loop {
-            let stop = plan.stop(self.step, plan.place(copies, next));
-            self.run_to(alloc, coins, stop)?;
-            match self.arrive(alloc, copies, records, plan, next, &mut spare)? {
-                Arrival::Met => return Ok(End::Joined(next)),
+            let reached = self.advance(alloc, circuit, copies, old, strings, plan, next, coins)?;
+            let records = old.records.as_slice();
+            match self.arrive(alloc, copies, records, plan, reached, &mut spare)? {
+                Arrival::Met => return Ok(End::Joined(reached)),
                 Arrival::Behind => return Ok(End::Last),
                 Arrival::Between(later) => next = later,
             }

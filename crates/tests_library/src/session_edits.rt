@@ -120,6 +120,7 @@ fn put<C: Coins>(
             Report {
                 applied,
                 checkpoints,
+                ..
             },
         ) => Ok((applied, checkpoints)),
         Err(refused) => Err(refused.fault),
@@ -187,13 +188,13 @@ fn an_edit_costs_what_it_changes(rt: HostRuntime) -> Result<(), Fail> {
 }
 
 /// How many steps are carried out where `X 0` is put in at the front of a circuit on one qubit, with
-/// copies of its state ten steps apart.
-fn flip(alloc: Global, text: &str) -> Result<usize, Fault> {
+/// copies of its state ten steps apart, and how many a frame goes over.
+fn flip(alloc: Global, text: &str) -> Result<(usize, usize), Fault> {
     let mut session = opened(alloc, text, 1, 10, ListCoins::new(&[]))?;
     let place = Path::new(&[0]);
     let item = read_item(alloc, b"X 0")?;
     match session.apply(Edit::Insert { place, item }) {
-        Ok(report) => Ok(report.applied),
+        Ok(report) => Ok((report.applied, report.framed)),
         Err(refused) => Err(refused.fault),
     }
 }
@@ -202,10 +203,11 @@ fn flip(alloc: Global, text: &str) -> Result<usize, Fault> {
 // copies before the steps 10, 20, 30 and 40, behind 9, 19, 29 and 39 records. So where nothing looks
 // back the first copy is met, before step 11 of the new ones; where a detector looks back to 15 records
 // the second one, before whose last 15 the flipped one stands; and where it looks back to all, none is.
-const FLIPS: &[(&str, usize)] = &[
-    ("M 0\nR 0\nREPEAT 38 {\nM 0\n}", 11),
-    ("M 0\nR 0\nREPEAT 38 {\nM 0\n}\nDETECTOR rec[-15]", 21),
-    ("M 0\nR 0\nREPEAT 38 {\nM 0\n}\nDETECTOR rec[-39]", 42),
+// From the first copy on a frame leads, up to the last one; the step behind that is carried out.
+const FLIPS: &[(&str, (usize, usize))] = &[
+    ("M 0\nR 0\nREPEAT 38 {\nM 0\n}", (11, 0)),
+    ("M 0\nR 0\nREPEAT 38 {\nM 0\n}\nDETECTOR rec[-15]", (11, 10)),
+    ("M 0\nR 0\nREPEAT 38 {\nM 0\n}\nDETECTOR rec[-39]", (12, 30)),
 ];
 
 #[test]

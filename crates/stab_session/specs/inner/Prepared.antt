@@ -40,6 +40,7 @@ pub record Begins (ys : List Step) (kept : KeptRun) (c : Checkpoint) (r : Replay
   pub apart : All IsApart ys
   pub step : r.step ≡ c.step
   pub applied : r.applied ≡ 0
+  pub framed : r.framed ≡ 0
   pub laid : r.laid.items ≡ []
 
 -- there is a copy where a replay met one

@@ -16,8 +16,8 @@ use Rattle.stab_circuit.specs.declared.edit.Span.{Span}
 use Rattle.stab_run.specs.Points.{RunOutput, origin, point_after, outputs, with_additions}
 use Rattle.stab_run.specs.Laws.{AgreeAt}
 use Rattle.stab_session.specs.Bounds.{AgreeAsFarAsLooked}
-use Rattle.stab_run.specs.ProgramStates.{program_state, output_of}
-use Rattle.stab_session.specs.inner.Spacing.{IsSpaced, Near}
+use Rattle.stab_run.specs.ProgramStates.{StepFits, program_state, output_of}
+use Rattle.stab_session.specs.inner.Spacing.{IsSpaced, Near, last_of}
 use Rattle.stab_run.specs.Cuts.{lengths_of}
 use Rattle.stab_frames.specs.Limits.{most_strings}
 use Rattle.stab_frames.specs.KeptStrings.{StringsState, IsNumbered, AreTrue, note_at}
@@ -33,11 +33,12 @@ pub record IsNoted (n : ℕ) (coins : ℕ → Bool) (xs : List Step) (strings : 
   pub are_true : AreTrue n coins (note_at strings.strings free) xs origin
   pub near : All (LooksWithin reach) xs
 
--- what is kept is the run of these steps, with so many observables, and copies at most K steps apart
+-- what is kept is the run of these steps, which fit on the qubits, with so many observables, and copies at most K steps apart
 pub record IsKeptRun (n : ℕ) (coins : ℕ → Bool) (K : ℕ) (xs : List Step) (count : ℕ) (r : KeptRun) : Type 0 where
   pub qubits : r.tableau.qubits ≡ n
   pub run : IsRunFromStart n coins xs (program_state r.tableau (output_of r.outputs))
   pub observables : r.observables.items ≡ with_additions r.outputs.additions.items (replicate count false)
+  pub fits : All (StepFits n) xs
   pub noted : IsNoted n coins xs r.strings r.outputs.free.items r.reach
   pub checkpoints : All (IsCheckpoint n coins xs) r.checkpoints.items
   pub spaced : IsSpaced K (length xs) (checkpoint_steps r.checkpoints.items)
@@ -154,6 +155,29 @@ Misses n coins p ys records c =
 abbrev pub EndsSoon : ℕ → (ℕ → Bool) → Plan → List Step → List Checkpoint → List Bool → ℕ → Type 0
 EndsSoon n coins p ys copies records end =
     (number : ℕ) → p.next ≤ number → IfSome (slice_get copies number) (λ c. step_among_new p c < end → Misses n coins p ys records c)
+
+-- a replay on its way
+
+-- at a step where it stops, with this old copy to be met next: those before it were not met
+pub record IsAtStop (n : ℕ) (coins : ℕ → Bool) (begin : ℕ) (p : Plan) (ys : List Step) (copies : List Checkpoint) (old : List Bool) (next : ℕ) (r : Replay) : Type 0 where
+  pub replay : IsReplay n coins p.stride begin ys r
+  pub counted : (r.applied + r.framed) + begin ≡ r.step
+  pub order : p.next ≤ next
+  pub within : next ≤ length copies
+  pub ascending : Ascending p r.step (drop next copies)
+  pub base : p.base ≤ length r.outputs.records.items
+  pub same : take p.base r.outputs.records.items ≡ take p.base old
+  pub missed : (number : ℕ) → p.next ≤ number → number < next → IfSome (slice_get copies number) (Misses n coins p ys old)
+
+-- and about to go on from there, with the last copy laid there
+pub record IsOnWay (n : ℕ) (coins : ℕ → Bool) (begin : ℕ) (p : Plan) (ys : List Step) (copies : List Checkpoint) (old : List Bool) (next : ℕ) (r : Replay) : Type 0 where
+  pub stop : IsAtStop n coins begin p ys copies old next r
+  pub last : last_of begin (checkpoint_steps r.laid.items) ≡ r.step
+
+-- where a replay that went on from a step stops: a stride further, or behind the last step, or at the place of the old copy that may
+-- be met next
+abbrev pub StopsAt : Plan → List Checkpoint → ℕ → ℕ → ℕ → Type 0
+StopsAt p copies next from step = (from + p.stride ≤ step) ⊎ ((step ≡ p.total) ⊎ IsPlacedAt p copies next step)
 
 -- how many of so many old copies a replay passed
 abbrev pub copies_passed : Plan → ℕ → End → ℕ

@@ -4,11 +4,12 @@ use stab_circuit::{Edit, Refused};
 use stab_io::Fault;
 use stab_run::Coins;
 
-/// What an edit cost: the steps that were carried out for it, and the copies of the state that are
-/// kept afterwards.
+/// What an edit cost: the steps that were carried out for it, those that a frame went over in their
+/// stead, and the copies of the state that are kept afterwards.
 #[derive(Clone, Copy, Debug, PartialEq, Eq)]
 pub struct Report {
     pub applied: usize,
+    pub framed: usize,
     pub checkpoints: usize,
 }
 
@@ -34,9 +35,10 @@ impl<C: Coins> Session<C> {
         ensures refused { IfErr result (λ r. IsCallFault (verdict self.old.qubits edit (entries self.old.items)) r.fault) }
         ensures item { IfErr result (λ r. r.item ≡ put_item edit) }
         ensures applied { IfOk result (λ r. r.applied ≤ steps_from_change edit self.old self.new) }
+        ensures framed { IfOk result (λ r. r.applied + r.framed ≤ steps_from_change edit self.old self.new) }
         ensures early { IfOk result (λ r. (far : ℕ) → AgreeBehind C.sequence edit self.old self.new far → r.applied ≤ steps_near_change edit self.new + far) }
         ensures at_least { IfOk result (λ r. steps_changed edit self.old self.new ≤ r.applied) }
-        ensures counted { IfOk result (λ r. IsCountOf C.sequence edit self.old self.new r.applied) }
+        ensures counted { IfOk result (λ r. IsCountOf C.sequence edit self.old self.new (r.applied + r.framed)) }
         ensures asks { IfOk result (λ r. C.asks self.new.coins ≤ C.asks self.old.coins + r.applied) }
         ensures refused_asks { OnErr result (C.asks self.new.coins ≤ C.asks self.old.coins + most_refused_asks edit self.old) }
         ensures checkpoints { IfOk result (λ r. r.checkpoints ≡ length self.new.checkpoints) }
@@ -55,10 +57,11 @@ impl<C: Coins> Session<C> {
             &mut self.coins,
             &mut self.spare,
         ) {
-            Ok(applied) => {
+            Ok(followed) => {
                 finish(&mut self.circuit, pending);
                 Ok(Report {
-                    applied: applied as usize,
+                    applied: followed.applied as usize,
+                    framed: followed.framed as usize,
                     checkpoints: self.kept.checkpoints.len(),
                 })
             }

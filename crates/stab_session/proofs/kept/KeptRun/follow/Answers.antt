@@ -6,11 +6,12 @@ use Rattle.stab_circuit.specs.Cursors.{IsApart}
 use Rattle.stab_session.specs.declared.replay.Plan.{Plan}
 use Rattle.stab_circuit.specs.declared.edit.Span.{Span}
 use Rattle.stab_run.specs.Points.{all_coins_of}
-use Rattle.stab_run.specs.ProgramStates.{StepFits}
+use Rattle.stab_run.specs.ProgramStates.{StepFits, output_of}
+use Rattle.stab_session.specs.inner.FramedReplays.{IsOldRun}
 use Rattle.stab_session.specs.inner.Replays.{IsKeptRun, Follows, Ascending}
 use Rattle.stab_run.proofs.FitLemmas.{check-fits, check-whole, check-steps}
 use Rattle.stab_session.proofs.FollowLemmas.{coins-behind}
-use Rattle.stab_session.proofs.CourseLemmas.{IsCount, HasBegun, HasEnded, count-of, seen-end, seen-soon, some-before, copy-within, has-begun, asked-behind, ascending-here, has-ended}
+use Rattle.stab_session.proofs.CourseLemmas.{IsCount, HasBegun, HasEnded, count-of, seen-end, seen-soon, some-before, copy-within, has-begun, asked-behind, ascending-here, old-run, has-ended}
 use Rattle.stab_session.proofs.kept.KeptRun.follow.Given.{Over}
 use Rattle.stab_session.proofs.kept.KeptRun.follow.Goals as goal
 use Rattle.stab_session.proofs.kept.KeptRun.follow.Goals.{After-as_slice, After-count_before-before, In_ok-replay, After-as_slice-3, After-follow, In_ok-end}
@@ -21,6 +22,10 @@ on-err (Err x) P p = p
 
 few : (g : Over) (c : After-as_slice g) → length (unroll (circuit_items c.args.circuit.now)) ≤ 1048576
 few g c = check-steps (circuit_items c.args.circuit.now) (check-whole c.args.self.now.tableau.qubits (circuit_items c.args.circuit.now) c.requires.checked)
+
+fitting : (g : Over) (c : After-as_slice g) → All IsApart (unroll (circuit_items c.args.circuit.now)) → All (StepFits c.args.self.now.tableau.qubits) (unroll (circuit_items c.args.circuit.now))
+fitting g c apart =
+    check-fits c.args.self.now.tableau.qubits (circuit_items c.args.circuit.now) (unroll (circuit_items c.args.circuit.now)) c.requires.checked refl apart
 
 -- the copies at or before the first step that changed
 first : (g : Over) (c : After-count_before-before g) → IsCount (c.args.span.first + 1) c.args.self.now.checkpoints.items c.count_before-before.result
@@ -66,7 +71,7 @@ end_of g c f few first begins behind =
     let plan = planned c.steps.result c.args.stride c.args.span c.max.result c.len.result c.args.self.now.reach in
     has-ended f few first begins behind plan refl refl (omega (arith, c.steps.ensures.value, few)) c.max.ensures refl c.follow.new.self c.in_ok-end.end
     c.in_ok-end.ensures.replay c.in_ok-end.ensures.raised
-    (seen-end c.in_ok-replay.replay.tableau.qubits plan c.follow.new.self c.in_ok-end.end c.as_slice-3.ensures.value c.as_slice-4.ensures.value c.in_ok-end.ensures.end)
+    (seen-end c.in_ok-replay.replay.tableau.qubits plan c.follow.new.self c.in_ok-end.end c.as_slice-3.ensures.value refl c.in_ok-end.ensures.end)
 
 pub overflow_add-span : goal.overflow_add-span
 overflow_add-span g c =
@@ -123,6 +128,31 @@ follow-requires-clause-nothing_applied g c =
     let begins = begun g at.In_ok-replay (few g at.After-as_slice) (first g at.After-count_before-before) in
     begins.applied
 
+pub follow-requires-clause-nothing_framed : goal.follow-requires-clause-nothing_framed
+follow-requires-clause-nothing_framed g c =
+    let at = goal.at.follow-requires-clause-nothing_framed g c in
+    let begins = begun g at.In_ok-replay (few g at.After-as_slice) (first g at.After-count_before-before) in
+    begins.framed
+
+pub follow-requires-clause-old : goal.follow-requires-clause-old
+follow-requires-clause-old g c =
+    let at = goal.at.follow-requires-clause-old g c in
+    let begins = begun g at.In_ok-replay (few g at.After-as_slice) (first g at.After-count_before-before) in
+    let plan = planned c.steps.result c.args.stride c.args.span c.max.result c.len.result c.args.self.now.reach in
+    subst (λ cs. IsOldRun c.in_ok-replay.replay.tableau.qubits (g.C.Coins.sequence c.args.coins.now) plan c.in_ok-replay.replay.cursor.all cs (output_of c.args.self.now.outputs) c.args.self.now.strings)
+    (sym c.as_slice-3.ensures.value)
+    (old-run c.requires.follows (few g at.After-as_slice) (first g at.After-count_before-before) begins (behind g at.After-as_slice-3) plan refl refl
+    (omega (arith, c.steps.ensures.value, few g at.After-as_slice)) c.max.ensures refl)
+
+pub follow-requires-clause-same_circuit : goal.follow-requires-clause-same_circuit
+follow-requires-clause-same_circuit g c =
+    let at = goal.at.follow-requires-clause-same_circuit g c in
+    let begins = begun g at.In_ok-replay (few g at.After-as_slice) (first g at.After-count_before-before) in
+    sym begins.all
+
+pub follow-requires-clause-checked : goal.follow-requires-clause-checked
+follow-requires-clause-checked g c = check-whole c.args.self.now.tableau.qubits (circuit_items c.args.circuit.now) c.requires.checked
+
 pub follow-requires-clause-ascending : goal.follow-requires-clause-ascending
 follow-requires-clause-ascending g c =
     let at = goal.at.follow-requires-clause-ascending g c in
@@ -140,9 +170,8 @@ pub follow-requires-clause-same_records : goal.follow-requires-clause-same_recor
 follow-requires-clause-same_records g c =
     let at = goal.at.follow-requires-clause-same_records g c in
     let begins = begun g at.In_ok-replay (few g at.After-as_slice) (first g at.After-count_before-before) in
-    subst (λ k. take k c.in_ok-replay.replay.outputs.records.items ≡ take k c.as_slice-4.result.now)
-    (sym (c.len.ensures ∙ c.in_ok-replay.replay.outputs.records.ok.0))
-    (begins.records ∙ ap (take (length c.in_ok-replay.replay.outputs.records.items)) (sym c.as_slice-4.ensures.value))
+    subst (λ k. take k c.in_ok-replay.replay.outputs.records.items ≡ take k c.args.self.now.outputs.records.items)
+    (sym (c.len.ensures ∙ c.in_ok-replay.replay.outputs.records.ok.0)) begins.records
 
 pub returns-in_err-end-clause-asked : goal.returns-in_err-end-clause-asked
 returns-in_err-end-clause-asked g c =
@@ -208,7 +237,7 @@ returns-clause-kept g c =
     let ready = ended.ready _ (record { tableau = refl; output = refl; observables = refl; strings = refl; reach = refl; checkpoints = refl }) c.observables.result c.in_ok-prepared.prepared c.in_ok-prepared.ensures.prepared in
     subst (λ count. IsKeptRun c.args.self.now.tableau.qubits (g.C.Coins.sequence c.args.coins.now) c.args.stride (unroll (circuit_items c.args.circuit.now)) count c.commit.new.self)
     c.observables.ensures.value
-    (ready.kept c.prepare.new.self c.prepare.ensures.unchanged c.commit.new.self c.commit.ensures.committed)
+    (ready.kept c.prepare.new.self c.prepare.ensures.unchanged (fitting g at.After-as_slice begins.apart) c.commit.new.self c.commit.ensures.committed)
 
 pub returns-clause-apart : goal.returns-clause-apart
 returns-clause-apart g c =
@@ -222,7 +251,7 @@ returns-clause-qubits g c =
     let begins = begun g at.In_ok-replay (few g at.After-as_slice) (first g at.After-count_before-before) in
     let ended = end_of g at.In_ok-end c.requires.follows (few g at.After-as_slice) (first g at.After-count_before-before) begins (behind g at.After-as_slice-3) in
     let ready = ended.ready _ (record { tableau = refl; output = refl; observables = refl; strings = refl; reach = refl; checkpoints = refl }) c.observables.result c.in_ok-prepared.prepared c.in_ok-prepared.ensures.prepared in
-    (ready.kept c.prepare.new.self c.prepare.ensures.unchanged c.commit.new.self c.commit.ensures.committed).qubits
+    (ready.kept c.prepare.new.self c.prepare.ensures.unchanged (fitting g at.After-as_slice begins.apart) c.commit.new.self c.commit.ensures.committed).qubits
 
 pub returns-clause-asks_free : goal.returns-clause-asks_free
 returns-clause-asks_free g c =
@@ -238,7 +267,7 @@ returns-clause-applied g c =
     let at = goal.at.returns-clause-applied g c in
     let begins = begun g at.In_ok-replay (few g at.After-as_slice) (first g at.After-count_before-before) in
     let ended = end_of g at.In_ok-end c.requires.follows (few g at.After-as_slice) (first g at.After-count_before-before) begins (behind g at.After-as_slice-3) in
-    ended.applied c.follow.new.self.applied c.in_ok-end.ensures.counted
+    ended.applied (c.follow.new.self.applied + c.follow.new.self.framed) c.in_ok-end.ensures.counted
 
 pub returns-clause-few : goal.returns-clause-few
 returns-clause-few g c =
@@ -246,14 +275,14 @@ returns-clause-few g c =
     let begins = begun g at.In_ok-replay (few g at.After-as_slice) (first g at.After-count_before-before) in
     λ xs count far kept span agree.
     let ended = end_of g at.In_ok-end (record { old = xs; count = count; kept = kept; span = span }) (few g at.After-as_slice) (first g at.After-count_before-before) begins (behind g at.After-as_slice-3) in
-    ended.few c.follow.new.self.applied c.in_ok-end.ensures.counted (seen-soon (g.C.Coins.sequence c.args.coins.now) (planned c.steps.result c.args.stride c.args.span c.max.result c.len.result c.args.self.now.reach) c.follow.new.self.step begins.qubits begins.all c.as_slice-3.ensures.value c.as_slice-4.ensures.value c.in_ok-end.ensures.soon) far agree
+    ended.few (c.follow.new.self.applied + c.follow.new.self.framed) c.in_ok-end.ensures.counted (seen-soon (g.C.Coins.sequence c.args.coins.now) (planned c.steps.result c.args.stride c.args.span c.max.result c.len.result c.args.self.now.reach) c.follow.new.self.step begins.qubits begins.all c.as_slice-3.ensures.value refl c.in_ok-end.ensures.soon) far agree
 
 pub returns-clause-at_least : goal.returns-clause-at_least
 returns-clause-at_least g c =
     let at = goal.at.returns-clause-at_least g c in
     let begins = begun g at.In_ok-replay (few g at.After-as_slice) (first g at.After-count_before-before) in
     let ended = end_of g at.In_ok-end c.requires.follows (few g at.After-as_slice) (first g at.After-count_before-before) begins (behind g at.After-as_slice-3) in
-    ended.at_least c.follow.new.self.applied c.in_ok-end.ensures.counted
+    ended.at_least c.follow.new.self.applied c.in_ok-end.ensures.changed
 
 pub returns-clause-counted : goal.returns-clause-counted
 returns-clause-counted g c =
@@ -261,4 +290,4 @@ returns-clause-counted g c =
     let begins = begun g at.In_ok-replay (few g at.After-as_slice) (first g at.After-count_before-before) in
     λ xs count kept span.
     let ended = end_of g at.In_ok-end (record { old = xs; count = count; kept = kept; span = span }) (few g at.After-as_slice) (first g at.After-count_before-before) begins (behind g at.After-as_slice-3) in
-    ended.counted c.follow.new.self.applied c.in_ok-end.ensures.counted (seen-soon (g.C.Coins.sequence c.args.coins.now) (planned c.steps.result c.args.stride c.args.span c.max.result c.len.result c.args.self.now.reach) c.follow.new.self.step begins.qubits begins.all c.as_slice-3.ensures.value c.as_slice-4.ensures.value c.in_ok-end.ensures.soon)
+    ended.counted (c.follow.new.self.applied + c.follow.new.self.framed) c.in_ok-end.ensures.counted (seen-soon (g.C.Coins.sequence c.args.coins.now) (planned c.steps.result c.args.stride c.args.span c.max.result c.len.result c.args.self.now.reach) c.follow.new.self.step begins.qubits begins.all c.as_slice-3.ensures.value refl c.in_ok-end.ensures.soon)

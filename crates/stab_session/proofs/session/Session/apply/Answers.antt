@@ -1,4 +1,4 @@
-use Rattle.std.proofs.Common.{ap, sym, ◌∙◌, subst, ◌≤◌, arith}
+use Rattle.std.proofs.Common.{ap, sym, ◌∙◌, subst, ◌+◌, ◌≤◌, arith}
 use Rattle.stab_io.specs.Refusals.{whole, IsCallFault}
 use Rattle.stab_circuit.specs.Items.{listed}
 use Rattle.stab_circuit.specs.Steps.{unroll, observables_of}
@@ -67,7 +67,20 @@ returns-in-Ok-follow-clause-applied g c =
     (ap (λ (s : SessionState g.row.C.Denot). s.qubits) (sym c.self.view_is) ∙ sym c.len-n.ensures.value)
     c.finish.new.circuit c.finish.ensures.value c.self.inside.stride c.follow.new.coins c.follow.new.self
     (ap (λ (s : SessionState g.row.C.Denot). s.stride) c.self.view_is) (ran.same_coins ∙ coins) run
-    c.in-Ok-follow.applied ran.applied
+    c.in-Ok-follow.followed.applied (omega (arith, ran.applied))
+
+pub returns-in-Ok-follow-clause-framed : goal.returns-in-Ok-follow-clause-framed
+returns-in-Ok-follow-clause-framed g c =
+    let begun = c.in-Ok.ensures {u = tt} in
+    let ran = c.in-Ok-follow.ensures {u = tt} in
+    let coins = ap (λ (s : SessionState g.row.C.Denot). g.C.Coins.sequence s.coins) c.self.view_is in
+    let run = followed c.len-n.result c.self.inside.kept.tableau.qubits _ _ c.self.inside.stride _ _ c.follow.new.self c.len-n.ensures.value coins ran.kept in
+    edited-applied g.C.Coins.sequence c.args.edit c.args.self.now c.len-n.result c.self.inside.circuit c.begin.new.circuit c.in-Ok.begun.0 c.in-Ok.begun.1 begun.begun
+    (ap (λ (s : SessionState g.row.C.Denot). s.items) (sym c.self.view_is))
+    (ap (λ (s : SessionState g.row.C.Denot). s.qubits) (sym c.self.view_is) ∙ sym c.len-n.ensures.value)
+    c.finish.new.circuit c.finish.ensures.value c.self.inside.stride c.follow.new.coins c.follow.new.self
+    (ap (λ (s : SessionState g.row.C.Denot). s.stride) c.self.view_is) (ran.same_coins ∙ coins) run
+    (c.in-Ok-follow.followed.applied + c.in-Ok-follow.followed.framed) ran.applied
 
 pub returns-in-Ok-follow-clause-at_least : goal.returns-in-Ok-follow-clause-at_least
 returns-in-Ok-follow-clause-at_least g c =
@@ -80,7 +93,7 @@ returns-in-Ok-follow-clause-at_least g c =
     (ap (λ (s : SessionState g.row.C.Denot). s.qubits) (sym c.self.view_is) ∙ sym c.len-n.ensures.value)
     c.finish.new.circuit c.finish.ensures.value c.self.inside.stride c.follow.new.coins c.follow.new.self
     (ap (λ (s : SessionState g.row.C.Denot). s.stride) c.self.view_is) (ran.same_coins ∙ coins) run
-    c.in-Ok-follow.applied ran.at_least
+    c.in-Ok-follow.followed.applied ran.at_least
 
 pub returns-in-Ok-follow-clause-counted : goal.returns-in-Ok-follow-clause-counted
 returns-in-Ok-follow-clause-counted g c =
@@ -93,7 +106,7 @@ returns-in-Ok-follow-clause-counted g c =
     (ap (λ (s : SessionState g.row.C.Denot). s.qubits) (sym c.self.view_is) ∙ sym c.len-n.ensures.value)
     c.finish.new.circuit c.finish.ensures.value c.self.inside.stride c.follow.new.coins c.follow.new.self
     (ap (λ (s : SessionState g.row.C.Denot). s.stride) c.self.view_is) (ran.same_coins ∙ coins) run
-    c.in-Ok-follow.applied (checkpoint_steps c.self.inside.kept.checkpoints.items) (ap (λ (s : SessionState g.row.C.Denot). s.checkpoints) c.self.view_is)
+    (c.in-Ok-follow.followed.applied + c.in-Ok-follow.followed.framed) (checkpoint_steps c.self.inside.kept.checkpoints.items) (ap (λ (s : SessionState g.row.C.Denot). s.checkpoints) c.self.view_is)
     (counted_same c.len-n.result c.self.inside.kept.tableau.qubits _ _ (unroll (listed c.self.inside.circuit)) (unroll (listed c.begin.new.circuit)) c.in-Ok.begun.1 _ _ _ c.len-n.ensures.value coins
     (ran.counted (unroll (listed c.self.inside.circuit)) (observables_of (listed c.self.inside.circuit)) c.self.invariant.run begun.begun.span.span))
 
@@ -109,10 +122,13 @@ returns-in-Ok-follow-clause-early g c =
     (ap (λ (s : SessionState g.row.C.Denot). s.qubits) (sym c.self.view_is) ∙ sym c.len-n.ensures.value)
     c.finish.new.circuit c.finish.ensures.value c.self.inside.stride c.follow.new.coins c.follow.new.self
     (ap (λ (s : SessionState g.row.C.Denot). s.stride) c.self.view_is) (ran.same_coins ∙ coins) run
-    c.in-Ok-follow.applied far
+    c.in-Ok-follow.followed.applied far
     (λ agree.
-    ran.few (unroll (listed c.self.inside.circuit)) (observables_of (listed c.self.inside.circuit)) far c.self.invariant.run begun.begun.span.span
-    (agreed c.len-n.result c.self.inside.kept.tableau.qubits _ _ (unroll (listed c.self.inside.circuit)) (unroll (listed c.begin.new.circuit)) c.in-Ok.begun.1 far c.len-n.ensures.value coins agree))
+    omega (
+      arith,
+      ran.few (unroll (listed c.self.inside.circuit)) (observables_of (listed c.self.inside.circuit)) far c.self.invariant.run begun.begun.span.span
+          (agreed c.len-n.result c.self.inside.kept.tableau.qubits _ _ (unroll (listed c.self.inside.circuit)) (unroll (listed c.begin.new.circuit)) c.in-Ok.begun.1 far c.len-n.ensures.value coins agree),
+    ))
 
 pub returns-in-Ok-follow-clause-few_checkpoints : goal.returns-in-Ok-follow-clause-few_checkpoints
 returns-in-Ok-follow-clause-few_checkpoints g c =

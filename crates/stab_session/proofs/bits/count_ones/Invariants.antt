@@ -1,6 +1,6 @@
 use Rattle.std.proofs.Common.{◌≡◌, ◌+◌, ◌≤◌, drop}
 use Rattle.stab_run.specs.Records.{ones}
-use Rattle.stab_session.proofs.kept.count_ones.Given as goal
+use Rattle.stab_session.proofs.bits.count_ones.Given as goal
 
 abbrev pub invariant-loop-bit : goal.invariant-loop-bit
 invariant-loop-bit l = record {
