@@ -1,5 +1,4 @@
-use Rattle.std.proofs.Common.{◌≡◌, ℕ, ◌-◌, ◌≤◌, sym, ◌∙◌, ap, subst, Bool, List, IfSome, length, drop, arith}
-use Rattle.stab_circuit.specs.Steps.{Step}
+use Rattle.std.proofs.Common.{◌≡◌, ℕ, ◌-◌, ◌≤◌, sym, ◌∙◌, ap, subst, Bool, IfSome, length, drop, arith}
 use Rattle.stab_run.specs.ProgramStates.{output_of}
 use Rattle.stab_frames.specs.KeptStrings.{StringsState}
 use Rattle.stab_session.specs.declared.replay.Replay.{Replay}
