@@ -100,8 +100,8 @@ returns-in-None-clause-way c = λ coins begin beside way.
 pub returns-in_ok-self-in-Some-clause-behind : goal.returns-in_ok-self-in-Some-clause-behind
 returns-in_ok-self-in-Some-clause-behind c =
     let found : (coins : ℕ → Bool) (s : StringsState)
-        → IsBeside c.args.self.now.tableau.qubits coins c.args.plan c.args.self.now.cursor.all c.args.copies.now (output_of c.args.old.now) s c.args.self.now
-        → IsLed c.args.self.now.tableau.qubits coins c.args.plan c.args.self.now.cursor.all c.args.copies.now (output_of c.args.old.now) s (c.args.next - 1) c.frame_at.new.self c.in-Some.walk =
+    → IsBeside c.args.self.now.tableau.qubits coins c.args.plan c.args.self.now.cursor.all c.args.copies.now (output_of c.args.old.now) s c.args.self.now
+    → IsLed c.args.self.now.tableau.qubits coins c.args.plan c.args.self.now.cursor.all c.args.copies.now (output_of c.args.old.now) s (c.args.next - 1) c.frame_at.new.self c.in-Some.walk =
     (subst (λ m. IfSome m (λ walk. (1 ≤ c.args.next) × ((coins : ℕ → Bool) (s : StringsState)
     → IsBeside c.args.self.now.tableau.qubits coins c.args.plan c.args.self.now.cursor.all c.args.copies.now (output_of c.args.old.now) s c.args.self.now
     → IsLed c.args.self.now.tableau.qubits coins c.args.plan c.args.self.now.cursor.all c.args.copies.now (output_of c.args.old.now) s (c.args.next - 1) c.frame_at.new.self walk)))
