@@ -1,13 +1,12 @@
 -- Framed steps: what a replay holds once a frame went over the steps to the next copy of an older run.
-use Rattle.std.proofs.Common.{◌≡◌, ℕ, ◌+◌, ◌-◌, ◌≤◌, refl, sym, ◌∙◌, ap, subst, Bool, List, length, take, drop, arith}
+use Rattle.std.proofs.Common.{◌≡◌, ℕ, ◌+◌, sym, ◌∙◌, ap, Bool, List, take, drop, arith}
 use Rattle.std.proofs.lemmas.List.{take-take, drop-take}
-use Rattle.stab_pauli.specs.declared.letter.Letter.{Letter}
 use Rattle.stab_pauli.specs.Paulis.{with_sign, strings_anticommute}
 use Rattle.stab_tableau.specs.Traces.{member}
 use Rattle.stab_tableau.specs.Tableaus.{TableauState, stabilises}
 use Rattle.stab_tableau.specs.Turns.{IsTurned}
 use Rattle.stab_circuit.specs.Steps.{Step}
-use Rattle.stab_run.specs.Points.{Point, RunOutput, origin, joined, point_after, outputs}
+use Rattle.stab_run.specs.Points.{RunOutput, origin, joined, point_after, outputs}
 use Rattle.stab_run.specs.ProgramStates.{program_state}
 use Rattle.stab_run.specs.Cuts.{lengths_of, front_of, rest_of}
 use Rattle.stab_run.proofs.PointLemmas.{front-output, rest-output}

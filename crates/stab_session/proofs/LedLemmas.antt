@@ -10,14 +10,14 @@ use Rattle.stab_tableau.specs.Turns.{IsTurned}
 use Rattle.stab_circuit.specs.Steps.{Step, most_steps}
 use Rattle.stab_run.specs.declared.records.Lengths.{Lengths}
 use Rattle.stab_run.specs.Records.{ones}
-use Rattle.stab_run.specs.Points.{Point, RunOutput, origin, joined, point_after, outputs}
+use Rattle.stab_run.specs.Points.{RunOutput, origin, joined, point_after, outputs}
 use Rattle.stab_run.specs.ProgramStates.{output_of}
 use Rattle.stab_run.proofs.RecordLemmas.{ones-append}
 use Rattle.stab_run.proofs.PointLemmas.{cut, front-output, records-are-records}
 use Rattle.stab_frames.specs.declared.noting.RunNotes.{RunNotes}
 use Rattle.stab_frames.specs.declared.steps.Stop.{Stop}
 use Rattle.stab_frames.specs.declared.steps.Stop.TheVariants.{Behind, NoString}
-use Rattle.stab_frames.specs.Flips.{flipped, flipped_output}
+use Rattle.stab_frames.specs.Flips.{flipped}
 use Rattle.stab_frames.specs.KeptStrings.{StringsState}
 use Rattle.stab_frames.specs.Walks.{WalkState, IsPlaced}
 use Rattle.stab_session.specs.declared.led.Passage.TheVariants.{Arrived, Passed}

@@ -1,5 +1,5 @@
 -- Noted segments: the strings of a run that goes on as another did, up to the next copy of that one.
-use Rattle.std.proofs.Common.{◌≡◌, ℕ, zero, suc, ◌+◌, ◌-◌, ◌^◌, ◌<◌, ◌≤◌, min, refl, sym, ◌∙◌, ap, subst, Bool, ◌⊎◌, inl, inr, List, [], ◌∷◌, ◌++◌, length, take, drop, arith}
+use Rattle.std.proofs.Common.{◌≡◌, ℕ, zero, suc, ◌+◌, ◌-◌, ◌^◌, ◌<◌, ◌≤◌, min, refl, sym, ◌∙◌, ap, subst, Bool, inl, inr, List, [], ◌∷◌, ◌++◌, length, take, drop, arith}
 use Rattle.std.proofs.lemmas.Bool.{cases_lt}
 use Rattle.std.proofs.lemmas.List.{length-append, length-take, length-drop, take-take, drop-take}
 use Rattle.stab_pauli.specs.declared.letter.Letter.{Letter}
@@ -13,7 +13,6 @@ use Rattle.stab_run.proofs.PointLemmas.{flags-are-coins, front-output}
 use Rattle.stab_frames.specs.KeptStrings.{StringsState, kept_with, front_kept}
 use Rattle.stab_frames.proofs.WalkLemmas.{ones-few}
 use Rattle.stab_session.specs.inner.Replays.{IsNoted}
-use Rattle.stab_session.specs.inner.Prepared.{IsSpliced}
 use Rattle.stab_session.specs.inner.FramedReplays.{IsContinued}
 use Rattle.stab_session.proofs.FramedLemmas.{AreTurnedBehind}
 use Rattle.stab_session.proofs.NotedLemmas.{noted-front, noted-spliced, ones-take}

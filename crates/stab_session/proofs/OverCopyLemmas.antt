@@ -1,12 +1,12 @@
 -- Over copies: a replay that went by a frame to the place of the next copy of an older run is the run of the steps behind it there.
-use Rattle.std.proofs.Common.{◌≡◌, ◌≢◌, ℕ, ◌+◌, ◌-◌, ◌^◌, ◌<◌, ◌≤◌, refl, sym, ◌∙◌, ap, subst, Bool, List, ◌++◌, All, length, take, drop, arith}
+use Rattle.std.proofs.Common.{◌≡◌, ◌≢◌, ℕ, ◌+◌, ◌-◌, ◌^◌, ◌<◌, ◌≤◌, sym, ◌∙◌, ap, subst, Bool, List, ◌++◌, length, take, drop, arith}
 use Rattle.std.proofs.lemmas.List.{length-drop, drop-drop, take-take}
 use Rattle.stab_tableau.specs.Tableaus.{stabilises}
 use Rattle.stab_tableau.specs.Turns.{IsTurned}
 use Rattle.stab_circuit.specs.Steps.{Step}
 use Rattle.stab_run.specs.declared.records.Lengths.{Lengths}
 use Rattle.stab_run.specs.Records.{ones}
-use Rattle.stab_run.specs.Points.{Point, RunOutput, origin, point_after, outputs}
+use Rattle.stab_run.specs.Points.{Point, RunOutput, origin, point_after}
 use Rattle.stab_run.specs.ProgramStates.{program_state, output_of}
 use Rattle.stab_run.proofs.RunLemmas.{after-append}
 use Rattle.stab_run.proofs.PointLemmas.{flags-are-coins}

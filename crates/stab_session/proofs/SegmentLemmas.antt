@@ -1,7 +1,7 @@
 -- Segments: a frame that went over the steps from one copy of a run to the next.
-use Rattle.std.proofs.Common.{◌≡◌, ℕ, zero, suc, ◌+◌, ◌-◌, ◌≤◌, min, refl, sym, ◌∙◌, ap, subst, Bool, false, List, [], ◌∷◌, ◌++◌, All, Option, length, take, drop, replicate, arith}
+use Rattle.std.proofs.Common.{◌≡◌, ℕ, zero, suc, ◌+◌, ◌≤◌, min, refl, sym, ◌∙◌, ap, subst, Bool, false, List, [], ◌∷◌, ◌++◌, All, Option, length, take, drop, replicate, arith}
 use Rattle.std.specs.Prelude.{◌≢◌}
-use Rattle.std.proofs.lemmas.List.{length-append, length-take-le, length-drop, take-append-drop, take-take, take_all, drop_at}
+use Rattle.std.proofs.lemmas.List.{length-take-le, length-drop, take-append-drop, take-take, take_all, drop_at}
 use Rattle.std.proofs.lemmas.List.Elements.{All-take, All-drop}
 use Rattle.stab_pauli.specs.declared.letter.Letter.{Letter}
 use Rattle.stab_tableau.specs.Traces.{member}
@@ -19,10 +19,10 @@ use Rattle.stab_frames.specs.Frames.{Frame, PointsDifferBy}
 use Rattle.stab_frames.specs.Notes.{Notes, same_coins}
 use Rattle.stab_frames.specs.FrameSteps.{frame_after, frame_over, flips_over}
 use Rattle.stab_frames.specs.StepNotes.{AreEnough}
-use Rattle.stab_frames.specs.KeptStrings.{StringsState, AreTrue, note_at}
+use Rattle.stab_frames.specs.KeptStrings.{AreTrue}
 use Rattle.stab_frames.specs.Lookbacks.{LooksWithin}
 use Rattle.stab_frames.specs.Stops.{IsStop}
-use Rattle.stab_frames.specs.Walks.{WalkState, frame_at, IsPlaced, WalksOver, IsGone}
+use Rattle.stab_frames.specs.Walks.{WalkState, frame_at, WalksOver, IsGone}
 use Rattle.stab_frames.proofs.FrontLemmas.{group-origin}
 use Rattle.stab_frames.proofs.StepLemmas.{over-framed}
 use Rattle.stab_session.specs.inner.FramedReplays.{IsFramedAt, IsFramedOver, AreEnoughBy, flips_since}

@@ -1,5 +1,5 @@
 -- Turned copies: a kept state turned by one letter after another is turned by all of them.
-use Rattle.std.proofs.Common.{◌≡◌, ℕ, zero, suc, ◌+◌, ◌-◌, ◌<◌, ◌≤◌, refl, sym, ◌∙◌, ap, subst, Bool, List, [], ◌∷◌, ◌++◌, append-nil, length, take, get_or, set, replicate, arith}
+use Rattle.std.proofs.Common.{◌≡◌, ℕ, zero, suc, ◌+◌, ◌-◌, ◌<◌, ◌≤◌, refl, ◌∙◌, ap, subst, Bool, List, [], ◌∷◌, ◌++◌, append-nil, length, take, get_or, set, replicate, arith}
 use Rattle.std.proofs.lemmas.List.{take_all, length-replicate}
 use Rattle.stab_pauli.specs.declared.letter.Letter.{Letter}
 use Rattle.stab_pauli.specs.declared.letter.Letter.TheVariants.{I, X, Y, Z}

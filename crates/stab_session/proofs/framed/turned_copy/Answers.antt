@@ -3,7 +3,7 @@ use Rattle.stab_pauli.specs.declared.letter.Letter.TheVariants.{I}
 use Rattle.stab_pauli.specs.Paulis.{single}
 use Rattle.stab_tableau.specs.Tableaus.{TableauState, stabilises}
 use Rattle.stab_tableau.specs.Turns.{IsTurned}
-use Rattle.stab_session.proofs.TurnedCopyLemmas.{turned-next, turned-none, turned-all}
+use Rattle.stab_session.proofs.TurnedCopyLemmas.{turned-next, turned-none}
 use Rattle.stab_session.proofs.framed.turned_copy.Goals as goal
 
 pub loop-qubit-init : goal.loop-qubit-init

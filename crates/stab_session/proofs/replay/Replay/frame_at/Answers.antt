@@ -2,7 +2,6 @@ use Rattle.std.proofs.Common.{◌≡◌, ◌-◌, ◌≤◌, refl, sym, ◌∙�
 use Rattle.std.proofs.lemmas.Option.{IfSome_then, slice_get_read}
 use Rattle.stab_run.specs.ProgramStates.{output_of}
 use Rattle.stab_session.specs.declared.replay.Replay.{Replay}
-use Rattle.stab_session.specs.inner.Replays.{step_among_new}
 use Rattle.stab_session.specs.inner.LedReplays.{IsLed}
 use Rattle.stab_session.proofs.LedLemmas.{beside-lengths, led-from}
 use Rattle.stab_session.proofs.replay.Replay.frame_at.Goals as goal

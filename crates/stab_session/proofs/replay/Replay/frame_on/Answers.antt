@@ -1,5 +1,4 @@
-use Rattle.std.proofs.Common.{◌≡◌, ℕ, ◌-◌, ◌≤◌, sym, ◌∙◌, ap, subst, Bool, List, IfSome, length, drop, arith}
-use Rattle.stab_circuit.specs.Steps.{Step}
+use Rattle.std.proofs.Common.{◌≡◌, ℕ, ◌-◌, ◌≤◌, sym, ◌∙◌, ap, subst, Bool, IfSome, length, drop, arith}
 use Rattle.stab_run.specs.ProgramStates.{output_of}
 use Rattle.stab_frames.specs.KeptStrings.{StringsState}
 use Rattle.stab_session.specs.declared.replay.Replay.{Replay}
@@ -101,8 +100,8 @@ returns-in-None-clause-way c = λ coins begin beside way.
 pub returns-in_ok-self-in-Some-clause-behind : goal.returns-in_ok-self-in-Some-clause-behind
 returns-in_ok-self-in-Some-clause-behind c =
     let found : (coins : ℕ → Bool) (s : StringsState)
-        → IsBeside c.args.self.now.tableau.qubits coins c.args.plan c.args.self.now.cursor.all c.args.copies.now (output_of c.args.old.now) s c.args.self.now
-        → IsLed c.args.self.now.tableau.qubits coins c.args.plan c.args.self.now.cursor.all c.args.copies.now (output_of c.args.old.now) s (c.args.next - 1) c.frame_at.new.self c.in-Some.walk =
+    → IsBeside c.args.self.now.tableau.qubits coins c.args.plan c.args.self.now.cursor.all c.args.copies.now (output_of c.args.old.now) s c.args.self.now
+    → IsLed c.args.self.now.tableau.qubits coins c.args.plan c.args.self.now.cursor.all c.args.copies.now (output_of c.args.old.now) s (c.args.next - 1) c.frame_at.new.self c.in-Some.walk =
     (subst (λ m. IfSome m (λ walk. (1 ≤ c.args.next) × ((coins : ℕ → Bool) (s : StringsState)
     → IsBeside c.args.self.now.tableau.qubits coins c.args.plan c.args.self.now.cursor.all c.args.copies.now (output_of c.args.old.now) s c.args.self.now
     → IsLed c.args.self.now.tableau.qubits coins c.args.plan c.args.self.now.cursor.all c.args.copies.now (output_of c.args.old.now) s (c.args.next - 1) c.frame_at.new.self walk)))

@@ -1,8 +1,7 @@
-use Rattle.std.proofs.Common.{◌≡◌, ◌≢◌, ◌+◌, ◌-◌, ◌≤◌, ◌++◌, refl, sym, ◌∙◌, ap, subst, true, [], ◌∷◌, length, arith, rules}
+use Rattle.std.proofs.Common.{◌≢◌, ◌-◌, ◌≤◌, ◌++◌, refl, sym, ◌∙◌, ap, subst, [], ◌∷◌, length, arith, rules}
 use Rattle.std.proofs.lemmas.Option.{slice_get_read}
-use Rattle.stab_frames.specs.declared.steps.Stop.TheVariants.{Behind, Gone, NoString}
+use Rattle.stab_frames.specs.declared.steps.Stop.TheVariants.{NoString}
 use Rattle.stab_run.specs.Records.{ones}
-use Rattle.stab_run.specs.ProgramStates.{output_of}
 use Rattle.stab_session.specs.declared.checkpoint.Checkpoint.{Checkpoint}
 use Rattle.stab_session.proofs.SegmentLemmas.{all-else}
 use Rattle.stab_session.proofs.LedLemmas.{coins-left, steps-between, step-there, free-there, qubits-there, has-arrived, has-passed}
