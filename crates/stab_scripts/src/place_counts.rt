@@ -90,7 +90,7 @@ fn count_steps(cursor: &mut Cursor, most: usize) -> StepCounts
         coins: 0,
     };
     let mut left = most;
-    while left > 0 {
+    'steps: while left > 0 {
         match cursor.next() {
             Some(step) => counts = with_step(counts, step),
             None => return counts,
