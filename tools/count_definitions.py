@@ -18,10 +18,10 @@ SHOWN = re.compile(r"(?<=```sh\ntools/count_definitions.py\n```\n\n```output\n).
 # What is proved, and the definitions that its clauses name.
 THEOREMS = {
     "sample and detect": ["stab_commands.Outputs.EndsRun", "stab_commands.Outputs.sample_of", "stab_commands.Outputs.detect_of"],
-    "stabilisers": ["stab_commands.Stabilisers.EndsStabilisers"],
-    "deterministic": ["stab_commands.Deterministic.EndsDeterministic"],
-    "faults": ["stab_commands.FaultTables.EndsFaults"],
-    "edit": ["stab_commands.script.ScriptEndings.EndsEdit"],
+    "stabilisers": ["stab_tables.Stabilisers.EndsStabilisers"],
+    "deterministic": ["stab_tables.Deterministic.EndsDeterministic"],
+    "faults": ["stab_tables.FaultTables.EndsFaults"],
+    "edit": ["stab_scripts.ScriptEndings.EndsEdit"],
     "a job and its status": ["stab_commands.Jobs.EndsJob"],
     "what a session is": ["stab_session.Headline.IsRunOfItems"],
     "an edit of a session": ["stab_session.SessionEdits.IsEditedBy", "stab_session.SessionEdits.IsAsBefore"],

@@ -122,32 +122,26 @@ def count_calls(library, folder, onwards):
             wanted = "refused, as before, gave" if is_refused else "gave"
             expect(ending == wanted, f"request {number}{' and on' * onwards}: {line}, and not {wanted}")
             counts[name] = counts.get(name, 0) + is_refused
-        expect(lines[len(refused):] == whole[len(refused):], "the calls: other lines of devices")
         if not any(refused):
-            return counts, whole[len(refused):]
+            expect(len(refused) == len(whole), f"the calls: {len(whole)} lines of {len(refused)} calls")
+            return counts
     expect(False, "the calls: no end of requests")
-    return counts, []
+    return counts
 
 
-def table_of(once, onwards, devices):
+def table_of(once, onwards):
     """The counts as a table of docs/robustness.md."""
     rows = ["", "| Call | Runs with one request refused | Runs with all from one on refused |", "|---|---|---|"]
     rows += [f"| {name} | {once[name]} | {onwards[name]} |" for name in once]
-    rows += ["", "| Call | Devices |", "|---|---|"]
-    rows += ["| {} | {} |".format(*line.rsplit(": ", 1)) for line in devices]
     return "\n".join(rows) + "\n\n"
 
 
 def try_calls(library, folder, is_written):
-    once, devices = count_calls(library, folder, False)
-    onwards, _ = count_calls(library, folder, True)
+    once, onwards = count_calls(library, folder, False), count_calls(library, folder, True)
     for name in once:
         expect(once[name] > 0 and onwards[name] > 0, f"{name}: no request was refused")
         print(f"{name}: refused {once[name]} times one request, {onwards[name]} times all from one on; each answered 20")
-    for line in devices:
-        expect("WRONG" not in line and not line.endswith(": 0"), line)
-        print(line)
-    page, table = PAGE.read_text(), table_of(once, onwards, devices)
+    page, table = PAGE.read_text(), table_of(once, onwards)
     if is_written:
         PAGE.write_text(TABLE.sub(lambda _: table, page))
     elif table not in page:

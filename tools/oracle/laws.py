@@ -77,7 +77,26 @@ def checked_as_run(random, run):
     return None if counted == lengths else f"check counts {counted} bits, and there are {lengths}\n{text!r}"
 
 
+def shots_by_themselves(random, run):
+    """Shots of a seed that are asked for together, against some of the same that are asked for one by one."""
+    _, text, _ = large_circuit(random)
+    number = random.choice([2, 3, 63, 64, 65, random.randint(127, 129), random.randint(255, 257), random.randint(1023, 1025)])
+    first = random.choice([0, 1, 63, 2**40, 2**64 - number])
+    command = random.choice([["sample"], ["detect", "--append_observables"]])
+    words = [*command, "--seed", str(random.randrange(2**32))]
+    status, written, told = run([*words, "--shots", str(number), "--first_shot", str(first)], text)
+    lines = written.splitlines(keepends=True)
+    if (status, told, len(lines)) != (0, b"", number):
+        return f"{command[0]} ended with status {status}, wrote {len(lines)} shots of {number} and told {told!r}\n{text!r}"
+    chosen = {0, 1, *range(62, 66), number - 1, *(random.randrange(number) for _ in range(3))}
+    for shot in sorted(shot for shot in chosen if shot < number):
+        alone = run([*words, "--first_shot", str(first + shot)], text)
+        if alone != (0, lines[shot], b""):
+            return f"shot {first + shot} is another alone\n{words} {first} {number}\n{text!r}\n{alone}\n{lines[shot]!r}"
+    return None
+
+
 LAWS = {
     "edited as anew": edited_as_anew, "formats of one another": bits_in_each_format, "checked as run": checked_as_run,
-    "faults as edits": faults_as_edits,
+    "faults as edits": faults_as_edits, "shots by themselves": shots_by_themselves,
 }

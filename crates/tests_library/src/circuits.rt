@@ -1,4 +1,4 @@
-//! Texts of circuits: read whole, cut short and alone, from inputs that fail, and printed.
+//! Texts of circuits: read whole and alone, from inputs that fail, and printed.
 use crate::codes::CODE;
 use stab_circuit::{Circuit, Path, Refused, read_circuit, read_item, write_circuit};
 use stab_pauli::{CutInput, EndlessInput, Fault, MemoryInput, MemoryOutput, Refusal};
@@ -60,71 +60,6 @@ fn a_circuit_has_its_numbers(rt: HostRuntime) -> Result<(), Fail> {
         assert_eq!(rt; found, (numbers, fewer, 0), "at {text}");
     }
     Ok(())
-}
-
-// What refuses the text that is cut off in front of each byte of the code: a digit for each byte, in
-// lines as the code has them, with b for 11. A part of a name names nothing (1), but for the gates R
-// and S and the measurement M; CX pairs its targets (4); an observable has a number (2), and brackets
-// are closed (11); r up to rec[-2 is no record (3). From the word REPEAT to its last brace the block
-// is not closed (5), which is told where it begins.
-const CUTS: &str = "000000000000
-01110
-01004400440
-01110
-01004400440
-01110
-0000000
-011111110bbbbb003333330
-011111110bbbbb003333330
-00111155555
-555551115
-555551554455445
-555551115
-555551554455445
-555551115
-55555555555
-55555511111111115bbbbb5
-5555511111115bbbbb55333333553333335
-5555511111115bbbbb55333333553333335
-50
-00000000
-011111110bbbbb0033333300333333003333330
-011111110bbbbb0033333300333333003333330
-0111111111111111112bb003333330
-";
-
-/// The number of line 10, where the block of the code begins.
-const BLOCK: u64 = 10;
-
-/// The refusal that stands for a text that is cut on a line.
-fn refusal(digit: u8, line: u64) -> (u8, u64) {
-    match digit {
-        b'0' => (0, 0),
-        b'5' => (5, BLOCK),
-        b'b' => (11, line),
-        _ => (digit.wrapping_sub(b'0'), line),
-    }
-}
-
-/// What refuses the code that is cut to so many bytes.
-fn cut_to(alloc: Global, length: usize) -> (u8, u64) {
-    let text = &CODE.as_bytes()[..length.min(CODE.len())];
-    fault_of(read_circuit(alloc, &mut MemoryInput::new(text)))
-}
-
-#[test]
-fn each_text_that_is_cut_short_has_its_answer(rt: HostRuntime) {
-    let (mut length, mut line) = (0usize, 1u64);
-    for digit in CUTS.bytes() {
-        if digit == b'\n' {
-            line = line.saturating_add(1);
-        } else {
-            let found = cut_to(rt.alloc(), length);
-            assert_eq!(rt; found, refusal(digit, line), "at {length}");
-            length = length.saturating_add(1);
-        }
-    }
-    assert_eq!(rt; length, CODE.len());
 }
 
 /// The number and line of a refusal, where its item came back.

@@ -162,27 +162,31 @@ fn a_script_without_end_is_too_long(rt: HostRuntime) -> Result<(), Fail> {
     Ok(())
 }
 
-// At which read a script of three lines fails, which comes a byte at a time, and the replies until then.
-const BROKEN: [(u64, &str); 7] = [
-    (1, ""),
-    (18, ""),
-    (19, "1\n"),
-    (31, "1\n"),
-    (32, "1\nok\n"),
-    (49, "1\nok\n"),
-    (50, "1\nok\n0\n"),
+// A script of three lines comes a byte at a time, and fails at its reads from one number up to another: the
+// replies until then.
+const BROKEN: [(u64, u64, &str); 4] = [
+    (1, 18, ""),
+    (19, 31, "1\n"),
+    (32, 49, "1\nok\n"),
+    (50, 50, "1\nok\n0\n"),
 ];
+
+/// Whether the script that fails at this read has these replies.
+fn breaks_off(alloc: Global, fail_at: u64, replies: &str) -> Result<bool, Fail> {
+    let lines = b"show measurements\ninsert 1 H 0\nshow measurements\n";
+    let mut circuit = MemoryInput::new(b"H 0\nM 0");
+    let mut script = CutInput::new(lines, 1, fail_at);
+    let run = run_over(alloc, "stabsim edit --coins 1", &mut circuit, &mut script, 99)?;
+    Ok(run.is(1, replies.as_bytes(), b"stabsim: refused 15 ReadFault\n"))
+}
 
 #[test]
 fn a_script_that_breaks_off_has_the_replies_to_whole_lines(rt: HostRuntime) -> Result<(), Fail> {
-    let lines = b"show measurements\ninsert 1 H 0\nshow measurements\n";
-    for (fail_at, replies) in BROKEN {
-        let mut circuit = MemoryInput::new(b"H 0\nM 0");
-        let mut script = CutInput::new(lines, 1, fail_at);
-        let line = "stabsim edit --coins 1";
-        let run = run_over(rt.alloc(), line, &mut circuit, &mut script, 99)?;
-        let cut = run.is(1, replies.as_bytes(), b"stabsim: refused 15 ReadFault\n");
-        assert!(rt; cut, "at read {fail_at}: {run:?}");
+    for (first, last, replies) in BROKEN {
+        for fail_at in first..=last {
+            let cut = breaks_off(rt.alloc(), fail_at, replies)?;
+            assert!(rt; cut, "at read {fail_at}");
+        }
     }
     Ok(())
 }

@@ -2,15 +2,79 @@
 use crate::stop::Stop;
 use crate::trial::{Ending, print_ending};
 use crate::window;
-use crate::writings::{Writing, coins};
-use stab_cli::FaultLayout;
-use stab_pauli::MemoryOutput;
+use stab_cli::{
+    FaultLayout, Source, run_detect, run_deterministic, run_edit, run_faults, run_sample,
+    run_stabilisers,
+};
+use stab_pauli::{MemoryInput, MemoryOutput};
 use stab_results::Format;
 use std::alloc::Global;
 use std::io;
 
+/// A Bell pair, measured.
+const BELL: &[u8] = b"H 0\nCX 0 1\nM 0 1";
+
+/// The same with a record and a parity of records for detectors, and a record for an observable.
+const PARITIES: &[u8] =
+    b"H 0\nCX 0 1\nM 0 1\nDETECTOR rec[-1]\nDETECTOR rec[-1] rec[-2]\nOBSERVABLE_INCLUDE(0) rec[-2]";
+
+/// A zero with a marked place in front of its measurement, whose record is a detector and an observable.
+const MARKED: &[u8] = b"R 0\nI 0\nM 0\nDETECTOR rec[-1]\nOBSERVABLE_INCLUDE(0) rec[-1]";
+
+/// A script for the Bell pair.
+const SCRIPT: &[u8] = b"insert 2 X 1\nshow measurements\ndelete 0\nshow measurements\nshow free\n";
+
 /// Room for all that a command writes.
 const ROOM: usize = 4096;
+
+/// A command that writes.
+#[derive(Clone, Copy)]
+enum Command {
+    /// The records of so many shots of the Bell pair.
+    Sample(u64),
+    /// Its detectors and observable, in two shots.
+    Detect,
+    /// The reduced rows of the strings that stabilise it.
+    Stabilisers,
+    /// Which of its bits are the same for all coins.
+    Deterministic,
+    /// What the faults of the marked zero flip.
+    Faults(FaultLayout),
+    /// The replies to the script.
+    Edit,
+}
+
+impl Command {
+    /// Runs it.
+    fn write(self, alloc: Global, coins: &Source, out: &mut MemoryOutput) -> Result<(), Stop> {
+        let bell = &mut MemoryInput::new(BELL);
+        let parities = &mut MemoryInput::new(PARITIES);
+        let format = Format::F01;
+        match self {
+            Command::Sample(shots) => run_sample(alloc, bell, out, format, shots, coins)?,
+            Command::Detect => {
+                run_detect(alloc, parities, out, Format::Dets, true, 2, coins)?;
+            }
+            Command::Stabilisers => run_stabilisers(alloc, bell, out, coins)?,
+            Command::Deterministic => run_deterministic(alloc, parities, out, format)?,
+            Command::Faults(layout) => write_faults(alloc, out, layout)?,
+            Command::Edit => {
+                let script = &mut MemoryInput::new(SCRIPT);
+                run_edit(alloc, bell, script, out, None, 2, coins)?;
+            }
+        }
+        Ok(())
+    }
+}
+
+/// Writes what the faults of the marked zero flip.
+fn write_faults(alloc: Global, out: &mut MemoryOutput, layout: FaultLayout) -> Result<(), Stop> {
+    let input = &mut MemoryInput::new(MARKED);
+    match run_faults(alloc, input, out, layout, false, false) {
+        Ok(()) => Ok(()),
+        Err(refused) => Err(Stop(refused.fault)),
+    }
+}
 
 /// A command's answer, with what it wrote.
 #[derive(Drop)]
@@ -20,19 +84,18 @@ struct Written {
 }
 
 /// Runs a command, whose requests may be refused.
-fn tried(alloc: Global, command: Writing) -> Result<Written, Stop> {
-    let coins = coins(alloc)?;
+fn tried(alloc: Global, command: Command, coins: &Source) -> Result<Written, Stop> {
     let mut out = MemoryOutput::new(alloc, ROOM)?;
     window::open(alloc);
-    let answer = command.write(alloc, &coins, &mut out);
+    let answer = command.write(alloc, coins, &mut out);
     window::close(alloc);
     Ok(Written { answer, out })
 }
 
 /// All that a command writes.
-fn whole(alloc: Global, command: Writing) -> Result<MemoryOutput, Stop> {
+fn whole(alloc: Global, command: Command, coins: &Source) -> Result<MemoryOutput, Stop> {
     let mut out = MemoryOutput::new(alloc, ROOM)?;
-    command.write(alloc, &coins(alloc)?, &mut out)?;
+    command.write(alloc, coins, &mut out)?;
     Ok(out)
 }
 
@@ -47,29 +110,30 @@ fn ending(written: &Written, whole: &[u8]) -> Ending {
 }
 
 /// Tries a command, which then writes the same as before where it is run again.
-fn try_command(alloc: Global, command: Writing) -> Result<Ending, Stop> {
-    let granted = whole(alloc, command)?;
-    let ending = ending(&tried(alloc, command)?, granted.bytes());
-    let again = whole(alloc, command)?;
+fn try_command(alloc: Global, command: Command, coins: &Source) -> Result<Ending, Stop> {
+    let granted = whole(alloc, command, coins)?;
+    let ending = ending(&tried(alloc, command, coins)?, granted.bytes());
+    let again = whole(alloc, command, coins)?;
     Ok(ending.if_right(again.bytes() == granted.bytes()))
 }
 
-/// Tries each command.
+/// Tries each command: with shots of a seed by lanes, in two batches.
 pub fn print_all<R: AllocGlobal + Print>(rt: &R) -> io::Result<()> {
     let commands = [
-        ("run_sample", Writing::Sample(Format::F01)),
-        ("run_detect", Writing::Detect(Format::Dets)),
-        ("run_stabilisers", Writing::Stabilisers),
-        ("run_deterministic", Writing::Deterministic(Format::F01)),
-        ("run_faults", Writing::Faults(FaultLayout::Lines)),
+        ("run_sample, one shot", Command::Sample(1)),
+        ("run_sample, 65 shots", Command::Sample(65)),
+        ("run_detect", Command::Detect),
+        ("run_stabilisers", Command::Stabilisers),
+        ("run_deterministic", Command::Deterministic),
+        ("run_faults", Command::Faults(FaultLayout::Lines)),
         (
             "run_faults, shots",
-            Writing::Faults(FaultLayout::Shots(Format::F01)),
+            Command::Faults(FaultLayout::Shots(Format::F01)),
         ),
-        ("run_edit", Writing::Edit),
+        ("run_edit", Command::Edit),
     ];
     for (name, command) in commands {
-        print_ending(rt, name, try_command(rt.alloc(), command))?;
+        print_ending(rt, name, try_command(rt.alloc(), command, &Source::Seed(7)))?;
     }
     Ok(())
 }

@@ -1,17 +1,15 @@
-//! The program `tests_refusals`: calls that are refused memory, and devices that fail, at every place.
+//! The program `tests_refusals`: calls that are refused memory, at every place.
 //!
 //! Each call is made on values that had ample memory. Where it answers 20, all that its contract names
 //! must be as before, and the call, made again, must give what a call gives that was never refused. By
 //! itself the program is refused nothing; `tools/refuse.c` refuses the calls their requests for memory,
-//! each request in turn. Then commands and writers run over outputs that take k bytes, for each k, and
-//! over inputs that fail at their jth read, for each j. A line tells how each call ended.
+//! each request in turn. A line tells how each call ended.
 //!
 //! - `trial`: a call that is tried, and how it ended; `window`: where memory may be refused.
 //! - `stop`: what ended a call early.
 //! - `sheet`: values as bytes, to be compared; `item_slot`: an item beside a circuit; `one_drop`: values that are let go.
 //! - `outputs`, `strings`, `states`, `circuits`, `runs`, `sessions`, `edits`: the calls, by what they work on.
 //! - `words`, `commands`: the calls from words and from bytes to bytes.
-//! - `writings`, `readings`: outputs and inputs that fail.
 //!
 //! It is proved safe. What it finds is tested, not proved.
 #![tactic(auto)]
@@ -22,7 +20,6 @@ mod edits;
 mod item_slot;
 mod one_drop;
 mod outputs;
-mod readings;
 mod runs;
 mod sessions;
 mod sheet;
@@ -32,7 +29,6 @@ mod strings;
 mod trial;
 mod window;
 mod words;
-mod writings;
 
 use std::io;
 
@@ -45,7 +41,5 @@ fn main(rt: HostRuntime) -> io::Result<()> {
     sessions::print_all(&rt)?;
     edits::print_all(&rt)?;
     words::print_all(&rt)?;
-    commands::print_all(&rt)?;
-    writings::print_all(&rt)?;
-    readings::print_all(&rt)
+    commands::print_all(&rt)
 }

@@ -117,18 +117,3 @@ pub fn print_ending<R: Print>(rt: &R, name: &str, ended: Result<Ending, Stop>) -
         Err(Stop(fault)) => println!(rt; "{name}: WRONG, {fault:?}"),
     }
 }
-
-/// Prints at how many places a device failed, where each time all was as it is to be.
-pub fn print_places<R: Print>(
-    rt: &R,
-    name: &str,
-    places: &str,
-    count: usize,
-    right: Result<bool, Stop>,
-) -> io::Result<()> {
-    match right {
-        Ok(true) => println!(rt; "{name}: {count} {places}"),
-        Ok(false) => println!(rt; "{name}: {places}: WRONG"),
-        Err(Stop(fault)) => println!(rt; "{name}: {places}: WRONG, {fault:?}"),
-    }
-}
