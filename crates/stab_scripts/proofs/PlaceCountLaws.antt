@@ -68,22 +68,20 @@ step_passed left k x xs ys is same = ap (drop left) same ∙ ap (λ n. drop n (x
 
 -- a cut number of steps is that of all where no more are cut off than there are
 taken_capped : (n c : ℕ) (xs : List Step) → length xs ≤ c → take (min n c) xs ≡ take n xs
-taken_capped zero c xs few = ap (λ k. take k xs) (omega arith)
-taken_capped (suc n) zero [] few = refl
+taken_capped n c [] few = none_taken (min n c) ∙ sym (none_taken n)
+taken_capped zero c (x ∷ xs) few = ap (λ k. take k (x ∷ xs)) {x = min zero c} {y = zero} (omega arith)
 taken_capped (suc n) zero (x ∷ xs) few = absurd (omega (arith, few))
-taken_capped (suc n) (suc c) [] few = none_taken (min (suc n) (suc c))
 taken_capped (suc n) (suc c) (x ∷ xs) few = ap (λ k. take k (x ∷ xs)) {x = min (suc n) (suc c)} {y = suc (min n c)} (omega arith) ∙ ap (λ l. x ∷ l) (taken_capped n c xs (omega (arith, few)))
 
 dropped_capped : (n c : ℕ) (xs : List Step) → length xs ≤ c → drop (min n c) xs ≡ drop n xs
-dropped_capped zero c xs few = ap (λ k. drop k xs) (omega arith)
-dropped_capped (suc n) zero [] few = refl
+dropped_capped n c [] few = none_dropped (min n c) ∙ sym (none_dropped n)
+dropped_capped zero c (x ∷ xs) few = ap (λ k. drop k (x ∷ xs)) {x = min zero c} {y = zero} (omega arith)
 dropped_capped (suc n) zero (x ∷ xs) few = absurd (omega (arith, few))
-dropped_capped (suc n) (suc c) [] few = none_dropped (min (suc n) (suc c))
 dropped_capped (suc n) (suc c) (x ∷ xs) few = ap (λ k. drop k (x ∷ xs)) {x = min (suc n) (suc c)} {y = suc (min n c)} (omega arith) ∙ dropped_capped n c xs (omega (arith, few))
 
 -- what lies between two places of a list
 between : (n m : ℕ) (xs : List Step) → take (m - n) (drop n xs) ≡ drop n (take m xs)
-between zero m xs = ap (λ k. take k xs) (omega arith)
+between zero m xs = ap (λ k. take k xs) {x = m - zero} {y = m} (omega arith)
 between (suc n) zero xs = ap (λ k. take k (drop (suc n) xs)) {x = 0 - suc n} {y = 0} (omega arith)
 between (suc n) (suc m) [] = none_taken (suc m - suc n)
 between (suc n) (suc m) (x ∷ xs) = ap (λ k. take k (drop n xs)) {x = suc m - suc n} {y = m - n} (omega arith) ∙ between n m xs
