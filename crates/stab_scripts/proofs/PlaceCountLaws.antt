@@ -162,6 +162,3 @@ place_of_session circuit items place result same shown =
 -- nothing refuses the circuit of a session
 pub session_checked : (n : ℕ) (items others : Items) → others ≡ items → check_within n items ≡ None → check_of others ≡ None
 session_checked n items others same checked = ap check_of same ∙ check-whole n items checked
-
-abbrev path_with : List ℕ → ℕ → Path
-path_with blocks place = record { blocks = blocks; place = place }

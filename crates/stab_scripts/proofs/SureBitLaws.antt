@@ -1,5 +1,5 @@
 -- Laws of bits that are the same whatever the coins: some bits tell of them, no others do, and a framed script is told them.
-use Rattle.std.proofs.Common.{◌≡◌, ℕ, Bool, true, false, List, [], ◌∷◌, map, get_or, length, refl, sym, ap, ◌∙◌, subst, ◌<◌, ◌≤◌, arith, Option, Some, None, if◌then◌else◌, nat_lt, zero-add, All, ◌↔◌}
+use Rattle.std.proofs.Common.{◌≡◌, ℕ, Bool, true, false, List, [], ◌∷◌, map, get_or, length, refl, sym, ap, ◌∙◌, subst, ◌<◌, ◌≤◌, arith, Option, Some, None, Result, Ok, Err, IfOk, if◌then◌else◌, nat_lt, zero-add, All, ◌↔◌}
 use Rattle.std.specs.List.{range_with_len}
 use Rattle.std.proofs.lemmas.List.{ext_get_or}
 use Rattle.std.proofs.lemmas.List.FromFn.{length-map-range_with_len, get_or-map-range_with_len}
@@ -21,6 +21,8 @@ use Rattle.stab_tables.specs.FaultLines.{refused_text}
 use Rattle.stab_scripts.specs.Scripts.{Held, Answer, IsSureAnswer}
 use Rattle.stab_scripts.specs.FramedReplies.{reply_text}
 use Rattle.stab_scripts.specs.inner.SessionAnswers.{answered}
+use Rattle.stab_scripts.specs.inner.Replies.{ReplyBytes}
+use Rattle.stab_scripts.specs.declared.editor.Answered.{Answered}
 use Rattle.stab_scripts.proofs.SessionAnswerLaws.{same_refusal}
 
 -- items that nothing refuses are not refused on as many qubits as they name
@@ -72,10 +74,21 @@ one_sure n items a b p q =
 pub one_sure_text : (items : Items) (x y : List ℕ) → IsSureText F01 items x → IsSureText F01 items y → y ≡ x
 one_sure_text items x y p q = q.2 ∙ ap f01_bytes (one_sure (qubits_of items) items p.0 q.0 p.1 q.1) ∙ sym p.2
 
+-- and a reply of the bits that are found is the line
+pub sure_shown : (items : Items) (n : ℕ) (sure bits : List Bool) (made : Result ReplyBytes Fault) → AreSure n items sure → n ≡ qubits_of items → bits ≡ sure → IfOk made (λ r. r.written ≡ f01_bytes bits)
+    → IfOk made (λ r. IsSureText F01 items r.written)
+sure_shown items n sure bits (Ok r) are is same written = (sure, subst (λ k. AreSure k items sure) is are, written ∙ ap f01_bytes same)
+sure_shown items n sure bits (Err f) are is same written = tt
+
 -- a script that is not framed is refused
-pub sure_refused : (framed : Bool) (held : Held) (reply : List ℕ) (refused : Bool) → framed ≡ false → reply ≡ refused_text BadCommand → refused ≡ true
+sure_refused : (framed : Bool) (held : Held) (reply : List ℕ) (refused : Bool) → framed ≡ false → reply ≡ refused_text BadCommand → refused ≡ true
     → IsSureAnswer framed held (answered held reply refused)
 sure_refused framed held reply refused is text flag = subst (λ b. IsSureAnswer b held (answered held reply refused)) (sym is) (same_refusal BadCommand refl text flag)
+
+pub sure_refusal : (framed : Bool) (held : Held) (result : Result Answered Fault) → framed ≡ false → IfOk result (λ a. a.reply.written ≡ refused_text BadCommand) → IfOk result (λ a. a.refused ≡ true)
+    → IfOk result (λ a. IsSureAnswer framed held (answered held a.reply.written a.refused))
+sure_refusal framed held (Ok a) is text flag = sure_refused framed held a.reply.written a.refused is text flag
+sure_refusal framed held (Err f) is text flag = tt
 
 -- a framed one is told them
 pub sure_told : (framed : Bool) (held : Held) (items : Items) (text reply : List ℕ) → framed ≡ true → items ≡ held.items → IsSureText F01 items text → reply ≡ reply_text true text

@@ -202,7 +202,6 @@ impl Reply {
     }
 
     /// The line of the steps before a place and of those at it.
-    #[tactic(auto, using(crate::proofs::FramedReplyLaws::four_texts))]
     pub(crate) fn place(
         alloc: Global,
         before: StepCounts,

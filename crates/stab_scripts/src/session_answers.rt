@@ -172,6 +172,7 @@ impl<C: Coins> SessionAnswers<C> {
     }
 
     /// Where the item at a place stands in the unrolled circuit.
+    #[tactic(auto, using(crate::proofs::PlaceCountLaws::session_checked))]
     fn place(&self, place: Path) -> Result<Reply, Refusal>
         ensures shows { GivesText result (place_shown (item_at place (entries self.now.session.items)) place self.now.session.items) }
     {
@@ -234,6 +235,7 @@ impl<C: Coins> SessionAnswers<C> {
 
     /// The answer to a request for the bits that are the same whatever the coins, which only a framed
     /// script may make.
+    #[tactic(auto, using(crate::proofs::PlaceCountLaws::session_checked))]
     fn answer_sure(&self) -> Result<Answered, Fault>
         ensures answers { IfOk result (λ a. IsSureAnswer self.now.framed (held_of self.now.session self.now.mark) (answered (held_of self.now.session self.now.mark) a.reply.written a.refused)) }
         ensures err { IfErr result (λ f. f ≡ whole OutOfMemory) }
