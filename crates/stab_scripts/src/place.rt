@@ -41,7 +41,7 @@ fn place_number(word: &[u8]) -> Option<usize>
 }
 
 /// The place that a word stands for.
-#[tactic(auto, unfolding(crate::specs::script::ScriptWords::place_of))]
+#[tactic(auto, unfolding(crate::specs::ScriptWords::place_of))]
 pub(crate) fn read_place(word: &[u8]) -> Option<Path>
     ensures value { MatchOption result (place_of word.now ≡ None) (λ p. place_of word.now ≡ Some p) }
 {

@@ -186,7 +186,7 @@ impl ScriptReader {
     }
 
     /// Ends the line so far.
-    #[tactic(auto, unfolding(crate::specs::script::Scripts::read_line))]
+    #[tactic(auto, unfolding(crate::specs::Scripts::read_line))]
     fn end_line(&mut self) -> Result<Option<Request>, Fault>
         requires few { opened_in self.old.gathering < 2 ^ 63 }
         ensures reader { OnOk result (self.new ≡ (read_line self.old).reader) }

@@ -166,7 +166,7 @@ fn request_by(alloc: Global, word: &[u8], rest: &[u8]) -> Result<Request, Fault>
 }
 
 /// What a content asks for that is not blank; fault `OutOfMemory` alone.
-#[tactic(auto, unfolding(crate::specs::script::Scripts::request_of))]
+#[tactic(auto, unfolding(crate::specs::Scripts::request_of))]
 pub(crate) fn read_request(alloc: Global, content: &[u8]) -> Result<Request, Fault>
     ensures gives { IfOk result (λ r. request_asked r ≡ request_of content.now) }
     ensures err { IfErr result (λ f. f ≡ whole OutOfMemory) }

@@ -136,7 +136,7 @@ fn read_string_without_sign(alloc: Global, n: usize, word: &[u8]) -> Result<Paul
 ///
 /// Refusals: `BadTarget` for another spelling, a qubit that stands twice, or too many or too few
 /// letters; `QubitOutOfRange`; `OutOfMemory`.
-#[tactic(auto, unfolding(crate::specs::script::Signs::string_of_word))]
+#[tactic(auto, unfolding(crate::specs::Signs::string_of_word))]
 pub(crate) fn read_string(alloc: Global, n: usize, word: &[u8]) -> Result<Pauli, Refusal>
     ensures gives { Gives result (string_of_word n word.now) }
     ensures size { IfOk result (λ p. length p.letters ≡ n) }
