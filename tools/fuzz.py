@@ -101,6 +101,11 @@ class SmallSession(scripts.Session):
             raise TooLarge
         return super().run()
 
+    def deterministic(self):
+        if numbers.qubits(self.items) > MOST_QUBITS or numbers.summary(self.items)[0] > MOST_FAULT_STEPS:
+            raise TooLarge
+        return super().deterministic()
+
 
 def session_of(items, settings):
     qubits = numbers.qubits(items) if settings["qubits"] is None else settings["qubits"]

@@ -14,7 +14,7 @@ import importlib
 from typing import TYPE_CHECKING
 
 if TYPE_CHECKING:
-    from stabsim.circuit import Circuit, Numbers, Sure
+    from stabsim.circuit import Circuit, Numbers
     from stabsim.collecting import Sums, collect
     from stabsim.errors import (
         MissingProgram, OtherExperiment, ProgramFailed, Refused, SessionEnded, StabsimError, UnsupportedNoise,
@@ -23,11 +23,12 @@ if TYPE_CHECKING:
     from stabsim.marking import without_noise
     from stabsim.models import ErrorModel, error_model
     from stabsim.program import find_program
-    from stabsim.session import Changed, Session, SessionNumbers
+    from stabsim.session import Changed, ItemSteps, Session, SessionNumbers
+    from stabsim.sure import Sure
 
 # Where each name stands. A module is read when one of its names is asked for first, so that `stabsim.codes` needs no numpy.
 HOMES = {
-    "Circuit": "circuit", "Numbers": "circuit", "Sure": "circuit",
+    "Circuit": "circuit", "Numbers": "circuit",
     "Sums": "collecting", "collect": "collecting",
     "ErrorModel": "models", "error_model": "models",
     "MissingProgram": "errors", "OtherExperiment": "errors", "ProgramFailed": "errors", "Refused": "errors",
@@ -35,7 +36,8 @@ HOMES = {
     "FaultTable": "faults",
     "without_noise": "marking",
     "find_program": "program",
-    "Changed": "session", "Session": "session", "SessionNumbers": "session",
+    "Changed": "session", "ItemSteps": "session", "Session": "session", "SessionNumbers": "session",
+    "Sure": "sure",
 }
 
 __all__ = sorted([*HOMES, "codes"])

@@ -4,7 +4,7 @@ import pathlib
 from concurrent.futures import Executor
 from dataclasses import dataclass
 from os import PathLike
-from typing import Literal, NamedTuple, overload
+from typing import Literal, overload
 
 import numpy as np
 from numpy.typing import NDArray
@@ -12,6 +12,7 @@ from numpy.typing import NDArray
 from stabsim import bits, coordinates, program, shot_parts
 from stabsim.faults import FaultTable, table_of
 from stabsim.session import Session
+from stabsim.sure import Sure, sure_of
 
 Bits = NDArray[np.bool_]
 
@@ -27,13 +28,6 @@ class Numbers:
     detectors: int
     observables: int
     coins: int
-
-
-class Sure(NamedTuple):
-    """What is the same for all coins: detectors is a bool array (detectors,), observables a bool array (observables,)."""
-
-    detectors: Bits
-    observables: Bits
 
 
 class Circuit:
@@ -115,8 +109,7 @@ class Circuit:
         """Which detectors, bool (detectors,), and observables, bool (observables,), are the same for all coins."""
         has = self.numbers()
         written = program.run(["deterministic", "--out_format", "b8"], self.text)
-        sure = bits.of_b8(written, 1, has.detectors + has.observables)[0]
-        return Sure(sure[: has.detectors], sure[has.detectors :])
+        return sure_of(bits.of_b8(written, 1, has.detectors + has.observables)[0], has.detectors)
 
     def faults(self, *, everywhere: bool = False, sure_only: bool = False) -> FaultTable:
         """Which detectors and observables each single fault flips: at the targets of `I` alone, or everywhere.

@@ -12,6 +12,7 @@ from stabsim.errors import Refused
 from stabsim.framed import FramedProcess
 from stabsim.history import Change, History
 from stabsim.script import Path, edit_lines, path_text
+from stabsim.sure import Sure, sure_of
 
 Bits = NDArray[np.bool_]
 Places = NDArray[np.int64]
@@ -26,6 +27,20 @@ class SessionNumbers:
     records: int
     detectors: int
     observables: int
+
+
+@dataclass(frozen=True)
+class ItemSteps:
+    """Which of all unrolled steps an item's are, and which records, detectors and coins are theirs: a range of numbers each.
+
+    In a block they are those of the first round of each block around the item. An item without steps, or with no records, has an
+    empty range, which begins where the next ones would.
+    """
+
+    steps: range
+    records: range
+    detectors: range
+    coins: range
 
 
 @dataclass(frozen=True)
@@ -134,6 +149,15 @@ class Session:
     def item(self, path: Path) -> str:
         """The text of the item at the path."""
         return text_of_lines(self.process.ask(f"show item {path_text(path)}\n".encode()))
+
+    def place(self, path: Path) -> ItemSteps:
+        """Where the steps of the item at the path stand in the unrolled circuit, and which records, detectors and coins they make."""
+        numbers = list(map(int, self.line(f"show place {path_text(path)}").split()))
+        return ItemSteps(*(range(first, first + count) for first, count in zip(numbers[::2], numbers[1::2], strict=True)))
+
+    def deterministic(self) -> Sure:
+        """Which detectors and observables of the circuit as it is now are the same for all coins: `Circuit.deterministic` of it."""
+        return sure_of(bits.of_text(self.line("show deterministic")), self.numbers().detectors)
 
     def sign(self, pauli: str) -> int:
         """1 where the string, as X0*Z3 or -X0 or with a letter for each qubit, stabilises the state, -1 where its negative

@@ -112,6 +112,33 @@ def test_an_item_is_shown_by_its_path():
             session.item(99)
 
 
+def test_the_steps_of_an_item_are_found_by_its_path():
+    # R has three steps and three coins; a round has a CX, a measurement and reset in one, with one record and one coin, and a detector.
+    circuit = "R 0 1 2\nREPEAT 3 {\n    CX 0 1\n    MR 1\n    DETECTOR rec[-1]\n}\nTICK\nM 0 2\nDETECTOR rec[-1] rec[-2]\n"
+    with stabsim.Circuit(circuit).edit() as session:
+        assert session.place(0) == stabsim.ItemSteps(range(0, 3), range(0, 0), range(0, 0), range(0, 3))
+        assert session.place(1) == stabsim.ItemSteps(range(3, 12), range(0, 3), range(0, 3), range(3, 6))
+        assert session.place("1/1") == stabsim.ItemSteps(range(4, 5), range(0, 1), range(0, 0), range(3, 4))
+        assert session.place([1, 2]) == stabsim.ItemSteps(range(5, 6), range(1, 1), range(0, 1), range(4, 4))
+        assert session.place(2) == stabsim.ItemSteps(range(12, 12), range(3, 3), range(3, 3), range(6, 6))
+        assert session.place(3) == stabsim.ItemSteps(range(12, 14), range(3, 5), range(3, 3), range(6, 8))
+        assert session.place(4).detectors == range(3, 4)
+        for path, number in (("5", 12), ("0/0", 17), ("1/3", 12)):
+            with pytest.raises(stabsim.Refused) as told:
+                session.place(path)
+            assert told.value.number == number
+
+
+def test_what_is_the_same_for_all_coins_is_told_as_of_the_circuit():
+    with stabsim.Circuit(REPETITION).edit(qubits=7) as session:
+        assert all(sure.all() for sure in session.deterministic())
+        for place, text in ((0, "H 0"), (BLOCK + 1, "RX 2"), (0, "OBSERVABLE_INCLUDE(2)")):
+            session.insert(place, text)
+            ours, theirs = session.deterministic(), stabsim.Circuit(session.circuit).deterministic()
+            assert np.array_equal(ours.detectors, theirs.detectors) and np.array_equal(ours.observables, theirs.observables)
+        assert not ours.detectors.all()
+
+
 def test_a_text_that_is_more_than_one_item_is_never_sent():
     for text in ("X 0\nX 1", "REPEAT 2 {\nX 0\n}\nX 0", "REPEAT 2 {\nX 0", "# a comment\nX 0", "REPEAT 2 {\n}\n}", "REPEAT 2 {"):
         with pytest.raises(ValueError):

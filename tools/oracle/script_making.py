@@ -5,7 +5,8 @@ from .reading import Block
 from .scripts import Script
 
 SHOWN = ("measurements", "free", "detectors", "observables", "stabilisers", "circuit")
-FRAMED = ("mark", "show numbers", "show changed", "show changed", "show changed records", "show sign", "show item")
+FRAMED = ("mark", "show numbers", "show changed", "show changed", "show changed records", "show sign", "show item",
+          "show place", "show deterministic")
 
 
 def path_to(random, items, past_end):
@@ -63,7 +64,7 @@ def framed_line(random, session):
     line = random.choice(FRAMED)
     if line == "show sign":
         return f"{line} {string_word(random, session.qubits)}"
-    return f"{line} {path_to(random, session.items, False)}" if line == "show item" else line
+    return f"{line} {path_to(random, session.items, False)}" if line in ("show item", "show place") else line
 
 
 def lines_that_show(random, session):

@@ -2,7 +2,7 @@
 
 import copy
 
-from . import formats, numbers, printing, states
+from . import faults, formats, numbers, printing, states
 from .reading import MOST_BYTES, MOST_DEPTH, REFUSALS, SPACING, Block, Refused, content_of, is_digits, item_of, product_of
 
 MOST_LINE = 65_536
@@ -57,6 +57,19 @@ def item_at(items, path):
     if not isinstance(items[place], Block):
         raise Refused(17)
     return item_at(items[place].body, inner)
+
+
+def steps_before(items, path):
+    """The unrolled steps before a place, in the first round of each block around it."""
+    place, inner = path[0], path[1:]
+    before = list(numbers.unroll(items[:place]))
+    return before + steps_before(items[place].body, inner) if inner else before
+
+
+def place_numbers(steps):
+    """How many steps, records, detectors and coins."""
+    kinds = [step[0] for step in steps]
+    return len(steps), sum(map(numbers.records_of, steps)), kinds.count("detector"), kinds.count("collapse") + kinds.count("product")
 
 
 def string_of_word(word, qubits):
@@ -141,10 +154,15 @@ class Session:
             run = self.run()
             bits = {b"measurements": run.records, b"free": run.free, b"detectors": run.detectors, b"observables": run.observables}
             self.reply(formats.shot("01", bits[what]))
+        elif what == b"deterministic" and self.framed:
+            self.reply(self.deterministic())
         elif self.framed:
             self.show_framed(*first_word(what))
         else:
             raise Refused(13)
+
+    def deterministic(self):
+        return faults.deterministic(self.items, "01")
 
     def numbers(self):
         run = self.run()
@@ -171,6 +189,11 @@ class Session:
             if more:
                 raise Refused(13)
             self.reply(printing.printed([item_at(self.items, path)]))
+        elif word == b"place":
+            path = place_of(operand)
+            if more:
+                raise Refused(13)
+            self.show_place(path)
         else:
             raise Refused(13)
 
@@ -185,6 +208,13 @@ class Session:
             names += [f"L{place}" for place in changed_places(old.observables, new.observables)]
             counts = count_lines(("detectors", old.detectors, new.detectors), ("observables", old.observables, new.observables))
         self.reply((" ".join(names) + "\n" + counts).encode())
+
+    def show_place(self, path):
+        """The number of the first step of an item, and how many it has, and the same of records, detectors and coins."""
+        item = item_at(self.items, path)
+        firsts = place_numbers(steps_before(self.items, path))
+        counts = place_numbers(list(numbers.unroll([item])))
+        self.reply(" ".join(f"{first} {count}" for first, count in zip(firsts, counts)).encode() + b"\n")
 
     def show_sign(self, word):
         negative, letters = string_of_word(word, self.qubits)

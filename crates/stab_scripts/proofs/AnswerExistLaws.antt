@@ -3,7 +3,7 @@ use Rattle.std.proofs.Common.{◌≡◌, ◌≤◌, ℕ, Bool, true, false, nat_
 use Rattle.std.specs.List.{slice_split}
 use Rattle.std.proofs.lemmas.Bool.{ltb-true, ltb-false}
 use Rattle.stab_io.specs.declared.refusal.Refusal.{Refusal}
-use Rattle.stab_io.specs.declared.refusal.Refusal.TheVariants.{TooDeep, QubitOutOfRange}
+use Rattle.stab_io.specs.declared.refusal.Refusal.TheVariants.{TooDeep, QubitOutOfRange, BadCommand}
 use Rattle.stab_io.specs.declared.refusal.Fault.{Fault}
 use Rattle.stab_tableau.specs.Reduced.{TracesHaveOneList, TracesHaveReducedRows}
 use Rattle.stab_lines.specs.Lines.{is_byte}
@@ -15,17 +15,19 @@ use Rattle.stab_circuit.specs.Edits.{edited, list_verdict}
 use Rattle.stab_circuit.specs.Steps.{qubits_of, check_of, check_within}
 use Rattle.stab_circuit.specs.Circuits.{item_fault, StandsForOne}
 use Rattle.stab_circuit.specs.Readings.{IsCircuit}
-use Rattle.stab_circuit.specs.Laws.{AreOfLines, PutsLines, TextsAreLines, ItemTextsAreLines, ItemTextsHaveOneMeaning, EditedItemsAreOfLines}
+use Rattle.stab_circuit.specs.Laws.{AreOfLines, PutsLines, TextsAreLines, ItemTextsAreLines, ItemTextsHaveOneMeaning, EditedItemsAreOfLines, LinesKeepQubitsApart}
 use Rattle.stab_circuit.proofs.EditLemmas.{listed-entries}
 use Rattle.stab_run.specs.Runs.{State, run_of}
 use Rattle.stab_run.specs.Laws.{IsSoundRun, RunsAreSound}
+use Rattle.stab_regions.specs.FaultLaws.{SureParities}
 use Rattle.stab_results.specs.Formats.{f01_bytes}
 use Rattle.stab_circuit.specs.Prints.{printed}
 use Rattle.stab_tables.specs.Stabilisers.{lines_of}
-use Rattle.stab_scripts.specs.Scripts.{Setting, Request, begin, put, delete, show, ask, refuse, Held, run_held, Answer, IsPut, Shows, IsAnswer, IsAnswerToAll, both, unless, judged, decided, refusing, replying, edit_of, edited_items, framed_shown, held_behind, shown_or_refused, framed_answer}
+use Rattle.stab_scripts.specs.Scripts.{Setting, Request, begin, put, delete, show, ask, deterministic, refuse, Held, run_held, Answer, IsPut, Shows, IsSureAnswer, IsAnswer, IsAnswerToAll, both, unless, judged, decided, refusing, replying, edit_of, edited_items, framed_shown, held_behind, shown_or_refused, framed_answer}
 use Rattle.stab_scripts.specs.FramedReplies.{reply_text, greeting, session_numbers}
-use Rattle.stab_scripts.specs.FramedRequests.{FramedRequest, mark, numbers, changed, changed_records, sign, item}
+use Rattle.stab_scripts.specs.FramedRequests.{FramedRequest, mark, numbers, changed, changed_records, sign, item, counts}
 use Rattle.stab_scripts.specs.ScriptLaws.{CanBeEdited}
+use Rattle.stab_scripts.proofs.SureBitLaws.{sure_text}
 use Rattle.stab_scripts.specs.declared.request.ItemEdit.{ItemEdit}
 use Rattle.stab_scripts.specs.declared.request.ItemEdit.TheVariants.{Insert, Replace}
 use Rattle.stab_scripts.specs.declared.request.Show.{Show}
@@ -92,6 +94,7 @@ behind_keeps run held changed = refl
 behind_keeps run held changed_records = refl
 behind_keeps run held (sign word) = refl
 behind_keeps run held (item place) = refl
+behind_keeps run held (counts place) = refl
 
 -- so does its answer
 framed_keeps : (kept : Bool) (n : ℕ) (run : State) (held : Held) (r : FramedRequest) → (framed_answer kept n run held r).held.items ≡ held.items
@@ -102,8 +105,16 @@ framed_keeps true n run held r = by_shown (framed_shown n run held r)
     by_shown (Ok text) = behind_keeps run held r
     by_shown (Err e) = refl
 
+-- a request for the bits that are the same whatever the coins has an answer
+sure_answered : SureParities → LinesKeepQubitsApart → (s : Setting) (held : Held) → CanBeEdited s.qubits held.items → (a : Answer) × IsSureAnswer s.framed held a × CanBeEdited s.qubits a.held.items
+sure_answered law apart s held can = by_framed s.framed
+  where
+    by_framed : (framed : Bool) → (a : Answer) × IsSureAnswer framed held a × CanBeEdited s.qubits a.held.items
+    by_framed false = (refusing held BadCommand, refl, can)
+    by_framed true = let told = sure_text law apart s.qubits held.items can.0 can.1 in (replying held (reply_text true told.0), (told.0, told.1, refl), can)
+
 module _ (meanings : ItemTextsHaveOneMeaning) (lines : ItemTextsAreLines) (edits : EditedItemsAreOfLines) (sound : RunsAreSound)
-    (some : TracesHaveReducedRows) (one : TracesHaveOneList) where
+    (some : TracesHaveReducedRows) (one : TracesHaveOneList) (parities : SureParities) (apart : LinesKeepQubitsApart) where
   -- an edit that puts in the item of a text has an answer
   put_answered : (s : Setting) (held : Held) (how : ItemEdit) (place : Path) (text : List ℕ) → CanBeEdited s.qubits held.items
       → (a : Answer) × IsPut s.framed held (λ item. edited_items s.qubits (edit_of how place item) held.items) text a × CanBeEdited s.qubits a.held.items
@@ -133,6 +144,7 @@ module _ (meanings : ItemTextsHaveOneMeaning) (lines : ItemTextsAreLines) (edits
     refl,
     subst (λ (x : Items). CanBeEdited s.qubits x) (sym (framed_keeps s.framed s.qubits (run_held s held) held r)) can,
   )
+  request_answered s held deterministic can = sure_answered parities apart s held can
   request_answered s held (refuse r) can = (refusing held r, refl, can)
 
   -- requests, however many, have an answer

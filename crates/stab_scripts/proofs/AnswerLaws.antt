@@ -6,9 +6,10 @@ use Rattle.stab_circuit.specs.Items.{Items, OneItem}
 use Rattle.stab_circuit.specs.Circuits.{item_fault, StandsForOne}
 use Rattle.stab_circuit.specs.Laws.{ItemTextsHaveOneMeaning}
 use Rattle.stab_run.specs.Runs.{State}
-use Rattle.stab_scripts.specs.Scripts.{Setting, Request, begin, put, delete, show, ask, refuse, Held, run_held, Answer, IsPut, Shows, IsAnswer, IsAnswerToAll, both, decided, refusing, replying, edit_of, edited_items}
+use Rattle.stab_scripts.specs.Scripts.{Setting, Request, begin, put, delete, show, ask, deterministic, refuse, Held, run_held, Answer, IsPut, Shows, IsAnswer, IsAnswerToAll, both, decided, refusing, replying, edit_of, edited_items}
 use Rattle.stab_scripts.specs.FramedReplies.{reply_text}
 use Rattle.stab_tables.specs.Stabilisers.{lines_of}
+use Rattle.stab_scripts.proofs.SureBitLaws.{one_sure_answer}
 use Rattle.stab_scripts.specs.declared.request.Show.{Show}
 use Rattle.stab_scripts.specs.declared.request.Show.TheVariants.{Measurements, Free, Detectors, Observables, Stabilisers, Circuit}
 
@@ -46,6 +47,7 @@ one_answer law s held (delete place) a b p q = q ∙ sym p
 one_answer law s held (show what) a b p q =
     q.2 ∙ ap (λ l. replying held (reply_text s.framed l)) (one_text s.qubits (run_held s held) held.items what p.0 q.0 p.1 q.1) ∙ sym p.2
 one_answer law s held (ask request) a b p q = q ∙ sym p
+one_answer law s held deterministic a b p q = one_sure_answer s.framed held a b p q
 one_answer law s held (refuse r) a b p q = q ∙ sym p
 
 -- requests, however many, have one answer

@@ -1,5 +1,5 @@
 -- Laws of framed replies: what is left of a shot in the notation `dets` is a line of entries.
-use Rattle.std.proofs.Common.{◌≡◌, ℕ, List, [], ◌∷◌, ◌++◌, length, drop, refl, sym, ap, codes}
+use Rattle.std.proofs.Common.{◌≡◌, ℕ, List, [], ◌∷◌, ◌++◌, length, drop, refl, sym, ap, ◌∙◌, append_assoc, codes}
 use Rattle.std.proofs.lemmas.List.{append-nil}
 use Rattle.stab_tables.specs.Texts.{texts_joined}
 
@@ -14,6 +14,19 @@ told_text number text = ap (λ t. codes "ok " ++ (number ++ (codes "\n" ++ t))) 
 -- a line of numbers behind the words of the first line
 pub greeting_text : (line : List ℕ) → texts_joined (codes "ready 1 " ∷ line ∷ []) ≡ codes "ready 1 " ++ line
 greeting_text line = ap (λ t. codes "ready 1 " ++ t) (append-nil line)
+
+-- two numbers and what stands behind them
+pub two_numbers_text : (first second behind : List ℕ) → texts_joined (first ∷ codes " " ∷ second ∷ behind ∷ []) ≡ first ++ (codes " " ++ (second ++ behind))
+two_numbers_text first second behind = ap (λ t. first ++ (codes " " ++ (second ++ t))) (append-nil behind)
+
+-- four texts, one put behind the other
+pub four_texts : {a b c d e : List ℕ} (first second third last : List ℕ) → a ≡ [] → b ≡ a ++ first → c ≡ b ++ second → d ≡ c ++ third → e ≡ d ++ last
+    → e ≡ first ++ (second ++ (third ++ last))
+four_texts first second third last none one two three four =
+    four
+    ∙ ap (λ t. t ++ last) (three ∙ ap (λ t. t ++ third) (two ∙ ap (λ t. t ++ second) (one ∙ ap (λ t. t ++ first) none)))
+    ∙ append_assoc (first ++ second) third last
+    ∙ append_assoc first second (third ++ last)
 
 -- nothing put behind a text
 pub nothing_behind : (text : List ℕ) → text ≡ text ++ []

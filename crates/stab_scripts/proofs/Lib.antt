@@ -2,6 +2,8 @@ pub mod PlaceLaws
 pub mod ChangeLaws
 pub mod SignLaws
 pub mod FramedReplyLaws
+pub mod SureBitLaws
+pub mod PlaceCountLaws
 pub mod AnswerLaws
 pub mod AnswerExistLaws
 pub mod ReadingLaws

@@ -84,7 +84,7 @@ pub told_made : {C : Type 0} (sequence : C → ℕ → Bool) (kept : Bool) (e : 
 told_made sequence kept e old new m reply is same =
     ap (λ l. answered (held_of new m) l false) same ∙ sym (ap (decided kept (held_of old m)) (made_items sequence e old new is))
 
-same_refusal : {held others : Held} {reply : List ℕ} {refused : Bool} (r : Refusal) → held ≡ others → reply ≡ refused_text r → refused ≡ true → answered held reply refused ≡ refusing others r
+pub same_refusal : {held others : Held} {reply : List ℕ} {refused : Bool} (r : Refusal) → held ≡ others → reply ≡ refused_text r → refused ≡ true → answered held reply refused ≡ refusing others r
 same_refusal {held} {others} {reply} {refused} r e f g =
     ap (λ x. answered x reply refused) e ∙ ap (λ l. answered others l refused) f ∙ ap (λ b. answered others (refused_text r) b) g
 

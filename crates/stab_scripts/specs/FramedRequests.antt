@@ -5,7 +5,7 @@ use Rattle.stab_circuit.specs.Paths.{Path}
 use Rattle.stab_scripts.specs.ScriptWords.{first_word, behind_word, place_of}
 
 -- that changes are counted from now on; or that this is shown: the numbers of the circuit, what changed of detectors and observables, what
--- changed of records, the sign of a Pauli string, the item at a place
+-- changed of records, the sign of a Pauli string, the item at a place, where that stands in the unrolled circuit
 pub data FramedRequest : Type 0 where
   mark : FramedRequest
   numbers : FramedRequest
@@ -13,6 +13,7 @@ pub data FramedRequest : Type 0 where
   changed_records : FramedRequest
   sign : (text : List ℕ) → FramedRequest
   item : (place : Path) → FramedRequest
+  counts : (place : Path) → FramedRequest
 
 -- the request, where nothing stands behind its word
 abbrev pub alone : (rest : List ℕ) → FramedRequest → Option FramedRequest
@@ -31,6 +32,11 @@ abbrev pub item_of : Option Path → (rest : List ℕ) → Option FramedRequest
 item_of None rest = None
 item_of (Some place) rest = alone rest (item place)
 
+-- where the item at a place stands, where there is a place
+abbrev pub counts_at : Option Path → (rest : List ℕ) → Option FramedRequest
+counts_at None rest = None
+counts_at (Some place) rest = alone rest (counts place)
+
 -- what the first word behind `show`, and the rest behind that, ask for
 abbrev pub framed_show : (word rest : List ℕ) → Option FramedRequest
 framed_show word rest =
@@ -38,4 +44,5 @@ framed_show word rest =
     else if bytes_eq word (codes "changed") then changed_of rest
     else if bytes_eq word (codes "sign") then sign_of (first_word rest) (behind_word rest)
     else if bytes_eq word (codes "item") then item_of (place_of (first_word rest)) (behind_word rest)
+    else if bytes_eq word (codes "place") then counts_at (place_of (first_word rest)) (behind_word rest)
     else None

@@ -2,6 +2,7 @@ pub mod ScriptWords
 pub mod FramedRequests
 pub mod FramedReplies
 pub mod Changes
+pub mod PlaceCounts
 pub mod Signs
 pub mod Scripts
 pub mod ScriptLaws

@@ -19,13 +19,16 @@ use Rattle.stab_circuit.specs.Prints.{printed}
 use Rattle.stab_run.specs.Runs.{State, run_of}
 use Rattle.stab_results.specs.Formats.{f01_bytes}
 use Rattle.stab_tables.specs.FaultLines.{refused_text}
+use Rattle.stab_results.specs.declared.format.Format.TheVariants.{F01}
 use Rattle.stab_tables.specs.Stabilisers.{lines_of}
+use Rattle.stab_tables.specs.Deterministic.{IsSureText}
 use Rattle.stab_circuit.specs.Places.{item_at}
 use Rattle.stab_scripts.specs.ScriptWords.{first_word, behind_word, place_of, Gathered, more, is_nothing}
 use Rattle.stab_scripts.specs.FramedRequests as framed_asks
 use Rattle.stab_scripts.specs.FramedRequests.{FramedRequest, mark, numbers, changed, changed_records, sign, framed_show}
 use Rattle.stab_scripts.specs.FramedReplies.{reply_text, made_text, greeting, session_numbers, numbers_line}
 use Rattle.stab_scripts.specs.Changes.{Mark, mark_of, no_mark, changed_text, changed_records_text}
+use Rattle.stab_scripts.specs.PlaceCounts.{place_shown}
 use Rattle.stab_scripts.specs.Signs.{string_of_word, sign_in, sign_line}
 use Rattle.stab_scripts.specs.declared.request.ItemEdit.{ItemEdit}
 use Rattle.stab_scripts.specs.declared.request.ItemEdit.TheVariants.{Insert, Replace}
@@ -33,13 +36,15 @@ use Rattle.stab_scripts.specs.declared.request.Show.{Show}
 use Rattle.stab_scripts.specs.declared.request.Show.TheVariants.{Measurements, Free, Detectors, Observables, Stabilisers, Circuit}
 
 -- what a script asks for: that it begins; that the item of a text is put in at a place, or that the item at a place is deleted, or that
--- something is shown, or what only a framed script asks for; or nothing, where a line is refused
+-- something is shown; what only a framed script asks for, which may be the bits that are the same whatever the coins; or nothing, where
+-- a line is refused
 pub data Request : Type 0 where
   begin : Request
   put : ItemEdit → (place : Path) → (text : List ℕ) → Request
   delete : (place : Path) → Request
   show : Show → Request
   ask : FramedRequest → Request
+  deterministic : Request
   refuse : Refusal → Request
 
 -- an edit that puts in an item, where there are a place and a text
@@ -70,6 +75,7 @@ show_of word =
     else if bytes_eq word (codes "observables") then show Observables
     else if bytes_eq word (codes "stabilisers") then show Stabilisers
     else if bytes_eq word (codes "circuit") then show Circuit
+    else if bytes_eq word (codes "deterministic") then deterministic
     else framed_of (framed_show (first_word word) (behind_word word))
 
 -- what a first word and the rest behind it ask for
@@ -303,6 +309,7 @@ framed_shown n run held changed = Ok (changed_text held.mark run)
 framed_shown n run held changed_records = Ok (changed_records_text held.mark run)
 framed_shown n run held (sign word) = sign_shown run (string_of_word n word)
 framed_shown n run held (framed_asks.item place) = item_shown (item_at place (entries held.items))
+framed_shown n run held (framed_asks.counts place) = place_shown (item_at place (entries held.items)) place held.items
 
 -- what is held behind it: `mark` alone changes that
 abbrev pub held_behind : State → Held → FramedRequest → Held
@@ -319,6 +326,12 @@ abbrev pub framed_answer : (framed : Bool) → ℕ → State → Held → Framed
 framed_answer false n run held request = refusing held BadCommand
 framed_answer true n run held request = shown_or_refused true held (held_behind run held request) (framed_shown n run held request)
 
+-- the answer to what tells which detectors and observables are the same whatever the coins, as the command `deterministic` does: a framed
+-- script is shown them, and no other
+abbrev pub IsSureAnswer : (framed : Bool) → Held → Answer → Type 0
+IsSureAnswer false held a = a ≡ refusing held BadCommand
+IsSureAnswer true held a = (text : List ℕ) × IsSureText F01 held.items text × (a ≡ replying held (reply_text true text))
+
 -- the answer to a request, where this is held
 abbrev pub IsAnswer : Setting → Held → Request → Answer → Type 0
 IsAnswer s held begin a = a ≡ replying held (greeting s.framed (session_numbers s.qubits (run_held s held) held.items))
@@ -326,6 +339,7 @@ IsAnswer s held (put how place text) a = IsPut s.framed held (λ item. edited_it
 IsAnswer s held (delete place) a = a ≡ decided s.framed held (edited_items s.qubits (circuit_edit.Delete place) held.items)
 IsAnswer s held (show what) a = (text : List ℕ) × Shows s.qubits (run_held s held) held.items what text × (a ≡ replying held (reply_text s.framed text))
 IsAnswer s held (ask request) a = a ≡ framed_answer s.framed s.qubits (run_held s held) held request
+IsAnswer s held deterministic a = IsSureAnswer s.framed held a
 IsAnswer s held (refuse r) a = a ≡ refusing held r
 
 -- first one answer, then the other

@@ -2,7 +2,7 @@
 ghost use Rattle.std.specs.Prelude.{◌≡◌, IfOk, IfErr};
 ghost use Rattle.stab_io.specs.Refusals.{whole};
 ghost use Rattle.stab_io.specs.declared.refusal.Refusal.TheVariants.{OutOfMemory};
-ghost use Rattle.stab_scripts.specs.FramedRequests.{alone as alone_of, changed_of, sign_of, item_of, framed_show as shown_by};
+ghost use Rattle.stab_scripts.specs.FramedRequests.{alone as alone_of, changed_of, sign_of, item_of, counts_at, framed_show as shown_by};
 ghost use Rattle.stab_scripts.specs.ScriptWords.{first_word as first_of, behind_word, place_of};
 ghost use Rattle.stab_scripts.specs.inner.Requests.{framed_asked, framed_if_any};
 
@@ -26,6 +26,8 @@ pub(crate) enum FramedRequest {
     Sign(Vec<u8>),
     /// The item at a place.
     Item(Path),
+    /// Where that stands in the unrolled circuit.
+    Place(Path),
 }
 
 /// The request, where nothing stands behind its word.
@@ -69,6 +71,17 @@ fn read_item_at(rest: &[u8]) -> Option<FramedRequest>
     }
 }
 
+/// Where the item at a place stands in the unrolled circuit.
+fn read_counts_at(rest: &[u8]) -> Option<FramedRequest>
+    ensures value { framed_if_any result ≡ counts_at (place_of (first_of rest.now)) (behind_word rest.now) }
+{
+    let (word, rest) = first_word(rest);
+    match read_place(word) {
+        None => None,
+        Some(place) => alone(rest, FramedRequest::Place(place)),
+    }
+}
+
 /// What the first word behind `show`, and the rest behind that, ask for; fault `OutOfMemory` alone.
 pub(crate) fn read_framed_show(
     alloc: Global,
@@ -87,6 +100,8 @@ pub(crate) fn read_framed_show(
         read_sign(alloc, word, rest)
     } else if word == b"item".as_slice() {
         Ok(read_item_at(rest))
+    } else if word == b"place".as_slice() {
+        Ok(read_counts_at(rest))
     } else {
         Ok(None)
     }

@@ -3,8 +3,10 @@
 ghost use Rattle.stab_scripts.specs.ScriptLaws.{CircuitsCanBeEdited, FirstRepliesComeFirst, ScriptsHaveAnAnswer, ScriptsHaveOneAnswer};
 
 use stab_circuit::laws::{
-    edited_items_are_of_lines, item_texts_are_lines, item_texts_have_one_meaning, texts_are_lines,
+    edited_items_are_of_lines, item_texts_are_lines, item_texts_have_one_meaning,
+    lines_keep_qubits_apart, texts_are_lines,
 };
+use stab_regions::fault_laws::sure_parities;
 use stab_run::laws::runs_are_sound;
 use stab_tableau::laws::{traces_have_one_list, traces_have_reduced_rows};
 
@@ -27,6 +29,8 @@ pub fn scripts_have_an_answer()
     runs_are_sound();
     traces_have_reduced_rows();
     traces_have_one_list();
+    sure_parities();
+    lines_keep_qubits_apart();
 }
 
 /// A script has at most one answer, on any items.

@@ -9,7 +9,9 @@
 //! - `reader`: what is known between two bytes of a script.
 //! - `reply`: replies to requests.
 //! - `changes`: the bits at a mark, and what changed since.
+//! - `place_counts`: where the steps of an item stand in the unrolled circuit.
 //! - `signs`: the Pauli strings of words.
+//! - `sure_bits`: which detectors and observables are the same whatever the coins.
 //! - `editor`: a script as it comes, and each reply written in one go.
 //! - `session_answers`: requests answered from a session.
 //! - `watcher`: how a script is read beside the output of its replies.
@@ -33,11 +35,13 @@ mod gathered;
 pub mod laws;
 mod logged_input;
 mod place;
+mod place_counts;
 mod reader;
 mod reply;
 mod request;
 mod session_answers;
 mod signs;
+mod sure_bits;
 mod watcher;
 
 pub use edit::{run_edit, run_edit_watched};

@@ -141,6 +141,7 @@ impl ScriptReader {
             Request::Begin => Some(Request::Begin),
             Request::Show(what) => Some(Request::Show(what)),
             Request::Framed(what) => Some(Request::Framed(what)),
+            Request::Deterministic => Some(Request::Deterministic),
             Request::Refuse(refusal) => Some(Request::Refuse(refusal)),
         }
     }

@@ -1,5 +1,5 @@
 //! Replies to requests, gathered before they are written.
-ghost use Rattle.std.specs.Prelude.{◌≡◌, ◌≤◌, ◌++◌, IfOk, IfErr, OnOk, codes, length, map};
+ghost use Rattle.std.specs.Prelude.{◌≡◌, ◌≤◌, ◌++◌, IfOk, IfErr, OnOk, Ok, codes, length, map};
 ghost use Rattle.stab_io.specs.Devices.{WritesAll};
 ghost use Rattle.stab_pauli.specs.Texts.{pauli_text};
 ghost use Rattle.stab_io.specs.Refusals.{whole};
@@ -11,6 +11,7 @@ ghost use Rattle.stab_results.specs.Formats.{f01_bytes, dets_bytes, detectors_of
 ghost use Rattle.stab_tables.specs.FaultLines.{refused_text};
 ghost use Rattle.stab_tables.specs.Stabilisers.{lines_of};
 ghost use Rattle.stab_scripts.specs.Changes.{count_line, entries_line};
+ghost use Rattle.stab_scripts.specs.PlaceCounts.{place_line, two_numbers};
 ghost use Rattle.stab_scripts.specs.FramedReplies.{greeting as greeting_of, lines_in, made_text, numbers_line, reply_text};
 ghost use Rattle.stab_scripts.specs.Signs.{sign_line};
 ghost use Rattle.stab_tables.specs.Texts.{texts_joined};
@@ -33,6 +34,15 @@ pub(crate) struct SessionNumbers {
     pub(crate) records: usize,
     pub(crate) detectors: usize,
     pub(crate) observables: usize,
+}
+
+/// The numbers of some steps, and of the records, detectors and coins that they make.
+#[derive(Clone, Copy)]
+pub(crate) struct StepCounts {
+    pub(crate) steps: usize,
+    pub(crate) records: usize,
+    pub(crate) detectors: usize,
+    pub(crate) coins: usize,
 }
 
 /// A reply while it is gathered: an output in memory that grows, and fails where memory is refused.
@@ -175,6 +185,39 @@ impl Reply {
         )
     }
 
+    /// Appends two numbers with a space between them, and a text behind.
+    #[tactic(auto, using(crate::proofs::FramedReplyLaws::two_numbers_text))]
+    fn add_numbers(&mut self, first: usize, second: usize, behind: &[u8]) -> Result<(), Fault>
+        ensures written { OnOk result (self.new.written ≡ self.old.written ++ two_numbers first second behind.now) }
+        ensures err { IfErr result (λ f. f ≡ whole OutOfMemory) }
+    {
+        let mut before = itoa::Buffer::new();
+        let mut after = itoa::Buffer::new();
+        let before = before.format(first).as_bytes();
+        let after = after.format(second).as_bytes();
+        match write_texts(self, &[before, b" ", after, behind]) {
+            Ok(()) => Ok(()),
+            Err(_) => Err(Fault::whole(Refusal::OutOfMemory)),
+        }
+    }
+
+    /// The line of the steps before a place and of those at it.
+    pub(crate) fn place(
+        alloc: Global,
+        before: StepCounts,
+        own: StepCounts,
+    ) -> Result<Reply, Fault>
+        ensures written { IfOk result (λ r. r.written ≡ place_line before own) }
+        ensures err { IfErr result (λ f. f ≡ whole OutOfMemory) }
+    {
+        let mut reply = Reply::new(alloc);
+        reply.add_numbers(before.steps, own.steps, b" ")?;
+        reply.add_numbers(before.records, own.records, b" ")?;
+        reply.add_numbers(before.detectors, own.detectors, b" ")?;
+        reply.add_numbers(before.coins, own.coins, b"\n")?;
+        Ok(reply)
+    }
+
     /// The line of a sign.
     pub(crate) fn sign(alloc: Global, sign: Option<bool>) -> Result<Reply, Fault>
         ensures written { IfOk result (λ r. r.written ≡ sign_line sign) }
@@ -311,5 +354,18 @@ impl Reply {
     {
         row.write_text(self)?;
         write_all(self, b"\n")
+    }
+}
+
+/// A reply that only want of memory refuses.
+pub(crate) fn memory(reply: Result<Reply, Fault>) -> Result<Reply, Refusal>
+    requires err { IfErr reply (λ f. f ≡ whole OutOfMemory) }
+    ensures same { IfOk result (λ r. reply ≡ Ok r) }
+    ensures ok { IfOk reply (λ r. result ≡ Ok r) }
+    ensures err { IfErr result (λ r. r ≡ OutOfMemory) }
+{
+    match reply {
+        Ok(reply) => Ok(reply),
+        Err(fault) => Err(fault.refusal),
     }
 }

@@ -57,6 +57,8 @@ pub(crate) enum Request {
     Show(Show),
     /// What only a framed script asks for.
     Framed(FramedRequest),
+    /// Which detectors and observables are the same whatever the coins, for a framed script.
+    Deterministic,
     /// Nothing: a line is refused.
     Refuse(Refusal),
 }
@@ -134,6 +136,8 @@ fn read_show(alloc: Global, word: &[u8]) -> Result<Request, Fault>
         Ok(Request::Show(Show::Stabilisers))
     } else if word == b"circuit".as_slice() {
         Ok(Request::Show(Show::Circuit))
+    } else if word == b"deterministic".as_slice() {
+        Ok(Request::Deterministic)
     } else {
         let (word, rest) = first_word(word);
         let request = read_framed_show(alloc, word, rest)?;

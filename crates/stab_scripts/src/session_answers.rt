@@ -9,9 +9,11 @@ ghost use Rattle.stab_scripts.specs.inner.SessionAnswers.{mark_shown, session_ru
 use crate::changes::{MarkedBits, push_changes};
 use crate::editor::{Answer, Answered};
 use crate::framed::FramedRequest;
-use crate::reply::{Reply, SessionNumbers};
+use crate::place_counts::show_place;
+use crate::reply::{Reply, SessionNumbers, memory};
 use crate::request::{ItemEdit, Request, Show};
 use crate::signs::read_string;
+use crate::sure_bits::show_sure;
 use stab_circuit::{Item, Path, read_item};
 use stab_io::{Fault, Refusal};
 use stab_results::Kinds;
@@ -38,8 +40,9 @@ impl<C: Coins> SessionAnswers<C> {
     ghost use Rattle.stab_tables.specs.FaultLines.{refused_text};
     ghost use Rattle.stab_scripts.specs.Changes.{changed_text, changed_records_text, mark_of};
     ghost use Rattle.stab_scripts.specs.FramedReplies.{session_numbers, reply_text};
+    ghost use Rattle.stab_scripts.specs.PlaceCounts.{place_shown};
     ghost use Rattle.stab_scripts.specs.Signs.{string_of_word};
-    ghost use Rattle.stab_scripts.specs.Scripts.{IsPut, decided, edited_items, edit_of, first_mark as first_mark_of, framed_answer, framed_shown, held_behind, item_shown, sign_shown};
+    ghost use Rattle.stab_scripts.specs.Scripts.{IsPut, IsSureAnswer, decided, edited_items, edit_of, first_mark as first_mark_of, framed_answer, framed_shown, held_behind, item_shown, sign_shown};
     ghost use Rattle.stab_scripts.specs.inner.FramedAnswers.{GivesText};
     ghost use Rattle.stab_scripts.specs.inner.Requests.{framed_asked};
     ghost use Rattle.stab_scripts.specs.inner.SessionAnswers.{ShowsOf, session_setting, session_run, mark_shown, held_of, answered};
@@ -168,6 +171,14 @@ impl<C: Coins> SessionAnswers<C> {
         memory(Reply::item(self.alloc, item))
     }
 
+    /// Where the item at a place stands in the unrolled circuit.
+    #[tactic(auto, using(crate::proofs::PlaceCountLaws::session_checked))]
+    fn place(&self, place: Path) -> Result<Reply, Refusal>
+        ensures shows { GivesText result (place_shown (item_at place (entries self.now.session.items)) place self.now.session.items) }
+    {
+        show_place(self.alloc, self.session.circuit(), place)
+    }
+
     /// Counts changes from now on.
     fn mark(&mut self) -> Result<Reply, Fault>
         ensures session { self.new.session ≡ self.old.session }
@@ -196,6 +207,7 @@ impl<C: Coins> SessionAnswers<C> {
             FramedRequest::ChangedRecords => memory(self.changed_records()),
             FramedRequest::Sign(word) => self.sign(word.as_slice()),
             FramedRequest::Item(place) => self.item(*place),
+            FramedRequest::Place(place) => self.place(*place),
         }
     }
 
@@ -219,6 +231,22 @@ impl<C: Coins> SessionAnswers<C> {
                 Ok(answered)
             }
         }
+    }
+
+    /// The answer to a request for the bits that are the same whatever the coins, which only a framed
+    /// script may make.
+    #[tactic(auto, using(crate::proofs::PlaceCountLaws::session_checked))]
+    fn answer_sure(&self) -> Result<Answered, Fault>
+        ensures answers { IfOk result (λ a. IsSureAnswer self.now.framed (held_of self.now.session self.now.mark) (answered (held_of self.now.session self.now.mark) a.reply.written a.refused)) }
+        ensures err { IfErr result (λ f. f ≡ whole OutOfMemory) }
+    {
+        if !self.framed {
+            return self.refuse(Refusal::BadCommand);
+        }
+        Ok(Answered {
+            reply: show_sure(self.alloc, self.session.circuit())?.told(self.alloc, true)?,
+            refused: false,
+        })
     }
 
     /// The answer to a request that is refused; want of memory is handed on.
@@ -315,19 +343,6 @@ fn first_mark<C: Coins>(
     Ok(MarkedBits::none(alloc))
 }
 
-/// A reply that only want of memory refuses.
-fn memory(reply: Result<Reply, Fault>) -> Result<Reply, Refusal>
-    requires err { IfErr reply (λ f. f ≡ whole OutOfMemory) }
-    ensures same { IfOk result (λ r. reply ≡ Ok r) }
-    ensures ok { IfOk reply (λ r. result ≡ Ok r) }
-    ensures err { IfErr result (λ r. r ≡ OutOfMemory) }
-{
-    match reply {
-        Ok(reply) => Ok(reply),
-        Err(fault) => Err(fault.refusal),
-    }
-}
-
 impl<C: Coins> Answer for SessionAnswers<C> {
     ghost use Rattle.stab_scripts.specs.inner.SessionAnswers.{session_setting, held_of};
 
@@ -348,6 +363,7 @@ impl<C: Coins> Answer for SessionAnswers<C> {
                 refused: false,
             }),
             Request::Framed(request) => self.answer_framed(&request),
+            Request::Deterministic => self.answer_sure(),
             Request::Refuse(refusal) => self.refuse(refusal),
         }
     }

@@ -96,6 +96,8 @@ follow. It may also ask for these, which are refused 13 without it:
   show changed records  the same for records, as M7 M9
   show sign X0*Z3       + or -, or 0 where neither is in the group; also -X0, or a letter a qubit
   show item 2/0         the text of the item
+  show place 2/0        its first unrolled step and how many, and so of records, detectors and coins
+  show deterministic    1 for each detector and observable that is the same for all coins
 
 Examples, at the top of the repository; without --qubits 1 the first line of the first is refused 6:
   printf 'insert 0 X 0\\ninsert 1 M 0\\nshow measurements\\n' | ./stabsim edit --qubits 1

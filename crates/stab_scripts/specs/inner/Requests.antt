@@ -1,8 +1,8 @@
 -- Requests: what contracts see of the code's own forms of requests and of what is gathered.
 -- Source: this project's own.
 use Rattle.std.specs.Prelude.{List, ℕ, [], ◌∷◌, Option, Some, None}
-use Rattle.stab_scripts.specs.Scripts.{Request, begin, put, delete, show, ask, refuse, Gathering}
-use Rattle.stab_scripts.specs.FramedRequests.{FramedRequest, mark, numbers, changed, changed_records, sign, item}
+use Rattle.stab_scripts.specs.Scripts.{Request, begin, put, delete, show, ask, deterministic, refuse, Gathering}
+use Rattle.stab_scripts.specs.FramedRequests.{FramedRequest, mark, numbers, changed, changed_records, sign, item, counts}
 use Rattle.stab_scripts.specs.declared.framed.FramedRequest.{FramedRequest as FramedAsked}
 use Rattle.stab_scripts.specs.declared.framed.FramedRequest.TheVariants as framed_asks
 use Rattle.stab_scripts.specs.declared.request.Request.{Request as Asked}
@@ -16,6 +16,7 @@ framed_asked framed_asks.Changed = changed
 framed_asked framed_asks.ChangedRecords = changed_records
 framed_asked (framed_asks.Sign word) = sign word.items
 framed_asked (framed_asks.Item place) = item place
+framed_asked (framed_asks.Place place) = counts place
 
 -- the same, where there is one
 abbrev pub framed_if_any : Option FramedAsked → Option FramedRequest
@@ -29,6 +30,7 @@ request_asked (asks.Put edit place text) = put edit place text.items
 request_asked (asks.Delete place) = delete place
 request_asked (asks.Show what) = show what
 request_asked (asks.Framed request) = ask (framed_asked request)
+request_asked asks.Deterministic = deterministic
 request_asked (asks.Refuse r) = refuse r
 
 -- the request, where there is one

@@ -1,0 +1,16 @@
+use Rattle.std.proofs.Common.{◌≡◌, true, false, rules}
+use Rattle.stab_circuit.specs.Views.{circuit_items}
+use Rattle.stab_scripts.specs.inner.SessionAnswers.{held_of}
+use Rattle.stab_scripts.proofs.SureBitLaws.{sure_refusal, sure_told}
+use Rattle.stab_scripts.proofs.session_answers.SessionAnswers.answer_sure.Goals as goal
+
+pub returns-then-not-self-clause-answers : goal.returns-then-not-self-clause-answers
+returns-then-not-self-clause-answers g c =
+    let is : c.args.self.now.framed ≡ false = search rules in
+    sure_refusal c.args.self.now.framed (held_of c.args.self.now.session c.args.self.now.mark) c.refuse.result is c.refuse.ensures.reply c.refuse.ensures.refused
+
+pub returns-clause-answers : goal.returns-clause-answers
+returns-clause-answers g c =
+    let is : c.args.self.now.framed ≡ true = search rules in
+    sure_told c.args.self.now.framed (held_of c.args.self.now.session c.args.self.now.mark) (circuit_items c.circuit.result.now) c.in_ok-show_sure.field-0.written c.in_ok-told.field-0.written
+    is c.circuit.ensures.value c.in_ok-show_sure.ensures.shows c.in_ok-told.ensures.written

@@ -1,0 +1,18 @@
+"""Which detectors and observables are the same for all coins."""
+
+from typing import NamedTuple
+
+import numpy as np
+from numpy.typing import NDArray
+
+
+class Sure(NamedTuple):
+    """What is the same for all coins: detectors is a bool array (detectors,), observables a bool array (observables,)."""
+
+    detectors: NDArray[np.bool_]
+    observables: NDArray[np.bool_]
+
+
+def sure_of(bits: NDArray[np.bool_], detectors: int) -> Sure:
+    """The bits of so many detectors, and behind them of the observables."""
+    return Sure(bits[:detectors], bits[detectors:])
