@@ -1,5 +1,5 @@
 -- Laws of bits that are the same whatever the coins: some bits tell of them, no others do, and a framed script is told them.
-use Rattle.std.proofs.Common.{◌≡◌, ℕ, Bool, true, false, List, [], ◌∷◌, map, get_or, length, refl, sym, ap, ◌∙◌, subst, ◌<◌, ◌≤◌, arith, Option, Some, None, Result, Ok, Err, IfOk, if◌then◌else◌, nat_lt, zero-add, All, ◌↔◌}
+use Rattle.std.proofs.Common.{◌≡◌, ℕ, Bool, true, false, List, map, get_or, refl, sym, ap, ◌∙◌, subst, ◌<◌, arith, Some, None, Result, Ok, Err, IfOk, if◌then◌else◌, nat_lt, zero-add, All, ◌↔◌}
 use Rattle.std.specs.List.{range_with_len}
 use Rattle.std.proofs.lemmas.List.{ext_get_or}
 use Rattle.std.proofs.lemmas.List.FromFn.{length-map-range_with_len, get_or-map-range_with_len}
@@ -40,8 +40,7 @@ sure_fault n items f is checked fault = subst (λ v. IsCallFault v f) (checked_o
 -- the bits that the pass backwards finds tell which are the same whatever the coins
 sure_found : SureParities → (n : ℕ) (items : Items) → All (StepFits n) (unroll items) → (sure : List Bool) × AreSure n items sure
 sure_found law n items fits =
-    let pass : ℕ → Bool = λ i. parity_sure n (detectors_of (unroll items)) i (unroll items) in
-    (
+    let pass : ℕ → Bool = λ i. parity_sure n (detectors_of (unroll items)) i (unroll items) in (
       map pass (range_with_len 0 (bits_in items)),
       record {
         count = length-map-range_with_len pass 0 (bits_in items);
@@ -67,8 +66,8 @@ one_sure : (n : ℕ) (items : Items) (a b : List Bool) → AreSure n items a →
 one_sure n items a b p q =
     ext_get_or false b a (q.count ∙ sym p.count)
     (λ i lt.
-        let within : i < bits_in items = omega (arith, lt, q.count) in
-        same_bit (get_or b i false) (get_or a i false) (λ e. (p.exact i within).1 ((q.exact i within).0 e)) (λ e. (q.exact i within).1 ((p.exact i within).0 e)))
+    let within : i < bits_in items = omega (arith, lt, q.count) in
+    same_bit (get_or b i false) (get_or a i false) (λ e. (p.exact i within).1 ((q.exact i within).0 e)) (λ e. (q.exact i within).1 ((p.exact i within).0 e)))
 
 -- so there is one line of them
 pub one_sure_text : (items : Items) (x y : List ℕ) → IsSureText F01 items x → IsSureText F01 items y → y ≡ x

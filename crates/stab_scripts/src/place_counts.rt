@@ -21,9 +21,7 @@ fn records_in(step: Step) -> usize
     ensures one { result ≤ 1 }
 {
     match step {
-        Step::Collapse { recorded, .. } => {
-            if recorded { 1 } else { 0 }
-        }
+        Step::Collapse { recorded, .. } => { if recorded { 1 } else { 0 } }
         Step::Product { .. } => 1,
         Step::One(_, _)
         | Step::Two(_, _, _)
@@ -140,11 +138,7 @@ fn place_counts(
 }
 
 /// The line of where the item at a place stands.
-pub(crate) fn show_place(
-    alloc: Global,
-    circuit: &Circuit,
-    place: Path,
-) -> Result<Reply, Refusal>
+pub(crate) fn show_place(alloc: Global, circuit: &Circuit, place: Path) -> Result<Reply, Refusal>
     requires checked { check_of (circuit_items circuit.now) ≡ None }
     ensures shows { GivesText result (place_shown (item_at place circuit.now) place (circuit_items circuit.now)) }
 {

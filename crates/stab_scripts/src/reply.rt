@@ -202,11 +202,7 @@ impl Reply {
     }
 
     /// The line of the steps before a place and of those at it.
-    pub(crate) fn place(
-        alloc: Global,
-        before: StepCounts,
-        own: StepCounts,
-    ) -> Result<Reply, Fault>
+    pub(crate) fn place(alloc: Global, before: StepCounts, own: StepCounts) -> Result<Reply, Fault>
         ensures written { IfOk result (λ r. r.written ≡ place_line before own) }
         ensures err { IfErr result (λ f. f ≡ whole OutOfMemory) }
     {
