@@ -1,18 +1,16 @@
 -- Laws of place counts: counts grow by one step after another, and the steps before a place and at it are parts of the unrolled circuit.
-use Rattle.std.proofs.Common.{◌≡◌, ℕ, zero, suc, ◌+◌, ◌-◌, ◌<◌, ◌≤◌, min, List, [], ◌∷◌, length, take, drop, refl, sym, ap, ◌∙◌, subst, arith, None, Ok, Err, Result, inl, inr, length-take}
+use Rattle.std.proofs.Common.{◌≡◌, ℕ, zero, suc, ◌-◌, ◌≤◌, min, List, [], ◌∷◌, length, take, drop, refl, sym, ap, ◌∙◌, subst, arith, None, Ok, Err, Result, inl, inr, length-take}
 use Rattle.std.specs.Prelude.{IfOk, IfErr}
 use Rattle.std.specs.Result.{IsErrAnd}
-use Rattle.std.proofs.lemmas.List.{take_all, drop_all, drop-take}
 use Rattle.stab_io.specs.declared.refusal.Refusal.{Refusal}
 use Rattle.stab_io.specs.declared.refusal.Refusal.TheVariants.{OutOfMemory}
 use Rattle.stab_io.specs.declared.refusal.Fault.{Fault}
 use Rattle.stab_circuit.specs.Items.{Items, OneItem, listed, entries}
-use Rattle.stab_circuit.specs.Steps.{Step, unroll, makes, records_of, detectors_of, detectors_in, check_of, check_within, most_steps, steps_cap}
-use Rattle.stab_circuit.specs.Paths.{Path, numbers}
+use Rattle.stab_circuit.specs.Steps.{Step, unroll, check_of, check_within, steps_cap}
+use Rattle.stab_circuit.specs.Paths.{Path}
 use Rattle.stab_circuit.specs.Places.{item_at}
 use Rattle.stab_circuit.specs.Edits.{steps_before}
 use Rattle.stab_circuit.proofs.EditLemmas.{entries-listed}
-use Rattle.stab_run.specs.Points.{all_coins_of, coins_of}
 use Rattle.stab_run.proofs.FitLemmas.{check-whole}
 use Rattle.stab_tables.proofs.CheckLaws.{detectors_more, few_steps}
 use Rattle.stab_scripts.specs.declared.reply.StepCounts.{StepCounts}

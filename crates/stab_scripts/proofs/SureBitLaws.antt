@@ -1,5 +1,5 @@
 -- Laws of bits that are the same whatever the coins: some bits tell of them, no others do, and a framed script is told them.
-use Rattle.std.proofs.Common.{◌≡◌, ℕ, Bool, true, false, List, [], ◌∷◌, map, get_or, length, refl, sym, ap, ◌∙◌, subst, ◌<◌, ◌≤◌, arith, Option, Some, None, Result, Ok, Err, IfOk, if◌then◌else◌, nat_lt, zero-add, All, ◌↔◌}
+use Rattle.std.proofs.Common.{◌≡◌, ℕ, Bool, true, false, List, map, get_or, refl, sym, ap, ◌∙◌, subst, ◌<◌, arith, Some, None, Result, Ok, Err, IfOk, if◌then◌else◌, nat_lt, zero-add, All, ◌↔◌}
 use Rattle.std.specs.List.{range_with_len}
 use Rattle.std.proofs.lemmas.List.{ext_get_or}
 use Rattle.std.proofs.lemmas.List.FromFn.{length-map-range_with_len, get_or-map-range_with_len}

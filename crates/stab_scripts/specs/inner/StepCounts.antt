@@ -1,6 +1,6 @@
 -- Step counts: how counts grow by one step.
 -- Source: this project's own.
-use Rattle.std.specs.Prelude.{◌≤◌, ℕ, ◌+◌}
+use Rattle.std.specs.Prelude.{◌≤◌, ◌+◌}
 use Rattle.stab_circuit.specs.Steps.{Step, makes, detectors_in}
 use Rattle.stab_run.specs.Points.{coins_of}
 use Rattle.stab_scripts.specs.declared.reply.StepCounts.{StepCounts}
