@@ -28,11 +28,7 @@ fn bits_of_shot(alloc: Global, circuit: &Circuit) -> Result<usize, Refusal>
 }
 
 /// How many shots go through a circuit at once, where so many are asked for.
-pub(crate) fn shots_at_once(
-    alloc: Global,
-    circuit: &Circuit,
-    shots: usize,
-) -> Result<usize, Fault>
+pub(crate) fn shots_at_once(alloc: Global, circuit: &Circuit, shots: usize) -> Result<usize, Fault>
     requires checked { check_of (circuit_items circuit.now) ≡ None }
     ensures some { IfOk result (λ n. 0 < n) }
     ensures few { IfOk result (λ n. n ≤ 256) }
