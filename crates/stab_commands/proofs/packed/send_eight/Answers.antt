@@ -1,10 +1,8 @@
-use Rattle.std.proofs.Common.{◌≡◌, ◌∙◌, ◌+◌, ap, sym, length, arith, subst}
+use Rattle.std.proofs.Common.{◌≡◌, ◌∙◌, ap, sym, length, arith, subst}
 use Rattle.std.proofs.lemmas.List.{length-map}
 use Rattle.stab_shots.specs.Squares.{byte_at}
 use Rattle.stab_commands.proofs.PackingLaws.{written}
 use Rattle.stab_io.specs.Devices.{Took}
-use Rattle.stab_io.specs.declared.refusal.Refusal.TheVariants.{OutOfMemory}
-use Rattle.stab_io.specs.Refusals.{whole}
 use Rattle.stab_commands.specs.Outputs.{of_shots}
 use Rattle.stab_commands.proofs.SendingLaws.{sends_none, sent_shot, shots_break_off}
 use Rattle.stab_commands.proofs.ShotLaws.{cut_off_as}

@@ -1,14 +1,9 @@
-use Rattle.std.proofs.Common.{◌≡◌, ℕ, ◌+◌, ◌<◌, ◌≤◌, List, length, ap, sym, ◌∙◌, arith, subst}
+use Rattle.std.proofs.Common.{◌≡◌, ◌+◌, ◌≤◌, length, ap, sym, ◌∙◌, arith, subst}
 use Rattle.stab_io.specs.Devices.{Took}
 use Rattle.stab_commands.specs.Outputs.{of_shots}
-use Rattle.stab_io.specs.declared.refusal.Refusal.TheVariants.{OutOfMemory}
-use Rattle.stab_io.specs.Refusals.{whole}
-use Rattle.stab_results.specs.Formats.{b8_bytes}
 use Rattle.stab_shots.specs.Words.{word_bit}
 use Rattle.stab_shots.specs.Lanes.{lane_bits}
-use Rattle.stab_shots.specs.Squares.{lane_bytes}
-use Rattle.stab_commands.proofs.SendingLaws.{sends_none, shots_break_off}
-use Rattle.stab_commands.proofs.ShotLaws.{sent_batch, batches_break_off, cut_off_here}
+use Rattle.stab_commands.proofs.ShotLaws.{sent_batch, batches_break_off}
 use Rattle.stab_commands.proofs.PackingLaws.{written, packed_of_part}
 use Rattle.stab_commands.proofs.packed.send_packed.Goals as goal
 

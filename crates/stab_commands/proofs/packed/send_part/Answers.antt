@@ -1,12 +1,9 @@
-use Rattle.std.proofs.Common.{◌≡◌, ℕ, ◌+◌, ◌<◌, ◌≤◌, ◌/◌, List, length, ap, sym, ◌∙◌, arith, subst}
+use Rattle.std.proofs.Common.{◌≡◌, ◌+◌, ◌≤◌, ◌/◌, length, ap, sym, ◌∙◌, arith, subst}
 use Rattle.stab_io.specs.Devices.{Took}
 use Rattle.stab_commands.specs.Outputs.{of_shots}
 use Rattle.std.proofs.lemmas.List.{length-map}
 use Rattle.stab_io.specs.declared.refusal.Refusal.TheVariants.{OutOfMemory}
 use Rattle.stab_io.specs.Refusals.{whole}
-use Rattle.stab_results.specs.Formats.{b8_bytes}
-use Rattle.stab_shots.specs.Words.{word_bit}
-use Rattle.stab_shots.specs.Lanes.{lane_bits}
 use Rattle.stab_shots.specs.Squares.{byte_at, lane_bytes}
 use Rattle.stab_commands.proofs.SendingLaws.{sends_none, shots_break_off}
 use Rattle.stab_commands.proofs.ShotLaws.{sent_batch, batches_break_off, cut_off_here}

@@ -1,4 +1,4 @@
-use Rattle.std.proofs.Common.{◌≡◌, ◌+◌, sym, subst, arith}
+use Rattle.std.proofs.Common.{◌≡◌, sym, subst, arith}
 use Rattle.std.specs.Result.{IsErrAnd}
 use Rattle.stab_circuit.specs.Steps.{qubits_of}
 use Rattle.stab_circuit.specs.Views.{circuit_items}
