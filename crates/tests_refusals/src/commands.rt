@@ -30,8 +30,10 @@ const ROOM: usize = 4096;
 /// A command that writes.
 #[derive(Clone, Copy)]
 enum Command {
-    /// The records of so many shots of the Bell pair.
-    Sample(usize),
+    /// The records of one shot of the Bell pair.
+    Sample,
+    /// Those of 65 shots, by lanes.
+    SampleMany,
     /// Its detectors and observable, in two shots.
     Detect,
     /// The reduced rows of the strings that stabilise it.
@@ -51,7 +53,8 @@ impl Command {
         let parities = &mut MemoryInput::new(PARITIES);
         let format = Format::F01;
         match self {
-            Command::Sample(shots) => run_sample(alloc, bell, out, format, shots, coins)?,
+            Command::Sample => run_sample(alloc, bell, out, format, 1, coins)?,
+            Command::SampleMany => run_sample(alloc, bell, out, format, 65, coins)?,
             Command::Detect => {
                 run_detect(alloc, parities, out, Format::Dets, true, 2, coins)?;
             }
@@ -117,11 +120,11 @@ fn try_command(alloc: Global, command: Command, coins: &Source) -> Result<Ending
     Ok(ending.if_right(again.bytes() == granted.bytes()))
 }
 
-/// Tries each command: with shots of a seed by lanes, in two batches.
+/// Tries each command.
 pub fn print_all<R: AllocGlobal + Print>(rt: &R) -> io::Result<()> {
     let commands = [
-        ("run_sample, one shot", Command::Sample(1)),
-        ("run_sample, 65 shots", Command::Sample(65)),
+        ("run_sample, one shot", Command::Sample),
+        ("run_sample, 65 shots", Command::SampleMany),
         ("run_detect", Command::Detect),
         ("run_stabilisers", Command::Stabilisers),
         ("run_deterministic", Command::Deterministic),
