@@ -1,0 +1,72 @@
+#!/usr/bin/env python3
+"""Measures what a further shot of `sample` costs beside one run, and prints a line of a table for each circuit.
+
+    tools/time_shots.py [--program PROGRAM] CIRCUIT..
+
+A run is one shot less what `check` takes, which reads the same text. A further shot is what so many shots take longer than one, each
+by the least processor time of five calls. The line has the milliseconds of a run, and for `b8` and `01` the microseconds of a
+further shot and which part of a run that is.
+"""
+
+import argparse
+import pathlib
+import resource
+import subprocess
+import sys
+
+TOP = pathlib.Path(__file__).resolve().parent.parent
+PROGRAM = TOP / "crates" / "stabsim" / "out" / "stabsim"
+CALLS = 5
+MANY = 2_561
+LONG_RUN = 0.02
+MANY_LONG = 1_025
+
+
+def processor_seconds() -> float:
+    """What all calls took until now."""
+    used = resource.getrusage(resource.RUSAGE_CHILDREN)
+    return used.ru_utime + used.ru_stime
+
+
+def least(program: pathlib.Path, words: list[str]) -> float:
+    """The least processor time of a call, in seconds."""
+    times = []
+    for _ in range(CALLS):
+        before = processor_seconds()
+        subprocess.run([program, *words], stdout=subprocess.DEVNULL, check=True)
+        times.append(processor_seconds() - before)
+    return min(times)
+
+
+def two_digits(number: float) -> str:
+    """A number with the two digits that tell."""
+    return f"{number:.2g}" if number < 100 else f"{float(f'{number:.2g}'):,.0f}"
+
+
+def line_of(program: pathlib.Path, path: pathlib.Path) -> str:
+    """The line of a circuit."""
+    one = least(program, ["sample", "--out_format", "b8", "--in", str(path)])
+    run = one - least(program, ["check", "--in", str(path)])
+    many = MANY if one < LONG_RUN else MANY_LONG
+    cells = [path.stem, two_digits(run * 1e3)]
+    for form in ("b8", "01"):
+        all_shots = least(program, ["sample", "--shots", str(many), "--out_format", form, "--in", str(path)])
+        further = (all_shots - one) / (many - 1)
+        cells += [two_digits(further * 1e6), f"1/{run / further:.0f}"]
+    return "| " + " | ".join(cells) + " |"
+
+
+def main() -> int:
+    words = argparse.ArgumentParser(description="Measures what a further shot of `sample` costs beside one run.")
+    words.add_argument("--program", type=pathlib.Path, default=PROGRAM)
+    words.add_argument("circuits", nargs="+", type=pathlib.Path, metavar="CIRCUIT")
+    given = words.parse_args()
+    print("| Circuit | A run, ms | A further shot in `b8`, µs | of a run | in `01`, µs | of a run |")
+    print("|---|---|---|---|---|---|")
+    for path in given.circuits:
+        print(line_of(given.program, path), flush=True)
+    return 0
+
+
+if __name__ == "__main__":
+    sys.exit(main())
