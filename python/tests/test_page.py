@@ -20,6 +20,9 @@ DRIVER = shutil.which("chromedriver")
 MISSING = [name for name in ("selenium", "aiohttp") if importlib.util.find_spec(name) is None]
 pytestmark = pytest.mark.skipif(not CHROMIUM or not DRIVER or bool(MISSING), reason="chromium, chromium-driver, selenium or aiohttp is missing")
 
+# A shell that starts tests in the background has them ignore Ctrl-C, and the server that they start would do so too.
+signal.signal(signal.SIGINT, signal.default_int_handler)
+
 if not MISSING:
     from selenium import webdriver
     from selenium.webdriver.chrome.service import Service
