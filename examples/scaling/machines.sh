@@ -1,6 +1,6 @@
 #!/bin/sh
 # Runs a circuit in parts, by GNU parallel (Debian's package parallel), and joins them: the bytes of one run.
-# Try examples/scaling/machines.sh examples/surface_code.stim 5 1000 8 b8 /tmp/parts && ls -l /tmp/parts
+# Try examples/scaling/machines.sh examples/surface_code.stim 5 1000 8 b8 parts && ls -l parts
 # Words: those of plan.sh. Called again, it runs the parts that are missing, and those alone.
 # Without MACHINES the parts run on all processors of this machine. MACHINES='8/first.example 4/second.example' runs 8 at
 # a time on the one and 4 on the other, by ssh: the circuit goes there and the part comes back by standard input and
