@@ -35,3 +35,5 @@ mod StepsLeftLemmas
 pub mod EditingLemmas
 pub mod UndoLemmas
 pub mod ClearLemmas
+mod SplitLemmas
+mod ChangeLemmas

@@ -5,16 +5,18 @@ use Rattle.std.specs.List.{slice_split}
 use Rattle.stab_io.specs.declared.refusal.Fault.{Fault}
 use Rattle.stab_lines.specs.Lines.{is_byte}
 use Rattle.stab_lines.specs.Laws.{IsLine}
+use Rattle.stab_lines.specs.declared.operation.Kind.{Kind}
 use Rattle.stab_circuit.specs.declared.edit.Edit.{Edit}
 use Rattle.stab_circuit.specs.Items.{Items, OneItem, done, before, listed, depth}
 use Rattle.stab_circuit.specs.Circuits.{most_bytes, line_meanings, fault_from, Joins, text_fault, item_fault, StandsFor, StandsForOne}
 use Rattle.stab_circuit.specs.Prints.{printed}
-use Rattle.stab_circuit.specs.Steps.{unroll}
+use Rattle.stab_circuit.specs.Steps.{unroll, past_named}
 use Rattle.stab_circuit.specs.Cursors.{IsApart}
 use Rattle.stab_circuit.specs.Readings.{IsCircuit, IsFaultOf}
-use Rattle.stab_circuit.specs.Steps.{unroll}
 use Rattle.stab_circuit.specs.StepPaths.{paths_of}
+use Rattle.stab_circuit.specs.Paths.{Path}
 use Rattle.stab_circuit.specs.Edits.{edited, taken, put_item, first_changed, old_end, new_end}
+use Rattle.stab_circuit.specs.Splits.{split}
 
 -- the text stands for the items, and for no others
 abbrev pub StandsForOnly : List ℕ → Items → Type 0
@@ -82,6 +84,17 @@ pub record LeavesTheRest (edit : Edit) (old new : List OneItem) : Type 0 where
 -- each edit leaves the rest of the steps
 abbrev pub EditsLeaveTheRest : Type 0
 EditsLeaveTheRest = (edit : Edit) (old new : List OneItem) → edited edit old ≡ Ok new → LeavesTheRest edit old new
+
+-- items have the same steps, nest blocks as deep, and name the same greatest numbers, of qubits as of observables: so what refuses the
+-- one on any number of qubits refuses the other
+pub record AreAlike (old new : Items) : Type 0 where
+  pub steps : unroll new ≡ unroll old
+  pub depth : depth new ≡ depth old
+  pub named : (f : Kind → List ℕ) → past_named f new ≡ past_named f old
+
+-- a round that is split off leaves items that are like those before
+abbrev pub SplitsLeaveTheSteps : Type 0
+SplitsLeaveTheSteps = (path : Path) (round : ℕ) (old new : List OneItem) → split path round old ≡ Ok new → AreAlike (listed old) (listed new)
 
 -- the item that the edit puts in, if there is one, is of lines
 abbrev pub PutsLines : Edit → Type 0

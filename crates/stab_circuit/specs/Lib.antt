@@ -10,6 +10,7 @@ pub mod Paths
 pub mod Places
 pub mod StepPaths
 pub mod Edits
+pub mod Splits
 pub mod Editings
 pub mod Laws
 pub mod Nothings

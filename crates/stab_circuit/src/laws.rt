@@ -1,7 +1,7 @@
 //! Laws of circuit texts. Each function does nothing: its contract is the law, and the check
 //! proves it.
 
-ghost use Rattle.stab_circuit.specs.Laws.{CircuitsHaveNoFault, EachTextHasAMeaning, EditedItemsAreOfLines, EditsLeaveTheRest, ItemTextsAreLines, ItemTextsHaveOneMeaning, LinesKeepQubitsApart, PrintedItemsAreReadBack, StepsHaveOnePath, TakenItemsAreOfLines, TextsAreLines, TextsAreOfOneCircuit, TextsHaveOneFault, TextsHaveOneMeaning};
+ghost use Rattle.stab_circuit.specs.Laws.{CircuitsHaveNoFault, EachTextHasAMeaning, EditedItemsAreOfLines, EditsLeaveTheRest, ItemTextsAreLines, ItemTextsHaveOneMeaning, LinesKeepQubitsApart, PrintedItemsAreReadBack, SplitsLeaveTheSteps, StepsHaveOnePath, TakenItemsAreOfLines, TextsAreLines, TextsAreOfOneCircuit, TextsHaveOneFault, TextsHaveOneMeaning};
 
 /// A text without a faulty line stands for one list of items, and for no other.
 pub fn texts_have_one_meaning()
@@ -62,6 +62,13 @@ pub fn circuits_have_no_fault()
 /// or taken out of it.
 pub fn edits_leave_the_rest()
     ensures law { EditsLeaveTheRest }
+{}
+
+/// A round of a block that is split off, so that it is a block by itself with the other rounds in
+/// blocks before and behind it, leaves the steps, the depth of blocks, and the greatest numbers that
+/// are named: so nothing that a run gives changes, and nothing refuses it.
+pub fn splits_leave_the_steps()
+    ensures law { SplitsLeaveTheSteps }
 {}
 
 /// An edit of items of lines that puts in an item of lines, and nests no block too deep, leaves

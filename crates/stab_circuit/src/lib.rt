@@ -10,6 +10,7 @@
 //! - `path`: the places of items.
 //! - `edit`: how a circuit is edited at a path, and which steps that changes.
 //! - `judge`, `commit`: judging an edit by what items keep, and making it.
+//! - `copy`: copies of items.
 //! - `circuit`: circuits, reading one, editing one, the item at a path, and the item that a step is of.
 //! - `print`: the one text of a circuit.
 //! - `step`, `instruction`: the steps of an instruction.
@@ -38,6 +39,7 @@
 mod chunks;
 mod circuit;
 mod commit;
+mod copy;
 mod cursor;
 mod edit;
 mod input;

@@ -89,4 +89,11 @@ impl Coordinates {
     {
         self.written.bytes()
     }
+
+    /// A copy.
+    pub fn copy(&self, alloc: Global) -> Result<Coordinates, AllocError>
+        ensures ok { IfOk result (λ c. c ≡ self.now) }
+    {
+        Coordinates::of(alloc, self.written())
+    }
 }

@@ -1,4 +1,6 @@
 use crate::coordinates::Coordinates;
+use crate::range::Lookbacks;
+use crate::sequence::Sequence;
 use std::alloc::{AllocError, Global};
 use std::marker::Model;
 
@@ -61,5 +63,31 @@ impl<T: Drop> Located<T> {
             },
         )?;
         Ok(Located { parts })
+    }
+}
+
+impl<T: Copy> Located<Sequence<T>> {
+    ghost use Rattle.std.specs.Prelude.{◌≡◌, IfOk};
+
+    /// A copy.
+    pub fn copy(&self, alloc: Global) -> Result<Located<Sequence<T>>, AllocError>
+        ensures ok { IfOk result (λ l. l ≡ self.now) }
+    {
+        let coordinates = self.coordinates().copy(alloc)?;
+        let targets = self.targets().copy(alloc)?;
+        Located::new(alloc, coordinates, targets)
+    }
+}
+
+impl Located<Lookbacks> {
+    ghost use Rattle.std.specs.Prelude.{◌≡◌, IfOk};
+
+    /// A copy.
+    pub fn copy(&self, alloc: Global) -> Result<Located<Lookbacks>, AllocError>
+        ensures ok { IfOk result (λ l. l ≡ self.now) }
+    {
+        let coordinates = self.coordinates().copy(alloc)?;
+        let targets = self.targets().copy(alloc)?;
+        Located::new(alloc, coordinates, targets)
     }
 }

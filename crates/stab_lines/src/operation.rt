@@ -1,11 +1,14 @@
+ghost use Rattle.std.specs.Prelude.{◌≡◌, IfOk};
+
 use crate::axis::Axis;
 use crate::control::ControlledPair;
 use crate::coordinates::Coordinates;
 use crate::located::Located;
-use crate::product::Product;
+use crate::product::{Product, copied_products};
 use crate::range::{Lookbacks, MeasureTarget, ObservableNumber, Pair, Qubit};
 use crate::sequence::Sequence;
 use stab_tableau::Gate;
+use std::alloc::{AllocError, Global};
 
 /// Which measurement: of which letter, and whether it resets the qubit.
 #[derive(Clone, Copy, Debug, PartialEq, Eq)]
@@ -31,9 +34,47 @@ pub enum Kind {
     ShiftCoords(Coordinates),
 }
 
+impl Kind {
+    /// A copy.
+    pub fn copy(&self, alloc: Global) -> Result<Kind, AllocError>
+        ensures ok { IfOk result (λ k. k ≡ self.now) }
+    {
+        match self {
+            Kind::Gate(gate, qubits) => Ok(Kind::Gate(*gate, qubits.copy(alloc)?)),
+            Kind::Controlled(axis, pairs) => Ok(Kind::Controlled(*axis, pairs.copy(alloc)?)),
+            Kind::Swap(pairs) => Ok(Kind::Swap(pairs.copy(alloc)?)),
+            Kind::Measure(measurement, targets) => {
+                Ok(Kind::Measure(*measurement, targets.copy(alloc)?))
+            }
+            Kind::Reset(axis, qubits) => Ok(Kind::Reset(*axis, qubits.copy(alloc)?)),
+            Kind::MeasureProducts(products) => {
+                Ok(Kind::MeasureProducts(copied_products(alloc, products)?))
+            }
+            Kind::Detector(located) => Ok(Kind::Detector(located.copy(alloc)?)),
+            Kind::ObservableInclude(number, lookbacks) => {
+                Ok(Kind::ObservableInclude(*number, lookbacks.copy(alloc)?))
+            }
+            Kind::Tick => Ok(Kind::Tick),
+            Kind::QubitCoords(located) => Ok(Kind::QubitCoords(located.copy(alloc)?)),
+            Kind::ShiftCoords(coordinates) => Ok(Kind::ShiftCoords(coordinates.copy(alloc)?)),
+        }
+    }
+}
+
 /// One instruction.
 #[derive(Drop)]
 pub struct Operation {
     pub kind: Kind,
     pub tag: Sequence<u8>,
+}
+
+impl Operation {
+    /// A copy.
+    pub fn copy(&self, alloc: Global) -> Result<Operation, AllocError>
+        ensures ok { IfOk result (λ o. o ≡ self.now) }
+    {
+        let kind = self.kind.copy(alloc)?;
+        let tag = self.tag.copy(alloc)?;
+        Ok(Operation { kind, tag })
+    }
 }

@@ -1,6 +1,9 @@
+ghost use Rattle.std.specs.Prelude.{◌≡◌, IfOk};
+
 use crate::axis::Axis;
 use crate::range::Qubit;
 use crate::sequence::Sequence;
+use std::alloc::{AllocError, Global};
 use std::marker::Model;
 
 /// A letter on a qubit, and whether it inverts the recorded bit of its product.
@@ -30,7 +33,7 @@ impl Model for Product {
 }
 
 impl Product {
-    ghost use Rattle.std.specs.Prelude.{◌≡◌, false};
+    ghost use Rattle.std.specs.Prelude.{◌≡◌, false, IfOk};
     ghost use Rattle.stab_lines.specs.Products.{names_twice};
 
     pub(crate) fn new(factors: Sequence<Factor>) -> Product
@@ -47,4 +50,26 @@ impl Product {
     {
         self.factors.as_slice()
     }
+
+    /// A copy.
+    pub fn copy(&self, alloc: Global) -> Result<Product, AllocError>
+        ensures ok { IfOk result (λ p. p ≡ self.now) }
+    {
+        let factors = self.factors.copy(alloc)?;
+        Ok(Product { factors })
+    }
+}
+
+/// A copy of products.
+pub(crate) fn copied_products(
+    alloc: Global,
+    products: &Sequence<Product>,
+) -> Result<Sequence<Product>, AllocError>
+    ensures ok { IfOk result (λ s. s ≡ products.now) }
+{
+    let mut all = Sequence::new(alloc);
+    for product in products.as_slice() {
+        all.push(product.copy(alloc)?)?;
+    }
+    Ok(all)
 }

@@ -3,6 +3,7 @@ ghost use Rattle.stab_tableau.specs.Limits.{most_qubits};
 ghost use Rattle.stab_lines.specs.Limits.{most_observables};
 
 use crate::sequence::Sequence;
+use std::alloc::{AllocError, Global};
 use std::marker::Model;
 
 /// A qubit's number, which is below 1,024.
@@ -180,7 +181,7 @@ impl Model for Lookbacks {
 }
 
 impl Lookbacks {
-    ghost use Rattle.std.specs.Prelude.{◌≡◌, All};
+    ghost use Rattle.std.specs.Prelude.{◌≡◌, All, IfOk};
     ghost use Rattle.stab_lines.specs.Lookbacks.{IsLookback};
 
     pub(crate) fn new(numbers: Sequence<u32>) -> Lookbacks
@@ -196,6 +197,14 @@ impl Lookbacks {
         ensures each { All IsLookback result.now }
     {
         self.numbers.as_slice()
+    }
+
+    /// A copy.
+    pub fn copy(&self, alloc: Global) -> Result<Lookbacks, AllocError>
+        ensures ok { IfOk result (λ l. l ≡ self.now) }
+    {
+        let numbers = self.numbers.copy(alloc)?;
+        Ok(Lookbacks { numbers })
     }
 }
 

@@ -46,6 +46,19 @@ impl Sequence<u8> {
     }
 }
 
+impl<T: Copy> Sequence<T> {
+    ghost use Rattle.std.specs.Prelude.{◌≡◌, IfOk};
+
+    /// A copy.
+    pub fn copy(&self, alloc: Global) -> Result<Sequence<T>, AllocError>
+        ensures ok { IfOk result (λ s. s ≡ self.now) }
+    {
+        let mut elements = Vec::new(alloc);
+        elements.extend_from_slice(self.as_slice())?;
+        Ok(Sequence { elements })
+    }
+}
+
 impl<T: Drop> Sequence<T> {
     /// Adds an element at the end; where memory is refused the sequence stays as it was.
     pub(crate) fn push(&mut self, element: T) -> Result<(), AllocError>

@@ -80,8 +80,7 @@ pub fn turned_copy(
     ensures turned { IfOk result (λ c. IsTurned copy.now.qubits letters.now (stabilises copy.now) (stabilises c)) }
     ensures err { IfErr result (λ r. r ≡ OutOfMemory) }
 {
-    let tableau = copy.tableau(alloc, None)?;
-    let mut turned = tableau.compact(alloc)?;
+    let mut turned = copy.copy(alloc)?;
     for qubit in 0..letters.len() {
         turned.turn_letter(letters[qubit], qubit);
     }

@@ -71,6 +71,19 @@ impl SparseWords {
         Ok(sparse)
     }
 
+    /// The same words again.
+    pub(crate) fn copy(&self, alloc: Global) -> Result<SparseWords, AllocError>
+        ensures gaps { IfOk result (λ s. s.gaps.items ≡ self.now.gaps.items) }
+        ensures kept { IfOk result (λ s. s.kept.items ≡ self.now.kept.items) }
+        ensures behind { IfOk result (λ s. s.behind ≡ self.now.behind) }
+    {
+        Ok(SparseWords {
+            gaps: Vec::from_slice(alloc, self.gaps.as_slice())?,
+            kept: Vec::from_slice(alloc, self.kept.as_slice())?,
+            behind: self.behind,
+        })
+    }
+
     /// Puts four words behind the others. Where all are 0, as most are, that is one question.
     #[inline(always)]
     fn push_half(

@@ -78,6 +78,22 @@ impl CompactRows {
         self.qubits
     }
 
+    /// The same strings again, kept in as little memory.
+    ///
+    /// Refusal `OutOfMemory` alone.
+    pub fn copy(&self, alloc: Global) -> Result<CompactRows, Refusal>
+        ensures ok { IfOk result (λ r. r ≡ self.now) }
+        ensures err { IfErr result (λ r. r ≡ OutOfMemory) }
+    {
+        Ok(CompactRows {
+            qubits: self.qubits,
+            blocks: self.blocks,
+            size: self.size,
+            words: self.words.copy(alloc)?,
+            powers: Vec::from_slice(alloc, self.powers.as_slice())?,
+        })
+    }
+
     /// The strings again, in memory of their own.
     ///
     /// Refusal `OutOfMemory` alone.

@@ -54,6 +54,15 @@ impl CompactTable {
         self.rows.qubits()
     }
 
+    /// The same rows again, kept in as little memory.
+    pub fn copy(&self, alloc: Global) -> Result<CompactTable, Refusal>
+        ensures ok { IfOk result (λ t. t ≡ self.now) }
+        ensures err { IfErr result (λ r. r ≡ OutOfMemory) }
+    {
+        let rows = self.rows.copy(alloc)?;
+        Ok(CompactTable { rows })
+    }
+
     /// The rows again, in memory of their own.
     pub fn table(&self, alloc: Global) -> Result<Table, Refusal>
         ensures ok { IfOk result (λ t. t ≡ self.now) }

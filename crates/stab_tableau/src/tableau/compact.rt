@@ -64,6 +64,17 @@ impl CompactTableau {
         self.table.len()
     }
 
+    /// The same state again, kept in as little memory.
+    ///
+    /// Refusal `OutOfMemory` alone.
+    pub fn copy(&self, alloc: Global) -> Result<CompactTableau, Refusal>
+        ensures ok { IfOk result (λ t. t ≡ self.now) }
+        ensures err { IfErr result (λ r. r ≡ OutOfMemory) }
+    {
+        let table = self.table.copy(alloc)?;
+        Ok(CompactTableau { table })
+    }
+
     /// The same state as a tableau, in the memory of a spare one that has as many qubits, else in memory of its own.
     ///
     /// Refusal `OutOfMemory` alone.

@@ -8,7 +8,7 @@ use Rattle.stab_session.proofs.framed.turned_copy.Goals as goal
 
 pub loop-qubit-init : goal.loop-qubit-init
 loop-qubit-init c =
-    let same : c.in_ok-turned.turned ≡ c.args.copy.now = c.in_ok-turned.ensures.ok ∙ c.in_ok-tableau.ensures.ok in
+    let same : c.in_ok-turned.turned ≡ c.args.copy.now = c.in_ok-turned.ensures.ok in
     record {
       qubits = ap (λ (t : TableauState). t.qubits) same;
       turned =
