@@ -37,3 +37,12 @@ split_in round (b ∷ bs) place xs = with_item b xs (edited_inside (split_in rou
 -- such round, 17 where it leads into or to an item that is no block
 abbrev pub split : Path → (round : ℕ) → List OneItem → Result (List OneItem) Refusal
 split path round xs = split_in round path.blocks path.place xs
+
+-- what an outcome is refused by, if it is
+abbrev pub refused_by : Result (List OneItem) Refusal → Option Refusal
+refused_by (Ok xs) = None
+refused_by (Err r) = Some r
+
+-- what refuses a split; no block is nested deeper behind it
+abbrev pub split_refusal : Path → (round : ℕ) → List OneItem → Option Refusal
+split_refusal path round xs = refused_by (split path round xs)

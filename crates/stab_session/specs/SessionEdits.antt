@@ -4,6 +4,8 @@ use Rattle.std.specs.Prelude.{◌≡◌, ℕ, Bool, None, Ok}
 use Rattle.stab_circuit.specs.Items.{entries}
 use Rattle.stab_circuit.specs.Edits.{edited, verdict}
 use Rattle.stab_circuit.specs.declared.edit.Edit.{Edit}
+use Rattle.stab_circuit.specs.Paths.{Path}
+use Rattle.stab_circuit.specs.Splits.{split}
 use Rattle.stab_session.specs.Sessions.{SessionState}
 
 -- the session was edited: its items are the edited ones, which nothing refuses, its qubits, stride and sequence of coins the same
@@ -26,3 +28,8 @@ pub record IsAsBefore {C : Type 0} (sequence : C → ℕ → Bool) (old new : Se
   pub observables : new.observables ≡ old.observables
   pub tableau : new.tableau ≡ old.tableau
   pub checkpoints : new.checkpoints ≡ old.checkpoints
+
+-- a round of a block was split off: all but the items is as before
+pub record IsSplit {C : Type 0} (path : Path) (round : ℕ) (old new : SessionState C) : Type 0 where
+  pub items : split path round (entries old.items) ≡ Ok (entries new.items)
+  pub rest : new ≡ record old { items = new.items }
