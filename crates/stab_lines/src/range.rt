@@ -227,7 +227,8 @@ impl Model for Count {
 }
 
 impl Count {
-    pub(crate) fn new(number: u64) -> Count
+    /// The count of this number.
+    pub fn new(number: u64) -> Count
         requires some { 0 < number }
         requires few { number < 10 ^ 18 }
         ensures value { result ≡ number }
