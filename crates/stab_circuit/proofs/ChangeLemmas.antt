@@ -12,18 +12,11 @@ use Rattle.stab_circuit.specs.Items.{Items, OneItem, operation, repeat, listed, 
 use Rattle.stab_circuit.specs.Paths.{Path}
 use Rattle.stab_circuit.specs.Places.{item_there, found_inside, item_in}
 use Rattle.stab_circuit.specs.Edits.{with_item, rebuilt, edited_inside, changed, edited_in, edited}
+use Rattle.stab_circuit.specs.inner.Changes.{ListChange, changed_in, parts_at}
 use Rattle.stab_circuit.specs.Splits.{parts_of_block, parts_of_item, with_parts, split_in, split}
 use Rattle.stab_circuit.proofs.EditLemmas.{entries-listed, rebuilds, if_ok, lt_holds}
 
-abbrev ListChange : Type 0
-ListChange = List OneItem → Result (List OneItem) Refusal
-
--- a change of the innermost list in the last of these blocks
-abbrev changed_in : ListChange → List ℕ → List OneItem → Result (List OneItem) Refusal
-changed_in f [] xs = f xs
-changed_in f (b ∷ bs) xs = with_item b xs (edited_inside (changed_in f bs) (slice_get xs b))
-
-got_set : (xs : List OneItem) (b : ℕ) (x y : OneItem) → slice_get xs b ≡ Some x → slice_get (set xs b y) b ≡ Some y
+pub got_set : (xs : List OneItem) (b : ℕ) (x y : OneItem) → slice_get xs b ≡ Some x → slice_get (set xs b y) b ≡ Some y
 got_set [] b x y e = absurd (cc)
 got_set (z ∷ xs) zero x y e = refl
 got_set (z ∷ xs) (suc b) x y e = got_set xs b x y e
@@ -68,10 +61,6 @@ edit_changed e (b ∷ bs) xs = by_item (slice_get xs b) (λ ys. edit_changed e b
     by_item None same = refl
     by_item (Some (operation op)) same = refl
     by_item (Some (repeat count tag body)) same = ap (λ c. with_item b xs (rebuilt count tag c)) (same (entries body))
-
--- the parts in the place of an item, where there is one
-abbrev parts_at : ℕ → List OneItem → ListChange
-parts_at place parts xs = if nat_lt place (length xs) then Ok (take place xs ++ (parts ++ drop (place + 1) xs)) else Err PlaceOutOfRange
 
 -- one part
 one_part : (place : Path) (x : OneItem) (xs : List OneItem) → changed (Replace place x) xs ≡ parts_at place.place (x ∷ []) xs

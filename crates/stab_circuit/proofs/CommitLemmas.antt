@@ -11,7 +11,7 @@ use Rattle.stab_circuit.specs.Edits.{with_item, rebuilt, edited_inside, edited_i
 use Rattle.stab_circuit.specs.inner.Judgements.{IsShallow, IsShallowItem}
 use Rattle.stab_circuit.proofs.EditLemmas.{entries-listed}
 
-depth-before : (x : OneItem) (xs : Items) → depth (before x xs) ≡ max (depth_of x) (depth xs)
+pub depth-before : (x : OneItem) (xs : Items) → depth (before x xs) ≡ max (depth_of x) (depth xs)
 depth-before (operation op) xs = omega arith
 depth-before (repeat n tag body) xs = omega arith
 

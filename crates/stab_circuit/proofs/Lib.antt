@@ -37,3 +37,6 @@ pub mod UndoLemmas
 pub mod ClearLemmas
 mod SplitLemmas
 mod ChangeLemmas
+mod DepthLemmas
+mod PartLemmas
+mod SplitLineLemmas

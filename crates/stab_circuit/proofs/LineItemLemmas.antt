@@ -1,10 +1,11 @@
 -- Items that some lines stand for, and that edits leave such items.
-use Rattle.std.proofs.Common.{◌≡◌, ◌≤◌, refl, ap, sym, ◌∙◌, subst, ℕ, ◌+◌, suc, List, [], ◌∷◌, ◌++◌, true, nat_lt, length, take, drop, All, Option, None, Some, Ok, append_assoc, append-nil, arith}
+use Rattle.std.proofs.Common.{◌≡◌, ◌≤◌, refl, ap, sym, ◌∙◌, subst, ℕ, ◌+◌, suc, List, [], ◌∷◌, ◌++◌, true, nat_lt, length, take, drop, All, Option, None, Some, Result, Ok, append_assoc, append-nil, arith}
 use Rattle.std.specs.Prelude.{slice_get}
 use Rattle.std.proofs.lemmas.List.{take-append-drop, set_split}
 use Rattle.std.proofs.lemmas.List.Elements.{All-nil, All-cons}
 use Rattle.std.proofs.lemmas.Option.{slice_get_within}
 use Rattle.std.proofs.lemmas.Bool.Decides.{nat_tests}
+use Rattle.stab_io.specs.declared.refusal.Refusal.{Refusal}
 use Rattle.stab_lines.specs.declared.meanings.Line.TheVariants.{Close, Open}
 use Rattle.stab_lines.specs.Lines.{content_of}
 use Rattle.stab_lines.specs.Meanings.{meaning_of}
@@ -14,7 +15,7 @@ use Rattle.stab_circuit.specs.declared.edit.Edit.{Edit}
 use Rattle.stab_circuit.specs.declared.edit.Edit.TheVariants.{Insert, Replace, Delete}
 use Rattle.stab_circuit.specs.Items.{Items, OneItem, operation, repeat, done, next, block, before, listed, entries, depth}
 use Rattle.stab_circuit.specs.Circuits.{Meaning, Joins, line_meanings, fault_from}
-use Rattle.stab_circuit.specs.Edits.{edit_path, edited_in, edited, behind_taken, inner, taken_in, taken}
+use Rattle.stab_circuit.specs.Edits.{with_item, edited_inside, edit_path, edited_in, edited, behind_taken, inner, taken_in, taken}
 use Rattle.stab_circuit.specs.Laws.{AreOfLines, PutsLines}
 use Rattle.stab_circuit.proofs.BlankLemmas.{lines_of, lines_join, fault_operation, same_faultless}
 use Rattle.stab_circuit.proofs.ReadingLemmas.{few_open, fault_inside}
@@ -61,7 +62,7 @@ lines_pass (block c t body rest) n opened more h =
     is_few n k h = grind (arith, nat_tests)
 
 -- items that lines mean are of lines
-of_lines : (items : Items) → AreMeant (lines_of items) → depth items ≤ 16 → AreOfLines items
+pub of_lines : (items : Items) → AreMeant (lines_of items) → depth items ≤ 16 → AreOfLines items
 of_lines items g h =
     let found = some_lines (lines_of items) g in
     let passed = lines_pass items 1 [] [] (omega (arith, h)) in (
@@ -74,39 +75,39 @@ of_lines items g h =
     )
 
 -- what lines mean that stand for items
-meant_of : (items : Items) → AreOfLines items → AreMeant (lines_of items)
+pub meant_of : (items : Items) → AreOfLines items → AreMeant (lines_of items)
 meant_of items s = items_meant s.0 items s.1
 
 -- one item is what lines mean
-abbrev IsMeant : OneItem → Type 0
+abbrev pub IsMeant : OneItem → Type 0
 IsMeant x = AreMeant (lines_of (before x done))
 
 lines-before : (x : OneItem) (xs : Items) → lines_of (before x xs) ≡ lines_of (before x done) ++ lines_of xs
 lines-before (operation op) xs = refl
 lines-before (repeat c t body) xs = ap (λ l. Ok (Open c t) ∷ l) (sym (append_assoc (lines_of body) (Ok Close ∷ []) (lines_of xs)))
 
-listed_meant : (xs : List OneItem) → Each IsMeant xs → AreMeant (lines_of (listed xs))
+pub listed_meant : (xs : List OneItem) → Each IsMeant xs → AreMeant (lines_of (listed xs))
 listed_meant [] e = tt
 listed_meant (x ∷ xs) e = subst AreMeant (sym (lines-before x (listed xs))) (each-append IsOfLine (lines_of (before x done)) (lines_of (listed xs)) e.0 (listed_meant xs e.1))
 
-each_meant : (xs : List OneItem) → AreMeant (lines_of (listed xs)) → Each IsMeant xs
+pub each_meant : (xs : List OneItem) → AreMeant (lines_of (listed xs)) → Each IsMeant xs
 each_meant [] g = tt
 each_meant (x ∷ xs) g =
     let both : AreMeant (lines_of (before x done) ++ lines_of (listed xs)) = subst AreMeant (lines-before x (listed xs)) g in
     (each_left IsOfLine (lines_of (before x done)) (lines_of (listed xs)) both, each_meant xs (each_right IsOfLine (lines_of (before x done)) (lines_of (listed xs)) both))
 
 -- a part of a list
-each_take : {A : Type 0} (P : A → Type 0) (n : ℕ) (xs : List A) → Each P xs → Each P (take n xs)
+pub each_take : {A : Type 0} (P : A → Type 0) (n : ℕ) (xs : List A) → Each P xs → Each P (take n xs)
 each_take P n xs e = each_left P (take n xs) (drop n xs) (subst (Each P) (sym (take-append-drop n xs)) e)
 
-each_drop : {A : Type 0} (P : A → Type 0) (n : ℕ) (xs : List A) → Each P xs → Each P (drop n xs)
+pub each_drop : {A : Type 0} (P : A → Type 0) (n : ℕ) (xs : List A) → Each P xs → Each P (drop n xs)
 each_drop P n xs e = each_right P (take n xs) (drop n xs) (subst (Each P) (sym (take-append-drop n xs)) e)
 
 -- an item of a list
 each_got : {A : Type 0} (P : A → Type 0) (xs front back : List A) (x : A) → xs ≡ front ++ x ∷ back → Each P xs → P x
 each_got P xs front back x e g = (each_right P front (x ∷ back) (subst (Each P) e g)).0
 
-got_meant : (xs : List OneItem) (b : ℕ) (x : OneItem) → slice_get xs b ≡ Some x → Each IsMeant xs → IsMeant x
+pub got_meant : (xs : List OneItem) (b : ℕ) (x : OneItem) → slice_get xs b ≡ Some x → Each IsMeant xs → IsMeant x
 got_meant xs b x e g = each_got IsMeant xs (take b xs) (drop (suc b) xs) x (got_split xs b x e) g
 
 -- the items of a block
@@ -118,6 +119,19 @@ inner_meant count tag body g =
 rebuilt_meant : (count : ℕ) (tag : List ℕ) (body : Items) (xs : List OneItem) → IsMeant (repeat count tag body) → Each IsMeant xs → IsMeant (repeat count tag (listed xs))
 rebuilt_meant count tag body xs g e = (g.0, each-append IsOfLine (lines_of (listed xs)) (Ok Close ∷ []) (listed_meant xs e) (each_right IsOfLine (lines_of body) (Ok Close ∷ []) g.1))
 
+-- a change in a block keeps what lines mean, where it does so among the items of the block
+pub block_meant : (change : List OneItem → Result (List OneItem) Refusal) (b : ℕ) (xs ys : List OneItem) → with_item b xs (edited_inside change (slice_get xs b)) ≡ Ok ys
+    → ((us vs : List OneItem) → change us ≡ Ok vs → Each IsMeant us → Each IsMeant vs) → Each IsMeant xs → Each IsMeant ys
+block_meant change b xs ys e keeps g =
+    let r = rebuilds change b xs ys (slice_get xs b) refl e in
+    let old : IsMeant (repeat r.count r.tag r.body) = got_meant xs b (repeat r.count r.tag r.body) r.found g in
+    let inside : Each IsMeant r.within = keeps (entries r.body) r.within r.edited (inner_meant r.count r.tag r.body old) in
+    let new : IsMeant (repeat r.count r.tag (listed r.within)) = rebuilt_meant r.count r.tag r.body r.within old inside in
+    let parts : ys ≡ take b xs ++ repeat r.count r.tag (listed r.within) ∷ drop (suc b) xs =
+    r.same ∙ set_split xs b (repeat r.count r.tag (listed r.within)) (slice_get_within xs b (repeat r.count r.tag r.body) r.found) in
+    subst (Each IsMeant) (sym parts)
+    (each-append IsMeant (take b xs) (repeat r.count r.tag (listed r.within) ∷ drop (suc b) xs) (each_take IsMeant b xs g) (new, each_drop IsMeant (suc b) xs g))
+
 -- an edit keeps what lines mean
 edited_meant : (edit : Edit) (bs : List ℕ) (xs ys : List OneItem) → edited_in edit bs xs ≡ Ok ys → Each IsMeant (put_in edit) → Each IsMeant xs → Each IsMeant ys
 edited_meant edit [] xs ys e puts g =
@@ -125,15 +139,7 @@ edited_meant edit [] xs ys e puts g =
     let n = behind_taken edit in
     subst (Each IsMeant) (sym s.1)
     (each-append IsMeant (take (edit_path edit).place xs) (put_in edit ++ drop n xs) (each_take IsMeant (edit_path edit).place xs g) (each-append IsMeant (put_in edit) (drop n xs) puts (each_drop IsMeant n xs g)))
-edited_meant edit (b ∷ bs) xs ys e puts g =
-    let r = rebuilds (edited_in edit bs) b xs ys (slice_get xs b) refl e in
-    let old : IsMeant (repeat r.count r.tag r.body) = got_meant xs b (repeat r.count r.tag r.body) r.found g in
-    let inside : Each IsMeant r.within = edited_meant edit bs (entries r.body) r.within r.edited puts (inner_meant r.count r.tag r.body old) in
-    let new : IsMeant (repeat r.count r.tag (listed r.within)) = rebuilt_meant r.count r.tag r.body r.within old inside in
-    let parts : ys ≡ take b xs ++ repeat r.count r.tag (listed r.within) ∷ drop (suc b) xs =
-    r.same ∙ set_split xs b (repeat r.count r.tag (listed r.within)) (slice_get_within xs b (repeat r.count r.tag r.body) r.found) in
-    subst (Each IsMeant) (sym parts)
-    (each-append IsMeant (take b xs) (repeat r.count r.tag (listed r.within) ∷ drop (suc b) xs) (each_take IsMeant b xs g) (new, each_drop IsMeant (suc b) xs g))
+edited_meant edit (b ∷ bs) xs ys e puts g = block_meant (edited_in edit bs) b xs ys e (λ us vs f h. edited_meant edit bs us vs f puts h) g
 
 put_meant : (edit : Edit) → PutsLines edit → Each IsMeant (put_in edit)
 put_meant (Insert at x) h = (meant_of (before x done) (h x refl), tt)
@@ -160,7 +166,7 @@ lines_shallow (block c t body rest) n opened ms h e =
     is_few : (n : ℕ) → nat_lt n 16 ≡ true → suc n ≤ 16
     is_few n e = grind (arith, nat_tests)
 
-shallow_of : (items : Items) → AreOfLines items → depth items ≤ 16
+pub shallow_of : (items : Items) → AreOfLines items → depth items ≤ 16
 shallow_of items s =
     let none : fault_from 1 [] (lines_of items) ≡ None = same_faultless (line_meanings s.0) (lines_of items) items s.1.joined (lines_join items) s.1.faultless in
     omega (arith, lines_shallow items 1 [] [] (omega arith) (ap (fault_from 1 []) (append-nil (lines_of items)) ∙ none))

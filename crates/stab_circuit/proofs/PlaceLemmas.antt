@@ -1,5 +1,5 @@
 -- What is found in a block.
-use Rattle.std.proofs.Common.{◌≡◌, ap, sym, ◌∙◌, ℕ, List, Option, Some, None, Result, Ok, Err}
+use Rattle.std.proofs.Common.{◌≡◌, ap, ◌∙◌, ℕ, List, Option, Some, None, Result, Ok, Err}
 use Rattle.std.specs.Borrow.{Bor}
 use Rattle.stab_io.specs.declared.refusal.Refusal.{Refusal}
 use Rattle.stab_circuit.specs.Items.{OneItem, operation, repeat, listed}

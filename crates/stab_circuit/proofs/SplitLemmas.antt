@@ -33,7 +33,7 @@ block_named f zero tag body = omega arith
 block_named f (suc n) tag body = omega arith
 
 -- items one after another
-depth-append : (xs ys : List OneItem) → depth (listed (xs ++ ys)) ≡ max (depth (listed xs)) (depth (listed ys))
+pub depth-append : (xs ys : List OneItem) → depth (listed (xs ++ ys)) ≡ max (depth (listed xs)) (depth (listed ys))
 depth-append xs ys = ap depth (listed-append xs ys) ∙ depth-join (listed xs) (listed ys)
 
 named-append : (f : Kind → List ℕ) (xs ys : List OneItem) → past_named f (listed (xs ++ ys)) ≡ max (past_named f (listed xs)) (past_named f (listed ys))

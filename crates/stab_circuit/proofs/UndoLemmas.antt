@@ -135,7 +135,7 @@ insert_undone_at at x us vs e =
     let s = changed_split (Insert at x) us vs e in
     ap (changed (Delete at)) s.1 ∙ deleted (take at.place us) x (drop at.place us) at (length-take-le at.place us s.0) ∙ ap Ok (take-append-drop at.place us)
 
-put_at : (at : Path) (x : OneItem) (us vs : List OneItem) → changed (Insert at x) us ≡ Ok vs → slice_get vs at.place ≡ Some x
+pub put_at : (at : Path) (x : OneItem) (us vs : List OneItem) → changed (Insert at x) us ≡ Ok vs → slice_get vs at.place ≡ Some x
 put_at at x us vs e =
     let s = changed_split (Insert at x) us vs e in
     ap (λ l. slice_get l at.place) s.1 ∙ found (take at.place us) x (drop at.place us) at.place (length-take-le at.place us s.0)
@@ -159,7 +159,7 @@ replace_undone_at at x old us vs e h =
     next : at.place + 1 ≡ suc at.place
     next = omega arith
 
-replaced_at : (at : Path) (x : OneItem) (us vs : List OneItem) → changed (Replace at x) us ≡ Ok vs → slice_get vs at.place ≡ Some x
+pub replaced_at : (at : Path) (x : OneItem) (us vs : List OneItem) → changed (Replace at x) us ≡ Ok vs → slice_get vs at.place ≡ Some x
 replaced_at at x us vs e =
     let s = changed_split (Replace at x) us vs e in
     ap (λ l. slice_get l at.place) s.1 ∙ found (take at.place us) x (drop (at.place + 1) us) at.place (length-take-le at.place us s.0)

@@ -104,6 +104,10 @@ PutsLines edit = (item : OneItem) → put_item edit ≡ Some item → AreOfLines
 abbrev pub EditedItemsAreOfLines : Type 0
 EditedItemsAreOfLines = (edit : Edit) (old new : List OneItem) → AreOfLines (listed old) → PutsLines edit → edited edit old ≡ Ok new → depth (listed new) ≤ 16 → AreOfLines (listed new)
 
+-- items of lines stay such when a round is split off
+abbrev pub SplitItemsAreOfLines : Type 0
+SplitItemsAreOfLines = (path : Path) (round : ℕ) (old new : List OneItem) → AreOfLines (listed old) → split path round old ≡ Ok new → AreOfLines (listed new)
+
 -- an item that is taken out of items of lines is of lines
 abbrev pub TakenItemsAreOfLines : Type 0
 TakenItemsAreOfLines = (edit : Edit) (old : List OneItem) (item : OneItem) → AreOfLines (listed old) → taken edit old ≡ Some item → AreOfLines (before item done)

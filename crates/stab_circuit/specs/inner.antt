@@ -12,3 +12,4 @@ pub mod Judgements
 pub mod EditResults
 pub mod Chunks
 pub mod StepItems
+pub mod Changes

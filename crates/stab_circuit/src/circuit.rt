@@ -6,6 +6,7 @@ ghost use Rattle.stab_circuit.specs.Readings.{ReadsCircuit, ReadsInput, ReadsIte
 
 mod edits;
 mod places;
+mod splits;
 mod step_items;
 
 use crate::chunks::{Chunk, SkippedChunks, cut, front_summary, skip_chunks};

@@ -82,6 +82,7 @@ impl Item {
     ghost use Rattle.stab_circuit.specs.Items.{operation as single, repeat as repeated, listed, before, done, depth};
     ghost use Rattle.stab_circuit.specs.inner.Summaries.{summary_of, IsSummary};
     ghost use Rattle.stab_circuit.specs.inner.Parts.{part_of, IsPart};
+    ghost use Rattle.stab_circuit.specs.inner.Changes.{with_rounds};
 
     /// The item that is one instruction. Without a tag it takes no memory.
     #[tactic(auto, using(crate::proofs::ItemLemmas::untagged))]
@@ -141,6 +142,16 @@ impl Item {
                 kept: head.kept,
                 body: body.as_slice(),
             },
+        }
+    }
+
+    /// Has a block run so many rounds. An instruction stays as it is.
+    pub(crate) fn set_rounds(&mut self, count: Count)
+        ensures value { self.new ≡ with_rounds count self.old }
+    {
+        match &mut self.node {
+            Node::Plain(_) | Node::Tagged(_) => {}
+            Node::Repeat { head, .. } => head.count = count,
         }
     }
 

@@ -1,7 +1,7 @@
 //! Laws of circuit texts. Each function does nothing: its contract is the law, and the check
 //! proves it.
 
-ghost use Rattle.stab_circuit.specs.Laws.{CircuitsHaveNoFault, EachTextHasAMeaning, EditedItemsAreOfLines, EditsLeaveTheRest, ItemTextsAreLines, ItemTextsHaveOneMeaning, LinesKeepQubitsApart, PrintedItemsAreReadBack, SplitsLeaveTheSteps, StepsHaveOnePath, TakenItemsAreOfLines, TextsAreLines, TextsAreOfOneCircuit, TextsHaveOneFault, TextsHaveOneMeaning};
+ghost use Rattle.stab_circuit.specs.Laws.{CircuitsHaveNoFault, EachTextHasAMeaning, EditedItemsAreOfLines, EditsLeaveTheRest, ItemTextsAreLines, ItemTextsHaveOneMeaning, LinesKeepQubitsApart, PrintedItemsAreReadBack, SplitItemsAreOfLines, SplitsLeaveTheSteps, StepsHaveOnePath, TakenItemsAreOfLines, TextsAreLines, TextsAreOfOneCircuit, TextsHaveOneFault, TextsHaveOneMeaning};
 
 /// A text without a faulty line stands for one list of items, and for no other.
 pub fn texts_have_one_meaning()
@@ -76,6 +76,11 @@ pub fn splits_leave_the_steps()
 /// (`printed_items_are_read_back`), where it is no longer than a circuit text may be.
 pub fn edited_items_are_of_lines()
     ensures law { EditedItemsAreOfLines }
+{}
+
+/// Items of lines stay such when a round is split off.
+pub fn split_items_are_of_lines()
+    ensures law { SplitItemsAreOfLines }
 {}
 
 /// An item that an edit takes out of items of lines is of lines, so that it may be put in again.

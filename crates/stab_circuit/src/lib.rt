@@ -11,7 +11,8 @@
 //! - `edit`: how a circuit is edited at a path, and which steps that changes.
 //! - `judge`, `commit`: judging an edit by what items keep, and making it.
 //! - `copy`: copies of items.
-//! - `circuit`: circuits, reading one, editing one, the item at a path, and the item that a step is of.
+//! - `circuit`: circuits, reading one, editing one, splitting a round off a block, the item at a path,
+//!   and the item that a step is of.
 //! - `print`: the one text of a circuit.
 //! - `step`, `instruction`: the steps of an instruction.
 //! - `walk`, `cursor`: the unrolled steps of a circuit, from any place on.
@@ -31,9 +32,10 @@
 //! steps, records and what refuses a whole circuit those of its unrolled steps; the path that is told
 //! of a step is that of its item; one item's text without a fault stands for one item; what is printed
 //! of the items of any lines stands for these items and no others, within the limit of a text, and
-//! edits of items of lines leave such items; an edit leaves exactly the items that `specs/Edits.antt`
-//! gives, and the steps before the first changed one and behind the outermost item around its place,
-//! or is refused by what refuses it first and leaves the circuit as it was.
+//! edits and splits of items of lines leave such items; an edit leaves exactly the items that
+//! `specs/Edits.antt` gives, and the steps before the first changed one and behind the outermost item
+//! around its place, or is refused by what refuses it first and leaves the circuit as it was; a split
+//! of a round leaves exactly the items that `specs/Splits.antt` gives, and all steps, or is refused so.
 #![tactic(auto)]
 
 mod chunks;

@@ -48,7 +48,7 @@ spaces_left n =
 said : (content : List ℕ) (m : Line) → IsNeat content → meaning_of content ≡ Ok m → Says content m
 said content m n e = record { one_line = any_free (is_byte 10) content n.lines; left = λ k. content_again k content n; means = e }
 
-good_said : (m : Line) → IsGoodLine m → Says (line_printed m) m
+pub good_said : (m : Line) → IsGoodLine m → Says (line_printed m) m
 good_said Blank g = record { one_line = refl; left = spaces_left; means = empty_blank }
 good_said Close g = said (codes "}") Close close_neat close_again
 good_said (Open count tag) g = said (line_printed (Open count tag)) (Open count tag) (open_neat count tag g.0 g.1) (open_again count tag g.0 g.1)
