@@ -127,7 +127,7 @@ impl Coins for SeedCoins {
         self.asks = self.asks.saturating_add(1);
         let group = t / 64;
         if self.group != Some(group) {
-            self.coins = coins_of_group(self.seed, self.shot, group);
+            self.coins = seed_coins(self.seed, self.shot, group);
             self.group = Some(group);
         }
         self.coins[(t % 64) as usize]
@@ -144,8 +144,9 @@ fn key_bytes(seed: u64) -> [u8; 32]
     bytes
 }
 
-/// The 64 coins from 64 times the group's number on.
-fn coins_of_group(seed: u64, shot: u64, group: u64) -> [bool; 64]
+/// The 64 coins of a shot under a seed from 64 times the group's number on, in ascending order. They are those of
+/// `SeedCoins`, without a count.
+pub fn seed_coins(seed: u64, shot: u64, group: u64) -> [bool; 64]
     requires small { group < 2 ^ 58 }
     ensures each { (k : ℕ) → k < 64 → slice_index_or result k false ≡ seed_coin seed shot (64 * group + k) }
 {

@@ -30,7 +30,7 @@ mod run;
 mod sampler;
 mod step;
 
-pub use coins::{Coins, ListCoins, SeedCoins};
+pub use coins::{Coins, ListCoins, SeedCoins, seed_coins};
 pub use records::{Addition, Lengths, Outputs, looked_up, observables, parity};
 pub use run::{Shot, run_steps};
 pub use sampler::{Sampler, run_once};

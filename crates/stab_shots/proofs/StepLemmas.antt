@@ -27,7 +27,7 @@ use Rattle.stab_tableau.specs.Exchanges.{Exchanges}
 use Rattle.stab_frames.proofs.TurnedLemmas.{turned-applied, turned-applied_pair, turned-right}
 use Rattle.stab_frames.proofs.MeasuredLemmas.{turned-free, outcome-flipped, measured-turned}
 use Rattle.stab_tableau.specs.declared.collapse.Collapse.{Collapse}
-use Rattle.stab_shots.specs.LaneRules.{turned, IsProjection, decided_bit, decided_letters}
+use Rattle.stab_shots.specs.LaneRules.{turned, IsProjection, decided_bit, decided_letters, IsMeasured}
 
 one-run : (n : ℕ) (coins : ℕ → Bool) (x : Step) (a b : ProgramState) (p : Point) → IsAt n a p
     → SameGroup n b.stabilised (member (trace_after n coins x p))
@@ -183,41 +183,44 @@ module _ (n : ℕ) (coins : ℕ → Bool) (x : Step) (u now : Signed → Bool) (
       (run-controlled n coins from to l k q bit bit_is
       (λ r lr. same (with_sign (strings_anticommute h r.letters) r) lr ∙ turned-letter n l q lt bit f h u letters r lr) output)
 
-  module _ (group : IsStabiliserGroup n u) (m : Signed) (lm : length m.letters ≡ n) (c : Collapse) (s : List Letter) (projection : IsProjection n u m c s now)
-      (apart bit : Bool) (is_apart : apart ≡ strings_anticommute f m.letters) (decides : bit ≡ decided_bit c apart (coins (length old.free)))
-      (g : List Letter) (multiplies : g ≡ decided_letters c apart (coins (length old.free)) s f) where
-    lane-outcome : bit ≡ outcome_by (turned f u) m (coins (length old.free))
-    lane-outcome = decides ∙ decided-outcome n u group f s m lm c.free c.outcome apart (coins (length old.free)) projection.free projection.outcome is_apart
+-- a measurement in a lane
 
-    lane-projected : (r : Signed) → length r.letters ≡ n → turned g now r ≡ projected_by (turned f u) m bit r
-    lane-projected r lr =
+module _ (n : ℕ) (coins : ℕ → Bool) (u now : Signed → Bool) (f g : List Letter) (old new : RunOutput) (group : IsStabiliserGroup n u) (m : Signed) (lm : length m.letters ≡ n)
+    (c : Collapse) (s : List Letter) (projection : IsProjection n u m c s now) (apart bit : Bool) where
+  abbrev pub coin : Bool
+  coin = coins (length old.free)
+
+  pub lane-measured : apart ≡ strings_anticommute f m.letters → bit ≡ decided_bit c apart coin → g ≡ decided_letters c apart coin s f
+      → new ≡ record old { free = old.free ++ c.free ∷ [] }
+      → IsMeasured n coins m bit (record { stabilised = turned f u; output = old }) (record { stabilised = turned g now; output = new })
+  lane-measured is_apart decides multiplies output = record {
+    outcome = decides ∙ decided-outcome n u group f s m lm c.free c.outcome apart coin projection.free projection.outcome is_apart;
+    members = λ r lr.
         ap (λ w. turned w now r) multiplies
-        ∙ projection.members (with_sign (strings_anticommute (decided_letters c apart (coins (length old.free)) s f) r.letters) r) lr
-        ∙ decided-projected n u group f s m lm c.free c.outcome apart (coins (length old.free)) projection.free projection.outcome is_apart projection.exchanges r lr
-        ∙ ap (λ b. projected_by (turned f u) m b r) (sym decides)
+        ∙ projection.members (with_sign (strings_anticommute (decided_letters c apart coin s f) r.letters) r) lr
+        ∙ decided-projected n u group f s m lm c.free c.outcome apart coin projection.free projection.outcome is_apart projection.exchanges r lr
+        ∙ ap (λ b. projected_by (turned f u) m b r) (sym decides);
+    output = output ∙ (λ i. record old { free = old.free ++ sym (decided-free n u group f s m lm c.free projection.free) i ∷ [] });
+  }
 
-    lane-free : c.free ≡ is_free_by (turned f u) m
-    lane-free = sym (decided-free n u group f s m lm c.free projection.free)
+-- what was measured, in the output of a step that measures
 
-    pub lane-collapse : (l : Letter) (q : ℕ) (recorded inverted resets : Bool) → x ≡ collapse l q recorded inverted resets → m ≡ single n q l → q < n
-        → h ≡ times_where (resets && bit) (single n q (flip_of l)).letters g
-        → new ≡ record old { records = old.records ++ when recorded (inverted ⊕ bit); free = old.free ++ c.free ∷ [] } → IsRun n coins (x ∷ []) from to
-    lane-collapse l q recorded inverted resets is m_is lt flips output =
-        run-collapse n coins x l q recorded inverted resets is from to bit
-        (lane-outcome ∙ ap (λ w. outcome_by (turned f u) w (coins (length old.free))) m_is)
-        (record {
-          measured = turned g now;
-          projects = λ r lr. lane-projected r lr ∙ ap (λ w. projected_by (turned f u) w bit r) m_is;
-          flips = turned-letter n (flip_of l) q lt (resets && bit) g h now flips;
-          output = output ∙ (λ i. record old {
-            records = old.records ++ when recorded (inverted ⊕ bit);
-            free = old.free ++ (lane-free ∙ ap (is_free_by (turned f u)) m_is) i ∷ [];
-          });
-        })
+module _ (n : ℕ) (coins : ℕ → Bool) (x : Step) (bit : Bool) (old mid new : ProgramState) where
+  pub measured-collapse : (l : Letter) (q : ℕ) (recorded inverted resets : Bool) → x ≡ collapse l q recorded inverted resets → IsMeasured n coins (single n q l) bit old mid
+      → ((r : Signed) → length r.letters ≡ n → new.stabilised r ≡ applied_by (resets && bit) (flip_of l) q mid.stabilised r)
+      → new.output ≡ record mid.output { records = mid.output.records ++ when recorded (inverted ⊕ bit) } → IsRun n coins (x ∷ []) old new
+  measured-collapse l q recorded inverted resets is measured flips output =
+      run-collapse n coins x l q recorded inverted resets is old new bit measured.outcome
+      (record {
+        measured = mid.stabilised;
+        projects = measured.members;
+        flips = flips;
+        output = output ∙ ap (λ (o : RunOutput). record o { records = o.records ++ when recorded (inverted ⊕ bit) }) measured.output;
+      })
 
-    pub lane-product : (factors : List Factor) (inverted : Bool) → x ≡ product factors inverted → m ≡ string_of n factors → h ≡ g
-        → new ≡ record old { records = old.records ++ (inverted ⊕ bit) ∷ []; free = old.free ++ c.free ∷ [] } → IsRun n coins (x ∷ []) from to
-    lane-product factors inverted is m_is same output =
-        run-product n coins x factors inverted is m m_is from to bit lane-outcome
-        (λ r lr. ap (λ w. turned w now r) same ∙ lane-projected r lr)
-        (output ∙ (λ i. record old { records = old.records ++ (inverted ⊕ bit) ∷ []; free = old.free ++ lane-free i ∷ [] }))
+  pub measured-product : (factors : List Factor) (inverted : Bool) → x ≡ product factors inverted → (m : Signed) → m ≡ string_of n factors → IsMeasured n coins m bit old mid
+      → ((r : Signed) → length r.letters ≡ n → new.stabilised r ≡ mid.stabilised r)
+      → new.output ≡ record mid.output { records = mid.output.records ++ (inverted ⊕ bit) ∷ [] } → IsRun n coins (x ∷ []) old new
+  measured-product factors inverted is m m_is measured same output =
+      run-product n coins x factors inverted is m m_is old new bit measured.outcome (λ r lr. same r lr ∙ measured.members r lr)
+      (output ∙ ap (λ (o : RunOutput). record o { records = o.records ++ (inverted ⊕ bit) ∷ [] }) measured.output)

@@ -1,6 +1,6 @@
 -- Lane rules: the state of a lane is that of the tableau, with signs turned by the lane's Pauli string.
 -- Source: this project's own.
-use Rattle.std.specs.Prelude.{◌≡◌, ℕ, Bool, true, false, List, length, if◌then◌else◌}
+use Rattle.std.specs.Prelude.{◌≡◌, ℕ, Bool, true, false, List, [], ◌∷◌, ◌++◌, length, if◌then◌else◌}
 use Rattle.stab_pauli.specs.declared.letter.Letter.{Letter}
 use Rattle.stab_pauli.specs.Letters.{◌⊕◌}
 use Rattle.stab_pauli.specs.Paulis.{Signed, with_sign, strings_anticommute}
@@ -38,3 +38,9 @@ decided_bit c apart coin = if c.free then coin else apart ⊕ c.outcome
 -- the lane's string behind it: times the string that exchanges the outcomes, where the coin is otherwise than the string has it
 abbrev pub decided_letters : Collapse → Bool → Bool → List Letter → List Letter → List Letter
 decided_letters c apart coin exchange f = if c.free then times_where (coin ⊕ apart) exchange f else f
+
+-- a program measured a string, with the coin of its number, and noted whether the outcome was free
+pub record IsMeasured (n : ℕ) (coins : ℕ → Bool) (measured : Signed) (bit : Bool) (old new : ProgramState) : Type 0 where
+  pub outcome : bit ≡ outcome_by old.stabilised measured (coins (length old.output.free))
+  pub members : (p : Signed) → length p.letters ≡ n → new.stabilised p ≡ projected_by old.stabilised measured bit p
+  pub output : new.output ≡ record old.output { free = old.output.free ++ is_free_by old.stabilised measured ∷ [] }

@@ -1,11 +1,11 @@
-ghost use Rattle.std.specs.Prelude.{◌≡◌, ◌≢◌, ℕ, ◌+◌, ◌*◌, ◌%◌, ◌<◌, ◌^◌, false, slice_index_or};
+ghost use Rattle.std.specs.Prelude.{◌≡◌, ◌≢◌, ℕ, ◌+◌, ◌%◌, ◌<◌, ◌^◌, false, slice_index_or};
 ghost use Rattle.std.specs.Option.{ForSome};
 ghost use Rattle.stab_run.specs.Coins.{seed_coin};
 ghost use Rattle.stab_shots.specs.Words.{word_bit};
 ghost use Rattle.stab_shots.specs.Seeds.{SeededLanes, lane_coin, AreCoins};
 
 use crate::coins::LaneCoins;
-use stab_run::{Coins, SeedCoins};
+use stab_run::seed_coins;
 use std::marker::Model;
 
 /// The coins of 64 shots of a seed, numbered one after another from a first one on. Contracts see the seed and the first
@@ -74,8 +74,8 @@ fn coins_of_group(seed: u64, first: u64, group: u64) -> [u64; 64]
 {
     let mut words = [0; 64];
     for lane in 0..64 {
-        let shot = first.wrapping_add(lane as u64);
-        put_lane(&mut words, lane, &mut SeedCoins::new(seed, shot), group);
+        let coins = seed_coins(seed, first.wrapping_add(lane as u64), group);
+        put_lane(&mut words, lane, &coins);
     }
     words
 }
@@ -89,15 +89,13 @@ fn flip_lane(word: u64, lane: usize, bit: bool) -> u64
     word ^ (u64::from(bit) << lane)
 }
 
-/// Puts the 64 coins from 64 times the group's number on into a lane of words whose bits are 0 there.
-fn put_lane<C: Coins>(words: &mut [u64; 64], lane: usize, coins: &mut C, group: u64)
-    requires small { group < 2 ^ 58 }
+/// Puts 64 bits into a lane of as many words, whose bits are 0 there.
+fn put_lane(words: &mut [u64; 64], lane: usize, bits: &[bool; 64])
     requires in_range { lane < 64 }
-    ensures here { (k : ℕ) → k < 64 → word_bit (slice_index_or words.old k 0) lane ≡ false → word_bit (slice_index_or words.new k 0) lane ≡ C.sequence coins.old (64 * group + k) }
+    ensures here { (k : ℕ) → k < 64 → word_bit (slice_index_or words.old k 0) lane ≡ false → word_bit (slice_index_or words.new k 0) lane ≡ slice_index_or bits.now k false }
     ensures others { (k l : ℕ) → k < 64 → l ≢ lane → word_bit (slice_index_or words.new k 0) l ≡ word_bit (slice_index_or words.old k 0) l }
 {
     for k in 0..64 {
-        let bit = coins.coin(64 * group + k as u64);
-        words[k] = flip_lane(words[k], lane, bit);
+        words[k] = flip_lane(words[k], lane, bits[k]);
     }
 }

@@ -1,4 +1,4 @@
-ghost use Rattle.std.specs.Prelude.{◌≡◌, ◌≢◌, ℕ, ◌+◌, ◌<◌, ◌∷◌, [], ◌++◌, Bool, true, false, ◌&&◌, if◌then◌else◌, length, OnOk, All};
+ghost use Rattle.std.specs.Prelude.{◌≡◌, ◌≢◌, ℕ, ◌+◌, ◌<◌, ◌∷◌, [], ◌++◌, Bool, true, false, ◌&&◌, if◌then◌else◌, length, IfOk, OnOk, All};
 ghost use Rattle.stab_pauli.specs.Letters.{◌⊕◌};
 ghost use Rattle.stab_pauli.specs.Paulis.{Signed, single, strings_anticommute};
 ghost use Rattle.stab_tableau.specs.Tableaus.{stabilises};
@@ -9,7 +9,7 @@ ghost use Rattle.stab_circuit.specs.Cursors.{step_shown};
 ghost use Rattle.stab_run.specs.Runs.{flip_of, string_of};
 ghost use Rattle.stab_run.specs.ProgramStates.{StepFits, IsRun};
 ghost use Rattle.stab_shots.specs.Lanes.{lane_letters};
-ghost use Rattle.stab_shots.specs.LaneRules.{lane_state, decided_bit, decided_letters, IsProjection};
+ghost use Rattle.stab_shots.specs.LaneRules.{lane_state, decided_bit, decided_letters, IsProjection, IsMeasured};
 
 use crate::coins::LaneCoins;
 use crate::frames::Frames;
@@ -126,6 +126,63 @@ fn reset_if<W: Word>(
     }
 }
 
+/// Measures a letter on a qubit in all lanes. Gives their outcomes, and notes whether these were free.
+fn measure_letter<W: Word, C: LaneCoins<W>>(
+    tableau: &mut Tableau,
+    exchange: &mut Pauli,
+    coins: &mut C,
+    lanes: &mut Lanes<W>,
+    letter: Letter,
+    qubit: usize,
+) -> Result<W, AllocError>
+    requires in_range { qubit < tableau.old.qubits }
+    requires same_length { length exchange.old.letters ≡ tableau.old.qubits }
+    requires frames { length lanes.old.frames.letters.items ≡ tableau.old.qubits }
+    ensures qubits { tableau.new.qubits ≡ tableau.old.qubits }
+    ensures length { length exchange.new.letters ≡ length exchange.old.letters }
+    ensures size { length lanes.new.frames.letters.items ≡ length lanes.old.frames.letters.items }
+    ensures same_coins { C.sequences coins.new ≡ C.sequences coins.old }
+    ensures measures { IfOk result (λ outcomes. (l : ℕ) → l < W.lanes → IsMeasured tableau.old.qubits (C.sequences coins.old l) (single tableau.old.qubits qubit letter) (W.at outcomes l) (lane_state W.at l tableau.old lanes.old) (lane_state W.at l tableau.new lanes.new)) }
+{
+    // That members are a group is what says how each lane follows a measurement.
+    tableau.stabilises_a_group();
+    let coin = lanes.free.len() as u64;
+    let measured = project_letter(tableau, letter, qubit, exchange);
+    let frames = &mut lanes.frames;
+    let anticommuting = frames.anticommuting_letter(letter, qubit);
+    let outcomes = decide(frames, coins, coin, measured, anticommuting, exchange);
+    lanes.free.push(measured.free)?;
+    Ok(outcomes)
+}
+
+/// Measures a string in all lanes. Gives their outcomes, and notes whether these were free.
+fn measure_string<W: Word, C: LaneCoins<W>>(
+    tableau: &mut Tableau,
+    exchange: &mut Pauli,
+    coins: &mut C,
+    lanes: &mut Lanes<W>,
+    string: &Pauli,
+) -> Result<W, AllocError>
+    requires string_length { length string.now.letters ≡ tableau.old.qubits }
+    requires same_length { length exchange.old.letters ≡ tableau.old.qubits }
+    requires frames { length lanes.old.frames.letters.items ≡ tableau.old.qubits }
+    ensures qubits { tableau.new.qubits ≡ tableau.old.qubits }
+    ensures length { length exchange.new.letters ≡ length exchange.old.letters }
+    ensures size { length lanes.new.frames.letters.items ≡ length lanes.old.frames.letters.items }
+    ensures same_coins { C.sequences coins.new ≡ C.sequences coins.old }
+    ensures measures { IfOk result (λ outcomes. (l : ℕ) → l < W.lanes → IsMeasured tableau.old.qubits (C.sequences coins.old l) string.now (W.at outcomes l) (lane_state W.at l tableau.old lanes.old) (lane_state W.at l tableau.new lanes.new)) }
+{
+    // That members are a group is what says how each lane follows a measurement.
+    tableau.stabilises_a_group();
+    let coin = lanes.free.len() as u64;
+    let measured = project(tableau, string, exchange);
+    let frames = &mut lanes.frames;
+    let anticommuting = frames.anticommuting(string);
+    let outcomes = decide(frames, coins, coin, measured, anticommuting, exchange);
+    lanes.free.push(measured.free)?;
+    Ok(outcomes)
+}
+
 /// Appends bits, where there are any.
 fn push_when<W: Word>(words: &mut Vec<W>, test: bool, word: W) -> Result<(), AllocError>
     ensures value { OnOk result (words.new.items ≡ words.old.items ++ (if test then word ∷ [] else [])) }
@@ -157,9 +214,6 @@ pub fn apply_step<W: Word, C: LaneCoins<W>>(
     ensures same_coins { C.sequences coins.new ≡ C.sequences coins.old }
     ensures run { OnOk result ((l : ℕ) → l < W.lanes → IsRun tableau.old.qubits (C.sequences coins.old l) (step_shown step.entry ∷ []) (lane_state W.at l tableau.old lanes.old) (lane_state W.at l tableau.new lanes.new)) }
 {
-    // That members are a group is what says how each lane follows a measurement.
-    tableau.stabilises_a_group();
-    let coin = lanes.free.len() as u64;
     match step {
         Step::One(gate, qubit) => {
             tableau.apply(gate, qubit);
@@ -180,22 +234,13 @@ pub fn apply_step<W: Word, C: LaneCoins<W>>(
             inverted,
             reset,
         } => {
-            let measured = project_letter(tableau, letter, qubit, exchange);
-            let frames = &mut lanes.frames;
-            let anticommuting = frames.anticommuting_letter(letter, qubit);
-            let outcomes = decide(frames, coins, coin, measured, anticommuting, exchange);
-            reset_if(frames, letter, qubit, reset, outcomes);
-            lanes.free.push(measured.free)?;
-            let bits = W::all(inverted).xor(outcomes);
-            push_when(&mut lanes.records, recorded, bits)?;
+            let outcomes = measure_letter(tableau, exchange, coins, lanes, letter, qubit)?;
+            reset_if(&mut lanes.frames, letter, qubit, reset, outcomes);
+            push_when(&mut lanes.records, recorded, W::all(inverted).xor(outcomes))?;
         }
         Step::Product { factors, inverted } => {
             write_product(string, factors);
-            let measured = project(tableau, string, exchange);
-            let frames = &mut lanes.frames;
-            let anticommuting = frames.anticommuting(string);
-            let outcomes = decide(frames, coins, coin, measured, anticommuting, exchange);
-            lanes.free.push(measured.free)?;
+            let outcomes = measure_string(tableau, exchange, coins, lanes, string)?;
             lanes.records.push(W::all(inverted).xor(outcomes))?;
         }
         Step::Detector(lookbacks) => {

@@ -1,5 +1,5 @@
 use Rattle.std.proofs.Common.{rules, arith, ◌∙◌, ap, ◌+◌, ◌*◌}
-use Rattle.stab_run.specs.Coins.{Seeded, seed_coin}
+use Rattle.stab_run.specs.Coins.{seed_coin}
 use Rattle.stab_shots.proofs.SeedLemmas.{coins-next, blank-next, zeros-blank}
 use Rattle.stab_shots.proofs.seeds.coins_of_group.Goals as goal
 
@@ -11,7 +11,7 @@ loop-lane-preserved c = record {
   made = coins-next c.args.seed c.args.first c.args.group c.loop-lane.lane c.loop-lane.words c.put_lane.new.words c.loop-lane.invariant.made
       (λ k small.
       c.put_lane.ensures.here k small (c.loop-lane.invariant.blank k c.loop-lane.lane small (omega arith))
-      ∙ ap (λ (s : Seeded). seed_coin s.seed s.shot (64 * c.args.group + k)) c.new.ensures.value
+      ∙ c.seed_coins-coins.ensures.each k small
       ∙ ap (λ shot. seed_coin c.args.seed shot (64 * c.args.group + k)) (search rules)) c.put_lane.ensures.others;
   blank = blank-next c.loop-lane.lane c.loop-lane.words c.put_lane.new.words c.loop-lane.invariant.blank c.put_lane.ensures.others;
 }

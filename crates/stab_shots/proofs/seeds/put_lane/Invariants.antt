@@ -1,13 +1,11 @@
-use Rattle.std.proofs.Common.{◌≡◌, ◌≢◌, ℕ, ◌+◌, ◌*◌, ◌<◌, ◌≤◌, false, slice_index_or, length}
+use Rattle.std.proofs.Common.{◌≡◌, ◌≢◌, ℕ, ◌<◌, ◌≤◌, false, slice_index_or, length}
 use Rattle.stab_shots.specs.Words.{word_bit}
 use Rattle.stab_shots.proofs.seeds.put_lane.Given as goal
 
 abbrev pub invariant-loop-k : goal.invariant-loop-k
-invariant-loop-k g l = record {
+invariant-loop-k l = record {
   size : length l.words ≡ 64;
-  same : g.C.Coins.sequence l.coins ≡ g.C.Coins.sequence l.initial.coins;
-  here : (k : ℕ) → k < l.k → word_bit (slice_index_or l.initial.words k 0) l.lane ≡ false
-      → word_bit (slice_index_or l.words k 0) l.lane ≡ g.C.Coins.sequence l.initial.coins (64 * l.group + k);
+  here : (k : ℕ) → k < l.k → word_bit (slice_index_or l.initial.words k 0) l.lane ≡ false → word_bit (slice_index_or l.words k 0) l.lane ≡ slice_index_or l.bits k false;
   behind : (k : ℕ) → l.k ≤ k → slice_index_or l.words k 0 ≡ slice_index_or l.initial.words k 0;
   others : (k j : ℕ) → k < 64 → j ≢ l.lane → word_bit (slice_index_or l.words k 0) j ≡ word_bit (slice_index_or l.initial.words k 0) j;
 }

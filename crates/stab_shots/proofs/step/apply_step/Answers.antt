@@ -1,16 +1,15 @@
-use Rattle.std.proofs.Common.{rules, ◌≡◌, true, ◌&&◌, refl, ◌∙◌, ap, length}
+use Rattle.std.proofs.Common.{rules, true, ◌&&◌, refl, ◌∙◌, ap}
 use Rattle.std.proofs.lemmas.List.{length-map}
 use Rattle.stab_pauli.specs.Letters.{◌⊕◌}
-use Rattle.stab_pauli.specs.Paulis.{single, strings_anticommute}
+use Rattle.stab_pauli.specs.Paulis.{single}
 use Rattle.stab_tableau.specs.Tableaus.{stabilises}
-use Rattle.stab_tableau.proofs.OneLetterLemmas.{length-one_letter}
 use Rattle.stab_circuit.specs.Cursors.{step_shown}
 use Rattle.stab_frames.specs.Frames.{times_where}
 use Rattle.stab_run.specs.Runs.{flip_of, string_of}
 use Rattle.stab_shots.specs.Lanes.{letter_in, lane_letters, lane_bits, lane_output}
-use Rattle.stab_shots.specs.LaneRules.{decided_bit, decided_letters}
+use Rattle.stab_shots.specs.LaneRules.{lane_state}
 use Rattle.stab_shots.proofs.LaneLemmas.{bits-when}
-use Rattle.stab_shots.proofs.StepLemmas.{lane-one, lane-two, lane-controlled, lane-collapse, lane-product}
+use Rattle.stab_shots.proofs.StepLemmas.{lane-one, lane-two, lane-controlled, turned-letter, measured-collapse, measured-product}
 use Rattle.stab_shots.proofs.step.apply_step.Goals as goal
 
 pub returns-in-One-clause-run : goal.returns-in-One-clause-run
@@ -48,63 +47,34 @@ pub returns-in_ok-push_when-in-Collapse-clause-run : goal.returns-in_ok-push_whe
 returns-in_ok-push_when-in-Collapse-clause-run g c = λ l lt.
     let at = g.W.Word.at in
     let n = c.args.tableau.now.qubits in
-    let frames = c.args.lanes.now.frames.letters.items in
     let letter = c.in-Collapse.letter in
     let qubit = c.in-Collapse.qubit in
-    let bit = at c.decide-outcomes.result l in
-    let coins = g.C.LaneCoins.sequences c.args.coins.now l in
-    let number : c.len-coin.result ≡ length c.args.lanes.now.free.items = search rules in
-    lane-collapse n coins (step_shown c.args.step) (stabilises c.args.tableau.now) (stabilises c.project_letter-measured.new.tableau)
-    (lane_letters at l frames) (lane_letters at l c.reset_if.new.frames.letters.items)
-    (length-map frames (letter_in at l) ∙ c.requires.frames) (lane_output at l c.args.lanes.now) _
-    c.stabilises_a_group.ensures.law (single n qubit letter) (length-one_letter n qubit letter) c.project_letter-measured.result c.project_letter-measured.new.exchange.letters
-    c.project_letter-measured.ensures.projection
-    (at c.anticommuting_letter-anticommuting.result l) bit
-    (c.anticommuting_letter-anticommuting.ensures.value l lt ∙ ap (λ k. strings_anticommute (lane_letters at l frames) (single k qubit letter).letters) c.requires.frames)
-    (c.decide-outcomes.ensures.outcome l lt
-    ∙ ap (λ t. decided_bit c.project_letter-measured.result (at c.anticommuting_letter-anticommuting.result l) (coins t)) number)
-    (lane_letters at l c.decide-outcomes.new.frames.letters.items)
-    (c.decide-outcomes.ensures.letters l lt
-    ∙ ap (λ t. decided_letters c.project_letter-measured.result (at c.anticommuting_letter-anticommuting.result l) (coins t)
-    c.project_letter-measured.new.exchange.letters (lane_letters at l frames)) number)
-    letter qubit c.in-Collapse.recorded c.in-Collapse.inverted c.in-Collapse.reset (ap step_shown c.in-Collapse.is) refl (search rules)
+    let measured = c.measure_letter.new in
+    let bit = at c.in_ok-outcomes-in-Collapse.outcomes l in
+    measured-collapse n (g.C.LaneCoins.sequences c.args.coins.now l) (step_shown c.args.step) bit (lane_state at l c.args.tableau.now c.args.lanes.now) (lane_state at l measured.tableau measured.lanes) _
+    letter qubit c.in-Collapse.recorded c.in-Collapse.inverted c.in-Collapse.reset (ap step_shown c.in-Collapse.is) (c.in_ok-outcomes-in-Collapse.ensures.measures l lt)
+    (turned-letter n (flip_of letter) qubit (search rules) (c.in-Collapse.reset && bit) (lane_letters at l measured.lanes.frames.letters.items) (lane_letters at l c.reset_if.new.frames.letters.items) (stabilises measured.tableau)
     (c.reset_if.ensures.letters l lt
-    ∙ ap (λ k. times_where (c.in-Collapse.reset && bit) (single k qubit (flip_of letter)).letters (lane_letters at l c.decide-outcomes.new.frames.letters.items))
-    (c.decide-outcomes.ensures.size ∙ c.requires.frames))
-    (λ i. record (lane_output at l c.args.lanes.now) {
+    ∙ ap (λ k. times_where (c.in-Collapse.reset && bit) (single k qubit (flip_of letter)).letters (lane_letters at l measured.lanes.frames.letters.items))
+    (c.in_ok-outcomes-in-Collapse.ensures.size ∙ c.requires.frames)))
+    (λ i. record (lane_output at l measured.lanes) {
       records = (ap (lane_bits at l) c.in_ok-push_when-in-Collapse.ensures.value
-          ∙ bits-when at l c.args.lanes.now.records.items c.in-Collapse.recorded c.xor-bits.result (c.in-Collapse.inverted ⊕ bit)
-          (c.xor-bits.ensures.value l lt ∙ ap (λ b. b ⊕ bit) (c.all.ensures.value l lt))) i;
-      free = c.in_ok-push-in-Collapse.ensures.items i;
+          ∙ bits-when at l measured.lanes.records.items c.in-Collapse.recorded c.xor.result (c.in-Collapse.inverted ⊕ bit)
+          (c.xor.ensures.value l lt ∙ ap (λ b. b ⊕ bit) (c.all.ensures.value l lt))) i;
     })
 
-pub returns-in_ok-push-in-Product-2-clause-run : goal.returns-in_ok-push-in-Product-2-clause-run
-returns-in_ok-push-in-Product-2-clause-run g c = λ l lt.
+pub returns-in_ok-push-in-Product-clause-run : goal.returns-in_ok-push-in-Product-clause-run
+returns-in_ok-push-in-Product-clause-run g c = λ l lt.
     let at = g.W.Word.at in
     let n = c.args.tableau.now.qubits in
-    let frames = c.args.lanes.now.frames.letters.items in
-    let string = c.write_product.new.string in
-    let bit = at c.decide-outcomes-in-Product.result l in
-    let coins = g.C.LaneCoins.sequences c.args.coins.now l in
-    let number : c.len-coin.result ≡ length c.args.lanes.now.free.items = search rules in
-    lane-product n coins (step_shown c.args.step) (stabilises c.args.tableau.now) (stabilises c.project-measured.new.tableau)
-    (lane_letters at l frames) (lane_letters at l c.decide-outcomes-in-Product.new.frames.letters.items)
-    (length-map frames (letter_in at l) ∙ c.requires.frames) (lane_output at l c.args.lanes.now) _
-    c.stabilises_a_group.ensures.law string (c.write_product.ensures.same_length ∙ c.requires.string_length) c.project-measured.result c.project-measured.new.exchange.letters
-    c.project-measured.ensures.projection
-    (at c.anticommuting-anticommuting.result l) bit
-    (c.anticommuting-anticommuting.ensures.value l lt)
-    (c.decide-outcomes-in-Product.ensures.outcome l lt
-    ∙ ap (λ t. decided_bit c.project-measured.result (at c.anticommuting-anticommuting.result l) (coins t)) number)
-    (lane_letters at l c.decide-outcomes-in-Product.new.frames.letters.items)
-    (c.decide-outcomes-in-Product.ensures.letters l lt
-    ∙ ap (λ t. decided_letters c.project-measured.result (at c.anticommuting-anticommuting.result l) (coins t)
-    c.project-measured.new.exchange.letters (lane_letters at l frames)) number)
-    c.in-Product.factors.now c.in-Product.inverted (ap step_shown c.in-Product.is)
-    (c.write_product.ensures.value ∙ ap (λ k. string_of k c.in-Product.factors.now) c.requires.string_length) refl
-    (λ i. record (lane_output at l c.args.lanes.now) {
-      records = (ap (lane_bits at l) c.in_ok-push-in-Product-2.ensures.items
-          ∙ bits-when at l c.args.lanes.now.records.items true c.xor.result (c.in-Product.inverted ⊕ bit)
-          (c.xor.ensures.value l lt ∙ ap (λ b. b ⊕ bit) (c.all-in-Product.ensures.value l lt))) i;
-      free = c.in_ok-push-in-Product.ensures.items i;
+    let measured = c.measure_string.new in
+    let bit = at c.in_ok-outcomes-in-Product.outcomes l in
+    measured-product n (g.C.LaneCoins.sequences c.args.coins.now l) (step_shown c.args.step) bit (lane_state at l c.args.tableau.now c.args.lanes.now) (lane_state at l measured.tableau measured.lanes) _
+    c.in-Product.factors.now c.in-Product.inverted (ap step_shown c.in-Product.is) c.write_product.new.string
+    (c.write_product.ensures.value ∙ ap (λ k. string_of k c.in-Product.factors.now) c.requires.string_length) (c.in_ok-outcomes-in-Product.ensures.measures l lt)
+    (λ r lr. refl)
+    (λ i. record (lane_output at l measured.lanes) {
+      records = (ap (lane_bits at l) c.in_ok-push-in-Product.ensures.items
+          ∙ bits-when at l measured.lanes.records.items true c.xor-in-Product.result (c.in-Product.inverted ⊕ bit)
+          (c.xor-in-Product.ensures.value l lt ∙ ap (λ b. b ⊕ bit) (c.all-in-Product.ensures.value l lt))) i;
     })

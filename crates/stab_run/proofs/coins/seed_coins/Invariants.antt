@@ -1,7 +1,7 @@
 use Rattle.std.proofs.Common.{◌≡◌, ◌+◌, ◌*◌, ◌<◌, ℕ, false, get_or}
 use Rattle.rand_chacha.specs.ChaCha.{key_of}
 use Rattle.stab_run.specs.Coins.{key_bytes, seed_coin}
-use Rattle.stab_run.proofs.coins.coins_of_group.Given as goal
+use Rattle.stab_run.proofs.coins.seed_coins.Given as goal
 
 abbrev pub invariant-loop-coin : goal.invariant-loop-coin
 invariant-loop-coin l = record {
