@@ -119,6 +119,7 @@ impl Circuit {
         ensures unchanged { OnErr result (self.new ≡ self.old) }
         ensures fault { IfErr result (λ f. f ≡ whole OutOfMemory) }
     {
+        // That no blocks are nested too deep is what lets edits of parts as deep pass.
         let _ = self.items();
         let Some(part) = parts.pop() else {
             return Ok(());
@@ -141,6 +142,7 @@ impl Circuit {
         ensures unchanged { OnErr result (self.new ≡ self.old) }
         ensures fault { IfErr result (λ f. f ≡ whole OutOfMemory) }
     {
+        // That no blocks are nested too deep is what lets edits of parts as deep pass.
         let _ = self.items();
         let Some(last) = parts.pop() else {
             unreachable!()
