@@ -1,5 +1,5 @@
 -- Led replays: a replay that a frame led to the place of the next old copy is there, and differs still where the frame is not gone.
-use Rattle.std.proofs.Common.{◌≡◌, ◌≢◌, ℕ, ◌+◌, ◌-◌, ◌^◌, ◌<◌, ◌≤◌, refl, sym, ◌∙◌, ap, subst, Bool, List, [], ◌∷◌, ◌++◌, All, Option, None, Some, slice_get, IsSomeAnd, length, take, drop, arith}
+use Rattle.std.proofs.Common.{◌≡◌, ◌≢◌, ℕ, ◌+◌, ◌-◌, ◌^◌, ◌<◌, ◌≤◌, refl, sym, ◌∙◌, ap, subst, Bool, true, List, [], ◌∷◌, ◌++◌, All, Option, None, Some, slice_get, IsSomeAnd, length, take, drop, arith}
 use Rattle.std.proofs.lemmas.List.{length-drop, length-append, drop-drop, take_at}
 use Rattle.std.proofs.lemmas.List.Elements.{All-get_or}
 use Rattle.std.proofs.lemmas.Option.{slice_get_within, get_or_from_slice_get}
@@ -27,7 +27,7 @@ use Rattle.stab_session.specs.declared.replay.Replay.{Replay}
 use Rattle.stab_session.specs.inner.Checkpoints.{IsCheckpoint}
 use Rattle.stab_session.specs.inner.Replays.{IsAtStep, Misses, step_among_new, copy_of}
 use Rattle.stab_session.specs.inner.FramedReplays.{IsFramedAt, IsFramedOver, IsContinued, IsFrameFrom, WentOver, between, flips_since}
-use Rattle.stab_session.specs.inner.LedReplays.{IsBeside, IsAtCopy, IsLed, IsPassed, WentTo, with_cursor}
+use Rattle.stab_session.specs.inner.LedReplays.{IsBeside, IsAtCopy, IsLed, IsPassed, WentTo, last_state, state_of, with_state, with_cursor}
 use Rattle.stab_session.proofs.NotedLemmas.{coins-are, noted-more}
 use Rattle.stab_session.proofs.ReplayLemmas.{coins-few}
 use Rattle.stab_session.proofs.FrameStartLemmas.{frame-begins, flips-differ}
@@ -124,10 +124,33 @@ went-same n p c d o s r q t w v stop went output strings step framed = record {
   framed = framed ∙ went.framed;
 }
 
-module _ {n : ℕ} {coins : ℕ → Bool} {p : Plan} {ys : List Step} {copies : List Checkpoint} {o : RunOutput} {s : StringsState} {last : ℕ} {c : Checkpoint} {r : Replay} {w : WalkState}
-    (number : ℕ) (d : Checkpoint) (from : slice_get copies last ≡ Some c) (to : slice_get copies number ≡ Some d) (few : length ys ≤ most_steps) (led : IsLed n coins p ys copies o s last r w) where
-  here : IsAtCopy n coins p led.old.steps ys o.free r w c
-  here = subst (λ m. IsSomeAnd m (IsAtCopy n coins p led.old.steps ys o.free r w)) from led.at_copy
+-- and whatever the tableau held before
+went-from : (n : ℕ) (p : Plan) (c d : Checkpoint) (o : RunOutput) (s : StringsState) (r q : Replay) (t : TableauState) (w v : WalkState) (stop : Stop) → WentOver n p c d o s r q w v stop
+    → WentOver n p c d o s (record r { tableau = t }) q w v stop
+went-from n p c d o s r q t w v stop went = record {
+  steps = went.steps;
+  order = went.order;
+  near = went.near;
+  few = went.few;
+  walked = went.walked;
+  enough = went.enough;
+  stops = went.stops;
+  output = went.output;
+  strings = went.strings;
+  step = went.step;
+  framed = went.framed;
+}
+
+-- the last of some copies is the one that was laid last
+last-laid : (t : TableauState) (cs : List Checkpoint) (c : Checkpoint) → last_state t (cs ++ c ∷ []) ≡ c.tableau
+last-laid t [] c = refl
+last-laid t (b ∷ cs) c = last-laid b.tableau cs c
+
+module _ {n : ℕ} {coins : ℕ → Bool} {p : Plan} {ys : List Step} {copies : List Checkpoint} {o : RunOutput} {s : StringsState} {last : ℕ} {c : Checkpoint} {w : WalkState}
+    (number : ℕ) (d : Checkpoint) (from : slice_get copies last ≡ Some c) (to : slice_get copies number ≡ Some d) (few : length ys ≤ most_steps) (r : Replay) (passed : Bool)
+    (led : IsLed n coins p ys copies o s last (with_state passed r) w) where
+  here : IsAtCopy n coins p led.old.steps ys o.free (with_state passed r) w c
+  here = subst (λ m. IsSomeAnd m (IsAtCopy n coins p led.old.steps ys o.free (with_state passed r) w)) from led.at_copy
 
   is : IsCheckpoint n coins led.old.steps c
   is = at-number (IsCheckpoint n coins led.old.steps) copies last c from led.old.are_copies
@@ -158,17 +181,17 @@ module _ {n : ℕ} {coins : ℕ → Bool} {p : Plan} {ys : List Step} {copies : 
       omega (arith, le, led.at_step.within, few, also.within, here.behind, ap length led.old.behind, length-drop p.old_end led.old.steps, length-drop p.new_end ys, led.old.old_within, led.old.new_within)
 
   module _ {q : Replay} {v : WalkState} {stop : Stop} (walked : WentOver (length w.letters) p c d o s r q w v stop) (told : stop ≢ NoString) where
-    went : WentOver n p c d o s r q w v stop
-    went = subst (λ m. WentOver m p c d o s r q w v stop) letters-long walked
+    went : WentOver n p c d o s (with_state passed r) q w v stop
+    went = went-from n p c d o s r q (state_of passed r) w v stop (subst (λ m. WentOver m p c d o s r q w v stop) letters-long walked)
 
     few-steps : length ys < 2 ^ 64
     few-steps = omega (arith, few)
 
     pub step-there : q.step ≡ r.step + (d.step - c.step)
-    step-there = there n coins p ys copies o s led.old c d is also here.behind went.order few-steps r here.place p.base w v here.framed led.at_step q stop went told
+    step-there = there n coins p ys copies o s led.old c d is also here.behind went.order few-steps (with_state passed r) here.place p.base w v here.framed led.at_step q stop went told
 
     over-it : IsFramedOver n coins led.old.steps ys c.step r.step (d.step - c.step) o.free p.base w v stop
-    over-it = over n coins p ys copies o s led.old c d is also here.behind went.order few-steps r here.place p.base w v here.framed led.at_step q stop went told
+    over-it = over n coins p ys copies o s led.old c d is also here.behind went.order few-steps (with_state passed r) here.place p.base w v here.framed led.at_step q stop went told
 
     -- with no fewer free outcomes
     pub free-there : ones r.outputs.free.items ≤ ones q.outputs.free.items
@@ -213,7 +236,7 @@ module _ {n : ℕ} {coins : ℕ → Bool} {p : Plan} {ys : List Step} {copies : 
           ∙ agree.records)
 
     -- with the state that a turned copy is of
-    module _ {letters : List Letter} {kept : TableauState} (read : letters ≡ v.letters) (size : kept.qubits ≡ d.tableau.qubits)
+    module _ {letters : List Letter} (kept : TableauState) (read : letters ≡ v.letters) (size : kept.qubits ≡ d.tableau.qubits)
         (turned : IsTurned d.tableau.qubits letters (stabilises d.tableau) (stabilises kept)) where
       pub qubits-there : (now : TableauState) → now ≡ kept → now.qubits ≡ n
       qubits-there now same = ap (λ (x : TableauState). x.qubits) same ∙ size ∙ also.qubits
@@ -228,8 +251,8 @@ module _ {n : ℕ} {coins : ℕ → Bool} {p : Plan} {ys : List Step} {copies : 
           → t.cursor.left ≡ drop t.step ys → t.step ≡ q.step → t.framed ≡ q.framed → q.notes.string ≡ r.notes.string → q.notes.reach ≡ r.notes.reach → WentTo n coins p ys r t d
       went-to t tableau string output notes all left step framed scratch reach = record {
         at_step =
-            at-copy n coins p ys copies o s led.old c d is also here.behind went.order few-steps r here.place p.base w v here.framed led.at_step t stop
-            (went-same n p c d o s r q t w v stop went output (ap (λ (x : RunNotes). x.strings) notes) step framed) told
+            at-copy n coins p ys copies o s led.old c d is also here.behind went.order few-steps (with_state passed r) here.place p.base w v here.framed led.at_step t stop
+            (went-same n p c d o s (with_state passed r) q t w v stop went output (ap (λ (x : RunNotes). x.strings) notes) step framed) told
             led.raised (turned-there t.tableau tableau) (qubits-there t.tableau tableau) (ap (λ (x : Signed). length x.letters) string ∙ led.at_step.string) all left
             (ap (λ (x : RunNotes). length x.string.letters) notes ∙ ap (λ (x : Signed). length x.letters) scratch ∙ led.at_step.scratch)
             (ap (λ (x : RunNotes). x.reach) notes ∙ reach);
@@ -249,18 +272,21 @@ module _ {n : ℕ} {coins : ℕ → Bool} {p : Plan} {ys : List Step} {copies : 
             (went-to (with_cursor ys t) tableau string output notes refl refl step framed scratch reach),
       )
 
-      pub has-passed : (t : Replay) → t.tableau ≡ kept → t.string ≡ r.string → output_of t.outputs ≡ output_of q.outputs → t.notes ≡ q.notes → t.step ≡ q.step
-          → t.framed ≡ q.framed → q.notes.string ≡ r.notes.string → q.notes.reach ≡ r.notes.reach → t.laid.items ≡ r.laid.items ++ copy_of t ∷ []
+      pub has-passed : (t : Replay) → t.string ≡ r.string → output_of t.outputs ≡ output_of q.outputs → t.notes ≡ q.notes → t.step ≡ q.step → t.framed ≡ q.framed
+          → q.notes.string ≡ r.notes.string → q.notes.reach ≡ r.notes.reach → t.laid.items ≡ r.laid.items ++ copy_of (record t { tableau = kept }) ∷ []
           → t.cursor.all ≡ ys → t.cursor.left ≡ drop (d.step - c.step) r.cursor.left → stop ≡ Behind → IsPlaced o.free v → 1 ≤ ones v.flips.records
           → IsPassed n coins p ys copies o s number r t v Passed
-      has-passed t tableau string output notes step framed scratch reach laid all left behind placed some = (
-        laid,
-        subst (λ m. IsSomeAnd m (λ x. WentTo n coins p ys r t x × Misses n coins p ys o.records x)) (sym to) (there-now, differs behind placed some),
-        led-on behind placed t there-now.at_step step (omega (arith, led.raised, ap (λ (x : RunNotes). x.reach) notes, reach)),
+      has-passed t string output notes step framed scratch reach laid all left behind placed some = (
+        laid ∙ ap (λ x. r.laid.items ++ copy_of (record t { tableau = x }) ∷ []) (sym state),
+        subst (λ m. IsSomeAnd m (λ x. WentTo n coins p ys r (with_state true t) x × Misses n coins p ys o.records x)) (sym to) (there-now, differs behind placed some),
+        led-on behind placed (with_state true t) there-now.at_step step (omega (arith, led.raised, ap (λ (x : RunNotes). x.reach) notes, reach)),
       )
         where
-          there-now : WentTo n coins p ys r t d
+          state : state_of true t ≡ kept
+          state = ap (last_state t.tableau) laid ∙ last-laid t.tableau r.laid.items (copy_of (record t { tableau = kept }))
+
+          there-now : WentTo n coins p ys r (with_state true t) d
           there-now =
-              went-to t tableau string output notes all
+              went-to (with_state true t) state string output notes all
               (left ∙ ap (drop (d.step - c.step)) led.at_step.left ∙ drop-drop (d.step - c.step) r.step ys ∙ ap (λ k. drop k ys) (sym (step ∙ step-there)))
               step framed scratch reach

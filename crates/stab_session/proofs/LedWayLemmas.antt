@@ -1,9 +1,10 @@
 -- Led ways: replays on their way that a frame leads from old copy to old copy.
-use Rattle.std.proofs.Common.{◌≡◌, ℕ, zero, suc, ◌+◌, ◌<◌, ◌≤◌, refl, sym, ◌∙◌, ap, subst, Bool, List, [], ◌∷◌, ◌++◌, Option, None, Some, IfSome, IsSomeAnd, slice_get, length, drop, arith}
+use Rattle.std.proofs.Common.{◌≡◌, ℕ, zero, suc, ◌+◌, ◌-◌, ◌<◌, ◌≤◌, refl, sym, ◌∙◌, ap, subst, Bool, true, false, List, [], ◌∷◌, ◌++◌, Option, None, Some, IfSome, IsSomeAnd, slice_get, get_or, length, drop, arith}
 use Rattle.std.specs.Option.{option_map}
 use Rattle.std.proofs.lemmas.List.{length-append}
 use Rattle.std.proofs.lemmas.Option.{none-some, same_Some}
 use Rattle.stab_pauli.specs.Paulis.{Signed}
+use Rattle.stab_tableau.specs.Tableaus.{TableauState}
 use Rattle.stab_circuit.specs.Steps.{Step}
 use Rattle.stab_circuit.specs.Cursors.{CursorState}
 use Rattle.stab_run.specs.Records.{ones}
@@ -15,7 +16,7 @@ use Rattle.stab_session.specs.declared.checkpoint.Checkpoint.{Checkpoint}
 use Rattle.stab_session.specs.declared.replay.Plan.{Plan}
 use Rattle.stab_session.specs.declared.replay.Replay.{Replay}
 use Rattle.stab_session.specs.inner.Replays.{IsAtStep, Ascending, Misses, IsAtStop, IsOnWay, step_among_new, copy_of}
-use Rattle.stab_session.specs.inner.LedReplays.{IsLed, IsPassed, WentTo, LedOn, with_cursor}
+use Rattle.stab_session.specs.inner.LedReplays.{IsLed, IsPassed, WentTo, LedOn, last_state, state_of, with_state, with_cursor}
 use Rattle.stab_session.proofs.LedLemmas.{at-noted}
 use Rattle.stab_session.proofs.ReplayLemmas.{ascending-end, ascending-stop, later-ascending, on-stop, past, with-laid}
 
@@ -38,14 +39,20 @@ at-laid n coins ys r s at = record {
   noted = at.noted;
 }
 
-pub cursor-there : (n : ℕ) (coins : ℕ → Bool) (ys : List Step) (r : Replay) → IsAtStep n coins ys r → with_cursor ys r ≡ r
+cursor-there : (n : ℕ) (coins : ℕ → Bool) (ys : List Step) (r : Replay) → IsAtStep n coins ys r → with_cursor ys r ≡ r
 cursor-there n coins ys r at = λ i. record r { cursor = record { all = sym at.all i; left = sym at.left i } }
 
 pub cursor-set : (ys : List Step) (r : Replay) (cursor : CursorState) → cursor.all ≡ ys → cursor.left ≡ drop r.step ys → with_cursor ys r ≡ record r { cursor = cursor }
 cursor-set ys r cursor all left = λ i. record r { cursor = record { all = sym all i; left = sym left i } }
 
-pub cursor-only : (ys : List Step) (r s : Replay) → s ≡ record r { cursor = s.cursor } → with_cursor ys s ≡ with_cursor ys r
-cursor-only ys r s same = ap (with_cursor ys) same
+cursor-only : (ys : List Step) (passed : Bool) (r s : Replay) → s ≡ record r { cursor = s.cursor } → with_cursor ys (with_state passed s) ≡ with_cursor ys (with_state passed r)
+cursor-only ys false r s same = ap (with_cursor ys) same
+cursor-only ys true r s same = ap (λ x. with_cursor ys (with_state true x)) same
+
+-- the tableau caught up, and the cursor alone moved before
+pub caught-up : (n : ℕ) (coins : ℕ → Bool) (ys : List Step) (passed : Bool) (r s t : Replay) → s ≡ record r { cursor = s.cursor } → t ≡ with_state passed s
+    → IsAtStep n coins ys (with_state passed r) → with_cursor ys t ≡ with_state passed r
+caught-up n coins ys passed r s t same state at = ap (with_cursor ys) state ∙ cursor-only ys passed r s same ∙ cursor-there n coins ys (with_state passed r) at
 
 -- the same number of qubits and the same steps, by other names
 
@@ -88,6 +95,28 @@ led-further p copies a b c r s t first then = record {
   within = then.within;
   ascending = then.ascending;
 }
+
+-- the tableau may catch up
+pub led-state : (p : Plan) (copies : List Checkpoint) (a b : ℕ) (r s : Replay) (passed : Bool) → LedOn p copies a b r s → LedOn p copies a b r (with_state passed s)
+led-state p copies a b r s passed on = record {
+  applied = on.applied;
+  counted = on.counted;
+  further = on.further;
+  laid = on.laid;
+  free = on.free;
+  raised = on.raised;
+  order = on.order;
+  within = on.within;
+  ascending = on.ascending;
+}
+
+-- the state of the last copy
+pub last-read : (t : TableauState) (cs : List Checkpoint) (c : Checkpoint) → 0 < length cs → c ≡ get_or cs (length cs - 1) c → last_state t cs ≡ c.tableau
+last-read t [] c some is = absurd (omega (arith, some))
+last-read t (b ∷ []) c some is = ap (λ (x : Checkpoint). x.tableau) (sym is)
+last-read t (b ∷ d ∷ cs) c some is =
+    last-read b.tableau (d ∷ cs) c (omega arith)
+    (subst (λ k. c ≡ get_or (d ∷ cs) k c) {x = length cs} (omega arith) (subst (λ k. c ≡ get_or (b ∷ d ∷ cs) k c) {y = suc (length cs)} (omega arith) is))
 
 -- the place of the next copy is no further than the last step
 place-within : (p : Plan) (step : ℕ) (d : Checkpoint) (k : ℕ) (cs : List Checkpoint) → slice_get cs k ≡ Some d → Ascending p step (drop k cs) → step_among_new p d ≤ p.total
@@ -158,12 +187,12 @@ way-noted n coins begin p ys copies old next r string reach way long raised = re
 }
 
 module _ (n : ℕ) (coins : ℕ → Bool) (begin : ℕ) (p : Plan) (ys : List Step) (copies : List Checkpoint) (old : List Bool) (number : ℕ) (r : Replay)
-    (way : IsOnWay n coins begin p ys copies old number r) where
+    (passed : Bool) (way : IsOnWay n coins begin p ys copies old number (with_state passed r)) where
   -- at the place of the next copy
   stop-there : (later : ℕ) (s : Replay) (d : Checkpoint) → slice_get copies number ≡ Some d → WentTo n coins p ys r s d → LedOn p copies number later r s
       → s.laid.items ≡ r.laid.items → IsAtStop n coins begin p ys copies old number s
   stop-there later s d to went on laid =
-      on-stop n coins begin p ys copies old coins number s.step (Some (step_among_new p d)) r s way refl
+      on-stop n coins begin p ys copies old coins number s.step (Some (step_among_new p d)) (with_state passed r) s way refl
       (subst (λ m. IsAtStep m coins r.cursor.all s) (sym way.stop.replay.at_step.qubits)
       (subst (λ xs. IsAtStep n coins xs s) (sym way.stop.replay.at_step.all) went.at_step))
       laid went.records
@@ -192,19 +221,15 @@ module _ (n : ℕ) (coins : ℕ → Bool) (begin : ℕ) (p : Plan) (ys : List St
       })
       laid
 
-  pub way-stopped : (s : Replay) → s ≡ record r { cursor = s.cursor } → IsOnWay n coins begin p ys copies old number (with_cursor ys s)
-  way-stopped s same =
-      subst (IsOnWay n coins begin p ys copies old number) (sym (cursor-only ys r s same ∙ cursor-there n coins ys r way.stop.replay.at_step)) way
-
   -- behind it
-  pub way-passed : (s : Replay) → s.laid.items ≡ r.laid.items ++ copy_of s ∷ []
-      → IsSomeAnd (slice_get copies number) (λ d. WentTo n coins p ys r s d × Misses n coins p ys old d) → LedOn p copies number (number + 1) r s
-      → IsOnWay n coins begin p ys copies old (number + 1) s
+  pub way-passed : (s : Replay) → s.laid.items ≡ r.laid.items ++ copy_of (with_state true s) ∷ []
+      → IsSomeAnd (slice_get copies number) (λ d. WentTo n coins p ys r (with_state true s) d × Misses n coins p ys old d) → LedOn p copies number (number + 1) r s
+      → IsOnWay n coins begin p ys copies old (number + 1) (with_state true s)
   way-passed s laid went on =
-      with-laid n coins begin p ys copies old (number + 1) before s
+      with-laid n coins begin p ys copies old (number + 1) before (with_state true s)
       (past n coins begin p ys copies old number before
       (stop-there (number + 1) before some.0 some.1
-      (record { at_step = at-laid n coins ys s r some.2.0.at_step; step = some.2.0.step; near = some.2.0.near; records = some.2.0.records })
+      (record { at_step = at-laid n coins ys (with_state true s) r some.2.0.at_step; step = some.2.0.step; near = some.2.0.near; records = some.2.0.records })
       (record {
         applied = on.applied;
         counted = on.counted;
@@ -221,8 +246,8 @@ module _ (n : ℕ) (coins : ℕ → Bool) (begin : ℕ) (p : Plan) (ys : List St
       (subst (λ m. IfSome m (Misses n coins p ys old)) (sym some.1) some.2.1))
       laid
     where
-      some : (d : Checkpoint) × (slice_get copies number ≡ Some d) × (WentTo n coins p ys r s d × Misses n coins p ys old d)
-      some = some-of (slice_get copies number) (λ d. WentTo n coins p ys r s d × Misses n coins p ys old d) went
+      some : (d : Checkpoint) × (slice_get copies number ≡ Some d) × (WentTo n coins p ys r (with_state true s) d × Misses n coins p ys old d)
+      some = some-of (slice_get copies number) (λ d. WentTo n coins p ys r (with_state true s) d × Misses n coins p ys old d) went
 
       before : Replay
-      before = record s { laid = r.laid }
+      before = record s { tableau = state_of true s; laid = r.laid }

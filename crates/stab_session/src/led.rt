@@ -1,11 +1,11 @@
-ghost use Rattle.std.specs.Prelude.{◌≡◌, ℕ, ◌+◌, ◌-◌, ◌<◌, ◌≤◌, min, Bool, true, None, All, length, take, drop, OnOk, IfOk, IfErr, IfSome};
+ghost use Rattle.std.specs.Prelude.{◌≡◌, ℕ, ◌+◌, ◌-◌, ◌<◌, ◌≤◌, min, Bool, true, None, All, length, take, drop, OnOk, OnErr, IfOk, IfErr, IfSome};
 ghost use Rattle.stab_io.specs.declared.refusal.Refusal.TheVariants.{OutOfMemory};
 ghost use Rattle.stab_circuit.specs.Steps.{most_steps, unroll, check_of};
 ghost use Rattle.stab_circuit.specs.Views.{circuit_items};
 ghost use Rattle.stab_run.specs.ProgramStates.{StepFits, output_of};
 ghost use Rattle.stab_frames.specs.KeptStrings.{StringsState};
 ghost use Rattle.stab_session.specs.inner.Replays.{IsAtStep, Ascending, IsOnWay, IsPlacedAt};
-ghost use Rattle.stab_session.specs.inner.LedReplays.{IsBeside, IsLed, IsPassed, LedOn, IsLedTo, later_of, with_cursor};
+ghost use Rattle.stab_session.specs.inner.LedReplays.{IsBeside, IsLed, IsPassed, LedOn, IsLedTo, later_of, with_state, with_cursor};
 
 use crate::bits::has_one;
 use crate::checkpoint::{Checkpoint, shifted};
@@ -33,12 +33,14 @@ enum Passage {
     Stopped,
     /// It is there, and may have ended.
     Arrived,
-    /// It is there, and the runs differ still: a copy was laid.
+    /// It is there but for its tableau, and the runs differ still: a copy was laid.
     Passed,
 }
 
 impl<'a> Replay<'a> {
     /// Goes on by a frame to the place of the old copy with a number, and lays a turned copy there where the runs differ.
+    /// Nothing reads the tableau while a frame leads: it lags behind the copies that were laid on the way, and is
+    /// written where the frame may have ended.
     ///
     /// Refusal `OutOfMemory` alone.
     fn pass_copy(
@@ -58,12 +60,12 @@ impl<'a> Replay<'a> {
         requires few_framed { self.old.framed ≤ self.old.step }
         requires total { plan.total ≡ length self.old.cursor.all }
         requires ascending { Ascending plan self.old.step (drop number copies.now) }
-        requires led { (coins : ℕ → Bool) × IsLed self.old.tableau.qubits coins plan self.old.cursor.all copies.now (output_of old.now) strings.now (number - 1) self.old walk.old }
+        requires led { (coins : ℕ → Bool) × (passed : Bool) × IsLed self.old.tableau.qubits coins plan self.old.cursor.all copies.now (output_of old.now) strings.now (number - 1) (with_state passed self.old) walk.old }
         ensures all { self.new.cursor.all ≡ self.old.cursor.all }
         ensures qubits { self.new.tableau.qubits ≡ self.old.tableau.qubits }
         ensures further { self.old.step ≤ self.new.step }
         ensures on { IfOk result (λ passage. LedOn plan copies.now number (later_of number passage) self.old self.new) }
-        ensures passed { IfOk result (λ passage. (coins : ℕ → Bool) → IsLed self.old.tableau.qubits coins plan self.old.cursor.all copies.now (output_of old.now) strings.now (number - 1) self.old walk.old → IsPassed self.old.tableau.qubits coins plan self.old.cursor.all copies.now (output_of old.now) strings.now number self.old self.new walk.new passage) }
+        ensures passed { IfOk result (λ passage. (coins : ℕ → Bool) (passed : Bool) → IsLed self.old.tableau.qubits coins plan self.old.cursor.all copies.now (output_of old.now) strings.now (number - 1) (with_state passed self.old) walk.old → IsPassed self.old.tableau.qubits coins plan self.old.cursor.all copies.now (output_of old.now) strings.now number self.old self.new walk.new passage) }
         ensures err { IfErr result (λ r. r ≡ OutOfMemory) }
     {
         let to = &copies[number];
@@ -72,8 +74,8 @@ impl<'a> Replay<'a> {
             return Ok(Passage::Stopped);
         }
         let turned = turned_copy(alloc, &to.tableau, walk.letters())?;
-        self.tableau = turned.tableau(alloc, None)?;
         if stop == Stop::Gone || !has_one(walk.records()) {
+            self.tableau = turned.tableau(alloc, None)?;
             return Ok(Passage::Arrived);
         }
         self.laid.push(Checkpoint {
@@ -82,6 +84,23 @@ impl<'a> Replay<'a> {
             tableau: turned,
         })?;
         Ok(Passage::Passed)
+    }
+
+    /// Writes the state of the last copy laid into the tableau, where a copy was passed.
+    ///
+    /// Refusal `OutOfMemory` alone.
+    fn catch_up(&mut self, alloc: Global, passed: bool) -> Result<(), Refusal>
+        ensures state { OnOk result (self.new ≡ with_state passed self.old) }
+        ensures unchanged { OnErr result (self.new ≡ self.old) }
+        ensures err { IfErr result (λ r. r ≡ OutOfMemory) }
+    {
+        if !passed {
+            return Ok(());
+        }
+        if let Some(copy) = self.laid.last() {
+            self.tableau = copy.tableau.tableau(alloc, None)?;
+        }
+        Ok(())
     }
 
     /// Leads a frame that begins at the old copy before this one, at whose place a copy was laid last,
@@ -117,19 +136,24 @@ impl<'a> Replay<'a> {
         ensures err { IfErr result (λ r. r ≡ OutOfMemory) }
     {
         let mut walk = walk;
+        let mut passed = false;
         for number in next..copies.len() {
             match self.pass_copy(alloc, copies, old, strings, plan, number, &mut walk)? {
-                Passage::Passed => {}
+                Passage::Passed => passed = true,
                 Passage::Arrived => return Ok(Led {
                     next: number,
                     there: true,
                 }),
-                Passage::Stopped => return Ok(Led {
-                    next: number,
-                    there: false,
-                }),
+                Passage::Stopped => {
+                    self.catch_up(alloc, passed)?;
+                    return Ok(Led {
+                        next: number,
+                        there: false,
+                    });
+                }
             }
         }
+        self.catch_up(alloc, passed)?;
         Ok(Led {
             next: copies.len(),
             there: false,

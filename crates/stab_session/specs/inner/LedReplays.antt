@@ -2,6 +2,7 @@
 -- Source: this project's own.
 use Rattle.std.specs.Prelude.{◌≡◌, ℕ, ◌+◌, ◌≤◌, Bool, true, false, List, [], ◌∷◌, ◌++◌, IsSomeAnd, length, take, drop, slice_get}
 use Rattle.stab_circuit.specs.Steps.{Step}
+use Rattle.stab_tableau.specs.Tableaus.{TableauState}
 use Rattle.stab_run.specs.Records.{ones}
 use Rattle.stab_run.specs.Points.{RunOutput}
 use Rattle.stab_frames.specs.KeptStrings.{StringsState}
@@ -32,6 +33,20 @@ pub record IsLed (n : ℕ) (coins : ℕ → Bool) (p : Plan) (ys : List Step) (c
   pub raised : p.reach ≤ r.notes.reach
   pub at_copy : IsSomeAnd (slice_get copies number) (IsAtCopy n coins p old.steps ys o.free r w)
 
+-- the state of the last of some copies, or another one where there are none
+abbrev pub last_state : TableauState → List Checkpoint → TableauState
+last_state t [] = t
+last_state t (c ∷ more) = last_state c.tableau more
+
+-- the state that a replay has come to: where it passed a copy, that of the last one laid, and else what its tableau holds
+abbrev pub state_of : Bool → Replay → TableauState
+state_of false r = r.tableau
+state_of true r = last_state r.tableau r.laid.items
+
+-- a replay with its tableau in the state that it has come to
+abbrev pub with_state : Bool → Replay → Replay
+with_state passed r = record r { tableau = state_of passed r }
+
 -- a replay with its cursor at the step that it has come to
 abbrev pub with_cursor : List Step → Replay → Replay
 with_cursor ys r = record r { cursor = record { all = ys; left = drop r.step ys } }
@@ -43,15 +58,15 @@ pub record WentTo (n : ℕ) (coins : ℕ → Bool) (p : Plan) (ys : List Step) (
   pub near : new.step ≤ old.step + p.stride
   pub records : old.outputs.records.items ≡ take (length old.outputs.records.items) new.outputs.records.items
 
--- what came of the way to the old copy with a number: the replay is as it was; or it is there; or it is there, the runs differ still, and a
--- copy was laid
+-- what came of the way to the old copy with a number: the replay is as it was; or it is there; or it is there but for its tableau, the runs
+-- differ still, and a copy was laid
 abbrev pub IsPassed : ℕ → (ℕ → Bool) → Plan → List Step → List Checkpoint → RunOutput → StringsState → ℕ → Replay → Replay → WalkState → Passage → Type 0
 IsPassed n coins p ys copies o s number old new w Stopped = new ≡ record old { cursor = new.cursor }
 IsPassed n coins p ys copies o s number old new w Arrived = (new.laid.items ≡ old.laid.items) × IsSomeAnd (slice_get copies number) (WentTo n coins p ys old (with_cursor ys new))
 IsPassed n coins p ys copies o s number old new w Passed =
-    (new.laid.items ≡ old.laid.items ++ copy_of new ∷ [])
-    × IsSomeAnd (slice_get copies number) (λ d. WentTo n coins p ys old new d × Misses n coins p ys o.records d)
-    × IsLed n coins p ys copies o s number new w
+    (new.laid.items ≡ old.laid.items ++ copy_of (with_state true new) ∷ [])
+    × IsSomeAnd (slice_get copies number) (λ d. WentTo n coins p ys old (with_state true new) d × Misses n coins p ys o.records d)
+    × IsLed n coins p ys copies o s number (with_state true new) w
 
 -- which old copy comes next then
 abbrev pub later_of : ℕ → Passage → ℕ

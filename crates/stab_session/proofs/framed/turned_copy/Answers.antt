@@ -3,7 +3,7 @@ use Rattle.stab_pauli.specs.declared.letter.Letter.TheVariants.{I}
 use Rattle.stab_pauli.specs.Paulis.{single}
 use Rattle.stab_tableau.specs.Tableaus.{TableauState, stabilises}
 use Rattle.stab_tableau.specs.Turns.{IsTurned}
-use Rattle.stab_session.proofs.TurnedCopyLemmas.{turned-next, turned-none}
+use Rattle.stab_session.proofs.TurnedCopyLemmas.{turned-next, turned-none, turned-all}
 use Rattle.stab_session.proofs.framed.turned_copy.Goals as goal
 
 pub loop-qubit-init : goal.loop-qubit-init
@@ -27,3 +27,8 @@ loop-qubit-preserved c =
           (subst (λ n. IsTurned n (single n c.loop-qubit.qubit (get_or c.args.letters.now c.loop-qubit.qubit I)).letters (stabilises c.loop-qubit.turned) (stabilises c.turn_letter.new.self))
           inv.qubits c.turn_letter.ensures.turned);
     }
+
+pub returns-clause-turned : goal.returns-clause-turned
+returns-clause-turned c =
+    turned-all c.args.copy.now.qubits c.loop-qubit.qubit c.args.letters.now (stabilises c.args.copy.now) (stabilises c.loop-qubit.turned) c.requires.same_length
+    (omega (arith, c.requires.same_length, c.loop-qubit-test.false)) c.loop-qubit.invariant.turned

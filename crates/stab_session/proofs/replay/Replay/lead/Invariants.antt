@@ -1,7 +1,7 @@
 use Rattle.std.proofs.Common.{◌≡◌, ℕ, ◌-◌, Bool}
 use Rattle.stab_run.specs.ProgramStates.{output_of}
 use Rattle.stab_session.specs.inner.Replays.{IsOnWay}
-use Rattle.stab_session.specs.inner.LedReplays.{IsLed, LedOn}
+use Rattle.stab_session.specs.inner.LedReplays.{IsLed, LedOn, with_state}
 use Rattle.stab_session.proofs.replay.Replay.lead.Given as goal
 
 abbrev pub invariant-loop-number : goal.invariant-loop-number
@@ -11,9 +11,9 @@ invariant-loop-number l = record {
   on : LedOn l.plan l.copies l.initial.next l.number l.initial.self l.self;
   led : (coins : ℕ → Bool)
       → IsLed l.initial.self.tableau.qubits coins l.plan l.initial.self.cursor.all l.copies (output_of l.old) l.strings (l.initial.next - 1) l.initial.self l.initial.walk
-      → IsLed l.initial.self.tableau.qubits coins l.plan l.initial.self.cursor.all l.copies (output_of l.old) l.strings (l.number - 1) l.self l.walk;
+      → IsLed l.initial.self.tableau.qubits coins l.plan l.initial.self.cursor.all l.copies (output_of l.old) l.strings (l.number - 1) (with_state l.passed l.self) l.walk;
   way : (coins : ℕ → Bool) (begin : ℕ)
       → IsLed l.initial.self.tableau.qubits coins l.plan l.initial.self.cursor.all l.copies (output_of l.old) l.strings (l.initial.next - 1) l.initial.self l.initial.walk
       → IsOnWay l.initial.self.tableau.qubits coins begin l.plan l.initial.self.cursor.all l.copies l.old.records.items l.initial.next l.initial.self
-      → IsOnWay l.initial.self.tableau.qubits coins begin l.plan l.initial.self.cursor.all l.copies l.old.records.items l.number l.self;
+      → IsOnWay l.initial.self.tableau.qubits coins begin l.plan l.initial.self.cursor.all l.copies l.old.records.items l.number (with_state l.passed l.self);
 }
