@@ -10,6 +10,7 @@ mod SessionLemmas
 mod SpanLemmas
 mod PendingLemmas
 mod EditedLemmas
+mod SplitLemmas
 mod SpacingLemmas
 mod CheckpointLemmas
 mod FramedLemmas

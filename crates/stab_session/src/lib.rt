@@ -10,16 +10,17 @@
 //! - `kept`: a run that is kept with its copies, and follows the edits of its circuit.
 //! - `opening`: the run of a circuit, kept for the first time.
 //! - `pending`: edits of a circuit that can be taken back.
-//! - `session`: a circuit with what its run gives, to be read and edited.
+//! - `session`: a circuit with what its run gives, to be read and edited; a round that is split off
+//!   leaves the run.
 //!
 //! Runs themselves, with their coins and laws, are `stab_run`'s, whose names stand here too.
 //!
 //! Source: sessions, and how a run follows an edit, are this project's own.
 //!
 //! Proved: what a session shows is the run of its items from the first step on, whatever edits it
-//! took: `specs/Headline.antt` says so. How many steps an edit carries out, how many coins it may ask
-//! for where it is refused, and how many copies of the state a session keeps, stands in
-//! `specs/Bounds.antt`. `specs/inner/` has what only private contracts cite.
+//! took and whatever rounds were split off: `specs/Headline.antt` says so. How many steps an edit
+//! carries out, how many coins it may ask for where it is refused, and how many copies of the state a
+//! session keeps, stands in `specs/Bounds.antt`. `specs/inner/` has what only private contracts cite.
 #![tactic(auto)]
 
 mod bits;

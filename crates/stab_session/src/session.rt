@@ -1,4 +1,5 @@
 mod edits;
+mod splits;
 
 use crate::kept::KeptRun;
 use crate::opening::run_kept;

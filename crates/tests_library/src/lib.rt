@@ -34,6 +34,8 @@ mod session_edits;
 #[cfg(test)]
 mod sessions;
 #[cfg(test)]
+mod splits;
+#[cfg(test)]
 mod step_items;
 #[cfg(test)]
 mod tableaus;
