@@ -1,8 +1,8 @@
 //! Rounds that are split off blocks, of circuits and of sessions.
 use crate::circuits::{fault_of, printed, read};
-use stab_circuit::{Circuit, Path};
+use stab_circuit::Path;
 use stab_pauli::Fault;
-use stab_session::{Edit, ListCoins, Session};
+use stab_session::{Coins, Edit, ListCoins, Session};
 use std::alloc::Global;
 use std::test::Fail;
 
@@ -75,9 +75,10 @@ fn a_round_is_split_off_a_block(rt: HostRuntime) -> Result<(), Fail> {
     Ok(())
 }
 
-/// Opens a session on one qubit.
-fn opened(alloc: Global, circuit: Circuit) -> Result<Session<ListCoins>, Fault> {
-    match Session::open(alloc, circuit, 1, 2, ListCoins::new(&[true])) {
+/// A session of three rounds on one qubit.
+fn opened<C: Coins>(alloc: Global, coins: C) -> Result<Session<C>, Fault> {
+    let circuit = read(alloc, "REPEAT 3 {\nX 0\nM 0\n}")?;
+    match Session::open(alloc, circuit, 1, 2, coins) {
         Ok(session) => Ok(session),
         Err(refused) => Err(refused.fault),
     }
@@ -91,7 +92,7 @@ fn shows(session: &Session<ListCoins>, records: &[bool]) -> bool {
 /// Whether a session shows the same records before its second round is split off and behind that,
 /// and others once the round is edited.
 fn session_is_split(alloc: Global) -> Result<(bool, bool, bool), Fault> {
-    let mut session = opened(alloc, read(alloc, "REPEAT 3 {\nX 0\nM 0\n}")?)?;
+    let mut session = opened(alloc, ListCoins::new(&[true]))?;
     let before = shows(&session, &[true, false, true]);
     session.split(Path::new(&[0]), 1)?;
     let behind = shows(&session, &[true, false, true]);
@@ -112,7 +113,7 @@ fn a_session_shows_the_same_behind_a_split(rt: HostRuntime) -> Result<(), Fail> 
 #[test]
 fn a_refused_split_leaves_the_session(rt: HostRuntime) -> Result<(), Fail> {
     let alloc = rt.alloc();
-    let mut session = opened(alloc, read(alloc, "REPEAT 3 {\nX 0\nM 0\n}")?)?;
+    let mut session = opened(alloc, ListCoins::new(&[true]))?;
     let answer = fault_of(session.split(Path::new(&[0]), 3));
     assert_eq!(rt; answer, (12, 0));
     assert!(rt; shows(&session, &[true, false, true]));
