@@ -4,11 +4,24 @@ from dataclasses import dataclass
 
 
 @dataclass(frozen=True)
-class Change:
-    """One edit: the lines of the script that make it, and those that take it back."""
+class Request:
+    """The lines of a script that make one edit, and those of the edit that is its inverse."""
 
-    forth: bytes
-    back: bytes
+    lines: bytes
+    inverse: bytes
+
+
+@dataclass(frozen=True)
+class Change:
+    """What was done by one call: the requests that do it, and those that take it back."""
+
+    forth: tuple[Request, ...]
+    back: tuple[Request, ...]
+
+    @classmethod
+    def of_one(cls, lines: bytes, inverse: bytes) -> "Change":
+        """One edit and its inverse."""
+        return cls((Request(lines, inverse),), (Request(inverse, lines),))
 
 
 class History:
@@ -23,11 +36,11 @@ class History:
         self.done.append(change)
         self.to_redo.clear()
 
-    def last_done(self) -> bytes | None:
-        return self.done[-1].back if self.done else None
+    def last_done(self) -> tuple[Request, ...]:
+        return self.done[-1].back if self.done else ()
 
-    def last_undone(self) -> bytes | None:
-        return self.to_redo[-1].forth if self.to_redo else None
+    def last_undone(self) -> tuple[Request, ...]:
+        return self.to_redo[-1].forth if self.to_redo else ()
 
     def undone(self) -> None:
         self.to_redo.append(self.done.pop())

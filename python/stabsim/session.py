@@ -10,7 +10,8 @@ from numpy.typing import NDArray
 from stabsim import bits, program
 from stabsim.errors import Refused
 from stabsim.framed import FramedProcess
-from stabsim.history import Change, History
+from stabsim.history import Change, History, Request
+from stabsim.rounds import parts_of_block, place_behind
 from stabsim.script import Path, edit_lines, path_text
 from stabsim.sure import Sure, sure_of
 
@@ -90,17 +91,25 @@ class Session:
     def insert(self, path: Path, text: str) -> None:
         """Puts an item, one instruction or one whole block, in front of the one at the path, or behind all of its list."""
         at = path_text(path)
-        self.change(Change(edit_lines(f"insert {at}", text), f"delete {at}\n".encode()))
+        self.change(Change.of_one(edit_lines(f"insert {at}", text), delete_line(at)))
 
     def replace(self, path: Path, text: str) -> None:
         """Puts an item in the stead of the one at the path."""
         at = path_text(path)
-        self.change(Change(edit_lines(f"replace {at}", text), edit_lines(f"replace {at}", self.old_item(at))))
+        self.change(Change.of_one(edit_lines(f"replace {at}", text), edit_lines(f"replace {at}", self.old_item(at))))
 
     def delete(self, path: Path) -> None:
         """Takes the item at the path out."""
         at = path_text(path)
-        self.change(Change(f"delete {at}\n".encode(), edit_lines(f"insert {at}", self.old_item(at))))
+        self.change(Change.of_one(delete_line(at), edit_lines(f"insert {at}", self.old_item(at))))
+
+    def split(self, path: Path, round_number: int) -> None:
+        """Splits a round, counted from 0, off the block at the path, so that it can be edited by itself: the rounds before it
+        become a block, that round one, and the rounds behind it one; a part without rounds is left out. The steps stay, so
+        nothing is run and no bit changes."""
+        at = path_text(path)
+        block = self.old_item(at)
+        self.change(Change((Request(f"split {at} {round_number}\n".encode(), b""),), joining(at, block, round_number)))
 
     def undo(self) -> bool:
         """Takes the last edit back, by the edit that is its inverse; False where there is none."""
@@ -187,16 +196,26 @@ class Session:
 
     def change(self, change: Change) -> None:
         """Makes an edit, and keeps how to take it back."""
-        self.process.ask(change.forth)
+        self.carry_out(change.forth)
         self.history.add(change)
 
-    def retrace(self, edit: bytes | None, moved: Callable[[], None]) -> bool:
-        """Makes the edit that goes a step back, or forth again, where there is one."""
-        if edit is None:
+    def retrace(self, requests: tuple[Request, ...], moved: Callable[[], None]) -> bool:
+        """Makes the edits that go a step back, or forth again, where there are some."""
+        if not requests:
             return False
-        self.process.ask(edit)
+        self.carry_out(requests)
         moved()
         return True
+
+    def carry_out(self, requests: tuple[Request, ...]) -> None:
+        """Makes edits in their order. Where one is refused, those before it are taken back."""
+        for number, request in enumerate(requests):
+            try:
+                self.process.ask(request.lines)
+            except Refused:
+                for made in reversed(requests[:number]):
+                    self.process.ask(made.inverse)
+                raise
 
     def old_item(self, path: str) -> str:
         """The text of an item that an edit is to take out; where there is none the edit itself is refused."""
@@ -213,6 +232,23 @@ class Session:
         if len(lines) != 1:
             raise self.process.broken(f"{request} was answered by {len(lines)} lines")
         return lines[0]
+
+
+def delete_line(path: str) -> bytes:
+    return f"delete {path}\n".encode()
+
+
+def joining(path: str, block: str, round_number: int) -> tuple[Request, ...]:
+    """The edits that take a split back: the first part becomes the whole block, and the others go, the last one first. So there are
+    never fewer records than at the end, and no lookback is refused on the way. None where the block has no such round: the split
+    itself is then refused."""
+    try:
+        first, *others = parts_of_block(block, round_number)
+    except ValueError:
+        return ()
+    places = [(place_behind(path, number), part) for number, part in enumerate(others, 1)]
+    whole = Request(edit_lines(f"replace {path}", block), edit_lines(f"replace {path}", first))
+    return (whole, *(Request(delete_line(place), edit_lines(f"insert {place}", part)) for place, part in reversed(places)))
 
 
 def text_of_lines(lines: list[bytes]) -> str:

@@ -71,6 +71,18 @@ def test_an_edit_in_one_round_is_one_entry_that_moves_no_bits(board):
     assert board.text() != before and board.text() == text_at_first()
 
 
+def test_a_split_is_one_edit_and_a_script_has_its_parts(board):
+    told = board.split(str(BLOCK), 2)
+    assert told["edits"] == [{"kind": "split", "place": str(BLOCK), "item": "2"}] and told["flipped"] == []
+    after = board.text()
+    with stabsim.Circuit(CODE).edit() as session:
+        session.split(BLOCK, 2)
+        assert session.circuit == after
+    words = [line.split(" ")[0] for line in board.script().splitlines() if line[:1].isalpha()]
+    assert words == ["insert", "insert", "replace"]
+    assert not BITS & set(board.go(0)) and board.text() == text_at_first()
+
+
 def text_at_first():
     """The circuit as a session writes it."""
     with stabsim.Circuit(CODE).edit() as session:

@@ -103,6 +103,34 @@ def test_a_refused_edit_changes_nothing_and_is_not_taken_back():
         assert session.records.tolist() == [False]
 
 
+ROUNDS = "X 0\nREPEAT[a] 3 {\n    M 0\n    X 0\n}\nDETECTOR rec[-1] rec[-3]\n"
+
+
+@pytest.mark.parametrize("number, heads", [(0, [1, 2]), (1, [1, 1, 1]), (2, [2, 1])])
+def test_a_round_is_split_off_and_put_back(number, heads):
+    body = " {\n    M 0\n    X 0\n}\n"
+    with stabsim.Circuit(ROUNDS).edit() as session:
+        session.split(1, number)
+        parts = "".join(f"REPEAT[a] {count}{body}" for count in heads)
+        text = f"X 0\n{parts}DETECTOR rec[-1] rec[-3]\n"
+        assert session.circuit == text and session.changed(records=True).records.tolist() == []
+        assert session.records.tolist() == bits("101")
+        # A flip in front of the first round's measurement flips every record; one in the round that was split off those from there on.
+        session.insert([1 if number == 0 else 2, 0], "X 0")
+        assert session.records.tolist() == [bit ^ (place >= number) for place, bit in enumerate(bits("101"))]
+        assert session.undo() and session.undo() and session.circuit == ROUNDS and not session.undo()
+        assert session.redo() and session.circuit == text
+
+
+def test_a_refused_split_changes_nothing():
+    with stabsim.Circuit(ROUNDS).edit() as session:
+        for path, number, refusal in [(1, 3, 12), (0, 0, 17), (3, 0, 12), ("1/0", 0, 17), (1, -1, 13)]:
+            with pytest.raises(stabsim.Refused) as refused:
+                session.split(path, number)
+            assert refused.value.number == refusal
+        assert session.circuit == ROUNDS and not session.undo()
+
+
 def test_an_item_is_shown_by_its_path():
     with stabsim.Circuit(REPETITION).edit() as session:
         assert session.item(0) == "R 0 1 2 3 4\n"

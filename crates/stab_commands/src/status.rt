@@ -47,6 +47,14 @@ fn refuses_none(answer: Result<(), FaultsRefused>) -> Result<bool, FaultsRefused
     }
 }
 
+/// A call that reads no script and names no detector or observable.
+fn plain_answer(answer: Result<(), Fault>) -> Result<bool, FaultsRefused>
+    ensures value { fault_of result ≡ refusing_none answer }
+    ensures none { unsure_of result ≡ None }
+{
+    refuses_none(names_none(answer))
+}
+
 /// Runs the command of a job, and says whether a line of the script was refused.
 fn run_command<I: Input, S: Input, O: Output, W: Watcher<S, O>>(
     alloc: Global,
@@ -62,23 +70,19 @@ fn run_command<I: Input, S: Input, O: Output, W: Watcher<S, O>>(
     let source = &job.source;
     match job.command {
         Command::Sample { format, shots } => {
-            let answer = run_sample_shots(alloc, input, out, format, shots, source);
-            refuses_none(names_none(answer))
+            plain_answer(run_sample_shots(alloc, input, out, format, shots, source))
         }
         Command::Detect {
             format,
             shots,
             append,
-        } => {
-            let answer = run_detect_shots(alloc, input, out, format, append, shots, source);
-            refuses_none(names_none(answer))
-        }
-        Command::Stabilisers => {
-            refuses_none(names_none(run_stabilisers(alloc, input, out, source)))
-        }
-        Command::Check => refuses_none(names_none(run_check(alloc, input, out))),
+        } => plain_answer(run_detect_shots(
+            alloc, input, out, format, append, shots, source,
+        )),
+        Command::Stabilisers => plain_answer(run_stabilisers(alloc, input, out, source)),
+        Command::Check => plain_answer(run_check(alloc, input, out)),
         Command::Deterministic { format } => {
-            refuses_none(names_none(run_deterministic(alloc, input, out, format)))
+            plain_answer(run_deterministic(alloc, input, out, format))
         }
         Command::Faults {
             layout,

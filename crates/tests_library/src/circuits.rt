@@ -1,5 +1,4 @@
 //! Texts of circuits: read whole and alone, from inputs that fail, and printed.
-use crate::codes::CODE;
 use stab_circuit::{Circuit, Path, Refused, read_circuit, read_item, write_circuit};
 use stab_pauli::{CutInput, EndlessInput, Fault, MemoryInput, MemoryOutput, Refusal};
 use std::alloc::Global;
@@ -39,9 +38,19 @@ fn numbers_in(alloc: Global, text: &str) -> Result<([usize; 5], u8, u8), Fault> 
     Ok(numbers_of(&circuit))
 }
 
+// Two qubits that are measured, a block of two rounds, and an observable, as circuits are printed.
+const CHECKED_PAIR: &str = "M 0 1
+REPEAT 2 {
+    CX 0 1
+    TICK
+    DETECTOR rec[-1]
+}
+OBSERVABLE_INCLUDE(0) rec[-2]
+";
+
 const NUMBERS: &[(&str, [usize; 5], u8)] = &[
     ("", [0, 0, 0, 0, 0], 0),
-    (CODE, [14, 35, 9, 5, 1], 6),
+    (CHECKED_PAIR, [3, 7, 2, 2, 1], 6),
     (
         "REPEAT 1048576 {\nm 5\n}\nQUBIT_COORDS 1023",
         [2, 1_048_576, 1_048_576, 1024, 0],
@@ -137,11 +146,11 @@ pub(crate) fn printed(
 
 #[test]
 fn a_failed_write_leaves_a_prefix(rt: HostRuntime) -> Result<(), Fail> {
-    let circuit = read(rt.alloc(), CODE)?;
+    let circuit = read(rt.alloc(), CHECKED_PAIR)?;
     let fault = Err(Fault::whole(Refusal::WriteFault));
-    for room in 0..=CODE.len() {
-        let answer = if room < CODE.len() { fault } else { Ok(()) };
-        let found = printed(rt.alloc(), &circuit, room, CODE)?;
+    for room in 0..=CHECKED_PAIR.len() {
+        let answer = if room < CHECKED_PAIR.len() { fault } else { Ok(()) };
+        let found = printed(rt.alloc(), &circuit, room, CHECKED_PAIR)?;
         assert_eq!(rt; found, (answer, true), "{room}");
     }
     Ok(())

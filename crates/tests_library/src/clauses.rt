@@ -3,7 +3,7 @@
 //! They are proved, and never run: where a clause came to say less than it does, the proof of its
 //! caller here would fail.
 
-ghost use Rattle.std.specs.Prelude.{◌≡◌, ◌<◌, ◌≤◌, [], length, min, slice_get, Some, None, Ok, true, IfOk, IfErr, OnOk};
+ghost use Rattle.std.specs.Prelude.{◌≡◌, ℕ, ◌+◌, ◌<◌, ◌≤◌, [], length, min, slice_get, Some, None, Ok, true, IfOk, IfErr, OnOk};
 ghost use Rattle.stab_pauli.specs.Letters.{letter_phase};
 ghost use Rattle.stab_pauli.specs.Paulis.{commute};
 ghost use Rattle.stab_io.specs.MemoryDevices.{GivesWhatFits, GivesAPiece, TakesWhatFits, FlushesAsSet};
@@ -20,6 +20,7 @@ ghost use Rattle.stab_circuit.specs.Views.{circuit_items};
 ghost use Rattle.stab_session.specs.Limits.{most_stride};
 ghost use Rattle.stab_run.specs.Runs.{run_of};
 ghost use Rattle.stab_session.specs.Sessions.{IsSignIn};
+ghost use Rattle.stab_session.specs.Bounds.{steps_from_change, steps_near_change, steps_changed, AgreeBehind, IsCountOf};
 
 use stab_circuit::{Circuit, Item, Path, Refused};
 use stab_pauli::{
@@ -183,8 +184,13 @@ fn sign_after_run<C: Coins>(session: &mut Session<C>, pauli: &Pauli) -> Option<b
     session.sign_of(pauli)
 }
 
-/// A report tells how many copies of the state are kept.
-fn edited_with_copies<C: Coins>(session: &mut Session<C>, edit: Edit) -> Result<Report, Refused>
+/// A report bounds and counts the steps that an edit carried out and those that a frame went over, and tells how many copies of the
+/// state are kept.
+fn edited_with_counts<C: Coins>(session: &mut Session<C>, edit: Edit) -> Result<Report, Refused>
+    ensures framed { IfOk result (λ r. r.applied + r.framed ≤ steps_from_change edit session.old session.new) }
+    ensures early { IfOk result (λ r. (far : ℕ) → AgreeBehind C.sequence edit session.old session.new far → r.applied ≤ steps_near_change edit session.new + far) }
+    ensures at_least { IfOk result (λ r. steps_changed edit session.old session.new ≤ r.applied) }
+    ensures counted { IfOk result (λ r. IsCountOf C.sequence edit session.old session.new (r.applied + r.framed)) }
     ensures checkpoints { IfOk result (λ r. r.checkpoints ≡ length session.new.checkpoints) }
 {
     session.apply(edit)

@@ -12,8 +12,6 @@ mod circuits;
 #[cfg(test)]
 mod clauses;
 #[cfg(test)]
-mod codes;
-#[cfg(test)]
 mod coins;
 #[cfg(test)]
 mod cursors;

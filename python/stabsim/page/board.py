@@ -10,7 +10,7 @@ from numpy.typing import NDArray
 
 import stabsim
 from stabsim.coordinates import coordinates_of, detector_rows, qubit_rows
-from stabsim.page.edits import Edit, splitting, undoing
+from stabsim.page.edits import Edit, undoing
 
 Message = dict[str, Any]
 
@@ -64,14 +64,12 @@ class Board:
         return self._enter(edit.first_line(), [edit])
 
     def edit_in_round(self, edit: Edit, place: str, number: int) -> Message:
-        """Makes an edit in one round of a block that is first taken out of it."""
-        parts = splitting(place, self.session.item(place), number)
-        return self._enter(f"{edit.first_line()}, in round {number} of {place} alone", [*parts, edit], parts=len(parts))
+        """Makes an edit in one round of a block that is first split off it."""
+        return self._enter(f"{edit.first_line()}, in round {number} of {place} alone", [self._splitting(place, number), edit])
 
     def split(self, place: str, number: int) -> Message:
-        """Takes one round out of a block."""
-        parts = splitting(place, self.session.item(place), number)
-        return self._enter(f"round {number} of {place} by itself", parts, parts=len(parts))
+        """Splits one round off a block."""
+        return self._enter(f"round {number} of {place} by itself", [self._splitting(place, number)])
 
     def go(self, position: int) -> Message:
         """Undoes or redoes edits until so many are made."""
@@ -111,38 +109,45 @@ class Board:
         self.save_to.write_text(self.session.circuit)
         return str(self.save_to)
 
-    def _enter(self, name: str, edits: list[Edit], parts: int = 0) -> Message:
-        """Makes edits as one entry. The first `parts` of them take a round out of a block."""
-        entry = self._carry_out(name, edits, parts)
+    def _splitting(self, place: str, number: int) -> Edit:
+        return Edit("split", place, str(number), self.session.item(place))
+
+    def _enter(self, name: str, edits: list[Edit]) -> Message:
+        """Makes edits as one entry."""
+        entry = self._carry_out(name, edits)
         del self.entries[self.position:]
         self.entries.append(entry)
         self.position += 1
         return self._edited(edits, [entry], entry.changed, entry.moves_bits)
 
-    def _carry_out(self, name: str, edits: list[Edit], parts: int = 0) -> Entry:
-        """Makes edits in their order. Where one is refused, those before it are taken back, and nothing has changed. The first
-        `parts` of them move no bits."""
+    def _carry_out(self, name: str, edits: list[Edit]) -> Entry:
+        """Makes edits in their order. Where one is refused, those before it are taken back, and nothing has changed."""
         back: list[Edit] = []
+        moves_bits = False
         self.session.mark()
         begun = time.perf_counter()
         try:
             for edit in edits:
                 old = "" if edit.kind == "insert" else self.session.item(edit.place)
                 self._apply(edit)
-                back.insert(0, undoing(edit, old))
+                undone = undoing(edit, old)
+                back[:0] = undone
+                # A split moves no bits, nor does what takes it back.
+                moves_bits |= edit.kind != "split" and any(it.may_move_bits() for it in [edit, *undone])
         except stabsim.Refused:
             for edit in back:
                 self._apply(edit)
             raise
         seconds = time.perf_counter() - begun
-        others = edits[parts:] + back[:len(edits) - parts]
-        return Entry(name, edits, back, names_of(self.session.changed()), seconds, any(edit.may_move_bits() for edit in others))
+        return Entry(name, edits, back, names_of(self.session.changed()), seconds, moves_bits)
 
     def _apply(self, edit: Edit) -> None:
         if edit.kind == "insert":
             self.session.insert(edit.place, edit.item)
         elif edit.kind == "replace":
             self.session.replace(edit.place, edit.item)
+        elif edit.kind == "split":
+            self.session.split(edit.place, int(edit.item))
         else:
             self.session.delete(edit.place)
 

@@ -1,10 +1,12 @@
 """Edits as the page and the session speak of them, and how each is undone."""
 
 import dataclasses
-import re
 from typing import Any, Literal
 
-Kind = Literal["insert", "replace", "delete"]
+from stabsim.rounds import parts_of_block, place_behind
+
+Kind = Literal["insert", "replace", "delete", "split"]
+# What a tab may ask for as an edit; a split it asks for by itself.
 KINDS: tuple[Kind, ...] = ("insert", "replace", "delete")
 # Words of items whose coming or going moves detectors, observables or coordinates.
 MOVING = ("DETECTOR", "OBSERVABLE", "COORDS", "REPEAT")
@@ -12,11 +14,13 @@ MOVING = ("DETECTOR", "OBSERVABLE", "COORDS", "REPEAT")
 
 @dataclasses.dataclass(frozen=True)
 class Edit:
-    """An edit at a place, the path of an item as `edit` counts them, with the text of the item that it puts in."""
+    """An edit at a place, the path of an item as `edit` counts them, with the text of the item that it puts in. For a split that
+    is the number of the round, and `block` the text of the block, which tabs have."""
 
     kind: Kind
     place: str
     item: str = ""
+    block: str = ""
 
     @classmethod
     def of_message(cls, message: dict[str, Any]) -> "Edit":
@@ -27,7 +31,7 @@ class Edit:
         return cls(kind, place, item.strip())
 
     def message(self) -> dict[str, Any]:
-        return dataclasses.asdict(self)
+        return {"kind": self.kind, "place": self.place, "item": self.item}
 
     def first_line(self) -> str:
         """What names it in the history."""
@@ -38,29 +42,28 @@ class Edit:
         return any(word in self.item.upper() for word in MOVING)
 
     def lines(self) -> str:
-        """The lines of an edit script that make it."""
+        """The lines of an edit script that make it. A script that is not framed knows no split, so that is made of its parts."""
+        if self.kind == "split":
+            return "".join(edit.lines() for edit in splitting(self.place, self.block, int(self.item)))
         return f"{self.kind} {self.place} {self.item}".strip() + "\n"
 
 
-def undoing(edit: Edit, old: str) -> Edit:
-    """The edit that takes one back, where `old` is the text of the item that stood at its place before it."""
+def undoing(edit: Edit, old: str) -> list[Edit]:
+    """The edits that take one back, where `old` is the text of the item that stood at its place before it."""
     if edit.kind == "insert":
-        return Edit("delete", edit.place)
-    return Edit("insert" if edit.kind == "delete" else "replace", edit.place, old.strip())
+        return [Edit("delete", edit.place)]
+    if edit.kind == "split":
+        # The whole block comes back first: so there are never fewer records than at the end.
+        others = len(parts_of_block(old, int(edit.item))) - 1
+        return [Edit("replace", edit.place, old.strip())] + [Edit("delete", place_behind(edit.place))] * others
+    return [Edit("insert" if edit.kind == "delete" else "replace", edit.place, old.strip())]
 
 
 def splitting(place: str, block: str, number: int) -> list[Edit]:
-    """The edits that take one round out of a block: it becomes the rounds before it, that round, and the rounds behind it.
+    """The edits that split one round off a block, where `split` is not known.
 
     The later parts are put in first, and the first part takes the place of the block last: so there are never fewer records
-    than before, and no lookback is refused on the way. ValueError where the text is no block or has no such round.
+    than before, and no lookback is refused on the way.
     """
-    head = re.match(r"REPEAT(\[[^\]]*\])?\s+(\d+)", block.strip(), re.IGNORECASE)
-    count = int(head[2]) if head else 0
-    if not head or not 0 <= number < count:
-        raise ValueError("there is no such round")
-    body = block.strip()[head.end():]
-    parts = [f"REPEAT{head[1] or ''} {rounds}{body}" for rounds in (number, 1, count - number - 1) if rounds]
-    *outer, last = place.split("/")
-    behind = "/".join([*outer, str(int(last) + 1)])
-    return [Edit("insert", behind, part) for part in reversed(parts[1:])] + [Edit("replace", place, parts[0])]
+    first, *others = parts_of_block(block, number)
+    return [Edit("insert", place_behind(place), part) for part in reversed(others)] + [Edit("replace", place, first)]

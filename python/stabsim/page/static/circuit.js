@@ -84,7 +84,17 @@ export function applyEdit(items, edit) {
   if (edit.kind === "insert") list.splice(place, 0, itemOf(edit.item));
   else if (edit.kind === "replace") list.splice(place, 1, itemOf(edit.item));
   else if (edit.kind === "delete") list.splice(place, 1);
+  else if (edit.kind === "split") list.splice(place, 1, ...partsOf(list[place], Number(edit.item)));
   for (const block of blocksAround(items, path).reverse()) recount(block);
+}
+
+// The blocks that a block becomes where a round is split off: the rounds before it, that round, and the rounds behind it.
+function partsOf(block, round) {
+  return [round, 1, block.count - round - 1].filter(Boolean).map((count) => {
+    const part = { ...block, text: block.text.replace(/\d+$/, count), count, items: structuredClone(block.items) };
+    recount(part);
+    return part;
+  });
 }
 
 // The blocks around a path, the outermost first.
