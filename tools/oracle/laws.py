@@ -26,15 +26,21 @@ def large_circuit(random):
 
 
 def edited_as_anew(random, run):
-    """Edits and then what is shown, against the same of the circuit that they leave, and with other strides."""
+    """Edits and splits, and then what is shown, against the same of the circuit that they leave, and with other strides."""
     n, text, items = large_circuit(random)
     session = Session(items, n, None)
+    session.framed = random.random() < 0.5
     script = edits(random, session, random.randint(1, 25))
-    words = ["edit", "--qubits", str(n), "--seed", str(random.randrange(2**32))]
-    answers = [run([*words, "--stride", str(stride)], text, script + SHOWS) for stride in (random.randint(1, 4), random.randint(5, 60), 8192)]
+    words = ["edit", "--qubits", str(n), "--seed", str(random.randrange(2**32)), *(["--framed"] if session.framed else [])]
+
+    def replies(text, script, *more):
+        status, written, told = run([*words, *more], text, script)
+        return status, written.partition(b"\n")[2] if session.framed else written, told
+
+    answers = [replies(text, script + SHOWS, "--stride", str(stride)) for stride in (random.randint(1, 4), random.randint(5, 60), 8192)]
     if len(set(answers)) > 1:
         return f"strides differ\n{text!r}\n{script!r}\n{answers}"
-    status, shown, told = run(words, printing.printed(session.items), SHOWS)
+    status, shown, told = replies(printing.printed(session.items), SHOWS)
     if (status, told) != (0, b""):
         return f"a session opened anew ended with status {status} and told {told!r}\n{text!r}\n{script!r}"
     right = 3 if session.refused else 0, b"".join(session.replies) + shown, b""

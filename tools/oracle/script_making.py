@@ -6,7 +6,7 @@ from .scripts import Script
 
 SHOWN = ("measurements", "free", "detectors", "observables", "stabilisers", "circuit")
 FRAMED = ("mark", "show numbers", "show changed", "show changed", "show changed records", "show sign", "show item",
-          "show place", "show deterministic")
+          "show place", "show deterministic", "split", "split", "split")
 
 
 def path_to(random, items, past_end):
@@ -59,11 +59,32 @@ def string_word(random, qubits):
     return sign + "*".join(random.choice(("", "", "", "!")) + random.choice("XYZ") + str(place) for place in places)
 
 
+def blocks_of(items, around=()):
+    """The path and the number of rounds of each block."""
+    found = []
+    for place, item in enumerate(items):
+        if isinstance(item, Block):
+            path = (*around, place)
+            found += [(path, item.count), *blocks_of(item.body, path)]
+    return found
+
+
+def split_words(random, session):
+    """A block and one of its rounds, often the first or the last, or nearly; or a path that may lead to no block."""
+    blocks = blocks_of(session.items)
+    if not blocks or random.random() < 0.1:
+        return f"{path_to(random, session.items, True)} {random.randint(0, 3)}"
+    path, count = random.choice(blocks)
+    return f"{'/'.join(map(str, path))} {random.choice((0, 1, count - 1, count, random.randrange(count)))}"
+
+
 def framed_line(random, session):
     """A line that only a framed script has."""
     line = random.choice(FRAMED)
     if line == "show sign":
         return f"{line} {string_word(random, session.qubits)}"
+    if line == "split":
+        return f"{line} {split_words(random, session)}"
     return f"{line} {path_to(random, session.items, False)}" if line in ("show item", "show place") else line
 
 
@@ -89,11 +110,12 @@ def script(random, session):
 
 
 def edits(random, session, count):
-    """So many edits and nothing else, none of them shown: of a session too large to be run by the oracle."""
+    """So many edits, and splits in a framed session, and nothing shown: of a session too large to be run by the oracle."""
     lines = []
     played = Script(session)
     for _ in range(count):
-        more = edit_lines(random, session)
+        splits = session.framed and random.random() < 0.2
+        more = [f"split {split_words(random, session)}"] if splits else edit_lines(random, session)
         lines += more
         for line in more:
             played.line(line.encode())

@@ -23,6 +23,15 @@ def place_of(word):
     return [int(part) for part in parts]
 
 
+def split_words(rest):
+    """The path and the round of a split, or 13."""
+    place, behind = first_word(rest)
+    number, more = first_word(behind)
+    if more or not (is_digits(number) and len(number) <= MOST_PLACE_DIGITS):
+        raise Refused(13)
+    return place_of(place), int(number)
+
+
 def first_word(text):
     """The first word of a text, and what follows it without the spacing in front."""
     end = next((at for at, byte in enumerate(text) if byte in SPACING), len(text))
@@ -45,6 +54,27 @@ def edited(items, path, change):
         raise Refused(12)
     put = [] if item is None else [item]
     return items[:place] + put + items[place + (kind != "insert"):]
+
+
+def split(items, path, number):
+    """The items with a round of the block at a path in a block by itself, between the rounds before and behind it."""
+    block = item_at(items, path)
+    if not isinstance(block, Block):
+        raise Refused(17)
+    if number >= block.count:
+        raise Refused(12)
+    parts = [Block(rounds, block.body, block.tag) for rounds in (number, 1, block.count - number - 1) if rounds > 0]
+    return with_parts(items, path, parts)
+
+
+def with_parts(items, path, parts):
+    """The items with these in the stead of the item at a path."""
+    place, inner = path[0], path[1:]
+    if not inner:
+        return items[:place] + parts + items[place + 1:]
+    block = copy.copy(items[place])
+    block.body = with_parts(block.body, inner, parts)
+    return items[:place] + [block] + items[place + 1:]
 
 
 def item_at(items, path):
@@ -175,6 +205,10 @@ class Session:
         self.mark = self.run()
         self.reply(b"")
 
+    def split(self, path, number):
+        self.items = split(self.items, path, number)
+        self.reply(b"")
+
     def show_framed(self, word, rest):
         """What only a framed script is shown."""
         operand, more = first_word(rest)
@@ -265,6 +299,8 @@ class Script:
             self.session.show(rest)
         elif word == b"mark":
             self.session.set_mark(rest)
+        elif word == b"split" and self.session.framed:
+            self.session.split(*split_words(rest))
         else:
             raise Refused(13)
 

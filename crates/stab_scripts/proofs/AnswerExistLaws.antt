@@ -1,9 +1,9 @@
 -- Laws of answers: on items that can be edited each request has one, which leaves such items; so have requests one after another.
-use Rattle.std.proofs.Common.{◌≡◌, ◌≤◌, ℕ, Bool, true, false, nat_lt, List, [], ◌∷◌, refl, sym, subst, Option, Some, None, Result, Ok, Err, inl, inr, if◌then◌else◌, arith}
+use Rattle.std.proofs.Common.{◌≡◌, ◌≤◌, ℕ, Bool, true, false, nat_lt, List, [], ◌∷◌, length, refl, sym, ap, ◌∙◌, subst, Option, Some, None, Result, Ok, Err, inl, inr, if◌then◌else◌, arith}
 use Rattle.std.specs.List.{slice_split}
 use Rattle.std.proofs.lemmas.Bool.{ltb-true, ltb-false}
 use Rattle.stab_io.specs.declared.refusal.Refusal.{Refusal}
-use Rattle.stab_io.specs.declared.refusal.Refusal.TheVariants.{TooDeep, QubitOutOfRange, BadCommand}
+use Rattle.stab_io.specs.declared.refusal.Refusal.TheVariants.{TooDeep, QubitOutOfRange, LookbackTooFar, TooManySteps, BadCommand}
 use Rattle.stab_io.specs.declared.refusal.Fault.{Fault}
 use Rattle.stab_tableau.specs.Reduced.{TracesHaveOneList, TracesHaveReducedRows}
 use Rattle.stab_lines.specs.Lines.{is_byte}
@@ -12,10 +12,11 @@ use Rattle.stab_circuit.specs.Paths.{Path}
 use Rattle.stab_circuit.specs.declared.edit.Edit.{Edit}
 use Rattle.stab_circuit.specs.declared.edit.Edit.TheVariants as circuit_edit
 use Rattle.stab_circuit.specs.Edits.{edited, list_verdict}
-use Rattle.stab_circuit.specs.Steps.{qubits_of, check_of, check_within}
+use Rattle.stab_circuit.specs.Splits.{split as split_list}
+use Rattle.stab_circuit.specs.Steps.{looks_too_far, most_steps, named_qubits, qubits_of, check_of, check_within}
 use Rattle.stab_circuit.specs.Circuits.{item_fault, StandsForOne}
 use Rattle.stab_circuit.specs.Readings.{IsCircuit}
-use Rattle.stab_circuit.specs.Laws.{AreOfLines, PutsLines, TextsAreLines, ItemTextsAreLines, ItemTextsHaveOneMeaning, EditedItemsAreOfLines, LinesKeepQubitsApart}
+use Rattle.stab_circuit.specs.Laws.{AreOfLines, AreAlike, PutsLines, TextsAreLines, ItemTextsAreLines, ItemTextsHaveOneMeaning, EditedItemsAreOfLines, SplitsLeaveTheSteps, SplitItemsAreOfLines, LinesKeepQubitsApart}
 use Rattle.stab_circuit.proofs.EditLemmas.{listed-entries}
 use Rattle.stab_run.specs.Runs.{State, run_of}
 use Rattle.stab_run.specs.Laws.{IsSoundRun, RunsAreSound}
@@ -23,9 +24,9 @@ use Rattle.stab_regions.specs.FaultLaws.{SureParities}
 use Rattle.stab_results.specs.Formats.{f01_bytes}
 use Rattle.stab_circuit.specs.Prints.{printed}
 use Rattle.stab_tables.specs.Stabilisers.{lines_of}
-use Rattle.stab_scripts.specs.Scripts.{Setting, Request, begin, put, delete, show, ask, deterministic, refuse, Held, run_held, Answer, IsPut, Shows, IsSureAnswer, IsAnswer, IsAnswerToAll, both, unless, judged, decided, refusing, replying, edit_of, edited_items, framed_shown, held_behind, shown_or_refused, framed_answer}
+use Rattle.stab_scripts.specs.Scripts.{Setting, Request, begin, put, delete, show, ask, deterministic, refuse, Held, run_held, Answer, IsPut, Shows, IsSureAnswer, IsAnswer, IsAnswerToAll, both, unless, judged, decided, refusing, replying, edit_of, edited_items, framed_shown, held_split, held_behind, shown_or_refused, framed_answer}
 use Rattle.stab_scripts.specs.FramedReplies.{reply_text, greeting, session_numbers}
-use Rattle.stab_scripts.specs.FramedRequests.{FramedRequest, mark, numbers, changed, changed_records, sign, item, counts}
+use Rattle.stab_scripts.specs.FramedRequests.{FramedRequest, mark, split, numbers, changed, changed_records, sign, item, counts}
 use Rattle.stab_scripts.specs.ScriptLaws.{CanBeEdited}
 use Rattle.stab_scripts.proofs.SureBitLaws.{sure_text}
 use Rattle.stab_scripts.specs.declared.request.ItemEdit.{ItemEdit}
@@ -86,24 +87,50 @@ text_shown some one n coins items sound Stabilisers =
     (lines_of rows.0, (rows.0, (rows.1, λ other are. one n (run_of n coins items).trace sound.0 sound.1 other rows.0 are rows.1), refl))
 text_shown some one n coins items sound Circuit = (printed items, refl)
 
--- what only a framed script asks for leaves the items as they are
-behind_keeps : (run : State) (held : Held) (r : FramedRequest) → (held_behind run held r).items ≡ held.items
-behind_keeps run held mark = refl
-behind_keeps run held numbers = refl
-behind_keeps run held changed = refl
-behind_keeps run held changed_records = refl
-behind_keeps run held (sign word) = refl
-behind_keeps run held (item place) = refl
-behind_keeps run held (counts place) = refl
+-- what refuses items refuses those that are like them
+alike_check : (old new : Items) → AreAlike old new → check_of new ≡ check_of old
+unfolding check_of
+alike_check old new alike =
+    ap (λ xs. if looks_too_far 0 xs then Some LookbackTooFar else if nat_lt most_steps (length xs) then Some TooManySteps else None) alike.steps
+
+alike_within : (n : ℕ) (old new : Items) → AreAlike old new → check_within n new ≡ check_within n old
+alike_within n old new alike =
+    ap (λ q. if nat_lt n q then Some QubitOutOfRange else check_of new) (alike.named named_qubits)
+    ∙ ap (λ v. if nat_lt n (qubits_of old) then Some QubitOutOfRange else v) (alike_check old new alike)
+
+-- a split leaves items that can be edited, made or refused
+split_keeps : SplitsLeaveTheSteps → SplitItemsAreOfLines → (n : ℕ) (held : Held) (path : Path) (round : ℕ) → CanBeEdited n held.items
+    → CanBeEdited n (held_split held (split_list path round (entries held.items))).items
+split_keeps steps lines n held path round can = by_result (split_list path round (entries held.items)) refl
+  where
+    by_result : (r : Result (List OneItem) Refusal) → split_list path round (entries held.items) ≡ r → CanBeEdited n (held_split held r).items
+    by_result (Err r) e = can
+    by_result (Ok list) e =
+        let same : listed (entries held.items) ≡ held.items = listed-entries held.items in
+        let alike : AreAlike held.items (listed list) = subst (λ (x : Items). AreAlike x (listed list)) same (steps path round (entries held.items) list e) in
+        (lines path round (entries held.items) list (subst AreOfLines (sym same) can.0) e, alike_within n held.items (listed list) alike ∙ can.1)
+
+-- what only a framed script asks for leaves items that can be edited
+behind_keeps : SplitsLeaveTheSteps → SplitItemsAreOfLines → (n : ℕ) (run : State) (held : Held) (r : FramedRequest) → CanBeEdited n held.items
+    → CanBeEdited n (held_behind run held r).items
+behind_keeps steps lines n run held mark can = can
+behind_keeps steps lines n run held (split place round) can = split_keeps steps lines n held place round can
+behind_keeps steps lines n run held numbers can = can
+behind_keeps steps lines n run held changed can = can
+behind_keeps steps lines n run held changed_records can = can
+behind_keeps steps lines n run held (sign word) can = can
+behind_keeps steps lines n run held (item place) can = can
+behind_keeps steps lines n run held (counts place) can = can
 
 -- so does its answer
-framed_keeps : (kept : Bool) (n : ℕ) (run : State) (held : Held) (r : FramedRequest) → (framed_answer kept n run held r).held.items ≡ held.items
-framed_keeps false n run held r = refl
-framed_keeps true n run held r = by_shown (framed_shown n run held r)
+framed_keeps : SplitsLeaveTheSteps → SplitItemsAreOfLines → (kept : Bool) (n : ℕ) (run : State) (held : Held) (r : FramedRequest) → CanBeEdited n held.items
+    → CanBeEdited n (framed_answer kept n run held r).held.items
+framed_keeps steps lines false n run held r can = can
+framed_keeps steps lines true n run held r can = by_shown (framed_shown n run held r)
   where
-    by_shown : (shown : Result (List ℕ) Refusal) → (shown_or_refused true held (held_behind run held r) shown).held.items ≡ held.items
-    by_shown (Ok text) = behind_keeps run held r
-    by_shown (Err e) = refl
+    by_shown : (shown : Result (List ℕ) Refusal) → CanBeEdited n (shown_or_refused true held (held_behind run held r) shown).held.items
+    by_shown (Ok text) = behind_keeps steps lines n run held r can
+    by_shown (Err e) = can
 
 -- a request for the bits that are the same whatever the coins has an answer
 sure_answered : SureParities → LinesKeepQubitsApart → (s : Setting) (held : Held) → CanBeEdited s.qubits held.items → (a : Answer) × IsSureAnswer s.framed held a × CanBeEdited s.qubits a.held.items
@@ -113,8 +140,8 @@ sure_answered law apart s held can = by_framed s.framed
     by_framed false = (refusing held BadCommand, refl, can)
     by_framed true = let told = sure_text law apart s.qubits held.items can.0 can.1 in (replying held (reply_text true told.0), (told.0, told.1, refl), can)
 
-module _ (meanings : ItemTextsHaveOneMeaning) (lines : ItemTextsAreLines) (edits : EditedItemsAreOfLines) (sound : RunsAreSound)
-    (some : TracesHaveReducedRows) (one : TracesHaveOneList) (parities : SureParities) (apart : LinesKeepQubitsApart) where
+module _ (meanings : ItemTextsHaveOneMeaning) (lines : ItemTextsAreLines) (edits : EditedItemsAreOfLines) (steps : SplitsLeaveTheSteps)
+    (split_lines : SplitItemsAreOfLines) (sound : RunsAreSound) (some : TracesHaveReducedRows) (one : TracesHaveOneList) (parities : SureParities) (apart : LinesKeepQubitsApart) where
   -- an edit that puts in the item of a text has an answer
   put_answered : (s : Setting) (held : Held) (how : ItemEdit) (place : Path) (text : List ℕ) → CanBeEdited s.qubits held.items
       → (a : Answer) × IsPut s.framed held (λ item. edited_items s.qubits (edit_of how place item) held.items) text a × CanBeEdited s.qubits a.held.items
@@ -139,11 +166,8 @@ module _ (meanings : ItemTextsHaveOneMeaning) (lines : ItemTextsAreLines) (edits
   request_answered s held (show what) can =
       let shown = text_shown some one s.qubits s.coins held.items (sound s.qubits s.coins can.0.0 held.items can.0.1 can.1) what in
       (replying held (reply_text s.framed shown.0), (shown.0, shown.1, refl), can)
-  request_answered s held (ask r) can = (
-    framed_answer s.framed s.qubits (run_held s held) held r,
-    refl,
-    subst (λ (x : Items). CanBeEdited s.qubits x) (sym (framed_keeps s.framed s.qubits (run_held s held) held r)) can,
-  )
+  request_answered s held (ask r) can =
+      (framed_answer s.framed s.qubits (run_held s held) held r, refl, framed_keeps steps split_lines s.framed s.qubits (run_held s held) held r can)
   request_answered s held deterministic can = sure_answered parities apart s held can
   request_answered s held (refuse r) can = (refusing held r, refl, can)
 

@@ -11,3 +11,4 @@ pub mod TellingLaws
 pub mod ScriptRunLaws
 pub mod ScriptTurnLaws
 pub mod SessionAnswerLaws
+pub mod SplitAnswerLaws

@@ -1,13 +1,16 @@
 -- Framed requests: what only a framed script asks for, and the words that ask for it.
 -- Source: this project's own.
 use Rattle.std.specs.Prelude.{ℕ, ◌==◌, List, length, codes, bytes_eq, Option, Some, None, if◌then◌else◌}
+use Rattle.stab_lines.specs.Words.{value}
 use Rattle.stab_circuit.specs.Paths.{Path}
-use Rattle.stab_scripts.specs.ScriptWords.{first_word, behind_word, place_of}
+use Rattle.stab_scripts.specs.ScriptWords.{first_word, behind_word, is_place_number, place_of}
 
--- that changes are counted from now on; or that this is shown: the numbers of the circuit, what changed of detectors and observables, what
--- changed of records, the sign of a Pauli string, the item at a place, where that stands in the unrolled circuit
+-- that changes are counted from now on; that a round, counted from 0, is split off the block at a place; or that this is shown: the numbers of
+-- the circuit, what changed of detectors and observables, what changed of records, the sign of a Pauli string, the item at a place, where
+-- that stands in the unrolled circuit
 pub data FramedRequest : Type 0 where
   mark : FramedRequest
+  split : (place : Path) → (round : ℕ) → FramedRequest
   numbers : FramedRequest
   changed : FramedRequest
   changed_records : FramedRequest
@@ -18,6 +21,20 @@ pub data FramedRequest : Type 0 where
 -- the request, where nothing stands behind its word
 abbrev pub alone : (rest : List ℕ) → FramedRequest → Option FramedRequest
 alone rest request = if length rest == 0 then Some request else None
+
+-- the number of a round, where the word is a number as those of a place are
+abbrev pub round_of : (word : List ℕ) → Option ℕ
+round_of word = if is_place_number word then Some (value word) else None
+
+-- that a round is split off the block at a place, where there are both
+abbrev pub split_of : Option Path → Option ℕ → (rest : List ℕ) → Option FramedRequest
+split_of None round rest = None
+split_of (Some place) None rest = None
+split_of (Some place) (Some round) rest = alone rest (split place round)
+
+-- what the words behind `split` ask for: a place and a round
+abbrev pub framed_split : (words : List ℕ) → Option FramedRequest
+framed_split words = split_of (place_of (first_word words)) (round_of (first_word (behind_word words))) (behind_word (behind_word words))
 
 -- what the word behind `show changed` asks for
 abbrev pub changed_of : (rest : List ℕ) → Option FramedRequest

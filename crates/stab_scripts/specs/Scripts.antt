@@ -23,9 +23,10 @@ use Rattle.stab_results.specs.declared.format.Format.TheVariants.{F01}
 use Rattle.stab_tables.specs.Stabilisers.{lines_of}
 use Rattle.stab_tables.specs.Deterministic.{IsSureText}
 use Rattle.stab_circuit.specs.Places.{item_at}
+use Rattle.stab_circuit.specs.Splits.{split}
 use Rattle.stab_scripts.specs.ScriptWords.{first_word, behind_word, place_of, Gathered, more, is_nothing}
 use Rattle.stab_scripts.specs.FramedRequests as framed_asks
-use Rattle.stab_scripts.specs.FramedRequests.{FramedRequest, mark, numbers, changed, changed_records, sign, framed_show}
+use Rattle.stab_scripts.specs.FramedRequests.{FramedRequest, mark, numbers, changed, changed_records, sign, framed_split, framed_show}
 use Rattle.stab_scripts.specs.FramedReplies.{reply_text, made_text, greeting, session_numbers, numbers_line}
 use Rattle.stab_scripts.specs.Changes.{Mark, mark_of, no_mark, changed_text, changed_records_text}
 use Rattle.stab_scripts.specs.PlaceCounts.{place_shown}
@@ -86,6 +87,7 @@ request_by word rest =
     else if bytes_eq word (codes "delete") then delete_at (place_of (first_word rest)) (behind_word rest)
     else if bytes_eq word (codes "show") then show_of rest
     else if bytes_eq word (codes "mark") then mark_at rest
+    else if bytes_eq word (codes "split") then framed_of (framed_split rest)
     else refuse BadCommand
 
 -- what a content asks for that is not blank
@@ -301,9 +303,15 @@ abbrev pub item_shown : Result OneItem Refusal → Result (List ℕ) Refusal
 item_shown (Ok x) = Ok (printed (before x done))
 item_shown (Err r) = Err r
 
+-- nothing is shown of a list in which a round was split off, unless that was refused
+abbrev pub split_shown : Result (List OneItem) Refusal → Result (List ℕ) Refusal
+split_shown (Ok list) = Ok []
+split_shown (Err r) = Err r
+
 -- what only a framed script is shown of what is held and its run, or why not
 abbrev pub framed_shown : ℕ → State → Held → FramedRequest → Result (List ℕ) Refusal
 framed_shown n run held mark = Ok []
+framed_shown n run held (framed_asks.split place round) = split_shown (split place round (entries held.items))
 framed_shown n run held numbers = Ok (numbers_line (session_numbers n run held.items))
 framed_shown n run held changed = Ok (changed_text held.mark run)
 framed_shown n run held changed_records = Ok (changed_records_text held.mark run)
@@ -311,9 +319,15 @@ framed_shown n run held (sign word) = sign_shown run (string_of_word n word)
 framed_shown n run held (framed_asks.item place) = item_shown (item_at place (entries held.items))
 framed_shown n run held (framed_asks.counts place) = place_shown (item_at place (entries held.items)) place held.items
 
--- what is held behind it: `mark` alone changes that
+-- what is held with such a list, or as before where the split was refused
+abbrev pub held_split : Held → Result (List OneItem) Refusal → Held
+held_split held (Ok list) = record held { items = listed list }
+held_split held (Err r) = held
+
+-- what is held behind it: `mark` and a split alone change that
 abbrev pub held_behind : State → Held → FramedRequest → Held
 held_behind run held mark = record held { mark = mark_of run }
+held_behind run held (framed_asks.split place round) = held_split held (split place round (entries held.items))
 held_behind run held request = held
 
 -- a text is shown, or refused

@@ -2,11 +2,11 @@
 ghost use Rattle.std.specs.Prelude.{◌≡◌, IfOk, IfErr};
 ghost use Rattle.stab_io.specs.Refusals.{whole};
 ghost use Rattle.stab_io.specs.declared.refusal.Refusal.TheVariants.{OutOfMemory};
-ghost use Rattle.stab_scripts.specs.FramedRequests.{alone as alone_of, changed_of, sign_of, item_of, counts_at, framed_show as shown_by};
+ghost use Rattle.stab_scripts.specs.FramedRequests.{alone as alone_of, round_of, split_of, framed_split, changed_of, sign_of, item_of, counts_at, framed_show as shown_by};
 ghost use Rattle.stab_scripts.specs.ScriptWords.{first_word as first_of, behind_word, place_of};
 ghost use Rattle.stab_scripts.specs.inner.Requests.{framed_asked, framed_if_any};
 
-use crate::place::{first_word, read_place};
+use crate::place::{first_word, place_number, read_place};
 use stab_circuit::Path;
 use stab_io::Fault;
 use std::alloc::Global;
@@ -16,6 +16,8 @@ use std::alloc::Global;
 pub(crate) enum FramedRequest {
     /// That changes are counted from now on.
     Mark,
+    /// That a round, counted from 0, is split off the block at a place.
+    Split { place: Path, round: u64 },
     /// The numbers of the circuit.
     Numbers,
     /// What changed of detectors and observables.
@@ -35,6 +37,38 @@ fn alone(rest: &[u8], request: FramedRequest) -> Option<FramedRequest>
     ensures value { framed_if_any result ≡ alone_of rest.now (framed_asked request) }
 {
     if rest.is_empty() { Some(request) } else { None }
+}
+
+/// The number of a round that a word stands for.
+fn read_round(word: &[u8]) -> Option<u64>
+    ensures value { result ≡ round_of word.now }
+{
+    match place_number(word) {
+        None => None,
+        Some(number) => Some(number as u64),
+    }
+}
+
+/// That a round is split off the block at a place, by what follows the place.
+fn read_split_at(place: Path, rest: &[u8]) -> Option<FramedRequest>
+    ensures value { framed_if_any result ≡ split_of (Some place) (round_of (first_of rest.now)) (behind_word rest.now) }
+{
+    let (word, rest) = first_word(rest);
+    match read_round(word) {
+        None => None,
+        Some(round) => alone(rest, FramedRequest::Split { place, round }),
+    }
+}
+
+/// What the words behind `split` ask for: a place and a round.
+pub(crate) fn read_split(rest: &[u8]) -> Option<FramedRequest>
+    ensures value { framed_if_any result ≡ framed_split rest.now }
+{
+    let (word, rest) = first_word(rest);
+    match read_place(word) {
+        None => None,
+        Some(place) => read_split_at(place, rest),
+    }
 }
 
 /// What the words behind `show changed` ask for.

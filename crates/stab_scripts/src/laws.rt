@@ -4,7 +4,7 @@ ghost use Rattle.stab_scripts.specs.ScriptLaws.{CircuitsCanBeEdited, FirstReplie
 
 use stab_circuit::laws::{
     edited_items_are_of_lines, item_texts_are_lines, item_texts_have_one_meaning,
-    lines_keep_qubits_apart, texts_are_lines,
+    lines_keep_qubits_apart, split_items_are_of_lines, splits_leave_the_steps, texts_are_lines,
 };
 use stab_regions::fault_laws::sure_parities;
 use stab_run::laws::runs_are_sound;
@@ -26,6 +26,8 @@ pub fn scripts_have_an_answer()
     item_texts_have_one_meaning();
     item_texts_are_lines();
     edited_items_are_of_lines();
+    splits_leave_the_steps();
+    split_items_are_of_lines();
     runs_are_sound();
     traces_have_reduced_rows();
     traces_have_one_list();

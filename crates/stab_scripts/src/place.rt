@@ -30,7 +30,7 @@ pub(crate) fn first_word(text: &[u8]) -> (&[u8], &[u8])
 
 /// The number of a place that a word stands for: 1 to 18 digits.
 #[tactic(auto, using(stab_lines::proofs::WordLemmas::eighteen_digits))]
-fn place_number(word: &[u8]) -> Option<usize>
+pub(crate) fn place_number(word: &[u8]) -> Option<usize>
     ensures value { MatchOption result (is_place_number word.now ≡ false) (λ n. (is_place_number word.now ≡ true) × (n ≡ value word.now)) }
 {
     if is_number(word) && word.len() <= 18 {

@@ -6,7 +6,7 @@ ghost use Rattle.stab_scripts.specs.ScriptWords.{first_word as first_of, behind_
 ghost use Rattle.stab_scripts.specs.Scripts.{put_at as put_of, delete_at as delete_of, framed_of, mark_at as mark_of, show_of, request_by as by_word, request_of};
 ghost use Rattle.stab_scripts.specs.inner.Requests.{request_asked, framed_if_any};
 
-use crate::framed::{FramedRequest, read_framed_show};
+use crate::framed::{FramedRequest, read_framed_show, read_split};
 use crate::place::{first_word, read_place};
 use stab_circuit::Path;
 use stab_io::{Fault, Refusal};
@@ -160,6 +160,8 @@ fn request_by(alloc: Global, word: &[u8], rest: &[u8]) -> Result<Request, Fault>
         read_show(alloc, rest)
     } else if word == b"mark".as_slice() {
         Ok(mark_at(rest))
+    } else if word == b"split".as_slice() {
+        Ok(framed_if_some(read_split(rest)))
     } else {
         Ok(Request::Refuse(Refusal::BadCommand))
     }

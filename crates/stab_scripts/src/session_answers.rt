@@ -37,12 +37,13 @@ impl<C: Coins> SessionAnswers<C> {
     ghost use Rattle.stab_io.specs.declared.refusal.Refusal.TheVariants.{OutOfMemory};
     ghost use Rattle.stab_circuit.specs.Items.{entries};
     ghost use Rattle.stab_circuit.specs.Places.{item_at};
+    ghost use Rattle.stab_circuit.specs.Splits.{split as split_list};
     ghost use Rattle.stab_tables.specs.FaultLines.{refused_text};
     ghost use Rattle.stab_scripts.specs.Changes.{changed_text, changed_records_text, mark_of};
     ghost use Rattle.stab_scripts.specs.FramedReplies.{session_numbers, reply_text};
     ghost use Rattle.stab_scripts.specs.PlaceCounts.{place_shown};
     ghost use Rattle.stab_scripts.specs.Signs.{string_of_word};
-    ghost use Rattle.stab_scripts.specs.Scripts.{IsPut, IsSureAnswer, decided, edited_items, edit_of, first_mark as first_mark_of, framed_answer, framed_shown, held_behind, item_shown, sign_shown};
+    ghost use Rattle.stab_scripts.specs.Scripts.{IsPut, IsSureAnswer, decided, edited_items, edit_of, first_mark as first_mark_of, framed_answer, framed_shown, held_behind, held_split, item_shown, sign_shown, split_shown};
     ghost use Rattle.stab_scripts.specs.inner.FramedAnswers.{GivesText};
     ghost use Rattle.stab_scripts.specs.inner.Requests.{framed_asked};
     ghost use Rattle.stab_scripts.specs.inner.SessionAnswers.{ShowsOf, session_setting, session_run, mark_shown, held_of, answered};
@@ -192,16 +193,29 @@ impl<C: Coins> SessionAnswers<C> {
         Ok(Reply::new(self.alloc))
     }
 
+    /// Splits a round off the block at a place.
+    fn split(&mut self, place: Path, round: u64) -> Result<Reply, Refusal>
+        ensures setting { session_setting C.sequence self.new.framed self.new.session ≡ session_setting C.sequence self.old.framed self.old.session }
+        ensures held { OnOk result (held_of self.new.session self.new.mark ≡ held_split (held_of self.old.session self.old.mark) (split_list place round (entries self.old.session.items))) }
+        ensures kept { OnErr result (held_of self.new.session self.new.mark ≡ held_of self.old.session self.old.mark) }
+        ensures shows { GivesText result (split_shown (split_list place round (entries self.old.session.items))) }
+    {
+        match self.session.split(place, round) {
+            Ok(()) => Ok(Reply::new(self.alloc)),
+            Err(fault) => Err(fault.refusal),
+        }
+    }
+
     /// What only a framed script is shown.
     fn show_framed(&mut self, request: &FramedRequest) -> Result<Reply, Refusal>
-        ensures session { self.new.session ≡ self.old.session }
-        ensures framed { self.new.framed ≡ self.old.framed }
-        ensures kept { OnErr result (self.new.mark ≡ self.old.mark) }
+        ensures setting { session_setting C.sequence self.new.framed self.new.session ≡ session_setting C.sequence self.old.framed self.old.session }
+        ensures kept { OnErr result (held_of self.new.session self.new.mark ≡ held_of self.old.session self.old.mark) }
         ensures held { OnOk result (held_of self.new.session self.new.mark ≡ held_behind (session_run C.sequence self.old.session) (held_of self.old.session self.old.mark) (framed_asked request.now)) }
         ensures shows { GivesText result (framed_shown self.old.session.qubits (session_run C.sequence self.old.session) (held_of self.old.session self.old.mark) (framed_asked request.now)) }
     {
         match request {
             FramedRequest::Mark => memory(self.mark()),
+            FramedRequest::Split { place, round } => self.split(*place, *round),
             FramedRequest::Numbers => memory(Reply::numbers(self.alloc, self.numbers())),
             FramedRequest::Changed => memory(self.changed()),
             FramedRequest::ChangedRecords => memory(self.changed_records()),

@@ -92,6 +92,7 @@ follow. It may also ask for these, which are refused 13 without it:
 
   show numbers          one line, as the first one has them
   mark                  changes are counted from here; at first they are from the opening
+  split 2 5             makes round 5 of the block that is item 2, from 0, a block by itself
   show changed          detectors and observables that differ from those at the mark, as D3 D17 L0
   show changed records  the same for records, as M7 M9
   show sign X0*Z3       + or -, or 0 where neither is in the group; also -X0, or a letter a qubit

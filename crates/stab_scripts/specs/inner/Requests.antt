@@ -2,7 +2,7 @@
 -- Source: this project's own.
 use Rattle.std.specs.Prelude.{List, ℕ, [], ◌∷◌, Option, Some, None}
 use Rattle.stab_scripts.specs.Scripts.{Request, begin, put, delete, show, ask, deterministic, refuse, Gathering}
-use Rattle.stab_scripts.specs.FramedRequests.{FramedRequest, mark, numbers, changed, changed_records, sign, item, counts}
+use Rattle.stab_scripts.specs.FramedRequests.{FramedRequest, mark, split, numbers, changed, changed_records, sign, item, counts}
 use Rattle.stab_scripts.specs.declared.framed.FramedRequest.{FramedRequest as FramedAsked}
 use Rattle.stab_scripts.specs.declared.framed.FramedRequest.TheVariants as framed_asks
 use Rattle.stab_scripts.specs.declared.request.Request.{Request as Asked}
@@ -11,6 +11,7 @@ use Rattle.stab_scripts.specs.declared.request.Request.TheVariants as asks
 -- what the code's request of a framed script asks for
 abbrev pub framed_asked : FramedAsked → FramedRequest
 framed_asked framed_asks.Mark = mark
+framed_asked (framed_asks.Split place round) = split place round
 framed_asked framed_asks.Numbers = numbers
 framed_asked framed_asks.Changed = changed
 framed_asked framed_asks.ChangedRecords = changed_records
