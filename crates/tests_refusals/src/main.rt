@@ -8,7 +8,7 @@
 //! - `trial`: a call that is tried, and how it ended; `window`: where memory may be refused.
 //! - `stop`: what ended a call early.
 //! - `sheet`: values as bytes, to be compared; `item_slot`: an item beside a circuit; `one_drop`: values that are let go.
-//! - `outputs`, `strings`, `states`, `circuits`, `runs`, `sessions`, `edits`: the calls, by what they work on.
+//! - `outputs`, `strings`, `states`, `circuits`, `runs`, `sessions`, `edits`, `splits`: the calls, by what they work on.
 //! - `words`, `commands`: the calls from words and from bytes to bytes.
 //!
 //! It is proved safe. What it finds is tested, not proved.
@@ -23,6 +23,7 @@ mod outputs;
 mod runs;
 mod sessions;
 mod sheet;
+mod splits;
 mod states;
 mod stop;
 mod strings;
@@ -40,6 +41,7 @@ fn main(rt: HostRuntime) -> io::Result<()> {
     runs::print_all(&rt)?;
     sessions::print_all(&rt)?;
     edits::print_all(&rt)?;
+    splits::print_all(&rt)?;
     words::print_all(&rt)?;
     commands::print_all(&rt)
 }
