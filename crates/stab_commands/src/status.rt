@@ -76,9 +76,7 @@ fn run_command<I: Input, S: Input, O: Output, W: Watcher<S, O>>(
             format,
             shots,
             append,
-        } => plain_answer(run_detect_shots(
-            alloc, input, out, format, append, shots, source,
-        )),
+        } => plain_answer(run_detect_shots(alloc, input, out, format, append, shots, source)),
         Command::Stabilisers => plain_answer(run_stabilisers(alloc, input, out, source)),
         Command::Check => plain_answer(run_check(alloc, input, out)),
         Command::Deterministic { format } => {

@@ -149,7 +149,11 @@ fn a_failed_write_leaves_a_prefix(rt: HostRuntime) -> Result<(), Fail> {
     let circuit = read(rt.alloc(), CHECKED_PAIR)?;
     let fault = Err(Fault::whole(Refusal::WriteFault));
     for room in 0..=CHECKED_PAIR.len() {
-        let answer = if room < CHECKED_PAIR.len() { fault } else { Ok(()) };
+        let answer = if room < CHECKED_PAIR.len() {
+            fault
+        } else {
+            Ok(())
+        };
         let found = printed(rt.alloc(), &circuit, room, CHECKED_PAIR)?;
         assert_eq!(rt; found, (answer, true), "{room}");
     }
