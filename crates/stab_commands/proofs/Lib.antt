@@ -2,3 +2,4 @@ pub mod SendingLaws
 pub mod ShotLaws
 pub mod RunLaws
 pub mod PackingLaws
+pub mod LineLaws

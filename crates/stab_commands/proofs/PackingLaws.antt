@@ -1,7 +1,6 @@
 -- Laws of packing: the bytes of a lane that is packed with others, of which some are sent.
 use Rattle.std.proofs.Common.{◌≡◌, ◌∙◌, ℕ, ◌+◌, ◌*◌, ◌/◌, ◌%◌, ◌<◌, List, ◌++◌, length, take, Bool, ap, arith}
 use Rattle.std.proofs.Math.Seq.{take-append_seam}
-use Rattle.stab_results.specs.Formats.{b8_bytes}
 use Rattle.stab_shots.specs.Words.{word_bit}
 use Rattle.stab_shots.specs.Lanes.{lane_bits}
 use Rattle.stab_shots.specs.Squares.{lane_bytes}
@@ -14,20 +13,20 @@ written n new rest e = ap (λ m. take m (new ++ rest)) e ∙ take-append_seam ne
 regroup : (first sent k : ℕ) → first + (sent + k) ≡ first + sent + k
 regroup first sent k = omega arith
 
-module _ (sent lanes first k : ℕ) (bytes_of : ℕ → List ℕ) (within : sent + k < lanes) where
+module _ (pack : List Bool → List ℕ) (sent lanes first k : ℕ) (bytes_of : ℕ → List ℕ) (within : sent + k < lanes) where
   -- lane k of eight is lane k behind those sent
-  pub packed_of_eight : (words column squares : List ℕ) → sent % 8 ≡ 0 → k < 8 → ((l : ℕ) → l < lanes → b8_bytes (lane_bits word_bit l words) ≡ bytes_of (first + l))
-      → column ≡ lane_bytes (sent / 8) words → lane_bytes k squares ≡ b8_bytes (lane_bits word_bit k column) → lane_bytes k squares ≡ bytes_of (first + sent + k)
-  packed_of_eight words column squares eight few are is made =
+  pub packed_of_eight : (words column : List ℕ) → sent % 8 ≡ 0 → k < 8 → ((l : ℕ) → l < lanes → pack (lane_bits word_bit l words) ≡ bytes_of (first + l))
+      → column ≡ lane_bytes (sent / 8) words → pack (lane_bits word_bit k column) ≡ bytes_of (first + sent + k)
+  packed_of_eight words column eight few are is =
       let place : 8 * (sent / 8) + k ≡ sent + k = omega (arith, eight) in
-      made ∙ ap (λ c. b8_bytes (lane_bits word_bit k c)) is
-      ∙ ap b8_bytes (column-lane (sent / 8) k words few)
-      ∙ ap (λ l. b8_bytes (lane_bits word_bit l words)) place ∙ are (sent + k) within ∙ ap bytes_of (regroup first sent k)
+      ap (λ c. pack (lane_bits word_bit k c)) is
+      ∙ ap pack (column-lane (sent / 8) k words few)
+      ∙ ap (λ l. pack (lane_bits word_bit l words)) place ∙ are (sent + k) within ∙ ap bytes_of (regroup first sent k)
 
   -- lane k of 64 is lane k behind those sent
-  pub packed_of_part : {W : Type 0} (at : W → ℕ → Bool) (words : List W) (part : List ℕ) → sent % 64 ≡ 0 → ((l : ℕ) → l < lanes → b8_bytes (lane_bits at l words) ≡ bytes_of (first + l))
-      → lane_bits word_bit k part ≡ lane_bits at (64 * (sent / 64) + k) words → b8_bytes (lane_bits word_bit k part) ≡ bytes_of (first + sent + k)
+  pub packed_of_part : {W : Type 0} (at : W → ℕ → Bool) (words : List W) (part : List ℕ) → sent % 64 ≡ 0 → ((l : ℕ) → l < lanes → pack (lane_bits at l words) ≡ bytes_of (first + l))
+      → lane_bits word_bit k part ≡ lane_bits at (64 * (sent / 64) + k) words → pack (lane_bits word_bit k part) ≡ bytes_of (first + sent + k)
   packed_of_part at words part whole are is =
       let place : 64 * (sent / 64) + k ≡ sent + k = omega (arith, whole) in
-      ap b8_bytes is
-      ∙ ap (λ l. b8_bytes (lane_bits at l words)) place ∙ are (sent + k) within ∙ ap bytes_of (regroup first sent k)
+      ap pack is
+      ∙ ap (λ l. pack (lane_bits at l words)) place ∙ are (sent + k) within ∙ ap bytes_of (regroup first sent k)

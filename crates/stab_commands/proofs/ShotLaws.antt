@@ -1,5 +1,6 @@
 -- Laws of shots: bits that are shown, and shots that are sent by batches.
-use Rattle.std.proofs.Common.{◌≡◌, refl, sym, ap, ap₂, subst, ◌∙◌, ℕ, ◌+◌, ◌-◌, ◌%◌, ◌^◌, ◌<◌, ◌≤◌, Bool, List, ◌++◌, Result, Ok, Err, inl, inr, arith}
+use Rattle.std.proofs.Common.{◌≡◌, refl, sym, ap, ap₂, subst, ◌∙◌, ℕ, ◌+◌, ◌-◌, ◌%◌, ◌^◌, ◌<◌, ◌≤◌, Bool, List, ◌++◌, length, Result, Ok, Err, inl, inr, arith}
+use Rattle.std.proofs.lemmas.List.{length-map, map-append}
 use Rattle.std.specs.Result.{IsErrAnd}
 use Rattle.stab_io.specs.Devices.{OutputView, Took, CutOff, WritesAllOrFault}
 use Rattle.stab_io.proofs.DeviceLemmas.{took_more}
@@ -8,12 +9,14 @@ use Rattle.stab_io.specs.declared.refusal.Fault.{Fault}
 use Rattle.stab_io.specs.Refusals.{whole}
 use Rattle.stab_results.specs.declared.format.Format.{Format}
 use Rattle.stab_results.specs.declared.format.Kinds.{Kinds}
+use Rattle.stab_results.specs.declared.format.Kinds.TheVariants.{Detectors as Detected}
 use Rattle.stab_results.specs.Formats.{shot_bytes}
 use Rattle.stab_run.specs.Runs.{State}
+use Rattle.stab_shots.specs.Lanes.{lane_bits}
 use Rattle.stab_commands.specs.declared.shots.Shown.{Shown}
 use Rattle.stab_commands.specs.declared.shots.Shown.TheVariants.{Records, Detectors, DetectorsAndObservables}
 use Rattle.stab_commands.specs.Outputs.{of_shots}
-use Rattle.stab_commands.specs.inner.Sendings.{IsShown, SendsUnflushed, shown_bytes}
+use Rattle.stab_commands.specs.inner.Sendings.{IsShown, SendsUnflushed, shown_bytes, shown_kinds, shown_items}
 use Rattle.stab_commands.proofs.SendingLaws.{parts_join, cut_off_behind}
 use Rattle.stab_tables.proofs.WritingLaws.{took_some_none}
 
@@ -22,6 +25,29 @@ pub bytes_shown : (format : Format) (shown : Shown) (run : State) (kinds : Kinds
 bytes_shown format Records run kinds bits is = ap₂ (shot_bytes format) is.0 is.1
 bytes_shown format Detectors run kinds bits is = ap₂ (shot_bytes format) is.0 is.1
 bytes_shown format DetectorsAndObservables run kinds bits is = ap₂ (shot_bytes format) is.0 is.1
+
+-- what is shown of lists that are those of a run
+pub is_shown : (shown : Shown) (run : State) (kinds : Kinds) (bits records detectors observables : List Bool) → kinds ≡ shown_kinds shown (length detectors)
+    → bits ≡ shown_items shown records detectors observables → records ≡ run.records → detectors ≡ run.detectors → observables ≡ run.observables → IsShown shown run kinds bits
+is_shown Records run kinds bits records detectors observables k b r d o = (k, b ∙ r)
+is_shown Detectors run kinds bits records detectors observables k b r d o = (k ∙ ap (λ l. Detected (length l)) d, b ∙ d)
+is_shown DetectorsAndObservables run kinds bits records detectors observables k b r d o = (k ∙ ap (λ l. Detected (length l)) d, b ∙ ap₂ (λ a b. a ++ b) d o)
+
+-- a lane of what is shown
+lane_shown : {W : Type 0} (at : W → ℕ → Bool) (l : ℕ) (shown : Shown) (records detectors observables : List W)
+    → lane_bits at l (shown_items shown records detectors observables) ≡ shown_items shown (lane_bits at l records) (lane_bits at l detectors) (lane_bits at l observables)
+lane_shown at l Records records detectors observables = refl
+lane_shown at l Detectors records detectors observables = refl
+lane_shown at l DetectorsAndObservables records detectors observables = map-append (λ w. at w l) detectors observables
+
+-- what is shown of lists of words, of which a lane is that of a run
+pub lane_is_shown : {W : Type 0} (at : W → ℕ → Bool) (l : ℕ) (shown : Shown) (run : State) (kinds : Kinds) (words records detectors observables : List W)
+    → kinds ≡ shown_kinds shown (length detectors) → words ≡ shown_items shown records detectors observables
+    → lane_bits at l records ≡ run.records → lane_bits at l detectors ≡ run.detectors → lane_bits at l observables ≡ run.observables → IsShown shown run kinds (lane_bits at l words)
+lane_is_shown at l shown run kinds words records detectors observables k w =
+    is_shown shown run kinds (lane_bits at l words) (lane_bits at l records) (lane_bits at l detectors) (lane_bits at l observables)
+    (k ∙ ap (shown_kinds shown) (sym (length-map detectors (λ w. at w l))))
+    (ap (lane_bits at l) w ∙ lane_shown at l shown records detectors observables)
 
 -- a text that was cut off has these bytes
 pub cut_off_as : {old new : OutputView} (text bytes : List ℕ) (f : Fault) → text ≡ bytes → WritesAllOrFault {T = Unit {0}} old new text (Err f) → CutOff old new bytes f

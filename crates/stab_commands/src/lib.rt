@@ -4,7 +4,7 @@
 //!
 //! - `job`: what a user can ask for.
 //! - `widths`: how many shots go through a circuit at once.
-//! - `packed`: the bits of lanes in `b8`.
+//! - `packed`: the bits of lanes in `01` and `b8`.
 //! - `shots`: the shots of a circuit, written one after another.
 //! - `run`: the commands that write the shots of a circuit.
 //! - `status`: running a job, with the status of the program.

@@ -1,16 +1,26 @@
-//! The bits of lanes in the format `b8`, packed for eight lanes at a time.
-ghost use Rattle.std.specs.Prelude.{◌≡◌, ℕ, ◌+◌, ◌<◌, ◌≤◌, List};
+//! The bits of lanes in the formats `01` and `b8`, for eight lanes at a time.
+ghost use Rattle.std.specs.Prelude.{◌≡◌, ℕ, ◌+◌, ◌<◌, ◌≤◌, List, length};
 ghost use Rattle.stab_io.specs.Devices.{WritesAllOrFault};
-ghost use Rattle.stab_results.specs.Formats.{b8_bytes};
+ghost use Rattle.stab_results.specs.Formats.{f01_bytes, b8_bytes};
 ghost use Rattle.stab_shots.specs.Words.{word_bit};
 ghost use Rattle.stab_shots.specs.Lanes.{lane_bits};
 ghost use Rattle.stab_shots.specs.Squares.{lane_bytes};
 ghost use Rattle.stab_commands.specs.Outputs.{of_shots};
 ghost use Rattle.stab_commands.specs.inner.Sendings.{SendsUnflushed};
+ghost use Rattle.stab_commands.specs.inner.Packings.{packed_bytes};
 
 use stab_io::{Fault, Output, write_all};
 use stab_shots::{Word, write_bytes, write_part, write_squares};
 use std::alloc::Global;
+
+/// What the bits of a lane are packed into.
+#[derive(Clone, Copy)]
+pub(crate) enum Packing {
+    /// A line with a character for each bit, as in `01`.
+    Line,
+    /// A byte for each eight bits, as in `b8`.
+    Bytes,
+}
 
 /// Writes bytes.
 fn send_bytes<O: Output>(out: &mut O, bytes: &[u8]) -> Result<(), Fault>
@@ -20,6 +30,36 @@ fn send_bytes<O: Output>(out: &mut O, bytes: &[u8]) -> Result<(), Fault>
         Ok(()) => Ok(()),
         Err(refusal) => Err(Fault::whole(refusal)),
     }
+}
+
+/// Writes the line of one of eight lanes in place of a text. The lanes come as bytes, each with a bit of all eight.
+fn write_line(column: &[u8], lane: usize, text: &mut [u8])
+    requires in_range { lane < 8 }
+    requires as_long { length text.old ≡ length column.now + 1 }
+    ensures value { text.new ≡ f01_bytes (lane_bits word_bit lane column.now) }
+{
+    for k in 0..column.len() {
+        text[k] = b'0' + ((column[k] >> lane) & 1);
+    }
+    text[column.len()] = b'\n';
+}
+
+/// Writes the lines of so many of eight lanes, one after another.
+fn send_lines<O: Output>(
+    alloc: Global,
+    out: &mut O,
+    column: &[u8],
+    lanes: usize,
+) -> Result<(), Fault>
+    requires in_range { lanes ≤ 8 }
+    ensures sends { (first : ℕ) (bytes_of : ℕ → List ℕ) → ((l : ℕ) → l < lanes → f01_bytes (lane_bits word_bit l column.now) ≡ bytes_of (first + l)) → SendsUnflushed (of_shots bytes_of first lanes) (O.seen out.old) (O.seen out.new) result }
+{
+    let mut text = vec![in alloc; 0; column.len() + 1]?;
+    for lane in 0..lanes {
+        write_line(column, lane, text.as_mut_slice());
+        send_bytes(out, text.as_slice())?;
+    }
+    Ok(())
 }
 
 /// Writes the bytes of so many of eight lanes, one lane after another.
@@ -40,24 +80,55 @@ fn send_eight<O: Output>(
     Ok(())
 }
 
+/// Writes the bits of so many of eight lanes, eight to a byte, one lane after another.
+fn send_squares<O: Output>(
+    alloc: Global,
+    out: &mut O,
+    column: &[u8],
+    lanes: usize,
+) -> Result<(), Fault>
+    requires in_range { lanes ≤ 8 }
+    ensures sends { (first : ℕ) (bytes_of : ℕ → List ℕ) → ((l : ℕ) → l < lanes → b8_bytes (lane_bits word_bit l column.now) ≡ bytes_of (first + l)) → SendsUnflushed (of_shots bytes_of first lanes) (O.seen out.old) (O.seen out.new) result }
+{
+    let mut squares = Vec::with_capacity(alloc, column.len().div_ceil(8))?;
+    write_squares(column, &mut squares)?;
+    send_eight(alloc, out, squares.as_slice(), lanes)
+}
+
+/// Writes the bits of so many of eight lanes, one lane after another.
+fn send_column<O: Output>(
+    alloc: Global,
+    out: &mut O,
+    packing: Packing,
+    column: &[u8],
+    lanes: usize,
+) -> Result<(), Fault>
+    requires in_range { lanes ≤ 8 }
+    ensures sends { (first : ℕ) (bytes_of : ℕ → List ℕ) → ((l : ℕ) → l < lanes → packed_bytes packing (lane_bits word_bit l column.now) ≡ bytes_of (first + l)) → SendsUnflushed (of_shots bytes_of first lanes) (O.seen out.old) (O.seen out.new) result }
+{
+    match packing {
+        Packing::Line => send_lines(alloc, out, column, lanes),
+        Packing::Bytes => send_squares(alloc, out, column, lanes),
+    }
+}
+
 /// Writes the bits of so many of 64 lanes, one lane after another.
 fn send_part<O: Output>(
     alloc: Global,
     out: &mut O,
+    packing: Packing,
     words: &[u64],
     lanes: usize,
 ) -> Result<(), Fault>
     requires in_range { lanes ≤ 64 }
-    ensures sends { (first : ℕ) (bytes_of : ℕ → List ℕ) → ((l : ℕ) → l < lanes → b8_bytes (lane_bits word_bit l words.now) ≡ bytes_of (first + l)) → SendsUnflushed (of_shots bytes_of first lanes) (O.seen out.old) (O.seen out.new) result }
+    ensures sends { (first : ℕ) (bytes_of : ℕ → List ℕ) → ((l : ℕ) → l < lanes → packed_bytes packing (lane_bits word_bit l words.now) ≡ bytes_of (first + l)) → SendsUnflushed (of_shots bytes_of first lanes) (O.seen out.old) (O.seen out.new) result }
 {
     let mut column = vec![in alloc; 0; words.len()]?;
-    let mut squares = Vec::with_capacity(alloc, words.len().div_ceil(8))?;
     let mut sent = 0;
     while sent < lanes {
         let some = (lanes - sent).min(8);
         write_bytes(words, sent / 8, column.as_mut_slice());
-        write_squares(column.as_slice(), &mut squares)?;
-        send_eight(alloc, out, squares.as_slice(), some)?;
+        send_column(alloc, out, packing, column.as_slice(), some)?;
         sent += some;
     }
     Ok(())
@@ -67,18 +138,19 @@ fn send_part<O: Output>(
 pub(crate) fn send_packed<O: Output, W: Word>(
     alloc: Global,
     out: &mut O,
+    packing: Packing,
     words: &[W],
     lanes: usize,
 ) -> Result<(), Fault>
     requires in_range { lanes ≤ W.lanes }
-    ensures sends { (first : ℕ) (bytes_of : ℕ → List ℕ) → ((l : ℕ) → l < lanes → b8_bytes (lane_bits W.at l words.now) ≡ bytes_of (first + l)) → SendsUnflushed (of_shots bytes_of first lanes) (O.seen out.old) (O.seen out.new) result }
+    ensures sends { (first : ℕ) (bytes_of : ℕ → List ℕ) → ((l : ℕ) → l < lanes → packed_bytes packing (lane_bits W.at l words.now) ≡ bytes_of (first + l)) → SendsUnflushed (of_shots bytes_of first lanes) (O.seen out.old) (O.seen out.new) result }
 {
     let mut part = vec![in alloc; 0; words.len()]?;
     let mut sent = 0;
     while sent < lanes {
         let some = (lanes - sent).min(64);
         write_part(words, sent / 64, part.as_mut_slice());
-        send_part(alloc, out, part.as_slice(), some)?;
+        send_part(alloc, out, packing, part.as_slice(), some)?;
         sent += some;
     }
     Ok(())

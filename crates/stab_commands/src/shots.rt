@@ -10,13 +10,12 @@ ghost use Rattle.stab_results.specs.Formats.{detectors_of};
 ghost use Rattle.stab_run.specs.Runs.{State, run_of};
 ghost use Rattle.stab_run.specs.Coins.{list_coin, seed_coin};
 ghost use Rattle.stab_shots.specs.Lanes.{lane_bits};
-ghost use Rattle.stab_shots.specs.Shots.{AreRuns};
 ghost use Rattle.stab_commands.specs.Limits.{shots_of_seed};
 ghost use Rattle.stab_commands.specs.Outputs.{of_shots};
-ghost use Rattle.stab_commands.specs.inner.Sendings.{IsShot, IsShown, SendsUnflushed, shots_of, shown_bytes};
+ghost use Rattle.stab_commands.specs.inner.Sendings.{IsShown, SendsUnflushed, shots_of, shown_bytes, shown_kinds, shown_items};
 
 use crate::job::Shots;
-use crate::packed::send_packed;
+use crate::packed::{Packing, send_packed};
 use crate::widths::shots_at_once;
 use stab_circuit::Circuit;
 use stab_io::{Fault, Output};
@@ -46,48 +45,17 @@ pub(crate) struct Bits<T> {
     pub items: Vec<T>,
 }
 
-/// What is shown of a shot.
-fn shown_bits(shot: Shot, shown: Shown) -> Result<Bits<bool>, AllocError>
+/// What is shown, by records, detectors and observables.
+fn shown_of<T: Copy>(
+    records: Vec<T>,
+    mut detectors: Vec<T>,
+    observables: Vec<T>,
+    shown: Shown,
+) -> Result<Bits<T>, AllocError>
     ensures within { IfOk result (λ b. detectors_of b.kinds ≤ length b.items.items) }
-    ensures shown { IfOk result (λ b. (run : State) → IsShot shot run → IsShown shown run b.kinds b.items.items) }
+    ensures kinds { IfOk result (λ b. b.kinds ≡ shown_kinds shown (length detectors.items)) }
+    ensures items { IfOk result (λ b. b.items.items ≡ shown_items shown records.items detectors.items observables.items) }
 {
-    let Shot {
-        records,
-        mut detectors,
-        observables,
-        ..
-    } = shot;
-    let kinds = Kinds::Detectors(detectors.len());
-    match shown {
-        Shown::Records => Ok(Bits {
-            kinds: Kinds::Measurements,
-            items: records,
-        }),
-        Shown::Detectors => Ok(Bits {
-            kinds,
-            items: detectors,
-        }),
-        Shown::DetectorsAndObservables => {
-            detectors.extend_from_slice(observables.as_slice())?;
-            Ok(Bits {
-                kinds,
-                items: detectors,
-            })
-        }
-    }
-}
-
-/// What is shown of the shots of all lanes.
-fn shown_words<W: Word>(shots: LaneShots<W>, shown: Shown) -> Result<Bits<W>, AllocError>
-    ensures within { IfOk result (λ b. detectors_of b.kinds ≤ length b.items.items) }
-    ensures shown { IfOk result (λ b. (l n : ℕ) (coins : ℕ → Bool) (items : Items) → AreRuns W.at l n coins items shots → IsShown shown (run_of n coins items) b.kinds (lane_bits W.at l b.items.items)) }
-{
-    let LaneShots {
-        records,
-        free: _,
-        mut detectors,
-        observables,
-    } = shots;
     let kinds = Kinds::Detectors(detectors.len());
     match shown {
         Shown::Records => Ok(Bits {
@@ -138,7 +106,13 @@ fn send_copies<O: Output, C: Coins>(
     ensures sends { (first : ℕ) → SendsUnflushed (of_shots (λ shot. shown_bytes format shown (run_of (qubits_of (circuit_items circuit.now)) (C.sequence coins.old) (circuit_items circuit.now))) first copies) (O.seen out.old) (O.seen out.new) result }
 {
     let shot = run_once(alloc, circuit, circuit.qubits(), coins)?;
-    let bits = shown_bits(shot, shown)?;
+    let Shot {
+        records,
+        detectors,
+        observables,
+        ..
+    } = shot;
+    let bits = shown_of(records, detectors, observables, shown)?;
     write_copies(out, format, &bits, copies)
 }
 
@@ -162,7 +136,8 @@ fn write_lanes<O: Output, W: Word>(
     Ok(())
 }
 
-/// Writes the bits of so many lanes in a format, one lane after another. In `b8` they are packed for eight lanes at a time.
+/// Writes the bits of so many lanes in a format, one lane after another. In `01` and `b8` they are packed for eight lanes at
+/// a time.
 fn send_lanes<O: Output, W: Word>(
     alloc: Global,
     out: &mut O,
@@ -175,7 +150,8 @@ fn send_lanes<O: Output, W: Word>(
     ensures sends { (first : ℕ) (shown : Shown) (run : ℕ → State) → ((l : ℕ) → l < lanes → IsShown shown (run (first + l)) words.now.kinds (lane_bits W.at l words.now.items.items)) → SendsUnflushed (of_shots (λ shot. shown_bytes format shown (run shot)) first lanes) (O.seen out.old) (O.seen out.new) result }
 {
     match format {
-        Format::B8 => send_packed(alloc, out, words.items.as_slice(), lanes),
+        Format::F01 => send_packed(alloc, out, Packing::Line, words.items.as_slice(), lanes),
+        Format::B8 => send_packed(alloc, out, Packing::Bytes, words.items.as_slice(), lanes),
         _ => write_lanes(alloc, out, format, words, lanes),
     }
 }
@@ -195,7 +171,13 @@ fn send_batch<O: Output, W: Word, C: LaneCoins<W>>(
     ensures sends { (first : ℕ) (run : ℕ → State) → ((l : ℕ) → l < shots → run (first + l) ≡ run_of (qubits_of (circuit_items circuit.now)) (C.sequences coins.old l) (circuit_items circuit.now)) → SendsUnflushed (of_shots (λ shot. shown_bytes format shown (run shot)) first shots) (O.seen out.old) (O.seen out.new) result }
 {
     let found = run_lanes(alloc, circuit, circuit.qubits(), coins)?;
-    let words = shown_words(found, shown)?;
+    let LaneShots {
+        records,
+        detectors,
+        observables,
+        ..
+    } = found;
+    let words = shown_of(records, detectors, observables, shown)?;
     send_lanes(alloc, out, format, &words, shots)
 }
 

@@ -10,7 +10,7 @@ use stab_io::{Fault, Refusal};
 use std::alloc::Global;
 
 /// How many bits a shot may have where 256 shots go at once. A bit of all of them takes 32 bytes, and up to 11 more on its way
-/// out, so that they stay within 16 MiB.
+/// out, so that they stay within 16 MiB, but for the room that a growing list keeps free.
 const MOST_BITS: usize = 390_000;
 
 /// How many bits a shot has: its records, detectors and observables.

@@ -3,7 +3,6 @@
 use Rattle.std.specs.Prelude.{◌≡◌, ℕ, Bool, true, false, List, ◌++◌, length, Result, Ok, Err}
 use Rattle.stab_io.specs.Devices.{OutputView, Took, CutOff}
 use Rattle.stab_io.specs.declared.refusal.Fault.{Fault}
-use Rattle.stab_run.specs.declared.run.Shot.{Shot}
 use Rattle.stab_run.specs.Runs.{State}
 use Rattle.stab_circuit.specs.Items.{Items}
 use Rattle.stab_results.specs.declared.format.Format.{Format}
@@ -17,11 +16,17 @@ use Rattle.stab_commands.specs.Limits.{ShotRange}
 use Rattle.stab_commands.specs.Outputs.{detected, of_shots}
 use Rattle.stab_tables.specs.Sources.{run_of_shot}
 
--- a shot has the records, detectors and observables of a run
-pub record IsShot (shot : Shot) (run : State) : Type 0 where
-  pub records : shot.records.items ≡ run.records
-  pub detectors : shot.detectors.items ≡ run.detectors
-  pub observables : shot.observables.items ≡ run.observables
+-- what kinds of bits are shown of a shot with so many detectors
+abbrev pub shown_kinds : Shown → ℕ → Kinds
+shown_kinds Records detectors = Measurements
+shown_kinds Detectors detectors = Detected detectors
+shown_kinds DetectorsAndObservables detectors = Detected detectors
+
+-- what is shown, by records, detectors and observables
+abbrev pub shown_items : {T : Type 0} → Shown → (records detectors observables : List T) → List T
+shown_items Records records detectors observables = records
+shown_items Detectors records detectors observables = detectors
+shown_items DetectorsAndObservables records detectors observables = detectors ++ observables
 
 -- these bits, of these kinds, are what is shown of a run
 abbrev pub IsShown : Shown → State → Kinds → List Bool → Type 0

@@ -1,6 +1,7 @@
 use Rattle.std.proofs.Common.{◌≡◌, ◌+◌, ◌≤◌, length, ap, sym, ◌∙◌, arith, subst}
 use Rattle.stab_io.specs.Devices.{Took}
 use Rattle.stab_commands.specs.Outputs.{of_shots}
+use Rattle.stab_commands.specs.inner.Packings.{packed_bytes}
 use Rattle.stab_shots.specs.Words.{word_bit}
 use Rattle.stab_shots.specs.Lanes.{lane_bits}
 use Rattle.stab_commands.proofs.ShotLaws.{sent_batch, batches_break_off}
@@ -18,7 +19,7 @@ loop-sent-preserved g c =
           sent_batch bytes_of first c.loop-sent.sent c.min-some.result (c.loop-sent.invariant.took first bytes_of are)
           (c.in_ok-send_part.ensures.sends (first + c.loop-sent.sent) bytes_of
           (λ k less.
-          packed_of_part c.loop-sent.sent c.args.lanes first k bytes_of (omega (arith, less, c.min-some.ensures, c.loop-sent-test.true)) g.W.Word.at c.args.words.now c.as_slice.result.now
+          packed_of_part (packed_bytes c.args.packing) c.loop-sent.sent c.args.lanes first k bytes_of (omega (arith, less, c.min-some.ensures, c.loop-sent-test.true)) g.W.Word.at c.args.words.now c.as_slice.result.now
           at_once are (ap (lane_bits word_bit k) (c.as_slice.ensures.value ∙ has) ∙ c.write_part.ensures.value k (omega (arith, less, c.min-some.ensures)))));
     }
 
@@ -32,7 +33,7 @@ returns-in_err-send_part g c =
           (c.loop-sent.invariant.took first bytes_of are)
           (c.in_err-send_part.ensures.sends (first + c.loop-sent.sent) bytes_of
           (λ k less.
-          packed_of_part c.loop-sent.sent c.args.lanes first k bytes_of (omega (arith, less, c.min-some.ensures, c.loop-sent-test.true)) g.W.Word.at c.args.words.now c.as_slice.result.now
+          packed_of_part (packed_bytes c.args.packing) c.loop-sent.sent c.args.lanes first k bytes_of (omega (arith, less, c.min-some.ensures, c.loop-sent-test.true)) g.W.Word.at c.args.words.now c.as_slice.result.now
           at_once are (ap (lane_bits word_bit k) (c.as_slice.ensures.value ∙ has) ∙ c.write_part.ensures.value k (omega (arith, less, c.min-some.ensures)))))
           c.from_residual-in_err-send_part.ensures.1;
     }

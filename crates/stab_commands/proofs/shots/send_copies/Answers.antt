@@ -6,6 +6,7 @@ use Rattle.stab_run.specs.declared.run.Shot.{Shot}
 use Rattle.stab_run.specs.Runs.{run_of}
 use Rattle.stab_commands.proofs.RunLaws.{memory_alone}
 use Rattle.stab_commands.proofs.SendingLaws.{sends_none}
+use Rattle.stab_commands.proofs.ShotLaws.{is_shown}
 use Rattle.stab_commands.proofs.shots.send_copies.Goals as goal
 
 pub returns-in_err-shot : goal.returns-in_err-shot
@@ -19,10 +20,11 @@ returns-in_err-bits g c = record { sends = λ first. sends_none (g.O.Output.seen
 pub returns : goal.returns
 returns g c = record {
   sends = λ first.
-      c.write_copies.ensures.sends first c.args.shown (run_of (qubits_of (circuit_items c.args.circuit.now)) (g.C.Coins.sequence c.args.coins.now) (circuit_items c.args.circuit.now))
-      (c.in_ok-bits.ensures.shown _ (record {
-        records = rw c.qubits.ensures.value at c.in_ok-shot.ensures.records;
-        detectors = rw c.qubits.ensures.value at c.in_ok-shot.ensures.detectors;
-        observables = rw c.qubits.ensures.value at c.in_ok-shot.ensures.observables;
-      }));
+      let items = circuit_items c.args.circuit.now in
+      let run = run_of (qubits_of items) (g.C.Coins.sequence c.args.coins.now) items in
+      let shot = c.in_ok-shot.shot in
+      c.write_copies.ensures.sends first c.args.shown run
+      (is_shown c.args.shown run c.in_ok-bits.bits.kinds c.in_ok-bits.bits.items.items shot.records.items shot.detectors.items shot.observables.items
+      c.in_ok-bits.ensures.kinds c.in_ok-bits.ensures.items
+      (rw c.qubits.ensures.value at c.in_ok-shot.ensures.records) (rw c.qubits.ensures.value at c.in_ok-shot.ensures.detectors) (rw c.qubits.ensures.value at c.in_ok-shot.ensures.observables));
 }
