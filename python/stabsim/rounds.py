@@ -16,6 +16,12 @@ def parts_of_block(block: str, round_number: int) -> list[str]:
     return [f"REPEAT{head[1] or ''} {rounds}{body}" for rounds in (round_number, 1, count - round_number - 1) if rounds]
 
 
+def longest_part(parts: list[str]) -> int:
+    """Which of these blocks has the most rounds: the first that does, counted from 0."""
+    rounds = [int(head[2]) for head in map(HEAD.match, parts) if head]
+    return rounds.index(max(rounds))
+
+
 def place_behind(place: str, number: int = 1) -> str:
     """The path of the item so many places behind the one at a path, in the same list."""
     *outer, last = place.split("/")

@@ -11,7 +11,7 @@ from stabsim import bits, program
 from stabsim.errors import Refused
 from stabsim.framed import FramedProcess
 from stabsim.history import Change, History, Request
-from stabsim.rounds import parts_of_block, place_behind
+from stabsim.rounds import longest_part, parts_of_block, place_behind
 from stabsim.script import Path, edit_lines, path_text
 from stabsim.sure import Sure, sure_of
 
@@ -239,16 +239,18 @@ def delete_line(path: str) -> bytes:
 
 
 def joining(path: str, block: str, round_number: int) -> tuple[Request, ...]:
-    """The edits that take a split back: the first part becomes the whole block, and the others go, the last one first. So there are
-    never fewer records than at the end, and no lookback is refused on the way. None where the block has no such round: the split
+    """The edits that take a split back: the longest part becomes the whole block, and the others go, the last one first. So there
+    are never fewer records than at the end, and no lookback is refused on the way. None where the block has no such round: the split
     itself is then refused."""
     try:
-        first, *others = parts_of_block(block, round_number)
+        parts = parts_of_block(block, round_number)
     except ValueError:
         return ()
-    places = [(place_behind(path, number), part) for number, part in enumerate(others, 1)]
-    whole = Request(edit_lines(f"replace {path}", block), edit_lines(f"replace {path}", first))
-    return (whole, *(Request(delete_line(place), edit_lines(f"insert {place}", part)) for place, part in reversed(places)))
+    longest = longest_part(parts)
+    places = [place_behind(path, number) for number in range(len(parts))]
+    whole = Request(edit_lines(f"replace {places[longest]}", block), edit_lines(f"replace {places[longest]}", parts[longest]))
+    others = [(place, part) for place, part in zip(places, parts, strict=True) if place != places[longest]]
+    return (whole, *(Request(delete_line(place), edit_lines(f"insert {place}", part)) for place, part in reversed(others)))
 
 
 def text_of_lines(lines: list[bytes]) -> str:

@@ -3,7 +3,7 @@
 import dataclasses
 from typing import Any, Literal
 
-from stabsim.rounds import parts_of_block, place_behind
+from stabsim.rounds import longest_part, parts_of_block, place_behind
 
 Kind = Literal["insert", "replace", "delete", "split"]
 # What a tab may ask for as an edit; a split it asks for by itself.
@@ -53,10 +53,17 @@ def undoing(edit: Edit, old: str) -> list[Edit]:
     if edit.kind == "insert":
         return [Edit("delete", edit.place)]
     if edit.kind == "split":
-        # The whole block comes back first: so there are never fewer records than at the end.
-        others = len(parts_of_block(old, int(edit.item))) - 1
-        return [Edit("replace", edit.place, old.strip())] + [Edit("delete", place_behind(edit.place))] * others
+        return joining(edit.place, old.strip(), int(edit.item))
     return [Edit("insert" if edit.kind == "delete" else "replace", edit.place, old.strip())]
+
+
+def joining(place: str, block: str, number: int) -> list[Edit]:
+    """The edits that take a split back: the longest part becomes the whole block, and the others go, the last one first. So there
+    are never fewer records than at the end, and no lookback is refused on the way."""
+    parts = parts_of_block(block, number)
+    longest = longest_part(parts)
+    others = [it for it in reversed(range(len(parts))) if it != longest]
+    return [Edit("replace", place_behind(place, longest), block)] + [Edit("delete", place_behind(place, it)) for it in others]
 
 
 def splitting(place: str, block: str, number: int) -> list[Edit]:
