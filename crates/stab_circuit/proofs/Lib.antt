@@ -4,6 +4,7 @@ mod ViewLemmas
 mod ReaderLemmas
 mod PrintLemmas
 mod StepLemmas
+mod StepPartLemmas
 mod StepApartLemmas
 mod WalkLemmas
 mod SkipLemmas

@@ -235,7 +235,7 @@ none_given [] (suc n) e = refl
 none_given (s ∷ l) zero e = absurd (cc)
 none_given (s ∷ l) (suc n) e = none_given l n e
 
-some_given : (l : List Step) (n : ℕ) (s : Step) → Some s ≡ slice_get l n → drop n l ≡ s ∷ drop (n + 1) l
+pub some_given : (l : List Step) (n : ℕ) (s : Step) → Some s ≡ slice_get l n → drop n l ≡ s ∷ drop (n + 1) l
 some_given [] n s e = absurd (cc)
 some_given (r ∷ l) zero s e = let same : r ≡ s = cc in ap (λ x. x ∷ l) same
 some_given (r ∷ l) (suc n) s e = let next' : suc n + 1 ≡ suc (n + 1) = omega arith in some_given l n s e ∙ ap (λ k. s ∷ drop k (r ∷ l)) (sym next')

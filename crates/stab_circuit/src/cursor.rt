@@ -1,6 +1,7 @@
 use crate::circuit::Circuit;
 use crate::item::Item;
 use crate::step::Step;
+use crate::steps::Steps;
 use crate::walk::Walk;
 use stab_io::Refusal;
 use std::alloc::Global;
@@ -32,11 +33,11 @@ impl<'a> Model for Cursor<'a> {
 }
 
 impl<'a> Cursor<'a> {
-    ghost use Rattle.std.specs.Prelude.{◌≡◌, ◌≤◌, None, [], ◌∷◌, length, drop, All, IfOk, IfErr, IfSome, IfNone};
+    ghost use Rattle.std.specs.Prelude.{◌≡◌, ◌≤◌, ◌<◌, None, [], ◌∷◌, ◌++◌, length, drop, All, IfOk, IfErr, IfSome, IfNone};
     ghost use Rattle.stab_io.specs.declared.refusal.Refusal.TheVariants.{OutOfMemory};
     ghost use Rattle.stab_circuit.specs.Steps.{check_of, unroll};
     ghost use Rattle.stab_circuit.specs.Views.{circuit_items};
-    ghost use Rattle.stab_circuit.specs.Cursors.{step_shown, IsApart};
+    ghost use Rattle.stab_circuit.specs.Cursors.{step_shown, steps_shown, IsApart, IsApartAlone};
 
     /// The steps of a circuit from this one on, counted from 0.
     ///
@@ -66,6 +67,19 @@ impl<'a> Cursor<'a> {
         ensures none { IfNone result ((self.old.left ≡ []) × (self.new.left ≡ [])) }
     {
         self.walk.next()
+    }
+
+    /// The next steps, of one instruction, up to so many, or `None` where none is left, and then for
+    /// ever. It takes no memory.
+    pub fn next_steps(&mut self, most: usize) -> Option<Steps<'a>>
+        requires some { 0 < most }
+        ensures all { self.new.all ≡ self.old.all }
+        ensures some { IfSome result (λ s. self.old.left ≡ steps_shown s ++ self.new.left) }
+        ensures within { IfSome result (λ s. (0 < length (steps_shown s)) × (length (steps_shown s) ≤ most)) }
+        ensures apart { IfSome result IsApartAlone }
+        ensures none { IfNone result ((self.old.left ≡ []) × (self.new.left ≡ [])) }
+    {
+        self.walk.next_steps(most)
     }
 
     /// Back to the circuit's first step. It takes no memory.

@@ -1,7 +1,7 @@
 ghost use Rattle.std.specs.Prelude.{◌≡◌, ◌<◌, ◌+◌, ◌^◌, [], ◌∷◌, true, false, length, map, slice_get, IfSome};
 ghost use Rattle.stab_tableau.specs.declared.gate.PairGate.TheVariants as gate;
 ghost use Rattle.stab_lines.specs.Axes.{letter_of};
-ghost use Rattle.stab_circuit.specs.Steps.{one, two, collapse, measured as measured_step, is_inverted as is_inverted_of, measured_product as measured_product_step, controlled_gate as controlled_gate_of, controlled_step, steps_of};
+ghost use Rattle.stab_circuit.specs.Steps.{one, two, collapse, measured as measured_of, is_inverted as is_inverted_of, measured_product as measured_product_step, controlled_gate as controlled_gate_of, controlled_step, steps_of};
 ghost use Rattle.stab_circuit.specs.Cursors.{step_shown, IsApart};
 ghost use Rattle.stab_circuit.specs.inner.Walks.{shown_step};
 
@@ -12,8 +12,8 @@ use stab_lines::{
 use stab_tableau::{Gate, PairGate};
 
 /// The step of a measured target.
-fn measured(measurement: Measurement, target: MeasureTarget) -> Step<'static>
-    ensures value { step_shown result ≡ measured_step measurement target }
+pub fn measured_step(measurement: Measurement, target: MeasureTarget) -> Step<'static>
+    ensures value { step_shown result ≡ measured_of measurement target }
 {
     Step::Collapse {
         letter: measurement.axis.letter(),
@@ -47,7 +47,8 @@ fn measured_product(product: &Product) -> Step
     }
 }
 
-fn controlled_gate(axis: Axis) -> PairGate
+/// The gate that applies X, Y or Z under the control of a qubit.
+pub fn controlled_gate(axis: Axis) -> PairGate
     ensures value { result ≡ controlled_gate_of axis }
 {
     match axis {
@@ -114,12 +115,12 @@ fn measurement_at(
     targets: &[MeasureTarget],
     place: usize,
 ) -> Option<Step<'static>>
-    ensures value { shown_step result ≡ slice_get (map (measured_step measurement) targets.now) place }
+    ensures value { shown_step result ≡ slice_get (map (measured_of measurement) targets.now) place }
     ensures apart { IfSome result (λ s. IsApart (step_shown s)) }
     ensures room { IfSome result (λ s. place + 1 < 2 ^ 64) }
 {
     match targets.get(place) {
-        Some(target) => Some(measured(measurement, *target)),
+        Some(target) => Some(measured_step(measurement, *target)),
         None => None,
     }
 }

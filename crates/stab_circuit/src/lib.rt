@@ -14,7 +14,7 @@
 //! - `circuit`: circuits, reading one, editing one, splitting a round off a block, the item at a path,
 //!   and the item that a step is of.
 //! - `print`: the one text of a circuit.
-//! - `step`, `instruction`: the steps of an instruction.
+//! - `step`, `instruction`, `steps`: the steps of an instruction, one at a time and together.
 //! - `walk`, `cursor`: the unrolled steps of a circuit, from any place on.
 //! - `laws`: what holds between all texts and all items.
 //!
@@ -53,6 +53,7 @@ mod path;
 mod print;
 mod reader;
 mod step;
+mod steps;
 mod summary;
 mod walk;
 
@@ -60,8 +61,10 @@ pub use circuit::{Circuit, StepItem, circuit_of_text, read_circuit, read_item};
 pub use cursor::Cursor;
 pub use edit::{Edit, Refused, Span};
 pub use input::read_text;
+pub use instruction::{controlled_gate, measured_step};
 pub use item::Item;
 pub use path::{Path, write_path};
 pub use print::{write_circuit, write_one_item};
-pub use stab_lines::{Axis, Factor, Qubit};
+pub use stab_lines::{Axis, ControlledPair, Factor, MeasureTarget, Measurement, Qubit};
 pub use step::Step;
+pub use steps::Steps;

@@ -5,6 +5,7 @@ ghost use Rattle.stab_circuit.specs.inner.Walks.{shown_step, kind_steps};
 use crate::instruction::{step_at, step_count};
 use crate::item::{Item, Part};
 use crate::step::Step;
+use crate::steps::{Steps, steps_from};
 use stab_lines::Kind;
 use std::alloc::{AllocError, Global};
 
@@ -43,7 +44,7 @@ impl<'a> Walk<'a> {
     ghost use Rattle.std.specs.Prelude.{◌≡◌, ◌≤◌, ◌<◌, ◌+◌, ◌-◌, ◌*◌, ◌∷◌, ◌++◌, [], None, min, length, drop, IfOk, IfSome, IfNone};
     ghost use Rattle.stab_circuit.specs.Items.{depth, listed};
     ghost use Rattle.stab_circuit.specs.Steps.{unroll, steps_of, rounds as rounds_of, most_steps, steps_cap};
-    ghost use Rattle.stab_circuit.specs.Cursors.{step_shown, IsApart};
+    ghost use Rattle.stab_circuit.specs.Cursors.{step_shown, steps_shown, IsApart, IsApartAlone};
     ghost use Rattle.stab_circuit.specs.inner.Walks.{kind_steps, ahead, walk_left, walk_weight, weight, weight_at, IsWalk, SameKind, Takes, GoesOn, Passes};
 
     /// A walk over the items from a place on, with room for every level.
@@ -188,6 +189,44 @@ impl<'a> Walk<'a> {
         'walk: loop {
             match self.step() {
                 Some(step) => return Some(step),
+                None => {
+                    if !self.go_on() {
+                        return None;
+                    }
+                }
+            }
+        }
+    }
+
+    /// The next steps of the instruction under way, up to so many, unless it has no more.
+    fn steps(&mut self, most: usize) -> Option<Steps<'a>>
+        requires walks { IsWalk self.old }
+        requires some { 0 < most }
+        ensures walks { IsWalk self.new }
+        ensures some { IfSome result (λ s. walk_left self.old ≡ steps_shown s ++ walk_left self.new) }
+        ensures within { IfSome result (λ s. (0 < length (steps_shown s)) × (length (steps_shown s) ≤ most)) }
+        ensures apart { IfSome result IsApartAlone }
+        ensures none { IfNone result ((self.new ≡ self.old) × (drop self.old.within (kind_steps self.old.kind) ≡ [])) }
+    {
+        let steps = steps_from(self.kind?, self.within, most)?;
+        self.within += steps.len();
+        Some(steps)
+    }
+
+    /// The next steps, of one instruction, up to so many, or `None` where none is left, and then for
+    /// ever.
+    pub fn next_steps(&mut self, most: usize) -> Option<Steps<'a>>
+        requires walks { IsWalk self.old }
+        requires some { 0 < most }
+        ensures walks { IsWalk self.new }
+        ensures some { IfSome result (λ s. walk_left self.old ≡ steps_shown s ++ walk_left self.new) }
+        ensures within { IfSome result (λ s. (0 < length (steps_shown s)) × (length (steps_shown s) ≤ most)) }
+        ensures apart { IfSome result IsApartAlone }
+        ensures none { IfNone result ((walk_left self.old ≡ []) × (walk_left self.new ≡ [])) }
+    {
+        'walk: loop {
+            match self.steps(most) {
+                Some(steps) => return Some(steps),
                 None => {
                     if !self.go_on() {
                         return None;

@@ -1,0 +1,89 @@
+ghost use Rattle.std.specs.Prelude.{◌≡◌, ◌≤◌, ◌<◌, ◌+◌, ◌++◌, ◌^◌, [], length, take, drop, IfSome, IfNone};
+ghost use Rattle.stab_circuit.specs.Steps.{steps_of};
+ghost use Rattle.stab_circuit.specs.Cursors.{steps_shown, IsApartAlone};
+
+use crate::instruction::step_at;
+use crate::step::Step;
+use stab_lines::{Axis, ControlledPair, Kind, MeasureTarget, Measurement, Qubit};
+use stab_tableau::Gate;
+
+/// Steps of one instruction, one behind the other, at least one.
+#[derive(Clone, Copy)]
+pub enum Steps<'a> {
+    /// A gate on each of these qubits.
+    Gates(Gate, &'a [Qubit]),
+    /// X, Y or Z under the control of a qubit or of a record, for each of these pairs.
+    Pairs(Axis, &'a [ControlledPair]),
+    /// A measurement of each of these targets.
+    Measurements(Measurement, &'a [MeasureTarget]),
+    /// One step.
+    Single(Step<'a>),
+}
+
+impl<'a> Steps<'a> {
+    ghost use Rattle.std.specs.Prelude.{◌≡◌, length};
+    ghost use Rattle.stab_circuit.specs.Cursors.{steps_shown};
+
+    /// How many there are.
+    pub fn len(self) -> usize
+        ensures value { result ≡ length (steps_shown self.entry) }
+    {
+        match self {
+            Steps::Gates(_, qubits) => qubits.len(),
+            Steps::Pairs(_, pairs) => pairs.len(),
+            Steps::Measurements(_, targets) => targets.len(),
+            Steps::Single(_) => 1,
+        }
+    }
+}
+
+/// The elements of a list from a place on, up to so many, or `None` where there are none.
+fn part<T>(list: &[T], place: usize, most: usize) -> Option<&[T]>
+    requires some { 0 < most }
+    ensures value { IfSome result (λ p. p.now ≡ take most (drop place list.now)) }
+    ensures some { IfSome result (λ p. (0 < length p.now) × (length p.now ≤ most) × (place + length p.now < 2 ^ 64)) }
+    ensures none { IfNone result (length list.now ≤ place) }
+{
+    if place >= list.len() {
+        return None;
+    }
+    let (_, rest) = list.split_at(place);
+    let (part, _) = rest.split_at(most.min(rest.len()));
+    Some(part)
+}
+
+/// The steps of an instruction from a place among them on, up to so many, or `None` where it has no
+/// more.
+pub fn steps_from(kind: &Kind, place: usize, most: usize) -> Option<Steps<'_>>
+    requires some { 0 < most }
+    ensures some { IfSome result (λ s. drop place (steps_of kind.now) ≡ steps_shown s ++ drop (place + length (steps_shown s)) (steps_of kind.now)) }
+    ensures within { IfSome result (λ s. (0 < length (steps_shown s)) × (length (steps_shown s) ≤ most) × (place + length (steps_shown s) < 2 ^ 64)) }
+    ensures apart { IfSome result IsApartAlone }
+    ensures none { IfNone result (drop place (steps_of kind.now) ≡ []) }
+{
+    match kind {
+        Kind::Gate(gate, qubits) => {
+            let part = part(qubits.as_slice(), place, most)?;
+            Some(Steps::Gates(*gate, part))
+        }
+        Kind::Controlled(axis, pairs) => {
+            let part = part(pairs.as_slice(), place, most)?;
+            Some(Steps::Pairs(*axis, part))
+        }
+        Kind::Measure(measurement, targets) => {
+            let part = part(targets.as_slice(), place, most)?;
+            Some(Steps::Measurements(*measurement, part))
+        }
+        Kind::Swap(_)
+        | Kind::Reset(_, _)
+        | Kind::MeasureProducts(_)
+        | Kind::Detector(_)
+        | Kind::ObservableInclude(_, _)
+        | Kind::Tick
+        | Kind::QubitCoords(_)
+        | Kind::ShiftCoords(_) => {
+            let step = step_at(kind, place)?;
+            Some(Steps::Single(step))
+        }
+    }
+}
