@@ -27,4 +27,5 @@ pub mod NotedLemmas
 pub mod KeptLemmas
 pub mod ImageLemmas
 pub mod StepsWalkedLemmas
+pub mod GoesOverLemmas
 pub mod GoneLemmas

@@ -1,5 +1,5 @@
 -- Over: frames, what they flip and their notes, over steps one after another.
-use Rattle.std.proofs.Common.{◌≡◌, ℕ, ◌+◌, sym, ◌∙◌, ap, Bool, List, [], ◌∷◌, ◌++◌, arith}
+use Rattle.std.proofs.Common.{◌≡◌, ℕ, ◌+◌, sym, ◌∙◌, ap, Bool, List, [], ◌∷◌, ◌++◌, ◌≤◌, length, arith}
 use Rattle.stab_circuit.specs.Steps.{Step}
 use Rattle.stab_run.specs.Points.{Point, joined, coins_of, all_coins_of, next_point, point_after}
 use Rattle.stab_run.proofs.RunLemmas.{joined-assoc}
@@ -7,6 +7,7 @@ use Rattle.stab_frames.specs.Frames.{Frame}
 use Rattle.stab_frames.specs.Notes.{Notes}
 use Rattle.stab_frames.specs.FrameSteps.{frame_after, frame_over, flips_given, flips_over}
 use Rattle.stab_frames.specs.StepNotes.{AreEnough}
+use Rattle.stab_frames.proofs.NoteLemmas.{few-coins}
 
 no-more : (coin : ℕ) → coin + 0 ≡ coin
 no-more coin = omega arith
@@ -19,6 +20,10 @@ more coin a b = omega arith
 pub coins-append : (xs ys : List Step) → all_coins_of (xs ++ ys) ≡ all_coins_of xs + all_coins_of ys
 coins-append [] ys = omega arith
 coins-append (x ∷ xs) ys = let e = coins-append xs ys in omega (arith, e)
+
+pub coins-few : (xs : List Step) → all_coins_of xs ≤ length xs
+coins-few [] = omega arith
+coins-few (x ∷ xs) = let h = coins-few xs in omega (arith, h, few-coins x)
 
 pub coin-after : (n : ℕ) (coins : ℕ → Bool) (xs : List Step) (a : Point) → (point_after n coins xs a).coin ≡ a.coin + all_coins_of xs
 coin-after n coins [] a = omega arith

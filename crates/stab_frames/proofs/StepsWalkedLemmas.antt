@@ -1,7 +1,8 @@
--- Steps walked: a frame's way over the first of some steps, one step more, and what it comes to.
-use Rattle.std.proofs.Common.{◌≡◌, ℕ, zero, suc, ◌+◌, ◌<◌, ◌≤◌, sym, ◌∙◌, ap, subst, Bool, List, [], ◌∷◌, ◌++◌, length, take, drop, All, arith, Option}
-use Rattle.std.proofs.lemmas.List.{take-append-drop, length-take}
-use Rattle.std.proofs.lemmas.List.Elements.{All-head, All-tail}
+-- Steps walked: a frame's way over the first of some steps, over some more, and what it comes to.
+use Rattle.std.proofs.Common.{◌≡◌, ℕ, zero, suc, ◌+◌, ◌<◌, ◌≤◌, sym, ◌∙◌, ap, subst, Bool, List, [], ◌∷◌, ◌++◌, length, take, drop, All, arith}
+use Rattle.std.proofs.Math.Seq.{take-add, take-append_seam, drop-append_seam}
+use Rattle.std.proofs.lemmas.List.{take-append-drop, take-append-le, length-take, length-drop, length-append, drop-drop}
+use Rattle.std.proofs.lemmas.List.Elements.{All-drop, All-take}
 use Rattle.stab_pauli.specs.declared.letter.Letter.{Letter}
 use Rattle.stab_circuit.specs.Steps.{Step}
 use Rattle.stab_run.specs.Points.{Point, all_coins_of, point_after, outputs}
@@ -12,77 +13,39 @@ use Rattle.stab_frames.specs.Notes.{same_coins}
 use Rattle.stab_frames.specs.StepNotes.{AreEnough}
 use Rattle.stab_frames.specs.FrameSteps.{frame_over}
 use Rattle.stab_frames.specs.KeptStrings.{note_at, AreTrue}
-use Rattle.stab_frames.specs.Walks.{WalkState, frame_at, WalksOver}
-use Rattle.stab_frames.specs.inner.Passes.{Passes, IsTold, AreTold}
-use Rattle.stab_frames.proofs.NoteLemmas.{few-coins}
+use Rattle.stab_frames.specs.Walks.{WalkState}
+use Rattle.stab_frames.specs.inner.Passes.{AreTold, GoesOver}
+use Rattle.stab_frames.proofs.OverLemmas.{coins-few}
 use Rattle.stab_frames.proofs.TrueLemmas.{true-front}
-use Rattle.stab_frames.proofs.PassLemmas.{over-step, over-append, told-append, told-enough}
+use Rattle.stab_frames.proofs.PassLemmas.{told-enough}
+use Rattle.stab_frames.proofs.GoesOverLemmas.{goes-append}
 
 -- the first of the steps that are left
 
-pub left-first : (k : ℕ) (xs : List Step) (x : Step) (rest : List Step) → drop k xs ≡ x ∷ rest → k < length xs
-left-first zero [] x rest e = cc
-left-first (suc k) [] x rest e = cc
-left-first zero (y ∷ xs) x rest e = omega arith
-left-first (suc k) (y ∷ xs) x rest e = let h = left-first k xs x rest e in omega (arith, h)
+pub left-over : (k : ℕ) (xs ys rest : List Step) → drop k xs ≡ ys ++ rest → 0 < length ys → k + length ys ≤ length xs
+left-over k xs ys rest e some = omega (arith, length-drop k xs, ap length e, length-append ys rest)
 
-take-first : (k : ℕ) (xs : List Step) (x : Step) (rest : List Step) → drop k xs ≡ x ∷ rest → take (suc k) xs ≡ take k xs ++ x ∷ []
-take-first zero [] x rest e = cc
-take-first (suc k) [] x rest e = cc
-take-first zero (y ∷ xs) x rest e = let h : y ≡ x = cc in ap (λ z. z ∷ []) h
-take-first (suc k) (y ∷ xs) x rest e = ap (λ w. y ∷ w) (take-first k xs x rest e)
+pub take-over : (k j : ℕ) (xs ys rest : List Step) → drop k xs ≡ ys ++ rest → j ≤ length ys → take (k + j) xs ≡ take k xs ++ take j ys
+take-over k j xs ys rest e le = take-add k j xs ∙ ap (λ zs. take k xs ++ take j zs) e ∙ ap (λ zs. take k xs ++ zs) (take-append-le j ys rest le)
 
-drop-first : (k : ℕ) (xs : List Step) (x : Step) (rest : List Step) → drop k xs ≡ x ∷ rest → drop (suc k) xs ≡ rest
-drop-first zero [] x rest e = cc
-drop-first (suc k) [] x rest e = cc
-drop-first zero (y ∷ xs) x rest e = cc
-drop-first (suc k) (y ∷ xs) x rest e = drop-first k xs x rest e
-
-next-number : (k : ℕ) → suc k ≡ k + 1
-next-number k = omega arith
-
-pub take-further : (k : ℕ) (xs : List Step) (x : Step) (rest : List Step) → drop k xs ≡ x ∷ rest → take (k + 1) xs ≡ take k xs ++ x ∷ []
-take-further k xs x rest e = ap (λ j. take j xs) (sym (next-number k)) ∙ take-first k xs x rest e
-
-pub drop-further : (k : ℕ) (xs : List Step) (x : Step) (rest : List Step) → drop k xs ≡ x ∷ rest → rest ≡ drop (k + 1) xs
-drop-further k xs x rest e = sym (ap (λ j. drop j xs) (sym (next-number k)) ∙ drop-first k xs x rest e)
+pub drop-over : (k : ℕ) (xs ys rest : List Step) → drop k xs ≡ ys ++ rest → rest ≡ drop (k + length ys) xs
+drop-over k xs ys rest e = sym (sym (drop-drop (length ys) k xs) ∙ ap (drop (length ys)) e ∙ drop-append_seam ys rest)
 
 pub left-none : (k : ℕ) (xs : List Step) → drop k xs ≡ [] → length xs ≤ k
-left-none k [] e = omega arith
-left-none zero (y ∷ xs) e = cc
-left-none (suc k) (y ∷ xs) e = let h = left-none k xs e in omega (arith, h)
+left-none k xs e = omega (arith, length-drop k xs, ap length e)
 
-pub fits-first : (n m k : ℕ) (xs : List Step) (x : Step) (rest : List Step) → drop k xs ≡ x ∷ rest → m ≡ n → All (StepFits n) xs → StepFits m x
-fits-first n m k xs x rest e same fits = subst (λ j. StepFits j x) (sym same) (at k xs e fits)
-  where
-    at : (k : ℕ) (xs : List Step) → drop k xs ≡ x ∷ rest → All (StepFits n) xs → StepFits n x
-    at zero xs e fits = All-head (StepFits n) x rest (subst (All (StepFits n)) e fits)
-    at (suc k) [] e fits = cc
-    at (suc k) (y ∷ xs) e fits = at k xs e (All-tail (StepFits n) y xs fits)
+pub fits-over : (n m k : ℕ) (xs ys rest : List Step) → drop k xs ≡ ys ++ rest → m ≡ n → All (StepFits n) xs → All (StepFits m) ys
+fits-over n m k xs ys rest e same fits =
+    subst (λ j. All (StepFits j) ys) (sym same)
+    (subst (All (StepFits n)) (take-append_seam ys rest) (All-take (StepFits n) (length ys) (ys ++ rest) (subst (All (StepFits n)) e (All-drop (StepFits n) k xs fits))))
 
--- a walk over one step more
+-- a walk over some of the next steps
 
-pub over-further : (n : ℕ) (strings : ℕ → Option (List Letter)) (k : ℕ) (xs : List Step) (x : Step) (rest : List Step) (old now new : WalkState) → drop k xs ≡ x ∷ rest
-    → WalksOver n strings (take k xs) old now → Passes n strings x now new → WalksOver n strings (take (k + 1) xs) old new
-over-further n strings k xs x rest old now new e over passes =
-    subst (λ ys. WalksOver n strings ys old new) (sym (take-further k xs x rest e))
-    (over-append n strings (take k xs) (x ∷ []) old now new over (over-step n strings x now new passes))
-
-pub told-further : (n : ℕ) (strings : List (List Letter)) (free : List Bool) (k : ℕ) (xs : List Step) (x : Step) (rest : List Step) (old now : WalkState) (base : ℕ)
-    → drop k xs ≡ x ∷ rest → WalksOver n (note_at strings free) (take k xs) old now
-    → AreTold n strings free (take k xs) old.coin (frame_at base old) → IsTold n strings free x now.coin now.letters
-    → AreTold n strings free (take (k + 1) xs) old.coin (frame_at base old)
-told-further n strings free k xs x rest old now base e over told here =
-    subst (λ ys. AreTold n strings free ys old.coin (frame_at base old)) (sym (take-further k xs x rest e))
-    (told-append n strings free (take k xs) (x ∷ []) old.coin (frame_at base old) told (
-      subst (λ c. IsTold n strings free x c (frame_over n (same_coins (note_at strings free)) (take k xs) old.coin (frame_at base old)).letters) over.coin
-          (subst (λ (f : Frame). IsTold n strings free x now.coin f.letters) (over.frame base) here),
-      tt,
-    ))
-
-coins-few : (xs : List Step) → all_coins_of xs ≤ length xs
-coins-few [] = omega arith
-coins-few (x ∷ xs) = let h = coins-few xs in omega (arith, h, few-coins x)
+pub goes-over : (n m : ℕ) (strings : List (List Letter)) (free : List Bool) (k j : ℕ) (xs ys rest : List Step) (old now new : WalkState) → drop k xs ≡ ys ++ rest → j ≤ length ys
+    → GoesOver n strings free (take k xs) old now → m ≡ n → GoesOver m strings free (take j ys) now new → GoesOver n strings free (take (k + j) xs) old new
+goes-over n m strings free k j xs ys rest old now new e le front same next =
+    subst (λ zs. GoesOver n strings free zs old new) (sym (take-over k j xs ys rest e le))
+    (goes-append n strings free (take k xs) (take j ys) old now new front (subst (λ i. GoesOver i strings free (take j ys) now new) same next))
 
 pub coin-few : (k : ℕ) (xs : List Step) → all_coins_of (take k xs) ≤ k
 coin-few k xs = omega (arith, coins-few (take k xs), length-take k xs)

@@ -21,7 +21,7 @@
 //! - `noting`: a run that keeps them on its way, and how far back its steps look.
 //! - `letters`: what gates make of the letters of a frame.
 //! - `walk`: a frame on its way, with what it has flipped.
-//! - `pass`: one step on its way.
+//! - `pass`, `pass_steps`: one step on its way, and those of one instruction.
 //! - `steps`: steps, until all are behind, the frame is gone, or a string is missing.
 //!
 //! In `specs/`, `Frames`, `Notes` and `FrameSteps` say what a frame is and what a step makes of it, `Flips`
@@ -44,6 +44,7 @@ mod letters;
 pub mod note_laws;
 mod noting;
 mod pass;
+mod pass_steps;
 pub mod run_laws;
 pub mod start_laws;
 pub mod step_laws;

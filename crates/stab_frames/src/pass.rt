@@ -65,19 +65,21 @@ pub fn pass(
 }
 
 /// Leads a frame over a gate on a qubit.
-fn pass_gate(walk: &mut FrameWalk, gate: Gate, qubit: usize)
+pub fn pass_gate(walk: &mut FrameWalk, gate: Gate, qubit: usize)
     requires in_range { qubit < length walk.old.letters }
     ensures value { walk.new ≡ record walk.old { letters = (image_of gate qubit (plus walk.old.letters)).letters } }
+    ensures length { length walk.new.letters ≡ length walk.old.letters }
 {
     let old = walk.letter(qubit);
     walk.set(qubit, image(gate, old));
 }
 
 /// Leads a frame over a gate on two qubits.
-fn pass_pair(walk: &mut FrameWalk, gate: PairGate, first: usize, second: usize)
+pub fn pass_pair(walk: &mut FrameWalk, gate: PairGate, first: usize, second: usize)
     requires first_in_range { first < length walk.old.letters }
     requires second_in_range { second < length walk.old.letters }
     ensures value { walk.new ≡ record walk.old { letters = (image_pair gate first second (plus walk.old.letters)).letters } }
+    ensures length { length walk.new.letters ≡ length walk.old.letters }
 {
     let old = walk.letter(first);
     let other = walk.letter(second);
@@ -86,7 +88,7 @@ fn pass_pair(walk: &mut FrameWalk, gate: PairGate, first: usize, second: usize)
 }
 
 /// Leads a frame over a letter that a record controls.
-fn pass_controlled(walk: &mut FrameWalk, letter: Letter, k: u32, qubit: usize)
+pub fn pass_controlled(walk: &mut FrameWalk, letter: Letter, k: u32, qubit: usize)
     requires in_range { qubit < length walk.old.letters }
     ensures value { walk.new ≡ record walk.old { letters = times_where (looked_up_of walk.old.flips.records k) (single (length walk.old.letters) qubit letter).letters walk.old.letters } }
     ensures length { length walk.new.letters ≡ length walk.old.letters }
@@ -159,7 +161,7 @@ fn flip_record_when(walk: &mut FrameWalk, recorded: bool, flipped: bool) -> Resu
 }
 
 /// Leads a frame over a measurement of a letter.
-fn pass_collapse(
+pub fn pass_collapse(
     walk: &mut FrameWalk,
     strings: &KeptStrings,
     free: &[bool],

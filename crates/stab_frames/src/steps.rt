@@ -9,7 +9,7 @@ ghost use Rattle.stab_frames.specs.Walks.{WalkState, frame_at, IsPlaced, WalksOv
 ghost use Rattle.stab_frames.specs.Stops.{IsStop};
 ghost use Rattle.stab_frames.specs.declared.steps.Stop.TheVariants.{NoString};
 
-use crate::pass::pass;
+use crate::pass_steps::pass_steps;
 use crate::strings::KeptStrings;
 use crate::walk::FrameWalk;
 use stab_circuit::Cursor;
@@ -65,22 +65,20 @@ pub fn walk_steps(
                 steps,
             });
         }
-        match cursor.next() {
-            Some(step) => {
-                let went = pass(walk, strings, free, step)?;
-                if !went {
-                    return Ok(Walked {
-                        stop: Stop::NoString,
-                        steps,
-                    });
-                }
-            }
-            None => return Ok(Walked {
+        let Some(next) = cursor.next_steps(most - steps) else {
+            return Ok(Walked {
                 stop: Stop::Behind,
                 steps,
-            }),
+            });
+        };
+        let went = pass_steps(walk, strings, free, next)?;
+        steps += went;
+        if went < next.len() {
+            return Ok(Walked {
+                stop: Stop::NoString,
+                steps,
+            });
         }
-        steps += 1;
     }
     Ok(Walked {
         stop: Stop::Behind,

@@ -170,6 +170,7 @@ impl FrameWalk {
     pub(crate) fn set(&mut self, qubit: usize, letter: Letter)
         requires in_range { qubit < length self.old.letters }
         ensures value { self.new ≡ record self.old { letters = slice_set self.old.letters qubit letter } }
+        ensures length { length self.new.letters ≡ length self.old.letters }
     {
         let old = self.letters[qubit];
         self.letters[qubit] = letter;

@@ -1,6 +1,6 @@
 -- Passes: a frame on its way over one step, and what it must know of a measurement.
 -- Source: this project's own.
-use Rattle.std.specs.Prelude.{◌≡◌, ℕ, ◌+◌, Bool, true, false, List, [], ◌∷◌, Option, Some, None, IfSome, slice_index_or}
+use Rattle.std.specs.Prelude.{◌≡◌, ℕ, ◌+◌, Bool, true, false, List, [], ◌∷◌, Option, Some, None, IfSome, slice_index_or, length}
 use Rattle.stab_pauli.specs.declared.letter.Letter.{Letter}
 use Rattle.stab_pauli.specs.declared.letter.Letter.TheVariants.{I}
 use Rattle.stab_pauli.specs.Letters.{◌⊕◌, letters_anticommute}
@@ -15,7 +15,7 @@ use Rattle.stab_frames.specs.Notes.{same_coins}
 use Rattle.stab_frames.specs.FrameSteps.{letters_after, flips_given, frame_after}
 use Rattle.stab_frames.specs.StepNotes.{measured_by}
 use Rattle.stab_frames.specs.KeptStrings.{note_at}
-use Rattle.stab_frames.specs.Walks.{WalkState, frame_at}
+use Rattle.stab_frames.specs.Walks.{WalkState, frame_at, IsPlaced, WalksOver}
 
 -- the letter, or I where the bit is 0
 abbrev pub letter_where : Bool → Letter → Letter
@@ -68,3 +68,14 @@ AreTold n strings free [] coin f = Unit {0}
 AreTold n strings free (x ∷ xs) coin f =
     IsTold n strings free x coin f.letters
     × AreTold n strings free xs (coin + coins_of x) (frame_after n (same_coins (note_at strings free)) x coin f)
+
+-- a frame of n letters went over steps, and what it had to know of their measurements was kept
+pub record GoesOver (n : ℕ) (strings : List (List Letter)) (free : List Bool) (xs : List Step) (old new : WalkState) : Type 0 where
+  pub over : WalksOver n (note_at strings free) xs old new
+  pub told : (base : ℕ) → AreTold n strings free xs old.coin (frame_at base old)
+  pub placed : IsPlaced free new
+  pub size : length new.letters ≡ n
+
+-- whatever strings were kept and whichever outcomes were free
+abbrev pub GoesFreely : ℕ → List Step → WalkState → WalkState → Type 0
+GoesFreely n xs old new = (strings : List (List Letter)) (free : List Bool) → IsPlaced free old → GoesOver n strings free xs old new
