@@ -1,5 +1,6 @@
 -- Steps left: the first so many of them, as they are carried out one after another.
-use Rattle.std.proofs.Common.{◌≡◌, ℕ, zero, suc, ◌+◌, ◌-◌, ◌^◌, ◌<◌, ◌≤◌, refl, ◌∙◌, ap, subst, arith, List, [], ◌∷◌, length, take, drop}
+use Rattle.std.proofs.Common.{◌≡◌, ℕ, zero, suc, ◌+◌, ◌-◌, ◌^◌, ◌<◌, ◌≤◌, refl, ◌∙◌, ap, subst, arith, List, [], ◌∷◌, ◌++◌, length, take, drop}
+use Rattle.std.proofs.Math.Seq.{take-append-add, drop-append-add}
 use Rattle.stab_circuit.specs.Steps.{Step}
 use Rattle.stab_run.specs.Points.{all_coins_of}
 
@@ -16,6 +17,30 @@ drop-next (suc k) xs x rest e p = ap (drop (suc k)) e ∙ ap (λ m. drop m rest)
   where
     one_less : k ≡ suc k - 1
     one_less = omega arith
+
+-- the first of the steps that are left, several together, and the others
+
+pub take-steps : (k : ℕ) (xs ys rest : List Step) → xs ≡ ys ++ rest → length ys ≤ k → take k xs ≡ ys ++ take (k - length ys) rest
+take-steps k xs ys rest e l =
+    ap (take k) e
+    ∙ ap (λ m. take m (ys ++ rest)) whole
+    ∙ take-append-add ys rest (k - length ys)
+  where
+    whole : k ≡ length ys + (k - length ys)
+    whole = omega arith
+
+pub drop-steps : (k : ℕ) (xs ys rest : List Step) → xs ≡ ys ++ rest → length ys ≤ k → drop k xs ≡ drop (k - length ys) rest
+drop-steps k xs ys rest e l =
+    ap (drop k) e
+    ∙ ap (λ m. drop m (ys ++ rest)) whole
+    ∙ drop-append-add ys rest (k - length ys)
+  where
+    whole : k ≡ length ys + (k - length ys)
+    whole = omega arith
+
+pub coins-append : (xs ys : List Step) → all_coins_of (xs ++ ys) ≡ all_coins_of xs + all_coins_of ys
+coins-append [] ys = omega arith
+coins-append (x ∷ xs) ys = let e = coins-append xs ys in omega (arith, e)
 
 pub take-none : (k : ℕ) (xs : List Step) → k ≤ 0 → take k xs ≡ []
 take-none zero xs l = refl
