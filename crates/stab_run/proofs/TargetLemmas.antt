@@ -1,8 +1,11 @@
 -- Targets of one instruction: the steps that they stand for, carried out one after another.
-use Rattle.std.proofs.Common.{◌≡◌, ℕ, ◌+◌, ◌<◌, ◌≤◌, sym, ◌∙◌, ap, subst, Bool, List, [], ◌∷◌, ◌++◌, All, length, map, take, get_or}
+use Rattle.std.proofs.Common.{◌≡◌, ℕ, ◌+◌, ◌<◌, ◌≤◌, refl, sym, ◌∙◌, ap, subst, arith, Bool, List, [], ◌∷◌, ◌++◌, All, length, map, take, get_or}
 use Rattle.std.proofs.lemmas.List.{map_more, get_or-map, length-map, take_all}
 use Rattle.std.proofs.lemmas.List.Elements.{All-get_or}
-use Rattle.stab_circuit.specs.Steps.{Step}
+use Rattle.stab_lines.specs.declared.range.MeasureTarget.{MeasureTarget}
+use Rattle.stab_lines.specs.declared.operation.Measurement.{Measurement}
+use Rattle.stab_circuit.specs.Steps.{Step, measured}
+use Rattle.stab_run.specs.Points.{all_coins_of}
 use Rattle.stab_run.specs.ProgramStates.{StepFits, ProgramState, IsRun}
 use Rattle.stab_run.proofs.RunLemmas.{IsRun-append}
 
@@ -32,3 +35,8 @@ run-target n m c d step xs i x a b new lt is same_size same_coins f g =
 pub run-targets : {X : Type 0} (n : ℕ) (c : ℕ → Bool) (step : X → Step) (xs : List X) (i : ℕ) (a b : ProgramState) → length xs ≤ i
     → IsRun n c (map step (take i xs)) a b → IsRun n c (map step xs) a b
 run-targets n c step xs i a b all f = subst (λ ys. IsRun n c (map step ys) a b) (take_all i xs all) f
+
+-- each measured target uses up one coin number
+pub coins-measured : (m : Measurement) (targets : List MeasureTarget) → all_coins_of (map (measured m) targets) ≡ length targets
+coins-measured m [] = refl
+coins-measured m (t ∷ targets) = let e = coins-measured m targets in omega (arith, e)
