@@ -20,22 +20,22 @@ drop-next (suc k) xs x rest e p = ap (drop (suc k)) e ∙ ap (λ m. drop m rest)
 
 -- the first of the steps that are left, several together, and the others
 
-pub take-steps : (k : ℕ) (xs ys rest : List Step) → xs ≡ ys ++ rest → length ys ≤ k → take k xs ≡ ys ++ take (k - length ys) rest
-take-steps k xs ys rest e l =
+pub take-steps : (k m : ℕ) (xs ys rest : List Step) → xs ≡ ys ++ rest → m ≡ length ys → length ys ≤ k → take k xs ≡ ys ++ take (k - m) rest
+take-steps k m xs ys rest e count l =
     ap (take k) e
     ∙ ap (λ m. take m (ys ++ rest)) whole
-    ∙ take-append-add ys rest (k - length ys)
+    ∙ take-append-add ys rest (k - m)
   where
-    whole : k ≡ length ys + (k - length ys)
+    whole : k ≡ length ys + (k - m)
     whole = omega arith
 
-pub drop-steps : (k : ℕ) (xs ys rest : List Step) → xs ≡ ys ++ rest → length ys ≤ k → drop k xs ≡ drop (k - length ys) rest
-drop-steps k xs ys rest e l =
+pub drop-steps : (k m : ℕ) (xs ys rest : List Step) → xs ≡ ys ++ rest → m ≡ length ys → length ys ≤ k → drop k xs ≡ drop (k - m) rest
+drop-steps k m xs ys rest e count l =
     ap (drop k) e
     ∙ ap (λ m. drop m (ys ++ rest)) whole
-    ∙ drop-append-add ys rest (k - length ys)
+    ∙ drop-append-add ys rest (k - m)
   where
-    whole : k ≡ length ys + (k - length ys)
+    whole : k ≡ length ys + (k - m)
     whole = omega arith
 
 pub coins-append : (xs ys : List Step) → all_coins_of (xs ++ ys) ≡ all_coins_of xs + all_coins_of ys
