@@ -1,7 +1,7 @@
 -- Runs: steps one after another, and how the program follows each.
 use Rattle.std.proofs.Common.{◌≡◌, ℕ, ◌+◌, refl, sym, ◌∙◌, ap, subst, Bool, true, false, ◌&&◌, List, [], ◌∷◌, ◌++◌, append_assoc, append-nil, All, length}
 use Rattle.std.proofs.Math.Seq.{take-append_seam, drop-append_seam}
-use Rattle.std.proofs.lemmas.List.Elements.{All-tail, All-take, All-drop}
+use Rattle.std.proofs.lemmas.List.Elements.{All-take, All-drop}
 use Rattle.std.proofs.lemmas.List.{length-append}
 use Rattle.stab_pauli.specs.declared.letter.Letter.{Letter}
 use Rattle.stab_pauli.specs.declared.letter.Letter.TheVariants.{I}
@@ -67,6 +67,9 @@ IsRun-append n coins xs ys a b c f g = λ p s.
           ∙ joined-assoc a.output (outputs n coins xs p) (outputs n coins ys (point_after n coins xs p))
           ∙ ap (joined a.output) (sym (outputs-append n coins xs ys p));
     }
+
+pub IsRun-same : (n m : ℕ) (c d : ℕ → Bool) (xs : List Step) (a b : ProgramState) → m ≡ n → d ≡ c → IsRun m d xs a b → IsRun n c xs a b
+IsRun-same n m c d xs a b same_size same_coins f = subst (λ k. IsRun k c xs a b) same_size (subst (λ s. IsRun m s xs a b) same_coins f)
 
 -- one step: where the group is right, so is all that follows from the output
 
@@ -187,34 +190,24 @@ run-product n coins x factors inverted is m m_is a b bit m_outcome m_projects ou
 
 -- the first of the steps that are left, and the others
 
-pub fits-rest : (n m : ℕ) (xs : List Step) (x : Step) (rest : List Step) → xs ≡ x ∷ rest → m ≡ n → All (StepFits n) xs → All (StepFits m) rest
-fits-rest n m xs x rest e same fits =
-    let all : All (StepFits n) (x ∷ rest) = subst (All (StepFits n)) e fits in
-    subst (λ k. All (StepFits k) rest) (sym same) (All-tail (StepFits n) x rest all)
-
--- a run of the others, after one of the first
-pub run-rest : (n m : ℕ) (c d : ℕ → Bool) (xs : List Step) (x : Step) (rest : List Step) (a b new : ProgramState) → xs ≡ x ∷ rest → m ≡ n → d ≡ c
-    → IsRun m d (x ∷ []) a b → IsRun n c rest b new → IsRun n c xs a new
-run-rest n m c d xs x rest a b new e same_size same_coins f g =
-    subst (λ ys. IsRun n c ys a new) (sym e) (IsRun-append n c (x ∷ []) rest a b new here g)
-  where
-    here : IsRun n c (x ∷ []) a b
-    here = subst (λ k. IsRun k c (x ∷ []) a b) same_size (subst (λ s. IsRun m s (x ∷ []) a b) same_coins f)
-
--- the same of several steps together
-
 pub fits-steps : (n m : ℕ) (xs ys rest : List Step) → xs ≡ ys ++ rest → m ≡ n → All (StepFits n) xs → All (StepFits m) ys × All (StepFits m) rest
 fits-steps n m xs ys rest e same fits =
-    let all : All (StepFits m) (ys ++ rest) = subst (λ k. All (StepFits k) (ys ++ rest)) (sym same) (subst (All (StepFits n)) e fits) in
-    (
+    let all : All (StepFits m) (ys ++ rest) = subst (λ k. All (StepFits k) (ys ++ rest)) (sym same) (subst (All (StepFits n)) e fits) in (
       subst (All (StepFits m)) (take-append_seam ys rest) (All-take (StepFits m) (length ys) (ys ++ rest) all),
       subst (All (StepFits m)) (drop-append_seam ys rest) (All-drop (StepFits m) (length ys) (ys ++ rest) all),
     )
 
+-- a run of the others, after one of the first
 pub run-steps : (n m : ℕ) (c d : ℕ → Bool) (xs ys rest : List Step) (a b new : ProgramState) → xs ≡ ys ++ rest → m ≡ n → d ≡ c
     → IsRun m d ys a b → IsRun n c rest b new → IsRun n c xs a new
 run-steps n m c d xs ys rest a b new e same_size same_coins f g =
-    subst (λ zs. IsRun n c zs a new) (sym e) (IsRun-append n c ys rest a b new here g)
-  where
-    here : IsRun n c ys a b
-    here = subst (λ k. IsRun k c ys a b) same_size (subst (λ s. IsRun m s ys a b) same_coins f)
+    subst (λ zs. IsRun n c zs a new) (sym e) (IsRun-append n c ys rest a b new (IsRun-same n m c d ys a b same_size same_coins f) g)
+
+-- the first alone
+
+pub fits-rest : (n m : ℕ) (xs : List Step) (x : Step) (rest : List Step) → xs ≡ x ∷ rest → m ≡ n → All (StepFits n) xs → All (StepFits m) rest
+fits-rest n m xs x rest e same fits = (fits-steps n m xs (x ∷ []) rest e same fits).1
+
+pub run-rest : (n m : ℕ) (c d : ℕ → Bool) (xs : List Step) (x : Step) (rest : List Step) (a b new : ProgramState) → xs ≡ x ∷ rest → m ≡ n → d ≡ c
+    → IsRun m d (x ∷ []) a b → IsRun n c rest b new → IsRun n c xs a new
+run-rest n m c d xs x rest a b new e same_size same_coins f g = run-steps n m c d xs (x ∷ []) rest a b new e same_size same_coins f g

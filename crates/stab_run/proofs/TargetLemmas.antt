@@ -7,7 +7,7 @@ use Rattle.stab_lines.specs.declared.operation.Measurement.{Measurement}
 use Rattle.stab_circuit.specs.Steps.{Step, measured}
 use Rattle.stab_run.specs.Points.{all_coins_of}
 use Rattle.stab_run.specs.ProgramStates.{StepFits, ProgramState, IsRun}
-use Rattle.stab_run.proofs.RunLemmas.{IsRun-append}
+use Rattle.stab_run.proofs.RunLemmas.{IsRun-append, IsRun-same}
 
 -- what the step of the target at a place needs
 pub fits-target : {X : Type 0} (n m : ℕ) (step : X → Step) (xs : List X) (i : ℕ) (x : X) → m ≡ n → i < length xs → x ≡ get_or xs i x
@@ -23,13 +23,11 @@ pub run-target : {X : Type 0} (n m : ℕ) (c d : ℕ → Bool) (step : X → Ste
     → x ≡ get_or xs i x → m ≡ n → d ≡ c → IsRun n c (map step (take i xs)) a b → IsRun m d (step x ∷ []) b new
     → IsRun n c (map step (take (i + 1) xs)) a new
 run-target n m c d step xs i x a b new lt is same_size same_coins f g =
-    subst (λ ys. IsRun n c ys a new) (sym more) (IsRun-append n c (map step (take i xs)) (step x ∷ []) a b new f here)
+    subst (λ ys. IsRun n c ys a new) (sym more)
+    (IsRun-append n c (map step (take i xs)) (step x ∷ []) a b new f (IsRun-same n m c d (step x ∷ []) b new same_size same_coins g))
   where
     more : map step (take (i + 1) xs) ≡ map step (take i xs) ++ step x ∷ []
     more = map_more step xs i x lt ∙ ap (λ y. map step (take i xs) ++ step y ∷ []) (sym is)
-
-    here : IsRun n c (step x ∷ []) b new
-    here = subst (λ k. IsRun k c (step x ∷ []) b new) same_size (subst (λ s. IsRun m s (step x ∷ []) b new) same_coins g)
 
 -- a run over no fewer targets than there are
 pub run-targets : {X : Type 0} (n : ℕ) (c : ℕ → Bool) (step : X → Step) (xs : List X) (i : ℕ) (a b : ProgramState) → length xs ≤ i

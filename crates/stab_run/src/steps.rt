@@ -50,7 +50,15 @@ pub fn apply_steps<C: Coins>(
             Ok(())
         }
         Steps::Measurements(measurement, targets) => {
-            measure_targets(tableau, string, coins, outputs, measurement, targets, applied)
+            measure_targets(
+                tableau,
+                string,
+                coins,
+                outputs,
+                measurement,
+                targets,
+                applied,
+            )
         }
         Steps::Single(step) => apply_step(tableau, string, coins, outputs, step, applied),
     }
@@ -86,12 +94,7 @@ fn apply_pair(tableau: &mut Tableau, records: &[bool], axis: Axis, pair: Control
 }
 
 /// Applies X, Y or Z so for each of some pairs.
-pub fn apply_pairs(
-    tableau: &mut Tableau,
-    records: &[bool],
-    axis: Axis,
-    pairs: &[ControlledPair],
-)
+pub fn apply_pairs(tableau: &mut Tableau, records: &[bool], axis: Axis, pairs: &[ControlledPair])
     requires fits { All (StepFits tableau.old.qubits) (map (controlled_step axis) pairs.now) }
     ensures qubits { tableau.new.qubits ≡ tableau.old.qubits }
     ensures run { (coins : ℕ → Bool) (output : RunOutput) → output.records ≡ records.now → IsRun tableau.old.qubits coins (map (controlled_step axis) pairs.now) (program_state tableau.old output) (program_state tableau.new output) }

@@ -1,4 +1,4 @@
-use Rattle.std.proofs.Common.{arith, rules, refl, sym, ◌∙◌}
+use Rattle.std.proofs.Common.{arith, rules, refl, ◌∙◌}
 use Rattle.stab_tableau.specs.Tableaus.{stabilises}
 use Rattle.stab_circuit.specs.Steps.{one}
 use Rattle.stab_run.specs.ProgramStates.{program_state}
@@ -9,8 +9,8 @@ use Rattle.stab_run.proofs.steps.apply_gates.Goals as goal
 pub apply-requires : goal.apply-requires
 apply-requires c =
     let fits =
-        fits-target c.args.tableau.now.qubits c.loop-qubit.tableau.qubits (one c.args.gate) c.args.qubits.now c.loop-qubit.qubit-index c.qubit-item.result
-        c.loop-qubit.invariant.qubits c.loop-qubit-test.true c.qubit-item.is c.requires.fits in
+    fits-target c.args.tableau.now.qubits c.loop-qubit.tableau.qubits (one c.args.gate) c.args.qubits.now c.loop-qubit.qubit-index c.qubit-item.result
+    c.loop-qubit.invariant.qubits c.loop-qubit-test.true c.qubit-item.is c.requires.fits in
     record { in_range = omega arith }
 
 pub loop-qubit-preserved : goal.loop-qubit-preserved

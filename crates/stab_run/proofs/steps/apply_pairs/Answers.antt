@@ -1,4 +1,4 @@
-use Rattle.std.proofs.Common.{arith, rules, refl, sym, ◌∙◌}
+use Rattle.std.proofs.Common.{refl, ◌∙◌}
 use Rattle.stab_circuit.specs.Steps.{controlled_step}
 use Rattle.stab_run.specs.ProgramStates.{program_state}
 use Rattle.stab_run.proofs.TargetLemmas.{fits-target, run-target, run-targets}

@@ -1,4 +1,4 @@
-use Rattle.std.proofs.Common.{arith, refl, ap, sym, subst, OnOk, ◌∙◌}
+use Rattle.std.proofs.Common.{arith, ap, sym, subst, OnOk, ◌∙◌}
 use Rattle.stab_circuit.specs.Cursors.{steps_shown}
 use Rattle.stab_run.specs.Points.{all_coins_of}
 use Rattle.stab_run.specs.ProgramStates.{IsRun, program_state, output_of}

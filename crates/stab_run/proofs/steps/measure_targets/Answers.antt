@@ -1,5 +1,5 @@
 use Rattle.std.proofs.Common.{arith, ap, sym, subst, ◌∙◌, ◌∷◌, []}
-use Rattle.stab_circuit.specs.Steps.{Step, measured}
+use Rattle.stab_circuit.specs.Steps.{measured}
 use Rattle.stab_run.specs.Points.{coins_of}
 use Rattle.stab_run.specs.ProgramStates.{StepFits, IsRun, program_state, output_of}
 use Rattle.stab_run.proofs.TargetLemmas.{fits-target, run-target, run-targets}
