@@ -1,6 +1,7 @@
 pub mod RecordLemmas
 pub mod ProductLemmas
 pub mod RunLemmas
+pub mod TargetLemmas
 pub mod StateLemmas
 pub mod FutureLemmas
 pub mod PointLemmas

@@ -1,18 +1,21 @@
 -- Runs: steps one after another, and how the program follows each.
 use Rattle.std.proofs.Common.{◌≡◌, ℕ, ◌+◌, refl, sym, ◌∙◌, ap, subst, Bool, true, false, ◌&&◌, List, [], ◌∷◌, ◌++◌, append_assoc, append-nil, All, length}
-use Rattle.std.proofs.lemmas.List.Elements.{All-tail}
+use Rattle.std.proofs.Math.Seq.{take-append_seam, drop-append_seam}
+use Rattle.std.proofs.lemmas.List.Elements.{All-take, All-drop}
 use Rattle.std.proofs.lemmas.List.{length-append}
 use Rattle.stab_pauli.specs.declared.letter.Letter.{Letter}
 use Rattle.stab_pauli.specs.declared.letter.Letter.TheVariants.{I}
 use Rattle.stab_pauli.specs.Letters.{◌⊕◌}
 use Rattle.stab_pauli.specs.Paulis.{Signed, single}
+use Rattle.stab_tableau.specs.declared.gate.Gate.{Gate}
+use Rattle.stab_tableau.specs.Gates.{back}
 use Rattle.stab_tableau.specs.Traces.{Event, projected, member, is_free}
 use Rattle.stab_tableau.specs.Groups.{SameGroup}
 use Rattle.stab_tableau.specs.Rules.{outcome_by, is_free_by, projected_by}
 use Rattle.stab_tableau.proofs.OneLetterLemmas.{length-one_letter}
 use Rattle.stab_tableau.proofs.MemberLemmas.{same-applied, same-projected, same-outcome, same-free}
 use Rattle.stab_lines.specs.declared.product.Factor.{Factor}
-use Rattle.stab_circuit.specs.Steps.{Step, collapse, product}
+use Rattle.stab_circuit.specs.Steps.{Step, one, collapse, product}
 use Rattle.stab_run.specs.Runs.{when, string_of, gate_of, flip_of, applied_where, outcome_at}
 use Rattle.stab_run.specs.Points.{Point, RunOutput, nothing, joined, given, trace_after, coins_of, next_point, point_after, outputs}
 use Rattle.stab_run.specs.ProgramStates.{StepFits, ProgramState, IsAt, Leads, IsRun, applied_by}
@@ -65,6 +68,9 @@ IsRun-append n coins xs ys a b c f g = λ p s.
           ∙ ap (joined a.output) (sym (outputs-append n coins xs ys p));
     }
 
+pub IsRun-same : (n m : ℕ) (c d : ℕ → Bool) (xs : List Step) (a b : ProgramState) → m ≡ n → d ≡ c → IsRun m d xs a b → IsRun n c xs a b
+IsRun-same n m c d xs a b same_size same_coins f = subst (λ k. IsRun k c xs a b) same_size (subst (λ s. IsRun m s xs a b) same_coins f)
+
 -- one step: where the group is right, so is all that follows from the output
 
 one-run : (n : ℕ) (coins : ℕ → Bool) (x : Step) (a b : ProgramState) (p : Point) → IsAt n a p
@@ -81,6 +87,15 @@ one-run n coins x a b p s group flags output = record {
   };
   output = output ∙ ap (joined a.output) (sym (joined-nothing (given n coins x p)));
 }
+
+-- a gate on a qubit
+pub run-gate : (n m : ℕ) (coins : ℕ → Bool) (g : Gate) (q : ℕ) (a b : Signed → Bool) (output : RunOutput) → m ≡ n
+    → ((p : Signed) → length p.letters ≡ m → b p ≡ a (back g q p))
+    → IsRun n coins (one g q ∷ []) (record { stabilised = a; output = output }) (record { stabilised = b; output = output })
+run-gate n m coins g q a b output same members = λ p s.
+    one-run n coins (one g q) (record { stabilised = a; output = output }) (record { stabilised = b; output = output }) p s
+    (λ r lr. members r (lr ∙ sym same) ∙ same-applied n a (member p.trace) g q s.group r lr)
+    refl (sym (joined-nothing output))
 
 -- what the program does where it measures a string with some outcome: it projects, applies a letter to a qubit where it resets
 -- an outcome 1, and gathers the flag and the record
@@ -175,16 +190,24 @@ run-product n coins x factors inverted is m m_is a b bit m_outcome m_projects ou
 
 -- the first of the steps that are left, and the others
 
-pub fits-rest : (n m : ℕ) (xs : List Step) (x : Step) (rest : List Step) → xs ≡ x ∷ rest → m ≡ n → All (StepFits n) xs → All (StepFits m) rest
-fits-rest n m xs x rest e same fits =
-    let all : All (StepFits n) (x ∷ rest) = subst (All (StepFits n)) e fits in
-    subst (λ k. All (StepFits k) rest) (sym same) (All-tail (StepFits n) x rest all)
+pub fits-steps : (n m : ℕ) (xs ys rest : List Step) → xs ≡ ys ++ rest → m ≡ n → All (StepFits n) xs → All (StepFits m) ys × All (StepFits m) rest
+fits-steps n m xs ys rest e same fits =
+    let all : All (StepFits m) (ys ++ rest) = subst (λ k. All (StepFits k) (ys ++ rest)) (sym same) (subst (All (StepFits n)) e fits) in (
+      subst (All (StepFits m)) (take-append_seam ys rest) (All-take (StepFits m) (length ys) (ys ++ rest) all),
+      subst (All (StepFits m)) (drop-append_seam ys rest) (All-drop (StepFits m) (length ys) (ys ++ rest) all),
+    )
 
 -- a run of the others, after one of the first
+pub run-steps : (n m : ℕ) (c d : ℕ → Bool) (xs ys rest : List Step) (a b new : ProgramState) → xs ≡ ys ++ rest → m ≡ n → d ≡ c
+    → IsRun m d ys a b → IsRun n c rest b new → IsRun n c xs a new
+run-steps n m c d xs ys rest a b new e same_size same_coins f g =
+    subst (λ zs. IsRun n c zs a new) (sym e) (IsRun-append n c ys rest a b new (IsRun-same n m c d ys a b same_size same_coins f) g)
+
+-- the first alone
+
+pub fits-rest : (n m : ℕ) (xs : List Step) (x : Step) (rest : List Step) → xs ≡ x ∷ rest → m ≡ n → All (StepFits n) xs → All (StepFits m) rest
+fits-rest n m xs x rest e same fits = (fits-steps n m xs (x ∷ []) rest e same fits).1
+
 pub run-rest : (n m : ℕ) (c d : ℕ → Bool) (xs : List Step) (x : Step) (rest : List Step) (a b new : ProgramState) → xs ≡ x ∷ rest → m ≡ n → d ≡ c
     → IsRun m d (x ∷ []) a b → IsRun n c rest b new → IsRun n c xs a new
-run-rest n m c d xs x rest a b new e same_size same_coins f g =
-    subst (λ ys. IsRun n c ys a new) (sym e) (IsRun-append n c (x ∷ []) rest a b new here g)
-  where
-    here : IsRun n c (x ∷ []) a b
-    here = subst (λ k. IsRun k c (x ∷ []) a b) same_size (subst (λ s. IsRun m s (x ∷ []) a b) same_coins f)
+run-rest n m c d xs x rest a b new e same_size same_coins f g = run-steps n m c d xs (x ∷ []) rest a b new e same_size same_coins f g

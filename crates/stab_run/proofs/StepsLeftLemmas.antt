@@ -1,21 +1,37 @@
 -- Steps left: the first so many of them, as they are carried out one after another.
-use Rattle.std.proofs.Common.{◌≡◌, ℕ, zero, suc, ◌+◌, ◌-◌, ◌^◌, ◌<◌, ◌≤◌, refl, ◌∙◌, ap, subst, arith, List, [], ◌∷◌, length, take, drop}
+use Rattle.std.proofs.Common.{◌≡◌, ℕ, zero, suc, ◌+◌, ◌-◌, ◌^◌, ◌<◌, ◌≤◌, refl, ◌∙◌, ap, subst, arith, List, [], ◌∷◌, ◌++◌, length, take, drop}
+use Rattle.std.proofs.Math.Seq.{take-append-add, drop-append-add}
 use Rattle.stab_circuit.specs.Steps.{Step}
 use Rattle.stab_run.specs.Points.{all_coins_of}
 
-pub take-next : (k : ℕ) (xs : List Step) (x : Step) (rest : List Step) → xs ≡ x ∷ rest → 0 < k → take k xs ≡ x ∷ take (k - 1) rest
-take-next zero xs x rest e p = absurd (omega arith)
-take-next (suc k) xs x rest e p = ap (take (suc k)) e ∙ ap (λ m. x ∷ take m rest) one_less
+-- the first of the steps that are left, and the others
+
+pub take-steps : (k m : ℕ) (xs ys rest : List Step) → xs ≡ ys ++ rest → m ≡ length ys → length ys ≤ k → take k xs ≡ ys ++ take (k - m) rest
+take-steps k m xs ys rest e count l = ap (take k) e ∙ ap (λ t. take t (ys ++ rest)) whole ∙ take-append-add ys rest (k - m)
   where
-    one_less : k ≡ suc k - 1
-    one_less = omega arith
+    whole : k ≡ length ys + (k - m)
+    whole = omega arith
+
+pub drop-steps : (k m : ℕ) (xs ys rest : List Step) → xs ≡ ys ++ rest → m ≡ length ys → length ys ≤ k → drop k xs ≡ drop (k - m) rest
+drop-steps k m xs ys rest e count l = ap (drop k) e ∙ ap (λ t. drop t (ys ++ rest)) whole ∙ drop-append-add ys rest (k - m)
+  where
+    whole : k ≡ length ys + (k - m)
+    whole = omega arith
+
+-- the first alone
+
+pub take-next : (k : ℕ) (xs : List Step) (x : Step) (rest : List Step) → xs ≡ x ∷ rest → 0 < k → take k xs ≡ x ∷ take (k - 1) rest
+take-next k xs x rest e p = take-steps k 1 xs (x ∷ []) rest e refl p
 
 pub drop-next : (k : ℕ) (xs : List Step) (x : Step) (rest : List Step) → xs ≡ x ∷ rest → 0 < k → drop k xs ≡ drop (k - 1) rest
-drop-next zero xs x rest e p = absurd (omega arith)
-drop-next (suc k) xs x rest e p = ap (drop (suc k)) e ∙ ap (λ m. drop m rest) one_less
-  where
-    one_less : k ≡ suc k - 1
-    one_less = omega arith
+drop-next k xs x rest e p = drop-steps k 1 xs (x ∷ []) rest e refl p
+
+-- the coin numbers that steps use up, and then others
+pub coins-append : (xs ys : List Step) → all_coins_of (xs ++ ys) ≡ all_coins_of xs + all_coins_of ys
+coins-append [] ys = omega arith
+coins-append (x ∷ xs) ys = let e = coins-append xs ys in omega (arith, e)
+
+-- where none are to be carried out, or none are left
 
 pub take-none : (k : ℕ) (xs : List Step) → k ≤ 0 → take k xs ≡ []
 take-none zero xs l = refl

@@ -4,7 +4,7 @@
 //!
 //! - `coins`: the bits that decide outcomes which nothing else decides.
 //! - `records`: what steps have given so far, and the parity of the records that `rec[-k]` names.
-//! - `step`: one step on a tableau.
+//! - `step`, `steps`: one step on a tableau, and those of one instruction.
 //! - `run`: some steps or all of a circuit, and what they give.
 //! - `sampler`: one circuit made ready for many runs, and one run of it.
 //! - `laws`: what a run depends on, and that what happens in it is sound.
@@ -29,9 +29,11 @@ mod records;
 mod run;
 mod sampler;
 mod step;
+mod steps;
 
 pub use coins::{Coins, ListCoins, SeedCoins, seed_coins};
 pub use records::{Addition, Lengths, Outputs, looked_up, observables, parity};
 pub use run::{Shot, run_steps};
 pub use sampler::{Sampler, run_once};
 pub use step::{apply_step, flip, write_product};
+pub use steps::{apply_gates, apply_pairs, apply_steps};

@@ -9,7 +9,7 @@ ghost use Rattle.stab_run.specs.inner.Shots.{IsShotOf};
 
 use crate::coins::Coins;
 use crate::records::{Outputs, observables as summed};
-use crate::step::apply_step;
+use crate::steps::apply_steps;
 use stab_circuit::Cursor;
 use stab_io::Refusal;
 use stab_pauli::Pauli;
@@ -55,11 +55,11 @@ pub fn run_steps<C: Coins>(
 {
     let mut left = most;
     while left > 0 {
-        match cursor.next() {
-            Some(step) => apply_step(tableau, string, coins, outputs, step, applied)?,
-            None => return Ok(()),
-        }
-        left -= 1;
+        let Some(steps) = cursor.next_steps(left) else {
+            return Ok(());
+        };
+        left -= steps.len();
+        apply_steps(tableau, string, coins, outputs, steps, applied)?;
     }
     Ok(())
 }

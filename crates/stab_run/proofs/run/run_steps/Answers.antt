@@ -1,37 +1,58 @@
-use Rattle.std.proofs.Common.{◌-◌, arith, ap, subst, sym, ◌∙◌, length, take}
-use Rattle.stab_circuit.specs.Cursors.{step_shown}
+use Rattle.std.proofs.Common.{◌-◌, arith, refl, ap, subst, sym, ◌∙◌, length, take}
+use Rattle.std.proofs.lemmas.List.{length-append}
+use Rattle.stab_circuit.specs.Cursors.{steps_shown}
 use Rattle.stab_run.specs.Points.{all_coins_of}
 use Rattle.stab_run.specs.ProgramStates.{IsRun, program_state, output_of}
-use Rattle.stab_run.proofs.RunLemmas.{IsRun-none, fits-rest, run-rest}
-use Rattle.stab_run.proofs.StepsLeftLemmas.{take-next, drop-next, take-none, drop-none, take-empty, drop-empty}
+use Rattle.stab_run.proofs.RunLemmas.{IsRun-none, fits-steps, run-steps}
+use Rattle.stab_run.proofs.StepsLeftLemmas.{take-steps, drop-steps, coins-append, take-none, drop-none, take-empty, drop-empty}
 use Rattle.stab_run.proofs.run.run_steps.Goals as goal
+
+pub apply_steps-requires-clause-same_length : goal.apply_steps-requires-clause-same_length
+apply_steps-requires-clause-same_length g c = c.loop-left.invariant.string ∙ c.requires.same_length ∙ sym c.loop-left.invariant.qubits
+
+pub apply_steps-requires-clause-fits : goal.apply_steps-requires-clause-fits
+apply_steps-requires-clause-fits g c =
+    (fits-steps c.loop-left.tableau.qubits c.loop-left.tableau.qubits c.loop-left.cursor.left (steps_shown c.in-Some.steps) c.next_steps.new.self.left
+    c.in-Some.ensures.some refl c.loop-left.invariant.fits).0
+
+pub apply_steps-requires-clause-few : goal.apply_steps-requires-clause-few
+apply_steps-requires-clause-few g c =
+    let parts = ap length c.in-Some.ensures.some ∙ length-append (steps_shown c.in-Some.steps) c.next_steps.new.self.left in
+    omega (arith, parts, c.loop-left.invariant.few, c.requires.few)
+
+pub loop-left-smaller : goal.loop-left-smaller
+loop-left-smaller g c = omega (arith, c.in-Some.ensures.within, c.len-left.ensures.value)
 
 pub loop-left-preserved : goal.loop-left-preserved
 loop-left-preserved g c =
     let inv = c.loop-left.invariant in
     let more = c.in-Some.ensures.some in
-    let done = c.in_ok-apply_step-in-Some.ensures {u = tt} in
-    let x = step_shown c.in-Some.step in
+    let done = c.in_ok-apply_steps.ensures {u = tt} in
+    let shown = steps_shown c.in-Some.steps in
     let left = c.loop-left.left in
+    let count = c.len-left.result in
     let before = c.loop-left.cursor.left in
-    let behind = c.next.new.self.left in
-    let front = take-next left before x behind more c.loop-left-test.true in
-    let now = program_state c.loop-left.tableau (output_of c.loop-left.outputs) in
-    let then = program_state c.apply_step.new.tableau (output_of c.apply_step.new.outputs) in
+    let behind = c.next_steps.new.self.left in
+    let front = take-steps left count before shown behind more c.len-left.ensures.value c.in-Some.ensures.within.1 in
+    let then = take (left - count) behind in
+    let parts = ap length more ∙ length-append shown behind in
+    let taken = ap length front ∙ length-append shown then in
+    let asked = ap all_coins_of front ∙ coins-append shown then in
     record {
-      fits = fits-rest c.loop-left.tableau.qubits c.apply_step.new.tableau.qubits before x behind more done.qubits inv.fits;
-      few = omega (arith, ap length more, done.counted, inv.few);
-      counted = omega (arith, ap length front, done.counted, inv.counted);
-      rest = sym (drop-next left before x behind more c.loop-left-test.true) ∙ inv.rest;
-      all = c.next.ensures.all ∙ inv.all;
+      fits = (fits-steps c.loop-left.tableau.qubits c.apply_steps.new.tableau.qubits before shown behind more done.qubits inv.fits).1;
+      few = omega (arith, parts, done.counted, inv.few);
+      counted = omega (arith, taken, done.counted, inv.counted);
+      rest = sym (drop-steps left count before shown behind more c.len-left.ensures.value c.in-Some.ensures.within.1) ∙ inv.rest;
+      all = c.next_steps.ensures.all ∙ inv.all;
       qubits = done.qubits ∙ inv.qubits;
       string = done.string ∙ inv.string;
       same_coins = done.same_coins ∙ inv.same_coins;
-      asks = omega (arith, ap all_coins_of front, done.asks, inv.asks);
+      asks = omega (arith, asked, done.asks, inv.asks);
       asks_free = omega (arith, done.asks_free, inv.asks_free);
       run = λ new rest. inv.run new
-          (run-rest c.args.tableau.now.qubits c.loop-left.tableau.qubits (g.C.Coins.sequence c.args.coins.now) (g.C.Coins.sequence c.loop-left.coins)
-          (take left before) x (take (left - 1) behind) now then new front inv.qubits inv.same_coins done.run rest);
+          (run-steps c.args.tableau.now.qubits c.loop-left.tableau.qubits (g.C.Coins.sequence c.args.coins.now) (g.C.Coins.sequence c.loop-left.coins)
+          (take left before) shown then (program_state c.loop-left.tableau (output_of c.loop-left.outputs))
+          (program_state c.apply_steps.new.tableau (output_of c.apply_steps.new.outputs)) new front inv.qubits inv.same_coins done.run rest);
     }
 
 pub returns-clause-counted : goal.returns-clause-counted
@@ -50,27 +71,32 @@ returns-clause-run g c =
     (subst (λ xs. IsRun c.args.tableau.now.qubits (g.C.Coins.sequence c.args.coins.now) xs now now) (sym (take-none c.loop-left.left c.loop-left.cursor.left c.loop-left-test.false))
     (IsRun-none c.args.tableau.now.qubits (g.C.Coins.sequence c.args.coins.now) now))
 
-pub returns-in-None-clause-counted : goal.returns-in-None-clause-counted
-returns-in-None-clause-counted g c =
-    omega (arith, ap length (take-empty c.loop-left.left c.loop-left.cursor.left c.in-None.ensures.none.0), c.loop-left.invariant.counted)
+pub returns-in_default-clause-counted : goal.returns-in_default-clause-counted
+returns-in_default-clause-counted g c =
+    omega (arith, ap length (take-empty c.loop-left.left c.loop-left.cursor.left c.in_default.ensures.none.0), c.loop-left.invariant.counted)
 
-pub returns-in-None-clause-left : goal.returns-in-None-clause-left
-returns-in-None-clause-left g c =
-    c.in-None.ensures.none.1
-    ∙ sym (drop-empty c.loop-left.left c.loop-left.cursor.left c.in-None.ensures.none.0)
+pub returns-in_default-clause-left : goal.returns-in_default-clause-left
+returns-in_default-clause-left g c =
+    c.in_default.ensures.none.1
+    ∙ sym (drop-empty c.loop-left.left c.loop-left.cursor.left c.in_default.ensures.none.0)
     ∙ c.loop-left.invariant.rest
 
-pub returns-in-None-clause-asks : goal.returns-in-None-clause-asks
-returns-in-None-clause-asks g c = omega (arith, c.loop-left.invariant.asks)
+pub returns-in_default-clause-asks : goal.returns-in_default-clause-asks
+returns-in_default-clause-asks g c = omega (arith, c.loop-left.invariant.asks)
 
-pub returns-in-None-clause-run : goal.returns-in-None-clause-run
-returns-in-None-clause-run g c =
+pub returns-in_default-clause-run : goal.returns-in_default-clause-run
+returns-in_default-clause-run g c =
     let now = program_state c.loop-left.tableau (output_of c.loop-left.outputs) in
     c.loop-left.invariant.run now
-    (subst (λ xs. IsRun c.args.tableau.now.qubits (g.C.Coins.sequence c.args.coins.now) xs now now) (sym (take-empty c.loop-left.left c.loop-left.cursor.left c.in-None.ensures.none.0))
+    (subst (λ xs. IsRun c.args.tableau.now.qubits (g.C.Coins.sequence c.args.coins.now) xs now now) (sym (take-empty c.loop-left.left c.loop-left.cursor.left c.in_default.ensures.none.0))
     (IsRun-none c.args.tableau.now.qubits (g.C.Coins.sequence c.args.coins.now) now))
 
-pub returns-in_err-apply_step-in-Some-clause-asks : goal.returns-in_err-apply_step-in-Some-clause-asks
-returns-in_err-apply_step-in-Some-clause-asks g c =
-    let front = take-next c.loop-left.left c.loop-left.cursor.left (step_shown c.in-Some.step) c.next.new.self.left c.in-Some.ensures.some c.loop-left-test.true in
-    omega (arith, ap all_coins_of front, c.apply_step.ensures.asks, c.loop-left.invariant.asks)
+pub returns-in_err-apply_steps-clause-asks : goal.returns-in_err-apply_steps-clause-asks
+returns-in_err-apply_steps-clause-asks g c =
+    let shown = steps_shown c.in-Some.steps in
+    let left = c.loop-left.left in
+    let behind = c.next_steps.new.self.left in
+    let count = c.len-left.result in
+    let front = take-steps left count c.loop-left.cursor.left shown behind c.in-Some.ensures.some c.len-left.ensures.value c.in-Some.ensures.within.1 in
+    let asked = ap all_coins_of front ∙ coins-append shown (take (left - count) behind) in
+    omega (arith, asked, c.apply_steps.ensures.asks, c.loop-left.invariant.asks)
