@@ -36,4 +36,4 @@ pub use records::{Addition, Lengths, Outputs, looked_up, observables, parity};
 pub use run::{Shot, run_steps};
 pub use sampler::{Sampler, run_once};
 pub use step::{apply_step, flip, write_product};
-pub use steps::{apply_gates, apply_pairs, apply_steps};
+pub use steps::apply_steps;

@@ -65,7 +65,7 @@ pub fn apply_steps<C: Coins>(
 }
 
 /// Applies a gate to each of some qubits.
-pub fn apply_gates(tableau: &mut Tableau, gate: Gate, qubits: &[Qubit])
+fn apply_gates(tableau: &mut Tableau, gate: Gate, qubits: &[Qubit])
     requires fits { All (StepFits tableau.old.qubits) (map (one gate) qubits.now) }
     ensures qubits { tableau.new.qubits ≡ tableau.old.qubits }
     ensures run { (coins : ℕ → Bool) (output : RunOutput) → IsRun tableau.old.qubits coins (map (one gate) qubits.now) (program_state tableau.old output) (program_state tableau.new output) }
@@ -94,7 +94,7 @@ fn apply_pair(tableau: &mut Tableau, records: &[bool], axis: Axis, pair: Control
 }
 
 /// Applies X, Y or Z so for each of some pairs.
-pub fn apply_pairs(tableau: &mut Tableau, records: &[bool], axis: Axis, pairs: &[ControlledPair])
+fn apply_pairs(tableau: &mut Tableau, records: &[bool], axis: Axis, pairs: &[ControlledPair])
     requires fits { All (StepFits tableau.old.qubits) (map (controlled_step axis) pairs.now) }
     ensures qubits { tableau.new.qubits ≡ tableau.old.qubits }
     ensures run { (coins : ℕ → Bool) (output : RunOutput) → output.records ≡ records.now → IsRun tableau.old.qubits coins (map (controlled_step axis) pairs.now) (program_state tableau.old output) (program_state tableau.new output) }
