@@ -17,31 +17,9 @@ use crate::lanes::{Lanes, Sum, looked_up, parity};
 use crate::word::Word;
 use stab_circuit::{Factor, Step};
 use stab_pauli::{Letter, Pauli};
+use stab_run::{flip, write_product};
 use stab_tableau::{Collapse, Tableau};
 use std::alloc::AllocError;
-
-/// A letter that exchanges the two outcomes of a letter, with which it anticommutes.
-fn flip(letter: Letter) -> Letter
-    ensures value { result ≡ flip_of letter }
-{
-    match letter {
-        Letter::I | Letter::Y | Letter::Z => Letter::X,
-        Letter::X => Letter::Z,
-    }
-}
-
-/// Makes a string that of a product: the factors' letters at their qubits, I elsewhere, with the
-/// sign +.
-fn write_product(string: &mut Pauli, factors: &[Factor])
-    requires in_range { All (λ f. f.qubit < length string.old.letters) factors.now }
-    ensures value { string.new ≡ string_of (length string.old.letters) factors.now }
-    ensures same_length { length string.new.letters ≡ length string.old.letters }
-{
-    string.clear();
-    for factor in factors {
-        string.set(factor.qubit.number(), factor.letter.letter());
-    }
-}
 
 /// Measures a letter on a qubit of the tableau, with the coin 0. Where the outcome is free, `exchange` becomes a
 /// stabiliser, up to its sign, that anticommutes with the letter.
@@ -183,6 +161,31 @@ fn measure_string<W: Word, C: LaneCoins<W>>(
     Ok(outcomes)
 }
 
+/// Measures a product in all lanes, by a string that it is written into. Gives their outcomes, and notes whether these were
+/// free.
+fn measure_product<W: Word, C: LaneCoins<W>>(
+    tableau: &mut Tableau,
+    string: &mut Pauli,
+    exchange: &mut Pauli,
+    coins: &mut C,
+    lanes: &mut Lanes<W>,
+    factors: &[Factor],
+) -> Result<W, AllocError>
+    requires in_range { All (λ f. f.qubit < tableau.old.qubits) factors.now }
+    requires string_length { length string.old.letters ≡ tableau.old.qubits }
+    requires same_length { length exchange.old.letters ≡ tableau.old.qubits }
+    requires frames { length lanes.old.frames.letters.items ≡ tableau.old.qubits }
+    ensures qubits { tableau.new.qubits ≡ tableau.old.qubits }
+    ensures string { length string.new.letters ≡ length string.old.letters }
+    ensures length { length exchange.new.letters ≡ length exchange.old.letters }
+    ensures size { length lanes.new.frames.letters.items ≡ length lanes.old.frames.letters.items }
+    ensures same_coins { C.sequences coins.new ≡ C.sequences coins.old }
+    ensures measures { IfOk result (λ outcomes. (l : ℕ) → l < W.lanes → IsMeasured tableau.old.qubits (C.sequences coins.old l) (string_of tableau.old.qubits factors.now) (W.at outcomes l) (lane_state W.at l tableau.old lanes.old) (lane_state W.at l tableau.new lanes.new)) }
+{
+    write_product(string, factors);
+    measure_string(tableau, exchange, coins, lanes, string)
+}
+
 /// Appends bits, where there are any.
 fn push_when<W: Word>(words: &mut Vec<W>, test: bool, word: W) -> Result<(), AllocError>
     ensures value { OnOk result (words.new.items ≡ words.old.items ++ (if test then word ∷ [] else [])) }
@@ -239,8 +242,7 @@ pub fn apply_step<W: Word, C: LaneCoins<W>>(
             push_when(&mut lanes.records, recorded, W::all(inverted).xor(outcomes))?;
         }
         Step::Product { factors, inverted } => {
-            write_product(string, factors);
-            let outcomes = measure_string(tableau, exchange, coins, lanes, string)?;
+            let outcomes = measure_product(tableau, string, exchange, coins, lanes, factors)?;
             lanes.records.push(W::all(inverted).xor(outcomes))?;
         }
         Step::Detector(lookbacks) => {

@@ -67,11 +67,10 @@ pub returns-in_ok-push-in-Product-clause-run : goal.returns-in_ok-push-in-Produc
 returns-in_ok-push-in-Product-clause-run g c = λ l lt.
     let at = g.W.Word.at in
     let n = c.args.tableau.now.qubits in
-    let measured = c.measure_string.new in
+    let measured = c.measure_product.new in
     let bit = at c.in_ok-outcomes-in-Product.outcomes l in
     measured-product n (g.C.LaneCoins.sequences c.args.coins.now l) (step_shown c.args.step) bit (lane_state at l c.args.tableau.now c.args.lanes.now) (lane_state at l measured.tableau measured.lanes) _
-    c.in-Product.factors.now c.in-Product.inverted (ap step_shown c.in-Product.is) c.write_product.new.string
-    (c.write_product.ensures.value ∙ ap (λ k. string_of k c.in-Product.factors.now) c.requires.string_length) (c.in_ok-outcomes-in-Product.ensures.measures l lt)
+    c.in-Product.factors.now c.in-Product.inverted (ap step_shown c.in-Product.is) (string_of n c.in-Product.factors.now) refl (c.in_ok-outcomes-in-Product.ensures.measures l lt)
     (λ r lr. refl)
     (λ i. record (lane_output at l measured.lanes) {
       records = (ap (lane_bits at l) c.in_ok-push-in-Product.ensures.items
