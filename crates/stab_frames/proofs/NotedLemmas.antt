@@ -1,9 +1,7 @@
 -- Noted: a run that notes strings on its way keeps them numbered and true.
-use Rattle.std.proofs.Common.{◌≡◌, ℕ, ◌+◌, ◌≤◌, min, refl, sym, ◌∙◌, ap, subst, Bool, true, false, List, [], ◌∷◌, ◌++◌, append_assoc, append-nil, length, length-append, take, nat_lt, All, arith}
+use Rattle.std.proofs.Common.{◌≡◌, ℕ, ◌+◌, min, refl, sym, ◌∙◌, ap, subst, Bool, true, false, List, [], ◌∷◌, ◌++◌, append_assoc, append-nil, length, length-append, take, arith}
 use Rattle.std.specs.Prelude.{Option, Some, IfSome}
-use Rattle.std.specs.List.{list_any}
 use Rattle.std.proofs.lemmas.List.{take_all}
-use Rattle.std.proofs.lemmas.List.Elements.{All-cons, All-head, All-tail}
 use Rattle.stab_pauli.specs.declared.letter.Letter.{Letter}
 use Rattle.stab_pauli.specs.Paulis.{Signed, single}
 use Rattle.stab_tableau.specs.Traces.{member, is_free}
@@ -11,7 +9,7 @@ use Rattle.stab_tableau.specs.Rules.{is_free_by}
 use Rattle.stab_tableau.specs.Exchanges.{Exchanges}
 use Rattle.stab_tableau.proofs.OneLetterLemmas.{length-one_letter}
 use Rattle.stab_tableau.proofs.MemberLemmas.{same-free}
-use Rattle.stab_circuit.specs.Steps.{Step, one, two, controlled, collapse, product, detector, observable, lookbacks, makes, looks_too_far}
+use Rattle.stab_circuit.specs.Steps.{Step, one, two, controlled, collapse, product, detector, observable}
 use Rattle.stab_run.specs.Records.{ones}
 use Rattle.stab_run.specs.Runs.{string_of}
 use Rattle.stab_run.specs.Points.{Point, origin, given, next_point, point_after, outputs, all_coins_of}
@@ -19,7 +17,6 @@ use Rattle.stab_run.specs.ProgramStates.{ProgramState, IsAt, IsRun}
 use Rattle.stab_run.proofs.RunLemmas.{after-append}
 use Rattle.stab_run.proofs.ProductLemmas.{length-string_of}
 use Rattle.stab_frames.specs.KeptStrings.{StringsState, note_at, IsNumbered, IsTrueAt, AreTrue, KeepsTrue}
-use Rattle.stab_frames.specs.Lookbacks.{LooksWithin}
 use Rattle.stab_frames.specs.StepNotes.{measured_by}
 use Rattle.stab_frames.specs.inner.Noted.{IsAdded, IsNotedOf, IsNoted}
 use Rattle.stab_frames.proofs.RunNoteLemmas.{unmeasured}

@@ -1,6 +1,5 @@
 -- Notes of steps: what a run notes of steps one after another, of those of targets, and of steps that measure nothing.
-use Rattle.std.proofs.Common.{◌≡◌, ℕ, ◌+◌, ◌<◌, ◌≤◌, refl, sym, ◌∙◌, ap, subst, Bool, false, List, [], ◌∷◌, ◌++◌, All, length, map, take, get_or, nat_lt, arith}
-use Rattle.std.specs.List.{list_any}
+use Rattle.std.proofs.Common.{◌≡◌, ℕ, ◌+◌, ◌<◌, ◌≤◌, refl, sym, ◌∙◌, ap, subst, Bool, List, [], ◌∷◌, ◌++◌, All, length, map, take, get_or, arith}
 use Rattle.std.proofs.lemmas.List.{map_more, take_all}
 use Rattle.std.proofs.lemmas.List.Elements.{All-nil, All-cons, All-head, All-tail, All-append}
 use Rattle.stab_tableau.specs.declared.gate.Gate.{Gate}
@@ -8,7 +7,7 @@ use Rattle.stab_lines.specs.declared.axis.Axis.{Axis}
 use Rattle.stab_lines.specs.declared.control.ControlledPair.{ControlledPair}
 use Rattle.stab_lines.specs.declared.control.ControlledPair.TheVariants as pair
 use Rattle.stab_circuit.specs.Steps.{Step, one, controlled_step, lookbacks}
-use Rattle.stab_run.specs.Points.{coins_of, all_coins_of}
+use Rattle.stab_run.specs.Points.{all_coins_of}
 use Rattle.stab_run.specs.ProgramStates.{ProgramState, IsRun}
 use Rattle.stab_run.proofs.RunLemmas.{IsRun-none, IsRun-append}
 use Rattle.stab_frames.specs.KeptStrings.{StringsState}
@@ -25,7 +24,7 @@ within-more m k (x ∷ xs) le all =
 
 -- no step, one step, and steps one after another
 
-pub notes-none : (n : ℕ) (coins : ℕ → Bool) (xs : List Step) (reach : ℕ) (kept : StringsState) (a : ProgramState) → xs ≡ [] → NotesSteps n coins xs reach kept kept a a
+notes-none : (n : ℕ) (coins : ℕ → Bool) (xs : List Step) (reach : ℕ) (kept : StringsState) (a : ProgramState) → xs ≡ [] → NotesSteps n coins xs reach kept kept a a
 notes-none n coins xs reach kept a e = subst (λ ys. NotesSteps n coins ys reach kept kept a a) (sym e) (record {
   run = IsRun-none n coins a;
   noted = keeps-none n coins kept a;
@@ -60,18 +59,25 @@ notes-steps n m c d xs ys rest near far kept mid behind a b new e same_size same
     subst (λ zs. NotesSteps n c zs far kept behind a new) (sym e)
     (notes-append n c ys rest near far kept mid behind a b new le (notes-same n m c d ys near kept mid a b same_size same_coins first) then)
 
+-- where none of them is left, what was noted of all
+pub notes-all : {n : ℕ} {coins : ℕ → Bool} {all xs : List Step} {reach : ℕ} {first kept : StringsState} {old now : ProgramState} → xs ≡ []
+    → ((far : ℕ) (new : ProgramState) (behind : StringsState) → reach ≤ far → NotesSteps n coins xs far kept behind now new → NotesSteps n coins all far first behind old new)
+    → NotesSteps n coins all reach first kept old now
+notes-all {n} {coins} {all} {xs} {reach} {first} {kept} {old} {now} e led = led reach now kept (omega arith) (notes-none n coins xs reach kept now e)
+
 -- the steps of targets, one more of them, and all
+
+one-more : {X : Type 0} (step : X → Step) (xs : List X) (i : ℕ) (x : X) → i < length xs → x ≡ get_or xs i x
+    → map step (take (i + 1) xs) ≡ map step (take i xs) ++ step x ∷ []
+one-more step xs i x lt is = map_more step xs i x lt ∙ ap (λ y. map step (take i xs) ++ step y ∷ []) (sym is)
 
 pub notes-target : {X : Type 0} (n m : ℕ) (c d : ℕ → Bool) (step : X → Step) (xs : List X) (i : ℕ) (x : X) (near far : ℕ) (kept mid behind : StringsState)
     (a b new : ProgramState) → i < length xs → x ≡ get_or xs i x → m ≡ n → d ≡ c → near ≤ far → NotesSteps n c (map step (take i xs)) near kept mid a b
     → NotesSteps m d (step x ∷ []) far mid behind b new → NotesSteps n c (map step (take (i + 1) xs)) far kept behind a new
 notes-target n m c d step xs i x near far kept mid behind a b new lt is same_size same_coins le first then =
-    subst (λ ys. NotesSteps n c ys far kept behind a new) (sym more)
+    subst (λ ys. NotesSteps n c ys far kept behind a new) (sym (one-more step xs i x lt is))
     (notes-append n c (map step (take i xs)) (step x ∷ []) near far kept mid behind a b new le first
     (notes-same n m c d (step x ∷ []) far mid behind b new same_size same_coins then))
-  where
-    more : map step (take (i + 1) xs) ≡ map step (take i xs) ++ step x ∷ []
-    more = map_more step xs i x lt ∙ ap (λ y. map step (take i xs) ++ step y ∷ []) (sym is)
 
 pub notes-targets : {X : Type 0} (n : ℕ) (c : ℕ → Bool) (step : X → Step) (xs : List X) (i : ℕ) (reach : ℕ) (kept behind : StringsState) (a b : ProgramState)
     → length xs ≤ i → NotesSteps n c (map step (take i xs)) reach kept behind a b → NotesSteps n c (map step xs) reach kept behind a b
@@ -79,11 +85,11 @@ notes-targets n c step xs i reach kept behind a b all notes = subst (λ ys. Note
 
 -- steps that measure nothing
 
-pub notes-unmeasured : (n : ℕ) (coins : ℕ → Bool) (xs : List Step) (reach : ℕ) (kept behind : StringsState) (a b : ProgramState) → all_coins_of xs ≡ 0
-    → behind ≡ kept → All (LooksWithin reach) xs → IsRun n coins xs a b → NotesSteps n coins xs reach kept behind a b
-notes-unmeasured n coins xs reach kept behind a b none same near run = record {
+pub notes-unmeasured : (n : ℕ) (coins : ℕ → Bool) (xs : List Step) (reach : ℕ) (kept : StringsState) (a b : ProgramState) → all_coins_of xs ≡ 0
+    → All (LooksWithin reach) xs → IsRun n coins xs a b → NotesSteps n coins xs reach kept kept a b
+notes-unmeasured n coins xs reach kept a b none near run = record {
   run = run;
-  noted = keeps-unmeasured n coins xs kept behind a b none (ap (λ (s : StringsState). s.strings) same) (ap (λ (s : StringsState). s.most) same) run;
+  noted = keeps-unmeasured n coins xs kept kept a b none refl refl run;
   within = near;
 }
 
@@ -100,15 +106,10 @@ coins-pairs axis [] = refl
 coins-pairs axis (pair.Qubits p ∷ pairs) = let e = coins-pairs axis pairs in omega (arith, e)
 coins-pairs axis (pair.Record k q ∷ pairs) = let e = coins-pairs axis pairs in omega (arith, e)
 
--- lookbacks of pairs, one more of them, and all
-
-pub near-pair : (near far : ℕ) (axis : Axis) (pairs : List ControlledPair) (i : ℕ) (p : ControlledPair) → i < length pairs → p ≡ get_or pairs i p → near ≤ far
-    → LooksWithin far (controlled_step axis p) → All (LooksWithin near) (map (controlled_step axis) (take i pairs))
-    → All (LooksWithin far) (map (controlled_step axis) (take (i + 1) pairs))
-near-pair near far axis pairs i p lt is le here front =
-    subst (All (LooksWithin far)) (sym more)
-    (All-append (LooksWithin far) (map (controlled_step axis) (take i pairs)) (controlled_step axis p ∷ [])
-    (within-more near far (map (controlled_step axis) (take i pairs)) le front) (All-cons (LooksWithin far) (controlled_step axis p) [] here (All-nil (LooksWithin far))))
-  where
-    more : map (controlled_step axis) (take (i + 1) pairs) ≡ map (controlled_step axis) (take i pairs) ++ controlled_step axis p ∷ []
-    more = map_more (controlled_step axis) pairs i p lt ∙ ap (λ y. map (controlled_step axis) (take i pairs) ++ controlled_step axis y ∷ []) (sym is)
+-- how far back the steps of targets look, one more of them
+pub within-target : {X : Type 0} (near far : ℕ) (step : X → Step) (xs : List X) (i : ℕ) (x : X) → i < length xs → x ≡ get_or xs i x → near ≤ far
+    → All (LooksWithin near) (map step (take i xs)) → LooksWithin far (step x) → All (LooksWithin far) (map step (take (i + 1) xs))
+within-target near far step xs i x lt is le front here =
+    subst (All (LooksWithin far)) (sym (one-more step xs i x lt is))
+    (All-append (LooksWithin far) (map step (take i xs)) (step x ∷ []) (within-more near far (map step (take i xs)) le front)
+    (All-cons (LooksWithin far) (step x) [] here (All-nil (LooksWithin far))))

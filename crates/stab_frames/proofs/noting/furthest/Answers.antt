@@ -1,20 +1,19 @@
-use Rattle.std.proofs.Common.{◌≤◌, subst, All, map, arith}
+use Rattle.std.proofs.Common.{subst, All, map, arith}
 use Rattle.std.proofs.lemmas.List.{take_all}
 use Rattle.stab_circuit.specs.Steps.{controlled_step, lookbacks}
 use Rattle.stab_frames.specs.Lookbacks.{LooksWithin}
 use Rattle.stab_frames.proofs.WalkLemmas.{near-more}
-use Rattle.stab_frames.proofs.NotesStepsLemmas.{near-pair}
+use Rattle.stab_frames.proofs.NotesStepsLemmas.{within-target}
 use Rattle.stab_frames.proofs.noting.furthest.Goals as goal
 
 pub loop-pair-preserved : goal.loop-pair-preserved
 loop-pair-preserved c = record {
   more = omega (arith, c.max-greatest.ensures, c.loop-pair.invariant.more);
   within = λ axis.
-      near-pair c.loop-pair.greatest c.max-greatest.result axis c.args.pairs.now c.loop-pair.pair-index c.pair-item.result c.loop-pair-test.true c.pair-item.is
-      (omega (arith, c.max-greatest.ensures))
+      within-target c.loop-pair.greatest c.max-greatest.result (controlled_step axis) c.args.pairs.now c.loop-pair.pair-index c.pair-item.result
+      c.loop-pair-test.true c.pair-item.is (omega (arith, c.max-greatest.ensures)) (c.loop-pair.invariant.within axis)
       (near-more c.lookback_of.result c.max-greatest.result (omega (arith, c.max-greatest.ensures)) (lookbacks (controlled_step axis c.pair-item.result))
-      (c.lookback_of.ensures.within axis))
-      (c.loop-pair.invariant.within axis);
+      (c.lookback_of.ensures.within axis));
 }
 
 pub returns-clause-within : goal.returns-clause-within

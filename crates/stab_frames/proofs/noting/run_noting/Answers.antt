@@ -1,12 +1,11 @@
-use Rattle.std.proofs.Common.{◌≡◌, ◌-◌, arith, refl, ap, subst, sym, ◌∙◌, length, take, List, []}
+use Rattle.std.proofs.Common.{◌-◌, arith, refl, ap, sym, ◌∙◌, length, take}
 use Rattle.std.proofs.lemmas.List.{length-append}
-use Rattle.stab_circuit.specs.Steps.{Step}
 use Rattle.stab_circuit.specs.Cursors.{steps_shown}
 use Rattle.stab_run.specs.Points.{all_coins_of}
 use Rattle.stab_run.specs.ProgramStates.{program_state, output_of}
 use Rattle.stab_run.proofs.RunLemmas.{fits-steps}
 use Rattle.stab_run.proofs.StepsLeftLemmas.{take-steps, drop-steps, coins-append, take-none, drop-none, take-empty, drop-empty}
-use Rattle.stab_frames.proofs.NotesStepsLemmas.{notes-none, notes-steps}
+use Rattle.stab_frames.proofs.NotesStepsLemmas.{notes-all, notes-steps}
 use Rattle.stab_frames.proofs.noting.run_noting.Goals as goal
 
 pub run_steps-requires-clause-same_length : goal.run_steps-requires-clause-same_length
@@ -78,25 +77,13 @@ pub returns-clause-asks : goal.returns-clause-asks
 returns-clause-asks g c = omega (arith, c.loop-left.invariant.asks)
 
 pub returns-clause-run : goal.returns-clause-run
-returns-clause-run g c =
-    let now = program_state c.loop-left.tableau (output_of c.loop-left.outputs) in
-    (c.loop-left.invariant.noted c.loop-left.notes.reach now c.loop-left.notes.strings (omega arith)
-    (notes-none c.args.tableau.now.qubits (g.C.Coins.sequence c.args.coins.now) (take c.loop-left.left c.loop-left.cursor.left) c.loop-left.notes.reach c.loop-left.notes.strings now
-    (take-none c.loop-left.left c.loop-left.cursor.left c.loop-left-test.false))).run
+returns-clause-run g c = (notes-all (take-none c.loop-left.left c.loop-left.cursor.left c.loop-left-test.false) c.loop-left.invariant.noted).run
 
 pub returns-clause-reach : goal.returns-clause-reach
-returns-clause-reach g c =
-    let now = program_state c.loop-left.tableau (output_of c.loop-left.outputs) in
-    (c.loop-left.invariant.noted c.loop-left.notes.reach now c.loop-left.notes.strings (omega arith)
-    (notes-none c.args.tableau.now.qubits (g.C.Coins.sequence c.args.coins.now) (take c.loop-left.left c.loop-left.cursor.left) c.loop-left.notes.reach c.loop-left.notes.strings now
-    (take-none c.loop-left.left c.loop-left.cursor.left c.loop-left-test.false))).within
+returns-clause-reach g c = (notes-all (take-none c.loop-left.left c.loop-left.cursor.left c.loop-left-test.false) c.loop-left.invariant.noted).within
 
 pub returns-clause-noted : goal.returns-clause-noted
-returns-clause-noted g c =
-    let now = program_state c.loop-left.tableau (output_of c.loop-left.outputs) in
-    (c.loop-left.invariant.noted c.loop-left.notes.reach now c.loop-left.notes.strings (omega arith)
-    (notes-none c.args.tableau.now.qubits (g.C.Coins.sequence c.args.coins.now) (take c.loop-left.left c.loop-left.cursor.left) c.loop-left.notes.reach c.loop-left.notes.strings now
-    (take-none c.loop-left.left c.loop-left.cursor.left c.loop-left-test.false))).noted
+returns-clause-noted g c = (notes-all (take-none c.loop-left.left c.loop-left.cursor.left c.loop-left-test.false) c.loop-left.invariant.noted).noted
 
 pub returns-in_default-clause-counted : goal.returns-in_default-clause-counted
 returns-in_default-clause-counted g c =
@@ -112,25 +99,13 @@ pub returns-in_default-clause-asks : goal.returns-in_default-clause-asks
 returns-in_default-clause-asks g c = omega (arith, c.loop-left.invariant.asks)
 
 pub returns-in_default-clause-run : goal.returns-in_default-clause-run
-returns-in_default-clause-run g c =
-    let now = program_state c.loop-left.tableau (output_of c.loop-left.outputs) in
-    (c.loop-left.invariant.noted c.loop-left.notes.reach now c.loop-left.notes.strings (omega arith)
-    (notes-none c.args.tableau.now.qubits (g.C.Coins.sequence c.args.coins.now) (take c.loop-left.left c.loop-left.cursor.left) c.loop-left.notes.reach c.loop-left.notes.strings now
-    (take-empty c.loop-left.left c.loop-left.cursor.left c.in_default.ensures.none.0))).run
+returns-in_default-clause-run g c = (notes-all (take-empty c.loop-left.left c.loop-left.cursor.left c.in_default.ensures.none.0) c.loop-left.invariant.noted).run
 
 pub returns-in_default-clause-reach : goal.returns-in_default-clause-reach
-returns-in_default-clause-reach g c =
-    let now = program_state c.loop-left.tableau (output_of c.loop-left.outputs) in
-    (c.loop-left.invariant.noted c.loop-left.notes.reach now c.loop-left.notes.strings (omega arith)
-    (notes-none c.args.tableau.now.qubits (g.C.Coins.sequence c.args.coins.now) (take c.loop-left.left c.loop-left.cursor.left) c.loop-left.notes.reach c.loop-left.notes.strings now
-    (take-empty c.loop-left.left c.loop-left.cursor.left c.in_default.ensures.none.0))).within
+returns-in_default-clause-reach g c = (notes-all (take-empty c.loop-left.left c.loop-left.cursor.left c.in_default.ensures.none.0) c.loop-left.invariant.noted).within
 
 pub returns-in_default-clause-noted : goal.returns-in_default-clause-noted
-returns-in_default-clause-noted g c =
-    let now = program_state c.loop-left.tableau (output_of c.loop-left.outputs) in
-    (c.loop-left.invariant.noted c.loop-left.notes.reach now c.loop-left.notes.strings (omega arith)
-    (notes-none c.args.tableau.now.qubits (g.C.Coins.sequence c.args.coins.now) (take c.loop-left.left c.loop-left.cursor.left) c.loop-left.notes.reach c.loop-left.notes.strings now
-    (take-empty c.loop-left.left c.loop-left.cursor.left c.in_default.ensures.none.0))).noted
+returns-in_default-clause-noted g c = (notes-all (take-empty c.loop-left.left c.loop-left.cursor.left c.in_default.ensures.none.0) c.loop-left.invariant.noted).noted
 
 pub returns-in_err-run_steps-clause-asks : goal.returns-in_err-run_steps-clause-asks
 returns-in_err-run_steps-clause-asks g c =
