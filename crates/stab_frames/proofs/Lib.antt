@@ -24,6 +24,7 @@ pub mod WalkLemmas
 pub mod FactorLemmas
 pub mod MeasuredPassLemmas
 pub mod NotedLemmas
+pub mod NotesStepsLemmas
 pub mod KeptLemmas
 pub mod ImageLemmas
 pub mod StepsWalkedLemmas

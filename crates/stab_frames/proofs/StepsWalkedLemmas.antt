@@ -1,5 +1,5 @@
 -- Steps walked: a frame's way over the first of some steps, over some more, and what it comes to.
-use Rattle.std.proofs.Common.{◌≡◌, ℕ, zero, suc, ◌+◌, ◌<◌, ◌≤◌, sym, ◌∙◌, ap, subst, Bool, List, [], ◌∷◌, ◌++◌, length, take, drop, All, arith}
+use Rattle.std.proofs.Common.{◌≡◌, ℕ, ◌+◌, ◌<◌, ◌≤◌, sym, ◌∙◌, ap, subst, Bool, List, [], ◌++◌, length, take, drop, All, arith}
 use Rattle.std.proofs.Math.Seq.{take-add, take-append_seam, drop-append_seam}
 use Rattle.std.proofs.lemmas.List.{take-append-drop, take-append-le, length-take, length-drop, length-append, drop-drop}
 use Rattle.std.proofs.lemmas.List.Elements.{All-drop, All-take}
@@ -11,7 +11,6 @@ use Rattle.stab_run.proofs.RunLemmas.{outputs-append}
 use Rattle.stab_frames.specs.Frames.{Frame}
 use Rattle.stab_frames.specs.Notes.{same_coins}
 use Rattle.stab_frames.specs.StepNotes.{AreEnough}
-use Rattle.stab_frames.specs.FrameSteps.{frame_over}
 use Rattle.stab_frames.specs.KeptStrings.{note_at, AreTrue}
 use Rattle.stab_frames.specs.Walks.{WalkState}
 use Rattle.stab_frames.specs.inner.Passes.{AreTold, GoesOver}

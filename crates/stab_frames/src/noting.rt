@@ -1,6 +1,7 @@
-ghost use Rattle.std.specs.Prelude.{◌≡◌, ◌+◌, ◌<◌, ◌≤◌, ◌^◌, false, nat_lt, All, length, take, drop, OnOk, IfErr};
+ghost use Rattle.std.specs.Prelude.{◌≡◌, ◌+◌, ◌<◌, ◌≤◌, ◌^◌, false, nat_lt, All, length, map, take, drop, OnOk, IfErr};
 ghost use Rattle.std.specs.List.{list_any};
 ghost use Rattle.stab_io.specs.declared.refusal.Refusal.TheVariants.{OutOfMemory};
+ghost use Rattle.stab_circuit.specs.Steps.{controlled_step};
 ghost use Rattle.stab_run.specs.Records.{ones};
 ghost use Rattle.stab_run.specs.Points.{all_coins_of};
 ghost use Rattle.stab_run.specs.ProgramStates.{StepFits, IsRun, program_state, output_of};
@@ -8,10 +9,12 @@ ghost use Rattle.stab_frames.specs.KeptStrings.{KeepsTrue};
 ghost use Rattle.stab_frames.specs.Lookbacks.{LooksWithin};
 
 use crate::strings::KeptStrings;
-use stab_circuit::{Cursor, Step};
+use stab_circuit::{
+    Axis, ControlledPair, Cursor, MeasureTarget, Measurement, Step, Steps, measured_step,
+};
 use stab_io::Refusal;
 use stab_pauli::Pauli;
-use stab_run::{Coins, Outputs, apply_step, write_product};
+use stab_run::{Coins, Outputs, apply_step, apply_steps, write_product};
 use stab_tableau::Tableau;
 use std::alloc::Global;
 
@@ -65,14 +68,11 @@ pub fn run_noting<C: Coins>(
 {
     let mut left = most;
     while left > 0 {
-        match cursor.next() {
-            Some(step) => {
-                notes.note(alloc, tableau, string, step)?;
-                apply_step(tableau, string, coins, outputs, step, applied)?;
-            }
-            None => return Ok(()),
-        }
-        left -= 1;
+        let Some(steps) = cursor.next_steps(left) else {
+            return Ok(());
+        };
+        left -= steps.len();
+        notes.run_steps(alloc, tableau, string, coins, outputs, steps, applied)?;
     }
     Ok(())
 }
@@ -89,14 +89,164 @@ fn greatest(least: u32, numbers: &[u32]) -> u32
     greatest
 }
 
+/// How far back a pair looks, if a record controls it, or else 0.
+fn lookback_of(pair: ControlledPair) -> u32
+    ensures within { (axis : Axis) → LooksWithin result (controlled_step axis pair) }
+{
+    match pair {
+        ControlledPair::Qubits(_) => 0,
+        ControlledPair::Record(lookback, _) => lookback.number(),
+    }
+}
+
+/// The greatest of a number and the lookbacks of records that control.
+fn furthest(least: u32, pairs: &[ControlledPair]) -> u32
+    ensures more { least ≤ result }
+    ensures within { (axis : Axis) → All (LooksWithin result) (map (controlled_step axis) pairs.now) }
+{
+    let mut greatest = least;
+    for pair in pairs {
+        greatest = greatest.max(lookback_of(*pair));
+    }
+    greatest
+}
+
 impl RunNotes {
-    ghost use Rattle.std.specs.Prelude.{◌≡◌, ◌≤◌, ◌∷◌, [], if◌then◌else◌, length, OnOk, IfErr};
+    ghost use Rattle.std.specs.Prelude.{◌≡◌, ◌+◌, ◌<◌, ◌≤◌, ◌^◌, ◌∷◌, [], if◌then◌else◌, All, length, map, OnOk, IfErr};
     ghost use Rattle.stab_io.specs.declared.refusal.Refusal.TheVariants.{OutOfMemory};
     ghost use Rattle.stab_tableau.specs.Tableaus.{stabilises};
-    ghost use Rattle.stab_circuit.specs.Cursors.{step_shown};
-    ghost use Rattle.stab_run.specs.ProgramStates.{StepFits};
+    ghost use Rattle.stab_circuit.specs.Steps.{measured};
+    ghost use Rattle.stab_circuit.specs.Cursors.{step_shown, steps_shown};
+    ghost use Rattle.stab_run.specs.Records.{ones};
+    ghost use Rattle.stab_run.specs.Points.{coins_of, all_coins_of};
+    ghost use Rattle.stab_run.specs.ProgramStates.{StepFits, program_state, output_of};
     ghost use Rattle.stab_frames.specs.Lookbacks.{LooksWithin};
-    ghost use Rattle.stab_frames.specs.inner.Noted.{IsNoted};
+    ghost use Rattle.stab_frames.specs.inner.Noted.{IsNoted, NotesSteps};
+
+    /// Carries out steps, and notes them. The other string is for products to be written into.
+    fn run_steps<C: Coins>(
+        &mut self,
+        alloc: Global,
+        tableau: &mut Tableau,
+        string: &mut Pauli,
+        coins: &mut C,
+        outputs: &mut Outputs,
+        steps: Steps,
+        applied: &mut u64,
+    ) -> Result<(), Refusal>
+        requires same_length { length string.old.letters ≡ tableau.old.qubits }
+        requires notes_length { length self.old.string.letters ≡ tableau.old.qubits }
+        requires strings_length { self.old.strings.qubits ≡ tableau.old.qubits }
+        requires fits { All (StepFits tableau.old.qubits) (steps_shown steps) }
+        requires few { applied.old + length (steps_shown steps) < 2 ^ 63 }
+        ensures counted { OnOk result (applied.new ≡ applied.old + length (steps_shown steps.entry)) }
+        ensures qubits { tableau.new.qubits ≡ tableau.old.qubits }
+        ensures string { length string.new.letters ≡ length string.old.letters }
+        ensures same_coins { C.sequence coins.new ≡ C.sequence coins.old }
+        ensures asks { C.asks coins.new ≤ C.asks coins.old + all_coins_of (steps_shown steps.entry) }
+        ensures asks_free { OnOk result (C.asks coins.new + ones outputs.old.free.items ≤ C.asks coins.old + ones outputs.new.free.items) }
+        ensures notes_length { length self.new.string.letters ≡ tableau.old.qubits }
+        ensures strings_length { self.new.strings.qubits ≡ tableau.old.qubits }
+        ensures most { self.new.strings.most ≡ self.old.strings.most }
+        ensures raised { self.old.reach ≤ self.new.reach }
+        ensures noted { OnOk result (NotesSteps tableau.old.qubits (C.sequence coins.old) (steps_shown steps.entry) self.new.reach self.old.strings self.new.strings (program_state tableau.old (output_of outputs.old)) (program_state tableau.new (output_of outputs.new))) }
+        ensures err { IfErr result (λ r. r ≡ OutOfMemory) }
+    {
+        match steps {
+            Steps::Gates(..) => apply_steps(tableau, string, coins, outputs, steps, applied)?,
+            Steps::Pairs(_, pairs) => {
+                self.reach = furthest(self.reach, pairs);
+                apply_steps(tableau, string, coins, outputs, steps, applied)?;
+            }
+            Steps::Measurements(measurement, targets) => {
+                self.run_targets(
+                    alloc,
+                    tableau,
+                    string,
+                    coins,
+                    outputs,
+                    measurement,
+                    targets,
+                    applied,
+                )?;
+            }
+            Steps::Single(step) => {
+                self.run_step(alloc, tableau, string, coins, outputs, step, applied)?;
+            }
+        }
+        Ok(())
+    }
+
+    /// Carries out the measurements of targets, and notes them.
+    fn run_targets<C: Coins>(
+        &mut self,
+        alloc: Global,
+        tableau: &mut Tableau,
+        string: &mut Pauli,
+        coins: &mut C,
+        outputs: &mut Outputs,
+        measurement: Measurement,
+        targets: &[MeasureTarget],
+        applied: &mut u64,
+    ) -> Result<(), Refusal>
+        requires same_length { length string.old.letters ≡ tableau.old.qubits }
+        requires notes_length { length self.old.string.letters ≡ tableau.old.qubits }
+        requires strings_length { self.old.strings.qubits ≡ tableau.old.qubits }
+        requires fits { All (StepFits tableau.old.qubits) (map (measured measurement) targets.now) }
+        requires few { applied.old + length targets.now < 2 ^ 63 }
+        ensures counted { OnOk result (applied.new ≡ applied.old + length targets.now) }
+        ensures qubits { tableau.new.qubits ≡ tableau.old.qubits }
+        ensures string { length string.new.letters ≡ length string.old.letters }
+        ensures same_coins { C.sequence coins.new ≡ C.sequence coins.old }
+        ensures asks { C.asks coins.new ≤ C.asks coins.old + length targets.now }
+        ensures asks_free { OnOk result (C.asks coins.new + ones outputs.old.free.items ≤ C.asks coins.old + ones outputs.new.free.items) }
+        ensures notes_length { length self.new.string.letters ≡ tableau.old.qubits }
+        ensures strings_length { self.new.strings.qubits ≡ tableau.old.qubits }
+        ensures most { self.new.strings.most ≡ self.old.strings.most }
+        ensures raised { self.old.reach ≤ self.new.reach }
+        ensures noted { OnOk result (NotesSteps tableau.old.qubits (C.sequence coins.old) (map (measured measurement) targets.now) self.new.reach self.old.strings self.new.strings (program_state tableau.old (output_of outputs.old)) (program_state tableau.new (output_of outputs.new))) }
+        ensures err { IfErr result (λ r. r ≡ OutOfMemory) }
+    {
+        for target in targets {
+            let step = measured_step(measurement, *target);
+            self.run_step(alloc, tableau, string, coins, outputs, step, applied)?;
+        }
+        Ok(())
+    }
+
+    /// Carries out a step, and notes it.
+    fn run_step<C: Coins>(
+        &mut self,
+        alloc: Global,
+        tableau: &mut Tableau,
+        string: &mut Pauli,
+        coins: &mut C,
+        outputs: &mut Outputs,
+        step: Step,
+        applied: &mut u64,
+    ) -> Result<(), Refusal>
+        requires same_length { length string.old.letters ≡ tableau.old.qubits }
+        requires notes_length { length self.old.string.letters ≡ tableau.old.qubits }
+        requires strings_length { self.old.strings.qubits ≡ tableau.old.qubits }
+        requires fits { StepFits tableau.old.qubits (step_shown step) }
+        requires few { applied.old < 2 ^ 63 }
+        ensures counted { OnOk result (applied.new ≡ applied.old + 1) }
+        ensures qubits { tableau.new.qubits ≡ tableau.old.qubits }
+        ensures string { length string.new.letters ≡ length string.old.letters }
+        ensures same_coins { C.sequence coins.new ≡ C.sequence coins.old }
+        ensures asks { C.asks coins.new ≤ C.asks coins.old + coins_of (step_shown step.entry) }
+        ensures asks_free { OnOk result (C.asks coins.new + ones outputs.old.free.items ≤ C.asks coins.old + ones outputs.new.free.items) }
+        ensures notes_length { length self.new.string.letters ≡ tableau.old.qubits }
+        ensures strings_length { self.new.strings.qubits ≡ tableau.old.qubits }
+        ensures most { self.new.strings.most ≡ self.old.strings.most }
+        ensures raised { self.old.reach ≤ self.new.reach }
+        ensures noted { OnOk result (NotesSteps tableau.old.qubits (C.sequence coins.old) (step_shown step.entry ∷ []) self.new.reach self.old.strings self.new.strings (program_state tableau.old (output_of outputs.old)) (program_state tableau.new (output_of outputs.new))) }
+        ensures err { IfErr result (λ r. r ≡ OutOfMemory) }
+    {
+        self.note(alloc, tableau, string, step)?;
+        apply_step(tableau, string, coins, outputs, step, applied)?;
+        Ok(())
+    }
 
     /// Notes a step that a state comes to: the string of a free outcome, or how far it looks back. The
     /// other string is for products to be written into.

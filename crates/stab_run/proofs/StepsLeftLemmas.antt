@@ -18,14 +18,6 @@ drop-steps k m xs ys rest e count l = ap (drop k) e ∙ ap (λ t. drop t (ys ++ 
     whole : k ≡ length ys + (k - m)
     whole = omega arith
 
--- the first alone
-
-pub take-next : (k : ℕ) (xs : List Step) (x : Step) (rest : List Step) → xs ≡ x ∷ rest → 0 < k → take k xs ≡ x ∷ take (k - 1) rest
-take-next k xs x rest e p = take-steps k 1 xs (x ∷ []) rest e refl p
-
-pub drop-next : (k : ℕ) (xs : List Step) (x : Step) (rest : List Step) → xs ≡ x ∷ rest → 0 < k → drop k xs ≡ drop (k - 1) rest
-drop-next k xs x rest e p = drop-steps k 1 xs (x ∷ []) rest e refl p
-
 -- the coin numbers that steps use up, and then others
 pub coins-append : (xs ys : List Step) → all_coins_of (xs ++ ys) ≡ all_coins_of xs + all_coins_of ys
 coins-append [] ys = omega arith

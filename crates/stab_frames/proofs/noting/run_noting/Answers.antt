@@ -1,52 +1,70 @@
-use Rattle.std.proofs.Common.{◌-◌, arith, ap, subst, sym, ◌∙◌, length, take, All, [], ◌∷◌}
-use Rattle.std.proofs.lemmas.List.Elements.{All-nil}
-use Rattle.stab_circuit.specs.Cursors.{step_shown}
+use Rattle.std.proofs.Common.{◌-◌, arith, refl, ap, sym, ◌∙◌, length, take}
+use Rattle.std.proofs.lemmas.List.{length-append}
+use Rattle.stab_circuit.specs.Cursors.{steps_shown}
 use Rattle.stab_run.specs.Points.{all_coins_of}
-use Rattle.stab_run.specs.ProgramStates.{IsRun, program_state, output_of}
-use Rattle.stab_run.proofs.RunLemmas.{IsRun-none, fits-rest, run-rest}
-use Rattle.stab_run.proofs.StepsLeftLemmas.{take-next, drop-next, take-none, drop-none, take-empty, drop-empty}
-use Rattle.stab_frames.specs.KeptStrings.{KeepsTrue}
-use Rattle.stab_frames.specs.Lookbacks.{LooksWithin}
-use Rattle.stab_frames.proofs.NotedLemmas.{keeps-none, keeps-rest, within-rest}
+use Rattle.stab_run.specs.ProgramStates.{program_state, output_of}
+use Rattle.stab_run.proofs.RunLemmas.{fits-steps}
+use Rattle.stab_run.proofs.StepsLeftLemmas.{take-steps, drop-steps, coins-append, take-none, drop-none, take-empty, drop-empty}
+use Rattle.stab_frames.proofs.NotesStepsLemmas.{notes-all, notes-steps}
 use Rattle.stab_frames.proofs.noting.run_noting.Goals as goal
+
+pub run_steps-requires-clause-same_length : goal.run_steps-requires-clause-same_length
+run_steps-requires-clause-same_length g c = c.loop-left.invariant.string ∙ c.requires.same_length ∙ sym c.loop-left.invariant.qubits
+
+pub run_steps-requires-clause-notes_length : goal.run_steps-requires-clause-notes_length
+run_steps-requires-clause-notes_length g c = c.loop-left.invariant.notes_length ∙ sym c.loop-left.invariant.qubits
+
+pub run_steps-requires-clause-strings_length : goal.run_steps-requires-clause-strings_length
+run_steps-requires-clause-strings_length g c = c.loop-left.invariant.strings_length ∙ sym c.loop-left.invariant.qubits
+
+pub run_steps-requires-clause-fits : goal.run_steps-requires-clause-fits
+run_steps-requires-clause-fits g c =
+    (fits-steps c.loop-left.tableau.qubits c.loop-left.tableau.qubits c.loop-left.cursor.left (steps_shown c.in-Some.steps) c.next_steps.new.self.left
+    c.in-Some.ensures.some refl c.loop-left.invariant.fits).0
+
+pub run_steps-requires-clause-few : goal.run_steps-requires-clause-few
+run_steps-requires-clause-few g c =
+    let parts = ap length c.in-Some.ensures.some ∙ length-append (steps_shown c.in-Some.steps) c.next_steps.new.self.left in
+    omega (arith, parts, c.loop-left.invariant.few, c.requires.few)
+
+pub loop-left-smaller : goal.loop-left-smaller
+loop-left-smaller g c = omega (arith, c.in-Some.ensures.within, c.len-left.ensures.value)
 
 pub loop-left-preserved : goal.loop-left-preserved
 loop-left-preserved g c =
     let inv = c.loop-left.invariant in
     let more = c.in-Some.ensures.some in
-    let noted = c.in_ok-note-in-Some.ensures {u = tt} in
-    let done = c.in_ok-apply_step-in-Some.ensures {u = tt} in
-    let x = step_shown c.in-Some.step in
+    let done = c.in_ok-run_steps.ensures {u = tt} in
+    let shown = steps_shown c.in-Some.steps in
     let left = c.loop-left.left in
+    let count = c.len-left.result in
     let before = c.loop-left.cursor.left in
-    let behind = c.next.new.self.left in
-    let front = take-next left before x behind more c.loop-left-test.true in
-    let now = program_state c.loop-left.tableau (output_of c.loop-left.outputs) in
-    let then = program_state c.apply_step.new.tableau (output_of c.apply_step.new.outputs) in
-    let same = noted.unchanged in
-    let run = subst (λ t. IsRun t.qubits (g.C.Coins.sequence c.loop-left.coins) (x ∷ []) (program_state t (output_of c.loop-left.outputs)) then) same done.run in
+    let behind = c.next_steps.new.self.left in
+    let front = take-steps left count before shown behind more c.len-left.ensures.value c.in-Some.ensures.within.1 in
+    let then = take (left - count) behind in
+    let parts = ap length more ∙ length-append shown behind in
+    let taken = ap length front ∙ length-append shown then in
+    let asked = ap all_coins_of front ∙ coins-append shown then in
     record {
-      fits = fits-rest c.loop-left.tableau.qubits c.apply_step.new.tableau.qubits before x behind more (done.qubits ∙ ap (λ t. t.qubits) same) inv.fits;
-      few = omega (arith, ap length more, done.counted, inv.few);
-      counted = omega (arith, ap length front, done.counted, inv.counted);
-      rest = sym (drop-next left before x behind more c.loop-left-test.true) ∙ inv.rest;
-      all = c.next.ensures.all ∙ inv.all;
-      qubits = done.qubits ∙ ap (λ t. t.qubits) same ∙ inv.qubits;
-      string = done.string ∙ noted.string ∙ inv.string;
+      fits = (fits-steps c.loop-left.tableau.qubits c.run_steps.new.tableau.qubits before shown behind more done.qubits inv.fits).1;
+      few = omega (arith, parts, done.counted, inv.few);
+      counted = omega (arith, taken, done.counted, inv.counted);
+      rest = sym (drop-steps left count before shown behind more c.len-left.ensures.value c.in-Some.ensures.within.1) ∙ inv.rest;
+      all = c.next_steps.ensures.all ∙ inv.all;
+      qubits = done.qubits ∙ inv.qubits;
+      string = done.string ∙ inv.string;
       same_coins = done.same_coins ∙ inv.same_coins;
-      asks = omega (arith, ap all_coins_of front, done.asks, inv.asks);
+      asks = omega (arith, asked, done.asks, inv.asks);
       asks_free = omega (arith, done.asks_free, inv.asks_free);
-      notes_length = noted.notes_length ∙ inv.qubits;
-      strings_length = noted.strings_length ∙ inv.qubits;
-      most = noted.most ∙ inv.most;
-      raised = omega (arith, noted.raised, inv.raised);
-      reach = λ m le all. inv.reach m (omega (arith, noted.raised, le)) (within-rest c.note.new.self.reach m (take left before) x (take (left - 1) behind) front le noted.reach all);
-      run = λ new rest. inv.run new
-          (run-rest c.args.tableau.now.qubits c.loop-left.tableau.qubits (g.C.Coins.sequence c.args.coins.now) (g.C.Coins.sequence c.loop-left.coins)
-          (take left before) x (take (left - 1) behind) now then new front inv.qubits inv.same_coins run rest);
-      noted = λ new kept rest. inv.noted new kept
-          (keeps-rest c.args.tableau.now.qubits c.loop-left.tableau.qubits (g.C.Coins.sequence c.args.coins.now) (g.C.Coins.sequence c.loop-left.coins)
-          (take left before) x (take (left - 1) behind) c.loop-left.notes.strings c.note.new.self.strings kept now then new front inv.qubits inv.same_coins run noted.noted noted.most rest);
+      notes_length = done.notes_length ∙ inv.qubits;
+      strings_length = done.strings_length ∙ inv.qubits;
+      most = done.most ∙ inv.most;
+      raised = omega (arith, done.raised, inv.raised);
+      noted = λ reach new kept le rest. inv.noted reach new kept (omega (arith, done.raised, le))
+          (notes-steps c.args.tableau.now.qubits c.loop-left.tableau.qubits (g.C.Coins.sequence c.args.coins.now) (g.C.Coins.sequence c.loop-left.coins)
+          (take left before) shown then c.run_steps.new.self.reach reach c.loop-left.notes.strings c.run_steps.new.self.strings kept
+          (program_state c.loop-left.tableau (output_of c.loop-left.outputs)) (program_state c.run_steps.new.tableau (output_of c.run_steps.new.outputs)) new
+          front inv.qubits inv.same_coins le done.noted rest);
     }
 
 pub returns-clause-counted : goal.returns-clause-counted
@@ -59,61 +77,42 @@ pub returns-clause-asks : goal.returns-clause-asks
 returns-clause-asks g c = omega (arith, c.loop-left.invariant.asks)
 
 pub returns-clause-run : goal.returns-clause-run
-returns-clause-run g c =
-    let now = program_state c.loop-left.tableau (output_of c.loop-left.outputs) in
-    c.loop-left.invariant.run now
-    (subst (λ xs. IsRun c.args.tableau.now.qubits (g.C.Coins.sequence c.args.coins.now) xs now now) (sym (take-none c.loop-left.left c.loop-left.cursor.left c.loop-left-test.false))
-    (IsRun-none c.args.tableau.now.qubits (g.C.Coins.sequence c.args.coins.now) now))
+returns-clause-run g c = (notes-all (take-none c.loop-left.left c.loop-left.cursor.left c.loop-left-test.false) c.loop-left.invariant.noted).run
 
 pub returns-clause-reach : goal.returns-clause-reach
-returns-clause-reach g c =
-    c.loop-left.invariant.reach c.loop-left.notes.reach (omega arith)
-    (subst (All (LooksWithin c.loop-left.notes.reach)) (sym (take-none c.loop-left.left c.loop-left.cursor.left c.loop-left-test.false)) (All-nil (LooksWithin c.loop-left.notes.reach)))
+returns-clause-reach g c = (notes-all (take-none c.loop-left.left c.loop-left.cursor.left c.loop-left-test.false) c.loop-left.invariant.noted).within
 
 pub returns-clause-noted : goal.returns-clause-noted
-returns-clause-noted g c =
-    let now = program_state c.loop-left.tableau (output_of c.loop-left.outputs) in
-    let kept = c.loop-left.notes.strings in
-    c.loop-left.invariant.noted now kept
-    (subst (λ xs. KeepsTrue c.args.tableau.now.qubits (g.C.Coins.sequence c.args.coins.now) xs kept kept now now)
-    (sym (take-none c.loop-left.left c.loop-left.cursor.left c.loop-left-test.false))
-    (keeps-none c.args.tableau.now.qubits (g.C.Coins.sequence c.args.coins.now) kept now))
+returns-clause-noted g c = (notes-all (take-none c.loop-left.left c.loop-left.cursor.left c.loop-left-test.false) c.loop-left.invariant.noted).noted
 
-pub returns-in-None-clause-counted : goal.returns-in-None-clause-counted
-returns-in-None-clause-counted g c =
-    omega (arith, ap length (take-empty c.loop-left.left c.loop-left.cursor.left c.in-None.ensures.none.0), c.loop-left.invariant.counted)
+pub returns-in_default-clause-counted : goal.returns-in_default-clause-counted
+returns-in_default-clause-counted g c =
+    omega (arith, ap length (take-empty c.loop-left.left c.loop-left.cursor.left c.in_default.ensures.none.0), c.loop-left.invariant.counted)
 
-pub returns-in-None-clause-left : goal.returns-in-None-clause-left
-returns-in-None-clause-left g c =
-    c.in-None.ensures.none.1
-    ∙ sym (drop-empty c.loop-left.left c.loop-left.cursor.left c.in-None.ensures.none.0)
+pub returns-in_default-clause-left : goal.returns-in_default-clause-left
+returns-in_default-clause-left g c =
+    c.in_default.ensures.none.1
+    ∙ sym (drop-empty c.loop-left.left c.loop-left.cursor.left c.in_default.ensures.none.0)
     ∙ c.loop-left.invariant.rest
 
-pub returns-in-None-clause-asks : goal.returns-in-None-clause-asks
-returns-in-None-clause-asks g c = omega (arith, c.loop-left.invariant.asks)
+pub returns-in_default-clause-asks : goal.returns-in_default-clause-asks
+returns-in_default-clause-asks g c = omega (arith, c.loop-left.invariant.asks)
 
-pub returns-in-None-clause-run : goal.returns-in-None-clause-run
-returns-in-None-clause-run g c =
-    let now = program_state c.loop-left.tableau (output_of c.loop-left.outputs) in
-    c.loop-left.invariant.run now
-    (subst (λ xs. IsRun c.args.tableau.now.qubits (g.C.Coins.sequence c.args.coins.now) xs now now) (sym (take-empty c.loop-left.left c.loop-left.cursor.left c.in-None.ensures.none.0))
-    (IsRun-none c.args.tableau.now.qubits (g.C.Coins.sequence c.args.coins.now) now))
+pub returns-in_default-clause-run : goal.returns-in_default-clause-run
+returns-in_default-clause-run g c = (notes-all (take-empty c.loop-left.left c.loop-left.cursor.left c.in_default.ensures.none.0) c.loop-left.invariant.noted).run
 
-pub returns-in-None-clause-reach : goal.returns-in-None-clause-reach
-returns-in-None-clause-reach g c =
-    c.loop-left.invariant.reach c.loop-left.notes.reach (omega arith)
-    (subst (All (LooksWithin c.loop-left.notes.reach)) (sym (take-empty c.loop-left.left c.loop-left.cursor.left c.in-None.ensures.none.0)) (All-nil (LooksWithin c.loop-left.notes.reach)))
+pub returns-in_default-clause-reach : goal.returns-in_default-clause-reach
+returns-in_default-clause-reach g c = (notes-all (take-empty c.loop-left.left c.loop-left.cursor.left c.in_default.ensures.none.0) c.loop-left.invariant.noted).within
 
-pub returns-in-None-clause-noted : goal.returns-in-None-clause-noted
-returns-in-None-clause-noted g c =
-    let now = program_state c.loop-left.tableau (output_of c.loop-left.outputs) in
-    let kept = c.loop-left.notes.strings in
-    c.loop-left.invariant.noted now kept
-    (subst (λ xs. KeepsTrue c.args.tableau.now.qubits (g.C.Coins.sequence c.args.coins.now) xs kept kept now now)
-    (sym (take-empty c.loop-left.left c.loop-left.cursor.left c.in-None.ensures.none.0))
-    (keeps-none c.args.tableau.now.qubits (g.C.Coins.sequence c.args.coins.now) kept now))
+pub returns-in_default-clause-noted : goal.returns-in_default-clause-noted
+returns-in_default-clause-noted g c = (notes-all (take-empty c.loop-left.left c.loop-left.cursor.left c.in_default.ensures.none.0) c.loop-left.invariant.noted).noted
 
-pub returns-in_err-apply_step-in-Some-clause-asks : goal.returns-in_err-apply_step-in-Some-clause-asks
-returns-in_err-apply_step-in-Some-clause-asks g c =
-    let front = take-next c.loop-left.left c.loop-left.cursor.left (step_shown c.in-Some.step) c.next.new.self.left c.in-Some.ensures.some c.loop-left-test.true in
-    omega (arith, ap all_coins_of front, c.apply_step.ensures.asks, c.loop-left.invariant.asks)
+pub returns-in_err-run_steps-clause-asks : goal.returns-in_err-run_steps-clause-asks
+returns-in_err-run_steps-clause-asks g c =
+    let shown = steps_shown c.in-Some.steps in
+    let left = c.loop-left.left in
+    let behind = c.next_steps.new.self.left in
+    let count = c.len-left.result in
+    let front = take-steps left count c.loop-left.cursor.left shown behind c.in-Some.ensures.some c.len-left.ensures.value c.in-Some.ensures.within.1 in
+    let asked = ap all_coins_of front ∙ coins-append shown (take (left - count) behind) in
+    omega (arith, asked, c.run_steps.ensures.asks, c.loop-left.invariant.asks)

@@ -1,9 +1,9 @@
 use Rattle.std.proofs.Common.{◌≡◌, ℕ, ◌+◌, ◌≤◌, All, length, take, drop}
 use Rattle.stab_run.specs.Records.{ones}
 use Rattle.stab_run.specs.Points.{all_coins_of}
-use Rattle.stab_run.specs.ProgramStates.{ProgramState, StepFits, IsRun, program_state, output_of}
-use Rattle.stab_frames.specs.KeptStrings.{StringsState, KeepsTrue}
-use Rattle.stab_frames.specs.Lookbacks.{LooksWithin}
+use Rattle.stab_run.specs.ProgramStates.{ProgramState, StepFits, program_state, output_of}
+use Rattle.stab_frames.specs.KeptStrings.{StringsState}
+use Rattle.stab_frames.specs.inner.Noted.{NotesSteps}
 use Rattle.stab_frames.proofs.noting.run_noting.Given as goal
 
 abbrev pub invariant-loop-left : goal.invariant-loop-left
@@ -22,15 +22,10 @@ invariant-loop-left g l = record {
   strings_length : l.notes.strings.qubits ≡ l.initial.tableau.qubits;
   most : l.notes.strings.most ≡ l.initial.notes.strings.most;
   raised : l.initial.notes.reach ≤ l.notes.reach;
-  reach : (m : ℕ) → l.notes.reach ≤ m → All (LooksWithin m) (take l.left l.cursor.left) → All (LooksWithin m) (take l.most l.initial.cursor.left);
-  run : (new : ProgramState)
-      → IsRun l.initial.tableau.qubits (g.C.Coins.sequence l.initial.coins) (take l.left l.cursor.left) (program_state l.tableau (output_of l.outputs)) new
-      → IsRun l.initial.tableau.qubits (g.C.Coins.sequence l.initial.coins) (take l.most l.initial.cursor.left)
-      (program_state l.initial.tableau (output_of l.initial.outputs)) new;
-  noted : (new : ProgramState) (kept : StringsState)
-      → KeepsTrue l.initial.tableau.qubits (g.C.Coins.sequence l.initial.coins) (take l.left l.cursor.left) l.notes.strings kept
+  noted : (reach : ℕ) (new : ProgramState) (kept : StringsState) → l.notes.reach ≤ reach
+      → NotesSteps l.initial.tableau.qubits (g.C.Coins.sequence l.initial.coins) (take l.left l.cursor.left) reach l.notes.strings kept
       (program_state l.tableau (output_of l.outputs)) new
-      → KeepsTrue l.initial.tableau.qubits (g.C.Coins.sequence l.initial.coins) (take l.most l.initial.cursor.left) l.initial.notes.strings kept
+      → NotesSteps l.initial.tableau.qubits (g.C.Coins.sequence l.initial.coins) (take l.most l.initial.cursor.left) reach l.initial.notes.strings kept
       (program_state l.initial.tableau (output_of l.initial.outputs)) new;
 }
 

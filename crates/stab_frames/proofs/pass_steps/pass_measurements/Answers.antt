@@ -1,7 +1,6 @@
 use Rattle.std.proofs.Common.{◌<◌, sym, ◌∙◌, ap, subst, true, length, map, take, arith}
 use Rattle.std.proofs.lemmas.List.{take-map}
 use Rattle.stab_circuit.specs.Steps.{collapse, measured}
-use Rattle.stab_frames.specs.Walks.{WalkState}
 use Rattle.stab_frames.specs.inner.Passes.{GoesOver}
 use Rattle.stab_frames.proofs.GoesOverLemmas.{goes-step, goes-further, goes-measured, fits-mapped, coin-within}
 use Rattle.stab_frames.proofs.pass_steps.pass_measurements.Goals as goal

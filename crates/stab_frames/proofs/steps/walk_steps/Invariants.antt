@@ -1,4 +1,4 @@
-use Rattle.std.proofs.Common.{◌≡◌, ℕ, ◌-◌, ◌≤◌, length, take, drop}
+use Rattle.std.proofs.Common.{◌≡◌, ◌-◌, ◌≤◌, length, take, drop}
 use Rattle.stab_frames.specs.inner.Passes.{GoesOver}
 use Rattle.stab_frames.proofs.steps.walk_steps.Given as goal
 

@@ -1,0 +1,35 @@
+use Rattle.std.proofs.Common.{◌≡◌, arith, ap, sym, ◌∙◌, subst, All}
+use Rattle.stab_circuit.specs.Cursors.{steps_shown}
+use Rattle.stab_run.specs.Points.{all_coins_of}
+use Rattle.stab_run.specs.ProgramStates.{program_state, output_of}
+use Rattle.stab_run.proofs.TargetLemmas.{coins-measured}
+use Rattle.stab_frames.specs.Lookbacks.{LooksWithin}
+use Rattle.stab_frames.proofs.NotesStepsLemmas.{notes-unmeasured, coins-gates, near-gates, coins-pairs}
+use Rattle.stab_frames.proofs.noting.RunNotes.run_steps.Goals as goal
+
+pub returns-in_ok-apply_steps-in-Gates-clause-noted : goal.returns-in_ok-apply_steps-in-Gates-clause-noted
+returns-in_ok-apply_steps-in-Gates-clause-noted g c =
+    let is = sym (ap steps_shown c.in-Gates.is) in
+    let reach = c.args.self.now.reach in
+    notes-unmeasured c.args.tableau.now.qubits (g.C.Coins.sequence c.args.coins.now) (steps_shown c.args.steps) reach c.args.self.now.strings
+    (program_state c.args.tableau.now (output_of c.args.outputs.now)) (program_state c.apply_steps.new.tableau (output_of c.apply_steps.new.outputs))
+    (subst (λ xs. all_coins_of xs ≡ 0) is (coins-gates c.in-Gates.field-0 c.in-Gates.field-1.now))
+    (subst (All (LooksWithin reach)) is (near-gates reach c.in-Gates.field-0 c.in-Gates.field-1.now)) (c.in_ok-apply_steps-in-Gates.ensures {u = tt}).run
+
+pub returns-in_ok-apply_steps-in-Pairs-clause-noted : goal.returns-in_ok-apply_steps-in-Pairs-clause-noted
+returns-in_ok-apply_steps-in-Pairs-clause-noted g c =
+    let is = sym (ap steps_shown c.in-Pairs.is) in
+    notes-unmeasured c.args.tableau.now.qubits (g.C.Coins.sequence c.args.coins.now) (steps_shown c.args.steps) c.furthest-self.result c.args.self.now.strings
+    (program_state c.args.tableau.now (output_of c.args.outputs.now)) (program_state c.apply_steps-in-Pairs.new.tableau (output_of c.apply_steps-in-Pairs.new.outputs))
+    (subst (λ xs. all_coins_of xs ≡ 0) is (coins-pairs c.in-Pairs.field-0 c.in-Pairs.pairs.now))
+    (subst (All (LooksWithin c.furthest-self.result)) is (c.furthest-self.ensures.within c.in-Pairs.field-0)) (c.in_ok-apply_steps-in-Pairs.ensures {u = tt}).run
+
+pub returns-in_ok-run_targets-in-Measurements-clause-asks : goal.returns-in_ok-run_targets-in-Measurements-clause-asks
+returns-in_ok-run_targets-in-Measurements-clause-asks g c =
+    let coins = ap all_coins_of (ap steps_shown c.in-Measurements.is) ∙ coins-measured c.in-Measurements.measurement c.in-Measurements.targets.now in
+    omega (arith, c.run_targets.ensures.asks, coins)
+
+pub returns-in_err-run_targets-in-Measurements-clause-asks : goal.returns-in_err-run_targets-in-Measurements-clause-asks
+returns-in_err-run_targets-in-Measurements-clause-asks g c =
+    let coins = ap all_coins_of (ap steps_shown c.in-Measurements.is) ∙ coins-measured c.in-Measurements.measurement c.in-Measurements.targets.now in
+    omega (arith, c.run_targets.ensures.asks, coins)

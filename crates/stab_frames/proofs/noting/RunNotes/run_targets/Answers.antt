@@ -1,0 +1,60 @@
+use Rattle.std.proofs.Common.{arith, ap, sym, subst, ◌∙◌, ◌∷◌, []}
+use Rattle.stab_circuit.specs.Steps.{measured}
+use Rattle.stab_run.specs.Points.{coins_of}
+use Rattle.stab_run.specs.ProgramStates.{StepFits, program_state, output_of}
+use Rattle.stab_run.proofs.TargetLemmas.{fits-target}
+use Rattle.stab_frames.specs.inner.Noted.{NotesSteps}
+use Rattle.stab_frames.proofs.NotesStepsLemmas.{notes-target, notes-targets}
+use Rattle.stab_frames.proofs.noting.RunNotes.run_targets.Goals as goal
+
+pub run_step-requires-clause-same_length : goal.run_step-requires-clause-same_length
+run_step-requires-clause-same_length g c = c.loop-target.invariant.string ∙ c.requires.same_length ∙ sym c.loop-target.invariant.qubits
+
+pub run_step-requires-clause-notes_length : goal.run_step-requires-clause-notes_length
+run_step-requires-clause-notes_length g c = c.loop-target.invariant.notes_length ∙ sym c.loop-target.invariant.qubits
+
+pub run_step-requires-clause-strings_length : goal.run_step-requires-clause-strings_length
+run_step-requires-clause-strings_length g c = c.loop-target.invariant.strings_length ∙ sym c.loop-target.invariant.qubits
+
+pub run_step-requires-clause-fits : goal.run_step-requires-clause-fits
+run_step-requires-clause-fits g c =
+    subst (StepFits c.loop-target.tableau.qubits) (sym c.measured_step-step.ensures.value)
+    (fits-target c.args.tableau.now.qubits c.loop-target.tableau.qubits (measured c.args.measurement) c.args.targets.now c.loop-target.target-index c.target-item.result
+    c.loop-target.invariant.qubits c.loop-target-test.true c.target-item.is c.requires.fits)
+
+pub run_step-requires-clause-few : goal.run_step-requires-clause-few
+run_step-requires-clause-few g c = omega (arith, c.loop-target.invariant.counted, c.requires.few, c.loop-target-test.true)
+
+pub loop-target-preserved : goal.loop-target-preserved
+loop-target-preserved g c =
+    let inv = c.loop-target.invariant in
+    let done = c.in_ok-run_step.ensures {u = tt} in
+    let now = program_state c.loop-target.tableau (output_of c.loop-target.outputs) in
+    let then = program_state c.run_step.new.tableau (output_of c.run_step.new.outputs) in
+    record {
+      counted = omega (arith, done.counted, inv.counted);
+      qubits = done.qubits ∙ inv.qubits;
+      string = done.string ∙ inv.string;
+      same_coins = done.same_coins ∙ inv.same_coins;
+      asks = omega (arith, ap coins_of c.measured_step-step.ensures.value, done.asks, inv.asks);
+      asks_free = omega (arith, done.asks_free, inv.asks_free);
+      notes_length = done.notes_length ∙ inv.qubits;
+      strings_length = done.strings_length ∙ inv.qubits;
+      most = done.most ∙ inv.most;
+      raised = omega (arith, done.raised, inv.raised);
+      noted =
+          notes-target c.args.tableau.now.qubits c.loop-target.tableau.qubits (g.C.Coins.sequence c.args.coins.now) (g.C.Coins.sequence c.loop-target.coins)
+          (measured c.args.measurement) c.args.targets.now c.loop-target.target-index c.target-item.result c.loop-target.self.reach c.run_step.new.self.reach
+          c.args.self.now.strings c.loop-target.self.strings c.run_step.new.self.strings
+          (program_state c.args.tableau.now (output_of c.args.outputs.now)) now then
+          c.loop-target-test.true c.target-item.is inv.qubits inv.same_coins done.raised inv.noted
+          (subst (λ x. NotesSteps c.loop-target.tableau.qubits (g.C.Coins.sequence c.loop-target.coins) (x ∷ []) c.run_step.new.self.reach c.loop-target.self.strings
+          c.run_step.new.self.strings now then) c.measured_step-step.ensures.value done.noted);
+    }
+
+pub returns-clause-noted : goal.returns-clause-noted
+returns-clause-noted g c =
+    notes-targets c.args.tableau.now.qubits (g.C.Coins.sequence c.args.coins.now) (measured c.args.measurement) c.args.targets.now c.loop-target.target-index
+    c.loop-target.self.reach c.args.self.now.strings c.loop-target.self.strings
+    (program_state c.args.tableau.now (output_of c.args.outputs.now)) (program_state c.loop-target.tableau (output_of c.loop-target.outputs))
+    c.loop-target-test.false c.loop-target.invariant.noted
