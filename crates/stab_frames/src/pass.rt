@@ -71,6 +71,10 @@ pub fn pass_gate(walk: &mut FrameWalk, gate: Gate, qubit: usize)
     ensures length { length walk.new.letters ≡ length walk.old.letters }
 {
     let old = walk.letter(qubit);
+    // Most letters of a frame are I.
+    if old == Letter::I {
+        return;
+    }
     walk.set(qubit, image(gate, old));
 }
 
@@ -83,6 +87,9 @@ pub fn pass_pair(walk: &mut FrameWalk, gate: PairGate, first: usize, second: usi
 {
     let old = walk.letter(first);
     let other = walk.letter(second);
+    if old == Letter::I && other == Letter::I {
+        return;
+    }
     walk.set(first, first_image(gate, old, other));
     walk.set(second, second_image(gate, old, other));
 }
