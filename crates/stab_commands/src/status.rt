@@ -5,10 +5,11 @@ ghost use Rattle.stab_tables.specs.FaultTables.{fault_of, unsure_of};
 ghost use Rattle.stab_commands.specs.Jobs.{EndsCommand, EndsJob, reads_script, refusing_none};
 ghost use Rattle.stab_commands.specs.Jobs.{CommandInTurn};
 
+use crate::edit::run_edit_watched;
 use crate::job::{Command, Job, QubitCount};
 use crate::run::{run_detect_shots, run_sample_shots};
 use stab_io::{Fault, Input, Output};
-use stab_scripts::{NoWatcher, Watcher, run_edit_watched};
+use stab_scripts::{NoWatcher, Watcher};
 use stab_tables::{
     FaultsRefused, run_check, run_deterministic, run_faults, run_stabilisers, write_refused,
 };

@@ -1,23 +1,22 @@
-//! The command that edits a circuit by a script.
-ghost use Rattle.std.specs.Prelude.{◌≡◌, ◌≤◌, ◌⊎◌, None, false, IfOk, IfSome, IfErr, OnOk};
+//! A script, answered from a session that is opened for it.
+ghost use Rattle.std.specs.Prelude.{◌≡◌, ◌≤◌, ◌⊎◌, None, IfOk, IfErr, OnOk};
 ghost use Rattle.stab_io.specs.Refusals.{IsCallFault};
 ghost use Rattle.stab_tableau.specs.Limits.{most_qubits};
 ghost use Rattle.stab_circuit.specs.Steps.{check_within};
 ghost use Rattle.stab_circuit.specs.Views.{circuit_items};
 ghost use Rattle.stab_session.specs.Limits.{most_stride};
 ghost use Rattle.stab_scripts.specs.Scripts.{opened};
-ghost use Rattle.stab_scripts.specs.ScriptEndings.{EndsScript, EndsOn, EndsEdit};
-ghost use Rattle.stab_scripts.specs.ScriptTurns.{TakesTurns, EditsInTurn};
+ghost use Rattle.stab_scripts.specs.ScriptEndings.{EndsScript, EndsOn};
+ghost use Rattle.stab_scripts.specs.ScriptTurns.{TakesTurns};
 
 use crate::editor::{Answer, Editor};
 use crate::request::Request;
 use crate::session_answers::SessionAnswers;
-use crate::watcher::{NoWatcher, Watcher};
-use stab_circuit::{Circuit, read_circuit};
+use crate::watcher::Watcher;
+use stab_circuit::Circuit;
 use stab_io::{DeviceFault, Fault, Input, Output, Refusal};
-use stab_run::{Coins, ListCoins, SeedCoins};
+use stab_run::Coins;
 use stab_session::Session;
-use stab_tables::Source;
 use std::alloc::Global;
 
 /// The most bytes of a script.
@@ -82,8 +81,14 @@ fn open_session<C: Coins>(
     }
 }
 
-/// Opens a session of the circuit, and answers the script on it.
-fn edit_circuit<C: Coins, S: Input, O: Output, W: Watcher<S, O>>(
+/// Opens a session of a circuit on n qubits, and answers a script on it, each reply before it reads on,
+/// with each read made by a watcher. A framed script is greeted first.
+///
+/// True where a line was refused. Faults: those of the circuit on so many qubits, with the script
+/// unread and the output untouched; `ReadFault` where the script's input failed and `TooLong` for a script
+/// of more than 67,108,864 bytes, both after exactly the replies to what was read whole; `WriteFault`
+/// where the output failed, and `OutOfMemory`, both after a prefix of all replies.
+pub fn edit_circuit<C: Coins, S: Input, O: Output, W: Watcher<S, O>>(
     alloc: Global,
     framed: bool,
     circuit: Circuit,
@@ -102,99 +107,4 @@ fn edit_circuit<C: Coins, S: Input, O: Output, W: Watcher<S, O>>(
     let session = open_session(alloc, circuit, n, stride, coins)?;
     let answers = SessionAnswers::new(alloc, framed, session)?;
     run_script::<SessionAnswers<C>, S, O, W>(alloc, answers, script, out)
-}
-
-/// Reads a circuit, and edits it by a script, as `run_edit` does, with each read of the script made
-/// by a watcher, which is shown the output as it then stands.
-///
-/// Where the script's input keeps a log, each read of it found exactly the replies written to what
-/// was handed over before, in whole lines, behind what the output held at first.
-///
-/// A framed script is one that a program drives: it is greeted by a line of numbers before it is
-/// read, each reply that is no refusal says first how many lines it has, and it may ask for more.
-pub fn run_edit_watched<I: Input, S: Input, O: Output, W: Watcher<S, O>>(
-    alloc: Global,
-    circuit_input: &mut I,
-    script_input: &mut S,
-    out: &mut O,
-    framed: bool,
-    qubits: Option<usize>,
-    stride: usize,
-    source: &Source,
-) -> Result<bool, Fault>
-    requires in_range { IfSome qubits (λ n. n ≤ most_qubits) }
-    requires stride_above { 1 ≤ stride }
-    requires stride_within { stride ≤ most_stride }
-    ensures ends { EndsEdit framed qubits source.now (I.seen circuit_input.old) (I.seen circuit_input.new) (S.seen script_input.old) (S.seen script_input.new) (O.seen out.old) (O.seen out.new) result }
-    ensures turns { EditsInTurn framed qubits source.now (I.seen circuit_input.old) (I.seen circuit_input.new) (S.seen script_input.old) (S.seen script_input.new) (O.seen out.old) (W.log script_input.old) (W.log script_input.new) }
-{
-    let circuit = read_circuit(alloc, circuit_input)?;
-    let n = match qubits {
-        Some(n) => n,
-        None => circuit.qubits(),
-    };
-    match source {
-        Source::Seed(seed) => {
-            let coins = SeedCoins::new(*seed, 0);
-            edit_circuit::<SeedCoins, S, O, W>(
-                alloc,
-                framed,
-                circuit,
-                n,
-                stride,
-                coins,
-                script_input,
-                out,
-            )
-        }
-        Source::List(list) => {
-            let coins = ListCoins::new(list.as_slice());
-            edit_circuit::<ListCoins, S, O, W>(
-                alloc,
-                framed,
-                circuit,
-                n,
-                stride,
-                coins,
-                script_input,
-                out,
-            )
-        }
-    }
-}
-
-/// Reads a circuit, and edits it by a script: the reply to each line is written before the next
-/// line is read.
-///
-/// The circuit is read whole first; its faults, and `QubitOutOfRange` where it names a qubit past
-/// those asked for, leave the script unread and the output untouched. It has as many qubits as are
-/// asked for, at most 1,024, or as it names. The stride is from 1 to 65,536. Coins are those of shot
-/// 0. True where a line was refused. Faults: those of the circuit; `ReadFault` where an input
-/// failed and `TooLong` for a script of more than 67,108,864 bytes, both after exactly the replies
-/// to what was read whole; `WriteFault` where the output failed, and `OutOfMemory`, both after a
-/// prefix of all replies.
-pub fn run_edit<I: Input, S: Input, O: Output>(
-    alloc: Global,
-    circuit_input: &mut I,
-    script_input: &mut S,
-    out: &mut O,
-    qubits: Option<usize>,
-    stride: usize,
-    source: &Source,
-) -> Result<bool, Fault>
-    requires in_range { IfSome qubits (λ n. n ≤ most_qubits) }
-    requires stride_above { 1 ≤ stride }
-    requires stride_within { stride ≤ most_stride }
-    ensures ends { EndsEdit false qubits source.now (I.seen circuit_input.old) (I.seen circuit_input.new) (S.seen script_input.old) (S.seen script_input.new) (O.seen out.old) (O.seen out.new) result }
-{
-    run_edit_watched::<I, S, O, NoWatcher>(
-        alloc,
-        circuit_input,
-        script_input,
-        out,
-        false,
-        qubits,
-        stride,
-        source,
-    )
 }

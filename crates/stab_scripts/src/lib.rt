@@ -16,15 +16,14 @@
 //! - `session_answers`: requests answered from a session.
 //! - `watcher`: how a script is read beside the output of its replies.
 //! - `logged_input`: an input in memory that keeps a log of such reads.
-//! - `edit`: the command that edits a circuit by a script.
+//! - `edit`: a script, answered from a session that is opened for it.
 //! - `laws`: a script has one answer and no other.
 //!
 //! Source: this project's own.
 //!
-//! Proved: `run_edit` writes exactly the replies that `specs/Scripts.antt` gives for the script and the
-//! circuit's items, or ends by its own cases (`specs/ScriptEndings.antt`). `run_edit_watched` says too
-//! that the reply to each line stands written before more of the script is asked for
-//! (`specs/ScriptTurns.antt`).
+//! Proved: `edit_circuit` writes exactly the replies that `specs/Scripts.antt` gives for the script and the
+//! circuit's items, or ends by its own cases (`specs/ScriptEndings.antt`), and the reply to each line
+//! stands written before more of the script is asked for (`specs/ScriptTurns.antt`).
 #![tactic(auto)]
 
 mod changes;
@@ -44,6 +43,6 @@ mod signs;
 mod sure_bits;
 mod watcher;
 
-pub use edit::{run_edit, run_edit_watched};
+pub use edit::edit_circuit;
 pub use logged_input::{KeepsLog, LoggedInput, LoggedRead};
 pub use watcher::{NoWatcher, Watcher};
