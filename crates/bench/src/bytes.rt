@@ -1,10 +1,11 @@
 //! The plain loop that the calls of a tableau are compared with.
 ghost use Rattle.std.specs.Prelude.{◌≡◌, ◌<◌, length};
 
+use super::clock;
 use super::failure::Failure;
 use std::alloc::{AllocError, Global};
 use std::num::nearest_usize_to_f64;
-use std::time::{CpuClock, Duration};
+use std::time::CpuClock;
 
 /// The best of so many rounds counts, since other programs disturb the rest.
 const ROUNDS: u32 = 9;
@@ -56,24 +57,24 @@ pub fn nanoseconds<R: CpuClock + AllocGlobal>(rt: &R, n: usize) -> Result<f64, F
 {
     let passes = 65_536 / n;
     let mut pairs = pairs(rt.alloc(), n)?;
-    let mut least = Duration::MAX;
+    let mut least = f64::INFINITY;
     for _ in 0..ROUNDS {
         least = least.min(time_of_round(rt, pairs.as_mut_slice(), passes)?);
     }
-    Ok(least.as_secs_f64() * 1e9 / nearest_usize_to_f64(passes) / nearest_usize_to_f64(n))
+    Ok(least * 1e9 / nearest_usize_to_f64(passes) / nearest_usize_to_f64(n))
 }
 
-/// The processor time of so many passes over all pairs.
+/// The seconds of so many passes over all pairs.
 fn time_of_round<R: CpuClock>(
     rt: &R,
     pairs: &mut [BytePair],
     passes: usize,
-) -> Result<Duration, Failure> {
-    let start = rt.thread_cpu_time()?;
+) -> Result<f64, Failure> {
+    let start = clock::now(rt);
     for _ in 0..passes {
         xor_all(pairs);
     }
-    Ok(rt.thread_cpu_time()?.saturating_sub(start))
+    clock::since(rt, start)
 }
 
 /// XORs the lines of all pairs.

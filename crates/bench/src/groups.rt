@@ -4,12 +4,12 @@ ghost use Rattle.stab_tableau.specs.Limits.{most_qubits};
 
 use super::failure::Failure;
 use super::report::{Yardsticks, print_line};
-use super::state;
+use super::{clock, state};
 use stab_pauli::{Letter, Pauli, Refusal};
 use stab_tableau::{Gate, PairGate, Tableau};
 use std::alloc::Global;
 use std::num::nearest_usize_to_f64;
-use std::time::{CpuClock, Duration};
+use std::time::CpuClock;
 
 /// The best of so many rounds counts, since other programs disturb the rest.
 const ROUNDS: u32 = 9;
@@ -31,7 +31,7 @@ impl Difference {
     ghost use Rattle.std.specs.Prelude.{◌<◌};
 
     /// All differences, in the order of the table, with what it calls their comparisons.
-    const ALL: [(Difference, &'static str); 4] = [
+    const ALL: &'static [(Difference, &'static str)] = &[
         (Difference::Nothing, "same group, same words"),
         (Difference::Signs, "same group, other signs"),
         (Difference::Rows, "same group, other rows"),
@@ -59,7 +59,8 @@ pub fn print_lines<R: CpuClock + AllocGlobal + Print>(
     requires several { 1 < n }
     requires in_range { n ≤ most_qubits }
 {
-    for (difference, name) in Difference::ALL {
+    for line in Difference::ALL {
+        let (difference, name) = *line;
         let time = time_of_difference(rt, n, difference)?;
         print_line(rt, name, time, yardsticks)?;
     }
@@ -170,29 +171,29 @@ fn time_of_comparison<R: CpuClock>(
     requires same_qubits { second.old.qubits ≡ first.old.qubits }
     ensures qubits { first.new.qubits ≡ first.old.qubits }
 {
-    let mut least = Duration::MAX;
+    let mut least = f64::INFINITY;
     for _ in 0..ROUNDS {
         least = least.min(time_of_round(rt, first, second, calls)?);
     }
-    Ok(least.as_secs_f64() * 1e9 / nearest_usize_to_f64(calls))
+    Ok(least * 1e9 / nearest_usize_to_f64(calls))
 }
 
-/// The processor time of so many comparisons.
+/// The seconds of so many comparisons.
 fn time_of_round<R: CpuClock>(
     rt: &R,
     first: &mut Tableau,
     second: &mut Tableau,
     calls: usize,
-) -> Result<Duration, Failure>
+) -> Result<f64, Failure>
     requires same_qubits { second.old.qubits ≡ first.old.qubits }
     ensures qubits { first.new.qubits ≡ first.old.qubits }
     ensures second_qubits { second.new.qubits ≡ second.old.qubits }
 {
-    let start = rt.thread_cpu_time()?;
+    let start = clock::now(rt);
     for _ in 0..calls {
         is_same(first, second);
     }
-    Ok(rt.thread_cpu_time()?.saturating_sub(start))
+    clock::since(rt, start)
 }
 
 /// How many nanoseconds of processor time the reduced rows of the scrambled state take, by the best of
@@ -201,19 +202,19 @@ fn time_of_rows<R: CpuClock + AllocGlobal>(rt: &R, n: usize) -> Result<f64, Fail
     requires in_range { n ≤ most_qubits }
 {
     let mut tableau = state::scrambled(rt.alloc(), n)?;
-    let mut least = Duration::MAX;
+    let mut least = f64::INFINITY;
     for _ in 0..ROUNDS {
         least = least.min(time_of_reducing(rt, &mut tableau)?);
     }
-    Ok(least.as_secs_f64() * 1e9)
+    Ok(least * 1e9)
 }
 
-/// The processor time of finding the reduced rows of a state once, and letting them go.
+/// The seconds of finding the reduced rows of a state once, and letting them go.
 fn time_of_reducing<R: CpuClock + AllocGlobal>(
     rt: &R,
     tableau: &mut Tableau,
-) -> Result<Duration, Failure> {
-    let start = rt.thread_cpu_time()?;
+) -> Result<f64, Failure> {
+    let start = clock::now(rt);
     let _ = tableau.reduced_rows(rt.alloc())?;
-    Ok(rt.thread_cpu_time()?.saturating_sub(start))
+    clock::since(rt, start)
 }

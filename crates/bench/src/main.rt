@@ -10,6 +10,8 @@
 //! - `work`: what is timed.
 //! - `state`: the states and the string that the works take.
 //! - `bytes`: the plain loop.
+//! - `clock`: the processor time.
+//! - `columns`: lines of numbers.
 //! - `timing`: does each work, and gives the best of several rounds.
 //! - `groups`: comparing the groups of two states, and reduced rows.
 //! - `report`: the tables.
@@ -24,6 +26,8 @@
 #![tactic(auto)]
 
 mod bytes;
+mod clock;
+mod columns;
 mod editing;
 mod failure;
 mod faulting;

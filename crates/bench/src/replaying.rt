@@ -1,9 +1,10 @@
 //! Edits of a session, each beside one whole run of the same circuit.
+use super::columns::{print_cells, print_sentence};
 use super::failure::Failure;
-use super::reading;
 use super::running::{self, Whole};
+use super::{clock, reading};
 use stab_circuit::{Circuit, Path, read_item};
-use stab_session::{Edit, Report, SeedCoins, Session};
+use stab_session::{Edit, SeedCoins, Session};
 use std::alloc::Global;
 use std::num::nearest_usize_to_f64;
 use std::rt::Files;
@@ -15,8 +16,20 @@ const EDITS: u32 = 5;
 /// Copies of the state are kept at most so many steps apart.
 const STRIDE: usize = 8192;
 
+/// What ends the line of a circuit, with the headings of the table of its edits.
+const HEADINGS: &str = " MiB
+     place  line      edit ms  of a run  faster than reading and running     steps    framed";
+
 /// Which of the hundred parts of the outermost list an edit stands at the end of.
 const PARTS: [usize; 3] = [1, 50, 99];
+
+/// The seconds of an edit, and how many steps it carried out and how many a frame went over.
+#[derive(Clone, Copy)]
+struct Cost {
+    seconds: f64,
+    applied: usize,
+    framed: usize,
+}
 
 /// Prints a table of the edits of the circuits in files. The qubit is one whose next record `X`
 /// flips, and nothing else; the qubit 1 is one whose state `H` changes.
@@ -25,62 +38,77 @@ pub fn print_table<R: CpuClock + Files + AllocGlobal + Print>(
     qubit: &str,
     paths: &[String],
 ) -> Result<(), Failure> {
+    let flip = format!(in rt.alloc(); "X {qubit}")?;
+    print_circuits(rt, flip.as_str(), paths)
+}
+
+/// Prints a table of the edits of the circuits in files, of which one is the line that flips a record.
+fn print_circuits<R: CpuClock + Files + AllocGlobal + Print>(
+    rt: &R,
+    flip: &str,
+    paths: &[String],
+) -> Result<(), Failure> {
     for path in paths {
-        print_circuit(rt, qubit, path.as_str())?;
+        print_circuit(rt, flip, path.as_str())?;
     }
     Ok(())
 }
 
-/// Prints what reading a circuit, running it, opening a session on it and editing that take.
+/// Prints what reading the circuit in a file, running it, opening a session on it and editing that take.
 fn print_circuit<R: CpuClock + Files + AllocGlobal + Print>(
     rt: &R,
-    qubit: &str,
+    flip: &str,
     path: &str,
 ) -> Result<(), Failure> {
-    let whole = whole_of_file(rt, path)?;
-    let (read, run) = (whole.read, whole.run);
-    println!(rt; "{path}: read {read:.1} ms, run {run:.1} ms")?;
     let text = running::text_of_file(rt, path)?;
-    print_session(rt, qubit, text.as_slice(), whole)
+    print_text(rt, flip, path, text.as_slice())
 }
 
-/// The numbers of the circuit in a file, and the times that reading and running it take.
-fn whole_of_file<R: CpuClock + Files + AllocGlobal>(rt: &R, path: &str) -> Result<Whole, Failure> {
-    let text = running::text_of_file(rt, path)?;
-    running::whole_of(rt, text.as_slice())
+/// Prints what reading the circuit of a text, running it, opening a session on it and editing that take.
+fn print_text<R: CpuClock + Files + AllocGlobal + Print>(
+    rt: &R,
+    flip: &str,
+    path: &str,
+    text: &[u8],
+) -> Result<(), Failure> {
+    let whole = running::whole_of(rt, text)?;
+    let (read, run) = (whole.read, whole.run);
+    println!(rt; "{path}: read {read:.1} ms, run {run:.1} ms")?;
+    print_session(rt, flip, text, whole)
 }
 
 /// Opens a session on a circuit, and prints what that and edits of it take.
 fn print_session<R: CpuClock + Files + AllocGlobal + Print>(
     rt: &R,
-    qubit: &str,
+    flip: &str,
     text: &[u8],
     whole: Whole,
 ) -> Result<(), Failure> {
     let before = resident(rt)?;
     let circuit = reading::circuit_of_text(rt.alloc(), text)?;
-    let start = rt.thread_cpu_time()?;
+    let start = clock::now(rt);
     let mut session = opened(rt.alloc(), circuit)?;
     print_opening(rt, &session, start, before)?;
-    print_edits(rt, &mut session, qubit, whole)
+    print_edits(rt, &mut session, flip, whole)
 }
 
 /// Prints what it took to open a session, which was begun at a time with so many MiB held.
 fn print_opening<R: CpuClock + Files + AllocGlobal + Print>(
     rt: &R,
     session: &Session<SeedCoins>,
-    start: Duration,
+    start: Option<Duration>,
     before: f64,
 ) -> Result<(), Failure> {
-    let open = rt.thread_cpu_time()?.saturating_sub(start).as_secs_f64() * 1e3;
+    let open = clock::since(rt, start)? * 1e3;
     let kept = resident(rt)? - before;
     let circuit = session.circuit();
-    let (items, steps) = (circuit.items().len(), circuit.steps());
-    println!(rt; "{items} items, {steps} steps, open {open:.1} ms, {kept:.1} MiB")?;
-    println!(rt;
-        "     place  line      edit ms  of a run  faster than reading and running     steps    framed"
-    )?;
-    Ok(())
+    let parts = [
+        ("", nearest_usize_to_f64(circuit.items().len()), 0),
+        (" items, ", nearest_usize_to_f64(circuit.steps()), 0),
+        (" steps, open ", open, 1),
+        (" ms, ", kept, 1),
+    ];
+    print_sentence(rt, &parts, HEADINGS)
 }
 
 /// Prints what edits of three kinds at three places take: nothing downstream changes, a record
@@ -88,18 +116,27 @@ fn print_opening<R: CpuClock + Files + AllocGlobal + Print>(
 fn print_edits<R: CpuClock + AllocGlobal + Print>(
     rt: &R,
     session: &mut Session<SeedCoins>,
-    qubit: &str,
+    flip: &str,
     whole: Whole,
 ) -> Result<(), Failure> {
-    let items = session.circuit().items().len();
-    let flip = format!(in rt.alloc(); "X {qubit}")?;
+    let hundredth = session.circuit().items().len() / 100;
     for part in PARTS {
-        let place = (items / 100).saturating_mul(part);
-        for line in ["I 1", flip.as_str(), "H 1"] {
-            print_edit(rt, session, place, line, whole)?;
-        }
+        print_edits_at(rt, session, hundredth.saturating_mul(part), flip, whole)?;
     }
     Ok(())
+}
+
+/// Prints what edits of three kinds take at a place.
+fn print_edits_at<R: CpuClock + AllocGlobal + Print>(
+    rt: &R,
+    session: &mut Session<SeedCoins>,
+    place: usize,
+    flip: &str,
+    whole: Whole,
+) -> Result<(), Failure> {
+    print_edit(rt, session, place, "I 1", whole)?;
+    print_edit(rt, session, place, flip, whole)?;
+    print_edit(rt, session, place, "H 1", whole)
 }
 
 /// Prints what putting the item of a line in at a place takes.
@@ -110,20 +147,41 @@ fn print_edit<R: CpuClock + AllocGlobal + Print>(
     line: &str,
     whole: Whole,
 ) -> Result<(), Failure> {
-    let mut least = Duration::MAX;
-    let mut steps = (0, 0);
-    for _ in 0..EDITS {
-        let (time, report) = timed_edit(rt, session, Path::new(&[place]), line)?;
-        least = least.min(time);
-        steps = (report.applied, report.framed);
-    }
-    let edit = least.as_secs_f64() * 1e3;
-    let (of, faster) = (edit / whole.run, (whole.read + whole.run) / edit);
-    let (applied, framed) = steps;
-    println!(rt;
-        "{place:>10}  {line:<6} {edit:>10.3} {of:>9.4} {faster:>32.1} {applied:>9} {framed:>9}"
-    )?;
+    let cost = best_edit(rt, session, Path::new(&[place]), line)?;
+    print!(rt; "{place:>10}  {line:<6}")?;
+    print_cost(rt, cost, whole)
+}
+
+/// Prints what an edit cost, beside reading and running the circuit.
+fn print_cost<R: Print>(rt: &R, cost: Cost, whole: Whole) -> Result<(), Failure> {
+    let edit = cost.seconds * 1e3;
+    let cells = [
+        (edit, 10, 3),
+        (edit / whole.run, 9, 4),
+        ((whole.read + whole.run) / edit, 32, 1),
+        (nearest_usize_to_f64(cost.applied), 9, 0),
+        (nearest_usize_to_f64(cost.framed), 9, 0),
+    ];
+    print_cells(rt, &cells)?;
+    println!(rt; "")?;
     Ok(())
+}
+
+/// What putting the item of a line in at a place costs: the least time of several edits, and the steps of
+/// the last.
+fn best_edit<R: CpuClock + AllocGlobal>(
+    rt: &R,
+    session: &mut Session<SeedCoins>,
+    place: Path,
+    line: &str,
+) -> Result<Cost, Failure> {
+    let mut last = timed_edit(rt, session, place, line)?;
+    for _ in 1..EDITS {
+        let least = last.seconds;
+        last = timed_edit(rt, session, place, line)?;
+        last.seconds = last.seconds.min(least);
+    }
+    Ok(last)
 }
 
 /// A session on a circuit's own qubits, with the coins of seed 0 and shot 0.
@@ -135,28 +193,23 @@ pub fn opened(alloc: Global, circuit: Circuit) -> Result<Session<SeedCoins>, Fai
     }
 }
 
-/// The processor time of putting the item of a line in at a place, and what it cost; the item is
-/// then taken out again.
+/// What putting the item of a line in at a place costs; the item is then taken out again.
 fn timed_edit<R: CpuClock + AllocGlobal>(
     rt: &R,
     session: &mut Session<SeedCoins>,
     place: Path,
     line: &str,
-) -> Result<(Duration, Report), Failure> {
+) -> Result<Cost, Failure> {
     let item = read_item(rt.alloc(), line.as_bytes())?;
-    let start = rt.thread_cpu_time();
-    let report = apply(session, Edit::Insert { place, item })?;
-    let end = rt.thread_cpu_time();
-    apply(session, Edit::Delete { place })?;
-    Ok((end?.saturating_sub(start?), report))
-}
-
-/// Makes an edit.
-pub fn apply(session: &mut Session<SeedCoins>, edit: Edit) -> Result<Report, Failure> {
-    match session.apply(edit) {
-        Ok(report) => Ok(report),
-        Err(refused) => Err(Failure::Circuit(refused.fault)),
-    }
+    let start = clock::now(rt);
+    let report = session.apply(Edit::Insert { place, item })?;
+    let seconds = clock::since(rt, start)?;
+    session.apply(Edit::Delete { place })?;
+    Ok(Cost {
+        seconds,
+        applied: report.applied,
+        framed: report.framed,
+    })
 }
 
 /// How many MiB of memory the program holds, as Linux tells.

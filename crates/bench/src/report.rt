@@ -1,6 +1,7 @@
 ghost use Rattle.std.specs.Prelude.{◌<◌, ◌≤◌};
 ghost use Rattle.stab_tableau.specs.Limits.{most_qubits};
 
+use super::columns::print_row;
 use super::failure::Failure;
 use super::work::{self, CX};
 use super::{bytes, groups, timing};
@@ -37,7 +38,7 @@ fn print_works<R: CpuClock + AllocGlobal + Print>(
     requires in_range { n ≤ most_qubits }
 {
     for timed in work::ALL {
-        let time = timing::nanoseconds(rt, n, timed)?;
+        let time = timing::nanoseconds(rt, n, *timed)?;
         print_line(rt, timed.name, time, yardsticks)?;
     }
     Ok(())
@@ -51,6 +52,5 @@ pub fn print_line<R: Print>(
     yardsticks: Yardsticks,
 ) -> Result<(), Failure> {
     let (to_xor, to_cx) = (time / yardsticks.xor, time / yardsticks.cx);
-    println!(rt; "{time:>12.1} {to_xor:>10.2} {to_cx:>8.2}  {name}")?;
-    Ok(())
+    print_row(rt, &[(time, 11, 1), (to_xor, 10, 2), (to_cx, 8, 2)], name)
 }

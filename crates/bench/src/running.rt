@@ -2,14 +2,15 @@ ghost use Rattle.std.specs.Prelude.{◌≡◌, None, IfOk};
 ghost use Rattle.stab_circuit.specs.Steps.{check_of};
 ghost use Rattle.stab_circuit.specs.Views.{circuit_items};
 
+use super::columns::print_row;
 use super::failure::Failure;
-use super::{reading, walking};
+use super::{clock, reading, walking};
 use stab_circuit::Circuit;
 use stab_session::{SeedCoins, run_once};
 use std::fs;
 use std::num::nearest_usize_to_f64;
 use std::rt::Files;
-use std::time::{CpuClock, Duration};
+use std::time::CpuClock;
 
 /// The best of so many runs counts, since other programs disturb the rest.
 const RUNS: u32 = 5;
@@ -32,6 +33,14 @@ pub fn print_table<R: CpuClock + Files + AllocGlobal + Print>(
     for path in paths {
         print_line(rt, path.as_str())?;
     }
+    print_walks(rt, paths)
+}
+
+/// Prints what cursors take over the steps of the circuits in files.
+fn print_walks<R: CpuClock + Files + AllocGlobal + Print>(
+    rt: &R,
+    paths: &[String],
+) -> Result<(), Failure> {
     for path in paths {
         print_walk(rt, path.as_str())?;
     }
@@ -52,21 +61,23 @@ fn print_line<R: CpuClock + Files + AllocGlobal + Print>(
 
 /// Prints what reading a circuit and running it take, with the bytes of its text and its path.
 fn print_whole<R: Print>(rt: &R, whole: Whole, bytes: usize, path: &str) -> Result<(), Failure> {
-    let (steps, records) = (whole.steps, whole.records);
-    println!(rt;
-        "{bytes:>9} {steps:>8} {records:>8} {:>10.3} {:>10.3} {:>10.1}  {path}",
-        whole.read,
-        whole.run,
-        whole.run * 1e6 / nearest_usize_to_f64(steps.max(1))
-    )?;
-    Ok(())
+    let steps = nearest_usize_to_f64(whole.steps);
+    let cells = [
+        (nearest_usize_to_f64(bytes), 8, 0),
+        (steps, 8, 0),
+        (nearest_usize_to_f64(whole.records), 8, 0),
+        (whole.read, 10, 3),
+        (whole.run, 10, 3),
+        (whole.run * 1e6 / steps.max(1.0), 10, 1),
+    ];
+    print_row(rt, &cells, path)
 }
 
 /// The numbers of a text's circuit, and the times that reading and running it take.
 pub fn whole_of<R: CpuClock + AllocGlobal>(rt: &R, text: &[u8]) -> Result<Whole, Failure> {
-    let read = reading::best_time(rt, text)?.as_secs_f64() * 1e3;
+    let read = reading::best_time(rt, text)? * 1e3;
     let circuit = reading::circuit_of_text(rt.alloc(), text)?;
-    let run = best_time(rt, &circuit)?.as_secs_f64() * 1e3;
+    let run = best_time(rt, &circuit)? * 1e3;
     Ok(Whole {
         steps: circuit.steps(),
         records: circuit.records(),
@@ -100,25 +111,20 @@ pub fn text_of_file<R: Files + AllocGlobal>(rt: &R, path: &str) -> Result<Vec<u8
     }
 }
 
-/// The processor time of a run, by the best of several.
-pub fn best_time<R: CpuClock + AllocGlobal>(
-    rt: &R,
-    circuit: &Circuit,
-) -> Result<Duration, Failure> {
-    let mut least = Duration::MAX;
+/// The seconds of a run, by the best of several.
+pub fn best_time<R: CpuClock + AllocGlobal>(rt: &R, circuit: &Circuit) -> Result<f64, Failure> {
+    let mut least = f64::INFINITY;
     for _ in 0..RUNS {
         least = least.min(time_of_run(rt, circuit)?);
     }
     Ok(least)
 }
 
-/// The processor time of a run on the circuit's own qubits, with the coins of seed 0 and shot 0,
+/// The seconds of a run on the circuit's own qubits, with the coins of seed 0 and shot 0,
 /// without that of letting go what it gave.
-fn time_of_run<R: CpuClock + AllocGlobal>(rt: &R, circuit: &Circuit) -> Result<Duration, Failure> {
+fn time_of_run<R: CpuClock + AllocGlobal>(rt: &R, circuit: &Circuit) -> Result<f64, Failure> {
     let mut coins = SeedCoins::new(0, 0);
-    let start = rt.thread_cpu_time()?;
-    let shot = run_once(rt.alloc(), circuit, circuit.qubits(), &mut coins)?;
-    let end = rt.thread_cpu_time();
-    drop(shot);
-    Ok(end?.saturating_sub(start))
+    let start = clock::now(rt);
+    let _shot = run_once(rt.alloc(), circuit, circuit.qubits(), &mut coins)?;
+    clock::since(rt, start)
 }

@@ -2,13 +2,13 @@ ghost use Rattle.std.specs.Prelude.{◌≡◌, ◌<◌, ◌≤◌, length, IfOk}
 ghost use Rattle.stab_tableau.specs.Limits.{most_qubits};
 
 use super::failure::Failure;
-use super::state;
 use super::work::{TimedWork, Work};
+use super::{clock, state};
 use stab_pauli::{Letter, Pauli, Refusal};
 use stab_tableau::{Gate, Tableau};
 use std::alloc::Global;
 use std::num::nearest_usize_to_f64;
-use std::time::{CpuClock, Duration};
+use std::time::CpuClock;
 
 /// The best of so many rounds counts, since other programs disturb the rest.
 const ROUNDS: u32 = 9;
@@ -24,12 +24,12 @@ pub fn nanoseconds<R: CpuClock + AllocGlobal>(
     requires in_range { n ≤ most_qubits }
 {
     let observable = state::observable(rt.alloc(), n)?;
-    let mut least = Duration::MAX;
+    let mut least = f64::INFINITY;
     for _ in 0..ROUNDS {
         least = least.min(time_of_round(rt, &observable, timed)?);
     }
     let (passes, calls) = (passes(timed, n), n.min(timed.qubits));
-    Ok(least.as_secs_f64() * 1e9 / nearest_usize_to_f64(passes) / nearest_usize_to_f64(calls))
+    Ok(least * 1e9 / nearest_usize_to_f64(passes) / nearest_usize_to_f64(calls))
 }
 
 /// How many passes over the qubits a round has.
@@ -39,12 +39,12 @@ fn passes(timed: TimedWork, n: usize) -> usize
     (timed.calls / n).max(1)
 }
 
-/// The processor time of a round, from the state that its work starts from.
+/// The seconds of a round, from the state that its work starts from.
 fn time_of_round<R: CpuClock + AllocGlobal>(
     rt: &R,
     observable: &Pauli,
     timed: TimedWork,
-) -> Result<Duration, Failure>
+) -> Result<f64, Failure>
     requires several { 1 < length observable.now.letters }
     requires in_range { length observable.now.letters ≤ most_qubits }
 {
@@ -64,21 +64,21 @@ fn start_of(alloc: Global, n: usize, from_zeros: bool) -> Result<Tableau, Refusa
     }
 }
 
-/// The processor time of the passes of a round.
+/// The seconds of the passes of a round.
 fn time_of_passes<R: CpuClock + AllocGlobal>(
     rt: &R,
     tableau: &mut Tableau,
     observable: &Pauli,
     timed: TimedWork,
-) -> Result<Duration, Failure>
+) -> Result<f64, Failure>
     requires several { 1 < tableau.old.qubits }
     requires same_length { length observable.now.letters ≡ tableau.old.qubits }
 {
-    let start = rt.thread_cpu_time()?;
+    let start = clock::now(rt);
     for _ in 0..passes(timed, observable.len()) {
         perform_on_first(rt.alloc(), tableau, observable, timed.work, timed.qubits)?;
     }
-    Ok(rt.thread_cpu_time()?.saturating_sub(start))
+    clock::since(rt, start)
 }
 
 /// Does a work once on each of the first so many qubits.

@@ -2,6 +2,7 @@ ghost use Rattle.std.specs.Prelude.{◌≡◌, None};
 ghost use Rattle.stab_circuit.specs.Steps.{check_of};
 ghost use Rattle.stab_circuit.specs.Views.{circuit_items};
 
+use super::clock;
 use super::failure::Failure;
 use stab_circuit::{Circuit, Cursor};
 use stab_pauli::Refusal;
@@ -44,10 +45,9 @@ fn best_walk<R: CpuClock + AllocGlobal>(rt: &R, circuit: &Circuit) -> Result<f64
 fn time_of_next<R: CpuClock + AllocGlobal>(rt: &R, circuit: &Circuit) -> Result<f64, Failure>
     requires checked { check_of (circuit_items circuit.now) ≡ None }
 {
-    let start = rt.thread_cpu_time()?;
+    let start = clock::now(rt);
     let steps = steps_walked(rt.alloc(), circuit)?;
-    let time = rt.thread_cpu_time()?.saturating_sub(start);
-    Ok(time.as_secs_f64() * 1e9 / nearest_usize_to_f64(steps.max(1)))
+    Ok(clock::since(rt, start)? * 1e9 / nearest_usize_to_f64(steps.max(1)))
 }
 
 /// How many steps a cursor gives.
@@ -67,15 +67,14 @@ fn time_of_at<R: CpuClock + AllocGlobal>(rt: &R, circuit: &Circuit) -> Result<f6
     requires checked { check_of (circuit_items circuit.now) ≡ None }
 {
     let mut place: u64 = 1;
-    let start = rt.thread_cpu_time()?;
+    let start = clock::now(rt);
     for _ in 0..CURSORS {
         place = place
             .wrapping_mul(6_364_136_223_846_793_005)
             .wrapping_add(1_442_695_040_888_963_407);
         begin(rt.alloc(), circuit, (place >> 33) as usize)?;
     }
-    let time = rt.thread_cpu_time()?.saturating_sub(start);
-    Ok(time.as_secs_f64() * 1e9 / f64::from(CURSORS))
+    Ok(clock::since(rt, start)? * 1e9 / f64::from(CURSORS))
 }
 
 /// Makes a cursor at a step, counted round the circuit's steps.

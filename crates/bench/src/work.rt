@@ -43,7 +43,7 @@ pub const CX: TimedWork = TimedWork {
 };
 
 /// All works, in the order of the table.
-pub const ALL: [TimedWork; 12] = [
+pub const ALL: &'static [TimedWork] = &[
     TimedWork {
         name: "gate H",
         work: Work::Gate(Gate::H),

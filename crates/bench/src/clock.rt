@@ -1,0 +1,20 @@
+//! The thread's processor time, in seconds.
+use super::failure::Failure;
+use std::time::{CpuClock, Duration};
+
+/// The processor time so far, where the system gives it. That it does not is told by `since`, so that what
+/// is timed may end early at one place less.
+pub fn now<R: CpuClock>(rt: &R) -> Option<Duration> {
+    match rt.thread_cpu_time() {
+        Ok(time) => Some(time),
+        Err(_) => None,
+    }
+}
+
+/// The seconds of processor time since a moment.
+pub fn since<R: CpuClock>(rt: &R, start: Option<Duration>) -> Result<f64, Failure> {
+    match (start, now(rt)) {
+        (Some(start), Some(end)) => Ok(end.saturating_sub(start).as_secs_f64()),
+        _ => Err(Failure::Clock),
+    }
+}
