@@ -12,6 +12,7 @@ mod turns;
 use calls::Asked::{Apply, Pair};
 use calls::Place::{First, Last};
 use calls::{Asked, hold_on};
+use crate::texts::both;
 use stab_pauli::Refusal;
 use stab_tableau::{Gate, PairGate, Tableau};
 use std::alloc::Global;
@@ -44,6 +45,6 @@ fn state(alloc: Global, n: usize, calls: &[Asked]) -> Result<Tableau, Refusal> {
 // Whether calls on a state of n qubits, after others, have their answers.
 fn hold(alloc: Global, n: usize, before: &[Asked], calls: &[Asked]) -> Result<bool, Refusal> {
     let mut tableau = zeros(alloc, n)?;
-    let made = hold_on(alloc, &mut tableau, before)?;
-    Ok(made && hold_on(alloc, &mut tableau, calls)?)
+    let made = hold_on(alloc, &mut tableau, before);
+    both(made, hold_on(alloc, &mut tableau, calls))
 }
