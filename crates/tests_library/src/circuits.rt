@@ -139,7 +139,7 @@ fn an_input_that_fails_or_never_ends_is_refused(rt: HostRuntime) {
 
 /// What the printing of a circuit answers over an output with so much room, and whether that then has
 /// as much of the text.
-pub(crate) fn printed(
+fn printed(
     alloc: Global,
     circuit: &Circuit,
     room: usize,
@@ -157,18 +157,28 @@ pub(crate) fn prints(alloc: Global, circuit: &Circuit, text: &str) -> Result<boo
     Ok(written.is_ok() && same)
 }
 
-/// What the printing of the circuit of a text answers over an output with so much room: the refusal's
-/// number and line, or zeros; and whether the output then has as much of the text.
-fn cut(alloc: Global, text: &str, room: usize) -> Result<((u8, u64), bool), Fail> {
-    let circuit = read(alloc, text)?;
-    let (answer, kept) = printed(alloc, &circuit, room, text)?;
+/// What the printing of a circuit answers over an output with so much room: the refusal's number and
+/// line, or zeros; and whether the output then has as much of the text.
+fn cut(
+    alloc: Global,
+    circuit: &Circuit,
+    room: usize,
+    text: &str,
+) -> Result<((u8, u64), bool), Refusal> {
+    let (answer, kept) = printed(alloc, circuit, room, text)?;
     Ok((fault_of(answer), kept))
+}
+
+/// The same of the circuit of a text.
+fn text_is_cut(alloc: Global, text: &str, room: usize) -> Result<((u8, u64), bool), Fail> {
+    let circuit = read(alloc, text)?;
+    Ok(cut(alloc, &circuit, room, text)?)
 }
 
 #[test]
 fn a_failed_write_leaves_a_prefix(rt: HostRuntime) -> Result<(), Fail> {
     for room in 0..=CHECKED_PAIR.len() {
-        let found = cut(rt.alloc(), CHECKED_PAIR, room)?;
+        let found = text_is_cut(rt.alloc(), CHECKED_PAIR, room)?;
         let number = if room < CHECKED_PAIR.len() { 16 } else { 0 };
         assert_eq!(rt; found, ((number, 0), true), "{room}");
     }

@@ -1,5 +1,7 @@
 //! Signed Pauli strings: made, changed, multiplied, printed.
-use crate::texts::{both, commute, multiply, multiply_letters, prints, read, repeated, set, single};
+use crate::texts::{
+    both, commute, multiply, multiply_letters, prints, read, repeated, set, single,
+};
 use stab_pauli::{Letter, MemoryOutput, Pauli, Refusal};
 use std::alloc::Global;
 use std::test::Fail;

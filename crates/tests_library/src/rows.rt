@@ -1,4 +1,6 @@
 //! Rows of signed Pauli strings: made, changed, multiplied.
+mod products;
+
 use crate::texts::{both, prints, read, repeated};
 use stab_pauli::{CompactRows, Letter, Pauli, PauliRows, Refusal};
 use std::alloc::Global;
@@ -85,50 +87,52 @@ fn new_rows(alloc: Global) -> Result<(bool, usize, usize), Refusal> {
 }
 
 // Whether rows that are changed are then these.
-fn changed(
-    alloc: Global,
-    old: &[&str],
-    change: RowChange,
-    new: &[&str],
-) -> Result<bool, Refusal> {
+fn changed(alloc: Global, old: &[&str], change: RowChange, new: &[&str]) -> Result<bool, Refusal> {
     let mut rows = rows_of(alloc, 2, old)?;
     make(&mut rows, change);
     are(alloc, &rows, new)
 }
 
-// Rows, their change, and what that makes of them.
-const CHANGES: &[(&[&str], RowChange, &[&str])] = &[
+// Changes of rows, and what they make of them.
+const CHANGES: &[(&str, &[&str], RowChange, &[&str])] = &[
     (
+        "X in row 0",
         &["+__", "+__", "+__"],
         RowChange::Set(0, 0, Letter::X),
         &["+X_", "+__", "+__"],
     ),
     (
+        "Z in row 1",
         &["+X_", "+__", "+__"],
         RowChange::Set(1, 1, Letter::Z),
         &["+X_", "+_Z", "+__"],
     ),
     (
+        "row 1 is negated",
         &["+X_", "+_Z", "+__"],
         RowChange::NegateIf(1, true),
         &["+X_", "-_Z", "+__"],
     ),
     (
+        "row 0 is not negated",
         &["+X_", "-_Z", "+__"],
         RowChange::NegateIf(0, false),
         &["+X_", "-_Z", "+__"],
     ),
     (
+        "Y in row 2",
         &["+X_", "-_Z", "+__"],
         RowChange::Set(2, 0, Letter::Y),
         &["+X_", "-_Z", "+Y_"],
     ),
     (
+        "rows 0 and 1 are swapped",
         &["+X_", "-_Z", "+Y_"],
         RowChange::Swap(0, 1),
         &["-_Z", "+X_", "+Y_"],
     ),
     (
+        "row 2 is cleared",
         &["-_Z", "+X_", "+Y_"],
         RowChange::Clear(2),
         &["-_Z", "+X_", "+__"],
@@ -139,9 +143,9 @@ const CHANGES: &[(&[&str], RowChange, &[&str])] = &[
 fn rows_are_made_and_changed(rt: HostRuntime) -> Result<(), Fail> {
     let made = new_rows(rt.alloc())?;
     assert_eq!(rt; made, (true, 3, 2));
-    for (number, &(old, change, new)) in CHANGES.iter().enumerate() {
+    for &(name, old, change, new) in CHANGES {
         let hold = changed(rt.alloc(), old, change, new)?;
-        assert!(rt; hold, "change {number}");
+        assert!(rt; hold, "{name}");
     }
     Ok(())
 }
@@ -287,88 +291,6 @@ fn are_told(alloc: Global) -> Result<bool, Refusal> {
 fn a_letter_behind_letters_far_apart_is_told(rt: HostRuntime) -> Result<(), Fail> {
     let told = are_told(rt.alloc())?;
     assert!(rt; told);
-    Ok(())
-}
-
-// Multiplies the first of three rows by the second, and the third, which is a string, by another.
-fn multiply_rows(rows: &mut PauliRows, string: &Pauli, other: &Pauli) {
-    let n = rows.qubits();
-    if rows.len() != 3 || string.len() != n || other.len() != n || string.len() != other.len() {
-        return;
-    }
-    rows.set_row(0, string);
-    rows.set_row(1, other);
-    rows.set_row(2, string);
-    if string.commutes(other) {
-        rows.multiply(0, 1);
-        rows.multiply(2, 1);
-    } else {
-        rows.multiply_times_i(0, 1);
-        rows.multiply_by_times_i(2, other);
-    }
-}
-
-// Multiplies a string by the second of three rows, which is another string.
-fn multiply_string(rows: &mut PauliRows, string: &mut Pauli, other: &Pauli) {
-    if rows.len() != 3 || other.len() != rows.qubits() || string.len() != other.len() {
-        return;
-    }
-    rows.set_row(1, other);
-    if string.commutes(other) {
-        rows.multiply_into(1, string);
-    } else {
-        rows.multiply_into_times_i(1, string);
-    }
-}
-
-// Whether the products of two strings as rows, and of a row and a string, are printed as these texts; the
-// first string is multiplied by a row that is the other.
-fn are_multiplied(
-    alloc: Global,
-    string: &mut Pauli,
-    other: &Pauli,
-    texts: &[&str],
-) -> Result<bool, Refusal> {
-    let mut rows = PauliRows::new(alloc, 3, 2)?;
-    multiply_rows(&mut rows, string, other);
-    multiply_string(&mut rows, string, other);
-    are(alloc, &rows, texts)
-}
-
-// Whether the product of a string and another is this, row by row, row by string, and string by row.
-fn is_product(
-    alloc: Global,
-    first: &str,
-    other: &Pauli,
-    texts: &[&str],
-    product: &str,
-) -> Result<bool, Refusal> {
-    let mut string = read(alloc, first)?;
-    let multiplied = are_multiplied(alloc, &mut string, other, texts);
-    both(multiplied, prints(alloc, &string, product))
-}
-
-// The same of the strings of texts.
-fn are_products(alloc: Global, first: &str, second: &str, product: &str) -> Result<bool, Refusal> {
-    let other = read(alloc, second)?;
-    is_product(alloc, first, &other, &[product, second, product], product)
-}
-
-const PRODUCTS: &[(&str, &str, &str)] = &[
-    ("+XX", "+ZZ", "-YY"),
-    ("-XX", "+ZZ", "+YY"),
-    ("+XY", "-YX", "-ZZ"),
-    ("+X_", "+Y_", "-Z_"),
-    ("+Y_", "+X_", "+Z_"),
-    ("-X_", "+Z_", "-Y_"),
-];
-
-#[test]
-fn rows_multiply_as_strings_do(rt: HostRuntime) -> Result<(), Fail> {
-    for (first, second, product) in PRODUCTS {
-        let hold = are_products(rt.alloc(), first, second, product)?;
-        assert!(rt; hold, "{product}");
-    }
     Ok(())
 }
 

@@ -40,7 +40,7 @@ fn edit(alloc: Global, place: usize, replaces: bool, text: &str) -> Result<Edit,
 }
 
 /// What refuses an edit, where something does, with whether an item comes back.
-fn refusal_of(answer: Result<Report, Refused>) -> Option<(Refusal, bool)> {
+pub(crate) fn refusal_of(answer: Result<Report, Refused>) -> Option<(Refusal, bool)> {
     match answer {
         Ok(_) => None,
         Err(Refused { fault, item }) => Some((fault.refusal, is_there(item))),
@@ -108,6 +108,11 @@ impl Coins for CountedCoins<'_> {
     }
 }
 
+/// The fault of a refused edit, whose item is let go.
+fn fault_of(refused: Refused) -> Fault {
+    refused.fault
+}
+
 /// Puts an item in at a place.
 fn put<C: Coins>(
     alloc: Global,
@@ -118,7 +123,7 @@ fn put<C: Coins>(
     let item = read_item(alloc, text.as_bytes())?;
     match session.apply(Edit::Insert { place, item }) {
         Ok(report) => Ok(report),
-        Err(refused) => Err(refused.fault),
+        Err(refused) => Err(fault_of(refused)),
     }
 }
 

@@ -1,6 +1,7 @@
 //! Rounds that are split off blocks, of circuits and of sessions.
 use crate::circuit_edits::path_of;
 use crate::circuits::{fault_of, prints, read};
+use crate::session_edits::refusal_of;
 use stab_circuit::Path;
 use stab_pauli::Fault;
 use stab_session::{Coins, Edit, ListCoins, Session};
@@ -86,7 +87,8 @@ fn round_is_edited(session: &mut Session<ListCoins>) -> bool {
     let edit = Edit::Delete {
         place: Path::new(&[1, 0]),
     };
-    session.apply(edit).is_ok() && shows(session, &[true, true, false])
+    let refusal = refusal_of(session.apply(edit));
+    refusal.is_none() && shows(session, &[true, true, false])
 }
 
 /// Whether a session shows the same records before its second round is split off and behind that,
@@ -113,10 +115,15 @@ fn a_session_shows_the_same_behind_a_split(rt: HostRuntime) -> Result<(), Fail> 
 
 /// What a split of a session at a round that is not there answers, and whether the session shows the
 /// same records behind it.
+fn split_nowhere(session: &mut Session<ListCoins>) -> ((u8, u64), bool) {
+    let answer = fault_of(session.split(Path::new(&[0]), 3));
+    (answer, shows(session, &[true, false, true]))
+}
+
+/// The same of a session that is opened for it.
 fn refused_split(alloc: Global) -> Result<((u8, u64), bool), Fault> {
     let mut session = opened(alloc, ListCoins::new(&[true]))?;
-    let answer = fault_of(session.split(Path::new(&[0]), 3));
-    Ok((answer, shows(&session, &[true, false, true])))
+    Ok(split_nowhere(&mut session))
 }
 
 #[test]

@@ -9,10 +9,10 @@ mod matrices;
 mod resets;
 mod turns;
 
+use crate::texts::both;
 use calls::Asked::{Apply, Pair};
 use calls::Place::{First, Last};
 use calls::{Asked, hold_on};
-use crate::texts::both;
 use stab_pauli::Refusal;
 use stab_tableau::{Gate, PairGate, Tableau};
 use std::alloc::Global;

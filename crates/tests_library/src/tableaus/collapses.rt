@@ -60,7 +60,7 @@ const CASES: &[(&[Asked], &[Asked])] = &[
 fn two_qubits_that_are_far_apart_are_measured(rt: HostRuntime) -> Result<(), Fail> {
     for n in SIZES {
         let mut all = true;
-        for (before, calls) in CASES {
+        for &(before, calls) in CASES {
             all &= hold(rt.alloc(), n, before, calls)?;
         }
         assert!(rt; all, "{n}");

@@ -124,11 +124,7 @@ fn is_told(alloc: Global, kept: &CompactTableau, tableau: &mut Tableau) -> Resul
 }
 
 // Whether a Bell pair comes back from little memory, in the memory of a state.
-fn comes_back_in(
-    alloc: Global,
-    kept: &CompactTableau,
-    spare: Tableau,
-) -> Result<bool, Refusal> {
+fn comes_back_in(alloc: Global, kept: &CompactTableau, spare: Tableau) -> Result<bool, Refusal> {
     let mut tableau = kept.tableau(alloc, Some(spare))?;
     hold_on(alloc, &mut tableau, SIGNS)
 }
