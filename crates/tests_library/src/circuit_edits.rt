@@ -1,5 +1,5 @@
 //! Edits of circuits at paths, by the calls that make one change and by the one that judges it.
-use crate::circuits::{fault_of, is_there, printed, read};
+use crate::circuits::{fault_of, is_there, prints, read};
 use stab_circuit::{Circuit, Edit, Item, Path, Refused, Span, read_item};
 use stab_pauli::Fault;
 use std::alloc::Global;
@@ -51,7 +51,7 @@ enum Call {
 }
 
 /// The path of these numbers, which are 1 to 17; else that of the first item.
-fn path_of(numbers: &[usize]) -> Path {
+pub(crate) fn path_of(numbers: &[usize]) -> Path {
     if numbers.is_empty() || numbers.len() > 17 {
         Path::new(&[0])
     } else {
@@ -76,23 +76,33 @@ fn change(
     item: &str,
 ) -> Result<(u8, u64, bool), Fault> {
     let path = path_of(numbers);
-    match call {
-        Call::Insert => {
-            let item = read_item(alloc, item.as_bytes())?;
-            Ok(refusal_of(circuit.insert(path, item)))
-        }
-        Call::Replace => {
-            let item = read_item(alloc, item.as_bytes())?;
-            Ok(refusal_of(circuit.replace(path, item)))
-        }
-        Call::Delete => {
-            let (number, line) = fault_of(circuit.delete(path));
-            Ok((number, line, false))
-        }
+    if let Call::Delete = call {
+        let (number, line) = fault_of(circuit.delete(path));
+        return Ok((number, line, false));
+    }
+    let item = read_item(alloc, item.as_bytes())?;
+    if let Call::Insert = call {
+        Ok(refusal_of(circuit.insert(path, item)))
+    } else {
+        Ok(refusal_of(circuit.replace(path, item)))
     }
 }
 
 /// What a change of a circuit answers, and whether the circuit is then printed as this text.
+fn change_to(
+    alloc: Global,
+    circuit: &mut Circuit,
+    call: Call,
+    numbers: &[usize],
+    item: &str,
+    text: &str,
+) -> Result<((u8, u64, bool), bool), Fail> {
+    let answer = change(alloc, circuit, call, numbers, item)?;
+    let same = prints(alloc, circuit, text)?;
+    Ok((answer, same))
+}
+
+/// The same of the circuit of a text.
 fn changed(
     alloc: Global,
     circuit: &str,
@@ -102,9 +112,7 @@ fn changed(
     text: &str,
 ) -> Result<((u8, u64, bool), bool), Fail> {
     let mut circuit = read(alloc, circuit)?;
-    let answer = change(alloc, &mut circuit, call, numbers, item)?;
-    let (written, same) = printed(alloc, &circuit, 2048, text)?;
-    Ok((answer, written.is_ok() && same))
+    change_to(alloc, &mut circuit, call, numbers, item, text)
 }
 
 // What is done at which path, what refuses it, and the text from then on.
@@ -174,11 +182,16 @@ fn a_block_is_refused_where_it_would_be_too_deep(rt: HostRuntime) -> Result<(), 
     Ok(())
 }
 
+/// Whether an item comes back where its change is refused by this number.
+fn comes_back(number: u8, item: &str) -> bool {
+    number != 0 && !item.is_empty()
+}
+
 #[test]
 fn a_circuit_is_changed_at_a_path(rt: HostRuntime) -> Result<(), Fail> {
     for &(call, path, item, number, text) in CHANGES {
         let found = changed(rt.alloc(), ROUNDS, call, path, item, text)?;
-        let back = number != 0 && !item.is_empty();
+        let back = comes_back(number, item);
         assert_eq!(rt; found, ((number, 0, back), true), "{item} at {text}");
     }
     Ok(())

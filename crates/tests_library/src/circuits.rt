@@ -1,4 +1,5 @@
 //! Texts of circuits: read whole and alone, from inputs that fail, and printed.
+use crate::answers::assert_same;
 use stab_circuit::{Circuit, Path, Refused, read_circuit, read_item, write_circuit};
 use stab_pauli::{CutInput, EndlessInput, Fault, MemoryInput, MemoryOutput, Refusal};
 use std::alloc::Global;
@@ -60,13 +61,19 @@ const NUMBERS: &[(&str, [usize; 5], u8)] = &[
     ("MPP X0*Y1*Z2*!X3*Y4*Z5*X6*!Y7*Z8 X9", [1, 2, 2, 10, 0], 6),
 ];
 
+/// The same of a new circuit.
+fn numbers_of_new(alloc: Global) -> ([usize; 5], u8, u8) {
+    let circuit = Circuit::new(alloc);
+    numbers_of(&circuit)
+}
+
 #[test]
 fn a_circuit_has_its_numbers(rt: HostRuntime) -> Result<(), Fail> {
-    let empty = numbers_of(&Circuit::new(rt.alloc()));
+    let empty = numbers_of_new(rt.alloc());
     assert_eq!(rt; empty, ([0; 5], 0, 0));
     for &(text, numbers, fewer) in NUMBERS {
         let found = numbers_in(rt.alloc(), text)?;
-        assert_eq!(rt; found, (numbers, fewer, 0), "at {text}");
+        assert_same(&rt, &found, &(numbers, fewer, 0), text);
     }
     Ok(())
 }
@@ -117,7 +124,7 @@ const ITEMS: &[(&str, u8, u64, usize)] = &[
 fn an_item_is_read_alone(rt: HostRuntime) {
     for &(text, number, line, steps) in ITEMS {
         let found = item_of(rt.alloc(), text);
-        assert_eq!(rt; found, ((number, line), steps), "at {text}");
+        assert_same(&rt, &found, &((number, line), steps), text);
     }
 }
 
@@ -132,7 +139,7 @@ fn an_input_that_fails_or_never_ends_is_refused(rt: HostRuntime) {
 
 /// What the printing of a circuit answers over an output with so much room, and whether that then has
 /// as much of the text.
-pub(crate) fn printed(
+fn printed(
     alloc: Global,
     circuit: &Circuit,
     room: usize,
@@ -144,18 +151,36 @@ pub(crate) fn printed(
     Ok((answer, kept))
 }
 
+/// Whether a circuit is printed as this text.
+pub(crate) fn prints(alloc: Global, circuit: &Circuit, text: &str) -> Result<bool, Refusal> {
+    let (written, same) = printed(alloc, circuit, 2048, text)?;
+    Ok(written.is_ok() && same)
+}
+
+/// What the printing of a circuit answers over an output with so much room: the refusal's number and
+/// line, or zeros; and whether the output then has as much of the text.
+fn cut(
+    alloc: Global,
+    circuit: &Circuit,
+    room: usize,
+    text: &str,
+) -> Result<((u8, u64), bool), Refusal> {
+    let (answer, kept) = printed(alloc, circuit, room, text)?;
+    Ok((fault_of(answer), kept))
+}
+
+/// The same of the circuit of a text.
+fn text_is_cut(alloc: Global, text: &str, room: usize) -> Result<((u8, u64), bool), Fail> {
+    let circuit = read(alloc, text)?;
+    Ok(cut(alloc, &circuit, room, text)?)
+}
+
 #[test]
 fn a_failed_write_leaves_a_prefix(rt: HostRuntime) -> Result<(), Fail> {
-    let circuit = read(rt.alloc(), CHECKED_PAIR)?;
-    let fault = Err(Fault::whole(Refusal::WriteFault));
     for room in 0..=CHECKED_PAIR.len() {
-        let answer = if room < CHECKED_PAIR.len() {
-            fault
-        } else {
-            Ok(())
-        };
-        let found = printed(rt.alloc(), &circuit, room, CHECKED_PAIR)?;
-        assert_eq!(rt; found, (answer, true), "{room}");
+        let found = text_is_cut(rt.alloc(), CHECKED_PAIR, room)?;
+        let number = if room < CHECKED_PAIR.len() { 16 } else { 0 };
+        assert_eq!(rt; found, ((number, 0), true), "{room}");
     }
     Ok(())
 }

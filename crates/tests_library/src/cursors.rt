@@ -219,7 +219,7 @@ Some(One(X, 0))
 fn a_cursor_gives_the_unrolled_steps_from_a_place(rt: HostRuntime) -> Result<(), Fail> {
     for &(text, step, lines, restarts, steps) in CASES {
         let found = shown(rt.alloc(), text, step, lines, restarts)?;
-        assert_eq!(rt; found.as_str(), steps, "{text:?} from step {step}");
+        assert_eq!(rt; found.as_str(), steps, "{text} from step {step}");
     }
     Ok(())
 }

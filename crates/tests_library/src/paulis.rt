@@ -1,16 +1,33 @@
 //! Signed Pauli strings: made, changed, multiplied, printed.
-use crate::texts::{commute, multiply, multiply_letters, prints, read, repeated, set, single};
+use crate::texts::{
+    both, commute, multiply, multiply_letters, prints, read, repeated, set, single,
+};
 use stab_pauli::{Letter, MemoryOutput, Pauli, Refusal};
 use std::alloc::Global;
 use std::test::Fail;
 
+// Whether the negated copy of a string of 3 letters is this one.
+fn is_copied(alloc: Global, pauli: &Pauli, text: &str) -> Result<bool, Refusal> {
+    let mut copy = pauli.copy(alloc)?;
+    copy.negate();
+    if copy.len() == 3 && copy.is_negative() {
+        prints(alloc, &copy, text)
+    } else {
+        Ok(false)
+    }
+}
+
 // Whether a string of 3 letters has one Y, and its negated copy too.
 fn is_made(alloc: Global) -> Result<bool, Refusal> {
     let pauli = Pauli::single(alloc, 3, 1, Letter::Y)?;
-    let mut copy = pauli.copy(alloc)?;
-    copy.negate();
-    let copied = copy.len() == 3 && copy.is_negative() && prints(alloc, &copy, "-_Y_")?;
-    Ok(copied && pauli.first_x() == Some(1) && prints(alloc, &pauli, "+_Y_")?)
+    if pauli.first_x() == Some(1) {
+        both(
+            is_copied(alloc, &pauli, "-_Y_"),
+            prints(alloc, &pauli, "+_Y_"),
+        )
+    } else {
+        Ok(false)
+    }
 }
 
 fn is_identity(alloc: Global, n: usize, text: &str) -> Result<bool, Refusal> {
@@ -29,7 +46,7 @@ fn a_pauli_is_made(rt: HostRuntime) -> Result<(), Fail> {
 }
 
 // A change of a string.
-#[derive(Clone, Copy, Debug)]
+#[derive(Clone, Copy)]
 enum StringChange {
     Set(usize, Letter),
     NegateIf(bool),
@@ -46,27 +63,61 @@ fn make(pauli: &mut Pauli, change: StringChange) {
     }
 }
 
-const CHANGES: &[(StringChange, &str, Option<usize>)] = &[
-    (StringChange::Set(2, Letter::X), "-_YX", Some(1)),
-    (StringChange::NegateIf(false), "-_YX", Some(1)),
-    (StringChange::NegateIf(true), "+_YX", Some(1)),
-    (StringChange::Negate, "-_YX", Some(1)),
-    (StringChange::Clear, "+___", None),
+// Whether a string that is changed is then this one, and its first X or Y.
+fn changed(
+    alloc: Global,
+    old: &str,
+    change: StringChange,
+    new: &str,
+) -> Result<(bool, Option<usize>), Refusal> {
+    let mut pauli = read(alloc, old)?;
+    make(&mut pauli, change);
+    let first = pauli.first_x();
+    match prints(alloc, &pauli, new) {
+        Ok(printed) => Ok((printed, first)),
+        Err(refusal) => Err(refusal),
+    }
+}
+
+// A string, its change, what that makes of it, and the first X or Y of that.
+const CHANGES: &[(&str, StringChange, &str, Option<usize>)] = &[
+    ("-_Y_", StringChange::Set(2, Letter::X), "-_YX", Some(1)),
+    ("-_YX", StringChange::NegateIf(false), "-_YX", Some(1)),
+    ("-_YX", StringChange::NegateIf(true), "+_YX", Some(1)),
+    ("+_YX", StringChange::Negate, "-_YX", Some(1)),
+    ("-_YX", StringChange::Clear, "+___", None),
 ];
 
 #[test]
 fn a_pauli_is_changed(rt: HostRuntime) -> Result<(), Fail> {
-    let mut pauli = read(rt.alloc(), "-_Y_")?;
-    for &(next, text, first) in CHANGES {
-        make(&mut pauli, next);
-        let found = (prints(rt.alloc(), &pauli, text)?, pauli.first_x());
-        assert_eq!(rt; found, (true, first), "{next:?}");
+    for &(old, change, new, first) in CHANGES {
+        let found = changed(rt.alloc(), old, change, new)?;
+        assert_eq!(rt; found, (true, first), "{old} to {new}");
     }
     Ok(())
 }
 
-// Whether the product of two strings, times i where they anticommute, is this one, and the letters of the
-// first times those of the second, with the sign of the first, are those.
+// Whether the product of two strings, times i where they anticommute, is this one.
+fn is_product(alloc: Global, first: &str, other: &Pauli, product: &str) -> Result<bool, Refusal> {
+    let mut pauli = read(alloc, first)?;
+    if multiply(&mut pauli, other) {
+        prints(alloc, &pauli, product)
+    } else {
+        Ok(false)
+    }
+}
+
+// Whether the letters of a string times those of another, with the sign of the first, are these.
+fn has_letters(alloc: Global, first: &str, other: &Pauli, letters: &str) -> Result<bool, Refusal> {
+    let mut pauli = read(alloc, first)?;
+    if multiply_letters(&mut pauli, other) {
+        prints(alloc, &pauli, letters)
+    } else {
+        Ok(false)
+    }
+}
+
+// Whether two strings have this product, and their letters have that one.
 fn are_products(
     alloc: Global,
     first: &str,
@@ -74,11 +125,11 @@ fn are_products(
     product: &str,
     letters: &str,
 ) -> Result<bool, Refusal> {
-    let mut pauli = read(alloc, first)?;
-    let mut copy = pauli.copy(alloc)?;
     let other = read(alloc, second)?;
-    let allowed = multiply(&mut pauli, &other) && multiply_letters(&mut copy, &other);
-    Ok(allowed && prints(alloc, &pauli, product)? && prints(alloc, &copy, letters)?)
+    both(
+        is_product(alloc, first, &other, product),
+        has_letters(alloc, first, &other, letters),
+    )
 }
 
 const PRODUCTS: &[(&str, &str, &str, &str)] = &[

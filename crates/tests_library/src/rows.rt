@@ -1,6 +1,8 @@
 //! Rows of signed Pauli strings: made, changed, multiplied.
-use crate::texts::{prints, read, repeated};
-use stab_pauli::{Letter, Pauli, PauliRows, Refusal};
+mod products;
+
+use crate::texts::{both, prints, read, repeated};
+use stab_pauli::{CompactRows, Letter, Pauli, PauliRows, Refusal};
 use std::alloc::Global;
 use std::test::Fail;
 
@@ -41,7 +43,7 @@ fn are(alloc: Global, rows: &PauliRows, texts: &[&str]) -> Result<bool, Refusal>
 }
 
 // A change of rows.
-#[derive(Clone, Copy, Debug)]
+#[derive(Clone, Copy)]
 enum RowChange {
     Set(usize, usize, Letter),
     NegateIf(usize, bool),
@@ -74,24 +76,76 @@ fn make(rows: &mut PauliRows, change: RowChange) {
     }
 }
 
-const CHANGES: &[(RowChange, [&str; 3])] = &[
-    (RowChange::Set(0, 0, Letter::X), ["+X_", "+__", "+__"]),
-    (RowChange::Set(1, 1, Letter::Z), ["+X_", "+_Z", "+__"]),
-    (RowChange::NegateIf(1, true), ["+X_", "-_Z", "+__"]),
-    (RowChange::NegateIf(0, false), ["+X_", "-_Z", "+__"]),
-    (RowChange::Set(2, 0, Letter::Y), ["+X_", "-_Z", "+Y_"]),
-    (RowChange::Swap(0, 1), ["-_Z", "+X_", "+Y_"]),
-    (RowChange::Clear(2), ["-_Z", "+X_", "+__"]),
+// Whether new rows are identities, how many there are, and on how many qubits.
+fn new_rows(alloc: Global) -> Result<(bool, usize, usize), Refusal> {
+    let rows = PauliRows::new(alloc, 3, 2)?;
+    let (count, qubits) = (rows.len(), rows.qubits());
+    match are(alloc, &rows, &["+__", "+__", "+__"]) {
+        Ok(made) => Ok((made, count, qubits)),
+        Err(refusal) => Err(refusal),
+    }
+}
+
+// Whether rows that are changed are then these.
+fn changed(alloc: Global, old: &[&str], change: RowChange, new: &[&str]) -> Result<bool, Refusal> {
+    let mut rows = rows_of(alloc, 2, old)?;
+    make(&mut rows, change);
+    are(alloc, &rows, new)
+}
+
+// Changes of rows, and what they make of them.
+const CHANGES: &[(&str, &[&str], RowChange, &[&str])] = &[
+    (
+        "X in row 0",
+        &["+__", "+__", "+__"],
+        RowChange::Set(0, 0, Letter::X),
+        &["+X_", "+__", "+__"],
+    ),
+    (
+        "Z in row 1",
+        &["+X_", "+__", "+__"],
+        RowChange::Set(1, 1, Letter::Z),
+        &["+X_", "+_Z", "+__"],
+    ),
+    (
+        "row 1 is negated",
+        &["+X_", "+_Z", "+__"],
+        RowChange::NegateIf(1, true),
+        &["+X_", "-_Z", "+__"],
+    ),
+    (
+        "row 0 is not negated",
+        &["+X_", "-_Z", "+__"],
+        RowChange::NegateIf(0, false),
+        &["+X_", "-_Z", "+__"],
+    ),
+    (
+        "Y in row 2",
+        &["+X_", "-_Z", "+__"],
+        RowChange::Set(2, 0, Letter::Y),
+        &["+X_", "-_Z", "+Y_"],
+    ),
+    (
+        "rows 0 and 1 are swapped",
+        &["+X_", "-_Z", "+Y_"],
+        RowChange::Swap(0, 1),
+        &["-_Z", "+X_", "+Y_"],
+    ),
+    (
+        "row 2 is cleared",
+        &["-_Z", "+X_", "+Y_"],
+        RowChange::Clear(2),
+        &["-_Z", "+X_", "+__"],
+    ),
 ];
 
 #[test]
 fn rows_are_made_and_changed(rt: HostRuntime) -> Result<(), Fail> {
-    let mut rows = PauliRows::new(rt.alloc(), 3, 2)?;
-    let made = are(rt.alloc(), &rows, &["+__", "+__", "+__"])?;
-    assert_eq!(rt; (made, rows.len(), rows.qubits()), (true, 3, 2));
-    for &(next, texts) in CHANGES {
-        make(&mut rows, next);
-        assert!(rt; are(rt.alloc(), &rows, &texts)?, "{next:?}");
+    let made = new_rows(rt.alloc())?;
+    assert_eq!(rt; made, (true, 3, 2));
+    for &(name, old, change, new) in CHANGES {
+        let hold = changed(rt.alloc(), old, change, new)?;
+        assert!(rt; hold, "{name}");
     }
     Ok(())
 }
@@ -106,22 +160,27 @@ fn seen(rows: &PauliRows, a: usize, qubit: usize) -> Option<(Letter, bool, bool,
     }
 }
 
+// Whether this is seen at a qubit of a row.
+fn shows(
+    rows: &PauliRows,
+    (a, qubit): (usize, usize),
+    wanted: (Letter, bool, bool, Option<usize>),
+) -> bool {
+    seen(rows, a, qubit) == Some(wanted)
+}
+
+// Whether two rows of two letters show them.
+fn show(rows: &PauliRows) -> bool {
+    shows(rows, (0, 0), (Letter::X, true, false, Some(0)))
+        && shows(rows, (0, 1), (Letter::I, false, false, Some(0)))
+        && shows(rows, (1, 0), (Letter::I, false, true, None))
+        && shows(rows, (1, 1), (Letter::Z, false, true, None))
+}
+
 #[test]
 fn rows_show_their_letters(rt: HostRuntime) -> Result<(), Fail> {
     let rows = rows_of(rt.alloc(), 2, &["+X_", "-_Z"])?;
-    let found = [
-        seen(&rows, 0, 0),
-        seen(&rows, 0, 1),
-        seen(&rows, 1, 0),
-        seen(&rows, 1, 1),
-    ];
-    let wanted = [
-        Some((Letter::X, true, false, Some(0))),
-        Some((Letter::I, false, false, Some(0))),
-        Some((Letter::I, false, true, None)),
-        Some((Letter::Z, false, true, None)),
-    ];
-    assert!(rt; found == wanted);
+    assert!(rt; show(&rows));
     Ok(())
 }
 
@@ -142,15 +201,31 @@ fn again(alloc: Global, rows: &PauliRows) -> Result<PauliRows, Refusal> {
     compact.rows(alloc)
 }
 
-// Whether rows come back from little memory, in other rows and in rows of their own, and are told from
-// those others.
+// Whether rows come back from little memory in other rows, and are told from those others.
+fn come_back_in(
+    alloc: Global,
+    rows: &PauliRows,
+    texts: &[&str],
+    others: &[&str],
+) -> Result<bool, Refusal> {
+    let mut others = rows_of(alloc, 2, others)?;
+    let told = write_over(alloc, rows, &mut others);
+    both(told, are(alloc, &others, texts))
+}
+
+// Whether rows come back from little memory in rows of their own.
+fn come_back_alone(alloc: Global, rows: &PauliRows, texts: &[&str]) -> Result<bool, Refusal> {
+    let again = again(alloc, rows)?;
+    are(alloc, &again, texts)
+}
+
+// Whether rows come back from little memory, in other rows and in rows of their own.
 fn come_back(alloc: Global, texts: &[&str], others: &[&str]) -> Result<bool, Refusal> {
     let rows = rows_of(alloc, 2, texts)?;
-    let mut others = rows_of(alloc, 2, others)?;
-    let told = write_over(alloc, &rows, &mut others)?;
-    let back = are(alloc, &others, texts)?;
-    let again = again(alloc, &rows)?;
-    Ok(told && back && are(alloc, &again, texts)?)
+    both(
+        come_back_in(alloc, &rows, texts, others),
+        come_back_alone(alloc, &rows, texts),
+    )
 }
 
 #[test]
@@ -170,93 +245,52 @@ fn far_apart(alloc: Global) -> Result<PauliRows, Refusal> {
     Ok(rows)
 }
 
+// Whether rows that came back are those with letters far apart.
+fn are_far_apart(rows: &PauliRows, again: &PauliRows) -> bool {
+    again.len() == 150
+        && again.qubits() == 2
+        && again.same(rows)
+        && shows(again, (0, 0), (Letter::X, true, false, Some(0)))
+        && shows(again, (98, 0), (Letter::I, false, false, None))
+        && shows(again, (99, 1), (Letter::Y, true, true, Some(1)))
+}
+
+// Whether rows with letters far apart come back in rows of their own.
+fn far_apart_come_back(alloc: Global) -> Result<bool, Refusal> {
+    let rows = far_apart(alloc)?;
+    match again(alloc, &rows) {
+        Ok(again) => Ok(are_far_apart(&rows, &again)),
+        Err(refusal) => Err(refusal),
+    }
+}
+
 #[test]
 fn letters_far_apart_come_back_from_little_memory(rt: HostRuntime) -> Result<(), Fail> {
-    let rows = far_apart(rt.alloc())?;
-    let again = again(rt.alloc(), &rows)?;
-    let sizes = (again.len(), again.qubits(), again.same(&rows));
-    let found = [seen(&again, 0, 0), seen(&again, 98, 0), seen(&again, 99, 1)];
-    let wanted = [
-        Some((Letter::X, true, false, Some(0))),
-        Some((Letter::I, false, false, None)),
-        Some((Letter::Y, true, true, Some(1))),
-    ];
-    assert!(rt; sizes == (150, 2, true) && found == wanted);
+    let back = far_apart_come_back(rt.alloc())?;
+    assert!(rt; back);
     Ok(())
+}
+
+// Whether rows are told, from little memory, from those with one letter more behind them.
+fn are_told_from(compact: &CompactRows, rows: &mut PauliRows) -> bool {
+    let same = compact.are(rows);
+    make(rows, RowChange::Set(149, 1, Letter::Z));
+    same && !compact.are(rows)
 }
 
 // Whether rows with letters far apart are told from rows with one letter more behind them.
 fn are_told(alloc: Global) -> Result<bool, Refusal> {
     let mut rows = far_apart(alloc)?;
-    let compact = rows.compact(alloc)?;
-    let same = compact.are(&rows);
-    make(&mut rows, RowChange::Set(149, 1, Letter::Z));
-    Ok(same && !compact.are(&rows))
+    match rows.compact(alloc) {
+        Ok(compact) => Ok(are_told_from(&compact, &mut rows)),
+        Err(refusal) => Err(refusal),
+    }
 }
 
 #[test]
 fn a_letter_behind_letters_far_apart_is_told(rt: HostRuntime) -> Result<(), Fail> {
     let told = are_told(rt.alloc())?;
     assert!(rt; told);
-    Ok(())
-}
-
-// Multiplies the first of three rows by the second, and the third, which is a string, by another.
-fn multiply_rows(rows: &mut PauliRows, string: &Pauli, other: &Pauli) {
-    let n = rows.qubits();
-    if rows.len() != 3 || string.len() != n || other.len() != n || string.len() != other.len() {
-        return;
-    }
-    rows.set_row(0, string);
-    rows.set_row(1, other);
-    rows.set_row(2, string);
-    if string.commutes(other) {
-        rows.multiply(0, 1);
-        rows.multiply(2, 1);
-    } else {
-        rows.multiply_times_i(0, 1);
-        rows.multiply_by_times_i(2, other);
-    }
-}
-
-// Multiplies a string by the second of three rows, which is another string.
-fn multiply_string(rows: &mut PauliRows, string: &mut Pauli, other: &Pauli) {
-    if rows.len() != 3 || other.len() != rows.qubits() || string.len() != other.len() {
-        return;
-    }
-    rows.set_row(1, other);
-    if string.commutes(other) {
-        rows.multiply_into(1, string);
-    } else {
-        rows.multiply_into_times_i(1, string);
-    }
-}
-
-// Whether the product of two strings is this, row by row, row by string, and string by row.
-fn are_products(alloc: Global, first: &str, second: &str, product: &str) -> Result<bool, Refusal> {
-    let mut rows = PauliRows::new(alloc, 3, 2)?;
-    let mut string = read(alloc, first)?;
-    let other = read(alloc, second)?;
-    multiply_rows(&mut rows, &string, &other);
-    multiply_string(&mut rows, &mut string, &other);
-    Ok(are(alloc, &rows, &[product, second, product])? && prints(alloc, &string, product)?)
-}
-
-const PRODUCTS: &[(&str, &str, &str)] = &[
-    ("+XX", "+ZZ", "-YY"),
-    ("-XX", "+ZZ", "+YY"),
-    ("+XY", "-YX", "-ZZ"),
-    ("+X_", "+Y_", "-Z_"),
-    ("+Y_", "+X_", "+Z_"),
-    ("-X_", "+Z_", "-Y_"),
-];
-
-#[test]
-fn rows_multiply_as_strings_do(rt: HostRuntime) -> Result<(), Fail> {
-    for (first, second, product) in PRODUCTS {
-        let hold = are_products(rt.alloc(), first, second, product)?;
-        assert!(rt; hold, "{product}");
-    }
     Ok(())
 }
 

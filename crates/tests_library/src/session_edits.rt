@@ -40,7 +40,7 @@ fn edit(alloc: Global, place: usize, replaces: bool, text: &str) -> Result<Edit,
 }
 
 /// What refuses an edit, where something does, with whether an item comes back.
-fn refusal_of(answer: Result<Report, Refused>) -> Option<(Refusal, bool)> {
+pub(crate) fn refusal_of(answer: Result<Report, Refused>) -> Option<(Refusal, bool)> {
     match answer {
         Ok(_) => None,
         Err(Refused { fault, item }) => Some((fault.refusal, is_there(item))),
@@ -108,35 +108,62 @@ impl Coins for CountedCoins<'_> {
     }
 }
 
-/// Puts `I 0` in at a place, and tells how many steps that carried out, and how many copies are kept.
+/// The fault of a refused edit, whose item is let go.
+fn fault_of(refused: Refused) -> Fault {
+    refused.fault
+}
+
+/// Puts an item in at a place.
 fn put<C: Coins>(
     alloc: Global,
     session: &mut Session<C>,
     place: Path,
-) -> Result<(usize, usize), Fault> {
-    let item = read_item(alloc, b"I 0")?;
+    text: &str,
+) -> Result<Report, Fault> {
+    let item = read_item(alloc, text.as_bytes())?;
     match session.apply(Edit::Insert { place, item }) {
-        Ok(
-            Report {
-                applied,
-                checkpoints,
-                ..
-            },
-        ) => Ok((applied, checkpoints)),
-        Err(refused) => Err(refused.fault),
+        Ok(report) => Ok(report),
+        Err(refused) => Err(fault_of(refused)),
     }
+}
+
+/// Puts `I 0` in at a place, and tells how many steps that carried out, and how many copies are kept.
+fn put_identity<C: Coins>(
+    alloc: Global,
+    session: &mut Session<C>,
+    place: Path,
+) -> Result<(usize, usize), Fault> {
+    let report = put(alloc, session, place, "I 0")?;
+    Ok((report.applied, report.checkpoints))
+}
+
+/// The steps and copies of an edit, or none.
+fn put_where<C: Coins>(
+    alloc: Global,
+    session: &mut Session<C>,
+    place: Option<Path>,
+) -> Result<(usize, usize), Fault> {
+    match place {
+        Some(place) => put_identity(alloc, session, place),
+        None => Ok((0, 0)),
+    }
+}
+
+/// The same of a session that is opened with these coins.
+fn put_in<C: Coins>(
+    alloc: Global,
+    text: &str,
+    place: Option<Path>,
+    coins: C,
+) -> Result<(usize, usize), Fault> {
+    let mut session = opened(alloc, text, 1, 10, coins)?;
+    put_where(alloc, &mut session, place)
 }
 
 /// The steps and copies of an edit, or none, and how many coins the session asked for in all.
 fn cost(alloc: Global, text: &str, place: Option<Path>) -> Result<((usize, usize), u64), Fault> {
     let mut asks = 0;
-    let report = {
-        let mut session = opened(alloc, text, 1, 10, CountedCoins { asks: &mut asks })?;
-        match place {
-            Some(place) => put(alloc, &mut session, place)?,
-            None => (0, 0),
-        }
-    };
+    let report = put_in(alloc, text, place, CountedCoins { asks: &mut asks })?;
     Ok((report, asks))
 }
 
@@ -177,26 +204,38 @@ const COSTS: &[(&str, Option<usize>, usize, (usize, usize), (u64, u64))] = &[
     ),
 ];
 
+/// Whether an edit has at most these steps and copies, and an opening asks for so many coins and the
+/// edit for so many at most.
+fn are_few(
+    (asked, (applied, kept), asks): (u64, (usize, usize), u64),
+    (steps, copies): (usize, usize),
+    (opening, most): (u64, u64),
+) -> bool {
+    let few = applied <= steps && kept <= copies;
+    few && asked == opening && asks <= opening.saturating_add(most)
+}
+
 #[test]
 fn an_edit_costs_what_it_changes(rt: HostRuntime) -> Result<(), Fail> {
-    for &(text, block, place, (steps, copies), (opening, most)) in COSTS {
-        let (asked, (applied, kept), asks) = costs(rt.alloc(), text, path(block, place))?;
-        let few = applied <= steps && kept <= copies && asks <= opening.saturating_add(most);
-        assert!(rt; few && asked == opening, "{text}");
+    for &(text, block, place, most, coins) in COSTS {
+        let found = costs(rt.alloc(), text, path(block, place))?;
+        assert!(rt; are_few(found, most, coins), "{text}");
     }
     Ok(())
+}
+
+/// How many steps are carried out where `X 0` is put in at the front of a session's circuit, and how
+/// many a frame goes over.
+fn flip_in(alloc: Global, session: &mut Session<ListCoins>) -> Result<(usize, usize), Fault> {
+    let report = put(alloc, session, Path::new(&[0]), "X 0")?;
+    Ok((report.applied, report.framed))
 }
 
 /// How many steps are carried out where `X 0` is put in at the front of a circuit on one qubit, with
 /// copies of its state ten steps apart, and how many a frame goes over.
 fn flip(alloc: Global, text: &str) -> Result<(usize, usize), Fault> {
     let mut session = opened(alloc, text, 1, 10, ListCoins::new(&[]))?;
-    let place = Path::new(&[0]);
-    let item = read_item(alloc, b"X 0")?;
-    match session.apply(Edit::Insert { place, item }) {
-        Ok(report) => Ok((report.applied, report.framed)),
-        Err(refused) => Err(refused.fault),
-    }
+    flip_in(alloc, &mut session)
 }
 
 // The X flips the first record, and the reset behind that ends the flip. Then come 38 measurements, and

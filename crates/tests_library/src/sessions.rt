@@ -23,16 +23,18 @@ fn read(alloc: Global, text: &str) -> Result<Circuit, Fault> {
 /// opened on one qubit with the circuit and the coins that came back.
 fn opened_again(
     alloc: Global,
-    circuit: Circuit,
+    text: &str,
     bits: &[bool],
     records: &[bool],
     free: &[bool],
-) -> (Option<Fault>, bool) {
+) -> Result<(Option<Fault>, bool), Fault> {
+    let circuit = read(alloc, text)?;
     match Session::open(alloc, circuit, 0, 1, ListCoins::new(bits)) {
-        Ok(_) => (None, false),
+        Ok(_) => Ok((None, false)),
         Err(refused) => {
             let fault = refused.fault;
-            (Some(fault), shows_after(alloc, refused, records, free))
+            let shows = shows_after(alloc, refused, records, free);
+            Ok((Some(fault), shows))
         }
     }
 }
@@ -54,22 +56,26 @@ fn shows_after(
     }
 }
 
-const REFUSED: &[(&str, &[bool], [bool; 2], [bool; 2])] = &[
+const REFUSED: &[(&str, &[bool], &[bool], &[bool])] = &[
     (
         "REPEAT 2 {\nTICK\nM 0\n}",
         &[],
-        [false, false],
-        [false, false],
+        &[false, false],
+        &[false, false],
     ),
-    ("H 0\nM 0\nMX 0", &[true, true], [true, true], [true, true]),
+    (
+        "H 0\nM 0\nMX 0",
+        &[true, true],
+        &[true, true],
+        &[true, true],
+    ),
 ];
 
 #[test]
 fn a_refused_opening_hands_circuit_and_coins_back(rt: HostRuntime) -> Result<(), Fail> {
     let fault = Some(Fault::whole(Refusal::QubitOutOfRange));
-    for (text, bits, records, free) in REFUSED {
-        let circuit = read(rt.alloc(), text)?;
-        let found = opened_again(rt.alloc(), circuit, bits, records, free);
+    for &(text, bits, records, free) in REFUSED {
+        let found = opened_again(rt.alloc(), text, bits, records, free)?;
         assert_eq!(rt; found, (fault, true), "{text}");
     }
     Ok(())

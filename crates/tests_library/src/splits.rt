@@ -1,5 +1,7 @@
 //! Rounds that are split off blocks, of circuits and of sessions.
-use crate::circuits::{fault_of, printed, read};
+use crate::circuit_edits::path_of;
+use crate::circuits::{fault_of, prints, read};
+use crate::session_edits::refusal_of;
 use stab_circuit::Path;
 use stab_pauli::Fault;
 use stab_session::{Coins, Edit, ListCoins, Session};
@@ -7,15 +9,6 @@ use std::alloc::Global;
 use std::test::Fail;
 
 const ROUNDS: &str = "REPEAT[a] 5 {\n    REPEAT 2 {\n        H 0\n    }\n    M 0\n}\nM 0\n";
-
-/// The path of these numbers, which are 1 to 17; else that of the first item.
-fn path_of(numbers: &[usize]) -> Path {
-    if numbers.is_empty() || numbers.len() > 17 {
-        Path::new(&[0])
-    } else {
-        Path::new(numbers)
-    }
-}
 
 /// The number of what refuses a split, or 0, its line, and whether the circuit is then printed as
 /// this text.
@@ -27,8 +20,8 @@ fn split(
 ) -> Result<((u8, u64), bool), Fail> {
     let mut circuit = read(alloc, ROUNDS)?;
     let answer = fault_of(circuit.split(path_of(numbers), round));
-    let (written, same) = printed(alloc, &circuit, 2048, text)?;
-    Ok((answer, written.is_ok() && same))
+    let same = prints(alloc, &circuit, text)?;
+    Ok((answer, same))
 }
 
 // A path and a round, what refuses the split, and the text from then on.
@@ -89,18 +82,28 @@ fn shows(session: &Session<ListCoins>, records: &[bool]) -> bool {
     session.records() == records && session.circuit().records() == records.len()
 }
 
-/// Whether a session shows the same records before its second round is split off and behind that,
-/// and others once the round is edited.
-fn session_is_split(alloc: Global) -> Result<(bool, bool, bool), Fault> {
-    let mut session = opened(alloc, ListCoins::new(&[true]))?;
-    let before = shows(&session, &[true, false, true]);
-    session.split(Path::new(&[0]), 1)?;
-    let behind = shows(&session, &[true, false, true]);
+/// Whether a session shows other records once its second round, which was split off, is edited.
+fn round_is_edited(session: &mut Session<ListCoins>) -> bool {
     let edit = Edit::Delete {
         place: Path::new(&[1, 0]),
     };
-    let edited = session.apply(edit).is_ok() && shows(&session, &[true, true, false]);
-    Ok((before, behind, edited))
+    let refusal = refusal_of(session.apply(edit));
+    refusal.is_none() && shows(session, &[true, true, false])
+}
+
+/// Whether a session shows the same records before its second round is split off and behind that,
+/// and others once the round is edited.
+fn is_split(session: &mut Session<ListCoins>) -> Result<(bool, bool, bool), Fault> {
+    let before = shows(session, &[true, false, true]);
+    session.split(Path::new(&[0]), 1)?;
+    let behind = shows(session, &[true, false, true]);
+    Ok((before, behind, round_is_edited(session)))
+}
+
+/// The same of a session that is opened for it.
+fn session_is_split(alloc: Global) -> Result<(bool, bool, bool), Fault> {
+    let mut session = opened(alloc, ListCoins::new(&[true]))?;
+    is_split(&mut session)
 }
 
 #[test]
@@ -110,12 +113,22 @@ fn a_session_shows_the_same_behind_a_split(rt: HostRuntime) -> Result<(), Fail> 
     Ok(())
 }
 
+/// What a split of a session at a round that is not there answers, and whether the session shows the
+/// same records behind it.
+fn split_nowhere(session: &mut Session<ListCoins>) -> ((u8, u64), bool) {
+    let answer = fault_of(session.split(Path::new(&[0]), 3));
+    (answer, shows(session, &[true, false, true]))
+}
+
+/// The same of a session that is opened for it.
+fn refused_split(alloc: Global) -> Result<((u8, u64), bool), Fault> {
+    let mut session = opened(alloc, ListCoins::new(&[true]))?;
+    Ok(split_nowhere(&mut session))
+}
+
 #[test]
 fn a_refused_split_leaves_the_session(rt: HostRuntime) -> Result<(), Fail> {
-    let alloc = rt.alloc();
-    let mut session = opened(alloc, ListCoins::new(&[true]))?;
-    let answer = fault_of(session.split(Path::new(&[0]), 3));
-    assert_eq!(rt; answer, (12, 0));
-    assert!(rt; shows(&session, &[true, false, true]));
+    let found = refused_split(rt.alloc())?;
+    assert_eq!(rt; found, ((12, 0), true));
     Ok(())
 }

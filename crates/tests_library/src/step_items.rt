@@ -59,7 +59,7 @@ const CASES: &[(&str, usize, &str, usize)] = &[
 fn a_step_is_of_the_item_at_its_path(rt: HostRuntime) -> Result<(), Fail> {
     for &(text, step, path, steps) in CASES {
         let item = found(rt.alloc(), text, step, path)?;
-        assert_eq!(rt; item, Some((true, steps)), "{text:?} at step {step}");
+        assert_eq!(rt; item, Some((true, steps)), "{text} at step {step}");
     }
     Ok(())
 }

@@ -9,6 +9,7 @@ mod matrices;
 mod resets;
 mod turns;
 
+use crate::texts::both;
 use calls::Asked::{Apply, Pair};
 use calls::Place::{First, Last};
 use calls::{Asked, hold_on};
@@ -44,6 +45,6 @@ fn state(alloc: Global, n: usize, calls: &[Asked]) -> Result<Tableau, Refusal> {
 // Whether calls on a state of n qubits, after others, have their answers.
 fn hold(alloc: Global, n: usize, before: &[Asked], calls: &[Asked]) -> Result<bool, Refusal> {
     let mut tableau = zeros(alloc, n)?;
-    let made = hold_on(alloc, &mut tableau, before)?;
-    Ok(made && hold_on(alloc, &mut tableau, calls)?)
+    let made = hold_on(alloc, &mut tableau, before);
+    both(made, hold_on(alloc, &mut tableau, calls))
 }

@@ -75,6 +75,14 @@ pub(crate) fn prints(alloc: Global, pauli: &Pauli, text: &str) -> Result<bool, R
     Ok(out.bytes() == text.as_bytes())
 }
 
+/// Whether both hold, where both can be told.
+pub(crate) fn both(
+    first: Result<bool, Refusal>,
+    second: Result<bool, Refusal>,
+) -> Result<bool, Refusal> {
+    Ok(first? && second?)
+}
+
 /// n times one letter.
 pub(crate) fn repeated(alloc: Global, n: usize, letter: Letter) -> Result<Pauli, Refusal> {
     let mut pauli = Pauli::identity(alloc, n)?;

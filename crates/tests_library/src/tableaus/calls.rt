@@ -125,9 +125,8 @@ fn letter_collapses(
     qubit < tableau.len() && is(tableau.collapse_letter(letter, qubit, coin), found)
 }
 
-// Whether the reduced rows are printed as the texts.
-fn has_rows(alloc: Global, tableau: &mut Tableau, texts: &[&str]) -> Result<bool, Refusal> {
-    let rows = tableau.reduced_rows(alloc)?;
+// Whether rows are printed as the texts.
+fn are_printed(alloc: Global, rows: &[Pauli], texts: &[&str]) -> Result<bool, Refusal> {
     let mut all = rows.len() == texts.len();
     for (row, text) in rows.iter().zip(texts) {
         all &= prints(alloc, row, text)?;
@@ -135,9 +134,50 @@ fn has_rows(alloc: Global, tableau: &mut Tableau, texts: &[&str]) -> Result<bool
     Ok(all)
 }
 
+// Whether the reduced rows are printed as the texts.
+fn has_rows(alloc: Global, tableau: &mut Tableau, texts: &[&str]) -> Result<bool, Refusal> {
+    let rows = tableau.reduced_rows(alloc)?;
+    are_printed(alloc, rows.as_slice(), texts)
+}
+
+// Whether the sign of the string of a text is this.
+fn text_has_sign(
+    alloc: Global,
+    tableau: &mut Tableau,
+    text: &str,
+    sign: Option<bool>,
+) -> Result<bool, Refusal> {
+    let pauli = spread(alloc, tableau.len(), text)?;
+    Ok(has_sign(tableau, &pauli, sign))
+}
+
+// Whether the measurement of the string of a text is as found.
+fn text_collapses(
+    alloc: Global,
+    tableau: &mut Tableau,
+    text: &str,
+    coin: bool,
+    found: (bool, bool),
+) -> Result<bool, Refusal> {
+    let pauli = spread(alloc, tableau.len(), text)?;
+    Ok(collapses(tableau, &pauli, coin, found))
+}
+
+// Whether the measurement of a string that has one letter is as found.
+fn single_collapses(
+    alloc: Global,
+    tableau: &mut Tableau,
+    letter: Letter,
+    qubit: usize,
+    coin: bool,
+    found: (bool, bool),
+) -> Result<bool, Refusal> {
+    let pauli = single(alloc, tableau.len(), qubit, letter)?;
+    Ok(collapses(tableau, &pauli, coin, found))
+}
+
 // Whether a call has its answer.
 fn holds(alloc: Global, tableau: &mut Tableau, asked: Asked) -> Result<bool, Refusal> {
-    let n = tableau.len();
     match asked {
         Asked::Apply(gate, place) => Ok(apply(tableau, gate, qubit(tableau, place))),
         Asked::Pair(gate, first, second) => {
@@ -148,12 +188,10 @@ fn holds(alloc: Global, tableau: &mut Tableau, asked: Asked) -> Result<bool, Ref
             tableau.reset();
             Ok(true)
         }
-        Asked::Sign(text, sign) => Ok(has_sign(tableau, &spread(alloc, n, text)?, sign)),
+        Asked::Sign(text, sign) => text_has_sign(alloc, tableau, text, sign),
         Asked::Signs(place, signs) => { has_signs_on(alloc, tableau, qubit(tableau, place), signs) }
         Asked::Fixed(place, outcomes) => { Ok(are_fixed(tableau, qubit(tableau, place), outcomes)) }
-        Asked::Measure(text, coin, found) => {
-            Ok(collapses(tableau, &spread(alloc, n, text)?, coin, found))
-        }
+        Asked::Measure(text, coin, found) => text_collapses(alloc, tableau, text, coin, found),
         Asked::MeasureLetter(letter, place, coin, found) => Ok(letter_collapses(
             tableau,
             letter,
@@ -162,8 +200,8 @@ fn holds(alloc: Global, tableau: &mut Tableau, asked: Asked) -> Result<bool, Ref
             found,
         )),
         Asked::MeasureSingle(letter, place, coin, found) => {
-            let pauli = single(alloc, n, qubit(tableau, place), letter)?;
-            Ok(collapses(tableau, &pauli, coin, found))
+            let qubit = qubit(tableau, place);
+            single_collapses(alloc, tableau, letter, qubit, coin, found)
         }
         Asked::Rows(texts) => has_rows(alloc, tableau, texts),
     }

@@ -4,8 +4,10 @@ use super::calls::Asked::{
 };
 use super::calls::Place::{First, Last};
 use super::{BELL, FLIPPED, SIZES, hold};
-use stab_pauli::Letter;
+use crate::texts::both;
+use stab_pauli::{Letter, Refusal};
 use stab_tableau::{Gate, PairGate};
+use std::alloc::Global;
 use std::test::Fail;
 
 // The signs of strings on a Bell pair.
@@ -58,7 +60,7 @@ const CASES: &[(&[Asked], &[Asked])] = &[
 fn two_qubits_that_are_far_apart_are_measured(rt: HostRuntime) -> Result<(), Fail> {
     for n in SIZES {
         let mut all = true;
-        for (before, calls) in CASES {
+        for &(before, calls) in CASES {
             all &= hold(rt.alloc(), n, before, calls)?;
         }
         assert!(rt; all, "{n}");
@@ -207,26 +209,41 @@ const MEASURED: &[(Letter, &str, bool, (bool, bool), [Option<bool>; 6])] = &[
 
 const PAIR: [Option<bool>; 6] = [Some(false), Some(true), Some(false), None, None, None];
 
+// Whether a call on a Bell pair has its answer, and these are then the signs of strings.
+fn collapses_to(
+    alloc: Global,
+    call: Asked,
+    [xx, yy, zz, x, y, z]: [Option<bool>; 6],
+) -> Result<bool, Refusal> {
+    let signs = [
+        Sign("+XX", xx),
+        Sign("+YY", yy),
+        Sign("+ZZ", zz),
+        Sign("+_X", x),
+        Sign("+_Y", y),
+        Sign("+_Z", z),
+    ];
+    hold(alloc, 2, &[BELL[0], BELL[1], call], &signs)
+}
+
+// Whether a letter that is measured, as a letter and as either string, leaves these signs.
+fn letter_collapses_to(
+    alloc: Global,
+    (letter, text): (Letter, &'static str),
+    coin: bool,
+    found: (bool, bool),
+    signs: [Option<bool>; 6],
+) -> Result<bool, Refusal> {
+    let as_letter = collapses_to(alloc, MeasureLetter(letter, Last, coin, found), signs);
+    let as_single = collapses_to(alloc, MeasureSingle(letter, Last, coin, found), signs);
+    let as_string = collapses_to(alloc, Measure(text, coin, found), signs);
+    both(as_letter, both(as_single, as_string))
+}
+
 #[test]
 fn a_letter_collapses_as_its_pauli(rt: HostRuntime) -> Result<(), Fail> {
-    for &(letter, text, coin, found, [xx, yy, zz, x, y, z]) in MEASURED {
-        let signs = [
-            Sign("+XX", xx),
-            Sign("+YY", yy),
-            Sign("+ZZ", zz),
-            Sign("+_X", x),
-            Sign("+_Y", y),
-            Sign("+_Z", z),
-        ];
-        let mut all = true;
-        for call in [
-            MeasureLetter(letter, Last, coin, found),
-            MeasureSingle(letter, Last, coin, found),
-            Measure(text, coin, found),
-        ] {
-            let [half, other] = [BELL[0], BELL[1]];
-            all &= hold(rt.alloc(), 2, &[half, other, call], &signs)?;
-        }
+    for &(letter, text, coin, found, signs) in MEASURED {
+        let all = letter_collapses_to(rt.alloc(), (letter, text), coin, found, signs)?;
         assert!(rt; all, "{text} {coin}");
     }
     Ok(())

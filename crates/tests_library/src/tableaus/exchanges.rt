@@ -66,13 +66,34 @@ const STRINGS: &[(&[Asked], &str, bool)] = &[
     (BELL, "+YX", true),
 ];
 
+// Whether the same is so of the string of a text.
+fn text_is_exchanged(
+    alloc: Global,
+    tableau: &mut Tableau,
+    text: &str,
+    free: bool,
+) -> Result<bool, Refusal> {
+    let measured = spread(alloc, tableau.len(), text)?;
+    is_exchanged(alloc, tableau, &measured, free)
+}
+
+// Whether the same is so after calls on a state of n qubits.
+fn text_is_exchanged_after(
+    alloc: Global,
+    n: usize,
+    calls: &[Asked],
+    text: &str,
+    free: bool,
+) -> Result<bool, Refusal> {
+    let mut tableau = state(alloc, n, calls)?;
+    text_is_exchanged(alloc, &mut tableau, text, free)
+}
+
 #[test]
 fn free_outcomes_have_strings_that_exchange_them(rt: HostRuntime) -> Result<(), Fail> {
     for n in SIZES {
         for &(calls, text, free) in STRINGS {
-            let mut tableau = state(rt.alloc(), n, calls)?;
-            let measured = spread(rt.alloc(), n, text)?;
-            let found = is_exchanged(rt.alloc(), &mut tableau, &measured, free)?;
+            let found = text_is_exchanged_after(rt.alloc(), n, calls, text, free)?;
             assert!(rt; found, "{n} {text}");
         }
     }
@@ -91,12 +112,23 @@ const LETTERS: &[(&[Asked], (Letter, Place), bool)] = &[
     (BELL, (Letter::Z, First), true),
 ];
 
+// Whether such a letter's outcomes are exchanged after calls on a state of n qubits.
+fn letter_is_exchanged_after(
+    alloc: Global,
+    n: usize,
+    calls: &[Asked],
+    letter: (Letter, Place),
+    free: bool,
+) -> Result<bool, Refusal> {
+    let mut tableau = state(alloc, n, calls)?;
+    letter_is_exchanged(alloc, &mut tableau, letter, free)
+}
+
 #[test]
 fn free_outcomes_of_letters_have_strings_that_exchange_them(rt: HostRuntime) -> Result<(), Fail> {
     for n in SIZES {
         for (number, &(calls, letter, free)) in LETTERS.iter().enumerate() {
-            let mut tableau = state(rt.alloc(), n, calls)?;
-            let found = letter_is_exchanged(rt.alloc(), &mut tableau, letter, free)?;
+            let found = letter_is_exchanged_after(rt.alloc(), n, calls, letter, free)?;
             assert!(rt; found, "{n}, letter {number}");
         }
     }

@@ -4,6 +4,7 @@ use super::calls::Asked::{Apply, Measure, Pair, Sign};
 use super::calls::Place::{First, Last};
 use super::hold;
 use super::matrices::{PairMatrix, on_first, pair_matrix, product, signed};
+use crate::texts::both;
 use stab_pauli::{Letter, Refusal};
 use stab_tableau::{Gate, PairGate};
 use std::alloc::Global;
@@ -111,9 +112,12 @@ fn follows_on_all(
     inverse: Gate,
     [x, y, z]: [&'static str; 3],
 ) -> Result<bool, Refusal> {
-    let with_x = follows(alloc, gate, inverse, ("+X_", x))?;
-    let with_y = follows(alloc, gate, inverse, ("+Y_", y))?;
-    Ok(with_x && with_y && follows(alloc, gate, inverse, ("+Z_", z))?)
+    let with_x = follows(alloc, gate, inverse, ("+X_", x));
+    let with_y = follows(alloc, gate, inverse, ("+Y_", y));
+    both(
+        with_x,
+        both(with_y, follows(alloc, gate, inverse, ("+Z_", z))),
+    )
 }
 
 #[test]
@@ -142,10 +146,15 @@ fn pair_follows_on_both(
     gate: PairGate,
     [first_x, first_z, last_x, last_z]: [&'static str; 4],
 ) -> Result<bool, Refusal> {
-    let on_first = pair_follows(alloc, gate, ("+X_", first_x))?
-        && pair_follows(alloc, gate, ("+Z_", first_z))?;
-    let on_last = pair_follows(alloc, gate, ("+_X", last_x))?;
-    Ok(on_first && on_last && pair_follows(alloc, gate, ("+_Z", last_z))?)
+    let on_first = both(
+        pair_follows(alloc, gate, ("+X_", first_x)),
+        pair_follows(alloc, gate, ("+Z_", first_z)),
+    );
+    let on_last = both(
+        pair_follows(alloc, gate, ("+_X", last_x)),
+        pair_follows(alloc, gate, ("+_Z", last_z)),
+    );
+    both(on_first, on_last)
 }
 
 #[test]

@@ -3,6 +3,7 @@ use super::calls::Asked::{self, Apply, Measure, Pair, Reset, Sign};
 use super::calls::Place::{First, Last};
 use super::calls::{has_signs_on, hold_on, wear};
 use super::zeros;
+use crate::texts::both;
 use stab_pauli::Refusal;
 use stab_tableau::{Gate, PairGate, Tableau};
 use std::alloc::Global;
@@ -48,16 +49,21 @@ const ON: &[Asked] = &[
     Sign("+_Z", Some(true)),
 ];
 
+// Turns, entangles and measures every qubit.
+fn wear_all(tableau: &mut Tableau) {
+    for qubit in 0..tableau.len() {
+        wear(tableau, qubit);
+    }
+}
+
 // Whether a state whose every qubit was turned, entangled and measured is all zeros after its reset, and
 // goes on.
 fn is_reset(alloc: Global, n: usize) -> Result<bool, Refusal> {
     let mut tableau = zeros(alloc, n)?;
-    for qubit in 0..n {
-        wear(&mut tableau, qubit);
-    }
-    let reset = hold_on(alloc, &mut tableau, RESET)?;
-    let zero = all_zero(alloc, &mut tableau)?;
-    Ok(reset && zero && hold_on(alloc, &mut tableau, ON)?)
+    wear_all(&mut tableau);
+    let reset = hold_on(alloc, &mut tableau, RESET);
+    let zero = all_zero(alloc, &mut tableau);
+    both(reset, both(zero, hold_on(alloc, &mut tableau, ON)))
 }
 
 #[test]

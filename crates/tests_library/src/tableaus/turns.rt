@@ -3,6 +3,7 @@ use super::calls::Asked::{self, Apply, Pair, Sign};
 use super::calls::Place::{self, First, Last};
 use super::calls::{hold_on, qubit};
 use super::{BELL, SIZES, state};
+use crate::texts::both;
 use stab_pauli::{Letter, Pauli, Refusal};
 use stab_tableau::{CompactTableau, Gate, PairGate, Tableau};
 use std::alloc::Global;
@@ -33,20 +34,42 @@ const TURNED: &[((Letter, Place), [bool; 3])] = &[
     ((Letter::Z, Last), [true, false, false]),
 ];
 
+// Whether the state that a letter makes of another, which is kept, has these signs of XX, YY and ZZ.
+fn turns(
+    alloc: Global,
+    tableau: &Tableau,
+    letter: (Letter, Place),
+    [xx, yy, zz]: [bool; 3],
+) -> Result<bool, Refusal> {
+    let mut found = turned(alloc, tableau, letter)?;
+    let signs = [
+        Sign("+XX", Some(xx)),
+        Sign("+YY", Some(yy)),
+        Sign("+ZZ", Some(zz)),
+    ];
+    hold_on(alloc, &mut found, &signs)
+}
+
+// Whether each letter turns a state so.
+fn letters_turn(alloc: Global, tableau: &Tableau) -> Result<bool, Refusal> {
+    let mut all = true;
+    for &(letter, signs) in TURNED {
+        all &= turns(alloc, tableau, letter, signs)?;
+    }
+    Ok(all)
+}
+
+// Whether each letter turns a Bell pair of n qubits so.
+fn bell_is_turned(alloc: Global, n: usize) -> Result<bool, Refusal> {
+    let tableau = state(alloc, n, BELL)?;
+    letters_turn(alloc, &tableau)
+}
+
 #[test]
 fn a_letter_turns_a_kept_state(rt: HostRuntime) -> Result<(), Fail> {
     for n in SIZES {
-        let tableau = state(rt.alloc(), n, BELL)?;
-        for &(letter, [xx, yy, zz]) in TURNED {
-            let mut found = turned(rt.alloc(), &tableau, letter)?;
-            let signs = [
-                Sign("+XX", Some(xx)),
-                Sign("+YY", Some(yy)),
-                Sign("+ZZ", Some(zz)),
-            ];
-            let hold = hold_on(rt.alloc(), &mut found, &signs)?;
-            assert!(rt; hold, "{n}");
-        }
+        let hold = bell_is_turned(rt.alloc(), n)?;
+        assert!(rt; hold, "{n}");
     }
     Ok(())
 }
@@ -62,6 +85,19 @@ fn frame(
         return Ok(None);
     }
     Ok(Some(frame))
+}
+
+// Whether the letters by which a state differs from a kept one are these at its ends, and I between.
+fn frame_has_ends(
+    alloc: Global,
+    kept: &CompactTableau,
+    tableau: &Tableau,
+    letters: Option<(Letter, Letter)>,
+) -> Result<bool, Refusal> {
+    match frame(alloc, kept, tableau)? {
+        None => Ok(letters.is_none()),
+        Some(frame) => Ok(ends(&frame) == letters),
+    }
 }
 
 // The first and the last letter of a frame, where all others are I.
@@ -107,13 +143,13 @@ fn has_frame(
     letters: Option<(Letter, Letter)>,
 ) -> Result<bool, Refusal> {
     let mut tableau = state(alloc, n, BELL)?;
-    let kept = tableau.compact(alloc)?;
-    let made = hold_on(alloc, &mut tableau, calls)?;
-    let found = match frame(alloc, &kept, &tableau)? {
-        None => None,
-        Some(frame) => ends(&frame),
-    };
-    Ok(made && found == letters)
+    match tableau.compact(alloc) {
+        Ok(kept) => {
+            let made = hold_on(alloc, &mut tableau, calls);
+            both(made, frame_has_ends(alloc, &kept, &tableau, letters))
+        }
+        Err(refusal) => Err(refusal),
+    }
 }
 
 #[test]
@@ -127,11 +163,34 @@ fn a_frame_leads_from_a_kept_state_to_one_of_other_signs(rt: HostRuntime) -> Res
     Ok(())
 }
 
+// A Bell pair of two qubits, kept.
+fn kept_pair(alloc: Global) -> Result<CompactTableau, Refusal> {
+    let tableau = state(alloc, 2, BELL)?;
+    tableau.compact(alloc)
+}
+
+// Whether no frame leads from a kept state to another.
+fn is_without_frame(
+    alloc: Global,
+    kept: &CompactTableau,
+    tableau: &Tableau,
+) -> Result<bool, Refusal> {
+    let found = frame(alloc, kept, tableau)?;
+    Ok(found.is_none())
+}
+
+// Whether no frame leads from a kept Bell pair of two qubits to one of three.
+fn has_no_frame(alloc: Global) -> Result<bool, Refusal> {
+    let kept = kept_pair(alloc)?;
+    match state(alloc, 3, BELL) {
+        Ok(other) => is_without_frame(alloc, &kept, &other),
+        Err(refusal) => Err(refusal),
+    }
+}
+
 #[test]
 fn no_frame_leads_to_a_state_of_another_size(rt: HostRuntime) -> Result<(), Fail> {
-    let kept = state(rt.alloc(), 2, BELL)?.compact(rt.alloc())?;
-    let other = state(rt.alloc(), 3, BELL)?;
-    let found = frame(rt.alloc(), &kept, &other)?;
-    assert!(rt; found.is_none());
+    let none = has_no_frame(rt.alloc())?;
+    assert!(rt; none);
     Ok(())
 }
