@@ -96,31 +96,31 @@ fn changed(alloc: Global, old: &[&str], change: RowChange, new: &[&str]) -> Resu
 // Changes of rows, and what they make of them.
 const CHANGES: &[(&str, &[&str], RowChange, &[&str])] = &[
     (
-        "X in row 0",
+        "X in the first row",
         &["+__", "+__", "+__"],
         RowChange::Set(0, 0, Letter::X),
         &["+X_", "+__", "+__"],
     ),
     (
-        "Z in row 1",
+        "Z in the second row",
         &["+X_", "+__", "+__"],
         RowChange::Set(1, 1, Letter::Z),
         &["+X_", "+_Z", "+__"],
     ),
     (
-        "row 1 is negated",
+        "the second row is negated",
         &["+X_", "+_Z", "+__"],
         RowChange::NegateIf(1, true),
         &["+X_", "-_Z", "+__"],
     ),
     (
-        "row 0 is not negated",
+        "the first row is not negated",
         &["+X_", "-_Z", "+__"],
         RowChange::NegateIf(0, false),
         &["+X_", "-_Z", "+__"],
     ),
     (
-        "Y in row 2",
+        "Y in the third row",
         &["+X_", "-_Z", "+__"],
         RowChange::Set(2, 0, Letter::Y),
         &["+X_", "-_Z", "+Y_"],
@@ -132,7 +132,7 @@ const CHANGES: &[(&str, &[&str], RowChange, &[&str])] = &[
         &["-_Z", "+X_", "+Y_"],
     ),
     (
-        "row 2 is cleared",
+        "the third row is cleared",
         &["-_Z", "+X_", "+Y_"],
         RowChange::Clear(2),
         &["-_Z", "+X_", "+__"],
