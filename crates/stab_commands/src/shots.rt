@@ -2,7 +2,7 @@
 //!
 //! All shots of a list of coins are the same run, which is made once. Shots of a seed are run by batches of lanes, so that the
 //! tableau goes through the circuit once for each batch; a shot that is alone is run alone.
-ghost use Rattle.std.specs.Prelude.{◌≡◌, ℕ, ◌+◌, ◌<◌, ◌≤◌, None, Bool, length, IfOk};
+ghost use Rattle.std.specs.Prelude.{◌≡◌, ℕ, ◌+◌, ◌*◌, ◌<◌, ◌≤◌, None, Bool, length, IfOk};
 ghost use Rattle.stab_circuit.specs.Items.{Items};
 ghost use Rattle.stab_circuit.specs.Steps.{check_of, qubits_of};
 ghost use Rattle.stab_circuit.specs.Views.{circuit_items};
@@ -181,7 +181,28 @@ fn send_batch<O: Output, W: Word, C: LaneCoins<W>>(
     send_lanes(alloc, out, format, &words, shots)
 }
 
-/// Runs so many shots of a seed, at most 256, from a first one on, and writes what is shown of each. One shot is run alone.
+/// Runs so many shots of a seed, at most 64 * N, from a first one on, in as many lanes, and writes what is shown of each.
+fn send_wide<O: Output, const N: usize>(
+    alloc: Global,
+    circuit: &Circuit,
+    out: &mut O,
+    format: Format,
+    shown: Shown,
+    seed: u64,
+    first: u64,
+    shots: usize,
+) -> Result<(), Fault>
+    requires checked { check_of (circuit_items circuit.now) ≡ None }
+    requires few { shots ≤ 64 * N }
+    requires in_range { first + shots ≤ shots_of_seed }
+    ensures sends { SendsUnflushed (of_shots (λ shot. shown_bytes format shown (run_of (qubits_of (circuit_items circuit.now)) (seed_coin seed shot) (circuit_items circuit.now))) first shots) (O.seen out.old) (O.seen out.new) result }
+{
+    let mut coins = WideSeedLanes::<N>::new(seed, first);
+    send_batch(alloc, circuit, out, format, shown, &mut coins, shots)
+}
+
+/// Runs so many shots of a seed, at most 1,024, from a first one on, and writes what is shown of each. One shot is run alone,
+/// and others in no more lanes than they need.
 fn send_some<O: Output>(
     alloc: Global,
     circuit: &Circuit,
@@ -193,7 +214,7 @@ fn send_some<O: Output>(
     shots: usize,
 ) -> Result<(), Fault>
     requires checked { check_of (circuit_items circuit.now) ≡ None }
-    requires few { shots ≤ 256 }
+    requires few { shots ≤ 1024 }
     requires in_range { first + shots ≤ shots_of_seed }
     ensures sends { SendsUnflushed (of_shots (λ shot. shown_bytes format shown (run_of (qubits_of (circuit_items circuit.now)) (seed_coin seed shot) (circuit_items circuit.now))) first shots) (O.seen out.old) (O.seen out.new) result }
 {
@@ -203,9 +224,12 @@ fn send_some<O: Output>(
     } else if shots <= 64 {
         let mut coins = SeedLanes::new(seed, first);
         send_batch(alloc, circuit, out, format, shown, &mut coins, shots)
+    } else if shots <= 256 {
+        send_wide::<O, 4>(alloc, circuit, out, format, shown, seed, first, shots)
+    } else if shots <= 512 {
+        send_wide::<O, 8>(alloc, circuit, out, format, shown, seed, first, shots)
     } else {
-        let mut coins = WideSeedLanes::new(seed, first);
-        send_batch(alloc, circuit, out, format, shown, &mut coins, shots)
+        send_wide::<O, 16>(alloc, circuit, out, format, shown, seed, first, shots)
     }
 }
 

@@ -5,13 +5,18 @@ ghost use Rattle.stab_io.specs.declared.refusal.Refusal.TheVariants.{OutOfMemory
 ghost use Rattle.stab_circuit.specs.Steps.{check_of};
 ghost use Rattle.stab_circuit.specs.Views.{circuit_items};
 
-use stab_circuit::{Circuit, Cursor, Step};
+use stab_circuit::{Circuit, Cursor, Step, Steps};
 use stab_io::{Fault, Refusal};
 use std::alloc::Global;
 
-/// How many bits a shot may have where 256 shots go at once. A bit of all of them takes 32 bytes, and up to 11 more on its way
-/// out, so that they stay within 16 MiB, but for the room that a growing list keeps free.
-const MOST_BITS: usize = 390_000;
+/// How many bytes the bits of shots that go at once take at most, but for the room that a growing list keeps free.
+const MOST_BYTES: usize = 16 * 1024 * 1024;
+
+/// How many bytes a bit of all lanes takes on its way out, beside its own.
+const BYTES_ON_ITS_WAY: usize = 11;
+
+/// How many steps are passed together at most: as many as one instruction has.
+const MOST_TOGETHER: usize = usize::MAX;
 
 /// How many bits a shot has: its records, detectors and observables.
 fn bits_of_shot(alloc: Global, circuit: &Circuit) -> Result<usize, Refusal>
@@ -20,23 +25,44 @@ fn bits_of_shot(alloc: Global, circuit: &Circuit) -> Result<usize, Refusal>
 {
     let mut bits = circuit.records().saturating_add(circuit.observables());
     let mut cursor = Cursor::at(alloc, circuit, 0)?;
-    'steps: while let Some(step) = cursor.next() {
-        let detector = matches!(step, Step::Detector(_));
+    'steps: while let Some(steps) = cursor.next_steps(MOST_TOGETHER) {
+        let detector = matches!(steps, Steps::Single(Step::Detector(_)));
         bits = bits.saturating_add(usize::from(detector));
     }
     Ok(bits)
+}
+
+/// Whether the bits of so many lanes, so many in each, stay within the bytes that they may take.
+fn fits(bits: usize, lanes: usize) -> bool {
+    bits <= MOST_BYTES / (lanes / 8 + BYTES_ON_ITS_WAY)
+}
+
+/// How many shots go at once, of which each has so many bits.
+fn most_lanes(bits: usize) -> usize
+    ensures some { 0 < result }
+    ensures few { result ≤ 1024 }
+{
+    if fits(bits, 1_024) {
+        1_024
+    } else if fits(bits, 512) {
+        512
+    } else if fits(bits, 256) {
+        256
+    } else {
+        64
+    }
 }
 
 /// How many shots go through a circuit at once, where so many are asked for.
 pub(crate) fn shots_at_once(alloc: Global, circuit: &Circuit, shots: usize) -> Result<usize, Fault>
     requires checked { check_of (circuit_items circuit.now) ≡ None }
     ensures some { IfOk result (λ n. 0 < n) }
-    ensures few { IfOk result (λ n. n ≤ 256) }
+    ensures few { IfOk result (λ n. n ≤ 1024) }
     ensures err { IfErr result (λ f. f ≡ whole OutOfMemory) }
 {
     if shots <= 64 {
         return Ok(64);
     }
     let bits = bits_of_shot(alloc, circuit).map_err(Fault::whole)?;
-    if bits <= MOST_BITS { Ok(256) } else { Ok(64) }
+    Ok(most_lanes(bits))
 }

@@ -1,8 +1,8 @@
 -- Frames: the strings of lanes, whose letters are changed at one place.
-use Rattle.std.proofs.Common.{◌≡◌, ℕ, zero, suc, ◌+◌, ◌<◌, refl, sym, ◌∙◌, ap, Bool, true, false, List, [], ◌∷◌, length, get_or, set, take, arith}
+use Rattle.std.proofs.Common.{◌≡◌, ℕ, zero, suc, ◌+◌, ◌-◌, ◌<◌, ◌≤◌, refl, sym, ◌∙◌, ap, Bool, true, false, List, [], ◌∷◌, length, get_or, set, take, arith}
 use Rattle.std.proofs.lemmas.List.{map-set, get_or-map, set-get_or, length-replicate, length-map}
 use Rattle.stab_pauli.specs.declared.letter.Letter.{Letter}
-use Rattle.stab_pauli.specs.declared.letter.Letter.TheVariants.{I}
+use Rattle.stab_pauli.specs.declared.letter.Letter.TheVariants.{I, X, Y, Z}
 use Rattle.stab_pauli.specs.Letters.{◌⊕◌, letter_product, letters_anticommute}
 use Rattle.stab_pauli.specs.Paulis.{single, string_product, strings_anticommute}
 use Rattle.stab_pauli.proofs.ParityLemmas.{parity-false, parity-assoc}
@@ -44,6 +44,60 @@ pub anticommute-more : (p q : List Letter) (i : ℕ) → i < length p → i < le
 anticommute-more p q i lp lq =
     let e : i + 1 ≡ suc i = omega arith in
     ap (λ k. strings_anticommute (take k p) (take k q)) e ∙ anticommute-next p q i lp lq
+
+-- letters I change nothing
+
+anticommute-I : (x : Letter) → letters_anticommute x I ≡ false
+anticommute-I I = refl
+anticommute-I X = refl
+anticommute-I Y = refl
+anticommute-I Z = refl
+
+times-I : (b : Bool) (x : Letter) → letter_times b I x ≡ x
+times-I false x = refl
+times-I true I = refl
+times-I true X = refl
+times-I true Y = refl
+times-I true Z = refl
+
+anticommute-over : (p q : List Letter) (i d : ℕ) → i + d ≤ length p → i + d ≤ length q → ((k : ℕ) → i ≤ k → k < i + d → get_or q k I ≡ I)
+    → strings_anticommute (take (i + d) p) (take (i + d) q) ≡ strings_anticommute (take i p) (take i q)
+anticommute-over p q i zero lp lq blank = let e : i + 0 ≡ i = omega arith in ap (λ k. strings_anticommute (take k p) (take k q)) e
+anticommute-over p q i (suc d) lp lq blank =
+    let e : i + suc d ≡ i + d + 1 = omega arith in
+    ap (λ k. strings_anticommute (take k p) (take k q)) e
+    ∙ anticommute-more p q (i + d) (omega (arith, lp)) (omega (arith, lq))
+    ∙ ap (λ b. strings_anticommute (take (i + d) p) (take (i + d) q) ⊕ b)
+    (ap (letters_anticommute (get_or p (i + d) I)) (blank (i + d) (omega arith) (omega arith)) ∙ anticommute-I (get_or p (i + d) I))
+    ∙ parity-false (strings_anticommute (take (i + d) p) (take (i + d) q))
+    ∙ anticommute-over p q i d (omega (arith, lp)) (omega (arith, lq)) (λ k le lt. blank k le (omega (arith, lt)))
+
+-- the letters up to a place, and those I behind it
+pub anticommute-blank : (p q : List Letter) (i j : ℕ) → i ≤ j → j ≤ length p → j ≤ length q → ((k : ℕ) → i ≤ k → k < j → get_or q k I ≡ I)
+    → strings_anticommute (take j p) (take j q) ≡ strings_anticommute (take i p) (take i q)
+anticommute-blank p q i j le lp lq blank =
+    let e : i + (j - i) ≡ j = omega (arith, le) in
+    ap (λ k. strings_anticommute (take k p) (take k q)) (sym e)
+    ∙ anticommute-over p q i (j - i) (omega (arith, le, lp)) (omega (arith, le, lq)) (λ k from lt. blank k from (omega (arith, le, lt)))
+
+times-over : (b : Bool) (f s : List Letter) (i d : ℕ) → i + d ≤ length f → i + d ≤ length s → ((k : ℕ) → i ≤ k → k < i + d → get_or s k I ≡ I)
+    → times_where b (take (i + d) s) f ≡ times_where b (take i s) f
+times-over b f s i zero lf ls blank = let e : i + 0 ≡ i = omega arith in ap (λ k. times_where b (take k s) f) e
+times-over b f s i (suc d) lf ls blank =
+    let e : i + suc d ≡ i + d + 1 = omega arith in
+    let now : List Letter = times_where b (take (i + d) s) f in
+    ap (λ k. times_where b (take k s) f) e
+    ∙ sym (times-more b f s (i + d) (omega (arith, lf)) (omega (arith, ls)))
+    ∙ ap (set now (i + d)) (ap (λ x. letter_times b x (get_or now (i + d) I)) (blank (i + d) (omega arith) (omega arith)) ∙ times-I b (get_or now (i + d) I))
+    ∙ set-get_or now (i + d) I
+    ∙ times-over b f s i d (omega (arith, lf)) (omega (arith, ls)) (λ k le lt. blank k le (omega (arith, lt)))
+
+pub times-blank : (b : Bool) (f s : List Letter) (i j : ℕ) → i ≤ j → j ≤ length f → j ≤ length s → ((k : ℕ) → i ≤ k → k < j → get_or s k I ≡ I)
+    → times_where b (take j s) f ≡ times_where b (take i s) f
+times-blank b f s i j le lf ls blank =
+    let e : i + (j - i) ≡ j = omega (arith, le) in
+    ap (λ k. times_where b (take k s) f) (sym e)
+    ∙ times-over b f s i (j - i) (omega (arith, le, lf)) (omega (arith, le, ls)) (λ k from lt. blank k from (omega (arith, le, lt)))
 
 -- a letter at one place
 

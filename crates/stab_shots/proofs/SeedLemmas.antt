@@ -1,16 +1,16 @@
 -- Seeds: a word with a bit flipped in one lane.
-use Rattle.std.proofs.Common.{◌≡◌, ◌≢◌, ℕ, ◌+◌, ◌*◌, ◌<◌, ◌≤◌, ◌^◌, ◌%◌, sym, ◌∙◌, ap, subst, eqb, Bool, true, false, List, get_or, replicate, inl, inr, arith}
+use Rattle.std.proofs.Common.{◌≡◌, ◌≢◌, ℕ, ◌+◌, ◌*◌, ◌<◌, ◌≤◌, ◌^◌, ◌%◌, sym, ◌∙◌, ap, subst, eqb, Bool, true, false, List, [], get_or, set, length, replicate, ◌/◌, inl, inr, arith}
 use Rattle.std.specs.Prelude.{bit_xor, if◌then◌else◌, ◌⊎◌}
 use Rattle.std.proofs.lemmas.Bool.{cases_order}
-use Rattle.std.proofs.lemmas.List.{get_or-replicate}
+use Rattle.std.proofs.lemmas.List.{get_or-replicate, get_or-set_same, get_or-set_other}
 use Rattle.std.proofs.lemmas.Nat.Bits.{bit_at-pow_same, bit_at-pow_other}
 use Rattle.std.proofs.Math.Nat.{mod-eq_of_lt}
 use Rattle.std.proofs.Math.Pow.{pow-lt}
 use Rattle.stab_pauli.specs.Letters.{◌⊕◌}
 use Rattle.stab_pauli.proofs.ParityLemmas.{parity-false}
 use Rattle.stab_run.specs.Coins.{seed_coin}
-use Rattle.stab_shots.specs.Words.{word_bit}
-use Rattle.stab_shots.specs.Seeds.{SeededLanes, lane_coin, BeginBehind, AreCoins}
+use Rattle.stab_shots.specs.Words.{word_bit, wide_bit}
+use Rattle.stab_shots.specs.Seeds.{lane_coin, AreCoins, AreCoinsOfParts}
 use Rattle.stab_shots.proofs.WordLemmas.{word_bit-xor, word_bit-zero}
 
 -- 1 or 0, moved to a lane
@@ -61,14 +61,36 @@ pub blank-next : (lane : ℕ) (words new : List ℕ) → ((k j : ℕ) → k < 64
 blank-next lane words new blank others k j small le =
     others k j small (λ e. absurd (omega (arith, e, le))) ∙ blank k j small (omega (arith, le))
 
--- the coins of shots that begin so many behind others
-pub begin-behind : (seed first places : ℕ) → BeginBehind places (record { seed = seed; first = (first + places) % 2 ^ 64 }) (record { seed = seed; first = first })
-begin-behind seed first places l t = ap (λ shot. seed_coin seed shot t) (same first places l)
+-- the coins of a part of the lanes are those of the shots behind the first
+pub coins-parts : (seed first group parts t : ℕ) (words : List (List ℕ)) (coins : List ℕ) → AreCoinsOfParts seed first group parts words
+    → ((p : ℕ) → p < parts → get_or coins p 0 ≡ get_or (get_or words p []) (t % 64) 0) → group ≡ t / 64 → (l : ℕ) → l < 64 * parts
+    → wide_bit coins l ≡ lane_coin (record { seed = seed; first = first }) l t
+coins-parts seed first group parts t words coins are at e l lt =
+    let within : l / 64 < parts = omega (arith, lt) in
+    let small : t % 64 < 64 = omega arith in
+    let lane : l % 64 < 64 = omega arith in
+    ap (λ w. word_bit w (l % 64)) (at (l / 64) within)
+    ∙ are (l / 64) within (t % 64) (l % 64) small lane
+    ∙ (λ i. seed_coin seed (shot first l i) (place i))
   where
-    same : (a p l : ℕ) → ((a + p) % 18446744073709551616 + l) % 18446744073709551616 ≡ (a + (p + l)) % 18446744073709551616
-    same a p l = omega arith
+    shot : (a l : ℕ) → ((a + 64 * (l / 64)) % 18446744073709551616 + l % 64) % 18446744073709551616 ≡ (a + l) % 18446744073709551616
+    shot a l = omega arith
 
--- the same where each gives the coins that it gave
-pub still-behind : (places : ℕ) (back front back' front' : SeededLanes) → lane_coin back' ≡ lane_coin back → lane_coin front' ≡ lane_coin front → BeginBehind places back front → BeginBehind places back' front'
-still-behind places back front back' front' same_back same_front behind l t =
-    ap (λ coins. coins l t) same_back ∙ behind l t ∙ sym (ap (λ coins. coins (places + l) t) same_front)
+    place : 64 * group + t % 64 ≡ t
+    place = omega (arith, e)
+
+-- one part more
+pub part-next : (seed first group part : ℕ) (words : List (List ℕ)) (coins : List ℕ) → part < length words → AreCoinsOfParts seed first group part words
+    → AreCoins seed ((first + 64 * part) % 2 ^ 64) group 64 coins → AreCoinsOfParts seed first group (part + 1) (set words part coins)
+part-next seed first group part words coins lt made here p small = by_order (cases_order p part)
+  where
+    by_order : (p ≡ part) ⊎ ((p < part) ⊎ (part < p)) → AreCoins seed ((first + 64 * p) % 2 ^ 64) group 64 (get_or (set words part coins) p [])
+    by_order (inl e) =
+        subst (λ i. AreCoins seed ((first + 64 * i) % 2 ^ 64) group 64 (get_or (set words part coins) i [])) (sym e)
+        (subst (AreCoins seed ((first + 64 * part) % 2 ^ 64) group 64) (sym (get_or-set_same words part coins [] lt)) here)
+    by_order (inr (inl before)) =
+        subst (AreCoins seed ((first + 64 * p) % 2 ^ 64) group 64) (sym (get_or-set_other words part p coins [] (λ e. absurd (omega (arith, e, before))))) (made p before)
+    by_order (inr (inr behind)) = absurd (omega (arith, small, behind))
+
+pub part-begins : (first part : ℕ) → (first + part * 64 % 18446744073709551616) % 18446744073709551616 ≡ (first + 64 * part) % 18446744073709551616
+part-begins first part = omega arith

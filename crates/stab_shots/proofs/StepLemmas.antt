@@ -1,6 +1,6 @@
 -- Steps of lanes: what a step makes of a program's state, and of one that is turned by the string of a lane.
 use Rattle.std.proofs.lemmas.List.{length-append}
-use Rattle.std.proofs.Common.{◌≡◌, ℕ, ◌+◌, ◌<◌, refl, sym, ◌∙◌, ap, subst, Bool, true, false, ◌&&◌, List, [], ◌∷◌, ◌++◌, append-nil, length}
+use Rattle.std.proofs.Common.{◌≡◌, ℕ, ◌+◌, ◌<◌, refl, sym, ◌∙◌, ap, Bool, true, false, ◌&&◌, List, [], ◌∷◌, ◌++◌, append-nil, length}
 use Rattle.std.specs.Prelude.{None, Some, if◌then◌else◌}
 use Rattle.stab_pauli.specs.declared.letter.Letter.{Letter}
 use Rattle.stab_pauli.specs.Letters.{◌⊕◌}
@@ -157,31 +157,28 @@ module _ (n : ℕ) (u : Signed → Bool) (group : IsStabiliserGroup n u) (f s : 
       sym (measured-turned n f u v h group m lm None coin (λ _. sym e) o r lr)
       ∙ ap (λ x. projected_by v m (x ⊕ o) r) (sym is_apart)
 
--- each step, from the state of a lane to the next
+-- each gate, from the state of a lane to the next
 
-module _ (n : ℕ) (coins : ℕ → Bool) (x : Step) (u now : Signed → Bool) (f h : List Letter) (size : length f ≡ n) (old new : RunOutput) where
+module _ (n : ℕ) (coins : ℕ → Bool) (u now : Signed → Bool) (f h : List Letter) (size : length f ≡ n) (old new : RunOutput) where
   abbrev pub from : ProgramState
   from = record { stabilised = turned f u; output = old }
 
   abbrev pub to : ProgramState
   to = record { stabilised = turned h now; output = new }
 
-  pub lane-one : (g : Gate) (q : ℕ) → x ≡ one g q → ((p : Signed) → length p.letters ≡ n → now p ≡ u (back g q p)) → h ≡ (image g q (plus f)).letters
-      → new ≡ old → IsRun n coins (x ∷ []) from to
-  lane-one g q is members letters output =
-      subst (λ y. IsRun n coins (y ∷ []) from to) (sym is) (run-one n coins from to g q (turned-one n f size u now g q h members letters) output)
+  pub lane-one : (g : Gate) (q : ℕ) → ((p : Signed) → length p.letters ≡ n → now p ≡ u (back g q p)) → h ≡ (image g q (plus f)).letters
+      → new ≡ old → IsRun n coins (one g q ∷ []) from to
+  lane-one g q members letters output = run-one n coins from to g q (turned-one n f size u now g q h members letters) output
 
-  pub lane-two : (g : PairGate) (i j : ℕ) → x ≡ two g i j → (i < n) × (j < n) × (j ≡ i → ⊥) → ((p : Signed) → length p.letters ≡ n → now p ≡ u (back_pair g i j p))
-      → h ≡ (image_pair g i j (plus f)).letters → new ≡ old → IsRun n coins (x ∷ []) from to
-  lane-two g i j is fits members letters output =
-      subst (λ y. IsRun n coins (y ∷ []) from to) (sym is) (run-two n coins from to g i j fits (turned-two n f size u now g i j fits h members letters) output)
+  pub lane-two : (g : PairGate) (i j : ℕ) → (i < n) × (j < n) × (j ≡ i → ⊥) → ((p : Signed) → length p.letters ≡ n → now p ≡ u (back_pair g i j p))
+      → h ≡ (image_pair g i j (plus f)).letters → new ≡ old → IsRun n coins (two g i j ∷ []) from to
+  lane-two g i j fits members letters output = run-two n coins from to g i j fits (turned-two n f size u now g i j fits h members letters) output
 
-  pub lane-controlled : (l : Letter) (k q : ℕ) → x ≡ controlled l k q → q < n → (bit : Bool) → bit ≡ looked_up old.records k
-      → ((p : Signed) → length p.letters ≡ n → now p ≡ u p) → h ≡ times_where bit (single n q l).letters f → new ≡ old → IsRun n coins (x ∷ []) from to
-  lane-controlled l k q is lt bit bit_is same letters output =
-      subst (λ y. IsRun n coins (y ∷ []) from to) (sym is)
-      (run-controlled n coins from to l k q bit bit_is
-      (λ r lr. same (with_sign (strings_anticommute h r.letters) r) lr ∙ turned-letter n l q lt bit f h u letters r lr) output)
+  pub lane-controlled : (l : Letter) (k q : ℕ) → q < n → (bit : Bool) → bit ≡ looked_up old.records k
+      → ((p : Signed) → length p.letters ≡ n → now p ≡ u p) → h ≡ times_where bit (single n q l).letters f → new ≡ old → IsRun n coins (controlled l k q ∷ []) from to
+  lane-controlled l k q lt bit bit_is same letters output =
+      run-controlled n coins from to l k q bit bit_is
+      (λ r lr. same (with_sign (strings_anticommute h r.letters) r) lr ∙ turned-letter n l q lt bit f h u letters r lr) output
 
 -- a measurement in a lane
 

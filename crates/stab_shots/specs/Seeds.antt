@@ -1,6 +1,6 @@
 -- Seeds: the coins of so many shots of a seed, as words.
 -- Source: this project's own.
-use Rattle.std.specs.Prelude.{◌≡◌, ℕ, ◌+◌, ◌*◌, ◌%◌, ◌^◌, ◌<◌, Bool, List, slice_index_or}
+use Rattle.std.specs.Prelude.{◌≡◌, ℕ, ◌+◌, ◌*◌, ◌%◌, ◌^◌, ◌<◌, Bool, List, [], slice_index_or}
 use Rattle.stab_run.specs.Coins.{seed_coin}
 use Rattle.stab_shots.specs.Words.{word_bit}
 
@@ -13,11 +13,11 @@ pub record SeededLanes : Type 0 where
 abbrev pub lane_coin : SeededLanes → (l t : ℕ) → Bool
 lane_coin c l t = seed_coin c.seed ((c.first + l) % 2 ^ 64) t
 
--- the shots of one begin so many behind those of another
-abbrev pub BeginBehind : (places : ℕ) → SeededLanes → SeededLanes → Type 0
-BeginBehind places back front = (l t : ℕ) → lane_coin back l t ≡ lane_coin front (places + l) t
-
 -- bit l of word k is coin 64 g + k of the shot l behind the first
 abbrev pub AreCoins : ℕ → ℕ → ℕ → ℕ → List ℕ → Type 0
 AreCoins seed first group lanes words =
     (k l : ℕ) → k < 64 → l < lanes → word_bit (slice_index_or words k 0) l ≡ seed_coin seed ((first + l) % 2 ^ 64) (64 * group + k)
+
+-- so it is of each of some parts, whose 64 shots lie one behind another
+abbrev pub AreCoinsOfParts : ℕ → ℕ → ℕ → ℕ → List (List ℕ) → Type 0
+AreCoinsOfParts seed first group parts words = (p : ℕ) → p < parts → AreCoins seed ((first + 64 * p) % 2 ^ 64) group 64 (slice_index_or words p [])

@@ -69,10 +69,11 @@ impl<W: Word> Frames<W> {
         ensures value { (l : ℕ) → l < W.lanes → W.at result l ≡ strings_anticommute (lane_letters W.at l self.now.letters.items) string.now.letters }
     {
         let mut anticommuting = W::all(false);
-        for qubit in 0..self.letters.len() {
-            anticommuting = anticommuting.xor(self.letters[qubit].anticommuting(string.letter(
-                qubit,
-            )));
+        let mut qubit = string.next_letter(0);
+        while qubit < self.letters.len() {
+            let here = self.letters[qubit].anticommuting(string.letter(qubit));
+            anticommuting = anticommuting.xor(here);
+            qubit = string.next_letter(qubit + 1);
         }
         anticommuting
     }
@@ -92,8 +93,10 @@ impl<W: Word> Frames<W> {
         ensures size { length self.new.letters.items ≡ length self.old.letters.items }
         ensures letters { (l : ℕ) → l < W.lanes → lane_letters W.at l self.new.letters.items ≡ times_where (W.at lanes l) string.now.letters (lane_letters W.at l self.old.letters.items) }
     {
-        for qubit in 0..self.letters.len() {
+        let mut qubit = string.next_letter(0);
+        while qubit < self.letters.len() {
             self.letters[qubit] = self.letters[qubit].times(string.letter(qubit), lanes);
+            qubit = string.next_letter(qubit + 1);
         }
     }
 }

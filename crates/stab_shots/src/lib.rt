@@ -11,7 +11,9 @@
 //! - `repeated`: lists of so many times the same value.
 //! - `frames`: a Pauli string for each lane.
 //! - `lanes`: what each lane has given so far.
+//! - `gates`: gates, on a tableau and all lanes.
 //! - `step`: one step, on a tableau and all lanes.
+//! - `steps`: the steps of one instruction.
 //! - `run`: all steps of a circuit.
 //! - `coins`, `seeds`, `wide_seeds`: the coins of all lanes, and those of 64 or 256 shots of a seed.
 //! - `squares`: the bits of lanes as bytes, for eight lanes at a time.
@@ -25,6 +27,7 @@
 
 mod coins;
 mod frames;
+mod gates;
 mod lanes;
 mod letters;
 mod repeated;
@@ -33,6 +36,7 @@ mod seeds;
 mod shots;
 mod squares;
 mod step;
+mod steps;
 mod wide;
 mod wide_seeds;
 mod word;

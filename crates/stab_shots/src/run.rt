@@ -4,12 +4,15 @@ ghost use Rattle.stab_shots.specs.LaneRules.{lane_state};
 
 use crate::coins::LaneCoins;
 use crate::lanes::Lanes;
-use crate::step::apply_step;
+use crate::steps::apply_steps;
 use crate::word::Word;
 use stab_circuit::Cursor;
 use stab_pauli::Pauli;
 use stab_tableau::Tableau;
 use std::alloc::AllocError;
+
+/// How many steps go together at most: as many as one instruction has.
+const MOST_TOGETHER: usize = usize::MAX;
 
 /// Carries out the steps that a cursor has left, on a tableau and all lanes. The two strings are for
 /// products and for stabilisers to be written into.
@@ -29,8 +32,8 @@ pub fn run_steps<W: Word, C: LaneCoins<W>>(
     ensures same_coins { C.sequences coins.new ≡ C.sequences coins.old }
     ensures run { OnOk result ((l : ℕ) → l < W.lanes → IsRun tableau.old.qubits (C.sequences coins.old l) cursor.old.left (lane_state W.at l tableau.old lanes.old) (lane_state W.at l tableau.new lanes.new)) }
 {
-    while let Some(step) = cursor.next() {
-        apply_step(tableau, string, exchange, coins, lanes, step)?;
+    while let Some(steps) = cursor.next_steps(MOST_TOGETHER) {
+        apply_steps(tableau, string, exchange, coins, lanes, steps)?;
     }
     Ok(())
 }

@@ -68,7 +68,7 @@ impl LaneCoins<u64> for SeedLanes {
 }
 
 /// The 64 coins from 64 times the group's number on, of 64 shots.
-fn coins_of_group(seed: u64, first: u64, group: u64) -> [u64; 64]
+pub fn coins_of_group(seed: u64, first: u64, group: u64) -> [u64; 64]
     requires small { group < 2 ^ 58 }
     ensures each { AreCoins seed first group 64 result }
 {

@@ -13,7 +13,8 @@ ghost use Rattle.stab_shots.specs.LaneRules.{lane_state, decided_bit, decided_le
 
 use crate::coins::LaneCoins;
 use crate::frames::Frames;
-use crate::lanes::{Lanes, Sum, looked_up, parity};
+use crate::gates::{apply_gate, apply_pair_gate, apply_where};
+use crate::lanes::{Lanes, Sum, parity};
 use crate::word::Word;
 use stab_circuit::{Factor, Step};
 use stab_pauli::{Letter, Pauli};
@@ -219,16 +220,13 @@ pub fn apply_step<W: Word, C: LaneCoins<W>>(
 {
     match step {
         Step::One(gate, qubit) => {
-            tableau.apply(gate, qubit);
-            lanes.frames.apply(gate, qubit);
+            apply_gate(tableau, lanes, gate, qubit);
         }
         Step::Two(gate, first, second) => {
-            tableau.apply_pair(gate, first, second);
-            lanes.frames.apply_pair(gate, first, second);
+            apply_pair_gate(tableau, lanes, gate, first, second);
         }
         Step::Controlled(letter, k, qubit) => {
-            let controls = looked_up(lanes.records.as_slice(), k);
-            lanes.frames.multiply_letter(letter, qubit, controls);
+            apply_where(lanes, letter, k, qubit);
         }
         Step::Collapse {
             letter,

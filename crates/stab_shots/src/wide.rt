@@ -1,40 +1,41 @@
-ghost use Rattle.std.specs.Prelude.{◌≡◌, refl, ℕ, ◌<◌};
+ghost use Rattle.std.specs.Prelude.{◌≡◌, ℕ, ◌*◌};
 ghost use Rattle.stab_shots.specs.Words.{wide_bit};
+ghost use Rattle.std.proofs.Math.Nat.{mul-mod_right};
 
 use crate::word::Word;
 
-/// The bits of 256 lanes: that of lane l is bit l % 64 of word l / 64.
+/// The bits of 64 * N lanes: that of lane l is bit l % 64 of word l / 64.
 #[derive(Clone, Copy)]
-pub struct Wide {
-    words: [u64; 4],
+pub struct Wide<const N: usize> {
+    words: [u64; N],
 }
 
-impl Wide {
-    /// The bits of 256 lanes, of which each word has 64.
-    pub(crate) fn new(words: [u64; 4]) -> Wide
-        ensures value { result.words ≡ words }
+impl<const N: usize> Wide<N> {
+    /// The bits of 64 * N lanes, of which each word has 64.
+    pub(crate) fn new(words: [u64; N]) -> Wide<N>
+        ensures value { result.words ≡ words.entry }
     {
         Wide { words }
     }
 }
 
-impl Word for Wide {
+impl<const N: usize> Word for Wide<N> {
     ghost at = { λ w. wide_bit w.words };
 
-    ghost lanes = { 256 };
+    ghost lanes = { 64 * N };
 
-    fn all(bit: bool) -> Wide {
+    fn all(bit: bool) -> Wide<N> {
         Wide {
-            words: [u64::all(bit); 4],
+            words: [u64::all(bit); N],
         }
     }
 
-    fn xor(self, other: Wide) -> Wide {
-        let [a, b, c, d] = self.words;
-        let [e, f, g, h] = other.words;
-        Wide {
-            words: [a ^ e, b ^ f, c ^ g, d ^ h],
+    fn xor(self, other: Wide<N>) -> Wide<N> {
+        let mut words = self.words;
+        for k in 0..N {
+            words[k] ^= other.words[k];
         }
+        Wide { words }
     }
 
     fn bit(self, lane: usize) -> bool {
@@ -45,5 +46,5 @@ impl Word for Wide {
         self.words[place]
     }
 
-    ghost in_parts = { refl };
+    ghost in_parts = { mul-mod_right 64 N };
 }

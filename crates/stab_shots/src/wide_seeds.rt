@@ -1,64 +1,93 @@
-ghost use Rattle.std.specs.Prelude.{◌≡◌, ℕ};
-ghost use Rattle.stab_shots.specs.Seeds.{SeededLanes, lane_coin, BeginBehind};
+ghost use Rattle.std.specs.Prelude.{◌≡◌, ℕ, ◌*◌, ◌<◌, ◌^◌, [], slice_index_or};
+ghost use Rattle.std.specs.Option.{ForSome};
+ghost use Rattle.stab_shots.specs.Seeds.{SeededLanes, lane_coin, AreCoinsOfParts};
 
 use crate::coins::LaneCoins;
-use crate::seeds::SeedLanes;
+use crate::seeds::coins_of_group;
 use crate::wide::Wide;
 use std::marker::Model;
 
-/// The coins of 256 shots of a seed, numbered one after another from a first one on. Contracts see the seed and the first
+/// The coins of 64 * N shots of a seed, numbered one after another from a first one on. Contracts see the seed and the first
 /// shot.
-pub struct WideSeedLanes {
-    // Each has 64 of the shots.
-    first: SeedLanes,
-    second: SeedLanes,
-    third: SeedLanes,
-    fourth: SeedLanes,
+///
+/// Coins are made 64 at a time, and the last 64 are kept.
+pub struct WideSeedLanes<const N: usize> {
+    seed: u64,
+    first: u64,
+    // The last 64 coins begin at 64 times this number.
+    group: Option<u64>,
+    // Those of each 64 of the shots.
+    parts: [[u64; 64]; N],
 }
 
 // Written out, so that to a proof a value that is let go is one call, and not one for each of its parts.
-impl Drop for WideSeedLanes {
+impl<const N: usize> Drop for WideSeedLanes<N> {
     fn drop(self) {
         let WideSeedLanes {
+            seed: _,
             first: _,
-            second: _,
-            third: _,
-            fourth: _,
+            group: _,
+            parts: _,
         } = self;
     }
 }
 
-impl Model for WideSeedLanes {
+impl<const N: usize> Model for WideSeedLanes<N> {
     ghost Value = { SeededLanes };
 
-    ghost view = { λ c. c.first };
+    ghost view = { λ c. record { seed = c.seed; first = c.first } };
 
-    ghost invariant = { λ c. BeginBehind 64 c.second c.first × BeginBehind 128 c.third c.first × BeginBehind 192 c.fourth c.first };
+    ghost invariant = { λ c. ForSome c.group (λ group. AreCoinsOfParts c.seed c.first group N c.parts) };
 }
 
-impl WideSeedLanes {
-    /// The coins of 256 shots under a seed. Nothing is made yet.
-    pub fn new(seed: u64, first: u64) -> WideSeedLanes
+impl<const N: usize> WideSeedLanes<N> {
+    /// The coins of 64 * N shots under a seed. Nothing is made yet.
+    pub fn new(seed: u64, first: u64) -> WideSeedLanes<N>
         ensures value { result ≡ record { seed = seed; first = first } }
     {
         WideSeedLanes {
-            first: SeedLanes::new(seed, first),
-            second: SeedLanes::new(seed, first.wrapping_add(64)),
-            third: SeedLanes::new(seed, first.wrapping_add(128)),
-            fourth: SeedLanes::new(seed, first.wrapping_add(192)),
+            seed,
+            first,
+            group: None,
+            parts: [[0; 64]; N],
         }
     }
 }
 
-impl LaneCoins<Wide> for WideSeedLanes {
+impl<const N: usize> LaneCoins<Wide<N>> for WideSeedLanes<N> {
     ghost sequences = { lane_coin };
 
-    fn coins(&mut self, t: u64) -> Wide {
-        Wide::new([
-            self.first.coins(t),
-            self.second.coins(t),
-            self.third.coins(t),
-            self.fourth.coins(t),
-        ])
+    fn coins(&mut self, t: u64) -> Wide<N> {
+        let group = t / 64;
+        if self.group != Some(group) {
+            self.parts = coins_of_parts(self.seed, self.first, group);
+            self.group = Some(group);
+        }
+        Wide::new(coins_at(&self.parts, (t % 64) as usize))
     }
+}
+
+/// The 64 coins from 64 times the group's number on, of 64 shots for each part.
+fn coins_of_parts<const N: usize>(seed: u64, first: u64, group: u64) -> [[u64; 64]; N]
+    requires small { group < 2 ^ 58 }
+    ensures each { AreCoinsOfParts seed first group N result }
+{
+    let mut parts = [[0; 64]; N];
+    for part in 0..N {
+        let shot = first.wrapping_add((part as u64).wrapping_mul(64));
+        parts[part] = coins_of_group(seed, shot, group);
+    }
+    parts
+}
+
+/// The coins at a place among the 64 of each part.
+fn coins_at<const N: usize>(parts: &[[u64; 64]; N], place: usize) -> [u64; N]
+    requires in_range { place < 64 }
+    ensures value { (p : ℕ) → p < N → slice_index_or result p 0 ≡ slice_index_or (slice_index_or parts.now p []) place 0 }
+{
+    let mut words = [0; N];
+    for part in 0..N {
+        words[part] = parts[part][place];
+    }
+    words
 }

@@ -27,12 +27,3 @@ returns-then-shots-le64 g c = record {
       c.send_batch.ensures.sends c.args.first run
       (λ l less. ap run (sym (no_wrap c.args.first c.args.shots l c.requires.in_range less)) ∙ ap (λ s. run_of (qubits_of items) (lane_coin s l) items) (sym c.new-coins-then-shots-le64.ensures.value));
 }
-
-pub returns-else-shots-le64 : goal.returns-else-shots-le64
-returns-else-shots-le64 g c = record {
-  sends =
-      let items = circuit_items c.args.circuit.now in
-      let run : ℕ → State = λ shot. run_of (qubits_of items) (seed_coin c.args.seed shot) items in
-      c.send_batch-else-shots-le64.ensures.sends c.args.first run
-      (λ l less. ap run (sym (no_wrap c.args.first c.args.shots l c.requires.in_range less)) ∙ ap (λ s. run_of (qubits_of items) (lane_coin s l) items) (sym c.new-coins-else-shots-le64.ensures.value));
-}

@@ -3,8 +3,8 @@ use Rattle.stab_run.specs.ProgramStates.{ProgramState, StepFits, IsRun}
 use Rattle.stab_shots.specs.LaneRules.{lane_state}
 use Rattle.stab_shots.proofs.run.run_steps.Given as goal
 
-abbrev pub invariant-loop-step : goal.invariant-loop-step
-invariant-loop-step g l = record {
+abbrev pub invariant-loop-steps : goal.invariant-loop-steps
+invariant-loop-steps g l = record {
   fits : All (StepFits l.tableau.qubits) l.cursor.left;
   qubits : l.tableau.qubits ≡ l.initial.tableau.qubits;
   string : length l.string.letters ≡ l.tableau.qubits;
@@ -16,5 +16,5 @@ invariant-loop-step g l = record {
       → IsRun l.initial.tableau.qubits (g.C.LaneCoins.sequences l.initial.coins j) l.initial.cursor.left (lane_state g.W.Word.at j l.initial.tableau l.initial.lanes) new;
 }
 
-abbrev pub decreases-loop-step : goal.decreases-loop-step
-decreases-loop-step g l = length l.cursor.left
+abbrev pub decreases-loop-steps : goal.decreases-loop-steps
+decreases-loop-steps g l = length l.cursor.left

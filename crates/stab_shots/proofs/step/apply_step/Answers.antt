@@ -1,47 +1,41 @@
-use Rattle.std.proofs.Common.{rules, true, ◌&&◌, refl, ◌∙◌, ap}
-use Rattle.std.proofs.lemmas.List.{length-map}
+use Rattle.std.proofs.Common.{rules, true, ◌&&◌, refl, sym, subst, ◌∙◌, ap, ◌∷◌, []}
 use Rattle.stab_pauli.specs.Letters.{◌⊕◌}
 use Rattle.stab_pauli.specs.Paulis.{single}
 use Rattle.stab_tableau.specs.Tableaus.{stabilises}
 use Rattle.stab_circuit.specs.Cursors.{step_shown}
 use Rattle.stab_frames.specs.Frames.{times_where}
+use Rattle.stab_circuit.specs.Steps.{controlled}
 use Rattle.stab_run.specs.Runs.{flip_of, string_of}
-use Rattle.stab_shots.specs.Lanes.{letter_in, lane_letters, lane_bits, lane_output}
+use Rattle.stab_run.specs.ProgramStates.{IsRun}
+use Rattle.stab_shots.specs.Lanes.{lane_letters, lane_bits, lane_output}
 use Rattle.stab_shots.specs.LaneRules.{lane_state}
 use Rattle.stab_shots.proofs.LaneLemmas.{bits-when}
-use Rattle.stab_shots.proofs.StepLemmas.{lane-one, lane-two, lane-controlled, turned-letter, measured-collapse, measured-product}
+use Rattle.stab_shots.proofs.StepLemmas.{turned-letter, measured-collapse, measured-product}
 use Rattle.stab_shots.proofs.step.apply_step.Goals as goal
 
 pub returns-in-One-clause-run : goal.returns-in-One-clause-run
 returns-in-One-clause-run g c = λ l lt.
-    let frames = c.args.lanes.now.frames.letters.items in
-    lane-one c.args.tableau.now.qubits (g.C.LaneCoins.sequences c.args.coins.now l) (step_shown c.args.step)
-    (stabilises c.args.tableau.now) (stabilises c.apply.new.self)
-    (lane_letters g.W.Word.at l frames) (lane_letters g.W.Word.at l c.apply-in-One.new.self.letters.items)
-    (length-map frames (letter_in g.W.Word.at l) ∙ c.requires.frames) (lane_output g.W.Word.at l c.args.lanes.now) _
-    c.in-One.gate c.in-One.qubit (ap step_shown c.in-One.is) c.apply.ensures.members (c.apply-in-One.ensures.letters l lt) refl
+    let at = g.W.Word.at in
+    let coins = g.C.LaneCoins.sequences c.args.coins.now l in
+    subst (λ x. IsRun c.args.tableau.now.qubits coins (x ∷ []) (lane_state at l c.args.tableau.now c.args.lanes.now) (lane_state at l c.apply_gate.new.tableau c.apply_gate.new.lanes))
+    (sym (ap step_shown c.in-One.is)) (c.apply_gate.ensures.run l lt coins)
 
 pub returns-in-Two-clause-run : goal.returns-in-Two-clause-run
 returns-in-Two-clause-run g c = λ l lt.
-    let frames = c.args.lanes.now.frames.letters.items in
-    lane-two c.args.tableau.now.qubits (g.C.LaneCoins.sequences c.args.coins.now l) (step_shown c.args.step)
-    (stabilises c.args.tableau.now) (stabilises c.apply_pair.new.self)
-    (lane_letters g.W.Word.at l frames) (lane_letters g.W.Word.at l c.apply_pair-in-Two.new.self.letters.items)
-    (length-map frames (letter_in g.W.Word.at l) ∙ c.requires.frames) (lane_output g.W.Word.at l c.args.lanes.now) _
-    c.in-Two.gate c.in-Two.first c.in-Two.second (ap step_shown c.in-Two.is) (search rules) c.apply_pair.ensures.members (c.apply_pair-in-Two.ensures.letters l lt) refl
+    let at = g.W.Word.at in
+    let coins = g.C.LaneCoins.sequences c.args.coins.now l in
+    subst (λ x. IsRun c.args.tableau.now.qubits coins (x ∷ []) (lane_state at l c.args.tableau.now c.args.lanes.now) (lane_state at l c.apply_pair_gate.new.tableau c.apply_pair_gate.new.lanes))
+    (sym (ap step_shown c.in-Two.is)) (c.apply_pair_gate.ensures.run l lt coins)
 
 pub returns-in-Controlled-clause-run : goal.returns-in-Controlled-clause-run
 returns-in-Controlled-clause-run g c = λ l lt.
-    let frames = c.args.lanes.now.frames.letters.items in
-    lane-controlled c.args.tableau.now.qubits (g.C.LaneCoins.sequences c.args.coins.now l) (step_shown c.args.step)
-    (stabilises c.args.tableau.now) (stabilises c.args.tableau.now)
-    (lane_letters g.W.Word.at l frames) (lane_letters g.W.Word.at l c.multiply_letter.new.self.letters.items)
-    (length-map frames (letter_in g.W.Word.at l) ∙ c.requires.frames) (lane_output g.W.Word.at l c.args.lanes.now) _
-    c.in-Controlled.letter c.in-Controlled.k c.in-Controlled.qubit (ap step_shown c.in-Controlled.is) (search rules)
-    (g.W.Word.at c.looked_up-controls.result l) (search rules) (λ p lp. refl)
-    (c.multiply_letter.ensures.letters l lt
-    ∙ ap (λ n. times_where (g.W.Word.at c.looked_up-controls.result l) (single n c.in-Controlled.qubit c.in-Controlled.letter).letters (lane_letters g.W.Word.at l frames)) c.requires.frames)
-    refl
+    let at = g.W.Word.at in
+    let coins = g.C.LaneCoins.sequences c.args.coins.now l in
+    let old = lane_state at l c.args.tableau.now c.args.lanes.now in
+    let new = lane_state at l c.args.tableau.now c.apply_where.new.lanes in
+    subst (λ x. IsRun c.args.tableau.now.qubits coins (x ∷ []) old new) (sym (ap step_shown c.in-Controlled.is))
+    (subst (λ n. IsRun n coins (controlled c.in-Controlled.letter c.in-Controlled.k c.in-Controlled.qubit ∷ []) old new) c.requires.frames
+    (c.apply_where.ensures.run l lt coins c.args.tableau.now))
 
 pub returns-in_ok-push_when-in-Collapse-clause-run : goal.returns-in_ok-push_when-in-Collapse-clause-run
 returns-in_ok-push_when-in-Collapse-clause-run g c = λ l lt.
