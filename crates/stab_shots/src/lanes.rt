@@ -29,17 +29,26 @@ pub struct Lanes<W> {
 }
 
 impl<W: Word> Lanes<W> {
-    /// Lanes that are all as a tableau on n qubits, with room for so many records.
-    pub fn new(alloc: Global, n: usize, records: usize) -> Result<Lanes<W>, AllocError>
+    /// Lanes that are all as a tableau on n qubits and have given nothing, with the memory of lists for what they give.
+    pub fn new(
+        alloc: Global,
+        n: usize,
+        mut records: Vec<W>,
+        mut free: Vec<bool>,
+        mut detectors: Vec<W>,
+    ) -> Result<Lanes<W>, AllocError>
         ensures qubits { IfOk result (λ s. length s.frames.letters.items ≡ n) }
         ensures letters { IfOk result (λ s. (l : ℕ) → l < W.lanes → lane_letters W.at l s.frames.letters.items ≡ replicate n Rattle.stab_pauli.specs.declared.letter.Letter.TheVariants.I) }
         ensures output { IfOk result (λ s. (l : ℕ) → l < W.lanes → lane_output W.at l s ≡ nothing) }
     {
+        records.clear();
+        free.clear();
+        detectors.clear();
         Ok(Lanes {
             frames: Frames::blank(alloc, n)?,
-            records: Vec::with_capacity(alloc, records)?,
-            free: Vec::with_capacity(alloc, records)?,
-            detectors: Vec::new(alloc),
+            records,
+            free,
+            detectors,
             sums: Vec::new(alloc),
         })
     }

@@ -40,11 +40,10 @@ impl Model for SeedLanes {
     ghost invariant = { λ c. ForSome c.group (λ group. AreCoins c.seed c.first group 64 c.words) };
 }
 
-impl SeedLanes {
-    /// The coins of 64 shots under a seed. Nothing is made yet.
-    pub fn new(seed: u64, first: u64) -> SeedLanes
-        ensures value { result ≡ record { seed = seed; first = first } }
-    {
+impl LaneCoins<u64> for SeedLanes {
+    ghost sequences = { lane_coin };
+
+    fn of_seed(seed: u64, first: u64) -> SeedLanes {
         SeedLanes {
             seed,
             first,
@@ -52,10 +51,6 @@ impl SeedLanes {
             words: [0; 64],
         }
     }
-}
-
-impl LaneCoins<u64> for SeedLanes {
-    ghost sequences = { lane_coin };
 
     fn coins(&mut self, t: u64) -> u64 {
         let group = t / 64;

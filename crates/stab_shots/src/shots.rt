@@ -1,9 +1,12 @@
-ghost use Rattle.std.specs.Prelude.{◌≡◌, ℕ, ◌<◌, ◌≤◌, None, IfOk, IfErr};
+ghost use Rattle.std.specs.Prelude.{◌≡◌, ℕ, ◌<◌, ◌≤◌, None, length, replicate, IfOk, OnOk, IfErr};
+ghost use Rattle.stab_pauli.specs.declared.letter.Letter.TheVariants;
 ghost use Rattle.stab_io.specs.declared.refusal.Refusal.TheVariants.{OutOfMemory};
 ghost use Rattle.stab_io.specs.Refusals.{Refuses};
 ghost use Rattle.stab_tableau.specs.Limits.{most_qubits};
 ghost use Rattle.stab_circuit.specs.Steps.{check_within};
 ghost use Rattle.stab_circuit.specs.Views.{circuit_items};
+ghost use Rattle.stab_run.specs.Points.{nothing};
+ghost use Rattle.stab_shots.specs.Lanes.{lane_letters, lane_output};
 ghost use Rattle.stab_shots.specs.Shots.{AreRuns};
 
 use crate::coins::LaneCoins;
@@ -14,7 +17,8 @@ use stab_circuit::{Circuit, Cursor};
 use stab_io::{Fault, Refusal};
 use stab_pauli::Pauli;
 use stab_tableau::Tableau;
-use std::alloc::Global;
+use std::alloc::{AllocError, Global};
+use std::mem;
 
 /// What so many shots give, one in each lane: each list has a word for each bit that a shot gives.
 #[derive(Drop)]
@@ -29,16 +33,42 @@ pub struct Shots<W> {
     pub observables: Vec<W>,
 }
 
+impl<W: Word> Shots<W> {
+    /// Nothing yet, with room for so many records.
+    pub fn with_room(alloc: Global, records: usize) -> Result<Shots<W>, AllocError> {
+        Ok(Shots {
+            records: Vec::with_capacity(alloc, records)?,
+            free: Vec::with_capacity(alloc, records)?,
+            detectors: Vec::new(alloc),
+            observables: Vec::new(alloc),
+        })
+    }
+
+    /// Lanes that are all as a tableau on n qubits and have given nothing, with the memory of these lists, which are
+    /// empty then.
+    fn lanes(&mut self, alloc: Global, n: usize) -> Result<Lanes<W>, AllocError>
+        ensures qubits { IfOk result (λ s. length s.frames.letters.items ≡ n) }
+        ensures letters { IfOk result (λ s. (l : ℕ) → l < W.lanes → lane_letters W.at l s.frames.letters.items ≡ replicate n TheVariants.I) }
+        ensures output { IfOk result (λ s. (l : ℕ) → l < W.lanes → lane_output W.at l s ≡ nothing) }
+    {
+        let records = mem::replace(&mut self.records, Vec::new(alloc));
+        let free = mem::replace(&mut self.free, Vec::new(alloc));
+        let detectors = mem::replace(&mut self.detectors, Vec::new(alloc));
+        Lanes::new(alloc, n, records, free, detectors)
+    }
+}
+
 /// Runs a circuit that nothing refuses once in each lane, with the coins of the lane.
 fn run_checked<W: Word, C: LaneCoins<W>>(
     alloc: Global,
     circuit: &Circuit,
     n: usize,
     coins: &mut C,
-) -> Result<Shots<W>, Refusal>
+    shots: &mut Shots<W>,
+) -> Result<(), Refusal>
     requires in_range { n ≤ most_qubits }
     requires checked { check_within n (circuit_items circuit.now) ≡ None }
-    ensures runs { IfOk result (λ s. (l : ℕ) → l < W.lanes → AreRuns W.at l n (C.sequences coins.old l) (circuit_items circuit.now) s) }
+    ensures runs { OnOk result ((l : ℕ) → l < W.lanes → AreRuns W.at l n (C.sequences coins.old l) (circuit_items circuit.now) shots.new) }
     ensures same_coins { C.sequences coins.new ≡ C.sequences coins.old }
     ensures err { IfErr result (λ r. r ≡ OutOfMemory) }
 {
@@ -46,7 +76,7 @@ fn run_checked<W: Word, C: LaneCoins<W>>(
     let mut string = Pauli::identity(alloc, n)?;
     let mut exchange = Pauli::identity(alloc, n)?;
     let mut cursor = Cursor::at(alloc, circuit, 0)?;
-    let mut lanes = Lanes::new(alloc, n, circuit.records())?;
+    let mut lanes = shots.lanes(alloc, n)?;
     run_steps(
         &mut tableau,
         &mut string,
@@ -63,30 +93,33 @@ fn run_checked<W: Word, C: LaneCoins<W>>(
         sums,
     } = lanes;
     let observables = observables(alloc, circuit.observables(), sums.as_slice())?;
-    Ok(Shots {
+    *shots = Shots {
         records,
         free,
         detectors,
         observables,
-    })
+    };
+    Ok(())
 }
 
-/// Runs a circuit on n qubits, at most 1,024, once in each lane, with the coins of the lane.
+/// Runs a circuit on n qubits, at most 1,024, once in each lane, with the coins of the lane, and puts what the shots give in
+/// place of what the lists had. Their memory serves again, so that many such runs need little that is fresh.
 ///
 /// Each lane is the run that `stab_run::run_once` makes with these coins. The tableau goes through the
 /// circuit once, however many lanes there are. Refused as `Circuit::check` refuses, else `OutOfMemory`,
-/// always with line 0.
+/// always with line 0; nothing is said of the lists then.
 pub fn run_lanes<W: Word, C: LaneCoins<W>>(
     alloc: Global,
     circuit: &Circuit,
     n: usize,
     coins: &mut C,
-) -> Result<Shots<W>, Fault>
+    shots: &mut Shots<W>,
+) -> Result<(), Fault>
     requires in_range { n ≤ most_qubits }
-    ensures runs { IfOk result (λ s. (l : ℕ) → l < W.lanes → AreRuns W.at l n (C.sequences coins.old l) (circuit_items circuit.now) s) }
+    ensures runs { OnOk result ((l : ℕ) → l < W.lanes → AreRuns W.at l n (C.sequences coins.old l) (circuit_items circuit.now) shots.new) }
     ensures same_coins { C.sequences coins.new ≡ C.sequences coins.old }
     ensures refused { Refuses result (check_within n (circuit_items circuit.now)) }
 {
     circuit.check(n)?;
-    run_checked(alloc, circuit, n, coins).map_err(Fault::whole)
+    run_checked(alloc, circuit, n, coins, shots).map_err(Fault::whole)
 }

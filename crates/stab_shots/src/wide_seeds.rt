@@ -40,11 +40,10 @@ impl<const N: usize> Model for WideSeedLanes<N> {
     ghost invariant = { λ c. ForSome c.group (λ group. AreCoinsOfParts c.seed c.first group N c.parts) };
 }
 
-impl<const N: usize> WideSeedLanes<N> {
-    /// The coins of 64 * N shots under a seed. Nothing is made yet.
-    pub fn new(seed: u64, first: u64) -> WideSeedLanes<N>
-        ensures value { result ≡ record { seed = seed; first = first } }
-    {
+impl<const N: usize> LaneCoins<Wide<N>> for WideSeedLanes<N> {
+    ghost sequences = { lane_coin };
+
+    fn of_seed(seed: u64, first: u64) -> WideSeedLanes<N> {
         WideSeedLanes {
             seed,
             first,
@@ -52,10 +51,6 @@ impl<const N: usize> WideSeedLanes<N> {
             parts: [[0; 64]; N],
         }
     }
-}
-
-impl<const N: usize> LaneCoins<Wide<N>> for WideSeedLanes<N> {
-    ghost sequences = { lane_coin };
 
     fn coins(&mut self, t: u64) -> Wide<N> {
         let group = t / 64;
