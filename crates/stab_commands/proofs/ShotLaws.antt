@@ -1,5 +1,5 @@
 -- Laws of shots: bits that are shown, and shots that are sent by batches.
-use Rattle.std.proofs.Common.{◌≡◌, refl, sym, ap, ap₂, subst, ◌∙◌, ℕ, ◌+◌, ◌-◌, ◌%◌, ◌^◌, ◌<◌, ◌≤◌, Bool, List, ◌++◌, length, Result, Ok, Err, inl, inr, arith}
+use Rattle.std.proofs.Common.{◌≡◌, refl, sym, ap, ap₂, subst, ◌∙◌, ℕ, ◌+◌, ◌-◌, ◌%◌, ◌^◌, ◌<◌, ◌≤◌, Bool, List, [], ◌++◌, length, Result, Ok, Err, inl, inr, arith}
 use Rattle.std.proofs.lemmas.List.{length-map, map-append}
 use Rattle.std.specs.Result.{IsErrAnd}
 use Rattle.stab_io.specs.Devices.{OutputView, Took, CutOff, WritesAllOrFault}
@@ -11,7 +11,9 @@ use Rattle.stab_results.specs.declared.format.Format.{Format}
 use Rattle.stab_results.specs.declared.format.Kinds.{Kinds}
 use Rattle.stab_results.specs.declared.format.Kinds.TheVariants.{Detectors as Detected}
 use Rattle.stab_results.specs.Formats.{shot_bytes}
-use Rattle.stab_run.specs.Runs.{State}
+use Rattle.stab_circuit.specs.Items.{Items}
+use Rattle.stab_run.specs.Coins.{seed_coin}
+use Rattle.stab_run.specs.Runs.{State, run_of}
 use Rattle.stab_shots.specs.Lanes.{lane_bits}
 use Rattle.stab_commands.specs.declared.shots.Shown.{Shown}
 use Rattle.stab_commands.specs.declared.shots.Shown.TheVariants.{Records, Detectors, DetectorsAndObservables}
@@ -80,6 +82,18 @@ batches_break_off {old} {mid} {new} bytes_of first n m shots f (Err y) within be
 add-zero : (n : ℕ) → n + 0 ≡ n
 add-zero n = grind arith
 
+-- the first shots fail, and so all do
+pub front_breaks_off : {old new : OutputView} (bytes_of : ℕ → List ℕ) (first n shots : ℕ) (f : Fault) (r : Result (Unit {0}) Fault) → n ≤ shots
+    → Took old old [] → CutOff old new (of_shots bytes_of first n) f → IsErrAnd r (λ y. y ≡ f) → SendsUnflushed (of_shots bytes_of first shots) old new r
+front_breaks_off {old} {new} bytes_of first n shots f r within none cut is =
+    batches_break_off bytes_of first 0 n shots f r (omega (arith, within)) none (subst (λ k. CutOff old new (of_shots bytes_of k n) f) (sym (add-zero first)) cut) is
+
+-- the shots behind those that were sent
+pub rest_sent : (old mid new : OutputView) (bytes_of : ℕ → List ℕ) (first n m shots : ℕ) (r : Result (Unit {0}) Fault) → n + m ≡ shots
+    → Took old mid (of_shots bytes_of first n) → SendsUnflushed (of_shots bytes_of (first + n) m) mid new r → SendsUnflushed (of_shots bytes_of first shots) old new r
+rest_sent old mid new bytes_of first n m shots (Ok u) e before sent = subst (λ k. Took old new (of_shots bytes_of first k)) e (sent_batch bytes_of first n m before sent)
+rest_sent old mid new bytes_of first n m shots (Err f) e before cut = batches_break_off bytes_of first n m shots f (Err f) (omega (arith, e)) before cut refl
+
 -- one shot is the first
 pub one_shot : (bytes_of : ℕ → List ℕ) (first : ℕ) → of_shots (λ shot. bytes_of first) first 1 ≡ of_shots bytes_of first 1
 one_shot bytes_of first = ap bytes_of (sym (add-zero first))
@@ -90,3 +104,9 @@ no_wrap first shots l within less = small (first + l) (omega arith)
   where
     small : (n : ℕ) → n < 18446744073709551616 → n % 2 ^ 64 ≡ n
     small n h = grind arith
+
+-- a lane whose coins are those of a seed's shot runs as that shot does
+pub lane_runs : (n : ℕ) (items : Items) (seed first shots l : ℕ) (coins : ℕ → Bool) → ((t : ℕ) → coins t ≡ seed_coin seed ((first + l) % 2 ^ 64) t)
+    → first + shots ≤ 18446744073709551616 → l < shots → run_of n (seed_coin seed (first + l)) items ≡ run_of n coins items
+lane_runs n items seed first shots l coins are within less =
+    ap (λ c. run_of n c items) (λ i t. sym (are t ∙ ap (λ s. seed_coin seed s t) (no_wrap first shots l within less)) i)

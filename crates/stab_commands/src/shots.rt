@@ -2,7 +2,7 @@
 //!
 //! All shots of a list of coins are the same run, which is made once. Shots of a seed are run by batches of lanes, so that the
 //! tableau goes through the circuit once for each batch; a shot that is alone is run alone.
-ghost use Rattle.std.specs.Prelude.{◌≡◌, ℕ, ◌+◌, ◌*◌, ◌<◌, ◌≤◌, None, Bool, length, IfOk};
+ghost use Rattle.std.specs.Prelude.{◌≡◌, ℕ, ◌+◌, ◌<◌, ◌≤◌, None, Bool, length, IfOk};
 ghost use Rattle.stab_circuit.specs.Items.{Items};
 ghost use Rattle.stab_circuit.specs.Steps.{check_of, qubits_of};
 ghost use Rattle.stab_circuit.specs.Views.{circuit_items};
@@ -22,7 +22,7 @@ use stab_io::{Fault, Output};
 use stab_results::{Format, Kinds, write_shot};
 use stab_run::{Coins, ListCoins, SeedCoins, Shot, run_once};
 use stab_shots::{
-    LaneCoins, SeedLanes, Shots as LaneShots, WideSeedLanes, Word, run_lanes, write_lane,
+    LaneCoins, SeedLanes, Shots as LaneShots, Wide, WideSeedLanes, Word, run_lanes, write_lane,
 };
 use stab_tables::Source;
 use std::alloc::{AllocError, Global};
@@ -38,20 +38,20 @@ pub(crate) enum Shown {
     DetectorsAndObservables,
 }
 
-/// What is shown, and what kinds of bits it is: for each bit a `bool`, or a word of all lanes.
+/// What is shown of a shot, and what kinds of bits it is.
 #[derive(Drop)]
-pub(crate) struct Bits<T> {
+pub(crate) struct Bits {
     pub kinds: Kinds,
-    pub items: Vec<T>,
+    pub items: Vec<bool>,
 }
 
-/// What is shown, by records, detectors and observables.
-fn shown_of<T: Copy>(
-    records: Vec<T>,
-    mut detectors: Vec<T>,
-    observables: Vec<T>,
+/// What is shown of a shot, by its records, detectors and observables.
+fn shown_of(
+    records: Vec<bool>,
+    mut detectors: Vec<bool>,
+    observables: Vec<bool>,
     shown: Shown,
-) -> Result<Bits<T>, AllocError>
+) -> Result<Bits, AllocError>
     ensures within { IfOk result (λ b. detectors_of b.kinds ≤ length b.items.items) }
     ensures kinds { IfOk result (λ b. b.kinds ≡ shown_kinds shown (length detectors.items)) }
     ensures items { IfOk result (λ b. b.items.items ≡ shown_items shown records.items detectors.items observables.items) }
@@ -80,7 +80,7 @@ fn shown_of<T: Copy>(
 fn write_copies<O: Output>(
     out: &mut O,
     format: Format,
-    bits: &Bits<bool>,
+    bits: &Bits,
     copies: usize,
 ) -> Result<(), Fault>
     requires within { detectors_of bits.now.kinds ≤ length bits.now.items.items }
@@ -121,17 +121,18 @@ fn write_lanes<O: Output, W: Word>(
     alloc: Global,
     out: &mut O,
     format: Format,
-    words: &Bits<W>,
+    kinds: Kinds,
+    words: &[W],
     lanes: usize,
 ) -> Result<(), Fault>
     requires in_range { lanes ≤ W.lanes }
-    requires within { detectors_of words.now.kinds ≤ length words.now.items.items }
-    ensures sends { (first : ℕ) (shown : Shown) (run : ℕ → State) → ((l : ℕ) → l < lanes → IsShown shown (run (first + l)) words.now.kinds (lane_bits W.at l words.now.items.items)) → SendsUnflushed (of_shots (λ shot. shown_bytes format shown (run shot)) first lanes) (O.seen out.old) (O.seen out.new) result }
+    requires within { detectors_of kinds ≤ length words.now }
+    ensures sends { (first : ℕ) (shown : Shown) (run : ℕ → State) → ((l : ℕ) → l < lanes → IsShown shown (run (first + l)) kinds (lane_bits W.at l words.now)) → SendsUnflushed (of_shots (λ shot. shown_bytes format shown (run shot)) first lanes) (O.seen out.old) (O.seen out.new) result }
 {
-    let mut bits = Vec::with_capacity(alloc, words.items.len())?;
+    let mut bits = Vec::with_capacity(alloc, words.len())?;
     for lane in 0..lanes {
-        write_lane(words.items.as_slice(), lane, &mut bits)?;
-        write_shot(out, format, words.kinds, bits.as_slice())?;
+        write_lane(words, lane, &mut bits)?;
+        write_shot(out, format, kinds, bits.as_slice())?;
     }
     Ok(())
 }
@@ -142,21 +143,23 @@ fn send_lanes<O: Output, W: Word>(
     alloc: Global,
     out: &mut O,
     format: Format,
-    words: &Bits<W>,
+    kinds: Kinds,
+    words: &[W],
     lanes: usize,
 ) -> Result<(), Fault>
     requires in_range { lanes ≤ W.lanes }
-    requires within { detectors_of words.now.kinds ≤ length words.now.items.items }
-    ensures sends { (first : ℕ) (shown : Shown) (run : ℕ → State) → ((l : ℕ) → l < lanes → IsShown shown (run (first + l)) words.now.kinds (lane_bits W.at l words.now.items.items)) → SendsUnflushed (of_shots (λ shot. shown_bytes format shown (run shot)) first lanes) (O.seen out.old) (O.seen out.new) result }
+    requires within { detectors_of kinds ≤ length words.now }
+    ensures sends { (first : ℕ) (shown : Shown) (run : ℕ → State) → ((l : ℕ) → l < lanes → IsShown shown (run (first + l)) kinds (lane_bits W.at l words.now)) → SendsUnflushed (of_shots (λ shot. shown_bytes format shown (run shot)) first lanes) (O.seen out.old) (O.seen out.new) result }
 {
     match format {
-        Format::F01 => send_packed(alloc, out, Packing::Line, words.items.as_slice(), lanes),
-        Format::B8 => send_packed(alloc, out, Packing::Bytes, words.items.as_slice(), lanes),
-        _ => write_lanes(alloc, out, format, words, lanes),
+        Format::F01 => send_packed(alloc, out, Packing::Line, words, lanes),
+        Format::B8 => send_packed(alloc, out, Packing::Bytes, words, lanes),
+        _ => write_lanes(alloc, out, format, kinds, words, lanes),
     }
 }
 
-/// Runs so many shots, at most as many as there are lanes, with the coins of the lanes, and writes what is shown of each.
+/// Runs so many shots, at most as many as there are lanes, with the coins of the lanes, and writes what is shown of each. What
+/// the shots give is put in place of what the lists had.
 fn send_batch<O: Output, W: Word, C: LaneCoins<W>>(
     alloc: Global,
     circuit: &Circuit,
@@ -164,25 +167,36 @@ fn send_batch<O: Output, W: Word, C: LaneCoins<W>>(
     format: Format,
     shown: Shown,
     coins: &mut C,
+    lists: &mut LaneShots<W>,
     shots: usize,
 ) -> Result<(), Fault>
     requires checked { check_of (circuit_items circuit.now) ≡ None }
     requires few { shots ≤ W.lanes }
     ensures sends { (first : ℕ) (run : ℕ → State) → ((l : ℕ) → l < shots → run (first + l) ≡ run_of (qubits_of (circuit_items circuit.now)) (C.sequences coins.old l) (circuit_items circuit.now)) → SendsUnflushed (of_shots (λ shot. shown_bytes format shown (run shot)) first shots) (O.seen out.old) (O.seen out.new) result }
 {
-    let found = run_lanes(alloc, circuit, circuit.qubits(), coins)?;
-    let LaneShots {
-        records,
-        detectors,
-        observables,
-        ..
-    } = found;
-    let words = shown_of(records, detectors, observables, shown)?;
-    send_lanes(alloc, out, format, &words, shots)
+    run_lanes(alloc, circuit, circuit.qubits(), coins, lists)?;
+    let kinds = Kinds::Detectors(lists.detectors.len());
+    match shown {
+        Shown::Records => {
+            let words = lists.records.as_slice();
+            send_lanes(alloc, out, format, Kinds::Measurements, words, shots)
+        }
+        Shown::Detectors => {
+            let words = lists.detectors.as_slice();
+            send_lanes(alloc, out, format, kinds, words, shots)
+        }
+        Shown::DetectorsAndObservables => {
+            lists
+                .detectors
+                .extend_from_slice(lists.observables.as_slice())?;
+            let words = lists.detectors.as_slice();
+            send_lanes(alloc, out, format, kinds, words, shots)
+        }
+    }
 }
 
-/// Runs so many shots of a seed, at most 64 * N, from a first one on, in as many lanes, and writes what is shown of each.
-fn send_wide<O: Output, const N: usize>(
+/// Runs so many shots of a seed from a first one on, by batches of so many lanes, and writes what is shown of each.
+fn send_batches<O: Output, W: Word, C: LaneCoins<W>>(
     alloc: Global,
     circuit: &Circuit,
     out: &mut O,
@@ -191,19 +205,67 @@ fn send_wide<O: Output, const N: usize>(
     seed: u64,
     first: u64,
     shots: usize,
+    lanes: usize,
 ) -> Result<(), Fault>
     requires checked { check_of (circuit_items circuit.now) ≡ None }
-    requires few { shots ≤ 64 * N }
+    requires some { 0 < lanes }
+    requires few { lanes ≤ W.lanes }
     requires in_range { first + shots ≤ shots_of_seed }
     ensures sends { SendsUnflushed (of_shots (λ shot. shown_bytes format shown (run_of (qubits_of (circuit_items circuit.now)) (seed_coin seed shot) (circuit_items circuit.now))) first shots) (O.seen out.old) (O.seen out.new) result }
 {
-    let mut coins = WideSeedLanes::<N>::new(seed, first);
-    send_batch(alloc, circuit, out, format, shown, &mut coins, shots)
+    let mut lists: LaneShots<W> = LaneShots::with_room(alloc, circuit.records())?;
+    let mut sent = 0;
+    while sent < shots {
+        let batch = (shots - sent).min(lanes);
+        let mut coins = C::of_seed(seed, first + sent as u64);
+        send_batch(
+            alloc, circuit, out, format, shown, &mut coins, &mut lists, batch,
+        )?;
+        sent += batch;
+    }
+    Ok(())
 }
 
-/// Runs so many shots of a seed, at most 1,024, from a first one on, and writes what is shown of each. One shot is run alone,
-/// and others in no more lanes than they need.
-fn send_some<O: Output>(
+/// Runs so many shots of a seed from a first one on, by batches of so many lanes, at most 1,024, and writes what is shown of
+/// each.
+fn send_wide<O: Output>(
+    alloc: Global,
+    circuit: &Circuit,
+    out: &mut O,
+    format: Format,
+    shown: Shown,
+    seed: u64,
+    first: u64,
+    shots: usize,
+    lanes: usize,
+) -> Result<(), Fault>
+    requires checked { check_of (circuit_items circuit.now) ≡ None }
+    requires some { 0 < lanes }
+    requires few { lanes ≤ 1024 }
+    requires in_range { first + shots ≤ shots_of_seed }
+    ensures sends { SendsUnflushed (of_shots (λ shot. shown_bytes format shown (run_of (qubits_of (circuit_items circuit.now)) (seed_coin seed shot) (circuit_items circuit.now))) first shots) (O.seen out.old) (O.seen out.new) result }
+{
+    if lanes <= 64 {
+        send_batches::<O, u64, SeedLanes>(
+            alloc, circuit, out, format, shown, seed, first, shots, lanes,
+        )
+    } else if lanes <= 256 {
+        send_batches::<O, Wide<4>, WideSeedLanes<4>>(
+            alloc, circuit, out, format, shown, seed, first, shots, lanes,
+        )
+    } else if lanes <= 512 {
+        send_batches::<O, Wide<8>, WideSeedLanes<8>>(
+            alloc, circuit, out, format, shown, seed, first, shots, lanes,
+        )
+    } else {
+        send_batches::<O, Wide<16>, WideSeedLanes<16>>(
+            alloc, circuit, out, format, shown, seed, first, shots, lanes,
+        )
+    }
+}
+
+/// Runs so many shots of a seed, at most 1,024, from a first one on, in one batch, and writes what is shown of each.
+fn send_rest<O: Output>(
     alloc: Global,
     circuit: &Circuit,
     out: &mut O,
@@ -218,22 +280,22 @@ fn send_some<O: Output>(
     requires in_range { first + shots ≤ shots_of_seed }
     ensures sends { SendsUnflushed (of_shots (λ shot. shown_bytes format shown (run_of (qubits_of (circuit_items circuit.now)) (seed_coin seed shot) (circuit_items circuit.now))) first shots) (O.seen out.old) (O.seen out.new) result }
 {
-    if shots == 1 {
-        let mut coins = SeedCoins::new(seed, first);
-        send_copies(alloc, circuit, out, format, shown, &mut coins, 1)
-    } else if shots <= 64 {
-        let mut coins = SeedLanes::new(seed, first);
-        send_batch(alloc, circuit, out, format, shown, &mut coins, shots)
-    } else if shots <= 256 {
-        send_wide::<O, 4>(alloc, circuit, out, format, shown, seed, first, shots)
-    } else if shots <= 512 {
-        send_wide::<O, 8>(alloc, circuit, out, format, shown, seed, first, shots)
-    } else {
-        send_wide::<O, 16>(alloc, circuit, out, format, shown, seed, first, shots)
+    match shots {
+        0 => Ok(()),
+        1 => {
+            let mut coins = SeedCoins::new(seed, first);
+            send_copies(alloc, circuit, out, format, shown, &mut coins, 1)
+        }
+        _ => {
+            send_wide(
+                alloc, circuit, out, format, shown, seed, first, shots, shots,
+            )
+        }
     }
 }
 
-/// Runs so many shots of a seed from a first one on, and writes what is shown of each.
+/// Runs so many shots of a seed from a first one on, and writes what is shown of each. A shot that is alone is run alone, and
+/// shots that fill no batch go in no more lanes than they need.
 fn send_seeded<O: Output>(
     alloc: Global,
     circuit: &Circuit,
@@ -249,14 +311,17 @@ fn send_seeded<O: Output>(
     ensures sends { SendsUnflushed (of_shots (λ shot. shown_bytes format shown (run_of (qubits_of (circuit_items circuit.now)) (seed_coin seed shot) (circuit_items circuit.now))) first shots) (O.seen out.old) (O.seen out.new) result }
 {
     let most = shots_at_once(alloc, circuit, shots)?;
-    let mut sent = 0;
-    while sent < shots {
-        let batch = (shots - sent).min(most);
-        let next = first + sent as u64;
-        send_some(alloc, circuit, out, format, shown, seed, next, batch)?;
-        sent += batch;
+    let full = shots - shots % most;
+    if full == 0 {
+        return send_rest(alloc, circuit, out, format, shown, seed, first, shots);
     }
-    Ok(())
+    send_wide(alloc, circuit, out, format, shown, seed, first, full, most)?;
+    if full == shots {
+        return Ok(());
+    }
+    let next = first + full as u64;
+    let rest = shots - full;
+    send_rest(alloc, circuit, out, format, shown, seed, next, rest)
 }
 
 /// Runs these shots of a circuit that nothing refuses, and writes what is shown of each.

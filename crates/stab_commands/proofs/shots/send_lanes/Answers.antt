@@ -1,7 +1,5 @@
-use Rattle.std.proofs.Common.{◌+◌, ◌∙◌, ap, sym, subst}
+use Rattle.std.proofs.Common.{◌+◌, sym, subst}
 use Rattle.stab_results.specs.declared.format.Format.TheVariants.{F01, B8}
-use Rattle.stab_results.specs.Formats.{f01_bytes, b8_bytes}
-use Rattle.stab_shots.specs.Lanes.{lane_bits}
 use Rattle.stab_commands.specs.Outputs.{of_shots}
 use Rattle.stab_commands.specs.inner.Sendings.{SendsUnflushed, shown_bytes}
 use Rattle.stab_commands.proofs.ShotLaws.{bytes_shown}
@@ -12,9 +10,7 @@ returns-in-F01 g c = record {
   sends = λ first shown run are.
       subst (λ f. SendsUnflushed (of_shots (λ shot. shown_bytes f shown (run shot)) first c.args.lanes) (g.O.Output.seen c.args.out.now) (g.O.Output.seen c.send_packed.new.out) c.send_packed.result) (sym c.in-F01.is)
       (c.send_packed.ensures.sends first (λ shot. shown_bytes F01 shown (run shot))
-      (λ l less.
-      ap (λ words. f01_bytes (lane_bits g.W.Word.at l words)) c.as_slice.ensures.value
-      ∙ bytes_shown F01 shown (run (first + l)) c.args.words.now.kinds _ (are l less)));
+      (λ l less. bytes_shown F01 shown (run (first + l)) c.args.kinds _ (are l less)));
 }
 
 pub returns-in-B8 : goal.returns-in-B8
@@ -22,7 +18,5 @@ returns-in-B8 g c = record {
   sends = λ first shown run are.
       subst (λ f. SendsUnflushed (of_shots (λ shot. shown_bytes f shown (run shot)) first c.args.lanes) (g.O.Output.seen c.args.out.now) (g.O.Output.seen c.send_packed-in-B8.new.out) c.send_packed-in-B8.result) (sym c.in-B8.is)
       (c.send_packed-in-B8.ensures.sends first (λ shot. shown_bytes B8 shown (run shot))
-      (λ l less.
-      ap (λ words. b8_bytes (lane_bits g.W.Word.at l words)) c.as_slice-in-B8.ensures.value
-      ∙ bytes_shown B8 shown (run (first + l)) c.args.words.now.kinds _ (are l less)));
+      (λ l less. bytes_shown B8 shown (run (first + l)) c.args.kinds _ (are l less)));
 }

@@ -3,7 +3,6 @@ use Rattle.stab_io.specs.Devices.{Took}
 use Rattle.stab_results.specs.Formats.{shot_bytes}
 use Rattle.stab_io.specs.declared.refusal.Refusal.TheVariants.{OutOfMemory}
 use Rattle.stab_io.specs.Refusals.{whole}
-use Rattle.stab_shots.specs.Lanes.{lane_bits}
 use Rattle.stab_commands.specs.Outputs.{of_shots}
 use Rattle.stab_commands.specs.inner.Sendings.{shown_bytes}
 use Rattle.stab_commands.proofs.SendingLaws.{sends_none, sent_shot, shots_break_off}
@@ -12,14 +11,14 @@ use Rattle.stab_commands.proofs.shots.write_lanes.Goals as goal
 
 pub loop-lane-preserved : goal.loop-lane-preserved
 loop-lane-preserved g c = λ first shown run are.
-    let same = ap (shot_bytes c.args.format c.args.words.now.kinds) (c.as_slice-in-loop-lane.ensures.value ∙ (c.in_ok-write_lane.ensures.value ∙ ap (lane_bits g.W.Word.at c.loop-lane.lane) c.as_slice.ensures.value)) ∙ bytes_shown c.args.format shown (run (first + c.loop-lane.lane)) c.args.words.now.kinds _ (are c.loop-lane.lane c.loop-lane-test.true) in
+    let same = ap (shot_bytes c.args.format c.args.kinds) (c.as_slice.ensures.value ∙ c.in_ok-write_lane.ensures.value) ∙ bytes_shown c.args.format shown (run (first + c.loop-lane.lane)) c.args.kinds _ (are c.loop-lane.lane c.loop-lane-test.true) in
     sent_shot (λ shot. shown_bytes c.args.format shown (run shot)) first c.loop-lane.lane (c.loop-lane.invariant first shown run are)
     (subst (λ l. Took (g.O.Output.seen c.loop-lane.out) (g.O.Output.seen c.write_shot.new.out) l) same c.in_ok-write_shot.ensures.writes)
 
 pub returns-in_err-write_shot : goal.returns-in_err-write_shot
 returns-in_err-write_shot g c = record {
   sends = λ first shown run are.
-      let same = ap (shot_bytes c.args.format c.args.words.now.kinds) (c.as_slice-in-loop-lane.ensures.value ∙ (c.in_ok-write_lane.ensures.value ∙ ap (lane_bits g.W.Word.at c.loop-lane.lane) c.as_slice.ensures.value)) ∙ bytes_shown c.args.format shown (run (first + c.loop-lane.lane)) c.args.words.now.kinds _ (are c.loop-lane.lane c.loop-lane-test.true) in
+      let same = ap (shot_bytes c.args.format c.args.kinds) (c.as_slice.ensures.value ∙ c.in_ok-write_lane.ensures.value) ∙ bytes_shown c.args.format shown (run (first + c.loop-lane.lane)) c.args.kinds _ (are c.loop-lane.lane c.loop-lane-test.true) in
       shots_break_off (λ shot. shown_bytes c.args.format shown (run shot)) first c.loop-lane.lane c.args.lanes c.in_err-write_shot.field-0.0 c.from_residual-in_err-write_shot.result
       c.loop-lane-test.true (c.loop-lane.invariant first shown run are) (cut_off_as _ _ c.in_err-write_shot.field-0.0 same c.in_err-write_shot.ensures.writes) c.from_residual-in_err-write_shot.ensures.1;
 }

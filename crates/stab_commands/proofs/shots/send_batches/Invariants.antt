@@ -6,7 +6,7 @@ use Rattle.stab_run.specs.Runs.{run_of}
 use Rattle.stab_run.specs.Coins.{seed_coin}
 use Rattle.stab_commands.specs.Outputs.{of_shots}
 use Rattle.stab_commands.specs.inner.Sendings.{shown_bytes}
-use Rattle.stab_commands.proofs.shots.send_seeded.Given as goal
+use Rattle.stab_commands.proofs.shots.send_batches.Given as goal
 
 abbrev pub invariant-loop-sent : goal.invariant-loop-sent
 invariant-loop-sent g l = record {
