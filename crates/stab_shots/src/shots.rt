@@ -1,4 +1,4 @@
-ghost use Rattle.std.specs.Prelude.{◌≡◌, ℕ, ◌<◌, ◌≤◌, None, length, replicate, IfOk, OnOk, IfErr};
+ghost use Rattle.std.specs.Prelude.{◌≡◌, ℕ, ◌<◌, ◌≤◌, None, [], length, replicate, IfOk, OnOk, IfErr};
 ghost use Rattle.stab_pauli.specs.declared.letter.Letter.TheVariants;
 ghost use Rattle.stab_io.specs.declared.refusal.Refusal.TheVariants.{OutOfMemory};
 ghost use Rattle.stab_io.specs.Refusals.{Refuses};
@@ -35,7 +35,12 @@ pub struct Shots<W> {
 
 impl<W: Word> Shots<W> {
     /// Nothing yet, with room for so many records.
-    pub fn with_room(alloc: Global, records: usize) -> Result<Shots<W>, AllocError> {
+    pub fn with_room(alloc: Global, records: usize) -> Result<Shots<W>, AllocError>
+        ensures records { IfOk result (λ s. s.records.items ≡ []) }
+        ensures free { IfOk result (λ s. s.free.items ≡ []) }
+        ensures detectors { IfOk result (λ s. s.detectors.items ≡ []) }
+        ensures observables { IfOk result (λ s. s.observables.items ≡ []) }
+    {
         Ok(Shots {
             records: Vec::with_capacity(alloc, records)?,
             free: Vec::with_capacity(alloc, records)?,
