@@ -9,13 +9,11 @@
 //! - `stop`: what ended a call early.
 //! - `sheet`: values as bytes, to be compared; `item_slot`: an item beside a circuit; `one_drop`: values that are let go.
 //! - `outputs`, `strings`, `states`, `circuits`, `runs`, `sessions`, `edits`, `splits`: the calls, by what they work on.
-//! - `words`, `commands`: the calls from words and from bytes to bytes.
 //!
 //! It is proved safe. What it finds is tested, not proved.
 #![tactic(auto)]
 
 mod circuits;
-mod commands;
 mod edits;
 mod item_slot;
 mod one_drop;
@@ -29,7 +27,6 @@ mod stop;
 mod strings;
 mod trial;
 mod window;
-mod words;
 
 use std::io;
 
@@ -41,7 +38,5 @@ fn main(rt: HostRuntime) -> io::Result<()> {
     runs::print_all(&rt)?;
     sessions::print_all(&rt)?;
     edits::print_all(&rt)?;
-    splits::print_all(&rt)?;
-    words::print_all(&rt)?;
-    commands::print_all(&rt)
+    splits::print_all(&rt)
 }
