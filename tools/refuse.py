@@ -23,6 +23,8 @@ import resource
 import subprocess
 import sys
 import tempfile
+from collections.abc import Iterator
+from typing import NamedTuple
 
 TOP = pathlib.Path(__file__).resolve().parent.parent
 PROGRAM = TOP / "crates" / "stabsim" / "out" / "stabsim"
@@ -32,28 +34,57 @@ TABLE = re.compile(r"(?<=<!-- counts -->\n).*(?=<!-- end of counts -->)", re.DOT
 TIME_LIMIT = 60
 FAULT_LINE = re.compile(rb"stabsim: (line [1-9][0-9]*: )?refused [0-9]+ [A-Za-z]+\n")
 CIRCUIT = TOP / "examples" / "repetition_code.stim"
+BELL = TOP / "examples" / "bell.stim"
 # What standard input has; `edit` alone reads it, since the others have --in.
 SCRIPT = (TOP / "examples" / "inserted_x.script").read_bytes() + b"show stabilisers\nshow circuit\ninsert 0 REPEAT 2 {\nX 0\n}\n"
+# Edits of the Bell pair: an X in front of its measurement, and its first gate taken out.
+BELL_SCRIPT = b"insert 2 X 1\nshow measurements\ndelete 0\nshow measurements\nshow free\n"
+
+
+class Run(NamedTuple):
+    """A run of the program, and the status that it ends with where nothing is refused."""
+
+    words: list[str]
+    status: int = 0
+    script: bytes = SCRIPT
+    out: pathlib.Path | None = None  # the file of --out among the words
+
+
 RUNS = [
-    ["sample", "--shots", "3", "--in", str(CIRCUIT)],
-    ["sample", "--out_format", "dets", "--coins", "0110", "--in", str(TOP / "examples" / "five_qubit_code.stim")],
-    ["detect", "--append_observables", "--out_format", "hits", "--in", str(TOP / "examples" / "surface_code.stim")],
-    ["stabilisers", "--in", str(TOP / "examples" / "steane_code.stim")],
-    ["check", "--in", str(CIRCUIT)],
-    ["deterministic", "--out_format", "dets", "--in", str(CIRCUIT)],
-    ["faults", "--everywhere", "--in", str(CIRCUIT)],
-    ["faults", "--everywhere", "--out_format", "b8", "--in", str(TOP / "examples" / "teleportation.stim")],
-    ["edit", "--stride", "4", "--in", str(CIRCUIT)],
-    ["sample", "--shots", "none"],
-    ["--help"],
+    Run(["sample", "--shots", "3", "--in", str(CIRCUIT)]),
+    Run(["sample", "--out_format", "dets", "--coins", "0110", "--in", str(TOP / "examples" / "five_qubit_code.stim")]),
+    Run(["sample", "--seed", "7", "--in", str(BELL)]),
+    # More than 64 shots are run by lanes.
+    Run(["sample", "--shots", "65", "--seed", "7", "--in", str(BELL)]),
+    Run(["detect", "--append_observables", "--out_format", "hits", "--in", str(TOP / "examples" / "surface_code.stim")]),
+    Run(["stabilisers", "--in", str(TOP / "examples" / "steane_code.stim")]),
+    Run(["check", "--in", str(CIRCUIT)]),
+    Run(["deterministic", "--out_format", "dets", "--in", str(CIRCUIT)]),
+    Run(["faults", "--everywhere", "--in", str(CIRCUIT)]),
+    Run(["faults", "--everywhere", "--out_format", "b8", "--in", str(TOP / "examples" / "teleportation.stim")]),
+    Run(["edit", "--stride", "4", "--in", str(CIRCUIT)]),
+    Run(["edit", "--stride", "2", "--seed", "7", "--in", str(BELL)], script=BELL_SCRIPT),
+    Run(["sample", "--shots", "none"], status=2),
+    Run(["--help"]),
 ]
 
 wrong = []
 
 
 def run(words, **more):
-    more.setdefault("stdout", subprocess.PIPE)
-    return subprocess.run([str(PROGRAM), *words], input=SCRIPT, stderr=subprocess.PIPE, timeout=TIME_LIMIT, check=False, **more)
+    more = {"input": SCRIPT, "stdout": subprocess.PIPE} | more
+    return subprocess.run([str(PROGRAM), *words], stderr=subprocess.PIPE, timeout=TIME_LIMIT, check=False, **more)
+
+
+def run_anew(it: Run, **more) -> subprocess.CompletedProcess:
+    """Runs it; what it wrote to its file, which was not there before, counts as output."""
+    if it.out is None:
+        return run(it.words, input=it.script, **more)
+    it.out.unlink(missing_ok=True)
+    done = run(it.words, input=it.script, **more)
+    if it.out.exists():
+        done.stdout += it.out.read_bytes()
+    return done
 
 
 def expect(holds, what):
@@ -79,16 +110,18 @@ def look(done, words, whole, line):
         expect(done.stderr == line, f"{words}: told {done.stderr!r}")
 
 
-def refuse_each(library, folder, words, onwards):
+def refuse_each(library: pathlib.Path, folder: pathlib.Path, it: Run, onwards: bool) -> tuple[int, int]:
     """Refuses each request of a run in turn; how many runs were refused one, and how many of them answered 20."""
-    whole = run(words)
+    words, whole = it.words, run_anew(it)
+    expect(whole.returncode == it.status, f"{words}: status {whole.returncode} though nothing was refused")
+    expect(it.out is None or whole.stdout, f"{words}: no output")
     line = b"stabsim: refused 20 OutOfMemory\n"
     refused = answered = 0
     for number in range(1, 100_000):
         told = folder / "told"
         told.unlink(missing_ok=True)
         names = {"LD_PRELOAD": str(library), "REFUSE": str(number), "TOLD": str(told)}
-        done = run(words, env=names | ({"REFUSE_ON": "1"} if onwards else {}))
+        done = run_anew(it, env=names | ({"REFUSE_ON": "1"} if onwards else {}))
         if not told.exists():
             expect(done.stdout == whole.stdout, f"{words}: other bytes though nothing was refused")
             return refused, answered
@@ -148,25 +181,44 @@ def try_calls(library, folder, is_written):
         print("docs/robustness.md shows other counts: tools/refuse.py --page renews them")
 
 
-def runs_with_files(folder):
+def runs_with_files(folder: pathlib.Path) -> Iterator[Run]:
     """Runs of files that are made for them: coins, and circuits that `check` explains the fault of, by its line and by its item."""
     coins, far, line = folder / "some.coins", folder / "far.stim", folder / "line.stim"
     coins.write_text("0110\n")
     far.write_text("M 0\nREPEAT 3 {\n    M 1\n    DETECTOR rec[-3]\n}\n")
     line.write_text("H 0\nMPP X0*Z1 X0*Y0\n")
-    yield ["sample", "--coins_in", str(coins), "--in", str(TOP / "examples" / "five_qubit_code.stim")]
-    yield ["check", "--in", str(far)]
-    yield ["check", "--in", str(line)]
+    yield Run(["sample", "--coins_in", str(coins), "--in", str(TOP / "examples" / "five_qubit_code.stim")])
+    yield Run(["check", "--in", str(far)], status=1)
+    yield Run(["check", "--in", str(line)], status=1)
 
 
-def try_memory(library, folder):
-    for words in [*RUNS, *runs_with_files(folder)]:
+def runs_of_parities(folder: pathlib.Path) -> Iterator[Run]:
+    """Runs of a Bell pair with a record and a parity of records for detectors, and a record for an observable; one writes a file."""
+    parities, out = folder / "parities.stim", folder / "shots"
+    parities.write_text("H 0\nCX 0 1\nM 0 1\nDETECTOR rec[-1]\nDETECTOR rec[-1] rec[-2]\nOBSERVABLE_INCLUDE(0) rec[-2]\n")
+    detect = ["detect", "--append_observables", "--out_format", "dets", "--in", str(parities)]
+    yield Run([*detect, "--shots", "2", "--seed", "7"])
+    yield Run([*detect, "--shots", "12", "--coins", "1011", f"--out={out}"], out=out)
+    yield Run(["deterministic", "--in", str(parities)])
+
+
+def runs_of_marks(folder: pathlib.Path) -> Iterator[Run]:
+    """Runs of a zero with a marked place in front of its measurement, whose record is a detector and an observable."""
+    marked = folder / "marked.stim"
+    marked.write_text("R 0\nI 0\nM 0\nDETECTOR rec[-1]\nOBSERVABLE_INCLUDE(0) rec[-1]\n")
+    yield Run(["faults", "--in", str(marked)])
+    yield Run(["faults", "--out_format", "01", "--in", str(marked)])
+
+
+def try_memory(library: pathlib.Path, folder: pathlib.Path) -> None:
+    """Refuses each request of each run, and prints how many were refused."""
+    for it in [*RUNS, *runs_with_files(folder), *runs_of_parities(folder), *runs_of_marks(folder)]:
         for onwards in (False, True):
-            refused, answered = refuse_each(library, folder, words, onwards)
-            expect(refused > 0, f"{words}: no request was refused")
-            expect(answered > 0, f"{words}: no run answered 20")
+            refused, answered = refuse_each(library, folder, it, onwards)
+            expect(refused > 0, f"{it.words}: no request was refused")
+            expect(answered > 0, f"{it.words}: no run answered 20")
             how = "from one on" if onwards else "one"
-            named = " ".join(pathlib.Path(word).name for word in words)
+            named = " ".join(pathlib.Path(word).name for word in it.words)
             print(f"{named}, {how}: {refused} runs with memory refused, {answered} answered 20")
 
 

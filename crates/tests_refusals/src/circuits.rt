@@ -63,9 +63,9 @@ struct ReadItem {
 impl Trial for ReadItem {
     type Call = ();
 
-    fn new(alloc: Global, _call: ()) -> Result<ReadItem, Stop> {
+    fn new(_alloc: Global, _call: ()) -> Result<ReadItem, Stop> {
         Ok(ReadItem {
-            read: ItemSlot::empty(alloc)?,
+            read: ItemSlot::empty(),
         })
     }
 
@@ -170,6 +170,24 @@ fn cursor_of<'a>(alloc: Global, circuit: &'a Circuit) -> Result<OneDrop<Option<C
     Ok(OneDrop(Some(Cursor::at(alloc, circuit, STEP)?)))
 }
 
+/// Whether two cursors come to the same step, or both to the end.
+fn is_same_step(made: &mut Cursor, other: &mut Cursor) -> bool {
+    made.next() == other.next()
+}
+
+/// Writes for so many steps and the end whether two cursors come to the same.
+fn show_steps(
+    out: &mut MemoryOutput,
+    made: &mut Cursor,
+    other: &mut Cursor,
+    steps: usize,
+) -> Result<(), Stop> {
+    for _ in 0..=steps {
+        write_all(out, &[u8::from(is_same_step(made, other))])?;
+    }
+    Ok(())
+}
+
 /// `Cursor::at`, with the cursor that it made, and another one to compare.
 #[derive(Drop)]
 struct NewCursor<'a> {
@@ -196,12 +214,10 @@ impl<'a> Trial for NewCursor<'a> {
 
     // It shows which of the steps that are left are those of the other cursor, and so it shows them once.
     fn show(&mut self, _alloc: Global, out: &mut MemoryOutput) -> Result<(), Stop> {
-        if let (Some(made), Some(other)) = (&mut self.made.0, &mut self.other.0) {
-            for _ in 0..=self.circuit.steps() {
-                write_all(out, &[u8::from(made.next() == other.next())])?;
-            }
+        match (&mut self.made.0, &mut self.other.0) {
+            (Some(made), Some(other)) => show_steps(out, made, other, self.circuit.steps()),
+            _ => Ok(()),
         }
-        Ok(())
     }
 }
 

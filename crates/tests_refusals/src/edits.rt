@@ -34,7 +34,7 @@ impl NestedEdit {
         }
     }
 
-    /// The text of the item that is put in.
+    /// The text of the item that is put in; none where there is no item.
     fn text(self) -> &'static [u8] {
         match self {
             NestedEdit::Insert => b"MX 1",
@@ -44,6 +44,15 @@ impl NestedEdit {
             NestedEdit::ReplaceNested => b"MRX 0 1 2",
             NestedEdit::Delete | NestedEdit::DeleteNested => b"",
         }
+    }
+
+    /// The item that is put in, if there is one.
+    fn slot(self, alloc: Global) -> Result<ItemSlot, Stop> {
+        let text = self.text();
+        if text.is_empty() {
+            return Ok(ItemSlot::empty());
+        }
+        ItemSlot::new(alloc, text)
     }
 }
 
@@ -101,7 +110,7 @@ impl Trial for Applied {
         Ok(Applied {
             change,
             session: session_of(alloc, NESTED)?,
-            item: ItemSlot::new(alloc, change.text())?,
+            item: change.slot(alloc)?,
         })
     }
 
@@ -124,7 +133,7 @@ impl Trial for Applied {
         Ok(Applied {
             change,
             session: session_of(alloc, circuit.bytes())?,
-            item: ItemSlot::empty(alloc)?,
+            item: ItemSlot::empty(),
         })
     }
 }

@@ -1,58 +1,63 @@
-use crate::sheet::{circuit_of, show_circuit};
+use crate::one_drop::OneDrop;
 use crate::stop::Stop;
-use stab_circuit::{Circuit, Item, Path, Refused};
-use stab_pauli::MemoryOutput;
+use stab_circuit::{Item, Refused, read_item, write_one_item};
+use stab_pauli::{MemoryOutput, Refusal};
 use std::alloc::Global;
+use std::mem;
 
-/// An item, or none: what a circuit of its own shows. It had memory for one from the beginning.
+/// An item, or none.
 pub struct ItemSlot {
-    circuit: Circuit,
+    item: OneDrop<Option<Item>>,
 }
 
 // Written out, so that to a proof a slot that is let go is one call.
 impl Drop for ItemSlot {
     fn drop(self) {
-        let ItemSlot { circuit: _ } = self;
+        let ItemSlot { item: _ } = self;
     }
 }
 
 impl ItemSlot {
     /// With the item that a text stands for.
     pub fn new(alloc: Global, text: &[u8]) -> Result<ItemSlot, Stop> {
+        let item = read_item(alloc, text)?;
         Ok(ItemSlot {
-            circuit: circuit_of(alloc, text)?.value(),
+            item: OneDrop(Some(item)),
         })
     }
 
     /// Without an item.
-    pub fn empty(alloc: Global) -> Result<ItemSlot, Stop> {
-        let mut slot = ItemSlot::new(alloc, b"TICK")?;
-        slot.take()?;
-        Ok(slot)
+    pub fn empty() -> ItemSlot {
+        ItemSlot {
+            item: OneDrop(None),
+        }
     }
 
     /// Takes the item.
     pub fn take(&mut self) -> Result<Item, Stop> {
-        let item = self.circuit.delete(Path::new(&[0]))?;
-        Ok(item)
+        match mem::replace(&mut self.item, OneDrop(None)).value() {
+            Some(item) => Ok(item),
+            None => Err(Stop::from(Refusal::PlaceOutOfRange)),
+        }
     }
 
-    /// Puts an item, where there is none.
+    /// Puts an item.
     pub fn put(&mut self, item: Item) {
-        let _ = self.circuit.insert(Path::new(&[0]), item);
+        self.item = OneDrop(Some(item));
     }
 
     /// Puts the item of a refused edit, and tells its fault.
     pub fn put_back(&mut self, refused: Refused) -> Stop {
         let Refused { fault, item } = refused;
-        if let Some(item) = item {
-            self.put(item);
-        }
+        self.item = OneDrop(item);
         Stop(fault)
     }
 
     /// Writes the item.
     pub fn show(&self, out: &mut MemoryOutput) -> Result<(), Stop> {
-        show_circuit(out, &self.circuit)
+        if let Some(item) = &self.item.0 {
+            write_one_item(out, item)?;
+        }
+        Ok(())
     }
 }

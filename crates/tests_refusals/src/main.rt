@@ -4,18 +4,17 @@
 //! must be as before, and the call, made again, must give what a call gives that was never refused. By
 //! itself the program is refused nothing; `tools/refuse.c` refuses the calls their requests for memory,
 //! each request in turn. A line tells how each call ended.
+//! Words and commands are not here: `tools/refuse.py` refuses the requests of the whole program for them.
 //!
 //! - `trial`: a call that is tried, and how it ended; `window`: where memory may be refused.
 //! - `stop`: what ended a call early.
 //! - `sheet`: values as bytes, to be compared; `item_slot`: an item beside a circuit; `one_drop`: values that are let go.
 //! - `outputs`, `strings`, `states`, `circuits`, `runs`, `sessions`, `edits`, `splits`: the calls, by what they work on.
-//! - `words`, `commands`: the calls from words and from bytes to bytes.
 //!
 //! It is proved safe. What it finds is tested, not proved.
 #![tactic(auto)]
 
 mod circuits;
-mod commands;
 mod edits;
 mod item_slot;
 mod one_drop;
@@ -29,7 +28,6 @@ mod stop;
 mod strings;
 mod trial;
 mod window;
-mod words;
 
 use std::io;
 
@@ -41,7 +39,5 @@ fn main(rt: HostRuntime) -> io::Result<()> {
     runs::print_all(&rt)?;
     sessions::print_all(&rt)?;
     edits::print_all(&rt)?;
-    splits::print_all(&rt)?;
-    words::print_all(&rt)?;
-    commands::print_all(&rt)
+    splits::print_all(&rt)
 }

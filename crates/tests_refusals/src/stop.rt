@@ -2,7 +2,7 @@ use stab_pauli::{Fault, Refusal};
 use std::alloc::AllocError;
 
 /// What ended a call early: the fault that it answered, or its refusal as a fault without a line.
-#[derive(Clone, Copy, Debug, PartialEq, Eq)]
+#[derive(Clone, Copy)]
 pub struct Stop(pub Fault);
 
 impl Stop {

@@ -2,7 +2,7 @@ use crate::stop::Stop;
 use crate::window;
 use stab_pauli::MemoryOutput;
 use std::alloc::Global;
-use std::{fmt, io};
+use std::io;
 
 /// A call with the values that it works on and those that it has given.
 pub trait Trial: Drop {
@@ -27,7 +27,7 @@ pub trait Trial: Drop {
 }
 
 /// How a call ended whose requests for memory may be refused.
-#[derive(Clone, Copy, Debug, PartialEq, Eq)]
+#[derive(Clone, Copy)]
 pub enum Ending {
     /// It gave what it gives.
     Gave,
@@ -42,16 +42,14 @@ impl Ending {
     pub fn if_right(self, right: bool) -> Ending {
         if right { self } else { Ending::Wrong }
     }
-}
 
-impl fmt::Display for Ending {
-    fn fmt<W: fmt::Write>(&self, f: &mut fmt::Formatter<W>) -> fmt::Result {
-        let text = match self {
+    /// What is printed of it.
+    fn text(self) -> &'static str {
+        match self {
             Ending::Gave => "gave",
             Ending::Kept => "refused, as before, gave",
             Ending::Wrong => "WRONG",
-        };
-        write!(f, "{text}")
+        }
     }
 }
 
@@ -113,7 +111,7 @@ pub fn try_call<T: Trial>(alloc: Global, call: T::Call) -> Result<Ending, Stop> 
 /// Prints how a call ended; of values that could not be made, which fault came up.
 pub fn print_ending<R: Print>(rt: &R, name: &str, ended: Result<Ending, Stop>) -> io::Result<()> {
     match ended {
-        Ok(ending) => println!(rt; "{name}: {ending}"),
+        Ok(ending) => println!(rt; "{name}: {}", ending.text()),
         Err(Stop(fault)) => println!(rt; "{name}: WRONG, {fault:?}"),
     }
 }
