@@ -33,6 +33,23 @@ LONGEST_WORD = 131_072
 READ_FAULT = "stabsim: refused 15 ReadFault\n"
 WRITE_FAULT = "stabsim: refused 16 WriteFault\n"
 OLD = "what was there before\n"
+# Texts of files of coins, and what four free outcomes are by them; none where the text is no list of coins.
+COIN_TEXTS = [
+    (b"", "0000"),
+    (b"\n", "0000"),
+    (b"\r\n", "0000"),
+    (b"0", "0000"),
+    (b"0110", "0110"),
+    (b"10\n", "1000"),
+    (b"1\r\n", "1000"),
+    (b"1\n\n", None),
+    (b"1\n0", None),
+    (b"1 0", None),
+    (b" 1", None),
+    (b"1\r", None),
+    (b"012", None),
+    (b"1\t", None),
+]
 
 wrong: list[str] = []
 
@@ -125,6 +142,9 @@ def try_closed(folder: pathlib.Path) -> None:
     expect("a closed input that is read", run(["sample"], closed=(0,)), (1, "", READ_FAULT))
     expect("a closed input that is not read", run(from_file, closed=(0,)), (0, "10\n", ""))
     expect("a closed script", run(["edit", "--in", str(circuit)], closed=(0,)), (1, "", READ_FAULT))
+    for command in ("sample", "detect", "stabilisers", "check", "deterministic", "faults"):
+        told = run([command, "--in", str(circuit)], closed=(0,))
+        expect(f"{command}, which reads no script", (told[0], told[2]), (0, ""))
     expect("a closed error output", run(["sample"], b"CX 0 0\n", closed=(2,)), (1, "", ""))
     expect("help with a closed output", run(["--help"], closed=(1,))[0], 1)
     for closed in ((1,), (2,), (0, 1, 2)):
@@ -161,6 +181,19 @@ def try_coins(folder: pathlib.Path) -> None:
     expect("coins up to the limit", run(["sample", *words]), (0, "00\n", ""))
     file.write_text("1" * (MOST_BYTES + 1))
     expect("coins over the limit", run(["sample", *words]), (1, "", f"{TOO_LONG}stabsim: {file}\n"))
+
+
+def try_texts_of_coins(folder: pathlib.Path) -> None:
+    """A file of coins has characters 0 and 1 and at most one line end behind them, and zeros follow; a word has no spacing either."""
+    circuit, file = folder / "four.stim", folder / "four.coins"
+    circuit.write_text("H 0 1 2 3\nM 0 1 2 3\n")
+    words = ["sample", "--in", str(circuit)]
+    for text, bits in COIN_TEXTS:
+        file.write_bytes(text)
+        wanted = (2, "", WRONG_COINS) if bits is None else (0, f"{bits}\n", "")
+        expect(f"a file of coins {text!r}", run([*words, "--coins_in", str(file)]), wanted)
+    for coins in ("1 0", " "):
+        expect(f"{coins!r} as the word of coins", run([*words, "--coins", coins]), (2, "", WRONG_COINS))
 
 
 def try_many_coins(folder: pathlib.Path) -> None:
@@ -210,7 +243,7 @@ def try_hint(folder: pathlib.Path) -> None:
 def main() -> int:
     with tempfile.TemporaryDirectory() as name:
         folder = pathlib.Path(name)
-        for case in (try_shared, try_older_file, try_paths, try_closed, try_coins, try_many_coins, try_hint):
+        for case in (try_shared, try_older_file, try_paths, try_closed, try_coins, try_texts_of_coins, try_many_coins, try_hint):
             case(folder)
     print(f"files and streams: {len(wrong)} cases went wrong")
     return 1 if wrong else 0
