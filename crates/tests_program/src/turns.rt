@@ -1,5 +1,5 @@
 //! What stands written when more of a script is asked for.
-use crate::runs::{job_of, words_of};
+use crate::jobs::{job_of, words_of};
 use stab_cli::{KeepsLog, LoggedInput, run_job_watched};
 use stab_pauli::{MemoryInput, MemoryOutput};
 use std::test::Fail;

@@ -1,7 +1,7 @@
 //! What the words of the command line ask for.
-use crate::runs::job_of;
-use stab_cli::{Job, Source, Usage, parse_words, read_coins, write_usage};
-use stab_pauli::{MemoryInput, MemoryOutput};
+use crate::jobs::job_of;
+use stab_cli::{Job, Source, Usage, write_usage};
+use stab_pauli::MemoryOutput;
 use std::alloc::Global;
 use std::test::Fail;
 
@@ -268,35 +268,6 @@ fn words_ask_for_a_job(rt: HostRuntime) -> Result<(), Fail> {
 }
 
 #[test]
-fn edit_alone_reads_a_script(rt: HostRuntime) -> Result<(), Fail> {
-    for (command, reads) in [
-        ("sample", false),
-        ("detect", false),
-        ("stabilisers", false),
-        ("check", false),
-        ("deterministic", false),
-        ("faults", false),
-        ("edit", true),
-    ] {
-        let job = job_of(rt.alloc(), &["stabsim", command])?;
-        assert_eq!(rt; job.reads_script(), reads, "{command}");
-    }
-    Ok(())
-}
-
-#[test]
-fn coins_are_characters_0_and_1(rt: HostRuntime) -> Result<(), Fail> {
-    for coins in ["1 0", " "] {
-        let text = match parse_words(rt.alloc(), &["stabsim", "sample", "--coins", coins]) {
-            Err(Usage::Fault(text)) => text,
-            _ => return Err(Fail::new(format_args!("{coins:?} are coins"))),
-        };
-        assert_eq!(rt; text.as_str(), "stabsim: coins are 0 and 1\n", "{coins:?}");
-    }
-    Ok(())
-}
-
-#[test]
 fn a_file_of_coins_is_named_and_not_yet_read(rt: HostRuntime) -> Result<(), Fail> {
     for command in ["sample", "detect", "stabilisers", "edit"] {
         let words = ["stabsim", command, "--seed", "7", "--coins_in", "a.coins"];
@@ -307,57 +278,6 @@ fn a_file_of_coins_is_named_and_not_yet_read(rt: HostRuntime) -> Result<(), Fail
     }
     let job = job_of(rt.alloc(), &["stabsim", "sample", "--coins", "1"])?;
     assert_eq!(rt; job.coins_path, None);
-    Ok(())
-}
-
-// Texts of files, and what reading them gives.
-const FILES: [(&str, &str); 14] = [
-    ("", "Ok([])"),
-    ("\n", "Ok([])"),
-    ("\r\n", "Ok([])"),
-    ("0", "Ok([false])"),
-    ("0110", "Ok([false, true, true, false])"),
-    ("10\n", "Ok([true, false])"),
-    ("1\r\n", "Ok([true])"),
-    ("1\n\n", "Err(Wrong)"),
-    ("1\n0", "Err(Wrong)"),
-    ("1 0", "Err(Wrong)"),
-    (" 1", "Err(Wrong)"),
-    ("1\r", "Err(Wrong)"),
-    ("012", "Err(Wrong)"),
-    ("1\t", "Err(Wrong)"),
-];
-
-#[test]
-fn a_file_of_coins_has_characters_0_and_1_and_one_line_end(rt: HostRuntime) -> Result<(), Fail> {
-    for (text, wanted) in FILES {
-        let read = read_coins(rt.alloc(), &mut MemoryInput::new(text.as_bytes()));
-        let told = format!(in rt.alloc(); "{read:?}")?;
-        assert_eq!(rt; told.as_str(), wanted, "{text:?}");
-    }
-    Ok(())
-}
-
-#[test]
-fn words_that_are_refused_memory_have_status_1(rt: HostRuntime) -> Result<(), Fail> {
-    let mut out = MemoryOutput::new(rt.alloc(), 99)?;
-    let mut err = MemoryOutput::new(rt.alloc(), 99)?;
-    let status = write_usage(&Usage::Memory, &mut out, &mut err);
-    let told = out.bytes().is_empty()
-        && err.bytes() == b"stabsim: refused 20 OutOfMemory\n".as_slice();
-    assert!(rt; told && status == 1);
-    Ok(())
-}
-
-#[test]
-fn help_that_cannot_be_written_has_status_1(rt: HostRuntime) -> Result<(), Fail> {
-    let help = Usage::Help(String::from_str(rt.alloc(), "help")?);
-    let mut out = MemoryOutput::new(rt.alloc(), 3)?;
-    let mut err = MemoryOutput::new(rt.alloc(), 99)?;
-    let status = write_usage(&help, &mut out, &mut err);
-    let told = out.bytes() == b"hel".as_slice()
-        && err.bytes() == b"stabsim: refused 16 WriteFault\n".as_slice();
-    assert!(rt; told && status == 1);
     Ok(())
 }
 
