@@ -142,9 +142,6 @@ def try_closed(folder: pathlib.Path) -> None:
     expect("a closed input that is read", run(["sample"], closed=(0,)), (1, "", READ_FAULT))
     expect("a closed input that is not read", run(from_file, closed=(0,)), (0, "10\n", ""))
     expect("a closed script", run(["edit", "--in", str(circuit)], closed=(0,)), (1, "", READ_FAULT))
-    for command in ("sample", "detect", "stabilisers", "check", "deterministic", "faults"):
-        told = run([command, "--in", str(circuit)], closed=(0,))
-        expect(f"{command}, which reads no script", (told[0], told[2]), (0, ""))
     expect("a closed error output", run(["sample"], b"CX 0 0\n", closed=(2,)), (1, "", ""))
     expect("help with a closed output", run(["--help"], closed=(1,))[0], 1)
     for closed in ((1,), (2,), (0, 1, 2)):
@@ -152,6 +149,16 @@ def try_closed(folder: pathlib.Path) -> None:
         status, _, _ = run([*from_file, "--out", str(out)], closed=closed)
         expect(f"a file written with {closed} closed", (status, out.read_text()), (0, "10\n"))
     expect("a circuit read with streams closed", circuit.read_text(), CIRCUIT)
+
+
+def try_unread_scripts(folder: pathlib.Path) -> None:
+    """No command but `edit` reads a script: where the circuit comes from a file, a closed input changes nothing."""
+    circuit = folder / "unread.stim"
+    circuit.write_text(CIRCUIT)
+    for command in ("sample", "detect", "stabilisers", "check", "deterministic", "faults"):
+        words = [command, "--in", str(circuit)]
+        status, written, told = run(words, closed=(0,))
+        expect(f"{command}, which reads no script", (status, written, told), (0, run(words)[1], ""))
 
 
 def try_coins(folder: pathlib.Path) -> None:
@@ -184,7 +191,7 @@ def try_coins(folder: pathlib.Path) -> None:
 
 
 def try_texts_of_coins(folder: pathlib.Path) -> None:
-    """A file of coins has characters 0 and 1 and at most one line end behind them, and zeros follow; a word has no spacing either."""
+    """A file of coins has characters 0 and 1 and at most one line end behind them, and zeros follow."""
     circuit, file = folder / "four.stim", folder / "four.coins"
     circuit.write_text("H 0 1 2 3\nM 0 1 2 3\n")
     words = ["sample", "--in", str(circuit)]
@@ -192,8 +199,12 @@ def try_texts_of_coins(folder: pathlib.Path) -> None:
         file.write_bytes(text)
         wanted = (2, "", WRONG_COINS) if bits is None else (0, f"{bits}\n", "")
         expect(f"a file of coins {text!r}", run([*words, "--coins_in", str(file)]), wanted)
+
+
+def try_words_of_coins(_: pathlib.Path) -> None:
+    """A word of coins has no spacing in it either."""
     for coins in ("1 0", " "):
-        expect(f"{coins!r} as the word of coins", run([*words, "--coins", coins]), (2, "", WRONG_COINS))
+        expect(f"{coins!r} as the word of coins", run(["sample", "--coins", coins]), (2, "", WRONG_COINS))
 
 
 def try_many_coins(folder: pathlib.Path) -> None:
@@ -243,7 +254,8 @@ def try_hint(folder: pathlib.Path) -> None:
 def main() -> int:
     with tempfile.TemporaryDirectory() as name:
         folder = pathlib.Path(name)
-        for case in (try_shared, try_older_file, try_paths, try_closed, try_coins, try_texts_of_coins, try_many_coins, try_hint):
+        for case in (try_shared, try_older_file, try_paths, try_closed, try_unread_scripts, try_coins, try_texts_of_coins, try_words_of_coins,
+                     try_many_coins, try_hint):
             case(folder)
     print(f"files and streams: {len(wrong)} cases went wrong")
     return 1 if wrong else 0

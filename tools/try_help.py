@@ -96,12 +96,17 @@ def try_ends() -> None:
         expect(is_ended and runs_as(lines, command), f"the example of {' '.join(words)}")
 
 
+def try_option(words: list[str], option: str) -> None:
+    """The help that these words ask for doesn't name the option."""
+    text = help_of(words)
+    expect(text != "" and option not in text, f"{option} is not named by {' '.join(words)}")
+
+
 def try_options() -> None:
     """Help names no option of another command."""
     for command, option in OF_OTHERS:
-        for words in ([command, "--help"], ["help", command]):
-            text = help_of(words)
-            expect(text != "" and option not in text, f"{option} is not named by {' '.join(words)}")
+        try_option([command, "--help"], option)
+        try_option(["help", command], option)
 
 
 def main() -> int:

@@ -225,17 +225,17 @@ def try_without_end() -> None:
         expect(f"{' '.join(words)} on {byte!r} without end", run_without_end(words, byte), (1, b"", TOO_LONG))
 
 
-def is_read(end: socket.socket) -> bool:
-    """Whether all that was sent from this end of a pair was read at the other."""
-    return fcntl.ioctl(end, termios.TIOCOUTQ, bytes(4)) == bytes(4)
+def wait_until_read(end: socket.socket) -> None:
+    """Waits until all that was sent from this end of a pair was read at the other."""
+    while fcntl.ioctl(end, termios.TIOCOUTQ, bytes(4)) != bytes(4):
+        pass
 
 
 def send_apart(end: socket.socket, given: bytes) -> None:
     """Sends bytes so that each is read by itself: the next one when the one before was read."""
     for place in range(len(given)):
         end.send(given[place : place + 1])
-        while not is_read(end):
-            pass
+        wait_until_read(end)
 
 
 def run_broken(circuit: pathlib.Path, given: bytes) -> Ended:
