@@ -18,7 +18,7 @@ fn text_of(alloc: Global, words: &[&str]) -> Result<String, Fail> {
 }
 
 // Words, and the text of their job.
-const JOBS: [(&[&str], &str); 48] = [
+const JOBS: &[(&[&str], &str)] = &[
     (
         &["stabsim", "sample"],
         "Sample { format: F01, shots: Shots { first: 0, number: 1 } } Seed(0) None None",
@@ -262,9 +262,21 @@ const JOBS: [(&[&str], &str); 48] = [
 fn words_ask_for_a_job(rt: HostRuntime) -> Result<(), Fail> {
     for (words, text) in JOBS {
         let asked = text_of(rt.alloc(), words)?;
-        assert_eq!(rt; asked.as_str(), text, "{words:?}");
+        assert_eq!(rt; asked.as_str(), *text, "{words:?}");
     }
     Ok(())
+}
+
+/// Whether a job names this file of coins, and has no coin yet.
+fn names_coins(job: &Job) -> bool {
+    let named = match &job.coins_path {
+        Some(path) => path.as_str() == "a.coins",
+        None => false,
+    };
+    match &job.source {
+        Source::List(coins) => named && coins.is_empty(),
+        _ => false,
+    }
 }
 
 #[test]
@@ -272,9 +284,7 @@ fn a_file_of_coins_is_named_and_not_yet_read(rt: HostRuntime) -> Result<(), Fail
     for command in ["sample", "detect", "stabilisers", "edit"] {
         let words = ["stabsim", command, "--seed", "7", "--coins_in", "a.coins"];
         let job = job_of(rt.alloc(), &words)?;
-        let path = job.coins_path.as_ref().map(|path| path.as_str());
-        assert_eq!(rt; path, Some("a.coins"), "{command}");
-        assert_eq!(rt; job.source, Source::List(Vec::new(rt.alloc())), "{command}");
+        assert!(rt; names_coins(&job), "{command}");
     }
     let job = job_of(rt.alloc(), &["stabsim", "sample", "--coins", "1"])?;
     assert_eq!(rt; job.coins_path, None);
