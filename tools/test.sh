@@ -19,6 +19,9 @@ tools/fuzz.py --laws --seconds 5
 tools/fuzz.py --faults --seconds 8
 tools/refuse.sh
 tools/try_files.py
+tools/try_help.py
+tools/try_hostile.py
+tools/try_edits.py
 tools/try_drive.sh
 tools/try_scaling.sh
 tools/try_python.sh

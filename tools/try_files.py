@@ -33,6 +33,23 @@ LONGEST_WORD = 131_072
 READ_FAULT = "stabsim: refused 15 ReadFault\n"
 WRITE_FAULT = "stabsim: refused 16 WriteFault\n"
 OLD = "what was there before\n"
+# Texts of files of coins, and what four free outcomes are by them; none where the text is no list of coins.
+COIN_TEXTS = [
+    (b"", "0000"),
+    (b"\n", "0000"),
+    (b"\r\n", "0000"),
+    (b"0", "0000"),
+    (b"0110", "0110"),
+    (b"10\n", "1000"),
+    (b"1\r\n", "1000"),
+    (b"1\n\n", None),
+    (b"1\n0", None),
+    (b"1 0", None),
+    (b" 1", None),
+    (b"1\r", None),
+    (b"012", None),
+    (b"1\t", None),
+]
 
 wrong: list[str] = []
 
@@ -134,6 +151,16 @@ def try_closed(folder: pathlib.Path) -> None:
     expect("a circuit read with streams closed", circuit.read_text(), CIRCUIT)
 
 
+def try_unread_scripts(folder: pathlib.Path) -> None:
+    """No command but `edit` reads a script: where the circuit comes from a file, a closed input changes nothing."""
+    circuit = folder / "unread.stim"
+    circuit.write_text(CIRCUIT)
+    for command in ("sample", "detect", "stabilisers", "check", "deterministic", "faults"):
+        words = [command, "--in", str(circuit)]
+        status, written, told = run(words, closed=(0,))
+        expect(f"{command}, which reads no script", (status, written, told), (0, run(words)[1], ""))
+
+
 def try_coins(folder: pathlib.Path) -> None:
     """Coins come from a file, also a list that no word can hold; else it is told why not, and nothing is written."""
     circuit, file, out = folder / "free.stim", folder / "free.coins", folder / "coins.out"
@@ -161,6 +188,23 @@ def try_coins(folder: pathlib.Path) -> None:
     expect("coins up to the limit", run(["sample", *words]), (0, "00\n", ""))
     file.write_text("1" * (MOST_BYTES + 1))
     expect("coins over the limit", run(["sample", *words]), (1, "", f"{TOO_LONG}stabsim: {file}\n"))
+
+
+def try_texts_of_coins(folder: pathlib.Path) -> None:
+    """A file of coins has characters 0 and 1 and at most one line end behind them, and zeros follow."""
+    circuit, file = folder / "four.stim", folder / "four.coins"
+    circuit.write_text("H 0 1 2 3\nM 0 1 2 3\n")
+    words = ["sample", "--in", str(circuit)]
+    for text, bits in COIN_TEXTS:
+        file.write_bytes(text)
+        wanted = (2, "", WRONG_COINS) if bits is None else (0, f"{bits}\n", "")
+        expect(f"a file of coins {text!r}", run([*words, "--coins_in", str(file)]), wanted)
+
+
+def try_words_of_coins(_: pathlib.Path) -> None:
+    """A word of coins has no spacing in it either."""
+    for coins in ("1 0", " "):
+        expect(f"{coins!r} as the word of coins", run(["sample", "--coins", coins]), (2, "", WRONG_COINS))
 
 
 def try_many_coins(folder: pathlib.Path) -> None:
@@ -210,7 +254,8 @@ def try_hint(folder: pathlib.Path) -> None:
 def main() -> int:
     with tempfile.TemporaryDirectory() as name:
         folder = pathlib.Path(name)
-        for case in (try_shared, try_older_file, try_paths, try_closed, try_coins, try_many_coins, try_hint):
+        for case in (try_shared, try_older_file, try_paths, try_closed, try_unread_scripts, try_coins, try_texts_of_coins, try_words_of_coins,
+                     try_many_coins, try_hint):
             case(folder)
     print(f"files and streams: {len(wrong)} cases went wrong")
     return 1 if wrong else 0

@@ -1,19 +1,11 @@
-//! Tests of whole runs of the program, over devices in memory: what needs an input without end, a loop or
-//! a computed expectation. Worked examples stand as rows in `crates/rows`.
+//! Tests of the command line that no run of the program shows: the fields of a job, an output that can't be
+//! flushed, and reads in turn with what stands written. Worked examples of runs stand as rows in `crates/rows`.
 #![tactic(auto)]
 
 #[cfg(test)]
 mod clauses;
 #[cfg(test)]
-mod help;
-#[cfg(test)]
-mod hostile;
-#[cfg(test)]
-mod random_edits;
-#[cfg(test)]
-mod runs;
-#[cfg(test)]
-mod seeds;
+mod jobs;
 #[cfg(test)]
 mod turns;
 #[cfg(test)]

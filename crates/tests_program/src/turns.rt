@@ -1,7 +1,8 @@
 //! What stands written when more of a script is asked for.
-use crate::runs::{job_of, words_of};
-use stab_cli::{KeepsLog, LoggedInput, run_job_watched};
+use crate::jobs::job_of;
+use stab_cli::{KeepsLog, LoggedInput, LoggedRead, run_job_watched};
 use stab_pauli::{MemoryInput, MemoryOutput};
+use std::alloc::{AllocError, Global};
 use std::test::Fail;
 
 /// Lines of 13, 13 and 18 bytes, whose replies have 3, 3 and 2.
@@ -11,31 +12,49 @@ const SCRIPT: &[u8] = b"insert 0 X 0\ninsert 1 M 0\nshow measurements\n";
 /// when it is made. The last read finds the end.
 const READS: [(usize, usize); 5] = [(13, 0), (13, 3), (13, 6), (5, 6), (0, 8)];
 
-#[test]
-fn each_reply_stands_before_more_of_the_script_is_asked_for(rt: HostRuntime) -> Result<(), Fail> {
-    let alloc = rt.alloc();
-    let words = words_of(alloc, "stabsim edit --qubits 1")?;
-    let job = job_of(alloc, words.as_slice())?;
-    let mut script = LoggedInput::new(alloc, SCRIPT, 13);
-    let mut out = MemoryOutput::new(alloc, 64)?;
+/// Runs a session of one qubit with this script, and gives the status.
+fn run_session(
+    alloc: Global,
+    script: &mut LoggedInput,
+    out: &mut MemoryOutput,
+) -> Result<u8, Fail> {
+    let job = job_of(alloc, &["stabsim", "edit", "--qubits", "1"])?;
     let mut err = MemoryOutput::new(alloc, 64)?;
     let status = run_job_watched::<_, _, _, _, KeepsLog>(
         alloc,
         &job,
         &mut MemoryInput::new(b""),
-        &mut script,
-        &mut out,
+        script,
+        out,
         &mut err,
     );
-    let mut reads: Vec<(usize, usize)> = Vec::new(alloc);
-    if let Some(log) = script.reads() {
-        for read in log {
-            reads.push((read.given().len(), read.written()))?;
-        }
+    Ok(status)
+}
+
+/// How many bytes each read handed over, and how many stood written when it was made.
+fn reads_of(alloc: Global, log: &[LoggedRead]) -> Result<Vec<(usize, usize)>, AllocError> {
+    let mut reads = Vec::new(alloc);
+    for read in log {
+        reads.push((read.given().len(), read.written()))?;
     }
-    let in_turn = status == 0
-        && out.bytes() == b"ok\nok\n1\n".as_slice()
-        && reads.as_slice() == READS.as_slice();
-    assert!(rt; in_turn, "status {status}, reads {reads:?}");
+    Ok(reads)
+}
+
+/// Whether the reads were those of `READS`.
+fn is_in_turn(alloc: Global, script: &LoggedInput) -> Result<bool, AllocError> {
+    match script.reads() {
+        Some(log) => Ok(reads_of(alloc, log)?.as_slice() == READS.as_slice()),
+        None => Ok(false),
+    }
+}
+
+#[test]
+fn each_reply_stands_before_more_of_the_script_is_asked_for(rt: HostRuntime) -> Result<(), Fail> {
+    let mut script = LoggedInput::new(rt.alloc(), SCRIPT, 13);
+    let mut out = MemoryOutput::new(rt.alloc(), 64)?;
+    let status = run_session(rt.alloc(), &mut script, &mut out)?;
+    let in_turn = is_in_turn(rt.alloc(), &script)?;
+    let replied = status == 0 && out.bytes() == b"ok\nok\n1\n".as_slice();
+    assert!(rt; in_turn && replied, "status {status}, in turn {in_turn}");
     Ok(())
 }

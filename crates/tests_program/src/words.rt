@@ -1,299 +1,237 @@
 //! What the words of the command line ask for.
-use crate::runs::job_of;
-use stab_cli::{Job, Source, Usage, parse_words, read_coins, write_usage};
-use stab_pauli::{MemoryInput, MemoryOutput};
+use crate::jobs::job_of;
+use stab_cli::{Job, Source, Usage, write_usage};
+use stab_pauli::MemoryOutput;
 use std::alloc::Global;
 use std::test::Fail;
 
+/// The job that a line asks for. One space parts its words, so that one may be empty.
+fn job_of_line(alloc: Global, line: &str) -> Result<Job, Fail> {
+    let words: Vec<&str> = line.split(' ').collect(alloc)?;
+    job_of(alloc, words.as_slice())
+}
+
 /// The text of a job: its command, where its coins come from, and the files that it reads and writes.
-fn text_of(alloc: Global, words: &[&str]) -> Result<String, Fail> {
+fn text_of(alloc: Global, line: &str) -> Result<String, Fail> {
     let Job {
         command,
         source,
         coins_path: _,
         in_path,
         out_path,
-    } = job_of(alloc, words)?;
+    } = job_of_line(alloc, line)?;
     Ok(format!(in alloc; "{command:?} {source:?} {in_path:?} {out_path:?}")?)
 }
 
-// Words, and the text of their job.
-const JOBS: [(&[&str], &str); 48] = [
+// Lines of words, and the text of their job.
+const JOBS: &[(&str, &str)] = &[
     (
-        &["stabsim", "sample"],
+        "stabsim sample",
         "Sample { format: F01, shots: Shots { first: 0, number: 1 } } Seed(0) None None",
     ),
     (
-        &["stabsim", "detect"],
+        "stabsim detect",
         "Detect { format: F01, shots: Shots { first: 0, number: 1 }, append: false } Seed(0) None None",
     ),
     (
-        &[
-            "stabsim",
-            "sample",
-            "--shots",
-            "12",
-            "--out_format",
-            "dets",
-            "--seed",
-            "34",
-            "--in",
-            "a.stim",
-            "--out",
-            "b/c.dets",
-        ],
+        "stabsim sample --shots 12 --out_format dets --seed 34 --in a.stim --out b/c.dets",
         "Sample { format: Dets, shots: Shots { first: 0, number: 12 } } Seed(34) Some(\"a.stim\") Some(\"b/c.dets\")",
     ),
     (
-        &[
-            "stabsim",
-            "detect",
-            "--out",
-            "b/c.dets",
-            "--append_observables",
-            "--in=a.stim",
-            "--seed=34",
-            "--out_format=dets",
-            "--shots=12",
-        ],
+        "stabsim detect --out b/c.dets --append_observables --in=a.stim --seed=34 --out_format=dets --shots=12",
         "Detect { format: Dets, shots: Shots { first: 0, number: 12 }, append: true } Seed(34) Some(\"a.stim\") Some(\"b/c.dets\")",
     ),
     (
-        &["stabsim", "sample", "--first_shot", "5", "--shots=2"],
+        "stabsim sample --first_shot 5 --shots=2",
         "Sample { format: F01, shots: Shots { first: 5, number: 2 } } Seed(0) None None",
     ),
     (
-        &["stabsim", "detect", "--first_shot=18446744073709551615"],
+        "stabsim detect --first_shot=18446744073709551615",
         "Detect { format: F01, shots: Shots { first: 18446744073709551615, number: 1 }, append: false } Seed(0) None None",
     ),
     (
-        &["stabsim", "sample", "--out_format", "01"],
+        "stabsim sample --out_format 01",
         "Sample { format: F01, shots: Shots { first: 0, number: 1 } } Seed(0) None None",
     ),
     (
-        &["stabsim", "sample", "--out_format", "b8"],
+        "stabsim sample --out_format b8",
         "Sample { format: B8, shots: Shots { first: 0, number: 1 } } Seed(0) None None",
     ),
     (
-        &["stabsim", "sample", "--out_format", "r8"],
+        "stabsim sample --out_format r8",
         "Sample { format: R8, shots: Shots { first: 0, number: 1 } } Seed(0) None None",
     ),
     (
-        &["stabsim", "sample", "--out_format", "hits"],
+        "stabsim sample --out_format hits",
         "Sample { format: Hits, shots: Shots { first: 0, number: 1 } } Seed(0) None None",
     ),
     (
-        &["stabsim", "sample", "--out_format", "dets"],
+        "stabsim sample --out_format dets",
         "Sample { format: Dets, shots: Shots { first: 0, number: 1 } } Seed(0) None None",
     ),
     (
-        &["stabsim", "sample", "--shots", "0"],
+        "stabsim sample --shots 0",
         "Sample { format: F01, shots: Shots { first: 0, number: 0 } } Seed(0) None None",
     ),
     (
-        &["stabsim", "sample", "--shots", "1"],
+        "stabsim sample --shots 1",
         "Sample { format: F01, shots: Shots { first: 0, number: 1 } } Seed(0) None None",
     ),
     (
-        &["stabsim", "sample", "--shots", "007"],
+        "stabsim sample --shots 007",
         "Sample { format: F01, shots: Shots { first: 0, number: 7 } } Seed(0) None None",
     ),
     (
-        &["stabsim", "sample", "--shots", "+7"],
+        "stabsim sample --shots +7",
         "Sample { format: F01, shots: Shots { first: 0, number: 7 } } Seed(0) None None",
     ),
     (
-        &["stabsim", "sample", "--shots", "1000000"],
+        "stabsim sample --shots 1000000",
         "Sample { format: F01, shots: Shots { first: 0, number: 1000000 } } Seed(0) None None",
     ),
     (
-        &["stabsim", "sample", "--seed", "7"],
+        "stabsim sample --seed 7",
         "Sample { format: F01, shots: Shots { first: 0, number: 1 } } Seed(7) None None",
     ),
     (
-        &["stabsim", "detect", "--seed", "007"],
+        "stabsim detect --seed 007",
         "Detect { format: F01, shots: Shots { first: 0, number: 1 }, append: false } Seed(7) None None",
     ),
     (
-        &["stabsim", "sample", "--seed", "+7"],
+        "stabsim sample --seed +7",
         "Sample { format: F01, shots: Shots { first: 0, number: 1 } } Seed(7) None None",
     ),
     (
-        &["stabsim", "sample", "--seed", "18446744073709551615"],
+        "stabsim sample --seed 18446744073709551615",
         "Sample { format: F01, shots: Shots { first: 0, number: 1 } } Seed(18446744073709551615) None None",
     ),
     (
-        &["stabsim", "sample", "--coins", "1"],
+        "stabsim sample --coins 1",
         "Sample { format: F01, shots: Shots { first: 0, number: 1 } } List([true]) None None",
     ),
     (
-        &["stabsim", "detect", "--coins", "0110"],
+        "stabsim detect --coins 0110",
         "Detect { format: F01, shots: Shots { first: 0, number: 1 }, append: false } List([false, true, true, false]) None None",
     ),
     (
-        &["stabsim", "sample", "--coins=10"],
+        "stabsim sample --coins=10",
         "Sample { format: F01, shots: Shots { first: 0, number: 1 } } List([true, false]) None None",
     ),
     (
-        &["stabsim", "sample", "--coins", ""],
+        "stabsim sample --coins ",
         "Sample { format: F01, shots: Shots { first: 0, number: 1 } } List([]) None None",
     ),
     (
-        &["stabsim", "sample", "--coins="],
+        "stabsim sample --coins=",
         "Sample { format: F01, shots: Shots { first: 0, number: 1 } } List([]) None None",
     ),
     (
-        &["stabsim", "sample", "--seed", "7", "--coins", "10"],
+        "stabsim sample --seed 7 --coins 10",
         "Sample { format: F01, shots: Shots { first: 0, number: 1 } } List([true, false]) None None",
     ),
     (
-        &["stabsim", "detect", "--coins", "10", "--seed", "7"],
+        "stabsim detect --coins 10 --seed 7",
         "Detect { format: F01, shots: Shots { first: 0, number: 1 }, append: false } List([true, false]) None None",
     ),
     (
-        &["stabsim", "sample", "--seed", "7", "--coins", ""],
+        "stabsim sample --seed 7 --coins ",
         "Sample { format: F01, shots: Shots { first: 0, number: 1 } } List([]) None None",
     ),
     (
-        &["stabsim", "edit"],
+        "stabsim edit",
         "Edit { framed: false, qubits: None, stride: Stride { steps: 8192 } } Seed(0) None None",
     ),
     (
-        &["stabsim", "edit", "--qubits", "0"],
+        "stabsim edit --qubits 0",
         "Edit { framed: false, qubits: Some(QubitCount { number: 0 }), stride: Stride { steps: 8192 } } Seed(0) None None",
     ),
     (
-        &["stabsim", "edit", "--qubits", "0017"],
+        "stabsim edit --qubits 0017",
         "Edit { framed: false, qubits: Some(QubitCount { number: 17 }), stride: Stride { steps: 8192 } } Seed(0) None None",
     ),
     (
-        &["stabsim", "edit", "--stride=1", "--qubits=1024"],
+        "stabsim edit --stride=1 --qubits=1024",
         "Edit { framed: false, qubits: Some(QubitCount { number: 1024 }), stride: Stride { steps: 1 } } Seed(0) None None",
     ),
     (
-        &["stabsim", "edit", "--framed"],
+        "stabsim edit --framed",
         "Edit { framed: true, qubits: None, stride: Stride { steps: 8192 } } Seed(0) None None",
     ),
     (
-        &["stabsim", "edit", "--stride", "65536"],
+        "stabsim edit --stride 65536",
         "Edit { framed: false, qubits: None, stride: Stride { steps: 65536 } } Seed(0) None None",
     ),
     (
-        &[
-            "stabsim",
-            "edit",
-            "--seed=34",
-            "--out",
-            "b/c.01",
-            "--in",
-            "a.stim",
-        ],
+        "stabsim edit --seed=34 --out b/c.01 --in a.stim",
         "Edit { framed: false, qubits: None, stride: Stride { steps: 8192 } } Seed(34) Some(\"a.stim\") Some(\"b/c.01\")",
     ),
-    (&["stabsim", "stabilisers"], "Stabilisers Seed(0) None None"),
+    ("stabsim stabilisers", "Stabilisers Seed(0) None None"),
     (
-        &[
-            "stabsim",
-            "stabilisers",
-            "--seed=34",
-            "--out",
-            "b/c.rows",
-            "--in",
-            "a.stim",
-        ],
+        "stabsim stabilisers --seed=34 --out b/c.rows --in a.stim",
         "Stabilisers Seed(34) Some(\"a.stim\") Some(\"b/c.rows\")",
     ),
     (
-        &["stabsim", "stabilisers", "--seed", "7", "--coins", "10"],
+        "stabsim stabilisers --seed 7 --coins 10",
         "Stabilisers List([true, false]) None None",
     ),
     (
-        &["stabsim", "stabilizers", "--coins=1", "--in", "a.stim"],
+        "stabsim stabilizers --coins=1 --in a.stim",
         "Stabilisers List([true]) Some(\"a.stim\") None",
     ),
-    (&["stabsim", "check"], "Check Seed(0) None None"),
+    ("stabsim check", "Check Seed(0) None None"),
     (
-        &["stabsim", "check", "--out=b.txt", "--in", "a.stim"],
+        "stabsim check --out=b.txt --in a.stim",
         "Check Seed(0) Some(\"a.stim\") Some(\"b.txt\")",
     ),
     (
-        &["stabsim", "deterministic"],
+        "stabsim deterministic",
         "Deterministic { format: F01 } Seed(0) None None",
     ),
     (
-        &[
-            "stabsim",
-            "deterministic",
-            "--out_format=hits",
-            "--in",
-            "a.stim",
-        ],
+        "stabsim deterministic --out_format=hits --in a.stim",
         "Deterministic { format: Hits } Seed(0) Some(\"a.stim\") None",
     ),
     (
-        &["stabsim", "faults"],
+        "stabsim faults",
         "Faults { layout: Lines, everywhere: false, sure_only: false } Seed(0) None None",
     ),
     (
-        &["stabsim", "faults", "--everywhere", "--out=b.txt"],
+        "stabsim faults --everywhere --out=b.txt",
         "Faults { layout: Lines, everywhere: true, sure_only: false } Seed(0) None Some(\"b.txt\")",
     ),
     (
-        &["stabsim", "faults", "--sure_only", "--out_format", "01"],
+        "stabsim faults --sure_only --out_format 01",
         "Faults { layout: Shots(F01), everywhere: false, sure_only: true } Seed(0) None None",
     ),
     (
-        &["stabsim", "faults", "--out_format", "r8"],
+        "stabsim faults --out_format r8",
         "Faults { layout: Shots(R8), everywhere: false, sure_only: false } Seed(0) None None",
     ),
     (
-        &[
-            "stabsim",
-            "faults",
-            "--out_format=dets",
-            "--sure_only",
-            "--everywhere",
-        ],
+        "stabsim faults --out_format=dets --sure_only --everywhere",
         "Faults { layout: Shots(Dets), everywhere: true, sure_only: true } Seed(0) None None",
     ),
 ];
 
 #[test]
 fn words_ask_for_a_job(rt: HostRuntime) -> Result<(), Fail> {
-    for (words, text) in JOBS {
-        let asked = text_of(rt.alloc(), words)?;
-        assert_eq!(rt; asked.as_str(), text, "{words:?}");
+    for (line, text) in JOBS {
+        let asked = text_of(rt.alloc(), line)?;
+        assert_eq!(rt; asked.as_str(), *text, "{line:?}");
     }
     Ok(())
 }
 
-#[test]
-fn edit_alone_reads_a_script(rt: HostRuntime) -> Result<(), Fail> {
-    for (command, reads) in [
-        ("sample", false),
-        ("detect", false),
-        ("stabilisers", false),
-        ("check", false),
-        ("deterministic", false),
-        ("faults", false),
-        ("edit", true),
-    ] {
-        let job = job_of(rt.alloc(), &["stabsim", command])?;
-        assert_eq!(rt; job.reads_script(), reads, "{command}");
+/// Whether a job names this file of coins, and has no coin yet.
+fn names_coins(job: &Job) -> bool {
+    let named = match &job.coins_path {
+        Some(path) => path.as_str() == "a.coins",
+        None => false,
+    };
+    match &job.source {
+        Source::List(coins) => named && coins.is_empty(),
+        _ => false,
     }
-    Ok(())
-}
-
-#[test]
-fn coins_are_characters_0_and_1(rt: HostRuntime) -> Result<(), Fail> {
-    for coins in ["1 0", " "] {
-        let text = match parse_words(rt.alloc(), &["stabsim", "sample", "--coins", coins]) {
-            Err(Usage::Fault(text)) => text,
-            _ => return Err(Fail::new(format_args!("{coins:?} are coins"))),
-        };
-        assert_eq!(rt; text.as_str(), "stabsim: coins are 0 and 1\n", "{coins:?}");
-    }
-    Ok(())
 }
 
 #[test]
@@ -301,63 +239,10 @@ fn a_file_of_coins_is_named_and_not_yet_read(rt: HostRuntime) -> Result<(), Fail
     for command in ["sample", "detect", "stabilisers", "edit"] {
         let words = ["stabsim", command, "--seed", "7", "--coins_in", "a.coins"];
         let job = job_of(rt.alloc(), &words)?;
-        let path = job.coins_path.as_ref().map(|path| path.as_str());
-        assert_eq!(rt; path, Some("a.coins"), "{command}");
-        assert_eq!(rt; job.source, Source::List(Vec::new(rt.alloc())), "{command}");
+        assert!(rt; names_coins(&job), "{command}");
     }
     let job = job_of(rt.alloc(), &["stabsim", "sample", "--coins", "1"])?;
     assert_eq!(rt; job.coins_path, None);
-    Ok(())
-}
-
-// Texts of files, and what reading them gives.
-const FILES: [(&str, &str); 14] = [
-    ("", "Ok([])"),
-    ("\n", "Ok([])"),
-    ("\r\n", "Ok([])"),
-    ("0", "Ok([false])"),
-    ("0110", "Ok([false, true, true, false])"),
-    ("10\n", "Ok([true, false])"),
-    ("1\r\n", "Ok([true])"),
-    ("1\n\n", "Err(Wrong)"),
-    ("1\n0", "Err(Wrong)"),
-    ("1 0", "Err(Wrong)"),
-    (" 1", "Err(Wrong)"),
-    ("1\r", "Err(Wrong)"),
-    ("012", "Err(Wrong)"),
-    ("1\t", "Err(Wrong)"),
-];
-
-#[test]
-fn a_file_of_coins_has_characters_0_and_1_and_one_line_end(rt: HostRuntime) -> Result<(), Fail> {
-    for (text, wanted) in FILES {
-        let read = read_coins(rt.alloc(), &mut MemoryInput::new(text.as_bytes()));
-        let told = format!(in rt.alloc(); "{read:?}")?;
-        assert_eq!(rt; told.as_str(), wanted, "{text:?}");
-    }
-    Ok(())
-}
-
-#[test]
-fn words_that_are_refused_memory_have_status_1(rt: HostRuntime) -> Result<(), Fail> {
-    let mut out = MemoryOutput::new(rt.alloc(), 99)?;
-    let mut err = MemoryOutput::new(rt.alloc(), 99)?;
-    let status = write_usage(&Usage::Memory, &mut out, &mut err);
-    let told = out.bytes().is_empty()
-        && err.bytes() == b"stabsim: refused 20 OutOfMemory\n".as_slice();
-    assert!(rt; told && status == 1);
-    Ok(())
-}
-
-#[test]
-fn help_that_cannot_be_written_has_status_1(rt: HostRuntime) -> Result<(), Fail> {
-    let help = Usage::Help(String::from_str(rt.alloc(), "help")?);
-    let mut out = MemoryOutput::new(rt.alloc(), 3)?;
-    let mut err = MemoryOutput::new(rt.alloc(), 99)?;
-    let status = write_usage(&help, &mut out, &mut err);
-    let told = out.bytes() == b"hel".as_slice()
-        && err.bytes() == b"stabsim: refused 16 WriteFault\n".as_slice();
-    assert!(rt; told && status == 1);
     Ok(())
 }
 
