@@ -37,20 +37,20 @@ fn fits(bits: usize, lanes: usize) -> bool {
     bits <= MOST_BYTES / (lanes / 8 + BYTES_ON_ITS_WAY)
 }
 
+/// Numbers of lanes, the most first.
+const WIDTHS: [usize; 5] = [1_024, 512, 384, 320, 256];
+
 /// How many shots go at once, of which each has so many bits.
 fn most_lanes(bits: usize) -> usize
     ensures some { 0 < result }
     ensures few { result ≤ 1024 }
 {
-    if fits(bits, 1_024) {
-        1_024
-    } else if fits(bits, 512) {
-        512
-    } else if fits(bits, 256) {
-        256
-    } else {
-        64
+    for lanes in WIDTHS {
+        if fits(bits, lanes) {
+            return lanes;
+        }
     }
+    64
 }
 
 /// How many shots go through a circuit at once, where so many are asked for.
