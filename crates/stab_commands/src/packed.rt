@@ -1,5 +1,5 @@
 //! The bits of lanes in the formats `01` and `b8`, for eight lanes at a time.
-ghost use Rattle.std.specs.Prelude.{◌≡◌, ℕ, ◌+◌, ◌<◌, ◌≤◌, List, length};
+ghost use Rattle.std.specs.Prelude.{◌≡◌, ℕ, ◌+◌, ◌*◌, ◌<◌, ◌≤◌, List, length};
 ghost use Rattle.stab_io.specs.Devices.{WritesAllOrFault};
 ghost use Rattle.stab_results.specs.Formats.{f01_bytes, b8_bytes};
 ghost use Rattle.stab_shots.specs.Words.{word_bit};
@@ -134,6 +134,90 @@ fn send_part<O: Output>(
     Ok(())
 }
 
+/// Writes the bits of so many of the first 64 lanes, one lane after another.
+fn send_first_part<O: Output, W: Word>(
+    alloc: Global,
+    out: &mut O,
+    packing: Packing,
+    words: &[W],
+    lanes: usize,
+) -> Result<(), Fault>
+    requires in_range { lanes ≤ W.lanes }
+    requires few { lanes ≤ 64 }
+    requires some { 0 < lanes }
+    ensures sends { (first : ℕ) (bytes_of : ℕ → List ℕ) → ((l : ℕ) → l < lanes → packed_bytes packing (lane_bits W.at l words.now) ≡ bytes_of (first + l)) → SendsUnflushed (of_shots bytes_of first lanes) (O.seen out.old) (O.seen out.new) result }
+{
+    let mut part = vec![in alloc; 0; words.len()]?;
+    write_part(words, 0, part.as_mut_slice());
+    send_part(alloc, out, packing, part.as_slice(), lanes)
+}
+
+/// Writes the bits of the 64 lanes from 64 * place on, and those of the 64 from 64 * next on, of words of more.
+fn write_two_parts<W: Word>(
+    words: &[W],
+    place: usize,
+    next: usize,
+    first: &mut [u64],
+    second: &mut [u64],
+)
+    requires in_range { 64 * place + 64 ≤ W.lanes }
+    requires next_in_range { 64 * next + 64 ≤ W.lanes }
+    requires as_many { length first.old ≡ length words.now }
+    requires second_as_many { length second.old ≡ length words.now }
+    ensures size { length first.new ≡ length first.old }
+    ensures second_size { length second.new ≡ length second.old }
+    ensures value { (l : ℕ) → l < 64 → lane_bits word_bit l first.new ≡ lane_bits W.at (64 * place + l) words.now }
+    ensures second { (l : ℕ) → l < 64 → lane_bits word_bit l second.new ≡ lane_bits W.at (64 * next + l) words.now }
+{
+    // A word of many lanes is fetched from far, so that two of its parts are taken at once.
+    for k in 0..words.len() {
+        first[k] = words[k].part(place);
+        second[k] = words[k].part(next);
+    }
+}
+
+/// Writes the bits of so many of 128 lanes, one lane after another: 64 of one list, and behind them those of another.
+fn send_two_parts<O: Output>(
+    alloc: Global,
+    out: &mut O,
+    packing: Packing,
+    first: &[u64],
+    second: &[u64],
+    lanes: usize,
+) -> Result<(), Fault>
+    requires in_range { lanes ≤ 128 }
+    ensures sends { (start : ℕ) (bytes_of : ℕ → List ℕ) → ((l : ℕ) → l < 64 → l < lanes → packed_bytes packing (lane_bits word_bit l first.now) ≡ bytes_of (start + l)) → ((l : ℕ) → 64 + l < lanes → packed_bytes packing (lane_bits word_bit l second.now) ≡ bytes_of (start + 64 + l)) → SendsUnflushed (of_shots bytes_of start lanes) (O.seen out.old) (O.seen out.new) result }
+{
+    let front = lanes.min(64);
+    send_part(alloc, out, packing, first, front)?;
+    send_part(alloc, out, packing, second, lanes - front)
+}
+
+/// Writes the bits of so many lanes, one lane after another, for 128 lanes at a time.
+fn send_all_parts<O: Output, W: Word>(
+    alloc: Global,
+    out: &mut O,
+    packing: Packing,
+    words: &[W],
+    lanes: usize,
+) -> Result<(), Fault>
+    requires in_range { lanes ≤ W.lanes }
+    ensures sends { (first : ℕ) (bytes_of : ℕ → List ℕ) → ((l : ℕ) → l < lanes → packed_bytes packing (lane_bits W.at l words.now) ≡ bytes_of (first + l)) → SendsUnflushed (of_shots bytes_of first lanes) (O.seen out.old) (O.seen out.new) result }
+{
+    let mut one = vec![in alloc; 0; words.len()]?;
+    let mut two = vec![in alloc; 0; words.len()]?;
+    let mut sent = 0;
+    while sent < lanes {
+        let some = (lanes - sent).min(128);
+        let place = sent / 64;
+        let next = if some > 64 { place + 1 } else { place };
+        write_two_parts(words, place, next, one.as_mut_slice(), two.as_mut_slice());
+        send_two_parts(alloc, out, packing, one.as_slice(), two.as_slice(), some)?;
+        sent += some;
+    }
+    Ok(())
+}
+
 /// Writes the bits of so many lanes, one lane after another.
 pub(crate) fn send_packed<O: Output, W: Word>(
     alloc: Global,
@@ -145,13 +229,9 @@ pub(crate) fn send_packed<O: Output, W: Word>(
     requires in_range { lanes ≤ W.lanes }
     ensures sends { (first : ℕ) (bytes_of : ℕ → List ℕ) → ((l : ℕ) → l < lanes → packed_bytes packing (lane_bits W.at l words.now) ≡ bytes_of (first + l)) → SendsUnflushed (of_shots bytes_of first lanes) (O.seen out.old) (O.seen out.new) result }
 {
-    let mut part = vec![in alloc; 0; words.len()]?;
-    let mut sent = 0;
-    while sent < lanes {
-        let some = (lanes - sent).min(64);
-        write_part(words, sent / 64, part.as_mut_slice());
-        send_part(alloc, out, packing, part.as_slice(), some)?;
-        sent += some;
+    match lanes {
+        0 => Ok(()),
+        1..=64 => send_first_part(alloc, out, packing, words, lanes),
+        _ => send_all_parts(alloc, out, packing, words, lanes),
     }
-    Ok(())
 }

@@ -9,11 +9,9 @@ use stab_circuit::{Circuit, Cursor, Step, Steps};
 use stab_io::{Fault, Refusal};
 use std::alloc::Global;
 
-/// How many bytes the bits of shots that go at once take at most, but for the room that a growing list keeps free.
+/// How many bytes the bits of shots that go at once take at most, but for the room that a growing list keeps free. On its way
+/// out a bit of all of them takes up to 19 bytes more.
 const MOST_BYTES: usize = 16 * 1024 * 1024;
-
-/// How many bytes a bit of all lanes takes on its way out, beside its own.
-const BYTES_ON_ITS_WAY: usize = 11;
 
 /// How many steps are passed together at most: as many as one instruction has.
 const MOST_TOGETHER: usize = usize::MAX;
@@ -34,11 +32,11 @@ fn bits_of_shot(alloc: Global, circuit: &Circuit) -> Result<usize, Refusal>
 
 /// Whether the bits of so many lanes, so many in each, stay within the bytes that they may take.
 fn fits(bits: usize, lanes: usize) -> bool {
-    bits <= MOST_BYTES / (lanes / 8 + BYTES_ON_ITS_WAY)
+    bits.saturating_mul(lanes / 8) <= MOST_BYTES
 }
 
 /// Numbers of lanes, the most first.
-const WIDTHS: [usize; 5] = [1_024, 512, 384, 320, 256];
+const WIDTHS: [usize; 5] = [1_024, 512, 448, 384, 256];
 
 /// How many shots go at once, of which each has so many bits.
 fn most_lanes(bits: usize) -> usize
