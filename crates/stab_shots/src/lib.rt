@@ -6,7 +6,7 @@
 //!
 //! In the order in which data flows; each module uses only those before it:
 //!
-//! - `word`, `wide`: so many bits, one for each lane; those of 64 lanes, and of 256.
+//! - `word`, `wide`: so many bits, one for each lane; those of 64 lanes, and of 64 N.
 //! - `letters`: the letters of all lanes at a qubit, and what gates make of them.
 //! - `repeated`: lists of so many times the same value.
 //! - `frames`: a Pauli string for each lane.
@@ -15,7 +15,7 @@
 //! - `step`: one step, on a tableau and all lanes.
 //! - `steps`: the steps of one instruction.
 //! - `run`: all steps of a circuit.
-//! - `coins`, `seeds`, `wide_seeds`: the coins of all lanes, and those of 64 or 256 shots of a seed.
+//! - `coins`, `seeds`, `wide_seeds`: the coins of all lanes, and those of 64 or 64 N shots of a seed.
 //! - `squares`: the bits of lanes as bytes, for eight lanes at a time.
 //! - `shots`: so many shots of a circuit, at once.
 //!
