@@ -18,9 +18,8 @@ import time
 TOP = pathlib.Path(__file__).resolve().parent.parent
 PROGRAM = TOP / "crates" / "stabsim" / "out" / "stabsim"
 CALLS = 5
-MANY = 2_561
-LONG_RUN = 0.02
-MANY_LONG = 1_025
+# One shot, and as many behind it as fill batches of any width from 64 lanes to 1,024, but for 384.
+MANY = 7_169
 
 
 def least(program: pathlib.Path, words: list[str]) -> float:
@@ -42,11 +41,10 @@ def line_of(program: pathlib.Path, path: pathlib.Path) -> str:
     """The line of a circuit."""
     one = least(program, ["sample", "--out_format", "b8", "--in", str(path)])
     run = one - least(program, ["--version"])
-    many = MANY if one < LONG_RUN else MANY_LONG
     cells = [path.stem, two_digits(run * 1e3)]
     for form in ("b8", "01"):
-        all_shots = least(program, ["sample", "--shots", str(many), "--out_format", form, "--in", str(path)])
-        further = (all_shots - one) / (many - 1)
+        all_shots = least(program, ["sample", "--shots", str(MANY), "--out_format", form, "--in", str(path)])
+        further = (all_shots - one) / (MANY - 1)
         cells += [two_digits(further * 1e6), f"1/{run / further:.0f}"]
     return "| " + " | ".join(cells) + " |"
 
