@@ -1,5 +1,5 @@
 -- Laws of shots: bits that are shown, and shots that are sent by batches.
-use Rattle.std.proofs.Common.{◌≡◌, refl, sym, ap, ap₂, subst, ◌∙◌, ℕ, ◌+◌, ◌-◌, ◌%◌, ◌^◌, ◌<◌, ◌≤◌, Bool, List, [], ◌++◌, length, Result, Ok, Err, inl, inr, arith}
+use Rattle.std.proofs.Common.{◌≡◌, refl, sym, ap, ap₂, subst, ◌∙◌, ℕ, ◌+◌, ◌-◌, ◌*◌, ◌/◌, ◌%◌, ◌^◌, ◌<◌, ◌≤◌, Bool, List, [], ◌++◌, length, Result, Ok, Err, inl, inr, arith}
 use Rattle.std.proofs.lemmas.List.{length-map, map-append}
 use Rattle.std.specs.Result.{IsErrAnd}
 use Rattle.stab_io.specs.Devices.{OutputView, Took, CutOff, WritesAllOrFault}
@@ -14,6 +14,7 @@ use Rattle.stab_results.specs.Formats.{shot_bytes}
 use Rattle.stab_circuit.specs.Items.{Items}
 use Rattle.stab_run.specs.Coins.{seed_coin}
 use Rattle.stab_run.specs.Runs.{State, run_of}
+use Rattle.stab_shots.specs.Words.{word_bit}
 use Rattle.stab_shots.specs.Lanes.{lane_bits}
 use Rattle.stab_commands.specs.declared.shots.Shown.{Shown}
 use Rattle.stab_commands.specs.declared.shots.Shown.TheVariants.{Records, Detectors, DetectorsAndObservables}
@@ -104,6 +105,16 @@ no_wrap first shots l within less = small (first + l) (omega arith)
   where
     small : (n : ℕ) → n < 18446744073709551616 → n % 2 ^ 64 ≡ n
     small n h = grind arith
+
+-- lane k of 64 that are copied out is lane k behind those sent
+pub shown_of_part : {W : Type 0} (at : W → ℕ → Bool) (words : List W) (part : List ℕ) (sent lanes first k : ℕ) (shown : Shown) (run : ℕ → State) (kinds : Kinds)
+    → sent % 64 ≡ 0 → sent + k < lanes → ((l : ℕ) → l < lanes → IsShown shown (run (first + l)) kinds (lane_bits at l words))
+    → lane_bits word_bit k part ≡ lane_bits at (64 * (sent / 64) + k) words → IsShown shown (run (first + sent + k)) kinds (lane_bits word_bit k part)
+shown_of_part at words part sent lanes first k shown run kinds whole within are is =
+    let place : 64 * (sent / 64) + k ≡ sent + k = omega (arith, whole) in
+    let shot : first + (sent + k) ≡ first + sent + k = omega arith in
+    subst (λ n. IsShown shown (run n) kinds (lane_bits word_bit k part)) shot
+    (subst (IsShown shown (run (first + (sent + k))) kinds) (sym (is ∙ ap (λ l. lane_bits at l words) place)) (are (sent + k) within))
 
 -- a lane whose coins are those of a seed's shot runs as that shot does
 pub lane_runs : (n : ℕ) (items : Items) (seed first shots l : ℕ) (coins : ℕ → Bool) → ((t : ℕ) → coins t ≡ seed_coin seed ((first + l) % 2 ^ 64) t)

@@ -9,6 +9,7 @@ ghost use Rattle.stab_circuit.specs.Views.{circuit_items};
 ghost use Rattle.stab_results.specs.Formats.{detectors_of};
 ghost use Rattle.stab_run.specs.Runs.{State, run_of};
 ghost use Rattle.stab_run.specs.Coins.{list_coin, seed_coin};
+ghost use Rattle.stab_shots.specs.Words.{word_bit};
 ghost use Rattle.stab_shots.specs.Lanes.{lane_bits};
 ghost use Rattle.stab_commands.specs.Limits.{shots_of_seed};
 ghost use Rattle.stab_commands.specs.Outputs.{of_shots};
@@ -23,6 +24,7 @@ use stab_results::{Format, Kinds, write_shot};
 use stab_run::{Coins, ListCoins, SeedCoins, Shot, run_once};
 use stab_shots::{
     LaneCoins, SeedLanes, Shots as LaneShots, Wide, WideSeedLanes, Word, run_lanes, write_lane,
+    write_part,
 };
 use stab_tables::Source;
 use std::alloc::{AllocError, Global};
@@ -116,8 +118,30 @@ fn send_copies<O: Output, C: Coins>(
     write_copies(out, format, &bits, copies)
 }
 
-/// Writes the bits of so many lanes, one lane after another, each from a list of its own.
-fn write_lanes<O: Output, W: Word>(
+/// Writes the bits of so many of 64 lanes, one lane after another, each from a list of its own.
+fn write_lanes<O: Output>(
+    alloc: Global,
+    out: &mut O,
+    format: Format,
+    kinds: Kinds,
+    words: &[u64],
+    lanes: usize,
+) -> Result<(), Fault>
+    requires in_range { lanes ≤ 64 }
+    requires within { detectors_of kinds ≤ length words.now }
+    ensures sends { (first : ℕ) (shown : Shown) (run : ℕ → State) → ((l : ℕ) → l < lanes → IsShown shown (run (first + l)) kinds (lane_bits word_bit l words.now)) → SendsUnflushed (of_shots (λ shot. shown_bytes format shown (run shot)) first lanes) (O.seen out.old) (O.seen out.new) result }
+{
+    let mut bits = Vec::with_capacity(alloc, words.len())?;
+    for lane in 0..lanes {
+        write_lane(words, lane, &mut bits)?;
+        write_shot(out, format, kinds, bits.as_slice())?;
+    }
+    Ok(())
+}
+
+/// Writes the bits of so many lanes, one lane after another, each from a list of its own. Each 64 lanes are copied out first,
+/// since each lane goes over all words.
+fn write_parts<O: Output, W: Word>(
     alloc: Global,
     out: &mut O,
     format: Format,
@@ -129,10 +153,13 @@ fn write_lanes<O: Output, W: Word>(
     requires within { detectors_of kinds ≤ length words.now }
     ensures sends { (first : ℕ) (shown : Shown) (run : ℕ → State) → ((l : ℕ) → l < lanes → IsShown shown (run (first + l)) kinds (lane_bits W.at l words.now)) → SendsUnflushed (of_shots (λ shot. shown_bytes format shown (run shot)) first lanes) (O.seen out.old) (O.seen out.new) result }
 {
-    let mut bits = Vec::with_capacity(alloc, words.len())?;
-    for lane in 0..lanes {
-        write_lane(words, lane, &mut bits)?;
-        write_shot(out, format, kinds, bits.as_slice())?;
+    let mut part = vec![in alloc; 0; words.len()]?;
+    let mut sent = 0;
+    while sent < lanes {
+        let some = (lanes - sent).min(64);
+        write_part(words, sent / 64, part.as_mut_slice());
+        write_lanes(alloc, out, format, kinds, part.as_slice(), some)?;
+        sent += some;
     }
     Ok(())
 }
@@ -154,7 +181,7 @@ fn send_lanes<O: Output, W: Word>(
     match format {
         Format::F01 => send_packed(alloc, out, Packing::Line, words, lanes),
         Format::B8 => send_packed(alloc, out, Packing::Bytes, words, lanes),
-        _ => write_lanes(alloc, out, format, kinds, words, lanes),
+        _ => write_parts(alloc, out, format, kinds, words, lanes),
     }
 }
 

@@ -1,6 +1,7 @@
 use Rattle.std.proofs.Common.{ℕ, ◌+◌, ◌<◌}
 use Rattle.stab_io.specs.Devices.{Took}
 use Rattle.stab_run.specs.Runs.{State}
+use Rattle.stab_shots.specs.Words.{word_bit}
 use Rattle.stab_shots.specs.Lanes.{lane_bits}
 use Rattle.stab_commands.specs.declared.shots.Shown.{Shown}
 use Rattle.stab_commands.specs.Outputs.{of_shots}
@@ -10,5 +11,5 @@ use Rattle.stab_commands.proofs.shots.write_lanes.Given as goal
 abbrev pub invariant-loop-lane : goal.invariant-loop-lane
 invariant-loop-lane g l =
     (first : ℕ) (shown : Shown) (run : ℕ → State) →
-    ((lane : ℕ) → lane < l.lanes → IsShown shown (run (first + lane)) l.kinds (lane_bits g.W.Word.at lane l.words)) →
+    ((lane : ℕ) → lane < l.lanes → IsShown shown (run (first + lane)) l.kinds (lane_bits word_bit lane l.words)) →
     Took (g.O.Output.seen l.initial.out) (g.O.Output.seen l.out) (of_shots (λ shot. shown_bytes l.format shown (run shot)) first l.lane)
