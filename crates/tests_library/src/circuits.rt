@@ -1,7 +1,7 @@
 //! Texts of circuits and of items.
 use crate::answers::assert_same;
 use stab_circuit::{Circuit, Path, Refused, read_circuit, read_item, write_circuit};
-use stab_pauli::{Fault, MemoryInput, MemoryOutput, Refusal};
+use stab_pauli::{EndlessInput, Fault, MemoryInput, MemoryOutput, Refusal};
 use std::alloc::Global;
 
 /// The refusal's number and line, or zeros.
@@ -66,9 +66,11 @@ const ITEMS: &[(&str, u8, u64, usize)] = &[
 ];
 
 #[test]
-fn an_item_is_read_alone(rt: HostRuntime) {
+fn an_item_is_read_alone_and_a_text_without_end_refused(rt: HostRuntime) {
     for &(text, number, line, steps) in ITEMS {
         let found = item_of(rt.alloc(), text);
         assert_same(&rt, &found, &((number, line), steps), text);
     }
+    let endless = read_circuit(rt.alloc(), &mut EndlessInput::new(b' '));
+    assert_eq!(rt; fault_of(endless), (14, 0));
 }
