@@ -1,5 +1,5 @@
 ghost use Rattle.std.specs.Prelude.{◌≡◌, ◌≤◌, ◌<◌, ◌+◌, ◌++◌, ◌^◌, [], length, take, drop, IfSome, IfNone};
-ghost use Rattle.stab_circuit.specs.Steps.{steps_of};
+ghost use Rattle.stab_items.specs.Steps.{steps_of};
 ghost use Rattle.stab_circuit.specs.Cursors.{steps_shown, IsApartAlone};
 
 use crate::instruction::step_at;
