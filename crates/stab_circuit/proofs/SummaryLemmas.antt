@@ -4,8 +4,8 @@ use Rattle.std.proofs.lemmas.List.{length-append, length-map, take_more}
 use Rattle.std.proofs.lemmas.List.Elements.{All-head, All-tail}
 use Rattle.std.proofs.lemmas.Bool.Decides.{nat_tests}
 use Rattle.stab_io.specs.declared.refusal.Refusal.TheVariants.{LookbackTooFar, TooManySteps}
-use Rattle.stab_tableau.specs.declared.gate.Gate.{Gate}
-use Rattle.stab_tableau.specs.declared.gate.PairGate.TheVariants as gate
+use Rattle.stab_letters.specs.declared.gate.Gate.{Gate}
+use Rattle.stab_letters.specs.declared.gate.PairGate.TheVariants as gate
 use Rattle.stab_lines.specs.declared.axis.Axis.{Axis}
 use Rattle.stab_lines.specs.declared.product.Factor.{Factor}
 use Rattle.stab_lines.specs.declared.control.ControlledPair.{ControlledPair}

@@ -4,8 +4,8 @@ ghost use Rattle.stab_circuit.specs.Cursors.{steps_shown, IsApartAlone};
 
 use crate::instruction::step_at;
 use crate::step::Step;
+use stab_letters::Gate;
 use stab_lines::{Axis, ControlledPair, Kind, MeasureTarget, Measurement, Qubit};
-use stab_tableau::Gate;
 
 /// Steps of one instruction, one behind the other, at least one.
 #[derive(Clone, Copy)]

@@ -1,5 +1,5 @@
 ghost use Rattle.std.specs.Prelude.{◌≡◌, ◌≤◌, ◌*◌, min, length, ◌∷◌, [], All};
-ghost use Rattle.stab_tableau.specs.Limits.{most_qubits};
+ghost use Rattle.stab_letters.specs.Limits.{most_qubits};
 ghost use Rattle.stab_lines.specs.Limits.{most_lookback};
 ghost use Rattle.stab_lines.specs.Targets.{pair_qubits};
 ghost use Rattle.stab_circuit.specs.Cursors.{IsApart};

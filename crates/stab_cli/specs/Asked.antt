@@ -9,7 +9,7 @@ use Rattle.clap.specs.Walk.{texts}
 use Rattle.clap.specs.Faults.{fault_of}
 use Rattle.clap.specs.declared.error.kind.ErrorKind.{ErrorKind}
 use Rattle.clap.specs.declared.error.kind.ErrorKind.TheVariants.{DisplayHelp, DisplayVersion}
-use Rattle.stab_tableau.specs.Limits.{most_qubits}
+use Rattle.stab_letters.specs.Limits.{most_qubits}
 use Rattle.stab_session.specs.Limits.{most_stride}
 use Rattle.stab_commands.specs.Limits.{ShotRange, last_shot, most_shots, shots_of_seed}
 use Rattle.stab_cli.specs.Coins.{coin_text}

@@ -6,7 +6,7 @@ use Rattle.clap.specs.Words.{App, Rule, Shape, Text, new_app, new_rule, with_sub
 use Rattle.clap.specs.Simple.{new_shape, on_top}
 use Rattle.clap.specs.declared.builder.action.ArgAction.TheVariants.{SetTrue}
 use Rattle.clap.specs.declared.builder.value_parser.ValueParser.TheVariants.{Names, Unsigned}
-use Rattle.stab_tableau.specs.Limits.{most_qubits}
+use Rattle.stab_letters.specs.Limits.{most_qubits}
 use Rattle.stab_session.specs.Limits.{most_stride}
 use Rattle.stab_commands.specs.Limits.{last_shot, most_shots}
 

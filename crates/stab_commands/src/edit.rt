@@ -1,7 +1,7 @@
 //! The command that edits a circuit by a script.
 
 ghost use Rattle.std.specs.Prelude.{◌≤◌, IfSome, false};
-ghost use Rattle.stab_tableau.specs.Limits.{most_qubits};
+ghost use Rattle.stab_letters.specs.Limits.{most_qubits};
 ghost use Rattle.stab_session.specs.Limits.{most_stride};
 ghost use Rattle.stab_scripts.specs.ScriptEndings.{EndsEdit};
 ghost use Rattle.stab_scripts.specs.ScriptTurns.{EditsInTurn};

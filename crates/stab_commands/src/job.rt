@@ -77,7 +77,7 @@ pub struct QubitCount {
 
 impl Model for QubitCount {
     ghost use Rattle.std.specs.Prelude.{ℕ, ◌≤◌};
-    ghost use Rattle.stab_tableau.specs.Limits.{most_qubits};
+    ghost use Rattle.stab_letters.specs.Limits.{most_qubits};
 
     ghost Value = { ℕ };
 
@@ -90,7 +90,7 @@ impl Model for QubitCount {
 
 impl QubitCount {
     ghost use Rattle.std.specs.Prelude.{◌≡◌, ◌≤◌};
-    ghost use Rattle.stab_tableau.specs.Limits.{most_qubits};
+    ghost use Rattle.stab_letters.specs.Limits.{most_qubits};
 
     /// The most qubits of a circuit.
     pub const MOST: usize = 1024;

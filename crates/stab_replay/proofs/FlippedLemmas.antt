@@ -1,7 +1,7 @@
 -- Flipped lists: bits put behind others one after another, flipped as far as there are flips.
 use Rattle.std.proofs.Common.{◌≡◌, ℕ, zero, suc, ◌+◌, ◌-◌, ◌<◌, min, refl, sym, ◌∙◌, ap, subst, Bool, false, not, List, [], ◌∷◌, ◌++◌, append_assoc, length, take, drop, get_or, arith}
 use Rattle.std.proofs.Math.Bool.{beq}
-use Rattle.stab_pauli.specs.Letters.{◌⊕◌}
+use Rattle.stab_letters.specs.Letters.{◌⊕◌}
 use Rattle.stab_tableau.proofs.FrameLemmas.{differ}
 use Rattle.stab_run.specs.declared.records.Addition.{Addition}
 use Rattle.stab_frames.specs.Flips.{flipped, flipped_additions}

@@ -1,8 +1,8 @@
 -- Starts of frames: the frame by which a replay differs from an old copy, and that the two don't have the same records where it flips one.
 use Rattle.std.proofs.Common.{◌≡◌, ℕ, zero, suc, ◌≤◌, refl, sym, ◌∙◌, ap, subst, Bool, true, false, List, [], ◌∷◌, ◌++◌, length, take, drop, get_or, replicate, arith}
 use Rattle.std.proofs.lemmas.List.{take_all}
-use Rattle.stab_pauli.specs.declared.letter.Letter.TheVariants.{I}
-use Rattle.stab_pauli.specs.Letters.{◌⊕◌}
+use Rattle.stab_letters.specs.declared.letter.Letter.TheVariants.{I}
+use Rattle.stab_letters.specs.Letters.{◌⊕◌}
 use Rattle.stab_pauli.specs.Paulis.{Signed, with_sign, strings_anticommute, string_product}
 use Rattle.stab_pauli.proofs.StringLemmas.{string_product-blank}
 use Rattle.stab_tableau.specs.Tableaus.{TableauState, stabilises}

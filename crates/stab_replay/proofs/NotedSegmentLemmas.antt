@@ -2,7 +2,7 @@
 use Rattle.std.proofs.Common.{◌≡◌, ℕ, zero, suc, ◌+◌, ◌-◌, ◌^◌, ◌<◌, ◌≤◌, min, refl, sym, ◌∙◌, ap, subst, Bool, inl, inr, List, [], ◌∷◌, ◌++◌, length, take, drop, arith}
 use Rattle.std.proofs.lemmas.Bool.{cases_lt}
 use Rattle.std.proofs.lemmas.List.{length-append, length-take, length-drop, take-take, drop-take}
-use Rattle.stab_pauli.specs.declared.letter.Letter.{Letter}
+use Rattle.stab_letters.specs.declared.letter.Letter.{Letter}
 use Rattle.stab_tableau.specs.Traces.{member}
 use Rattle.stab_tableau.specs.Turns.{IsTurned}
 use Rattle.stab_circuit.specs.Steps.{Step}

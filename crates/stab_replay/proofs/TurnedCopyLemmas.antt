@@ -1,9 +1,9 @@
 -- Turned copies: a kept state turned by one letter after another is turned by all of them.
 use Rattle.std.proofs.Common.{◌≡◌, ℕ, zero, suc, ◌+◌, ◌-◌, ◌<◌, ◌≤◌, refl, ◌∙◌, ap, subst, Bool, List, [], ◌∷◌, ◌++◌, append-nil, length, take, get_or, set, replicate, arith}
 use Rattle.std.proofs.lemmas.List.{take_all, length-replicate}
-use Rattle.stab_pauli.specs.declared.letter.Letter.{Letter}
-use Rattle.stab_pauli.specs.declared.letter.Letter.TheVariants.{I, X, Y, Z}
-use Rattle.stab_pauli.specs.Letters.{letter_product}
+use Rattle.stab_letters.specs.declared.letter.Letter.{Letter}
+use Rattle.stab_letters.specs.declared.letter.Letter.TheVariants.{I, X, Y, Z}
+use Rattle.stab_letters.specs.Letters.{letter_product}
 use Rattle.stab_pauli.specs.Paulis.{Signed, single, string_product}
 use Rattle.stab_pauli.proofs.StringLemmas.{string_product-blank_right}
 use Rattle.stab_tableau.specs.Turns.{IsTurned}

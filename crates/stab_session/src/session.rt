@@ -68,7 +68,7 @@ impl<C: Coins> Session<C> {
     ghost use Rattle.std.specs.Prelude.{◌≡◌, ℕ, ◌+◌, ◌≤◌, Bool, None, length, IfOk, IfErr, OnOk};
     ghost use Rattle.stab_io.specs.declared.refusal.Refusal.TheVariants.{OutOfMemory};
     ghost use Rattle.stab_io.specs.Refusals.{IsCallFault};
-    ghost use Rattle.stab_tableau.specs.Limits.{most_qubits};
+    ghost use Rattle.stab_letters.specs.Limits.{most_qubits};
     ghost use Rattle.stab_tableau.specs.Traces.{member};
     ghost use Rattle.stab_tableau.specs.Tableaus.{stabilises};
     ghost use Rattle.stab_tableau.specs.Reduced.{AreReduced};

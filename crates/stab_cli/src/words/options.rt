@@ -1,7 +1,7 @@
 //! What the words say to each option.
 ghost use Rattle.std.specs.Prelude.{◌≡◌, ◌≤◌, ℕ, Option, Some, None, IfOk, IfErr, IfSome, IfNone, option_map, codes, string_bytes};
 ghost use Rattle.clap.specs.Words.{IsUnsignedIn, first_of, found_of, has_subcommand, one_of, rows_of, subcommand_rows_of};
-ghost use Rattle.stab_tableau.specs.Limits.{most_qubits};
+ghost use Rattle.stab_letters.specs.Limits.{most_qubits};
 ghost use Rattle.stab_session.specs.Limits.{most_stride};
 ghost use Rattle.stab_commands.specs.Limits.{last_shot, most_shots, shots_of_seed};
 ghost use Rattle.stab_cli.specs.Asked.{AreShots, IsCommand, IsFirst, IsJob, IsLayout, IsNamed, IsSet, IsSource, IsWritten, IsWrittenIfGiven, RefusesCoins, RefusesOptions, RefusesShots, first_beside_coins};

@@ -1,5 +1,5 @@
 use Rattle.std.proofs.Common.{◌≡◌, ◌≤◌, max, drop, take, All}
-use Rattle.stab_tableau.specs.Limits.{most_qubits}
+use Rattle.stab_letters.specs.Limits.{most_qubits}
 use Rattle.stab_lines.specs.Targets.{pair_qubits}
 use Rattle.stab_circuit.specs.Steps.{past}
 use Rattle.stab_circuit.specs.inner.Summaries.{IsSwapApart}

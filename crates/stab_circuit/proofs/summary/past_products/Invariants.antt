@@ -1,5 +1,5 @@
 use Rattle.std.proofs.Common.{◌≡◌, ◌≤◌, max, drop, take, All}
-use Rattle.stab_tableau.specs.Limits.{most_qubits}
+use Rattle.stab_letters.specs.Limits.{most_qubits}
 use Rattle.stab_circuit.specs.Steps.{past, product_qubits}
 use Rattle.stab_circuit.specs.inner.Summaries.{IsProductApart}
 use Rattle.stab_circuit.proofs.summary.past_products.Given as goal

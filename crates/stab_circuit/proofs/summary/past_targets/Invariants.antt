@@ -1,5 +1,5 @@
 use Rattle.std.proofs.Common.{◌≡◌, ◌≤◌, max, drop}
-use Rattle.stab_tableau.specs.Limits.{most_qubits}
+use Rattle.stab_letters.specs.Limits.{most_qubits}
 use Rattle.stab_circuit.specs.Steps.{past, target_qubits}
 use Rattle.stab_circuit.proofs.summary.past_targets.Given as goal
 

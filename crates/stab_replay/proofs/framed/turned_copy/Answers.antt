@@ -1,5 +1,5 @@
 use Rattle.std.proofs.Common.{◌≡◌, ◌-◌, ◌++◌, sym, ◌∙◌, ap, subst, take, get_or, replicate, arith}
-use Rattle.stab_pauli.specs.declared.letter.Letter.TheVariants.{I}
+use Rattle.stab_letters.specs.declared.letter.Letter.TheVariants.{I}
 use Rattle.stab_pauli.specs.Paulis.{single}
 use Rattle.stab_tableau.specs.Tableaus.{TableauState, stabilises}
 use Rattle.stab_tableau.specs.Turns.{IsTurned}

@@ -1,5 +1,5 @@
 use Rattle.std.proofs.Common.{◌∙◌, ap, replicate, drop, take, arith}
-use Rattle.stab_pauli.specs.declared.letter.Letter.TheVariants.{I}
+use Rattle.stab_letters.specs.declared.letter.Letter.TheVariants.{I}
 use Rattle.stab_run.specs.Records.{ones}
 use Rattle.stab_run.specs.Points.{nothing}
 use Rattle.stab_run.specs.ProgramStates.{output_of}

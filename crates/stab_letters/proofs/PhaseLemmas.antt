@@ -2,11 +2,10 @@
 use Rattle.std.proofs.Common.{◌≡◌, ℕ, zero, suc, ◌+◌, ◌*◌, ◌/◌, ◌%◌, Bool, true, false, not, refl, sym, ◌∙◌, ap, arith}
 use Rattle.std.proofs.Math.Nat.{mod-add-div}
 use Rattle.std.specs.Bool.{Decides}
-use Rattle.stab_pauli.specs.declared.phase.Phase.{Phase}
-use Rattle.stab_pauli.specs.declared.phase.Phase.TheVariants.{Zero, Quarter, Half, ThreeQuarters}
-use Rattle.stab_pauli.specs.Phases.{phase_add, phase_of_sign, is_even, sign_of_phase}
-use Rattle.stab_pauli.specs.Letters.{◌⊕◌}
-use Rattle.stab_pauli.specs.inner.Powers.{quarters, phase_inverse}
+use Rattle.stab_letters.specs.declared.phase.Phase.{Phase}
+use Rattle.stab_letters.specs.declared.phase.Phase.TheVariants.{Zero, Quarter, Half, ThreeQuarters}
+use Rattle.stab_letters.specs.Phases.{phase_add, phase_of_sign, is_even, sign_of_phase, quarters, phase_inverse}
+use Rattle.stab_letters.specs.Letters.{◌⊕◌}
 
 -- a fact at each power of i
 pub each_phase : (P : Phase → Type 0) → P Zero → P Quarter → P Half → P ThreeQuarters → (t : Phase) → P t

@@ -1,8 +1,8 @@
 -- Powers of i: their product, and the two that are signs.
 -- Source: Gottesman 1997, whose Pauli group has the factors 1, -1, i and -i.
-use Rattle.std.specs.Prelude.{Bool, true, false}
-use Rattle.stab_pauli.specs.declared.phase.Phase.{Phase}
-use Rattle.stab_pauli.specs.declared.phase.Phase.TheVariants.{Zero, Quarter, Half, ThreeQuarters}
+use Rattle.std.specs.Prelude.{ℕ, zero, suc, Bool, true, false}
+use Rattle.stab_letters.specs.declared.phase.Phase.{Phase}
+use Rattle.stab_letters.specs.declared.phase.Phase.TheVariants.{Zero, Quarter, Half, ThreeQuarters}
 
 -- the product of two powers of i: the sum of their exponents modulo 4
 abbrev pub phase_add : Phase → Phase → Phase
@@ -38,3 +38,15 @@ sign_of_phase Zero = false
 sign_of_phase Quarter = false
 sign_of_phase Half = true
 sign_of_phase ThreeQuarters = true
+
+-- the power of so many factors i
+abbrev pub quarters : ℕ → Phase
+quarters zero = Zero
+quarters (suc n) = phase_add Quarter (quarters n)
+
+-- the power that takes a power back to 1
+abbrev pub phase_inverse : Phase → Phase
+phase_inverse Zero = Zero
+phase_inverse Quarter = ThreeQuarters
+phase_inverse Half = Half
+phase_inverse ThreeQuarters = Quarter

@@ -1,6 +1,6 @@
 use Rattle.std.proofs.Common.{arith, ◌≡◌, ◌%◌}
-use Rattle.stab_pauli.proofs.PhaseLemmas.{quarters_counted}
-use Rattle.stab_pauli.proofs.phase.Phase.of_count.Goals as goal
+use Rattle.stab_letters.proofs.PhaseLemmas.{quarters_counted}
+use Rattle.stab_letters.proofs.phase.Phase.of_count.Goals as goal
 
 pub returns-in-0 : goal.returns-in-0
 returns-in-0 c = record { value = quarters_counted c.args.count 0 c.in-0.is }

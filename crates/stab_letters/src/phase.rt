@@ -13,9 +13,8 @@ pub enum Phase {
 
 impl Phase {
     ghost use Rattle.std.specs.Prelude.{◌≡◌};
-    ghost use Rattle.stab_pauli.specs.Phases.{phase_add, phase_of_sign, sign_of_phase};
-    ghost use Rattle.stab_pauli.specs.inner.Powers.{quarters, phase_inverse};
-    ghost use Rattle.stab_pauli.specs.declared.phase.Phase.TheVariants.{Quarter};
+    ghost use Rattle.stab_letters.specs.Phases.{phase_add, phase_of_sign, sign_of_phase, quarters, phase_inverse};
+    ghost use Rattle.stab_letters.specs.declared.phase.Phase.TheVariants.{Quarter};
 
     /// The power of i of a sign, true for -.
     #[inline(always)]
@@ -53,7 +52,7 @@ impl Phase {
 
     /// The power whose product with this one is 1.
     #[inline(always)]
-    pub(crate) fn inverse(self) -> Phase
+    pub fn inverse(self) -> Phase
         ensures value { result ≡ phase_inverse self }
     {
         match self {
@@ -66,7 +65,7 @@ impl Phase {
 
     /// The product of so many factors i.
     #[inline(always)]
-    pub(crate) fn of_count(count: u32) -> Phase
+    pub fn of_count(count: u32) -> Phase
         ensures value { result ≡ quarters count }
     {
         match count % 4 {
