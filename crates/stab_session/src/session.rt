@@ -1,12 +1,11 @@
 mod edits;
 mod splits;
 
-use crate::kept::KeptRun;
-use crate::opening::run_kept;
 pub use edits::Report;
 use stab_circuit::Circuit;
 use stab_io::{Fault, Refusal};
 use stab_pauli::Pauli;
+use stab_replay::{KeptRun, run_kept};
 use stab_run::Coins;
 use stab_tableau::Tableau;
 use std::alloc::Global;
