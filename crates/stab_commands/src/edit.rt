@@ -8,9 +8,9 @@ ghost use Rattle.stab_scripts.specs.ScriptTurns.{EditsInTurn};
 
 use stab_circuit::read_circuit;
 use stab_io::{Fault, Input, Output};
+use stab_jobs::Source;
 use stab_run::{ListCoins, SeedCoins};
 use stab_scripts::{NoWatcher, Watcher, edit_circuit};
-use stab_tables::Source;
 use std::alloc::Global;
 
 /// Reads a circuit, and edits it by a script, as `run_edit` does, with each read of the script made
