@@ -1,5 +1,4 @@
 pub use Rattle.stab_replay.specs.Counts
-pub mod Limits
 pub mod Sessions
 pub mod Headline
 pub mod SessionEdits

@@ -74,7 +74,7 @@ impl<C: Coins> Session<C> {
     ghost use Rattle.stab_tableau.specs.Reduced.{AreReduced};
     ghost use Rattle.stab_circuit.specs.Steps.{unroll, check_within};
     ghost use Rattle.stab_circuit.specs.Views.{circuit_items};
-    ghost use Rattle.stab_session.specs.Limits.{most_stride};
+    ghost use Rattle.stab_run.specs.Limits.{most_stride};
     ghost use Rattle.stab_run.specs.Records.{ones};
     ghost use Rattle.stab_run.specs.Runs.{run_of};
     ghost use Rattle.stab_run.specs.Points.{all_coins_of};

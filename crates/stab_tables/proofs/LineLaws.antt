@@ -4,7 +4,7 @@ use Rattle.stab_letters.specs.declared.letter.Letter.{Letter}
 use Rattle.stab_letters.specs.declared.letter.Letter.TheVariants.{I, X, Y, Z}
 use Rattle.stab_pauli.specs.Paulis.{Signed}
 use Rattle.stab_pauli.specs.Texts.{letters_text}
-use Rattle.stab_tables.specs.Stabilisers.{line_of, lines_of}
+use Rattle.stab_tables.specs.Rows.{line_of, lines_of}
 
 -- the character of a sign
 abbrev sign_character : Bool → ℕ

@@ -21,8 +21,8 @@ use Rattle.stab_tables.specs.declared.unsure.Bit.{Bit}
 use Rattle.stab_tables.specs.declared.unsure.Bit.TheVariants.{Detector, Observable}
 use Rattle.stab_tables.specs.declared.unsure.Unsure.{Unsure}
 use Rattle.stab_tables.specs.declared.unsure.FaultsRefused.{FaultsRefused}
-use Rattle.stab_tables.specs.declared.faults.FaultLayout.{FaultLayout}
-use Rattle.stab_tables.specs.declared.faults.FaultLayout.TheVariants.{Lines, Shots}
+use Rattle.stab_jobs.specs.declared.fault_layout.FaultLayout.{FaultLayout}
+use Rattle.stab_jobs.specs.declared.fault_layout.FaultLayout.TheVariants.{Lines, Shots}
 use Rattle.stab_tables.specs.Endings.{Ends, SendsFound}
 use Rattle.stab_tables.specs.Deterministic.{kinds_of}
 

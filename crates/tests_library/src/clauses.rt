@@ -17,7 +17,7 @@ ghost use Rattle.stab_circuit.specs.declared.edit.Edit.TheVariants.{Insert as in
 ghost use Rattle.stab_circuit.specs.Steps.{unroll, records_of, steps_cap, check_of};
 ghost use Rattle.stab_circuit.specs.StepPaths.{item_steps_left};
 ghost use Rattle.stab_circuit.specs.Views.{circuit_items};
-ghost use Rattle.stab_session.specs.Limits.{most_stride};
+ghost use Rattle.stab_run.specs.Limits.{most_stride};
 ghost use Rattle.stab_run.specs.Runs.{run_of};
 ghost use Rattle.stab_session.specs.Sessions.{IsSignIn};
 ghost use Rattle.stab_session.specs.Bounds.{steps_from_change, steps_near_change, steps_changed, AgreeBehind, IsCountOf};

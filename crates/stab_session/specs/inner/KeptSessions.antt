@@ -9,7 +9,7 @@ use Rattle.stab_circuit.specs.Items.{Items}
 use Rattle.stab_circuit.specs.Steps.{unroll, observables_of, check_within}
 use Rattle.stab_circuit.specs.Cursors.{IsApart}
 use Rattle.stab_replay.specs.declared.kept.KeptRun.{KeptRun}
-use Rattle.stab_session.specs.Limits.{most_stride}
+use Rattle.stab_run.specs.Limits.{most_stride}
 use Rattle.stab_session.specs.Sessions.{SessionState}
 use Rattle.stab_session.specs.Headline.{IsRunOfItems}
 use Rattle.stab_replay.specs.Checkpoints.{checkpoint_steps}
