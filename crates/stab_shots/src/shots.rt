@@ -64,7 +64,7 @@ impl<W: Word> Shots<W> {
 }
 
 /// Runs a circuit that nothing refuses once in each lane, with the coins of the lane.
-fn run_checked<W: Word, C: LaneCoins<W>>(
+pub fn run_checked<W: Word, C: LaneCoins<W>>(
     alloc: Global,
     circuit: &Circuit,
     n: usize,

@@ -2,6 +2,7 @@
 use stab_circuit::{Circuit, read_circuit};
 use stab_pauli::{Fault, MemoryInput, Refusal};
 use stab_session::{ListCoins, Sampler, SeedCoins, Shot, run_once};
+use stab_shots::run_shots;
 use std::alloc::Global;
 use std::test::Fail;
 
@@ -36,6 +37,16 @@ fn has(shot: &Shot, lists: [&[bool]; 4]) -> bool {
         && shot.observables.as_slice() == observables
 }
 
+/// The records, flags, detectors and observables of a shot.
+fn lists_of<'a>(shot: &'a Shot) -> [&'a [bool]; 4] {
+    [
+        shot.records.as_slice(),
+        shot.free.as_slice(),
+        shot.detectors.as_slice(),
+        shot.observables.as_slice(),
+    ]
+}
+
 /// Whether the next shot has the lists of a run of its own with the coins of its number.
 fn agrees(
     alloc: Global,
@@ -45,13 +56,7 @@ fn agrees(
 ) -> Result<bool, Fail> {
     let shot = sampler.shot(alloc, &mut SeedCoins::new(7, number))?;
     let run = run_once(alloc, circuit, 4, &mut SeedCoins::new(7, number))?;
-    let lists = [
-        run.records.as_slice(),
-        run.free.as_slice(),
-        run.detectors.as_slice(),
-        run.observables.as_slice(),
-    ];
-    Ok(has(&shot, lists))
+    Ok(has(&shot, lists_of(&run)))
 }
 
 #[test]
@@ -66,11 +71,49 @@ fn shots_are_runs_of_their_own(rt: HostRuntime) -> Result<(), Fail> {
     Ok(())
 }
 
-/// What refuses a run on one qubit, and shots, where something does.
-fn refusals(alloc: Global, text: &str) -> Result<[Option<Fault>; 2], Fault> {
+/// Whether shots that were run at once have the lists of runs of their own, each with the coins of its number.
+fn agree_at_once(
+    alloc: Global,
+    circuit: &Circuit,
+    first: u64,
+    number: usize,
+) -> Result<bool, Fail> {
+    let shots = run_shots(alloc, circuit, 4, 7, first, number)?;
+    let mut same = shots.len() == number;
+    let mut shot_number = first;
+    for shot in shots.iter() {
+        let run = run_once(alloc, circuit, 4, &mut SeedCoins::new(7, shot_number))?;
+        same &= has(shot, lists_of(&run));
+        shot_number = shot_number.wrapping_add(1);
+    }
+    Ok(same)
+}
+
+#[test]
+fn shots_at_once_are_runs_of_their_own(rt: HostRuntime) -> Result<(), Fail> {
+    let circuit = read(rt.alloc(), ROUNDS)?;
+    let ranges = [
+        (0, 1),
+        (9, 0),
+        (9, 63),
+        (1, 64),
+        (63, 65),
+        (1_000, 130),
+        (u64::MAX - 99, 257),
+    ];
+    for (first, number) in ranges {
+        let same = agree_at_once(rt.alloc(), &circuit, first, number)?;
+        assert!(rt; same, "{number} shots from {first} on");
+    }
+    Ok(())
+}
+
+/// What refuses a run on one qubit, shots, and shots at once, where something does.
+fn refusals(alloc: Global, text: &str) -> Result<[Option<Fault>; 3], Fault> {
     let circuit = read(alloc, text)?;
     let run = run_once(alloc, &circuit, 1, &mut ListCoins::new(&[])).err();
-    Ok([run, Sampler::new(alloc, &circuit, 1).err()])
+    let sampler = Sampler::new(alloc, &circuit, 1).err();
+    Ok([run, sampler, run_shots(alloc, &circuit, 1, 7, 0, 0).err()])
 }
 
 #[test]
@@ -78,7 +121,7 @@ fn too_few_qubits_are_refused(rt: HostRuntime) -> Result<(), Fail> {
     let fault = Some(Fault::whole(Refusal::QubitOutOfRange));
     for text in ["M 1", "QUBIT_COORDS(0) 1", "REPEAT 2 {\nCX 0 1\n}"] {
         let found = refusals(rt.alloc(), text)?;
-        assert_eq!(rt; found, [fault, fault], "{text}");
+        assert_eq!(rt; found, [fault, fault, fault], "{text}");
     }
     Ok(())
 }
