@@ -17,8 +17,8 @@ PAGE = TOP / "docs" / "believe.md"
 SHOWN = re.compile(r"(?<=```sh\ntools/count_definitions.py\n```\n\n```output\n).*?(?=```\n)", re.DOTALL)
 # What is proved, and the definitions that its clauses name.
 THEOREMS = {
-    "sample and detect": ["stab_commands.Outputs.EndsRun", "stab_commands.Outputs.sample_of", "stab_commands.Outputs.detect_of"],
-    "stabilisers": ["stab_tables.Stabilisers.EndsStabilisers"],
+    "sample and detect": ["stab_sampling.Outputs.EndsRun", "stab_sampling.Outputs.sample_of", "stab_sampling.Outputs.detect_of"],
+    "stabilisers": ["stab_commands.Stabilisers.EndsStabilisers"],
     "deterministic": ["stab_tables.Deterministic.EndsDeterministic"],
     "faults": ["stab_tables.FaultTables.EndsFaults"],
     "edit": ["stab_scripts.ScriptEndings.EndsEdit"],
