@@ -2,7 +2,7 @@
 ghost use Rattle.std.specs.Prelude.{◌≡◌, ℕ, ◌+◌, ◌<◌, ◌≤◌, Bool, None, length, IfOk, OnOk, IfErr};
 ghost use Rattle.stab_io.specs.declared.refusal.Refusal.TheVariants.{OutOfMemory};
 ghost use Rattle.stab_io.specs.Refusals.{Refuses};
-ghost use Rattle.stab_tableau.specs.Limits.{most_qubits};
+ghost use Rattle.stab_letters.specs.Limits.{most_qubits};
 ghost use Rattle.stab_circuit.specs.Items.{Items};
 ghost use Rattle.stab_circuit.specs.Steps.{check_within};
 ghost use Rattle.stab_circuit.specs.Views.{circuit_items};

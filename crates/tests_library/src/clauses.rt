@@ -4,10 +4,10 @@
 //! caller here would fail.
 
 ghost use Rattle.std.specs.Prelude.{◌≡◌, ℕ, ◌+◌, ◌<◌, ◌≤◌, [], length, min, slice_get, Some, None, Ok, true, IfOk, IfErr, OnOk};
-ghost use Rattle.stab_pauli.specs.Letters.{letter_phase};
+ghost use Rattle.stab_letters.specs.Letters.{letter_phase};
 ghost use Rattle.stab_pauli.specs.Paulis.{commute};
 ghost use Rattle.stab_io.specs.MemoryDevices.{GivesWhatFits, GivesAPiece, TakesWhatFits, FlushesAsSet};
-ghost use Rattle.stab_tableau.specs.Limits.{most_qubits};
+ghost use Rattle.stab_letters.specs.Limits.{most_qubits};
 ghost use Rattle.stab_tableau.specs.Tableaus.{stabilises};
 ghost use Rattle.stab_tableau.specs.Columns.{destabiliser_of};
 ghost use Rattle.stab_tableau.specs.Traces.{member};
@@ -17,7 +17,7 @@ ghost use Rattle.stab_circuit.specs.declared.edit.Edit.TheVariants.{Insert as in
 ghost use Rattle.stab_circuit.specs.Steps.{unroll, records_of, steps_cap, check_of};
 ghost use Rattle.stab_circuit.specs.StepPaths.{item_steps_left};
 ghost use Rattle.stab_circuit.specs.Views.{circuit_items};
-ghost use Rattle.stab_session.specs.Limits.{most_stride};
+ghost use Rattle.stab_run.specs.Limits.{most_stride};
 ghost use Rattle.stab_run.specs.Runs.{run_of};
 ghost use Rattle.stab_session.specs.Sessions.{IsSignIn};
 ghost use Rattle.stab_session.specs.Bounds.{steps_from_change, steps_near_change, steps_changed, AgreeBehind, IsCountOf};
