@@ -37,17 +37,19 @@ fn has(shot: &Shot, lists: [&[bool]; 4]) -> bool {
         && shot.observables.as_slice() == observables
 }
 
-/// The records, flags, detectors and observables of a shot.
-fn lists_of<'a>(shot: &'a Shot) -> [&'a [bool]; 4] {
-    [
-        shot.records.as_slice(),
-        shot.free.as_slice(),
-        shot.detectors.as_slice(),
-        shot.observables.as_slice(),
-    ]
+/// Whether a shot has the lists of a run of its own with the coins of its number.
+fn is_run(alloc: Global, circuit: &Circuit, shot: &Shot, number: u64) -> Result<bool, Fault> {
+    let run = run_once(alloc, circuit, 4, &mut SeedCoins::new(7, number))?;
+    let lists = [
+        run.records.as_slice(),
+        run.free.as_slice(),
+        run.detectors.as_slice(),
+        run.observables.as_slice(),
+    ];
+    Ok(has(shot, lists))
 }
 
-/// Whether the next shot has the lists of a run of its own with the coins of its number.
+/// Whether the next shot is a run of its own.
 fn agrees(
     alloc: Global,
     circuit: &Circuit,
@@ -55,8 +57,7 @@ fn agrees(
     number: u64,
 ) -> Result<bool, Fail> {
     let shot = sampler.shot(alloc, &mut SeedCoins::new(7, number))?;
-    let run = run_once(alloc, circuit, 4, &mut SeedCoins::new(7, number))?;
-    Ok(has(&shot, lists_of(&run)))
+    Ok(is_run(alloc, circuit, &shot, number)?)
 }
 
 #[test]
@@ -71,40 +72,41 @@ fn shots_are_runs_of_their_own(rt: HostRuntime) -> Result<(), Fail> {
     Ok(())
 }
 
-/// Whether shots that were run at once have the lists of runs of their own, each with the coins of its number.
+/// Whether shots at once are so many, and each is a run of its own.
 fn agree_at_once(
     alloc: Global,
     circuit: &Circuit,
     first: u64,
     number: usize,
-) -> Result<bool, Fail> {
+) -> Result<bool, Fault> {
     let shots = run_shots(alloc, circuit, 4, 7, first, number)?;
     let mut same = shots.len() == number;
-    let mut shot_number = first;
-    for shot in shots.iter() {
-        let run = run_once(alloc, circuit, 4, &mut SeedCoins::new(7, shot_number))?;
-        same &= has(shot, lists_of(&run));
-        shot_number = shot_number.wrapping_add(1);
+    for i in 0..shots.len() {
+        same &= is_run(alloc, circuit, &shots[i], first.wrapping_add(i as u64))?;
     }
     Ok(same)
 }
 
+/// Numbers of first shots, and how many shots: none, one, and such as fill a batch of lanes, or not quite, or go on in
+/// the next; at last such as go on behind the greatest number with 0.
+const RANGES: [(u64, usize); 7] = [
+    (9, 0),
+    (0, 1),
+    (9, 63),
+    (1, 64),
+    (63, 65),
+    (1_000, 130),
+    (u64::MAX - 99, 257),
+];
+
 #[test]
 fn shots_at_once_are_runs_of_their_own(rt: HostRuntime) -> Result<(), Fail> {
     let circuit = read(rt.alloc(), ROUNDS)?;
-    let ranges = [
-        (0, 1),
-        (9, 0),
-        (9, 63),
-        (1, 64),
-        (63, 65),
-        (1_000, 130),
-        (u64::MAX - 99, 257),
-    ];
-    for (first, number) in ranges {
-        let same = agree_at_once(rt.alloc(), &circuit, first, number)?;
-        assert!(rt; same, "{number} shots from {first} on");
+    let mut same = true;
+    for (first, number) in RANGES {
+        same &= agree_at_once(rt.alloc(), &circuit, first, number)?;
     }
+    assert!(rt; same);
     Ok(())
 }
 
