@@ -9,7 +9,7 @@ mod shown;
 
 use failure::Failure;
 use shown::{Bits, ShownRow};
-use stab_circuit::{Path, read_circuit, read_item};
+use stab_circuit::{Circuit, Path, read_circuit, read_item};
 use stab_pauli::MemoryInput;
 use stab_session::{Edit, ListCoins, Session, run_once};
 use stab_shots::run_shots;
@@ -35,6 +35,13 @@ fn main(rt: HostRuntime) -> Result<(), Failure> {
         println!(rt; "shot {}", Bits(shot.records.as_slice()))?;
     }
 
+    edit(&rt, circuit)
+}
+
+/// Opens a session on the circuit, and puts an error in.
+fn edit(rt: &HostRuntime, circuit: Circuit) -> Result<(), Failure> {
+    let alloc = rt.alloc();
+    let qubits = circuit.qubits();
     let mut session = match Session::open(alloc, circuit, qubits, 8192, ListCoins::new(&[true])) {
         Ok(session) => session,
         Err(refused) => return Err(refused.fault.into()),
