@@ -3,7 +3,7 @@
 set -u
 top=$(CDPATH='' cd -- "$(dirname -- "$0")/.." && pwd) || exit 2
 identity=$(rt version) || exit 2
-if ! grep -q -F "\\nproved with $identity\"" "$top/crates/stab_cli/src/words/app.rt"; then
+if ! grep -q -F "\\nproved with $identity\"" "$top/crates/stab_words/src/words/app.rt"; then
     echo "check_version: --version does not say: proved with $identity" >&2
     exit 1
 fi

@@ -17,8 +17,8 @@ PAGE = TOP / "docs" / "believe.md"
 SHOWN = re.compile(r"(?<=```sh\ntools/count_definitions.py\n```\n\n```output\n).*?(?=```\n)", re.DOTALL)
 # What is proved, and the definitions that its clauses name.
 THEOREMS = {
-    "sample and detect": ["stab_commands.Outputs.EndsRun", "stab_commands.Outputs.sample_of", "stab_commands.Outputs.detect_of"],
-    "stabilisers": ["stab_tables.Stabilisers.EndsStabilisers"],
+    "sample and detect": ["stab_sampling.Outputs.EndsRun", "stab_sampling.Outputs.sample_of", "stab_sampling.Outputs.detect_of"],
+    "stabilisers": ["stab_commands.Stabilisers.EndsStabilisers"],
     "deterministic": ["stab_tables.Deterministic.EndsDeterministic"],
     "faults": ["stab_tables.FaultTables.EndsFaults"],
     "edit": ["stab_scripts.ScriptEndings.EndsEdit"],
@@ -27,7 +27,8 @@ THEOREMS = {
     "an edit of a session": ["stab_session.SessionEdits.IsEditedBy", "stab_session.SessionEdits.IsAsBefore"],
 }
 HEAD = re.compile(r"(?:abbrev|unfoldable|opaque)?\s*(?:pub\s+)?(?:abbrev\s+|unfoldable\s+)?(?:pub\s+)?(record|data)?\s*([^\s:({]+)")
-USE = re.compile(r"use Rattle\.(\w+)\.specs\.([\w.]+)\.\{([^}]*)\}")
+USE = re.compile(r"(?:pub )?use Rattle\.(\w+)\.specs\.([\w.]+)\.\{([^}]*)\}")
+PASSED_ON = re.compile(r"pub use Rattle\.(\w+)\.specs\.(?!declared)([\w.]+)$", re.MULTILINE)
 USE_AS = re.compile(r"use Rattle\.(\w+)\.specs\.([\w.]+) as (\w+)")
 NAME = re.compile(r"[^\s()\[\]{},;:.λ→×⊎≡∷]+")
 
@@ -72,7 +73,7 @@ def definitions_of(lines, file):
     """The definitions of a file, by each name that they make."""
     made, current = {}, None
     for line in lines:
-        if not line.strip() or line.lstrip().startswith("--") or line.startswith("use "):
+        if not line.strip() or line.lstrip().startswith("--") or line.startswith(("use ", "pub use ")):
             continue
         if re.match(r"(abbrev|unfoldable|opaque|pub|record|data)\b", line):
             current = Definition(file, HEAD.match(line)[2])
@@ -93,7 +94,15 @@ def all_definitions():
         file = ".".join([crate, *folders])
         lines = path.read_text().splitlines()
         found[file] = definitions_of(lines, file), dict(imports_of(lines))
-    return found
+    return found | dict(passed_on(found))
+
+
+def passed_on(found):
+    """The files of other crates that a crate passes on as its own, by the names that they have there."""
+    for path in sorted(TOP.glob("crates/*/specs/Lib.antt")):
+        for crate, file in PASSED_ON.findall(path.read_text()):
+            if f"{crate}.{file}" in found:
+                yield f"{path.parts[-3]}.{file}", found[f"{crate}.{file}"]
 
 
 def reached(found, roots):
@@ -103,6 +112,7 @@ def reached(found, roots):
         file, name = left.pop()
         made, imported = found.get(file, ({}, {}))
         if name not in made:
+            left += [imported[name]] if name in imported else []
             continue
         it = made[name]
         if (it.file, it.name) not in seen:

@@ -13,9 +13,9 @@ use Rattle.stab_lines.specs.Laws.{IsLine}
 use Rattle.stab_lines.proofs.FreeLemmas.{Each}
 use Rattle.stab_lines.proofs.SureLemmas.{IsQubit, IsMeasured, IsPair, IsControlled, IsProduct, IsGoodKind, IsGoodLine}
 use Rattle.stab_lines.proofs.LineLaws.{line_good}
-use Rattle.stab_circuit.specs.Items.{Items}
-use Rattle.stab_circuit.specs.Circuits.{Meaning, Joins, nothing, blank_line, operation_line, block_lines, line_meanings}
-use Rattle.stab_circuit.specs.Steps.{Step, controlled_step, steps_of, rounds, unroll}
+use Rattle.stab_items.specs.Items.{Items}
+use Rattle.stab_items.specs.Circuits.{Meaning, Joins, nothing, blank_line, operation_line, block_lines, line_meanings}
+use Rattle.stab_items.specs.Steps.{Step, controlled_step, steps_of, rounds, unroll}
 use Rattle.stab_circuit.specs.Cursors.{IsApart}
 use Rattle.stab_circuit.proofs.RoundLemmas.{each_left, each_right}
 

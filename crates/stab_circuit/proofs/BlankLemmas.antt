@@ -6,8 +6,8 @@ use Rattle.stab_io.specs.declared.refusal.Fault.{Fault}
 use Rattle.stab_lines.specs.declared.operation.Operation.{Operation}
 use Rattle.stab_lines.specs.declared.meanings.Line.TheVariants.{Blank, Close, Open}
 use Rattle.stab_lines.specs.declared.meanings.Line.TheVariants as line
-use Rattle.stab_circuit.specs.Items.{Items, done, next, block}
-use Rattle.stab_circuit.specs.Circuits.{Meaning, Joins, nothing, blank_line, operation_line, block_lines, at_line, fault_from}
+use Rattle.stab_items.specs.Items.{Items, done, next, block}
+use Rattle.stab_items.specs.Circuits.{Meaning, Joins, nothing, blank_line, operation_line, block_lines, at_line, fault_from}
 use Rattle.stab_lines.proofs.FreeLemmas.{Each}
 use Rattle.stab_circuit.proofs.ReadingLemmas.{fault_opens}
 

@@ -12,8 +12,8 @@ use Rattle.stab_circuit.specs.declared.edit.Edit.{Edit}
 use Rattle.stab_circuit.specs.declared.edit.Edit.TheVariants.{Insert, Replace, Delete}
 use Rattle.stab_circuit.specs.declared.chunks.Chunk.{Chunk}
 use Rattle.stab_circuit.specs.declared.chunks.FoundChunk.{FoundChunk}
-use Rattle.stab_circuit.specs.Items.{OneItem}
-use Rattle.stab_circuit.specs.declared.summary.Summary.{Summary}
+use Rattle.stab_items.specs.Items.{OneItem}
+use Rattle.stab_items.specs.declared.summary.Summary.{Summary}
 use Rattle.stab_circuit.specs.declared.judge.EditResult.{EditResult}
 use Rattle.stab_circuit.specs.Edits.{edited_inside, edit_path, edited_in, edited, behind_taken, outermost, IsInsert}
 use Rattle.stab_circuit.specs.inner.Judgements.{summed}

@@ -3,12 +3,12 @@ use Rattle.std.proofs.Common.{◌≡◌, ◌≤◌, refl, ap, sym, ◌∙◌, su
 use Rattle.std.proofs.lemmas.List.{length-take, length-drop, take-take, drop-take, drop-drop, take-append-le, drop-append-le}
 use Rattle.std.proofs.Math.Seq.{take-length, drop-length}
 use Rattle.stab_circuit.specs.declared.chunks.Chunk.{Chunk}
-use Rattle.stab_circuit.specs.Items.{OneItem, listed}
-use Rattle.stab_circuit.specs.Steps.{unroll}
-use Rattle.stab_circuit.specs.inner.Summaries.{summary_of, followed_by, reach}
+use Rattle.stab_items.specs.Items.{OneItem, listed}
+use Rattle.stab_items.specs.Steps.{unroll}
+use Rattle.stab_items.specs.inner.Summaries.{summary_of, followed_by, reach}
 use Rattle.stab_circuit.specs.inner.Chunks.{chunk_of, chunk_items, AreConsecutive}
-use Rattle.stab_circuit.proofs.ItemLemmas.{listed-append}
-use Rattle.stab_circuit.proofs.SummaryLemmas.{summary-join}
+use Rattle.stab_items.proofs.ItemLemmas.{listed-append}
+use Rattle.stab_items.proofs.SummaryLemmas.{summary-join}
 
 -- a chunk ends within its list
 chunk_within : (r : Chunk) (xs : List OneItem) → r ≡ chunk_of (take r.items xs) → r.items ≤ length xs

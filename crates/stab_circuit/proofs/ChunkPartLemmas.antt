@@ -3,24 +3,24 @@ use Rattle.std.proofs.Common.{◌≡◌, ◌≤◌, ◌<◌, refl, ap, sym, ◌�
 use Rattle.std.proofs.lemmas.List.{length-take, length-drop, take_all, drop_all, take-append-drop, take-take, drop-take, drop-drop, take_at, drop_at}
 use Rattle.std.proofs.lemmas.List.Elements.{All-nil, All-cons, All-append, All-take, All-drop}
 use Rattle.std.proofs.Math.Seq.{take-add, take-length}
-use Rattle.stab_circuit.specs.declared.summary.Summary.{Summary}
+use Rattle.stab_items.specs.declared.summary.Summary.{Summary}
 use Rattle.stab_circuit.specs.declared.edit.Edit.{Edit}
 use Rattle.stab_circuit.specs.declared.judge.Judgement.{Judgement}
 use Rattle.stab_circuit.specs.declared.judge.EditResult.{EditResult}
 use Rattle.stab_circuit.specs.declared.chunks.Chunk.{Chunk}
 use Rattle.stab_circuit.specs.declared.chunks.FoundChunk.{FoundChunk}
-use Rattle.stab_circuit.specs.Items.{OneItem, listed}
-use Rattle.stab_circuit.specs.Steps.{unroll, check_of}
+use Rattle.stab_items.specs.Items.{OneItem, listed}
+use Rattle.stab_items.specs.Steps.{unroll, check_of}
 use Rattle.stab_circuit.specs.Cursors.{IsApart}
 use Rattle.stab_circuit.specs.Edits.{edit_path, steps_in}
-use Rattle.stab_circuit.specs.inner.Summaries.{summary_of, followed_by, IsSummary, reach, judged}
+use Rattle.stab_items.specs.inner.Summaries.{summary_of, followed_by, IsSummary, reach, judged}
 use Rattle.stab_circuit.specs.inner.Splices.{splice_of}
 use Rattle.stab_circuit.specs.inner.Judgements.{judgement_of, BeginsWith}
 use Rattle.stab_circuit.specs.inner.EditResults.{steps_within, PutsApart, AreApart, edit_result_by, IsEditResult}
 use Rattle.stab_circuit.specs.inner.Chunks.{chunk_of, chunk_items, AreConsecutive, AreChunksOf, IsChunk, IsFound}
 use Rattle.stab_circuit.proofs.EditLemmas.{steps_split}
 use Rattle.stab_circuit.proofs.JudgementLemmas.{judged_within}
-use Rattle.stab_circuit.proofs.SummaryLemmas.{check_judged}
+use Rattle.stab_items.proofs.SummaryLemmas.{check_judged}
 use Rattle.stab_circuit.proofs.ChunkLemmas.{chunks_length, chunks_front, chunks_back, chunks-append, one_chunk, summary-append}
 use Rattle.stab_circuit.proofs.EditResultLemmas.{apart_append, edit_result_is}
 

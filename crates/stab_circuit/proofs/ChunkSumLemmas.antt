@@ -3,13 +3,13 @@ use Rattle.std.proofs.Common.{◌≡◌, ◌≤◌, ◌<◌, ap, sym, ◌∙◌,
 use Rattle.std.proofs.lemmas.List.{length-take, take-append-drop, drop-drop}
 use Rattle.std.proofs.Math.Seq.{take-add, take-length, drop-append-add}
 use Rattle.stab_circuit.specs.declared.chunks.Chunk.{Chunk}
-use Rattle.stab_circuit.specs.declared.summary.Summary.{Summary}
-use Rattle.stab_circuit.specs.Items.{OneItem, listed}
-use Rattle.stab_circuit.specs.Steps.{Step, unroll}
-use Rattle.stab_circuit.specs.inner.Summaries.{summary_of, followed_by}
+use Rattle.stab_items.specs.declared.summary.Summary.{Summary}
+use Rattle.stab_items.specs.Items.{OneItem, listed}
+use Rattle.stab_items.specs.Steps.{Step, unroll}
+use Rattle.stab_items.specs.inner.Summaries.{summary_of, followed_by}
 use Rattle.stab_circuit.specs.inner.Chunks.{chunk_of, chunk_items, AreConsecutive, IsChunk}
-use Rattle.stab_circuit.proofs.ItemLemmas.{listed-append}
-use Rattle.stab_circuit.proofs.StepLemmas.{unroll-join}
+use Rattle.stab_items.proofs.ItemLemmas.{listed-append}
+use Rattle.stab_items.proofs.StepLemmas.{unroll-join}
 use Rattle.stab_circuit.proofs.ChunkLemmas.{chunks_length, chunks_front, chunks_back, summary-append}
 
 -- a chunk of nothing, for reads past a list's end

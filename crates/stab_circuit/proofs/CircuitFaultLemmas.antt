@@ -3,9 +3,9 @@ use Rattle.std.proofs.Common.{◌≡◌, refl, sym, ap, ◌∙◌, ℕ, List, Op
 use Rattle.stab_io.specs.declared.refusal.Refusal.{Refusal}
 use Rattle.stab_io.specs.declared.refusal.Fault.{Fault}
 use Rattle.stab_io.specs.Refusals.{whole}
-use Rattle.stab_circuit.specs.Items.{Items}
-use Rattle.stab_circuit.specs.Circuits.{text_fault, StandsFor}
-use Rattle.stab_circuit.specs.Steps.{check_of}
+use Rattle.stab_items.specs.Items.{Items}
+use Rattle.stab_items.specs.Circuits.{text_fault, StandsFor}
+use Rattle.stab_items.specs.Steps.{check_of}
 use Rattle.stab_circuit.specs.Readings.{IsCircuit, IsFaultOf, IsRefused}
 use Rattle.stab_circuit.proofs.RoundLemmas.{some_items, only_items}
 

@@ -7,15 +7,13 @@ use Rattle.stab_io.specs.declared.refusal.Refusal.{Refusal}
 use Rattle.stab_io.specs.declared.refusal.Refusal.TheVariants.{PlaceOutOfRange, NotABlock, QubitOutOfRange, LookbackTooFar, TooManySteps, TooDeep}
 use Rattle.stab_circuit.specs.declared.edit.Edit.TheVariants.{Replace, Delete}
 use Rattle.stab_lines.specs.declared.operation.Kind.{Kind}
-use Rattle.stab_lines.specs.declared.operation.Kind.TheVariants.{Tick}
-use Rattle.stab_lines.specs.declared.operation.Operation.{Operation}
-use Rattle.stab_circuit.specs.Items.{OneItem, operation, repeat, done, before, listed, entries, depth}
-use Rattle.stab_circuit.specs.Steps.{steps_of, unroll, rounds, past, past_named, qubits_of, observables_of, named_qubits, named_observables, looks_too_far, most_steps, check_of, check_within}
+use Rattle.stab_items.specs.Items.{OneItem, operation, repeat, done, before, listed, entries, depth}
+use Rattle.stab_items.specs.Steps.{unroll, rounds, past_named, qubits_of, observables_of, named_qubits, named_observables, looks_too_far, most_steps, check_of, check_within}
 use Rattle.stab_circuit.specs.Edits.{with_item, rebuilt, edited_inside, changed, edited_in, edited, taken_in, taken, list_verdict, verdict}
 use Rattle.stab_circuit.specs.Paths.{Path}
-use Rattle.stab_circuit.specs.Nothings.{IsNothing}
-use Rattle.stab_circuit.proofs.ItemLemmas.{listed-append, depth-join}
-use Rattle.stab_circuit.proofs.SummaryLemmas.{past_named-join}
+use Rattle.stab_items.specs.Nothings.{IsNothing}
+use Rattle.stab_items.proofs.ItemLemmas.{listed-append, depth-join}
+use Rattle.stab_items.proofs.SummaryLemmas.{past_named-join}
 use Rattle.stab_circuit.proofs.EditLemmas.{listed-entries, steps-append, if_ok, changed_split, got_split, rebuilds}
 use Rattle.stab_circuit.proofs.UndoLemmas.{around, old_parts, new_parts, old_inner, edited_new, edited_old, deleted, replace-retaken}
 
@@ -170,13 +168,3 @@ ok_alike ys a b e (inr h) = absurd (not_both ys h.0 (sym e ∙ h.1))
 
 pub deleted-ok : (x : OneItem) (at : Path) (xs ys : List OneItem) → edited (Replace at x) xs ≡ Ok ys → (zs : List OneItem) × (edited (Delete at) xs ≡ Ok zs)
 deleted-ok x at xs ys e = ok_alike ys _ _ e (alike x at.blocks at xs)
-
--- TICK stands for nothing
-
-pub tick_nothing : (op : Operation) → op.kind ≡ Tick → IsNothing (operation op)
-tick_nothing op e = record {
-  steps = ap (λ k. steps_of k ++ []) e;
-  qubits = ap (λ k. max (past (named_qubits k)) 0) e;
-  observables = ap (λ k. max (past (named_observables k)) 0) e;
-  depth = refl;
-}

@@ -1,12 +1,12 @@
 -- Edits in blocks keep the blocks right.
-use Rattle.std.proofs.Common.{◌≡◌, ◌≤◌, ◌<◌, ap, sym, ◌∙◌, subst, ℕ, ◌+◌, suc, zero, max, min, List, [], ◌∷◌, length, set, get_or, arith, Option, Some, Result, Ok, Err}
+use Rattle.std.proofs.Common.{◌≡◌, ◌≤◌, ◌<◌, ap, sym, ◌∙◌, subst, ℕ, ◌+◌, suc, zero, max, List, [], ◌∷◌, length, set, get_or, arith, Option, Some, Result, Ok, Err}
 use Rattle.std.specs.Prelude.{slice_get}
 use Rattle.std.proofs.lemmas.Option.{slice_get-get_or}
 use Rattle.std.specs.Result.{OnOk, OnErr}
 use Rattle.stab_io.specs.declared.refusal.Refusal.{Refusal}
 use Rattle.stab_circuit.specs.declared.edit.Edit.{Edit}
-use Rattle.stab_circuit.specs.declared.item.Head.{Head}
-use Rattle.stab_circuit.specs.Items.{Items, OneItem, operation, repeat, listed, before, depth, depth_of}
+use Rattle.stab_items.specs.Items.{Items, OneItem, operation, repeat, listed, before, depth, depth_of}
+use Rattle.stab_items.specs.inner.Blocks.{with_body, IsInstruction}
 use Rattle.stab_circuit.specs.Edits.{with_item, rebuilt, edited_inside, edited_in, inner, taken_in}
 use Rattle.stab_circuit.specs.inner.Judgements.{IsShallow, IsShallowItem}
 use Rattle.stab_circuit.proofs.EditLemmas.{entries-listed}
@@ -50,6 +50,16 @@ pub found_at : (edit : Edit) (b : ℕ) (bs blocks : List ℕ) (xs : List OneItem
 found_at edit b bs blocks xs x e h f =
     slice_get-get_or xs b x (in_range (edited_in edit bs) xs xs b b (subst (λ l. IsShallow (edited_in edit l xs)) e h)) ∙ ap Some (sym f)
 
+-- an instruction has no items to edit
+pub no_block : (edit : Edit) (bs : List ℕ) (x : OneItem) → IsInstruction x → IsShallowItem (edited_inside (edited_in edit bs) (Some x)) → ⊥
+no_block edit bs (operation op) i h = h
+no_block edit bs (repeat n tag body) i h = i
+
+-- a block whose items were taken out and others put in
+pub put_back : (x y z : OneItem) (ys : List OneItem) → y ≡ with_body [] x → z ≡ with_body ys y → z ≡ with_body ys x
+put_back (operation op) y z ys e f = f ∙ ap (with_body ys) e
+put_back (repeat n tag body) y z ys e f = f ∙ ap (with_body ys) e
+
 -- a block whose items are edited
 rebuilt_block : (edit : Edit) (bs : List ℕ) (x : OneItem) (n : ℕ) (tag : List ℕ) (xs : List OneItem) → x ≡ repeat n tag (listed xs)
     → edited_inside (edited_in edit bs) (Some x) ≡ rebuilt n tag (edited_in edit bs xs)
@@ -59,29 +69,45 @@ shallow_body : (n : ℕ) (tag : List ℕ) (r : Result (List OneItem) Refusal) �
 shallow_body n tag (Ok ys) h = omega arith
 shallow_body n tag (Err r) h = h
 
-pub allowed_within : (edit : Edit) (bs : List ℕ) (x : OneItem) (n : ℕ) (tag : List ℕ) (xs : List OneItem) → x ≡ repeat n tag (listed xs)
-    → IsShallowItem (edited_inside (edited_in edit bs) (Some x)) → IsShallow (edited_in edit bs xs)
-allowed_within edit bs x n tag xs e h = shallow_body n tag (edited_in edit bs xs) (subst IsShallowItem (rebuilt_block edit bs x n tag xs e) h)
-
-committed_within : (r : Result (Option OneItem) Edit) (edit : Edit) (bs : List ℕ) (x : OneItem) (n : ℕ) (tag : List ℕ) (xs ys : List OneItem) → x ≡ repeat n tag (listed xs)
-    → OnOk r (edited_in edit bs xs ≡ Ok ys) → OnOk r (edited_inside (edited_in edit bs) (Some x) ≡ Ok (repeat n tag (listed ys)))
-committed_within (Ok u) edit bs x n tag xs ys e h = rebuilt_block edit bs x n tag xs e ∙ ap (rebuilt n tag) h
-committed_within (Err c) edit bs x n tag xs ys e h = h
-
-pub committed_in : (r : Result (Option OneItem) Edit) (edit : Edit) (bs : List ℕ) (x : OneItem) (old new : Head) (xs ys : List OneItem) → new ≡ old → x ≡ repeat old.count old.tag (listed xs)
-    → OnOk r (edited_in edit bs xs ≡ Ok ys) → OnOk r (edited_inside (edited_in edit bs) (Some x) ≡ Ok (repeat new.count new.tag (listed ys)))
-committed_in r edit bs x old new xs ys f e h =
-    subst (λ (k : Head). OnOk r (edited_inside (edited_in edit bs) (Some x) ≡ Ok (repeat k.count k.tag (listed ys)))) (sym f) (committed_within r edit bs x old.count old.tag xs ys e h)
-
-pub taken_within : (edit : Edit) (bs : List ℕ) (x : OneItem) (n : ℕ) (tag : List ℕ) (xs : List OneItem) → x ≡ repeat n tag (listed xs) → taken_in edit bs (inner (Some x)) ≡ taken_in edit bs xs
-taken_within edit bs x n tag xs e = ap (λ y. taken_in edit bs (inner (Some y))) e ∙ ap (taken_in edit bs) (entries-listed xs)
-
 new_depth : (n : ℕ) (tag : List ℕ) (r : Result (List OneItem) Refusal) (ys : List OneItem) → IsShallowItem (rebuilt n tag r) → r ≡ Ok ys → depth (listed ys) ≤ 15
 new_depth n tag r ys h e =
     let k : depth (listed ys) + 1 ≤ 16 = subst (λ q. IsShallowItem (rebuilt n tag q)) e h in
     omega arith
 
-pub kept_shallow : (r : Result (Option OneItem) Edit) (edit : Edit) (bs : List ℕ) (x : OneItem) (n : ℕ) (tag : List ℕ) (xs ys : List OneItem) → x ≡ repeat n tag (listed xs)
-    → IsShallowItem (edited_inside (edited_in edit bs) (Some x)) → OnOk r (edited_in edit bs xs ≡ Ok ys) → OnErr r (ys ≡ xs) → min (depth (listed xs)) 17 ≤ 15 → min (depth (listed ys)) 17 ≤ 15
-kept_shallow (Ok u) edit bs x n tag xs ys e h ok err old = omega (arith, new_depth n tag (edited_in edit bs xs) ys (subst IsShallowItem (rebuilt_block edit bs x n tag xs e) h) ok)
-kept_shallow (Err c) edit bs x n tag xs ys e h ok err old = omega (arith, ap (λ l. depth (listed l)) err)
+-- an edit in an item that has these items in it, and leaves a block: the items are allowed to be edited so
+pub allowed_within : (edit : Edit) (bs : List ℕ) (x : OneItem) (xs : List OneItem) → x ≡ with_body xs x
+    → IsShallowItem (edited_inside (edited_in edit bs) (Some x)) → IsShallow (edited_in edit bs xs)
+allowed_within edit bs (operation op) xs e h = absurd h
+allowed_within edit bs (repeat n tag body) xs e h =
+    shallow_body n tag (edited_in edit bs xs) (subst IsShallowItem (rebuilt_block edit bs (repeat n tag body) n tag xs e) h)
+
+-- the block with the edited items is the edited block
+pub committed_within : (r : Result (Option OneItem) Edit) (edit : Edit) (bs : List ℕ) (x z : OneItem) (xs ys : List OneItem) → x ≡ with_body xs x → z ≡ with_body ys x
+    → IsShallowItem (edited_inside (edited_in edit bs) (Some x)) → OnOk r (edited_in edit bs xs ≡ Ok ys) → OnOk r (edited_inside (edited_in edit bs) (Some x) ≡ Ok z)
+committed_within (Ok u) edit bs (operation op) z xs ys e f h k = absurd h
+committed_within (Ok u) edit bs (repeat n tag body) z xs ys e f h k =
+    subst (λ (y : OneItem). edited_inside (edited_in edit bs) (Some (repeat n tag body)) ≡ Ok y) (sym f) (rebuilt_block edit bs (repeat n tag body) n tag xs e ∙ ap (rebuilt n tag) k)
+committed_within (Err c) edit bs x z xs ys e f h k = k
+
+-- the items that the edit would take out are those of its items
+pub taken_within : (edit : Edit) (bs : List ℕ) (x : OneItem) (xs : List OneItem) → x ≡ with_body xs x
+    → IsShallowItem (edited_inside (edited_in edit bs) (Some x)) → taken_in edit bs (inner (Some x)) ≡ taken_in edit bs xs
+taken_within edit bs (operation op) xs e h = absurd h
+taken_within edit bs (repeat n tag body) xs e h = ap (λ y. taken_in edit bs (inner (Some y))) e ∙ ap (taken_in edit bs) (entries-listed xs)
+
+-- the block is as before where its items are
+pub unchanged_within : (r : Result (Option OneItem) Edit) (x z : OneItem) (xs ys : List OneItem) → x ≡ with_body xs x → z ≡ with_body ys x → OnErr r (ys ≡ xs) → OnErr r (z ≡ x)
+unchanged_within (Ok u) x z xs ys e f k = k
+unchanged_within (Err c) x z xs ys e f k = f ∙ ap (λ l. with_body l x) k ∙ sym e
+
+new_shallow : (edit : Edit) (bs : List ℕ) (x : OneItem) (xs ys : List OneItem) → x ≡ with_body xs x
+    → IsShallowItem (edited_inside (edited_in edit bs) (Some x)) → edited_in edit bs xs ≡ Ok ys → depth (listed ys) ≤ 15
+new_shallow edit bs (operation op) xs ys e h k = absurd h
+new_shallow edit bs (repeat n tag body) xs ys e h k =
+    new_depth n tag (edited_in edit bs xs) ys (subst IsShallowItem (rebuilt_block edit bs (repeat n tag body) n tag xs e) h) k
+
+-- blocks are nested at most 15 deep in what comes back into the block
+pub kept_shallow : (r : Result (Option OneItem) Edit) (edit : Edit) (bs : List ℕ) (x : OneItem) (xs ys : List OneItem) → x ≡ with_body xs x
+    → IsShallowItem (edited_inside (edited_in edit bs) (Some x)) → OnOk r (edited_in edit bs xs ≡ Ok ys) → OnErr r (ys ≡ xs) → depth (listed xs) ≤ 15 → depth (listed ys) ≤ 15
+kept_shallow (Ok u) edit bs x xs ys e h ok err old = new_shallow edit bs x xs ys e h ok
+kept_shallow (Err c) edit bs x xs ys e h ok err old = omega (arith, ap (λ l. depth (listed l)) err, old)

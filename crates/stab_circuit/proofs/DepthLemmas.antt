@@ -8,7 +8,7 @@ use Rattle.stab_io.specs.declared.refusal.Refusal.{Refusal}
 use Rattle.stab_io.specs.declared.refusal.Refusal.TheVariants.{PlaceOutOfRange, TooDeep}
 use Rattle.stab_circuit.specs.declared.edit.Edit.{Edit}
 use Rattle.stab_circuit.specs.declared.edit.Edit.TheVariants.{Insert, Replace}
-use Rattle.stab_circuit.specs.Items.{OneItem, operation, repeat, listed, entries, depth, depth_of}
+use Rattle.stab_items.specs.Items.{OneItem, operation, repeat, listed, entries, depth, depth_of}
 use Rattle.stab_circuit.specs.Paths.{Path}
 use Rattle.stab_circuit.specs.Places.{item_there, found_inside, item_in, item_at}
 use Rattle.stab_circuit.specs.Edits.{with_item, rebuilt, edited_inside, changed, edited_in, edited, edit_refusal, list_refusal}

@@ -8,13 +8,13 @@ use Rattle.stab_io.specs.declared.refusal.Refusal.{Refusal}
 use Rattle.stab_io.specs.declared.refusal.Refusal.TheVariants.{PlaceOutOfRange}
 use Rattle.stab_circuit.specs.declared.edit.Edit.{Edit}
 use Rattle.stab_circuit.specs.declared.edit.Edit.TheVariants.{Insert, Replace, Delete}
-use Rattle.stab_circuit.specs.Items.{Items, OneItem, operation, repeat, done, next, block, before, listed, entries}
-use Rattle.stab_circuit.specs.Steps.{Step, unroll, rounds}
+use Rattle.stab_items.specs.Items.{Items, OneItem, operation, repeat, done, next, block, before, listed, entries}
+use Rattle.stab_items.specs.Steps.{Step, unroll, rounds}
 use Rattle.stab_circuit.specs.Edits.{with_item, rebuilt, edited_inside, edit_path, changed, edited_in, edited, inner, steps_in, steps_before, behind_taken, behind_put, outermost, first_changed, old_end, new_end}
 use Rattle.stab_circuit.specs.inner.Judgements.{BeginsWith}
 use Rattle.stab_circuit.specs.Laws.{LeavesTheRest}
-use Rattle.stab_circuit.proofs.ItemLemmas.{listed-append}
-use Rattle.stab_circuit.proofs.StepLemmas.{unroll-join}
+use Rattle.stab_items.proofs.ItemLemmas.{listed-append}
+use Rattle.stab_items.proofs.StepLemmas.{unroll-join}
 
 pub entries-before : (x : OneItem) (xs : Items) → entries (before x xs) ≡ x ∷ entries xs
 entries-before (operation op) xs = refl

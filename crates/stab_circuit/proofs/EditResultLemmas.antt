@@ -5,16 +5,16 @@ use Rattle.std.proofs.lemmas.List.Elements.{All-append}
 use Rattle.std.specs.Prelude.{slice_get}
 use Rattle.stab_io.specs.declared.refusal.Refusal.{Refusal}
 use Rattle.stab_io.specs.declared.refusal.Refusal.TheVariants.{PlaceOutOfRange}
-use Rattle.stab_circuit.specs.declared.summary.Summary.{Summary}
+use Rattle.stab_items.specs.declared.summary.Summary.{Summary}
 use Rattle.stab_circuit.specs.declared.judge.Judgement.{Judgement}
 use Rattle.stab_circuit.specs.declared.judge.EditResult.{EditResult}
 use Rattle.stab_circuit.specs.declared.edit.Edit.{Edit}
 use Rattle.stab_circuit.specs.declared.edit.Edit.TheVariants.{Insert, Replace, Delete}
-use Rattle.stab_circuit.specs.Items.{OneItem, listed}
-use Rattle.stab_circuit.specs.Steps.{Step, unroll}
+use Rattle.stab_items.specs.Items.{OneItem, listed}
+use Rattle.stab_items.specs.Steps.{Step, unroll}
 use Rattle.stab_circuit.specs.Cursors.{IsApart}
 use Rattle.stab_circuit.specs.Edits.{edited_inside, edit_path, edited_in, steps_in, behind_taken, behind_put, outermost}
-use Rattle.stab_circuit.specs.inner.Summaries.{summary_of, followed_by, IsSummary}
+use Rattle.stab_items.specs.inner.Summaries.{summary_of, followed_by, IsSummary}
 use Rattle.stab_circuit.specs.inner.Splices.{Splice, splice_at, splice_block, splice_of, spliced, IsWithin}
 use Rattle.stab_circuit.specs.inner.Judgements.{judgement_of, BeginsWith}
 use Rattle.stab_circuit.specs.inner.EditResults.{steps_within, PutsApart, AreApart, edit_result_by, IsEditResult}

@@ -4,9 +4,9 @@ use Rattle.stab_io.specs.declared.refusal.Refusal.TheVariants.{TooDeep}
 use Rattle.stab_io.specs.declared.refusal.Fault.{Fault}
 use Rattle.stab_lines.specs.declared.meanings.Line.TheVariants.{Blank, Close, Open}
 use Rattle.stab_lines.specs.declared.meanings.Line.TheVariants as line
-use Rattle.stab_circuit.specs.Items.{Items, done, next, join}
-use Rattle.stab_circuit.specs.Circuits.{Meaning, at_line, fault_from}
-use Rattle.stab_circuit.specs.inner.Readers.{OpenBlock, Progress, closed, read_on}
+use Rattle.stab_items.specs.Items.{Items, done, next, join}
+use Rattle.stab_items.specs.Circuits.{Meaning, at_line, fault_from}
+use Rattle.stab_items.specs.inner.Readers.{OpenBlock, Progress, closed, read_on}
 
 -- the lines of the open blocks
 abbrev pub lines_of : List OpenBlock → List ℕ

@@ -5,9 +5,9 @@ use Rattle.stab_io.specs.declared.refusal.Refusal.TheVariants.{BadLine}
 use Rattle.stab_io.specs.declared.refusal.Fault.{Fault}
 use Rattle.stab_io.specs.Refusals.{whole}
 use Rattle.stab_lines.specs.Lines.{is_byte}
-use Rattle.stab_circuit.specs.Items.{Items, OneItem, operation, repeat, before, done, next, block}
-use Rattle.stab_circuit.specs.Circuits.{Joins, most_bytes, contents, meanings, fault_from, one_item, is_empty, item_fault, StandsForOne}
-use Rattle.stab_circuit.specs.inner.Readers.{before_reading, read_on}
+use Rattle.stab_items.specs.Items.{Items, OneItem, operation, repeat, before, done, next, block}
+use Rattle.stab_items.specs.Circuits.{Joins, most_bytes, contents, meanings, fault_from, one_item, is_empty, item_fault, StandsForOne}
+use Rattle.stab_items.specs.inner.Readers.{before_reading, read_on}
 use Rattle.stab_circuit.specs.Laws.{StandsForOneOnly, AreLinesOf}
 use Rattle.stab_circuit.proofs.ReadingLemmas.{one_list, some_list, read_joined}
 use Rattle.stab_circuit.proofs.OneItemLemmas.{read_blank, read_one, same_meanings, size}

@@ -3,19 +3,19 @@ use Rattle.std.proofs.Common.{◌≡◌, ◌≤◌, ◌<◌, refl, ap, sym, ◌�
 use Rattle.std.proofs.lemmas.List.{length-append}
 use Rattle.std.specs.Prelude.{slice_get}
 use Rattle.stab_io.specs.declared.refusal.Refusal.{Refusal}
-use Rattle.stab_circuit.specs.declared.summary.Summary.{Summary}
+use Rattle.stab_items.specs.declared.summary.Summary.{Summary}
 use Rattle.stab_circuit.specs.declared.judge.Judgement.{Judgement}
 use Rattle.stab_circuit.specs.declared.edit.Edit.{Edit}
-use Rattle.stab_circuit.specs.Items.{OneItem, operation, repeat, listed}
-use Rattle.stab_circuit.specs.Steps.{Step, unroll, rounds}
+use Rattle.stab_items.specs.Items.{OneItem, operation, repeat, listed}
+use Rattle.stab_items.specs.Steps.{Step, unroll, rounds}
 use Rattle.stab_circuit.specs.Edits.{rebuilt, edited_inside, edit_path, edited_in, inner, steps_in}
-use Rattle.stab_circuit.specs.inner.Summaries.{summary_of, followed_by, repeated, reach, IsSummary}
+use Rattle.stab_items.specs.inner.Summaries.{summary_of, followed_by, repeated, reach, IsSummary}
 use Rattle.stab_circuit.specs.inner.Splices.{Splice, splice_block, splice_of, spliced, IsWithin}
 use Rattle.stab_circuit.specs.inner.Judgements.{summed, judgement_of, block_refusal, BeginsWith}
 use Rattle.stab_circuit.specs.inner.EditResults.{steps_within, PutsApart, AreApart}
-use Rattle.stab_circuit.proofs.ItemLemmas.{listed-append}
-use Rattle.stab_circuit.proofs.SummaryLemmas.{summary-join, block_summary}
-use Rattle.stab_circuit.proofs.StepApartLemmas.{block_apart}
+use Rattle.stab_items.proofs.ItemLemmas.{listed-append}
+use Rattle.stab_items.proofs.SummaryLemmas.{summary-join, block_summary}
+use Rattle.stab_items.proofs.StepApartLemmas.{block_apart}
 use Rattle.stab_circuit.proofs.EditLemmas.{entries-listed, got_split, steps-append, steps_split, begins_before, begins_behind}
 use Rattle.stab_circuit.proofs.SpliceLemmas.{edited_spliced, splice_within}
 

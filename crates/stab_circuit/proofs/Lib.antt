@@ -1,14 +1,7 @@
 mod InputLemmas
-mod ItemLemmas
-mod ViewLemmas
-mod ReaderLemmas
-mod PrintLemmas
-mod StepLemmas
 mod StepPartLemmas
-mod StepApartLemmas
 mod WalkLemmas
 mod SkipLemmas
-mod SummaryLemmas
 mod FaultLemmas
 mod ReadingLemmas
 mod RefusalLemmas

@@ -13,8 +13,8 @@ use Rattle.stab_lines.specs.Laws.{IsLine}
 use Rattle.stab_lines.proofs.FreeLemmas.{Each, each-append}
 use Rattle.stab_circuit.specs.declared.edit.Edit.{Edit}
 use Rattle.stab_circuit.specs.declared.edit.Edit.TheVariants.{Insert, Replace, Delete}
-use Rattle.stab_circuit.specs.Items.{Items, OneItem, operation, repeat, done, next, block, before, listed, entries, depth}
-use Rattle.stab_circuit.specs.Circuits.{Meaning, Joins, line_meanings, fault_from}
+use Rattle.stab_items.specs.Items.{Items, OneItem, operation, repeat, done, next, block, before, listed, entries, depth}
+use Rattle.stab_items.specs.Circuits.{Meaning, Joins, line_meanings, fault_from}
 use Rattle.stab_circuit.specs.Edits.{with_item, edited_inside, edit_path, edited_in, edited, behind_taken, inner, taken_in, taken}
 use Rattle.stab_circuit.specs.Laws.{AreOfLines, PutsLines}
 use Rattle.stab_circuit.proofs.BlankLemmas.{lines_of, lines_join, fault_operation, same_faultless}

@@ -8,7 +8,7 @@ use Rattle.stab_io.specs.declared.refusal.Refusal.TheVariants.{PlaceOutOfRange, 
 use Rattle.stab_io.specs.declared.refusal.Fault.{Fault}
 use Rattle.stab_io.specs.Refusals.{whole, IsCallFault}
 use Rattle.stab_circuit.specs.declared.edit.Edit.TheVariants.{Insert, Replace, Delete}
-use Rattle.stab_circuit.specs.Items.{Items, OneItem, operation, repeat, listed, entries, depth, depth_of}
+use Rattle.stab_items.specs.Items.{Items, OneItem, operation, repeat, listed, entries, depth, depth_of}
 use Rattle.stab_circuit.specs.Paths.{Path}
 use Rattle.stab_circuit.specs.Places.{item_there, found_inside, item_in, item_at}
 use Rattle.stab_circuit.specs.Edits.{with_item, rebuilt, edited_inside, edited, edit_refusal, taken}

@@ -2,7 +2,7 @@
 use Rattle.std.proofs.Common.{◌≡◌, ap, ◌∙◌, ℕ, List, Option, Some, None, Result, Ok, Err}
 use Rattle.std.specs.Borrow.{Bor}
 use Rattle.stab_io.specs.declared.refusal.Refusal.{Refusal}
-use Rattle.stab_circuit.specs.Items.{OneItem, operation, repeat, listed}
+use Rattle.stab_items.specs.Items.{OneItem, operation, repeat, listed}
 use Rattle.stab_circuit.specs.Places.{found_inside, FindsItem}
 use Rattle.stab_circuit.specs.inner.Judgements.{block_refusal}
 use Rattle.stab_circuit.proofs.EditLemmas.{entries-listed}

@@ -5,10 +5,10 @@ use Rattle.stab_io.specs.declared.refusal.Fault.{Fault}
 use Rattle.stab_lines.specs.declared.operation.Operation.{Operation}
 use Rattle.stab_lines.specs.declared.meanings.Line.TheVariants.{Blank, Close, Open}
 use Rattle.stab_lines.specs.declared.meanings.Line.TheVariants as line
-use Rattle.stab_circuit.specs.Items.{Items, done, next, block, join}
-use Rattle.stab_circuit.specs.Circuits.{Meaning, Joins, nothing, blank_line, operation_line, block_lines, at_line, fault_from}
-use Rattle.stab_circuit.specs.inner.Readers.{OpenBlock, before_reading, closed, read_on}
-use Rattle.stab_circuit.proofs.ItemLemmas.{join_done, join_assoc}
+use Rattle.stab_items.specs.Items.{Items, done, next, block, join}
+use Rattle.stab_items.specs.Circuits.{Meaning, Joins, nothing, blank_line, operation_line, block_lines, at_line, fault_from}
+use Rattle.stab_items.specs.inner.Readers.{OpenBlock, before_reading, closed, read_on}
+use Rattle.stab_items.proofs.ItemLemmas.{join_done, join_assoc}
 use Rattle.stab_lines.proofs.BoolLemmas.{chosen}
 use Rattle.stab_circuit.proofs.FaultLemmas.{lines_of, fault_of, state, open_block, length-lines_of, fault_agrees}
 

@@ -7,7 +7,7 @@ use Rattle.stab_lines.specs.declared.meanings.Line.{Line}
 use Rattle.stab_lines.specs.declared.meanings.Line.TheVariants.{Blank, Close, Open}
 use Rattle.stab_lines.specs.declared.meanings.Line.TheVariants as line
 use Rattle.stab_lines.specs.Meanings.{is_close, meaning_of, is_of_line}
-use Rattle.stab_circuit.specs.Circuits.{Meaning, at_line, meaning_after, ends_item, depth_after, one_item, fault_from, is_empty}
+use Rattle.stab_items.specs.Circuits.{Meaning, at_line, meaning_after, ends_item, depth_after, one_item, fault_from, is_empty}
 use Rattle.stab_lines.proofs.LineLaws.{refused_as_line}
 use Rattle.stab_circuit.specs.Readings.{has_line}
 

@@ -14,9 +14,9 @@ use Rattle.stab_lines.specs.declared.meanings.Line.TheVariants as line
 use Rattle.stab_lines.specs.Lines.{is_byte, content_of}
 use Rattle.stab_lines.specs.Meanings.{meaning_of}
 use Rattle.stab_lines.specs.Laws.{IsLine, line_printed, Says}
-use Rattle.stab_circuit.specs.Items.{Items, done, next, block}
-use Rattle.stab_circuit.specs.Circuits.{Meaning, Joins, line_meanings, meanings, fault_from, text_fault, most_bytes, StandsFor}
-use Rattle.stab_circuit.specs.Prints.{PrintedLine, printed_lines, text_of, printed}
+use Rattle.stab_items.specs.Items.{Items, done, next, block}
+use Rattle.stab_items.specs.Circuits.{Meaning, Joins, line_meanings, meanings, fault_from, text_fault, most_bytes, StandsFor}
+use Rattle.stab_items.specs.Prints.{PrintedLine, printed_lines, text_of, printed}
 use Rattle.stab_circuit.specs.Laws.{AreLinesOf}
 use Rattle.stab_lines.proofs.BoolLemmas.{passed}
 use Rattle.stab_lines.proofs.FreeLemmas.{Each, Free, each-append, free-append, free_spaces, free_any, any_free, split_free}

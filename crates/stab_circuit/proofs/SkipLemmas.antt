@@ -5,10 +5,10 @@ use Rattle.std.proofs.Math.Seq.{drop-append-add}
 use Rattle.stab_lines.specs.declared.operation.Operation.{Operation}
 use Rattle.stab_lines.specs.declared.operation.Kind.{Kind}
 use Rattle.stab_circuit.specs.declared.walk.Walk.{Walk}
-use Rattle.stab_circuit.specs.Items.{Items, OneItem, operation, repeat, done, before, listed}
-use Rattle.stab_circuit.specs.Steps.{Step, steps_of, rounds, unroll}
+use Rattle.stab_items.specs.Items.{Items, OneItem, operation, repeat, done, before, listed}
+use Rattle.stab_items.specs.Steps.{Step, steps_of, rounds, unroll}
 use Rattle.stab_circuit.specs.inner.Walks.{kind_steps, weight, weight_at, ahead, walk_left, walk_weight, SameKind, Takes, GoesOn, Passes}
-use Rattle.stab_circuit.proofs.StepLemmas.{length-rounds}
+use Rattle.stab_items.proofs.StepLemmas.{length-rounds}
 use Rattle.stab_circuit.proofs.WalkLemmas.{more_rounds}
 
 drop_none : (n : ℕ) → ◌≡◌ {A = List Step} (drop n []) []

@@ -8,7 +8,7 @@ use Rattle.stab_io.specs.declared.refusal.Refusal.{Refusal}
 use Rattle.stab_io.specs.declared.refusal.Refusal.TheVariants.{PlaceOutOfRange}
 use Rattle.stab_circuit.specs.declared.edit.Edit.{Edit}
 use Rattle.stab_circuit.specs.declared.edit.Edit.TheVariants.{Insert, Replace, Delete}
-use Rattle.stab_circuit.specs.Items.{OneItem, operation, repeat}
+use Rattle.stab_items.specs.Items.{OneItem, operation, repeat}
 use Rattle.stab_circuit.specs.Edits.{with_item, edited_inside, changed, edited_in}
 use Rattle.stab_circuit.specs.inner.Splices.{Splice, splice_at, splice_block, splice_of, spliced, IsWithin}
 use Rattle.stab_circuit.proofs.EditLemmas.{if_ok, le_holds, lt_holds, next_place}

@@ -5,12 +5,12 @@ use Rattle.std.proofs.lemmas.List.{append-nil, set_split}
 use Rattle.std.proofs.lemmas.Option.{slice_get_within}
 use Rattle.stab_io.specs.declared.refusal.Refusal.TheVariants.{PlaceOutOfRange}
 use Rattle.stab_lines.specs.declared.operation.Kind.{Kind}
-use Rattle.stab_circuit.specs.Items.{Items, OneItem, operation, repeat, listed, entries, depth}
-use Rattle.stab_circuit.specs.Steps.{Step, unroll, rounds, past_named}
+use Rattle.stab_items.specs.Items.{Items, OneItem, operation, repeat, listed, entries, depth}
+use Rattle.stab_items.specs.Steps.{Step, unroll, rounds, past_named}
 use Rattle.stab_circuit.specs.Splits.{rounds_as_block, parts_of_block, parts_of_item, with_parts, split_in}
 use Rattle.stab_circuit.specs.Laws.{AreAlike}
-use Rattle.stab_circuit.proofs.ItemLemmas.{listed-append, depth-join}
-use Rattle.stab_circuit.proofs.SummaryLemmas.{past_named-join}
+use Rattle.stab_items.proofs.ItemLemmas.{listed-append, depth-join}
+use Rattle.stab_items.proofs.SummaryLemmas.{past_named-join}
 use Rattle.stab_circuit.proofs.EditLemmas.{steps-append, listed-entries, lt_holds, rebuilds, got_split}
 
 -- rounds one after another

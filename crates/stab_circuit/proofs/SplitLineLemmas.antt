@@ -7,7 +7,7 @@ use Rattle.stab_lines.specs.Meanings.{meaning_of}
 use Rattle.stab_lines.specs.Laws.{line_printed}
 use Rattle.stab_lines.proofs.FreeLemmas.{Each, each-append}
 use Rattle.stab_lines.proofs.LineLaws.{line_good, good_said}
-use Rattle.stab_circuit.specs.Items.{Items, OneItem, operation, repeat, listed}
+use Rattle.stab_items.specs.Items.{Items, OneItem, operation, repeat, listed}
 use Rattle.stab_circuit.specs.Paths.{Path}
 use Rattle.stab_circuit.specs.Splits.{rounds_as_block, parts_of_block, parts_of_item, with_parts, split_in, split}
 use Rattle.stab_circuit.specs.Laws.{AreOfLines}

@@ -1,7 +1,7 @@
 -- Parts of the steps of an instruction.
 use Rattle.std.proofs.Common.{◌≡◌, ◌≤◌, ℕ, ◌+◌, zero, suc, refl, sym, ◌∙◌, ap, subst, List, [], ◌∷◌, ◌++◌, length, take, drop, map, arith}
 use Rattle.std.proofs.lemmas.List.{take-map, drop-map, drop-drop, length-map, drop_all}
-use Rattle.stab_circuit.specs.Steps.{Step}
+use Rattle.stab_items.specs.Steps.{Step}
 
 cut : {X : Type 0} (n : ℕ) (xs : List X) → xs ≡ take n xs ++ drop (length (take n xs)) xs
 cut zero xs = refl

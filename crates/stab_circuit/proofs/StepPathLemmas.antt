@@ -5,12 +5,12 @@ use Rattle.std.proofs.Math.Seq.{drop-append-add}
 use Rattle.std.proofs.Math.Nat.{div-lt_iff_lt-mul, div-add-mod, mod-lt}
 use Rattle.stab_lines.specs.declared.operation.Operation.{Operation}
 use Rattle.stab_circuit.specs.declared.chunks.SkippedChunks.{SkippedChunks}
-use Rattle.stab_circuit.specs.Items.{Items, OneItem, operation, repeat, done, next, block, before, listed}
-use Rattle.stab_circuit.specs.Steps.{steps_of, rounds, unroll}
+use Rattle.stab_items.specs.Items.{Items, OneItem, operation, repeat, done, next, block, before, listed}
+use Rattle.stab_items.specs.Steps.{steps_of, rounds, unroll}
 use Rattle.stab_circuit.specs.Paths.{Path, numbers}
 use Rattle.stab_circuit.specs.StepPaths.{outside, within, path_rounds, paths_from, paths_of}
 use Rattle.stab_circuit.specs.inner.Chunks.{Skips}
-use Rattle.stab_circuit.proofs.StepLemmas.{length-rounds}
+use Rattle.stab_items.proofs.StepLemmas.{length-rounds}
 use Rattle.stab_circuit.proofs.WalkLemmas.{unroll_before, items_from}
 use Rattle.stab_circuit.proofs.PathLemmas.{path_is}
 

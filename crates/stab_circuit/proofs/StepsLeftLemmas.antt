@@ -4,11 +4,11 @@ use Rattle.std.proofs.lemmas.Bool.{ltb-true, lt-ltb}
 use Rattle.std.proofs.lemmas.List.{length-append, length-drop}
 use Rattle.stab_lines.specs.declared.operation.Operation.{Operation}
 use Rattle.stab_circuit.specs.declared.chunks.SkippedChunks.{SkippedChunks}
-use Rattle.stab_circuit.specs.Items.{Items, OneItem, operation, repeat, done, before, listed}
-use Rattle.stab_circuit.specs.Steps.{steps_of, rounds, unroll}
+use Rattle.stab_items.specs.Items.{Items, OneItem, operation, repeat, done, before, listed}
+use Rattle.stab_items.specs.Steps.{steps_of, rounds, unroll}
 use Rattle.stab_circuit.specs.StepPaths.{item_steps_left}
 use Rattle.stab_circuit.specs.inner.Chunks.{Skips}
-use Rattle.stab_circuit.proofs.StepLemmas.{length-rounds}
+use Rattle.stab_items.proofs.StepLemmas.{length-rounds}
 use Rattle.stab_circuit.proofs.WalkLemmas.{unroll_before, items_from}
 use Rattle.stab_circuit.proofs.StepPathLemmas.{InRound, steps_split}
 

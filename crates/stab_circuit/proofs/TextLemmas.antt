@@ -7,10 +7,10 @@ use Rattle.stab_io.specs.declared.refusal.Refusal.{Refusal}
 use Rattle.stab_io.specs.declared.refusal.Refusal.TheVariants.{LookbackTooFar, TooManySteps, TooLong, BadLine, OutOfMemory}
 use Rattle.stab_io.specs.declared.refusal.Fault.{Fault}
 use Rattle.stab_io.specs.Refusals.{whole}
-use Rattle.stab_circuit.specs.Items.{Items, OneItem, before, done, listed}
-use Rattle.stab_circuit.specs.Circuits.{Joins, contents, meanings, limited, text_fault, item_fault, StandsFor, StandsForOne, one_item, is_empty}
-use Rattle.stab_circuit.specs.Steps.{check_of, Checks, unroll, looks_too_far, most_steps}
-use Rattle.stab_circuit.specs.inner.Readers.{before_reading, read_on, reading}
+use Rattle.stab_items.specs.Items.{Items, OneItem, before, done, listed}
+use Rattle.stab_items.specs.Circuits.{Joins, contents, meanings, limited, text_fault, item_fault, StandsFor, StandsForOne, one_item, is_empty}
+use Rattle.stab_items.specs.Steps.{check_of, Checks, unroll, looks_too_far, most_steps}
+use Rattle.stab_items.specs.inner.Readers.{before_reading, read_on, reading}
 use Rattle.stab_circuit.specs.Readings.{IsCircuit, IsFaultOf, ReadsCircuit, IsPlaced, is_of_circuit, is_of_item}
 use Rattle.stab_lines.proofs.BoolLemmas.{chosen, passed}
 use Rattle.stab_circuit.proofs.ReadingLemmas.{joined_read, fault_read}

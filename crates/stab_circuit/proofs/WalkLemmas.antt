@@ -7,11 +7,11 @@ use Rattle.stab_lines.specs.declared.operation.Operation.{Operation}
 use Rattle.stab_lines.specs.declared.operation.Kind.{Kind}
 use Rattle.stab_circuit.specs.declared.walk.Level.{Level}
 use Rattle.stab_circuit.specs.declared.walk.Walk.{Walk}
-use Rattle.stab_circuit.specs.Items.{Items, OneItem, operation, repeat, done, before, listed, depth}
-use Rattle.stab_circuit.specs.Steps.{Step, steps_of, rounds, unroll}
+use Rattle.stab_items.specs.Items.{Items, OneItem, operation, repeat, done, before, listed, depth}
+use Rattle.stab_items.specs.Steps.{Step, steps_of, rounds, unroll}
 use Rattle.stab_circuit.specs.inner.Walks.{kind_steps, level_left, levels_left, IsNested, weight, weight_at, level_weight, levels_weight, ahead, walk_left, walk_weight, IsWalk, SameKind, Takes, GoesOn}
-use Rattle.stab_circuit.proofs.ItemLemmas.{before-join, depth_at}
-use Rattle.stab_circuit.proofs.StepLemmas.{unroll-join}
+use Rattle.stab_items.proofs.ItemLemmas.{before-join, depth_at}
+use Rattle.stab_items.proofs.StepLemmas.{unroll-join}
 
 -- an item before others
 

@@ -1,12 +1,12 @@
 -- Cursors: which steps the values of the code stand for.
 -- Source: this project's own.
-use Rattle.std.specs.Prelude.{◌≡◌, ◌≢◌, false, List, [], ◌∷◌, map}
-use Rattle.stab_lines.specs.Products.{names_twice}
+use Rattle.std.specs.Prelude.{List, [], ◌∷◌, map}
 use Rattle.stab_circuit.specs.declared.step.Step.{Step as StepValue}
 use Rattle.stab_circuit.specs.declared.step.Step.TheVariants.{One, Two, Controlled, Collapse, Product, Detector, Observable}
 use Rattle.stab_circuit.specs.declared.steps.Steps.{Steps}
 use Rattle.stab_circuit.specs.declared.steps.Steps.TheVariants.{Gates, Pairs, Measurements, Single}
-use Rattle.stab_circuit.specs.Steps.{Step, one, two, controlled, collapse, product, detector, observable, controlled_step, measured}
+use Rattle.stab_items.specs.Steps.{Step, one, two, controlled, collapse, product, detector, observable, controlled_step, measured}
+pub use Rattle.stab_items.specs.Steps.{IsApart}
 
 -- the step that a value stands for
 abbrev pub step_shown : StepValue → Step
@@ -24,16 +24,6 @@ steps_shown (Gates g qubits) = map (one g) qubits.now
 steps_shown (Pairs axis pairs) = map (controlled_step axis) pairs.now
 steps_shown (Measurements m targets) = map (measured m) targets.now
 steps_shown (Single step) = step_shown step ∷ []
-
--- a gate on two qubits has two different ones, and so have the factors of a product
-abbrev pub IsApart : Step → Type 0
-IsApart (one g q) = Unit {0}
-IsApart (two g a b) = b ≢ a
-IsApart (controlled l k q) = Unit {0}
-IsApart (collapse l q recorded inverted resets) = Unit {0}
-IsApart (product factors inverted) = names_twice factors ≡ false
-IsApart (detector ks) = Unit {0}
-IsApart (observable j ks) = Unit {0}
 
 -- so it is of a step that is given by itself
 abbrev pub IsApartAlone : Steps → Type 0

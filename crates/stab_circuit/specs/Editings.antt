@@ -3,8 +3,8 @@
 use Rattle.std.specs.Prelude.{◌≡◌, ◌≤◌, min, List, length}
 use Rattle.stab_circuit.specs.declared.edit.Edit.{Edit}
 use Rattle.stab_circuit.specs.declared.edit.Span.{Span}
-use Rattle.stab_circuit.specs.Items.{OneItem, listed}
-use Rattle.stab_circuit.specs.Steps.{unroll, steps_cap}
+use Rattle.stab_items.specs.Items.{OneItem, listed}
+use Rattle.stab_items.specs.Steps.{unroll, steps_cap}
 use Rattle.stab_circuit.specs.Edits.{first_changed, old_end, new_end}
 
 -- the span is of the steps that the edit changed: the first changed one and both ends of the outermost item, up to 1,048,577; no end

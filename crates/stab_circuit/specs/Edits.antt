@@ -6,8 +6,8 @@ use Rattle.stab_io.specs.declared.refusal.Refusal.{Refusal}
 use Rattle.stab_io.specs.declared.refusal.Refusal.TheVariants.{PlaceOutOfRange, NotABlock, TooDeep}
 use Rattle.stab_circuit.specs.declared.edit.Edit.{Edit}
 use Rattle.stab_circuit.specs.declared.edit.Edit.TheVariants.{Insert, Replace, Delete}
-use Rattle.stab_circuit.specs.Items.{OneItem, operation, repeat, listed, entries, depth}
-use Rattle.stab_circuit.specs.Steps.{Step, unroll, check_within}
+use Rattle.stab_items.specs.Items.{OneItem, operation, repeat, listed, entries, depth}
+use Rattle.stab_items.specs.Steps.{Step, unroll, check_within}
 use Rattle.stab_circuit.specs.Paths.{Path}
 
 -- a list with an item that became another, unless that was refused

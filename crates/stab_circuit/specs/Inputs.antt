@@ -7,7 +7,7 @@ use Rattle.stab_io.specs.declared.refusal.Refusal.TheVariants.{ReadFault, TooLon
 use Rattle.stab_io.specs.declared.refusal.Fault.{Fault}
 use Rattle.stab_io.specs.Refusals.{whole}
 use Rattle.stab_io.specs.Devices.{InputView, Gave, GaveAndFailed, GaveAll}
-use Rattle.stab_circuit.specs.Circuits.{most_bytes}
+use Rattle.stab_items.specs.Circuits.{most_bytes}
 
 -- the most bytes that are asked for at once
 abbrev pub most_read : ℕ

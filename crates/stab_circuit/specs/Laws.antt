@@ -7,10 +7,10 @@ use Rattle.stab_lines.specs.Lines.{is_byte}
 use Rattle.stab_lines.specs.Laws.{IsLine}
 use Rattle.stab_lines.specs.declared.operation.Kind.{Kind}
 use Rattle.stab_circuit.specs.declared.edit.Edit.{Edit}
-use Rattle.stab_circuit.specs.Items.{Items, OneItem, done, before, listed, depth}
-use Rattle.stab_circuit.specs.Circuits.{most_bytes, line_meanings, fault_from, Joins, text_fault, item_fault, StandsFor, StandsForOne}
-use Rattle.stab_circuit.specs.Prints.{printed}
-use Rattle.stab_circuit.specs.Steps.{unroll, past_named}
+use Rattle.stab_items.specs.Items.{Items, OneItem, done, before, listed, depth}
+use Rattle.stab_items.specs.Circuits.{most_bytes, line_meanings, fault_from, Joins, text_fault, item_fault, StandsFor, StandsForOne}
+use Rattle.stab_items.specs.Prints.{printed}
+use Rattle.stab_items.specs.Steps.{unroll, past_named}
 use Rattle.stab_circuit.specs.Cursors.{IsApart}
 use Rattle.stab_circuit.specs.Readings.{IsCircuit, IsFaultOf}
 use Rattle.stab_circuit.specs.StepPaths.{paths_of}

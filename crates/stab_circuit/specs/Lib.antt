@@ -1,11 +1,12 @@
-pub mod Items
-pub mod Circuits
-pub mod Steps
+pub use Rattle.stab_items.specs.Items
+pub use Rattle.stab_items.specs.Circuits
+pub use Rattle.stab_items.specs.Steps
+pub use Rattle.stab_items.specs.Prints
+pub use Rattle.stab_items.specs.Nothings
 pub mod Views
 pub mod Inputs
 pub mod Readings
 pub mod Cursors
-pub mod Prints
 pub mod Paths
 pub mod Places
 pub mod StepPaths
@@ -13,5 +14,4 @@ pub mod Edits
 pub mod Splits
 pub mod Editings
 pub mod Laws
-pub mod Nothings
 pub mod inner

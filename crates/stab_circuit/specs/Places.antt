@@ -4,7 +4,7 @@ use Rattle.std.specs.Prelude.{◌≡◌, ℕ, List, [], ◌∷◌, slice_get, Op
 use Rattle.std.specs.Borrow.{Bor}
 use Rattle.stab_io.specs.declared.refusal.Refusal.{Refusal}
 use Rattle.stab_io.specs.declared.refusal.Refusal.TheVariants.{PlaceOutOfRange, NotABlock}
-use Rattle.stab_circuit.specs.Items.{OneItem, operation, repeat, entries}
+use Rattle.stab_items.specs.Items.{OneItem, operation, repeat, entries}
 use Rattle.stab_circuit.specs.Paths.{Path}
 
 -- the item, where there is one: else 12

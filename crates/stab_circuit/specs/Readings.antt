@@ -7,10 +7,10 @@ use Rattle.stab_io.specs.declared.refusal.Fault.{Fault}
 use Rattle.stab_io.specs.Refusals.{whole}
 use Rattle.stab_io.specs.Devices.{InputView}
 use Rattle.stab_lines.specs.Meanings.{is_of_line}
-use Rattle.stab_circuit.specs.Items.{Items, OneItem}
+use Rattle.stab_items.specs.Items.{Items, OneItem}
 use Rattle.stab_circuit.specs.Inputs.{GaveText, RefusesText}
-use Rattle.stab_circuit.specs.Circuits.{text_fault, item_fault, StandsFor, StandsForOne}
-use Rattle.stab_circuit.specs.Steps.{check_of}
+use Rattle.stab_items.specs.Circuits.{text_fault, item_fault, StandsFor, StandsForOne}
+use Rattle.stab_items.specs.Steps.{check_of}
 use Rattle.stab_circuit.specs.Views.{circuit_items}
 
 -- the text stands for the items, and nothing refuses these as a whole circuit

@@ -3,7 +3,7 @@
 use Rattle.std.specs.Prelude.{ℕ, zero, suc, ◌+◌, ◌-◌, nat_lt, List, [], ◌∷◌, ◌++◌, take, drop, slice_get, if◌then◌else◌, Option, Some, None, Result, Ok, Err}
 use Rattle.stab_io.specs.declared.refusal.Refusal.{Refusal}
 use Rattle.stab_io.specs.declared.refusal.Refusal.TheVariants.{PlaceOutOfRange, NotABlock}
-use Rattle.stab_circuit.specs.Items.{Items, OneItem, operation, repeat}
+use Rattle.stab_items.specs.Items.{Items, OneItem, operation, repeat}
 use Rattle.stab_circuit.specs.Paths.{Path}
 use Rattle.stab_circuit.specs.Edits.{with_item, edited_inside}
 

@@ -1,8 +1,8 @@
 -- Step paths: the item that each unrolled step is of.
 -- Source: this project's own.
 use Rattle.std.specs.Prelude.{ℕ, ◌+◌, ◌-◌, ◌*◌, ◌%◌, nat_lt, if◌then◌else◌, zero, suc, List, [], ◌∷◌, ◌++◌, length, map, replicate}
-use Rattle.stab_circuit.specs.Items.{Items, done, next, block}
-use Rattle.stab_circuit.specs.Steps.{steps_of, unroll}
+use Rattle.stab_items.specs.Items.{Items, done, next, block}
+use Rattle.stab_items.specs.Steps.{steps_of, unroll}
 use Rattle.stab_circuit.specs.Paths.{Path}
 
 -- the path of a place in the outermost list

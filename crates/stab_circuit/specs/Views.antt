@@ -1,7 +1,7 @@
 -- Views: the items that contracts see in a circuit.
 -- Source: this project's own.
 use Rattle.std.specs.Prelude.{List}
-use Rattle.stab_circuit.specs.Items.{OneItem, listed, Items}
+use Rattle.stab_items.specs.Items.{OneItem, listed, Items}
 
 -- the items of a circuit, which contracts see one by one
 abbrev pub circuit_items : List OneItem → Items

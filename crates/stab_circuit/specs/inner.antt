@@ -1,11 +1,5 @@
-pub mod StoredItems
-pub mod Summaries
-pub mod Kept
-pub mod ItemSizes
-pub mod Parts
-pub mod Readers
+pub use Rattle.stab_items.specs.inner.StoredItems
 pub mod Walks
-pub mod Margins
 pub mod Places
 pub mod Splices
 pub mod Judgements

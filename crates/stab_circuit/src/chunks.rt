@@ -1,12 +1,11 @@
 ghost use Rattle.std.specs.Prelude.{◌≡◌, ◌≤◌, ◌<◌, ◌+◌, ◌-◌, ◌^◌, ℕ, List, All, length, take, drop, slice_set, IfOk, OnOk};
-ghost use Rattle.stab_circuit.specs.Items.{OneItem, listed};
-ghost use Rattle.stab_circuit.specs.Steps.{unroll, most_steps};
+ghost use Rattle.stab_items.specs.Items.{OneItem, listed};
+ghost use Rattle.stab_items.specs.Steps.{unroll, most_steps};
 ghost use Rattle.stab_circuit.specs.Cursors.{IsApart};
-ghost use Rattle.stab_circuit.specs.inner.Summaries.{summary_of, IsSummary};
+ghost use Rattle.stab_items.specs.inner.Summaries.{summary_of, IsSummary};
 ghost use Rattle.stab_circuit.specs.inner.Chunks.{chunk_of as chunk_value, chunk_items, AreConsecutive, AreChunksOf, IsChunk, IsFound, Skips};
 
-use crate::item::{Item, items_summary};
-use crate::summary::Summary;
+use stab_items::{Item, Summary, items_summary};
 use std::alloc::{AllocError, Global};
 
 /// How many items a chunk has where a list is cut up.

@@ -1,6 +1,6 @@
 ghost use Rattle.std.specs.Prelude.{◌≡◌, None, IfOk, IfErr};
-ghost use Rattle.stab_circuit.specs.Items.{depth, listed};
-ghost use Rattle.stab_circuit.specs.Steps.{check_of, Checks};
+ghost use Rattle.stab_items.specs.Items.{depth, listed};
+ghost use Rattle.stab_items.specs.Steps.{check_of, Checks};
 ghost use Rattle.stab_circuit.specs.Views.{circuit_items};
 ghost use Rattle.stab_circuit.specs.Readings.{ReadsCircuit, ReadsInput, ReadsItem, IsPlaced, is_of_circuit, is_of_item};
 
@@ -11,10 +11,8 @@ mod step_items;
 
 use crate::chunks::{Chunk, SkippedChunks, cut, front_summary, skip_chunks};
 use crate::input::{MOST_BYTES, read_text};
-use crate::item::Item;
-use crate::reader::read_lines;
-use crate::summary::{STEPS_CAP, Summary};
 use stab_io::{Fault, Input, Refusal};
+use stab_items::{Item, STEPS_CAP, Summary, read_lines};
 use std::alloc::Global;
 use std::marker::Model;
 pub use step_items::StepItem;
@@ -42,16 +40,16 @@ impl Drop for Circuit {
 
 impl Model for Circuit {
     ghost use Rattle.std.specs.Prelude.{◌≡◌, ◌≤◌, List, All};
-    ghost use Rattle.stab_circuit.specs.Items.{OneItem, listed};
-    ghost use Rattle.stab_circuit.specs.Steps.{unroll};
+    ghost use Rattle.stab_items.specs.Items.{OneItem, listed};
+    ghost use Rattle.stab_items.specs.Steps.{unroll};
     ghost use Rattle.stab_circuit.specs.Cursors.{IsApart};
-    ghost use Rattle.stab_circuit.specs.inner.StoredItems.{entries_code};
+    ghost use Rattle.stab_items.specs.inner.StoredItems.{entries_code};
 
     ghost Value = { List OneItem };
 
     ghost coded = { entries_code };
 
-    ghost use Rattle.stab_circuit.specs.inner.Summaries.{summary_of, IsSummary};
+    ghost use Rattle.stab_items.specs.inner.Summaries.{summary_of, IsSummary};
     ghost use Rattle.stab_circuit.specs.inner.Chunks.{AreChunksOf};
 
     ghost view = { λ c. c.items.items };
@@ -61,15 +59,15 @@ impl Model for Circuit {
 
 impl Circuit {
     ghost use Rattle.std.specs.Prelude.{◌≡◌, ◌≤◌, [], All, min, length, IfOk};
-    ghost use Rattle.stab_circuit.specs.Items.{listed, depth};
-    ghost use Rattle.stab_tableau.specs.Limits.{most_qubits};
-    ghost use Rattle.stab_circuit.specs.Steps.{unroll, records_of, qubits_of, observables_of, most_steps, steps_cap, check_of, check_within, Checks};
+    ghost use Rattle.stab_items.specs.Items.{listed, depth};
+    ghost use Rattle.stab_letters.specs.Limits.{most_qubits};
+    ghost use Rattle.stab_items.specs.Steps.{unroll, records_of, qubits_of, observables_of, most_steps, steps_cap, check_of, check_within, Checks};
     ghost use Rattle.stab_circuit.specs.Cursors.{IsApart};
     ghost use Rattle.stab_circuit.specs.Views.{circuit_items};
     ghost use Rattle.stab_circuit.specs.inner.Chunks.{AreChunksOf, Skips};
 
     /// The empty circuit, which takes no memory.
-    #[tactic(auto, using(crate::proofs::StepApartLemmas::nothing_apart))]
+    #[tactic(auto, using(stab_items::proofs::StepApartLemmas::nothing_apart))]
     pub fn new(alloc: Global) -> Circuit
         ensures empty { result ≡ [] }
     {
@@ -150,7 +148,7 @@ impl Circuit {
 
     /// Whether nothing refuses the circuit on n qubits: a qubit that isn't below n, then a
     /// lookback past the first record, then too many steps. The fault's line is 0.
-    #[tactic(auto, using(crate::proofs::SummaryLemmas::check_judged))]
+    #[tactic(auto, using(stab_items::proofs::SummaryLemmas::check_judged))]
     pub fn check(&self, n: usize) -> Result<(), Fault>
         ensures value { Checks result (check_within n (circuit_items self.now)) }
     {

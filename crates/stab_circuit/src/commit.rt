@@ -3,7 +3,7 @@ ghost use Rattle.stab_circuit.specs.Edits.{changed, edited_in, edited_inside, in
 ghost use Rattle.stab_circuit.specs.inner.Judgements.{IsShallow, IsShallowItem};
 
 use crate::edit::Edit;
-use crate::item::{Item, Node, items_summary};
+use stab_items::Item;
 use std::mem;
 
 /// Makes an edit in the innermost list around its place, and gives the item that it takes out. An
@@ -59,12 +59,10 @@ fn commit_within(item: &mut Item, blocks: &[usize], edit: Edit) -> Result<Option
     ensures memory { OnErr result (IsInsert edit) }
     ensures unchanged { OnErr result (item.new ≡ item.old) }
 {
-    match &mut item.node {
-        Node::Plain(_) | Node::Tagged(_) => unreachable!(),
-        Node::Repeat { head, body } => {
-            let done = commit(body, blocks, edit);
-            head.kept = items_summary(body.as_slice());
-            done
-        }
-    }
+    let Some(mut body) = item.take_body() else {
+        unreachable!()
+    };
+    let done = commit(&mut body, blocks, edit);
+    item.set_body(body);
+    done
 }

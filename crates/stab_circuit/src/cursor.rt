@@ -1,9 +1,9 @@
 use crate::circuit::Circuit;
-use crate::item::Item;
 use crate::step::Step;
 use crate::steps::Steps;
 use crate::walk::Walk;
 use stab_io::Refusal;
+use stab_items::Item;
 use std::alloc::Global;
 use std::marker::Model;
 
@@ -19,8 +19,8 @@ pub struct Cursor<'a> {
 
 impl<'a> Model for Cursor<'a> {
     ghost use Rattle.std.specs.Prelude.{◌≤◌};
-    ghost use Rattle.stab_circuit.specs.Items.{listed, depth};
-    ghost use Rattle.stab_circuit.specs.Steps.{unroll};
+    ghost use Rattle.stab_items.specs.Items.{listed, depth};
+    ghost use Rattle.stab_items.specs.Steps.{unroll};
     ghost use Rattle.stab_circuit.specs.Cursors.{CursorState};
 
     ghost Value = { CursorState };
@@ -35,7 +35,7 @@ impl<'a> Model for Cursor<'a> {
 impl<'a> Cursor<'a> {
     ghost use Rattle.std.specs.Prelude.{◌≡◌, ◌≤◌, ◌<◌, None, [], ◌∷◌, ◌++◌, length, drop, All, IfOk, IfErr, IfSome, IfNone};
     ghost use Rattle.stab_io.specs.declared.refusal.Refusal.TheVariants.{OutOfMemory};
-    ghost use Rattle.stab_circuit.specs.Steps.{check_of, unroll};
+    ghost use Rattle.stab_items.specs.Steps.{check_of, unroll};
     ghost use Rattle.stab_circuit.specs.Views.{circuit_items};
     ghost use Rattle.stab_circuit.specs.Cursors.{step_shown, steps_shown, IsApart, IsApartAlone};
 
@@ -43,7 +43,7 @@ impl<'a> Cursor<'a> {
     ///
     /// Asks that no lookback of the circuit goes too far and that it has no more steps than a
     /// circuit may have. Refusal `OutOfMemory` alone.
-    #[tactic(auto, using(crate::proofs::SummaryLemmas::few_steps))]
+    #[tactic(auto, using(stab_items::proofs::SummaryLemmas::few_steps))]
     pub fn at(alloc: Global, circuit: &'a Circuit, step: usize) -> Result<Cursor<'a>, Refusal>
         requires checked { check_of (circuit_items circuit.now) ≡ None }
         requires in_range { step ≤ length (unroll (circuit_items circuit.now)) }

@@ -1,6 +1,6 @@
-use crate::item::Item;
 use crate::path::Path;
 use stab_io::{Fault, Refusal};
+use stab_items::Item;
 
 /// An edit of a circuit, at a path.
 #[derive(Drop)]

@@ -1,8 +1,8 @@
 ghost use Rattle.std.specs.Prelude.{◌≡◌, ◌≤◌, length, min, take, drop, slice_get, Err, OnOk, IfOk, IfErr};
-ghost use Rattle.stab_circuit.specs.Items.{listed};
-ghost use Rattle.stab_circuit.specs.Steps.{unroll, steps_cap};
+ghost use Rattle.stab_items.specs.Items.{listed};
+ghost use Rattle.stab_items.specs.Steps.{unroll, steps_cap};
 ghost use Rattle.stab_circuit.specs.Edits.{edited_in, edited, edit_path, inner, steps_in as steps_of_place};
-ghost use Rattle.stab_circuit.specs.inner.Summaries.{IsSummary};
+ghost use Rattle.stab_items.specs.inner.Summaries.{IsSummary};
 ghost use Rattle.stab_circuit.specs.inner.Splices.{splice_of, splice_at};
 ghost use Rattle.stab_circuit.specs.inner.Judgements.{judgement_of, IsBlockAt, BeginsWith};
 ghost use Rattle.stab_circuit.specs.inner.EditResults.{steps_within, PutsApart, AreApart, edit_result_by, IsEditResult};
@@ -10,9 +10,8 @@ ghost use Rattle.stab_circuit.specs.inner.Chunks.{AreChunksOf};
 
 use crate::chunks::{Chunk, back_summary, front_summary};
 use crate::edit::Edit;
-use crate::item::{Item, Part, items_summary};
-use crate::summary::{STEPS_CAP, Summary};
 use stab_io::Refusal;
+use stab_items::{Item, Part, STEPS_CAP, Summary, items_summary};
 use stab_lines::Count;
 
 /// What an edit comes to in a list of items: which items leave it, from the first up to the one
@@ -61,7 +60,7 @@ pub(crate) fn block_at(items: &[Item], place: usize) -> Result<Block<'_>, Refusa
 }
 
 /// What an edit comes to in the innermost list around its place, of so many items.
-#[tactic(auto, using(crate::proofs::StepApartLemmas::nothing_apart))]
+#[tactic(auto, using(stab_items::proofs::StepApartLemmas::nothing_apart))]
 fn judge_at(len: usize, edit: &Edit) -> Result<Judgement, Refusal>
     ensures value { result ≡ judgement_of 0 (splice_at edit.now len) }
     ensures small { IfOk result (λ j. IsSummary j.put) }

@@ -1,16 +1,13 @@
 //! Circuits: reading their text, and what they come to once their blocks are written out.
 //!
-//! What one line means is said by `stab_lines`; here lines are put together.
+//! What one line means is said by `stab_lines`, and how lines are read as items, and items printed, by
+//! `stab_items`; here items are put together.
 //!
-//! - `item`: instructions and blocks, which keep the numbers of one round.
-//! - `reader`: the items of a text's lines, with the blocks that are open.
 //! - `input`: reading an input whole.
-//! - `summary`: the numbers that are kept.
-//! - `chunks`: those of chunks of a circuit's items, so that a long circuit is added up fast.
+//! - `chunks`: what is known of chunks of a circuit's items, so that a long circuit is added up fast.
 //! - `path`: the places of items.
 //! - `edit`: how a circuit is edited at a path, and which steps that changes.
 //! - `judge`, `commit`: judging an edit by what items keep, and making it.
-//! - `copy`: copies of items.
 //! - `circuit`: circuits, reading one, editing one, splitting a round off a block, the item at a path,
 //!   and the item that a step is of.
 //! - `print`: the one text of a circuit.
@@ -18,9 +15,9 @@
 //! - `walk`, `cursor`: the unrolled steps of a circuit, from any place on.
 //! - `laws`: what holds between all texts and all items.
 //!
-//! `specs/` says which items a text stands for, what its fault is, what its unrolled steps are, which
-//! item each is of, and what an edit leaves of items;
-//! `specs/inner` has what private contracts alone speak of.
+//! `specs/` says how a text is read, which item each unrolled step is of, and what an edit leaves of
+//! items, and passes on what `stab_items` says of them: which items a text stands for, what its fault
+//! is, and what its unrolled steps are; `specs/inner` has what private contracts alone speak of.
 //!
 //! Sources: Stim's circuit file format (.stim) without noise, in Stim's repository
 //! `doc/file_format_stim_circuit.md`. `docs/circuit-text.md` says where this differs; paths and edits are this
@@ -41,20 +38,16 @@
 mod chunks;
 mod circuit;
 mod commit;
-mod copy;
 mod cursor;
 mod edit;
 mod input;
 mod instruction;
-mod item;
 mod judge;
 pub mod laws;
 mod path;
 mod print;
-mod reader;
 mod step;
 mod steps;
-mod summary;
 mod walk;
 
 pub use circuit::{Circuit, StepItem, circuit_of_text, read_circuit, read_item};
@@ -62,9 +55,9 @@ pub use cursor::Cursor;
 pub use edit::{Edit, Refused, Span};
 pub use input::read_text;
 pub use instruction::{controlled_gate, measured_step};
-pub use item::Item;
 pub use path::{Path, write_path};
-pub use print::{write_circuit, write_one_item};
+pub use print::write_circuit;
+pub use stab_items::{Item, write_one_item};
 pub use stab_lines::{Axis, ControlledPair, Factor, MeasureTarget, Measurement, Qubit};
 pub use step::Step;
 pub use steps::Steps;

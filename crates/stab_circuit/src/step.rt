@@ -1,6 +1,5 @@
+use stab_letters::{Gate, Letter, PairGate};
 use stab_lines::Factor;
-use stab_pauli::Letter;
-use stab_tableau::{Gate, PairGate};
 
 /// A step of an unrolled circuit. Qubits are numbered from 0.
 #[derive(Clone, Copy, Debug, PartialEq, Eq)]

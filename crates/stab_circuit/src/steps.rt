@@ -1,11 +1,11 @@
 ghost use Rattle.std.specs.Prelude.{◌≡◌, ◌≤◌, ◌<◌, ◌+◌, ◌++◌, ◌^◌, [], length, take, drop, IfSome, IfNone};
-ghost use Rattle.stab_circuit.specs.Steps.{steps_of};
+ghost use Rattle.stab_items.specs.Steps.{steps_of};
 ghost use Rattle.stab_circuit.specs.Cursors.{steps_shown, IsApartAlone};
 
 use crate::instruction::step_at;
 use crate::step::Step;
+use stab_letters::Gate;
 use stab_lines::{Axis, ControlledPair, Kind, MeasureTarget, Measurement, Qubit};
-use stab_tableau::Gate;
 
 /// Steps of one instruction, one behind the other, at least one.
 #[derive(Clone, Copy)]

@@ -3,9 +3,9 @@ ghost use Rattle.stab_circuit.specs.Cursors.{step_shown, IsApart};
 ghost use Rattle.stab_circuit.specs.inner.Walks.{shown_step, kind_steps};
 
 use crate::instruction::{step_at, step_count};
-use crate::item::{Item, Part};
 use crate::step::Step;
 use crate::steps::{Steps, steps_from};
+use stab_items::{Item, Part};
 use stab_lines::Kind;
 use std::alloc::{AllocError, Global};
 
@@ -42,8 +42,8 @@ pub struct Walk<'a> {
 
 impl<'a> Walk<'a> {
     ghost use Rattle.std.specs.Prelude.{◌≡◌, ◌≤◌, ◌<◌, ◌+◌, ◌-◌, ◌*◌, ◌∷◌, ◌++◌, [], None, min, length, drop, IfOk, IfSome, IfNone};
-    ghost use Rattle.stab_circuit.specs.Items.{depth, listed};
-    ghost use Rattle.stab_circuit.specs.Steps.{unroll, steps_of, rounds as rounds_of, most_steps, steps_cap};
+    ghost use Rattle.stab_items.specs.Items.{depth, listed};
+    ghost use Rattle.stab_items.specs.Steps.{unroll, steps_of, rounds as rounds_of, most_steps, steps_cap};
     ghost use Rattle.stab_circuit.specs.Cursors.{step_shown, steps_shown, IsApart, IsApartAlone};
     ghost use Rattle.stab_circuit.specs.inner.Walks.{kind_steps, ahead, walk_left, walk_weight, weight, weight_at, IsWalk, SameKind, Takes, GoesOn, Passes};
 

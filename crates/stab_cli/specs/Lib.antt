@@ -1,5 +1,4 @@
-pub mod Usages
-pub mod Coins
-pub mod Options
-pub mod Asked
-pub mod inner
+pub use Rattle.stab_words.specs.Usages
+pub use Rattle.stab_words.specs.Coins
+pub use Rattle.stab_words.specs.Options
+pub use Rattle.stab_words.specs.Asked

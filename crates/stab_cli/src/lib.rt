@@ -1,26 +1,15 @@
-//! The words of stabsim's command line.
+//! The command line of stabsim: its words, and the jobs that they ask for.
 //!
-//! - `coins`: coins that are written in a word or in a file.
-//! - `words`: what the words of a command line ask for.
-//! - `usage`: telling words that ask for nothing.
+//! All names that a user of the program's parts takes, in one place. The words are those of `stab_words`, and the
+//! commands and jobs those of `stab_commands`, handed on; each crate says what is proved of them.
 //!
-//! Sources: Stim's command line, for the options of `sample` and `detect`; `docs/stim.md` says where it differs. The
-//! rest is this project's own.
-//!
-//! Proved: `parse_words` gives the job that the words ask for, `read_coins` the coins of a file, and
-//! `write_usage` tells words that ask for none. The commands and jobs are those of `stab_commands`, handed on.
+//! Source: this project's own.
 #![tactic(auto)]
 
-mod coins;
-mod usage;
-mod words;
-
-pub use coins::{CoinsFault, NO_COINS, read_coins};
 pub use stab_commands::{
     Bit, Command, FaultLayout, FaultsRefused, Job, KeepsLog, LoggedInput, LoggedRead, NoWatcher,
     QubitCount, Shots, Source, Stride, Unsure, Watcher, run_check, run_detect, run_detect_shots,
     run_deterministic, run_edit, run_edit_watched, run_faults, run_job, run_job_watched,
     run_sample, run_sample_shots, run_stabilisers, write_fault, write_refused,
 };
-pub use usage::write_usage;
-pub use words::{Usage, parse_words};
+pub use stab_words::{CoinsFault, NO_COINS, Usage, parse_words, read_coins, write_usage};

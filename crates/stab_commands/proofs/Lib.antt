@@ -1,5 +1,2 @@
-pub mod SendingLaws
-pub mod ShotLaws
 pub mod RunLaws
-pub mod PackingLaws
-pub mod LineLaws
+pub mod RowLaws

@@ -1,34 +1,13 @@
 -- Laws of runs: what the parts of a command hand on makes its end.
-use Rattle.std.proofs.Common.{◌≡◌, refl, ap, subst, sym, ◌∙◌, ℕ, false, List, Result, Ok, Err, None, nat_lt, inl, inr, arith}
+use Rattle.std.proofs.Common.{◌≡◌, refl, subst, sym, List, ℕ, Result, Ok, Err, inl, inr}
 use Rattle.std.specs.Result.{IsErrAnd}
 use Rattle.stab_io.specs.Devices.{InputView, OutputView, Took, CutOff}
-use Rattle.stab_io.specs.declared.refusal.Refusal.TheVariants.{OutOfMemory}
 use Rattle.stab_io.specs.declared.refusal.Fault.{Fault}
-use Rattle.stab_io.specs.Refusals.{whole, Refuses}
 use Rattle.stab_circuit.specs.Inputs.{GaveText, RefusesText}
 use Rattle.stab_circuit.specs.Items.{Items}
-use Rattle.stab_circuit.specs.Steps.{check_of, check_within, qubits_of}
 use Rattle.stab_circuit.specs.Readings.{IsCircuit, IsFaultOf}
-use Rattle.stab_tables.specs.Endings.{Sends}
-use Rattle.stab_commands.specs.Outputs.{EndsRun}
-use Rattle.stab_tables.specs.Endings.{FlushesOrFault}
-use Rattle.stab_tables.proofs.WritingLaws.{took_some_none}
-
--- nothing refuses a circuit on as many qubits as it names
-pub checked_on_own_qubits : (items : Items) → check_of items ≡ None → check_within (qubits_of items) items ≡ None
-checked_on_own_qubits items checked = rw (not_below (qubits_of items)) checked
-  where
-    not_below : (n : ℕ) → nat_lt n n ≡ false
-    not_below n = grind arith
-
--- what nothing else refuses is refused for want of memory
-pub memory_alone : (A : Type 0) (f : Fault) (n : ℕ) (items : Items) → check_of items ≡ None → n ≡ qubits_of items → Refuses {A = A} (Err f) (check_within n items) → f ≡ whole OutOfMemory
-memory_alone A f n items checked e refuses = subst (λ given. Refuses {A = A} (Err f) given) (ap (λ m. check_within m items) e ∙ checked_on_own_qubits items checked) refuses
-
--- memory was refused before anything was sent
-pub sends_nothing : (old : OutputView) (bytes : List ℕ) (r : Result (Unit {0}) Fault) → IsErrAnd r (λ f. f ≡ whole OutOfMemory) → Sends bytes old old r
-sends_nothing old bytes (Ok u) is = absurd is
-sends_nothing old bytes (Err f) is = inr (is, took_some_none old bytes)
+use Rattle.stab_tables.specs.Endings.{FlushesOrFault, Sends}
+use Rattle.stab_sampling.specs.Outputs.{EndsRun}
 
 -- what is cut off is sent in part
 cut_off_sends : (bytes : List ℕ) (old new : OutputView) (f : Fault) → CutOff old new bytes f → Sends {T = Unit {0}} bytes old new (Err f)

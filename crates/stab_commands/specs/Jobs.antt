@@ -1,11 +1,12 @@
 -- Jobs: how the command of a job ends, the status of a program's run, and how its fault is told.
 -- Source: this project's own.
 use Rattle.std.specs.Prelude.{◌≡◌, ℕ, Bool, true, false, List, Option, None, Result, Ok, Err}
+pub use Rattle.stab_jobs.specs.Commands.{reads_script}
 use Rattle.stab_io.specs.Devices.{InputView, OutputView}
 use Rattle.stab_io.specs.declared.refusal.Fault.{Fault}
 use Rattle.stab_tables.specs.FaultLines.{TookOrFailed, told_text}
-use Rattle.stab_commands.specs.Outputs.{EndsRun, sample_of, detect_of}
-use Rattle.stab_tables.specs.Stabilisers.{EndsStabilisers}
+use Rattle.stab_sampling.specs.Outputs.{EndsRun, sample_of, detect_of}
+use Rattle.stab_commands.specs.Stabilisers.{EndsStabilisers}
 use Rattle.stab_tables.specs.Checks.{EndsCheck}
 use Rattle.stab_tables.specs.Deterministic.{EndsDeterministic}
 use Rattle.stab_tables.specs.FaultTables.{EndsFaults}
@@ -13,10 +14,10 @@ use Rattle.stab_scripts.specs.ScriptEndings.{EndsEdit}
 use Rattle.stab_scripts.specs.ScriptTurns.{EditsInTurn}
 use Rattle.stab_scripts.specs.Watchers.{Asked}
 use Rattle.stab_tables.specs.declared.unsure.Unsure.{Unsure}
-use Rattle.stab_tables.specs.declared.source.Source.{Source}
-use Rattle.stab_commands.specs.declared.job.Command.{Command}
-use Rattle.stab_commands.specs.declared.job.Command.TheVariants.{Sample, Detect, Stabilisers, Check, Deterministic, Faults, Edit}
-use Rattle.stab_commands.specs.declared.job.Job.{Job}
+use Rattle.stab_jobs.specs.declared.source.Source.{Source}
+use Rattle.stab_jobs.specs.declared.job.Command.{Command}
+use Rattle.stab_jobs.specs.declared.job.Command.TheVariants.{Sample, Detect, Stabilisers, Check, Deterministic, Faults, Edit}
+use Rattle.stab_jobs.specs.declared.job.Job.{Job}
 
 -- a call that reads no script refuses no line of it
 abbrev pub refusing_none : {T : Type 0} → Result T Fault → Result Bool Fault
@@ -45,11 +46,6 @@ EndsCommand (Edit framed qubits stride) source i i' s s' o o' r unsure = (unsure
 abbrev pub CommandInTurn : Command → Source → InputView → InputView → InputView → InputView → OutputView → Option (List Asked) → Option (List Asked) → Type 0
 CommandInTurn (Edit framed qubits stride) source i i' s s' o log log' = EditsInTurn framed qubits source i i' s s' o log log'
 CommandInTurn command source i i' s s' o log log' = log' ≡ log
-
--- whether a command reads a script
-abbrev pub reads_script : Command → Bool
-reads_script (Edit framed qubits stride) = true
-reads_script command = false
 
 -- the status of a run: 0 without a fault, 3 where a line of the script was refused, 1 with a fault
 abbrev pub status_of : Result Bool Fault → ℕ

@@ -1,16 +1,16 @@
 //! The command that edits a circuit by a script.
 
 ghost use Rattle.std.specs.Prelude.{◌≤◌, IfSome, false};
-ghost use Rattle.stab_tableau.specs.Limits.{most_qubits};
-ghost use Rattle.stab_session.specs.Limits.{most_stride};
+ghost use Rattle.stab_letters.specs.Limits.{most_qubits};
+ghost use Rattle.stab_run.specs.Limits.{most_stride};
 ghost use Rattle.stab_scripts.specs.ScriptEndings.{EndsEdit};
 ghost use Rattle.stab_scripts.specs.ScriptTurns.{EditsInTurn};
 
 use stab_circuit::read_circuit;
 use stab_io::{Fault, Input, Output};
+use stab_jobs::Source;
 use stab_run::{ListCoins, SeedCoins};
 use stab_scripts::{NoWatcher, Watcher, edit_circuit};
-use stab_tables::Source;
 use std::alloc::Global;
 
 /// Reads a circuit, and edits it by a script, as `run_edit` does, with each read of the script made

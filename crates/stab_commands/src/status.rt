@@ -1,18 +1,17 @@
 //! Running a job, with the status of the program.
 ghost use Rattle.std.specs.Prelude.{◌≡◌, ◌≤◌, IfSome, None, false};
-ghost use Rattle.stab_tableau.specs.Limits.{most_qubits};
+ghost use Rattle.stab_letters.specs.Limits.{most_qubits};
 ghost use Rattle.stab_tables.specs.FaultTables.{fault_of, unsure_of};
 ghost use Rattle.stab_commands.specs.Jobs.{EndsCommand, EndsJob, reads_script, refusing_none};
 ghost use Rattle.stab_commands.specs.Jobs.{CommandInTurn};
 
 use crate::edit::run_edit_watched;
-use crate::job::{Command, Job, QubitCount};
 use crate::run::{run_detect_shots, run_sample_shots};
+use crate::stabilisers::run_stabilisers;
 use stab_io::{Fault, Input, Output};
+use stab_jobs::{Command, Job, QubitCount};
 use stab_scripts::{NoWatcher, Watcher};
-use stab_tables::{
-    FaultsRefused, run_check, run_deterministic, run_faults, run_stabilisers, write_refused,
-};
+use stab_tables::{FaultsRefused, run_check, run_deterministic, run_faults, write_refused};
 use std::alloc::Global;
 
 /// How many qubits, where so many are asked for.

@@ -3,12 +3,12 @@ use Rattle.std.proofs.Common.{◌≡◌, ◌≢◌, ℕ, zero, suc, ◌<◌, ref
 use Rattle.std.specs.Prelude.{◌==◌}
 use Rattle.std.proofs.lemmas.List.{length-replicate, length-set, get_or-set_other}
 use Rattle.std.proofs.lemmas.List.Elements.{All-head, All-tail}
-use Rattle.stab_pauli.specs.declared.letter.Letter.{Letter}
-use Rattle.stab_pauli.specs.declared.letter.Letter.TheVariants.{I}
-use Rattle.stab_pauli.specs.Letters.{◌⊕◌, letters_anticommute}
+use Rattle.stab_letters.specs.declared.letter.Letter.{Letter}
+use Rattle.stab_letters.specs.declared.letter.Letter.TheVariants.{I}
+use Rattle.stab_letters.specs.Letters.{◌⊕◌, letters_anticommute}
 use Rattle.stab_pauli.specs.Paulis.{single, strings_anticommute}
-use Rattle.stab_pauli.proofs.ParityLemmas.{parity-false, parity-comm, parity-assoc}
-use Rattle.stab_pauli.proofs.LetterLemmas.{letters_anticommute-I, letters_anticommute-comm}
+use Rattle.stab_letters.proofs.ParityLemmas.{parity-false, parity-comm, parity-assoc}
+use Rattle.stab_letters.proofs.LetterLemmas.{letters_anticommute-I, letters_anticommute-comm}
 use Rattle.stab_pauli.proofs.StringLemmas.{strings_anticommute-comm, strings_anticommute-blank_right}
 use Rattle.stab_tableau.proofs.OneLetterLemmas.{one_letter-anticommute}
 use Rattle.stab_tableau.proofs.PlaceLemmas.{get_or-blank}

@@ -2,8 +2,8 @@
 use Rattle.std.proofs.Common.{◌≡◌, ℕ, zero, suc, ◌+◌, ◌-◌, refl, sym, ◌∙◌, ap, Bool, true, false, ◌&&◌, List, [], ◌∷◌, ◌++◌, length, map, replicate, get_or, set, drop, nat_lt, arith}
 use Rattle.std.specs.Prelude.{if◌then◌else◌}
 use Rattle.std.proofs.lemmas.List.{length-append, length-replicate, length-set, length-map, map-append}
-use Rattle.stab_pauli.specs.Letters.{◌⊕◌}
-use Rattle.stab_pauli.proofs.ParityLemmas.{parity-assoc, parity-mid, parity-twice}
+use Rattle.stab_letters.specs.Letters.{◌⊕◌}
+use Rattle.stab_letters.proofs.ParityLemmas.{parity-assoc, parity-mid, parity-twice}
 use Rattle.stab_run.specs.declared.records.Addition.{Addition}
 use Rattle.stab_run.specs.Records.{looked_up, parity}
 use Rattle.stab_run.specs.Runs.{when, added}

@@ -1,15 +1,15 @@
 -- Gates that differ by a letter, and the frame between the points behind them.
 use Rattle.std.proofs.Common.{◌≡◌, ℕ, ◌<◌, refl, sym, ◌∙◌, ap, Bool, false, length, get_or, arith}
 use Rattle.std.proofs.lemmas.List.{length-replicate}
-use Rattle.stab_pauli.specs.declared.letter.Letter.{Letter}
-use Rattle.stab_pauli.specs.declared.letter.Letter.TheVariants as letter
-use Rattle.stab_pauli.specs.Letters.{◌⊕◌, letters_anticommute, letter_product}
+use Rattle.stab_letters.specs.declared.letter.Letter.{Letter}
+use Rattle.stab_letters.specs.declared.letter.Letter.TheVariants as letter
+use Rattle.stab_letters.specs.Letters.{◌⊕◌, letters_anticommute, letter_product}
 use Rattle.stab_pauli.specs.Paulis.{Signed, single, strings_anticommute}
-use Rattle.stab_pauli.proofs.ParityLemmas.{parity-false, parity-assoc, parity-comm, parity-twice}
-use Rattle.stab_pauli.proofs.LetterLemmas.{each_letter, letters_anticommute-product}
+use Rattle.stab_letters.proofs.ParityLemmas.{parity-false, parity-assoc, parity-comm, parity-twice}
+use Rattle.stab_letters.proofs.LetterLemmas.{each_letter, letters_anticommute-product}
 use Rattle.stab_pauli.proofs.SignedLemmas.{signed_path}
-use Rattle.stab_tableau.specs.declared.gate.Gate.{Gate}
-use Rattle.stab_tableau.specs.declared.gate.Gate.TheVariants as on
+use Rattle.stab_letters.specs.declared.gate.Gate.{Gate}
+use Rattle.stab_letters.specs.declared.gate.Gate.TheVariants as on
 use Rattle.stab_tableau.specs.Gates.{SignedLetter, letter_image, put_letter, inverse, back}
 use Rattle.stab_tableau.specs.Traces.{member}
 use Rattle.stab_tableau.specs.Turns.{IsTurned}

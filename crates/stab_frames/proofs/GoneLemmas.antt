@@ -1,6 +1,6 @@
 -- Gone: points that differ by a frame that is gone agree.
 use Rattle.std.proofs.Common.{ℕ, sym, ◌∙◌, ap, subst}
-use Rattle.stab_pauli.specs.Letters.{◌⊕◌}
+use Rattle.stab_letters.specs.Letters.{◌⊕◌}
 use Rattle.stab_tableau.specs.Traces.{member}
 use Rattle.stab_tableau.specs.Turns.{IsTurned}
 use Rattle.stab_run.specs.Records.{looked_up}

@@ -1,9 +1,9 @@
 -- Images: what gates make of the letters of a frame.
 use Rattle.std.proofs.Common.{◌≡◌, ℕ, ◌∙◌, ap, List, get_or, set}
-use Rattle.stab_pauli.specs.declared.letter.Letter.{Letter}
-use Rattle.stab_pauli.specs.declared.letter.Letter.TheVariants.{I}
-use Rattle.stab_tableau.specs.declared.gate.Gate.{Gate}
-use Rattle.stab_tableau.specs.declared.gate.PairGate.{PairGate}
+use Rattle.stab_letters.specs.declared.letter.Letter.{Letter}
+use Rattle.stab_letters.specs.declared.letter.Letter.TheVariants.{I}
+use Rattle.stab_letters.specs.declared.gate.Gate.{Gate}
+use Rattle.stab_letters.specs.declared.gate.PairGate.{PairGate}
 use Rattle.stab_tableau.specs.Gates.{letter_at, letter_image, pair_letters, image, image_pair}
 use Rattle.stab_frames.specs.Frames.{plus}
 

@@ -1,7 +1,7 @@
 -- Kept strings: cut, and with others put behind them one after another.
 use Rattle.std.proofs.Common.{◌≡◌, ℕ, zero, suc, ◌<◌, refl, sym, ◌∙◌, ap, List, [], ◌∷◌, ◌++◌, append_assoc, length, map, take, get_or, arith}
 use Rattle.std.proofs.lemmas.List.{take-map}
-use Rattle.stab_pauli.specs.declared.letter.Letter.{Letter}
+use Rattle.stab_letters.specs.declared.letter.Letter.{Letter}
 use Rattle.stab_pauli.specs.Paulis.{Signed}
 use Rattle.stab_frames.specs.KeptStrings.{StringsState, kept_with}
 

@@ -1,8 +1,8 @@
 -- Measured tests: what a measurement answers and leaves by two tests that differ by the letters of a frame, with a note of it.
 use Rattle.std.proofs.Common.{◌≡◌, ℕ, refl, sym, ◌∙◌, ap, subst, Bool, true, false, not, ◌&&◌, ◌||◌, List, length, arith}
 use Rattle.std.specs.Prelude.{Option, Some, None, if◌then◌else◌}
-use Rattle.stab_pauli.specs.declared.letter.Letter.{Letter}
-use Rattle.stab_pauli.specs.Letters.{◌⊕◌}
+use Rattle.stab_letters.specs.declared.letter.Letter.{Letter}
+use Rattle.stab_letters.specs.Letters.{◌⊕◌}
 use Rattle.stab_pauli.specs.Paulis.{Signed, minus, with_sign, anticommute, strings_anticommute, string_product, product}
 use Rattle.stab_pauli.proofs.StringLemmas.{strings_anticommute-product_right, length-string_product}
 use Rattle.stab_tableau.specs.Rules.{outcome_by, is_free_by, projected_by}

@@ -5,7 +5,7 @@ use Rattle.std.proofs.lemmas.Bool.{cases_lt}
 use Rattle.std.proofs.lemmas.List.{length-append, length-take, take-append-le, get_or_append_left, get_or-append-add}
 use Rattle.std.proofs.lemmas.Option.{slice_get_past}
 use Rattle.std.proofs.Math.Seq.{take-append-add}
-use Rattle.stab_pauli.specs.declared.letter.Letter.{Letter}
+use Rattle.stab_letters.specs.declared.letter.Letter.{Letter}
 use Rattle.stab_run.specs.Records.{ones}
 use Rattle.stab_run.proofs.RecordLemmas.{ones-append}
 use Rattle.stab_frames.specs.Limits.{most_strings}

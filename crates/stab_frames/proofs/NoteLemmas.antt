@@ -4,11 +4,11 @@ use Rattle.std.specs.Prelude.{Option, Some, None, is_some}
 use Rattle.std.proofs.lemmas.List.{take_all}
 use Rattle.std.proofs.lemmas.List.Elements.{All-head, All-tail}
 use Rattle.std.proofs.lemmas.Option.{IfSome_then}
-use Rattle.stab_pauli.specs.declared.letter.Letter.{Letter}
-use Rattle.stab_pauli.specs.declared.letter.Letter.TheVariants as letter
-use Rattle.stab_pauli.specs.Letters.{◌⊕◌}
+use Rattle.stab_letters.specs.declared.letter.Letter.{Letter}
+use Rattle.stab_letters.specs.declared.letter.Letter.TheVariants as letter
+use Rattle.stab_letters.specs.Letters.{◌⊕◌}
 use Rattle.stab_pauli.specs.Paulis.{Signed, single, anticommute, strings_anticommute}
-use Rattle.stab_pauli.proofs.ParityLemmas.{parity-self}
+use Rattle.stab_letters.proofs.ParityLemmas.{parity-self}
 use Rattle.stab_pauli.proofs.StringLemmas.{strings_anticommute-comm}
 use Rattle.stab_tableau.specs.Rules.{is_free_by}
 use Rattle.stab_tableau.specs.Traces.{member, is_free}

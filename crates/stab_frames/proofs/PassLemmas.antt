@@ -1,7 +1,7 @@
 -- Passes: a frame over one step, and over steps one after another.
 use Rattle.std.proofs.Common.{◌≡◌, ℕ, zero, suc, ◌+◌, refl, sym, ◌∙◌, ap, subst, Bool, false, List, [], ◌∷◌, ◌++◌, append_assoc, drop, replicate, get_or, arith}
 use Rattle.std.specs.Prelude.{Option, Some, None, IfSome}
-use Rattle.stab_pauli.specs.declared.letter.Letter.{Letter}
+use Rattle.stab_letters.specs.declared.letter.Letter.{Letter}
 use Rattle.stab_pauli.specs.Paulis.{Signed, single}
 use Rattle.stab_tableau.specs.Traces.{Event, member, is_free}
 use Rattle.stab_tableau.specs.Exchanges.{Exchanges}

@@ -3,7 +3,7 @@ use Rattle.std.proofs.Common.{◌≡◌, ℕ, ◌+◌, ◌<◌, ◌≤◌, sym, 
 use Rattle.std.proofs.Math.Seq.{take-add, take-append_seam, drop-append_seam}
 use Rattle.std.proofs.lemmas.List.{take-append-drop, take-append-le, length-take, length-drop, length-append, drop-drop}
 use Rattle.std.proofs.lemmas.List.Elements.{All-drop, All-take}
-use Rattle.stab_pauli.specs.declared.letter.Letter.{Letter}
+use Rattle.stab_letters.specs.declared.letter.Letter.{Letter}
 use Rattle.stab_circuit.specs.Steps.{Step}
 use Rattle.stab_run.specs.Points.{Point, all_coins_of, point_after, outputs}
 use Rattle.stab_run.specs.ProgramStates.{StepFits}

@@ -1,7 +1,7 @@
 -- Still: records of which the newest are not flipped, and records behind others.
 use Rattle.std.proofs.Common.{◌≡◌, ℕ, zero, suc, ◌+◌, ◌-◌, ◌<◌, ◌≤◌, refl, sym, ◌∙◌, ap, Bool, false, List, [], ◌∷◌, ◌++◌, append-nil, length, replicate, arith, ◌⊎◌, inl, inr}
 use Rattle.std.proofs.lemmas.Bool.{cases_lt}
-use Rattle.stab_pauli.specs.Letters.{◌⊕◌}
+use Rattle.stab_letters.specs.Letters.{◌⊕◌}
 use Rattle.stab_run.specs.Records.{looked_up, parity}
 use Rattle.stab_frames.specs.Walks.{WalkState, frame_at, IsGone}
 use Rattle.stab_frames.specs.inner.Weights.{string_weight}

@@ -1,10 +1,10 @@
 -- Tableaus turned by a frame.
 use Rattle.std.proofs.Common.{◌≡◌, ℕ, refl, sym, ◌∙◌, ap, Bool, true, List, [], ◌∷◌, length, arith}
-use Rattle.stab_pauli.specs.declared.letter.Letter.{Letter}
-use Rattle.stab_pauli.specs.declared.letter.Letter.TheVariants as letter
-use Rattle.stab_pauli.specs.Letters.{◌⊕◌, letters_anticommute}
+use Rattle.stab_letters.specs.declared.letter.Letter.{Letter}
+use Rattle.stab_letters.specs.declared.letter.Letter.TheVariants as letter
+use Rattle.stab_letters.specs.Letters.{◌⊕◌, letters_anticommute}
 use Rattle.stab_pauli.specs.Paulis.{Signed, with_sign, strings_anticommute}
-use Rattle.stab_pauli.proofs.LetterLemmas.{each_letter}
+use Rattle.stab_letters.proofs.LetterLemmas.{each_letter}
 use Rattle.stab_tableau.specs.Traces.{diagonal}
 use Rattle.stab_tableau.specs.Tableaus.{TableauState, stabilises}
 use Rattle.stab_tableau.specs.inner.InverseRows.{InverseRows, string_preimage, IsTable, IsOnto}

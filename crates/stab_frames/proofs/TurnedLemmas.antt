@@ -1,12 +1,12 @@
 -- Turned tests: two tests of which strings stabilise that differ by the letters of a frame, and what gates make of them.
 use Rattle.std.proofs.Common.{◌≡◌, ℕ, ◌<◌, refl, sym, ◌∙◌, ap, subst, Bool, true, false, List, length, replicate}
-use Rattle.stab_pauli.specs.declared.letter.Letter.{Letter}
-use Rattle.stab_pauli.specs.declared.letter.Letter.TheVariants as letter
-use Rattle.stab_pauli.specs.Letters.{◌⊕◌}
+use Rattle.stab_letters.specs.declared.letter.Letter.{Letter}
+use Rattle.stab_letters.specs.declared.letter.Letter.TheVariants as letter
+use Rattle.stab_letters.specs.Letters.{◌⊕◌}
 use Rattle.stab_pauli.specs.Paulis.{Signed, single, with_sign, strings_anticommute, string_product}
 use Rattle.stab_pauli.proofs.StringLemmas.{string_product-comm, length-string_product, strings_anticommute-blank, strings_anticommute-product}
-use Rattle.stab_tableau.specs.declared.gate.Gate.{Gate}
-use Rattle.stab_tableau.specs.declared.gate.PairGate.{PairGate}
+use Rattle.stab_letters.specs.declared.gate.Gate.{Gate}
+use Rattle.stab_letters.specs.declared.gate.PairGate.{PairGate}
 use Rattle.stab_tableau.specs.Gates.{inverse, image, image_pair, back, back_pair}
 use Rattle.stab_tableau.specs.Traces.{Event, member}
 use Rattle.stab_tableau.specs.Groups.{IsStabiliserGroup}

@@ -3,9 +3,9 @@ use Rattle.std.proofs.Common.{◌≡◌, ℕ, zero, suc, ◌+◌, ◌<◌, ◌�
 use Rattle.std.proofs.lemmas.List.{length-replicate, set-get_or, get_or_default, take_all, drop_all}
 use Rattle.std.specs.List.{list_any}
 use Rattle.std.proofs.Math.Seq.{drop-cons}
-use Rattle.stab_pauli.specs.declared.letter.Letter.{Letter}
-use Rattle.stab_pauli.specs.declared.letter.Letter.TheVariants.{I}
-use Rattle.stab_pauli.specs.Letters.{◌⊕◌, letters_anticommute, letter_product}
+use Rattle.stab_letters.specs.declared.letter.Letter.{Letter}
+use Rattle.stab_letters.specs.declared.letter.Letter.TheVariants.{I}
+use Rattle.stab_letters.specs.Letters.{◌⊕◌, letters_anticommute, letter_product}
 use Rattle.stab_pauli.specs.Paulis.{string_product}
 use Rattle.stab_pauli.proofs.StringLemmas.{string_product-blank_right, length-string_product, get_or-string_product}
 use Rattle.stab_tableau.proofs.PlaceLemmas.{string_product-set}

@@ -1,7 +1,7 @@
 -- Weights: what a letter put at a place makes of one, and strings of weight 0.
 use Rattle.std.proofs.Common.{◌≡◌, ℕ, zero, suc, ◌+◌, ◌<◌, ◌≤◌, refl, ap, List, [], ◌∷◌, length, replicate, get_or, set, arith}
-use Rattle.stab_pauli.specs.declared.letter.Letter.{Letter}
-use Rattle.stab_pauli.specs.declared.letter.Letter.TheVariants.{I, X, Y, Z}
+use Rattle.stab_letters.specs.declared.letter.Letter.{Letter}
+use Rattle.stab_letters.specs.declared.letter.Letter.TheVariants.{I, X, Y, Z}
 use Rattle.stab_frames.specs.inner.Weights.{letter_weight, string_weight}
 
 pub weight-set : (letters : List Letter) (q : ℕ) (l : Letter) → q < length letters

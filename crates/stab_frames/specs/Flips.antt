@@ -1,7 +1,7 @@
 -- Flips: bits, and what a run gives, inverted where other bits are 1.
 -- Source: this project's own.
 use Rattle.std.specs.Prelude.{◌≡◌, Bool, false, List, [], ◌∷◌, length, map, replicate}
-use Rattle.stab_pauli.specs.Letters.{◌⊕◌}
+use Rattle.stab_letters.specs.Letters.{◌⊕◌}
 use Rattle.stab_run.specs.declared.records.Addition.{Addition}
 use Rattle.stab_run.specs.Points.{RunOutput}
 

@@ -2,8 +2,8 @@
 -- Source: C. Gidney, Stim (2021), for what gates, measurements and resets make of a frame. Where Stim multiplies a string on at
 -- random, a note says which, and the coins whether.
 use Rattle.std.specs.Prelude.{ℕ, ◌+◌, Bool, false, ◌&&◌, List, [], ◌∷◌, ◌++◌, Option, Some, None}
-use Rattle.stab_pauli.specs.declared.letter.Letter.{Letter}
-use Rattle.stab_pauli.specs.Letters.{◌⊕◌}
+use Rattle.stab_letters.specs.declared.letter.Letter.{Letter}
+use Rattle.stab_letters.specs.Letters.{◌⊕◌}
 use Rattle.stab_pauli.specs.Paulis.{Signed, single, strings_anticommute}
 use Rattle.stab_tableau.specs.Gates.{image, image_pair}
 use Rattle.stab_circuit.specs.Steps.{Step, one, two, controlled, collapse, product, detector, observable}

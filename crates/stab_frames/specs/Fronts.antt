@@ -1,7 +1,7 @@
 -- Fronts: the first steps of two circuits, behind which both go on with the same steps.
 -- Source: this project's own.
 use Rattle.std.specs.Prelude.{◌≡◌, ℕ, Bool, false, List, ◌++◌, length, map, replicate, Option}
-use Rattle.stab_pauli.specs.declared.letter.Letter.{Letter}
+use Rattle.stab_letters.specs.declared.letter.Letter.{Letter}
 use Rattle.stab_pauli.specs.Paulis.{string_product}
 use Rattle.stab_circuit.specs.Steps.{Step, one}
 use Rattle.stab_run.specs.Runs.{start, gate_of, run}

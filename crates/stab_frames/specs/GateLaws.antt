@@ -1,10 +1,10 @@
 -- Laws of gates: which gates differ by a Pauli.
 -- Source: the table of gates in Stim's documentation: S_DAG is S with Z behind it, and so on.
-use Rattle.stab_pauli.specs.declared.letter.Letter.{Letter}
-use Rattle.stab_pauli.specs.declared.letter.Letter.TheVariants.{I, X, Y, Z}
-use Rattle.stab_pauli.specs.Letters.{letter_product}
-use Rattle.stab_tableau.specs.declared.gate.Gate.{Gate}
-use Rattle.stab_tableau.specs.declared.gate.Gate.TheVariants as on
+use Rattle.stab_letters.specs.declared.letter.Letter.{Letter}
+use Rattle.stab_letters.specs.declared.letter.Letter.TheVariants.{I, X, Y, Z}
+use Rattle.stab_letters.specs.Letters.{letter_product}
+use Rattle.stab_letters.specs.declared.gate.Gate.{Gate}
+use Rattle.stab_letters.specs.declared.gate.Gate.TheVariants as on
 use Rattle.stab_run.specs.Runs.{gate_of}
 use Rattle.stab_frames.specs.Starts.{GatesDifferBy}
 

@@ -1,7 +1,7 @@
 -- Kept strings: strings that exchange the free outcomes of a run, the first of them in their order, and the notes that they are.
 -- Source: this project's own.
 use Rattle.std.specs.Prelude.{◌≡◌, ℕ, Bool, false, List, [], ◌∷◌, ◌++◌, length, take, min, slice_get, slice_index_or, nat_le, if◌then◌else◌, Option, None, IfSome}
-use Rattle.stab_pauli.specs.declared.letter.Letter.{Letter}
+use Rattle.stab_letters.specs.declared.letter.Letter.{Letter}
 use Rattle.stab_tableau.specs.Traces.{member}
 use Rattle.stab_tableau.specs.Exchanges.{Exchanges}
 use Rattle.stab_circuit.specs.Steps.{Step}

@@ -1,9 +1,9 @@
 -- Laws of notes: which notes serve which frames, and where notes come from.
 -- Source: this project's own, after the two cases of a measurement in Aaronson and Gottesman 2004, section III.
 use Rattle.std.specs.Prelude.{◌≡◌, ℕ, ◌+◌, ◌<◌, Bool, true, false, List, All, Option, is_some, length, take, slice_index_or}
-use Rattle.stab_pauli.specs.declared.letter.Letter.{Letter}
-use Rattle.stab_pauli.specs.declared.letter.Letter.TheVariants.{Z}
-use Rattle.stab_pauli.specs.Letters.{letters_anticommute}
+use Rattle.stab_letters.specs.declared.letter.Letter.{Letter}
+use Rattle.stab_letters.specs.declared.letter.Letter.TheVariants.{Z}
+use Rattle.stab_letters.specs.Letters.{letters_anticommute}
 use Rattle.stab_pauli.specs.Paulis.{Signed}
 use Rattle.stab_tableau.specs.Gates.{letter_at}
 use Rattle.stab_tableau.specs.Traces.{Event, member, Fits, IsSound}

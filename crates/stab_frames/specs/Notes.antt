@@ -2,8 +2,8 @@
 -- Source: the two cases of a measurement in Aaronson and Gottesman 2004, section III: a free outcome is exchanged for the other
 -- by a stabiliser that anticommutes with what is measured.
 use Rattle.std.specs.Prelude.{◌≡◌, ℕ, Bool, true, false, List, Option, Some, None}
-use Rattle.stab_pauli.specs.declared.letter.Letter.{Letter}
-use Rattle.stab_pauli.specs.Letters.{◌⊕◌}
+use Rattle.stab_letters.specs.declared.letter.Letter.{Letter}
+use Rattle.stab_letters.specs.Letters.{◌⊕◌}
 use Rattle.stab_pauli.specs.Paulis.{Signed, strings_anticommute}
 use Rattle.stab_tableau.specs.Rules.{is_free_by}
 use Rattle.stab_tableau.specs.Exchanges.{Exchanges}

@@ -1,7 +1,7 @@
 -- Laws of whole runs: the run of an edited circuit, or with other coins, is the old one, flipped.
 -- Source: this project's own.
 use Rattle.std.specs.Prelude.{ℕ, ◌<◌, Bool, List, ◌++◌, All, Option}
-use Rattle.stab_pauli.specs.declared.letter.Letter.{Letter}
+use Rattle.stab_letters.specs.declared.letter.Letter.{Letter}
 use Rattle.stab_circuit.specs.Steps.{Step}
 use Rattle.stab_run.specs.Points.{RunOutput, origin, joined, point_after, outputs}
 use Rattle.stab_run.specs.ProgramStates.{StepFits}

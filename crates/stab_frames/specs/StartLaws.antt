@@ -1,10 +1,10 @@
 -- Laws of starts: what makes a frame between two points.
 -- Source: C. Gidney, Stim (2021): a Pauli gate is a frame, and so is what a record flips.
 use Rattle.std.specs.Prelude.{ℕ, ◌<◌, Bool, true, false, not, List, ◌++◌, All, length, map, replicate}
-use Rattle.stab_pauli.specs.declared.letter.Letter.{Letter}
-use Rattle.stab_pauli.specs.declared.letter.Letter.TheVariants.{I}
+use Rattle.stab_letters.specs.declared.letter.Letter.{Letter}
+use Rattle.stab_letters.specs.declared.letter.Letter.TheVariants.{I}
 use Rattle.stab_pauli.specs.Paulis.{single, string_product}
-use Rattle.stab_tableau.specs.declared.gate.Gate.{Gate}
+use Rattle.stab_letters.specs.declared.gate.Gate.{Gate}
 use Rattle.stab_circuit.specs.Steps.{one, controlled, collapse}
 use Rattle.stab_run.specs.Records.{looked_up}
 use Rattle.stab_run.specs.Runs.{when, gate_of}

@@ -1,8 +1,8 @@
 -- Laws of steps: steps keep points apart by a frame, and frames multiply.
 -- Source: C. Gidney, Stim (2021), for frames that follow the steps of a circuit; that they are exact, given notes, is this project's own.
 use Rattle.std.specs.Prelude.{◌≡◌, ℕ, Bool, List, All, Option, Some, length}
-use Rattle.stab_pauli.specs.declared.letter.Letter.{Letter}
-use Rattle.stab_pauli.specs.Letters.{◌⊕◌}
+use Rattle.stab_letters.specs.declared.letter.Letter.{Letter}
+use Rattle.stab_letters.specs.Letters.{◌⊕◌}
 use Rattle.stab_tableau.specs.Traces.{member}
 use Rattle.stab_tableau.specs.Groups.{IsStabiliserGroup}
 use Rattle.stab_circuit.specs.Steps.{Step}

@@ -1,7 +1,7 @@
 -- Laws of tableaus: a tableau of one run, with the signs of its rows turned by the frame, is one of the other.
 -- Source: this project's own, for the tableau of Aaronson and Gottesman 2004, section III.
 use Rattle.std.specs.Prelude.{◌≡◌, ℕ, Bool, true, List, ◌++◌, All, length, ◌↔◌}
-use Rattle.stab_pauli.specs.declared.letter.Letter.{Letter}
+use Rattle.stab_letters.specs.declared.letter.Letter.{Letter}
 use Rattle.stab_pauli.specs.Paulis.{Signed}
 use Rattle.stab_tableau.specs.Traces.{diagonal, member}
 use Rattle.stab_tableau.specs.Groups.{SameGroup}

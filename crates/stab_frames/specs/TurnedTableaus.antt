@@ -1,9 +1,9 @@
 -- Turned tableaus: what a frame makes of a tableau is signs of its rows.
 -- Source: this project's own, for the tableau of Aaronson and Gottesman 2004, section III, kept as rows of the inverse.
 use Rattle.std.specs.Prelude.{List, [], ◌∷◌, length}
-use Rattle.stab_pauli.specs.declared.letter.Letter.{Letter}
-use Rattle.stab_pauli.specs.declared.letter.Letter.TheVariants.{X, Z}
-use Rattle.stab_pauli.specs.Letters.{letters_anticommute}
+use Rattle.stab_letters.specs.declared.letter.Letter.{Letter}
+use Rattle.stab_letters.specs.declared.letter.Letter.TheVariants.{X, Z}
+use Rattle.stab_letters.specs.Letters.{letters_anticommute}
 use Rattle.stab_pauli.specs.Paulis.{Signed, with_sign}
 use Rattle.stab_tableau.specs.Tableaus.{TableauState}
 use Rattle.stab_tableau.specs.inner.InverseRows.{InverseRows}

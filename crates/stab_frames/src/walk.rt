@@ -47,7 +47,7 @@ impl Model for FrameWalk {
 
 impl FrameWalk {
     ghost use Rattle.std.specs.Prelude.{◌≡◌, ℕ, ◌+◌, ◌^◌, ◌≤◌, ◌<◌, ◌∷◌, [], ◌++◌, true, length, replicate, take, slice_index_or, slice_set, OnOk, IfOk};
-    ghost use Rattle.stab_pauli.specs.declared.letter.Letter.TheVariants.{I};
+    ghost use Rattle.stab_letters.specs.declared.letter.Letter.TheVariants.{I};
     ghost use Rattle.stab_pauli.specs.Paulis.{single, string_product};
     ghost use Rattle.stab_run.specs.Records.{ones};
     ghost use Rattle.stab_run.specs.Points.{nothing, joined};

@@ -3,7 +3,7 @@ use Rattle.std.proofs.Common.{◌≡◌, ◌<◌, refl, ap, ◌∙◌, ℕ, List
 use Rattle.std.specs.List.{slice_split, list_all}
 use Rattle.std.specs.Fmt.{decimal}
 use Rattle.stab_io.specs.declared.refusal.Refusal.TheVariants.{BadTarget}
-use Rattle.stab_tableau.specs.Limits.{most_qubits}
+use Rattle.stab_letters.specs.Limits.{most_qubits}
 use Rattle.stab_lines.specs.declared.axis.Axis.{Axis}
 use Rattle.stab_lines.specs.declared.axis.Axis.TheVariants as axis
 use Rattle.stab_lines.specs.declared.product.Factor.{Factor}

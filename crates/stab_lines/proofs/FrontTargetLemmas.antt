@@ -5,7 +5,7 @@ use Rattle.std.specs.Cmp.Lexicographic.{pointwise}
 use Rattle.std.proofs.lemmas.List.{length-append, take-append-drop}
 use Rattle.std.proofs.lemmas.Bool.Decides.{nat_tests}
 use Rattle.stab_io.specs.declared.refusal.Refusal.TheVariants.{BadTarget, QubitOutOfRange}
-use Rattle.stab_tableau.specs.Limits.{most_qubits}
+use Rattle.stab_letters.specs.Limits.{most_qubits}
 use Rattle.stab_lines.specs.Limits.{most_lookback}
 use Rattle.stab_lines.specs.Lines.{is_spacing, is_digit, starts_with_byte, ends_with_byte, trimmed_front}
 use Rattle.stab_lines.specs.Words.{words, is_number, is_some_word, value}

@@ -1,7 +1,7 @@
 -- Which refusals a line can have.
 use Rattle.std.proofs.Common.{◌≡◌, refl, ℕ, ◌==◌, List, [], ◌∷◌, Bool, true, false, length, drop, Option, None, Some, Result, Ok, Err, if◌then◌else◌}
 use Rattle.stab_io.specs.declared.refusal.Refusal.{Refusal}
-use Rattle.stab_tableau.specs.declared.gate.Gate.{Gate}
+use Rattle.stab_letters.specs.declared.gate.Gate.{Gate}
 use Rattle.stab_lines.specs.declared.axis.Axis.{Axis}
 use Rattle.stab_lines.specs.declared.control.Control.{Control}
 use Rattle.stab_lines.specs.declared.control.Control.TheVariants as control

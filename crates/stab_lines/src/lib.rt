@@ -2,7 +2,7 @@
 //!
 //! A line is cut to its content, and the content means nothing, the opening or the end of a block,
 //! or an instruction, or it is refused. Which lines stand together is not known here: that is for
-//! `stab_circuit`, which also runs the tests of both crates.
+//! `stab_items`.
 //!
 //! The text is Stim's, without noise: the Stim circuit file format (.stim), in Stim's repository
 //! `doc/file_format_stim_circuit.md`. `docs/circuit-text.md` says where this differs.

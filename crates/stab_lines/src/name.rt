@@ -6,7 +6,7 @@ use crate::axis::Axis;
 use crate::operation::Measurement;
 use crate::table::{controlled_gates, gates, measurements, others};
 use stab_io::Refusal;
-use stab_tableau::Gate;
+use stab_letters::Gate;
 
 /// What an instruction is, by its name.
 #[derive(Clone, Copy)]

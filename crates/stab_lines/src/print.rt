@@ -20,7 +20,7 @@ use crate::table::{controlled_gates, gates, measurements, others};
 use crate::word::{first_piece, is_blank};
 use itoa::Buffer;
 use stab_io::{Output, Refusal, write_all};
-use stab_tableau::Gate;
+use stab_letters::Gate;
 
 /// The name that is printed of what a value is.
 macro_rules! printed {

@@ -4,13 +4,13 @@ use Rattle.std.specs.List.{All}
 use Rattle.std.specs.Simd.Lanes.{zip2}
 use Rattle.std.proofs.lemmas.List.{length-replicate}
 use Rattle.std.proofs.lemmas.List.Elements.{All-nil, All-cons}
-use Rattle.stab_pauli.specs.declared.letter.Letter.{Letter}
-use Rattle.stab_pauli.specs.declared.letter.Letter.TheVariants.{I}
-use Rattle.stab_pauli.specs.declared.phase.Phase.{Phase}
-use Rattle.stab_pauli.specs.declared.phase.Phase.TheVariants.{Zero}
-use Rattle.stab_pauli.specs.Phases.{phase_add, is_even, sign_of_phase}
+use Rattle.stab_letters.specs.declared.letter.Letter.{Letter}
+use Rattle.stab_letters.specs.declared.letter.Letter.TheVariants.{I}
+use Rattle.stab_letters.specs.declared.phase.Phase.{Phase}
+use Rattle.stab_letters.specs.declared.phase.Phase.TheVariants.{Zero}
+use Rattle.stab_letters.specs.Phases.{phase_add, is_even, sign_of_phase, phase_inverse}
 use Rattle.stab_pauli.specs.Paulis.{identity}
-use Rattle.stab_pauli.specs.inner.Powers.{phase_inverse, sign_power, IsSign}
+use Rattle.stab_pauli.specs.inner.Powers.{sign_power, IsSign}
 use Rattle.stab_pauli.proofs.PowerLemmas.{string_power-blank}
 use Rattle.stab_pauli.specs.inner.Words.{word_letters, packed_letters}
 use Rattle.stab_pauli.specs.inner.Blocks.{row_letters, full_rows, AreBlocks, IsPadded, IsRow, IsSignedRow, IsTable, table, row_sign, signed_row}

@@ -6,7 +6,7 @@ use mir.Syntax.{w64}
 use Rattle.std.proofs.lemmas.Nat.{shr-shr}
 use Rattle.std.proofs.lemmas.Nat.Bits.{bit_at-zero, bit_at-lt, bit_at_or, bit_at_above, bit_at-trailing_zeros}
 use Rattle.std.proofs.lemmas.List.{get_or-take}
-use Rattle.stab_pauli.specs.declared.letter.Letter.TheVariants.{I}
+use Rattle.stab_letters.specs.declared.letter.Letter.TheVariants.{I}
 use Rattle.stab_pauli.specs.inner.Words.{letter_of_bits}
 use Rattle.stab_pauli.specs.inner.Blocks.{row_letters, IsRow, IsBlankFrom, IsNextBit, IsNextLetter}
 use Rattle.stab_pauli.proofs.BitLemmas.{two_cases}

@@ -4,15 +4,15 @@ use Rattle.std.specs.Prelude.{bit_xor, bit_and, ◌⊎◌}
 use Rattle.std.specs.Simd.Lanes.{zip2}
 use Rattle.std.proofs.lemmas.Nat.{and_comm}
 use Rattle.std.proofs.lemmas.Simd.{length-zip2}
-use Rattle.stab_pauli.specs.declared.letter.Letter.{Letter}
-use Rattle.stab_pauli.specs.declared.phase.Phase.{Phase}
-use Rattle.stab_pauli.specs.declared.phase.Phase.TheVariants.{Zero, Quarter}
-use Rattle.stab_pauli.specs.Phases.{phase_add, phase_of_sign}
-use Rattle.stab_pauli.specs.Letters.{◌⊕◌, letter_product}
+use Rattle.stab_letters.specs.declared.letter.Letter.{Letter}
+use Rattle.stab_letters.specs.declared.phase.Phase.{Phase}
+use Rattle.stab_letters.specs.declared.phase.Phase.TheVariants.{Zero, Quarter}
+use Rattle.stab_letters.specs.Phases.{phase_add, phase_of_sign, quarters}
+use Rattle.stab_letters.specs.Letters.{◌⊕◌, letter_product, letter_power}
 use Rattle.stab_pauli.specs.Paulis.{string_product}
 use Rattle.stab_pauli.specs.inner.Words.{lowest, letter_of_bits, word_letters, packed_letters, word_odd, words_odd, word_ones, words_ones, xor_words}
-use Rattle.stab_pauli.specs.inner.Powers.{quarters, letter_power, string_power, letters_meet, strings_meet}
-use Rattle.stab_pauli.proofs.PhaseLemmas.{phase_add-assoc, phase_of_sign-parity, quarters-add, quarters-mod}
+use Rattle.stab_pauli.specs.inner.Powers.{string_power, letters_meet, strings_meet}
+use Rattle.stab_letters.proofs.PhaseLemmas.{phase_add-assoc, phase_of_sign-parity, quarters-add, quarters-mod}
 use Rattle.stab_pauli.proofs.PowerLemmas.{strings_meet-append, string_power-append}
 use Rattle.stab_pauli.proofs.BitLemmas.{half_xor, half_and, lowest_xor, lowest_and, two_cases, below_two}
 use Rattle.stab_pauli.proofs.OnesLemmas.{words_odd-xor}

@@ -1,19 +1,19 @@
 -- Powers of i before the bits of strings: what products add to them, and the signs that are left.
 use Rattle.std.proofs.Common.{◌≡◌, ℕ, zero, suc, ◌<◌, Bool, true, false, not, refl, sym, ◌∙◌, ap, List, [], ◌∷◌, ◌++◌, length, get_or, set, replicate, arith}
 use Rattle.std.specs.List.{list_any}
-use Rattle.stab_pauli.specs.declared.letter.Letter.{Letter}
-use Rattle.stab_pauli.specs.declared.letter.Letter.TheVariants.{I, X, Y, Z}
-use Rattle.stab_pauli.specs.declared.phase.Phase.{Phase}
-use Rattle.stab_pauli.specs.declared.phase.Phase.TheVariants.{Zero, Quarter}
-use Rattle.stab_pauli.specs.Phases.{phase_add, phase_of_sign, is_even, sign_of_phase}
-use Rattle.stab_pauli.specs.Letters.{◌⊕◌, letter_product, letter_phase, letters_anticommute}
+use Rattle.stab_letters.specs.declared.letter.Letter.{Letter}
+use Rattle.stab_letters.specs.declared.letter.Letter.TheVariants.{I, X, Y, Z}
+use Rattle.stab_letters.specs.declared.phase.Phase.{Phase}
+use Rattle.stab_letters.specs.declared.phase.Phase.TheVariants.{Zero, Quarter}
+use Rattle.stab_letters.specs.Phases.{phase_add, phase_of_sign, is_even, sign_of_phase, phase_inverse}
+use Rattle.stab_letters.specs.Letters.{◌⊕◌, letter_product, letter_phase, letters_anticommute, letter_power}
 use Rattle.stab_pauli.specs.Paulis.{Signed, with_sign, anticommute, product, product_phase, string_product, string_phase, strings_anticommute}
-use Rattle.stab_pauli.specs.XParts.{has_x}
+use Rattle.stab_letters.specs.XParts.{has_x}
 use Rattle.stab_pauli.specs.Rows.{product_times_i, with_letter}
-use Rattle.stab_pauli.specs.inner.Powers.{phase_inverse, letter_power, string_power, letters_meet, strings_meet, sign_power, power_of, IsSign}
-use Rattle.stab_pauli.proofs.ParityLemmas.{parity-assoc, parity-mid}
-use Rattle.stab_pauli.proofs.PhaseLemmas.{phase_add-zero, phase_add-comm, phase_add-assoc, phase_add-mid, phase_add-left, phase_add-back_left, phase_add-back_right, phase_add-cancel, phase_of_sign-parity, phase_of_sign-injective, phase_of_sign-sign_of_phase, sign_of_phase-phase_of_sign, is_even-phase_of_sign}
-use Rattle.stab_pauli.proofs.LetterLemmas.{each_letter, by_letters}
+use Rattle.stab_pauli.specs.inner.Powers.{string_power, letters_meet, strings_meet, sign_power, power_of, IsSign}
+use Rattle.stab_letters.proofs.ParityLemmas.{parity-assoc, parity-mid}
+use Rattle.stab_letters.proofs.PhaseLemmas.{phase_add-zero, phase_add-comm, phase_add-assoc, phase_add-mid, phase_add-left, phase_add-back_left, phase_add-back_right, phase_add-cancel, phase_of_sign-parity, phase_of_sign-injective, phase_of_sign-sign_of_phase, sign_of_phase-phase_of_sign, is_even-phase_of_sign}
+use Rattle.stab_letters.proofs.LetterLemmas.{each_letter, by_letters}
 use Rattle.stab_pauli.proofs.SignedLemmas.{is_even-product_phase, is_even-times_phase}
 
 -- two letters

@@ -4,13 +4,13 @@ use Rattle.std.specs.Prelude.{bit_xor}
 use Rattle.std.specs.Simd.Lanes.{zip2, chunk, put_chunk}
 use Rattle.std.proofs.lemmas.List.{take-append-drop, drop_at, take_at, drop-drop, length-take-le, take-append-le, drop-append-le}
 use Rattle.std.proofs.lemmas.Simd.{length-chunk, put_chunk_is}
-use Rattle.stab_pauli.specs.declared.letter.Letter.{Letter}
-use Rattle.stab_pauli.specs.declared.phase.Phase.{Phase}
-use Rattle.stab_pauli.specs.declared.phase.Phase.TheVariants.{Zero}
-use Rattle.stab_pauli.specs.Phases.{phase_add, phase_of_sign}
+use Rattle.stab_letters.specs.declared.letter.Letter.{Letter}
+use Rattle.stab_letters.specs.declared.phase.Phase.{Phase}
+use Rattle.stab_letters.specs.declared.phase.Phase.TheVariants.{Zero}
+use Rattle.stab_letters.specs.Phases.{phase_add, phase_of_sign}
 use Rattle.stab_pauli.specs.Paulis.{string_product, strings_anticommute}
 use Rattle.stab_pauli.specs.inner.Powers.{string_power, strings_meet}
-use Rattle.stab_pauli.proofs.PhaseLemmas.{phase_add-zero, phase_add-assoc, phase_add-mid, phase_of_sign-parity}
+use Rattle.stab_letters.proofs.PhaseLemmas.{phase_add-zero, phase_add-assoc, phase_add-mid, phase_of_sign-parity}
 use Rattle.stab_pauli.proofs.PowerLemmas.{strings_anticommute-meet, strings_meet-append, string_power-append}
 use Rattle.stab_pauli.specs.inner.Words.{packed_letters, xor_words}
 use Rattle.stab_pauli.specs.inner.Blocks.{row_letters, IsRewritten}

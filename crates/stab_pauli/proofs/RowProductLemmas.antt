@@ -1,9 +1,9 @@
 -- Products with a row of a table, read and written through slices of its words, as contracts see them.
 use Rattle.std.proofs.Common.{◌≡◌, ℕ, ◌*◌, ◌<◌, Bool, true, false, refl, ◌∙◌, List, ◌++◌, length, get_or, set, take, drop}
 use Rattle.std.specs.Simd.Lanes.{chunk, put_chunk}
-use Rattle.stab_pauli.specs.declared.phase.Phase.{Phase}
-use Rattle.stab_pauli.specs.declared.phase.Phase.TheVariants.{Quarter}
-use Rattle.stab_pauli.specs.Phases.{phase_add, phase_of_sign}
+use Rattle.stab_letters.specs.declared.phase.Phase.{Phase}
+use Rattle.stab_letters.specs.declared.phase.Phase.TheVariants.{Quarter}
+use Rattle.stab_letters.specs.Phases.{phase_add, phase_of_sign}
 use Rattle.stab_pauli.specs.Paulis.{Signed, anticommute, product}
 use Rattle.stab_pauli.specs.Rows.{Rows, row_at, with_row, product_times_i}
 use Rattle.stab_pauli.specs.inner.Words.{xor_words}

@@ -2,16 +2,17 @@
 use Rattle.std.proofs.Common.{◌≡◌, ℕ, ◌+◌, ◌*◌, ◌<◌, ◌≤◌, Bool, true, false, refl, sym, ◌∙◌, ap, List, ◌++◌, length, get_or, set, take, drop, replicate, arith, subst}
 use Rattle.std.specs.Simd.Lanes.{chunk, put_chunk}
 use Rattle.std.proofs.lemmas.List.{length-set, get_or-set_same, get_or-take}
-use Rattle.stab_pauli.specs.declared.letter.Letter.{Letter}
-use Rattle.stab_pauli.specs.declared.letter.Letter.TheVariants.{I}
-use Rattle.stab_pauli.specs.declared.phase.Phase.{Phase}
-use Rattle.stab_pauli.specs.declared.phase.Phase.TheVariants.{Zero, Quarter}
-use Rattle.stab_pauli.specs.Phases.{phase_add, phase_of_sign}
+use Rattle.stab_letters.specs.declared.letter.Letter.{Letter}
+use Rattle.stab_letters.specs.declared.letter.Letter.TheVariants.{I}
+use Rattle.stab_letters.specs.declared.phase.Phase.{Phase}
+use Rattle.stab_letters.specs.declared.phase.Phase.TheVariants.{Zero, Quarter}
+use Rattle.stab_letters.specs.Phases.{phase_add, phase_of_sign, phase_inverse}
 use Rattle.stab_pauli.specs.Paulis.{Signed, identity, with_sign, anticommute, product, string_product}
 use Rattle.stab_pauli.specs.Phaseds.{phased, times_phase, phased_product}
 use Rattle.stab_pauli.specs.Rows.{Rows, row_at, with_row, with_letter, swapped_rows, product_times_i}
 use Rattle.stab_pauli.specs.inner.Words.{xor_words, swapped_words}
-use Rattle.stab_pauli.specs.inner.Powers.{phase_inverse, letter_power, string_power, strings_meet, power_of}
+use Rattle.stab_pauli.specs.inner.Powers.{string_power, strings_meet, power_of}
+use Rattle.stab_letters.specs.Letters.{letter_power}
 use Rattle.stab_pauli.specs.inner.Blocks.{row_letters, blocks_of, AreBlocks, IsRow, IsTable, table}
 use Rattle.stab_pauli.proofs.SignedLemmas.{phased-times_phase}
 use Rattle.stab_pauli.proofs.PowerLemmas.{power_of-product, power_of-times_phase, power_of-with_sign, power_of-with_letter}

@@ -9,15 +9,15 @@ use Rattle.std.proofs.lemmas.List.{drop-drop, length-take-le, take-append-drop, 
 use Rattle.std.proofs.lemmas.List.Elements.{All-set, All-get_or}
 use Rattle.std.proofs.lemmas.Simd.{get_or-zip2, length-zip2, length-chunk, length-put_chunk}
 use Rattle.std.proofs.Math.Nat.{mul-le-mul_left}
-use Rattle.stab_pauli.specs.declared.letter.Letter.{Letter}
-use Rattle.stab_pauli.specs.declared.phase.Phase.{Phase}
-use Rattle.stab_pauli.specs.declared.phase.Phase.TheVariants.{Zero}
-use Rattle.stab_pauli.specs.Phases.{phase_add}
-use Rattle.stab_pauli.specs.Letters.{◌⊕◌, letter_product}
+use Rattle.stab_letters.specs.declared.letter.Letter.{Letter}
+use Rattle.stab_letters.specs.declared.phase.Phase.{Phase}
+use Rattle.stab_letters.specs.declared.phase.Phase.TheVariants.{Zero}
+use Rattle.stab_letters.specs.Phases.{phase_add}
+use Rattle.stab_letters.specs.Letters.{◌⊕◌, letter_product}
 use Rattle.stab_pauli.specs.Paulis.{identity, string_product}
 use Rattle.stab_pauli.specs.inner.Powers.{string_power, strings_meet, IsSign}
-use Rattle.stab_pauli.proofs.ParityLemmas.{parity-false}
-use Rattle.stab_pauli.proofs.PhaseLemmas.{phase_add-zero}
+use Rattle.stab_letters.proofs.ParityLemmas.{parity-false}
+use Rattle.stab_letters.proofs.PhaseLemmas.{phase_add-zero}
 use Rattle.stab_pauli.proofs.StringLemmas.{string_product-blank}
 use Rattle.stab_pauli.proofs.PowerLemmas.{strings_meet-append, strings_meet-blank, string_power-append, string_power-blank}
 use Rattle.stab_pauli.specs.Rows.{Rows, row_at, with_row}

@@ -7,9 +7,9 @@ use mir.Syntax.{w64}
 use Rattle.std.proofs.lemmas.Bool.{cases_order}
 use Rattle.std.proofs.lemmas.Nat.{le_or_l, le_or_r}
 use Rattle.std.proofs.lemmas.Nat.Bits.{bit_at-zero, bit_at-trailing_zeros}
-use Rattle.stab_pauli.specs.declared.letter.Letter.{Letter}
-use Rattle.stab_pauli.specs.declared.letter.Letter.TheVariants.{I}
-use Rattle.stab_pauli.specs.XParts.{has_x}
+use Rattle.stab_letters.specs.declared.letter.Letter.{Letter}
+use Rattle.stab_letters.specs.declared.letter.Letter.TheVariants.{I}
+use Rattle.stab_letters.specs.XParts.{has_x}
 use Rattle.stab_pauli.specs.inner.Blocks.{row_letters, IsRow, HasNoXBefore, IsFirstX}
 use Rattle.stab_pauli.proofs.BlankLemmas.{fits}
 use Rattle.stab_pauli.proofs.RowLemmas.{length-row}

@@ -1,11 +1,10 @@
 mod compact;
 
-use super::letter::Letter;
 use super::packed::{flat, row};
 use super::pauli::Pauli;
-use super::phase::Phase;
 pub use compact::CompactRows;
 use stab_io::Refusal;
+use stab_letters::{Letter, Phase};
 use std::alloc::Global;
 use std::marker::Model;
 
@@ -49,10 +48,10 @@ impl PauliRows {
     ghost use Rattle.std.specs.List.{list_any};
     ghost use Rattle.stab_pauli.specs.Paulis.{identity, with_sign, anticommute, product};
     ghost use Rattle.stab_pauli.specs.Phaseds.{phased, times_phase, phased_product};
-    ghost use Rattle.stab_pauli.specs.XParts.{has_x};
+    ghost use Rattle.stab_letters.specs.XParts.{has_x};
     ghost use Rattle.stab_pauli.specs.Rows.{row_at, with_row, with_letter, swapped_rows, product_times_i, unsigned_rows};
-    ghost use Rattle.stab_pauli.specs.declared.letter.Letter.TheVariants.{I};
-    ghost use Rattle.stab_pauli.specs.declared.phase.Phase.TheVariants.{Quarter};
+    ghost use Rattle.stab_letters.specs.declared.letter.Letter.TheVariants.{I};
+    ghost use Rattle.stab_letters.specs.declared.phase.Phase.TheVariants.{Quarter};
     ghost use Rattle.stab_io.specs.declared.refusal.Refusal.TheVariants.{OutOfMemory};
 
     /// So many strings of letters I with the sign +.

@@ -2,7 +2,7 @@
 use Rattle.std.proofs.Common.{ℕ, zero, suc, ◌≤◌, max, false, true, List, [], ◌∷◌, map, get_or, arith}
 use Rattle.std.specs.Prelude.{All}
 use Rattle.std.proofs.lemmas.List.Elements.{All-nil, All-cons, All-append, All-map}
-use Rattle.stab_tableau.specs.declared.gate.PairGate.TheVariants as gate
+use Rattle.stab_letters.specs.declared.gate.PairGate.TheVariants as gate
 use Rattle.stab_lines.specs.declared.axis.Axis.{Axis}
 use Rattle.stab_lines.specs.declared.control.ControlledPair.{ControlledPair}
 use Rattle.stab_lines.specs.declared.control.ControlledPair.TheVariants as pair

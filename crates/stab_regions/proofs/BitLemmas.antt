@@ -4,7 +4,7 @@ use Rattle.std.proofs.Common.{◌≡◌, ℕ, ◌-◌, ◌<◌, ◌≤◌, ◌�
 use Rattle.std.proofs.lemmas.Bool.{cases_lt, cond-true, cond-false}
 use Rattle.std.proofs.lemmas.List.{get_or_append_left, get_or-append_right}
 use Rattle.std.specs.Prelude.{◌&&◌}
-use Rattle.stab_pauli.specs.declared.letter.Letter.{Letter}
+use Rattle.stab_letters.specs.declared.letter.Letter.{Letter}
 use Rattle.stab_pauli.specs.Paulis.{single, anticommute}
 use Rattle.stab_pauli.proofs.StringLemmas.{strings_anticommute-blank_right}
 use Rattle.stab_tableau.specs.Traces.{diagonal}

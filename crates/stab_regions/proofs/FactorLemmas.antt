@@ -4,11 +4,11 @@ use Rattle.std.specs.Prelude.{replicate, ◌==◌}
 use Rattle.std.proofs.Math.Seq.{take-suc}
 use Rattle.std.proofs.lemmas.List.{get_or-set_other, take-append-drop}
 use Rattle.std.proofs.lemmas.Bool.{eqb-false}
-use Rattle.stab_pauli.specs.declared.letter.Letter.{Letter}
-use Rattle.stab_pauli.specs.declared.letter.Letter.TheVariants.{I}
-use Rattle.stab_pauli.specs.Letters.{◌⊕◌, letter_product}
+use Rattle.stab_letters.specs.declared.letter.Letter.{Letter}
+use Rattle.stab_letters.specs.declared.letter.Letter.TheVariants.{I}
+use Rattle.stab_letters.specs.Letters.{◌⊕◌, letter_product}
 use Rattle.stab_pauli.specs.Paulis.{Signed, single, anticommute, strings_anticommute, string_product}
-use Rattle.stab_pauli.proofs.ParityLemmas.{parity-comm, parity-false}
+use Rattle.stab_letters.proofs.ParityLemmas.{parity-comm, parity-false}
 use Rattle.stab_pauli.proofs.StringLemmas.{string_product-assoc, string_product-blank, strings_anticommute-product, strings_anticommute-blank}
 use Rattle.stab_tableau.specs.Gates.{letter_at}
 use Rattle.stab_lines.specs.declared.product.Factor.{Factor}

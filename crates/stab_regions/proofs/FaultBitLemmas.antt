@@ -1,9 +1,9 @@
 -- Faults and bits: what the laws of tables say of detectors and of observables, said of the bits of a run by their numbers.
 use Rattle.std.proofs.Common.{◌≡◌, ℕ, ◌+◌, ◌-◌, ◌<◌, ◌≤◌, ◌⊎◌, inl, inr, ◌↔◌, sym, ◌∙◌, ap, subst, arith, Bool, true, List, [], ◌++◌, take, drop, All, take-append-drop}
 use Rattle.std.proofs.lemmas.Bool.{cases_lt}
-use Rattle.stab_pauli.specs.declared.letter.Letter.{Letter}
-use Rattle.stab_pauli.specs.Letters.{◌⊕◌}
-use Rattle.stab_pauli.proofs.ParityLemmas.{parity-comm, parity-twice}
+use Rattle.stab_letters.specs.declared.letter.Letter.{Letter}
+use Rattle.stab_letters.specs.Letters.{◌⊕◌}
+use Rattle.stab_letters.proofs.ParityLemmas.{parity-comm, parity-twice}
 use Rattle.stab_circuit.specs.Steps.{Step, unroll, observables_of, detectors_of}
 use Rattle.stab_run.specs.Laws.{RunsArePointsWithOutputs}
 use Rattle.stab_run.specs.ProgramStates.{StepFits}

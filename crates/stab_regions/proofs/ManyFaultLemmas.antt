@@ -2,8 +2,8 @@
 use Rattle.std.proofs.Common.{◌≡◌, ℕ, suc, ◌<◌, ◌≤◌, ◌∙◌, ap, arith, refl, Bool, List, [], ◌∷◌, take, drop, length, All, take-append-drop}
 use Rattle.std.proofs.lemmas.List.{length-append}
 use Rattle.std.proofs.lemmas.List.Elements.{All-head, All-tail, All-from_get_or}
-use Rattle.stab_pauli.specs.Letters.{◌⊕◌}
-use Rattle.stab_pauli.proofs.ParityLemmas.{parity-self}
+use Rattle.stab_letters.specs.Letters.{◌⊕◌}
+use Rattle.stab_letters.proofs.ParityLemmas.{parity-self}
 use Rattle.stab_circuit.specs.Steps.{Step, one, unroll, observables_of}
 use Rattle.stab_run.specs.Runs.{gate_of}
 use Rattle.stab_run.specs.Laws.{RunsArePointsWithOutputs}

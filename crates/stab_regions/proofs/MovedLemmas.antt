@@ -1,14 +1,14 @@
 -- Moved points: points that differ by a frame lead, by turned coins, to points that differ by the frame behind the steps.
 use Rattle.std.proofs.Common.{◌≡◌, ◌≢◌, ℕ, ◌+◌, ◌<◌, refl, sym, ◌∙◌, ap, arith, Bool, true, false, not, ◌&&◌, ◌||◌, List, [], ◌∷◌, ◌++◌, append-nil, length}
 use Rattle.std.specs.Prelude.{if◌then◌else◌}
-use Rattle.stab_pauli.specs.declared.letter.Letter.{Letter}
-use Rattle.stab_pauli.specs.Letters.{◌⊕◌}
+use Rattle.stab_letters.specs.declared.letter.Letter.{Letter}
+use Rattle.stab_letters.specs.Letters.{◌⊕◌}
 use Rattle.stab_pauli.specs.Paulis.{Signed, single, minus, with_sign, anticommute}
 use Rattle.stab_pauli.specs.Paulis.{product as times}
-use Rattle.stab_pauli.proofs.ParityLemmas.{parity-assoc, parity-false}
+use Rattle.stab_letters.proofs.ParityLemmas.{parity-assoc, parity-false}
 use Rattle.stab_pauli.proofs.SignedLemmas.{signed_path, anticommute-product, anticommute-comm, length-product}
-use Rattle.stab_tableau.specs.declared.gate.Gate.{Gate}
-use Rattle.stab_tableau.specs.declared.gate.PairGate.{PairGate}
+use Rattle.stab_letters.specs.declared.gate.Gate.{Gate}
+use Rattle.stab_letters.specs.declared.gate.PairGate.{PairGate}
 use Rattle.stab_tableau.specs.Gates.{inverse, image, image_pair, back, back_pair}
 use Rattle.stab_tableau.specs.Traces.{Event, applied, applied_pair, projected, member, outcome}
 use Rattle.stab_tableau.specs.Groups.{IsStabiliserGroup}

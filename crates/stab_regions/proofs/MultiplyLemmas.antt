@@ -1,9 +1,9 @@
 -- Multiplying strings by a letter: the rows that change, and the strings that they then show.
 use Rattle.std.proofs.Common.{◌≡◌, ◌≢◌, ℕ, ◌<◌, sym, ◌∙◌, ap, arith, Bool, true, false, ◌&&◌, ◌⊎◌, inl, inr, List}
 use Rattle.std.proofs.lemmas.Bool.{cases_eq}
-use Rattle.stab_pauli.specs.declared.letter.Letter.{Letter}
-use Rattle.stab_pauli.specs.declared.letter.Letter.TheVariants.{X, Z}
-use Rattle.stab_pauli.specs.Letters.{◌⊕◌, letter_product, letters_anticommute}
+use Rattle.stab_letters.specs.declared.letter.Letter.{Letter}
+use Rattle.stab_letters.specs.declared.letter.Letter.TheVariants.{X, Z}
+use Rattle.stab_letters.specs.Letters.{◌⊕◌, letter_product, letters_anticommute}
 use Rattle.stab_pauli.specs.Paulis.{Signed, single}
 use Rattle.stab_pauli.proofs.StringLemmas.{get_or-string_product}
 use Rattle.stab_tableau.specs.Gates.{letter_at}

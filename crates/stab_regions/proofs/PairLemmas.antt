@@ -2,11 +2,11 @@
 use Rattle.std.proofs.Common.{◌≡◌, ◌≢◌, ℕ, ◌<◌, refl, sym, subst, ◌∙◌, ap, Bool, ◌⊎◌, inl, inr, List, [], length, set}
 use Rattle.std.proofs.lemmas.Bool.{cases_eq}
 use Rattle.std.proofs.lemmas.List.{get_or-set_same, get_or-set_other, length-set}
-use Rattle.stab_pauli.specs.declared.letter.Letter.{Letter}
-use Rattle.stab_pauli.specs.declared.letter.Letter.TheVariants.{I, X, Y, Z}
-use Rattle.stab_pauli.specs.Letters.{◌⊕◌, letters_anticommute}
-use Rattle.stab_tableau.specs.declared.gate.PairGate.{PairGate}
-use Rattle.stab_tableau.specs.declared.gate.PairGate.TheVariants.{Cx, Cy, Cz, Swap}
+use Rattle.stab_letters.specs.declared.letter.Letter.{Letter}
+use Rattle.stab_letters.specs.declared.letter.Letter.TheVariants.{I, X, Y, Z}
+use Rattle.stab_letters.specs.Letters.{◌⊕◌, letters_anticommute}
+use Rattle.stab_letters.specs.declared.gate.PairGate.{PairGate}
+use Rattle.stab_letters.specs.declared.gate.PairGate.TheVariants.{Cx, Cy, Cz, Swap}
 use Rattle.stab_tableau.specs.Gates.{letter_at, pair_letters, back_pair}
 use Rattle.stab_regions.specs.Rows.{odd, row, Toggles, MovesLetters}
 

@@ -4,14 +4,14 @@ use Rattle.std.specs.Prelude.{if◌then◌else◌, nat_lt, ◌==◌, replicate}
 use Rattle.std.proofs.lemmas.Bool.{cases_lt, cases_eq, eq-eqb}
 use Rattle.std.proofs.lemmas.List.{set-get_or}
 use Rattle.std.proofs.Math.Bool.{and-false}
-use Rattle.stab_pauli.specs.declared.letter.Letter.{Letter}
-use Rattle.stab_pauli.specs.declared.letter.Letter.TheVariants.{I}
+use Rattle.stab_letters.specs.declared.letter.Letter.{Letter}
+use Rattle.stab_letters.specs.declared.letter.Letter.TheVariants.{I}
 use Rattle.stab_pauli.specs.Phaseds.{plain}
 use Rattle.stab_pauli.specs.Paulis.{Signed, identity, single, anticommute}
 use Rattle.stab_pauli.proofs.StringLemmas.{strings_anticommute-blank_right}
 use Rattle.stab_pauli.proofs.SignedLemmas.{signed_path}
-use Rattle.stab_tableau.specs.declared.gate.Gate.{Gate}
-use Rattle.stab_tableau.specs.declared.gate.PairGate.{PairGate}
+use Rattle.stab_letters.specs.declared.gate.Gate.{Gate}
+use Rattle.stab_letters.specs.declared.gate.PairGate.{PairGate}
 use Rattle.stab_tableau.specs.Gates.{letter_at, letter_image, inverse, put_letter, put_letters, pair_letters, back, back_pair}
 use Rattle.stab_circuit.specs.Steps.{Step, one, two, controlled, collapse, product, detector, observable, is_detector}
 use Rattle.stab_run.specs.Runs.{string_of, flip_of}

@@ -3,12 +3,12 @@
 use Rattle.std.proofs.Common.{◌≡◌, ℕ, ◌<◌, refl, sym, ◌∙◌, ap, arith, Bool, true, false, not, ◌&&◌, List, [], ◌∷◌, ◌++◌, append-nil, length, set}
 use Rattle.std.specs.Prelude.{if◌then◌else◌}
 use Rattle.std.proofs.lemmas.List.{length-replicate, length-set}
-use Rattle.stab_pauli.specs.declared.letter.Letter.{Letter}
-use Rattle.stab_pauli.specs.declared.letter.Letter.TheVariants.{I}
-use Rattle.stab_pauli.specs.Letters.{◌⊕◌}
+use Rattle.stab_letters.specs.declared.letter.Letter.{Letter}
+use Rattle.stab_letters.specs.declared.letter.Letter.TheVariants.{I}
+use Rattle.stab_letters.specs.Letters.{◌⊕◌}
 use Rattle.stab_pauli.specs.Paulis.{Signed, single, with_sign, anticommute}
 use Rattle.stab_pauli.specs.Paulis.{product as times}
-use Rattle.stab_pauli.proofs.ParityLemmas.{parity-false}
+use Rattle.stab_letters.proofs.ParityLemmas.{parity-false}
 use Rattle.stab_pauli.proofs.SignedLemmas.{length-product}
 use Rattle.stab_tableau.specs.Gates.{inverse, back, back_pair}
 use Rattle.stab_tableau.specs.Traces.{Event, projected, member}

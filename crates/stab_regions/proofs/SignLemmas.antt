@@ -1,14 +1,14 @@
 -- Signs: they pass through gates and products, and a letter that is applied turns the sign of what it anticommutes with.
 use Rattle.std.proofs.Common.{◌≡◌, ℕ, ◌<◌, refl, sym, ◌∙◌, ap, arith, Bool, true, false, ◌&&◌, List, length, get_or}
 use Rattle.std.proofs.lemmas.List.{set-get_or}
-use Rattle.stab_pauli.specs.declared.letter.Letter.{Letter}
-use Rattle.stab_pauli.specs.declared.letter.Letter.TheVariants.{I}
-use Rattle.stab_pauli.specs.Letters.{◌⊕◌, letters_anticommute}
+use Rattle.stab_letters.specs.declared.letter.Letter.{Letter}
+use Rattle.stab_letters.specs.declared.letter.Letter.TheVariants.{I}
+use Rattle.stab_letters.specs.Letters.{◌⊕◌, letters_anticommute}
 use Rattle.stab_pauli.specs.Paulis.{Signed, single, minus, with_sign, anticommute, product}
-use Rattle.stab_pauli.proofs.ParityLemmas.{parity-assoc, parity-comm}
+use Rattle.stab_letters.proofs.ParityLemmas.{parity-assoc, parity-comm}
 use Rattle.stab_pauli.proofs.SignedLemmas.{signed_path, product-comm, product-minus_right, anticommute-comm}
-use Rattle.stab_tableau.specs.declared.gate.Gate.{Gate}
-use Rattle.stab_tableau.specs.declared.gate.PairGate.{PairGate}
+use Rattle.stab_letters.specs.declared.gate.Gate.{Gate}
+use Rattle.stab_letters.specs.declared.gate.PairGate.{PairGate}
 use Rattle.stab_tableau.specs.Gates.{letter_image, letter_at, put_letter, image, image_pair, inverse, back}
 use Rattle.stab_tableau.specs.Traces.{Event, member}
 use Rattle.stab_tableau.proofs.OneLetterLemmas.{one_letter-anticommute}

@@ -3,11 +3,11 @@ use Rattle.std.proofs.Common.{◌≡◌, ℕ, ◌<◌, refl, sym, ◌∙◌, ap,
 use Rattle.std.proofs.lemmas.List.{length-replicate}
 use Rattle.std.proofs.lemmas.Bool.{and_from}
 use Rattle.std.proofs.lemmas.List.Elements.{All-head, All-tail}
-use Rattle.stab_pauli.specs.declared.letter.Letter.{Letter}
-use Rattle.stab_pauli.specs.declared.letter.Letter.TheVariants.{I}
-use Rattle.stab_pauli.specs.Letters.{◌⊕◌}
+use Rattle.stab_letters.specs.declared.letter.Letter.{Letter}
+use Rattle.stab_letters.specs.declared.letter.Letter.TheVariants.{I}
+use Rattle.stab_letters.specs.Letters.{◌⊕◌}
 use Rattle.stab_pauli.specs.Paulis.{Signed, identity, single, with_sign, anticommute}
-use Rattle.stab_pauli.proofs.ParityLemmas.{parity-assoc}
+use Rattle.stab_letters.proofs.ParityLemmas.{parity-assoc}
 use Rattle.stab_tableau.specs.Traces.{Event, projected, diagonal, member, outcome, Fits, IsSound}
 use Rattle.stab_tableau.specs.Groups.{IsStabiliserGroup}
 use Rattle.stab_tableau.proofs.OneLetterLemmas.{length-one_letter}

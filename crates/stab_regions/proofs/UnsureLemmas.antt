@@ -2,11 +2,11 @@
 use Rattle.std.proofs.Common.{◌≡◌, ℕ, ◌+◌, ◌<◌, refl, sym, ◌∙◌, ap, subst, arith, Bool, true, false, not, ◌&&◌, List, [], ◌∷◌, ◌++◌, append-nil, length, All, add-zero}
 use Rattle.std.proofs.lemmas.List.{length-replicate}
 use Rattle.std.proofs.lemmas.List.Elements.{All-head, All-tail}
-use Rattle.stab_pauli.specs.declared.letter.Letter.{Letter}
-use Rattle.stab_pauli.specs.declared.letter.Letter.TheVariants.{I}
-use Rattle.stab_pauli.specs.Letters.{◌⊕◌}
+use Rattle.stab_letters.specs.declared.letter.Letter.{Letter}
+use Rattle.stab_letters.specs.declared.letter.Letter.TheVariants.{I}
+use Rattle.stab_letters.specs.Letters.{◌⊕◌}
 use Rattle.stab_pauli.specs.Paulis.{Signed, identity, single, minus, with_sign, anticommute}
-use Rattle.stab_pauli.proofs.ParityLemmas.{parity-false, parity-twice}
+use Rattle.stab_letters.proofs.ParityLemmas.{parity-false, parity-twice}
 use Rattle.stab_pauli.proofs.StringLemmas.{strings_anticommute-self}
 use Rattle.stab_pauli.proofs.SignedLemmas.{product-self, anticommute-comm}
 use Rattle.stab_tableau.specs.Traces.{Event, projected, diagonal, member, outcome}

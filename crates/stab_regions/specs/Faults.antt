@@ -1,10 +1,10 @@
 -- Faults: one Pauli X or Z that goes wrong between two steps, where they are asked for, and which bits of a run each flips.
 use Rattle.std.specs.Prelude.{◌≡◌, ℕ, zero, suc, ◌+◌, ◌<◌, Bool, true, false, List, [], ◌∷◌, ◌++◌, map, take, drop, length, ◌↔◌, slice_index_or, if◌then◌else◌, ◌&&◌}
 use Rattle.std.specs.List.{flat_map}
-use Rattle.stab_pauli.specs.declared.letter.Letter.{Letter}
-use Rattle.stab_pauli.specs.declared.letter.Letter.TheVariants as letter
-use Rattle.stab_pauli.specs.Letters.{◌⊕◌}
-use Rattle.stab_tableau.specs.declared.gate.Gate.TheVariants as gate
+use Rattle.stab_letters.specs.declared.letter.Letter.{Letter}
+use Rattle.stab_letters.specs.declared.letter.Letter.TheVariants as letter
+use Rattle.stab_letters.specs.Letters.{◌⊕◌}
+use Rattle.stab_letters.specs.declared.gate.Gate.TheVariants as gate
 use Rattle.stab_circuit.specs.Items.{Items}
 use Rattle.stab_circuit.specs.Steps.{Step, one, two, controlled, collapse, product, detector, observable, unroll, observables_of, detectors_of}
 use Rattle.stab_run.specs.Runs.{State, start, run, gate_of}

@@ -1,8 +1,8 @@
 -- Laws of regions: which parities of records are sure, what they are, and which inserted Paulis flip them.
 -- Source: this project's own.
 use Rattle.std.specs.Prelude.{◌≡◌, ℕ, ◌<◌, Bool, true, false, not, List, [], ◌∷◌, ◌++◌, All, ◌↔◌}
-use Rattle.stab_pauli.specs.declared.letter.Letter.{Letter}
-use Rattle.stab_pauli.specs.Letters.{◌⊕◌}
+use Rattle.stab_letters.specs.declared.letter.Letter.{Letter}
+use Rattle.stab_letters.specs.Letters.{◌⊕◌}
 use Rattle.stab_pauli.specs.Paulis.{single, anticommute}
 use Rattle.stab_circuit.specs.Steps.{Step, one}
 use Rattle.stab_run.specs.Records.{parity}

@@ -2,7 +2,7 @@
 -- many observables, parity i below D is detector i, and parity D + j is observable j.
 -- Source: this project's own.
 use Rattle.std.specs.Prelude.{ℕ, ◌-◌, nat_lt, Bool, true, ◌&&◌, List, [], if◌then◌else◌}
-use Rattle.stab_pauli.specs.declared.letter.Letter.{Letter}
+use Rattle.stab_letters.specs.declared.letter.Letter.{Letter}
 use Rattle.stab_pauli.specs.Paulis.{single, anticommute}
 use Rattle.stab_tableau.specs.Traces.{diagonal}
 use Rattle.stab_circuit.specs.Steps.{Step, detectors_of}

@@ -1,8 +1,8 @@
 -- Laws of tables: what the regions of detectors and observables say of the bits that runs give.
 -- Source: this project's own.
 use Rattle.std.specs.Prelude.{◌≡◌, ℕ, ◌<◌, Bool, true, false, List, [], ◌++◌, length, All, ◌↔◌, slice_index_or}
-use Rattle.stab_pauli.specs.declared.letter.Letter.{Letter}
-use Rattle.stab_pauli.specs.Letters.{◌⊕◌}
+use Rattle.stab_letters.specs.declared.letter.Letter.{Letter}
+use Rattle.stab_letters.specs.Letters.{◌⊕◌}
 use Rattle.stab_circuit.specs.Steps.{Step, detectors_of}
 use Rattle.stab_run.specs.Runs.{start, run}
 use Rattle.stab_run.specs.ProgramStates.{StepFits}

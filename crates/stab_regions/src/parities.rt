@@ -1,5 +1,5 @@
 ghost use Rattle.std.specs.Prelude.{◌≡◌, ℕ, IfOk};
-ghost use Rattle.stab_pauli.specs.Letters.{◌⊕◌};
+ghost use Rattle.stab_letters.specs.Letters.{◌⊕◌};
 ghost use Rattle.stab_regions.specs.Ascending.{IsAscending};
 ghost use Rattle.stab_regions.specs.Rows.{odd};
 
@@ -25,7 +25,7 @@ impl Model for Parities {
 
 impl Parities {
     ghost use Rattle.std.specs.Prelude.{◌≡◌, ℕ, false, [], ◌∷◌, nat_eq, length, IfOk};
-    ghost use Rattle.stab_pauli.specs.Letters.{◌⊕◌};
+    ghost use Rattle.stab_letters.specs.Letters.{◌⊕◌};
     ghost use Rattle.stab_regions.specs.Ascending.{IsAscending};
     ghost use Rattle.stab_regions.specs.Rows.{odd};
 

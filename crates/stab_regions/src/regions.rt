@@ -54,7 +54,7 @@ fn mark_all(bits: &mut [bool], rows: &[Parities])
 
 impl Regions {
     ghost use Rattle.std.specs.Prelude.{◌≡◌, ◌≢◌, ◌+◌, ◌<◌, ◌^◌, Bool, false, [], All, length, IfOk, OnOk};
-    ghost use Rattle.stab_pauli.specs.declared.letter.Letter.TheVariants.{X, Z};
+    ghost use Rattle.stab_letters.specs.declared.letter.Letter.TheVariants.{X, Z};
     ghost use Rattle.stab_lines.specs.Products.{names_twice};
     ghost use Rattle.stab_circuit.specs.Steps.{one, two, controlled, collapse, product, detector, observable};
     ghost use Rattle.stab_circuit.specs.Cursors.{step_shown, IsApart};

@@ -1,9 +1,9 @@
 -- Futures: points with the same members and number of the next coin give the same by every step that reads the same of their records.
 use Rattle.std.proofs.Common.{◌≡◌, ℕ, ◌+◌, refl, sym, ◌∙◌, ap, subst, Bool, true, false, ◌&&◌, List, [], ◌∷◌, ◌++◌, length}
-use Rattle.stab_pauli.specs.declared.letter.Letter.{Letter}
-use Rattle.stab_pauli.specs.Letters.{◌⊕◌}
+use Rattle.stab_letters.specs.declared.letter.Letter.{Letter}
+use Rattle.stab_letters.specs.Letters.{◌⊕◌}
 use Rattle.stab_pauli.specs.Paulis.{Signed, single}
-use Rattle.stab_pauli.proofs.ParityLemmas.{parity-false}
+use Rattle.stab_letters.proofs.ParityLemmas.{parity-false}
 use Rattle.stab_tableau.specs.Traces.{Event, applied, applied_pair, projected, member, is_free}
 use Rattle.stab_tableau.specs.Groups.{SameGroup}
 use Rattle.stab_tableau.proofs.OneLetterLemmas.{length-one_letter}

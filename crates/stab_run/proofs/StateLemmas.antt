@@ -2,7 +2,7 @@
 use Rattle.std.proofs.Common.{◌≡◌, ℕ, ◌+◌, refl, sym, ◌∙◌, ap, Bool, true, false, not, ◌&&◌, List, [], ◌∷◌, ◌++◌, append_assoc, append-nil, add-zero, length, get_or}
 use Rattle.std.specs.Prelude.{if◌then◌else◌, slice_index_or}
 use Rattle.std.proofs.lemmas.List.{length-append}
-use Rattle.stab_pauli.specs.Letters.{◌⊕◌}
+use Rattle.stab_letters.specs.Letters.{◌⊕◌}
 use Rattle.stab_pauli.specs.Paulis.{Signed, minus, single}
 use Rattle.stab_tableau.specs.Traces.{Event, applied, applied_pair, projected, member, outcome, is_free}
 use Rattle.stab_circuit.specs.Items.{Items}

@@ -6,4 +6,5 @@ pub mod Laws
 pub mod Samplers
 pub mod ProgramStates
 pub mod Cuts
+pub mod Limits
 pub mod inner

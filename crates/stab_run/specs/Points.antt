@@ -1,7 +1,7 @@
 -- Points: what decides the future of a run, and what its steps give. A state is a point with what was given so far.
 -- Source: this project's own.
 use Rattle.std.specs.Prelude.{ℕ, ◌+◌, Bool, List, [], ◌∷◌, ◌++◌}
-use Rattle.stab_pauli.specs.Letters.{◌⊕◌}
+use Rattle.stab_letters.specs.Letters.{◌⊕◌}
 use Rattle.stab_pauli.specs.Paulis.{single}
 use Rattle.stab_tableau.specs.Traces.{Event, applied, applied_pair, projected, is_free}
 use Rattle.stab_circuit.specs.Steps.{Step, one, two, controlled, collapse, product, detector, observable}

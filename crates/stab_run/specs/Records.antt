@@ -1,7 +1,7 @@
 -- Records: which one rec[-k] is, and the parity and the number of ones of bits.
 -- Source: Stim's circuit file format, for rec[-k], and for the parity that DETECTOR and OBSERVABLE_INCLUDE take.
 use Rattle.std.specs.Prelude.{ℕ, ◌+◌, ◌-◌, nat_lt, Bool, true, false, List, [], ◌∷◌, length, slice_index_or, if◌then◌else◌}
-use Rattle.stab_pauli.specs.Letters.{◌⊕◌}
+use Rattle.stab_letters.specs.Letters.{◌⊕◌}
 
 -- the record rec[-k]: k counts back from the newest, so of m records, numbered from 0, it is record m - k. Where k is more
 -- than m there is no such record, and its bit is 0

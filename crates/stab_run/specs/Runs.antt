@@ -3,12 +3,12 @@
 -- measurements. It differs in that coins are given by number, and that a detector is the parity of its records, where Stim's
 -- `detect` tells whether that parity differs from a reference run's.
 use Rattle.std.specs.Prelude.{ℕ, ◌+◌, Bool, true, false, ◌&&◌, List, [], ◌∷◌, ◌++◌, replicate, slice_index_or, slice_set}
-use Rattle.stab_pauli.specs.declared.letter.Letter.{Letter}
-use Rattle.stab_pauli.specs.declared.letter.Letter.TheVariants as letter
-use Rattle.stab_pauli.specs.Letters.{◌⊕◌}
+use Rattle.stab_letters.specs.declared.letter.Letter.{Letter}
+use Rattle.stab_letters.specs.declared.letter.Letter.TheVariants as letter
+use Rattle.stab_letters.specs.Letters.{◌⊕◌}
 use Rattle.stab_pauli.specs.Paulis.{Signed, single}
-use Rattle.stab_tableau.specs.declared.gate.Gate.{Gate}
-use Rattle.stab_tableau.specs.declared.gate.Gate.TheVariants as on
+use Rattle.stab_letters.specs.declared.gate.Gate.{Gate}
+use Rattle.stab_letters.specs.declared.gate.Gate.TheVariants as on
 use Rattle.stab_tableau.specs.Traces.{Event, applied, applied_pair, projected, outcome, is_free}
 use Rattle.stab_lines.specs.declared.product.Factor.{Factor}
 use Rattle.stab_lines.specs.Axes.{letter_of}

@@ -23,7 +23,7 @@ use Rattle.stab_run.specs.Laws.{IsSoundRun, RunsAreSound}
 use Rattle.stab_regions.specs.FaultLaws.{SureParities}
 use Rattle.stab_results.specs.Formats.{f01_bytes}
 use Rattle.stab_circuit.specs.Prints.{printed}
-use Rattle.stab_tables.specs.Stabilisers.{lines_of}
+use Rattle.stab_tables.specs.Rows.{lines_of}
 use Rattle.stab_scripts.specs.Scripts.{Setting, Request, begin, put, delete, show, ask, deterministic, refuse, Held, run_held, Answer, IsPut, Shows, IsSureAnswer, IsAnswer, IsAnswerToAll, both, unless, judged, decided, refusing, replying, edit_of, edited_items, framed_shown, held_split, held_behind, shown_or_refused, framed_answer}
 use Rattle.stab_scripts.specs.FramedReplies.{reply_text, greeting, session_numbers}
 use Rattle.stab_scripts.specs.FramedRequests.{FramedRequest, mark, split, numbers, changed, changed_records, sign, item, counts}

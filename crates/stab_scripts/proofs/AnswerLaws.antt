@@ -8,7 +8,7 @@ use Rattle.stab_circuit.specs.Laws.{ItemTextsHaveOneMeaning}
 use Rattle.stab_run.specs.Runs.{State}
 use Rattle.stab_scripts.specs.Scripts.{Setting, Request, begin, put, delete, show, ask, deterministic, refuse, Held, run_held, Answer, IsPut, Shows, IsAnswer, IsAnswerToAll, both, decided, refusing, replying, edit_of, edited_items}
 use Rattle.stab_scripts.specs.FramedReplies.{reply_text}
-use Rattle.stab_tables.specs.Stabilisers.{lines_of}
+use Rattle.stab_tables.specs.Rows.{lines_of}
 use Rattle.stab_scripts.proofs.SureBitLaws.{one_sure_answer}
 use Rattle.stab_scripts.specs.declared.request.Show.{Show}
 use Rattle.stab_scripts.specs.declared.request.Show.TheVariants.{Measurements, Free, Detectors, Observables, Stabilisers, Circuit}

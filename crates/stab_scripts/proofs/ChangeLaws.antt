@@ -1,6 +1,6 @@
 -- Laws of changes: which places of two lists differ, place by place.
 use Rattle.std.proofs.Common.{◌≡◌, ◌<◌, ℕ, ◌+◌, zero, suc, Bool, false, List, [], ◌∷◌, ◌++◌, length, take, min, get_or, refl, ap, ◌∙◌, arith}
-use Rattle.stab_pauli.specs.Letters.{◌⊕◌}
+use Rattle.stab_letters.specs.Letters.{◌⊕◌}
 use Rattle.stab_scripts.specs.Changes.{changes}
 
 -- one more place

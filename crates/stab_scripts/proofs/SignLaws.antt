@@ -7,9 +7,9 @@ use Rattle.std.specs.List.{list_all}
 use Rattle.std.specs.Prelude.{if◌then◌else◌, Result}
 use Rattle.stab_io.specs.declared.refusal.Refusal.{Refusal}
 use Rattle.stab_io.specs.declared.refusal.Refusal.TheVariants.{BadTarget, QubitOutOfRange}
-use Rattle.stab_pauli.specs.declared.letter.Letter.{Letter}
+use Rattle.stab_letters.specs.declared.letter.Letter.{Letter}
 use Rattle.stab_lines.specs.declared.product.Factor.{Factor}
-use Rattle.stab_pauli.specs.Letters.{◌⊕◌}
+use Rattle.stab_letters.specs.Letters.{◌⊕◌}
 use Rattle.stab_pauli.specs.Paulis.{Signed, with_sign, minus}
 use Rattle.stab_session.specs.Sessions.{IsSignIn}
 use Rattle.stab_circuit.specs.Steps.{is_inverted}

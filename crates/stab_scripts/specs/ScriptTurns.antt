@@ -5,7 +5,7 @@ use Rattle.stab_io.specs.Devices.{InputView, OutputView}
 use Rattle.stab_circuit.specs.Items.{Items}
 use Rattle.stab_circuit.specs.Inputs.{GaveText}
 use Rattle.stab_circuit.specs.Readings.{IsCircuit}
-use Rattle.stab_tables.specs.declared.source.Source.{Source}
+use Rattle.stab_jobs.specs.declared.source.Source.{Source}
 use Rattle.stab_scripts.specs.Scripts.{Setting, Answer, IsAnswerToAll, opened, requests_in}
 use Rattle.stab_scripts.specs.ScriptEndings.{setting_of}
 use Rattle.stab_scripts.specs.Watchers.{Asked}

@@ -20,7 +20,7 @@ use Rattle.stab_run.specs.Runs.{State, run_of}
 use Rattle.stab_results.specs.Formats.{f01_bytes}
 use Rattle.stab_tables.specs.FaultLines.{refused_text}
 use Rattle.stab_results.specs.declared.format.Format.TheVariants.{F01}
-use Rattle.stab_tables.specs.Stabilisers.{lines_of}
+use Rattle.stab_tables.specs.Rows.{lines_of}
 use Rattle.stab_tables.specs.Deterministic.{IsSureText}
 use Rattle.stab_circuit.specs.Places.{item_at}
 use Rattle.stab_circuit.specs.Splits.{split}

@@ -1,6 +1,6 @@
 //! The bits at a mark, and what changed since.
 ghost use Rattle.std.specs.Prelude.{◌≡◌, ◌++◌, OnOk};
-ghost use Rattle.stab_pauli.specs.Letters.{◌⊕◌};
+ghost use Rattle.stab_letters.specs.Letters.{◌⊕◌};
 ghost use Rattle.stab_scripts.specs.Changes.{changes as changes_of};
 
 use std::alloc::{AllocError, Global};

@@ -1,10 +1,10 @@
 //! A script, answered from a session that is opened for it.
 ghost use Rattle.std.specs.Prelude.{◌≡◌, ◌≤◌, ◌⊎◌, None, IfOk, IfErr, OnOk};
 ghost use Rattle.stab_io.specs.Refusals.{IsCallFault};
-ghost use Rattle.stab_tableau.specs.Limits.{most_qubits};
+ghost use Rattle.stab_letters.specs.Limits.{most_qubits};
 ghost use Rattle.stab_circuit.specs.Steps.{check_within};
 ghost use Rattle.stab_circuit.specs.Views.{circuit_items};
-ghost use Rattle.stab_session.specs.Limits.{most_stride};
+ghost use Rattle.stab_run.specs.Limits.{most_stride};
 ghost use Rattle.stab_scripts.specs.Scripts.{opened};
 ghost use Rattle.stab_scripts.specs.ScriptEndings.{EndsScript, EndsOn};
 ghost use Rattle.stab_scripts.specs.ScriptTurns.{TakesTurns};

@@ -9,7 +9,7 @@ ghost use Rattle.stab_circuit.specs.Views.{circuit_items};
 ghost use Rattle.stab_circuit.specs.Prints.{printed};
 ghost use Rattle.stab_results.specs.Formats.{f01_bytes, dets_bytes, detectors_of};
 ghost use Rattle.stab_tables.specs.FaultLines.{refused_text};
-ghost use Rattle.stab_tables.specs.Stabilisers.{lines_of};
+ghost use Rattle.stab_tables.specs.Rows.{lines_of};
 ghost use Rattle.stab_scripts.specs.Changes.{count_line, entries_line};
 ghost use Rattle.stab_scripts.specs.PlaceCounts.{place_line, two_numbers};
 ghost use Rattle.stab_scripts.specs.FramedReplies.{greeting as greeting_of, lines_in, made_text, numbers_line, reply_text};

@@ -1,14 +1,14 @@
 -- Bounds: what an edit of a session may cost, in steps that are carried out and copies of the state that are kept.
 -- Source: this project's own.
-use Rattle.std.specs.Prelude.{◌≡◌, ◌⊎◌, ℕ, ◌+◌, ◌-◌, ◌*◌, ◌/◌, ◌<◌, ◌≤◌, nat_le, if◌then◌else◌, Bool, false, List, [], ◌∷◌, Option, Some, None, IfSome, IsSomeAnd, Result, Ok, Err, length, take, drop, slice_get}
+use Rattle.std.specs.Prelude.{ℕ, ◌+◌, ◌-◌, ◌*◌, ◌/◌, Bool, List, [], ◌∷◌, Option, Some, None, Result, Ok, Err, length, take, drop, slice_get}
 use Rattle.stab_io.specs.declared.refusal.Refusal.{Refusal}
 use Rattle.stab_circuit.specs.Items.{OneItem, entries, listed}
-use Rattle.stab_circuit.specs.Steps.{Step, unroll, looks_too_far}
+use Rattle.stab_circuit.specs.Steps.{unroll}
 use Rattle.stab_circuit.specs.Edits.{edit_path, edited, verdict, first_changed, old_end, new_end, put_item}
 use Rattle.stab_circuit.specs.declared.edit.Edit.{Edit}
 use Rattle.stab_run.specs.Points.{Point, origin, point_after}
 use Rattle.stab_run.specs.Laws.{AgreeAt}
-use Rattle.stab_frames.specs.Ends.{AgreeBack}
+use Rattle.stab_replay.specs.Counts.{AgreeAsFarAsLooked, IsCounted}
 use Rattle.stab_session.specs.Sessions.{SessionState}
 
 -- how many steps a session's circuit has
@@ -66,11 +66,7 @@ AgreeBehind sequence e old new far =
     AgreeAt new.qubits (point_at sequence old (old_end e (entries old.items) + far))
     (point_at sequence new (new_end e (entries new.items) + far))
 
--- two points before some steps have one group, the same number of the next coin, and the same records as far back as these steps look
-abbrev pub AgreeAsFarAsLooked : ℕ → List Step → Point → Point → Type 0
-AgreeAsFarAsLooked n xs a b = (reach : ℕ) × (looks_too_far reach xs ≡ false) × AgreeBack n reach a b
-
--- and so the old run and the new one agree so many steps behind what an edit took out and what it put in
+-- so many steps behind they have the same group, number of the next coin, and records as far back as the steps from there on look
 abbrev pub AgreeBackBehind : {C : Type 0} → (C → ℕ → Bool) → Edit → SessionState C → SessionState C → ℕ → Type 0
 AgreeBackBehind sequence e old new far =
     AgreeAsFarAsLooked new.qubits (drop (new_end e (entries new.items) + far) (unroll new.items))
@@ -80,35 +76,8 @@ AgreeBackBehind sequence e old new far =
 abbrev pub steps_changed : {C : Type 0} → Edit → SessionState C → SessionState C → ℕ
 steps_changed e old new = new_end e (entries new.items) - first_changed e (entries old.items)
 
--- of steps in order the last that is not behind a place, and the given one where none is
-abbrev pub last_until : ℕ → ℕ → List ℕ → ℕ
-last_until place a [] = a
-last_until place a (b ∷ more) = if nat_le b place then last_until place b more else a
-
--- an old copy that an edit may come to: behind the first changed step, and not before the end of what was taken out
-abbrev pub MayBeMet : ℕ → ℕ → ℕ → Type 0
-MayBeMet first old_end c = (first < c) × (old_end ≤ c)
-
--- a step is the end of the new steps, or where such a copy stands among them, and the runs agree there
-abbrev pub EndsAt : (ℕ → Type 0) → List ℕ → ℕ → ℕ → ℕ → ℕ → ℕ → Type 0
-EndsAt agree copies first old_end new_end total step =
-    (step ≡ total)
-    ⊎ (number : ℕ) × IsSomeAnd (slice_get copies number) (λ c. MayBeMet first old_end c × (step ≡ new_end + (c - old_end)) × agree (c - old_end))
-
--- where such copies stand before a step, the runs do not agree
-abbrev pub NoneBefore : (ℕ → Type 0) → List ℕ → ℕ → ℕ → ℕ → ℕ → Type 0
-NoneBefore agree copies first old_end new_end step =
-    (number : ℕ) → IfSome (slice_get copies number) (λ c. MayBeMet first old_end c → new_end + (c - old_end) < step → agree (c - old_end) → ⊥)
-
--- so many steps were carried out, or gone over by a frame: from the last old copy at or before the first changed step to one that may
--- be met at which the runs agree as far back as the steps behind look, or to the end; and at none before that do they agree in all
-pub record IsCounted (agree agree_back : ℕ → Type 0) (copies : List ℕ) (first old_end new_end total applied : ℕ) : Type 0 where
-  pub end : ℕ
-  pub count : applied + last_until first 0 copies ≡ end
-  pub ends : EndsAt agree_back copies first old_end new_end total end
-  pub none_before : NoneBefore agree copies first old_end new_end end
-
--- and so many by an edit of a session
+-- an edit of a session carried out, or went over by a frame, so many steps: from the last old copy at or before the first changed step
+-- to one behind the edit at which the runs agree as far back as the steps behind look, or to the end
 abbrev pub IsCountOf : {C : Type 0} → (C → ℕ → Bool) → Edit → SessionState C → SessionState C → ℕ → Type 0
 IsCountOf sequence e old new applied =
     IsCounted (AgreeBehind sequence e old new) (AgreeBackBehind sequence e old new) old.checkpoints (first_changed e (entries old.items))

@@ -1,4 +1,4 @@
-pub mod Limits
+pub use Rattle.stab_replay.specs.Counts
 pub mod Sessions
 pub mod Headline
 pub mod SessionEdits

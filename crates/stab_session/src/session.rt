@@ -1,12 +1,11 @@
 mod edits;
 mod splits;
 
-use crate::kept::KeptRun;
-use crate::opening::run_kept;
 pub use edits::Report;
 use stab_circuit::Circuit;
 use stab_io::{Fault, Refusal};
 use stab_pauli::Pauli;
+use stab_replay::{KeptRun, run_kept};
 use stab_run::Coins;
 use stab_tableau::Tableau;
 use std::alloc::Global;
@@ -69,13 +68,13 @@ impl<C: Coins> Session<C> {
     ghost use Rattle.std.specs.Prelude.{◌≡◌, ℕ, ◌+◌, ◌≤◌, Bool, None, length, IfOk, IfErr, OnOk};
     ghost use Rattle.stab_io.specs.declared.refusal.Refusal.TheVariants.{OutOfMemory};
     ghost use Rattle.stab_io.specs.Refusals.{IsCallFault};
-    ghost use Rattle.stab_tableau.specs.Limits.{most_qubits};
+    ghost use Rattle.stab_letters.specs.Limits.{most_qubits};
     ghost use Rattle.stab_tableau.specs.Traces.{member};
     ghost use Rattle.stab_tableau.specs.Tableaus.{stabilises};
     ghost use Rattle.stab_tableau.specs.Reduced.{AreReduced};
     ghost use Rattle.stab_circuit.specs.Steps.{unroll, check_within};
     ghost use Rattle.stab_circuit.specs.Views.{circuit_items};
-    ghost use Rattle.stab_session.specs.Limits.{most_stride};
+    ghost use Rattle.stab_run.specs.Limits.{most_stride};
     ghost use Rattle.stab_run.specs.Records.{ones};
     ghost use Rattle.stab_run.specs.Runs.{run_of};
     ghost use Rattle.stab_run.specs.Points.{all_coins_of};

@@ -1,7 +1,7 @@
 -- Exchanges: bits of a word that change places with those so many places higher.
 use Rattle.std.proofs.Common.{◌≡◌, ℕ, zero, suc, refl, ◌+◌, ◌-◌, ◌*◌, ◌/◌, ◌^◌, ◌<◌, ◌≤◌, ◌%◌, ap, sym, ◌∙◌, eqb, Bool, true, false, ◌&&◌, inl, inr, arith}
 use Rattle.std.specs.Prelude.{bit_xor, bit_and, ◌⊎◌, if◌then◌else◌}
-use Rattle.stab_pauli.specs.Letters.{◌⊕◌}
+use Rattle.stab_letters.specs.Letters.{◌⊕◌}
 use Rattle.stab_shots.specs.Words.{word_bit}
 use Rattle.stab_shots.specs.Squares.{differing, exchanged}
 use Rattle.stab_shots.proofs.WordLemmas.{word_bit-xor, word_bit-zero}

@@ -1,14 +1,14 @@
 -- Frames: the strings of lanes, whose letters are changed at one place.
 use Rattle.std.proofs.Common.{◌≡◌, ℕ, zero, suc, ◌+◌, ◌-◌, ◌<◌, ◌≤◌, refl, sym, ◌∙◌, ap, Bool, true, false, List, [], ◌∷◌, length, get_or, set, take, arith}
 use Rattle.std.proofs.lemmas.List.{map-set, get_or-map, set-get_or, length-replicate, length-map}
-use Rattle.stab_pauli.specs.declared.letter.Letter.{Letter}
-use Rattle.stab_pauli.specs.declared.letter.Letter.TheVariants.{I, X, Y, Z}
-use Rattle.stab_pauli.specs.Letters.{◌⊕◌, letter_product, letters_anticommute}
+use Rattle.stab_letters.specs.declared.letter.Letter.{Letter}
+use Rattle.stab_letters.specs.declared.letter.Letter.TheVariants.{I, X, Y, Z}
+use Rattle.stab_letters.specs.Letters.{◌⊕◌, letter_product, letters_anticommute}
 use Rattle.stab_pauli.specs.Paulis.{single, string_product, strings_anticommute}
-use Rattle.stab_pauli.proofs.ParityLemmas.{parity-false, parity-assoc}
+use Rattle.stab_letters.proofs.ParityLemmas.{parity-false, parity-assoc}
 use Rattle.stab_pauli.proofs.StringLemmas.{string_product-empty, string_product-blank_right}
-use Rattle.stab_tableau.specs.declared.gate.Gate.{Gate}
-use Rattle.stab_tableau.specs.declared.gate.PairGate.{PairGate}
+use Rattle.stab_letters.specs.declared.gate.Gate.{Gate}
+use Rattle.stab_letters.specs.declared.gate.PairGate.{PairGate}
 use Rattle.stab_tableau.specs.Gates.{letter_image, letter_at, pair_letters, image, image_pair}
 use Rattle.stab_tableau.specs.inner.InverseRows.{blank}
 use Rattle.stab_tableau.proofs.PlaceLemmas.{string_product-set}

@@ -9,3 +9,4 @@ pub mod LaneLemmas
 pub mod StepLemmas
 pub mod ShotLemmas
 pub mod SeedLemmas
+pub mod BatchLemmas

@@ -6,8 +6,8 @@ use Rattle.std.proofs.lemmas.List.{get_or-replicate, get_or-set_same, get_or-set
 use Rattle.std.proofs.lemmas.Nat.Bits.{bit_at-pow_same, bit_at-pow_other}
 use Rattle.std.proofs.Math.Nat.{mod-eq_of_lt}
 use Rattle.std.proofs.Math.Pow.{pow-lt}
-use Rattle.stab_pauli.specs.Letters.{◌⊕◌}
-use Rattle.stab_pauli.proofs.ParityLemmas.{parity-false}
+use Rattle.stab_letters.specs.Letters.{◌⊕◌}
+use Rattle.stab_letters.proofs.ParityLemmas.{parity-false}
 use Rattle.stab_run.specs.Coins.{seed_coin}
 use Rattle.stab_shots.specs.Words.{word_bit, wide_bit}
 use Rattle.stab_shots.specs.Seeds.{lane_coin, AreCoins, AreCoinsOfParts}

@@ -1,7 +1,7 @@
 -- Shots: a lane that went through all steps from the first on holds what the run gives.
 use Rattle.std.proofs.Common.{◌≡◌, ℕ, sym, ◌∙◌, ap, Bool, false, [], List, length, replicate}
-use Rattle.stab_pauli.specs.declared.letter.Letter.{Letter}
-use Rattle.stab_pauli.specs.declared.letter.Letter.TheVariants.{I}
+use Rattle.stab_letters.specs.declared.letter.Letter.{Letter}
+use Rattle.stab_letters.specs.declared.letter.Letter.TheVariants.{I}
 use Rattle.stab_pauli.specs.Paulis.{Signed, with_sign}
 use Rattle.stab_pauli.proofs.StringLemmas.{strings_anticommute-blank}
 use Rattle.stab_tableau.specs.Traces.{member}

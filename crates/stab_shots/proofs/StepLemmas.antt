@@ -2,12 +2,12 @@
 use Rattle.std.proofs.lemmas.List.{length-append}
 use Rattle.std.proofs.Common.{◌≡◌, ℕ, ◌+◌, ◌<◌, refl, sym, ◌∙◌, ap, Bool, true, false, ◌&&◌, List, [], ◌∷◌, ◌++◌, append-nil, length}
 use Rattle.std.specs.Prelude.{None, Some, if◌then◌else◌}
-use Rattle.stab_pauli.specs.declared.letter.Letter.{Letter}
-use Rattle.stab_pauli.specs.Letters.{◌⊕◌}
+use Rattle.stab_letters.specs.declared.letter.Letter.{Letter}
+use Rattle.stab_letters.specs.Letters.{◌⊕◌}
 use Rattle.stab_pauli.specs.Paulis.{Signed, single, minus, with_sign, strings_anticommute}
-use Rattle.stab_pauli.proofs.ParityLemmas.{parity-false}
-use Rattle.stab_tableau.specs.declared.gate.Gate.{Gate}
-use Rattle.stab_tableau.specs.declared.gate.PairGate.{PairGate}
+use Rattle.stab_letters.proofs.ParityLemmas.{parity-false}
+use Rattle.stab_letters.specs.declared.gate.Gate.{Gate}
+use Rattle.stab_letters.specs.declared.gate.PairGate.{PairGate}
 use Rattle.stab_tableau.specs.Gates.{image, image_pair, back, back_pair}
 use Rattle.stab_tableau.specs.Traces.{Event, member}
 use Rattle.stab_tableau.specs.Groups.{IsStabiliserGroup, SameGroup}

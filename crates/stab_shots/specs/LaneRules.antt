@@ -1,8 +1,8 @@
 -- Lane rules: the state of a lane is that of the tableau, with signs turned by the lane's Pauli string.
 -- Source: this project's own.
 use Rattle.std.specs.Prelude.{◌≡◌, ℕ, Bool, true, false, List, [], ◌∷◌, ◌++◌, length, if◌then◌else◌}
-use Rattle.stab_pauli.specs.declared.letter.Letter.{Letter}
-use Rattle.stab_pauli.specs.Letters.{◌⊕◌}
+use Rattle.stab_letters.specs.declared.letter.Letter.{Letter}
+use Rattle.stab_letters.specs.Letters.{◌⊕◌}
 use Rattle.stab_pauli.specs.Paulis.{Signed, with_sign, strings_anticommute}
 use Rattle.stab_tableau.specs.Rules.{outcome_by, is_free_by, projected_by}
 use Rattle.stab_tableau.specs.declared.collapse.Collapse.{Collapse}

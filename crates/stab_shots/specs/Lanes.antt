@@ -1,8 +1,8 @@
 -- Lanes: what a lane of words stands for.
 -- Source: the shots of C. Gidney, Stim (2021), which lie side by side in words.
 use Rattle.std.specs.Prelude.{ℕ, Bool, true, false, List, map}
-use Rattle.stab_pauli.specs.declared.letter.Letter.{Letter}
-use Rattle.stab_pauli.specs.Letters.{letter_product}
+use Rattle.stab_letters.specs.declared.letter.Letter.{Letter}
+use Rattle.stab_letters.specs.Letters.{letter_product}
 use Rattle.stab_pauli.specs.inner.Words.{letter_of_bits}
 use Rattle.stab_run.specs.declared.records.Addition.{Addition}
 use Rattle.stab_run.specs.Points.{RunOutput}

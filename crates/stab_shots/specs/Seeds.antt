@@ -4,6 +4,10 @@ use Rattle.std.specs.Prelude.{◌≡◌, ℕ, ◌+◌, ◌*◌, ◌%◌, ◌^◌
 use Rattle.stab_run.specs.Coins.{seed_coin}
 use Rattle.stab_shots.specs.Words.{word_bit}
 
+-- the coins of the shot i behind the first; numbers of shots go on from 2^64 - 1 with 0
+abbrev pub shot_coins : (seed first i : ℕ) → ℕ → Bool
+shot_coins seed first i t = seed_coin seed ((first + i) % 2 ^ 64) t
+
 -- what contracts see of coins of so many shots: the seed, and the number of the first shot
 pub record SeededLanes : Type 0 where
   pub seed : ℕ

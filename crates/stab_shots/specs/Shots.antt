@@ -1,7 +1,8 @@
--- Shots: a lane of what so many shots give is a run of its own.
+-- Shots: what a lane of many shots gives, and what each shot of a list has, is a run of its own.
 -- Source: this project's own.
-use Rattle.std.specs.Prelude.{◌≡◌, ℕ, Bool}
+use Rattle.std.specs.Prelude.{◌≡◌, ℕ, ◌<◌, Bool, List, length, slice_index_or}
 use Rattle.stab_circuit.specs.Items.{Items}
+use Rattle.stab_run.specs.declared.run.Shot.{Shot}
 use Rattle.stab_run.specs.Runs.{run_of}
 use Rattle.stab_shots.specs.declared.shots.Shots.{Shots}
 use Rattle.stab_shots.specs.Lanes.{lane_bits}
@@ -12,3 +13,14 @@ pub record AreRuns {W : Type 0} (at : W → ℕ → Bool) (l n : ℕ) (coins : �
   pub free : shots.free.items ≡ (run_of n coins items).free
   pub detectors : lane_bits at l shots.detectors.items ≡ (run_of n coins items).detectors
   pub observables : lane_bits at l shots.observables.items ≡ (run_of n coins items).observables
+
+-- what a shot has is what the run of the items on n qubits gives with these coins
+pub record IsShot (n : ℕ) (coins : ℕ → Bool) (items : Items) (shot : Shot) : Type 0 where
+  pub records : shot.records.items ≡ (run_of n coins items).records
+  pub free : shot.free.items ≡ (run_of n coins items).free
+  pub detectors : shot.detectors.items ≡ (run_of n coins items).detectors
+  pub observables : shot.observables.items ≡ (run_of n coins items).observables
+
+-- shot i of a list is the run with the coins i
+abbrev pub AreShots : ℕ → (ℕ → ℕ → Bool) → Items → List Shot → Type 0
+AreShots n coins items shots = (i : ℕ) (d : Shot) → i < length shots → IsShot n (coins i) items (slice_index_or shots i d)

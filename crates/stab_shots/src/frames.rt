@@ -1,5 +1,5 @@
 ghost use Rattle.std.specs.Prelude.{◌≡◌, ◌≢◌, ℕ, ◌+◌, ◌<◌, length, replicate, IfOk};
-ghost use Rattle.stab_pauli.specs.declared.letter.Letter.TheVariants;
+ghost use Rattle.stab_letters.specs.declared.letter.Letter.TheVariants;
 ghost use Rattle.stab_pauli.specs.Paulis.{single, strings_anticommute};
 ghost use Rattle.stab_tableau.specs.Gates.{image, image_pair};
 ghost use Rattle.stab_frames.specs.Frames.{plus, times_where};

@@ -18,6 +18,7 @@
 //! - `coins`, `seeds`, `wide_seeds`: the coins of all lanes, and those of 64 or 64 N shots of a seed.
 //! - `squares`: the bits of lanes as bytes, for eight lanes at a time.
 //! - `shots`: so many shots of a circuit, at once.
+//! - `batches`: shots of a seed, each with lists of its own.
 //!
 //! Sources: C. Gidney, Stim: a fast stabilizer circuit simulator (2021), for shots as lanes of frames beside a
 //! reference. It differs in that each shot has numbered coins of its own, and so is exactly the run with these.
@@ -25,6 +26,7 @@
 //! Proved: each lane is the run that the group rules of `stab_run` give for the circuit and the coins of its shot.
 #![tactic(auto)]
 
+mod batches;
 mod coins;
 mod frames;
 mod gates;
@@ -41,6 +43,7 @@ mod wide;
 mod wide_seeds;
 mod word;
 
+pub use batches::run_shots;
 pub use coins::LaneCoins;
 pub use lanes::write_lane;
 pub use seeds::SeedLanes;

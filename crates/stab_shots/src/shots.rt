@@ -1,8 +1,8 @@
 ghost use Rattle.std.specs.Prelude.{◌≡◌, ℕ, ◌<◌, ◌≤◌, None, [], length, replicate, IfOk, OnOk, IfErr};
-ghost use Rattle.stab_pauli.specs.declared.letter.Letter.TheVariants;
+ghost use Rattle.stab_letters.specs.declared.letter.Letter.TheVariants;
 ghost use Rattle.stab_io.specs.declared.refusal.Refusal.TheVariants.{OutOfMemory};
 ghost use Rattle.stab_io.specs.Refusals.{Refuses};
-ghost use Rattle.stab_tableau.specs.Limits.{most_qubits};
+ghost use Rattle.stab_letters.specs.Limits.{most_qubits};
 ghost use Rattle.stab_circuit.specs.Steps.{check_within};
 ghost use Rattle.stab_circuit.specs.Views.{circuit_items};
 ghost use Rattle.stab_run.specs.Points.{nothing};
@@ -64,7 +64,7 @@ impl<W: Word> Shots<W> {
 }
 
 /// Runs a circuit that nothing refuses once in each lane, with the coins of the lane.
-fn run_checked<W: Word, C: LaneCoins<W>>(
+pub fn run_checked<W: Word, C: LaneCoins<W>>(
     alloc: Global,
     circuit: &Circuit,
     n: usize,

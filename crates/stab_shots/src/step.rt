@@ -1,5 +1,5 @@
 ghost use Rattle.std.specs.Prelude.{◌≡◌, ◌≢◌, ℕ, ◌+◌, ◌<◌, ◌∷◌, [], ◌++◌, Bool, true, false, ◌&&◌, if◌then◌else◌, length, IfOk, OnOk, All};
-ghost use Rattle.stab_pauli.specs.Letters.{◌⊕◌};
+ghost use Rattle.stab_letters.specs.Letters.{◌⊕◌};
 ghost use Rattle.stab_pauli.specs.Paulis.{Signed, single, strings_anticommute};
 ghost use Rattle.stab_tableau.specs.Tableaus.{stabilises};
 ghost use Rattle.stab_tableau.specs.Rules.{outcome_by, is_free_by, projected_by};

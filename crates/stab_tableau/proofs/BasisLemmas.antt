@@ -4,12 +4,12 @@ use Rattle.std.proofs.lemmas.Bool.{eq-eqb}
 use Rattle.std.proofs.lemmas.Bool.Decides.{eqb_tells}
 use Rattle.std.proofs.Common.{◌≡◌, ◌≢◌, ℕ, zero, suc, eqb, ◌<◌, ◌≤◌, Bool, true, false, not, ◌&&◌, inl, inr, refl, sym, ◌∙◌, ap, List, length, arith}
 use Rattle.std.proofs.lemmas.List.{length-replicate}
-use Rattle.stab_pauli.specs.declared.letter.Letter.{Letter}
-use Rattle.stab_pauli.specs.declared.letter.Letter.TheVariants.{I}
-use Rattle.stab_pauli.specs.Letters.{◌⊕◌}
+use Rattle.stab_letters.specs.declared.letter.Letter.{Letter}
+use Rattle.stab_letters.specs.declared.letter.Letter.TheVariants.{I}
+use Rattle.stab_letters.specs.Letters.{◌⊕◌}
 use Rattle.stab_pauli.specs.Paulis.{Signed, anticommute, strings_anticommute, product, string_product}
 use Rattle.stab_pauli.specs.Rows.{Rows, row_at}
-use Rattle.stab_pauli.proofs.ParityLemmas.{parity-self, parity-false, parity-mid}
+use Rattle.stab_letters.proofs.ParityLemmas.{parity-self, parity-false, parity-mid}
 use Rattle.stab_pauli.proofs.StringLemmas.{strings_anticommute-comm, strings_anticommute-product, string_product-self}
 use Rattle.stab_tableau.specs.inner.InverseRows.{blank, IsTable, IsOnto}
 use Rattle.stab_tableau.specs.Tableaus.{TableauState, stabilises}

@@ -4,12 +4,12 @@ use Rattle.std.proofs.lemmas.Bool.Decides.{eqb_tells}
 use Rattle.std.proofs.Common.{◌≡◌, ◌≢◌, subst, ℕ, zero, suc, ◌+◌, ◌-◌, ◌<◌, ◌≤◌, Bool, true, false, nat_lt, ◌⊎◌, inl, inr, refl, sym, ◌∙◌, ap, List, length, arith}
 use Rattle.std.specs.Prelude.{if◌then◌else◌}
 use Rattle.std.proofs.lemmas.List.{ext_get_or, length-replicate}
-use Rattle.stab_pauli.specs.declared.letter.Letter.{Letter}
-use Rattle.stab_pauli.specs.declared.letter.Letter.TheVariants.{I, X, Z}
-use Rattle.stab_pauli.specs.Letters.{◌⊕◌, letter_product, letters_anticommute}
+use Rattle.stab_letters.specs.declared.letter.Letter.{Letter}
+use Rattle.stab_letters.specs.declared.letter.Letter.TheVariants.{I, X, Z}
+use Rattle.stab_letters.specs.Letters.{◌⊕◌, letter_product, letters_anticommute}
 use Rattle.stab_pauli.specs.Paulis.{identity, string_product}
-use Rattle.stab_pauli.proofs.ParityLemmas.{parity-self}
-use Rattle.stab_pauli.proofs.LetterLemmas.{letters_anticommute-comm, letters_anticommute-product, letters_anticommute-tells}
+use Rattle.stab_letters.proofs.ParityLemmas.{parity-self}
+use Rattle.stab_letters.proofs.LetterLemmas.{letters_anticommute-comm, letters_anticommute-product, letters_anticommute-tells}
 use Rattle.stab_pauli.proofs.StringLemmas.{get_or-string_product, string_product-self}
 use Rattle.stab_tableau.specs.Gates.{letter_at}
 use Rattle.stab_tableau.specs.Reduced.{bit_at, IsFirst}

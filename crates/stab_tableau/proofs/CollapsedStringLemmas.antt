@@ -1,10 +1,10 @@
 -- One string of a table after a measurement, by what the program multiplies.
 use Rattle.std.proofs.Common.{◌≡◌, ℕ, ◌<◌, Bool, true, false, not, refl, sym, ◌∙◌, ap, List, length, set, arith}
-use Rattle.stab_pauli.specs.declared.letter.Letter.{Letter}
-use Rattle.stab_pauli.specs.declared.letter.Letter.TheVariants.{I, X, Y, Z}
-use Rattle.stab_pauli.specs.Phases.{phase_of_sign}
-use Rattle.stab_pauli.specs.Letters.{◌⊕◌, letters_anticommute}
-use Rattle.stab_pauli.specs.XParts.{has_x}
+use Rattle.stab_letters.specs.declared.letter.Letter.{Letter}
+use Rattle.stab_letters.specs.declared.letter.Letter.TheVariants.{I, X, Y, Z}
+use Rattle.stab_letters.specs.Phases.{phase_of_sign}
+use Rattle.stab_letters.specs.Letters.{◌⊕◌, letters_anticommute}
+use Rattle.stab_letters.specs.XParts.{has_x}
 use Rattle.stab_pauli.specs.Paulis.{Signed, anticommute, with_sign}
 use Rattle.stab_pauli.specs.Phaseds.{phased, times_phase}
 use Rattle.stab_pauli.specs.Rows.{product_times_i}

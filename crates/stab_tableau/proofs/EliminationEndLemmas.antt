@@ -1,11 +1,11 @@
 -- The end of an elimination: rows that have come to the last place are the reduced rows of their group.
 use Rattle.std.proofs.lemmas.Bool.Decides.{eqb_tells}
 use Rattle.std.proofs.Common.{◌≡◌, ◌≢◌, ℕ, zero, suc, ◌+◌, ◌<◌, ◌≤◌, Bool, true, false, ◌&&◌, ◌⊎◌, inl, inr, refl, sym, ◌∙◌, ap, subst, List, [], ◌∷◌, length, arith}
-use Rattle.stab_pauli.specs.declared.letter.Letter.{Letter}
-use Rattle.stab_pauli.specs.Letters.{◌⊕◌}
+use Rattle.stab_letters.specs.declared.letter.Letter.{Letter}
+use Rattle.stab_letters.specs.Letters.{◌⊕◌}
 use Rattle.stab_pauli.specs.Paulis.{Signed, string_product}
 use Rattle.stab_pauli.specs.Rows.{Rows}
-use Rattle.stab_pauli.proofs.ParityLemmas.{parity-self, parity-mid}
+use Rattle.stab_letters.proofs.ParityLemmas.{parity-self, parity-mid}
 use Rattle.stab_pauli.proofs.StringLemmas.{length-string_product}
 use Rattle.stab_tableau.specs.Reduced.{bit_at, IsLead, IsRowAt, AreRowsFrom, AreReduced}
 use Rattle.stab_tableau.specs.inner.Eliminations.{IsLinear, HasCome}

@@ -3,11 +3,11 @@ use Rattle.std.specs.Prelude.{if◌then◌else◌}
 use Rattle.std.proofs.lemmas.Bool.{eq-eqb}
 use Rattle.std.proofs.lemmas.Bool.Decides.{eqb_tells}
 use Rattle.std.proofs.Common.{◌≡◌, ◌≢◌, eqb, ℕ, ◌+◌, ◌<◌, ◌≤◌, Bool, true, false, ◌&&◌, inl, inr, refl, sym, ◌∙◌, ap, subst, List, length, get_or, arith}
-use Rattle.stab_pauli.specs.declared.letter.Letter.{Letter}
-use Rattle.stab_pauli.specs.Letters.{◌⊕◌}
+use Rattle.stab_letters.specs.declared.letter.Letter.{Letter}
+use Rattle.stab_letters.specs.Letters.{◌⊕◌}
 use Rattle.stab_pauli.specs.Paulis.{Signed, identity, product}
 use Rattle.stab_pauli.specs.Rows.{Rows, row_at}
-use Rattle.stab_pauli.proofs.ParityLemmas.{parity-self, parity-false, parity-assoc}
+use Rattle.stab_letters.proofs.ParityLemmas.{parity-self, parity-false, parity-assoc}
 use Rattle.stab_pauli.proofs.SignedLemmas.{length-product}
 use Rattle.stab_tableau.specs.Groups.{IsStabiliserGroup}
 use Rattle.stab_tableau.specs.Reduced.{bit_at, IsFirst}

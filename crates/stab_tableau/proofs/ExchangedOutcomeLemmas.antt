@@ -2,10 +2,10 @@
 use Rattle.std.proofs.Common.{◌≡◌, ℕ, ◌<◌, Bool, true, false, sym, ◌∙◌, ap, subst, List, length}
 use Rattle.std.specs.Prelude.{Option, Some, None, IfSome, IfNone, is_some}
 use Rattle.std.specs.List.{list_any}
-use Rattle.stab_pauli.specs.declared.letter.Letter.{Letter}
-use Rattle.stab_pauli.specs.declared.letter.Letter.TheVariants.{Z}
-use Rattle.stab_pauli.specs.Letters.{letters_anticommute}
-use Rattle.stab_pauli.specs.XParts.{has_x}
+use Rattle.stab_letters.specs.declared.letter.Letter.{Letter}
+use Rattle.stab_letters.specs.declared.letter.Letter.TheVariants.{Z}
+use Rattle.stab_letters.specs.Letters.{letters_anticommute}
+use Rattle.stab_letters.specs.XParts.{has_x}
 use Rattle.stab_pauli.specs.Paulis.{Signed, single, strings_anticommute}
 use Rattle.stab_pauli.specs.Phaseds.{Phased, phased}
 use Rattle.stab_tableau.specs.Gates.{letter_at}

@@ -3,10 +3,10 @@ use Rattle.std.specs.Bool.{beq}
 use Rattle.std.specs.List.{list_any}
 use Rattle.std.proofs.Common.{◌≡◌, ℕ, zero, suc, ◌<◌, ◌≤◌, ◌+◌, ◌*◌, Bool, true, false, not, refl, sym, ◌∙◌, ap, List, [], ◌∷◌, length, map, get_or, set, drop, arith, below_more}
 use Rattle.std.proofs.lemmas.List.{get_or-set_other, get_or-set_same, ext_get_or}
-use Rattle.stab_pauli.specs.declared.letter.Letter.{Letter}
-use Rattle.stab_pauli.specs.declared.letter.Letter.TheVariants.{I, X, Y, Z}
-use Rattle.stab_pauli.specs.Letters.{◌⊕◌, letters_anticommute}
-use Rattle.stab_pauli.specs.XParts.{has_x}
+use Rattle.stab_letters.specs.declared.letter.Letter.{Letter}
+use Rattle.stab_letters.specs.declared.letter.Letter.TheVariants.{I, X, Y, Z}
+use Rattle.stab_letters.specs.Letters.{◌⊕◌, letters_anticommute}
+use Rattle.stab_letters.specs.XParts.{has_x}
 use Rattle.stab_pauli.specs.Paulis.{Signed}
 use Rattle.stab_pauli.specs.Phaseds.{Phased, phased}
 use Rattle.stab_pauli.specs.Rows.{Rows, unsigned_rows}

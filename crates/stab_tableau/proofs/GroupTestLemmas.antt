@@ -1,8 +1,8 @@
 -- The strings that stabilise a state are a stabiliser group.
 use Rattle.std.proofs.Common.{◌≡◌, true, false, sym, ◌∙◌, ap, length}
-use Rattle.stab_pauli.specs.Phases.{phase_add}
-use Rattle.stab_pauli.specs.declared.phase.Phase.{Phase}
-use Rattle.stab_pauli.specs.declared.phase.Phase.TheVariants.{Zero, Quarter, Half, ThreeQuarters}
+use Rattle.stab_letters.specs.Phases.{phase_add}
+use Rattle.stab_letters.specs.declared.phase.Phase.{Phase}
+use Rattle.stab_letters.specs.declared.phase.Phase.TheVariants.{Zero, Quarter, Half, ThreeQuarters}
 use Rattle.stab_pauli.specs.Paulis.{Signed, minus, anticommute}
 use Rattle.stab_pauli.specs.Phaseds.{Phased, phased}
 use Rattle.stab_pauli.proofs.SignedLemmas.{phased-product, phased-minus}

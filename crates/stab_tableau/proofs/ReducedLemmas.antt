@@ -1,7 +1,7 @@
 -- Reduced rows: a group has at most one list of them.
 use Rattle.std.proofs.lemmas.Bool.Decides.{eqb_tells}
 use Rattle.std.proofs.Common.{◌≡◌, ◌≢◌, eqb, subst, ℕ, suc, ◌+◌, ◌<◌, Bool, true, false, not, ◌⊎◌, inl, inr, refl, sym, ◌∙◌, ap, List, [], ◌∷◌, length, arith}
-use Rattle.stab_pauli.specs.Letters.{◌⊕◌}
+use Rattle.stab_letters.specs.Letters.{◌⊕◌}
 use Rattle.stab_pauli.specs.Paulis.{Signed, minus, product}
 use Rattle.stab_pauli.proofs.SignedLemmas.{signed_path, length-product}
 use Rattle.stab_tableau.specs.Groups.{IsStabiliserGroup, SameGroup}

@@ -2,8 +2,8 @@
 -- first 1 there is cleared by the rows that are there already.
 use Rattle.std.proofs.lemmas.Bool.Decides.{eqb_tells}
 use Rattle.std.proofs.Common.{◌≡◌, ◌≢◌, eqb, subst, ℕ, zero, suc, ◌+◌, ◌<◌, ◌≤◌, Bool, true, false, ◌⊎◌, inl, inr, refl, ◌∙◌, ap, List, [], ◌∷◌, length, arith}
-use Rattle.stab_pauli.specs.declared.letter.Letter.{Letter}
-use Rattle.stab_pauli.specs.Letters.{◌⊕◌}
+use Rattle.stab_letters.specs.declared.letter.Letter.{Letter}
+use Rattle.stab_letters.specs.Letters.{◌⊕◌}
 use Rattle.stab_pauli.specs.Paulis.{Signed, product}
 use Rattle.stab_pauli.proofs.SignedLemmas.{length-product}
 use Rattle.stab_tableau.specs.Groups.{IsStabiliserGroup}

@@ -1,6 +1,6 @@
 -- From what the program writes and asks of rows to the groups of two states.
 use Rattle.std.proofs.Common.{◌≡◌, ◌↔◌, ℕ, ◌<◌, ◌≤◌, Bool, true, false, refl, sym, ◌∙◌, arith, ap, subst, List, length}
-use Rattle.stab_pauli.specs.declared.letter.Letter.TheVariants.{Z}
+use Rattle.stab_letters.specs.declared.letter.Letter.TheVariants.{Z}
 use Rattle.stab_pauli.specs.Paulis.{Signed, with_sign}
 use Rattle.stab_pauli.specs.Phaseds.{Phased, phased}
 use Rattle.stab_tableau.specs.inner.InverseRows.{InverseRows, string_preimage, extend}

@@ -1,13 +1,13 @@
 -- Tables whose rows differ in their signs alone: which strings stabilise, and when both have one group.
 use Rattle.std.proofs.Common.{◌≡◌, ℕ, suc, ◌<◌, Bool, true, false, refl, sym, ◌∙◌, ap, List, [], ◌∷◌, length, get_or, arith}
-use Rattle.stab_pauli.specs.declared.letter.Letter.{Letter}
-use Rattle.stab_pauli.specs.declared.letter.Letter.TheVariants.{I, X, Y, Z}
-use Rattle.stab_pauli.specs.declared.phase.Phase.TheVariants.{Quarter}
-use Rattle.stab_pauli.specs.Phases.{phase_of_sign}
-use Rattle.stab_pauli.specs.Letters.{◌⊕◌, letters_anticommute}
+use Rattle.stab_letters.specs.declared.letter.Letter.{Letter}
+use Rattle.stab_letters.specs.declared.letter.Letter.TheVariants.{I, X, Y, Z}
+use Rattle.stab_letters.specs.declared.phase.Phase.TheVariants.{Quarter}
+use Rattle.stab_letters.specs.Phases.{phase_of_sign}
+use Rattle.stab_letters.specs.Letters.{◌⊕◌, letters_anticommute}
 use Rattle.stab_pauli.specs.Paulis.{Signed, minus, with_sign, strings_anticommute}
 use Rattle.stab_pauli.specs.Phaseds.{Phased, plain, phased, times_phase, phased_product}
-use Rattle.stab_pauli.proofs.PhaseLemmas.{phase_of_sign-parity}
+use Rattle.stab_letters.proofs.PhaseLemmas.{phase_of_sign-parity}
 use Rattle.stab_pauli.proofs.StringLemmas.{strings_anticommute-comm}
 use Rattle.stab_pauli.proofs.PhasedLemmas.{times_phase-times_phase, times_phase-comm, phased_product-times_phase_left, phased_product-times_phase_right}
 use Rattle.stab_pauli.proofs.SignedLemmas.{signed_path, phased-with_sign}

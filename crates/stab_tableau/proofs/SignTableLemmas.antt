@@ -1,11 +1,11 @@
 -- Rows that differ in their signs alone from those of a table are a table too.
 use Rattle.std.proofs.Common.{◌≡◌, ℕ, zero, suc, Bool, refl, sym, ◌∙◌, ap, List, [], ◌∷◌, length}
-use Rattle.stab_pauli.specs.declared.letter.Letter.{Letter}
-use Rattle.stab_pauli.specs.Phases.{phase_of_sign}
+use Rattle.stab_letters.specs.declared.letter.Letter.{Letter}
+use Rattle.stab_letters.specs.Phases.{phase_of_sign}
 use Rattle.stab_pauli.specs.Paulis.{strings_anticommute, string_product}
 use Rattle.stab_pauli.specs.Phaseds.{Phased, plain, times_phase, phased_product}
-use Rattle.stab_pauli.proofs.ParityLemmas.{parity-self}
-use Rattle.stab_pauli.proofs.PhaseLemmas.{phase_of_sign-parity}
+use Rattle.stab_letters.proofs.ParityLemmas.{parity-self}
+use Rattle.stab_letters.proofs.PhaseLemmas.{phase_of_sign-parity}
 use Rattle.stab_pauli.proofs.StringLemmas.{strings_anticommute-blank_right, strings_anticommute-product_right}
 use Rattle.stab_pauli.proofs.PhasedLemmas.{times_phase-times_phase, times_phase-comm, times_phase-plain}
 use Rattle.stab_tableau.specs.inner.InverseRows.{InverseRows, IsOver, IsHomomorphism, IsTable, IsOnto, blank, rows_at, string_preimage, extend}

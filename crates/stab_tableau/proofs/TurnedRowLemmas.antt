@@ -1,12 +1,12 @@
 -- Turned rows: a letter that is applied to a qubit turns signs of its rows, and what they stabilise is turned by it.
 use Rattle.std.proofs.Common.{◌≡◌, ℕ, zero, suc, ◌<◌, Bool, refl, sym, ◌∙◌, ap, subst, List, [], ◌∷◌, length, set, replicate, arith}
 use Rattle.std.proofs.lemmas.List.{length-set}
-use Rattle.stab_pauli.specs.declared.letter.Letter.{Letter}
-use Rattle.stab_pauli.specs.declared.letter.Letter.TheVariants.{I, X, Z}
-use Rattle.stab_pauli.specs.Letters.{◌⊕◌, letters_anticommute}
+use Rattle.stab_letters.specs.declared.letter.Letter.{Letter}
+use Rattle.stab_letters.specs.declared.letter.Letter.TheVariants.{I, X, Z}
+use Rattle.stab_letters.specs.Letters.{◌⊕◌, letters_anticommute}
 use Rattle.stab_pauli.specs.Paulis.{single, with_sign, strings_anticommute}
-use Rattle.stab_pauli.proofs.LetterLemmas.{each_letter}
-use Rattle.stab_pauli.proofs.ParityLemmas.{parity-self}
+use Rattle.stab_letters.proofs.LetterLemmas.{each_letter}
+use Rattle.stab_letters.proofs.ParityLemmas.{parity-self}
 use Rattle.stab_tableau.specs.declared.table.InverseRow.{InverseRow}
 use Rattle.stab_tableau.specs.declared.table.InverseRow.TheVariants.{OfX, OfZ}
 use Rattle.stab_tableau.specs.Tableaus.{TableauState, stabilises}

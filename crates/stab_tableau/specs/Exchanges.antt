@@ -2,7 +2,7 @@
 -- Source: the two cases of a measurement in Aaronson and Gottesman 2004, section III: a free outcome is exchanged for the other
 -- by a stabiliser that anticommutes with what is measured.
 use Rattle.std.specs.Prelude.{◌≡◌, ℕ, Bool, true, List, length}
-use Rattle.stab_pauli.specs.declared.letter.Letter.{Letter}
+use Rattle.stab_letters.specs.declared.letter.Letter.{Letter}
 use Rattle.stab_pauli.specs.Paulis.{Signed, strings_anticommute}
 
 -- a string that with one of its signs stabilises, and that anticommutes with what is measured, exchanges the outcomes

@@ -1,16 +1,16 @@
 ghost use Rattle.std.specs.Prelude.{◌≡◌, ◌≢◌, ℕ, ◌<◌, false, length, slice_set};
-ghost use Rattle.stab_pauli.specs.Letters.{◌⊕◌, letters_anticommute};
+ghost use Rattle.stab_letters.specs.Letters.{◌⊕◌, letters_anticommute};
 ghost use Rattle.stab_pauli.specs.Paulis.{anticommute};
 ghost use Rattle.stab_pauli.specs.Phaseds.{phased, phased_product};
-ghost use Rattle.stab_pauli.specs.declared.letter.Letter.TheVariants.{Z};
+ghost use Rattle.stab_letters.specs.declared.letter.Letter.TheVariants.{Z};
 ghost use Rattle.stab_tableau.specs.Gates.{letter_at};
 ghost use Rattle.stab_tableau.specs.inner.InverseRows.{rows_at, letter_preimage, IsOver, IsRow, AreRows};
 ghost use Rattle.stab_tableau.specs.inner.Collapses.{collapsed_row, CollapsedRow, IsTold};
 ghost use Rattle.stab_tableau.specs.inner.ColumnLetters.{letter_anticommuting};
 ghost use Rattle.stab_tableau.specs.inner.Pairs.{row_string, put, product_times_i_if, IsGated, IsPairGated};
 
-use super::gate::{Gate, PairGate};
 use super::table::{InverseRow, Table};
+use stab_letters::{Gate, PairGate};
 use stab_pauli::{Letter, Pauli};
 
 /// Makes the rows of the inverse those after a gate on a qubit.

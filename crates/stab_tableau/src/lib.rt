@@ -1,6 +1,5 @@
 //! Stabiliser states: gates, measurements, and what both make of a state.
 //!
-//! - `gate`: the gates on one and on two qubits.
 //! - `tableau`: a state, its gates, the sign of any Pauli, measurements, stabilisers and destabilisers, and states
 //!   that are kept in little memory.
 //! - `collapse`: what a measurement answers, and what it does to the rows of a state.
@@ -12,6 +11,8 @@
 //! - `gate_laws`: a gate is undone by its way back, and keeps products and commuting.
 //! - `laws`: the members of a sound trace are a group, outcomes keep it sound, and what is free; a group has one
 //!   list of reduced rows and no other, which tells it.
+//!
+//! The names of gates are those of `stab_letters`, handed on.
 //!
 //! `specs/` says by the stabiliser rules which signed Pauli strings stabilise a state; `specs/inner/` has what only private
 //! contracts cite.
@@ -28,7 +29,6 @@
 
 mod collapse;
 mod elimination;
-mod gate;
 pub mod gate_laws;
 mod group;
 mod inverse_rows;
@@ -39,5 +39,5 @@ mod table;
 mod tableau;
 
 pub use collapse::Collapse;
-pub use gate::{Gate, PairGate};
+pub use stab_letters::{Gate, PairGate};
 pub use tableau::{CompactTableau, Tableau};

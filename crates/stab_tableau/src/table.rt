@@ -17,7 +17,7 @@ pub enum InverseRow {
 
 impl InverseRow {
     ghost use Rattle.std.specs.Prelude.{◌≡◌, ◌≤◌};
-    ghost use Rattle.stab_tableau.specs.Limits.{most_qubits};
+    ghost use Rattle.stab_letters.specs.Limits.{most_qubits};
     ghost use Rattle.stab_tableau.specs.inner.Pairs.{row_place};
 
     /// Where the string lies among those of all qubits.
@@ -57,11 +57,11 @@ impl Table {
     ghost use Rattle.std.specs.Prelude.{◌≡◌, ◌≢◌, ℕ, ◌<◌, ◌≤◌, ◌⊎◌, true, false, length, slice_set, ◌↔◌, IsTrue, IfOk, IfErr, IfSome, IfNone};
     ghost use Rattle.std.specs.List.{list_any};
     ghost use Rattle.stab_io.specs.declared.refusal.Refusal.TheVariants.{OutOfMemory};
-    ghost use Rattle.stab_pauli.specs.XParts.{has_x};
-    ghost use Rattle.stab_pauli.specs.Letters.{letters_anticommute};
+    ghost use Rattle.stab_letters.specs.XParts.{has_x};
+    ghost use Rattle.stab_letters.specs.Letters.{letters_anticommute};
     ghost use Rattle.stab_pauli.specs.Paulis.{single, anticommute, product, with_sign};
     ghost use Rattle.stab_pauli.specs.Rows.{product_times_i};
-    ghost use Rattle.stab_tableau.specs.Limits.{most_qubits};
+    ghost use Rattle.stab_letters.specs.Limits.{most_qubits};
     ghost use Rattle.stab_tableau.specs.Gates.{letter_at};
     ghost use Rattle.stab_tableau.specs.inner.InverseRows.{rows_at, zeros_row, IsOver};
     ghost use Rattle.stab_tableau.specs.inner.Frames.{SameLetters};

@@ -1,7 +1,7 @@
 -- Laws of counts: what steps are counted to make is what any run of them makes.
 use Rattle.std.proofs.Common.{◌≡◌, refl, sym, subst, ◌∙◌, ℕ, ◌+◌, Bool, true, false, List, [], ◌∷◌, ◌++◌, length, slice_index_or, arith}
 use Rattle.std.proofs.lemmas.List.{length-append, length-replicate, length-set}
-use Rattle.stab_pauli.specs.Letters.{◌⊕◌}
+use Rattle.stab_letters.specs.Letters.{◌⊕◌}
 use Rattle.stab_pauli.specs.Paulis.{single}
 use Rattle.stab_circuit.specs.Items.{Items}
 use Rattle.stab_circuit.specs.Steps.{Step, one, two, controlled, collapse, product, detector, observable, unroll, makes, records_of, observables_of, detectors_of, detectors_in}

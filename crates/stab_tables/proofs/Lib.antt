@@ -5,7 +5,6 @@ pub mod FaultSiteLaws
 pub mod FoundLaws
 pub mod FaultTextLaws
 pub mod UnsureLaws
-pub mod RowLaws
 pub mod CheckLaws
 pub mod CountLaws
 pub mod LineLaws

@@ -1,10 +1,10 @@
 -- Laws of lines: the lines of strings tell the strings.
 use Rattle.std.proofs.Common.{◌≡◌, refl, sym, ap, ap₂, ◌∙◌, ℕ, Bool, true, false, List, [], ◌∷◌, ◌++◌, append_assoc, arith}
-use Rattle.stab_pauli.specs.declared.letter.Letter.{Letter}
-use Rattle.stab_pauli.specs.declared.letter.Letter.TheVariants.{I, X, Y, Z}
+use Rattle.stab_letters.specs.declared.letter.Letter.{Letter}
+use Rattle.stab_letters.specs.declared.letter.Letter.TheVariants.{I, X, Y, Z}
 use Rattle.stab_pauli.specs.Paulis.{Signed}
 use Rattle.stab_pauli.specs.Texts.{letters_text}
-use Rattle.stab_tables.specs.Stabilisers.{line_of, lines_of}
+use Rattle.stab_tables.specs.Rows.{line_of, lines_of}
 
 -- the character of a sign
 abbrev sign_character : Bool → ℕ

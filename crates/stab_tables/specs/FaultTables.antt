@@ -6,8 +6,8 @@ use Rattle.stab_io.specs.Devices.{InputView, OutputView}
 use Rattle.stab_io.specs.declared.refusal.Refusal.TheVariants.{NotDeterministic}
 use Rattle.stab_io.specs.declared.refusal.Fault.{Fault}
 use Rattle.stab_io.specs.Refusals.{whole}
-use Rattle.stab_pauli.specs.declared.letter.Letter.{Letter}
-use Rattle.stab_pauli.specs.Texts.{letter_text}
+use Rattle.stab_letters.specs.declared.letter.Letter.{Letter}
+use Rattle.stab_letters.specs.LetterTexts.{letter_text}
 use Rattle.stab_circuit.specs.Items.{Items}
 use Rattle.stab_circuit.specs.Steps.{Step, observable, unroll, qubits_of, detectors_of}
 use Rattle.stab_circuit.specs.Paths.{Path, path_text}
@@ -21,8 +21,8 @@ use Rattle.stab_tables.specs.declared.unsure.Bit.{Bit}
 use Rattle.stab_tables.specs.declared.unsure.Bit.TheVariants.{Detector, Observable}
 use Rattle.stab_tables.specs.declared.unsure.Unsure.{Unsure}
 use Rattle.stab_tables.specs.declared.unsure.FaultsRefused.{FaultsRefused}
-use Rattle.stab_tables.specs.declared.faults.FaultLayout.{FaultLayout}
-use Rattle.stab_tables.specs.declared.faults.FaultLayout.TheVariants.{Lines, Shots}
+use Rattle.stab_jobs.specs.declared.fault_layout.FaultLayout.{FaultLayout}
+use Rattle.stab_jobs.specs.declared.fault_layout.FaultLayout.TheVariants.{Lines, Shots}
 use Rattle.stab_tables.specs.Endings.{Ends, SendsFound}
 use Rattle.stab_tables.specs.Deterministic.{kinds_of}
 

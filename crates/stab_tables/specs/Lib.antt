@@ -2,7 +2,7 @@ pub mod Sources
 pub mod Endings
 pub mod Texts
 pub mod FaultLines
-pub mod Stabilisers
+pub mod Rows
 pub mod Checks
 pub mod Deterministic
 pub mod FaultTables

@@ -5,8 +5,8 @@ use Rattle.stab_circuit.specs.Items.{Items}
 use Rattle.stab_circuit.specs.Steps.{qubits_of}
 use Rattle.stab_run.specs.Coins.{list_coin, seed_coin}
 use Rattle.stab_run.specs.Runs.{State, run_of}
-use Rattle.stab_tables.specs.declared.source.Source.{Source}
-use Rattle.stab_tables.specs.declared.source.Source.TheVariants.{Seed, List as Listed}
+use Rattle.stab_jobs.specs.declared.source.Source.{Source}
+use Rattle.stab_jobs.specs.declared.source.Source.TheVariants.{Seed, List as Listed}
 
 -- the coins of a shot: those of the shot's own stream under the seed, or the whole list anew
 abbrev pub coins_of_shot : Source → ℕ → ℕ → Bool

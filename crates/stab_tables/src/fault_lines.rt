@@ -2,7 +2,7 @@
 ghost use Rattle.std.specs.Prelude.{◌≡◌, ◌≤◌, ◌<◌, ◌+◌, ◌*◌, ◌++◌, None, codes, length, drop, IfOk};
 ghost use Rattle.std.specs.List.{flat_map};
 ghost use Rattle.stab_io.specs.Devices.{WritesAll};
-ghost use Rattle.stab_pauli.specs.declared.letter.Letter.TheVariants as letter;
+ghost use Rattle.stab_letters.specs.declared.letter.Letter.TheVariants as letter;
 ghost use Rattle.stab_circuit.specs.Steps.{check_of, most_steps, unroll};
 ghost use Rattle.stab_circuit.specs.Cursors.{step_shown};
 ghost use Rattle.stab_circuit.specs.Views.{circuit_items};

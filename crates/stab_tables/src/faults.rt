@@ -8,7 +8,7 @@ ghost use Rattle.stab_circuit.specs.Views.{circuit_items};
 ghost use Rattle.stab_regions.specs.Faults.{AreSure, IsFaultTable, IsSure, bits_in};
 ghost use Rattle.stab_tables.specs.Deterministic.{kinds_of};
 ghost use Rattle.stab_tables.specs.declared.unsure.Bit.TheVariants.{Detector, Observable};
-ghost use Rattle.stab_tables.specs.declared.faults.FaultLayout.TheVariants.{Lines, Shots};
+ghost use Rattle.stab_jobs.specs.declared.fault_layout.FaultLayout.TheVariants.{Lines, Shots};
 ghost use Rattle.stab_tables.specs.FaultTables.{EndsFaults, GoesOn, IsFirstUnsure, adds_to, bit_of, fault_of, steps_before_bit, table_text, unsure_of};
 ghost use Rattle.stab_tables.specs.inner.Faults.{IsUnsureAt, PassesStep, SendsAtOnce};
 
@@ -19,18 +19,10 @@ use crate::fault_lines::write_lines;
 use crate::unsure::{Bit, FaultsRefused, Unsure};
 use stab_circuit::{Circuit, Cursor, Step, read_circuit};
 use stab_io::{Fault, Input, Output, Refusal};
+use stab_jobs::FaultLayout;
 use stab_regions::{FaultTable, faults};
 use stab_results::{Format, Kinds};
 use std::alloc::Global;
-
-/// How a table of faults is written.
-#[derive(Clone, Copy, Debug, PartialEq, Eq)]
-pub enum FaultLayout {
-    /// A line for each fault: where it is, its letter and qubit, and what it flips.
-    Lines,
-    /// A shot for each fault, whose bits are 1 where it flips them.
-    Shots(Format),
-}
 
 /// The number of the first bit that is 0.
 fn first_zero(bits: &[bool]) -> Option<usize>

@@ -1,7 +1,7 @@
 //! Laws of what is written of a circuit. Each function does nothing: its contract is the law, and the check
 //! proves it.
 ghost use Rattle.stab_tables.specs.Checks.{NumbersAreOfRuns};
-ghost use Rattle.stab_tables.specs.Stabilisers.{SameGroupSameLines};
+ghost use Rattle.stab_tables.specs.Rows.{SameGroupSameLines};
 
 /// Two stabiliser groups are one exactly where the lines of their reduced rows are the same: so texts that `stabilisers`
 /// wrote can be compared in place of states.

@@ -2,30 +2,26 @@
 //!
 //! In the order in which data flows; each module uses only those before it:
 //!
-//! - `source`: where the coins of a command come from.
 //! - `unsure`: why no table of faults was written, with the bit that is not the same for all coins.
 //! - `ending`: the flush that ends a run.
 //! - `fault_line`: the lines that tell a fault.
-//! - `stabilisers`: the command that writes the stabilisers of the state after a run.
 //! - `check`: the command that writes the numbers of a circuit, or what is wrong with it.
 //! - `deterministic`: the command that tells which detectors and observables are the same for all coins.
 //! - `fault_sites`: the places for faults at a step.
 //! - `fault_lines`, `fault_bits`: a table of faults as lines, and as shots.
 //! - `faults`: the command that writes which detectors and observables each fault flips.
-//! - `laws`: what `stabilisers` writes tells the group, and what `check` counts is what a run gives.
+//! - `laws`: lines of reduced rows tell their group, and what `check` counts is what a run gives.
 //!
 //! Source: this project's own.
 //!
 //! Proved: a call ends by cases. The text was refused, by its own fault or unread, and the output is
 //! untouched; or it was given whole, and the output took what is written of its circuit, and one flush;
-//! or it failed once, or memory was refused, after a prefix. `run_stabilisers` writes the reduced rows
-//! of the state after shot 0; memory is then refused before the first row. `run_check` writes the
-//! numbers of the circuit, by cases of its own (`specs/Checks.antt`): where a text was refused, the
-//! fault is that of the text, and some bytes were sent, of which nothing more is claimed.
-//! `run_deterministic` and `run_faults` end by the cases of `run_stabilisers`, over the bits that are
-//! the same whatever the coins, and over what each fault flips: by runs with it and without it,
-//! whatever the coins (`specs/FaultTables.antt`). Where a bit is not the same for all coins,
-//! `run_faults` names the first such before it writes anything.
+//! or it failed once; or memory was refused before the first byte. So `run_deterministic` and `run_faults`
+//! end, over the bits that are the same whatever the coins, and over what each fault flips: by runs with it
+//! and without it, whatever the coins (`specs/FaultTables.antt`). Where a bit is not the same for all coins,
+//! `run_faults` names the first such before it writes anything. `run_check` writes the numbers of the
+//! circuit, by cases of its own (`specs/Checks.antt`): where a text was refused, the fault is that of the
+//! text, and some bytes were sent, of which nothing more is claimed.
 #![tactic(auto)]
 
 mod check;
@@ -37,15 +33,12 @@ mod fault_lines;
 mod fault_sites;
 mod faults;
 pub mod laws;
-mod source;
-mod stabilisers;
 mod unsure;
 
 pub use check::run_check;
 pub use deterministic::run_deterministic;
 pub use ending::finish;
 pub use fault_line::{write_fault, write_refused, write_texts};
-pub use faults::{FaultLayout, run_faults};
-pub use source::Source;
-pub use stabilisers::run_stabilisers;
+pub use faults::run_faults;
+pub use stab_jobs::{FaultLayout, Source};
 pub use unsure::{Bit, FaultsRefused, Unsure};

@@ -4,21 +4,24 @@
 //! caller here would fail.
 
 ghost use Rattle.std.specs.Prelude.{◌≡◌, ℕ, ◌+◌, ◌<◌, ◌≤◌, [], length, take, min, slice_get, Some, None, Ok, true, IfOk, IfErr, OnOk};
-ghost use Rattle.stab_pauli.specs.Letters.{letter_phase};
+ghost use Rattle.stab_letters.specs.Letters.{letter_phase};
 ghost use Rattle.stab_pauli.specs.Paulis.{commute};
 ghost use Rattle.stab_io.specs.MemoryDevices.{GivesWhatFits, GivesAPiece, TakesWhatFits, FlushesAsSet};
-ghost use Rattle.stab_tableau.specs.Limits.{most_qubits};
+ghost use Rattle.stab_letters.specs.Limits.{most_qubits};
 ghost use Rattle.stab_tableau.specs.Tableaus.{stabilises};
 ghost use Rattle.stab_tableau.specs.Columns.{destabiliser_of};
 ghost use Rattle.stab_tableau.specs.Traces.{member};
 ghost use Rattle.stab_circuit.specs.Paths.{numbers};
 ghost use Rattle.stab_circuit.specs.Edits.{edited, steps_before};
 ghost use Rattle.stab_circuit.specs.declared.edit.Edit.TheVariants.{Insert as inserting};
-ghost use Rattle.stab_circuit.specs.Steps.{unroll, records_of, steps_cap, check_of};
+ghost use Rattle.stab_circuit.specs.Steps.{unroll, records_of, steps_cap, check_of, check_within};
 ghost use Rattle.stab_circuit.specs.StepPaths.{item_steps_left};
 ghost use Rattle.stab_circuit.specs.Views.{circuit_items};
-ghost use Rattle.stab_session.specs.Limits.{most_stride};
+ghost use Rattle.stab_run.specs.Limits.{most_stride};
 ghost use Rattle.stab_run.specs.Runs.{run_of};
+ghost use Rattle.stab_io.specs.Refusals.{Refuses};
+ghost use Rattle.stab_shots.specs.Seeds.{shot_coins};
+ghost use Rattle.stab_shots.specs.Shots.{AreShots};
 ghost use Rattle.stab_session.specs.Sessions.{IsSignIn};
 ghost use Rattle.stab_session.specs.Bounds.{steps_from_change, steps_near_change, steps_changed, AgreeBehind, IsCountOf};
 
@@ -28,6 +31,7 @@ use stab_pauli::{
     Refusal,
 };
 use stab_session::{Coins, Edit, OpenRefused, Report, Session, Shot, run_once};
+use stab_shots::run_shots;
 use stab_tableau::Tableau;
 use std::alloc::Global;
 
@@ -166,6 +170,23 @@ fn run_with_detectors<C: Coins>(
     ensures detectors { IfOk result (λ s. s.detectors.items ≡ (run_of n (C.sequence coins.old) (circuit_items circuit.now)).detectors) }
 {
     run_once(alloc, circuit, n, coins)
+}
+
+/// Shots at once are as many as were asked for, each the run with the coins of its number, or are refused as one run is.
+fn runs_at_once(
+    alloc: Global,
+    circuit: &Circuit,
+    n: usize,
+    seed: u64,
+    first: u64,
+    number: usize,
+) -> Result<Vec<Shot>, stab_pauli::Fault>
+    requires in_range { n ≤ most_qubits }
+    ensures number { IfOk result (λ s. length s.items ≡ number) }
+    ensures shots { IfOk result (λ s. AreShots n (shot_coins seed first) (circuit_items circuit.now) s.items) }
+    ensures refused { Refuses result (check_within n (circuit_items circuit.now)) }
+{
+    run_shots(alloc, circuit, n, seed, first, number)
 }
 
 /// A refused opening gives the circuit back.

@@ -2,6 +2,7 @@
 use stab_circuit::{Circuit, read_circuit};
 use stab_pauli::{Fault, MemoryInput, Refusal};
 use stab_session::{ListCoins, Sampler, SeedCoins, Shot, run_once};
+use stab_shots::run_shots;
 use std::alloc::Global;
 use std::test::Fail;
 
@@ -36,14 +37,8 @@ fn has(shot: &Shot, lists: [&[bool]; 4]) -> bool {
         && shot.observables.as_slice() == observables
 }
 
-/// Whether the next shot has the lists of a run of its own with the coins of its number.
-fn agrees(
-    alloc: Global,
-    circuit: &Circuit,
-    sampler: &mut Sampler,
-    number: u64,
-) -> Result<bool, Fail> {
-    let shot = sampler.shot(alloc, &mut SeedCoins::new(7, number))?;
+/// Whether a shot has the lists of a run of its own with the coins of its number.
+fn is_run(alloc: Global, circuit: &Circuit, shot: &Shot, number: u64) -> Result<bool, Fault> {
     let run = run_once(alloc, circuit, 4, &mut SeedCoins::new(7, number))?;
     let lists = [
         run.records.as_slice(),
@@ -51,7 +46,18 @@ fn agrees(
         run.detectors.as_slice(),
         run.observables.as_slice(),
     ];
-    Ok(has(&shot, lists))
+    Ok(has(shot, lists))
+}
+
+/// Whether the next shot is a run of its own.
+fn agrees(
+    alloc: Global,
+    circuit: &Circuit,
+    sampler: &mut Sampler,
+    number: u64,
+) -> Result<bool, Fail> {
+    let shot = sampler.shot(alloc, &mut SeedCoins::new(7, number))?;
+    Ok(is_run(alloc, circuit, &shot, number)?)
 }
 
 #[test]
@@ -66,11 +72,50 @@ fn shots_are_runs_of_their_own(rt: HostRuntime) -> Result<(), Fail> {
     Ok(())
 }
 
-/// What refuses a run on one qubit, and shots, where something does.
-fn refusals(alloc: Global, text: &str) -> Result<[Option<Fault>; 2], Fault> {
+/// Whether shots at once are so many, and each is a run of its own.
+fn agree_at_once(
+    alloc: Global,
+    circuit: &Circuit,
+    first: u64,
+    number: usize,
+) -> Result<bool, Fault> {
+    let shots = run_shots(alloc, circuit, 4, 7, first, number)?;
+    let mut same = shots.len() == number;
+    for i in 0..shots.len() {
+        same &= is_run(alloc, circuit, &shots[i], first.wrapping_add(i as u64))?;
+    }
+    Ok(same)
+}
+
+/// Numbers of first shots, and how many shots: none, one, and such as fill a batch of lanes, or not quite, or go on in
+/// the next; at last such as go on behind the greatest number with 0.
+const RANGES: [(u64, usize); 7] = [
+    (9, 0),
+    (0, 1),
+    (9, 63),
+    (1, 64),
+    (63, 65),
+    (1_000, 130),
+    (u64::MAX - 99, 257),
+];
+
+#[test]
+fn shots_at_once_are_runs_of_their_own(rt: HostRuntime) -> Result<(), Fail> {
+    let circuit = read(rt.alloc(), ROUNDS)?;
+    let mut same = true;
+    for (first, number) in RANGES {
+        same &= agree_at_once(rt.alloc(), &circuit, first, number)?;
+    }
+    assert!(rt; same);
+    Ok(())
+}
+
+/// What refuses a run on one qubit, shots, and shots at once, where something does.
+fn refusals(alloc: Global, text: &str) -> Result<[Option<Fault>; 3], Fault> {
     let circuit = read(alloc, text)?;
     let run = run_once(alloc, &circuit, 1, &mut ListCoins::new(&[])).err();
-    Ok([run, Sampler::new(alloc, &circuit, 1).err()])
+    let sampler = Sampler::new(alloc, &circuit, 1).err();
+    Ok([run, sampler, run_shots(alloc, &circuit, 1, 7, 0, 0).err()])
 }
 
 #[test]
@@ -78,7 +123,7 @@ fn too_few_qubits_are_refused(rt: HostRuntime) -> Result<(), Fail> {
     let fault = Some(Fault::whole(Refusal::QubitOutOfRange));
     for text in ["M 1", "QUBIT_COORDS(0) 1", "REPEAT 2 {\nCX 0 1\n}"] {
         let found = refusals(rt.alloc(), text)?;
-        assert_eq!(rt; found, [fault, fault], "{text}");
+        assert_eq!(rt; found, [fault, fault, fault], "{text}");
     }
     Ok(())
 }

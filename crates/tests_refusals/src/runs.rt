@@ -1,12 +1,13 @@
 //! Runs of a circuit, one or many.
 use crate::circuits::NESTED;
 use crate::one_drop::OneDrop;
-use crate::sheet::{circuit_of, show_coins, show_shot};
+use crate::sheet::{circuit_of, show_coins, show_lists, show_shot};
 use crate::stop::Stop;
 use crate::trial::{Ending, Trial, print_ending, try_call};
 use stab_circuit::Circuit;
 use stab_pauli::MemoryOutput;
 use stab_session::{ListCoins, Sampler, Shot, run_once};
+use stab_shots::run_shots;
 use std::alloc::Global;
 use std::io;
 
@@ -125,12 +126,47 @@ impl<'a> Trial for OneShot<'a> {
     }
 }
 
+/// How many shots run at once.
+const SHOTS: usize = 3;
+
+/// `run_shots`, with the shots that it gave.
+#[derive(Drop)]
+struct ManyShots<'a> {
+    circuit: &'a Circuit,
+    shots: OneDrop<Vec<Shot>>,
+}
+
+impl<'a> Trial for ManyShots<'a> {
+    type Call = &'a Circuit;
+
+    fn new(alloc: Global, circuit: &'a Circuit) -> Result<ManyShots<'a>, Stop> {
+        Ok(ManyShots {
+            circuit,
+            shots: OneDrop(Vec::new(alloc)),
+        })
+    }
+
+    fn call(&mut self, alloc: Global) -> Result<(), Stop> {
+        let shots = run_shots(alloc, self.circuit, QUBITS, 7, 1, SHOTS)?;
+        self.shots = OneDrop(shots);
+        Ok(())
+    }
+
+    fn show(&mut self, _alloc: Global, out: &mut MemoryOutput) -> Result<(), Stop> {
+        for shot in self.shots.0.iter() {
+            show_lists(out, shot)?;
+        }
+        Ok(())
+    }
+}
+
 /// A call on a circuit.
 #[derive(Clone, Copy)]
 enum Call {
     Once,
     Sampler,
     Shot,
+    Shots,
 }
 
 fn try_on_circuit(alloc: Global, call: Call) -> Result<Ending, Stop> {
@@ -139,6 +175,7 @@ fn try_on_circuit(alloc: Global, call: Call) -> Result<Ending, Stop> {
         Call::Once => try_call::<OneRun>(alloc, &circuit.0),
         Call::Sampler => try_call::<NewSampler>(alloc, &circuit.0),
         Call::Shot => try_call::<OneShot>(alloc, &circuit.0),
+        Call::Shots => try_call::<ManyShots>(alloc, &circuit.0),
     }
 }
 
@@ -148,6 +185,7 @@ pub fn print_all<R: AllocGlobal + Print>(rt: &R) -> io::Result<()> {
         ("run_once", Call::Once),
         ("Sampler::new", Call::Sampler),
         ("Sampler::shot", Call::Shot),
+        ("run_shots", Call::Shots),
     ];
     for (name, call) in calls {
         print_ending(rt, name, try_on_circuit(rt.alloc(), call))?;

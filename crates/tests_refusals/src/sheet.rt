@@ -19,15 +19,20 @@ pub fn show_bits(out: &mut MemoryOutput, bits: &[bool]) -> Result<(), Stop> {
     Ok(())
 }
 
+/// Writes the four lists of a shot.
+pub fn show_lists(out: &mut MemoryOutput, shot: &Shot) -> Result<(), Stop> {
+    show_bits(out, shot.records.as_slice())?;
+    show_bits(out, shot.free.as_slice())?;
+    show_bits(out, shot.detectors.as_slice())?;
+    show_bits(out, shot.observables.as_slice())
+}
+
 /// Writes the four lists of a shot, if there is one.
 pub fn show_shot(out: &mut MemoryOutput, shot: &Option<Shot>) -> Result<(), Stop> {
-    if let Some(shot) = shot {
-        show_bits(out, shot.records.as_slice())?;
-        show_bits(out, shot.free.as_slice())?;
-        show_bits(out, shot.detectors.as_slice())?;
-        show_bits(out, shot.observables.as_slice())?;
+    match shot {
+        Some(shot) => show_lists(out, shot),
+        None => Ok(()),
     }
-    Ok(())
 }
 
 /// Writes coins 0 to 99.

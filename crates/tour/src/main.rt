@@ -1,6 +1,6 @@
 //! The program `tour`: what a program of your own does with these crates, to be read first.
 //!
-//! It reads a circuit, runs it, opens a session on it, edits it, and prints what each step gives.
+//! It reads a circuit, runs it, takes two shots of it, opens a session on it, edits it, and prints what each step gives.
 //! `docs/library.md` goes through it, call by call.
 #![tactic(auto)]
 
@@ -9,9 +9,10 @@ mod shown;
 
 use failure::Failure;
 use shown::{Bits, ShownRow};
-use stab_circuit::{Path, read_circuit, read_item};
+use stab_circuit::{Circuit, Path, read_circuit, read_item};
 use stab_pauli::MemoryInput;
 use stab_session::{Edit, ListCoins, Session, run_once};
+use stab_shots::run_shots;
 
 /// A Bell pair, and a detector that compares its two measurements.
 const TEXT: &[u8] = b"H 0\nCX 0 1\nM 0 1\nDETECTOR rec[-1] rec[-2]\n";
@@ -30,6 +31,17 @@ fn main(rt: HostRuntime) -> Result<(), Failure> {
         Bits(shot.free.as_slice())
     )?;
 
+    for shot in run_shots(alloc, &circuit, qubits, 0, 0, 2)? {
+        println!(rt; "shot {}", Bits(shot.records.as_slice()))?;
+    }
+
+    edit(&rt, circuit)
+}
+
+/// Opens a session on the circuit, and puts an error in.
+fn edit(rt: &HostRuntime, circuit: Circuit) -> Result<(), Failure> {
+    let alloc = rt.alloc();
+    let qubits = circuit.qubits();
     let mut session = match Session::open(alloc, circuit, qubits, 8192, ListCoins::new(&[true])) {
         Ok(session) => session,
         Err(refused) => return Err(refused.fault.into()),

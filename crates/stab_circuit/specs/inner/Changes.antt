@@ -3,15 +3,11 @@
 use Rattle.std.specs.Prelude.{◌≡◌, ℕ, zero, suc, ◌+◌, nat_lt, List, [], ◌∷◌, ◌++◌, length, take, drop, slice_get, if◌then◌else◌, All, Result, Ok, Err}
 use Rattle.stab_io.specs.declared.refusal.Refusal.{Refusal}
 use Rattle.stab_io.specs.declared.refusal.Refusal.TheVariants.{PlaceOutOfRange}
-use Rattle.stab_circuit.specs.Items.{OneItem, operation, repeat, depth_of}
+use Rattle.stab_items.specs.Items.{OneItem, depth_of}
+use Rattle.stab_items.specs.inner.Blocks.{with_rounds}
 use Rattle.stab_circuit.specs.Paths.{Path}
 use Rattle.stab_circuit.specs.Places.{item_at}
 use Rattle.stab_circuit.specs.Edits.{with_item, edited_inside}
-
--- an item with so many rounds, where it is a block
-abbrev pub with_rounds : (count : ℕ) → OneItem → OneItem
-with_rounds count (operation op) = operation op
-with_rounds count (repeat old tag body) = repeat count tag body
 
 -- the same as a list, which is empty where there are no rounds
 abbrev pub rounds_of : (count : ℕ) → OneItem → List OneItem

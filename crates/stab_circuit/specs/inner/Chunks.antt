@@ -4,9 +4,9 @@ use Rattle.std.specs.Prelude.{◌≡◌, ◌≤◌, ◌<◌, ℕ, ◌+◌, List,
 use Rattle.stab_circuit.specs.declared.chunks.Chunk.{Chunk}
 use Rattle.stab_circuit.specs.declared.chunks.FoundChunk.{FoundChunk}
 use Rattle.stab_circuit.specs.declared.chunks.SkippedChunks.{SkippedChunks}
-use Rattle.stab_circuit.specs.Items.{OneItem, listed}
-use Rattle.stab_circuit.specs.Steps.{unroll}
-use Rattle.stab_circuit.specs.inner.Summaries.{summary_of, IsSummary}
+use Rattle.stab_items.specs.Items.{OneItem, listed}
+use Rattle.stab_items.specs.Steps.{unroll}
+use Rattle.stab_items.specs.inner.Summaries.{summary_of, IsSummary}
 
 -- the chunk of these items
 abbrev pub chunk_of : List OneItem → Chunk

@@ -2,14 +2,14 @@
 -- Source: this project's own.
 use Rattle.std.specs.Prelude.{◌≡◌, ◌≤◌, ℕ, ◌+◌, min, List, [], ◌∷◌, length, take, slice_get, Ok, IfOk, All}
 use Rattle.stab_circuit.specs.declared.edit.Edit.{Edit}
-use Rattle.stab_circuit.specs.declared.summary.Summary.{Summary}
+use Rattle.stab_items.specs.declared.summary.Summary.{Summary}
 use Rattle.stab_circuit.specs.declared.judge.Judgement.{Judgement}
 use Rattle.stab_circuit.specs.declared.judge.EditResult.{EditResult}
-use Rattle.stab_circuit.specs.Items.{OneItem, listed}
-use Rattle.stab_circuit.specs.Steps.{Step, unroll, steps_cap}
+use Rattle.stab_items.specs.Items.{OneItem, listed}
+use Rattle.stab_items.specs.Steps.{Step, unroll, steps_cap}
 use Rattle.stab_circuit.specs.Cursors.{IsApart}
 use Rattle.stab_circuit.specs.Edits.{edited_in, edit_path, inner, steps_in, behind_taken, behind_put, outermost}
-use Rattle.stab_circuit.specs.inner.Summaries.{followed_by, IsSummary}
+use Rattle.stab_items.specs.inner.Summaries.{followed_by, IsSummary}
 use Rattle.stab_circuit.specs.inner.Splices.{Splice}
 use Rattle.stab_circuit.specs.inner.Judgements.{summed, BeginsWith}
 

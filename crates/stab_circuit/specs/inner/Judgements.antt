@@ -3,12 +3,12 @@
 use Rattle.std.specs.Prelude.{◌≡◌, ◌≤◌, ℕ, List, ◌++◌, Option, Some, None, Result, Ok, Err}
 use Rattle.stab_io.specs.declared.refusal.Refusal.{Refusal}
 use Rattle.stab_io.specs.declared.refusal.Refusal.TheVariants.{PlaceOutOfRange, NotABlock}
-use Rattle.stab_circuit.specs.declared.summary.Summary.{Summary}
+use Rattle.stab_items.specs.declared.summary.Summary.{Summary}
 use Rattle.stab_circuit.specs.declared.judge.Judgement.{Judgement}
 use Rattle.stab_circuit.specs.declared.judge.Block.{Block}
-use Rattle.stab_circuit.specs.Items.{OneItem, operation, repeat, listed, depth, depth_of}
-use Rattle.stab_circuit.specs.Steps.{Step}
-use Rattle.stab_circuit.specs.inner.Summaries.{summary_of}
+use Rattle.stab_items.specs.Items.{OneItem, operation, repeat, listed, depth, depth_of}
+use Rattle.stab_items.specs.Steps.{Step}
+use Rattle.stab_items.specs.inner.Summaries.{summary_of}
 use Rattle.stab_circuit.specs.inner.Splices.{Splice}
 
 -- the summary of the items that an edit leaves, unless it is refused

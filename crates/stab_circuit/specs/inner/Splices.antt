@@ -5,7 +5,7 @@ use Rattle.stab_io.specs.declared.refusal.Refusal.{Refusal}
 use Rattle.stab_io.specs.declared.refusal.Refusal.TheVariants.{PlaceOutOfRange}
 use Rattle.stab_circuit.specs.declared.edit.Edit.{Edit}
 use Rattle.stab_circuit.specs.declared.edit.Edit.TheVariants.{Insert, Replace, Delete}
-use Rattle.stab_circuit.specs.Items.{OneItem}
+use Rattle.stab_items.specs.Items.{OneItem}
 use Rattle.stab_circuit.specs.Edits.{edited_inside, edited_in}
 
 -- some items are put into a list in the stead of those from one place up to another

@@ -2,8 +2,8 @@
 -- Source: this project's own.
 use Rattle.std.specs.Prelude.{◌≡◌, ◌<◌, ℕ, ◌+◌, List, length, drop}
 use Rattle.stab_circuit.specs.declared.circuit.step_items.FoundItem.{FoundItem}
-use Rattle.stab_circuit.specs.Items.{OneItem, listed}
-use Rattle.stab_circuit.specs.Steps.{unroll}
+use Rattle.stab_items.specs.Items.{OneItem, listed}
+use Rattle.stab_items.specs.Steps.{unroll}
 use Rattle.stab_circuit.specs.StepPaths.{paths_from, item_steps_left}
 
 -- the item is the one that a step is of, counted from the item at a place on: so many of its steps come before the step, those of the

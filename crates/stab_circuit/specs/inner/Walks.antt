@@ -6,8 +6,8 @@ use Rattle.stab_lines.specs.declared.operation.Kind.{Kind}
 use Rattle.stab_circuit.specs.declared.step.Step.{Step as StepValue}
 use Rattle.stab_circuit.specs.declared.walk.Level.{Level}
 use Rattle.stab_circuit.specs.declared.walk.Walk.{Walk}
-use Rattle.stab_circuit.specs.Items.{Items, OneItem, done, next, block, before, listed, depth, depth_of}
-use Rattle.stab_circuit.specs.Steps.{Step, steps_of, rounds, unroll}
+use Rattle.stab_items.specs.Items.{Items, OneItem, done, next, block, before, listed, depth, depth_of}
+use Rattle.stab_items.specs.Steps.{Step, steps_of, rounds, unroll}
 use Rattle.stab_circuit.specs.Cursors.{step_shown}
 
 -- the step that a value stands for, if there is one

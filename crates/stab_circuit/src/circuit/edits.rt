@@ -1,18 +1,17 @@
 ghost use Rattle.std.specs.Prelude.{◌≡◌, ◌≤◌, ◌<◌, ◌+◌, length, Some, None, OnOk, OnErr, if◌then◌else◌, nat_lt};
 ghost use Rattle.stab_io.specs.declared.refusal.Refusal.TheVariants.{QubitOutOfRange};
 ghost use Rattle.stab_circuit.specs.Edits.{IsInsert};
-ghost use Rattle.stab_circuit.specs.inner.Summaries.{judged};
+ghost use Rattle.stab_items.specs.inner.Summaries.{judged};
 ghost use Rattle.stab_circuit.specs.inner.Chunks.{AreChunksOf};
 
 use super::Circuit;
 use crate::chunks::{Chunk, find_chunk, make_room, renew};
 use crate::commit::commit;
 use crate::edit::{Edit, Refused, Span};
-use crate::item::Item;
 use crate::judge::{EditResult, edit_result_by_chunks, steps_by_chunks};
 use crate::path::Path;
-use crate::summary::Summary;
 use stab_io::{Fault, Refusal};
+use stab_items::{Item, Summary};
 use std::alloc::AllocError;
 
 /// What refuses a whole circuit of this summary on n qubits.
@@ -51,7 +50,7 @@ impl Circuit {
     ghost use Rattle.stab_io.specs.Refusals.{whole, IsCallFault};
     ghost use Rattle.stab_io.specs.declared.refusal.Refusal.TheVariants.{OutOfMemory};
     ghost use Rattle.stab_circuit.specs.declared.edit.Edit.TheVariants.{Insert as inserting, Replace as replacing, Delete as deleting};
-    ghost use Rattle.stab_circuit.specs.Steps.{steps_cap};
+    ghost use Rattle.stab_items.specs.Steps.{steps_cap};
     ghost use Rattle.stab_circuit.specs.Edits.{edited, edit_path, edit_refusal, verdict, taken, put_item, steps_before, IsInsert};
     ghost use Rattle.stab_circuit.specs.Editings.{IsSpanOf};
     ghost use Rattle.stab_circuit.specs.inner.EditResults.{IsEditResult};

@@ -2,10 +2,10 @@ ghost use Rattle.std.specs.Prelude.{◌≡◌, slice_get};
 ghost use Rattle.stab_circuit.specs.Places.{item_there, found_inside, item_in as item_within, FindsItem};
 
 use super::Circuit;
-use crate::item::Item;
 use crate::judge::block_at;
 use crate::path::Path;
 use stab_io::Refusal;
+use stab_items::Item;
 
 /// The item at a place of a list.
 fn item_of(items: &[Item], place: usize) -> Result<&Item, Refusal>

@@ -4,10 +4,9 @@ ghost use Rattle.stab_circuit.specs.Splits.{parts_of_item as parts_of, refused_b
 ghost use Rattle.stab_circuit.specs.inner.Changes.{rounds_of};
 
 use super::Circuit;
-use crate::copy::copied_item;
-use crate::item::{Item, Part};
 use crate::path::Path;
 use stab_io::{Fault, Refusal};
+use stab_items::{Item, Part, copied_item};
 use stab_lines::Count;
 use std::alloc::{AllocError, Global};
 

@@ -1,13 +1,13 @@
 ghost use Rattle.std.specs.Prelude.{◌≡◌, ◌≤◌, ◌<◌, length, drop, slice_index_or};
-ghost use Rattle.stab_circuit.specs.Items.{before, done, listed};
-ghost use Rattle.stab_circuit.specs.Steps.{unroll, most_steps};
-ghost use Rattle.stab_circuit.specs.inner.Parts.{part_of, IsPart};
+ghost use Rattle.stab_items.specs.Items.{before, done, listed};
+ghost use Rattle.stab_items.specs.Steps.{unroll, most_steps};
+ghost use Rattle.stab_items.specs.inner.Parts.{part_of, IsPart};
 ghost use Rattle.stab_circuit.specs.inner.StepItems.{IsFoundItem};
 
 use super::Circuit;
 use crate::instruction::step_count;
-use crate::item::{Item, Part};
 use crate::path::Path;
+use stab_items::{Item, Part};
 
 /// The item that a step is of, and how many steps from there on are this item's in the same round
 /// of the blocks around it.
@@ -66,7 +66,7 @@ fn find_item(items: &[Item], start: usize, step: u32) -> FoundItem
 
 impl Circuit {
     ghost use Rattle.std.specs.Prelude.{◌≡◌, ◌<◌, None, length, take, drop, replicate};
-    ghost use Rattle.stab_circuit.specs.Steps.{unroll, check_of};
+    ghost use Rattle.stab_items.specs.Steps.{unroll, check_of};
     ghost use Rattle.stab_circuit.specs.Views.{circuit_items};
     ghost use Rattle.stab_circuit.specs.StepPaths.{paths_of, item_steps_left};
 

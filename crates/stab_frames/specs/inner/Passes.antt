@@ -1,9 +1,9 @@
 -- Passes: a frame on its way over one step, and what it must know of a measurement.
 -- Source: this project's own.
 use Rattle.std.specs.Prelude.{◌≡◌, ℕ, ◌+◌, Bool, true, false, List, [], ◌∷◌, Option, Some, None, IfSome, slice_index_or, length}
-use Rattle.stab_pauli.specs.declared.letter.Letter.{Letter}
-use Rattle.stab_pauli.specs.declared.letter.Letter.TheVariants.{I}
-use Rattle.stab_pauli.specs.Letters.{◌⊕◌, letters_anticommute}
+use Rattle.stab_letters.specs.declared.letter.Letter.{Letter}
+use Rattle.stab_letters.specs.declared.letter.Letter.TheVariants.{I}
+use Rattle.stab_letters.specs.Letters.{◌⊕◌, letters_anticommute}
 use Rattle.stab_pauli.specs.Paulis.{strings_anticommute}
 use Rattle.stab_tableau.specs.Gates.{letter_at}
 use Rattle.stab_lines.specs.declared.product.Factor.{Factor}

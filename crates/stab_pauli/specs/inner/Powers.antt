@@ -1,35 +1,16 @@
 -- Strings as a power of i before their X bits and then their Z bits: the letter Y is i times X times Z.
 -- Source: this project's own. Aaronson and Gottesman 2004, section III, keep a sign bit, and count the powers of i of a product
 -- letter by letter.
-use Rattle.std.specs.Prelude.{◌≡◌, ℕ, zero, suc, Bool, true, false, List, [], ◌∷◌}
-use Rattle.stab_pauli.specs.declared.letter.Letter.{Letter}
-use Rattle.stab_pauli.specs.declared.letter.Letter.TheVariants.{I, X, Y, Z}
-use Rattle.stab_pauli.specs.declared.phase.Phase.{Phase}
-use Rattle.stab_pauli.specs.declared.phase.Phase.TheVariants.{Zero, Quarter, Half, ThreeQuarters}
-use Rattle.stab_pauli.specs.Phases.{phase_add, phase_of_sign, is_even}
-use Rattle.stab_pauli.specs.Letters.{◌⊕◌}
+use Rattle.std.specs.Prelude.{◌≡◌, Bool, true, false, List, [], ◌∷◌}
+use Rattle.stab_letters.specs.declared.letter.Letter.{Letter}
+use Rattle.stab_letters.specs.declared.letter.Letter.TheVariants.{I, X, Y, Z}
+use Rattle.stab_letters.specs.declared.phase.Phase.{Phase}
+use Rattle.stab_letters.specs.declared.phase.Phase.TheVariants.{Zero}
+use Rattle.stab_letters.specs.Phases.{phase_add, phase_inverse, phase_of_sign, is_even}
+use Rattle.stab_letters.specs.Letters.{◌⊕◌, letter_power}
 use Rattle.stab_pauli.specs.Paulis.{Signed}
 
--- the power of so many factors i
-abbrev pub quarters : ℕ → Phase
-quarters zero = Zero
-quarters (suc n) = phase_add Quarter (quarters n)
-
--- the power that takes a power back to 1
-abbrev pub phase_inverse : Phase → Phase
-phase_inverse Zero = Zero
-phase_inverse Quarter = ThreeQuarters
-phase_inverse Half = Half
-phase_inverse ThreeQuarters = Quarter
-
--- the power of i of a letter before its X bit and then its Z bit
-abbrev pub letter_power : Letter → Phase
-letter_power I = Zero
-letter_power X = Zero
-letter_power Y = Quarter
-letter_power Z = Zero
-
--- that of all letters of a string
+-- the power of i of all letters of a string before its X bits and then its Z bits
 abbrev pub string_power : List Letter → Phase
 string_power [] = Zero
 string_power (x ∷ p) = phase_add (letter_power x) (string_power p)

@@ -6,8 +6,8 @@ ghost use Rattle.stab_pauli.specs.inner.Words.{xor_words, swapped_words, AreShor
 ghost use Rattle.stab_pauli.specs.inner.Powers.{strings_meet};
 ghost use Rattle.stab_pauli.specs.inner.Blocks.{row_letters, IsRewritten};
 
-use crate::letter::Letter;
 use crate::packed::{ones, row};
+use stab_letters::Letter;
 use std::simd::u64x4;
 
 /// Where the words of row a of so many rows begin.

@@ -1,7 +1,7 @@
 use super::PauliRows;
 use crate::packed::sparse::{SparseWords, are_short};
-use crate::phase::Phase;
 use stab_io::Refusal;
+use stab_letters::Phase;
 use std::alloc::Global;
 use std::marker::Model;
 
@@ -66,7 +66,7 @@ impl PauliRows {
 
 impl CompactRows {
     ghost use Rattle.std.specs.Prelude.{◌≡◌, ◌<◌, ◌↔◌, IsTrue, IfOk, IfErr, length};
-    ghost use Rattle.stab_pauli.specs.Letters.{◌⊕◌};
+    ghost use Rattle.stab_letters.specs.Letters.{◌⊕◌};
     ghost use Rattle.stab_pauli.specs.Paulis.{with_sign};
     ghost use Rattle.stab_pauli.specs.Rows.{row_at, with_row, unsigned_rows};
     ghost use Rattle.stab_io.specs.declared.refusal.Refusal.TheVariants.{OutOfMemory};

@@ -1,8 +1,8 @@
 -- Eliminations: rows that generate a group, and how far an elimination of them has come.
 -- Source: this project's own; the elimination is Gauss's, of the bits x and then z.
 use Rattle.std.specs.Prelude.{◌≡◌, ◌≢◌, ℕ, ◌+◌, ◌<◌, ◌≤◌, Bool, true, false, List, length, eqb, if◌then◌else◌}
-use Rattle.stab_pauli.specs.declared.letter.Letter.{Letter}
-use Rattle.stab_pauli.specs.Letters.{◌⊕◌}
+use Rattle.stab_letters.specs.declared.letter.Letter.{Letter}
+use Rattle.stab_letters.specs.Letters.{◌⊕◌}
 use Rattle.stab_pauli.specs.Paulis.{Signed, product, string_product}
 use Rattle.stab_pauli.specs.Rows.{Rows, row_at, AreOver}
 use Rattle.stab_tableau.specs.Groups.{IsStabiliserGroup}

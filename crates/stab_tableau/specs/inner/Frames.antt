@@ -1,9 +1,9 @@
 -- Frames: where the signs of the rows of two tables with the same letters differ.
 -- Source: this project's own.
 use Rattle.std.specs.Prelude.{◌≡◌, List, [], ◌∷◌}
-use Rattle.stab_pauli.specs.declared.letter.Letter.{Letter}
-use Rattle.stab_pauli.specs.declared.letter.Letter.TheVariants.{X, Z}
-use Rattle.stab_pauli.specs.Letters.{◌⊕◌, letters_anticommute}
+use Rattle.stab_letters.specs.declared.letter.Letter.{Letter}
+use Rattle.stab_letters.specs.declared.letter.Letter.TheVariants.{X, Z}
+use Rattle.stab_letters.specs.Letters.{◌⊕◌, letters_anticommute}
 use Rattle.stab_pauli.specs.Paulis.{with_sign}
 use Rattle.stab_tableau.specs.inner.InverseRows.{InverseRows}
 use Rattle.stab_tableau.specs.inner.ColumnLetters.{letter_anticommuting}

@@ -5,9 +5,9 @@ use Rattle.stab_pauli.specs.Paulis.{Signed}
 use Rattle.stab_pauli.specs.Rows.{Rows, product_times_i}
 use Rattle.stab_tableau.specs.declared.table.InverseRow.{InverseRow}
 use Rattle.stab_tableau.specs.declared.table.InverseRow.TheVariants.{OfX, OfZ}
-use Rattle.stab_tableau.specs.declared.gate.Gate.{Gate}
-use Rattle.stab_tableau.specs.declared.gate.PairGate.{PairGate}
-use Rattle.stab_tableau.specs.Limits.{most_qubits}
+use Rattle.stab_letters.specs.declared.gate.Gate.{Gate}
+use Rattle.stab_letters.specs.declared.gate.PairGate.{PairGate}
+use Rattle.stab_letters.specs.Limits.{most_qubits}
 use Rattle.stab_tableau.specs.inner.InverseRows.{InverseRows, rows_at, GateRow, PairRows}
 
 -- strings taken two by two; a last one alone is left out

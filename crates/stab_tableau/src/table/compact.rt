@@ -41,7 +41,7 @@ impl Table {
 impl CompactTable {
     ghost use Rattle.std.specs.Prelude.{◌≡◌, ◌<◌, ◌↔◌, IsTrue, IfOk, IfErr, length, slice_set};
     ghost use Rattle.stab_io.specs.declared.refusal.Refusal.TheVariants.{OutOfMemory};
-    ghost use Rattle.stab_pauli.specs.Letters.{◌⊕◌};
+    ghost use Rattle.stab_letters.specs.Letters.{◌⊕◌};
     ghost use Rattle.stab_pauli.specs.Paulis.{with_sign};
     ghost use Rattle.stab_tableau.specs.inner.Frames.{SameLetters, turned_row};
     ghost use Rattle.stab_tableau.specs.inner.InverseRows.{rows_at};

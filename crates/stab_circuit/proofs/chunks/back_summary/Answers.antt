@@ -1,7 +1,7 @@
 use Rattle.std.proofs.Common.{arith, ◌+◌, ◌∙◌, ap, subst, sym, All}
 use Rattle.std.proofs.lemmas.List.Elements.{All-drop}
-use Rattle.stab_circuit.specs.Items.{listed}
-use Rattle.stab_circuit.specs.inner.Summaries.{summary_of}
+use Rattle.stab_items.specs.Items.{listed}
+use Rattle.stab_items.specs.inner.Summaries.{summary_of}
 use Rattle.stab_circuit.specs.inner.Chunks.{AreConsecutive, IsChunk}
 use Rattle.stab_circuit.proofs.ChunkPartLemmas.{chunks_within, behind_first, back_by_chunks, none_behind}
 use Rattle.stab_circuit.proofs.chunks.back_summary.Goals as goal

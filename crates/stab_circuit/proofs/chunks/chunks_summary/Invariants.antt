@@ -1,6 +1,6 @@
 use Rattle.std.proofs.Common.{◌≡◌, List, take}
-use Rattle.stab_circuit.specs.Items.{OneItem, listed}
-use Rattle.stab_circuit.specs.inner.Summaries.{summary_of, IsSummary}
+use Rattle.stab_items.specs.Items.{OneItem, listed}
+use Rattle.stab_items.specs.inner.Summaries.{summary_of, IsSummary}
 use Rattle.stab_circuit.specs.inner.Chunks.{chunk_items, AreConsecutive}
 use Rattle.stab_circuit.proofs.chunks.chunks_summary.Given as goal
 

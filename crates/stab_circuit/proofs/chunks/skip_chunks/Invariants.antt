@@ -1,6 +1,6 @@
 use Rattle.std.proofs.Common.{◌≡◌, ◌≤◌, take, drop}
-use Rattle.stab_circuit.specs.Items.{listed}
-use Rattle.stab_circuit.specs.Steps.{unroll}
+use Rattle.stab_items.specs.Items.{listed}
+use Rattle.stab_items.specs.Steps.{unroll}
 use Rattle.stab_circuit.specs.inner.Chunks.{chunk_items}
 use Rattle.stab_circuit.proofs.chunks.skip_chunks.Given as goal
 

@@ -1,7 +1,6 @@
-use Rattle.std.proofs.Common.{◌≡◌, ◌≤◌, ◌∙◌, sym, ap, subst, arith, min, Option, IfOk}
-use Rattle.stab_circuit.specs.Items.{OneItem, listed, depth}
-use Rattle.stab_circuit.specs.inner.Kept.{shown}
-use Rattle.stab_circuit.proofs.CommitLemmas.{found_at, allowed_at, committed_at, taken_through, allowed_within, committed_in, taken_within, kept_shallow}
+use Rattle.std.proofs.Common.{◌≡◌, sym, subst, arith, Option, IfOk}
+use Rattle.stab_items.specs.Items.{OneItem}
+use Rattle.stab_circuit.proofs.CommitLemmas.{found_at, allowed_at, committed_at, taken_through, put_back, allowed_within, committed_within, taken_within, unchanged_within, kept_shallow}
 use Rattle.stab_circuit.proofs.commit.+commit.Goals as goal
 
 pub commit-commit_within-requires : goal.commit-commit_within-requires
@@ -33,26 +32,26 @@ commit-returns-in-Some-clause-taken t c =
 pub commit_within-commit-done-requires : goal.commit_within-commit-done-requires
 commit_within-commit-done-requires t c = (
   omega arith,
-  allowed_within c.args.edit c.args.blocks.now c.args.item.now c.in-Repeat.head.value.count c.in-Repeat.head.value.tag c.in-Repeat.body.items (sym c.item.view_is ∙ ap shown c.in-Repeat.is) c.requires.allowed,
+  allowed_within c.args.edit c.args.blocks.now c.args.item.now c.in-Some.body.items c.take_body.ensures.some c.requires.allowed,
 )
 
-pub commit_within-invariant_of-item : goal.commit_within-invariant_of-item
-commit_within-invariant_of-item t c =
-    let old = rw c.in-Repeat.is at c.item.invariant in
-    let kept = rw c.as_slice.ensures.value at c.items_summary.ensures.value in
-    let was : min (depth (listed c.in-Repeat.body.items)) 17 ≤ 15 = omega (arith, ap (λ s. s.depth) old.0, old.2) in
-    let now : min (depth (listed c.commit-done.new.items.items)) 17 ≤ 15 =
-    kept_shallow c.commit-done.result c.args.edit c.args.blocks.now c.args.item.now c.in-Repeat.head.value.count c.in-Repeat.head.value.tag c.in-Repeat.body.items c.commit-done.new.items.items
-    (sym c.item.view_is ∙ ap shown c.in-Repeat.is) c.requires.allowed c.commit-done.ensures.ok c.commit-done.ensures.unchanged was in
-    (kept, c.items_summary.ensures.small, omega (arith, ap (λ s. s.depth) kept), rw c.as_slice.ensures.value at c.items_summary.ensures.apart)
+pub commit_within-set_body-requires : goal.commit_within-set_body-requires
+commit_within-set_body-requires t c =
+    kept_shallow c.commit-done.result c.args.edit c.args.blocks.now c.args.item.now c.in-Some.body.items c.commit-done.new.items.items
+    c.take_body.ensures.some c.requires.allowed c.commit-done.ensures.ok c.commit-done.ensures.unchanged c.take_body.ensures.shallow
 
 pub commit_within-returns-clause-ok : goal.commit_within-returns-clause-ok
 commit_within-returns-clause-ok t c =
-    committed_in c.commit-done.result c.args.edit c.args.blocks.now c.args.item.now c.in-Repeat.head.value c.deref_mut.result.now c.in-Repeat.body.items c.commit-done.new.items.items c.deref_mut.ensures.value
-    (sym c.item.view_is ∙ ap shown c.in-Repeat.is) c.commit-done.ensures.ok
+    committed_within c.commit-done.result c.args.edit c.args.blocks.now c.args.item.now c.set_body.new.self c.in-Some.body.items c.commit-done.new.items.items c.take_body.ensures.some
+    (put_back c.args.item.now c.take_body.new.self c.set_body.new.self c.commit-done.new.items.items c.take_body.ensures.left c.set_body.ensures.value) c.requires.allowed c.commit-done.ensures.ok
 
 pub commit_within-returns-clause-taken : goal.commit_within-returns-clause-taken
 commit_within-returns-clause-taken t c =
     subst (λ (v : Option OneItem). IfOk c.commit-done.result (λ old. old ≡ v))
-    (sym (taken_within c.args.edit c.args.blocks.now c.args.item.now c.in-Repeat.head.value.count c.in-Repeat.head.value.tag c.in-Repeat.body.items (sym c.item.view_is ∙ ap shown c.in-Repeat.is)))
+    (sym (taken_within c.args.edit c.args.blocks.now c.args.item.now c.in-Some.body.items c.take_body.ensures.some c.requires.allowed))
     c.commit-done.ensures.taken
+
+pub commit_within-returns-clause-unchanged : goal.commit_within-returns-clause-unchanged
+commit_within-returns-clause-unchanged t c =
+    unchanged_within c.commit-done.result c.args.item.now c.set_body.new.self c.in-Some.body.items c.commit-done.new.items.items c.take_body.ensures.some
+    (put_back c.args.item.now c.take_body.new.self c.set_body.new.self c.commit-done.new.items.items c.take_body.ensures.left c.set_body.ensures.value) c.commit-done.ensures.unchanged

@@ -1,7 +1,7 @@
 use Rattle.std.proofs.Common.{◌≡◌, ◌∙◌, ap, Ok, ◌+◌, min, length, arith}
 use Rattle.std.proofs.lemmas.Option.{slice_get_within}
-use Rattle.stab_circuit.specs.Items.{repeat, listed}
-use Rattle.stab_circuit.specs.inner.Summaries.{repeated}
+use Rattle.stab_items.specs.Items.{repeat, listed}
+use Rattle.stab_items.specs.inner.Summaries.{repeated}
 use Rattle.stab_circuit.specs.Edits.{edit_path}
 use Rattle.stab_circuit.specs.inner.EditResults.{steps_within}
 use Rattle.stab_circuit.proofs.JudgementLemmas.{judged_err, judged_ok, judged_apart, begins_at, begins_block, gone_block, put_block, edit_refused}

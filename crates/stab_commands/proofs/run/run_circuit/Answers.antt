@@ -1,5 +1,5 @@
 use Rattle.stab_circuit.specs.Views.{circuit_items}
-use Rattle.stab_commands.specs.inner.Sendings.{shots_of}
+use Rattle.stab_sampling.specs.Sendings.{shots_of}
 use Rattle.stab_commands.proofs.RunLaws.{ends_refused, ends_sent}
 use Rattle.stab_commands.proofs.run.run_circuit.Goals as goal
 

@@ -1,5 +1,5 @@
 use Rattle.std.proofs.Common.{◌≡◌, drop}
-use Rattle.stab_pauli.specs.Letters.{◌⊕◌}
+use Rattle.stab_letters.specs.Letters.{◌⊕◌}
 use Rattle.stab_frames.specs.inner.Passes.{factors_anticommute}
 use Rattle.stab_frames.proofs.pass.anticommutes.Given as goal
 

@@ -1,5 +1,5 @@
 use Rattle.std.proofs.Common.{refl, sym, ◌∙◌, ap, length, ◌&&◌}
-use Rattle.stab_pauli.specs.Letters.{letters_anticommute}
+use Rattle.stab_letters.specs.Letters.{letters_anticommute}
 use Rattle.stab_pauli.specs.Paulis.{single}
 use Rattle.stab_circuit.specs.Steps.{collapse}
 use Rattle.stab_frames.specs.Frames.{times_where}

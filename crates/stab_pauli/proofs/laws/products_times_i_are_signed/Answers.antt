@@ -1,6 +1,6 @@
 use Rattle.std.proofs.Common.{refl}
-use Rattle.stab_pauli.specs.declared.phase.Phase.TheVariants.{Quarter}
-use Rattle.stab_pauli.specs.Phases.{phase_add, sign_of_phase}
+use Rattle.stab_letters.specs.declared.phase.Phase.TheVariants.{Quarter}
+use Rattle.stab_letters.specs.Phases.{phase_add, sign_of_phase}
 use Rattle.stab_pauli.specs.Paulis.{product_phase, string_product}
 use Rattle.stab_pauli.proofs.SignedLemmas.{phased-times_phase}
 use Rattle.stab_pauli.proofs.laws.products_times_i_are_signed.Goals as goal

@@ -1,5 +1,5 @@
 use Rattle.std.proofs.Common.{◌≡◌, ℕ, ◌+◌, ◌≤◌, ◌++◌, length, drop}
-use Rattle.stab_pauli.specs.Letters.{◌⊕◌}
+use Rattle.stab_letters.specs.Letters.{◌⊕◌}
 use Rattle.stab_regions.specs.Ascending.{IsAscending}
 use Rattle.stab_regions.specs.Rows.{odd}
 use Rattle.stab_regions.proofs.parities.merge.Given as goal

@@ -1,5 +1,5 @@
 use Rattle.std.proofs.Common.{◌≡◌, false, drop, length, replicate}
-use Rattle.stab_pauli.specs.declared.letter.Letter.TheVariants.{I}
+use Rattle.stab_letters.specs.declared.letter.Letter.TheVariants.{I}
 use Rattle.stab_run.specs.Runs.{with_factors}
 use Rattle.stab_run.proofs.step.write_product.Given as goal
 

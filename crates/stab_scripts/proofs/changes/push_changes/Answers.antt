@@ -1,5 +1,5 @@
 use Rattle.std.proofs.Common.{◌++◌, ◌∷◌, [], false, take, get_or, sym, ap, ◌∙◌, append_assoc, arith}
-use Rattle.stab_pauli.specs.Letters.{◌⊕◌}
+use Rattle.stab_letters.specs.Letters.{◌⊕◌}
 use Rattle.stab_scripts.specs.Changes.{changes}
 use Rattle.stab_scripts.proofs.ChangeLaws.{changes_more}
 use Rattle.stab_scripts.proofs.changes.push_changes.Goals as goal

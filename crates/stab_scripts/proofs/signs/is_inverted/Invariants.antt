@@ -1,5 +1,5 @@
 use Rattle.std.proofs.Common.{◌≡◌, drop}
-use Rattle.stab_pauli.specs.Letters.{◌⊕◌}
+use Rattle.stab_letters.specs.Letters.{◌⊕◌}
 use Rattle.stab_circuit.specs.Steps.{is_inverted}
 use Rattle.stab_scripts.proofs.signs.is_inverted.Given as goal
 

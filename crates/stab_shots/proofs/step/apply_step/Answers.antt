@@ -1,5 +1,5 @@
 use Rattle.std.proofs.Common.{rules, true, ◌&&◌, refl, sym, subst, ◌∙◌, ap, ◌∷◌, []}
-use Rattle.stab_pauli.specs.Letters.{◌⊕◌}
+use Rattle.stab_letters.specs.Letters.{◌⊕◌}
 use Rattle.stab_pauli.specs.Paulis.{single}
 use Rattle.stab_tableau.specs.Tableaus.{stabilises}
 use Rattle.stab_circuit.specs.Cursors.{step_shown}

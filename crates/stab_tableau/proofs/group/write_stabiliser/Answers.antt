@@ -1,5 +1,5 @@
 use Rattle.std.proofs.Common.{◌∙◌, ap, length}
-use Rattle.stab_pauli.specs.declared.letter.Letter.TheVariants.{Z}
+use Rattle.stab_letters.specs.declared.letter.Letter.TheVariants.{Z}
 use Rattle.stab_pauli.specs.Paulis.{Signed, with_sign}
 use Rattle.stab_tableau.proofs.ColumnLemmas.{length-column}
 use Rattle.stab_tableau.proofs.SameStateLemmas.{written-is, written-tableau}

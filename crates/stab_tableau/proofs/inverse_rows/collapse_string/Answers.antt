@@ -1,5 +1,5 @@
-use Rattle.stab_pauli.specs.declared.letter.Letter.TheVariants.{Z}
-use Rattle.stab_pauli.specs.Letters.{letters_anticommute}
+use Rattle.stab_letters.specs.declared.letter.Letter.TheVariants.{Z}
+use Rattle.stab_letters.specs.Letters.{letters_anticommute}
 use Rattle.stab_tableau.specs.Gates.{letter_at}
 use Rattle.stab_tableau.specs.inner.InverseRows.{rows_at}
 use Rattle.stab_tableau.specs.inner.Pairs.{row_string}

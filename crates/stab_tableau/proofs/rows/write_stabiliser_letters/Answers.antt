@@ -1,6 +1,6 @@
 use Rattle.std.proofs.Common.{◌<◌, ◌≤◌, ◌∙◌, refl, sym, length, arith}
 use Rattle.std.proofs.lemmas.List.{length-set, length-replicate, get_or-set_other}
-use Rattle.stab_pauli.specs.declared.letter.Letter.TheVariants.{I, Z}
+use Rattle.stab_letters.specs.declared.letter.Letter.TheVariants.{I, Z}
 use Rattle.stab_pauli.proofs.SignedLemmas.{signed_path}
 use Rattle.stab_tableau.specs.Gates.{letter_at}
 use Rattle.stab_tableau.specs.inner.InverseRows.{rows_at}

@@ -1,5 +1,5 @@
 use Rattle.std.proofs.Common.{◌≡◌, ℕ, ◌<◌, ◌≤◌, false, length, get_or}
-use Rattle.stab_pauli.specs.declared.letter.Letter.TheVariants.{I, Z}
+use Rattle.stab_letters.specs.declared.letter.Letter.TheVariants.{I, Z}
 use Rattle.stab_tableau.specs.inner.ColumnLetters.{column}
 use Rattle.stab_tableau.proofs.rows.write_stabiliser_letters.Given as goal
 

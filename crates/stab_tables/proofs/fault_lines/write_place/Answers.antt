@@ -1,7 +1,7 @@
 use Rattle.std.proofs.Common.{◌∙◌, ◌++◌, [], ◌∷◌, codes, decimal, refl, subst}
 use Rattle.stab_io.specs.Devices.{TookAndFailed, WritesAll}
 use Rattle.stab_io.proofs.DeviceLemmas.{failed_on, failed_within}
-use Rattle.stab_pauli.specs.Texts.{letter_text}
+use Rattle.stab_letters.specs.LetterTexts.{letter_text}
 use Rattle.stab_circuit.specs.Paths.{path_text}
 use Rattle.stab_tables.specs.FaultTables.{fault_text}
 use Rattle.stab_tables.specs.Texts.{texts_joined}

@@ -2,7 +2,7 @@ use Rattle.std.proofs.Common.{◌++◌, codes, subst}
 use Rattle.std.specs.List.{flat_map}
 use Rattle.stab_io.specs.Devices.{TookAndFailed, WritesAll}
 use Rattle.stab_io.proofs.DeviceLemmas.{failed_on, failed_within}
-use Rattle.stab_pauli.specs.declared.letter.Letter.TheVariants as letter
+use Rattle.stab_letters.specs.declared.letter.Letter.TheVariants as letter
 use Rattle.stab_results.specs.Formats.{entry}
 use Rattle.stab_regions.specs.Faults.{fault_on}
 use Rattle.stab_tables.specs.FaultTables.{fault_text, table_line}

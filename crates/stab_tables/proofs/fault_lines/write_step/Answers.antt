@@ -2,7 +2,7 @@ use Rattle.std.proofs.Common.{ℕ, List, ◌≡◌, ◌∙◌, ◌+◌, ◌<◌,
 use Rattle.std.specs.List.{flat_map, slice_get}
 use Rattle.std.proofs.lemmas.Option.{slice_get_within}
 use Rattle.stab_io.proofs.DeviceLemmas.{wrote_part, wrote_and_failed, failed_on}
-use Rattle.stab_pauli.specs.declared.letter.Letter.TheVariants as letter
+use Rattle.stab_letters.specs.declared.letter.Letter.TheVariants as letter
 use Rattle.stab_circuit.specs.Cursors.{step_shown}
 use Rattle.stab_regions.specs.Faults.{fault_on, faults_on, sites_at}
 use Rattle.stab_tables.specs.FaultTables.{table_line, table_lines}

@@ -1,7 +1,7 @@
 use Rattle.std.proofs.Common.{ap}
 use Rattle.stab_tableau.proofs.ReducedLemmas.{same-reduced}
 use Rattle.stab_tableau.proofs.RowsTellLemmas.{rows-tell}
-use Rattle.stab_tables.specs.Stabilisers.{lines_of}
+use Rattle.stab_tables.specs.Rows.{lines_of}
 use Rattle.stab_tables.proofs.LineLaws.{lines_tell}
 use Rattle.stab_tables.proofs.laws.same_group_same_lines.Goals as goal
 

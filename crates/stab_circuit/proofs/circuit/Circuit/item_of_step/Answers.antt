@@ -1,11 +1,11 @@
 use Rattle.std.proofs.Common.{◌∙◌, ◌<◌, ◌-◌, ap, sym, refl, arith, length, take, drop, subst}
 use Rattle.std.proofs.lemmas.List.{take_more_set, length-set}
 use Rattle.stab_lines.specs.declared.operation.Operation.{Operation}
-use Rattle.stab_circuit.specs.Items.{repeat, operation, listed, depth}
+use Rattle.stab_items.specs.Items.{repeat, operation, listed, depth}
 use Rattle.stab_circuit.specs.Views.{circuit_items}
 use Rattle.stab_circuit.specs.StepPaths.{paths_from, paths_of, item_steps_left}
-use Rattle.stab_circuit.proofs.ItemLemmas.{depth_at}
-use Rattle.stab_circuit.proofs.SummaryLemmas.{few_steps}
+use Rattle.stab_items.proofs.ItemLemmas.{depth_at}
+use Rattle.stab_items.proofs.SummaryLemmas.{few_steps}
 use Rattle.stab_circuit.proofs.StepPathLemmas.{rest_within, chunks_passed, item_few, within_item, operation_steps, round_of, Reached, reached_first, reached_block, reached_operation}
 use Rattle.stab_circuit.proofs.StepsLeftLemmas.{left_chunks, left_block, left_operation}
 use Rattle.stab_circuit.proofs.circuit.Circuit.item_of_step.Goals as goal

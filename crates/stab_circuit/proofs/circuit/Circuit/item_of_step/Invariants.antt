@@ -1,6 +1,6 @@
 use Rattle.std.proofs.Common.{◌≡◌, ◌<◌, ◌≤◌, ◌+◌, length, take, drop}
-use Rattle.stab_circuit.specs.Items.{listed, depth}
-use Rattle.stab_circuit.specs.Steps.{unroll, most_steps}
+use Rattle.stab_items.specs.Items.{listed, depth}
+use Rattle.stab_items.specs.Steps.{unroll, most_steps}
 use Rattle.stab_circuit.specs.Views.{circuit_items}
 use Rattle.stab_circuit.specs.StepPaths.{paths_of, item_steps_left}
 use Rattle.stab_circuit.proofs.StepPathLemmas.{Reached}

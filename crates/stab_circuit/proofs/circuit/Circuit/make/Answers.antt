@@ -1,8 +1,8 @@
 use Rattle.std.proofs.Common.{ap, ◌≡◌, ◌∙◌, arith, subst, sym, refl, ◌-◌, [], length, take, drop, Ok, IfOk}
 use Rattle.std.specs.Prelude.{slice_set}
-use Rattle.stab_circuit.specs.Items.{listed}
+use Rattle.stab_items.specs.Items.{listed}
 use Rattle.stab_circuit.specs.Edits.{edited, edited_in}
-use Rattle.stab_circuit.specs.inner.Summaries.{summary_of}
+use Rattle.stab_items.specs.inner.Summaries.{summary_of}
 use Rattle.stab_circuit.specs.inner.Judgements.{summed}
 use Rattle.stab_circuit.specs.inner.EditResults.{AreApart}
 use Rattle.stab_circuit.specs.inner.Chunks.{chunk_of, chunk_items, AreConsecutive, AreChunksOf, IsFound}

@@ -1,5 +1,5 @@
 use Rattle.std.proofs.Common.{arith, ap, sym, ◌∙◌}
-use Rattle.stab_circuit.specs.Items.{repeat, listed}
+use Rattle.stab_items.specs.Items.{repeat, listed}
 use Rattle.stab_circuit.proofs.WalkLemmas.{goes_in, goes_past}
 use Rattle.stab_circuit.proofs.walk.Walk.go_on.Goals as goal
 

@@ -1,4 +1,4 @@
-use Rattle.stab_pauli.specs.Phases.{phase_of_sign}
+use Rattle.stab_letters.specs.Phases.{phase_of_sign}
 use Rattle.stab_pauli.specs.inner.Words.{words_odd}
 use Rattle.stab_pauli.proofs.RowLemmas.{IsPhaseBefore, order_phase}
 use Rattle.stab_pauli.proofs.packed.row.anticommute.Given as goal

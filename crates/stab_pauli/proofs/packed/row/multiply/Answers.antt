@@ -1,6 +1,6 @@
 use Rattle.std.proofs.Common.{arith, ◌≡◌, ◌∙◌, sym, refl, ap, length, ◌+◌, ◌*◌}
-use Rattle.stab_pauli.proofs.PhaseLemmas.{phase_of_sign-injective}
-use Rattle.stab_pauli.specs.Phases.{phase_of_sign}
+use Rattle.stab_letters.proofs.PhaseLemmas.{phase_of_sign-injective}
+use Rattle.stab_letters.specs.Phases.{phase_of_sign}
 use Rattle.stab_pauli.proofs.PackedLemmas.{meet_phase-step}
 use Rattle.stab_pauli.proofs.XorLemmas.{IsXorBefore-all, IsXorBefore-ahead_of}
 use Rattle.stab_pauli.proofs.RowLemmas.{IsXorBefore-two, AddsUp-meet, IsPhaseBefore-more, IsPhaseBefore-all}

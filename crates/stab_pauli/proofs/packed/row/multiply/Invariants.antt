@@ -1,5 +1,5 @@
 use Rattle.std.proofs.Common.{◌*◌}
-use Rattle.stab_pauli.specs.Phases.{phase_of_sign}
+use Rattle.stab_letters.specs.Phases.{phase_of_sign}
 use Rattle.stab_pauli.specs.inner.Words.{words_odd}
 use Rattle.stab_pauli.proofs.XorLemmas.{IsXorBefore}
 use Rattle.stab_pauli.proofs.RowLemmas.{IsPhaseBefore, meet_phase}

@@ -1,4 +1,4 @@
-use Rattle.stab_pauli.specs.inner.Powers.{quarters}
+use Rattle.stab_letters.specs.Phases.{quarters}
 use Rattle.stab_pauli.proofs.RowLemmas.{IsPhaseBefore, power_phase}
 use Rattle.stab_pauli.proofs.packed.row.power.Given as goal
 

@@ -1,7 +1,7 @@
 use Rattle.std.proofs.Common.{arith, ℕ, ◌*◌, sym, ◌∙◌, ap, subst}
 use Rattle.std.specs.List.{list_any}
 use Rattle.std.proofs.lemmas.Option.{IfSome_then}
-use Rattle.stab_pauli.specs.XParts.{has_x}
+use Rattle.stab_letters.specs.XParts.{has_x}
 use Rattle.stab_pauli.specs.inner.Blocks.{row_letters, HasNoXBefore, IsFirstX}
 use Rattle.stab_pauli.proofs.PaddedLemmas.{view_of, length-view}
 use Rattle.stab_pauli.proofs.XPartLemmas.{none_here, none_in_row, found_in_row, any_none}

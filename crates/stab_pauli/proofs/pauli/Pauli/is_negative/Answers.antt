@@ -1,5 +1,5 @@
 use Rattle.std.proofs.Common.{◌∙◌, ap}
-use Rattle.stab_pauli.specs.Phases.{sign_of_phase}
+use Rattle.stab_letters.specs.Phases.{sign_of_phase}
 use Rattle.stab_pauli.specs.inner.Powers.{sign_power}
 use Rattle.stab_pauli.specs.inner.Blocks.{row_letters}
 use Rattle.stab_pauli.proofs.PaddedLemmas.{view_of, sign_read}

@@ -1,5 +1,5 @@
 use Rattle.std.proofs.Common.{length, ◌∙◌, ap, ◌++◌, take, drop}
-use Rattle.stab_pauli.specs.Phases.{phase_add}
+use Rattle.stab_letters.specs.Phases.{phase_add}
 use Rattle.stab_pauli.specs.inner.Words.{xor_words}
 use Rattle.stab_pauli.specs.inner.Powers.{string_power}
 use Rattle.stab_pauli.specs.inner.Blocks.{row_letters}

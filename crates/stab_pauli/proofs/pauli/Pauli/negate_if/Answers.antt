@@ -1,5 +1,5 @@
 use Rattle.std.proofs.Common.{◌∙◌, ap, refl}
-use Rattle.stab_pauli.specs.Phases.{phase_add}
+use Rattle.stab_letters.specs.Phases.{phase_add}
 use Rattle.stab_pauli.proofs.PaddedLemmas.{view_of, lies_of, is_of}
 use Rattle.stab_pauli.proofs.SeenLemmas.{signed_view}
 use Rattle.stab_pauli.proofs.pauli.Pauli.negate_if.Goals as goal

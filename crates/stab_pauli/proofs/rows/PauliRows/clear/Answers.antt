@@ -1,6 +1,6 @@
 use Rattle.std.proofs.Common.{arith, ◌≡◌, ◌*◌, subst, refl, replicate, ℕ, List, ◌++◌, length, set, take, drop}
 use Rattle.std.specs.Simd.Lanes.{put_chunk}
-use Rattle.stab_pauli.specs.declared.phase.Phase.TheVariants.{Zero}
+use Rattle.stab_letters.specs.declared.phase.Phase.TheVariants.{Zero}
 use Rattle.stab_pauli.specs.Paulis.{identity}
 use Rattle.stab_pauli.proofs.PaddedLemmas.{IsView}
 use Rattle.stab_pauli.proofs.SeenLemmas.{counted_seen, seen_of, qubits_seen, in_seen, put_seen, written_seen, blank_view, IsSeen}

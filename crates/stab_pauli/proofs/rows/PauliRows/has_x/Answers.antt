@@ -1,5 +1,5 @@
 use Rattle.std.proofs.Common.{arith, ◌∙◌, ap}
-use Rattle.stab_pauli.specs.XParts.{has_x}
+use Rattle.stab_letters.specs.XParts.{has_x}
 use Rattle.stab_pauli.proofs.SeenLemmas.{counted_seen, seen_of, place_seen, letter_seen}
 use Rattle.stab_pauli.proofs.rows.PauliRows.has_x.Goals as goal
 

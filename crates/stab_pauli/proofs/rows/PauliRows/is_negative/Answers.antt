@@ -1,6 +1,6 @@
 use Rattle.std.proofs.Common.{arith, ◌*◌, ◌∙◌}
 use Rattle.std.specs.Simd.Lanes.{chunk}
-use Rattle.stab_pauli.specs.Phases.{sign_of_phase}
+use Rattle.stab_letters.specs.Phases.{sign_of_phase}
 use Rattle.stab_pauli.specs.inner.Powers.{sign_power}
 use Rattle.stab_pauli.specs.inner.Blocks.{row_letters}
 use Rattle.stab_pauli.proofs.PaddedLemmas.{sign_read}

@@ -1,5 +1,5 @@
 use Rattle.std.proofs.Common.{rules, ◌≡◌, ◌*◌, replicate}
-use Rattle.stab_pauli.specs.declared.phase.Phase.TheVariants.{Zero}
+use Rattle.stab_letters.specs.declared.phase.Phase.TheVariants.{Zero}
 use Rattle.stab_pauli.proofs.BlankLemmas.{fits, IsTable-none, table-none}
 use Rattle.stab_pauli.proofs.rows.PauliRows.new.Goals as goal
 

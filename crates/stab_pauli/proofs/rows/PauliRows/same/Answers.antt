@@ -1,6 +1,6 @@
 use Rattle.std.proofs.Common.{◌∙◌, sym, refl, ap, true, false}
 use Rattle.std.proofs.lemmas.Slice.Eq.{slice_eq-Decides}
-use Rattle.stab_pauli.proofs.PhaseLemmas.{tells_phases}
+use Rattle.stab_letters.proofs.PhaseLemmas.{tells_phases}
 use Rattle.stab_pauli.specs.Rows.{Rows, unsigned_rows}
 use Rattle.stab_pauli.proofs.TellLemmas.{powers_apart, all_told}
 use Rattle.stab_pauli.proofs.SeenLemmas.{seen_of}

@@ -1,6 +1,6 @@
 use Rattle.std.proofs.Common.{arith, ◌∙◌, ◌*◌, ap, sym, ◌++◌, length, take, drop}
 use Rattle.std.proofs.lemmas.List.Edits.{swap_is}
-use Rattle.stab_pauli.specs.declared.phase.Phase.TheVariants.{Zero}
+use Rattle.stab_letters.specs.declared.phase.Phase.TheVariants.{Zero}
 use Rattle.stab_pauli.specs.inner.Words.{swapped_words}
 use Rattle.stab_pauli.proofs.SeenLemmas.{counted_seen, seen_of, in_seen, swapped_written, IsSeen}
 use Rattle.stab_pauli.specs.Rows.{swapped_rows}

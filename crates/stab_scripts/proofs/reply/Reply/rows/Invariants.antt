@@ -1,5 +1,5 @@
 use Rattle.std.proofs.Common.{◌≡◌, take}
-use Rattle.stab_tables.specs.Stabilisers.{lines_of}
+use Rattle.stab_tables.specs.Rows.{lines_of}
 use Rattle.stab_scripts.proofs.reply.Reply.rows.Given as goal
 
 abbrev pub invariant-loop-row : goal.invariant-loop-row

@@ -1,6 +1,6 @@
 use Rattle.std.proofs.Common.{rules, arith, sym, ◌∙◌, ◌+◌, ◌≤◌, ◌<◌, length, List}
 use Rattle.std.proofs.lemmas.List.{length-map, take_all}
-use Rattle.stab_pauli.specs.declared.letter.Letter.{Letter}
+use Rattle.stab_letters.specs.declared.letter.Letter.{Letter}
 use Rattle.stab_pauli.specs.Paulis.{strings_anticommute}
 use Rattle.stab_shots.specs.Lanes.{letter_in, lane_letters}
 use Rattle.stab_shots.proofs.FrameLemmas.{anticommute-put, anticommute-blank}

@@ -1,7 +1,7 @@
 use Rattle.std.proofs.Common.{sym, ◌∙◌, ap}
 use Rattle.std.proofs.lemmas.List.{length-map}
-use Rattle.stab_pauli.specs.Letters.{letters_anticommute}
-use Rattle.stab_pauli.proofs.LetterLemmas.{letters_anticommute-comm}
+use Rattle.stab_letters.specs.Letters.{letters_anticommute}
+use Rattle.stab_letters.proofs.LetterLemmas.{letters_anticommute-comm}
 use Rattle.stab_pauli.proofs.StringLemmas.{strings_anticommute-comm}
 use Rattle.stab_tableau.specs.Gates.{letter_at}
 use Rattle.stab_tableau.proofs.OneLetterLemmas.{one_letter-anticommute}

@@ -1,5 +1,5 @@
 use Rattle.std.proofs.Common.{◌∙◌, ap, length}
-use Rattle.stab_pauli.specs.declared.letter.Letter.TheVariants.{X, Z}
+use Rattle.stab_letters.specs.declared.letter.Letter.TheVariants.{X, Z}
 use Rattle.stab_pauli.specs.Paulis.{single}
 use Rattle.stab_tableau.specs.declared.table.InverseRow.TheVariants.{OfX, OfZ}
 use Rattle.stab_tableau.specs.inner.Pairs.{put}

@@ -2,7 +2,7 @@ use Rattle.std.proofs.Common.{◌∙◌, sym, refl, ap, subst, length, true, fal
 use Rattle.std.proofs.lemmas.Slice.Eq.{slice_eq-Decides}
 use Rattle.stab_pauli.specs.Rows.{Rows, unsigned_rows}
 use Rattle.stab_pauli.specs.inner.Words.{AreShort}
-use Rattle.stab_pauli.proofs.PhaseLemmas.{tells_phases}
+use Rattle.stab_letters.proofs.PhaseLemmas.{tells_phases}
 use Rattle.stab_pauli.proofs.SparseLemmas.{short-spread}
 use Rattle.stab_pauli.proofs.TellLemmas.{powers_apart, words_told, letters_told, all_told}
 use Rattle.stab_pauli.proofs.SeenLemmas.{seen_of, qubits_seen}

@@ -1,7 +1,6 @@
 use Rattle.std.proofs.Common.{◌∙◌, ap}
-use Rattle.stab_pauli.specs.Phases.{phase_add, sign_of_phase}
+use Rattle.stab_letters.specs.Phases.{phase_add, sign_of_phase, phase_inverse}
 use Rattle.stab_pauli.specs.Rows.{row_at}
-use Rattle.stab_pauli.specs.inner.Powers.{phase_inverse}
 use Rattle.stab_pauli.proofs.PowerLemmas.{powers_differ}
 use Rattle.stab_pauli.proofs.SeenLemmas.{counted_seen, seen_of, in_seen, row_seen, read_power}
 use Rattle.stab_pauli.proofs.rows.compact.CompactRows.signs_differ.Goals as goal

@@ -1,5 +1,5 @@
 use Rattle.std.proofs.Common.{Bool, ◌∙◌, sym, ap, ◌<◌, subst}
-use Rattle.stab_pauli.specs.Letters.{◌⊕◌}
+use Rattle.stab_letters.specs.Letters.{◌⊕◌}
 use Rattle.stab_pauli.specs.Paulis.{Signed}
 use Rattle.stab_tableau.proofs.PairedRowsLemmas.{seen-few, seen-place, seen-read}
 use Rattle.stab_tableau.proofs.FrameLemmas.{length-same}

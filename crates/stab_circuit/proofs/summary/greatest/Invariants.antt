@@ -1,6 +1,0 @@
-use Rattle.std.proofs.Common.{◌≡◌, max, drop}
-use Rattle.stab_circuit.specs.inner.Summaries.{greatest}
-use Rattle.stab_circuit.proofs.summary.greatest.Given as goal
-
-abbrev pub invariant-loop-number : goal.invariant-loop-number
-invariant-loop-number l = max l.greatest (greatest (drop l.number-index l.numbers)) ≡ greatest l.numbers

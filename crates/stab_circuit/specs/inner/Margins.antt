@@ -1,9 +1,0 @@
--- Margins: in how many blocks a line stands.
--- Source: this project's own.
-use Rattle.std.specs.Prelude.{ℕ, suc, zero}
-use Rattle.stab_circuit.specs.declared.print.Margin.{Margin, None, Inside'}
-
--- how many blocks there are round a line
-abbrev pub margin_depth : Margin → ℕ
-margin_depth None = zero
-margin_depth (Inside' place outer) = suc (margin_depth outer)

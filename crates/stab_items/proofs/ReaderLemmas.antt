@@ -1,0 +1,203 @@
+-- The reader's way over the lines.
+use Rattle.std.proofs.Common.{◌≡◌, ◌≤◌, ◌<◌, refl, ap, sym, ◌∙◌, subst, ℕ, ◌+◌, suc, List, [], ◌∷◌, Bool, true, false, nat_lt, ◌==◌, length, map, reverse, ◌&&◌, not, ◌⊎◌, inl, inr, Result, Ok, Err, if◌then◌else◌, arith}
+use Rattle.std.specs.List.{slice_split}
+use Rattle.std.specs.Result.{IfOk}
+use Rattle.std.specs.Global.{Vec}
+use Rattle.std.proofs.lemmas.Bool.Decides.{nat_tests}
+use Rattle.std.proofs.lemmas.List.{length-reverse, length-map}
+use Rattle.stab_io.specs.declared.refusal.Refusal.{Refusal}
+use Rattle.stab_io.specs.declared.refusal.Refusal.TheVariants.{TooDeep, BadLine, OutOfMemory}
+use Rattle.stab_io.specs.Refusals.{whole}
+use Rattle.stab_items.specs.declared.reader.OpenBlock.{OpenBlock as StoredBlock}
+use Rattle.stab_io.specs.declared.refusal.Fault.{Fault}
+use Rattle.stab_lines.specs.declared.meanings.Line.TheVariants.{Blank, Close, Open}
+use Rattle.stab_lines.specs.declared.meanings.Line.TheVariants as line
+use Rattle.stab_lines.specs.Lines.{is_byte, content_of}
+use Rattle.stab_items.specs.Items.{Items, OneItem, operation, repeat, before, done, next, block, join, listed, depth}
+use Rattle.stab_lines.specs.Meanings.{meaning_of, is_close}
+use Rattle.stab_items.specs.Circuits.{Meaning, at_line, meaning_after, one_item, contents, depth_after, ends_item}
+use Rattle.stab_items.specs.inner.Readers.{OpenBlock, Progress, closed, stepped, finished, read_on, is_some_items, is_whole, meaning_at, pending, line_fault, open_block_of, ReadsItems, IsShallowProgress}
+use Rattle.stab_items.proofs.ItemLemmas.{depth-join}
+use Rattle.stab_lines.proofs.BoolLemmas.{chosen}
+
+-- after a line of one item's text, what follows is seen as it is by the state
+abbrev Follows : Progress → Meaning → Progress → Type 0
+Follows s m t = (is_whole t ≡ ends_item (length s.open_blocks) m) × (length t.open_blocks ≡ depth_after (length s.open_blocks) m)
+
+pub some_joined : (xs : Items) (ys : Items) → is_some_items ys ≡ true → is_some_items (join xs ys) ≡ true
+some_joined done ys e = e
+some_joined (next op rest) ys e = refl
+some_joined (block c t body rest) ys e = refl
+
+pub not_one : (n : ℕ) → false ≡ (suc (suc n) == 1)
+not_one n = grind arith
+
+pub not_none : (n : ℕ) → false ≡ (suc n == 0)
+not_none n = grind arith
+
+opened : (n : ℕ) (fs : List OpenBlock) (now : Items) (c : ℕ) (tag : List ℕ) (t : Progress) (b : Bool)
+    → (if b then Ok (record { open_blocks = record { line = n; count = c; tag = tag; before = now } ∷ fs; now = done }) else Err TooDeep) ≡ Ok t
+    → Follows (record { open_blocks = fs; now = now }) (Ok (Open c tag)) t
+opened n fs now c tag t true e =
+    let same : record { open_blocks = record { line = n; count = c; tag = tag; before = now } ∷ fs; now = done } ≡ t = cc in
+    subst (Follows (record { open_blocks = fs; now = now }) (Ok (Open c tag))) same (refl, omega arith)
+opened n fs now c tag t false e = cc
+
+follows : (n : ℕ) (fs : List OpenBlock) (now : Items) (m : Meaning) (t : Progress) → is_whole (record { open_blocks = fs; now = now }) ≡ false
+    → stepped n m (record { open_blocks = fs; now = now }) ≡ Ok t → Follows (record { open_blocks = fs; now = now }) m t
+follows n fs now (Err r) t w e = cc
+follows n fs now (Ok Blank) t w e = let same : record { open_blocks = fs; now = now } ≡ t = cc in subst (Follows (record { open_blocks = fs; now = now }) (Ok Blank)) same (w, refl)
+follows n [] now (Ok Close) t w e = cc
+follows n (f ∷ []) now (Ok Close) t w e =
+    let same : record { open_blocks = []; now = closed f now } ≡ t = cc in
+    subst (Follows (record { open_blocks = f ∷ []; now = now }) (Ok Close)) same (some_joined f.before (block f.count f.tag now done) refl, refl)
+follows n (f ∷ g ∷ gs) now (Ok Close) t w e =
+    let same : record { open_blocks = g ∷ gs; now = closed f now } ≡ t = cc in
+    subst (Follows (record { open_blocks = f ∷ g ∷ gs; now = now }) (Ok Close)) same (not_one (length gs), omega arith)
+follows n fs now (Ok (Open c tag)) t w e = opened n fs now c tag t (nat_lt (length fs) 16) e
+follows n [] now (Ok (line.Operation op)) t w e =
+    let same : record { open_blocks = []; now = join now (next op done) } ≡ t = cc in
+    subst (Follows (record { open_blocks = []; now = now }) (Ok (line.Operation op))) same (some_joined now (next op done) refl, refl)
+follows n (f ∷ fs) now (Ok (line.Operation op)) t w e =
+    let same : record { open_blocks = f ∷ fs; now = join now (next op done) } ≡ t = cc in
+    subst (Follows (record { open_blocks = f ∷ fs; now = now }) (Ok (line.Operation op))) same (not_none (length fs), refl)
+
+-- what follows a line
+abbrev after_step : ℕ → List Meaning → Result Progress Refusal → Result Items Fault
+after_step n ms r = elim r [ Ok t ↦ read_on (n + 1) t ms | Err x ↦ Err (at_line n x) ]
+
+-- after a whole item only a blank line is taken, and changes nothing
+pub whole_kept : (n : ℕ) (fs : List OpenBlock) (now : Items) (t : Progress) (b d : Bool) → is_whole (record { open_blocks = fs; now = now }) ≡ true
+    → stepped n (if b then Ok Blank else if d then Ok Close else Err BadLine) (record { open_blocks = fs; now = now }) ≡ Ok t → record { open_blocks = fs; now = now } ≡ t
+whole_kept n fs now t true d w e = cc
+whole_kept n [] now t false true w e = cc
+whole_kept n (f ∷ fs) now t false true w e = cc
+whole_kept n fs now t false false w e = cc
+
+-- a line of one item's text that is taken
+one_taken : (n : ℕ) (s t : Progress) (c : List ℕ) (cs : List (List ℕ)) (b : Bool) → is_whole s ≡ b → stepped n (if b then meaning_after c else meaning_of c) s ≡ Ok t
+    → read_on n s (if b then map meaning_after (c ∷ cs) else one_item (length s.open_blocks) (c ∷ cs)) ≡ read_on (n + 1) t (pending true t cs)
+one_taken n s t c cs true w e =
+    let kept : is_whole t ≡ true = sym (ap is_whole (whole_kept n s.open_blocks s.now t (length c == 0) (is_close c) w e)) ∙ w in
+    ap (after_step n (map meaning_after cs)) e ∙ ap (read_on (n + 1) t) (sym (chosen (is_whole t) _ _ kept))
+one_taken n s t c cs false w e =
+    let f = follows n s.open_blocks s.now (meaning_of c) t w e in
+    ap (after_step n (if ends_item (length s.open_blocks) (meaning_of c) then map meaning_after cs else one_item (depth_after (length s.open_blocks) (meaning_of c)) cs)) e
+    ∙ ap (λ b. read_on (n + 1) t (if b then map meaning_after cs else one_item (depth_after (length s.open_blocks) (meaning_of c)) cs)) (sym f.0)
+    ∙ ap (λ k. read_on (n + 1) t (if is_whole t then map meaning_after cs else one_item k cs)) (sym f.1)
+
+-- a line that is taken, and those after it
+pub pending_taken : (single : Bool) (n : ℕ) (s t : Progress) (c : List ℕ) (cs : List (List ℕ)) → stepped n (meaning_at single s c) s ≡ Ok t
+    → read_on n s (pending single s (c ∷ cs)) ≡ read_on (n + 1) t (pending single t cs)
+pending_taken true n s t c cs e = one_taken n s t c cs (is_whole s) refl e
+pending_taken false n s t c cs e = ap (after_step n (map meaning_of cs)) e
+
+one_refused : (n : ℕ) (s : Progress) (c : List ℕ) (cs : List (List ℕ)) (r : Refusal) (b : Bool) → stepped n (if b then meaning_after c else meaning_of c) s ≡ Err r
+    → read_on n s (if b then map meaning_after (c ∷ cs) else one_item (length s.open_blocks) (c ∷ cs)) ≡ Err (at_line n r)
+one_refused n s c cs r true e = ap (after_step n (map meaning_after cs)) e
+one_refused n s c cs r false e = ap (after_step n (if ends_item (length s.open_blocks) (meaning_of c) then map meaning_after cs else one_item (depth_after (length s.open_blocks) (meaning_of c)) cs)) e
+
+-- a line that is refused
+pub pending_refused : (single : Bool) (n : ℕ) (s : Progress) (c : List ℕ) (cs : List (List ℕ)) (r : Refusal) → stepped n (meaning_at single s c) s ≡ Err r
+    → read_on n s (pending single s (c ∷ cs)) ≡ Err (at_line n r)
+pending_refused true n s c cs r e = one_refused n s c cs r (is_whole s) e
+pending_refused false n s c cs r e = ap (after_step n (map meaning_of cs)) e
+
+pub lines_taken : (single : Bool) (n : ℕ) (s t : Progress) (rest bytes after : List ℕ) → slice_split (is_byte 10) rest ≡ bytes ∷ slice_split (is_byte 10) after
+    → stepped n (meaning_at single s (content_of bytes)) s ≡ Ok t
+    → read_on n s (pending single s (contents rest)) ≡ read_on (n + 1) t (pending single t (contents after))
+lines_taken single n s t rest bytes after p e =
+    ap (λ l. read_on n s (pending single s (map content_of l))) p ∙ pending_taken single n s t (content_of bytes) (contents after) e
+
+pub nothing_pending : (single : Bool) (n : ℕ) (t : Progress) → read_on n t (pending single t []) ≡ finished t
+nothing_pending false n t = refl
+nothing_pending true n t = nothing_one (is_whole t)
+  where
+    nothing_one : (b : Bool) → read_on n t (if b then map meaning_after [] else one_item (length t.open_blocks) []) ≡ finished t
+    nothing_one true = refl
+    nothing_one false = refl
+
+pub lines_ended : (single : Bool) (n : ℕ) (s t : Progress) (rest bytes : List ℕ) → slice_split (is_byte 10) rest ≡ bytes ∷ []
+    → stepped n (meaning_at single s (content_of bytes)) s ≡ Ok t
+    → read_on n s (pending single s (contents rest)) ≡ finished t
+lines_ended single n s t rest bytes p e =
+    ap (λ l. read_on n s (pending single s (map content_of l))) p ∙ pending_taken single n s t (content_of bytes) [] e ∙ nothing_pending single (n + 1) t
+
+pub lines_refused : (single : Bool) (n : ℕ) (s : Progress) (rest bytes : List ℕ) (more : List (List ℕ)) (r : Refusal) → slice_split (is_byte 10) rest ≡ bytes ∷ more
+    → stepped n (meaning_at single s (content_of bytes)) s ≡ Err r
+    → read_on n s (pending single s (contents rest)) ≡ Err (at_line n r)
+lines_refused single n s rest bytes more r p e =
+    ap (λ l. read_on n s (pending single s (map content_of l))) p ∙ pending_refused single n s (content_of bytes) (map content_of more) r e
+
+-- blocks stay nested at most 16 deep
+opened_shallow : (n : ℕ) (fs : List OpenBlock) (now : Items) (c : ℕ) (tag : List ℕ) (t : Progress) (b : Bool) → b ≡ nat_lt (length fs) 16 → IsShallowProgress (record { open_blocks = fs; now = now })
+    → (if b then Ok (record { open_blocks = record { line = n; count = c; tag = tag; before = now } ∷ fs; now = done }) else Err TooDeep) ≡ Ok t → IsShallowProgress t
+opened_shallow n fs now c tag t true w h e =
+    let same : record { open_blocks = record { line = n; count = c; tag = tag; before = now } ∷ fs; now = done } ≡ t = cc in
+    let room : length fs < 16 = grind (arith, w, nat_tests) in
+    subst IsShallowProgress same (record { now = omega (arith, room); before = (h.now, h.before) })
+opened_shallow n fs now c tag t false w h e = cc
+
+pub stepped_shallow : (n : ℕ) (m : Meaning) (s t : Progress) → IsShallowProgress s → stepped n m s ≡ Ok t → IsShallowProgress t
+stepped_shallow n m s t h e = lines m s.open_blocks s.now h e
+  where
+    lines : (m : Meaning) (fs : List OpenBlock) (now : Items) → IsShallowProgress (record { open_blocks = fs; now = now }) → stepped n m (record { open_blocks = fs; now = now }) ≡ Ok t → IsShallowProgress t
+    lines (Err r) fs now h e = cc
+    lines (Ok Blank) fs now h e = let same : record { open_blocks = fs; now = now } ≡ t = cc in subst IsShallowProgress same h
+    lines (Ok Close) [] now h e = cc
+    lines (Ok Close) (f ∷ fs) now h e =
+        let same : record { open_blocks = fs; now = closed f now } ≡ t = cc in
+        subst IsShallowProgress same (record { now = omega (arith, h.now, h.before.0, depth-join f.before (block f.count f.tag now done)); before = h.before.1 })
+    lines (Ok (Open c tag)) fs now h e = opened_shallow n fs now c tag t (nat_lt (length fs) 16) refl h e
+    lines (Ok (line.Operation op)) fs now h e =
+        let same : record { open_blocks = fs; now = join now (next op done) } ≡ t = cc in
+        subst IsShallowProgress same (record { now = omega (arith, h.now, depth-join now (next op done)); before = h.before })
+
+-- so a block that is closed has at most 15 nested in it
+pub closes_shallow : (gs : List OpenBlock) (f : OpenBlock) (fs : List OpenBlock) (now : Items) → gs ≡ f ∷ fs → IsShallowProgress (record { open_blocks = gs; now = now }) → depth now ≤ 15
+closes_shallow gs f fs now e h = omega (arith, h.now, ap length e)
+
+pub finished_shallow : (s : Progress) (given : Result (Vec OneItem) Fault) → IsShallowProgress s → ReadsItems given (finished s) → IfOk given (λ v. depth (listed v.items) ≤ 16)
+finished_shallow s (Err f) h e = tt
+finished_shallow s (Ok v) h e = ended s.open_blocks s.now h e
+  where
+    ended : (fs : List OpenBlock) (now : Items) → IsShallowProgress (record { open_blocks = fs; now = now }) → finished (record { open_blocks = fs; now = now }) ≡ Ok (listed v.items) → depth (listed v.items) ≤ 16
+    ended [] now h e = let same : now ≡ listed v.items = cc in omega (arith, h.now, ap depth same)
+    ended (f ∷ fs) now h e = cc
+
+-- the fault of a line's refusal
+pub told : (n : ℕ) (r : Refusal) (given : Result Items Fault) → (r ≡ OutOfMemory) ⊎ (given ≡ Err (at_line n r)) → (line_fault n r ≡ whole OutOfMemory) ⊎ (given ≡ Err (line_fault n r))
+told n OutOfMemory given h = inl refl
+told n r given (inl e) = cc
+told n r given (inr e) = inr e
+
+some_before : (x : OneItem) (xs : Items) → is_some_items (before x xs) ≡ true
+some_before (operation op) xs = refl
+some_before (repeat c t body) xs = refl
+
+not_empty : (n : ℕ) → true ≡ not (suc n == 0)
+not_empty n = ap not (not_none n)
+
+-- whether a whole item was read, by the lists that the reader holds
+whole_lists : (gs : List OpenBlock) (fs : List StoredBlock) (xs : List OneItem) → length gs ≡ length fs → is_whole (record { open_blocks = gs; now = listed xs }) ≡ ((length fs == 0) && not (length xs == 0))
+whole_lists [] [] [] e = refl
+whole_lists [] [] (x ∷ xs) e = some_before x (listed xs) ∙ not_empty (length xs)
+whole_lists [] (f ∷ fs) xs e = absurd (omega (arith, e))
+whole_lists (g ∷ gs) [] xs e = absurd (omega (arith, e))
+whole_lists (g ∷ gs) (f ∷ fs) xs e = ap (λ b. b && not (length xs == 0)) (not_none (length fs))
+
+pub is_whole_held : (fs : List StoredBlock) (xs : List OneItem) → is_whole (record { open_blocks = reverse (map open_block_of fs); now = listed xs }) ≡ ((length fs == 0) && not (length xs == 0))
+is_whole_held fs xs = whole_lists (reverse (map open_block_of fs)) fs xs (length-reverse (map open_block_of fs) ∙ length-map fs open_block_of)
+
+-- a line that is refused ends the reading, with its fault or for want of memory
+pub reading_refused : (single : Bool) (n : ℕ) (s : Progress) (rest line bytes : List ℕ) (more : List (List ℕ)) (r : Refusal) (all : Result Items Fault) (fault : Fault)
+    → slice_split (is_byte 10) rest ≡ bytes ∷ more → line ≡ content_of bytes
+    → (r ≡ OutOfMemory) ⊎ (stepped n (meaning_at single s line) s ≡ Err r)
+    → read_on n s (pending single s (contents rest)) ≡ all → fault ≡ line_fault n r
+    → (fault ≡ whole OutOfMemory) ⊎ (all ≡ Err fault)
+reading_refused single n s rest line bytes more r all fault p c h same e =
+    subst (λ f. (f ≡ whole OutOfMemory) ⊎ (all ≡ Err f)) (sym e) (told n r all (refused h))
+  where
+    refused : (r ≡ OutOfMemory) ⊎ (stepped n (meaning_at single s line) s ≡ Err r) → (r ≡ OutOfMemory) ⊎ (all ≡ Err (at_line n r))
+    refused (inl o) = inl o
+    refused (inr g) = inr (sym same ∙ lines_refused single n s rest bytes more r p (ap (λ l. stepped n (meaning_at single s l) s) (sym c) ∙ g))

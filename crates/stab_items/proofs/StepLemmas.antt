@@ -1,0 +1,79 @@
+-- Numbers over the unrolled steps.
+use Rattle.std.proofs.Common.{◌≡◌, ◌≤◌, ◌<◌, refl, ap, sym, ◌∙◌, ℕ, ◌+◌, ◌*◌, ◌-◌, zero, suc, max, min, List, [], ◌∷◌, ◌++◌, ◌||◌, nat_lt, length, All, arith, append_assoc}
+use Rattle.std.proofs.lemmas.List.{length-append}
+use Rattle.std.proofs.lemmas.List.Elements.{All-head, All-tail}
+use Rattle.std.specs.List.{list_any}
+use Rattle.stab_lines.specs.Lookbacks.{IsLookback}
+use Rattle.stab_items.specs.Items.{Items, done, next, block, join}
+use Rattle.stab_items.specs.Steps.{Step, steps_of, rounds, unroll, makes, records_of, lookbacks, looks_too_far}
+use Rattle.stab_items.specs.inner.Summaries.{greatest, reach}
+
+pub greatest_small : (ks : List ℕ) → All IsLookback ks → greatest ks ≤ 16777215
+greatest_small [] a = omega arith
+greatest_small (k ∷ ks) a = omega (arith, (All-head IsLookback k ks a).1, greatest_small ks (All-tail IsLookback k ks a))
+
+times_more : (n w : ℕ) → suc n * w ≡ w + n * w
+times_more n w = omega arith
+
+pub length-rounds : (n : ℕ) (ss : List Step) → length (rounds n ss) ≡ n * length ss
+length-rounds zero ss = omega arith
+length-rounds (suc n) ss = length-append ss (rounds n ss) ∙ ap (λ m. length ss + m) (length-rounds n ss) ∙ sym (times_more n (length ss))
+
+pub records_of-append : (ss ts : List Step) → records_of (ss ++ ts) ≡ records_of ss + records_of ts
+records_of-append [] ts = omega arith
+records_of-append (s ∷ ss) ts = omega (arith, records_of-append ss ts)
+
+pub records_of-rounds : (n : ℕ) (ss : List Step) → records_of (rounds n ss) ≡ n * records_of ss
+records_of-rounds zero ss = omega arith
+records_of-rounds (suc n) ss = records_of-append ss (rounds n ss) ∙ ap (λ m. records_of ss + m) (records_of-rounds n ss) ∙ sym (times_more n (records_of ss))
+
+later_max : (l a b m s : ℕ) → max l (max a (b - m) - s) ≡ max (max l (a - s)) (b - (s + m))
+later_max l a b m s = omega arith
+
+pub reach-append : (ss ts : List Step) → reach (ss ++ ts) ≡ max (reach ss) (reach ts - records_of ss)
+reach-append [] ts = omega arith
+reach-append (s ∷ ss) ts = ap (λ w. max (greatest (lookbacks s)) (w - makes s)) (reach-append ss ts) ∙ later_max (greatest (lookbacks s)) (reach ss) (reach ts) (records_of ss) (makes s)
+
+-- a later round reaches no further than the first
+reach_later : (n : ℕ) (ss : List Step) → reach (rounds n ss) ≤ reach ss
+reach_later zero ss = omega arith
+reach_later (suc n) ss = omega (arith, reach-append ss (rounds n ss), reach_later n ss)
+
+pub reach-rounds : (n : ℕ) (ss : List Step) → 0 < n → reach (rounds n ss) ≡ reach ss
+reach-rounds zero ss h = absurd (omega arith)
+reach-rounds (suc n) ss h = omega (arith, reach-append ss (rounds n ss), reach_later n ss)
+
+-- the steps of items one after another
+pub unroll-join : (xs ys : Items) → unroll (join xs ys) ≡ unroll xs ++ unroll ys
+unroll-join done ys = refl
+unroll-join (next op rest) ys = ap (λ l. steps_of op.kind ++ l) (unroll-join rest ys) ∙ sym (append_assoc (steps_of op.kind) (unroll rest) (unroll ys))
+unroll-join (block c t body rest) ys = ap (λ l. rounds c (unroll body) ++ l) (unroll-join rest ys) ∙ sym (append_assoc (rounds c (unroll body)) (unroll rest) (unroll ys))
+
+lt_max : (m k g : ℕ) → (nat_lt m k || nat_lt m g) ≡ nat_lt m (max k g)
+lt_max m k g = grind arith
+
+short_step : (m l w k : ℕ) → (nat_lt m l || nat_lt (m + k) w) ≡ nat_lt m (max l (w - k))
+short_step m l w k = grind arith
+
+any_greatest : (m : ℕ) (ks : List ℕ) → list_any (nat_lt m) ks ≡ nat_lt m (greatest ks)
+any_greatest m [] = grind arith
+any_greatest m (k ∷ ks) = ap (λ b. nat_lt m k || b) (any_greatest m ks) ∙ lt_max m k (greatest ks)
+
+-- some step looks too far where the reach does
+pub looks_too_far_reach : (m : ℕ) (ss : List Step) → looks_too_far m ss ≡ nat_lt m (reach ss)
+looks_too_far_reach m [] = grind arith
+looks_too_far_reach m (s ∷ ss) =
+    ap (λ b. b || looks_too_far (m + makes s) ss) (any_greatest m (lookbacks s))
+    ∙ ap (λ b. nat_lt m (greatest (lookbacks s)) || b) (looks_too_far_reach (m + makes s) ss)
+    ∙ short_step m (greatest (lookbacks s)) (reach ss) (makes s)
+
+-- numbers that stop growing
+pub capped_sum : (a b cap : ℕ) → min (min a cap + min b cap) cap ≡ min (a + b) cap
+capped_sum a b cap = omega arith
+
+pub capped_left : (w r cap : ℕ) → w ≤ cap → w - min r cap ≡ w - r
+capped_left w r cap h = omega arith
+
+pub capped_times : (n a cap : ℕ) → min (n * min a cap) cap ≡ min (n * a) cap
+capped_times zero a cap = omega arith
+capped_times (suc n) a cap = grind arith

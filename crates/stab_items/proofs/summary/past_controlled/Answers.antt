@@ -1,0 +1,23 @@
+use Rattle.std.proofs.Common.{◌≡◌, ap, ◌∙◌, ◌∷◌, [], get_or, take, All, subst, arith}
+use Rattle.stab_items.specs.Steps.{past, controlled_qubits}
+use Rattle.stab_items.specs.inner.Summaries.{IsPairApart}
+use Rattle.stab_items.proofs.SummaryLemmas.{past_controlled_dropped}
+use Rattle.stab_items.proofs.StepApartLemmas.{All_taken, All_whole}
+use Rattle.stab_items.proofs.summary.past_controlled.Goals as goal
+
+pub loop-pair-preserved : goal.loop-pair-preserved
+loop-pair-preserved c =
+    let ps = c.args.pairs.now in
+    let i = c.loop-pair.pair-index in
+    let here : c.past_pair.result ≡ past (controlled_qubits (get_or ps i c.pair-item.result ∷ [])) =
+    c.past_pair.ensures.value ∙ ap (λ p. past (controlled_qubits (p ∷ []))) c.pair-item.is in
+    let dropped = past_controlled_dropped ps i c.pair-item.result c.loop-pair-test.true in
+    record {
+      small = grind (arith, c.max-past.ensures, c.loop-pair.invariant.small, c.past_pair.ensures.small);
+      apart = All_taken IsPairApart ps i c.pair-item.result c.loop-pair-test.true c.loop-pair.invariant.apart (subst IsPairApart c.pair-item.is c.past_pair.ensures.apart);
+      same = grind (arith, c.max-past.ensures, c.loop-pair.invariant.same, here, dropped);
+    }
+
+pub returns-clause-apart : goal.returns-clause-apart
+returns-clause-apart c =
+    All_whole IsPairApart c.args.pairs.now (subst (λ n. All IsPairApart (take n c.args.pairs.now)) (omega (arith, c.loop-pair-test.false, c.loop-pair.auto.pair-index-end)) c.loop-pair.invariant.apart)

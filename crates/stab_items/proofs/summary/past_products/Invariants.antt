@@ -1,0 +1,12 @@
+use Rattle.std.proofs.Common.{◌≡◌, ◌≤◌, max, drop, take, All}
+use Rattle.stab_letters.specs.Limits.{most_qubits}
+use Rattle.stab_items.specs.Steps.{past, product_qubits}
+use Rattle.stab_items.specs.inner.Summaries.{IsProductApart}
+use Rattle.stab_items.proofs.summary.past_products.Given as goal
+
+abbrev pub invariant-loop-product : goal.invariant-loop-product
+invariant-loop-product l = record {
+  small : l.past ≤ most_qubits;
+  apart : All IsProductApart (take l.product-index l.products);
+  same : max l.past (past (product_qubits (drop l.product-index l.products))) ≡ past (product_qubits l.products);
+}

@@ -1,0 +1,6 @@
+pub mod Items
+pub mod Circuits
+pub mod Steps
+pub mod Prints
+pub mod Nothings
+pub mod inner

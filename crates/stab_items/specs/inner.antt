@@ -1,0 +1,8 @@
+pub mod StoredItems
+pub mod Summaries
+pub mod Kept
+pub mod ItemSizes
+pub mod Parts
+pub mod Blocks
+pub mod Readers
+pub mod Margins

@@ -1,0 +1,224 @@
+use crate::summary::{Summary, kind_summary};
+use stab_lines::{Count, Kind, Operation, Sequence};
+use std::alloc::{AllocError, Global};
+use std::marker::Model;
+use std::mem;
+
+/// An item of a circuit: an instruction or a block. Contracts see it without pointers.
+///
+/// A block keeps the summary of one round, and blocks are nested at most 16 deep.
+#[cycle(item)]
+#[derive(Drop)]
+pub struct Item {
+    pub(crate) node: Node,
+}
+
+/// What an item is.
+#[cycle(item)]
+#[derive(Drop)]
+pub(crate) enum Node {
+    // An instruction without a tag.
+    Plain(Kind),
+    // One with a tag, which few have, has a box of its own.
+    Tagged(Box<Operation>),
+    // What is known of a block has a box of its own, so that instructions stay small.
+    Repeat { head: Box<Head>, body: Vec<Item> },
+}
+
+/// What is known of a block besides its items.
+#[derive(Drop)]
+pub(crate) struct Head {
+    pub(crate) count: Count,
+    pub(crate) tag: Sequence<u8>,
+    /// The summary of one round.
+    pub(crate) kept: Summary,
+}
+
+// Long circuits are lists of items, which an edit moves.
+const _: () = prove!(size_of::<Item>() <= 40);
+
+impl Model for Item {
+    ghost use Rattle.stab_items.specs.Items.{OneItem, depth_of};
+    ghost use Rattle.stab_items.specs.inner.StoredItems.{item_code};
+
+    ghost Value = { OneItem };
+
+    ghost coded = { item_code };
+
+    ghost use Rattle.stab_items.specs.inner.Kept.{shown, IsKept};
+
+    ghost view = { λ i. shown i.node };
+
+    ghost invariant = { λ i. IsKept i.node };
+
+    ghost size = { depth_of };
+
+    ghost use Rattle.stab_items.specs.inner.ItemSizes.{deep_le-depth};
+
+    ghost size_decreases = { λ i h. deep_le-depth i.node };
+}
+
+/// What an item shows of itself.
+#[derive(Clone, Copy)]
+pub enum Part<'a> {
+    Operation {
+        kind: &'a Kind,
+        /// Empty where there is none.
+        tag: &'a [u8],
+    },
+    Block {
+        count: Count,
+        tag: &'a [u8],
+        /// The summary of one round.
+        kept: Summary,
+        body: &'a [Item],
+    },
+}
+
+impl Item {
+    ghost use Rattle.std.specs.Prelude.{◌≡◌, ◌≤◌, [], All, IfOk, IfSome, IfNone};
+    ghost use Rattle.stab_items.specs.Steps.{unroll, IsApart};
+    ghost use Rattle.stab_items.specs.Nothings.{IsNothing};
+    ghost use Rattle.stab_items.specs.Items.{operation as single, repeat as repeated, listed, before, done, depth};
+    ghost use Rattle.stab_items.specs.inner.Summaries.{summary_of, IsSummary};
+    ghost use Rattle.stab_items.specs.inner.Parts.{part_of, IsPart};
+    ghost use Rattle.stab_items.specs.inner.Blocks.{with_rounds, with_body, IsInstruction};
+
+    /// The item that is one instruction. Without a tag it takes no memory.
+    #[tactic(auto, using(crate::proofs::ItemLemmas::untagged))]
+    pub(crate) fn operation(alloc: Global, operation: Operation) -> Result<Item, AllocError>
+        ensures ok { IfOk result (λ i. i ≡ single operation) }
+    {
+        let node = if operation.tag.as_slice().is_empty() {
+            Node::Plain(operation.kind)
+        } else {
+            Node::Tagged(Box::new(alloc, operation)?)
+        };
+        Ok(Item { node })
+    }
+
+    /// `TICK` without a tag, which stands for nothing: it has no step, and names no qubit and no
+    /// observable. It takes no memory.
+    #[tactic(auto, using(crate::proofs::NothingLemmas::tick_nothing))]
+    pub fn tick(_alloc: Global) -> Item
+        ensures nothing { IsNothing result }
+    {
+        Item {
+            node: Node::Plain(Kind::Tick),
+        }
+    }
+
+    /// The item that is a block: its count of rounds, its tag, the items of one round.
+    pub(crate) fn repeat(
+        alloc: Global,
+        count: Count,
+        tag: Sequence<u8>,
+        body: Vec<Item>,
+    ) -> Result<Item, AllocError>
+        requires shallow { depth (listed body.items) ≤ 15 }
+        ensures ok { IfOk result (λ i. i ≡ repeated count tag (listed body.items)) }
+    {
+        let kept = items_summary(body.as_slice());
+        let head = Box::new(alloc, Head { count, tag, kept })?;
+        Ok(Item {
+            node: Node::Repeat { head, body },
+        })
+    }
+
+    /// What the item is.
+    pub fn part(&self) -> Part<'_>
+        ensures value { self.now ≡ part_of result }
+        ensures kept { IsPart result }
+    {
+        match &self.node {
+            Node::Plain(kind) => Part::Operation { kind, tag: &[] },
+            Node::Tagged(operation) => Part::Operation {
+                kind: &operation.kind,
+                tag: operation.tag.as_slice(),
+            },
+            Node::Repeat { head, body } => Part::Block {
+                count: head.count,
+                tag: head.tag.as_slice(),
+                kept: head.kept,
+                body: body.as_slice(),
+            },
+        }
+    }
+
+    /// Has a block run so many rounds. An instruction stays as it is.
+    pub fn set_rounds(&mut self, count: Count)
+        ensures value { self.new ≡ with_rounds count self.old }
+    {
+        match &mut self.node {
+            Node::Plain(_) | Node::Tagged(_) => {}
+            Node::Repeat { head, .. } => head.count = count,
+        }
+    }
+
+    /// Takes the items out of a block, which is then empty, or gives `None` for an instruction, which
+    /// stays as it is. It takes no memory.
+    #[tactic(auto, using(crate::proofs::StepApartLemmas::nothing_apart))]
+    pub fn take_body(&mut self) -> Option<Vec<Item>>
+        ensures some { IfSome result (λ v. self.old ≡ with_body v.items self.old) }
+        ensures shallow { IfSome result (λ v. depth (listed v.items) ≤ 15) }
+        ensures left { self.new ≡ with_body [] self.old }
+        ensures none { IfNone result (IsInstruction self.old) }
+    {
+        match &mut self.node {
+            Node::Plain(_) | Node::Tagged(_) => None,
+            Node::Repeat { head, body } => {
+                let empty = Vec::new(*body.allocator());
+                head.kept = Summary::NONE;
+                Some(mem::replace(body, empty))
+            }
+        }
+    }
+
+    /// Has these items stand in a block, in the stead of those in it, and renews what it keeps. An
+    /// instruction stays as it is. It takes no memory.
+    pub fn set_body(&mut self, items: Vec<Item>)
+        requires shallow { depth (listed items.items) ≤ 15 }
+        ensures value { self.new ≡ with_body items.items self.old }
+    {
+        match &mut self.node {
+            Node::Plain(_) | Node::Tagged(_) => {}
+            Node::Repeat { head, body } => {
+                head.kept = items_summary(items.as_slice());
+                *body = items;
+            }
+        }
+    }
+
+    /// The summary of the item, without a walk over a block's body.
+    #[tactic(auto, using(crate::proofs::SummaryLemmas::operation_summary, crate::proofs::StepApartLemmas::operation_apart))]
+    pub fn summary(&self) -> Summary
+        ensures value { result ≡ summary_of (before self.now done) }
+        ensures small { IsSummary result }
+        ensures apart { All IsApart (unroll (before self.now done)) }
+    {
+        match &self.node {
+            Node::Plain(kind) => kind_summary(kind),
+            Node::Tagged(operation) => kind_summary(&operation.kind),
+            Node::Repeat { head, .. } => head.kept.repeated(head.count.number()),
+        }
+    }
+}
+
+ghost use Rattle.std.specs.Prelude.{◌≡◌, All};
+ghost use Rattle.stab_items.specs.Items.{listed};
+ghost use Rattle.stab_items.specs.Steps.{unroll, IsApart};
+ghost use Rattle.stab_items.specs.inner.Summaries.{summary_of, IsSummary};
+
+/// The summary of the items, by what each keeps.
+#[tactic(auto, using(crate::proofs::SummaryLemmas::summary_taken, crate::proofs::StepApartLemmas::items_apart, crate::proofs::StepApartLemmas::nothing_apart))]
+pub fn items_summary(items: &[Item]) -> Summary
+    ensures value { result ≡ summary_of (listed items.now) }
+    ensures small { IsSummary result }
+    ensures apart { All IsApart (unroll (listed items.now)) }
+{
+    let mut all = Summary::NONE;
+    for item in items {
+        all = all.then(item.summary());
+    }
+    all
+}

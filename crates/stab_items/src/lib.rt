@@ -1,0 +1,37 @@
+//! The items of a circuit: instructions and blocks, read from the lines of a text, summed up, copied and
+//! printed.
+//!
+//! What one line means is said by `stab_lines`; here lines are put together to items. Circuits of
+//! them, with edits and unrolled steps, are `stab_circuit`'s.
+//!
+//! - `item`: instructions and blocks, which keep the numbers of one round.
+//! - `reader`: the items of a text's lines, with the blocks that are open.
+//! - `summary`: the numbers that are kept.
+//! - `copy`: copies of items.
+//! - `print`: the one text of items.
+//!
+//! `specs/` says which items a text stands for, what its fault is, what the unrolled steps of items
+//! are, and what is printed of them; `specs/inner` has what private contracts alone speak of, and
+//! those of calls that `stab_circuit` alone makes.
+//!
+//! Sources: Stim's circuit file format (.stim) without noise, in Stim's repository
+//! `doc/file_format_stim_circuit.md`. `docs/circuit-text.md` says where this differs.
+//!
+//! Proved: a text is read as exactly the items that its lines come to, one after the other, or
+//! refused with the fault of the first line that is; that these are the items that it stands for, and
+//! that fault its own, is shown in `stab_circuit`; qubits, observables, steps and records of items,
+//! and the lookbacks before them, are those of their unrolled steps, counted up to a limit, whatever a
+//! block keeps; what is printed of items is their one text; a copy is the same item.
+#![tactic(auto)]
+
+mod copy;
+mod item;
+mod print;
+mod reader;
+mod summary;
+
+pub use copy::copied_item;
+pub use item::{Item, Part, items_summary};
+pub use print::{write_all_items, write_one_item};
+pub use reader::read_lines;
+pub use summary::{STEPS_CAP, Summary};

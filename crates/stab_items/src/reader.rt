@@ -1,0 +1,188 @@
+ghost use Rattle.std.specs.Prelude.{◌≡◌, ◌≤◌, length, IfOk};
+ghost use Rattle.stab_items.specs.Circuits.{most_bytes, meaning_after as meaning_after_of};
+ghost use Rattle.stab_items.specs.Items.{listed, depth};
+ghost use Rattle.stab_items.specs.inner.Readers.{ReadsItems, reading, line_fault};
+
+use crate::item::Item;
+use stab_io::{Fault, Refusal};
+use stab_lines::{Count, Line, Sequence, content, first_piece, is_close, meaning};
+use std::alloc::Global;
+
+/// A block that is open: its line, count and tag, and the items before it.
+#[derive(Drop)]
+pub struct OpenBlock {
+    line: u64,
+    count: Count,
+    tag: Sequence<u8>,
+    before: Vec<Item>,
+}
+
+/// The open blocks, the innermost last, and the items read in that.
+#[derive(Drop)]
+pub struct CircuitReader {
+    alloc: Global,
+    open_blocks: Vec<OpenBlock>,
+    items: Vec<Item>,
+}
+
+impl CircuitReader {
+    ghost use Rattle.std.specs.Prelude.{◌≡◌, [], List, ◌∷◌};
+    ghost use Rattle.stab_lines.specs.Results.{Gives};
+    ghost use Rattle.stab_items.specs.inner.Readers.{progress_of, before_reading, stepped, opening, closing, finished, is_whole as whole_of, meaning_at, TakesLine, ReadsItems, IsShallowProgress};
+
+    fn new(alloc: Global) -> CircuitReader
+        ensures value { progress_of result ≡ before_reading }
+    {
+        CircuitReader {
+            alloc,
+            open_blocks: Vec::new(alloc),
+            items: Vec::new(alloc),
+        }
+    }
+
+    /// The items, where no block is open.
+    #[tactic(auto, using(crate::proofs::ViewLemmas::open_blocks_pushed))]
+    fn finish(self) -> Result<Vec<Item>, Fault>
+        ensures gives { ReadsItems result (finished (progress_of self)) }
+    {
+        let CircuitReader {
+            alloc: _,
+            mut open_blocks,
+            items,
+        } = self;
+        match open_blocks.pop() {
+            Some(open_block) => Err(Fault {
+                refusal: Refusal::BadBlock,
+                line: open_block.line,
+            }),
+            None => Ok(items),
+        }
+    }
+
+    /// Whether a whole item was read.
+    #[tactic(auto, using(crate::proofs::ReaderLemmas::is_whole_held))]
+    fn is_whole(&self) -> bool
+        ensures value { result ≡ whole_of (progress_of self.now) }
+    {
+        self.open_blocks.is_empty() && !self.items.is_empty()
+    }
+
+    /// What a content means here, perhaps in one item's text.
+    fn found(&self, single: bool, content: &[u8]) -> Result<Line, Refusal>
+        ensures gives { Gives result (meaning_at single (progress_of self.now) content.now) }
+    {
+        if single && self.is_whole() {
+            meaning_after(content)
+        } else {
+            meaning(self.alloc, content)
+        }
+    }
+
+    fn take_content(&mut self, single: bool, line: u64, content: &[u8]) -> Result<(), Refusal>
+        requires shallow { IsShallowProgress (progress_of self.old) }
+        ensures gives { TakesLine (progress_of self.new) result (stepped line (meaning_at single (progress_of self.old) content.now) (progress_of self.old)) }
+    {
+        let found = self.found(single, content)?;
+        self.take(line, found)
+    }
+
+    #[tactic(auto, using(crate::proofs::ItemLemmas::listed_pushed))]
+    fn take(&mut self, line: u64, found: Line) -> Result<(), Refusal>
+        requires shallow { IsShallowProgress (progress_of self.old) }
+        ensures gives { TakesLine (progress_of self.new) result (stepped line (Ok found) (progress_of self.old)) }
+    {
+        match found {
+            Line::Blank => Ok(()),
+            Line::Operation(operation) => {
+                self.items.push(Item::operation(self.alloc, operation)?)?;
+                Ok(())
+            }
+            Line::Open { count, tag } => self.open(line, count, tag),
+            Line::Close => self.close(),
+        }
+    }
+
+    fn open(&mut self, line: u64, count: Count, tag: Sequence<u8>) -> Result<(), Refusal>
+        ensures gives { TakesLine (progress_of self.new) result (opening line count tag (progress_of self.old)) }
+    {
+        if self.open_blocks.len() >= 16 {
+            return Err(Refusal::TooDeep);
+        }
+        let before = std::mem::replace(&mut self.items, Vec::new(self.alloc));
+        self.open_blocks.push(OpenBlock {
+            line,
+            count,
+            tag,
+            before,
+        })?;
+        Ok(())
+    }
+
+    #[tactic(auto, using(crate::proofs::ItemLemmas::listed_pushed, crate::proofs::ViewLemmas::open_blocks_pushed, crate::proofs::ReaderLemmas::closes_shallow))]
+    fn close(&mut self) -> Result<(), Refusal>
+        requires shallow { IsShallowProgress (progress_of self.old) }
+        ensures gives { TakesLine (progress_of self.new) result (closing (progress_of self.old)) }
+    {
+        match self.open_blocks.pop() {
+            None => Err(Refusal::BadBlock),
+            Some(open_block) => {
+                let OpenBlock {
+                    line: _,
+                    count,
+                    tag,
+                    before,
+                } = open_block;
+                let body = std::mem::replace(&mut self.items, before);
+                self.items
+                    .push(Item::repeat(self.alloc, count, tag, body)?)?;
+                Ok(())
+            }
+        }
+    }
+}
+
+/// What a content means after a whole item.
+fn meaning_after(content: &[u8]) -> Result<Line, Refusal>
+    ensures value { result ≡ meaning_after_of content.now }
+{
+    if content.is_empty() {
+        Ok(Line::Blank)
+    } else if is_close(content) {
+        Ok(Line::Close)
+    } else {
+        Err(Refusal::BadLine)
+    }
+}
+
+/// The fault of a refusal at a line; want of memory has no line.
+fn fault_at(refusal: Refusal, line: u64) -> Fault
+    ensures value { result ≡ line_fault line refusal }
+{
+    match refusal {
+        Refusal::OutOfMemory => Fault::whole(refusal),
+        _ => Fault { refusal, line },
+    }
+}
+
+/// The items that a text stands for, perhaps as one item's text.
+#[tactic(auto, using(crate::proofs::ReaderLemmas::lines_taken, crate::proofs::ReaderLemmas::lines_ended, crate::proofs::ReaderLemmas::stepped_shallow, crate::proofs::ReaderLemmas::finished_shallow))]
+pub fn read_lines(alloc: Global, single: bool, text: &[u8]) -> Result<Vec<Item>, Fault>
+    requires small { length text.now ≤ most_bytes }
+    ensures gives { ReadsItems result (reading single text.now) }
+    ensures shallow { IfOk result (λ v. depth (listed v.items) ≤ 16) }
+{
+    let mut reader = CircuitReader::new(alloc);
+    let mut rest = text;
+    let mut line = 1;
+    'lines: loop {
+        let (bytes, after) = first_piece(rest, b'\n');
+        if let Err(refusal) = reader.take_content(single, line, content(bytes)) {
+            return Err(fault_at(refusal, line));
+        }
+        match after {
+            None => return reader.finish(),
+            Some(next) => rest = next,
+        }
+        line += 1;
+    }
+}

@@ -1,0 +1,226 @@
+//! What the words of a command line ask for.
+use crate::fault_layout::FaultLayout;
+use crate::source::Source;
+use stab_results::Format;
+use std::marker::Model;
+
+/// Which shots a command takes: at most 1,000,000, one after another, and none beyond the last of a
+/// seed, which is shot 2^64 - 1.
+#[derive(Clone, Copy, Debug, PartialEq, Eq)]
+pub struct Shots {
+    first: u64,
+    number: usize,
+}
+
+impl Model for Shots {
+    ghost use Rattle.std.specs.Prelude.{◌+◌, ◌≤◌};
+    ghost use Rattle.stab_jobs.specs.Limits.{ShotRange, most_shots, shots_of_seed};
+
+    ghost Value = { ShotRange };
+
+    ghost view = { λ s. record { first = s.first; number = s.number } };
+
+    ghost invariant = { λ s. (s.number ≤ most_shots) × (s.first + s.number ≤ shots_of_seed) };
+
+    ghost inverse = { λ r. record { first = r.first; number = r.number } };
+}
+
+impl Shots {
+    ghost use Rattle.std.specs.Prelude.{◌≡◌, ◌+◌, ◌<◌, ◌≤◌, IfSome, IfNone};
+    ghost use Rattle.stab_jobs.specs.Limits.{most_shots, shots_of_seed};
+
+    /// The most shots that a command takes.
+    pub const MOST: usize = 1_000_000;
+
+    /// So many shots from shot 0 on, at most 1,000,000.
+    pub fn new(number: usize) -> Shots
+        requires in_range { number ≤ most_shots }
+        ensures value { result ≡ record { first = 0; number = number } }
+    {
+        Shots { first: 0, number }
+    }
+
+    /// So many shots from this one on, at most 1,000,000, or none where they go beyond shot 2^64 - 1.
+    pub fn from_first(first: u64, number: usize) -> Option<Shots>
+        requires in_range { number ≤ most_shots }
+        ensures some { IfSome result (λ shots. shots ≡ record { first = first; number = number }) }
+        ensures none { IfNone result (shots_of_seed < first + number) }
+    {
+        if first <= u64::MAX - number.saturating_sub(1) as u64 {
+            Some(Shots { first, number })
+        } else {
+            None
+        }
+    }
+
+    /// The number of the first shot.
+    pub fn first(self) -> u64
+        ensures value { result ≡ self.first }
+        ensures in_range { result + self.number ≤ shots_of_seed }
+    {
+        self.first
+    }
+
+    /// How many shots.
+    pub fn number(self) -> usize
+        ensures value { result ≡ self.number }
+        ensures in_range { result ≤ most_shots }
+    {
+        self.number
+    }
+}
+
+/// On how many qubits a circuit is edited, at most 1,024.
+#[derive(Clone, Copy, Debug, PartialEq, Eq)]
+pub struct QubitCount {
+    number: usize,
+}
+
+impl Model for QubitCount {
+    ghost use Rattle.std.specs.Prelude.{ℕ, ◌≤◌};
+    ghost use Rattle.stab_letters.specs.Limits.{most_qubits};
+
+    ghost Value = { ℕ };
+
+    ghost view = { λ q. q.number };
+
+    ghost invariant = { λ q. q.number ≤ most_qubits };
+
+    ghost inverse = { λ n. record { number = n } };
+}
+
+impl QubitCount {
+    ghost use Rattle.std.specs.Prelude.{◌≡◌, ◌≤◌};
+    ghost use Rattle.stab_letters.specs.Limits.{most_qubits};
+
+    /// The most qubits of a circuit.
+    pub const MOST: usize = 1024;
+
+    /// So many qubits, at most 1,024.
+    pub fn new(number: usize) -> QubitCount
+        requires in_range { number ≤ most_qubits }
+        ensures value { result ≡ number }
+    {
+        QubitCount { number }
+    }
+
+    /// How many qubits.
+    pub fn number(self) -> usize
+        ensures value { result ≡ self }
+        ensures in_range { result ≤ most_qubits }
+    {
+        self.number
+    }
+}
+
+/// After how many steps a session keeps a checkpoint, from 1 to 65,536. It changes how long edits take
+/// and how much memory they need, and nothing that is written.
+#[derive(Clone, Copy, Debug, PartialEq, Eq)]
+pub struct Stride {
+    steps: usize,
+}
+
+impl Model for Stride {
+    ghost use Rattle.std.specs.Prelude.{ℕ, ◌≤◌};
+    ghost use Rattle.stab_run.specs.Limits.{most_stride};
+
+    ghost Value = { ℕ };
+
+    ghost view = { λ s. s.steps };
+
+    ghost invariant = { λ s. (1 ≤ s.steps) × (s.steps ≤ most_stride) };
+
+    ghost inverse = { λ n. record { steps = n } };
+}
+
+impl Stride {
+    ghost use Rattle.std.specs.Prelude.{◌≡◌, ◌≤◌};
+    ghost use Rattle.stab_run.specs.Limits.{most_stride};
+
+    /// The greatest stride.
+    pub const MOST: usize = 65_536;
+
+    /// So many steps, from 1 to 65,536.
+    pub fn new(steps: usize) -> Stride
+        requires above { 1 ≤ steps }
+        requires within { steps ≤ most_stride }
+        ensures value { result ≡ steps }
+    {
+        Stride { steps }
+    }
+
+    /// How many steps.
+    pub fn steps(self) -> usize
+        ensures value { result ≡ self }
+        ensures above { 1 ≤ result }
+        ensures within { result ≤ most_stride }
+    {
+        self.steps
+    }
+}
+
+/// A command, with the options that are its own.
+#[derive(Clone, Copy, Debug, PartialEq, Eq)]
+pub enum Command {
+    /// Writes the records of each shot.
+    Sample {
+        format: Format,
+        shots: Shots,
+    },
+    /// Writes the detectors of each shot and, where `append` says so, the observables behind them.
+    Detect {
+        format: Format,
+        shots: Shots,
+        append: bool,
+    },
+    /// Writes the reduced rows of the strings that stabilise the state after shot 0.
+    Stabilisers,
+    /// Writes the numbers of a circuit, or what is wrong with it.
+    Check,
+    /// Writes a bit for each detector and then each observable: 1 where it is the same for all coins.
+    Deterministic {
+        format: Format,
+    },
+    /// Writes which detectors and observables each fault flips, at the places that the circuit marks
+    /// or `everywhere`. A circuit in which one is not the same for all coins is refused, but where
+    /// `sure_only` leaves such ones out.
+    Faults {
+        layout: FaultLayout,
+        everywhere: bool,
+        sure_only: bool,
+    },
+    /// Edits the circuit by a script, on so many qubits or on as many as it names, and writes the
+    /// replies, framed where a program is to read them.
+    Edit {
+        framed: bool,
+        qubits: Option<QubitCount>,
+        stride: Stride,
+    },
+}
+
+/// What the words of a command line ask for: a command, and what every command has.
+#[derive(Debug, Drop, PartialEq, Eq)]
+pub struct Job {
+    /// The command with its own options.
+    pub command: Command,
+    /// Where its coins come from.
+    pub source: Source,
+    /// The file that its coins are read from, in place of a word.
+    pub coins_path: Option<String>,
+    /// The file that is read in place of standard input.
+    pub in_path: Option<String>,
+    /// The file that is written in place of standard output.
+    pub out_path: Option<String>,
+}
+
+impl Job {
+    ghost use Rattle.std.specs.Prelude.{◌≡◌};
+    ghost use Rattle.stab_jobs.specs.Commands.{reads_script};
+
+    /// Whether its command reads a script.
+    pub fn reads_script(&self) -> bool
+        ensures value { result ≡ reads_script self.now.command }
+    {
+        matches!(self.command, Command::Edit { .. })
+    }
+}

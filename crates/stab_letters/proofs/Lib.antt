@@ -1,0 +1,3 @@
+pub mod ParityLemmas
+pub mod PhaseLemmas
+pub mod LetterLemmas

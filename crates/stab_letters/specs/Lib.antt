@@ -1,0 +1,5 @@
+pub mod Phases
+pub mod Letters
+pub mod XParts
+pub mod LetterTexts
+pub mod Limits

@@ -1,0 +1,243 @@
+-- Framed runs: behind a point where it differs by a frame from another, a run gives what the other gives, flipped, as far as the frame
+-- goes, and then the same.
+use Rattle.std.proofs.Common.{◌≡◌, ℕ, zero, suc, ◌+◌, ◌-◌, ◌<◌, ◌≤◌, min, refl, sym, ◌∙◌, ap, subst, Bool, false, ◌||◌, inl, inr, List, [], ◌∷◌, ◌++◌, length, take, drop, All, replicate, nat_lt, Option, arith}
+use Rattle.std.specs.Prelude.{IfSome}
+use Rattle.std.specs.List.{list_any}
+use Rattle.std.proofs.lemmas.Bool.{cases_lt}
+use Rattle.std.proofs.lemmas.List.{take-take, take_all}
+use Rattle.std.proofs.lemmas.List.Elements.{All-take}
+use Rattle.std.proofs.lemmas.Option.{IfSome_then}
+use Rattle.stab_letters.specs.declared.letter.Letter.{Letter}
+use Rattle.stab_letters.specs.declared.letter.Letter.TheVariants.{I}
+use Rattle.stab_letters.specs.Letters.{◌⊕◌}
+use Rattle.stab_pauli.specs.Paulis.{Signed, with_sign, strings_anticommute}
+use Rattle.stab_tableau.specs.Traces.{member}
+use Rattle.stab_tableau.specs.Groups.{SameGroup, IsStabiliserGroup}
+use Rattle.stab_tableau.specs.Exchanges.{Exchanges}
+use Rattle.stab_tableau.specs.Turns.{IsTurned}
+use Rattle.stab_circuit.specs.Steps.{Step, makes, lookbacks, looks_too_far}
+use Rattle.stab_run.specs.declared.records.Addition.{Addition}
+use Rattle.stab_run.specs.Records.{looked_up}
+use Rattle.stab_run.specs.Points.{Point, RunOutput, nothing, joined, coins_of, next_point, point_after, outputs}
+use Rattle.stab_run.specs.ProgramStates.{StepFits}
+use Rattle.stab_run.proofs.RunLemmas.{after-append, outputs-append, joined-nothing}
+use Rattle.stab_frames.specs.Flips.{flipped, flipped_additions, flipped_output}
+use Rattle.stab_frames.specs.Frames.{Frame, PointsDifferBy}
+use Rattle.stab_frames.specs.Notes.{same_coins}
+use Rattle.stab_frames.specs.FrameSteps.{frame_over, flips_over}
+use Rattle.stab_frames.specs.StepNotes.{AreEnough, measured_by}
+use Rattle.stab_frames.specs.KeptStrings.{IsTrueAt, AreTrue}
+use Rattle.stab_frames.specs.Walks.{IsGone}
+use Rattle.stab_frames.specs.Ends.{AgreeBack}
+use Rattle.stab_replay.proofs.PointLemmas.{HaveSameFuture, take-more}
+use Rattle.stab_frames.proofs.SignLemmas.{sign-twice}
+use Rattle.stab_frames.proofs.TurnedLemmas.{turned-blank}
+use Rattle.stab_frames.proofs.LookbackLemmas.{or-left, or-right}
+use Rattle.stab_frames.proofs.FlipLemmas.{looked_up-flipped, flipped-joined}
+use Rattle.stab_frames.proofs.StepLemmas.{over-framed, outputs-matches}
+use Rattle.stab_frames.proofs.NoteLemmas.{enough-before}
+use Rattle.stab_frames.proofs.EndLemmas.{same-future-back}
+
+-- strings that exchange outcomes in the one state do so in the other
+
+exchanges-turned : (n : ℕ) (g : List Letter) (u v : Signed → Bool) → IsTurned n g u v → (m : Signed) (s : List Letter) → Exchanges n u m s → Exchanges n v m s
+exchanges-turned n g u v turned m s e =
+    let p : Signed = record { negative = e.negative; letters = s } in
+    record {
+      size = e.size;
+      negative = strings_anticommute g s ⊕ e.negative;
+      stabilises = turned (with_sign (strings_anticommute g s) p) e.size ∙ ap u (sign-twice (strings_anticommute g s) p) ∙ e.stabilises;
+      apart = e.apart;
+    }
+
+true-turned-at : (n : ℕ) (strings : ℕ → Option (List Letter)) (x : Step) (a b : Point) (g : List Letter) → IsTurned n g (member a.trace) (member b.trace)
+    → b.coin ≡ a.coin → IsTrueAt n strings x a → IsTrueAt n strings x b
+true-turned-at n strings x a b g turned coin is =
+    IfSome_then (measured_by n x) is (λ m held.
+    subst (λ t. IfSome (strings t) (λ s. Exchanges n (member b.trace) m s)) (sym coin)
+    (IfSome_then (strings a.coin) held (λ s e. exchanges-turned n g (member a.trace) (member b.trace) turned m s e)))
+
+-- two points so many steps on differ by letters alone
+abbrev pub AreTurnedBehind : ℕ → (ℕ → Bool) → List Step → Point → Point → Type 0
+AreTurnedBehind n coins xs a b =
+    (m : ℕ) → (g : List Letter) × IsTurned n g (member (point_after n coins (take m xs) a).trace) (member (point_after n coins (take m xs) b).trace)
+
+pub true-turned : (n : ℕ) (coins : ℕ → Bool) (strings : ℕ → Option (List Letter)) (xs : List Step) (a b : Point) → b.coin ≡ a.coin → AreTurnedBehind n coins xs a b
+    → AreTrue n coins strings xs a → AreTrue n coins strings xs b
+true-turned n coins strings [] a b coin turned is = tt
+true-turned n coins strings (x ∷ xs) a b coin turned is = (
+  true-turned-at n strings x a b (turned 0).0 (turned 0).1 coin is.0,
+  true-turned n coins strings xs (next_point n coins x a) (next_point n coins x b) (ap (λ t. t + coins_of x) coin) (λ m. turned (suc m)) is.1,
+)
+
+-- no output is flipped by nothing
+
+pub flipped-empty : (bits : List Bool) → flipped bits [] ≡ bits
+flipped-empty [] = refl
+flipped-empty (bit ∷ bits) = refl
+
+additions-empty : (additions : List Addition) → flipped_additions additions [] ≡ additions
+additions-empty [] = refl
+additions-empty (a ∷ more) = refl
+
+flipped-nothing : (o : RunOutput) → flipped_output o nothing ≡ o
+flipped-nothing o = λ i. record {
+  records = flipped-empty o.records i;
+  free = flipped-empty o.free i;
+  detectors = flipped-empty o.detectors i;
+  additions = additions-empty o.additions i;
+}
+
+-- the first of steps that look back so far look back so far
+
+looks-front : (m k : ℕ) (xs : List Step) → looks_too_far m xs ≡ false → looks_too_far m (take k xs) ≡ false
+looks-front m zero xs near = refl
+looks-front m (suc k) [] near = refl
+looks-front m (suc k) (x ∷ xs) near =
+    both-false (list_any (nat_lt m) (lookbacks x)) (looks_too_far (m + makes x) (take k xs))
+    (or-left (list_any (nat_lt m) (lookbacks x)) (looks_too_far (m + makes x) xs) near)
+    (looks-front (m + makes x) k xs (or-right (list_any (nat_lt m) (lookbacks x)) (looks_too_far (m + makes x) xs) near))
+  where
+    both-false : (a b : Bool) → a ≡ false → b ≡ false → (a || b) ≡ false
+    both-false a b e f = grind arith
+
+-- points that agree as far back as steps look have the same future by these
+pub future-back : (n reach : ℕ) (coins : ℕ → Bool) (back : List Step) (a b : Point) → looks_too_far reach back ≡ false → AgreeBack n reach a b → HaveSameFuture n coins back a b
+future-back n reach coins back a b near agree m =
+    let both = same-future-back n coins reach (take m back) a b (looks-front reach m back near) agree in
+    (both.0, both.1.group)
+
+-- and differ by no letter
+pub future-turned : (n : ℕ) (coins : ℕ → Bool) (back : List Step) (a b : Point) → HaveSameFuture n coins back a b → AreTurnedBehind n coins back a b
+future-turned n coins back a b future m = (
+  replicate n I,
+  (λ p size. sym ((future m).1 p size) ∙ turned-blank n (member (point_after n coins (take m back) a).trace) p size),
+)
+
+-- a run behind a point that differs by a frame, which went over so many steps and then was gone, or over all
+
+-- so many steps on the one run differs from the other by letters, and gave what the other gave, flipped
+pub record IsFramedBehind (n : ℕ) (coins : ℕ → Bool) (strings : ℕ → Option (List Letter)) (count : ℕ) (back : List Step) (f : Frame) (a b : Point) (m : ℕ) : Type 0 where
+  pub group : IsTurned n (frame_over n (same_coins strings) (take (min m count) back) a.coin f).letters
+      (member (point_after n coins (take m back) a).trace) (member (point_after n coins (take m back) b).trace)
+  pub given : outputs n coins (take m back) b
+      ≡ flipped_output (outputs n coins (take m back) a) (flips_over n (same_coins strings) (take (min m count) back) a.coin f)
+
+module _ (n : ℕ) (coins : ℕ → Bool) (strings : ℕ → Option (List Letter)) (count : ℕ) (back : List Step) (f : Frame) (a b : Point)
+    (fits : All (StepFits n) back) (group : IsStabiliserGroup n (member a.trace)) (framed : PointsDifferBy n f a b)
+    (enough : AreEnough n coins (same_coins strings) (take count back) f a) where
+  over : (m : ℕ) → m ≤ count
+      → (outputs n coins (take m back) b ≡ flipped_output (outputs n coins (take m back) a) (flips_over n (same_coins strings) (take m back) a.coin f))
+      × PointsDifferBy n (frame_over n (same_coins strings) (take m back) a.coin f) (point_after n coins (take m back) a) (point_after n coins (take m back) b)
+  over m le =
+      over-framed n coins (same_coins strings) (take m back) f a b (All-take (StepFits n) m back fits) group
+      (subst (λ xs. AreEnough n coins (same_coins strings) xs f a) (take-take m count back le)
+      (enough-before n coins (same_coins strings) m (take count back) f a enough)) framed
+
+  behind-over : (m : ℕ) → m ≤ count → IsFramedBehind n coins strings count back f a b m
+  behind-over m le = record {
+    group =
+        subst (λ k. IsTurned n (frame_over n (same_coins strings) (take k back) a.coin f).letters
+        (member (point_after n coins (take m back) a).trace) (member (point_after n coins (take m back) b).trace)) (omega arith) (over m le).1.group;
+    given =
+        subst (λ k. outputs n coins (take m back) b ≡ flipped_output (outputs n coins (take m back) a) (flips_over n (same_coins strings) (take k back) a.coin f))
+        (omega arith) (over m le).0;
+  }
+
+  module _ (reach : ℕ) (gone : IsGone n reach (frame_over n (same_coins strings) (take count back) a.coin f))
+      (near : looks_too_far reach (drop count back) ≡ false) where
+    here : Point
+    here = point_after n coins (take count back) a
+
+    there : Point
+    there = point_after n coins (take count back) b
+
+    last : PointsDifferBy n (frame_over n (same_coins strings) (take count back) a.coin f) (point_after n coins (take count back) a) (point_after n coins (take count back) b)
+    last = (over count (omega arith)).1
+
+    quiet : AgreeBack n reach (point_after n coins (take count back) a) (point_after n coins (take count back) b)
+    quiet = record {
+      group = λ p l.
+          turned-blank n (member (point_after n coins (take count back) a).trace) p l
+          ∙ sym (subst (λ g. IsTurned n g (member (point_after n coins (take count back) a).trace) (member (point_after n coins (take count back) b).trace))
+          gone.letters last.group p l);
+      coin = sym last.coin;
+      records = λ k le.
+          sym (ap (λ r. looked_up r k) last.records
+          ∙ looked_up-flipped (point_after n coins (take count back) a).records (frame_over n (same_coins strings) (take count back) a.coin f).flips last.count k
+          ∙ ap (λ c. c ⊕ looked_up (point_after n coins (take count back) a).records k) (gone.flips k le));
+    }
+
+    -- so many steps further on
+    later : (m : ℕ) → (outputs n coins (take m (drop count back)) (point_after n coins (take count back) a)
+        ≡ outputs n coins (take m (drop count back)) (point_after n coins (take count back) b))
+        × SameGroup n (member (point_after n coins (take m (drop count back)) (point_after n coins (take count back) a)).trace)
+        (member (point_after n coins (take m (drop count back)) (point_after n coins (take count back) b)).trace)
+    later m =
+        let both = same-future-back n coins reach (take m (drop count back)) (point_after n coins (take count back) a) (point_after n coins (take count back) b)
+        (looks-front reach m (drop count back) near) quiet in
+        (both.0, both.1.group)
+
+    cut-at : (m : ℕ) → count ≤ m → take m back ≡ take count back ++ take (m - count) (drop count back)
+    cut-at m le = ap (λ k. take k back) (omega arith) ∙ take-more count (m - count) back
+
+    at-count : (m : ℕ) → count ≤ m → (c : Point) → point_after n coins (take m back) c ≡ point_after n coins (take (m - count) (drop count back)) (point_after n coins (take count back) c)
+    at-count m le c = ap (λ xs. point_after n coins xs c) (cut-at m le) ∙ after-append n coins (take count back) (take (m - count) (drop count back)) c
+
+    given-count : (m : ℕ) → count ≤ m → (c : Point)
+        → outputs n coins (take m back) c ≡ joined (outputs n coins (take count back) c) (outputs n coins (take (m - count) (drop count back)) (point_after n coins (take count back) c))
+    given-count m le c = ap (λ xs. outputs n coins xs c) (cut-at m le) ∙ outputs-append n coins (take count back) (take (m - count) (drop count back)) c
+
+    behind-gone : (m : ℕ) → count ≤ m → IsFramedBehind n coins strings count back f a b m
+    behind-gone m le = record {
+      group =
+          subst (λ k. IsTurned n (frame_over n (same_coins strings) (take k back) a.coin f).letters
+          (member (point_after n coins (take m back) a).trace) (member (point_after n coins (take m back) b).trace)) (omega arith)
+          (subst (λ g. IsTurned n g (member (point_after n coins (take m back) a).trace) (member (point_after n coins (take m back) b).trace)) (sym gone.letters)
+          (subst (λ (c : Point). IsTurned n (replicate n I) (member c.trace) (member (point_after n coins (take m back) b).trace)) (sym (at-count m le a))
+          (subst (λ (c : Point). IsTurned n (replicate n I) (member (point_after n coins (take (m - count) (drop count back)) (point_after n coins (take count back) a)).trace) (member c.trace)) (sym (at-count m le b))
+          (λ p l. sym ((later (m - count)).1 p l)
+          ∙ turned-blank n (member (point_after n coins (take (m - count) (drop count back)) (point_after n coins (take count back) a)).trace) p l))));
+      given =
+          subst (λ k. outputs n coins (take m back) b ≡ flipped_output (outputs n coins (take m back) a) (flips_over n (same_coins strings) (take k back) a.coin f))
+          (omega arith)
+          (given-count m le b
+          ∙ (λ i. joined ((over count (omega arith)).0 i) (sym (later (m - count)).0 i))
+          ∙ ap (joined (flipped_output (outputs n coins (take count back) a) (flips_over n (same_coins strings) (take count back) a.coin f)))
+          (sym (flipped-nothing (outputs n coins (take (m - count) (drop count back)) (point_after n coins (take count back) a))))
+          ∙ sym (flipped-joined (outputs n coins (take count back) a) (outputs n coins (take (m - count) (drop count back)) (point_after n coins (take count back) a))
+          (flips_over n (same_coins strings) (take count back) a.coin f) nothing
+          (outputs-matches n coins (same_coins strings) (take count back) a a.coin f))
+          ∙ (λ i. flipped_output (sym (given-count m le a) i) (joined-nothing (flips_over n (same_coins strings) (take count back) a.coin f) i)));
+    }
+
+    pub framed-gone : (m : ℕ) → IsFramedBehind n coins strings count back f a b m
+    framed-gone m =
+        elim (cases_lt count m) [
+          | inl lt ↦ behind-gone m (omega arith)
+          | inr le ↦ behind-over m le
+        ]
+
+  pub framed-all : count ≡ length back → (m : ℕ) → IsFramedBehind n coins strings count back f a b m
+  framed-all all m =
+      elim (cases_lt count m) [
+        | inl lt ↦ beyond lt
+        | inr le ↦ behind-over m le
+      ]
+    where
+      beyond : count < m → IsFramedBehind n coins strings count back f a b m
+      beyond lt = record {
+        group =
+            subst (λ k. IsTurned n (frame_over n (same_coins strings) (take k back) a.coin f).letters
+            (member (point_after n coins (take m back) a).trace) (member (point_after n coins (take m back) b).trace)) (omega arith)
+            (subst (λ xs. IsTurned n (frame_over n (same_coins strings) (take count back) a.coin f).letters (member (point_after n coins xs a).trace) (member (point_after n coins xs b).trace))
+            same (over count (omega arith)).1.group);
+        given =
+            subst (λ k. outputs n coins (take m back) b ≡ flipped_output (outputs n coins (take m back) a) (flips_over n (same_coins strings) (take k back) a.coin f))
+            (omega arith)
+            (subst (λ xs. outputs n coins xs b ≡ flipped_output (outputs n coins xs a) (flips_over n (same_coins strings) (take count back) a.coin f)) same
+            (over count (omega arith)).0);
+      }
+        where
+          same : take count back ≡ take m back
+          same = take_all count back (omega arith) ∙ sym (take_all m back (omega arith))

@@ -1,0 +1,21 @@
+mod PointLemmas
+mod LastBitsLemmas
+mod ReplayLemmas
+mod LaidLemmas
+mod KeptLemmas
+mod FollowLemmas
+mod CountLemmas
+mod CourseLemmas
+pub mod SpacingLemmas
+mod CheckpointLemmas
+mod FramedLemmas
+mod SegmentLemmas
+mod TurnedCopyLemmas
+mod FlippedLemmas
+mod FrameStartLemmas
+mod FramedStepLemmas
+mod NotedSegmentLemmas
+mod OverCopyLemmas
+mod LedLemmas
+mod LedWayLemmas
+mod NotedLemmas

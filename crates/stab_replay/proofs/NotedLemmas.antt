@@ -1,0 +1,391 @@
+-- Noted strings: those that exchange the free outcomes of a run, cut and put together where runs are.
+use Rattle.std.proofs.Common.{◌≡◌, ℕ, zero, suc, ◌+◌, ◌-◌, ◌<◌, ◌≤◌, min, refl, sym, ◌∙◌, ap, subst, Bool, true, false, ◌||◌, ◌⊎◌, inl, inr, List, [], ◌∷◌, ◌++◌, length, take, drop, All, slice_get, get_or, nat_lt, nat_le, Option, None, arith}
+use Rattle.std.specs.Prelude.{IfSome, if◌then◌else◌}
+use Rattle.std.specs.List.{list_any}
+use Rattle.std.proofs.lemmas.Bool.{cases_lt}
+use Rattle.std.proofs.lemmas.Bool.Decides.{leb_tells}
+use Rattle.std.proofs.lemmas.List.{length-append, length-drop, take-append-drop}
+use Rattle.std.proofs.lemmas.List.Elements.{All-head, All-tail, All-append, All-drop, All-take, All-nil, All-weaker}
+use Rattle.stab_letters.specs.declared.letter.Letter.{Letter}
+use Rattle.stab_circuit.specs.Steps.{Step, one, two, controlled, collapse, product, detector, observable, makes, lookbacks, looks_too_far}
+use Rattle.stab_run.specs.Records.{ones}
+use Rattle.stab_run.specs.Points.{Point, RunOutput, origin, coins_of, all_coins_of, next_point, point_after, outputs}
+use Rattle.stab_run.specs.ProgramStates.{ProgramState, IsAt}
+use Rattle.stab_run.proofs.RecordLemmas.{ones-append}
+use Rattle.stab_run.proofs.PointLemmas.{flags-are-coins, front-output}
+use Rattle.stab_frames.specs.Limits.{most_strings}
+use Rattle.stab_frames.specs.KeptStrings.{StringsState, IsNumbered, IsTrueAt, AreTrue, KeepsTrue, note_at, front_kept}
+use Rattle.stab_frames.specs.Lookbacks.{LooksWithin}
+use Rattle.stab_frames.proofs.LookbackLemmas.{or-left, or-right}
+use Rattle.stab_replay.specs.KeptRuns.{IsNoted}
+use Rattle.stab_replay.specs.inner.Prepared.{IsSpliced}
+use Rattle.stab_replay.proofs.FramedLemmas.{AreTurnedBehind, true-turned}
+
+-- how far back steps look
+
+below-more : (m r k : ℕ) → m ≤ r → nat_lt m k ≡ false → nat_lt r k ≡ false
+below-more m r k le e = grind arith
+
+both-false : (a b : Bool) → a ≡ false → b ≡ false → (a || b) ≡ false
+both-false a b e f = grind arith
+
+any-more : (m r : ℕ) (ks : List ℕ) → m ≤ r → list_any (nat_lt m) ks ≡ false → list_any (nat_lt r) ks ≡ false
+any-more m r [] le e = refl
+any-more m r (k ∷ ks) le e =
+    both-false (nat_lt r k) (list_any (nat_lt r) ks) (below-more m r k le (or-left (nat_lt m k) (list_any (nat_lt m) ks) e))
+    (any-more m r ks le (or-right (nat_lt m k) (list_any (nat_lt m) ks) e))
+
+pub within-more : (m r : ℕ) (xs : List Step) → m ≤ r → All (LooksWithin m) xs → All (LooksWithin r) xs
+within-more m r xs le all = All-weaker (LooksWithin m) (LooksWithin r) (λ x near. any-more m r (lookbacks x) le near) xs all
+
+pub near-enough : (m r : ℕ) (xs : List Step) → m ≤ r → All (LooksWithin m) xs → looks_too_far r xs ≡ false
+near-enough m r [] le all = refl
+near-enough m r (x ∷ xs) le all =
+    both-false (list_any (nat_lt r) (lookbacks x)) (looks_too_far (r + makes x) xs)
+    (any-more m r (lookbacks x) le (All-head (LooksWithin m) x xs all))
+    (near-enough m (r + makes x) xs (omega arith) (All-tail (LooksWithin m) x xs all))
+
+-- notes that are none, or the same
+
+abbrev IsNoneOr : Option (List Letter) → Option (List Letter) → Type 0
+IsNoneOr o p = (o ≡ None) ⊎ (o ≡ p)
+
+none-or : (P : List Letter → Type 0) (o p : Option (List Letter)) → IsNoneOr o p → IfSome p P → IfSome o P
+none-or P o p (inl e) h = subst (λ q. IfSome q P) (sym e) tt
+none-or P o p (inr e) h = subst (λ q. IfSome q P) (sym e) h
+
+at-changed : (n : ℕ) (strings others : ℕ → Option (List Letter)) (x : Step) (a : Point) → (coins_of x ≡ 1 → IsNoneOr (others a.coin) (strings a.coin))
+    → IsTrueAt n strings x a → IsTrueAt n others x a
+at-changed n strings others (one g q) a h is = tt
+at-changed n strings others (two g q r) a h is = tt
+at-changed n strings others (controlled l k q) a h is = tt
+at-changed n strings others (collapse l q recorded inverted resets) a h is = none-or _ (others a.coin) (strings a.coin) (h refl) is
+at-changed n strings others (product factors inverted) a h is = none-or _ (others a.coin) (strings a.coin) (h refl) is
+at-changed n strings others (detector ks) a h is = tt
+at-changed n strings others (observable j ks) a h is = tt
+
+true-changed : (n : ℕ) (coins : ℕ → Bool) (strings others : ℕ → Option (List Letter)) (xs : List Step) (a : Point)
+    → ((t : ℕ) → a.coin ≤ t → t < a.coin + all_coins_of xs → IsNoneOr (others t) (strings t)) → AreTrue n coins strings xs a → AreTrue n coins others xs a
+true-changed n coins strings others [] a h is = tt
+true-changed n coins strings others (x ∷ xs) a h is = (
+  at-changed n strings others x a (λ e. h a.coin (omega arith) (omega (arith, e))) is.0,
+  true-changed n coins strings others xs (next_point n coins x a) (λ t le lt. h t (omega (arith, le)) (omega (arith, lt))) is.1,
+)
+
+-- strings of steps one after another
+
+pub true-append : (n : ℕ) (coins : ℕ → Bool) (strings : ℕ → Option (List Letter)) (xs ys : List Step) (a : Point)
+    → AreTrue n coins strings xs a → AreTrue n coins strings ys (point_after n coins xs a) → AreTrue n coins strings (xs ++ ys) a
+true-append n coins strings [] ys a here later = later
+true-append n coins strings (x ∷ xs) ys a here later = (here.0, true-append n coins strings xs ys (next_point n coins x a) here.1 later)
+
+pub true-front : (n : ℕ) (coins : ℕ → Bool) (strings : ℕ → Option (List Letter)) (xs ys : List Step) (a : Point)
+    → AreTrue n coins strings (xs ++ ys) a → AreTrue n coins strings xs a
+true-front n coins strings [] ys a is = tt
+true-front n coins strings (x ∷ xs) ys a is = (is.0, true-front n coins strings xs ys (next_point n coins x a) is.1)
+
+pub true-back : (n : ℕ) (coins : ℕ → Bool) (strings : ℕ → Option (List Letter)) (xs ys : List Step) (a : Point)
+    → AreTrue n coins strings (xs ++ ys) a → AreTrue n coins strings ys (point_after n coins xs a)
+true-back n coins strings [] ys a is = is
+true-back n coins strings (x ∷ xs) ys a is = true-back n coins strings xs ys (next_point n coins x a) is.1
+
+pub coins-are : (n : ℕ) (coins : ℕ → Bool) (xs : List Step) (a : Point) → (point_after n coins xs a).coin ≡ a.coin + all_coins_of xs
+coins-are n coins [] a = omega arith
+coins-are n coins (x ∷ xs) a = omega (arith, coins-are n coins xs (next_point n coins x a))
+
+-- elements of lists that are cut
+
+none-more : (j : ℕ) → 0 + j ≡ j
+none-more j = omega arith
+
+one-more : (k j : ℕ) → suc k + j ≡ suc (k + j)
+one-more k j = omega arith
+
+get-take : {X : Type 0} (k j : ℕ) (xs : List X) → (slice_get (take k xs) j ≡ None) ⊎ (slice_get (take k xs) j ≡ slice_get xs j)
+get-take zero j xs = inl refl
+get-take (suc k) j [] = inr refl
+get-take (suc k) zero (x ∷ xs) = inr refl
+get-take (suc k) (suc j) (x ∷ xs) = get-take k j xs
+
+get-beyond : {X : Type 0} (k j : ℕ) (xs : List X) → k ≤ j → slice_get (take k xs) j ≡ None
+get-beyond zero j xs le = refl
+get-beyond (suc k) j [] le = refl
+get-beyond (suc k) zero (x ∷ xs) le = absurd (omega arith)
+get-beyond (suc k) (suc j) (x ∷ xs) le = get-beyond k j xs (omega arith)
+
+get-left : {X : Type 0} (xs ys : List X) (j : ℕ) → j < length xs → slice_get (xs ++ ys) j ≡ slice_get xs j
+get-left [] ys j lt = absurd (omega arith)
+get-left (x ∷ xs) ys zero lt = refl
+get-left (x ∷ xs) ys (suc j) lt = get-left xs ys j (omega arith)
+
+get-right : {X : Type 0} (xs ys : List X) (j : ℕ) → slice_get (xs ++ ys) (length xs + j) ≡ slice_get ys j
+get-right [] ys j = ap (slice_get ys) (none-more j)
+get-right (x ∷ xs) ys j = ap (slice_get (x ∷ xs ++ ys)) (one-more (length xs) j) ∙ get-right xs ys j
+
+get-drop : {X : Type 0} (k j : ℕ) (xs : List X) → slice_get (drop k xs) j ≡ slice_get xs (k + j)
+get-drop zero j xs = ap (slice_get xs) (sym (none-more j))
+get-drop (suc k) j [] = refl
+get-drop (suc k) j (x ∷ xs) = get-drop k j xs ∙ ap (slice_get (x ∷ xs)) (sym (one-more k j))
+
+bit-take : (m t : ℕ) (bits : List Bool) → t < m → get_or (take m bits) t false ≡ get_or bits t false
+bit-take zero t bits lt = absurd (omega arith)
+bit-take (suc m) t [] lt = refl
+bit-take (suc m) zero (b ∷ bits) lt = refl
+bit-take (suc m) (suc t) (b ∷ bits) lt = bit-take m t bits (omega arith)
+
+bit-left : (xs ys : List Bool) (t : ℕ) → t < length xs → get_or (xs ++ ys) t false ≡ get_or xs t false
+bit-left [] ys t lt = absurd (omega arith)
+bit-left (x ∷ xs) ys zero lt = refl
+bit-left (x ∷ xs) ys (suc t) lt = bit-left xs ys t (omega arith)
+
+bit-right : (xs ys : List Bool) (t : ℕ) → get_or (xs ++ ys) (length xs + t) false ≡ get_or ys t false
+bit-right [] ys t = ap (λ k. get_or ys k false) (none-more t)
+bit-right (x ∷ xs) ys t = ap (λ k. get_or (x ∷ xs ++ ys) k false) (one-more (length xs) t) ∙ bit-right xs ys t
+
+bit-drop : (c t : ℕ) (bits : List Bool) → get_or (drop c bits) t false ≡ get_or bits (c + t) false
+bit-drop zero t bits = ap (λ k. get_or bits k false) (sym (none-more t))
+bit-drop (suc c) t [] = refl
+bit-drop (suc c) t (b ∷ bits) = bit-drop c t bits ∙ ap (λ k. get_or (b ∷ bits) k false) (sym (one-more c t))
+
+take-left : (xs ys : List Bool) (t : ℕ) → t < length xs → take t (xs ++ ys) ≡ take t xs
+take-left [] ys t lt = absurd (omega arith)
+take-left (x ∷ xs) ys zero lt = refl
+take-left (x ∷ xs) ys (suc t) lt = ap (λ l. x ∷ l) (take-left xs ys t (omega arith))
+
+take-right : (xs ys : List Bool) (t : ℕ) → take (length xs + t) (xs ++ ys) ≡ xs ++ take t ys
+take-right [] ys t = ap (λ k. take k ys) (none-more t)
+take-right (x ∷ xs) ys t = ap (λ k. take k (x ∷ xs ++ ys)) (one-more (length xs) t) ∙ ap (λ l. x ∷ l) (take-right xs ys t)
+
+take-again : (m t : ℕ) (bits : List Bool) → t < m → take t (take m bits) ≡ take t bits
+take-again zero t bits lt = absurd (omega arith)
+take-again (suc m) zero bits lt = refl
+take-again (suc m) (suc t) [] lt = refl
+take-again (suc m) (suc t) (b ∷ bits) lt = ap (λ l. b ∷ l) (take-again m t bits (omega arith))
+
+take-on : (c t : ℕ) (bits : List Bool) → ones (take (c + t) bits) ≡ ones (take c bits) + ones (take t (drop c bits))
+take-on zero t bits = ap (λ k. ones (take k bits)) (none-more t) ∙ sym (none-more (ones (take t bits)))
+take-on (suc c) t [] = ap (λ k. ones (take k [])) (one-more c t) ∙ take-none t
+  where
+    take-none : (t : ℕ) → 0 ≡ 0 + ones (take t [])
+    take-none zero = refl
+    take-none (suc t) = refl
+take-on (suc c) t (true ∷ bits) =
+    ap (λ k. ones (take k (true ∷ bits))) (one-more c t) ∙ (let e = take-on c t bits in omega (arith, e))
+take-on (suc c) t (false ∷ bits) = ap (λ k. ones (take k (false ∷ bits))) (one-more c t) ∙ take-on c t bits
+
+pub ones-take : (c : ℕ) (bits : List Bool) → ones (take c bits) + ones (drop c bits) ≡ ones bits
+ones-take c bits = sym (ones-append (take c bits) (drop c bits)) ∙ ap ones (take-append-drop c bits)
+
+-- a bit that is 1 is counted
+pub counted : (t : ℕ) (bits : List Bool) → get_or bits t false ≡ true → ones (take t bits) < ones bits
+counted t [] e = absurd (cc)
+counted zero (true ∷ bits) e = omega arith
+counted zero (false ∷ bits) e = absurd (cc)
+counted (suc t) (true ∷ bits) e = let le = counted t bits e in omega arith
+counted (suc t) (false ∷ bits) e = counted t bits e
+
+-- a note where strings and flags are cut
+
+choose : (b c : Bool) (o p : Option (List Letter)) → b ≡ c → (c ≡ true → IsNoneOr o p) → IsNoneOr (if b then o else None) (if c then p else None)
+choose b true o p e h = subst (λ d. IsNoneOr (if d then o else None) p) (sym e) (h refl)
+choose b false o p e h = inl (ap (λ d. if d then o else None) e)
+
+note-front : (strings : List (List Letter)) (free : List Bool) (k m t : ℕ) → t < m → IsNoneOr (note_at (take k strings) (take m free) t) (note_at strings free t)
+note-front strings free k m t lt =
+    choose (get_or (take m free) t false) (get_or free t false) (slice_get (take k strings) (ones (take t (take m free)))) (slice_get strings (ones (take t free)))
+    (bit-take m t free lt)
+    (λ is. subst (λ bits. IsNoneOr (slice_get (take k strings) (ones bits)) (slice_get strings (ones (take t free)))) (sym (take-again m t free lt))
+    (get-take k (ones (take t free)) strings))
+
+-- and where others are put behind them
+
+module _ (s : StringsState) (flags : List Bool) (numbered : IsNumbered s flags) (others : List (List Letter)) (more : List Bool) where
+  note-left : (t : ℕ) → t < length flags → IsNoneOr (note_at (take s.most (s.strings ++ others)) (flags ++ more) t) (note_at s.strings flags t)
+  note-left t lt =
+      choose (get_or (flags ++ more) t false) (get_or flags t false) (slice_get (take s.most (s.strings ++ others)) (ones (take t (flags ++ more))))
+      (slice_get s.strings (ones (take t flags))) (bit-left flags more t lt)
+      (λ is. subst (λ bits. IsNoneOr (slice_get (take s.most (s.strings ++ others)) (ones bits)) (slice_get s.strings (ones (take t flags)))) (sym (take-left flags more t lt))
+      (by_place (counted t flags is) (cases_lt (ones (take t flags)) (length s.strings))))
+    where
+      by_place : ones (take t flags) < ones flags → (ones (take t flags) < length s.strings) ⊎ (length s.strings ≤ ones (take t flags))
+          → IsNoneOr (slice_get (take s.most (s.strings ++ others)) (ones (take t flags))) (slice_get s.strings (ones (take t flags)))
+      by_place counted (inl there) =
+          elim (get-take s.most (ones (take t flags)) (s.strings ++ others)) [
+            | inl e ↦ inl e
+            | inr e ↦ inr (e ∙ get-left s.strings others (ones (take t flags)) there)
+          ]
+      by_place counted (inr beyond) = inl (get-beyond s.most (ones (take t flags)) (s.strings ++ others) (omega (arith, numbered, counted, beyond)))
+
+module _ (s : StringsState) (flags : List Bool) (numbered : IsNumbered s flags) (strings : List (List Letter)) (free : List Bool) (c : ℕ) (same : length flags ≡ c) where
+  note-right : (t : ℕ) → c ≤ t
+      → IsNoneOr (note_at (take s.most (s.strings ++ drop (ones (take c free)) strings)) (flags ++ drop c free) t) (note_at strings free t)
+  note-right t le =
+      subst (λ k. IsNoneOr (note_at (take s.most (s.strings ++ drop (ones (take c free)) strings)) (flags ++ drop c free) k) (note_at strings free k))
+      (omega arith) (behind (t - c))
+    where
+      behind : (u : ℕ) → IsNoneOr (note_at (take s.most (s.strings ++ drop (ones (take c free)) strings)) (flags ++ drop c free) (c + u)) (note_at strings free (c + u))
+      behind u =
+          choose (get_or (flags ++ drop c free) (c + u) false) (get_or free (c + u) false)
+          (slice_get (take s.most (s.strings ++ drop (ones (take c free)) strings)) (ones (take (c + u) (flags ++ drop c free))))
+          (slice_get strings (ones (take (c + u) free)))
+          (ap (λ k. get_or (flags ++ drop c free) (k + u) false) (sym same) ∙ bit-right flags (drop c free) u ∙ bit-drop c u free)
+          (λ is. subst (λ k. IsNoneOr (slice_get (take s.most (s.strings ++ drop (ones (take c free)) strings)) k) (slice_get strings (ones (take (c + u) free)))) (sym place)
+          (subst (λ k. IsNoneOr (slice_get (take s.most (s.strings ++ drop (ones (take c free)) strings)) (ones flags + ones (take u (drop c free)))) (slice_get strings k))
+          (sym (take-on c u free))
+          (by_place (cases_lt (length s.strings) (ones flags)))))
+        where
+          place : ones (take (c + u) (flags ++ drop c free)) ≡ ones flags + ones (take u (drop c free))
+          place =
+              ap (λ k. ones (take (k + u) (flags ++ drop c free))) (sym same)
+              ∙ ap ones (take-right flags (drop c free) u)
+              ∙ ones-append flags (take u (drop c free))
+
+          by_place : (length s.strings < ones flags) ⊎ (ones flags ≤ length s.strings)
+              → IsNoneOr (slice_get (take s.most (s.strings ++ drop (ones (take c free)) strings)) (ones flags + ones (take u (drop c free))))
+              (slice_get strings (ones (take c free) + ones (take u (drop c free))))
+          by_place (inl short) = inl (get-beyond s.most (ones flags + ones (take u (drop c free))) (s.strings ++ drop (ones (take c free)) strings) (omega (arith, numbered, short)))
+          by_place (inr all) =
+              elim (get-take s.most (ones flags + ones (take u (drop c free))) (s.strings ++ drop (ones (take c free)) strings)) [
+                | inl e ↦ inl e
+                | inr e ↦ inr (
+                    e
+                    ∙ ap (λ k. slice_get (s.strings ++ drop (ones (take c free)) strings) (k + ones (take u (drop c free)))) (omega (arith, numbered, all))
+                    ∙ get-right s.strings (drop (ones (take c free)) strings) (ones (take u (drop c free)))
+                    ∙ get-drop (ones (take c free)) (ones (take u (drop c free))) strings
+                    )
+              ]
+
+-- what a run of no steps notes
+pub noted-nothing : (n : ℕ) (coins : ℕ → Bool) (s : StringsState) (free : List Bool) (reach : ℕ) → s ≡ record { qubits = n; most = most_strings n; strings = [] } → free ≡ []
+    → IsNoted n coins [] s free reach
+noted-nothing n coins s free reach is empty = record {
+  size = ap (λ (t : StringsState). t.qubits) is;
+  within = omega (arith, ap (λ (t : StringsState). t.most) is);
+  numbered = omega (arith, ap (λ (t : StringsState). length t.strings) is, ap ones empty);
+  are_true = tt;
+  near = All-nil (LooksWithin reach);
+}
+
+-- the front of a run
+module _ (n : ℕ) (coins : ℕ → Bool) (xs : List Step) (s : StringsState) (free : List Bool) (reach : ℕ) (noted : IsNoted n coins xs s free reach)
+    (flags : free ≡ (outputs n coins xs origin).free) where
+  front-coins : (i : ℕ) → length (outputs n coins (take i xs) origin).free ≡ all_coins_of (take i xs)
+  front-coins i = flags-are-coins n coins (take i xs) ∙ coins-are n coins (take i xs) origin ∙ omega arith
+
+  front-flags : (i : ℕ) → take (all_coins_of (take i xs)) free ≡ (outputs n coins (take i xs) origin).free
+  front-flags i =
+      (λ j. take (sym (front-coins i) j) (flags j))
+      ∙ ap (λ (o : RunOutput). o.free) (front-output n coins xs i)
+
+  pub noted-front : (i : ℕ) (t : StringsState) (bits : List Bool) → bits ≡ (outputs n coins (take i xs) origin).free → t ≡ front_kept (ones bits) s
+      → IsNoted n coins (take i xs) t bits reach
+  noted-front i t bits is front = record {
+    size = ap (λ (u : StringsState). u.qubits) front ∙ noted.size;
+    within = (numbered_within).1;
+    numbered = (numbered_within).0;
+    are_true =
+        true-changed n coins (note_at s.strings free) (note_at t.strings bits) (take i xs) origin
+        (λ k le lt. subst (λ x. x) (λ j. IsNoneOr (note_at (sym (ap (λ (u : StringsState). u.strings) front) j) (front_is j) k) (note_at s.strings free k))
+        (note-front s.strings free (ones bits) (all_coins_of (take i xs)) k (omega (arith, lt))))
+        (true-front n coins (note_at s.strings free) (take i xs) (drop i xs) origin
+        (subst (λ zs. AreTrue n coins (note_at s.strings free) zs origin) (sym (take-append-drop i xs)) noted.are_true));
+    near = All-take (LooksWithin reach) i xs noted.near;
+  }
+    where
+      front_is : take (all_coins_of (take i xs)) free ≡ bits
+      front_is = front-flags i ∙ sym is
+
+      few : ones bits ≤ ones free
+      few = omega (arith, ones-take (all_coins_of (take i xs)) free, ap ones front_is)
+
+      long : length t.strings ≡ min (ones bits) (length s.strings)
+      long = ap (λ (u : StringsState). length u.strings) front ∙ length-min (ones bits) s.strings
+        where
+          length-min : (k : ℕ) (xs : List (List Letter)) → length (take k xs) ≡ min k (length xs)
+          length-min zero xs = omega arith
+          length-min (suc k) [] = omega arith
+          length-min (suc k) (x ∷ xs) = omega (arith, length-min k xs)
+
+      limit : (b : Bool) → nat_le (ones bits) (length s.strings) ≡ b → t.most ≡ (if b then most_strings s.qubits else s.most)
+      limit b e = ap (λ (u : StringsState). u.most) front ∙ ap (λ c. if c then most_strings s.qubits else s.most) e
+
+      numbered_within : IsNumbered t bits × (t.most ≤ most_strings n)
+      numbered_within =
+          elim (leb_tells (ones bits) (length s.strings)) [
+            | inl h ↦
+                let most : t.most ≡ most_strings n = limit true h.0 ∙ ap most_strings noted.size in
+                let le = h.1 in
+                (omega (arith, long, most, le, noted.numbered, noted.within), omega (arith, most))
+            | inr h ↦
+                let most : t.most ≡ s.most = limit false h.0 in
+                let lt = h.1 in
+                (omega (arith, long, most, lt, noted.numbered, few), omega (arith, most, noted.within))
+          ]
+
+-- with a greater reach
+pub noted-more : (n : ℕ) (coins : ℕ → Bool) (xs : List Step) (s : StringsState) (free : List Bool) (reach more : ℕ) → reach ≤ more → IsNoted n coins xs s free reach
+    → IsNoted n coins xs s free more
+noted-more n coins xs s free reach more raised noted = record {
+  size = noted.size;
+  within = noted.within;
+  numbered = noted.numbered;
+  are_true = noted.are_true;
+  near = within-more reach more xs raised noted.near;
+}
+
+-- a run that goes on, and notes its strings
+pub noted-on : (n : ℕ) (coins : ℕ → Bool) (xs zs : List Step) (s t : StringsState) (old new : ProgramState) (before after : ℕ) → IsNoted n coins xs s old.output.free before
+    → IsAt n old (point_after n coins xs origin) → t.qubits ≡ n → t.most ≡ s.most → before ≤ after → All (LooksWithin after) zs
+    → KeepsTrue n coins zs s t old new → IsNoted n coins (xs ++ zs) t new.output.free after
+noted-on n coins xs zs s t old new before after noted at size most raised near keeps = record {
+  size = size;
+  within = omega (arith, most, noted.within);
+  numbered = (keeps xs at noted.numbered noted.are_true).0;
+  are_true = (keeps xs at noted.numbered noted.are_true).1;
+  near = All-append (LooksWithin after) xs zs (within-more before after xs raised noted.near) near;
+}
+
+-- a run with the rest of another behind it, from points on that differ by letters alone
+pub noted-spliced : (n : ℕ) (coins : ℕ → Bool) (xs ys : List Step) (i k : ℕ) → drop i xs ≡ drop k ys
+    → (point_after n coins (take k ys) origin).coin ≡ (point_after n coins (take i xs) origin).coin
+    → AreTurnedBehind n coins (drop i xs) (point_after n coins (take i xs) origin) (point_after n coins (take k ys) origin)
+    → (s t u : StringsState) (free flags all : List Bool) (c old_reach reach : ℕ)
+    → IsNoted n coins xs s free old_reach → free ≡ (outputs n coins xs origin).free
+    → IsNoted n coins (take k ys) t flags reach → flags ≡ (outputs n coins (take k ys) origin).free → old_reach ≤ reach
+    → c ≡ (point_after n coins (take i xs) origin).coin
+    → all ≡ flags ++ drop c free → IsSpliced t s (ones (take c free)) (ones all) u
+    → IsNoted n coins ys u all reach
+noted-spliced n coins xs ys i k same coin turned s t u free flags all c old_reach reach old old_flags noted new_flags raised at is spliced = record {
+  size = spliced.size ∙ noted.size;
+  within = let le = spliced.most in omega (arith, le, noted.within);
+  numbered = spliced.numbered (omega (arith, long, ap ones is, ones-append flags (drop c free), ones-take c free, old.numbered, noted.numbered));
+  are_true =
+      subst (λ zs. AreTrue n coins (note_at u.strings all) zs origin) (take-append-drop k ys)
+      (true-append n coins (note_at u.strings all) (take k ys) (drop k ys) origin
+      (true-changed n coins (note_at t.strings flags) (note_at u.strings all) (take k ys) origin
+      (λ m le lt. subst (λ x. x) (λ j. IsNoneOr (note_at (sym spliced.strings j) (sym is j) m) (note_at t.strings flags m))
+      (note-left t flags noted.numbered (drop (ones (take c free)) s.strings) (drop c free) m (omega (arith, lt, coins-are n coins (take k ys) origin, count))))
+      noted.are_true)
+      (subst (λ zs. AreTrue n coins (note_at u.strings all) zs (point_after n coins (take k ys) origin)) same
+      (true-changed n coins (note_at s.strings free) (note_at u.strings all) (drop i xs) (point_after n coins (take k ys) origin)
+      (λ m le lt. subst (λ x. x) (λ j. IsNoneOr (note_at (sym spliced.strings j) (sym is j) m) (note_at s.strings free m))
+      (note-right t flags noted.numbered s.strings free c (count ∙ coin ∙ sym at) m (omega (arith, le, coin, at))))
+      (true-turned n coins (note_at s.strings free) (drop i xs) (point_after n coins (take i xs) origin) (point_after n coins (take k ys) origin) coin turned
+      (true-back n coins (note_at s.strings free) (take i xs) (drop i xs) origin
+      (subst (λ zs. AreTrue n coins (note_at s.strings free) zs origin) (sym (take-append-drop i xs)) old.are_true))))));
+  near =
+      subst (All (LooksWithin reach)) (take-append-drop k ys)
+      (All-append (LooksWithin reach) (take k ys) (drop k ys) noted.near
+      (subst (All (LooksWithin reach)) same (All-drop (LooksWithin reach) i xs (within-more old_reach reach xs raised old.near))));
+}
+  where
+    count : length flags ≡ (point_after n coins (take k ys) origin).coin
+    count = ap length new_flags ∙ flags-are-coins n coins (take k ys)
+
+    long : length u.strings ≤ length t.strings + (length s.strings - ones (take c free))
+    long = omega (arith, ap length spliced.strings, length-least t.most (t.strings ++ drop (ones (take c free)) s.strings), length-append t.strings (drop (ones (take c free)) s.strings), length-drop (ones (take c free)) s.strings)
+      where
+        length-least : (k : ℕ) (xs : List (List Letter)) → length (take k xs) ≤ length xs
+        length-least zero xs = omega arith
+        length-least (suc k) [] = omega arith
+        length-least (suc k) (x ∷ xs) = let le = length-least k xs in omega arith

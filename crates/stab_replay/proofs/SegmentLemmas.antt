@@ -1,0 +1,250 @@
+-- Segments: a frame that went over the steps from one copy of a run to the next.
+use Rattle.std.proofs.Common.{◌≡◌, ℕ, zero, suc, ◌+◌, ◌≤◌, min, refl, sym, ◌∙◌, ap, subst, Bool, false, List, [], ◌∷◌, ◌++◌, All, Option, length, take, drop, replicate, arith}
+use Rattle.std.specs.Prelude.{◌≢◌}
+use Rattle.std.proofs.lemmas.List.{length-take-le, length-drop, take-append-drop, take-take, take_all, drop_at}
+use Rattle.std.proofs.lemmas.List.Elements.{All-take, All-drop}
+use Rattle.stab_letters.specs.declared.letter.Letter.{Letter}
+use Rattle.stab_tableau.specs.Traces.{member}
+use Rattle.stab_tableau.specs.Groups.{IsStabiliserGroup}
+use Rattle.stab_tableau.specs.Turns.{IsTurned}
+use Rattle.stab_circuit.specs.Steps.{Step, one, two, controlled, collapse, product, detector, observable}
+use Rattle.stab_run.specs.Points.{Point, RunOutput, origin, joined, point_after, outputs, all_coins_of}
+use Rattle.stab_run.specs.ProgramStates.{StepFits}
+use Rattle.stab_run.proofs.RunLemmas.{after-append, outputs-append}
+use Rattle.stab_run.proofs.PointLemmas.{flags-are-coins, rest-output}
+use Rattle.stab_frames.specs.declared.steps.Stop.{Stop}
+use Rattle.stab_frames.specs.declared.steps.Stop.TheVariants.{Behind, Gone, NoString}
+use Rattle.stab_frames.specs.Flips.{flipped, flipped_additions, flipped_output}
+use Rattle.stab_frames.specs.Frames.{Frame, PointsDifferBy}
+use Rattle.stab_frames.specs.Notes.{Notes, same_coins}
+use Rattle.stab_frames.specs.FrameSteps.{frame_after, frame_over, flips_over}
+use Rattle.stab_frames.specs.StepNotes.{AreEnough}
+use Rattle.stab_frames.specs.KeptStrings.{AreTrue}
+use Rattle.stab_frames.specs.Lookbacks.{LooksWithin}
+use Rattle.stab_frames.specs.Stops.{IsStop}
+use Rattle.stab_frames.specs.Walks.{WalkState, frame_at, WalksOver, IsGone}
+use Rattle.stab_frames.proofs.FrontLemmas.{group-origin}
+use Rattle.stab_frames.proofs.StepLemmas.{over-framed}
+use Rattle.stab_replay.specs.inner.FramedReplays.{IsFramedAt, IsFramedOver, AreEnoughBy, flips_since}
+use Rattle.stab_replay.proofs.PointLemmas.{take-more}
+use Rattle.stab_replay.proofs.NotedLemmas.{true-back, near-enough, coins-are}
+use Rattle.stab_replay.proofs.FramedLemmas.{IsFramedBehind, flipped-empty, framed-gone, framed-all}
+
+-- no flag is flipped
+flips-free : (n : ℕ) (notes : Notes) (xs : List Step) (coin : ℕ) (f : Frame) → (flips_over n notes xs coin f).free ≡ replicate (all_coins_of xs) false
+flips-free n notes [] coin f = refl
+flips-free n notes (one g q ∷ xs) coin f = flips-free n notes xs (coin + 0) (frame_after n notes (one g q) coin f) ∙ ap (λ m. replicate m false) (omega arith)
+flips-free n notes (two g x y ∷ xs) coin f = flips-free n notes xs (coin + 0) (frame_after n notes (two g x y) coin f) ∙ ap (λ m. replicate m false) (omega arith)
+flips-free n notes (controlled l j q ∷ xs) coin f = flips-free n notes xs (coin + 0) (frame_after n notes (controlled l j q) coin f) ∙ ap (λ m. replicate m false) (omega arith)
+flips-free n notes (collapse l q recorded inverted resets ∷ xs) coin f =
+    ap (λ bits. false ∷ bits) (flips-free n notes xs (coin + 1) (frame_after n notes (collapse l q recorded inverted resets) coin f))
+    ∙ ap (λ m. replicate m false) {x = suc (all_coins_of xs)} (omega arith)
+flips-free n notes (product factors inverted ∷ xs) coin f =
+    ap (λ bits. false ∷ bits) (flips-free n notes xs (coin + 1) (frame_after n notes (product factors inverted) coin f))
+    ∙ ap (λ m. replicate m false) {x = suc (all_coins_of xs)} (omega arith)
+flips-free n notes (detector js ∷ xs) coin f = flips-free n notes xs (coin + 0) (frame_after n notes (detector js) coin f) ∙ ap (λ m. replicate m false) (omega arith)
+flips-free n notes (observable j js ∷ xs) coin f = flips-free n notes xs (coin + 0) (frame_after n notes (observable j js) coin f) ∙ ap (λ m. replicate m false) (omega arith)
+
+flipped-zeros : (bits : List Bool) (m : ℕ) → flipped bits (replicate m false) ≡ flipped bits []
+flipped-zeros [] m = refl
+flipped-zeros (bit ∷ bits) zero = refl
+flipped-zeros (bit ∷ bits) (suc m) = ap (λ more. bit ∷ more) (flipped-zeros bits m ∙ flipped-empty bits)
+
+-- what was flipped since is what the steps between flipped
+since-joined : (o more : RunOutput) (old new : WalkState) (m : ℕ) → more.free ≡ replicate m false → new.flips ≡ joined old.flips more
+    → flipped_output o more ≡ flipped_output o (flips_since old new)
+since-joined o more old new m zeros is = λ i. record {
+  records = flipped o.records (sym (ap (λ (f : RunOutput). drop (length old.flips.records) f.records) is ∙ drop_at old.flips.records more.records (length old.flips.records) refl) i);
+  free = (ap (flipped o.free) zeros ∙ flipped-zeros o.free m) i;
+  detectors = flipped o.detectors (sym (ap (λ (f : RunOutput). drop (length old.flips.detectors) f.detectors) is ∙ drop_at old.flips.detectors more.detectors (length old.flips.detectors) refl) i);
+  additions = flipped_additions o.additions (sym (ap (λ (f : RunOutput). drop (length old.flips.additions) f.additions) is ∙ drop_at old.flips.additions more.additions (length old.flips.additions) refl) i);
+}
+
+-- a walk that went over all is not one whose frame is gone
+abbrev is-left : Stop → Type 0
+is-left Behind = ⊥
+is-left Gone = Unit {0}
+is-left NoString = Unit {0}
+
+-- how far a walk went that went over all
+drop-taken : (k : ℕ) (xs : List Step) → drop (length (take k xs)) xs ≡ drop k xs
+drop-taken zero xs = refl
+drop-taken (suc k) [] = refl
+drop-taken (suc k) (x ∷ xs) = drop-taken k xs
+
+pub left-behind : (n reach steps k : ℕ) (xs ys : List Step) (w : WalkState) (stop : Stop) → IsStop n reach steps (length (take k xs)) w stop → stop ≡ Behind
+    → (stop ≢ NoString → ys ≡ drop steps xs) → ys ≡ drop k xs
+left-behind n reach steps k xs ys w stop is behind left =
+    left (λ e. is-told (sym behind ∙ e))
+    ∙ ap (λ m. drop m xs) (subst (IsStop n reach steps (length (take k xs)) w) behind is)
+    ∙ drop-taken k xs
+  where
+    is-told : Behind ≡ NoString → ⊥
+    is-told e = subst is-left (sym e) tt
+
+-- one that is neither gone nor without a string went over all
+pub all-else : (stop : Stop) → stop ≢ NoString → stop ≢ Gone → stop ≡ Behind
+all-else Behind told still = refl
+all-else Gone told still = absurd (still refl)
+all-else NoString told still = absurd (told refl)
+
+module _ (n : ℕ) (coins : ℕ → Bool) (xs ys : List Step) (i k len : ℕ) (same : drop i xs ≡ drop k ys) (within : i + len ≤ length xs)
+    (strings : ℕ → Option (List Letter)) (free : List Bool) (flags : free ≡ (outputs n coins xs origin).free) (are_true : AreTrue n coins strings xs origin)
+    (fits : All (StepFits n) xs) (reach : ℕ) (near : All (LooksWithin reach) xs)
+    (base : ℕ) (old new : WalkState) (at : IsFramedAt n coins xs ys i k free base old)
+    (steps : ℕ) (few : steps ≤ length (take len (drop k ys))) (walked : WalksOver n strings (take steps (drop k ys)) old new)
+    (enough : AreEnoughBy n strings free (drop k ys) steps old) where
+  a : Point
+  a = point_after n coins (take i xs) origin
+
+  b : Point
+  b = point_after n coins (take k ys) origin
+
+  back : List Step
+  back = take len (drop i xs)
+
+  long : length (take len (drop i xs)) ≡ len
+  long = length-take-le len (drop i xs) (omega (arith, length-drop i xs, within))
+
+  below : steps ≤ len
+  below = omega (arith, few, ap (λ zs. length (take len zs)) same, long)
+
+  first : take steps (take len (drop i xs)) ≡ take steps (drop k ys)
+  first = take-take steps len (drop i xs) below ∙ ap (take steps) same
+
+  first-min : take (min len steps) (take len (drop i xs)) ≡ take steps (drop k ys)
+  first-min = ap (λ m. take m (take len (drop i xs))) (omega (arith, below)) ∙ first
+
+  fits_back : All (StepFits n) (take len (drop i xs))
+  fits_back = All-take (StepFits n) len (drop i xs) (All-drop (StepFits n) i xs fits)
+
+  group : IsStabiliserGroup n (member (point_after n coins (take i xs) origin).trace)
+  group = group-origin n coins (take i xs) (All-take (StepFits n) i xs fits)
+
+  true_here : AreTrue n coins strings (drop k ys) (point_after n coins (take i xs) origin)
+  true_here =
+      subst (λ zs. AreTrue n coins strings zs (point_after n coins (take i xs) origin)) same
+      (true-back n coins strings (take i xs) (drop i xs) origin
+      (subst (λ zs. AreTrue n coins strings zs origin) (sym (take-append-drop i xs)) are_true))
+
+  flags_here : (outputs n coins (drop k ys) (point_after n coins (take i xs) origin)).free ≡ drop old.coin free
+  flags_here =
+      ap (λ zs. (outputs n coins zs (point_after n coins (take i xs) origin)).free) (sym same)
+      ∙ ap (λ (o : RunOutput). o.free) (sym (rest-output n coins xs i))
+      ∙ (λ j. drop (flags-are-coins n coins (take i xs) j) (sym flags j))
+      ∙ ap (λ c. drop c free) (sym at.coin)
+
+  told : AreEnough n coins (same_coins strings) (take steps (take len (drop i xs))) (frame_at base old) (point_after n coins (take i xs) origin)
+  told =
+      subst (λ zs. AreEnough n coins (same_coins strings) zs (frame_at base old) (point_after n coins (take i xs) origin)) (sym first)
+      (enough coins (point_after n coins (take i xs) origin) base (sym at.coin) true_here flags_here)
+
+  letters_are : (frame_over n (same_coins strings) (take (min len steps) (take len (drop i xs))) (point_after n coins (take i xs) origin).coin (frame_at base old)).letters ≡ new.letters
+  letters_are =
+      (λ j. (frame_over n (same_coins strings) (first-min j) (sym at.coin j) (frame_at base old)).letters)
+      ∙ ap (λ (f : Frame). f.letters) (sym (walked.frame base))
+
+  flips_are : (o : RunOutput)
+      → flipped_output o (flips_over n (same_coins strings) (take (min len steps) (take len (drop i xs))) (point_after n coins (take i xs) origin).coin (frame_at base old))
+      ≡ flipped_output o (flips_since old new)
+  flips_are o =
+      (λ j. flipped_output o (flips_over n (same_coins strings) (first-min j) (sym at.coin j) (frame_at base old)))
+      ∙ since-joined o (flips_over n (same_coins strings) (take steps (drop k ys)) old.coin (frame_at base old)) old new (all_coins_of (take steps (drop k ys)))
+      (flips-free n (same_coins strings) (take steps (drop k ys)) old.coin (frame_at base old)) (walked.flips base)
+
+  old_later : point_after n coins (take (i + len) xs) origin ≡ point_after n coins (take len (drop i xs)) (point_after n coins (take i xs) origin)
+  old_later = ap (λ zs. point_after n coins zs origin) (take-more i len xs) ∙ after-append n coins (take i xs) (take len (drop i xs)) origin
+
+  new_steps : take (k + len) ys ≡ take k ys ++ take len (drop i xs)
+  new_steps = take-more k len ys ∙ ap (λ zs. take k ys ++ take len zs) (sym same)
+
+  new_later : point_after n coins (take (k + len) ys) origin ≡ point_after n coins (take len (drop i xs)) (point_after n coins (take k ys) origin)
+  new_later = ap (λ zs. point_after n coins zs origin) new_steps ∙ after-append n coins (take k ys) (take len (drop i xs)) origin
+
+  module _ (behind : IsFramedBehind n coins strings steps (take len (drop i xs)) (frame_at base old) (point_after n coins (take i xs) origin) (point_after n coins (take k ys) origin) len) where
+    whole : take len (take len (drop i xs)) ≡ take len (drop i xs)
+    whole = take_all len (take len (drop i xs)) (omega (arith, long))
+
+    over-group : IsTurned n new.letters (member (point_after n coins (take (i + len) xs) origin).trace) (member (point_after n coins (take (k + len) ys) origin).trace)
+    over-group =
+        subst (λ (p : Point). IsTurned n new.letters (member p.trace) (member (point_after n coins (take (k + len) ys) origin).trace)) (sym old_later)
+        (subst (λ (p : Point). IsTurned n new.letters (member (point_after n coins (take len (drop i xs)) (point_after n coins (take i xs) origin)).trace) (member p.trace)) (sym new_later)
+        (subst (λ zs. IsTurned n new.letters (member (point_after n coins zs (point_after n coins (take i xs) origin)).trace) (member (point_after n coins zs (point_after n coins (take k ys) origin)).trace)) whole
+        (subst (λ l. IsTurned n l (member (point_after n coins (take len (take len (drop i xs))) (point_after n coins (take i xs) origin)).trace)
+        (member (point_after n coins (take len (take len (drop i xs))) (point_after n coins (take k ys) origin)).trace)) letters_are behind.group)))
+
+    over-given : outputs n coins (take (k + len) ys) origin
+        ≡ joined (outputs n coins (take k ys) origin)
+        (flipped_output (outputs n coins (take len (drop i xs)) (point_after n coins (take i xs) origin)) (flips_since old new))
+    over-given =
+        ap (λ zs. outputs n coins zs origin) new_steps
+        ∙ outputs-append n coins (take k ys) (take len (drop i xs)) origin
+        ∙ ap (joined (outputs n coins (take k ys) origin))
+        (ap (λ zs. outputs n coins zs (point_after n coins (take k ys) origin)) (sym whole)
+        ∙ behind.given
+        ∙ flips_are (outputs n coins (take len (take len (drop i xs))) (point_after n coins (take i xs) origin))
+        ∙ ap (λ zs. flipped_output (outputs n coins zs (point_after n coins (take i xs) origin)) (flips_since old new)) whole)
+
+  over-all : steps ≡ length (take len (drop k ys)) → IsFramedOver n coins xs ys i k len free base old new Behind
+  over-all all = record {
+    group = over-group behind;
+    given = over-given behind;
+    turned = λ m. (_, (framed-all n coins strings steps (take len (drop i xs)) (frame_at base old) (point_after n coins (take i xs) origin) (point_after n coins (take k ys) origin) fits_back group at.framed told count m).group);
+    goes_on = λ _ placed. record {
+      framed =
+          subst (λ (p : Point). PointsDifferBy n (frame_at base new) p (point_after n coins (take (k + len) ys) origin)) (sym old_later)
+          (subst (λ (p : Point). PointsDifferBy n (frame_at base new) (point_after n coins (take len (drop i xs)) (point_after n coins (take i xs) origin)) p) (sym new_later)
+          (subst (λ f. PointsDifferBy n f (point_after n coins (take len (drop i xs)) (point_after n coins (take i xs) origin)) (point_after n coins (take len (drop i xs)) (point_after n coins (take k ys) origin)))
+          frame_is
+          (over-framed n coins (same_coins strings) (take len (drop i xs)) (frame_at base old) (point_after n coins (take i xs) origin) (point_after n coins (take k ys) origin)
+          fits_back group (subst (λ zs. AreEnough n coins (same_coins strings) zs (frame_at base old) (point_after n coins (take i xs) origin)) all_back told) at.framed).1));
+      coin = sym (ap (λ (p : Point). p.coin) old_later ∙ coin_is);
+      placed = placed;
+    };
+  }
+    where
+      count : steps ≡ length (take len (drop i xs))
+      count = omega (arith, all, ap (λ zs. length (take len zs)) same)
+
+      all_back : take steps (take len (drop i xs)) ≡ take len (drop i xs)
+      all_back = take_all steps (take len (drop i xs)) (omega (arith, count))
+
+      behind : IsFramedBehind n coins strings steps (take len (drop i xs)) (frame_at base old) (point_after n coins (take i xs) origin) (point_after n coins (take k ys) origin) len
+      behind = framed-all n coins strings steps (take len (drop i xs)) (frame_at base old) (point_after n coins (take i xs) origin) (point_after n coins (take k ys) origin) fits_back group at.framed told count len
+
+      frame_is : frame_over n (same_coins strings) (take len (drop i xs)) (point_after n coins (take i xs) origin).coin (frame_at base old) ≡ frame_at base new
+      frame_is =
+          (λ j. frame_over n (same_coins strings) ((sym all_back ∙ first) j) (sym at.coin j) (frame_at base old))
+          ∙ sym (walked.frame base)
+
+      coin_is : (point_after n coins (take len (drop i xs)) (point_after n coins (take i xs) origin)).coin ≡ new.coin
+      coin_is = omega (arith, coins-are n coins (take len (drop i xs)) (point_after n coins (take i xs) origin), at.coin, walked.coin, ap all_coins_of (sym all_back ∙ first))
+
+  over-gone : ((m : ℕ) → IsGone n reach (frame_at m new)) → IsFramedOver n coins xs ys i k len free base old new Gone
+  over-gone gone = record {
+    group = over-group behind;
+    given = over-given behind;
+    turned = λ m. (_, (everywhere m).group);
+    goes_on = λ e placed. absurd (not-behind e);
+  }
+    where
+      not-behind : Gone ≡ Behind → ⊥
+      not-behind e = subst is-left e tt
+
+      everywhere : (m : ℕ) → IsFramedBehind n coins strings steps (take len (drop i xs)) (frame_at base old) (point_after n coins (take i xs) origin) (point_after n coins (take k ys) origin) m
+      everywhere = framed-gone n coins strings steps (take len (drop i xs)) (frame_at base old) (point_after n coins (take i xs) origin) (point_after n coins (take k ys) origin) fits_back group at.framed told
+          reach
+          (subst (IsGone n reach)
+          (walked.frame base ∙ (λ j. frame_over n (same_coins strings) (sym first j) (at.coin j) (frame_at base old))) (gone base))
+          (near-enough reach reach (drop steps (take len (drop i xs))) (omega arith)
+          (All-drop (LooksWithin reach) steps (take len (drop i xs)) (All-take (LooksWithin reach) len (drop i xs) (All-drop (LooksWithin reach) i xs near))))
+
+      behind : IsFramedBehind n coins strings steps (take len (drop i xs)) (frame_at base old) (point_after n coins (take i xs) origin) (point_after n coins (take k ys) origin) len
+      behind = everywhere len
+
+  -- over the steps to the next copy, or until it was gone
+  pub over-segment : (stop : Stop) → IsStop n reach steps (length (take len (drop k ys))) new stop → stop ≢ NoString
+      → IsFramedOver n coins xs ys i k len free base old new stop
+  over-segment Behind is told_all = over-all is
+  over-segment Gone is told_all = over-gone is
+  over-segment NoString is told_all = absurd (told_all refl)

@@ -1,0 +1,77 @@
+use Rattle.std.proofs.Common.{◌≡◌, refl, ap, subst, false, inr, length, drop, arith}
+use Rattle.stab_run.specs.Points.{all_coins_of}
+use Rattle.stab_replay.specs.inner.LedReplays.{IsLedTo}
+use Rattle.stab_replay.proofs.ReplayLemmas.{coins-cut, place-behind, on-stop}
+use Rattle.stab_replay.proofs.LaidLemmas.{laid-led}
+use Rattle.stab_replay.proofs.replay.Replay.advance.Goals as goal
+
+pub returns-in_err-led-clause-asked : goal.returns-in_err-led-clause-asked
+returns-in_err-led-clause-asked g c =
+    omega (arith, coins-cut c.args.self.now.step c.frame_on.new.self.step c.args.self.now.cursor.all (drop c.args.self.now.step c.args.self.now.cursor.all) c.frame_on.ensures.further refl)
+
+pub stop-stop-requires-clause-behind : goal.stop-stop-requires-clause-behind
+stop-stop-requires-clause-behind g c =
+    let on = c.in_ok-led.ensures.on in
+    place-behind c.args.plan c.frame_on.new.self.step c.in_ok-led.led.next c.args.copies.now c.place.result c.place.ensures.value on.ascending
+
+pub returns-in_err-run_to-clause-asked : goal.returns-in_err-run_to-clause-asked
+returns-in_err-run_to-clause-asked g c =
+    omega (
+      arith,
+      c.run_to.ensures.asked,
+      ap (λ k. all_coins_of (drop k c.args.self.now.cursor.all)) c.run_to.ensures.step,
+      ap (λ xs. all_coins_of (drop c.stop-stop.result xs)) c.frame_on.ensures.all,
+      ap (λ xs. all_coins_of (drop c.frame_on.new.self.step xs)) c.frame_on.ensures.all,
+      coins-cut c.args.self.now.step c.frame_on.new.self.step c.args.self.now.cursor.all (drop c.args.self.now.step c.args.self.now.cursor.all) c.frame_on.ensures.further refl,
+    )
+
+pub returns-in_ok-run_to-clause-asked : goal.returns-in_ok-run_to-clause-asked
+returns-in_ok-run_to-clause-asked g c =
+    omega (
+      arith,
+      c.run_to.ensures.asked,
+      ap (λ k. all_coins_of (drop k c.args.self.now.cursor.all)) c.run_to.ensures.step,
+      ap (λ xs. all_coins_of (drop c.stop-stop.result xs)) c.frame_on.ensures.all,
+      ap (λ xs. all_coins_of (drop c.frame_on.new.self.step xs)) c.frame_on.ensures.all,
+      coins-cut c.args.self.now.step c.frame_on.new.self.step c.args.self.now.cursor.all (drop c.args.self.now.step c.args.self.now.cursor.all) c.frame_on.ensures.further refl,
+    )
+
+pub returns-in_ok-run_to-clause-way : goal.returns-in_ok-run_to-clause-way
+returns-in_ok-run_to-clause-way g c = λ begin way.
+    let done = c.in_ok-run_to.ensures in
+    let stop = c.stop-stop.ensures in
+    let there : c.in_ok-led.led.there ≡ false = grind (arith, c.if-not-led.true) in
+    on-stop c.args.self.now.tableau.qubits (g.C.Coins.sequence c.args.coins.now) begin c.args.plan c.args.self.now.cursor.all c.args.copies.now c.args.old.now.records.items (g.C.Coins.sequence c.args.coins.now)
+    c.in_ok-led.led.next c.stop-stop.result c.place.result c.frame_on.new.self c.run_to.new.self
+    (subst (IsLedTo c.args.self.now.tableau.qubits (g.C.Coins.sequence c.args.coins.now) begin c.args.plan c.args.self.now.cursor.all c.args.copies.now c.args.old.now.records.items c.in_ok-led.led.next c.frame_on.new.self) there
+    (c.in_ok-led.ensures.way (g.C.Coins.sequence c.args.coins.now) begin (record { old = c.requires.old; at_step = c.requires.at_step }) way))
+    refl done.at_step done.laid done.records (let counted = done.counted in let framed = done.framed in omega (arith, counted, framed)) done.step stop.order stop.within stop.near c.place.ensures.value stop.before
+
+pub returns-in_ok-run_to-clause-few_laid : goal.returns-in_ok-run_to-clause-few_laid
+returns-in_ok-run_to-clause-few_laid g c =
+    let on = c.in_ok-led.ensures.on in
+    laid-led c.args.plan.stride (length c.frame_on.new.self.laid.items) c.args.next (length c.args.self.now.laid.items) c.in_ok-led.led.next (length c.run_to.new.self.laid.items) on.laid
+    (ap length c.run_to.ensures.laid)
+
+pub returns-else-not-led-clause-asked : goal.returns-else-not-led-clause-asked
+returns-else-not-led-clause-asked g c =
+    omega (arith, coins-cut c.args.self.now.step c.frame_on.new.self.step c.args.self.now.cursor.all (drop c.args.self.now.step c.args.self.now.cursor.all) c.frame_on.ensures.further refl)
+
+pub returns-else-not-led-clause-few_laid : goal.returns-else-not-led-clause-few_laid
+returns-else-not-led-clause-few_laid g c =
+    let on = c.in_ok-led.ensures.on in
+    laid-led c.args.plan.stride (length c.frame_on.new.self.laid.items) c.args.next (length c.args.self.now.laid.items) c.in_ok-led.led.next (length c.frame_on.new.self.laid.items) on.laid refl
+
+pub returns-else-not-led-clause-stops : goal.returns-else-not-led-clause-stops
+returns-else-not-led-clause-stops g c =
+    inr (inr (c.in_ok-led.ensures.placed (grind (arith, c.if-not-led.false))))
+
+pub returns-in_ok-run_to-clause-changed : goal.returns-in_ok-run_to-clause-changed
+returns-in_ok-run_to-clause-changed g c =
+    let on = c.in_ok-led.ensures.on in
+    omega (arith, c.in_ok-led.ensures.behind, on.applied, c.in_ok-run_to.ensures.counted, c.run_to.ensures.step, c.stop-stop.ensures.order)
+
+pub returns-else-not-led-clause-changed : goal.returns-else-not-led-clause-changed
+returns-else-not-led-clause-changed g c =
+    let on = c.in_ok-led.ensures.on in
+    omega (arith, c.in_ok-led.ensures.behind, on.applied)

@@ -1,0 +1,182 @@
+use Rattle.std.proofs.Common.{◌≡◌, ◌+◌, ◌-◌, ◌*◌, ◌≤◌, min, [], ◌∷◌, ◌++◌, Bool, List, slice_get, sym, ◌∙◌, ap, subst, length, length-append, drop, arith}
+use Rattle.stab_replay.specs.declared.replay.Replay.{Replay}
+use Rattle.stab_replay.specs.declared.replay.End.TheVariants.{Last, Joined}
+use Rattle.stab_replay.specs.declared.replay.Arrival.{Arrival}
+use Rattle.stab_replay.specs.declared.replay.Arrival.TheVariants.{Met, Behind, Between}
+use Rattle.stab_run.specs.Records.{ones}
+use Rattle.stab_run.specs.Points.{all_coins_of}
+use Rattle.stab_replay.specs.inner.Replays.{IsReplay, IsArrival, IsEnd, EndsSoon, IsAtStop, copy_of}
+use Rattle.stab_replay.proofs.ReplayLemmas.{went-so, met-behind, ends-soon, on-further, fewer-left}
+use Rattle.stab_replay.proofs.LaidLemmas.{laid-on, laid-more, laid-end}
+use Rattle.stab_replay.proofs.replay.Replay.follow.Given.{Over}
+use Rattle.stab_replay.proofs.replay.Replay.follow.Goals as goal
+use Rattle.stab_replay.proofs.replay.Replay.follow.Goals.{In_ok-reached}
+
+stopped : (g : Over) (c : In_ok-reached g) → IsAtStop c.args.self.now.tableau.qubits (g.C.Coins.sequence c.args.coins.now) c.args.self.now.step c.args.plan
+    c.args.self.now.cursor.all c.args.copies.now c.args.old.now.records.items c.in_ok-reached.reached c.advance.new.self
+stopped g c =
+    let inv = c.loop-spare.invariant in
+    went-so c.args.self.now.step c.args.plan c.args.copies.now c.args.old.now.records.items c.loop-spare.next c.in_ok-reached.reached c.loop-spare.self c.advance.new.self
+    inv.qubits inv.same_coins inv.all (c.in_ok-reached.ensures.way c.args.self.now.step) inv.way
+
+arrived : (g : Over) (c : In_ok-reached g) (records : List Bool) (a b : Arrival) → records ≡ c.args.old.now.records.items → a ≡ b
+    → IsArrival c.advance.new.self.tableau.qubits c.args.plan c.advance.new.self c.args.copies.now records c.in_ok-reached.reached a
+    → IsArrival c.args.self.now.tableau.qubits c.args.plan c.advance.new.self c.args.copies.now c.args.old.now.records.items c.in_ok-reached.reached b
+arrived g c records a b seen same h =
+    subst (λ x. x)
+    (λ i. IsArrival ((stopped g c).replay.at_step.qubits i) c.args.plan c.advance.new.self c.args.copies.now (seen i) c.in_ok-reached.reached (same i)) h
+
+-- no more were laid than copies were passed
+few : (g : Over) (c : In_ok-reached g)
+    → c.args.plan.stride * length c.advance.new.self.laid.items + c.args.self.now.step ≤ c.loop-spare.self.step + c.args.plan.stride * (c.in_ok-reached.reached - c.args.plan.next)
+few g c =
+    let inv = c.loop-spare.invariant in
+    laid-on c.args.plan.stride (length c.loop-spare.self.laid.items) (length c.advance.new.self.laid.items) c.args.plan.next c.loop-spare.next c.in_ok-reached.reached
+    c.args.self.now.step c.loop-spare.self.step inv.few_laid c.in_ok-reached.ensures.few_laid inv.way.stop.order c.in_ok-reached.ensures.order
+
+-- what was changed was carried out
+changed : (g : Over) (c : In_ok-reached g) → min c.advance.new.self.step c.args.plan.new_end ≤ c.args.self.now.step + c.advance.new.self.applied
+changed g c =
+    let inv = c.loop-spare.invariant in
+    let done = c.in_ok-reached.ensures in
+    omega (arith, inv.changed, done.changed)
+
+replayed : (g : Over) (c : In_ok-reached g) (r : Replay) → r ≡ c.advance.new.self
+    → IsReplay c.args.self.now.tableau.qubits (g.C.Coins.sequence c.args.coins.now) c.args.plan.stride c.args.self.now.step c.args.self.now.cursor.all r
+replayed g c r same =
+    subst (IsReplay c.args.self.now.tableau.qubits (g.C.Coins.sequence c.args.coins.now) c.args.plan.stride c.args.self.now.step c.args.self.now.cursor.all) (sym same)
+    (stopped g c).replay
+
+counted : (g : Over) (c : In_ok-reached g) (r : Replay) → r ≡ c.advance.new.self → (r.applied + r.framed) + c.args.self.now.step ≡ r.step
+counted g c r same = subst (λ (r : Replay). (r.applied + r.framed) + c.args.self.now.step ≡ r.step) (sym same) (stopped g c).counted
+
+ended : (g : Over) (c : In_ok-reached g) (r : Replay) → r ≡ c.advance.new.self
+    → EndsSoon c.args.self.now.tableau.qubits (g.C.Coins.sequence c.args.coins.now) c.args.plan c.args.self.now.cursor.all c.args.copies.now c.args.old.now.records.items r.step
+ended g c r same =
+    subst (λ (r : Replay). EndsSoon c.args.self.now.tableau.qubits (g.C.Coins.sequence c.args.coins.now) c.args.plan c.args.self.now.cursor.all c.args.copies.now c.args.old.now.records.items r.step)
+    (sym same)
+    (ends-soon c.args.self.now.tableau.qubits (g.C.Coins.sequence c.args.coins.now) c.args.self.now.step c.args.plan c.args.self.now.cursor.all c.args.copies.now c.args.old.now.records.items
+    c.in_ok-reached.reached c.advance.new.self (stopped g c))
+
+pub returns-in-Met-clause-replay : goal.returns-in-Met-clause-replay
+returns-in-Met-clause-replay g c = replayed g ((goal.at.returns-in-Met-clause-replay g c).In_ok-reached) c.arrive.new.self c.arrive.ensures.unchanged
+
+pub returns-in-Behind-clause-replay : goal.returns-in-Behind-clause-replay
+returns-in-Behind-clause-replay g c = replayed g ((goal.at.returns-in-Behind-clause-replay g c).In_ok-reached) c.arrive.new.self c.arrive.ensures.unchanged
+
+pub returns-in-Met-clause-counted : goal.returns-in-Met-clause-counted
+returns-in-Met-clause-counted g c = counted g ((goal.at.returns-in-Met-clause-counted g c).In_ok-reached) c.arrive.new.self c.arrive.ensures.unchanged
+
+pub returns-in-Behind-clause-counted : goal.returns-in-Behind-clause-counted
+returns-in-Behind-clause-counted g c = counted g ((goal.at.returns-in-Behind-clause-counted g c).In_ok-reached) c.arrive.new.self c.arrive.ensures.unchanged
+
+pub returns-in-Met-clause-soon : goal.returns-in-Met-clause-soon
+returns-in-Met-clause-soon g c = ended g ((goal.at.returns-in-Met-clause-soon g c).In_ok-reached) c.arrive.new.self c.arrive.ensures.unchanged
+
+pub returns-in-Behind-clause-soon : goal.returns-in-Behind-clause-soon
+returns-in-Behind-clause-soon g c = ended g ((goal.at.returns-in-Behind-clause-soon g c).In_ok-reached) c.arrive.new.self c.arrive.ensures.unchanged
+
+pub returns-in-Met-clause-changed : goal.returns-in-Met-clause-changed
+returns-in-Met-clause-changed g c =
+    let at = (goal.at.returns-in-Met-clause-changed g c).In_ok-reached in
+    let met = arrived g at c.as_slice-records.result.now _ Met c.as_slice-records.ensures.value c.in-Met.is c.in_ok-arrive.ensures.value in
+    let within = c.requires.old.new_within in
+    let behind = met-behind c.args.self.now.tableau.qubits c.args.plan c.advance.new.self c.args.old.now.records.items (slice_get c.args.copies.now c.in_ok-reached.reached)
+    (omega (arith, within, c.requires.total, c.requires.few)) met in
+    omega (arith, behind, changed g at, ap (λ (r : Replay). r.applied) c.arrive.ensures.unchanged)
+
+pub returns-in-Behind-clause-changed : goal.returns-in-Behind-clause-changed
+returns-in-Behind-clause-changed g c =
+    let at = (goal.at.returns-in-Behind-clause-changed g c).In_ok-reached in
+    let behind = arrived g at c.as_slice-records.result.now _ Behind c.as_slice-records.ensures.value c.in-Behind.is c.in_ok-arrive.ensures.value in
+    let within = c.requires.old.new_within in
+    let end = behind.0 in
+    omega (arith, within, end, c.requires.total, changed g at, ap (λ (r : Replay). r.applied) c.arrive.ensures.unchanged)
+
+pub returns-in-Met-clause-end : goal.returns-in-Met-clause-end
+returns-in-Met-clause-end g c =
+    let at = (goal.at.returns-in-Met-clause-end g c).In_ok-reached in
+    let met = arrived g at c.as_slice-records.result.now _ Met c.as_slice-records.ensures.value c.in-Met.is c.in_ok-arrive.ensures.value in
+    subst (λ (r : Replay). IsEnd c.args.self.now.tableau.qubits c.args.plan r c.args.copies.now c.args.old.now.records.items (Joined c.in_ok-reached.reached))
+    (sym c.arrive.ensures.unchanged)
+    ((stopped g at).order, met)
+
+pub returns-in-Behind-clause-end : goal.returns-in-Behind-clause-end
+returns-in-Behind-clause-end g c =
+    let at = (goal.at.returns-in-Behind-clause-end g c).In_ok-reached in
+    let behind = arrived g at c.as_slice-records.result.now _ Behind c.as_slice-records.ensures.value c.in-Behind.is c.in_ok-arrive.ensures.value in
+    subst (λ (r : Replay). IsEnd c.args.self.now.tableau.qubits c.args.plan r c.args.copies.now c.args.old.now.records.items Last) (sym c.arrive.ensures.unchanged) behind.0
+
+pub returns-in-Met-clause-few_laid : goal.returns-in-Met-clause-few_laid
+returns-in-Met-clause-few_laid g c =
+    let at = (goal.at.returns-in-Met-clause-few_laid g c).In_ok-reached in
+    laid-end c.args.plan.stride (length c.advance.new.self.laid.items) (length c.arrive.new.self.laid.items) (c.in_ok-reached.reached - c.args.plan.next)
+    (c.in_ok-reached.reached - c.args.plan.next) c.args.self.now.step c.loop-spare.self.step c.arrive.new.self.step (few g at)
+    (ap (λ (r : Replay). length r.laid.items) c.arrive.ensures.unchanged)
+    (let further = c.advance.ensures.further in omega (arith, further, ap (λ (r : Replay). r.step) c.arrive.ensures.unchanged)) (omega arith)
+
+pub returns-in-Behind-clause-few_laid : goal.returns-in-Behind-clause-few_laid
+returns-in-Behind-clause-few_laid g c =
+    let at = (goal.at.returns-in-Behind-clause-few_laid g c).In_ok-reached in
+    laid-end c.args.plan.stride (length c.advance.new.self.laid.items) (length c.arrive.new.self.laid.items) (c.in_ok-reached.reached - c.args.plan.next)
+    (length c.args.copies.now - c.args.plan.next) c.args.self.now.step c.loop-spare.self.step c.arrive.new.self.step (few g at)
+    (ap (λ (r : Replay). length r.laid.items) c.arrive.ensures.unchanged)
+    (let further = c.advance.ensures.further in omega (arith, further, ap (λ (r : Replay). r.step) c.arrive.ensures.unchanged))
+    (let within = (stopped g at).within in omega (arith, within))
+
+pub loop-spare-smaller : goal.loop-spare-smaller
+loop-spare-smaller g c =
+    let at = (goal.at.loop-spare-smaller g c).In_ok-reached in
+    let stop = stopped g at in
+    let within = stop.replay.at_step.within in
+    let fewer = fewer-left c.args.self.now.tableau.qubits c.args.plan c.args.copies.now c.args.old.now.records.items c.loop-spare.next c.in_ok-reached.reached c.in-Between.later
+    c.loop-spare.self.step c.advance.new.self c.requires.stride c.advance.ensures.further (omega (arith, within, c.requires.total)) c.in_ok-reached.ensures.order stop.within
+    c.in_ok-reached.ensures.stops
+    (arrived g at c.as_slice-records.result.now _ (Between c.in-Between.later) c.as_slice-records.ensures.value c.in-Between.is c.in_ok-arrive.ensures.value) in
+    omega (
+      arith,
+      fewer,
+      ap (λ (r : Replay). r.step) {y = record c.arrive.new.self { laid = c.lay.new.self.laid }} c.lay.ensures.unchanged,
+      ap (λ (r : Replay). r.step) c.arrive.ensures.unchanged,
+    )
+
+pub loop-spare-preserved : goal.loop-spare-preserved
+loop-spare-preserved g c =
+    let inv = c.loop-spare.invariant in
+    let done = c.in_ok-reached.ensures {u = tt} in
+    let at = (goal.at.loop-spare-preserved g c).In_ok-reached in
+    let arrival = arrived g at c.as_slice-records.result.now _ (Between c.in-Between.later) c.as_slice-records.ensures.value c.in-Between.is c.in_ok-arrive.ensures.value in
+    let same : c.lay.new.self ≡ record c.advance.new.self { laid = c.lay.new.self.laid } =
+    c.lay.ensures.unchanged ∙ ap (λ (r : Replay). record r { laid = c.lay.new.self.laid }) c.arrive.ensures.unchanged in
+    let step : c.lay.new.self.step ≡ c.advance.new.self.step = ap (λ (r : Replay). r.step) same in
+    let applied : c.lay.new.self.applied ≡ c.advance.new.self.applied = ap (λ (r : Replay). r.applied) same in
+    record {
+      all = ap (λ (r : Replay). r.cursor.all) same ∙ done.all ∙ inv.all;
+      qubits = ap (λ (r : Replay). r.tableau.qubits) same ∙ done.qubits ∙ inv.qubits;
+      raised = omega (arith, done.raised, inv.raised, ap (λ (r : Replay). r.notes.reach) same);
+      same_coins = done.same_coins ∙ inv.same_coins;
+      asks = omega (arith, done.asks, inv.asks, applied);
+      asks_free = omega (arith, done.asks_free, inv.asks_free, ap (λ (r : Replay). ones r.outputs.free.items) same);
+      asked =
+          omega (
+            arith,
+            done.asked,
+            inv.asked,
+            ap (λ k. all_coins_of (drop k c.args.self.now.cursor.all)) step,
+            ap (λ xs. all_coins_of (drop c.advance.new.self.step xs)) inv.all,
+            ap (λ xs. all_coins_of (drop c.loop-spare.self.step xs)) inv.all,
+          );
+      changed = omega (arith, changed g at, step, applied);
+      few_laid =
+          subst (λ k. c.args.plan.stride * length c.lay.new.self.laid.items + c.args.self.now.step ≤ k + c.args.plan.stride * (c.in-Between.later - c.args.plan.next)) (sym step)
+          (laid-more c.args.self.now.tableau.qubits c.args.plan c.args.copies.now c.args.old.now.records.items c.in_ok-reached.reached c.in-Between.later c.loop-spare.self.step
+          c.args.self.now.step (length c.advance.new.self.laid.items) (length c.lay.new.self.laid.items) c.advance.new.self (few g at)
+          (ap length (c.in_ok-lay.ensures {u = tt}).laid
+          ∙ length-append c.arrive.new.self.laid.items (copy_of c.arrive.new.self ∷ [])
+          ∙ ap (λ k. k + 1) (ap (λ (r : Replay). length r.laid.items) c.arrive.ensures.unchanged))
+          (stopped g at).order c.advance.ensures.further done.stops arrival);
+      way =
+          on-further c.args.self.now.tableau.qubits (g.C.Coins.sequence c.args.coins.now) c.args.self.now.step c.args.plan c.args.self.now.cursor.all
+          c.args.copies.now c.args.old.now.records.items c.in_ok-reached.reached c.in-Between.later c.advance.new.self c.lay.new.self (stopped g at) arrival same
+          ((c.in_ok-lay.ensures {u = tt}).laid ∙ ap (λ (r : Replay). r.laid.items ++ copy_of r ∷ []) c.arrive.ensures.unchanged);
+    }

@@ -1,0 +1,23 @@
+use Rattle.std.proofs.Common.{◌≡◌, ◌+◌, ◌-◌, ◌*◌, ◌≤◌, min, length, drop}
+use Rattle.stab_run.specs.Records.{ones}
+use Rattle.stab_run.specs.Points.{all_coins_of}
+use Rattle.stab_replay.specs.inner.Replays.{IsOnWay}
+use Rattle.stab_replay.proofs.replay.Replay.follow.Given as goal
+
+abbrev pub invariant-loop-spare : goal.invariant-loop-spare
+invariant-loop-spare g l = record {
+  all : l.self.cursor.all ≡ l.initial.self.cursor.all;
+  qubits : l.self.tableau.qubits ≡ l.initial.self.tableau.qubits;
+  raised : l.initial.self.notes.reach ≤ l.self.notes.reach;
+  same_coins : g.C.Coins.sequence l.coins ≡ g.C.Coins.sequence l.initial.coins;
+  asks : g.C.Coins.asks l.coins ≤ g.C.Coins.asks l.initial.coins + l.self.applied;
+  asks_free : g.C.Coins.asks l.coins + ones l.initial.self.outputs.free.items ≤ g.C.Coins.asks l.initial.coins + ones l.self.outputs.free.items;
+  asked : g.C.Coins.asks l.coins + all_coins_of (drop l.self.step l.initial.self.cursor.all)
+      ≤ g.C.Coins.asks l.initial.coins + all_coins_of (drop l.initial.self.step l.initial.self.cursor.all);
+  changed : min l.self.step l.plan.new_end ≤ l.initial.self.step + l.self.applied;
+  few_laid : l.plan.stride * length l.self.laid.items + l.initial.self.step ≤ l.self.step + l.plan.stride * (l.next - l.plan.next);
+  way : IsOnWay l.initial.self.tableau.qubits (g.C.Coins.sequence l.initial.coins) l.initial.self.step l.plan l.initial.self.cursor.all l.copies l.old.records.items l.next l.self;
+}
+
+abbrev pub decreases-loop-spare : goal.decreases-loop-spare
+decreases-loop-spare g l = (l.plan.total - l.self.step) + (length l.copies - l.next)

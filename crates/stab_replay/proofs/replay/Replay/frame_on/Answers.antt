@@ -1,0 +1,114 @@
+use Rattle.std.proofs.Common.{◌≡◌, ℕ, ◌-◌, ◌≤◌, sym, ◌∙◌, ap, subst, Bool, IfSome, length, drop, arith}
+use Rattle.stab_run.specs.ProgramStates.{output_of}
+use Rattle.stab_frames.specs.KeptStrings.{StringsState}
+use Rattle.stab_replay.specs.declared.replay.Replay.{Replay}
+use Rattle.stab_replay.specs.inner.Replays.{IsAtStep, IsOnWay}
+use Rattle.stab_replay.specs.inner.LedReplays.{IsBeside, IsLed, IsLedTo, with_cursor}
+use Rattle.stab_replay.proofs.ReplayLemmas.{ascending-end}
+use Rattle.stab_replay.proofs.LedLemmas.{at-noted, led-behind}
+use Rattle.stab_replay.proofs.LedWayLemmas.{cursor-set, led-moved, way-noted}
+use Rattle.stab_replay.proofs.replay.Replay.frame_on.Goals as goal
+
+pub lead-requires-clause-led : goal.lead-requires-clause-led
+lead-requires-clause-led c =
+    let found : (coins : ℕ → Bool) (s : StringsState)
+    → IsBeside c.args.self.now.tableau.qubits coins c.args.plan c.args.self.now.cursor.all c.args.copies.now (output_of c.args.old.now) s c.args.self.now
+    → IsLed c.args.self.now.tableau.qubits coins c.args.plan c.args.self.now.cursor.all c.args.copies.now (output_of c.args.old.now) s (c.args.next - 1) c.frame_at.new.self c.in-Some.walk =
+    (subst (λ m. IfSome m (λ walk. (1 ≤ c.args.next) × ((coins : ℕ → Bool) (s : StringsState)
+    → IsBeside c.args.self.now.tableau.qubits coins c.args.plan c.args.self.now.cursor.all c.args.copies.now (output_of c.args.old.now) s c.args.self.now
+    → IsLed c.args.self.now.tableau.qubits coins c.args.plan c.args.self.now.cursor.all c.args.copies.now (output_of c.args.old.now) s (c.args.next - 1) c.frame_at.new.self walk)))
+    c.in-Some.is c.in_ok-walk.ensures.found).1 in
+    let same = c.frame_at.ensures.unchanged in
+    let qubits : c.frame_at.new.self.tableau.qubits ≡ c.args.self.now.tableau.qubits = ap (λ (x : Replay). x.tableau.qubits) same in
+    let all : c.frame_at.new.self.cursor.all ≡ c.args.self.now.cursor.all = ap (λ (x : Replay). x.cursor.all) same in (
+      c.requires.beside.0,
+      (led-moved c.frame_at.new.self.tableau.qubits c.args.self.now.tableau.qubits c.requires.beside.0 c.args.plan c.frame_at.new.self.cursor.all c.args.self.now.cursor.all c.args.copies.now (output_of c.args.old.now) c.args.strings.now
+          (c.args.next - 1) c.frame_at.new.self c.in-Some.walk qubits all (found c.requires.beside.0 c.args.strings.now c.requires.beside.1)),
+    )
+
+pub at-requires-clause-in_range : goal.at-requires-clause-in_range
+at-requires-clause-in_range c =
+    let on = c.in_ok-led-in-Some.ensures.on in
+    omega (
+      arith,
+      ascending-end c.args.plan c.lead.new.self.step (drop c.in_ok-led-in-Some.led.next c.args.copies.now) on.ascending,
+      c.requires.total,
+      ap length c.requires.same_circuit,
+    )
+
+pub returns-in_ok-self-in-Some-clause-at_step : goal.returns-in_ok-self-in-Some-clause-at_step
+returns-in_ok-self-in-Some-clause-at_step c = λ coins beside.
+    let found : (coins : ℕ → Bool) (s : StringsState)
+    → IsBeside c.args.self.now.tableau.qubits coins c.args.plan c.args.self.now.cursor.all c.args.copies.now (output_of c.args.old.now) s c.args.self.now
+    → IsLed c.args.self.now.tableau.qubits coins c.args.plan c.args.self.now.cursor.all c.args.copies.now (output_of c.args.old.now) s (c.args.next - 1) c.frame_at.new.self c.in-Some.walk =
+    (subst (λ m. IfSome m (λ walk. (1 ≤ c.args.next) × ((coins : ℕ → Bool) (s : StringsState)
+    → IsBeside c.args.self.now.tableau.qubits coins c.args.plan c.args.self.now.cursor.all c.args.copies.now (output_of c.args.old.now) s c.args.self.now
+    → IsLed c.args.self.now.tableau.qubits coins c.args.plan c.args.self.now.cursor.all c.args.copies.now (output_of c.args.old.now) s (c.args.next - 1) c.frame_at.new.self walk)))
+    c.in-Some.is c.in_ok-walk.ensures.found).1 in
+    let same = c.frame_at.ensures.unchanged in
+    let qubits : c.frame_at.new.self.tableau.qubits ≡ c.args.self.now.tableau.qubits = ap (λ (x : Replay). x.tableau.qubits) same in
+    let all : c.frame_at.new.self.cursor.all ≡ c.args.self.now.cursor.all = ap (λ (x : Replay). x.cursor.all) same in
+    let cursor = cursor-set c.args.self.now.cursor.all c.lead.new.self c.in_ok-self-in-Some.field-0 (c.in_ok-self-in-Some.ensures.all ∙ c.requires.same_circuit)
+    (c.in_ok-self-in-Some.ensures.steps ∙ ap (drop c.lead.new.self.step) c.requires.same_circuit) in
+    subst (IsAtStep c.args.self.now.tableau.qubits coins c.args.self.now.cursor.all) cursor
+    (subst (λ k. IsAtStep k coins c.args.self.now.cursor.all (with_cursor c.args.self.now.cursor.all c.lead.new.self)) qubits
+    (subst (λ xs. IsAtStep c.frame_at.new.self.tableau.qubits coins xs (with_cursor xs c.lead.new.self)) all
+    (c.in_ok-led-in-Some.ensures.at_step coins
+    (led-moved c.frame_at.new.self.tableau.qubits c.args.self.now.tableau.qubits coins c.args.plan c.frame_at.new.self.cursor.all c.args.self.now.cursor.all c.args.copies.now (output_of c.args.old.now) c.args.strings.now
+    (c.args.next - 1) c.frame_at.new.self c.in-Some.walk qubits all (found coins c.args.strings.now beside)))))
+
+pub returns-in_ok-self-in-Some-clause-way : goal.returns-in_ok-self-in-Some-clause-way
+returns-in_ok-self-in-Some-clause-way c = λ coins begin beside way.
+    let found : (coins : ℕ → Bool) (s : StringsState)
+    → IsBeside c.args.self.now.tableau.qubits coins c.args.plan c.args.self.now.cursor.all c.args.copies.now (output_of c.args.old.now) s c.args.self.now
+    → IsLed c.args.self.now.tableau.qubits coins c.args.plan c.args.self.now.cursor.all c.args.copies.now (output_of c.args.old.now) s (c.args.next - 1) c.frame_at.new.self c.in-Some.walk =
+    (subst (λ m. IfSome m (λ walk. (1 ≤ c.args.next) × ((coins : ℕ → Bool) (s : StringsState)
+    → IsBeside c.args.self.now.tableau.qubits coins c.args.plan c.args.self.now.cursor.all c.args.copies.now (output_of c.args.old.now) s c.args.self.now
+    → IsLed c.args.self.now.tableau.qubits coins c.args.plan c.args.self.now.cursor.all c.args.copies.now (output_of c.args.old.now) s (c.args.next - 1) c.frame_at.new.self walk)))
+    c.in-Some.is c.in_ok-walk.ensures.found).1 in
+    let same = c.frame_at.ensures.unchanged in
+    let qubits : c.frame_at.new.self.tableau.qubits ≡ c.args.self.now.tableau.qubits = ap (λ (x : Replay). x.tableau.qubits) same in
+    let all : c.frame_at.new.self.cursor.all ≡ c.args.self.now.cursor.all = ap (λ (x : Replay). x.cursor.all) same in
+    let cursor = cursor-set c.args.self.now.cursor.all c.lead.new.self c.in_ok-self-in-Some.field-0 (c.in_ok-self-in-Some.ensures.all ∙ c.requires.same_circuit)
+    (c.in_ok-self-in-Some.ensures.steps ∙ ap (drop c.lead.new.self.step) c.requires.same_circuit) in
+    let led = c.in_ok-led-in-Some.led in
+    let old = c.args.old.now.records.items in
+    let begun : IsOnWay c.args.self.now.tableau.qubits coins begin c.args.plan c.args.self.now.cursor.all c.args.copies.now old c.args.next c.frame_at.new.self =
+    subst (IsOnWay c.args.self.now.tableau.qubits coins begin c.args.plan c.args.self.now.cursor.all c.args.copies.now old c.args.next) (sym same)
+    (way-noted c.args.self.now.tableau.qubits coins begin c.args.plan c.args.self.now.cursor.all c.args.copies.now c.args.old.now.records.items c.args.next c.args.self.now c.frame_at.new.self.string c.frame_at.new.self.notes.reach way
+    c.frame_at.ensures.string c.frame_at.ensures.raised) in
+    subst (λ x. IsLedTo c.args.self.now.tableau.qubits coins begin c.args.plan c.args.self.now.cursor.all c.args.copies.now old led.next x led.there) cursor
+    (subst (λ k. IsLedTo k coins begin c.args.plan c.args.self.now.cursor.all c.args.copies.now old led.next (with_cursor c.args.self.now.cursor.all c.lead.new.self) led.there) qubits
+    (subst (λ xs. IsLedTo c.frame_at.new.self.tableau.qubits coins begin c.args.plan xs c.args.copies.now old led.next (with_cursor xs c.lead.new.self) led.there) all
+    (c.in_ok-led-in-Some.ensures.way coins begin
+    (led-moved c.frame_at.new.self.tableau.qubits c.args.self.now.tableau.qubits coins c.args.plan c.frame_at.new.self.cursor.all c.args.self.now.cursor.all c.args.copies.now (output_of c.args.old.now) c.args.strings.now
+    (c.args.next - 1) c.frame_at.new.self c.in-Some.walk qubits all (found coins c.args.strings.now beside))
+    (subst (λ k. IsOnWay k coins begin c.args.plan c.frame_at.new.self.cursor.all c.args.copies.now old c.args.next c.frame_at.new.self) (sym qubits)
+    (subst (λ xs. IsOnWay c.args.self.now.tableau.qubits coins begin c.args.plan xs c.args.copies.now old c.args.next c.frame_at.new.self) (sym all) begun)))))
+
+pub returns-in-None-clause-at_step : goal.returns-in-None-clause-at_step
+returns-in-None-clause-at_step c = λ coins beside.
+    subst (IsAtStep c.args.self.now.tableau.qubits coins c.args.self.now.cursor.all) (sym c.frame_at.ensures.unchanged)
+    (at-noted c.args.self.now.tableau.qubits coins c.args.self.now.cursor.all c.args.self.now c.frame_at.new.self.string c.frame_at.new.self.notes.reach beside.at_step c.frame_at.ensures.string c.frame_at.ensures.raised)
+
+pub returns-in-None-clause-way : goal.returns-in-None-clause-way
+returns-in-None-clause-way c = λ coins begin beside way.
+    subst (IsOnWay c.args.self.now.tableau.qubits coins begin c.args.plan c.args.self.now.cursor.all c.args.copies.now c.args.old.now.records.items c.args.next) (sym c.frame_at.ensures.unchanged)
+    (way-noted c.args.self.now.tableau.qubits coins begin c.args.plan c.args.self.now.cursor.all c.args.copies.now c.args.old.now.records.items c.args.next c.args.self.now c.frame_at.new.self.string c.frame_at.new.self.notes.reach way
+    c.frame_at.ensures.string c.frame_at.ensures.raised)
+
+pub returns-in_ok-self-in-Some-clause-behind : goal.returns-in_ok-self-in-Some-clause-behind
+returns-in_ok-self-in-Some-clause-behind c =
+    let found : (coins : ℕ → Bool) (s : StringsState)
+    → IsBeside c.args.self.now.tableau.qubits coins c.args.plan c.args.self.now.cursor.all c.args.copies.now (output_of c.args.old.now) s c.args.self.now
+    → IsLed c.args.self.now.tableau.qubits coins c.args.plan c.args.self.now.cursor.all c.args.copies.now (output_of c.args.old.now) s (c.args.next - 1) c.frame_at.new.self c.in-Some.walk =
+    (subst (λ m. IfSome m (λ walk. (1 ≤ c.args.next) × ((coins : ℕ → Bool) (s : StringsState)
+    → IsBeside c.args.self.now.tableau.qubits coins c.args.plan c.args.self.now.cursor.all c.args.copies.now (output_of c.args.old.now) s c.args.self.now
+    → IsLed c.args.self.now.tableau.qubits coins c.args.plan c.args.self.now.cursor.all c.args.copies.now (output_of c.args.old.now) s (c.args.next - 1) c.frame_at.new.self walk)))
+    c.in-Some.is c.in_ok-walk.ensures.found).1 in
+    let behind = led-behind c.args.self.now.tableau.qubits c.requires.beside.0 c.args.plan c.args.self.now.cursor.all c.args.copies.now (output_of c.args.old.now) c.args.strings.now
+    (c.args.next - 1) c.frame_at.new.self c.in-Some.walk c.requires.few (found c.requires.beside.0 c.args.strings.now c.requires.beside.1) in
+    omega (arith, behind, ap (λ (x : Replay). x.step) c.frame_at.ensures.unchanged)
+
+pub returns-in-None-clause-behind : goal.returns-in-None-clause-behind
+returns-in-None-clause-behind c = omega (arith, ap (λ (x : Replay). x.step) c.frame_at.ensures.unchanged)

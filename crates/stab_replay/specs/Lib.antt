@@ -1,0 +1,5 @@
+pub mod Spacing
+pub mod Checkpoints
+pub mod Counts
+pub mod KeptRuns
+pub mod inner

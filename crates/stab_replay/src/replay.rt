@@ -1,0 +1,390 @@
+ghost use Rattle.std.specs.Prelude.{◌≡◌, ℕ, ◌+◌, ◌-◌, ◌*◌, ◌<◌, ◌≤◌, ◌^◌, ◌↔◌, min, [], ◌∷◌, ◌++◌, None, All, IsTrue, OnOk, IfOk, IfErr, length, take, drop};
+ghost use Rattle.stab_io.specs.declared.refusal.Refusal.TheVariants.{OutOfMemory};
+ghost use Rattle.stab_tableau.specs.Groups.{SameGroup};
+ghost use Rattle.stab_tableau.specs.Tableaus.{stabilises};
+ghost use Rattle.stab_circuit.specs.Steps.{most_steps, unroll, check_of};
+ghost use Rattle.stab_circuit.specs.Views.{circuit_items};
+ghost use Rattle.stab_run.specs.Records.{ones};
+ghost use Rattle.stab_run.specs.Points.{all_coins_of};
+ghost use Rattle.stab_run.specs.ProgramStates.{StepFits, output_of};
+ghost use Rattle.stab_replay.specs.inner.Replays.{IsAtStep, IsReplay, Ascending, Meets, copy_of, IsArrival, IsEnd, EndsSoon, IsAtStop, IsOnWay, StopsAt, copies_passed};
+ghost use Rattle.stab_replay.specs.inner.FramedReplays.{IsOldRun};
+
+use crate::checkpoint::{Checkpoint, shifted};
+use stab_circuit::{Circuit, Cursor};
+use stab_frames::{KeptStrings, RunNotes, run_noting};
+use stab_io::Refusal;
+use stab_pauli::Pauli;
+use stab_run::{Coins, Outputs};
+use stab_tableau::{CompactTableau, Tableau};
+use std::alloc::Global;
+
+/// A run from some step on, on its way.
+#[derive(Drop)]
+pub struct Replay<'a> {
+    pub tableau: Tableau,
+    // A string on the tableau's qubits, for products to be written into.
+    pub string: Pauli,
+    pub outputs: Outputs,
+    /// What it notes of its steps, from the first on.
+    pub notes: RunNotes,
+    pub cursor: Cursor<'a>,
+    /// How many steps of the circuit are behind.
+    pub step: usize,
+    /// How many steps were carried out.
+    pub applied: u64,
+    /// How many a frame went over.
+    pub framed: u64,
+    /// The copies laid on the way.
+    pub laid: Vec<Checkpoint>,
+}
+
+/// How far a replay may go, and what it may meet.
+#[derive(Clone, Copy)]
+pub struct Plan {
+    /// The number of steps of the circuit.
+    pub total: usize,
+    pub stride: usize,
+    /// The end of what was changed, in the old steps and in the new ones.
+    pub old_end: usize,
+    pub new_end: usize,
+    /// The first old copy that may be met.
+    pub next: usize,
+    /// So many records are those of the old run.
+    pub base: usize,
+    /// The old steps look back to no more records than so many.
+    pub reach: u32,
+}
+
+/// How a replay ended.
+pub enum End {
+    /// Behind the last step.
+    Last,
+    /// At the old copy with this number, from which on the old run went on as the new one would.
+    Joined(usize),
+}
+
+/// What a replay comes to where it stops.
+enum Arrival {
+    /// The old copy that might be met next, and it meets it.
+    Met,
+    /// The end: it is behind the last step.
+    Behind,
+    /// Neither, and the old copy with this number may be met next.
+    Between(usize),
+}
+
+impl Plan {
+    ghost use Rattle.std.specs.Prelude.{◌≡◌, ◌+◌, ◌≤◌, ◌<◌, ◌⊎◌, Option, Some, IfSome, slice_get};
+    ghost use Rattle.std.specs.Option.{option_map};
+    ghost use Rattle.stab_replay.specs.inner.Replays.{step_among_new, next_stop};
+
+    /// Where the old copy with a number stands among the new steps, if there is one.
+    fn place(self, copies: &[Checkpoint], number: usize) -> Option<usize>
+        ensures value { result ≡ option_map (step_among_new self) (slice_get copies.now number) }
+    {
+        match copies.get(number) {
+            Some(copy) => Some(shifted(self.old_end, self.new_end, copy.step)),
+            None => None,
+        }
+    }
+
+    /// Where a replay that is at a step stops next, before the place of an old copy or at it.
+    fn stop(self, step: usize, place: Option<usize>) -> usize
+        requires stride { 1 ≤ self.stride }
+        requires within { step ≤ self.total }
+        requires behind { IfSome place (λ p. step ≤ p) }
+        ensures value { result ≡ next_stop self step place }
+        ensures order { step ≤ result }
+        ensures within { result ≤ self.total }
+        ensures near { result ≤ step + self.stride }
+        ensures before { IfSome place (λ p. result ≤ p) }
+        ensures further { (step < result) ⊎ ((result ≡ self.total) ⊎ (place ≡ Some result)) }
+    {
+        let stop = step.saturating_add(self.stride).min(self.total);
+        match place {
+            Some(place) => stop.min(place),
+            None => stop,
+        }
+    }
+}
+
+impl<'a> Replay<'a> {
+    /// Carries out the steps up to one.
+    ///
+    /// Refusal `OutOfMemory` alone.
+    fn run_to<C: Coins>(&mut self, alloc: Global, coins: &mut C, stop: usize) -> Result<(), Refusal>
+        requires begun { IsAtStep self.old.tableau.qubits (C.sequence coins.old) self.old.cursor.all self.old }
+        requires fits { All (StepFits self.old.tableau.qubits) self.old.cursor.all }
+        requires order { self.old.step ≤ stop }
+        requires within { stop ≤ length self.old.cursor.all }
+        requires few { self.old.applied + length self.old.cursor.all < 2 ^ 63 }
+        ensures all { self.new.cursor.all ≡ self.old.cursor.all }
+        ensures qubits { self.new.tableau.qubits ≡ self.old.tableau.qubits }
+        ensures laid { self.new.laid.items ≡ self.old.laid.items }
+        ensures same_coins { C.sequence coins.new ≡ C.sequence coins.old }
+        ensures at_step { OnOk result (IsAtStep self.old.tableau.qubits (C.sequence coins.old) self.old.cursor.all self.new) }
+        ensures step { self.new.step ≡ stop }
+        ensures raised { self.old.notes.reach ≤ self.new.notes.reach }
+        ensures records { OnOk result (self.old.outputs.records.items ≡ take (length self.old.outputs.records.items) self.new.outputs.records.items) }
+        ensures counted { OnOk result (self.new.applied + self.old.step ≡ self.old.applied + stop) }
+        ensures framed { self.new.framed ≡ self.old.framed }
+        ensures asks { C.asks coins.new + self.old.step ≤ C.asks coins.old + stop }
+        ensures asks_free { OnOk result (C.asks coins.new + ones self.old.outputs.free.items ≤ C.asks coins.old + ones self.new.outputs.free.items) }
+        ensures asked { C.asks coins.new + all_coins_of (drop stop self.old.cursor.all) ≤ C.asks coins.old + all_coins_of (drop self.old.step self.old.cursor.all) }
+        ensures err { IfErr result (λ r. r ≡ OutOfMemory) }
+    {
+        let most = stop - self.step;
+        self.step = stop;
+        run_noting(
+            alloc,
+            &mut self.tableau,
+            &mut self.string,
+            coins,
+            &mut self.outputs,
+            &mut self.cursor,
+            most,
+            &mut self.applied,
+            &mut self.notes,
+        )?;
+        Ok(())
+    }
+
+    /// Lays a copy of the state.
+    fn lay(&mut self, alloc: Global) -> Result<(), Refusal>
+        ensures unchanged { self.new ≡ record self.old { laid = self.new.laid } }
+        ensures laid { OnOk result (self.new.laid.items ≡ self.old.laid.items ++ copy_of self.old ∷ []) }
+        ensures err { IfErr result (λ r. r ≡ OutOfMemory) }
+    {
+        let copy = Checkpoint {
+            step: self.step,
+            lengths: self.outputs.lengths(),
+            tableau: self.tableau.compact(alloc)?,
+        };
+        self.laid.push(copy)?;
+        Ok(())
+    }
+
+    /// Whether the replay meets an old copy, whose run has these records, the first of which are
+    /// the same, and whose steps look back no further than its reach: what is cheap to compare
+    /// comes first.
+    ///
+    /// Refusal `OutOfMemory` alone.
+    fn meets(
+        &mut self,
+        alloc: Global,
+        copy: &Checkpoint,
+        records: &[bool],
+        base: usize,
+        reach: u32,
+        spare: &mut Option<Tableau>,
+    ) -> Result<bool, Refusal>
+        requires same_qubits { copy.now.tableau.qubits ≡ self.old.tableau.qubits }
+        requires base { base ≤ length self.old.outputs.records.items }
+        requires same_records { take base self.old.outputs.records.items ≡ take base records.now }
+        ensures unchanged { self.new ≡ self.old }
+        ensures value { IfOk result (λ meets. IsTrue meets ↔ Meets self.old.tableau.qubits reach self.old.tableau (output_of self.old.outputs) records.now copy.now) }
+        ensures err { IfErr result (λ r. r ≡ OutOfMemory) }
+    {
+        let alike = self.outputs.free.len() == copy.lengths.free
+            && self.outputs.records.len() == copy.lengths.records
+            && same_last(
+                self.outputs.records.as_slice(),
+                records,
+                base,
+                reach as usize,
+            );
+        if !alike {
+            return Ok(false);
+        }
+        has_group_of(&mut self.tableau, alloc, &copy.tableau, spare)
+    }
+
+    /// What the replay comes to at its step, where this old copy may be met next.
+    ///
+    /// Refusal `OutOfMemory` alone.
+    fn arrive(
+        &mut self,
+        alloc: Global,
+        copies: &[Checkpoint],
+        records: &[bool],
+        plan: Plan,
+        next: usize,
+        spare: &mut Option<Tableau>,
+    ) -> Result<Arrival, Refusal>
+        requires same_qubits { All (λ c. c.tableau.qubits ≡ self.old.tableau.qubits) copies.now }
+        requires base { plan.base ≤ length self.old.outputs.records.items }
+        requires same_records { take plan.base self.old.outputs.records.items ≡ take plan.base records.now }
+        requires next { next ≤ length copies.now }
+        ensures unchanged { self.new ≡ self.old }
+        ensures value { IfOk result (IsArrival self.old.tableau.qubits plan self.old copies.now records.now next) }
+        ensures err { IfErr result (λ r. r ≡ OutOfMemory) }
+    {
+        let placed = plan.place(copies, next) == Some(self.step);
+        if placed && self.meets(alloc, &copies[next], records, plan.base, plan.reach, spare)? {
+            Ok(Arrival::Met)
+        } else if self.step == plan.total {
+            Ok(Arrival::Behind)
+        } else {
+            Ok(Arrival::Between(next + usize::from(placed)))
+        }
+    }
+
+    /// Goes on by a frame where one leads on, and else carries out steps up to the next stop. Tells which
+    /// old copy may be met next.
+    ///
+    /// Refusal `OutOfMemory` alone.
+    fn advance<C: Coins>(
+        &mut self,
+        alloc: Global,
+        circuit: &'a Circuit,
+        copies: &[Checkpoint],
+        old: &Outputs,
+        strings: &KeptStrings,
+        plan: Plan,
+        next: usize,
+        coins: &mut C,
+    ) -> Result<usize, Refusal>
+        requires old { IsOldRun self.old.tableau.qubits (C.sequence coins.old) plan self.old.cursor.all copies.now (output_of old.now) strings.now }
+        requires same_circuit { unroll (circuit_items circuit.now) ≡ self.old.cursor.all }
+        requires checked { check_of (circuit_items circuit.now) ≡ None }
+        requires fits { All (StepFits self.old.tableau.qubits) self.old.cursor.all }
+        requires total { plan.total ≡ length self.old.cursor.all }
+        requires few { plan.total ≤ most_steps }
+        requires few_applied { (self.old.applied + self.old.framed) ≤ self.old.step }
+        requires stride { 1 ≤ plan.stride }
+        requires at_step { IsAtStep self.old.tableau.qubits (C.sequence coins.old) self.old.cursor.all self.old }
+        requires same_qubits { All (λ c. c.tableau.qubits ≡ self.old.tableau.qubits) copies.now }
+        requires next { next ≤ length copies.now }
+        requires ascending { Ascending plan self.old.step (drop next copies.now) }
+        requires base { plan.base ≤ length self.old.outputs.records.items }
+        requires same_records { take plan.base self.old.outputs.records.items ≡ take plan.base old.now.records.items }
+        ensures same_coins { C.sequence coins.new ≡ C.sequence coins.old }
+        ensures all { self.new.cursor.all ≡ self.old.cursor.all }
+        ensures qubits { self.new.tableau.qubits ≡ self.old.tableau.qubits }
+        ensures raised { OnOk result (self.old.notes.reach ≤ self.new.notes.reach) }
+        ensures way { IfOk result (λ later. (begin : ℕ) → IsOnWay self.old.tableau.qubits (C.sequence coins.old) begin plan self.old.cursor.all copies.now (old.now.records.items) next self.old → IsAtStop self.old.tableau.qubits (C.sequence coins.old) begin plan self.old.cursor.all copies.now (old.now.records.items) later self.new) }
+        ensures asks { OnOk result (C.asks coins.new + self.old.applied ≤ C.asks coins.old + self.new.applied) }
+        ensures asks_free { OnOk result (C.asks coins.new + ones self.old.outputs.free.items ≤ C.asks coins.old + ones self.new.outputs.free.items) }
+        ensures asked { C.asks coins.new + all_coins_of (drop self.new.step self.old.cursor.all) ≤ C.asks coins.old + all_coins_of (drop self.old.step self.old.cursor.all) }
+        ensures few_laid { IfOk result (λ later. plan.stride * length self.new.laid.items + plan.stride * next ≤ plan.stride * length self.old.laid.items + plan.stride * later) }
+        ensures stops { IfOk result (λ later. StopsAt plan copies.now later self.old.step self.new.step) }
+        ensures order { IfOk result (λ later. next ≤ later) }
+        ensures further { self.old.step ≤ self.new.step }
+        ensures changed { OnOk result (min self.new.step plan.new_end + self.old.applied ≤ min self.old.step plan.new_end + self.new.applied) }
+        ensures err { IfErr result (λ r. r ≡ OutOfMemory) }
+    {
+        let led = self.frame_on(alloc, circuit, copies, old, strings, plan, next)?;
+        if !led.there {
+            let stop = plan.stop(self.step, plan.place(copies, led.next));
+            self.run_to(alloc, coins, stop)?;
+        }
+        Ok(led.next)
+    }
+
+    /// Carries out steps until the replay meets an old copy or is behind the last step, and lays
+    /// copies on the way: one for each stride, and one for each old copy that it passes, at most.
+    pub fn follow<C: Coins>(
+        &mut self,
+        alloc: Global,
+        circuit: &'a Circuit,
+        copies: &[Checkpoint],
+        old: &Outputs,
+        strings: &KeptStrings,
+        plan: Plan,
+        coins: &mut C,
+    ) -> Result<End, Refusal>
+        requires begun { IsReplay self.old.tableau.qubits (C.sequence coins.old) plan.stride self.old.step self.old.cursor.all self.old }
+        requires nothing_laid { self.old.laid.items ≡ [] }
+        requires fits { All (StepFits self.old.tableau.qubits) self.old.cursor.all }
+        requires total { plan.total ≡ length self.old.cursor.all }
+        requires few { plan.total ≤ most_steps }
+        requires stride { 1 ≤ plan.stride }
+        requires nothing_applied { self.old.applied ≡ 0 }
+        requires nothing_framed { self.old.framed ≡ 0 }
+        requires old { IsOldRun self.old.tableau.qubits (C.sequence coins.old) plan self.old.cursor.all copies.now (output_of old.now) strings.now }
+        requires same_circuit { unroll (circuit_items circuit.now) ≡ self.old.cursor.all }
+        requires checked { check_of (circuit_items circuit.now) ≡ None }
+        requires next { plan.next ≤ length copies.now }
+        requires ascending { Ascending plan self.old.step (drop plan.next copies.now) }
+        requires same_qubits { All (λ c. c.tableau.qubits ≡ self.old.tableau.qubits) copies.now }
+        requires base { plan.base ≤ length self.old.outputs.records.items }
+        requires same_records { take plan.base self.old.outputs.records.items ≡ take plan.base old.now.records.items }
+        ensures same_coins { C.sequence coins.new ≡ C.sequence coins.old }
+        ensures all { self.new.cursor.all ≡ self.old.cursor.all }
+        ensures qubits { self.new.tableau.qubits ≡ self.old.tableau.qubits }
+        ensures replay { OnOk result (IsReplay self.old.tableau.qubits (C.sequence coins.old) plan.stride self.old.step self.old.cursor.all self.new) }
+        ensures raised { OnOk result (self.old.notes.reach ≤ self.new.notes.reach) }
+        ensures counted { OnOk result ((self.new.applied + self.new.framed) + self.old.step ≡ self.new.step) }
+        ensures changed { OnOk result (plan.new_end ≤ self.old.step + self.new.applied) }
+        ensures asks { OnOk result (C.asks coins.new ≤ C.asks coins.old + self.new.applied) }
+        ensures asks_free { OnOk result (C.asks coins.new + ones self.old.outputs.free.items ≤ C.asks coins.old + ones self.new.outputs.free.items) }
+        ensures asked { C.asks coins.new ≤ C.asks coins.old + all_coins_of (drop self.old.step self.old.cursor.all) }
+        ensures end { IfOk result (IsEnd self.old.tableau.qubits plan self.new copies.now old.now.records.items) }
+        ensures soon { OnOk result (EndsSoon self.old.tableau.qubits (C.sequence coins.old) plan self.old.cursor.all copies.now old.now.records.items self.new.step) }
+        ensures few_laid { IfOk result (λ end. plan.stride * length self.new.laid.items + self.old.step ≤ self.new.step + plan.stride * copies_passed plan (length copies.now) end) }
+        ensures err { IfErr result (λ r. r ≡ OutOfMemory) }
+    {
+        let mut next = plan.next;
+        // What copies are expanded into, so that memory for it is asked for once at most.
+        let mut spare: Option<Tableau> = None;
+        loop {
+            let reached = self.advance(alloc, circuit, copies, old, strings, plan, next, coins)?;
+            let records = old.records.as_slice();
+            match self.arrive(alloc, copies, records, plan, reached, &mut spare)? {
+                Arrival::Met => return Ok(End::Joined(reached)),
+                Arrival::Behind => return Ok(End::Last),
+                Arrival::Between(later) => next = later,
+            }
+            self.lay(alloc)?;
+        }
+    }
+}
+
+/// Whether the same strings stabilise a state and a copy, which is expanded into the spare tableau
+/// where it is not a copy of that very state.
+///
+/// Refusal `OutOfMemory` alone.
+fn has_group_of(
+    tableau: &mut Tableau,
+    alloc: Global,
+    copy: &CompactTableau,
+    spare: &mut Option<Tableau>,
+) -> Result<bool, Refusal>
+    requires same_qubits { copy.now.qubits ≡ tableau.old.qubits }
+    ensures unchanged { tableau.new ≡ tableau.old }
+    ensures value { IfOk result (λ same. IsTrue same ↔ SameGroup tableau.old.qubits (stabilises tableau.old) (stabilises copy.now)) }
+    ensures err { IfErr result (λ r. r ≡ OutOfMemory) }
+{
+    if copy.is_of(tableau) {
+        return Ok(true);
+    }
+    let mut other = copy.tableau(alloc, spare.take())?;
+    let same = tableau.same_group(&mut other);
+    *spare = Some(other);
+    Ok(same)
+}
+
+/// Whether the last bits of a list, so many, stand at their places in another one, where both have the
+/// same bits before the base.
+fn same_last(bits: &[bool], others: &[bool], base: usize, reach: usize) -> bool
+    requires base { base ≤ length bits.now }
+    requires same { take base bits.now ≡ take base others.now }
+    ensures value { IsTrue result ↔ (drop (length bits.now - reach) bits.now ≡ drop (length bits.now - reach) (take (length bits.now) others.now)) }
+{
+    let from = bits.len().saturating_sub(reach);
+    let (_, last) = bits.split_at(from);
+    let (_, others) = others.split_at(from.min(others.len()));
+    same_behind(last, others, base.saturating_sub(from))
+}
+
+/// Whether a list goes on behind so many bits, which are the same, as another one begins.
+fn same_behind(bits: &[bool], others: &[bool], base: usize) -> bool
+    requires base { base ≤ length bits.now }
+    requires same { take base bits.now ≡ take base others.now }
+    ensures value { IsTrue result ↔ (bits.now ≡ take (length bits.now) others.now) }
+{
+    let (_, rest) = bits.split_at(base);
+    let (_, others) = others.split_at(base);
+    others.starts_with(rest)
+}

@@ -1,0 +1,5 @@
+pub mod SendingLaws
+pub mod MemoryLaws
+pub mod ShotLaws
+pub mod PackingLaws
+pub mod LineLaws

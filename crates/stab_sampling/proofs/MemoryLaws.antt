@@ -1,0 +1,18 @@
+-- Laws of memory: a run on the qubits of its own circuit is refused for want of memory alone.
+use Rattle.std.proofs.Common.{◌≡◌, ap, subst, ◌∙◌, ℕ, false, Err, None, nat_lt, arith}
+use Rattle.stab_io.specs.declared.refusal.Refusal.TheVariants.{OutOfMemory}
+use Rattle.stab_io.specs.declared.refusal.Fault.{Fault}
+use Rattle.stab_io.specs.Refusals.{whole, Refuses}
+use Rattle.stab_circuit.specs.Items.{Items}
+use Rattle.stab_circuit.specs.Steps.{check_of, check_within, qubits_of}
+
+-- nothing refuses a circuit on as many qubits as it names
+pub checked_on_own_qubits : (items : Items) → check_of items ≡ None → check_within (qubits_of items) items ≡ None
+checked_on_own_qubits items checked = rw (not_below (qubits_of items)) checked
+  where
+    not_below : (n : ℕ) → nat_lt n n ≡ false
+    not_below n = grind arith
+
+-- what nothing else refuses is refused for want of memory
+pub memory_alone : (A : Type 0) (f : Fault) (n : ℕ) (items : Items) → check_of items ≡ None → n ≡ qubits_of items → Refuses {A = A} (Err f) (check_within n items) → f ≡ whole OutOfMemory
+memory_alone A f n items checked e refuses = subst (λ given. Refuses {A = A} (Err f) given) (ap (λ m. check_within m items) e ∙ checked_on_own_qubits items checked) refuses

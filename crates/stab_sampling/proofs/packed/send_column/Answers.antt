@@ -1,0 +1,15 @@
+use Rattle.std.proofs.Common.{◌∙◌, ap, sym}
+use Rattle.stab_shots.specs.Words.{word_bit}
+use Rattle.stab_shots.specs.Lanes.{lane_bits}
+use Rattle.stab_sampling.specs.inner.Packings.{packed_bytes}
+use Rattle.stab_sampling.proofs.packed.send_column.Goals as goal
+
+pub returns-in-Line : goal.returns-in-Line
+returns-in-Line g c = record {
+  sends = λ first bytes_of are. c.send_lines.ensures.sends first bytes_of (λ l less. sym (ap (λ p. packed_bytes p (lane_bits word_bit l c.args.column.now)) c.in-Line.is) ∙ are l less);
+}
+
+pub returns-in-Bytes : goal.returns-in-Bytes
+returns-in-Bytes g c = record {
+  sends = λ first bytes_of are. c.send_squares.ensures.sends first bytes_of (λ l less. sym (ap (λ p. packed_bytes p (lane_bits word_bit l c.args.column.now)) c.in-Bytes.is) ∙ are l less);
+}

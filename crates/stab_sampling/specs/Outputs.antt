@@ -1,0 +1,49 @@
+-- Outputs: what `sample` and `detect` write for the items of a circuit, and how a call of one ends.
+-- Source: Stim's commands `sample` and `detect`. It differs in that a shot's coins are given, and that a detector is the parity of
+-- its records.
+use Rattle.std.specs.Prelude.{◌≡◌, ℕ, zero, suc, ◌+◌, Bool, true, false, List, [], ◌++◌, length, Result}
+use Rattle.stab_io.specs.Devices.{InputView, OutputView}
+use Rattle.stab_io.specs.declared.refusal.Fault.{Fault}
+use Rattle.stab_circuit.specs.Items.{Items}
+use Rattle.stab_circuit.specs.Readings.{IsFaultOf}
+use Rattle.stab_run.specs.Runs.{State}
+use Rattle.stab_results.specs.declared.format.Format.{Format}
+use Rattle.stab_results.specs.declared.format.Kinds.TheVariants.{Measurements, Detectors}
+use Rattle.stab_results.specs.Formats.{shot_bytes}
+use Rattle.stab_tables.specs.Endings.{Ends, SendsOutput}
+use Rattle.stab_jobs.specs.declared.source.Source.{Source}
+use Rattle.stab_tables.specs.Sources.{run_of_shot}
+
+-- the bytes of so many shots, one after another from the first on
+abbrev pub of_shots : (bytes_of : ℕ → List ℕ) → (first shots : ℕ) → List ℕ
+of_shots bytes_of first zero = []
+of_shots bytes_of first (suc n) = of_shots bytes_of first n ++ bytes_of (first + n)
+
+-- what `sample` writes for the items: the records of each shot
+abbrev pub sample_of : Format → (first shots : ℕ) → Source → Items → List ℕ
+sample_of format first shots source items = of_shots (λ shot. shot_bytes format Measurements (run_of_shot source items shot).records) first shots
+
+-- a run's detectors, and behind them its observables where they are appended
+abbrev pub detected : Format → (append : Bool) → State → List ℕ
+detected format false run = shot_bytes format (Detectors (length run.detectors)) run.detectors
+detected format true run = shot_bytes format (Detectors (length run.detectors)) (run.detectors ++ run.observables)
+
+-- what `detect` writes for the items
+abbrev pub detect_of : Format → (append : Bool) → (first shots : ℕ) → Source → Items → List ℕ
+detect_of format append first shots source items = of_shots (λ shot. detected format append (run_of_shot source items shot)) first shots
+
+-- what `sample` writes for some shots, and behind it for those that follow them, is what it writes for all of these
+abbrev pub SampledPartsJoin : Type 0
+SampledPartsJoin =
+    (format : Format) (first n m : ℕ) (source : Source) (items : Items) →
+    sample_of format first n source items ++ sample_of format (first + n) m source items ≡ sample_of format first (n + m) source items
+
+-- and so it is of `detect`
+abbrev pub DetectedPartsJoin : Type 0
+DetectedPartsJoin =
+    (format : Format) (append : Bool) (first n m : ℕ) (source : Source) (items : Items) →
+    detect_of format append first n source items ++ detect_of format append (first + n) m source items ≡ detect_of format append first (n + m) source items
+
+-- How a call of one of them ends, over an input and an output, where it writes this output for the items of a circuit.
+abbrev pub EndsRun : {T : Type 0} → (Items → List ℕ) → InputView → InputView → OutputView → OutputView → Result T Fault → Type 0
+EndsRun output i i' o o' r = Ends IsFaultOf (o' ≡ o) (SendsOutput output o o') i i' r

@@ -1,0 +1,388 @@
+//! The shots of a circuit, written one after another.
+//!
+//! All shots of a list of coins are the same run, which is made once. Shots of a seed are run by batches of lanes, so that the
+//! tableau goes through the circuit once for each batch; a shot that is alone is run alone.
+ghost use Rattle.std.specs.Prelude.{◌≡◌, ℕ, ◌+◌, ◌<◌, ◌≤◌, None, Bool, length, IfOk};
+ghost use Rattle.stab_circuit.specs.Items.{Items};
+ghost use Rattle.stab_circuit.specs.Steps.{check_of, qubits_of};
+ghost use Rattle.stab_circuit.specs.Views.{circuit_items};
+ghost use Rattle.stab_results.specs.Formats.{detectors_of};
+ghost use Rattle.stab_run.specs.Runs.{State, run_of};
+ghost use Rattle.stab_run.specs.Coins.{list_coin, seed_coin};
+ghost use Rattle.stab_shots.specs.Words.{word_bit};
+ghost use Rattle.stab_shots.specs.Lanes.{lane_bits};
+ghost use Rattle.stab_jobs.specs.Limits.{shots_of_seed};
+ghost use Rattle.stab_sampling.specs.Outputs.{of_shots};
+ghost use Rattle.stab_sampling.specs.Sendings.{IsShown, SendsUnflushed, shots_of, shown_bytes, shown_kinds, shown_items};
+
+use crate::packed::{Packing, send_packed};
+use crate::widths::shots_at_once;
+use stab_circuit::Circuit;
+use stab_io::{Fault, Output};
+use stab_jobs::{Shots, Source};
+use stab_results::{Format, Kinds, write_shot};
+use stab_run::{Coins, ListCoins, SeedCoins, Shot, run_once};
+use stab_shots::{
+    LaneCoins, SeedLanes, Shots as LaneShots, Wide, WideSeedLanes, Word, run_lanes, write_lane,
+    write_part,
+};
+use std::alloc::{AllocError, Global};
+
+/// Which bits of a shot are shown.
+#[derive(Clone, Copy, Debug, PartialEq, Eq)]
+pub enum Shown {
+    /// The records.
+    Records,
+    /// The detectors.
+    Detectors,
+    /// The detectors, and behind them the observables.
+    DetectorsAndObservables,
+}
+
+/// What is shown of a shot, and what kinds of bits it is.
+#[derive(Drop)]
+pub(crate) struct Bits {
+    pub kinds: Kinds,
+    pub items: Vec<bool>,
+}
+
+/// What is shown of a shot, by its records, detectors and observables.
+fn shown_of(
+    records: Vec<bool>,
+    mut detectors: Vec<bool>,
+    observables: Vec<bool>,
+    shown: Shown,
+) -> Result<Bits, AllocError>
+    ensures within { IfOk result (λ b. detectors_of b.kinds ≤ length b.items.items) }
+    ensures kinds { IfOk result (λ b. b.kinds ≡ shown_kinds shown (length detectors.items)) }
+    ensures items { IfOk result (λ b. b.items.items ≡ shown_items shown records.items detectors.items observables.items) }
+{
+    let kinds = Kinds::Detectors(detectors.len());
+    match shown {
+        Shown::Records => Ok(Bits {
+            kinds: Kinds::Measurements,
+            items: records,
+        }),
+        Shown::Detectors => Ok(Bits {
+            kinds,
+            items: detectors,
+        }),
+        Shown::DetectorsAndObservables => {
+            detectors.extend_from_slice(observables.as_slice())?;
+            Ok(Bits {
+                kinds,
+                items: detectors,
+            })
+        }
+    }
+}
+
+/// Writes bits so many times.
+fn write_copies<O: Output>(
+    out: &mut O,
+    format: Format,
+    bits: &Bits,
+    copies: usize,
+) -> Result<(), Fault>
+    requires within { detectors_of bits.now.kinds ≤ length bits.now.items.items }
+    ensures sends { (first : ℕ) (shown : Shown) (run : State) → IsShown shown run bits.now.kinds bits.now.items.items → SendsUnflushed (of_shots (λ shot. shown_bytes format shown run) first copies) (O.seen out.old) (O.seen out.new) result }
+{
+    for written in 0..copies {
+        write_shot(out, format, bits.kinds, bits.items.as_slice())?;
+    }
+    Ok(())
+}
+
+/// Runs a circuit once, and writes what is shown of it so many times.
+fn send_copies<O: Output, C: Coins>(
+    alloc: Global,
+    circuit: &Circuit,
+    out: &mut O,
+    format: Format,
+    shown: Shown,
+    coins: &mut C,
+    copies: usize,
+) -> Result<(), Fault>
+    requires checked { check_of (circuit_items circuit.now) ≡ None }
+    ensures sends { (first : ℕ) → SendsUnflushed (of_shots (λ shot. shown_bytes format shown (run_of (qubits_of (circuit_items circuit.now)) (C.sequence coins.old) (circuit_items circuit.now))) first copies) (O.seen out.old) (O.seen out.new) result }
+{
+    let shot = run_once(alloc, circuit, circuit.qubits(), coins)?;
+    let Shot {
+        records,
+        detectors,
+        observables,
+        ..
+    } = shot;
+    let bits = shown_of(records, detectors, observables, shown)?;
+    write_copies(out, format, &bits, copies)
+}
+
+/// Writes the bits of so many of 64 lanes, one lane after another, each from a list of its own.
+fn write_lanes<O: Output>(
+    alloc: Global,
+    out: &mut O,
+    format: Format,
+    kinds: Kinds,
+    words: &[u64],
+    lanes: usize,
+) -> Result<(), Fault>
+    requires in_range { lanes ≤ 64 }
+    requires within { detectors_of kinds ≤ length words.now }
+    ensures sends { (first : ℕ) (shown : Shown) (run : ℕ → State) → ((l : ℕ) → l < lanes → IsShown shown (run (first + l)) kinds (lane_bits word_bit l words.now)) → SendsUnflushed (of_shots (λ shot. shown_bytes format shown (run shot)) first lanes) (O.seen out.old) (O.seen out.new) result }
+{
+    let mut bits = Vec::with_capacity(alloc, words.len())?;
+    for lane in 0..lanes {
+        write_lane(words, lane, &mut bits)?;
+        write_shot(out, format, kinds, bits.as_slice())?;
+    }
+    Ok(())
+}
+
+/// Writes the bits of so many lanes, one lane after another, each from a list of its own. Each 64 lanes are copied out first,
+/// since each lane goes over all words.
+fn write_parts<O: Output, W: Word>(
+    alloc: Global,
+    out: &mut O,
+    format: Format,
+    kinds: Kinds,
+    words: &[W],
+    lanes: usize,
+) -> Result<(), Fault>
+    requires in_range { lanes ≤ W.lanes }
+    requires within { detectors_of kinds ≤ length words.now }
+    ensures sends { (first : ℕ) (shown : Shown) (run : ℕ → State) → ((l : ℕ) → l < lanes → IsShown shown (run (first + l)) kinds (lane_bits W.at l words.now)) → SendsUnflushed (of_shots (λ shot. shown_bytes format shown (run shot)) first lanes) (O.seen out.old) (O.seen out.new) result }
+{
+    let mut part = vec![in alloc; 0; words.len()]?;
+    let mut sent = 0;
+    while sent < lanes {
+        let some = (lanes - sent).min(64);
+        write_part(words, sent / 64, part.as_mut_slice());
+        write_lanes(alloc, out, format, kinds, part.as_slice(), some)?;
+        sent += some;
+    }
+    Ok(())
+}
+
+/// Writes the bits of so many lanes in a format, one lane after another. In `01` and `b8` they are packed for eight lanes at
+/// a time.
+fn send_lanes<O: Output, W: Word>(
+    alloc: Global,
+    out: &mut O,
+    format: Format,
+    kinds: Kinds,
+    words: &[W],
+    lanes: usize,
+) -> Result<(), Fault>
+    requires in_range { lanes ≤ W.lanes }
+    requires within { detectors_of kinds ≤ length words.now }
+    ensures sends { (first : ℕ) (shown : Shown) (run : ℕ → State) → ((l : ℕ) → l < lanes → IsShown shown (run (first + l)) kinds (lane_bits W.at l words.now)) → SendsUnflushed (of_shots (λ shot. shown_bytes format shown (run shot)) first lanes) (O.seen out.old) (O.seen out.new) result }
+{
+    match format {
+        Format::F01 => send_packed(alloc, out, Packing::Line, words, lanes),
+        Format::B8 => send_packed(alloc, out, Packing::Bytes, words, lanes),
+        _ => write_parts(alloc, out, format, kinds, words, lanes),
+    }
+}
+
+/// Runs so many shots, at most as many as there are lanes, with the coins of the lanes, and writes what is shown of each. What
+/// the shots give is put in place of what the lists had.
+fn send_batch<O: Output, W: Word, C: LaneCoins<W>>(
+    alloc: Global,
+    circuit: &Circuit,
+    out: &mut O,
+    format: Format,
+    shown: Shown,
+    coins: &mut C,
+    lists: &mut LaneShots<W>,
+    shots: usize,
+) -> Result<(), Fault>
+    requires checked { check_of (circuit_items circuit.now) ≡ None }
+    requires few { shots ≤ W.lanes }
+    ensures sends { (first : ℕ) (run : ℕ → State) → ((l : ℕ) → l < shots → run (first + l) ≡ run_of (qubits_of (circuit_items circuit.now)) (C.sequences coins.old l) (circuit_items circuit.now)) → SendsUnflushed (of_shots (λ shot. shown_bytes format shown (run shot)) first shots) (O.seen out.old) (O.seen out.new) result }
+{
+    run_lanes(alloc, circuit, circuit.qubits(), coins, lists)?;
+    let kinds = Kinds::Detectors(lists.detectors.len());
+    match shown {
+        Shown::Records => {
+            let words = lists.records.as_slice();
+            send_lanes(alloc, out, format, Kinds::Measurements, words, shots)
+        }
+        Shown::Detectors => {
+            let words = lists.detectors.as_slice();
+            send_lanes(alloc, out, format, kinds, words, shots)
+        }
+        Shown::DetectorsAndObservables => {
+            lists
+                .detectors
+                .extend_from_slice(lists.observables.as_slice())?;
+            let words = lists.detectors.as_slice();
+            send_lanes(alloc, out, format, kinds, words, shots)
+        }
+    }
+}
+
+/// Runs so many shots of a seed from a first one on, by batches of so many lanes, and writes what is shown of each.
+fn send_batches<O: Output, W: Word, C: LaneCoins<W>>(
+    alloc: Global,
+    circuit: &Circuit,
+    out: &mut O,
+    format: Format,
+    shown: Shown,
+    seed: u64,
+    first: u64,
+    shots: usize,
+    lanes: usize,
+) -> Result<(), Fault>
+    requires checked { check_of (circuit_items circuit.now) ≡ None }
+    requires some { 0 < lanes }
+    requires few { lanes ≤ W.lanes }
+    requires in_range { first + shots ≤ shots_of_seed }
+    ensures sends { SendsUnflushed (of_shots (λ shot. shown_bytes format shown (run_of (qubits_of (circuit_items circuit.now)) (seed_coin seed shot) (circuit_items circuit.now))) first shots) (O.seen out.old) (O.seen out.new) result }
+{
+    let mut lists: LaneShots<W> = LaneShots::with_room(alloc, circuit.records())?;
+    let mut sent = 0;
+    while sent < shots {
+        let batch = (shots - sent).min(lanes);
+        let mut coins = C::of_seed(seed, first + sent as u64);
+        send_batch(
+            alloc, circuit, out, format, shown, &mut coins, &mut lists, batch,
+        )?;
+        sent += batch;
+    }
+    Ok(())
+}
+
+/// Runs so many shots of a seed from a first one on, by batches of so many lanes, at most 1,024, and writes what is shown of
+/// each.
+fn send_wide<O: Output>(
+    alloc: Global,
+    circuit: &Circuit,
+    out: &mut O,
+    format: Format,
+    shown: Shown,
+    seed: u64,
+    first: u64,
+    shots: usize,
+    lanes: usize,
+) -> Result<(), Fault>
+    requires checked { check_of (circuit_items circuit.now) ≡ None }
+    requires some { 0 < lanes }
+    requires few { lanes ≤ 1024 }
+    requires in_range { first + shots ≤ shots_of_seed }
+    ensures sends { SendsUnflushed (of_shots (λ shot. shown_bytes format shown (run_of (qubits_of (circuit_items circuit.now)) (seed_coin seed shot) (circuit_items circuit.now))) first shots) (O.seen out.old) (O.seen out.new) result }
+{
+    if lanes <= 64 {
+        send_batches::<O, u64, SeedLanes>(
+            alloc, circuit, out, format, shown, seed, first, shots, lanes,
+        )
+    } else if lanes <= 256 {
+        send_batches::<O, Wide<4>, WideSeedLanes<4>>(
+            alloc, circuit, out, format, shown, seed, first, shots, lanes,
+        )
+    } else if lanes <= 384 {
+        send_batches::<O, Wide<6>, WideSeedLanes<6>>(
+            alloc, circuit, out, format, shown, seed, first, shots, lanes,
+        )
+    } else if lanes <= 448 {
+        send_batches::<O, Wide<7>, WideSeedLanes<7>>(
+            alloc, circuit, out, format, shown, seed, first, shots, lanes,
+        )
+    } else if lanes <= 512 {
+        send_batches::<O, Wide<8>, WideSeedLanes<8>>(
+            alloc, circuit, out, format, shown, seed, first, shots, lanes,
+        )
+    } else {
+        send_batches::<O, Wide<16>, WideSeedLanes<16>>(
+            alloc, circuit, out, format, shown, seed, first, shots, lanes,
+        )
+    }
+}
+
+/// Runs so many shots of a seed, at most 1,024, from a first one on, in one batch, and writes what is shown of each.
+fn send_rest<O: Output>(
+    alloc: Global,
+    circuit: &Circuit,
+    out: &mut O,
+    format: Format,
+    shown: Shown,
+    seed: u64,
+    first: u64,
+    shots: usize,
+) -> Result<(), Fault>
+    requires checked { check_of (circuit_items circuit.now) ≡ None }
+    requires few { shots ≤ 1024 }
+    requires in_range { first + shots ≤ shots_of_seed }
+    ensures sends { SendsUnflushed (of_shots (λ shot. shown_bytes format shown (run_of (qubits_of (circuit_items circuit.now)) (seed_coin seed shot) (circuit_items circuit.now))) first shots) (O.seen out.old) (O.seen out.new) result }
+{
+    match shots {
+        0 => Ok(()),
+        1 => {
+            let mut coins = SeedCoins::new(seed, first);
+            send_copies(alloc, circuit, out, format, shown, &mut coins, 1)
+        }
+        _ => {
+            send_wide(
+                alloc, circuit, out, format, shown, seed, first, shots, shots,
+            )
+        }
+    }
+}
+
+/// Runs so many shots of a seed from a first one on, and writes what is shown of each. A shot that is alone is run alone, and
+/// shots that fill no batch go in no more lanes than they need.
+fn send_seeded<O: Output>(
+    alloc: Global,
+    circuit: &Circuit,
+    out: &mut O,
+    format: Format,
+    shown: Shown,
+    seed: u64,
+    first: u64,
+    shots: usize,
+) -> Result<(), Fault>
+    requires checked { check_of (circuit_items circuit.now) ≡ None }
+    requires in_range { first + shots ≤ shots_of_seed }
+    ensures sends { SendsUnflushed (of_shots (λ shot. shown_bytes format shown (run_of (qubits_of (circuit_items circuit.now)) (seed_coin seed shot) (circuit_items circuit.now))) first shots) (O.seen out.old) (O.seen out.new) result }
+{
+    let most = shots_at_once(alloc, circuit, shots)?;
+    let full = shots - shots % most;
+    if full == 0 {
+        return send_rest(alloc, circuit, out, format, shown, seed, first, shots);
+    }
+    send_wide(alloc, circuit, out, format, shown, seed, first, full, most)?;
+    if full == shots {
+        return Ok(());
+    }
+    let next = first + full as u64;
+    let rest = shots - full;
+    send_rest(alloc, circuit, out, format, shown, seed, next, rest)
+}
+
+/// Runs these shots of a circuit that nothing refuses, and writes what is shown of each, without a flush.
+///
+/// Shot s has the coins of its own stream under the seed, or the whole list of coins anew. Faults: `WriteFault`
+/// where the output failed, and `OutOfMemory`, both after a prefix of what is to be written.
+pub fn send_shots<O: Output>(
+    alloc: Global,
+    circuit: &Circuit,
+    out: &mut O,
+    format: Format,
+    shown: Shown,
+    source: &Source,
+    shots: Shots,
+) -> Result<(), Fault>
+    requires checked { check_of (circuit_items circuit.now) ≡ None }
+    ensures sends { SendsUnflushed (shots_of format shown shots source.now (circuit_items circuit.now)) (O.seen out.old) (O.seen out.new) result }
+{
+    let first = shots.first();
+    let number = shots.number();
+    match source {
+        Source::Seed(seed) => {
+            send_seeded(alloc, circuit, out, format, shown, *seed, first, number)
+        }
+        Source::List(list) => {
+            let mut coins = ListCoins::new(list.as_slice());
+            send_copies(alloc, circuit, out, format, shown, &mut coins, number)
+        }
+    }
+}

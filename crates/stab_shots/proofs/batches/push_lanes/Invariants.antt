@@ -1,0 +1,11 @@
+use Rattle.std.proofs.Common.{◌≡◌, ℕ, ◌+◌, ◌<◌, Bool, length}
+use Rattle.stab_circuit.specs.Items.{Items}
+use Rattle.stab_shots.specs.Shots.{AreRuns, AreShots}
+use Rattle.stab_shots.proofs.batches.push_lanes.Given as goal
+
+abbrev pub invariant-loop-lane : goal.invariant-loop-lane
+invariant-loop-lane g l = record {
+  number : length l.shots.items ≡ length l.initial.shots.items + l.lane;
+  shots : (n : ℕ) (coins : ℕ → ℕ → Bool) (items : Items) → AreShots n coins items l.initial.shots.items
+      → ((k : ℕ) → k < l.lane → AreRuns g.W.Word.at k n (coins (length l.initial.shots.items + k)) items l.lists) → AreShots n coins items l.shots.items;
+}

@@ -1,0 +1,21 @@
+use Rattle.std.proofs.Common.{arith, ◌∙◌, ◌+◌, ◌<◌, ap, subst}
+use Rattle.stab_circuit.specs.Views.{circuit_items}
+use Rattle.stab_shots.specs.Seeds.{shot_coins}
+use Rattle.stab_shots.specs.Shots.{AreRuns}
+use Rattle.stab_shots.proofs.BatchLemmas.{lane-coins}
+use Rattle.stab_shots.proofs.batches.run_batches.Goals as goal
+
+pub loop-made-preserved : goal.loop-made-preserved
+loop-made-preserved g c =
+    let so_far = c.loop-made.invariant in
+    let items = circuit_items c.args.circuit.now in
+    record {
+      within = omega (arith, c.min-batch.ensures, so_far.within, c.loop-made-test.true);
+      number = c.in_ok-push_lanes.ensures.number ∙ ap (λ k. k + c.min-batch.result) so_far.number;
+      shots = c.in_ok-push_lanes.ensures.shots c.args.n (shot_coins c.args.seed c.args.first) items so_far.shots
+          (λ l less.
+          let within : l < g.W.Word.lanes = omega (arith, less, c.min-batch.ensures, c.requires.few) in
+          subst (λ coins. AreRuns g.W.Word.at l c.args.n coins items c.run_checked.new.shots)
+          (lane-coins c.args.seed c.args.first c.loop-made.made _ l _ so_far.number (λ t. c.of_seed-coins.ensures.value l t within))
+          (c.in_ok-run_checked.ensures.runs l within));
+    }

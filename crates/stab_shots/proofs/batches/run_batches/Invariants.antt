@@ -1,0 +1,15 @@
+use Rattle.std.proofs.Common.{◌≡◌, ◌-◌, ◌≤◌, length}
+use Rattle.stab_circuit.specs.Views.{circuit_items}
+use Rattle.stab_shots.specs.Seeds.{shot_coins}
+use Rattle.stab_shots.specs.Shots.{AreShots}
+use Rattle.stab_shots.proofs.batches.run_batches.Given as goal
+
+abbrev pub invariant-loop-made : goal.invariant-loop-made
+invariant-loop-made g l = record {
+  within : l.made ≤ l.number;
+  number : length l.shots.items ≡ l.made;
+  shots : AreShots l.n (shot_coins l.seed l.first) (circuit_items l.circuit) l.shots.items;
+}
+
+abbrev pub decreases-loop-made : goal.decreases-loop-made
+decreases-loop-made g l = l.number - l.made

@@ -1,0 +1,141 @@
+//! Shots of a seed, run by batches of lanes, each with lists of its own.
+ghost use Rattle.std.specs.Prelude.{◌≡◌, ℕ, ◌+◌, ◌<◌, ◌≤◌, Bool, None, length, IfOk, OnOk, IfErr};
+ghost use Rattle.stab_io.specs.declared.refusal.Refusal.TheVariants.{OutOfMemory};
+ghost use Rattle.stab_io.specs.Refusals.{Refuses};
+ghost use Rattle.stab_letters.specs.Limits.{most_qubits};
+ghost use Rattle.stab_circuit.specs.Items.{Items};
+ghost use Rattle.stab_circuit.specs.Steps.{check_within};
+ghost use Rattle.stab_circuit.specs.Views.{circuit_items};
+ghost use Rattle.stab_shots.specs.Lanes.{lane_bits};
+ghost use Rattle.stab_shots.specs.Seeds.{shot_coins};
+ghost use Rattle.stab_shots.specs.Shots.{AreRuns, IsShot, AreShots};
+
+use crate::coins::LaneCoins;
+use crate::lanes::write_lane;
+use crate::seeds::SeedLanes;
+use crate::shots::{Shots, run_checked};
+use crate::wide::Wide;
+use crate::wide_seeds::WideSeedLanes;
+use crate::word::Word;
+use stab_circuit::Circuit;
+use stab_io::{Fault, Refusal};
+use stab_run::Shot;
+use std::alloc::{AllocError, Global};
+
+/// The bits of a lane, in a list of their own.
+fn bits_of_lane<W: Word>(alloc: Global, words: &[W], lane: usize) -> Result<Vec<bool>, AllocError>
+    requires in_range { lane < W.lanes }
+    ensures value { IfOk result (λ v. v.items ≡ lane_bits W.at lane words.now) }
+{
+    let mut bits = Vec::with_capacity(alloc, words.len())?;
+    write_lane(words, lane, &mut bits)?;
+    Ok(bits)
+}
+
+/// The shot of a lane, in lists of its own.
+fn shot_of_lane<W: Word>(alloc: Global, lists: &Shots<W>, lane: usize) -> Result<Shot, AllocError>
+    requires in_range { lane < W.lanes }
+    ensures records { IfOk result (λ s. s.records.items ≡ lane_bits W.at lane lists.now.records.items) }
+    ensures free { IfOk result (λ s. s.free.items ≡ lists.now.free.items) }
+    ensures detectors { IfOk result (λ s. s.detectors.items ≡ lane_bits W.at lane lists.now.detectors.items) }
+    ensures observables { IfOk result (λ s. s.observables.items ≡ lane_bits W.at lane lists.now.observables.items) }
+{
+    Ok(Shot {
+        records: bits_of_lane(alloc, lists.records.as_slice(), lane)?,
+        free: Vec::from_slice(alloc, lists.free.as_slice())?,
+        detectors: bits_of_lane(alloc, lists.detectors.as_slice(), lane)?,
+        observables: bits_of_lane(alloc, lists.observables.as_slice(), lane)?,
+    })
+}
+
+/// Puts the shots of the first so many lanes behind others.
+fn push_lanes<W: Word>(
+    alloc: Global,
+    lists: &Shots<W>,
+    lanes: usize,
+    shots: &mut Vec<Shot>,
+) -> Result<(), AllocError>
+    requires in_range { lanes ≤ W.lanes }
+    ensures number { OnOk result (length shots.new.items ≡ length shots.old.items + lanes) }
+    ensures shots { OnOk result ((n : ℕ) (coins : ℕ → ℕ → Bool) (items : Items) → AreShots n coins items shots.old.items → ((l : ℕ) → l < lanes → AreRuns W.at l n (coins (length shots.old.items + l)) items lists.now) → AreShots n coins items shots.new.items) }
+{
+    for lane in 0..lanes {
+        shots.push(shot_of_lane(alloc, lists, lane)?)?;
+    }
+    Ok(())
+}
+
+/// Runs so many shots of a seed from a first one on, by batches of so many lanes.
+fn run_batches<W: Word, C: LaneCoins<W>>(
+    alloc: Global,
+    circuit: &Circuit,
+    n: usize,
+    seed: u64,
+    first: u64,
+    number: usize,
+    lanes: usize,
+) -> Result<Vec<Shot>, Refusal>
+    requires in_range { n ≤ most_qubits }
+    requires checked { check_within n (circuit_items circuit.now) ≡ None }
+    requires some { 0 < lanes }
+    requires few { lanes ≤ W.lanes }
+    ensures number { IfOk result (λ s. length s.items ≡ number) }
+    ensures shots { IfOk result (λ s. AreShots n (shot_coins seed first) (circuit_items circuit.now) s.items) }
+    ensures err { IfErr result (λ r. r ≡ OutOfMemory) }
+{
+    let mut shots = Vec::with_capacity(alloc, number)?;
+    let mut lists: Shots<W> = Shots::with_room(alloc, circuit.records())?;
+    let mut made = 0;
+    while made < number {
+        let batch = (number - made).min(lanes);
+        let mut coins = C::of_seed(seed, first.wrapping_add(made as u64));
+        run_checked(alloc, circuit, n, &mut coins, &mut lists)?;
+        push_lanes(alloc, &lists, batch, &mut shots)?;
+        made += batch;
+    }
+    Ok(shots)
+}
+
+/// Runs so many shots of a seed from a first one on, 64 at once where there are no more, else 256.
+fn run_by_number(
+    alloc: Global,
+    circuit: &Circuit,
+    n: usize,
+    seed: u64,
+    first: u64,
+    number: usize,
+) -> Result<Vec<Shot>, Refusal>
+    requires in_range { n ≤ most_qubits }
+    requires checked { check_within n (circuit_items circuit.now) ≡ None }
+    ensures number { IfOk result (λ s. length s.items ≡ number) }
+    ensures shots { IfOk result (λ s. AreShots n (shot_coins seed first) (circuit_items circuit.now) s.items) }
+    ensures err { IfErr result (λ r. r ≡ OutOfMemory) }
+{
+    if number <= 64 {
+        run_batches::<u64, SeedLanes>(alloc, circuit, n, seed, first, number, 64)
+    } else {
+        run_batches::<Wide<4>, WideSeedLanes<4>>(alloc, circuit, n, seed, first, number, 256)
+    }
+}
+
+/// Runs so many shots of a seed from a first one on, on n qubits, at most 1,024. Numbers of shots go on from 2^64 - 1 with 0.
+///
+/// Each shot is the run that `stab_run::run_once` makes with `SeedCoins` of its number. The tableau goes through the circuit
+/// once for all shots of a batch, so many cost little more than one. Refused as `Circuit::check` refuses, else
+/// `OutOfMemory`, always with line 0.
+pub fn run_shots(
+    alloc: Global,
+    circuit: &Circuit,
+    n: usize,
+    seed: u64,
+    first: u64,
+    number: usize,
+) -> Result<Vec<Shot>, Fault>
+    requires in_range { n ≤ most_qubits }
+    ensures number { IfOk result (λ s. length s.items ≡ number) }
+    ensures shots { IfOk result (λ s. AreShots n (shot_coins seed first) (circuit_items circuit.now) s.items) }
+    ensures refused { Refuses result (check_within n (circuit_items circuit.now)) }
+{
+    circuit.check(n)?;
+    run_by_number(alloc, circuit, n, seed, first, number).map_err(Fault::whole)
+}

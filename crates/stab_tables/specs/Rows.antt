@@ -1,0 +1,22 @@
+-- Rows: the lines of strings, and what they tell.
+-- Source: this project's own.
+use Rattle.std.specs.Prelude.{◌≡◌, ℕ, Bool, List, ◌++◌, codes, ◌↔◌}
+use Rattle.std.specs.List.{flat_map}
+use Rattle.stab_pauli.specs.Paulis.{Signed}
+use Rattle.stab_pauli.specs.Texts.{pauli_text}
+use Rattle.stab_tableau.specs.Groups.{IsStabiliserGroup, SameGroup}
+use Rattle.stab_tableau.specs.Reduced.{AreReduced}
+
+-- the line of a string: its text, and a line feed
+abbrev pub line_of : Signed → List ℕ
+line_of row = pauli_text row ++ codes "\n"
+
+-- lines one after another
+abbrev pub lines_of : List Signed → List ℕ
+lines_of rows = flat_map line_of rows
+
+-- two stabiliser groups are one exactly where the lines of their reduced rows are the same
+abbrev pub SameGroupSameLines : Type 0
+SameGroupSameLines =
+    (n : ℕ) (s t : Signed → Bool) → IsStabiliserGroup n s → IsStabiliserGroup n t → (a b : List Signed) →
+    AreReduced n s a → AreReduced n t b → SameGroup n s t ↔ (lines_of a ≡ lines_of b)

@@ -1,0 +1,36 @@
+-- Commands of the command line reader, built option by option.
+use Rattle.std.proofs.Common.{◌≡◌, ◌∙◌, ◌||◌, refl, ap, ap₂}
+use Rattle.std.specs.Prelude.{Bool, false, List, [], ◌∷◌, ◌++◌, map}
+use Rattle.std.specs.Borrow.{Bor}
+use Rattle.clap.specs.Words.{AddsArg, AddsCommandAliases, AddsSubcommand, App, Rule, Text, with_rule, with_subcommand}
+use Rattle.clap.specs.Simple.{app_of_fields, on_top}
+use Rattle.clap.specs.declared.builder.arg.Arg.{Arg}
+use Rattle.clap.specs.declared.builder.command.Command.{Command}
+use Rattle.clap.specs.declared.builder.command.Command.TheViews.{out-Command}
+use Rattle.stab_words.specs.inner.Parts.{IsApp, IsOption}
+
+-- a command with one option more
+pub with_option : (old new : Command) (arg : Arg) (app : App) (option : Rule) → AddsArg old arg new → IsOption option arg → IsApp app old → IsApp (with_rule app option) new
+with_option old new arg app option adds is before =
+    (adds.shape is.1 ∙ ap₂ with_rule before.0 is.0, adds.globals ∙ ap₂ (λ a b. a || b) before.1 is.1)
+
+-- a command with one command more
+pub with_command : (old new sub : Command) (app inner : App) → AddsSubcommand old sub new → IsApp inner sub → IsApp app old → IsApp (with_subcommand app inner.top) new
+with_command old new sub app inner adds is before =
+    (adds.shape is.1 ∙ ap₂ with_subcommand before.0 (ap (λ a. a.top) is.0), adds.globals ∙ ap₂ (λ a b. a || b) before.1 is.1)
+
+-- the names of a command that had none
+aliased : (names : List (Bor Text × Bool)) (name : Bor Text) → map (λ n. n.0.now) names ≡ [] → map (λ n. n.0.now) (names ++ (name, false) ∷ []) ≡ name.now ∷ []
+aliased [] name e = refl
+aliased (first ∷ names) name e = cc
+
+-- a command with another name
+pub with_alias : (old new : Command) (name : Bor Text) (app : App) → app.top.aliases ≡ [] → AddsCommandAliases old new ((name, false) ∷ []) → IsApp app old
+    → IsApp (on_top (λ s. record s { aliases = name.now ∷ [] }) app) new
+with_alias old new name app bare adds before =
+    let texts : map (λ n. n.0.now) (out-Command new).aliases.items ≡ name.now ∷ [] =
+    ap (map (λ n. n.0.now)) adds.1 ∙ aliased (out-Command old).aliases.items name (ap (λ a. a.top.aliases) before.0 ∙ bare) in (
+      ap app_of_fields adds.0 ∙ (ap (λ names. on_top (λ s. record s { aliases = names }) (app_of_fields (out-Command old))) texts
+          ∙ ap (on_top (λ s. record s { aliases = name.now ∷ [] })) before.0),
+      ap (λ fields. fields.has_globals) adds.0 ∙ before.1,
+    )

@@ -1,0 +1,13 @@
+use Rattle.std.proofs.Common.{ap, ◌∙◌, codes}
+use Rattle.clap.specs.Words.{new_app}
+use Rattle.clap.specs.Simple.{app_of_fields}
+use Rattle.stab_words.specs.inner.Parts.{IsApp}
+use Rattle.stab_words.proofs.words.app.check_command.Goals as goal
+
+pub returns : goal.returns
+returns c =
+    let none : IsApp (new_app (codes "check")) c.after_help-command.result = (
+      ap app_of_fields c.after_help-command.ensures ∙ (ap app_of_fields c.about.ensures ∙ c.new.ensures.app),
+      ap (λ fields. fields.has_globals) c.after_help-command.ensures ∙ (ap (λ fields. fields.has_globals) c.about.ensures ∙ c.new.ensures.local),
+    ) in
+    record { app = c.with_files.ensures.app _ none }

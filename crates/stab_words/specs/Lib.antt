@@ -1,0 +1,5 @@
+pub mod Usages
+pub mod Coins
+pub mod Options
+pub mod Asked
+pub mod inner
