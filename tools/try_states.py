@@ -6,8 +6,8 @@
 Two qubits are the first and the last of up to 1,024, and the others stay zero: so the four amplitudes of the two, which matrices
 change, say which of their 32 signed strings stabilise, the reduced rows of the whole state, and each outcome, free or fixed. Each
 gate is tried so on each letter and on either sign, there and back; some states on sizes round those at which words and blocks of
-words end, some of them behind edits that a Pauli frame leads on; and on some each letter and each string is measured, with either
-coin. Then there are states of many qubits whose rows and outcomes follow from one line. It prints how many cases it tried and which
+words end, some of them behind edits that a Pauli frame leads on, and some in shots that are run together; and on some each letter and
+each string is measured, with either coin. Then there are states of many qubits whose rows and outcomes follow from one line. It prints how many cases it tried and which
 went wrong, and ends with 1 where there is one. It needs the program: build it by ./stabsim --help.
 """
 
@@ -17,6 +17,8 @@ import signal
 import subprocess
 import sys
 import tempfile
+
+from oracle.coins import seed_coins
 
 TOP = pathlib.Path(__file__).resolve().parent.parent
 PROGRAM = TOP / "crates" / "stabsim" / "out" / "stabsim"
@@ -79,6 +81,14 @@ STATES: list[tuple[list[str], str]] = [
     ([*BELL, "MR F", "MRX L", "MRY F", "RY L", "MY F L", "SWAP F L"], "1101111"),
     ([*BELL, "MPP !XF*XL YF*!YL ZF*ZL XF*ZL"], "0110"),
 ]
+
+# Changes of more than one letter. S twice is Z; H and CZ are no letters.
+LONGER_TURNS = [["Y L", "Z F"], ["Z L", "X L"], ["S F", "S F"], ["S F F"], ["H F"], ["CZ F L"]]
+# What is measured of zeros and of a pair, free or fixed, in so many shots of a seed.
+EXCHANGED = ["MPP ZF*ZL", "MPP !ZL", "MPP XF", "MPP ZF*YL", "MPP !XF*XL", "MPP YF*YL", "MPP ZF", "MPP !XL", "MPP XF*ZL", "MPP YF*XL"]
+EXCHANGED += ["MX F", "MX L", "MY F", "MY L", "M F", "M L"]
+SHOTS = 70
+SEED = 5
 
 Amplitudes = list[complex]
 
@@ -288,12 +298,23 @@ def try_measurements(circuit: pathlib.Path, size: int) -> None:
 
 
 def try_turned(circuit: pathlib.Path, size: int) -> None:
-    """A letter that is put in behind a pair turns what is kept behind it, from where a later edit goes on."""
+    """What is put in behind a pair changes what is kept behind it, from where a later edit goes on: some of it by a Pauli frame."""
     behind = ["I F", "I L", "I F"]
-    for letter, place, last in itertools.product("IXYZ", "FL", ("I F", "H L", "S F")):
-        turn = f"{letter} {place}"
-        edits = [f"insert 2 {written([turn], size)}".rstrip(), f"insert 6 {written([last], size)}".rstrip()]
-        try_edits(circuit, size, [*BELL, *behind], "", edits, [*BELL, turn, *behind, last])
+    turns = [[f"{letter} {place}"] for letter, place in itertools.product("IXYZ", "FL")]
+    for turn, last in itertools.product(turns + LONGER_TURNS, ("I F", "H L", "S F")):
+        edits = [f"insert 2 {written(['REPEAT 1 {', *turn, '}'], size)}".rstrip(), f"insert 6 {written([last], size)}".rstrip()]
+        try_edits(circuit, size, [*BELL, *behind], "", edits, [*BELL, *turn, *behind, last])
+
+
+def try_shots(circuit: pathlib.Path, size: int) -> None:
+    """Shots that are run together, where a string exchanges the outcomes of the first, are those that each has with its own coins."""
+    for lines, measured in itertools.product(([], BELL), EXCHANGED):
+        then = [*lines, measured, "M F", "MX L", "MPP YF*YL"]
+        circuit.write_text(written(then, size))
+        coins = ["".join(str(int(coin)) for coin in seed_coins(SEED, shot, len(then))) for shot in range(SHOTS)]
+        records = "".join(Pair(then, of_shot).records + "\n" for of_shot in coins)
+        found = run(["sample", "--shots", str(SHOTS), "--seed", str(SEED), "--in", str(circuit)], "")
+        expect(f"{SHOTS} shots of {then} on {size} qubits", found, (0, records, ""))
 
 
 def try_together(size: int) -> None:
@@ -326,6 +347,7 @@ def main() -> int:
             for lines, coins in STATES:
                 try_state(circuit, size, lines, coins)
             try_turned(circuit, size)
+            try_shots(circuit, size)
         for length in range(len(TURNS) + 1):
             try_state(circuit, 1, TURNS[:length], "10")
     for size in (3, 64, 65, 257, 1024):

@@ -1,33 +1,11 @@
 //! Signed Pauli strings: made, changed, multiplied, printed.
-use crate::texts::{both, commute, multiply, multiply_letters, prints, read, repeated, set};
-use StringChange::{Clear, Negate, NegateIf, Set, Times, TimesLetters};
+use crate::texts::{
+    both, commute, multiply, multiply_letters, prints, read, repeated, set, single,
+};
+use StringChange::{Clear, Copy, Negate, NegateIf, Set, Single, Times, TimesLetters};
 use stab_pauli::{Letter, MemoryOutput, Pauli, Refusal};
 use std::alloc::Global;
 use std::test::Fail;
-
-// Whether the negated copy of a string of 3 letters is this one.
-fn is_copied(alloc: Global, pauli: &Pauli, text: &str) -> Result<bool, Refusal> {
-    let mut copy = pauli.copy(alloc)?;
-    copy.negate();
-    if copy.len() == 3 && copy.is_negative() {
-        prints(alloc, &copy, text)
-    } else {
-        Ok(false)
-    }
-}
-
-// Whether a string of 3 letters has one Y, and its negated copy too.
-fn is_made(alloc: Global) -> Result<bool, Refusal> {
-    let pauli = Pauli::single(alloc, 3, 1, Letter::Y)?;
-    if pauli.first_x() == Some(1) {
-        both(
-            is_copied(alloc, &pauli, "-_Y_"),
-            prints(alloc, &pauli, "+_Y_"),
-        )
-    } else {
-        Ok(false)
-    }
-}
 
 // A change of a string.
 #[derive(Clone, Copy)]
@@ -36,10 +14,31 @@ enum StringChange {
     NegateIf(bool),
     Negate,
     Clear,
+    // A copy takes the place of the string, which is negated once it is copied.
+    Copy,
+    // One letter takes the place of all.
+    Single(usize, Letter),
     // The product with the string of a text, times i where the two anticommute.
     Times(&'static str),
     // The letters of that product, with the sign as it was.
     TimesLetters(&'static str),
+}
+
+fn go_on_with_copy(alloc: Global, pauli: &mut Pauli) -> Result<bool, Refusal> {
+    let copy = pauli.copy(alloc)?;
+    pauli.negate();
+    *pauli = copy;
+    Ok(true)
+}
+
+fn become_single(
+    alloc: Global,
+    pauli: &mut Pauli,
+    qubit: usize,
+    letter: Letter,
+) -> Result<bool, Refusal> {
+    *pauli = single(alloc, pauli.len(), qubit, letter)?;
+    Ok(true)
 }
 
 fn times(alloc: Global, pauli: &mut Pauli, text: &str) -> Result<bool, Refusal> {
@@ -59,6 +58,8 @@ fn make(alloc: Global, pauli: &mut Pauli, change: StringChange) -> Result<bool, 
         StringChange::NegateIf(bit) => pauli.negate_if(bit),
         StringChange::Negate => pauli.negate(),
         StringChange::Clear => pauli.clear(),
+        StringChange::Copy => return go_on_with_copy(alloc, pauli),
+        StringChange::Single(qubit, letter) => return become_single(alloc, pauli, qubit, letter),
         StringChange::Times(text) => return times(alloc, pauli, text),
         StringChange::TimesLetters(text) => return times_letters(alloc, pauli, text),
     }
@@ -88,6 +89,11 @@ const LONG: &str = "+___________________________________________________________
 const CHANGES: &[(&str, StringChange, &str, Option<usize>)] = &[
     ("+", NegateIf(false), "+", None),
     ("+__", NegateIf(false), "+__", None),
+    ("-X__", Single(1, Letter::Y), "+_Y_", Some(1)),
+    ("+___", Set(1, Letter::Y), "+_Y_", Some(1)),
+    ("+_Y_", Copy, "+_Y_", Some(1)),
+    ("-_Y_", Copy, "-_Y_", Some(1)),
+    ("+_Y_", Negate, "-_Y_", Some(1)),
     ("-_Y_", Set(2, Letter::X), "-_YX", Some(1)),
     ("-_YX", NegateIf(false), "-_YX", Some(1)),
     ("-_YX", NegateIf(true), "+_YX", Some(1)),
@@ -147,9 +153,7 @@ const CHANGES: &[(&str, StringChange, &str, Option<usize>)] = &[
 ];
 
 #[test]
-fn a_pauli_is_made_and_changed(rt: HostRuntime) -> Result<(), Fail> {
-    let made = is_made(rt.alloc())?;
-    assert!(rt; made);
+fn a_pauli_is_changed(rt: HostRuntime) -> Result<(), Fail> {
     for &(old, change, new, first) in CHANGES {
         let found = changed(rt.alloc(), old, change, new)?;
         assert_eq!(rt; found, (true, first), "{old} to {new}");

@@ -1,17 +1,17 @@
-//! Stabiliser states: groups that are the same, copies, and the rows of a Bell pair.
+//! Stabiliser states: groups that are the same, also of copies and of states that are reset, and the rows of a
+//! Bell pair.
 //!
 //! What gates, measurements and resets make of states is tried by `tools/try_states.py`, which runs the
 //! program; here stand the calls that no command makes, or whose answers none shows.
 mod calls;
-mod exchanges;
 mod kept;
 
 use crate::texts::{both, prints};
-use calls::Call::{self, Measure, One, Reset, Two, Wear};
+use calls::Call::{self, Copy, Measure, One, Reset, Two, Wear};
 use calls::Place::{First, Last};
 use calls::carry_out;
-use stab_pauli::Refusal;
-use stab_tableau::{Gate, PairGate, Tableau};
+use stab_pauli::{Letter, Pauli, Refusal};
+use stab_tableau::{Collapse, Gate, PairGate, Tableau};
 use std::alloc::Global;
 use std::test::Fail;
 
@@ -104,6 +104,22 @@ const GROUPS: &[(usize, &[Call], &[Call], bool)] = &[
     (2, HALF_AFTER_RESET, HALF, true),
     (65, HALF_AFTER_RESET, HALF, true),
     (257, HALF_AFTER_RESET, HALF, true),
+    // A copy stays as it was whatever becomes of the state.
+    (
+        1,
+        &[One(Gate::X, First), Copy],
+        &[One(Gate::X, First)],
+        true,
+    ),
+    (
+        1,
+        &[One(Gate::X, First), Copy, One(Gate::X, First)],
+        &[],
+        true,
+    ),
+    (2, &[TURN, ENTANGLE, Copy], BELL, true),
+    (65, &[TURN, ENTANGLE, Copy], BELL, true),
+    (2, &[TURN, ENTANGLE, Copy, Measure("+Z_", true)], HALF, true),
 ];
 
 #[test]
@@ -111,59 +127,6 @@ fn groups_are_compared(rt: HostRuntime) -> Result<(), Fail> {
     for (number, &(n, calls, others, wanted)) in GROUPS.iter().enumerate() {
         let found = same_after(rt.alloc(), n, calls, others)?;
         assert_eq!(rt; found, (wanted, wanted), "group {number}");
-    }
-    Ok(())
-}
-
-// What is asked of a state before it is copied, and of it after that.
-const COPIED: &[(usize, &[Call], &[Call])] = &[
-    (1, &[One(Gate::X, First)], &[One(Gate::X, First)]),
-    (2, BELL, &[Measure("+Z_", true)]),
-];
-
-// Whether a state and its copy have one group, and after calls of the state another; and whether the copy then
-// has the group of a state that is made as the first was.
-fn part(
-    alloc: Global,
-    tableau: &mut Tableau,
-    copy: &mut Tableau,
-    calls: &[Call],
-) -> Result<bool, Refusal> {
-    let together = same(tableau, copy) == (true, true);
-    let made = carry_out(alloc, tableau, calls)?;
-    Ok(together && made && same(tableau, copy) == (false, false))
-}
-
-// Whether a copy has the group of a state of n qubits after these calls.
-fn is_after(alloc: Global, copy: &mut Tableau, n: usize, calls: &[Call]) -> Result<bool, Refusal> {
-    let mut other = state(alloc, n, calls)?;
-    Ok(same(copy, &mut other) == (true, true))
-}
-
-// Whether a state of n qubits and its copy part, and the copy is then as it was.
-fn copy_parts(
-    alloc: Global,
-    tableau: &mut Tableau,
-    n: usize,
-    before: &[Call],
-    calls: &[Call],
-) -> Result<bool, Refusal> {
-    let mut copy = tableau.copy(alloc)?;
-    let parted = part(alloc, tableau, &mut copy, calls);
-    both(parted, is_after(alloc, &mut copy, n, before))
-}
-
-// The same of a state of n qubits after calls.
-fn is_apart(alloc: Global, n: usize, before: &[Call], calls: &[Call]) -> Result<bool, Refusal> {
-    let mut tableau = state(alloc, n, before)?;
-    copy_parts(alloc, &mut tableau, n, before, calls)
-}
-
-#[test]
-fn a_copy_is_a_state_of_its_own(rt: HostRuntime) -> Result<(), Fail> {
-    for &(n, before, calls) in COPIED {
-        let apart = is_apart(rt.alloc(), n, before, calls)?;
-        assert!(rt; apart, "{n}");
     }
     Ok(())
 }
@@ -207,5 +170,53 @@ fn a_bell_pair_has_its_rows(rt: HostRuntime) -> Result<(), Fail> {
     let first = bell_has_rows(rt.alloc(), 0, "+XX", "+Z_")?;
     let second = bell_has_rows(rt.alloc(), 1, "+ZZ", "+_X")?;
     assert_eq!(rt; (first, second), (true, true));
+    Ok(())
+}
+
+const ZERO_AND_FIXED: Collapse = Collapse {
+    outcome: false,
+    free: false,
+};
+
+// Whether no letter is measured as 0 whatever the coin, on either end, and has no string that exchanges outcomes.
+fn no_letter_is_fixed(tableau: &mut Tableau, coin: bool, string: &mut Pauli) -> bool {
+    let n = tableau.len();
+    if n == 0 || string.len() != n {
+        return false;
+    }
+    tableau.fixed_letter(Letter::I, 0) == Some(false)
+        && tableau.collapse_letter(Letter::I, n - 1, coin) == ZERO_AND_FIXED
+        && !tableau.exchange_letter(Letter::I, n - 1, string)
+}
+
+// Whether the same is so of the string without a letter.
+fn identity_is_fixed(
+    tableau: &mut Tableau,
+    identity: &Pauli,
+    coin: bool,
+    string: &mut Pauli,
+) -> bool {
+    let n = tableau.len();
+    if identity.len() != n || string.len() != n {
+        return false;
+    }
+    tableau.collapse(identity, coin) == ZERO_AND_FIXED && !tableau.exchange(identity, string)
+}
+
+// Whether both are so of a Bell pair of n qubits.
+fn nothing_is_fixed(alloc: Global, n: usize, coin: bool) -> Result<bool, Refusal> {
+    let mut tableau = state(alloc, n, BELL)?;
+    let identity = Pauli::identity(alloc, tableau.len())?;
+    let mut string = Pauli::identity(alloc, tableau.len())?;
+    let letter = no_letter_is_fixed(&mut tableau, coin, &mut string);
+    Ok(letter && identity_is_fixed(&mut tableau, &identity, coin, &mut string))
+}
+
+#[test]
+fn what_has_no_letter_is_never_free(rt: HostRuntime) -> Result<(), Fail> {
+    for n in SIZES {
+        let fixed = nothing_is_fixed(rt.alloc(), n, n % 2 == 0)?;
+        assert!(rt; fixed, "{n}");
+    }
     Ok(())
 }

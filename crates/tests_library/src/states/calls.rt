@@ -22,9 +22,11 @@ pub(super) enum Call {
     // Every qubit is turned, entangled and measured.
     Wear,
     Reset,
+    // The state is copied, every qubit of it is turned, entangled and measured, and the copy takes its place.
+    Copy,
 }
 
-pub(super) fn qubit(tableau: &Tableau, place: Place) -> usize {
+fn qubit(tableau: &Tableau, place: Place) -> usize {
     match place {
         Place::First => 0,
         Place::Last => tableau.len().saturating_sub(1),
@@ -48,7 +50,7 @@ fn apply_pair(tableau: &mut Tableau, gate: PairGate, first: usize, second: usize
 }
 
 // The Pauli that has the first letter of a text on qubit 0 among n, and the second on the last qubit.
-pub(super) fn spread(alloc: Global, n: usize, text: &str) -> Result<Pauli, Refusal> {
+fn spread(alloc: Global, n: usize, text: &str) -> Result<Pauli, Refusal> {
     let pair = read(alloc, text)?;
     let mut pauli = Pauli::identity(alloc, n)?;
     if n > 1 && pair.len() == 2 && pauli.len() == n {
@@ -90,6 +92,13 @@ fn wear_all(tableau: &mut Tableau) {
     }
 }
 
+fn go_on_with_copy(alloc: Global, tableau: &mut Tableau) -> Result<bool, Refusal> {
+    let copy = tableau.copy(alloc)?;
+    wear_all(tableau);
+    *tableau = copy;
+    Ok(true)
+}
+
 // Makes a call, where a state has the qubits that it names.
 fn carry_out_one(alloc: Global, tableau: &mut Tableau, call: Call) -> Result<bool, Refusal> {
     match call {
@@ -107,6 +116,7 @@ fn carry_out_one(alloc: Global, tableau: &mut Tableau, call: Call) -> Result<boo
             tableau.reset();
             Ok(true)
         }
+        Call::Copy => go_on_with_copy(alloc, tableau),
     }
 }
 
