@@ -178,8 +178,8 @@ const ZERO_AND_FIXED: Collapse = Collapse {
     free: false,
 };
 
-// Whether no letter is measured as 0 whatever the coin, on either end, and has no string that exchanges outcomes.
-fn no_letter_is_fixed(tableau: &mut Tableau, coin: bool, string: &mut Pauli) -> bool {
+// Whether I is measured as 0 whatever the coin, on either end, and no string exchanges its outcomes.
+fn letter_i_is_fixed(tableau: &mut Tableau, coin: bool, string: &mut Pauli) -> bool {
     let n = tableau.len();
     if n == 0 || string.len() != n {
         return false;
@@ -204,18 +204,18 @@ fn identity_is_fixed(
 }
 
 // Whether both are so of a Bell pair of n qubits.
-fn nothing_is_fixed(alloc: Global, n: usize, coin: bool) -> Result<bool, Refusal> {
+fn identities_are_fixed(alloc: Global, n: usize, coin: bool) -> Result<bool, Refusal> {
     let mut tableau = state(alloc, n, BELL)?;
     let identity = Pauli::identity(alloc, tableau.len())?;
     let mut string = Pauli::identity(alloc, tableau.len())?;
-    let letter = no_letter_is_fixed(&mut tableau, coin, &mut string);
+    let letter = letter_i_is_fixed(&mut tableau, coin, &mut string);
     Ok(letter && identity_is_fixed(&mut tableau, &identity, coin, &mut string))
 }
 
 #[test]
 fn what_has_no_letter_is_never_free(rt: HostRuntime) -> Result<(), Fail> {
     for n in SIZES {
-        let fixed = nothing_is_fixed(rt.alloc(), n, n % 2 == 0)?;
+        let fixed = identities_are_fixed(rt.alloc(), n, n % 2 == 0)?;
         assert!(rt; fixed, "{n}");
     }
     Ok(())
