@@ -6,9 +6,10 @@
 Two qubits are the first and the last of up to 1,024, and the others stay zero: so the four amplitudes of the two, which matrices
 change, say which of their 32 signed strings stabilise, the reduced rows of the whole state, and each outcome, free or fixed. Each
 gate is tried so on each letter and on either sign, there and back; some states on sizes round those at which words and blocks of
-words end, some of them behind edits that a Pauli frame leads on, and some in shots that are run together; and on some each letter and
-each string is measured, with either coin. Then there are states of many qubits whose rows and outcomes follow from one line. It prints how many cases it tried and which
-went wrong, and ends with 1 where there is one. It needs the program: build it by ./stabsim --help.
+words end, some of them behind edits that a Pauli frame leads on, and some in shots that are run together; and on some each letter
+and each string is measured, with either coin. Then there are states of many qubits whose rows and outcomes follow from one line. It
+prints how many cases it tried and which went wrong, and ends with 1 where there is one. It needs the program: build it by
+./stabsim --help.
 """
 
 import itertools
