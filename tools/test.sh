@@ -21,6 +21,7 @@ tools/refuse.sh
 tools/try_files.py
 tools/try_help.py
 tools/try_hostile.py
+tools/try_states.py
 tools/try_edits.py
 tools/try_drive.sh
 tools/try_scaling.sh

@@ -3,7 +3,7 @@
 //! They are proved, and never run: where a clause came to say less than it does, the proof of its
 //! caller here would fail.
 
-ghost use Rattle.std.specs.Prelude.{◌≡◌, ℕ, ◌+◌, ◌<◌, ◌≤◌, [], length, min, slice_get, Some, None, Ok, true, IfOk, IfErr, OnOk};
+ghost use Rattle.std.specs.Prelude.{◌≡◌, ℕ, ◌+◌, ◌<◌, ◌≤◌, [], length, take, min, slice_get, Some, None, Ok, true, IfOk, IfErr, OnOk};
 ghost use Rattle.stab_letters.specs.Letters.{letter_phase};
 ghost use Rattle.stab_pauli.specs.Paulis.{commute};
 ghost use Rattle.stab_io.specs.MemoryDevices.{GivesWhatFits, GivesAPiece, TakesWhatFits, FlushesAsSet};
@@ -27,7 +27,8 @@ ghost use Rattle.stab_session.specs.Bounds.{steps_from_change, steps_near_change
 
 use stab_circuit::{Circuit, Item, Path, Refused};
 use stab_pauli::{
-    CutInput, DeviceFault, Input, Letter, MemoryInput, MemoryOutput, Output, Pauli, Phase, Refusal,
+    CutInput, Device, DeviceFault, Input, Letter, MemoryInput, MemoryOutput, Output, Pauli, Phase,
+    Refusal,
 };
 use stab_session::{Coins, Edit, OpenRefused, Report, Session, Shot, run_once};
 use stab_shots::run_shots;
@@ -47,6 +48,13 @@ fn told_to_commute(string: &Pauli, other: &Pauli) -> bool
     ensures value { result ≡ commute string.now other.now }
 {
     string.commutes(other)
+}
+
+/// What a device gives of a text is the beginning of it.
+fn read_through(text: &[u8], buf: &mut [u8]) -> Result<usize, DeviceFault>
+    ensures given { IfOk result (λ n. take n buf.new ≡ take n text.now) }
+{
+    Device::new(text).read(buf)
 }
 
 /// An input in memory gives all that fits.

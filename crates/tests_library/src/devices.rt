@@ -1,12 +1,9 @@
 //! Devices round readers and writers that fail.
 
-ghost use Rattle.std.specs.Prelude.{◌≡◌, take, IfOk};
-
-use stab_pauli::{Device, DeviceFault, Input, MemoryOutput, Output, Refusal, write_all};
+use stab_pauli::{Device, DeviceFault, Input, Output, Refusal, write_all};
 use std::alloc::Global;
 use std::io;
 use std::io::{Read, Write};
-use std::test::Fail;
 
 // Gives two bytes a call. The call numbered so, counted from 1, fails.
 #[derive(Drop)]
@@ -128,15 +125,6 @@ const FAILURES: &[(usize, Option<io::ErrorKind>, [&str; 2], &str, usize)] = &[
     ),
 ];
 
-#[test]
-fn a_failed_write_is_told_and_not_tried_again(rt: HostRuntime) {
-    for &(fails_at, kind, texts, bytes, calls) in FAILURES {
-        let found = writes(rt.alloc(), fails_at, kind, texts, bytes);
-        let answers = [Err(Refusal::WriteFault), Ok(())];
-        assert_eq!(rt; found, (answers, true, calls), "{bytes}");
-    }
-}
-
 // What two flushes answer, of which the first fails, and a write of nothing.
 fn flushes(alloc: Global) -> ([Result<(), DeviceFault>; 2], Result<usize, DeviceFault>) {
     let (mut written, mut calls) = (Vec::new(alloc), 0);
@@ -150,40 +138,12 @@ fn flushes(alloc: Global) -> ([Result<(), DeviceFault>; 2], Result<usize, Device
 }
 
 #[test]
-fn a_failed_flush_is_told(rt: HostRuntime) {
+fn a_failed_write_or_flush_is_told_and_not_tried_again(rt: HostRuntime) {
+    for &(fails_at, kind, texts, bytes, calls) in FAILURES {
+        let found = writes(rt.alloc(), fails_at, kind, texts, bytes);
+        let answers = [Err(Refusal::WriteFault), Ok(())];
+        assert_eq!(rt; found, (answers, true, calls), "{bytes}");
+    }
     let found = flushes(rt.alloc());
     assert_eq!(rt; found, ([Err(DeviceFault), Ok(())], Ok(0)));
-}
-
-// Reads once from a text through a device.
-fn read_through(text: &[u8], buf: &mut [u8]) -> Result<usize, DeviceFault>
-    ensures given { IfOk result (λ n. take n buf.new ≡ take n text.now) }
-{
-    Device::new(text).read(buf)
-}
-
-#[test]
-fn bytes_pass_through_a_device(rt: HostRuntime) {
-    let (mut room, mut buf) = ([0u8; 4], [0u8; 4]);
-    let written = write_all(&mut Device::new(room.as_mut_slice()), b"well");
-    let read = read_through(b"xyz", &mut buf);
-    assert_eq!(rt; (written, read), (Ok(()), Ok(3)));
-    assert!(rt; room == *b"well" && buf == *b"xyz\0");
-}
-
-// What the writing of four bytes into a room for three answers, and whether three are kept; and what a
-// flush answers that is to fail.
-fn fills(alloc: Global) -> Result<(Result<(), Refusal>, bool, Result<(), DeviceFault>), Refusal> {
-    let mut out = MemoryOutput::new(alloc, 3)?;
-    let answer = write_all(&mut out, b"abcd");
-    let kept = out.bytes() == b"abc".as_slice();
-    out.fail_flush();
-    Ok((answer, kept, out.flush()))
-}
-
-#[test]
-fn a_full_output_is_told(rt: HostRuntime) -> Result<(), Fail> {
-    let found = fills(rt.alloc())?;
-    assert_eq!(rt; found, (Err(Refusal::WriteFault), true, Err(DeviceFault)));
-    Ok(())
 }

@@ -67,16 +67,6 @@ fn multiply(a: Letter, b: Letter) -> bool {
     found == product(matrix(a), matrix(b)) && found == scaled(sign, product(matrix(b), matrix(a)))
 }
 
-#[test]
-fn letters_multiply_as_their_matrices(rt: HostRuntime) {
-    for a in LETTERS {
-        let multiply = LETTERS.iter().all(|b| multiply(a, *b));
-        let has_x = a.has_x() == (matrix(a)[0][0] == (0, 0));
-        assert!(rt; multiply && has_x, "{a:?}");
-    }
-    assert!(rt; LETTERS.map(Letter::symbol) == *b"_XYZ");
-}
-
 // Whether a power of i is multiplied by each of the others, and by i, as numbers are.
 fn phases(a: Phase) -> bool {
     let all = PHASES
@@ -92,8 +82,13 @@ fn is_sign(negative: bool, wanted: Complex) -> bool {
 }
 
 #[test]
-fn phases_multiply_as_numbers(rt: HostRuntime) {
-    let found = PHASES.map(phases);
+fn letters_multiply_as_their_matrices_and_phases_as_numbers(rt: HostRuntime) {
+    for a in LETTERS {
+        let multiply = LETTERS.iter().all(|b| multiply(a, *b));
+        let has_x = a.has_x() == (matrix(a)[0][0] == (0, 0));
+        assert!(rt; multiply && has_x, "{a:?}");
+    }
+    assert!(rt; LETTERS.map(Letter::symbol) == *b"_XYZ");
     let signs = (is_sign(false, (1, 0)), is_sign(true, (-1, 0)));
-    assert_eq!(rt; (found, signs), ([true; 4], (true, true)));
+    assert_eq!(rt; (PHASES.map(phases), signs), ([true; 4], (true, true)));
 }

@@ -1,4 +1,5 @@
-//! Tests of the public calls of each layer, with ample memory, as tables of worked examples.
+//! Tests of the public calls of each layer that no command makes, with ample memory, as tables of worked
+//! examples.
 //!
 //! They stand here, and not in the layers, because a crate with tests is proved twice: once for
 //! those who use it, and once more with its tests. Beside them stand callers, in `clauses`, that
@@ -34,10 +35,8 @@ mod session_edits;
 #[cfg(test)]
 mod sessions;
 #[cfg(test)]
-mod splits;
+mod states;
 #[cfg(test)]
 mod step_items;
-#[cfg(test)]
-mod tableaus;
 #[cfg(test)]
 mod texts;

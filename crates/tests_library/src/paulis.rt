@@ -1,7 +1,6 @@
 //! Signed Pauli strings: made, changed, multiplied, printed.
-use crate::texts::{
-    both, commute, multiply, multiply_letters, prints, read, repeated, set, single,
-};
+use crate::texts::{both, commute, multiply, multiply_letters, prints, read, repeated, set};
+use StringChange::{Clear, Negate, NegateIf, Set, Times, TimesLetters};
 use stab_pauli::{Letter, MemoryOutput, Pauli, Refusal};
 use std::alloc::Global;
 use std::test::Fail;
@@ -30,21 +29,6 @@ fn is_made(alloc: Global) -> Result<bool, Refusal> {
     }
 }
 
-fn is_identity(alloc: Global, n: usize, text: &str) -> Result<bool, Refusal> {
-    prints(alloc, &Pauli::identity(alloc, n)?, text)
-}
-
-#[test]
-fn a_pauli_is_made(rt: HostRuntime) -> Result<(), Fail> {
-    let found = [
-        is_made(rt.alloc())?,
-        is_identity(rt.alloc(), 2, "+__")?,
-        is_identity(rt.alloc(), 0, "+")?,
-    ];
-    assert_eq!(rt; found, [true; 3]);
-    Ok(())
-}
-
 // A change of a string.
 #[derive(Clone, Copy)]
 enum StringChange {
@@ -52,15 +36,33 @@ enum StringChange {
     NegateIf(bool),
     Negate,
     Clear,
+    // The product with the string of a text, times i where the two anticommute.
+    Times(&'static str),
+    // The letters of that product, with the sign as it was.
+    TimesLetters(&'static str),
 }
 
-fn make(pauli: &mut Pauli, change: StringChange) {
+fn times(alloc: Global, pauli: &mut Pauli, text: &str) -> Result<bool, Refusal> {
+    let other = read(alloc, text)?;
+    Ok(multiply(pauli, &other))
+}
+
+fn times_letters(alloc: Global, pauli: &mut Pauli, text: &str) -> Result<bool, Refusal> {
+    let other = read(alloc, text)?;
+    Ok(multiply_letters(pauli, &other))
+}
+
+// Makes a change, and tells whether it can be made.
+fn make(alloc: Global, pauli: &mut Pauli, change: StringChange) -> Result<bool, Refusal> {
     match change {
         StringChange::Set(qubit, letter) => set(pauli, qubit, letter),
         StringChange::NegateIf(bit) => pauli.negate_if(bit),
         StringChange::Negate => pauli.negate(),
         StringChange::Clear => pauli.clear(),
+        StringChange::Times(text) => return times(alloc, pauli, text),
+        StringChange::TimesLetters(text) => return times_letters(alloc, pauli, text),
     }
+    Ok(true)
 }
 
 // Whether a string that is changed is then this one, and its first X or Y.
@@ -71,91 +73,86 @@ fn changed(
     new: &str,
 ) -> Result<(bool, Option<usize>), Refusal> {
     let mut pauli = read(alloc, old)?;
-    make(&mut pauli, change);
+    let made = make(alloc, &mut pauli, change);
     let first = pauli.first_x();
-    match prints(alloc, &pauli, new) {
-        Ok(printed) => Ok((printed, first)),
+    match both(made, prints(alloc, &pauli, new)) {
+        Ok(right) => Ok((right, first)),
         Err(refusal) => Err(refusal),
     }
 }
 
+// Sixty-five letters, none of which is X, Y or Z.
+const LONG: &str = "+_________________________________________________________________";
+
 // A string, its change, what that makes of it, and the first X or Y of that.
 const CHANGES: &[(&str, StringChange, &str, Option<usize>)] = &[
-    ("-_Y_", StringChange::Set(2, Letter::X), "-_YX", Some(1)),
-    ("-_YX", StringChange::NegateIf(false), "-_YX", Some(1)),
-    ("-_YX", StringChange::NegateIf(true), "+_YX", Some(1)),
-    ("+_YX", StringChange::Negate, "-_YX", Some(1)),
-    ("-_YX", StringChange::Clear, "+___", None),
+    ("+", NegateIf(false), "+", None),
+    ("+__", NegateIf(false), "+__", None),
+    ("-_Y_", Set(2, Letter::X), "-_YX", Some(1)),
+    ("-_YX", NegateIf(false), "-_YX", Some(1)),
+    ("-_YX", NegateIf(true), "+_YX", Some(1)),
+    ("+_YX", Negate, "-_YX", Some(1)),
+    ("-_YX", Clear, "+___", None),
+    // A letter stands at the end of a word, and behind it.
+    (
+        LONG,
+        Set(63, Letter::X),
+        "+_______________________________________________________________X_",
+        Some(63),
+    ),
+    (
+        LONG,
+        Set(64, Letter::Y),
+        "+________________________________________________________________Y",
+        Some(64),
+    ),
+    (
+        LONG,
+        Set(64, Letter::Z),
+        "+________________________________________________________________Z",
+        None,
+    ),
+    // Products keep their sign and their power of i; letters of products leave the sign.
+    ("+XX", Times("+ZZ"), "-YY", Some(0)),
+    ("+XX", TimesLetters("+ZZ"), "+YY", Some(0)),
+    ("-XX", Times("+ZZ"), "+YY", Some(0)),
+    ("-XX", TimesLetters("+ZZ"), "-YY", Some(0)),
+    ("-XX", Times("-ZZ"), "-YY", Some(0)),
+    ("-XX", TimesLetters("-ZZ"), "-YY", Some(0)),
+    ("+XY", Times("+YX"), "+ZZ", None),
+    ("+XY", TimesLetters("+YX"), "+ZZ", None),
+    ("+YY", Times("+XX"), "-ZZ", None),
+    ("+YY", TimesLetters("+XX"), "+ZZ", None),
+    ("+XXXX", Times("+ZZZZ"), "+YYYY", Some(0)),
+    ("+XXXX", TimesLetters("+ZZZZ"), "+YYYY", Some(0)),
+    ("+XYZ_", Times("+XYZ_"), "+____", None),
+    ("+XYZ_", TimesLetters("+XYZ_"), "+____", None),
+    ("-_Z", Times("+Z_"), "-ZZ", None),
+    ("-_Z", TimesLetters("+Z_"), "-ZZ", None),
+    ("-", Times("-"), "+", None),
+    ("-", TimesLetters("-"), "-", None),
+    // Strings that anticommute.
+    ("+X_", Times("+Y_"), "-Z_", None),
+    ("+X_", TimesLetters("+Y_"), "+Z_", None),
+    ("+Y_", Times("+X_"), "+Z_", None),
+    ("+Y_", TimesLetters("+X_"), "+Z_", None),
+    ("+X_", Times("+Z_"), "+Y_", Some(0)),
+    ("+X_", TimesLetters("+Z_"), "+Y_", Some(0)),
+    ("-X", Times("+Z"), "-Y", Some(0)),
+    ("-X", TimesLetters("+Z"), "-Y", Some(0)),
+    ("+XXX", Times("+ZZZ"), "-YYY", Some(0)),
+    ("+XXX", TimesLetters("+ZZZ"), "+YYY", Some(0)),
+    ("-X_", Times("-Z_"), "+Y_", Some(0)),
+    ("-X_", TimesLetters("-Z_"), "-Y_", Some(0)),
 ];
 
 #[test]
-fn a_pauli_is_changed(rt: HostRuntime) -> Result<(), Fail> {
+fn a_pauli_is_made_and_changed(rt: HostRuntime) -> Result<(), Fail> {
+    let made = is_made(rt.alloc())?;
+    assert!(rt; made);
     for &(old, change, new, first) in CHANGES {
         let found = changed(rt.alloc(), old, change, new)?;
         assert_eq!(rt; found, (true, first), "{old} to {new}");
-    }
-    Ok(())
-}
-
-// Whether the product of two strings, times i where they anticommute, is this one.
-fn is_product(alloc: Global, first: &str, other: &Pauli, product: &str) -> Result<bool, Refusal> {
-    let mut pauli = read(alloc, first)?;
-    if multiply(&mut pauli, other) {
-        prints(alloc, &pauli, product)
-    } else {
-        Ok(false)
-    }
-}
-
-// Whether the letters of a string times those of another, with the sign of the first, are these.
-fn has_letters(alloc: Global, first: &str, other: &Pauli, letters: &str) -> Result<bool, Refusal> {
-    let mut pauli = read(alloc, first)?;
-    if multiply_letters(&mut pauli, other) {
-        prints(alloc, &pauli, letters)
-    } else {
-        Ok(false)
-    }
-}
-
-// Whether two strings have this product, and their letters have that one.
-fn are_products(
-    alloc: Global,
-    first: &str,
-    second: &str,
-    product: &str,
-    letters: &str,
-) -> Result<bool, Refusal> {
-    let other = read(alloc, second)?;
-    both(
-        is_product(alloc, first, &other, product),
-        has_letters(alloc, first, &other, letters),
-    )
-}
-
-const PRODUCTS: &[(&str, &str, &str, &str)] = &[
-    ("+XX", "+ZZ", "-YY", "+YY"),
-    ("-XX", "+ZZ", "+YY", "-YY"),
-    ("-XX", "-ZZ", "-YY", "-YY"),
-    ("+XY", "+YX", "+ZZ", "+ZZ"),
-    ("+YY", "+XX", "-ZZ", "+ZZ"),
-    ("+XXXX", "+ZZZZ", "+YYYY", "+YYYY"),
-    ("+XYZ_", "+XYZ_", "+____", "+____"),
-    ("-_Z", "+Z_", "-ZZ", "-ZZ"),
-    ("-", "-", "+", "-"),
-    // Strings that anticommute.
-    ("+X_", "+Y_", "-Z_", "+Z_"),
-    ("+Y_", "+X_", "+Z_", "+Z_"),
-    ("+X_", "+Z_", "+Y_", "+Y_"),
-    ("-X", "+Z", "-Y", "-Y"),
-    ("+XXX", "+ZZZ", "-YYY", "+YYY"),
-    ("-X_", "-Z_", "+Y_", "-Y_"),
-];
-
-#[test]
-fn products_keep_their_sign_and_their_power_of_i(rt: HostRuntime) -> Result<(), Fail> {
-    for &(first, second, product, letters) in PRODUCTS {
-        let hold = are_products(rt.alloc(), first, second, product, letters)?;
-        assert!(rt; hold, "{first} {second}");
     }
     Ok(())
 }
@@ -238,47 +235,6 @@ fn strings_of_x_and_z_multiply_over_all_qubits(rt: HostRuntime) -> Result<(), Fa
     for &(n, commutes, negative) in X_AND_Z {
         let found = x_times_z(rt.alloc(), n)?;
         assert_eq!(rt; found, (commutes, negative, true), "{n}");
-    }
-    Ok(())
-}
-
-// The first X or Y of a string of 65 letters that has one, and whether it is printed as this text.
-fn shows(
-    alloc: Global,
-    qubit: usize,
-    letter: Letter,
-    text: &str,
-) -> Result<(Option<usize>, bool), Refusal> {
-    let pauli = single(alloc, 65, qubit, letter)?;
-    Ok((pauli.first_x(), prints(alloc, &pauli, text)?))
-}
-
-const SINGLES: &[(usize, Letter, Option<usize>, &str)] = &[
-    (
-        63,
-        Letter::X,
-        Some(63),
-        "+_______________________________________________________________X_",
-    ),
-    (
-        64,
-        Letter::Y,
-        Some(64),
-        "+________________________________________________________________Y",
-    ),
-    (
-        64,
-        Letter::Z,
-        None,
-        "+________________________________________________________________Z",
-    ),
-];
-
-#[test]
-fn a_letter_stands_at_the_end_of_a_word_and_behind_it(rt: HostRuntime) -> Result<(), Fail> {
-    for &(qubit, letter, first, text) in SINGLES {
-        let found = shows(rt.alloc(), qubit, letter, text)?;
-        assert_eq!(rt; found, (first, true), "{text}");
     }
     Ok(())
 }

@@ -86,72 +86,10 @@ fn new_rows(alloc: Global) -> Result<(bool, usize, usize), Refusal> {
     }
 }
 
-// Whether rows that are changed are then these.
-fn changed(alloc: Global, old: &[&str], change: RowChange, new: &[&str]) -> Result<bool, Refusal> {
-    let mut rows = rows_of(alloc, 2, old)?;
-    make(&mut rows, change);
-    are(alloc, &rows, new)
-}
-
-// Changes of rows, and what they make of them.
-const CHANGES: &[(&str, &[&str], RowChange, &[&str])] = &[
-    (
-        "X in the first row",
-        &["+__", "+__", "+__"],
-        RowChange::Set(0, 0, Letter::X),
-        &["+X_", "+__", "+__"],
-    ),
-    (
-        "Z in the second row",
-        &["+X_", "+__", "+__"],
-        RowChange::Set(1, 1, Letter::Z),
-        &["+X_", "+_Z", "+__"],
-    ),
-    (
-        "the second row is negated",
-        &["+X_", "+_Z", "+__"],
-        RowChange::NegateIf(1, true),
-        &["+X_", "-_Z", "+__"],
-    ),
-    (
-        "the first row is not negated",
-        &["+X_", "-_Z", "+__"],
-        RowChange::NegateIf(0, false),
-        &["+X_", "-_Z", "+__"],
-    ),
-    (
-        "Y in the third row",
-        &["+X_", "-_Z", "+__"],
-        RowChange::Set(2, 0, Letter::Y),
-        &["+X_", "-_Z", "+Y_"],
-    ),
-    (
-        "rows 0 and 1 are swapped",
-        &["+X_", "-_Z", "+Y_"],
-        RowChange::Swap(0, 1),
-        &["-_Z", "+X_", "+Y_"],
-    ),
-    (
-        "the third row is cleared",
-        &["-_Z", "+X_", "+Y_"],
-        RowChange::Clear(2),
-        &["-_Z", "+X_", "+__"],
-    ),
-];
-
-#[test]
-fn rows_are_made_and_changed(rt: HostRuntime) -> Result<(), Fail> {
-    let made = new_rows(rt.alloc())?;
-    assert_eq!(rt; made, (true, 3, 2));
-    for &(name, old, change, new) in CHANGES {
-        let hold = changed(rt.alloc(), old, change, new)?;
-        assert!(rt; hold, "{name}");
-    }
-    Ok(())
-}
-
 // The letter at a qubit of a row, and whether it has an X part, whether the row is negative, and its first X or Y.
-fn seen(rows: &PauliRows, a: usize, qubit: usize) -> Option<(Letter, bool, bool, Option<usize>)> {
+type Seen = (Letter, bool, bool, Option<usize>);
+
+fn seen(rows: &PauliRows, a: usize, qubit: usize) -> Option<Seen> {
     if a < rows.len() && qubit < rows.qubits() {
         let (letter, has_x) = (rows.letter(a, qubit), rows.has_x(a, qubit));
         Some((letter, has_x, rows.is_negative(a), rows.first_x(a)))
@@ -161,26 +99,89 @@ fn seen(rows: &PauliRows, a: usize, qubit: usize) -> Option<(Letter, bool, bool,
 }
 
 // Whether this is seen at a qubit of a row.
-fn shows(
-    rows: &PauliRows,
-    (a, qubit): (usize, usize),
-    wanted: (Letter, bool, bool, Option<usize>),
-) -> bool {
+fn shows(rows: &PauliRows, (a, qubit): (usize, usize), wanted: Seen) -> bool {
     seen(rows, a, qubit) == Some(wanted)
 }
 
-// Whether two rows of two letters show them.
-fn show(rows: &PauliRows) -> bool {
-    shows(rows, (0, 0), (Letter::X, true, false, Some(0)))
-        && shows(rows, (0, 1), (Letter::I, false, false, Some(0)))
-        && shows(rows, (1, 0), (Letter::I, false, true, None))
-        && shows(rows, (1, 1), (Letter::Z, false, true, None))
+// Whether rows that are changed are then these, and this is seen at a qubit of one of them.
+fn changed(
+    alloc: Global,
+    old: &[&str],
+    change: RowChange,
+    new: &[&str],
+    place: (usize, usize),
+    wanted: Seen,
+) -> Result<bool, Refusal> {
+    let mut rows = rows_of(alloc, 2, old)?;
+    make(&mut rows, change);
+    let shown = shows(&rows, place, wanted);
+    both(Ok(shown), are(alloc, &rows, new))
 }
 
+// Changes of rows, what they make of them, and what is then seen at a qubit of a row.
+const CHANGES: &[(&[&str], RowChange, &[&str], (usize, usize), Seen)] = &[
+    // X in the first row.
+    (
+        &["+__", "+__", "+__"],
+        RowChange::Set(0, 0, Letter::X),
+        &["+X_", "+__", "+__"],
+        (0, 0),
+        (Letter::X, true, false, Some(0)),
+    ),
+    // Z in the second row.
+    (
+        &["+X_", "+__", "+__"],
+        RowChange::Set(1, 1, Letter::Z),
+        &["+X_", "+_Z", "+__"],
+        (0, 1),
+        (Letter::I, false, false, Some(0)),
+    ),
+    (
+        &["+X_", "+_Z", "+__"],
+        RowChange::NegateIf(1, true),
+        &["+X_", "-_Z", "+__"],
+        (1, 0),
+        (Letter::I, false, true, None),
+    ),
+    (
+        &["+X_", "-_Z", "+__"],
+        RowChange::NegateIf(0, false),
+        &["+X_", "-_Z", "+__"],
+        (1, 1),
+        (Letter::Z, false, true, None),
+    ),
+    // Y in the third row.
+    (
+        &["+X_", "-_Z", "+__"],
+        RowChange::Set(2, 0, Letter::Y),
+        &["+X_", "-_Z", "+Y_"],
+        (2, 0),
+        (Letter::Y, true, false, Some(0)),
+    ),
+    (
+        &["+X_", "-_Z", "+Y_"],
+        RowChange::Swap(0, 1),
+        &["-_Z", "+X_", "+Y_"],
+        (0, 1),
+        (Letter::Z, false, true, None),
+    ),
+    (
+        &["-_Z", "+X_", "+Y_"],
+        RowChange::Clear(2),
+        &["-_Z", "+X_", "+__"],
+        (2, 0),
+        (Letter::I, false, false, None),
+    ),
+];
+
 #[test]
-fn rows_show_their_letters(rt: HostRuntime) -> Result<(), Fail> {
-    let rows = rows_of(rt.alloc(), 2, &["+X_", "-_Z"])?;
-    assert!(rt; show(&rows));
+fn rows_are_made_and_changed(rt: HostRuntime) -> Result<(), Fail> {
+    let made = new_rows(rt.alloc())?;
+    assert_eq!(rt; made, (true, 3, 2));
+    for (number, &(old, change, new, place, seen)) in CHANGES.iter().enumerate() {
+        let hold = changed(rt.alloc(), old, change, new, place, seen)?;
+        assert!(rt; hold, "change {number}");
+    }
     Ok(())
 }
 
@@ -228,13 +229,6 @@ fn come_back(alloc: Global, texts: &[&str], others: &[&str]) -> Result<bool, Ref
     )
 }
 
-#[test]
-fn rows_come_back_from_little_memory(rt: HostRuntime) -> Result<(), Fail> {
-    let back = come_back(rt.alloc(), &["+X_", "-_Z"], &["+YY", "-ZX"])?;
-    assert!(rt; back);
-    Ok(())
-}
-
 // Rows with two letters, of which the second is negated; between them lie 791 words 0, more than one gap can
 // tell, and behind them 403.
 fn far_apart(alloc: Global) -> Result<PauliRows, Refusal> {
@@ -264,13 +258,6 @@ fn far_apart_come_back(alloc: Global) -> Result<bool, Refusal> {
     }
 }
 
-#[test]
-fn letters_far_apart_come_back_from_little_memory(rt: HostRuntime) -> Result<(), Fail> {
-    let back = far_apart_come_back(rt.alloc())?;
-    assert!(rt; back);
-    Ok(())
-}
-
 // Whether rows are told, from little memory, from those with one letter more behind them.
 fn are_told_from(compact: &CompactRows, rows: &mut PauliRows) -> bool {
     let same = compact.are(rows);
@@ -288,9 +275,11 @@ fn are_told(alloc: Global) -> Result<bool, Refusal> {
 }
 
 #[test]
-fn a_letter_behind_letters_far_apart_is_told(rt: HostRuntime) -> Result<(), Fail> {
+fn rows_come_back_from_little_memory(rt: HostRuntime) -> Result<(), Fail> {
+    let near = come_back(rt.alloc(), &["+X_", "-_Z"], &["+YY", "-ZX"])?;
+    let far = far_apart_come_back(rt.alloc())?;
     let told = are_told(rt.alloc())?;
-    assert!(rt; told);
+    assert_eq!(rt; (near, far, told), (true, true, true));
     Ok(())
 }
 

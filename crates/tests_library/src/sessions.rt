@@ -1,19 +1,9 @@
-//! Sessions: refused with their circuit and coins, and asked for signs.
+//! Sessions that are refused with their circuit and coins.
 use stab_circuit::{Circuit, read_circuit};
-use stab_pauli::{Fault, Letter, MemoryInput, Pauli, Refusal};
+use stab_pauli::{Fault, MemoryInput, Refusal};
 use stab_session::{ListCoins, OpenRefused, Session};
 use std::alloc::Global;
 use std::test::Fail;
-
-const BELL: &str = "H 0\nCX 0 1";
-
-const MEASURED: &str = "H 0
-CX 0 1
-M 0 1
-DETECTOR rec[-1] rec[-2]
-DETECTOR rec[-1]
-OBSERVABLE_INCLUDE(1) rec[-1]
-";
 
 fn read(alloc: Global, text: &str) -> Result<Circuit, Fault> {
     read_circuit(alloc, &mut MemoryInput::new(text.as_bytes()))
@@ -77,50 +67,6 @@ fn a_refused_opening_hands_circuit_and_coins_back(rt: HostRuntime) -> Result<(),
     for &(text, bits, records, free) in REFUSED {
         let found = opened_again(rt.alloc(), text, bits, records, free)?;
         assert_eq!(rt; found, (fault, true), "{text}");
-    }
-    Ok(())
-}
-
-/// The sign of a string that has one letter on each of two qubits, in a session on a text with the
-/// coins 1, 0, 0 and so on; `None` where no session is opened.
-fn sign(alloc: Global, text: &str, letters: [Letter; 2]) -> Result<Option<Option<bool>>, Fail> {
-    let pauli = string(alloc, letters)?;
-    match Session::open(alloc, read(alloc, text)?, 2, 8192, ListCoins::new(&[true])) {
-        Ok(mut session) => Ok(sign_in(&mut session, &pauli)),
-        Err(_) => Ok(None),
-    }
-}
-
-fn sign_in(session: &mut Session<ListCoins>, pauli: &Pauli) -> Option<Option<bool>> {
-    if pauli.len() == session.qubits() && session.circuit().qubits() <= session.qubits() {
-        Some(session.sign_of(pauli))
-    } else {
-        None
-    }
-}
-
-/// The string of two letters.
-fn string(alloc: Global, [first, second]: [Letter; 2]) -> Result<Pauli, Refusal> {
-    let mut pauli = Pauli::single(alloc, 2, 0, first)?;
-    if 1 < pauli.len() {
-        pauli.set(1, second);
-    }
-    Ok(pauli)
-}
-
-const SIGNS: &[(&str, [Letter; 2], Option<bool>)] = &[
-    (BELL, [Letter::X, Letter::X], Some(false)),
-    (BELL, [Letter::Y, Letter::Y], Some(true)),
-    (BELL, [Letter::Z, Letter::I], None),
-    (MEASURED, [Letter::Z, Letter::I], Some(true)),
-    (MEASURED, [Letter::X, Letter::X], None),
-];
-
-#[test]
-fn a_session_tells_the_strings_that_stabilise(rt: HostRuntime) -> Result<(), Fail> {
-    for &(text, letters, wanted) in SIGNS {
-        let found = sign(rt.alloc(), text, letters)?;
-        assert_eq!(rt; found, Some(wanted), "{text}");
     }
     Ok(())
 }

@@ -1,13 +1,80 @@
-//! Kept states that a letter turns, and frames from them to others.
-use super::calls::Asked::{self, Apply, Pair, Sign};
+//! States that come back from little memory, that a letter turns there, and frames from them to others.
+use super::calls::Call::{self, One, Two};
 use super::calls::Place::{self, First, Last};
-use super::calls::{hold_on, qubit};
+use super::calls::{carry_out, qubit, spread};
 use super::{BELL, SIZES, state};
 use crate::texts::both;
 use stab_pauli::{Letter, Pauli, Refusal};
 use stab_tableau::{CompactTableau, Gate, PairGate, Tableau};
 use std::alloc::Global;
 use std::test::Fail;
+
+// Whether a kept state is told from itself once that is flipped.
+fn is_told(alloc: Global, kept: &CompactTableau, tableau: &mut Tableau) -> Result<bool, Refusal> {
+    let at_first = kept.is_of(tableau);
+    let flipped = carry_out(alloc, tableau, &[One(Gate::X, First)])?;
+    Ok(at_first && flipped && !kept.is_of(tableau))
+}
+
+// Whether a kept Bell pair comes back, in the memory of another state or in memory of its own.
+fn comes_back_in(alloc: Global, kept: &CompactTableau, spare: Tableau) -> Result<bool, Refusal> {
+    let mut tableau = kept.tableau(alloc, Some(spare))?;
+    has_signs(alloc, &mut tableau, [false, true, false])
+}
+
+// Whether a Bell pair comes back in the memory of a state of its size, which was flipped.
+fn comes_back_flipped(
+    alloc: Global,
+    kept: &CompactTableau,
+    mut tableau: Tableau,
+) -> Result<bool, Refusal> {
+    if is_told(alloc, kept, &mut tableau)? {
+        comes_back_in(alloc, kept, tableau)
+    } else {
+        Ok(false)
+    }
+}
+
+// Whether a Bell pair comes back in memory of its own, beside a smaller state.
+fn comes_back_alone(alloc: Global, kept: &CompactTableau) -> Result<bool, Refusal> {
+    let small = state(alloc, 1, &[])?;
+    comes_back_in(alloc, kept, small)
+}
+
+// Whether a Bell pair comes back from little memory, in the memory of a state of its size, which was
+// flipped, and in memory of its own beside a smaller one.
+fn comes_back(alloc: Global, n: usize) -> Result<bool, Refusal> {
+    let tableau = state(alloc, n, BELL)?;
+    match tableau.compact(alloc) {
+        Ok(kept) => both(
+            comes_back_flipped(alloc, &kept, tableau),
+            comes_back_alone(alloc, &kept),
+        ),
+        Err(refusal) => Err(refusal),
+    }
+}
+
+// Whether a string has this sign in a state.
+fn has_sign(
+    alloc: Global,
+    tableau: &mut Tableau,
+    text: &str,
+    negative: bool,
+) -> Result<bool, Refusal> {
+    let pauli = spread(alloc, tableau.len(), text)?;
+    Ok(pauli.len() == tableau.len() && tableau.sign_of(&pauli) == Some(negative))
+}
+
+// Whether XX, YY and ZZ, on the first and the last qubit, have these signs in a state.
+fn has_signs(
+    alloc: Global,
+    tableau: &mut Tableau,
+    [xx, yy, zz]: [bool; 3],
+) -> Result<bool, Refusal> {
+    let has_xx = has_sign(alloc, tableau, "+XX", xx)?;
+    let has_yy = has_sign(alloc, tableau, "+YY", yy)?;
+    Ok(has_xx && has_yy && has_sign(alloc, tableau, "+ZZ", zz)?)
+}
 
 // The state that a letter on a qubit makes of another, where it is kept.
 fn turned(
@@ -39,15 +106,10 @@ fn turns(
     alloc: Global,
     tableau: &Tableau,
     letter: (Letter, Place),
-    [xx, yy, zz]: [bool; 3],
+    signs: [bool; 3],
 ) -> Result<bool, Refusal> {
     let mut found = turned(alloc, tableau, letter)?;
-    let signs = [
-        Sign("+XX", Some(xx)),
-        Sign("+YY", Some(yy)),
-        Sign("+ZZ", Some(zz)),
-    ];
-    hold_on(alloc, &mut found, &signs)
+    has_signs(alloc, &mut found, signs)
 }
 
 // Whether each letter turns a state so.
@@ -66,10 +128,11 @@ fn bell_is_turned(alloc: Global, n: usize) -> Result<bool, Refusal> {
 }
 
 #[test]
-fn a_letter_turns_a_kept_state(rt: HostRuntime) -> Result<(), Fail> {
+fn a_kept_state_comes_back_as_it_was_or_turned(rt: HostRuntime) -> Result<(), Fail> {
     for n in SIZES {
-        let hold = bell_is_turned(rt.alloc(), n)?;
-        assert!(rt; hold, "{n}");
+        let back = comes_back(rt.alloc(), n)?;
+        let turned = bell_is_turned(rt.alloc(), n)?;
+        assert_eq!(rt; (back, turned), (true, true), "{n}");
     }
     Ok(())
 }
@@ -115,52 +178,41 @@ fn ends(frame: &Pauli) -> Option<(Letter, Letter)> {
 }
 
 // What is done to a Bell pair that is kept, and the first and the last letter of the frame to what it makes of it.
-const FRAMES: &[(&[Asked], Option<(Letter, Letter)>)] = &[
+const FRAMES: &[(&[Call], Option<(Letter, Letter)>)] = &[
     (&[], Some((Letter::I, Letter::I))),
-    (&[Apply(Gate::X, First)], Some((Letter::X, Letter::I))),
+    (&[One(Gate::X, First)], Some((Letter::X, Letter::I))),
     (
-        &[Apply(Gate::Y, Last), Apply(Gate::Z, First)],
+        &[One(Gate::Y, Last), One(Gate::Z, First)],
         Some((Letter::Z, Letter::Y)),
     ),
     (
-        &[Apply(Gate::Z, Last), Apply(Gate::X, Last)],
+        &[One(Gate::Z, Last), One(Gate::X, Last)],
         Some((Letter::I, Letter::Y)),
     ),
     // S twice is Z.
     (
-        &[Apply(Gate::S, First), Apply(Gate::S, First)],
+        &[One(Gate::S, First), One(Gate::S, First)],
         Some((Letter::Z, Letter::I)),
     ),
-    (&[Apply(Gate::H, First)], None),
-    (&[Pair(PairGate::Cz, First, Last)], None),
+    (&[One(Gate::H, First)], None),
+    (&[Two(PairGate::Cz, First, Last)], None),
 ];
 
 // Whether the frame from a kept Bell pair of n qubits to what calls make of it has these letters at its ends.
 fn has_frame(
     alloc: Global,
     n: usize,
-    calls: &[Asked],
+    calls: &[Call],
     letters: Option<(Letter, Letter)>,
 ) -> Result<bool, Refusal> {
     let mut tableau = state(alloc, n, BELL)?;
     match tableau.compact(alloc) {
         Ok(kept) => {
-            let made = hold_on(alloc, &mut tableau, calls);
+            let made = carry_out(alloc, &mut tableau, calls);
             both(made, frame_has_ends(alloc, &kept, &tableau, letters))
         }
         Err(refusal) => Err(refusal),
     }
-}
-
-#[test]
-fn a_frame_leads_from_a_kept_state_to_one_of_other_signs(rt: HostRuntime) -> Result<(), Fail> {
-    for n in SIZES {
-        for (number, &(calls, letters)) in FRAMES.iter().enumerate() {
-            let found = has_frame(rt.alloc(), n, calls, letters)?;
-            assert!(rt; found, "{n}, frame {number}");
-        }
-    }
-    Ok(())
 }
 
 // A Bell pair of two qubits, kept.
@@ -189,8 +241,14 @@ fn has_no_frame(alloc: Global) -> Result<bool, Refusal> {
 }
 
 #[test]
-fn no_frame_leads_to_a_state_of_another_size(rt: HostRuntime) -> Result<(), Fail> {
+fn a_frame_leads_from_a_kept_state_to_one_of_other_signs(rt: HostRuntime) -> Result<(), Fail> {
+    for n in SIZES {
+        for (number, &(calls, letters)) in FRAMES.iter().enumerate() {
+            let found = has_frame(rt.alloc(), n, calls, letters)?;
+            assert!(rt; found, "{n}, frame {number}");
+        }
+    }
     let none = has_no_frame(rt.alloc())?;
-    assert!(rt; none);
+    assert!(rt; none, "another size");
     Ok(())
 }

@@ -1,8 +1,9 @@
 //! Strings that exchange the outcomes of a measurement.
 use super::calls::Place::{self, First, Last};
-use super::calls::{Asked, qubit, spread};
+use super::calls::{Call, qubit, spread};
 use super::{BELL, SIZES, state};
 use crate::texts::single;
+use Measured::{One, Text};
 use stab_pauli::{Letter, Pauli, Refusal};
 use stab_tableau::Tableau;
 use std::alloc::Global;
@@ -51,19 +52,34 @@ fn letter_is_exchanged(
     Ok(told == free && (!told || exchanges(tableau, &measured, &string)))
 }
 
+// What is measured: the string of a text, or a letter.
+#[derive(Clone, Copy)]
+enum Measured {
+    Text(&'static str),
+    One(Letter, Place),
+}
+
 // What is measured of a state, and whether the outcome is free. A Bell pair has the members +XX, -YY and +ZZ.
-const STRINGS: &[(&[Asked], &str, bool)] = &[
-    (&[], "+ZZ", false),
-    (&[], "-_Z", false),
-    (&[], "+X_", true),
-    (&[], "+ZY", true),
-    (BELL, "+__", false),
-    (BELL, "-XX", false),
-    (BELL, "+YY", false),
-    (BELL, "+Z_", true),
-    (BELL, "-_X", true),
-    (BELL, "+XZ", true),
-    (BELL, "+YX", true),
+const CASES: &[(&[Call], Measured, bool)] = &[
+    (&[], Text("+ZZ"), false),
+    (&[], Text("-_Z"), false),
+    (&[], Text("+X_"), true),
+    (&[], Text("+ZY"), true),
+    (BELL, Text("+__"), false),
+    (BELL, Text("-XX"), false),
+    (BELL, Text("+YY"), false),
+    (BELL, Text("+Z_"), true),
+    (BELL, Text("-_X"), true),
+    (BELL, Text("+XZ"), true),
+    (BELL, Text("+YX"), true),
+    (&[], One(Letter::I, First), false),
+    (&[], One(Letter::X, First), true),
+    (&[], One(Letter::Y, Last), true),
+    (&[], One(Letter::Z, Last), false),
+    (BELL, One(Letter::I, Last), false),
+    (BELL, One(Letter::X, Last), true),
+    (BELL, One(Letter::Y, First), true),
+    (BELL, One(Letter::Z, First), true),
 ];
 
 // Whether the same is so of the string of a text.
@@ -77,59 +93,27 @@ fn text_is_exchanged(
     is_exchanged(alloc, tableau, &measured, free)
 }
 
-// Whether the same is so after calls on a state of n qubits.
-fn text_is_exchanged_after(
+// Whether the same is so of what is measured of a state of n qubits after these calls.
+fn exchanged_after(
     alloc: Global,
     n: usize,
-    calls: &[Asked],
-    text: &str,
+    calls: &[Call],
+    measured: Measured,
     free: bool,
 ) -> Result<bool, Refusal> {
     let mut tableau = state(alloc, n, calls)?;
-    text_is_exchanged(alloc, &mut tableau, text, free)
+    match measured {
+        Text(text) => text_is_exchanged(alloc, &mut tableau, text, free),
+        One(letter, place) => letter_is_exchanged(alloc, &mut tableau, (letter, place), free),
+    }
 }
 
 #[test]
 fn free_outcomes_have_strings_that_exchange_them(rt: HostRuntime) -> Result<(), Fail> {
     for n in SIZES {
-        for &(calls, text, free) in STRINGS {
-            let found = text_is_exchanged_after(rt.alloc(), n, calls, text, free)?;
-            assert!(rt; found, "{n} {text}");
-        }
-    }
-    Ok(())
-}
-
-// Letters that are measured of a state, and whether the outcome is free.
-const LETTERS: &[(&[Asked], (Letter, Place), bool)] = &[
-    (&[], (Letter::I, First), false),
-    (&[], (Letter::X, First), true),
-    (&[], (Letter::Y, Last), true),
-    (&[], (Letter::Z, Last), false),
-    (BELL, (Letter::I, Last), false),
-    (BELL, (Letter::X, Last), true),
-    (BELL, (Letter::Y, First), true),
-    (BELL, (Letter::Z, First), true),
-];
-
-// Whether such a letter's outcomes are exchanged after calls on a state of n qubits.
-fn letter_is_exchanged_after(
-    alloc: Global,
-    n: usize,
-    calls: &[Asked],
-    letter: (Letter, Place),
-    free: bool,
-) -> Result<bool, Refusal> {
-    let mut tableau = state(alloc, n, calls)?;
-    letter_is_exchanged(alloc, &mut tableau, letter, free)
-}
-
-#[test]
-fn free_outcomes_of_letters_have_strings_that_exchange_them(rt: HostRuntime) -> Result<(), Fail> {
-    for n in SIZES {
-        for (number, &(calls, letter, free)) in LETTERS.iter().enumerate() {
-            let found = letter_is_exchanged_after(rt.alloc(), n, calls, letter, free)?;
-            assert!(rt; found, "{n}, letter {number}");
+        for (number, &(calls, measured, free)) in CASES.iter().enumerate() {
+            let found = exchanged_after(rt.alloc(), n, calls, measured, free)?;
+            assert!(rt; found, "{n}, case {number}");
         }
     }
     Ok(())

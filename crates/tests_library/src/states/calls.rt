@@ -1,0 +1,124 @@
+//! Calls that make states, as data.
+use crate::texts::read;
+use stab_pauli::{Letter, Pauli, Refusal};
+use stab_tableau::{Gate, PairGate, Tableau};
+use std::alloc::Global;
+
+// The qubit 0, or the last one.
+#[derive(Clone, Copy)]
+pub(super) enum Place {
+    First,
+    Last,
+}
+
+// A call.
+#[derive(Clone, Copy)]
+pub(super) enum Call {
+    One(Gate, Place),
+    Two(PairGate, Place, Place),
+    // The measurement, with a coin, of the string with the two letters of a text, such as `-XZ`, on the first
+    // and on the last qubit.
+    Measure(&'static str, bool),
+    // Every qubit is turned, entangled and measured.
+    Wear,
+    Reset,
+}
+
+pub(super) fn qubit(tableau: &Tableau, place: Place) -> usize {
+    match place {
+        Place::First => 0,
+        Place::Last => tableau.len().saturating_sub(1),
+    }
+}
+
+fn apply(tableau: &mut Tableau, gate: Gate, qubit: usize) -> bool {
+    let allowed = qubit < tableau.len();
+    if allowed {
+        tableau.apply(gate, qubit);
+    }
+    allowed
+}
+
+fn apply_pair(tableau: &mut Tableau, gate: PairGate, first: usize, second: usize) -> bool {
+    let allowed = first < tableau.len() && second < tableau.len() && second != first;
+    if allowed {
+        tableau.apply_pair(gate, first, second);
+    }
+    allowed
+}
+
+// The Pauli that has the first letter of a text on qubit 0 among n, and the second on the last qubit.
+pub(super) fn spread(alloc: Global, n: usize, text: &str) -> Result<Pauli, Refusal> {
+    let pair = read(alloc, text)?;
+    let mut pauli = Pauli::identity(alloc, n)?;
+    if n > 1 && pair.len() == 2 && pauli.len() == n {
+        pauli.set(0, pair.letter(0));
+        pauli.set(n - 1, pair.letter(1));
+    }
+    pauli.negate_if(pair.is_negative());
+    Ok(pauli)
+}
+
+fn collapse(tableau: &mut Tableau, pauli: &Pauli, coin: bool) -> bool {
+    let allowed = pauli.len() == tableau.len();
+    if allowed {
+        tableau.collapse(pauli, coin);
+    }
+    allowed
+}
+
+fn measure(alloc: Global, tableau: &mut Tableau, text: &str, coin: bool) -> Result<bool, Refusal> {
+    let pauli = spread(alloc, tableau.len(), text)?;
+    Ok(collapse(tableau, &pauli, coin))
+}
+
+// Turns a qubit, entangles it with the next one, and measures X on it with the coin 1.
+fn wear(tableau: &mut Tableau, qubit: usize) {
+    let next = qubit.wrapping_add(1);
+    let next = if next < tableau.len() { next } else { 0 };
+    apply(tableau, Gate::H, qubit);
+    apply(tableau, Gate::S, qubit);
+    apply_pair(tableau, PairGate::Cx, qubit, next);
+    if qubit < tableau.len() {
+        tableau.collapse_letter(Letter::X, qubit, true);
+    }
+}
+
+fn wear_all(tableau: &mut Tableau) {
+    for qubit in 0..tableau.len() {
+        wear(tableau, qubit);
+    }
+}
+
+// Makes a call, where a state has the qubits that it names.
+fn carry_out_one(alloc: Global, tableau: &mut Tableau, call: Call) -> Result<bool, Refusal> {
+    match call {
+        Call::One(gate, place) => Ok(apply(tableau, gate, qubit(tableau, place))),
+        Call::Two(gate, first, second) => {
+            let (first, second) = (qubit(tableau, first), qubit(tableau, second));
+            Ok(apply_pair(tableau, gate, first, second))
+        }
+        Call::Measure(text, coin) => measure(alloc, tableau, text, coin),
+        Call::Wear => {
+            wear_all(tableau);
+            Ok(true)
+        }
+        Call::Reset => {
+            tableau.reset();
+            Ok(true)
+        }
+    }
+}
+
+// Makes calls, one after another, and tells whether each was made.
+pub(super) fn carry_out(
+    alloc: Global,
+    tableau: &mut Tableau,
+    calls: &[Call],
+) -> Result<bool, Refusal> {
+    let mut all = true;
+    for call in calls {
+        all &= carry_out_one(alloc, tableau, *call)?;
+    }
+    Ok(all)
+}
