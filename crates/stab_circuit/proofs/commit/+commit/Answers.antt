@@ -36,9 +36,10 @@ commit_within-commit-done-requires t c = (
 )
 
 pub commit_within-set_body-requires : goal.commit_within-set_body-requires
-commit_within-set_body-requires t c =
-    kept_shallow c.commit-done.result c.args.edit c.args.blocks.now c.args.item.now c.in-Some.body.items c.commit-done.new.items.items
-    c.in-Some.ensures.some c.requires.allowed c.commit-done.ensures.ok c.commit-done.ensures.unchanged c.in-Some.ensures.shallow
+commit_within-set_body-requires t c = record {
+  shallow = kept_shallow c.commit-done.result c.args.edit c.args.blocks.now c.args.item.now c.in-Some.body.items c.commit-done.new.items.items
+      c.in-Some.ensures.some c.requires.allowed c.commit-done.ensures.ok c.commit-done.ensures.unchanged c.in-Some.ensures.shallow;
+}
 
 pub commit_within-returns-clause-ok : goal.commit_within-returns-clause-ok
 commit_within-returns-clause-ok t c =
