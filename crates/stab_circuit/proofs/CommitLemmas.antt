@@ -6,7 +6,7 @@ use Rattle.std.specs.Result.{OnOk, OnErr}
 use Rattle.stab_io.specs.declared.refusal.Refusal.{Refusal}
 use Rattle.stab_circuit.specs.declared.edit.Edit.{Edit}
 use Rattle.stab_items.specs.Items.{Items, OneItem, operation, repeat, listed, before, depth, depth_of}
-use Rattle.stab_items.specs.inner.Blocks.{with_body, IsInstruction}
+use Rattle.stab_items.specs.inner.Blocks.{with_body}
 use Rattle.stab_circuit.specs.Edits.{with_item, rebuilt, edited_inside, edited_in, inner, taken_in}
 use Rattle.stab_circuit.specs.inner.Judgements.{IsShallow, IsShallowItem}
 use Rattle.stab_circuit.proofs.EditLemmas.{entries-listed}
@@ -49,11 +49,6 @@ in_range edit (x ∷ xs) zs (suc b) q h = omega (arith, in_range edit xs zs b q 
 pub found_at : (edit : Edit) (b : ℕ) (bs blocks : List ℕ) (xs : List OneItem) (x : OneItem) → blocks ≡ b ∷ bs → IsShallow (edited_in edit blocks xs) → x ≡ get_or xs b x → slice_get xs b ≡ Some x
 found_at edit b bs blocks xs x e h f =
     slice_get-get_or xs b x (in_range (edited_in edit bs) xs xs b b (subst (λ l. IsShallow (edited_in edit l xs)) e h)) ∙ ap Some (sym f)
-
--- an instruction has no items to edit
-pub no_block : (edit : Edit) (bs : List ℕ) (x : OneItem) → IsInstruction x → IsShallowItem (edited_inside (edited_in edit bs) (Some x)) → ⊥
-no_block edit bs (operation op) i h = h
-no_block edit bs (repeat n tag body) i h = i
 
 -- a block whose items were taken out and others put in
 pub put_back : (x y z : OneItem) (ys : List OneItem) → y ≡ with_body [] x → z ≡ with_body ys y → z ≡ with_body ys x

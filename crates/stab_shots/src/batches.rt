@@ -121,8 +121,8 @@ fn run_by_number(
 /// Runs so many shots of a seed from a first one on, on n qubits, at most 1,024. Numbers of shots go on from 2^64 - 1 with 0.
 ///
 /// Each shot is the run that `stab_run::run_once` makes with `SeedCoins` of its number. The tableau goes through the circuit
-/// once for all shots of a batch, so many cost little more than one. Refused as `Circuit::check` refuses, else
-/// `OutOfMemory`, always with line 0.
+/// once for 64 shots, or for 256 where there are more. Refused as `Circuit::check` refuses, else `OutOfMemory`, always with
+/// line 0.
 pub fn run_shots(
     alloc: Global,
     circuit: &Circuit,

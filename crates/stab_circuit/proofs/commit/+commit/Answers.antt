@@ -32,26 +32,27 @@ commit-returns-in-Some-clause-taken t c =
 pub commit_within-commit-done-requires : goal.commit_within-commit-done-requires
 commit_within-commit-done-requires t c = (
   omega arith,
-  allowed_within c.args.edit c.args.blocks.now c.args.item.now c.in-Some.body.items c.take_body.ensures.some c.requires.allowed,
+  allowed_within c.args.edit c.args.blocks.now c.args.item.now c.in-Some.body.items c.in-Some.ensures.some c.requires.allowed,
 )
 
 pub commit_within-set_body-requires : goal.commit_within-set_body-requires
-commit_within-set_body-requires t c =
-    kept_shallow c.commit-done.result c.args.edit c.args.blocks.now c.args.item.now c.in-Some.body.items c.commit-done.new.items.items
-    c.take_body.ensures.some c.requires.allowed c.commit-done.ensures.ok c.commit-done.ensures.unchanged c.take_body.ensures.shallow
+commit_within-set_body-requires t c = record {
+  shallow = kept_shallow c.commit-done.result c.args.edit c.args.blocks.now c.args.item.now c.in-Some.body.items c.commit-done.new.items.items
+      c.in-Some.ensures.some c.requires.allowed c.commit-done.ensures.ok c.commit-done.ensures.unchanged c.in-Some.ensures.shallow;
+}
 
 pub commit_within-returns-clause-ok : goal.commit_within-returns-clause-ok
 commit_within-returns-clause-ok t c =
-    committed_within c.commit-done.result c.args.edit c.args.blocks.now c.args.item.now c.set_body.new.self c.in-Some.body.items c.commit-done.new.items.items c.take_body.ensures.some
+    committed_within c.commit-done.result c.args.edit c.args.blocks.now c.args.item.now c.set_body.new.self c.in-Some.body.items c.commit-done.new.items.items c.in-Some.ensures.some
     (put_back c.args.item.now c.take_body.new.self c.set_body.new.self c.commit-done.new.items.items c.take_body.ensures.left c.set_body.ensures.value) c.requires.allowed c.commit-done.ensures.ok
 
 pub commit_within-returns-clause-taken : goal.commit_within-returns-clause-taken
 commit_within-returns-clause-taken t c =
     subst (λ (v : Option OneItem). IfOk c.commit-done.result (λ old. old ≡ v))
-    (sym (taken_within c.args.edit c.args.blocks.now c.args.item.now c.in-Some.body.items c.take_body.ensures.some c.requires.allowed))
+    (sym (taken_within c.args.edit c.args.blocks.now c.args.item.now c.in-Some.body.items c.in-Some.ensures.some c.requires.allowed))
     c.commit-done.ensures.taken
 
 pub commit_within-returns-clause-unchanged : goal.commit_within-returns-clause-unchanged
 commit_within-returns-clause-unchanged t c =
-    unchanged_within c.commit-done.result c.args.item.now c.set_body.new.self c.in-Some.body.items c.commit-done.new.items.items c.take_body.ensures.some
+    unchanged_within c.commit-done.result c.args.item.now c.set_body.new.self c.in-Some.body.items c.commit-done.new.items.items c.in-Some.ensures.some
     (put_back c.args.item.now c.take_body.new.self c.set_body.new.self c.commit-done.new.items.items c.take_body.ensures.left c.set_body.ensures.value) c.commit-done.ensures.unchanged
