@@ -1,6 +1,4 @@
-//! Rows of signed Pauli strings: made, changed, multiplied.
-mod products;
-
+//! Rows of signed Pauli strings: made, changed, kept in little memory and compared.
 use crate::texts::{both, prints, read, repeated};
 use stab_pauli::{CompactRows, Letter, Pauli, PauliRows, Refusal};
 use std::alloc::Global;
@@ -270,35 +268,22 @@ fn rows_are_compared_with_and_without_signs(rt: HostRuntime) -> Result<(), Fail>
     Ok(())
 }
 
-// Four rows of n letters, the third with Y everywhere and the sign -; and what is seen of each of them.
-fn seen_behind(alloc: Global, n: usize) -> Result<[Option<(bool, bool)>; 4], Refusal> {
+// Four rows of n letters, the third with Y everywhere and the sign -; and what is seen of the first qubit of each.
+fn seen_behind(alloc: Global, n: usize) -> Result<[Option<Seen>; 4], Refusal> {
     let mut rows = PauliRows::new(alloc, 4, n.min(1024))?;
     let mut other = repeated(alloc, n, Letter::Y)?;
     other.negate();
     set_row(&mut rows, 2, &other);
-    let mut found = [None; 4];
-    for (a, place) in found.iter_mut().enumerate() {
-        *place = copied(alloc, &rows, a)?;
-    }
-    Ok(found)
-}
-
-// Whether a row that is copied is negative, and whether it has an X or Y.
-fn copied(alloc: Global, rows: &PauliRows, a: usize) -> Result<Option<(bool, bool)>, Refusal> {
-    let mut string = Pauli::identity(alloc, rows.qubits())?;
-    if a >= rows.len() || string.len() != rows.qubits() {
-        return Ok(None);
-    }
-    rows.copy_row(a, &mut string);
-    Ok(Some((string.is_negative(), string.first_x().is_some())))
+    Ok([0, 1, 2, 3].map(|a| seen(&rows, a, 0)))
 }
 
 #[test]
 fn a_row_behind_many_keeps_the_others(rt: HostRuntime) -> Result<(), Fail> {
-    let (no, yes) = (Some((false, false)), Some((true, true)));
+    let none = Some((Letter::I, false, false, None));
+    let all = Some((Letter::Y, true, true, Some(0)));
     for n in [1, 255, 256, 257, 1024] {
         let found = seen_behind(rt.alloc(), n)?;
-        assert_eq!(rt; found, [no, no, yes, no], "{n}");
+        assert_eq!(rt; found, [none, none, all, none], "{n}");
     }
     Ok(())
 }
