@@ -58,10 +58,11 @@ fn put<C: Coins>(
 fn put_where<C: Coins>(
     alloc: Global,
     session: &mut Session<C>,
-    put_in: Option<(Path, &str)>,
+    place: Option<Path>,
+    text: &str,
 ) -> Result<[usize; 3], Fault> {
-    match put_in {
-        Some((place, text)) => {
+    match place {
+        Some(place) => {
             let report = put(alloc, session, place, text)?;
             Ok([report.applied, report.framed, report.checkpoints])
         }
@@ -73,11 +74,12 @@ fn put_where<C: Coins>(
 fn put_in<C: Coins>(
     alloc: Global,
     circuit: &str,
-    item: Option<(Path, &str)>,
+    place: Option<Path>,
+    text: &str,
     coins: C,
 ) -> Result<[usize; 3], Fault> {
     let mut session = opened(alloc, circuit, coins)?;
-    put_where(alloc, &mut session, item)
+    put_where(alloc, &mut session, place, text)
 }
 
 /// The steps that an edit carries out, those that a frame goes over, and the copies that are kept, or none;
@@ -85,10 +87,17 @@ fn put_in<C: Coins>(
 fn cost(
     alloc: Global,
     circuit: &str,
-    item: Option<(Path, &str)>,
+    place: Option<Path>,
+    text: &str,
 ) -> Result<([usize; 3], u64), Fault> {
     let mut asks = 0;
-    let report = put_in(alloc, circuit, item, CountedCoins { asks: &mut asks })?;
+    let report = put_in(
+        alloc,
+        circuit,
+        place,
+        text,
+        CountedCoins { asks: &mut asks },
+    )?;
     Ok((report, asks))
 }
 
@@ -96,10 +105,11 @@ fn cost(
 fn costs(
     alloc: Global,
     circuit: &str,
-    item: (Path, &str),
+    place: Path,
+    text: &str,
 ) -> Result<(u64, [usize; 3], u64), Fault> {
-    let (_, asked) = cost(alloc, circuit, None)?;
-    let (report, asks) = cost(alloc, circuit, Some(item))?;
+    let (_, asked) = cost(alloc, circuit, None, text)?;
+    let (report, asks) = cost(alloc, circuit, Some(place), text)?;
     Ok((asked, report, asks))
 }
 
@@ -192,7 +202,7 @@ fn are_few(
 #[test]
 fn an_edit_costs_what_it_changes(rt: HostRuntime) -> Result<(), Fail> {
     for &(circuit, (block, place, text), bounds, coins) in COSTS {
-        let found = costs(rt.alloc(), circuit, (path(block, place), text))?;
+        let found = costs(rt.alloc(), circuit, path(block, place), text)?;
         assert!(rt; are_few(found, bounds, coins), "{circuit}");
     }
     Ok(())
