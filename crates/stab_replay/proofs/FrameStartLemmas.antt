@@ -17,9 +17,9 @@ use Rattle.stab_frames.specs.Flips.{flipped}
 use Rattle.stab_frames.specs.Frames.{PointsDifferBy}
 use Rattle.stab_frames.specs.Walks.{WalkState, frame_at}
 use Rattle.stab_frames.proofs.FlipLemmas.{length-flipped, flipped-apart}
-use Rattle.stab_replay.specs.declared.checkpoint.Checkpoint.{Checkpoint}
-use Rattle.stab_replay.specs.Checkpoints.{IsRunFromStart, IsCheckpoint}
-use Rattle.stab_replay.specs.inner.FramedReplays.{IsFrameFrom, IsFramedAt}
+use Rattle.stab_copies.specs.declared.checkpoint.Checkpoint.{Checkpoint}
+use Rattle.stab_copies.specs.Checkpoints.{IsRunFromStart, IsCheckpoint}
+use Rattle.stab_replay.specs.FramedReplays.{IsFrameFrom, IsFramedAt}
 
 -- where two lists are the same at first, nothing differs
 

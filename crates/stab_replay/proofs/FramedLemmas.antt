@@ -29,7 +29,8 @@ use Rattle.stab_frames.specs.StepNotes.{AreEnough, measured_by}
 use Rattle.stab_frames.specs.KeptStrings.{IsTrueAt, AreTrue}
 use Rattle.stab_frames.specs.Walks.{IsGone}
 use Rattle.stab_frames.specs.Ends.{AgreeBack}
-use Rattle.stab_replay.proofs.PointLemmas.{HaveSameFuture, take-more}
+use Rattle.stab_replay.proofs.PointLemmas.{HaveSameFuture}
+use Rattle.stab_copies.proofs.LastBitsLemmas.{take-more}
 use Rattle.stab_frames.proofs.SignLemmas.{sign-twice}
 use Rattle.stab_frames.proofs.TurnedLemmas.{turned-blank}
 use Rattle.stab_frames.proofs.LookbackLemmas.{or-left, or-right}

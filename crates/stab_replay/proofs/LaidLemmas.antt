@@ -1,11 +1,12 @@
 -- Laid copies: how many a replay lays on its way, one for each stride or for an old copy that it passes.
 use Rattle.std.proofs.Common.{◌≡◌, ℕ, ◌+◌, ◌-◌, ◌*◌, ◌≤◌, ap, Bool, ◌⊎◌, inl, inr, List, arith}
 use Rattle.std.proofs.Math.Nat.{mul-le-mul_left}
-use Rattle.stab_replay.specs.declared.checkpoint.Checkpoint.{Checkpoint}
+use Rattle.stab_copies.specs.declared.checkpoint.Checkpoint.{Checkpoint}
 use Rattle.stab_replay.specs.declared.replay.Replay.{Replay}
 use Rattle.stab_replay.specs.declared.replay.Plan.{Plan}
 use Rattle.stab_replay.specs.declared.replay.Arrival.TheVariants.{Between}
-use Rattle.stab_replay.specs.inner.Replays.{IsArrival, StopsAt}
+use Rattle.stab_replay.specs.Replays.{StopsAt}
+use Rattle.stab_replay.specs.inner.Arrivals.{IsArrival}
 use Rattle.stab_replay.proofs.ReplayLemmas.{went-on}
 
 -- old copies that were passed, and one more for each that was laid

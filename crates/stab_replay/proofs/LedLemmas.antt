@@ -21,12 +21,12 @@ use Rattle.stab_frames.specs.Flips.{flipped}
 use Rattle.stab_frames.specs.KeptStrings.{StringsState}
 use Rattle.stab_frames.specs.Walks.{WalkState, IsPlaced}
 use Rattle.stab_replay.specs.declared.led.Passage.TheVariants.{Arrived, Passed}
-use Rattle.stab_replay.specs.declared.checkpoint.Checkpoint.{Checkpoint}
+use Rattle.stab_copies.specs.declared.checkpoint.Checkpoint.{Checkpoint}
 use Rattle.stab_replay.specs.declared.replay.Plan.{Plan}
 use Rattle.stab_replay.specs.declared.replay.Replay.{Replay}
-use Rattle.stab_replay.specs.Checkpoints.{IsCheckpoint}
-use Rattle.stab_replay.specs.inner.Replays.{IsAtStep, Misses, step_among_new, copy_of}
-use Rattle.stab_replay.specs.inner.FramedReplays.{IsFramedAt, IsFramedOver, IsContinued, IsFrameFrom, WentOver, between, flips_since}
+use Rattle.stab_copies.specs.Checkpoints.{IsCheckpoint}
+use Rattle.stab_replay.specs.Replays.{IsAtStep, Misses, step_among_new, copy_of}
+use Rattle.stab_replay.specs.FramedReplays.{IsFramedAt, IsFramedOver, IsContinued, IsFrameFrom, WentOver, between, flips_since}
 use Rattle.stab_replay.specs.inner.LedReplays.{IsBeside, IsAtCopy, IsLed, IsPassed, WentTo, last_state, state_of, with_state, with_cursor}
 use Rattle.stab_replay.proofs.NotedLemmas.{coins-are, noted-more}
 use Rattle.stab_replay.proofs.ReplayLemmas.{coins-few}

@@ -12,10 +12,10 @@ use Rattle.stab_run.specs.Points.{RunOutput}
 use Rattle.stab_frames.specs.KeptStrings.{StringsState}
 use Rattle.stab_frames.specs.Walks.{WalkState}
 use Rattle.stab_replay.specs.declared.led.Passage.{Passage}
-use Rattle.stab_replay.specs.declared.checkpoint.Checkpoint.{Checkpoint}
+use Rattle.stab_copies.specs.declared.checkpoint.Checkpoint.{Checkpoint}
 use Rattle.stab_replay.specs.declared.replay.Plan.{Plan}
 use Rattle.stab_replay.specs.declared.replay.Replay.{Replay}
-use Rattle.stab_replay.specs.inner.Replays.{IsAtStep, Ascending, Misses, IsAtStop, IsOnWay, step_among_new, copy_of}
+use Rattle.stab_replay.specs.Replays.{IsAtStep, Ascending, Misses, IsAtStop, IsOnWay, step_among_new, copy_of}
 use Rattle.stab_replay.specs.inner.LedReplays.{IsLed, IsPassed, WentTo, LedOn, last_state, state_of, with_state, with_cursor}
 use Rattle.stab_replay.proofs.LedLemmas.{at-noted}
 use Rattle.stab_replay.proofs.ReplayLemmas.{ascending-end, ascending-stop, later-ascending, on-stop, past, with-laid}

@@ -1,14 +1,7 @@
-mod PointLemmas
-mod LastBitsLemmas
-mod ReplayLemmas
+pub mod PointLemmas
+pub mod ReplayLemmas
 mod LaidLemmas
-mod KeptLemmas
-mod FollowLemmas
-mod CountLemmas
-mod CourseLemmas
-pub mod SpacingLemmas
-mod CheckpointLemmas
-mod FramedLemmas
+pub mod FramedLemmas
 mod SegmentLemmas
 mod TurnedCopyLemmas
 mod FlippedLemmas
@@ -18,4 +11,4 @@ mod NotedSegmentLemmas
 mod OverCopyLemmas
 mod LedLemmas
 mod LedWayLemmas
-mod NotedLemmas
+pub mod NotedLemmas

@@ -17,8 +17,7 @@ use Rattle.stab_frames.specs.Limits.{most_strings}
 use Rattle.stab_frames.specs.KeptStrings.{StringsState, IsNumbered, IsTrueAt, AreTrue, KeepsTrue, note_at, front_kept}
 use Rattle.stab_frames.specs.Lookbacks.{LooksWithin}
 use Rattle.stab_frames.proofs.LookbackLemmas.{or-left, or-right}
-use Rattle.stab_replay.specs.KeptRuns.{IsNoted}
-use Rattle.stab_replay.specs.inner.Prepared.{IsSpliced}
+use Rattle.stab_replay.specs.NotedStrings.{IsNoted, IsSpliced}
 use Rattle.stab_replay.proofs.FramedLemmas.{AreTurnedBehind, true-turned}
 
 -- how far back steps look

@@ -12,8 +12,8 @@ use Rattle.stab_run.proofs.RecordLemmas.{ones-append}
 use Rattle.stab_run.proofs.PointLemmas.{flags-are-coins, front-output}
 use Rattle.stab_frames.specs.KeptStrings.{StringsState, kept_with, front_kept}
 use Rattle.stab_frames.proofs.WalkLemmas.{ones-few}
-use Rattle.stab_replay.specs.KeptRuns.{IsNoted}
-use Rattle.stab_replay.specs.inner.FramedReplays.{IsContinued}
+use Rattle.stab_replay.specs.NotedStrings.{IsNoted}
+use Rattle.stab_replay.specs.FramedReplays.{IsContinued}
 use Rattle.stab_replay.proofs.FramedLemmas.{AreTurnedBehind}
 use Rattle.stab_replay.proofs.NotedLemmas.{noted-front, noted-spliced, ones-take}
 

@@ -15,14 +15,14 @@ use Rattle.stab_frames.specs.declared.steps.Stop.TheVariants.{NoString}
 use Rattle.stab_frames.specs.KeptStrings.{StringsState, note_at}
 use Rattle.stab_frames.specs.Walks.{WalkState, WalksOver}
 use Rattle.stab_frames.specs.Stops.{IsStop}
-use Rattle.stab_replay.specs.declared.checkpoint.Checkpoint.{Checkpoint}
+use Rattle.stab_copies.specs.declared.checkpoint.Checkpoint.{Checkpoint}
 use Rattle.stab_replay.specs.declared.replay.Plan.{Plan}
 use Rattle.stab_replay.specs.declared.replay.Replay.{Replay}
-use Rattle.stab_replay.specs.Checkpoints.{IsRunFromStart, IsCheckpoint}
-use Rattle.stab_replay.specs.KeptRuns.{IsNoted}
-use Rattle.stab_replay.specs.inner.Replays.{IsAtStep, step_among_new}
-use Rattle.stab_replay.specs.inner.FramedReplays.{IsOldRun, IsFramedAt, IsFramedOver, IsContinued, AreEnoughBy, WentOver}
-use Rattle.stab_replay.proofs.PointLemmas.{take-more}
+use Rattle.stab_copies.specs.Checkpoints.{IsRunFromStart, IsCheckpoint}
+use Rattle.stab_replay.specs.NotedStrings.{IsNoted}
+use Rattle.stab_replay.specs.Replays.{IsAtStep, step_among_new}
+use Rattle.stab_replay.specs.FramedReplays.{IsOldRun, IsFramedAt, IsFramedOver, IsContinued, AreEnoughBy, WentOver}
+use Rattle.stab_copies.proofs.LastBitsLemmas.{take-more}
 use Rattle.stab_replay.proofs.FramedLemmas.{flipped-empty}
 use Rattle.stab_replay.proofs.NotedLemmas.{coins-are, ones-take}
 use Rattle.stab_replay.proofs.SegmentLemmas.{over-segment}

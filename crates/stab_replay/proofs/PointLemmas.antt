@@ -1,23 +1,24 @@
 -- Points: runs that go on from states on the way, copies of these, and meetings, where two runs come to points of one future.
 use Rattle.std.proofs.Common.{◌≡◌, ℕ, ◌+◌, ◌-◌, ◌^◌, ◌<◌, ◌≤◌, sym, ◌∙◌, ap, subst, Bool, false, List, ◌++◌, length, take, drop, get_or, nat_lt, arith}
 use Rattle.std.specs.Prelude.{if◌then◌else◌}
-use Rattle.std.proofs.lemmas.List.{length-append, length-take-le, length-drop, take-append-drop, take-take, take_all, drop-take, get_or-drop}
+use Rattle.std.proofs.lemmas.List.{length-append, length-take-le, length-drop, take-append-drop, take-take, take_all, get_or-drop}
 use Rattle.stab_tableau.specs.Traces.{member}
 use Rattle.stab_tableau.specs.Groups.{SameGroup}
 use Rattle.stab_tableau.specs.Tableaus.{TableauState, stabilises}
 use Rattle.stab_circuit.specs.Steps.{Step}
 use Rattle.stab_run.specs.declared.records.Lengths.{Lengths}
-use Rattle.stab_replay.specs.declared.checkpoint.Checkpoint.{Checkpoint}
-use Rattle.stab_replay.specs.declared.checkpoint.Meeting.{Meeting}
+use Rattle.stab_copies.specs.declared.checkpoint.Checkpoint.{Checkpoint}
+use Rattle.stab_copies.specs.declared.checkpoint.Meeting.{Meeting}
 use Rattle.stab_run.specs.Points.{Point, RunOutput, origin, joined, point_after, outputs}
 use Rattle.stab_run.specs.Records.{looked_up}
 use Rattle.stab_run.specs.Laws.{AgreeAt}
 use Rattle.stab_frames.specs.Ends.{AgreeBack}
 use Rattle.stab_run.specs.ProgramStates.{ProgramState, IsAt, IsRun, program_state}
 use Rattle.stab_run.specs.Cuts.{lengths_of, front_of, rest_of}
-use Rattle.stab_replay.specs.Checkpoints.{IsRunFromStart, IsCheckpoint}
-use Rattle.stab_replay.specs.inner.LaidCopies.{moved, moved_lengths, moved_copy}
-use Rattle.stab_replay.specs.inner.Replays.{Meets}
+use Rattle.stab_copies.specs.Checkpoints.{IsRunFromStart, IsCheckpoint}
+use Rattle.stab_copies.specs.LaidCopies.{moved, moved_lengths, moved_copy}
+use Rattle.stab_copies.specs.Meets.{Meets}
+use Rattle.stab_copies.proofs.LastBitsLemmas.{take-more}
 use Rattle.stab_run.proofs.RunLemmas.{after-append, outputs-append}
 use Rattle.stab_run.proofs.FutureLemmas.{same-future}
 use Rattle.stab_run.proofs.PointLemmas.{flags-are-coins, records-are-records, cut, front-output, rest-output, HasAtMost, outputs-short}
@@ -136,9 +137,6 @@ meets-agree n reach coins xs zs c t o records h kept run meets = record {
         ∙ sym (ap (λ (l : Lengths). l.records) h.lengths)
 
 -- two runs that come to points of one future before step i of one and step k of the other, and have the same steps from there on
-
-pub take-more : {X : Type 0} (i m : ℕ) (xs : List X) → take (i + m) xs ≡ take i xs ++ take m (drop i xs)
-take-more i m xs = sym (take-append-drop i (take (i + m) xs)) ∙ (λ j. take-take i (i + m) xs (omega arith) j ++ drop-take i m xs j)
 
 -- the first steps, however many, give the same at both points, and lead to the same group
 abbrev pub HaveSameFuture : ℕ → (ℕ → Bool) → List Step → Point → Point → Type 0

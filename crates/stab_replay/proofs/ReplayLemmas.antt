@@ -8,23 +8,26 @@ use Rattle.std.proofs.lemmas.Option.{IfSome_then}
 use Rattle.stab_tableau.specs.Tableaus.{TableauState}
 use Rattle.stab_circuit.specs.Steps.{Step, one, two, controlled, collapse, product, detector, observable}
 use Rattle.stab_run.specs.declared.records.Lengths.{Lengths}
-use Rattle.stab_replay.specs.declared.checkpoint.Checkpoint.{Checkpoint}
+use Rattle.stab_copies.specs.declared.checkpoint.Checkpoint.{Checkpoint}
 use Rattle.stab_replay.specs.declared.replay.Replay.{Replay}
 use Rattle.stab_replay.specs.declared.replay.Plan.{Plan}
 use Rattle.stab_replay.specs.declared.replay.Arrival.TheVariants.{Between}
 use Rattle.stab_run.specs.Points.{RunOutput, origin, coins_of, all_coins_of, point_after, outputs}
 use Rattle.stab_run.specs.Laws.{AgreeAt}
 use Rattle.stab_run.specs.ProgramStates.{ProgramState, IsAt, IsRun, program_state, output_of}
-use Rattle.stab_replay.specs.Spacing.{Near, last_of}
+use Rattle.stab_copies.specs.Spacing.{Near, last_of}
 use Rattle.stab_run.specs.Cuts.{lengths_of}
-use Rattle.stab_replay.specs.Checkpoints.{IsRunFromStart, IsCheckpoint, checkpoint_steps}
+use Rattle.stab_copies.specs.Checkpoints.{IsRunFromStart, IsCheckpoint, checkpoint_steps}
 use Rattle.stab_frames.specs.KeptStrings.{KeepsTrue}
 use Rattle.stab_frames.specs.Lookbacks.{LooksWithin}
-use Rattle.stab_replay.specs.KeptRuns.{IsNoted}
-use Rattle.stab_replay.specs.inner.Replays.{IsAtStep, Ascending, Meets, MeetsAt, IsPlacedAt, IsArrival, Misses, EndsSoon, step_among_new, copy_of, IsAtStop, IsOnWay, StopsAt}
+use Rattle.stab_replay.specs.NotedStrings.{IsNoted}
+use Rattle.stab_replay.specs.Replays.{IsAtStep, Ascending, MeetsAt, IsPlacedAt, Misses, EndsSoon, step_among_new, copy_of, IsAtStop, IsOnWay, StopsAt}
+use Rattle.stab_replay.specs.inner.Arrivals.{IsArrival}
+use Rattle.stab_copies.specs.Meets.{Meets}
 use Rattle.stab_run.proofs.PointLemmas.{flags-are-coins, records-are-records}
 use Rattle.stab_replay.proofs.NotedLemmas.{noted-on}
-use Rattle.stab_replay.proofs.PointLemmas.{resumed, shows-from-start, take-more}
+use Rattle.stab_replay.proofs.PointLemmas.{resumed, shows-from-start}
+use Rattle.stab_copies.proofs.LastBitsLemmas.{take-more}
 
 -- the coins that steps use up
 

@@ -25,8 +25,8 @@ use Rattle.stab_frames.specs.Stops.{IsStop}
 use Rattle.stab_frames.specs.Walks.{WalkState, frame_at, WalksOver, IsGone}
 use Rattle.stab_frames.proofs.FrontLemmas.{group-origin}
 use Rattle.stab_frames.proofs.StepLemmas.{over-framed}
-use Rattle.stab_replay.specs.inner.FramedReplays.{IsFramedAt, IsFramedOver, AreEnoughBy, flips_since}
-use Rattle.stab_replay.proofs.PointLemmas.{take-more}
+use Rattle.stab_replay.specs.FramedReplays.{IsFramedAt, IsFramedOver, AreEnoughBy, flips_since}
+use Rattle.stab_copies.proofs.LastBitsLemmas.{take-more}
 use Rattle.stab_replay.proofs.NotedLemmas.{true-back, near-enough, coins-are}
 use Rattle.stab_replay.proofs.FramedLemmas.{IsFramedBehind, flipped-empty, framed-gone, framed-all}
 

@@ -1,5 +1,4 @@
-pub mod Spacing
-pub mod Checkpoints
-pub mod Counts
-pub mod KeptRuns
+pub mod NotedStrings
+pub mod Replays
+pub mod FramedReplays
 pub mod inner

@@ -1,5 +1,2 @@
-pub mod LaidCopies
-pub mod Replays
-pub mod Prepared
-pub mod FramedReplays
+pub mod Arrivals
 pub mod LedReplays

@@ -1,4 +1,4 @@
-ghost use Rattle.std.specs.Prelude.{◌≡◌, ◌≤◌, ◌++◌, true, take, drop, OnOk};
+ghost use Rattle.std.specs.Prelude.{◌≡◌, ◌++◌, take, drop, OnOk};
 ghost use Rattle.stab_run.specs.Records.{ones};
 ghost use Rattle.stab_frames.specs.Flips.{flipped, flipped_additions};
 
@@ -56,16 +56,4 @@ pub fn between<T>(items: &[T], from: usize, to: usize) -> &[T]
     let (front, _) = items.split_at(to.min(items.len()));
     let (_, between) = front.split_at(from.min(front.len()));
     between
-}
-
-/// Whether there is a 1 among bits.
-pub fn has_one(bits: &[bool]) -> bool
-    ensures one { result ≡ true → 1 ≤ ones bits.now }
-{
-    for bit in bits {
-        if *bit {
-            return true;
-        }
-    }
-    false
 }

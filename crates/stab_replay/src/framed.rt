@@ -8,11 +8,11 @@ ghost use Rattle.stab_frames.specs.Flips.{flipped_output};
 ghost use Rattle.stab_frames.specs.KeptStrings.{kept_with};
 ghost use Rattle.stab_frames.specs.Walks.{IsPlaced};
 ghost use Rattle.stab_frames.specs.declared.steps.Stop.TheVariants.{Behind, NoString};
-ghost use Rattle.stab_replay.specs.inner.FramedReplays.{between as between_lengths, flips_behind, IsFrameFrom, WentOver};
+ghost use Rattle.stab_replay.specs.FramedReplays.{between as between_lengths, flips_behind, IsFrameFrom, WentOver};
 
 use crate::bits::{append_flipped, append_flipped_additions, between, count_ones};
-use crate::checkpoint::{Checkpoint, shifted};
 use crate::replay::{Plan, Replay};
+use stab_copies::{Checkpoint, shifted};
 use stab_frames::{FrameWalk, KeptStrings, Stop, walk_steps};
 use stab_io::Refusal;
 use stab_pauli::Letter;
@@ -117,7 +117,7 @@ impl<'a> Replay<'a> {
     /// have the same letters. So many records are those of the old run.
     ///
     /// Refusal `OutOfMemory` alone.
-    pub fn frame_from(
+    pub(crate) fn frame_from(
         &mut self,
         alloc: Global,
         copy: &Checkpoint,
@@ -159,7 +159,7 @@ impl<'a> Replay<'a> {
     /// `NoString` where it can't, since a string is missing or the copy is too far.
     ///
     /// Refusal `OutOfMemory` alone.
-    pub fn frame_to(
+    pub(crate) fn frame_to(
         &mut self,
         alloc: Global,
         old: &Outputs,

@@ -1,17 +1,17 @@
-ghost use Rattle.std.specs.Prelude.{◌≡◌, ℕ, ◌+◌, ◌-◌, ◌<◌, ◌≤◌, min, Bool, true, None, All, length, take, drop, OnOk, OnErr, IfOk, IfErr, IfSome};
+ghost use Rattle.std.specs.Prelude.{◌≡◌, ℕ, ◌-◌, ◌<◌, ◌≤◌, min, Bool, true, None, All, length, take, drop, OnOk, OnErr, IfOk, IfErr, IfSome};
 ghost use Rattle.stab_io.specs.declared.refusal.Refusal.TheVariants.{OutOfMemory};
 ghost use Rattle.stab_circuit.specs.Steps.{most_steps, unroll, check_of};
 ghost use Rattle.stab_circuit.specs.Views.{circuit_items};
 ghost use Rattle.stab_run.specs.ProgramStates.{StepFits, output_of};
+ghost use Rattle.stab_run.specs.Records.{ones};
 ghost use Rattle.stab_frames.specs.KeptStrings.{StringsState};
-ghost use Rattle.stab_replay.specs.inner.Replays.{IsAtStep, Ascending, IsOnWay, IsPlacedAt};
+ghost use Rattle.stab_replay.specs.Replays.{IsAtStep, Ascending, IsOnWay, IsPlacedAt};
 ghost use Rattle.stab_replay.specs.inner.LedReplays.{IsBeside, IsLed, IsPassed, LedOn, IsLedTo, later_of, with_state, with_cursor};
 
-use crate::bits::has_one;
-use crate::checkpoint::{Checkpoint, shifted};
 use crate::framed::turned_copy;
 use crate::replay::{Plan, Replay};
 use stab_circuit::{Circuit, Cursor};
+use stab_copies::{Checkpoint, shifted};
 use stab_frames::{FrameWalk, KeptStrings, Stop};
 use stab_io::Refusal;
 use stab_run::Outputs;
@@ -19,7 +19,7 @@ use std::alloc::Global;
 
 /// How far a frame led a replay.
 #[derive(Clone, Copy)]
-pub struct Led {
+pub(crate) struct Led {
     /// The first old copy that it did not pass.
     pub next: usize,
     /// Whether the replay is at the place of that one.
@@ -199,7 +199,7 @@ impl<'a> Replay<'a> {
     /// far as it leads.
     ///
     /// Refusal `OutOfMemory` alone.
-    pub fn frame_on(
+    pub(crate) fn frame_on(
         &mut self,
         alloc: Global,
         circuit: &'a Circuit,
@@ -239,4 +239,16 @@ impl<'a> Replay<'a> {
             None => Ok(Led { next, there: false }),
         }
     }
+}
+
+/// Whether there is a 1 among bits.
+fn has_one(bits: &[bool]) -> bool
+    ensures one { result ≡ true → 1 ≤ ones bits.now }
+{
+    for bit in bits {
+        if *bit {
+            return true;
+        }
+    }
+    false
 }

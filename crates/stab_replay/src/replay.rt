@@ -1,22 +1,21 @@
-ghost use Rattle.std.specs.Prelude.{◌≡◌, ℕ, ◌+◌, ◌-◌, ◌*◌, ◌<◌, ◌≤◌, ◌^◌, ◌↔◌, min, [], ◌∷◌, ◌++◌, None, All, IsTrue, OnOk, IfOk, IfErr, length, take, drop};
+ghost use Rattle.std.specs.Prelude.{◌≡◌, ℕ, ◌+◌, ◌-◌, ◌*◌, ◌<◌, ◌≤◌, ◌^◌, min, [], ◌∷◌, ◌++◌, None, All, OnOk, IfOk, IfErr, length, take, drop};
 ghost use Rattle.stab_io.specs.declared.refusal.Refusal.TheVariants.{OutOfMemory};
-ghost use Rattle.stab_tableau.specs.Groups.{SameGroup};
-ghost use Rattle.stab_tableau.specs.Tableaus.{stabilises};
 ghost use Rattle.stab_circuit.specs.Steps.{most_steps, unroll, check_of};
 ghost use Rattle.stab_circuit.specs.Views.{circuit_items};
 ghost use Rattle.stab_run.specs.Records.{ones};
 ghost use Rattle.stab_run.specs.Points.{all_coins_of};
 ghost use Rattle.stab_run.specs.ProgramStates.{StepFits, output_of};
-ghost use Rattle.stab_replay.specs.inner.Replays.{IsAtStep, IsReplay, Ascending, Meets, copy_of, IsArrival, IsEnd, EndsSoon, IsAtStop, IsOnWay, StopsAt, copies_passed};
-ghost use Rattle.stab_replay.specs.inner.FramedReplays.{IsOldRun};
+ghost use Rattle.stab_replay.specs.Replays.{IsAtStep, IsReplay, Ascending, copy_of, IsEnd, EndsSoon, IsAtStop, IsOnWay, StopsAt, copies_passed};
+ghost use Rattle.stab_replay.specs.inner.Arrivals.{IsArrival};
+ghost use Rattle.stab_replay.specs.FramedReplays.{IsOldRun};
 
-use crate::checkpoint::{Checkpoint, shifted};
 use stab_circuit::{Circuit, Cursor};
+use stab_copies::{Checkpoint, meets, shifted};
 use stab_frames::{KeptStrings, RunNotes, run_noting};
 use stab_io::Refusal;
 use stab_pauli::Pauli;
 use stab_run::{Coins, Outputs};
-use stab_tableau::{CompactTableau, Tableau};
+use stab_tableau::Tableau;
 use std::alloc::Global;
 
 /// A run from some step on, on its way.
@@ -77,7 +76,7 @@ enum Arrival {
 impl Plan {
     ghost use Rattle.std.specs.Prelude.{◌≡◌, ◌+◌, ◌≤◌, ◌<◌, ◌⊎◌, Option, Some, IfSome, slice_get};
     ghost use Rattle.std.specs.Option.{option_map};
-    ghost use Rattle.stab_replay.specs.inner.Replays.{step_among_new, next_stop};
+    ghost use Rattle.stab_replay.specs.Replays.{step_among_new, next_stop};
 
     /// Where the old copy with a number stands among the new steps, if there is one.
     fn place(self, copies: &[Checkpoint], number: usize) -> Option<usize>
@@ -165,41 +164,6 @@ impl<'a> Replay<'a> {
         Ok(())
     }
 
-    /// Whether the replay meets an old copy, whose run has these records, the first of which are
-    /// the same, and whose steps look back no further than its reach: what is cheap to compare
-    /// comes first.
-    ///
-    /// Refusal `OutOfMemory` alone.
-    fn meets(
-        &mut self,
-        alloc: Global,
-        copy: &Checkpoint,
-        records: &[bool],
-        base: usize,
-        reach: u32,
-        spare: &mut Option<Tableau>,
-    ) -> Result<bool, Refusal>
-        requires same_qubits { copy.now.tableau.qubits ≡ self.old.tableau.qubits }
-        requires base { base ≤ length self.old.outputs.records.items }
-        requires same_records { take base self.old.outputs.records.items ≡ take base records.now }
-        ensures unchanged { self.new ≡ self.old }
-        ensures value { IfOk result (λ meets. IsTrue meets ↔ Meets self.old.tableau.qubits reach self.old.tableau (output_of self.old.outputs) records.now copy.now) }
-        ensures err { IfErr result (λ r. r ≡ OutOfMemory) }
-    {
-        let alike = self.outputs.free.len() == copy.lengths.free
-            && self.outputs.records.len() == copy.lengths.records
-            && same_last(
-                self.outputs.records.as_slice(),
-                records,
-                base,
-                reach as usize,
-            );
-        if !alike {
-            return Ok(false);
-        }
-        has_group_of(&mut self.tableau, alloc, &copy.tableau, spare)
-    }
-
     /// What the replay comes to at its step, where this old copy may be met next.
     ///
     /// Refusal `OutOfMemory` alone.
@@ -221,7 +185,18 @@ impl<'a> Replay<'a> {
         ensures err { IfErr result (λ r. r ≡ OutOfMemory) }
     {
         let placed = plan.place(copies, next) == Some(self.step);
-        if placed && self.meets(alloc, &copies[next], records, plan.base, plan.reach, spare)? {
+        if placed
+            && meets(
+                alloc,
+                &mut self.tableau,
+                &self.outputs,
+                &copies[next],
+                records,
+                plan.base,
+                plan.reach,
+                spare,
+            )?
+        {
             Ok(Arrival::Met)
         } else if self.step == plan.total {
             Ok(Arrival::Behind)
@@ -339,52 +314,4 @@ impl<'a> Replay<'a> {
             self.lay(alloc)?;
         }
     }
-}
-
-/// Whether the same strings stabilise a state and a copy, which is expanded into the spare tableau
-/// where it is not a copy of that very state.
-///
-/// Refusal `OutOfMemory` alone.
-fn has_group_of(
-    tableau: &mut Tableau,
-    alloc: Global,
-    copy: &CompactTableau,
-    spare: &mut Option<Tableau>,
-) -> Result<bool, Refusal>
-    requires same_qubits { copy.now.qubits ≡ tableau.old.qubits }
-    ensures unchanged { tableau.new ≡ tableau.old }
-    ensures value { IfOk result (λ same. IsTrue same ↔ SameGroup tableau.old.qubits (stabilises tableau.old) (stabilises copy.now)) }
-    ensures err { IfErr result (λ r. r ≡ OutOfMemory) }
-{
-    if copy.is_of(tableau) {
-        return Ok(true);
-    }
-    let mut other = copy.tableau(alloc, spare.take())?;
-    let same = tableau.same_group(&mut other);
-    *spare = Some(other);
-    Ok(same)
-}
-
-/// Whether the last bits of a list, so many, stand at their places in another one, where both have the
-/// same bits before the base.
-fn same_last(bits: &[bool], others: &[bool], base: usize, reach: usize) -> bool
-    requires base { base ≤ length bits.now }
-    requires same { take base bits.now ≡ take base others.now }
-    ensures value { IsTrue result ↔ (drop (length bits.now - reach) bits.now ≡ drop (length bits.now - reach) (take (length bits.now) others.now)) }
-{
-    let from = bits.len().saturating_sub(reach);
-    let (_, last) = bits.split_at(from);
-    let (_, others) = others.split_at(from.min(others.len()));
-    same_behind(last, others, base.saturating_sub(from))
-}
-
-/// Whether a list goes on behind so many bits, which are the same, as another one begins.
-fn same_behind(bits: &[bool], others: &[bool], base: usize) -> bool
-    requires base { base ≤ length bits.now }
-    requires same { take base bits.now ≡ take base others.now }
-    ensures value { IsTrue result ↔ (bits.now ≡ take (length bits.now) others.now) }
-{
-    let (_, rest) = bits.split_at(base);
-    let (_, others) = others.split_at(base);
-    others.starts_with(rest)
 }

@@ -10,7 +10,7 @@ use Rattle.stab_circuit.specs.Steps.{Step, unroll, observables_of, check_within}
 use Rattle.stab_circuit.specs.Cursors.{IsApart}
 use Rattle.stab_circuit.specs.Edits.{edit_path, edited, verdict, put_item, first_changed, old_end, new_end}
 use Rattle.stab_circuit.proofs.EditLemmas.{entries-listed}
-use Rattle.stab_replay.specs.declared.kept.KeptRun.{KeptRun}
+use Rattle.stab_kept.specs.declared.kept.KeptRun.{KeptRun}
 use Rattle.stab_circuit.specs.declared.edit.Span.{Span}
 use Rattle.stab_circuit.specs.declared.edit.Edit.{Edit}
 use Rattle.stab_session.specs.declared.pending.Pending.{Pending}
@@ -19,10 +19,10 @@ use Rattle.stab_run.specs.Laws.{AgreeAt}
 use Rattle.stab_session.specs.Sessions.{SessionState}
 use Rattle.stab_session.specs.SessionEdits.{IsEditedBy}
 use Rattle.stab_session.specs.Bounds.{steps_of_item, steps_from_change, steps_behind, unless_refused, most_refused_asks, steps_put, steps_near_change, steps_changed, IsCountOf, AgreeBehind, AgreeBackBehind}
-use Rattle.stab_replay.specs.Counts.{IsCounted, AgreeAsFarAsLooked}
+use Rattle.stab_kept.specs.Counts.{IsCounted, AgreeAsFarAsLooked}
 use Rattle.stab_session.specs.inner.KeptSessions.{session_of, IsKept}
 use Rattle.stab_session.specs.inner.Pendings.{kept, IsBegun}
-use Rattle.stab_replay.specs.KeptRuns.{IsKeptRun, AgreeBehindSpan, AgreeBackBehindSpan}
+use Rattle.stab_kept.specs.KeptRuns.{IsKeptRun, AgreeBehindSpan, AgreeBackBehindSpan}
 use Rattle.stab_session.proofs.SessionLemmas.{session-kept}
 use Rattle.stab_session.proofs.PendingLemmas.{verdict-checked}
 use Rattle.stab_session.proofs.SpanLemmas.{put-within}

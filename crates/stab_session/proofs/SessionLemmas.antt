@@ -8,19 +8,19 @@ use Rattle.stab_tableau.proofs.MemberLemmas.{same-free}
 use Rattle.stab_circuit.specs.Items.{Items}
 use Rattle.stab_circuit.specs.Steps.{unroll, observables_of, check_within}
 use Rattle.stab_circuit.specs.Cursors.{IsApart}
-use Rattle.stab_replay.specs.declared.kept.KeptRun.{KeptRun}
+use Rattle.stab_kept.specs.declared.kept.KeptRun.{KeptRun}
 use Rattle.stab_run.specs.Runs.{State, start, run_of}
 use Rattle.stab_run.specs.Points.{RunOutput, origin, point_after, outputs, with_additions, state_at}
 use Rattle.stab_run.specs.Laws.{DependsOnCoinsAt}
 use Rattle.stab_session.specs.Headline.{IsRunOfItems}
 use Rattle.stab_session.specs.Sessions.{IsSignIn}
 use Rattle.stab_session.specs.Bounds.{most_checkpoints}
-use Rattle.stab_replay.specs.Checkpoints.{checkpoint_steps}
-use Rattle.stab_replay.specs.KeptRuns.{IsKeptRun}
+use Rattle.stab_copies.specs.Checkpoints.{checkpoint_steps}
+use Rattle.stab_kept.specs.KeptRuns.{IsKeptRun}
 use Rattle.stab_session.specs.inner.KeptSessions.{session_of, IsKept}
 use Rattle.stab_run.proofs.StateLemmas.{run-state, run_of-same}
 use Rattle.stab_run.proofs.PointLemmas.{records-are-records}
-use Rattle.stab_replay.proofs.SpacingLemmas.{count-spaced}
+use Rattle.stab_kept.proofs.SpacingLemmas.{count-spaced}
 
 -- in the same group a string has the same sign
 pub same-sign : (n : ℕ) (u v : Signed → Bool) (p : Signed) (sign : Option Bool) → length p.letters ≡ n → SameGroup n u v → IsSignIn u p sign → IsSignIn v p sign

@@ -8,10 +8,10 @@ use Rattle.stab_circuit.specs.Paths.{Path}
 use Rattle.stab_circuit.specs.Splits.{split}
 use Rattle.stab_circuit.specs.Laws.{AreAlike, SplitsLeaveTheSteps}
 use Rattle.stab_circuit.proofs.EditLemmas.{entries-listed}
-use Rattle.stab_replay.specs.declared.kept.KeptRun.{KeptRun}
+use Rattle.stab_kept.specs.declared.kept.KeptRun.{KeptRun}
 use Rattle.stab_session.specs.Sessions.{SessionState}
 use Rattle.stab_session.specs.SessionEdits.{IsSplit, IsAsBefore}
-use Rattle.stab_replay.specs.KeptRuns.{IsKeptRun}
+use Rattle.stab_kept.specs.KeptRuns.{IsKeptRun}
 use Rattle.stab_session.specs.inner.KeptSessions.{session_of, IsKept}
 use Rattle.stab_session.proofs.SessionLemmas.{session-kept}
 

@@ -8,7 +8,7 @@ use Rattle.stab_circuit.specs.Edits.{edit_path, edited, verdict, first_changed, 
 use Rattle.stab_circuit.specs.declared.edit.Edit.{Edit}
 use Rattle.stab_run.specs.Points.{Point, origin, point_after}
 use Rattle.stab_run.specs.Laws.{AgreeAt}
-use Rattle.stab_replay.specs.Counts.{AgreeAsFarAsLooked, IsCounted}
+use Rattle.stab_kept.specs.Counts.{AgreeAsFarAsLooked, IsCounted}
 use Rattle.stab_session.specs.Sessions.{SessionState}
 
 -- how many steps a session's circuit has

@@ -7,7 +7,7 @@
 //!   leaves the run.
 //!
 //! The run that a session keeps, with copies of its state, and how it follows an edit, is
-//! `stab_replay`'s. Runs themselves, with their coins and laws, are `stab_run`'s, whose names stand here
+//! `stab_kept`'s. Runs themselves, with their coins and laws, are `stab_run`'s, whose names stand here
 //! too.
 //!
 //! Source: sessions, and how a run follows an edit, are this project's own.
@@ -15,7 +15,7 @@
 //! Proved: what a session shows is the run of its items from the first step on, whatever edits it
 //! took and whatever rounds were split off: `specs/Headline.antt` says so. How many steps an edit
 //! carries out, how many coins it may ask for where it is refused, and how many copies of the state a
-//! session keeps, stands in `specs/Bounds.antt`, over `specs/Counts.antt` of `stab_replay`.
+//! session keeps, stands in `specs/Bounds.antt`, over `specs/Counts.antt` of `stab_kept`.
 //! `specs/inner/` has what only private contracts cite.
 #![tactic(auto)]
 

@@ -1,4 +1,4 @@
-ghost use Rattle.std.specs.Prelude.{◌≡◌, ◌≤◌, Ok, None, OnErr, IfOk, IfErr};
+ghost use Rattle.std.specs.Prelude.{◌≡◌, Ok, None, OnErr, IfOk, IfErr};
 ghost use Rattle.stab_io.specs.Refusals.{IsCallFault};
 ghost use Rattle.stab_circuit.specs.declared.edit.Edit.TheVariants.{Insert as inserting, Replace as replacing, Delete as deleting};
 ghost use Rattle.stab_circuit.specs.Steps.{check_within};

@@ -5,7 +5,7 @@ pub use edits::Report;
 use stab_circuit::Circuit;
 use stab_io::{Fault, Refusal};
 use stab_pauli::Pauli;
-use stab_replay::{KeptRun, run_kept};
+use stab_kept::{KeptRun, run_kept};
 use stab_run::Coins;
 use stab_tableau::Tableau;
 use std::alloc::Global;

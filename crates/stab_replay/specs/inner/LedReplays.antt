@@ -7,13 +7,13 @@ use Rattle.stab_run.specs.Records.{ones}
 use Rattle.stab_run.specs.Points.{RunOutput}
 use Rattle.stab_frames.specs.KeptStrings.{StringsState}
 use Rattle.stab_frames.specs.Walks.{WalkState}
-use Rattle.stab_replay.specs.declared.checkpoint.Checkpoint.{Checkpoint}
+use Rattle.stab_copies.specs.declared.checkpoint.Checkpoint.{Checkpoint}
 use Rattle.stab_replay.specs.declared.replay.Plan.{Plan}
 use Rattle.stab_replay.specs.declared.replay.Replay.{Replay}
 use Rattle.stab_replay.specs.declared.led.Passage.{Passage}
 use Rattle.stab_replay.specs.declared.led.Passage.TheVariants.{Stopped, Arrived, Passed}
-use Rattle.stab_replay.specs.inner.Replays.{IsAtStep, Ascending, Misses, IsAtStop, IsOnWay, step_among_new, copy_of}
-use Rattle.stab_replay.specs.inner.FramedReplays.{IsOldRun, IsFramedAt}
+use Rattle.stab_replay.specs.Replays.{IsAtStep, Ascending, Misses, IsAtStop, IsOnWay, step_among_new, copy_of}
+use Rattle.stab_replay.specs.FramedReplays.{IsOldRun, IsFramedAt}
 
 -- a replay of the new steps and an older run have the same coins
 pub record IsBeside (n : ℕ) (coins : ℕ → Bool) (p : Plan) (ys : List Step) (copies : List Checkpoint) (o : RunOutput) (s : StringsState) (r : Replay) : Type 0 where

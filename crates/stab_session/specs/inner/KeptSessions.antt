@@ -8,12 +8,12 @@ use Rattle.stab_tableau.specs.contracts.tableau.Tableau.{the_row}
 use Rattle.stab_circuit.specs.Items.{Items}
 use Rattle.stab_circuit.specs.Steps.{unroll, observables_of, check_within}
 use Rattle.stab_circuit.specs.Cursors.{IsApart}
-use Rattle.stab_replay.specs.declared.kept.KeptRun.{KeptRun}
+use Rattle.stab_kept.specs.declared.kept.KeptRun.{KeptRun}
 use Rattle.stab_run.specs.Limits.{most_stride}
 use Rattle.stab_session.specs.Sessions.{SessionState}
 use Rattle.stab_session.specs.Headline.{IsRunOfItems}
-use Rattle.stab_replay.specs.Checkpoints.{checkpoint_steps}
-use Rattle.stab_replay.specs.KeptRuns.{IsKeptRun}
+use Rattle.stab_copies.specs.Checkpoints.{checkpoint_steps}
+use Rattle.stab_kept.specs.KeptRuns.{IsKeptRun}
 use Rattle.stab_circuit.specs.inner.StoredItems.{items_code}
 
 -- the four lists of bits of a session, and the steps of its copies

@@ -10,7 +10,7 @@ use Rattle.stab_circuit.specs.declared.edit.Span.{Span}
 use Rattle.stab_circuit.specs.declared.edit.Edit.TheVariants.{Replace, Delete}
 use Rattle.stab_session.specs.declared.pending.Pending.{Pending}
 use Rattle.stab_session.specs.declared.pending.Pending.TheVariants.{Inserted, Replaced, Deleted}
-use Rattle.stab_replay.specs.KeptRuns.{IsSpan}
+use Rattle.stab_kept.specs.KeptRuns.{IsSpan}
 
 -- the items after the edit is taken back
 abbrev pub taken_back : Pending → List OneItem → Result (List OneItem) Refusal

@@ -5,7 +5,7 @@ use stab_io::Fault;
 use stab_run::Coins;
 
 impl<C: Coins> Session<C> {
-    ghost use Rattle.std.specs.Prelude.{◌≡◌, IfErr, OnOk, OnErr};
+    ghost use Rattle.std.specs.Prelude.{IfErr, OnOk, OnErr};
     ghost use Rattle.stab_io.specs.Refusals.{IsCallFault};
     ghost use Rattle.stab_circuit.specs.Items.{entries};
     ghost use Rattle.stab_circuit.specs.Splits.{split_refusal};

@@ -5,7 +5,8 @@ use Rattle.stab_replay.specs.declared.replay.Arrival.{Arrival}
 use Rattle.stab_replay.specs.declared.replay.Arrival.TheVariants.{Met, Behind, Between}
 use Rattle.stab_run.specs.Records.{ones}
 use Rattle.stab_run.specs.Points.{all_coins_of}
-use Rattle.stab_replay.specs.inner.Replays.{IsReplay, IsArrival, IsEnd, EndsSoon, IsAtStop, copy_of}
+use Rattle.stab_replay.specs.Replays.{IsReplay, IsEnd, EndsSoon, IsAtStop, copy_of}
+use Rattle.stab_replay.specs.inner.Arrivals.{IsArrival}
 use Rattle.stab_replay.proofs.ReplayLemmas.{went-so, met-behind, ends-soon, on-further, fewer-left}
 use Rattle.stab_replay.proofs.LaidLemmas.{laid-on, laid-more, laid-end}
 use Rattle.stab_replay.proofs.replay.Replay.follow.Given.{Over}

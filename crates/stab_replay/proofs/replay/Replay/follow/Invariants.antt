@@ -1,7 +1,7 @@
 use Rattle.std.proofs.Common.{◌≡◌, ◌+◌, ◌-◌, ◌*◌, ◌≤◌, min, length, drop}
 use Rattle.stab_run.specs.Records.{ones}
 use Rattle.stab_run.specs.Points.{all_coins_of}
-use Rattle.stab_replay.specs.inner.Replays.{IsOnWay}
+use Rattle.stab_replay.specs.Replays.{IsOnWay}
 use Rattle.stab_replay.proofs.replay.Replay.follow.Given as goal
 
 abbrev pub invariant-loop-spare : goal.invariant-loop-spare

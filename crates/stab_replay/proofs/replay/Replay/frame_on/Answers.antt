@@ -2,7 +2,7 @@ use Rattle.std.proofs.Common.{◌≡◌, ℕ, ◌-◌, ◌≤◌, sym, ◌∙◌
 use Rattle.stab_run.specs.ProgramStates.{output_of}
 use Rattle.stab_frames.specs.KeptStrings.{StringsState}
 use Rattle.stab_replay.specs.declared.replay.Replay.{Replay}
-use Rattle.stab_replay.specs.inner.Replays.{IsAtStep, IsOnWay}
+use Rattle.stab_replay.specs.Replays.{IsAtStep, IsOnWay}
 use Rattle.stab_replay.specs.inner.LedReplays.{IsBeside, IsLed, IsLedTo, with_cursor}
 use Rattle.stab_replay.proofs.ReplayLemmas.{ascending-end}
 use Rattle.stab_replay.proofs.LedLemmas.{at-noted, led-behind}

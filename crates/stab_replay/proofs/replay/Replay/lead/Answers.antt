@@ -2,7 +2,7 @@ use Rattle.std.proofs.Common.{◌≡◌, ℕ, ◌+◌, ◌-◌, refl, sym, ◌�
 use Rattle.stab_run.specs.ProgramStates.{StepFits, output_of}
 use Rattle.stab_replay.specs.declared.replay.Replay.{Replay}
 use Rattle.stab_replay.specs.declared.led.Passage.TheVariants.{Stopped, Arrived, Passed}
-use Rattle.stab_replay.specs.inner.Replays.{IsAtStep, IsOnWay, step_among_new}
+use Rattle.stab_replay.specs.Replays.{IsAtStep, IsOnWay, step_among_new}
 use Rattle.stab_replay.specs.inner.LedReplays.{IsLed, IsPassed, WentTo, LedOn, later_of, with_state, with_cursor}
 use Rattle.stab_replay.proofs.LedWayLemmas.{some-of, caught-up, led-moved, passed-moved, led-none, led-further, led-state, way-arrived, way-passed}
 use Rattle.stab_replay.proofs.replay.Replay.lead.Goals as goal

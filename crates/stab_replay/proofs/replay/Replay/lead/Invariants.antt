@@ -1,6 +1,6 @@
 use Rattle.std.proofs.Common.{◌≡◌, ℕ, ◌-◌, Bool}
 use Rattle.stab_run.specs.ProgramStates.{output_of}
-use Rattle.stab_replay.specs.inner.Replays.{IsOnWay}
+use Rattle.stab_replay.specs.Replays.{IsOnWay}
 use Rattle.stab_replay.specs.inner.LedReplays.{IsLed, LedOn, with_state}
 use Rattle.stab_replay.proofs.replay.Replay.lead.Given as goal
 

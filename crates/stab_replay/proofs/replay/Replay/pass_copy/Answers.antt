@@ -2,7 +2,7 @@ use Rattle.std.proofs.Common.{◌≢◌, ◌-◌, ◌≤◌, ◌++◌, refl, ◌
 use Rattle.std.proofs.lemmas.Option.{slice_get_read}
 use Rattle.stab_frames.specs.declared.steps.Stop.TheVariants.{NoString}
 use Rattle.stab_run.specs.Records.{ones}
-use Rattle.stab_replay.specs.declared.checkpoint.Checkpoint.{Checkpoint}
+use Rattle.stab_copies.specs.declared.checkpoint.Checkpoint.{Checkpoint}
 use Rattle.stab_replay.proofs.SegmentLemmas.{all-else}
 use Rattle.stab_replay.proofs.LedLemmas.{coins-left, steps-between, step-there, free-there, qubits-there, has-arrived, has-passed}
 use Rattle.stab_replay.proofs.LedWayLemmas.{led-arrived, led-passed}

@@ -3,7 +3,7 @@ use Rattle.stab_io.specs.Refusals.{whole, IsCallFault}
 use Rattle.stab_circuit.specs.Items.{listed}
 use Rattle.stab_circuit.specs.Steps.{unroll, observables_of}
 use Rattle.stab_session.specs.Sessions.{SessionState}
-use Rattle.stab_replay.specs.Checkpoints.{checkpoint_steps}
+use Rattle.stab_copies.specs.Checkpoints.{checkpoint_steps}
 use Rattle.stab_session.proofs.SessionLemmas.{statement, few-checkpoints}
 use Rattle.stab_session.proofs.EditedLemmas.{session-verdict, run-fault, followed, agreed, counted_same, new-run, edited-kept, session-edited, edited-applied, edited-at-least, edited-counted, edited-early, refused-asks}
 use Rattle.stab_session.proofs.session.Session.apply.Goals as goal

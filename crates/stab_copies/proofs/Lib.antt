@@ -1,0 +1,2 @@
+pub mod LastBitsLemmas
+mod CheckpointLemmas

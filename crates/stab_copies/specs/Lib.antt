@@ -1,0 +1,4 @@
+pub mod Spacing
+pub mod Checkpoints
+pub mod LaidCopies
+pub mod Meets

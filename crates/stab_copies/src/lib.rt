@@ -1,0 +1,19 @@
+//! Copies of a run's state, kept on the way.
+//!
+//! - `checkpoint`: copies of the state before a step, where they are kept, and how they move.
+//! - `meets`: whether another run meets a copy.
+//!
+//! Runs themselves, with their coins and laws, are `stab_run`'s.
+//!
+//! Source: at which steps copies are kept, and where runs meet, is this project's own.
+//!
+//! Proved: what a copy is of (`specs/Checkpoints.antt`), how copies are laid and move
+//! (`specs/LaidCopies.antt`), and that `meets` answers yes exactly where the other run comes to the state of
+//! the copy, with the same coin to come and the same records as far back as is looked (`specs/Meets.antt`).
+#![tactic(auto)]
+
+mod checkpoint;
+mod meets;
+
+pub use checkpoint::{Checkpoint, Meeting, count_before, lay_all, shifted, take_moved};
+pub use meets::meets;

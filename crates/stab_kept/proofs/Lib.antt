@@ -1,0 +1,5 @@
+mod KeptLemmas
+mod FollowLemmas
+mod CountLemmas
+mod CourseLemmas
+pub mod SpacingLemmas

@@ -1,0 +1,28 @@
+use Rattle.std.proofs.Common.{◌≡◌, ◌≤◌, sym, subst, length, arith}
+use Rattle.std.specs.Prelude.{None}
+use Rattle.stab_circuit.specs.Steps.{unroll, observables_of, check_within}
+use Rattle.stab_circuit.specs.Views.{circuit_items}
+use Rattle.stab_kept.specs.KeptRuns.{IsKeptRun}
+use Rattle.stab_run.proofs.FitLemmas.{check-whole, check-steps}
+use Rattle.stab_kept.proofs.KeptLemmas.{nothing-follows}
+use Rattle.stab_kept.proofs.opening.run_checked.Goals as goal
+
+pub follow-requires-clause-checked : goal.follow-requires-clause-checked
+follow-requires-clause-checked g c =
+    let empty = c.in_ok-kept.ensures.kept (g.C.Coins.sequence c.args.coins.now) c.args.stride in
+    subst (λ n. check_within n (circuit_items c.args.circuit.now) ≡ None) (sym empty.qubits) c.requires.checked
+
+pub follow-requires-clause-follows : goal.follow-requires-clause-follows
+follow-requires-clause-follows g c =
+    let coins = g.C.Coins.sequence c.args.coins.now in
+    let items = circuit_items c.args.circuit.now in
+    let few : length (unroll items) ≤ 1048576 = check-steps items (check-whole c.args.n items c.requires.checked) in
+    nothing-follows c.args.n coins c.args.stride c.in_ok-kept.kept (c.in_ok-kept.ensures.kept coins c.args.stride) (unroll items) c.steps.result
+    (omega (arith, c.steps.ensures.value, few))
+
+pub returns-clause-kept : goal.returns-clause-kept
+returns-clause-kept g c =
+    let coins = g.C.Coins.sequence c.args.coins.now in
+    let items = circuit_items c.args.circuit.now in
+    let empty = c.in_ok-kept.ensures.kept coins c.args.stride in
+    subst (λ n. IsKeptRun n coins c.args.stride (unroll items) (observables_of items) c.follow.new.self) empty.qubits c.in_ok-follow.ensures.kept

@@ -1,0 +1,374 @@
+ghost use Rattle.std.specs.Prelude.{◌≡◌, ℕ, ◌+◌, ◌-◌, ◌*◌, ◌<◌, ◌≤◌, Bool, [], None, List, All, length, take, reverse, slice_get, vec_capacity, IfSome, OnOk, OnErr, IfOk, IfErr};
+ghost use Rattle.stab_io.specs.declared.refusal.Refusal.TheVariants.{OutOfMemory};
+ghost use Rattle.stab_letters.specs.Limits.{most_qubits};
+ghost use Rattle.stab_circuit.specs.Steps.{Step, unroll, observables_of, check_of, check_within};
+ghost use Rattle.stab_circuit.specs.Views.{circuit_items};
+ghost use Rattle.stab_circuit.specs.Cursors.{IsApart};
+ghost use Rattle.stab_run.specs.Records.{ones};
+ghost use Rattle.stab_run.specs.Points.{all_coins_of};
+ghost use Rattle.stab_kept.specs.Counts.{IsCounted};
+ghost use Rattle.stab_run.specs.ProgramStates.{output_of};
+ghost use Rattle.stab_frames.specs.KeptStrings.{front_kept};
+ghost use Rattle.stab_copies.specs.Checkpoints.{checkpoint_steps};
+ghost use Rattle.stab_copies.specs.LaidCopies.{all_laid};
+ghost use Rattle.stab_kept.specs.KeptRuns.{IsKeptRun, IsSameKept, IsSpan, Follows, AgreeBehindSpan, AgreeBackBehindSpan};
+ghost use Rattle.stab_kept.specs.inner.Prepared.{Begins, HasCopy, IsRest, HasRoom, IsPrepared, copies_behind, IsCommitted};
+ghost use Rattle.stab_replay.specs.NotedStrings.{IsSpliced};
+
+use stab_circuit::{Circuit, Cursor, Span};
+use stab_copies::{Checkpoint, Meeting, count_before, lay_all, take_moved};
+use stab_frames::{KeptStrings, RunNotes};
+use stab_io::Refusal;
+use stab_pauli::Pauli;
+use stab_replay::{End, Plan, Replay, count_ones};
+use stab_run::{Coins, Outputs, observables};
+use stab_tableau::Tableau;
+use std::alloc::{AllocError, Global};
+
+/// A run that is kept: the state behind the last step, what the steps gave, copies of the state on
+/// the way, the first before the first step, and strings that exchange its free outcomes. Its steps
+/// look back to no more records than its reach.
+#[derive(Drop)]
+pub struct KeptRun {
+    pub tableau: Tableau,
+    pub outputs: Outputs,
+    pub observables: Vec<bool>,
+    pub checkpoints: Vec<Checkpoint>,
+    pub strings: KeptStrings,
+    pub reach: u32,
+}
+
+/// How an edit was followed: how many steps were carried out for it, and how many a frame went over.
+#[derive(Clone, Copy)]
+pub struct Followed {
+    pub applied: u64,
+    pub framed: u64,
+}
+
+/// What a replay leaves, in memory of its own.
+#[derive(Drop)]
+struct Prepared {
+    outputs: Outputs,
+    observables: Vec<bool>,
+    strings: KeptStrings,
+    reach: u32,
+    // The copies laid on the way, the last first.
+    laid: Vec<Checkpoint>,
+    rest: Rest,
+}
+
+/// What comes behind the steps of a replay.
+#[derive(Drop)]
+enum Rest {
+    /// Nothing: this is the state behind the last step.
+    Nothing(Tableau),
+    /// The old run from the copy with this number on, which moves at the meeting into the room.
+    Old(usize, Meeting, Vec<Checkpoint>),
+}
+
+impl KeptRun {
+    /// The run of no steps.
+    pub fn new(alloc: Global, n: usize) -> Result<KeptRun, Refusal>
+        requires in_range { n ≤ most_qubits }
+        ensures kept { (coins : ℕ → Bool) (K : ℕ) → IfOk result (IsKeptRun n coins K [] 0) }
+        ensures err { IfErr result (λ r. r ≡ OutOfMemory) }
+    {
+        let tableau = Tableau::new(alloc, n)?;
+        let outputs = Outputs::new(alloc);
+        let first = Checkpoint {
+            step: 0,
+            lengths: outputs.lengths(),
+            tableau: tableau.compact(alloc)?,
+        };
+        let checkpoints = vec![in alloc; first]?;
+        Ok(KeptRun {
+            tableau,
+            outputs,
+            observables: Vec::new(alloc),
+            checkpoints,
+            strings: KeptStrings::new(alloc, n),
+            reach: 0,
+        })
+    }
+
+    /// The notes of the first steps, which have these flags.
+    ///
+    /// Refusal `OutOfMemory` alone.
+    fn front_notes(&self, alloc: Global, free: &[bool]) -> Result<RunNotes, Refusal>
+        ensures strings { IfOk result (λ notes. notes.strings ≡ front_kept (ones free.now) self.now.strings) }
+        ensures reach { IfOk result (λ notes. notes.reach ≡ self.now.reach) }
+        ensures string { IfOk result (λ notes. length notes.string.letters ≡ self.now.tableau.qubits) }
+        ensures err { IfErr result (λ r. r ≡ OutOfMemory) }
+    {
+        let string = Pauli::identity(alloc, self.tableau.len())?;
+        let strings = self.strings.front(alloc, count_ones(free))?;
+        Ok(RunNotes {
+            strings,
+            reach: self.reach,
+            string,
+        })
+    }
+
+    /// A replay from the copy with a number on, in the memory of a spare tableau if there is one.
+    fn resume<'a>(
+        &self,
+        alloc: Global,
+        circuit: &'a Circuit,
+        number: usize,
+        spare: Option<Tableau>,
+    ) -> Result<Replay<'a>, Refusal>
+        requires in_range { number < length self.now.checkpoints.items }
+        requires checked { check_of (circuit_items circuit.now) ≡ None }
+        requires within { IfSome (slice_get self.now.checkpoints.items number) (λ copy. copy.step ≤ length (unroll (circuit_items circuit.now))) }
+        ensures begins { IfOk result (λ replay. IfSome (slice_get self.now.checkpoints.items number) (λ copy. Begins (unroll (circuit_items circuit.now)) self.now copy replay)) }
+        ensures err { IfErr result (λ r. r ≡ OutOfMemory) }
+    {
+        let copy = &self.checkpoints[number];
+        let string = Pauli::identity(alloc, self.tableau.len())?;
+        let tableau = copy.tableau.tableau(alloc, spare)?;
+        let outputs = self.outputs.front(alloc, copy.lengths)?;
+        let notes = self.front_notes(alloc, outputs.free.as_slice())?;
+        let cursor = Cursor::at(alloc, circuit, copy.step)?;
+        Ok(Replay {
+            tableau,
+            string,
+            outputs,
+            notes,
+            cursor,
+            step: copy.step,
+            applied: 0,
+            framed: 0,
+            laid: Vec::new(alloc),
+        })
+    }
+
+    /// Makes this the run of an edited circuit, whose steps differ within the span, and tells how
+    /// many steps were carried out for it, and how many a frame went over. The run is as before where
+    /// memory is refused.
+    ///
+    /// The replay goes on in the memory of a spare tableau if there is one, and one of the two
+    /// that are then at hand is the next spare.
+    pub fn follow<C: Coins>(
+        &mut self,
+        alloc: Global,
+        circuit: &Circuit,
+        span: Span,
+        stride: usize,
+        coins: &mut C,
+        spare: &mut Option<Tableau>,
+    ) -> Result<Followed, Refusal>
+        requires checked { check_within self.old.tableau.qubits (circuit_items circuit.now) ≡ None }
+        requires stride { 1 ≤ stride }
+        requires follows { Follows self.old.tableau.qubits (C.sequence coins.old) stride (unroll (circuit_items circuit.now)) span self.old }
+        ensures kept { OnOk result (IsKeptRun self.old.tableau.qubits (C.sequence coins.old) stride (unroll (circuit_items circuit.now)) (observables_of (circuit_items circuit.now)) self.new) }
+        ensures apart { OnOk result (All IsApart (unroll (circuit_items circuit.now))) }
+        ensures qubits { self.new.tableau.qubits ≡ self.old.tableau.qubits }
+        ensures unchanged { OnErr result (IsSameKept self.new self.old) }
+        ensures same_coins { C.sequence coins.new ≡ C.sequence coins.old }
+        ensures asks { IfOk result (λ f. C.asks coins.new ≤ C.asks coins.old + f.applied) }
+        ensures asks_free { OnOk result (C.asks coins.new ≤ C.asks coins.old + ones self.new.outputs.free.items) }
+        ensures asked { C.asks coins.new ≤ C.asks coins.old + all_coins_of (unroll (circuit_items circuit.now)) }
+        ensures asked_behind { C.asks coins.new ≤ C.asks coins.old + ((length (unroll (circuit_items circuit.now)) - span.first) + stride) }
+        ensures applied { IfOk result (λ f. f.applied + f.framed ≤ (length (unroll (circuit_items circuit.now)) - span.first) + stride) }
+        ensures few { IfOk result (λ f. (xs : List Step) (count far : ℕ) → IsKeptRun self.old.tableau.qubits (C.sequence coins.old) stride xs count self.old → IsSpan xs (unroll (circuit_items circuit.now)) span → AgreeBehindSpan self.old.tableau.qubits (C.sequence coins.old) xs (unroll (circuit_items circuit.now)) span far → f.applied + f.framed ≤ ((span.new_end - span.first) + 2 * stride) + far) }
+        ensures at_least { IfOk result (λ f. span.new_end ≤ span.first + f.applied) }
+        ensures counted { IfOk result (λ f. (xs : List Step) (count : ℕ) → IsKeptRun self.old.tableau.qubits (C.sequence coins.old) stride xs count self.old → IsSpan xs (unroll (circuit_items circuit.now)) span → IsCounted (AgreeBehindSpan self.old.tableau.qubits (C.sequence coins.old) xs (unroll (circuit_items circuit.now)) span) (AgreeBackBehindSpan self.old.tableau.qubits (C.sequence coins.old) xs (unroll (circuit_items circuit.now)) span) (checkpoint_steps self.old.checkpoints.items) span.first span.old_end span.new_end (length (unroll (circuit_items circuit.now))) (f.applied + f.framed)) }
+        ensures err { IfErr result (λ r. r ≡ OutOfMemory) }
+    {
+        let before = count_before(self.checkpoints.as_slice(), span.first + 1);
+        let mut replay = self.resume(alloc, circuit, before - 1, spare.take())?;
+        let plan = Plan {
+            total: circuit.steps(),
+            stride,
+            old_end: span.old_end,
+            new_end: span.new_end,
+            next: count_before(self.checkpoints.as_slice(), span.old_end).max(before),
+            base: replay.outputs.records.len(),
+            reach: self.reach,
+        };
+        let end = replay.follow(
+            alloc,
+            circuit,
+            self.checkpoints.as_slice(),
+            &self.outputs,
+            &self.strings,
+            plan,
+            coins,
+        )?;
+        let followed = Followed {
+            applied: replay.applied,
+            framed: replay.framed,
+        };
+        let prepared = self.prepare(alloc, replay, end, circuit.observables(), spare)?;
+        self.commit(prepared, before, stride, spare);
+        Ok(followed)
+    }
+
+    /// Gathers what the run of the edited circuit is made of, and takes all memory for it.
+    fn prepare(
+        &mut self,
+        alloc: Global,
+        replay: Replay,
+        end: End,
+        count: usize,
+        spare: &mut Option<Tableau>,
+    ) -> Result<Prepared, Refusal>
+        requires in_range { HasCopy self.old.checkpoints.items end }
+        requires same_length { replay.notes.strings.qubits ≡ self.old.strings.qubits }
+        ensures unchanged { IsSameKept self.new self.old }
+        ensures prepared { IfOk result (IsPrepared self.old replay.entry count end) }
+        ensures room { IfOk result (λ p. HasRoom p.rest self.new.checkpoints.items) }
+        ensures capacity { IfOk result (λ p. length self.new.checkpoints.items + length p.laid.items ≤ vec_capacity self.new.checkpoints) }
+        ensures err { IfErr result (λ r. r ≡ OutOfMemory) }
+    {
+        let Replay {
+            tableau,
+            mut outputs,
+            notes,
+            mut laid,
+            step,
+            ..
+        } = replay;
+        let RunNotes {
+            mut strings,
+            reach,
+            ..
+        } = notes;
+        let rest = self.rest(alloc, tableau, &mut outputs, &mut strings, step, end, spare)?;
+        let observables = observables(alloc, count, outputs.additions.as_slice())?;
+        self.checkpoints.reserve(laid.len())?;
+        laid.reverse();
+        Ok(Prepared {
+            outputs,
+            observables,
+            strings,
+            reach,
+            laid,
+            rest,
+        })
+    }
+
+    /// What comes behind a replay that ended before a step with this tableau, these outputs and
+    /// these strings, to which those behind it are appended. A tableau that is not needed is the next
+    /// spare.
+    ///
+    /// Refusal `OutOfMemory` alone.
+    fn rest(
+        &self,
+        alloc: Global,
+        tableau: Tableau,
+        outputs: &mut Outputs,
+        strings: &mut KeptStrings,
+        step: usize,
+        end: End,
+        spare: &mut Option<Tableau>,
+    ) -> Result<Rest, Refusal>
+        requires in_range { HasCopy self.now.checkpoints.items end }
+        requires same_length { strings.old.qubits ≡ self.now.strings.qubits }
+        ensures rest { IfOk result (IsRest self.now tableau (output_of outputs.old) strings.old step end (output_of outputs.new) strings.new) }
+        ensures room { IfOk result (λ rest. HasRoom rest self.now.checkpoints.items) }
+        ensures err { IfErr result (λ r. r ≡ OutOfMemory) }
+    {
+        match end {
+            End::Last => Ok(Rest::Nothing(tableau)),
+            End::Joined(number) => {
+                let copy = &self.checkpoints[number];
+                let meeting = Meeting {
+                    old_step: copy.step,
+                    new_step: step,
+                    old_lengths: copy.lengths,
+                    new_lengths: outputs.lengths(),
+                };
+                outputs.append_rest(&self.outputs, copy.lengths)?;
+                self.append_strings(alloc, strings, copy.lengths.free, outputs.free.as_slice())?;
+                let room = Vec::with_capacity(alloc, self.checkpoints.len() - number)?;
+                *spare = Some(tableau);
+                Ok(Rest::Old(number, meeting, room))
+            }
+        }
+    }
+
+    /// Appends the strings of free outcomes from this coin number on to those before, in a run with
+    /// these flags.
+    ///
+    /// Refusal `OutOfMemory` alone.
+    fn append_strings(
+        &self,
+        alloc: Global,
+        strings: &mut KeptStrings,
+        coin: usize,
+        free: &[bool],
+    ) -> Result<(), Refusal>
+        requires same_length { strings.old.qubits ≡ self.now.strings.qubits }
+        ensures spliced { OnOk result (IsSpliced strings.old self.now.strings (ones (take coin self.now.outputs.free.items)) (ones free.now) strings.new) }
+        ensures err { IfErr result (λ r. r ≡ OutOfMemory) }
+    {
+        let (before, _) = self
+            .outputs
+            .free
+            .as_slice()
+            .split_at(coin.min(self.outputs.free.len()));
+        strings.append_rest(alloc, &self.strings, count_ones(before))?;
+        // Where strings were missing, none may be put behind those that are there.
+        if strings.len() < count_ones(free) {
+            strings.close();
+        }
+        Ok(())
+    }
+
+    /// Puts what was prepared in place. It takes no memory. A tableau that is replaced is the next
+    /// spare.
+    fn commit(
+        &mut self,
+        prepared: Prepared,
+        before: usize,
+        stride: usize,
+        spare: &mut Option<Tableau>,
+    )
+        requires room { HasRoom prepared.rest self.old.checkpoints.items }
+        requires capacity { length self.old.checkpoints.items + length prepared.laid.items ≤ vec_capacity self.old.checkpoints }
+        requires behind { before + length (copies_behind prepared.rest self.old.checkpoints.items) ≤ length self.old.checkpoints.items }
+        ensures committed { IsCommitted self.old prepared before stride self.new }
+    {
+        let Prepared {
+            outputs,
+            observables,
+            strings,
+            reach,
+            mut laid,
+            rest,
+        } = prepared;
+        self.outputs = outputs;
+        self.observables = observables;
+        self.strings = strings;
+        self.reach = reach;
+        match rest {
+            Rest::Nothing(tableau) => {
+                *spare = Some(std::mem::replace(&mut self.tableau, tableau));
+                self.lay_behind(before, &mut laid, stride);
+            }
+            Rest::Old(number, meeting, mut room) => {
+                take_moved(&mut self.checkpoints, number, meeting, &mut room);
+                self.lay_behind(before, &mut laid, stride);
+                lay_all(&mut self.checkpoints, &mut room, stride);
+            }
+        }
+    }
+
+    /// Lays copies, the last of them first, behind so many of those that are kept. It takes no
+    /// memory.
+    fn lay_behind(&mut self, before: usize, laid: &mut Vec<Checkpoint>, stride: usize)
+        requires room { before + length laid.old.items ≤ vec_capacity self.old.checkpoints }
+        ensures tableau { self.new.tableau ≡ self.old.tableau }
+        ensures output { output_of self.new.outputs ≡ output_of self.old.outputs }
+        ensures observables { self.new.observables.items ≡ self.old.observables.items }
+        ensures strings { self.new.strings ≡ self.old.strings }
+        ensures reach { self.new.reach ≡ self.old.reach }
+        ensures checkpoints { self.new.checkpoints.items ≡ all_laid stride (reverse laid.old.items) (take before self.old.checkpoints.items) }
+        ensures shorter { length self.new.checkpoints.items ≤ before + length laid.old.items }
+        ensures capacity { vec_capacity self.new.checkpoints ≡ vec_capacity self.old.checkpoints }
+    {
+        self.checkpoints.truncate(before);
+        lay_all(&mut self.checkpoints, laid, stride);
+    }
+}

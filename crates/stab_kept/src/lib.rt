@@ -1,0 +1,24 @@
+//! Runs of circuits that are kept, and follow edits.
+//!
+//! - `kept`: a run that is kept with its copies, and follows the edits of its circuit.
+//! - `opening`: the run of a circuit, kept for the first time.
+//!
+//! Copies of the state are `stab_copies`', and how steps are carried out anew behind one of them
+//! `stab_replay`'s. What edits are, and which steps they change, is `stab_circuit`'s: here an edit is a span
+//! of steps that changed.
+//!
+//! Source: how a run is kept, and how it follows an edit, is this project's own.
+//!
+//! Proved: what is kept is the run of the circuit's steps from the first one on, whatever edits it
+//! followed, with copies of the state at most a stride apart (`specs/KeptRuns.antt`, over `Checkpoints`
+//! and `Spacing` of `stab_copies`); where memory is refused it is as before. How many steps an edit takes,
+//! and between which copies, stands in `specs/Counts.antt`, and how many coins it asks for in the contract
+//! of `KeptRun::follow`. `specs/inner/` has what only private contracts cite.
+#![tactic(auto)]
+
+mod kept;
+mod opening;
+
+pub use kept::{Followed, KeptRun};
+pub use opening::run_kept;
+pub use stab_copies::Checkpoint;

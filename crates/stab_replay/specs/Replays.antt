@@ -1,0 +1,106 @@
+-- Replays: how a run that begins, and may end, like a kept one is made from it.
+-- Source: this project's own.
+use Rattle.std.specs.Prelude.{◌≡◌, ℕ, ◌+◌, ◌-◌, ◌<◌, ◌≤◌, min, Bool, ◌⊎◌, Option, Some, None, List, [], ◌∷◌, ◌++◌, All, IfSome, IsSomeAnd, length, take, drop, slice_get}
+use Rattle.stab_circuit.specs.Steps.{Step}
+use Rattle.stab_copies.specs.declared.checkpoint.Checkpoint.{Checkpoint}
+use Rattle.stab_replay.specs.declared.replay.Replay.{Replay}
+use Rattle.stab_replay.specs.declared.replay.Plan.{Plan}
+use Rattle.stab_replay.specs.declared.replay.End.{End}
+use Rattle.stab_replay.specs.declared.replay.End.TheVariants.{Last, Joined}
+use Rattle.stab_run.specs.Points.{origin, point_after, outputs}
+use Rattle.stab_run.specs.Laws.{AgreeAt}
+use Rattle.stab_run.specs.ProgramStates.{program_state, output_of}
+use Rattle.stab_copies.specs.Spacing.{Near, last_of}
+use Rattle.stab_run.specs.Cuts.{lengths_of}
+use Rattle.stab_copies.specs.Meets.{Meets}
+use Rattle.stab_copies.specs.Checkpoints.{IsRunFromStart, IsCheckpoint, checkpoint_steps}
+use Rattle.stab_replay.specs.NotedStrings.{IsNoted}
+use Rattle.stab_copies.specs.LaidCopies.{moved}
+
+-- where an old copy stands among the new steps
+abbrev pub step_among_new : Plan → Checkpoint → ℕ
+step_among_new p c = moved p.old_end p.new_end c.step
+
+-- where a replay stops next: a stride further, or behind the last step, or at the place of the old copy that may be met next,
+-- whichever comes first
+abbrev pub next_stop : Plan → ℕ → Option ℕ → ℕ
+next_stop p step None = min (step + p.stride) p.total
+next_stop p step (Some place) = min (min (step + p.stride) p.total) place
+
+-- what a replay holds is the run of the steps behind it, and its cursor has the others left
+pub record IsAtStep (n : ℕ) (coins : ℕ → Bool) (ys : List Step) (r : Replay) : Type 0 where
+  pub qubits : r.tableau.qubits ≡ n
+  pub string : length r.string.letters ≡ n
+  pub all : r.cursor.all ≡ ys
+  pub left : r.cursor.left ≡ drop r.step ys
+  pub within : r.step ≤ length ys
+  pub run : IsRunFromStart n coins (take r.step ys) (program_state r.tableau (output_of r.outputs))
+  pub scratch : length r.notes.string.letters ≡ n
+  pub noted : IsNoted n coins (take r.step ys) r.notes.strings r.outputs.free.items r.notes.reach
+
+-- a replay that began at a step has come so far, and laid copies on its way
+pub record IsReplay (n : ℕ) (coins : ℕ → Bool) (K begin : ℕ) (ys : List Step) (r : Replay) : Type 0 where
+  pub at_step : IsAtStep n coins ys r
+  pub checkpoints : All (IsCheckpoint n coins ys) r.laid.items
+  pub near : Near K (begin ∷ checkpoint_steps r.laid.items ++ r.step ∷ [])
+
+-- the places of old copies, the first at or behind a step, in order, and within the new steps
+abbrev pub Ascending : Plan → ℕ → List Checkpoint → Type 0
+Ascending p step [] = step ≤ p.total
+Ascending p step (c ∷ more) = (step ≤ step_among_new p c) × Ascending p (step_among_new p c) more
+
+-- an old copy stands at this step among the new ones
+abbrev pub IsPlacedAt : Plan → List Checkpoint → ℕ → ℕ → Type 0
+IsPlacedAt p copies number step = IsSomeAnd (slice_get copies number) (λ c. step_among_new p c ≡ step)
+
+-- a copy of the state that a replay has come to
+abbrev pub copy_of : Replay → Checkpoint
+copy_of r = record { step = r.step; lengths = lengths_of (output_of r.outputs); tableau = r.tableau }
+
+-- a replay is at the place of an old copy, and meets it
+abbrev pub MeetsAt : ℕ → Plan → Replay → List Bool → Checkpoint → Type 0
+MeetsAt n p r records c = (step_among_new p c ≡ r.step) × Meets n p.reach r.tableau (output_of r.outputs) records c
+
+-- how a replay ended: behind the last step, or at the place of an old copy that it meets
+abbrev pub IsEnd : ℕ → Plan → Replay → List Checkpoint → List Bool → End → Type 0
+IsEnd n p r copies records Last = r.step ≡ p.total
+IsEnd n p r copies records (Joined j) = (p.next ≤ j) × IsSomeAnd (slice_get copies j) (MeetsAt n p r records)
+
+-- no old run with these records agrees with the new one at a copy
+abbrev pub Misses : ℕ → (ℕ → Bool) → Plan → List Step → List Bool → Checkpoint → Type 0
+Misses n coins p ys records c =
+    (xs : List Step) → IsCheckpoint n coins xs c → take c.lengths.records records ≡ (outputs n coins (take c.step xs) origin).records
+    → AgreeAt n (point_after n coins (take c.step xs) origin) (point_after n coins (take (step_among_new p c) ys) origin) → ⊥
+
+-- each old copy that may be met, and stands before the step where the replay ended, was missed
+abbrev pub EndsSoon : ℕ → (ℕ → Bool) → Plan → List Step → List Checkpoint → List Bool → ℕ → Type 0
+EndsSoon n coins p ys copies records end =
+    (number : ℕ) → p.next ≤ number → IfSome (slice_get copies number) (λ c. step_among_new p c < end → Misses n coins p ys records c)
+
+-- a replay on its way
+
+-- at a step where it stops, with this old copy to be met next: those before it were not met
+pub record IsAtStop (n : ℕ) (coins : ℕ → Bool) (begin : ℕ) (p : Plan) (ys : List Step) (copies : List Checkpoint) (old : List Bool) (next : ℕ) (r : Replay) : Type 0 where
+  pub replay : IsReplay n coins p.stride begin ys r
+  pub counted : (r.applied + r.framed) + begin ≡ r.step
+  pub order : p.next ≤ next
+  pub within : next ≤ length copies
+  pub ascending : Ascending p r.step (drop next copies)
+  pub base : p.base ≤ length r.outputs.records.items
+  pub same : take p.base r.outputs.records.items ≡ take p.base old
+  pub missed : (number : ℕ) → p.next ≤ number → number < next → IfSome (slice_get copies number) (Misses n coins p ys old)
+
+-- and about to go on from there, with the last copy laid there
+pub record IsOnWay (n : ℕ) (coins : ℕ → Bool) (begin : ℕ) (p : Plan) (ys : List Step) (copies : List Checkpoint) (old : List Bool) (next : ℕ) (r : Replay) : Type 0 where
+  pub stop : IsAtStop n coins begin p ys copies old next r
+  pub last : last_of begin (checkpoint_steps r.laid.items) ≡ r.step
+
+-- where a replay that went on from a step stops: a stride further, or behind the last step, or at the place of the old copy that may
+-- be met next
+abbrev pub StopsAt : Plan → List Checkpoint → ℕ → ℕ → ℕ → Type 0
+StopsAt p copies next from step = (from + p.stride ≤ step) ⊎ ((step ≡ p.total) ⊎ IsPlacedAt p copies next step)
+
+-- how many of so many old copies a replay passed
+abbrev pub copies_passed : Plan → ℕ → End → ℕ
+copies_passed p count Last = count - p.next
+copies_passed p count (Joined j) = j - p.next
