@@ -5,29 +5,36 @@ set -u
 top=$(CDPATH='' cd -- "$(dirname -- "$0")/.." && pwd) || exit 2
 cd "$top" || exit 2
 
-# The steps behind the gate, a line each: a command, from the top of the repository. What the gate printed is
-# in the file $told/gate.
-steps='tools/wrong_bodies.py "$told/gate"
-tools/check_version.sh
-tools/check_words.py
-tools/check_gates.py
-tools/check_pages.py
+# The steps behind the gate, a line each: a command, from the top of the repository. They run side by side, so many as there
+# are processors, and those that take longest begin first. What the gate printed is in the file $told/gate.
+steps='tools/try_first_look.sh
+tools/try_python.sh
+tools/try_docs.sh
+tools/try_scaling.sh
+tools/try_states.py
+tools/try_edits.py
+tools/try_hostile.py
+tools/refuse.sh
 tools/check_circuits.py
 tools/check_program.py --seconds 3
 tools/fuzz.py --seconds 8
 tools/fuzz.py --laws --seconds 5
 tools/fuzz.py --faults --seconds 8
-tools/refuse.sh
 tools/try_files.py
 tools/try_help.py
-tools/try_hostile.py
-tools/try_states.py
-tools/try_edits.py
 tools/try_drive.sh
-tools/try_scaling.sh
-tools/try_python.sh
-tools/try_docs.sh
-tools/try_first_look.sh'
+tools/wrong_bodies.py "$told/gate"
+tools/check_version.sh
+tools/check_words.py
+tools/check_gates.py
+tools/check_pages.py'
+
+# Runs a step, before which its number stands, and keeps what it said and how it ended.
+run_step='
+number=${1%% *}
+status=0
+sh -c "${1#* }" >"$told/$number.said" 2>&1 </dev/null || status=$?
+echo "$status" >"$told/$number.status"'
 
 told=$(mktemp -d) || exit 2
 export told
@@ -42,11 +49,15 @@ if [ "$status" -ne 0 ]; then
     tail -n 1 "$told/gate"
     exit "$status"
 fi
+echo "$steps" | awk '{ print NR " " $0 }' | tr '\n' '\0' | xargs -0 -n 1 -P "$(nproc)" sh -c "$run_step" step
 IFS='
 '
+number=0
 for step in $steps; do
+    number=$((number + 1))
     echo "== $step"
-    if sh -c "$step"; then
+    cat "$told/$number.said"
+    if [ "$(cat "$told/$number.status")" = 0 ]; then
         echo "$step passed"
     else
         echo "$step FAILED"
