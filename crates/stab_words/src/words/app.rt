@@ -344,28 +344,29 @@ fn faults_command<'a>(alloc: Global, formats: &'a [&'a str]) -> Result<Command<'
     with_files(alloc, command)
 }
 
-/// The program with its commands.
+/// The command `detect`.
+fn detect_command<'a>(alloc: Global, formats: &'a [&'a str]) -> Result<Command<'a>, AllocError>
+    ensures app { IfOk result (IsApp (alone (detect formats.entry))) }
+{
+    let append = flag(alloc, "append_observables", HELP_APPEND);
+    shot_command(alloc, "detect", ABOUT_DETECT, AFTER_DETECT, formats)?.arg(append)
+}
+
+/// The program with its commands. Each is made when the one before it has been put in, so that there are never more than two
+/// to be let go.
 pub(crate) fn app<'a>(alloc: Global, formats: &'a [&'a str]) -> Result<Command<'a>, AllocError>
     ensures app { IfOk result (IsApp (stabsim formats.entry)) }
 {
-    let sample = shot_command(alloc, "sample", ABOUT_SAMPLE, AFTER_SAMPLE, formats)?;
-    let append = flag(alloc, "append_observables", HELP_APPEND);
-    let detect = shot_command(alloc, "detect", ABOUT_DETECT, AFTER_DETECT, formats)?.arg(append)?;
-    let stabilisers = stabilisers_command(alloc)?;
-    let edit = edit_command(alloc)?;
-    let check = check_command(alloc)?;
-    let deterministic = deterministic_command(alloc, formats)?;
-    let faults = faults_command(alloc, formats)?;
     Command::new(alloc, "stabsim")
         .version(VERSION)
         .about(ABOUT)
         .after_help(AFTER)
         .subcommand_required(true)
-        .subcommand(sample)?
-        .subcommand(detect)?
-        .subcommand(stabilisers)?
-        .subcommand(edit)?
-        .subcommand(check)?
-        .subcommand(deterministic)?
-        .subcommand(faults)
+        .subcommand(shot_command(alloc, "sample", ABOUT_SAMPLE, AFTER_SAMPLE, formats)?)?
+        .subcommand(detect_command(alloc, formats)?)?
+        .subcommand(stabilisers_command(alloc)?)?
+        .subcommand(edit_command(alloc)?)?
+        .subcommand(check_command(alloc)?)?
+        .subcommand(deterministic_command(alloc, formats)?)?
+        .subcommand(faults_command(alloc, formats)?)
 }
