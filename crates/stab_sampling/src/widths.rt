@@ -11,7 +11,7 @@ use std::alloc::Global;
 
 /// How many bytes the bits of shots that go at once take at most, but for the room that a growing list keeps free. On its way
 /// out a bit of all of them takes up to 19 bytes more.
-const MOST_BYTES: usize = 16 * 1024 * 1024;
+const MOST_BYTES: usize = 12 * 1024 * 1024;
 
 /// How many steps are passed together at most: as many as one instruction has.
 const MOST_TOGETHER: usize = usize::MAX;
