@@ -1,9 +1,8 @@
 //! The program `rows`: runs the worked examples that stand as text in `data/`, each a row of what
 //! stabsim is asked and what it must write. `data/README` says how a row is written.
 //!
-//! - `row`: a row, and whether bytes are what it wants.
-//! - `text`: the texts of a row, with escapes, and bytes in hexadecimal.
-//! - `format`: rows as they stand in a file.
+//! What a row is, and how rows are read, is `row_texts`'.
+//!
 //! - `run`: a run of stabsim over devices in memory, and whether it is what a row wants.
 //! - `trial`: all the runs of a row, and where one differs from it.
 //! - `folder`: the files of a folder, and the sums of their rows.
@@ -12,14 +11,11 @@
 //! was no row at all.
 //!
 //! Proved: a run that is taken for what its row wants has its status, and its bytes where the row tells
-//! them and not parts alone; each row that is read has words, so it is run.
+//! them and not parts alone.
 #![tactic(auto)]
 
 mod folder;
-mod format;
-mod row;
 mod run;
-mod text;
 mod trial;
 
 use folder::{Sums, run_folder};

@@ -1,7 +1,6 @@
 //! The trial of a row: all its runs.
-use crate::row::WorkedRow;
 use crate::run::{Devices, Ended, run};
-use crate::text::Shown;
+use row_texts::{Shown, WorkedRow};
 use stab_cli::{Job, Usage, parse_words};
 use std::alloc::{AllocError, Global};
 use std::fmt::{self, Display, Formatter, Write};

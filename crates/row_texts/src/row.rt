@@ -5,22 +5,22 @@ use std::alloc::Global;
 use std::fmt::{self, Display, Formatter, Write};
 
 /// A worked example: what stabsim is asked, in one or several ways, and what it writes each time.
-pub(crate) struct WorkedRow {
+pub struct WorkedRow {
     /// The line of its file at which it begins, from 1.
-    pub(crate) line: usize,
-    pub(crate) name: String,
+    pub line: usize,
+    pub name: String,
     /// The words of each command line, without the program's name.
-    pub(crate) words: Vec<String>,
+    pub words: Vec<String>,
     /// The circuits, each of which has the same outcome; with none, it is the empty circuit.
-    pub(crate) circuits: Vec<Vec<u8>>,
-    pub(crate) script: Vec<u8>,
-    pub(crate) output: Wanted,
-    pub(crate) error: Wanted,
-    pub(crate) status: u8,
+    pub circuits: Vec<Vec<u8>>,
+    pub script: Vec<u8>,
+    pub output: Wanted,
+    pub error: Wanted,
+    pub status: u8,
     /// How many bytes standard output takes before it fails.
-    pub(crate) room: usize,
+    pub room: usize,
     /// Whether it is run over devices that fail, too.
-    pub(crate) on_failing_devices: bool,
+    pub on_failing_devices: bool,
 }
 
 // Written out, so that to a proof a row that is let go is one call, and not one for each of its parts.
@@ -43,7 +43,7 @@ impl Drop for WorkedRow {
 
 impl WorkedRow {
     /// A row that begins at this line, on which nothing else is said yet.
-    pub(crate) fn new(alloc: Global, line: usize, name: String) -> WorkedRow {
+    pub fn new(alloc: Global, line: usize, name: String) -> WorkedRow {
         WorkedRow {
             line,
             name,
@@ -61,14 +61,14 @@ impl WorkedRow {
 
 /// What an output must have: exactly these bytes, or only these texts somewhere in it.
 #[derive(Drop)]
-pub(crate) struct Wanted {
-    pub(crate) bytes: Vec<u8>,
-    pub(crate) parts: Vec<String>,
+pub struct Wanted {
+    pub bytes: Vec<u8>,
+    pub parts: Vec<String>,
 }
 
 impl Wanted {
     /// Nothing.
-    pub(crate) fn new(alloc: Global) -> Wanted {
+    pub fn new(alloc: Global) -> Wanted {
         Wanted {
             bytes: Vec::new(alloc),
             parts: Vec::new(alloc),
@@ -76,7 +76,7 @@ impl Wanted {
     }
 
     /// Whether an output has what is wanted. The bytes may differ only where parts are told alone.
-    pub(crate) fn is_met(&self, found: &[u8]) -> bool
+    pub fn is_met(&self, found: &[u8]) -> bool
         ensures same { IsTrue result → vec_len self.now.parts ≡ 0 → found.now ≡ self.now.bytes.items }
     {
         self.has_bytes(found) && self.has_parts(found)

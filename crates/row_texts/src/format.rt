@@ -7,7 +7,7 @@ use std::alloc::{AllocError, AllocFailed, Global};
 
 /// Why a line is not read, or memory was refused.
 #[derive(Clone, Copy)]
-pub(crate) struct Wrong(pub(crate) &'static str);
+pub struct Wrong(pub &'static str);
 
 impl From<AllocError> for Wrong {
     fn from(_error: AllocError) -> Wrong {
@@ -23,9 +23,9 @@ impl<T: Drop> From<AllocFailed<T>> for Wrong {
 
 /// The line of a file, from 1, at which it is not rows, and why.
 #[derive(Clone, Copy)]
-pub(crate) struct Unread {
-    pub(crate) line: usize,
-    pub(crate) wrong: Wrong,
+pub struct Unread {
+    pub line: usize,
+    pub wrong: Wrong,
 }
 
 /// What an indented line belongs to.
@@ -42,7 +42,7 @@ enum Place {
 }
 
 /// The rows of a text.
-pub(crate) fn read_rows(alloc: Global, text: &str) -> Result<Vec<WorkedRow>, Unread>
+pub fn read_rows(alloc: Global, text: &str) -> Result<Vec<WorkedRow>, Unread>
     ensures with_words { IfOk result (λ rows. All (λ row. 0 < vec_len row.words) rows.items) }
 {
     let mut rows = Vec::new(alloc);

@@ -71,7 +71,7 @@ fn byte_of(digits: &[u8]) -> Result<u8, Wrong> {
 
 /// Bytes as a text of rows: those that are no printed characters of ASCII as `\` and two digits.
 #[derive(Drop)]
-pub(crate) struct Shown<'a>(pub(crate) &'a [u8]);
+pub struct Shown<'a>(pub &'a [u8]);
 
 impl<'a> Display for Shown<'a> {
     fn fmt<W: Write>(&self, f: &mut Formatter<W>) -> fmt::Result {
