@@ -4,7 +4,7 @@
 //! is refused leaves it as it was.
 use stab_pauli::Refusal;
 use std::fs::{File, Metadata, OpenFile, OpenOptions};
-use std::io::{Read, Write};
+use std::io::{BufWriter, Read, Stdin, Stdout, Write};
 use std::os::unix::fs::MetadataExt;
 use std::rt::Files;
 use std::{fs, io};
@@ -54,6 +54,71 @@ impl Write for Replaced {
     fn flush(&mut self) -> io::Result<()> {
         self.cut()?;
         self.file.flush()
+    }
+}
+
+/// What a job reads.
+#[derive(Drop)]
+pub(crate) enum Reader {
+    File(File),
+    Standard(Stdin),
+    /// No bytes: at its end from the beginning.
+    Nothing,
+}
+
+impl Read for Reader {
+    fn read(&mut self, buf: &mut [u8]) -> io::Result<usize> {
+        match self {
+            Reader::File(file) => file.read(buf),
+            Reader::Standard(stdin) => stdin.read(buf),
+            Reader::Nothing => Ok(0),
+        }
+    }
+}
+
+/// Where the output of a job goes.
+#[derive(Drop)]
+pub(crate) enum Sink {
+    File(Replaced),
+    Standard(Stdout),
+}
+
+impl Write for Sink {
+    fn write(&mut self, bytes: &[u8]) -> io::Result<usize> {
+        match self {
+            Sink::File(file) => file.write(bytes),
+            Sink::Standard(stdout) => stdout.write(bytes),
+        }
+    }
+
+    fn flush(&mut self) -> io::Result<()> {
+        match self {
+            Sink::File(file) => file.flush(),
+            Sink::Standard(stdout) => stdout.flush(),
+        }
+    }
+}
+
+/// How the output of a job goes there: each write at once, or gathered into large ones.
+#[derive(Drop)]
+pub(crate) enum Writer {
+    AtOnce(Sink),
+    Gathered(BufWriter<Sink>),
+}
+
+impl Write for Writer {
+    fn write(&mut self, bytes: &[u8]) -> io::Result<usize> {
+        match self {
+            Writer::AtOnce(sink) => sink.write(bytes),
+            Writer::Gathered(writer) => writer.write(bytes),
+        }
+    }
+
+    fn flush(&mut self) -> io::Result<()> {
+        match self {
+            Writer::AtOnce(sink) => sink.flush(),
+            Writer::Gathered(writer) => writer.flush(),
+        }
     }
 }
 

@@ -9,13 +9,13 @@
 
 mod files;
 
-use files::{FirstLine, ReadFile, Replaced, STANDARD_INPUT, are_one_file};
+use files::{FirstLine, ReadFile, Reader, Replaced, STANDARD_INPUT, Sink, Writer, are_one_file};
 use stab_cli::{
-    CoinsFault, Command, Job, NO_COINS, NoWatcher, Source, Usage, parse_words, read_coins, run_job,
+    CoinsFault, Command, Job, NO_COINS, NoWatcher, Source, Usage, parse_words, read_coins,
     run_job_watched, write_fault, write_usage,
 };
-use stab_pauli::{Device, Fault, Input, MemoryInput, Output, Refusal, write_all};
-use std::io::{BufWriter, IsTerminal, Write};
+use stab_pauli::{Device, Fault, Output, Refusal, write_all};
+use std::io::{BufWriter, IsTerminal};
 use std::process::ExitCode;
 use std::rt::Env;
 use std::{env, fs, io};
@@ -128,59 +128,62 @@ fn shared_file(rt: &HostRuntime, job: &Job) -> Option<&'static str> {
 fn run_opened<E: Output>(rt: &HostRuntime, job: &Job, err: &mut E) -> u8 {
     match &job.in_path {
         Some(path) => match fs::open(rt, path.as_str()) {
-            Ok(file) => run_created(rt, job, &mut Device::new(file), err),
+            Ok(file) => run_created(rt, job, Reader::File(file), err),
             Err(error) => tell_path(rt, Refusal::ReadFault, path.as_str(), Some(&error), err),
         },
-        None if job.reads_script() => run_created(rt, job, &mut MemoryInput::new(&[]), err),
-        None => run_created(rt, job, &mut Device::new(rt.stdin()), err),
+        None if job.reads_script() => run_created(rt, job, Reader::Nothing, err),
+        None => run_created(rt, job, Reader::Standard(rt.stdin()), err),
     }
 }
 
 /// Runs a job on the file that it writes, or on standard output.
-fn run_created<I: Input, E: Output>(rt: &HostRuntime, job: &Job, input: &mut I, err: &mut E) -> u8 {
+fn run_created<E: Output>(rt: &HostRuntime, job: &Job, input: Reader, err: &mut E) -> u8 {
     match &job.out_path {
         Some(path) => match Replaced::open(rt, path.as_str()) {
-            Ok(file) => run_written(rt, job, input, file, err),
+            Ok(file) => run_written(rt, job, input, Sink::File(file), err),
             Err(error) => tell_path(rt, Refusal::WriteFault, path.as_str(), Some(&error), err),
         },
-        None => run_written(rt, job, input, rt.stdout(), err),
+        None => run_written(rt, job, input, Sink::Standard(rt.stdout()), err),
     }
 }
 
 /// Runs a job: one that reads a script on standard input, each reply written at once, and any other
 /// with its output gathered into large writes.
-fn run_written<I: Input, W: Write + Drop, E: Output>(
+fn run_written<E: Output>(
     rt: &HostRuntime,
     job: &Job,
-    input: &mut I,
-    writer: W,
+    input: Reader,
+    sink: Sink,
     err: &mut E,
 ) -> u8 {
-    let alloc = rt.alloc();
     if job.reads_script() {
-        let mut script = Device::new(rt.stdin());
-        let mut out = Device::new(writer);
-        return run_job_watched::<_, _, _, _, NoWatcher>(
-            alloc,
-            job,
-            input,
-            &mut script,
-            &mut out,
-            err,
-        );
+        let script = Reader::Standard(rt.stdin());
+        return run_on(rt, job, input, script, Writer::AtOnce(sink), err);
     }
-    let mut script = MemoryInput::new(&[]);
-    match BufWriter::new(alloc, writer) {
-        Ok(writer) => run_job(
-            alloc,
-            job,
-            input,
-            &mut script,
-            &mut Device::new(writer),
-            err,
-        ),
+    match BufWriter::new(rt.alloc(), sink) {
+        Ok(writer) => run_on(rt, job, input, Reader::Nothing, Writer::Gathered(writer), err),
         Err(_) => tell_fault(Refusal::OutOfMemory, err),
     }
+}
+
+/// Runs a job on what it reads and writes. All jobs come here, on devices of the same types, so the program
+/// has one copy of what they do.
+fn run_on<E: Output>(
+    rt: &HostRuntime,
+    job: &Job,
+    input: Reader,
+    script: Reader,
+    writer: Writer,
+    err: &mut E,
+) -> u8 {
+    run_job_watched::<_, _, _, _, NoWatcher>(
+        rt.alloc(),
+        job,
+        &mut Device::new(input),
+        &mut Device::new(script),
+        &mut Device::new(writer),
+        err,
+    )
 }
 
 /// Writes what is wrong with the words, and answers its status.
