@@ -43,7 +43,7 @@ impl Drop for WorkedRow {
 
 impl WorkedRow {
     /// A row that begins at this line, on which nothing else is said yet.
-    pub fn new(alloc: Global, line: usize, name: String) -> WorkedRow {
+    pub(crate) fn new(alloc: Global, line: usize, name: String) -> WorkedRow {
         WorkedRow {
             line,
             name,
@@ -68,7 +68,7 @@ pub struct Wanted {
 
 impl Wanted {
     /// Nothing.
-    pub fn new(alloc: Global) -> Wanted {
+    pub(crate) fn new(alloc: Global) -> Wanted {
         Wanted {
             bytes: Vec::new(alloc),
             parts: Vec::new(alloc),
