@@ -3,18 +3,16 @@
 //!
 //! - `files`: the files and streams that a run reads and writes.
 //!
-//! All that a job does is in `stab_commands`, and what words ask for in `stab_cli`; here the words,
+//! All that a job does is in `stab_commands`, and what words ask for in `stab_words`; here the words,
 //! files, standard streams and the status meet.
 #![tactic(auto)]
 
 mod files;
 
 use files::{FirstLine, ReadFile, Reader, Replaced, STANDARD_INPUT, Sink, Writer, are_one_file};
-use stab_cli::{
-    CoinsFault, Command, Job, NO_COINS, NoWatcher, Source, Usage, parse_words, read_coins,
-    run_job_watched, write_fault, write_usage,
-};
+use stab_commands::{Command, Job, NoWatcher, Source, run_job_watched, write_fault};
 use stab_pauli::{Device, Fault, Output, Refusal, write_all};
+use stab_words::{CoinsFault, NO_COINS, Usage, parse_words, read_coins, write_usage};
 use std::io::{BufWriter, IsTerminal};
 use std::process::ExitCode;
 use std::rt::Env;
