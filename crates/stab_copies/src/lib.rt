@@ -1,7 +1,7 @@
 //! Copies of a run's state, kept on the way.
 //!
 //! - `checkpoint`: copies of the state before a step, where they are kept, and how they move.
-//! - `meets`: whether another run meets a copy.
+//! - `meeting`: whether another run meets a copy.
 //!
 //! Runs themselves, with their coins and laws, are `stab_run`'s.
 //!
@@ -13,7 +13,7 @@
 #![tactic(auto)]
 
 mod checkpoint;
-mod meets;
+mod meeting;
 
 pub use checkpoint::{Checkpoint, Meeting, count_before, lay_all, shifted, take_moved};
-pub use meets::meets;
+pub use meeting::meets;

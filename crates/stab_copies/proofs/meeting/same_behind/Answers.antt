@@ -3,7 +3,7 @@ use Rattle.std.specs.Bool.{Decides}
 use Rattle.std.specs.Cmp.{booleans_Decides}
 use Rattle.std.proofs.lemmas.Slice.Eq.{slice_eq-Decides}
 use Rattle.stab_copies.proofs.LastBitsLemmas.{begins-behind}
-use Rattle.stab_copies.proofs.meets.same_behind.Goals as goal
+use Rattle.stab_copies.proofs.meeting.same_behind.Goals as goal
 
 pub returns : goal.returns
 returns c =

@@ -1,7 +1,7 @@
 use Rattle.std.proofs.Common.{◌≡◌, ◌↔◌, sym, ◌∙◌, subst, arith, length, take, drop, List, Bool}
 use Rattle.std.specs.Prelude.{IsTrue}
 use Rattle.stab_copies.proofs.LastBitsLemmas.{same-place, same-front}
-use Rattle.stab_copies.proofs.meets.same_last.Goals as goal
+use Rattle.stab_copies.proofs.meeting.same_last.Goals as goal
 
 pub same_behind-requires-clause-same : goal.same_behind-requires-clause-same
 same_behind-requires-clause-same c =
