@@ -1,7 +1,7 @@
 //! The commands of the program and their options, as the command line reader is told of them.
 ghost use Rattle.std.specs.Prelude.{IfOk};
 ghost use Rattle.clap.specs.Words.{App};
-ghost use Rattle.stab_words.specs.Options.{alone, check, deterministic, edit, faults, flag, named, numbered, one_name, ranged, shot_command, stabilisers, stabsim, valued};
+ghost use Rattle.stab_words.specs.Options.{alone, check, detect, deterministic, edit, faults, flag, named, numbered, one_name, ranged, shot_command, stabilisers, stabsim, valued};
 ghost use Rattle.stab_words.specs.inner.Parts.{IsApp, IsOption, with_common, with_files};
 
 use clap::builder::ValueParser;
