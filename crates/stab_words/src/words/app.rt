@@ -1,7 +1,7 @@
 //! The commands of the program and their options, as the command line reader is told of them.
 ghost use Rattle.std.specs.Prelude.{IfOk};
 ghost use Rattle.clap.specs.Words.{App};
-ghost use Rattle.stab_words.specs.Options.{alone, check, detect, deterministic, edit, faults, flag, named, numbered, one_name, ranged, shot_command, stabilisers, stabsim, valued};
+ghost use Rattle.stab_words.specs.Options.{alone, bare, check, detect, deterministic, edit, faults, flag, named, numbered, one_name, ranged, shot_command, stabilisers, stabsim, valued};
 ghost use Rattle.stab_words.specs.inner.Parts.{IsApp, IsOption, with_common, with_files};
 
 use clap::builder::ValueParser;
@@ -352,16 +352,23 @@ fn detect_command<'a>(alloc: Global, formats: &'a [&'a str]) -> Result<Command<'
     shot_command(alloc, "detect", ABOUT_DETECT, AFTER_DETECT, formats)?.arg(append)
 }
 
-/// The program with its commands. Each is made when the one before it has been put in, so that there are never more than two
-/// to be let go.
-pub(crate) fn app<'a>(alloc: Global, formats: &'a [&'a str]) -> Result<Command<'a>, AllocError>
-    ensures app { IfOk result (IsApp (stabsim formats.entry)) }
+/// The program without its commands.
+fn bare_command<'a>(alloc: Global) -> Command<'a>
+    ensures app { IsApp bare result }
 {
     Command::new(alloc, "stabsim")
         .version(VERSION)
         .about(ABOUT)
         .after_help(AFTER)
         .subcommand_required(true)
+}
+
+/// The program with its commands. Each is made when the one before it has been put in, so that there are never more than two
+/// to be let go.
+pub(crate) fn app<'a>(alloc: Global, formats: &'a [&'a str]) -> Result<Command<'a>, AllocError>
+    ensures app { IfOk result (IsApp (stabsim formats.entry)) }
+{
+    bare_command(alloc)
         .subcommand(shot_command(alloc, "sample", ABOUT_SAMPLE, AFTER_SAMPLE, formats)?)?
         .subcommand(detect_command(alloc, formats)?)?
         .subcommand(stabilisers_command(alloc)?)?

@@ -1,14 +1,10 @@
-use Rattle.std.proofs.Common.{rules}
 use Rattle.std.proofs.lemmas.Result.{IfOk-weaker}
-use Rattle.stab_words.specs.Options.{bare}
-use Rattle.stab_words.specs.inner.Parts.{IsApp}
 use Rattle.stab_words.proofs.CommandLaws.{with_command}
 use Rattle.stab_words.proofs.words.app.app.Goals as goal
 
 pub returns : goal.returns
 returns c =
-    let none : IsApp bare c.subcommand_required.result = search rules in
-    let first = with_command _ c.in_ok-subcommand.field-0 c.in_ok-shot_command.field-0 _ _ c.in_ok-subcommand.ensures c.in_ok-shot_command.ensures.app none in
+    let first = with_command _ c.in_ok-subcommand.field-0 c.in_ok-shot_command.field-0 _ _ c.in_ok-subcommand.ensures c.in_ok-shot_command.ensures.app c.bare_command.ensures.app in
     let second = with_command _ c.in_ok-subcommand-2.field-0 c.in_ok-detect_command.field-0 _ _ c.in_ok-subcommand-2.ensures c.in_ok-detect_command.ensures.app first in
     let third = with_command _ c.in_ok-subcommand-3.field-0 c.in_ok-stabilisers_command.field-0 _ _ c.in_ok-subcommand-3.ensures c.in_ok-stabilisers_command.ensures.app second in
     let fourth = with_command _ c.in_ok-subcommand-4.field-0 c.in_ok-edit_command.field-0 _ _ c.in_ok-subcommand-4.ensures c.in_ok-edit_command.ensures.app third in
