@@ -18,7 +18,7 @@ import time
 TOP = pathlib.Path(__file__).resolve().parent.parent
 PROGRAM = TOP / "crates" / "stabsim" / "out" / "stabsim"
 CALLS = 5
-# One shot, and as many behind it as fill batches of any width from 64 lanes to 1,024, but for 384.
+# One shot, and as many behind it as fill batches of any width from 64 lanes to 1,024.
 MANY = 7_169
 
 

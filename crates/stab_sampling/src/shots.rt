@@ -279,14 +279,6 @@ fn send_wide<O: Output>(
         send_batches::<O, Wide<4>, WideSeedLanes<4>>(
             alloc, circuit, out, format, shown, seed, first, shots, lanes,
         )
-    } else if lanes <= 384 {
-        send_batches::<O, Wide<6>, WideSeedLanes<6>>(
-            alloc, circuit, out, format, shown, seed, first, shots, lanes,
-        )
-    } else if lanes <= 448 {
-        send_batches::<O, Wide<7>, WideSeedLanes<7>>(
-            alloc, circuit, out, format, shown, seed, first, shots, lanes,
-        )
     } else if lanes <= 512 {
         send_batches::<O, Wide<8>, WideSeedLanes<8>>(
             alloc, circuit, out, format, shown, seed, first, shots, lanes,

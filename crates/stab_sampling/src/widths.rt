@@ -36,7 +36,7 @@ fn fits(bits: usize, lanes: usize) -> bool {
 }
 
 /// Numbers of lanes, the most first.
-const WIDTHS: [usize; 5] = [1_024, 512, 448, 384, 256];
+const WIDTHS: [usize; 3] = [1_024, 512, 256];
 
 /// How many shots go at once, of which each has so many bits.
 fn most_lanes(bits: usize) -> usize
