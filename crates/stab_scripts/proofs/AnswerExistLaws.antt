@@ -24,15 +24,15 @@ use Rattle.stab_regions.specs.FaultLaws.{SureParities}
 use Rattle.stab_results.specs.Formats.{f01_bytes}
 use Rattle.stab_circuit.specs.Prints.{printed}
 use Rattle.stab_tables.specs.Rows.{lines_of}
-use Rattle.stab_scripts.specs.Scripts.{Setting, Request, begin, put, delete, show, ask, deterministic, refuse, Held, run_held, Answer, IsPut, Shows, IsSureAnswer, IsAnswer, IsAnswerToAll, both, unless, judged, decided, refusing, replying, edit_of, edited_items, framed_shown, held_split, held_behind, shown_or_refused, framed_answer}
-use Rattle.stab_scripts.specs.FramedReplies.{reply_text, greeting, session_numbers}
-use Rattle.stab_scripts.specs.FramedRequests.{FramedRequest, mark, split, numbers, changed, changed_records, sign, item, counts}
+use Rattle.stab_replies.specs.Scripts.{Setting, Request, begin, put, delete, show, ask, deterministic, refuse, Held, run_held, Answer, IsPut, Shows, IsSureAnswer, IsAnswer, IsAnswerToAll, both, unless, judged, decided, refusing, replying, edit_of, edited_items, framed_shown, held_split, held_behind, shown_or_refused, framed_answer}
+use Rattle.stab_replies.specs.FramedReplies.{reply_text, greeting, session_numbers}
+use Rattle.stab_replies.specs.FramedRequests.{FramedRequest, mark, split, numbers, changed, changed_records, sign, item, counts}
 use Rattle.stab_scripts.specs.ScriptLaws.{CanBeEdited}
 use Rattle.stab_scripts.proofs.SureBitLaws.{sure_text}
-use Rattle.stab_scripts.specs.declared.request.ItemEdit.{ItemEdit}
-use Rattle.stab_scripts.specs.declared.request.ItemEdit.TheVariants.{Insert, Replace}
-use Rattle.stab_scripts.specs.declared.request.Show.{Show}
-use Rattle.stab_scripts.specs.declared.request.Show.TheVariants.{Measurements, Free, Detectors, Observables, Stabilisers, Circuit}
+use Rattle.stab_replies.specs.declared.request.ItemEdit.{ItemEdit}
+use Rattle.stab_replies.specs.declared.request.ItemEdit.TheVariants.{Insert, Replace}
+use Rattle.stab_replies.specs.declared.request.Show.{Show}
+use Rattle.stab_replies.specs.declared.request.Show.TheVariants.{Measurements, Free, Detectors, Observables, Stabilisers, Circuit}
 
 -- the items of a circuit's text can be edited
 pub circuit_can : TextsAreLines → (n : ℕ) (text : List ℕ) (items : Items) → IsCircuit text items → qubits_of items ≤ n → CanBeEdited n items

@@ -6,12 +6,12 @@ use Rattle.stab_circuit.specs.Items.{Items, OneItem}
 use Rattle.stab_circuit.specs.Circuits.{item_fault, StandsForOne}
 use Rattle.stab_circuit.specs.Laws.{ItemTextsHaveOneMeaning}
 use Rattle.stab_run.specs.Runs.{State}
-use Rattle.stab_scripts.specs.Scripts.{Setting, Request, begin, put, delete, show, ask, deterministic, refuse, Held, run_held, Answer, IsPut, Shows, IsAnswer, IsAnswerToAll, both, decided, refusing, replying, edit_of, edited_items}
-use Rattle.stab_scripts.specs.FramedReplies.{reply_text}
+use Rattle.stab_replies.specs.Scripts.{Setting, Request, begin, put, delete, show, ask, deterministic, refuse, Held, run_held, Answer, IsPut, Shows, IsAnswer, IsAnswerToAll, both, decided, refusing, replying, edit_of, edited_items}
+use Rattle.stab_replies.specs.FramedReplies.{reply_text}
 use Rattle.stab_tables.specs.Rows.{lines_of}
 use Rattle.stab_scripts.proofs.SureBitLaws.{one_sure_answer}
-use Rattle.stab_scripts.specs.declared.request.Show.{Show}
-use Rattle.stab_scripts.specs.declared.request.Show.TheVariants.{Measurements, Free, Detectors, Observables, Stabilisers, Circuit}
+use Rattle.stab_replies.specs.declared.request.Show.{Show}
+use Rattle.stab_replies.specs.declared.request.Show.TheVariants.{Measurements, Free, Detectors, Observables, Stabilisers, Circuit}
 
 -- a text stands for one item
 one_item : ItemTextsHaveOneMeaning → (text : List ℕ) (x y : OneItem) → StandsForOne text x → StandsForOne text y → y ≡ x

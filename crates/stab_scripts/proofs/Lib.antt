@@ -1,14 +1,8 @@
-pub mod PlaceLaws
-pub mod ChangeLaws
-pub mod SignLaws
-pub mod FramedReplyLaws
 pub mod SureBitLaws
-pub mod PlaceCountLaws
 pub mod AnswerLaws
 pub mod AnswerExistLaws
-pub mod ReadingLaws
-pub mod TellingLaws
 pub mod ScriptRunLaws
 pub mod ScriptTurnLaws
+pub mod SignAnswerLaws
 pub mod SessionAnswerLaws
 pub mod SplitAnswerLaws

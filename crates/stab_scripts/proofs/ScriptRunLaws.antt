@@ -9,11 +9,11 @@ use Rattle.stab_io.specs.declared.refusal.Fault.{Fault}
 use Rattle.stab_io.specs.Refusals.{whole}
 use Rattle.stab_io.proofs.DeviceLemmas.{gave_none, gave_more, gave_and_failed, took_more}
 use Rattle.stab_circuit.specs.Items.{Items}
-use Rattle.stab_scripts.specs.Scripts.{Setting, Request, begin, opened, IsAnswerToAll, both, ScriptReader, Reading, read, read_end, requests_in, requests_of, empty_reader, most_script}
+use Rattle.stab_replies.specs.Scripts.{Setting, Request, begin, opened, IsAnswerToAll, both, ScriptReader, Reading, read, read_end, requests_in, requests_of, empty_reader, most_script}
 use Rattle.stab_scripts.specs.ScriptEndings.{AnswersScript, BreaksOff, AnswersFront, EndsScript}
-use Rattle.stab_scripts.specs.inner.Editors.{Sitting, Told, ToldSome, FlushFails, Sent, Finishes}
-use Rattle.stab_scripts.proofs.ReadingLaws.{read_append, read_none}
-use Rattle.stab_scripts.proofs.TellingLaws.{answers_then, told_then, told_some_behind}
+use Rattle.stab_replies.specs.Editors.{Sitting, Told, ToldSome, FlushFails, Sent, Finishes}
+use Rattle.stab_replies.proofs.ReadingLaws.{read_append, read_none}
+use Rattle.stab_replies.proofs.TellingLaws.{answers_then, told_then, told_some_behind}
 
 -- the sitting before a script
 abbrev pub before_script : Setting → Items → Sitting

@@ -4,10 +4,10 @@ use Rattle.stab_io.specs.Devices.{InputView, OutputView, Gave, Reads}
 use Rattle.stab_io.specs.declared.device.DeviceFault.{DeviceFault}
 use Rattle.stab_io.proofs.DeviceLemmas.{gave_more, gave_and_failed}
 use Rattle.stab_circuit.specs.Items.{Items}
-use Rattle.stab_scripts.specs.Scripts.{Setting, ScriptReader, begin, requests_in, read, empty_reader}
-use Rattle.stab_scripts.specs.Watchers.{Asked, given_by, asked, Logs}
+use Rattle.stab_replies.specs.Scripts.{Setting, ScriptReader, begin, requests_in, read, empty_reader}
+use Rattle.stab_replies.specs.Watchers.{Asked, given_by, asked, Logs}
 use Rattle.stab_scripts.specs.ScriptTurns.{all_given, Answered, InTurn, LogsInTurn, TakesTurns}
-use Rattle.stab_scripts.specs.inner.Editors.{Sitting, Told}
+use Rattle.stab_replies.specs.Editors.{Sitting, Told}
 use Rattle.stab_scripts.proofs.ScriptRunLaws.{before_script, AnsweredSoFar, so_far_none, so_far_more}
 
 -- the log was given up, or has in turn all reads that handed over these bytes

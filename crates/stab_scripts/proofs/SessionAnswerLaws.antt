@@ -18,23 +18,23 @@ use Rattle.stab_session.specs.SessionEdits.{IsEditedBy, IsAsBefore}
 use Rattle.stab_circuit.specs.Steps.{unroll, steps_cap, check_within}
 use Rattle.stab_circuit.specs.Readings.{ReadsItem}
 use Rattle.stab_run.specs.Runs.{State, run_of}
-use Rattle.stab_scripts.specs.declared.reply.SessionNumbers.{SessionNumbers}
-use Rattle.stab_scripts.specs.FramedRequests.{FramedRequest}
+use Rattle.stab_replies.specs.declared.reply.SessionNumbers.{SessionNumbers}
+use Rattle.stab_replies.specs.FramedRequests.{FramedRequest}
 use Rattle.stab_run.proofs.FitLemmas.{check-whole}
 use Rattle.stab_tables.proofs.CheckLaws.{steps_counted}
 use Rattle.stab_tables.specs.FaultLines.{refused_text}
 use Rattle.stab_pauli.specs.Paulis.{Signed}
 use Rattle.stab_tableau.specs.Traces.{member}
 use Rattle.stab_session.specs.Sessions.{IsSignIn}
-use Rattle.stab_scripts.proofs.SignLaws.{told_sign}
-use Rattle.stab_scripts.specs.Signs.{sign_line}
-use Rattle.stab_scripts.specs.inner.Replies.{ReplyBytes}
-use Rattle.stab_scripts.specs.inner.FramedAnswers.{GivesText}
-use Rattle.stab_scripts.specs.Scripts.{Setting, Held, first_mark, opened, unless, judged, decided, refusing, IsPut, item_shown, sign_shown, framed_shown, held_behind, shown_or_refused, framed_answer}
+use Rattle.stab_scripts.proofs.SignAnswerLaws.{told_sign}
+use Rattle.stab_replies.specs.Signs.{sign_line}
+use Rattle.stab_replies.specs.Replies.{ReplyBytes}
+use Rattle.stab_replies.specs.FramedAnswers.{GivesText}
+use Rattle.stab_replies.specs.Scripts.{Setting, Held, first_mark, opened, unless, judged, decided, refusing, IsPut, item_shown, sign_shown, framed_shown, held_behind, shown_or_refused, framed_answer}
 use Rattle.stab_scripts.specs.inner.SessionAnswers.{session_setting, held_of, answered}
-use Rattle.stab_scripts.specs.Changes.{Mark}
-use Rattle.stab_scripts.specs.FramedReplies.{made_text, reply_text, session_numbers}
-use Rattle.stab_scripts.specs.declared.changes.MarkedBits.{MarkedBits}
+use Rattle.stab_replies.specs.Changes.{Mark}
+use Rattle.stab_replies.specs.FramedReplies.{made_text, reply_text, session_numbers}
+use Rattle.stab_replies.specs.declared.changes.MarkedBits.{MarkedBits}
 
 -- items and a mark
 abbrev held_with : Items → Mark → Held

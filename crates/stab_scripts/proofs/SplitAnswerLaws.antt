@@ -9,11 +9,11 @@ use Rattle.stab_circuit.specs.Splits.{split, refused_by, split_refusal}
 use Rattle.stab_circuit.proofs.EditLemmas.{listed-entries}
 use Rattle.stab_session.specs.Sessions.{SessionState}
 use Rattle.stab_session.specs.SessionEdits.{IsSplit}
-use Rattle.stab_scripts.specs.Changes.{Mark}
-use Rattle.stab_scripts.specs.Scripts.{Held, held_split, split_shown}
-use Rattle.stab_scripts.specs.inner.FramedAnswers.{GivesText}
+use Rattle.stab_replies.specs.Changes.{Mark}
+use Rattle.stab_replies.specs.Scripts.{Held, held_split, split_shown}
+use Rattle.stab_replies.specs.FramedAnswers.{GivesText}
 use Rattle.stab_scripts.specs.inner.SessionAnswers.{held_of}
-use Rattle.stab_scripts.specs.declared.changes.MarkedBits.{MarkedBits}
+use Rattle.stab_replies.specs.declared.changes.MarkedBits.{MarkedBits}
 
 -- items and a mark
 abbrev held_with : Items → Mark → Held

@@ -18,11 +18,11 @@ use Rattle.stab_results.specs.declared.format.Format.TheVariants.{F01}
 use Rattle.stab_results.specs.Formats.{f01_bytes}
 use Rattle.stab_tables.specs.Deterministic.{IsSureText}
 use Rattle.stab_tables.specs.FaultLines.{refused_text}
-use Rattle.stab_scripts.specs.Scripts.{Held, Answer, IsSureAnswer}
-use Rattle.stab_scripts.specs.FramedReplies.{reply_text}
+use Rattle.stab_replies.specs.Scripts.{Held, Answer, IsSureAnswer}
+use Rattle.stab_replies.specs.FramedReplies.{reply_text}
 use Rattle.stab_scripts.specs.inner.SessionAnswers.{answered}
-use Rattle.stab_scripts.specs.inner.Replies.{ReplyBytes}
-use Rattle.stab_scripts.specs.declared.editor.Answered.{Answered}
+use Rattle.stab_replies.specs.Replies.{ReplyBytes}
+use Rattle.stab_replies.specs.declared.editor.Answered.{Answered}
 use Rattle.stab_scripts.proofs.SessionAnswerLaws.{same_refusal}
 
 -- items that nothing refuses are not refused on as many qubits as they name

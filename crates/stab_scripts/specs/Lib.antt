@@ -1,13 +1,7 @@
-pub mod ScriptWords
-pub mod FramedRequests
-pub mod FramedReplies
-pub mod Changes
-pub mod PlaceCounts
-pub mod Signs
-pub mod Scripts
+pub use Rattle.stab_replies.specs.Scripts
+pub use Rattle.stab_replies.specs.Watchers
+pub use Rattle.stab_replies.specs.LoggedInputs
 pub mod ScriptLaws
 pub mod ScriptEndings
-pub mod Watchers
-pub mod LoggedInputs
 pub mod ScriptTurns
 pub mod inner

@@ -12,7 +12,7 @@ use Rattle.stab_circuit.specs.Readings.{IsCircuit, IsFaultOf}
 use Rattle.stab_tables.specs.Endings.{Ends, TookAndFlushed, TookAndFlushFailed}
 use Rattle.stab_tables.specs.Sources.{coins_of_shot}
 use Rattle.stab_jobs.specs.declared.source.Source.{Source}
-use Rattle.stab_scripts.specs.Scripts.{Setting, Request, Answer, IsAnswerToAll, IsAnswerToScript, opened, requests_in, requests_of, most_script}
+use Rattle.stab_replies.specs.Scripts.{Setting, Request, Answer, IsAnswerToAll, IsAnswerToScript, opened, requests_in, requests_of, most_script}
 
 -- the script was read to its end: its answer was written and flushed once, and the call says whether a line was refused
 pub record AnswersScript (setting : Setting) (items : Items) (s s' : InputView) (o o' : OutputView) (refused : Bool) : Type 0 where

@@ -5,7 +5,7 @@ use Rattle.stab_circuit.specs.Items.{Items}
 use Rattle.stab_circuit.specs.Steps.{qubits_of, check_within}
 use Rattle.stab_circuit.specs.Readings.{IsCircuit}
 use Rattle.stab_circuit.specs.Laws.{AreOfLines}
-use Rattle.stab_scripts.specs.Scripts.{Setting, Request, Held, Answer, IsAnswerToAll, IsAnswerToScript}
+use Rattle.stab_replies.specs.Scripts.{Setting, Request, Held, Answer, IsAnswerToAll, IsAnswerToScript}
 
 -- items that can be edited on n qubits: some lines stand for them, and nothing refuses them on so many
 abbrev pub CanBeEdited : ℕ → Items → Type 0

@@ -6,9 +6,9 @@ use Rattle.stab_circuit.specs.Items.{Items}
 use Rattle.stab_circuit.specs.Inputs.{GaveText}
 use Rattle.stab_circuit.specs.Readings.{IsCircuit}
 use Rattle.stab_jobs.specs.declared.source.Source.{Source}
-use Rattle.stab_scripts.specs.Scripts.{Setting, Answer, IsAnswerToAll, opened, requests_in}
+use Rattle.stab_replies.specs.Scripts.{Setting, Answer, IsAnswerToAll, opened, requests_in}
 use Rattle.stab_scripts.specs.ScriptEndings.{setting_of}
-use Rattle.stab_scripts.specs.Watchers.{Asked}
+use Rattle.stab_replies.specs.Watchers.{Asked}
 
 -- what reads handed over, one after another
 abbrev pub all_given : List Asked → List ℕ

@@ -1,6 +1,1 @@
-pub mod Requests
-pub mod Replies
-pub mod StepCounts
-pub mod Editors
 pub mod SessionAnswers
-pub mod FramedAnswers

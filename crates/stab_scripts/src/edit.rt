@@ -5,16 +5,14 @@ ghost use Rattle.stab_letters.specs.Limits.{most_qubits};
 ghost use Rattle.stab_circuit.specs.Steps.{check_within};
 ghost use Rattle.stab_circuit.specs.Views.{circuit_items};
 ghost use Rattle.stab_run.specs.Limits.{most_stride};
-ghost use Rattle.stab_scripts.specs.Scripts.{opened};
+ghost use Rattle.stab_replies.specs.Scripts.{opened};
 ghost use Rattle.stab_scripts.specs.ScriptEndings.{EndsScript, EndsOn};
 ghost use Rattle.stab_scripts.specs.ScriptTurns.{TakesTurns};
 
-use crate::editor::{Answer, Editor};
-use crate::request::Request;
 use crate::session_answers::SessionAnswers;
-use crate::watcher::Watcher;
 use stab_circuit::Circuit;
 use stab_io::{DeviceFault, Fault, Input, Output, Refusal};
+use stab_replies::{Answer, Editor, Request, Watcher};
 use stab_run::Coins;
 use stab_session::Session;
 use std::alloc::Global;

@@ -2,20 +2,17 @@
 ghost use Rattle.std.specs.Prelude.{◌≡◌, IfOk, IfErr};
 ghost use Rattle.stab_io.specs.Refusals.{whole};
 ghost use Rattle.stab_io.specs.declared.refusal.Refusal.TheVariants.{OutOfMemory};
-ghost use Rattle.stab_scripts.specs.Changes.{mark_of};
-ghost use Rattle.stab_scripts.specs.Scripts.{first_mark as first_mark_of};
-ghost use Rattle.stab_scripts.specs.inner.SessionAnswers.{mark_shown, session_run};
+ghost use Rattle.stab_replies.specs.Changes.{mark_of, mark_shown};
+ghost use Rattle.stab_replies.specs.Scripts.{first_mark as first_mark_of};
+ghost use Rattle.stab_scripts.specs.inner.SessionAnswers.{session_run};
 
-use crate::changes::{MarkedBits, push_changes};
-use crate::editor::{Answer, Answered};
-use crate::framed::FramedRequest;
-use crate::place_counts::show_place;
-use crate::reply::{Reply, SessionNumbers, memory};
-use crate::request::{ItemEdit, Request, Show};
-use crate::signs::read_string;
 use crate::sure_bits::show_sure;
 use stab_circuit::{Item, Path, read_item};
 use stab_io::{Fault, Refusal};
+use stab_replies::{
+    Answer, Answered, FramedRequest, ItemEdit, MarkedBits, Reply, Request, SessionNumbers, Show,
+    memory, push_changes, read_string, show_place,
+};
 use stab_results::Kinds;
 use stab_run::Coins;
 use stab_session::{Edit, Session};
@@ -39,15 +36,15 @@ impl<C: Coins> SessionAnswers<C> {
     ghost use Rattle.stab_circuit.specs.Places.{item_at};
     ghost use Rattle.stab_circuit.specs.Splits.{split as split_list};
     ghost use Rattle.stab_tables.specs.FaultLines.{refused_text};
-    ghost use Rattle.stab_scripts.specs.Changes.{changed_text, changed_records_text, mark_of};
-    ghost use Rattle.stab_scripts.specs.FramedReplies.{session_numbers, reply_text};
-    ghost use Rattle.stab_scripts.specs.PlaceCounts.{place_shown};
-    ghost use Rattle.stab_scripts.specs.Signs.{string_of_word};
-    ghost use Rattle.stab_scripts.specs.Scripts.{IsPut, IsSureAnswer, decided, edited_items, edit_of, first_mark as first_mark_of, framed_answer, framed_shown, held_behind, held_split, item_shown, sign_shown, split_shown};
-    ghost use Rattle.stab_scripts.specs.inner.FramedAnswers.{GivesText};
-    ghost use Rattle.stab_scripts.specs.inner.Requests.{framed_asked};
-    ghost use Rattle.stab_scripts.specs.inner.SessionAnswers.{ShowsOf, session_setting, session_run, mark_shown, held_of, answered};
-    ghost use Rattle.stab_scripts.specs.declared.request.Show.TheVariants.{Stabilisers};
+    ghost use Rattle.stab_replies.specs.Changes.{changed_text, changed_records_text, mark_of, mark_shown};
+    ghost use Rattle.stab_replies.specs.FramedReplies.{session_numbers, reply_text};
+    ghost use Rattle.stab_replies.specs.PlaceCounts.{place_shown};
+    ghost use Rattle.stab_replies.specs.Signs.{string_of_word};
+    ghost use Rattle.stab_replies.specs.Scripts.{IsPut, IsSureAnswer, decided, edited_items, edit_of, first_mark as first_mark_of, framed_answer, framed_shown, held_behind, held_split, item_shown, sign_shown, split_shown};
+    ghost use Rattle.stab_replies.specs.FramedAnswers.{GivesText};
+    ghost use Rattle.stab_replies.specs.Requests.{framed_asked};
+    ghost use Rattle.stab_scripts.specs.inner.SessionAnswers.{ShowsOf, session_setting, session_run, held_of, answered};
+    ghost use Rattle.stab_replies.specs.declared.request.Show.TheVariants.{Stabilisers};
 
     /// A session that answers requests; one of a framed script has its first mark. Fault
     /// `OutOfMemory` alone.
@@ -173,7 +170,7 @@ impl<C: Coins> SessionAnswers<C> {
     }
 
     /// Where the item at a place stands in the unrolled circuit.
-    #[tactic(auto, using(crate::proofs::PlaceCountLaws::session_checked))]
+    #[tactic(auto, using(stab_replies::proofs::PlaceCountLaws::session_checked))]
     fn place(&self, place: Path) -> Result<Reply, Refusal>
         ensures shows { GivesText result (place_shown (item_at place (entries self.now.session.items)) place self.now.session.items) }
     {
@@ -249,7 +246,7 @@ impl<C: Coins> SessionAnswers<C> {
 
     /// The answer to a request for the bits that are the same whatever the coins, which only a framed
     /// script may make.
-    #[tactic(auto, using(crate::proofs::PlaceCountLaws::session_checked))]
+    #[tactic(auto, using(stab_replies::proofs::PlaceCountLaws::session_checked))]
     fn answer_sure(&self) -> Result<Answered, Fault>
         ensures answers { IfOk result (λ a. IsSureAnswer self.now.framed (held_of self.now.session self.now.mark) (answered (held_of self.now.session self.now.mark) a.reply.written a.refused)) }
         ensures err { IfErr result (λ f. f ≡ whole OutOfMemory) }

@@ -7,10 +7,10 @@ ghost use Rattle.stab_circuit.specs.Views.{circuit_items};
 ghost use Rattle.stab_results.specs.declared.format.Format.TheVariants.{F01};
 ghost use Rattle.stab_tables.specs.Deterministic.{IsSureText};
 
-use crate::reply::Reply;
 use stab_circuit::Circuit;
 use stab_io::Fault;
 use stab_regions::sure;
+use stab_replies::Reply;
 use std::alloc::Global;
 
 /// The line of a bit for each detector and then each observable, as the command `deterministic`

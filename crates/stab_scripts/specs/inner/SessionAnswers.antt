@@ -3,10 +3,10 @@
 use Rattle.std.specs.Prelude.{ℕ, Bool, List}
 use Rattle.stab_run.specs.Runs.{State, run_of}
 use Rattle.stab_session.specs.Sessions.{SessionState}
-use Rattle.stab_scripts.specs.Changes.{Mark}
-use Rattle.stab_scripts.specs.Scripts.{Setting, Held, Answer, Shows}
-use Rattle.stab_scripts.specs.declared.changes.MarkedBits.{MarkedBits}
-use Rattle.stab_scripts.specs.declared.request.Show.{Show}
+use Rattle.stab_replies.specs.Changes.{mark_shown}
+use Rattle.stab_replies.specs.Scripts.{Setting, Held, Answer, Shows}
+use Rattle.stab_replies.specs.declared.changes.MarkedBits.{MarkedBits}
+use Rattle.stab_replies.specs.declared.request.Show.{Show}
 
 -- the qubits and coins of a session, and whether its script is framed
 abbrev pub session_setting : {C : Type 0} → (C → ℕ → Bool) → (framed : Bool) → SessionState C → Setting
@@ -15,10 +15,6 @@ session_setting sequence framed s = record { framed = framed; qubits = s.qubits;
 -- the run of a session
 abbrev pub session_run : {C : Type 0} → (C → ℕ → Bool) → SessionState C → State
 session_run sequence s = run_of s.qubits (sequence s.coins) s.items
-
--- the mark that the code's bits are
-abbrev pub mark_shown : MarkedBits → Mark
-mark_shown m = record { records = m.records.items; detectors = m.detectors.items; observables = m.observables.items }
 
 -- what is held: the items of a session, and a mark
 abbrev pub held_of : {C : Type 0} → SessionState C → MarkedBits → Held

@@ -2,11 +2,11 @@ use Rattle.std.proofs.Common.{◌≡◌, ◌+◌, ◌-◌, ◌++◌, [], ◌∷�
 use Rattle.std.proofs.lemmas.List.{append-nil, take-append-drop}
 use Rattle.std.specs.Prelude.{List, ℕ, Ok, Err}
 use Rattle.stab_io.specs.Devices.{Gave}
-use Rattle.stab_scripts.specs.Scripts.{ScriptReader, begin, read, empty_reader}
-use Rattle.stab_scripts.specs.inner.Requests.{opened_in}
-use Rattle.stab_scripts.specs.inner.Editors.{Sitting, Told, ToldSome, sitting}
-use Rattle.stab_scripts.proofs.ReadingLaws.{opened_read}
-use Rattle.stab_scripts.proofs.TellingLaws.{sitting_with}
+use Rattle.stab_replies.specs.Scripts.{ScriptReader, begin, read, empty_reader}
+use Rattle.stab_replies.specs.Requests.{opened_in}
+use Rattle.stab_replies.specs.Editors.{Sitting, Told, ToldSome, sitting}
+use Rattle.stab_replies.proofs.ReadingLaws.{opened_read}
+use Rattle.stab_replies.proofs.TellingLaws.{sitting_with}
 use Rattle.stab_scripts.proofs.ScriptRunLaws.{before_script, greeting_broke, script_failed, broke_behind, script_too_long, gave_end, script_ended, script_err}
 use Rattle.stab_scripts.proofs.ScriptTurnLaws.{in_turn_at_first, in_turn_so_far, last_in_turn, unread_in_turn}
 use Rattle.stab_scripts.proofs.edit.run_script.Goals as goal

@@ -1,6 +1,6 @@
 use Rattle.std.proofs.Common.{◌≤◌, ◌-◌}
-use Rattle.stab_scripts.specs.inner.Requests.{opened_in}
-use Rattle.stab_scripts.specs.inner.Editors.{sitting}
+use Rattle.stab_replies.specs.Requests.{opened_in}
+use Rattle.stab_replies.specs.Editors.{sitting}
 use Rattle.stab_scripts.proofs.ScriptTurnLaws.{AnsweredInTurn}
 use Rattle.stab_scripts.proofs.edit.run_script.Given as goal
 

@@ -1,4 +1,4 @@
-use Rattle.stab_scripts.specs.Scripts.{opened, requests_of}
+use Rattle.stab_replies.specs.Scripts.{opened, requests_of}
 use Rattle.stab_scripts.proofs.AnswerLaws.{one_answer_to_all}
 use Rattle.stab_scripts.proofs.laws.scripts_have_one_answer.Goals as goal
 

@@ -1,4 +1,4 @@
-use Rattle.stab_scripts.proofs.PlaceCountLaws.{place_of_session}
+use Rattle.stab_replies.proofs.PlaceCountLaws.{place_of_session}
 use Rattle.stab_scripts.proofs.session_answers.SessionAnswers.place.Goals as goal
 
 pub returns : goal.returns

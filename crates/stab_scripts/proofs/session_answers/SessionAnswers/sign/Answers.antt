@@ -1,6 +1,6 @@
 use Rattle.std.proofs.Common.{sym, ap, ◌∙◌}
 use Rattle.stab_scripts.specs.inner.SessionAnswers.{session_run}
-use Rattle.stab_scripts.specs.Signs.{string_of_word}
+use Rattle.stab_replies.specs.Signs.{string_of_word}
 use Rattle.stab_scripts.proofs.SessionAnswerLaws.{sign_told}
 use Rattle.stab_scripts.proofs.session_answers.SessionAnswers.sign.Goals as goal
 

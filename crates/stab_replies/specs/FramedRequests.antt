@@ -1,0 +1,65 @@
+-- Framed requests: what only a framed script asks for, and the words that ask for it.
+-- Source: this project's own.
+use Rattle.std.specs.Prelude.{ℕ, ◌==◌, List, length, codes, bytes_eq, Option, Some, None, if◌then◌else◌}
+use Rattle.stab_lines.specs.Words.{value}
+use Rattle.stab_circuit.specs.Paths.{Path}
+use Rattle.stab_replies.specs.ScriptWords.{first_word, behind_word, is_place_number, place_of}
+
+-- that changes are counted from now on; that a round, counted from 0, is split off the block at a place; or that this is shown: the numbers of
+-- the circuit, what changed of detectors and observables, what changed of records, the sign of a Pauli string, the item at a place, where
+-- that stands in the unrolled circuit
+pub data FramedRequest : Type 0 where
+  mark : FramedRequest
+  split : (place : Path) → (round : ℕ) → FramedRequest
+  numbers : FramedRequest
+  changed : FramedRequest
+  changed_records : FramedRequest
+  sign : (text : List ℕ) → FramedRequest
+  item : (place : Path) → FramedRequest
+  counts : (place : Path) → FramedRequest
+
+-- the request, where nothing stands behind its word
+abbrev pub alone : (rest : List ℕ) → FramedRequest → Option FramedRequest
+alone rest request = if length rest == 0 then Some request else None
+
+-- the number of a round, where the word is a number as those of a place are
+abbrev pub round_of : (word : List ℕ) → Option ℕ
+round_of word = if is_place_number word then Some (value word) else None
+
+-- that a round is split off the block at a place, where there are both
+abbrev pub split_of : Option Path → Option ℕ → (rest : List ℕ) → Option FramedRequest
+split_of None round rest = None
+split_of (Some place) None rest = None
+split_of (Some place) (Some round) rest = alone rest (split place round)
+
+-- what the words behind `split` ask for: a place and a round
+abbrev pub framed_split : (words : List ℕ) → Option FramedRequest
+framed_split words = split_of (place_of (first_word words)) (round_of (first_word (behind_word words))) (behind_word (behind_word words))
+
+-- what the word behind `show changed` asks for
+abbrev pub changed_of : (rest : List ℕ) → Option FramedRequest
+changed_of rest = if bytes_eq rest (codes "records") then Some changed_records else alone rest changed
+
+-- the sign of the string of a word
+abbrev pub sign_of : (word rest : List ℕ) → Option FramedRequest
+sign_of word rest = if length word == 0 then None else alone rest (sign word)
+
+-- the item at a place, where there is one
+abbrev pub item_of : Option Path → (rest : List ℕ) → Option FramedRequest
+item_of None rest = None
+item_of (Some place) rest = alone rest (item place)
+
+-- where the item at a place stands, where there is a place
+abbrev pub counts_at : Option Path → (rest : List ℕ) → Option FramedRequest
+counts_at None rest = None
+counts_at (Some place) rest = alone rest (counts place)
+
+-- what the first word behind `show`, and the rest behind that, ask for
+abbrev pub framed_show : (word rest : List ℕ) → Option FramedRequest
+framed_show word rest =
+    if bytes_eq word (codes "numbers") then alone rest numbers
+    else if bytes_eq word (codes "changed") then changed_of rest
+    else if bytes_eq word (codes "sign") then sign_of (first_word rest) (behind_word rest)
+    else if bytes_eq word (codes "item") then item_of (place_of (first_word rest)) (behind_word rest)
+    else if bytes_eq word (codes "place") then counts_at (place_of (first_word rest)) (behind_word rest)
+    else None

@@ -1,0 +1,14 @@
+pub mod ScriptWords
+pub mod FramedRequests
+pub mod FramedReplies
+pub mod Changes
+pub mod PlaceCounts
+pub mod Signs
+pub mod Scripts
+pub mod Requests
+pub mod Replies
+pub mod FramedAnswers
+pub mod Editors
+pub mod Watchers
+pub mod LoggedInputs
+pub mod inner

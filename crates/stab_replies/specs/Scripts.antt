@@ -1,0 +1,370 @@
+-- Scripts: what an edit script asks for, and what it is answered.
+-- Source: this project's own.
+use Rattle.std.specs.Prelude.{◌≡◌, ℕ, ◌+◌, ◌-◌, Bool, true, false, ◌||◌, ◌==◌, List, [], ◌∷◌, ◌++◌, length, codes, bytes_eq, Option, Some, None, Result, Ok, Err, if◌then◌else◌, ◌⊎◌}
+use Rattle.stab_io.specs.declared.refusal.Refusal.{Refusal}
+use Rattle.stab_io.specs.declared.refusal.Refusal.TheVariants.{BadCommand, TooLong}
+use Rattle.stab_io.specs.declared.refusal.Fault.{Fault}
+use Rattle.stab_pauli.specs.Paulis.{Signed}
+use Rattle.stab_tableau.specs.Traces.{member}
+use Rattle.stab_tableau.specs.Reduced.{AreReduced}
+use Rattle.stab_lines.specs.Lines.{content_of, ends_with_byte}
+use Rattle.stab_lines.specs.Meanings.{is_close}
+use Rattle.stab_circuit.specs.Items.{Items, OneItem, done, before, listed, entries}
+use Rattle.stab_circuit.specs.Paths.{Path}
+use Rattle.stab_circuit.specs.declared.edit.Edit.{Edit}
+use Rattle.stab_circuit.specs.declared.edit.Edit.TheVariants as circuit_edit
+use Rattle.stab_circuit.specs.Edits.{edited, list_verdict}
+use Rattle.stab_circuit.specs.Circuits.{most_bytes, item_fault, StandsForOne}
+use Rattle.stab_circuit.specs.Prints.{printed}
+use Rattle.stab_run.specs.Runs.{State, run_of}
+use Rattle.stab_results.specs.Formats.{f01_bytes}
+use Rattle.stab_tables.specs.FaultLines.{refused_text}
+use Rattle.stab_results.specs.declared.format.Format.TheVariants.{F01}
+use Rattle.stab_tables.specs.Rows.{lines_of}
+use Rattle.stab_tables.specs.Deterministic.{IsSureText}
+use Rattle.stab_circuit.specs.Places.{item_at}
+use Rattle.stab_circuit.specs.Splits.{split}
+use Rattle.stab_replies.specs.ScriptWords.{first_word, behind_word, place_of, Gathered, more, is_nothing}
+use Rattle.stab_replies.specs.FramedRequests as framed_asks
+use Rattle.stab_replies.specs.FramedRequests.{FramedRequest, mark, numbers, changed, changed_records, sign, framed_split, framed_show}
+use Rattle.stab_replies.specs.FramedReplies.{reply_text, made_text, greeting, session_numbers, numbers_line}
+use Rattle.stab_replies.specs.Changes.{Mark, mark_of, no_mark, changed_text, changed_records_text}
+use Rattle.stab_replies.specs.PlaceCounts.{place_shown}
+use Rattle.stab_replies.specs.Signs.{string_of_word, sign_in, sign_line}
+use Rattle.stab_replies.specs.declared.request.ItemEdit.{ItemEdit}
+use Rattle.stab_replies.specs.declared.request.ItemEdit.TheVariants.{Insert, Replace}
+use Rattle.stab_replies.specs.declared.request.Show.{Show}
+use Rattle.stab_replies.specs.declared.request.Show.TheVariants.{Measurements, Free, Detectors, Observables, Stabilisers, Circuit}
+
+-- what a script asks for: that it begins; that the item of a text is put in at a place, or that the item at a place is deleted, or that
+-- something is shown; what only a framed script asks for, which may be the bits that are the same whatever the coins; or nothing, where
+-- a line is refused
+pub data Request : Type 0 where
+  begin : Request
+  put : ItemEdit → (place : Path) → (text : List ℕ) → Request
+  delete : (place : Path) → Request
+  show : Show → Request
+  ask : FramedRequest → Request
+  deterministic : Request
+  refuse : Refusal → Request
+
+-- an edit that puts in an item, where there are a place and a text
+abbrev pub put_at : ItemEdit → Option Path → (text : List ℕ) → Request
+put_at edit None text = refuse BadCommand
+put_at edit (Some place) text = if length text == 0 then refuse BadCommand else put edit place text
+
+-- a deletion, where there are a place and nothing behind it
+abbrev pub delete_at : Option Path → (text : List ℕ) → Request
+delete_at None text = refuse BadCommand
+delete_at (Some place) text = if length text == 0 then delete place else refuse BadCommand
+
+-- what only a framed script asks for, where it asks for anything
+abbrev pub framed_of : Option FramedRequest → Request
+framed_of None = refuse BadCommand
+framed_of (Some request) = ask request
+
+-- that changes are counted from now on, where nothing stands behind the word
+abbrev pub mark_at : (rest : List ℕ) → Request
+mark_at rest = if length rest == 0 then ask mark else refuse BadCommand
+
+-- what the words behind `show` ask for
+abbrev pub show_of : List ℕ → Request
+show_of word =
+    if bytes_eq word (codes "measurements") then show Measurements
+    else if bytes_eq word (codes "free") then show Free
+    else if bytes_eq word (codes "detectors") then show Detectors
+    else if bytes_eq word (codes "observables") then show Observables
+    else if bytes_eq word (codes "stabilisers") then show Stabilisers
+    else if bytes_eq word (codes "circuit") then show Circuit
+    else if bytes_eq word (codes "deterministic") then deterministic
+    else framed_of (framed_show (first_word word) (behind_word word))
+
+-- what a first word and the rest behind it ask for
+abbrev pub request_by : (word rest : List ℕ) → Request
+request_by word rest =
+    if bytes_eq word (codes "insert") then put_at Insert (place_of (first_word rest)) (behind_word rest)
+    else if bytes_eq word (codes "replace") then put_at Replace (place_of (first_word rest)) (behind_word rest)
+    else if bytes_eq word (codes "delete") then delete_at (place_of (first_word rest)) (behind_word rest)
+    else if bytes_eq word (codes "show") then show_of rest
+    else if bytes_eq word (codes "mark") then mark_at rest
+    else if bytes_eq word (codes "split") then framed_of (framed_split rest)
+    else refuse BadCommand
+
+-- what a content asks for that is not blank
+unfoldable pub request_of : List ℕ → Request
+request_of content = request_by (first_word content) (behind_word content)
+
+-- the most bytes of a line
+abbrev pub most_line : ℕ
+most_line = 65536
+
+-- the most bytes of a script
+abbrev pub most_script : ℕ
+most_script = 67108864
+
+-- an edit whose item's text is gathered: how many blocks are open, and the text so far
+pub record Gathering : Type 0 where
+  pub edit : ItemEdit
+  pub place : Path
+  pub opened : ℕ
+  pub text : Gathered
+
+-- what is known between two bytes of a script: what is gathered, if anything is, and the line so far
+pub record ScriptReader : Type 0 where
+  pub gathering : Option Gathering
+  pub line : Gathered
+
+-- the reader after some bytes, and what they asked for
+pub record Reading : Type 0 where
+  pub reader : ScriptReader
+  pub requests : List Request
+
+-- nothing was asked for
+abbrev pub silent : ScriptReader → Reading
+silent reader = record { reader = reader; requests = [] }
+
+-- a line ended: this is gathered, and these are the requests
+abbrev pub line_ended : Option Gathering → List Request → Reading
+line_ended gathering requests = record { reader = record { gathering = gathering; line = Some [] }; requests = requests }
+
+-- what an edit with a gathered text asks for
+abbrev pub put_gathered : ItemEdit → (place : Path) → Gathered → Request
+put_gathered edit place None = refuse TooLong
+put_gathered edit place (Some text) = put edit place text
+
+-- what is gathered ends
+abbrev pub gathering_ended : Gathering → Reading
+gathering_ended g = line_ended None (put_gathered g.edit g.place g.text ∷ [])
+
+-- a request of a line of its own, or the begin of an item's text of several lines: one that ends in {
+abbrev pub begun : Request → Reading
+begun (put edit place text) =
+    if ends_with_byte text 123 then line_ended (Some (record { edit = edit; place = place; opened = 1; text = Some text })) []
+    else line_ended None (put edit place text ∷ [])
+begun request = line_ended None (request ∷ [])
+
+-- a content that stands alone; a blank one asks for nothing
+abbrev pub content_alone : List ℕ → Reading
+content_alone content = if length content == 0 then line_ended None [] else begun (request_of content)
+
+-- a line that stands alone
+abbrev pub line_alone : Gathered → Reading
+line_alone None = line_ended None (refuse TooLong ∷ [])
+line_alone (Some line) = content_alone (content_of line)
+
+-- how many blocks are open behind a content
+abbrev pub opened_behind : ℕ → List ℕ → ℕ
+opened_behind opened content = if is_close content then opened - 1 else if ends_with_byte content 123 then opened + 1 else opened
+
+-- what is gathered with one more line behind it; a line over its limit neither opens nor closes, and the text is over its limit
+abbrev pub gathered_with : Gathering → Gathered → Gathering
+gathered_with g None = record g { text = None }
+gathered_with g (Some line) = record g { opened = opened_behind g.opened (content_of line); text = more most_bytes (more most_bytes g.text (10 ∷ [])) (content_of line) }
+
+-- what is gathered ends where its last block is closed
+abbrev pub line_gathered : Gathering → Reading
+line_gathered g = if g.opened == 0 then gathering_ended g else line_ended (Some g) []
+
+-- a line, where this is gathered
+abbrev pub line_behind : Option Gathering → Gathered → Reading
+line_behind None line = line_alone line
+line_behind (Some g) line = line_gathered (gathered_with g line)
+
+-- the line so far ends
+unfoldable pub read_line : ScriptReader → Reading
+read_line reader = line_behind reader.gathering reader.line
+
+-- a byte: LF ends the line, and any other is of it
+abbrev pub read_byte : ScriptReader → ℕ → Reading
+read_byte reader b = if b == 10 then read_line reader else silent (record reader { line = more most_line reader.line (b ∷ []) })
+
+-- first one, then the other
+abbrev pub then_read : Reading → (ScriptReader → Reading) → Reading
+then_read first next = record { reader = (next first.reader).reader; requests = first.requests ++ (next first.reader).requests }
+
+-- bytes, one after another
+unfoldable pub read : ScriptReader → List ℕ → Reading
+read reader [] = silent reader
+read reader (b ∷ bs) = then_read (read_byte reader b) (λ after. read after bs)
+
+-- a last line without LF is a line
+abbrev pub read_last : ScriptReader → Reading
+read_last reader = if is_nothing reader.line then silent reader else read_line reader
+
+-- the end of a script ends what is gathered
+abbrev pub closed : Option Gathering → ScriptReader → Reading
+closed None reader = silent reader
+closed (Some g) reader = gathering_ended g
+
+-- the end of a script
+abbrev pub read_end : ScriptReader → Reading
+read_end reader = then_read (read_last reader) (λ after. closed after.gathering after)
+
+-- the reader before a script
+abbrev pub empty_reader : ScriptReader
+empty_reader = record { gathering = None; line = Some [] }
+
+-- what the first bytes of a script ask for: that it begins, and what stands in them
+abbrev pub requests_in : List ℕ → List Request
+requests_in bytes = begin ∷ (read empty_reader bytes).requests
+
+-- what a whole script asks for
+abbrev pub requests_of : List ℕ → List Request
+requests_of script = begin ∷ (then_read (read empty_reader script) read_end).requests
+
+-- what requests are answered by: whether the script is framed, the number of qubits and the coins
+pub record Setting : Type 0 where
+  pub framed : Bool
+  pub qubits : ℕ
+  pub coins : ℕ → Bool
+
+-- what requests change: the items, and the bits that changes are counted from
+pub record Held : Type 0 where
+  pub items : Items
+  pub mark : Mark
+
+-- the run of what is held
+abbrev pub run_held : Setting → Held → State
+run_held s held = run_of s.qubits s.coins held.items
+
+-- the mark before a script, which only a framed one has
+abbrev pub first_mark : (framed : Bool) → State → Mark
+first_mark false run = no_mark
+first_mark true run = mark_of run
+
+-- what is held before a script
+abbrev pub opened : Setting → Items → Held
+opened s items = record { items = items; mark = first_mark s.framed (run_of s.qubits s.coins items) }
+
+-- the edit that puts an item in at a place
+abbrev pub edit_of : ItemEdit → Path → OneItem → Edit
+edit_of Insert place item = circuit_edit.Insert place item
+edit_of Replace place item = circuit_edit.Replace place item
+
+-- the items, unless something refuses them
+abbrev pub unless : Option Refusal → Items → Result Items Refusal
+unless None items = Ok items
+unless (Some r) items = Err r
+
+-- the items of an edited list on n qubits, or the verdict that refuses it
+abbrev pub judged : ℕ → Result (List OneItem) Refusal → Result Items Refusal
+judged n (Ok list) = unless (list_verdict n (Ok list)) (listed list)
+judged n (Err r) = Err r
+
+-- what an edit makes of items on n qubits, or what refuses it
+abbrev pub edited_items : ℕ → Edit → Items → Result Items Refusal
+edited_items n e items = judged n (edited e (entries items))
+
+-- what a request is answered: what is held after it, the reply, and whether a line was refused
+pub record Answer : Type 0 where
+  pub held : Held
+  pub reply : List ℕ
+  pub refused : Bool
+
+-- a reply that leaves what is held as it is
+abbrev pub replying : Held → List ℕ → Answer
+replying held reply = record { held = held; reply = reply; refused = false }
+
+-- a refusal leaves what is held as it is
+abbrev pub refusing : Held → Refusal → Answer
+refusing held r = record { held = held; reply = refused_text r; refused = true }
+
+-- an edit is made, or refused
+abbrev pub decided : (framed : Bool) → Held → Result Items Refusal → Answer
+decided framed held (Ok after) = record { held = record held { items = after }; reply = made_text framed; refused = false }
+decided framed held (Err r) = refusing held r
+
+-- the item's text has a fault, or it stands for an item, and the edit with that is made or refused
+abbrev pub IsPut : (framed : Bool) → Held → (OneItem → Result Items Refusal) → (text : List ℕ) → Answer → Type 0
+IsPut framed held after text a =
+    ((fault : Fault) × (item_fault text ≡ Some fault) × (a ≡ refusing held fault.refusal))
+    ⊎ ((item : OneItem) × StandsForOne text item × (a ≡ decided framed held (after item)))
+
+-- the one list of reduced rows of the group after a run
+abbrev pub AreRowsOf : ℕ → State → List Signed → Type 0
+AreRowsOf n run rows = AreReduced n (member run.trace) rows × ((other : List Signed) → AreReduced n (member run.trace) other → other ≡ rows)
+
+-- what is shown of items and their run
+abbrev pub Shows : ℕ → State → Items → Show → List ℕ → Type 0
+Shows n run items Measurements text = text ≡ f01_bytes run.records
+Shows n run items Free text = text ≡ f01_bytes run.free
+Shows n run items Detectors text = text ≡ f01_bytes run.detectors
+Shows n run items Observables text = text ≡ f01_bytes run.observables
+Shows n run items Stabilisers text = (rows : List Signed) × AreRowsOf n run rows × (text ≡ lines_of rows)
+Shows n run items Circuit text = text ≡ printed items
+
+-- the line of the sign of a string in the group after a run, where a word stands for a string
+abbrev pub sign_shown : State → Result Signed Refusal → Result (List ℕ) Refusal
+sign_shown run (Ok p) = Ok (sign_line (sign_in (member run.trace) p))
+sign_shown run (Err r) = Err r
+
+-- the text of an item, where there is one
+abbrev pub item_shown : Result OneItem Refusal → Result (List ℕ) Refusal
+item_shown (Ok x) = Ok (printed (before x done))
+item_shown (Err r) = Err r
+
+-- nothing is shown of a list in which a round was split off, unless that was refused
+abbrev pub split_shown : Result (List OneItem) Refusal → Result (List ℕ) Refusal
+split_shown (Ok list) = Ok []
+split_shown (Err r) = Err r
+
+-- what only a framed script is shown of what is held and its run, or why not
+abbrev pub framed_shown : ℕ → State → Held → FramedRequest → Result (List ℕ) Refusal
+framed_shown n run held mark = Ok []
+framed_shown n run held (framed_asks.split place round) = split_shown (split place round (entries held.items))
+framed_shown n run held numbers = Ok (numbers_line (session_numbers n run held.items))
+framed_shown n run held changed = Ok (changed_text held.mark run)
+framed_shown n run held changed_records = Ok (changed_records_text held.mark run)
+framed_shown n run held (sign word) = sign_shown run (string_of_word n word)
+framed_shown n run held (framed_asks.item place) = item_shown (item_at place (entries held.items))
+framed_shown n run held (framed_asks.counts place) = place_shown (item_at place (entries held.items)) place held.items
+
+-- what is held with such a list, or as before where the split was refused
+abbrev pub held_split : Held → Result (List OneItem) Refusal → Held
+held_split held (Ok list) = record held { items = listed list }
+held_split held (Err r) = held
+
+-- what is held behind it: `mark` and a split alone change that
+abbrev pub held_behind : State → Held → FramedRequest → Held
+held_behind run held mark = record held { mark = mark_of run }
+held_behind run held (framed_asks.split place round) = held_split held (split place round (entries held.items))
+held_behind run held request = held
+
+-- a text is shown, or refused
+abbrev pub shown_or_refused : (framed : Bool) → (held behind : Held) → Result (List ℕ) Refusal → Answer
+shown_or_refused framed held behind (Ok text) = record { held = behind; reply = reply_text framed text; refused = false }
+shown_or_refused framed held behind (Err r) = refusing held r
+
+-- the answer to what only a framed script may ask for
+abbrev pub framed_answer : (framed : Bool) → ℕ → State → Held → FramedRequest → Answer
+framed_answer false n run held request = refusing held BadCommand
+framed_answer true n run held request = shown_or_refused true held (held_behind run held request) (framed_shown n run held request)
+
+-- the answer to what tells which detectors and observables are the same whatever the coins, as the command `deterministic` does: a framed
+-- script is shown them, and no other
+abbrev pub IsSureAnswer : (framed : Bool) → Held → Answer → Type 0
+IsSureAnswer false held a = a ≡ refusing held BadCommand
+IsSureAnswer true held a = (text : List ℕ) × IsSureText F01 held.items text × (a ≡ replying held (reply_text true text))
+
+-- the answer to a request, where this is held
+abbrev pub IsAnswer : Setting → Held → Request → Answer → Type 0
+IsAnswer s held begin a = a ≡ replying held (greeting s.framed (session_numbers s.qubits (run_held s held) held.items))
+IsAnswer s held (put how place text) a = IsPut s.framed held (λ item. edited_items s.qubits (edit_of how place item) held.items) text a
+IsAnswer s held (delete place) a = a ≡ decided s.framed held (edited_items s.qubits (circuit_edit.Delete place) held.items)
+IsAnswer s held (show what) a = (text : List ℕ) × Shows s.qubits (run_held s held) held.items what text × (a ≡ replying held (reply_text s.framed text))
+IsAnswer s held (ask request) a = a ≡ framed_answer s.framed s.qubits (run_held s held) held request
+IsAnswer s held deterministic a = IsSureAnswer s.framed held a
+IsAnswer s held (refuse r) a = a ≡ refusing held r
+
+-- first one answer, then the other
+abbrev pub both : Answer → Answer → Answer
+both first second = record { held = second.held; reply = first.reply ++ second.reply; refused = first.refused || second.refused }
+
+-- the answer to requests, one after another
+abbrev pub IsAnswerToAll : Setting → Held → List Request → Answer → Type 0
+IsAnswerToAll s held [] a = a ≡ replying held []
+IsAnswerToAll s held (r ∷ rs) a = (first rest : Answer) × IsAnswer s held r first × IsAnswerToAll s first.held rs rest × (a ≡ both first rest)
+
+-- the answer to a whole script, where these are the items at first
+abbrev pub IsAnswerToScript : Setting → Items → (script : List ℕ) → Answer → Type 0
+IsAnswerToScript s items script a = IsAnswerToAll s (opened s items) (requests_of script) a
