@@ -26,12 +26,22 @@ pub(crate) enum Node {
 }
 
 /// What is known of a block besides its items.
-#[derive(Drop)]
 pub(crate) struct Head {
     pub(crate) count: Count,
     pub(crate) tag: Sequence<u8>,
     /// The summary of one round.
     pub(crate) kept: Summary,
+}
+
+// Written out, so that to a proof a value that is let go is one call, and not one for each of its parts.
+impl Drop for Head {
+    fn drop(self) {
+        let Head {
+            count: _,
+            tag: _,
+            kept: _,
+        } = self;
+    }
 }
 
 // Long circuits are lists of items, which an edit moves.

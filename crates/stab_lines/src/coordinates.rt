@@ -8,7 +8,6 @@ const SHORT: usize = 22;
 /// Coordinates, each as it was written.
 ///
 /// They are kept in one piece, with what stood between them. Few take no memory.
-#[derive(Drop)]
 pub struct Coordinates {
     written: BracketText,
 }
@@ -20,6 +19,13 @@ enum BracketText {
     Short { len: u8, bytes: [u8; 22] },
     // In a box, so that coordinates stay small.
     Long(Box<Sequence<u8>>),
+}
+
+// Written out, so that to a proof a value that is let go is one call, and not one for each of its parts.
+impl Drop for Coordinates {
+    fn drop(self) {
+        let Coordinates { written: _ } = self;
+    }
 }
 
 impl Model for Coordinates {

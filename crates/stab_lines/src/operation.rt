@@ -18,7 +18,6 @@ pub struct Measurement {
 }
 
 /// What an operation does.
-#[derive(Drop)]
 pub enum Kind {
     Gate(Gate, Sequence<Qubit>),
     /// X, Y or Z under a control: CX, CY and CZ.
@@ -32,6 +31,25 @@ pub enum Kind {
     Tick,
     QubitCoords(Located<Sequence<Qubit>>),
     ShiftCoords(Coordinates),
+}
+
+// Written out, so that to a proof a value that is let go is one call, and not one for each of its parts.
+impl Drop for Kind {
+    fn drop(self) {
+        match self {
+            Kind::Gate(_gate, _qubits) => {}
+            Kind::Controlled(_axis, _pairs) => {}
+            Kind::Swap(_pairs) => {}
+            Kind::Measure(_measurement, _targets) => {}
+            Kind::Reset(_axis, _qubits) => {}
+            Kind::MeasureProducts(_products) => {}
+            Kind::Detector(_located) => {}
+            Kind::ObservableInclude(_number, _lookbacks) => {}
+            Kind::Tick => {}
+            Kind::QubitCoords(_located) => {}
+            Kind::ShiftCoords(_coordinates) => {}
+        }
+    }
 }
 
 impl Kind {
@@ -62,10 +80,16 @@ impl Kind {
 }
 
 /// One instruction.
-#[derive(Drop)]
 pub struct Operation {
     pub kind: Kind,
     pub tag: Sequence<u8>,
+}
+
+// Written out, so that to a proof a value that is let go is one call, and not one for each of its parts.
+impl Drop for Operation {
+    fn drop(self) {
+        let Operation { kind: _, tag: _ } = self;
+    }
 }
 
 impl Operation {

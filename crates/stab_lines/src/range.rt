@@ -164,9 +164,15 @@ impl Lookback {
 }
 
 /// How far back records are looked for: numbers k of `rec[-k]`, from 1 to 16,777,215 each.
-#[derive(Drop)]
 pub struct Lookbacks {
     numbers: Sequence<u32>,
+}
+
+// Written out, so that to a proof a value that is let go is one call, and not one for each of its parts.
+impl Drop for Lookbacks {
+    fn drop(self) {
+        let Lookbacks { numbers: _ } = self;
+    }
 }
 
 impl Model for Lookbacks {
