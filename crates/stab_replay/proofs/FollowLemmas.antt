@@ -31,8 +31,8 @@ use Rattle.stab_frames.specs.KeptStrings.{StringsState}
 use Rattle.stab_replay.specs.KeptRuns.{IsNoted, IsKeptRun, IsSameKept, IsSpan}
 use Rattle.stab_replay.specs.inner.Replays.{IsReplay, Ascending, Meets, IsEnd, step_among_new}
 use Rattle.stab_replay.specs.inner.Prepared.{Begins, IsSpliced, IsRest, IsOldRest, IsPrepared, IsCommitted, copies_behind, tableau_behind, meeting_of}
-use Rattle.stab_run.specs.declared.records.Lengths.{Lengths}
-use Rattle.stab_run.proofs.RecordLemmas.{ones-append}
+use Rattle.stab_steps.specs.declared.records.Lengths.{Lengths}
+use Rattle.stab_steps.proofs.RecordLemmas.{ones-append}
 use Rattle.stab_run.proofs.PointLemmas.{flags-are-coins, front-output}
 use Rattle.stab_replay.proofs.NotedLemmas.{near-enough, noted-front, noted-spliced}
 use Rattle.stab_replay.proofs.FramedLemmas.{future-back, future-turned}

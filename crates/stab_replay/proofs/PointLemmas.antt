@@ -6,7 +6,7 @@ use Rattle.stab_tableau.specs.Traces.{member}
 use Rattle.stab_tableau.specs.Groups.{SameGroup}
 use Rattle.stab_tableau.specs.Tableaus.{TableauState, stabilises}
 use Rattle.stab_circuit.specs.Steps.{Step}
-use Rattle.stab_run.specs.declared.records.Lengths.{Lengths}
+use Rattle.stab_steps.specs.declared.records.Lengths.{Lengths}
 use Rattle.stab_replay.specs.declared.checkpoint.Checkpoint.{Checkpoint}
 use Rattle.stab_replay.specs.declared.checkpoint.Meeting.{Meeting}
 use Rattle.stab_run.specs.Points.{Point, RunOutput, origin, joined, point_after, outputs}
@@ -18,7 +18,7 @@ use Rattle.stab_run.specs.Cuts.{lengths_of, front_of, rest_of}
 use Rattle.stab_replay.specs.Checkpoints.{IsRunFromStart, IsCheckpoint}
 use Rattle.stab_replay.specs.inner.LaidCopies.{moved, moved_lengths, moved_copy}
 use Rattle.stab_replay.specs.inner.Replays.{Meets}
-use Rattle.stab_run.proofs.RunLemmas.{after-append, outputs-append}
+use Rattle.stab_steps.proofs.RunLemmas.{after-append, outputs-append}
 use Rattle.stab_run.proofs.FutureLemmas.{same-future}
 use Rattle.stab_run.proofs.PointLemmas.{flags-are-coins, records-are-records, cut, front-output, rest-output, HasAtMost, outputs-short}
 
