@@ -1,7 +1,7 @@
 -- Laid copies: how copies of the state are put behind others, and how they move with a run.
 -- Source: this project's own.
 use Rattle.std.specs.Prelude.{ℕ, ◌+◌, ◌-◌, ◌^◌, min, nat_le, List, [], ◌∷◌, if◌then◌else◌}
-use Rattle.stab_run.specs.declared.records.Lengths.{Lengths}
+use Rattle.stab_steps.specs.declared.records.Lengths.{Lengths}
 use Rattle.stab_copies.specs.declared.checkpoint.Checkpoint.{Checkpoint}
 use Rattle.stab_copies.specs.declared.checkpoint.Meeting.{Meeting}
 

@@ -4,7 +4,7 @@ use Rattle.std.specs.Prelude.{if◌then◌else◌}
 use Rattle.std.proofs.lemmas.List.{length-append, length-replicate, length-set, length-map, map-append}
 use Rattle.stab_letters.specs.Letters.{◌⊕◌}
 use Rattle.stab_letters.proofs.ParityLemmas.{parity-assoc, parity-mid, parity-twice}
-use Rattle.stab_run.specs.declared.records.Addition.{Addition}
+use Rattle.stab_steps.specs.declared.records.Addition.{Addition}
 use Rattle.stab_run.specs.Records.{looked_up, parity}
 use Rattle.stab_run.specs.Runs.{when, added}
 use Rattle.stab_run.specs.Points.{RunOutput, joined, with_additions}

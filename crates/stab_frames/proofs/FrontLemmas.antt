@@ -22,7 +22,7 @@ use Rattle.stab_frames.specs.Fronts.{AreFronts}
 use Rattle.stab_frames.proofs.FlipLemmas.{flipped-joined, joined-matches, flipped-none, unflipped-output, unflipped-matches, additions-flipped}
 use Rattle.stab_frames.proofs.StepLemmas.{group-next, outputs-matches, over-framed}
 use Rattle.stab_frames.proofs.StartLemmas.{framed-exchanged}
-use Rattle.stab_run.proofs.RunLemmas.{joined-nothing, after-append, outputs-append}
+use Rattle.stab_steps.proofs.RunLemmas.{joined-nothing, after-append, outputs-append}
 use Rattle.stab_run.proofs.StateLemmas.{run-state}
 use Rattle.stab_run.proofs.PointLemmas.{records-are-records}
 

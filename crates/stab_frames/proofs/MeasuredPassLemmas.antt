@@ -9,7 +9,7 @@ use Rattle.stab_circuit.specs.Steps.{Step, collapse, product}
 use Rattle.stab_run.specs.Records.{ones}
 use Rattle.stab_run.specs.Runs.{when, string_of, flip_of}
 use Rattle.stab_run.specs.Points.{RunOutput, nothing, joined, coins_of}
-use Rattle.stab_run.proofs.RunLemmas.{joined-nothing, joined-assoc}
+use Rattle.stab_steps.proofs.RunLemmas.{joined-nothing, joined-assoc}
 use Rattle.stab_frames.specs.Frames.{times_where}
 use Rattle.stab_frames.specs.Notes.{same_coins}
 use Rattle.stab_frames.specs.FrameSteps.{flipped_by, letters_by, letters_after, flips_given}

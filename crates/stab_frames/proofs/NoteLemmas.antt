@@ -27,7 +27,7 @@ use Rattle.stab_circuit.specs.Steps.{Step, one, two, controlled, collapse, produ
 use Rattle.stab_run.specs.Runs.{string_of}
 use Rattle.stab_run.specs.Points.{Point, given, coins_of, all_coins_of, next_point, outputs}
 use Rattle.stab_run.specs.ProgramStates.{StepFits}
-use Rattle.stab_run.proofs.ProductLemmas.{length-string_of}
+use Rattle.stab_steps.proofs.ProductLemmas.{length-string_of}
 use Rattle.stab_frames.specs.Notes.{no_strings, IsNoteOf}
 use Rattle.stab_frames.specs.FrameSteps.{frame_after}
 use Rattle.stab_frames.specs.StepNotes.{measured_by, IsRightAt, AreEnough}

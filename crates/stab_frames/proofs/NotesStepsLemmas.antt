@@ -9,7 +9,7 @@ use Rattle.stab_lines.specs.declared.control.ControlledPair.TheVariants as pair
 use Rattle.stab_circuit.specs.Steps.{Step, one, controlled_step, lookbacks}
 use Rattle.stab_run.specs.Points.{all_coins_of}
 use Rattle.stab_run.specs.ProgramStates.{ProgramState, IsRun}
-use Rattle.stab_run.proofs.RunLemmas.{IsRun-none, IsRun-append}
+use Rattle.stab_steps.proofs.RunLemmas.{IsRun-none, IsRun-append}
 use Rattle.stab_frames.specs.KeptStrings.{StringsState}
 use Rattle.stab_frames.specs.Lookbacks.{LooksWithin}
 use Rattle.stab_frames.specs.inner.Noted.{IsNoted, NotesSteps}

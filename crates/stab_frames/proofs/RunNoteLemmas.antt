@@ -11,7 +11,7 @@ use Rattle.stab_circuit.specs.Steps.{Step, one, two, controlled, collapse, produ
 use Rattle.stab_run.specs.Runs.{string_of}
 use Rattle.stab_run.specs.Points.{Point, origin, coins_of, next_point}
 use Rattle.stab_run.specs.ProgramStates.{StepFits}
-use Rattle.stab_run.proofs.ProductLemmas.{length-string_of}
+use Rattle.stab_steps.proofs.ProductLemmas.{length-string_of}
 use Rattle.stab_run.proofs.SoundLemmas.{IsGood, good-next}
 use Rattle.stab_frames.specs.Notes.{IsNoteOf}
 use Rattle.stab_frames.specs.StepNotes.{measured_by, AreRight}

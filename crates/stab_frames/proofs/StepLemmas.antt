@@ -27,7 +27,7 @@ use Rattle.stab_frames.specs.StepLaws.{StepsKeepFrames, RunsKeepFrames}
 use Rattle.stab_frames.proofs.TurnedLemmas.{turned-applied, turned-applied_pair, turned-where, length-times}
 use Rattle.stab_frames.proofs.MeasuredLemmas.{turned-free, outcome-flipped, measured-turned, length-measured}
 use Rattle.stab_frames.proofs.FlipLemmas.{looked_up-flipped, parity-flipped, flipped-append, flipped-joined, joined-matches, flipped-when, and-parity, same-when}
-use Rattle.stab_run.proofs.ProductLemmas.{length-string_of}
+use Rattle.stab_steps.proofs.ProductLemmas.{length-string_of}
 
 -- the strings at a point are a group, and so they are behind a step
 

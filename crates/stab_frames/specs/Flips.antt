@@ -2,7 +2,7 @@
 -- Source: this project's own.
 use Rattle.std.specs.Prelude.{◌≡◌, Bool, false, List, [], ◌∷◌, length, map, replicate}
 use Rattle.stab_letters.specs.Letters.{◌⊕◌}
-use Rattle.stab_run.specs.declared.records.Addition.{Addition}
+use Rattle.stab_steps.specs.declared.records.Addition.{Addition}
 use Rattle.stab_run.specs.Points.{RunOutput}
 
 -- bits, inverted where the flips are 1

@@ -33,7 +33,7 @@
 //! coins are numbered: both runs are given, and a frame tells each bit of the one from the other's, where
 //! Stim's frames are right up to outcomes that are drawn again.
 //!
-//! Proved: the laws, over the group rules that runs themselves are stated by (`stab_run`, `specs/Runs.antt`).
+//! Proved: the laws, over the group rules that runs themselves are stated by (`stab_steps`, `specs/Runs.antt`).
 //! A run that notes strings is the run, and its strings are true of it; a frame that went over steps has the
 //! letters and flips that the laws say, and its notes are enough for them. `specs/inner/` has what only
 //! private contracts cite.

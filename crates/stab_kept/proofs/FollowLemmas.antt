@@ -33,8 +33,8 @@ use Rattle.stab_replay.specs.NotedStrings.{IsNoted, IsSpliced}
 use Rattle.stab_replay.specs.Replays.{IsReplay, Ascending, IsEnd, step_among_new}
 use Rattle.stab_copies.specs.Meets.{Meets}
 use Rattle.stab_kept.specs.inner.Prepared.{Begins, IsRest, IsOldRest, IsPrepared, IsCommitted, copies_behind, tableau_behind, meeting_of}
-use Rattle.stab_run.specs.declared.records.Lengths.{Lengths}
-use Rattle.stab_run.proofs.RecordLemmas.{ones-append}
+use Rattle.stab_steps.specs.declared.records.Lengths.{Lengths}
+use Rattle.stab_steps.proofs.RecordLemmas.{ones-append}
 use Rattle.stab_run.proofs.PointLemmas.{flags-are-coins, front-output}
 use Rattle.stab_replay.proofs.NotedLemmas.{near-enough, noted-front, noted-spliced}
 use Rattle.stab_replay.proofs.FramedLemmas.{future-back, future-turned}

@@ -6,7 +6,7 @@ use Rattle.stab_letters.specs.Letters.{◌⊕◌}
 use Rattle.stab_letters.proofs.ParityLemmas.{parity-assoc, parity-comm, parity-false}
 use Rattle.stab_tableau.proofs.TestLemmas.{not_both}
 use Rattle.stab_circuit.specs.Steps.{Step, one, two, controlled, collapse, product, detector, observable}
-use Rattle.stab_run.specs.declared.records.Addition.{Addition}
+use Rattle.stab_steps.specs.declared.records.Addition.{Addition}
 use Rattle.stab_run.specs.Records.{parity}
 use Rattle.stab_run.specs.Runs.{State, start, run, added}
 use Rattle.stab_run.specs.Points.{Point, origin, next_point, outputs, with_additions}

@@ -3,7 +3,7 @@ use Rattle.std.proofs.Common.{◌≡◌, ℕ, zero, suc, ◌+◌, ◌-◌, ◌<�
 use Rattle.std.proofs.Math.Bool.{beq}
 use Rattle.stab_letters.specs.Letters.{◌⊕◌}
 use Rattle.stab_tableau.proofs.FrameLemmas.{differ}
-use Rattle.stab_run.specs.declared.records.Addition.{Addition}
+use Rattle.stab_steps.specs.declared.records.Addition.{Addition}
 use Rattle.stab_frames.specs.Flips.{flipped, flipped_additions}
 
 flipped-next : (i : ℕ) (bits flips : List Bool) → i < length flips → i < length bits

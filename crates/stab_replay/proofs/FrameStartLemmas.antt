@@ -8,7 +8,7 @@ use Rattle.stab_pauli.proofs.StringLemmas.{string_product-blank}
 use Rattle.stab_tableau.specs.Tableaus.{TableauState, stabilises}
 use Rattle.stab_tableau.specs.Turns.{IsTurned}
 use Rattle.stab_circuit.specs.Steps.{Step}
-use Rattle.stab_run.specs.declared.records.Lengths.{Lengths}
+use Rattle.stab_steps.specs.declared.records.Lengths.{Lengths}
 use Rattle.stab_run.specs.Records.{ones}
 use Rattle.stab_run.specs.Points.{Point, RunOutput, nothing, origin, point_after, outputs}
 use Rattle.stab_run.specs.ProgramStates.{program_state}

@@ -16,11 +16,11 @@ use Rattle.stab_tableau.specs.Groups.{SameGroup, IsStabiliserGroup}
 use Rattle.stab_tableau.specs.Exchanges.{Exchanges}
 use Rattle.stab_tableau.specs.Turns.{IsTurned}
 use Rattle.stab_circuit.specs.Steps.{Step, makes, lookbacks, looks_too_far}
-use Rattle.stab_run.specs.declared.records.Addition.{Addition}
+use Rattle.stab_steps.specs.declared.records.Addition.{Addition}
 use Rattle.stab_run.specs.Records.{looked_up}
 use Rattle.stab_run.specs.Points.{Point, RunOutput, nothing, joined, coins_of, next_point, point_after, outputs}
 use Rattle.stab_run.specs.ProgramStates.{StepFits}
-use Rattle.stab_run.proofs.RunLemmas.{after-append, outputs-append, joined-nothing}
+use Rattle.stab_steps.proofs.RunLemmas.{after-append, outputs-append, joined-nothing}
 use Rattle.stab_frames.specs.Flips.{flipped, flipped_additions, flipped_output}
 use Rattle.stab_frames.specs.Frames.{Frame, PointsDifferBy}
 use Rattle.stab_frames.specs.Notes.{same_coins}

@@ -11,7 +11,7 @@ use Rattle.stab_circuit.specs.Steps.{Step, one, two, controlled, collapse, produ
 use Rattle.stab_run.specs.Records.{ones}
 use Rattle.stab_run.specs.Points.{Point, RunOutput, origin, coins_of, all_coins_of, next_point, point_after, outputs}
 use Rattle.stab_run.specs.ProgramStates.{ProgramState, IsAt}
-use Rattle.stab_run.proofs.RecordLemmas.{ones-append}
+use Rattle.stab_steps.proofs.RecordLemmas.{ones-append}
 use Rattle.stab_run.proofs.PointLemmas.{flags-are-coins, front-output}
 use Rattle.stab_frames.specs.Limits.{most_strings}
 use Rattle.stab_frames.specs.KeptStrings.{StringsState, IsNumbered, IsTrueAt, AreTrue, KeepsTrue, note_at, front_kept}

@@ -8,7 +8,7 @@ use Rattle.stab_tableau.specs.Turns.{IsTurned}
 use Rattle.stab_circuit.specs.Steps.{Step}
 use Rattle.stab_run.specs.Records.{ones}
 use Rattle.stab_run.specs.Points.{RunOutput, origin, point_after, outputs}
-use Rattle.stab_run.proofs.RecordLemmas.{ones-append}
+use Rattle.stab_steps.proofs.RecordLemmas.{ones-append}
 use Rattle.stab_run.proofs.PointLemmas.{flags-are-coins, front-output}
 use Rattle.stab_frames.specs.KeptStrings.{StringsState, kept_with, front_kept}
 use Rattle.stab_frames.proofs.WalkLemmas.{ones-few}

@@ -4,11 +4,11 @@ use Rattle.std.proofs.lemmas.List.{length-drop, drop-drop, take-take}
 use Rattle.stab_tableau.specs.Tableaus.{stabilises}
 use Rattle.stab_tableau.specs.Turns.{IsTurned}
 use Rattle.stab_circuit.specs.Steps.{Step}
-use Rattle.stab_run.specs.declared.records.Lengths.{Lengths}
+use Rattle.stab_steps.specs.declared.records.Lengths.{Lengths}
 use Rattle.stab_run.specs.Records.{ones}
 use Rattle.stab_run.specs.Points.{Point, RunOutput, origin, point_after}
 use Rattle.stab_run.specs.ProgramStates.{program_state, output_of}
-use Rattle.stab_run.proofs.RunLemmas.{after-append}
+use Rattle.stab_steps.proofs.RunLemmas.{after-append}
 use Rattle.stab_run.proofs.PointLemmas.{flags-are-coins}
 use Rattle.stab_frames.specs.declared.steps.Stop.{Stop}
 use Rattle.stab_frames.specs.declared.steps.Stop.TheVariants.{NoString}

@@ -6,7 +6,7 @@ use Rattle.stab_tableau.specs.Traces.{member}
 use Rattle.stab_tableau.specs.Groups.{SameGroup}
 use Rattle.stab_tableau.specs.Tableaus.{TableauState, stabilises}
 use Rattle.stab_circuit.specs.Steps.{Step}
-use Rattle.stab_run.specs.declared.records.Lengths.{Lengths}
+use Rattle.stab_steps.specs.declared.records.Lengths.{Lengths}
 use Rattle.stab_copies.specs.declared.checkpoint.Checkpoint.{Checkpoint}
 use Rattle.stab_copies.specs.declared.checkpoint.Meeting.{Meeting}
 use Rattle.stab_run.specs.Points.{Point, RunOutput, origin, joined, point_after, outputs}
@@ -19,7 +19,7 @@ use Rattle.stab_copies.specs.Checkpoints.{IsRunFromStart, IsCheckpoint}
 use Rattle.stab_copies.specs.LaidCopies.{moved, moved_lengths, moved_copy}
 use Rattle.stab_copies.specs.Meets.{Meets}
 use Rattle.stab_copies.proofs.LastBitsLemmas.{take-more}
-use Rattle.stab_run.proofs.RunLemmas.{after-append, outputs-append}
+use Rattle.stab_steps.proofs.RunLemmas.{after-append, outputs-append}
 use Rattle.stab_run.proofs.FutureLemmas.{same-future}
 use Rattle.stab_run.proofs.PointLemmas.{flags-are-coins, records-are-records, cut, front-output, rest-output, HasAtMost, outputs-short}
 

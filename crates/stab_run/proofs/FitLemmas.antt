@@ -18,7 +18,7 @@ use Rattle.stab_lines.specs.Axes.{letter_of}
 use Rattle.stab_lines.specs.Targets.{pair_qubits}
 use Rattle.stab_circuit.specs.Steps.{Step, one, two, controlled, collapse, product, detector, observable, measured, measured_product, controlled_gate, controlled_step, steps_of, rounds, unroll, past, target_qubits, controlled_qubits, factor_qubits, product_qubits, named_qubits, qubits_of, most_steps, check_of, check_within}
 use Rattle.stab_circuit.specs.Cursors.{IsApart}
-use Rattle.stab_run.specs.ProgramStates.{StepFits}
+use Rattle.stab_steps.specs.ProgramStates.{StepFits}
 
 -- the qubits of a step are below n
 abbrev IsWithin : ℕ → Step → Type 0

@@ -9,11 +9,11 @@ use Rattle.stab_tableau.specs.Groups.{SameGroup}
 use Rattle.stab_tableau.proofs.OneLetterLemmas.{length-one_letter}
 use Rattle.stab_tableau.proofs.MemberLemmas.{same-more, same-outcome, same-free}
 use Rattle.stab_circuit.specs.Steps.{Step, one, two, controlled, collapse, product, detector, observable, lookbacks}
-use Rattle.stab_run.specs.Records.{looked_up, parity}
-use Rattle.stab_run.specs.Runs.{when, string_of, gate_of, flip_of, applied_where, outcome_at}
-use Rattle.stab_run.specs.Points.{Point, nothing, joined, given, trace_after, coins_of, next_point}
+use Rattle.stab_steps.specs.Records.{looked_up, parity}
+use Rattle.stab_steps.specs.Runs.{when, string_of, gate_of, flip_of, applied_where, outcome_at}
+use Rattle.stab_steps.specs.Points.{Point, nothing, joined, given, trace_after, coins_of, next_point}
 use Rattle.stab_run.specs.Laws.{AgreeAt, SameFuture}
-use Rattle.stab_run.proofs.ProductLemmas.{length-string_of}
+use Rattle.stab_steps.proofs.ProductLemmas.{length-string_of}
 
 module _ (n : ℕ) (coins : ℕ → Bool) (a b : Point) (group : SameGroup n (member a.trace) (member b.trace)) (coin : a.coin ≡ b.coin) where
   outcome-same : (p : Signed) → length p.letters ≡ n → outcome_at coins p a.trace a.coin ≡ outcome_at coins p b.trace b.coin

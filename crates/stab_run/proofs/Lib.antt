@@ -1,7 +1,3 @@
-pub mod RecordLemmas
-pub mod ProductLemmas
-pub mod RunLemmas
-pub mod TargetLemmas
 pub mod StateLemmas
 pub mod FutureLemmas
 pub mod PointLemmas

@@ -2,9 +2,9 @@
 use Rattle.std.proofs.Common.{◌≡◌, ℕ, ◌+◌, ◌≤◌, refl, sym, ◌∙◌, ap, subst, Bool, true, false, List, [], ◌∷◌, ◌++◌, append_assoc, append-nil, length, take, drop, arith}
 use Rattle.std.proofs.lemmas.List.{length-append, take-append-drop, take_at, drop_at}
 use Rattle.stab_circuit.specs.Steps.{Step, one, two, controlled, collapse, product, detector, observable}
-use Rattle.stab_run.specs.Points.{Point, RunOutput, origin, joined, given, coins_of, next_point, point_after, outputs}
-use Rattle.stab_run.specs.Cuts.{lengths_of, front_of, rest_of}
-use Rattle.stab_run.proofs.RunLemmas.{outputs-append}
+use Rattle.stab_steps.specs.Points.{Point, RunOutput, origin, joined, given, coins_of, next_point, point_after, outputs}
+use Rattle.stab_steps.specs.Cuts.{lengths_of, front_of, rest_of}
+use Rattle.stab_steps.proofs.RunLemmas.{outputs-append}
 
 -- the flags and records behind some steps
 

@@ -8,9 +8,9 @@ use Rattle.stab_tableau.specs.Groups.{SameGroup}
 use Rattle.stab_circuit.specs.Items.{Items}
 use Rattle.stab_circuit.specs.Steps.{Step, unroll, observables_of}
 use Rattle.stab_run.specs.declared.run.Shot.{Shot}
-use Rattle.stab_run.specs.Runs.{State, start, run, run_of}
-use Rattle.stab_run.specs.Points.{RunOutput, nothing, joined, origin, point_after, outputs, with_additions, state_at}
-use Rattle.stab_run.specs.ProgramStates.{ProgramState, IsAt, Leads, IsRun}
+use Rattle.stab_steps.specs.Runs.{State, start, run, run_of}
+use Rattle.stab_steps.specs.Points.{RunOutput, nothing, joined, origin, point_after, outputs, with_additions, state_at}
+use Rattle.stab_steps.specs.ProgramStates.{ProgramState, IsAt, Leads, IsRun}
 use Rattle.stab_run.specs.inner.Shots.{IsShotOf}
 use Rattle.stab_run.proofs.StateLemmas.{run-state}
 

@@ -10,11 +10,11 @@ use Rattle.stab_tableau.proofs.TraceLemmas.{IsSound-outcome}
 use Rattle.stab_circuit.specs.Items.{Items}
 use Rattle.stab_circuit.specs.Steps.{Step, one, two, controlled, collapse, product, detector, observable, unroll, observables_of, check_within}
 use Rattle.stab_circuit.specs.Cursors.{IsApart}
-use Rattle.stab_run.specs.Runs.{State, start, string_of, applied_where, effect, run, run_of}
-use Rattle.stab_run.specs.Points.{Point, nothing, trace_after, state_at}
+use Rattle.stab_steps.specs.Runs.{State, start, string_of, applied_where, effect, run, run_of}
+use Rattle.stab_steps.specs.Points.{Point, nothing, trace_after, state_at}
 use Rattle.stab_run.specs.Laws.{IsSoundRun}
-use Rattle.stab_run.specs.ProgramStates.{StepFits}
-use Rattle.stab_run.proofs.ProductLemmas.{length-string_of}
+use Rattle.stab_steps.specs.ProgramStates.{StepFits}
+use Rattle.stab_steps.proofs.ProductLemmas.{length-string_of}
 use Rattle.stab_run.proofs.StateLemmas.{next-point}
 use Rattle.stab_run.proofs.FitLemmas.{check-fits}
 

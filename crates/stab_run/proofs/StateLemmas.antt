@@ -7,9 +7,9 @@ use Rattle.stab_pauli.specs.Paulis.{Signed, minus, single}
 use Rattle.stab_tableau.specs.Traces.{Event, applied, applied_pair, projected, member, outcome, is_free}
 use Rattle.stab_circuit.specs.Items.{Items}
 use Rattle.stab_circuit.specs.Steps.{Step, one, two, controlled, collapse, product, detector, observable, unroll, observables_of}
-use Rattle.stab_run.specs.Records.{looked_up, parity}
-use Rattle.stab_run.specs.Runs.{State, start, when, string_of, applied_where, collapsed, effect, run, run_of}
-use Rattle.stab_run.specs.Points.{Point, RunOutput, joined, given, next_point, point_after, outputs, point_of, state_at}
+use Rattle.stab_steps.specs.Records.{looked_up, parity}
+use Rattle.stab_steps.specs.Runs.{State, start, when, string_of, applied_where, collapsed, effect, run, run_of}
+use Rattle.stab_steps.specs.Points.{Point, RunOutput, joined, given, next_point, point_after, outputs, point_of, state_at}
 use Rattle.stab_run.specs.Laws.{AgreeWhere, DependsOnCoinsAt}
 
 -- a point and its outputs

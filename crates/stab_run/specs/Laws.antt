@@ -10,9 +10,9 @@ use Rattle.stab_circuit.specs.Items.{Items}
 use Rattle.stab_circuit.specs.Steps.{Step, unroll, check_within}
 use Rattle.stab_circuit.specs.Cursors.{IsApart}
 use Rattle.stab_circuit.specs.Laws.{AreLinesOf}
-use Rattle.stab_run.specs.Runs.{State, run, run_of}
-use Rattle.stab_run.specs.Points.{Point, point_after, outputs, point_of, state_at}
-use Rattle.stab_run.specs.ProgramStates.{StepFits}
+use Rattle.stab_steps.specs.Runs.{State, run, run_of}
+use Rattle.stab_steps.specs.Points.{Point, point_after, outputs, point_of, state_at}
+use Rattle.stab_steps.specs.ProgramStates.{StepFits}
 
 -- a run ends at the point where its steps lead, with what they give put behind what there was
 abbrev pub RunsArePointsWithOutputs : Type 0

@@ -1,10 +1,10 @@
-pub mod Coins
-pub mod Records
-pub mod Runs
-pub mod Points
+pub use Rattle.stab_steps.specs.Coins
+pub use Rattle.stab_steps.specs.Records
+pub use Rattle.stab_steps.specs.Runs
+pub use Rattle.stab_steps.specs.Points
+pub use Rattle.stab_steps.specs.ProgramStates
+pub use Rattle.stab_steps.specs.Cuts
 pub mod Laws
 pub mod Samplers
-pub mod ProgramStates
-pub mod Cuts
 pub mod Limits
 pub mod inner

@@ -1,18 +1,16 @@
 ghost use Rattle.std.specs.Prelude.{◌≡◌, ◌+◌, ◌<◌, ◌≤◌, ◌^◌, All, length, take, drop, OnOk, IfOk, None, IfErr};
 ghost use Rattle.stab_io.specs.declared.refusal.Refusal.TheVariants.{OutOfMemory};
 ghost use Rattle.stab_tableau.specs.Tableaus.{stabilises};
-ghost use Rattle.stab_run.specs.Records.{ones};
-ghost use Rattle.stab_run.specs.Runs.{run, start};
-ghost use Rattle.stab_run.specs.Points.{all_coins_of};
-ghost use Rattle.stab_run.specs.ProgramStates.{StepFits, IsRun, program_state, output_of};
+ghost use Rattle.stab_steps.specs.Records.{ones};
+ghost use Rattle.stab_steps.specs.Runs.{run, start};
+ghost use Rattle.stab_steps.specs.Points.{all_coins_of};
+ghost use Rattle.stab_steps.specs.ProgramStates.{StepFits, IsRun, program_state, output_of};
 ghost use Rattle.stab_run.specs.inner.Shots.{IsShotOf};
 
-use crate::coins::Coins;
-use crate::records::{Outputs, observables as summed};
-use crate::steps::apply_steps;
 use stab_circuit::Cursor;
 use stab_io::Refusal;
 use stab_pauli::Pauli;
+use stab_steps::{Coins, Outputs, apply_steps, observables as summed};
 use stab_tableau::Tableau;
 use std::alloc::{AllocError, Global};
 

@@ -2,17 +2,17 @@ ghost use Rattle.std.specs.Prelude.{◌≡◌, ◌+◌, ◌≤◌, IfOk};
 ghost use Rattle.stab_letters.specs.Limits.{most_qubits};
 ghost use Rattle.stab_circuit.specs.Steps.{unroll, check_within};
 ghost use Rattle.stab_circuit.specs.Views.{circuit_items};
-ghost use Rattle.stab_run.specs.Records.{ones};
+ghost use Rattle.stab_steps.specs.Records.{ones};
 ghost use Rattle.stab_io.specs.Refusals.{Refuses};
-ghost use Rattle.stab_run.specs.Runs.{run_of};
-ghost use Rattle.stab_run.specs.Points.{all_coins_of};
+ghost use Rattle.stab_steps.specs.Runs.{run_of};
+ghost use Rattle.stab_steps.specs.Points.{all_coins_of};
 ghost use Rattle.stab_run.specs.Laws.{DependsOnCoinsAt};
 
-use crate::coins::Coins;
 use crate::run::{Shot, run_whole};
 use stab_circuit::{Circuit, Cursor};
 use stab_io::{Fault, Refusal};
 use stab_pauli::Pauli;
+use stab_steps::Coins;
 use stab_tableau::Tableau;
 use std::alloc::Global;
 use std::marker::Model;
@@ -66,10 +66,10 @@ impl<'a> Sampler<'a> {
     ghost use Rattle.stab_letters.specs.Limits.{most_qubits};
     ghost use Rattle.stab_circuit.specs.Steps.{unroll, check_within};
     ghost use Rattle.stab_circuit.specs.Views.{circuit_items};
-    ghost use Rattle.stab_run.specs.Records.{ones};
+    ghost use Rattle.stab_steps.specs.Records.{ones};
     ghost use Rattle.stab_io.specs.Refusals.{Refuses};
-    ghost use Rattle.stab_run.specs.Runs.{run_of};
-    ghost use Rattle.stab_run.specs.Points.{all_coins_of};
+    ghost use Rattle.stab_steps.specs.Runs.{run_of};
+    ghost use Rattle.stab_steps.specs.Points.{all_coins_of};
     ghost use Rattle.stab_run.specs.Laws.{DependsOnCoinsAt, IsSoundRun};
 
     /// Makes a circuit ready for shots on n qubits, at most 1,024.
@@ -85,7 +85,7 @@ impl<'a> Sampler<'a> {
     }
 
     // Makes a circuit ready that was checked.
-    #[tactic(auto, using(crate::proofs::ProductLemmas::length_identity))]
+    #[tactic(auto, using(stab_steps::proofs::ProductLemmas::length_identity))]
     fn of_checked(alloc: Global, circuit: &'a Circuit, n: usize) -> Result<Sampler<'a>, Refusal>
         requires in_range { n ≤ most_qubits }
         requires checked { check_within n (circuit_items circuit.now) ≡ None }

@@ -1,5 +1,5 @@
 use Rattle.std.proofs.Common.{arith, false, get_or}
-use Rattle.stab_run.specs.declared.records.Addition.{Addition}
+use Rattle.stab_steps.specs.declared.records.Addition.{Addition}
 use Rattle.stab_replay.proofs.FlippedLemmas.{added-flipped, additions-more, additions-whole}
 use Rattle.stab_replay.proofs.bits.append_flipped_additions.Goals as goal
 

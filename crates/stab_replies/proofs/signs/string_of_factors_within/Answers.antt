@@ -1,6 +1,6 @@
 use Rattle.std.proofs.Common.{length, ap, ◌∙◌}
 use Rattle.stab_pauli.specs.Paulis.{Signed}
-use Rattle.stab_run.proofs.ProductLemmas.{length_identity}
+use Rattle.stab_steps.proofs.ProductLemmas.{length_identity}
 use Rattle.stab_replies.proofs.SignLaws.{within_given}
 use Rattle.stab_replies.proofs.signs.string_of_factors_within.Goals as goal
 

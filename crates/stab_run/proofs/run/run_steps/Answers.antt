@@ -1,9 +1,9 @@
 use Rattle.std.proofs.Common.{◌-◌, arith, refl, ap, subst, sym, ◌∙◌, length, take}
 use Rattle.std.proofs.lemmas.List.{length-append}
 use Rattle.stab_circuit.specs.Cursors.{steps_shown}
-use Rattle.stab_run.specs.Points.{all_coins_of}
-use Rattle.stab_run.specs.ProgramStates.{IsRun, program_state, output_of}
-use Rattle.stab_run.proofs.RunLemmas.{IsRun-none, fits-steps, run-steps}
+use Rattle.stab_steps.specs.Points.{all_coins_of}
+use Rattle.stab_steps.specs.ProgramStates.{IsRun, program_state, output_of}
+use Rattle.stab_steps.proofs.RunLemmas.{IsRun-none, fits-steps, run-steps}
 use Rattle.stab_run.proofs.StepsLeftLemmas.{take-steps, drop-steps, coins-append, take-none, drop-none, take-empty, drop-empty}
 use Rattle.stab_run.proofs.run.run_steps.Goals as goal
 

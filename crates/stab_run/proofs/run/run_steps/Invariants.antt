@@ -1,7 +1,7 @@
 use Rattle.std.proofs.Common.{◌≡◌, ◌+◌, ◌≤◌, All, length, take, drop}
-use Rattle.stab_run.specs.Records.{ones}
-use Rattle.stab_run.specs.Points.{all_coins_of}
-use Rattle.stab_run.specs.ProgramStates.{ProgramState, StepFits, IsRun, program_state, output_of}
+use Rattle.stab_steps.specs.Records.{ones}
+use Rattle.stab_steps.specs.Points.{all_coins_of}
+use Rattle.stab_steps.specs.ProgramStates.{ProgramState, StepFits, IsRun, program_state, output_of}
 use Rattle.stab_run.proofs.run.run_steps.Given as goal
 
 abbrev pub invariant-loop-left : goal.invariant-loop-left

@@ -1,6 +1,6 @@
 use Rattle.std.proofs.Common.{ap, subst, take, replicate, refl, false, ◌∙◌}
-use Rattle.stab_run.specs.Points.{with_additions}
-use Rattle.stab_run.specs.ProgramStates.{IsRun, program_state, output_of}
+use Rattle.stab_steps.specs.Points.{with_additions}
+use Rattle.stab_steps.specs.ProgramStates.{IsRun, program_state, output_of}
 use Rattle.stab_run.proofs.ShotLemmas.{run-shot}
 use Rattle.stab_run.proofs.StepsLeftLemmas.{take-all, asks-all}
 use Rattle.stab_run.proofs.run.run_whole.Goals as goal

@@ -2,7 +2,7 @@ use Rattle.std.proofs.Common.{arith, ap, sym, subst, ◌∙◌, refl, length}
 use Rattle.std.proofs.lemmas.List.{length-append}
 use Rattle.stab_circuit.specs.Cursors.{steps_shown}
 use Rattle.stab_run.specs.ProgramStates.{IsRun}
-use Rattle.stab_run.proofs.RunLemmas.{IsRun-none, fits-steps, run-steps}
+use Rattle.stab_steps.proofs.RunLemmas.{IsRun-none, fits-steps, run-steps}
 use Rattle.stab_shots.specs.LaneRules.{lane_state}
 use Rattle.stab_shots.proofs.run.run_steps.Goals as goal
 

@@ -1,6 +1,6 @@
 use Rattle.std.proofs.Common.{refl, sym, ◌∙◌}
 use Rattle.stab_circuit.specs.Steps.{controlled_step}
-use Rattle.stab_run.proofs.TargetLemmas.{fits-target, run-target, run-targets}
+use Rattle.stab_steps.proofs.TargetLemmas.{fits-target, run-target, run-targets}
 use Rattle.stab_shots.specs.LaneRules.{lane_state}
 use Rattle.stab_shots.proofs.steps.apply_pairs.Goals as goal
 

@@ -1,7 +1,7 @@
 use Rattle.std.proofs.Common.{ap, sym, subst, ◌∙◌, ◌∷◌, []}
 use Rattle.stab_circuit.specs.Steps.{measured}
 use Rattle.stab_run.specs.ProgramStates.{StepFits, IsRun}
-use Rattle.stab_run.proofs.TargetLemmas.{fits-target, run-target, run-targets}
+use Rattle.stab_steps.proofs.TargetLemmas.{fits-target, run-target, run-targets}
 use Rattle.stab_shots.specs.LaneRules.{lane_state}
 use Rattle.stab_shots.proofs.steps.measure_targets.Goals as goal
 

@@ -2,7 +2,7 @@ use Rattle.std.proofs.Common.{◌≡◌, arith, ap, sym, ◌∙◌, subst, All}
 use Rattle.stab_circuit.specs.Cursors.{steps_shown}
 use Rattle.stab_run.specs.Points.{all_coins_of}
 use Rattle.stab_run.specs.ProgramStates.{program_state, output_of}
-use Rattle.stab_run.proofs.TargetLemmas.{coins-measured}
+use Rattle.stab_steps.proofs.TargetLemmas.{coins-measured}
 use Rattle.stab_frames.specs.Lookbacks.{LooksWithin}
 use Rattle.stab_frames.proofs.NotesStepsLemmas.{notes-unmeasured, coins-gates, near-gates, coins-pairs}
 use Rattle.stab_frames.proofs.noting.RunNotes.run_steps.Goals as goal

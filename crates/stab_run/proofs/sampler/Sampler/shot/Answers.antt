@@ -3,7 +3,7 @@ use Rattle.std.specs.Prelude.{IfOk}
 use Rattle.std.proofs.lemmas.Result.{IfOk-weaker}
 use Rattle.stab_tableau.specs.Tableaus.{stabilises}
 use Rattle.stab_circuit.specs.Views.{circuit_items}
-use Rattle.stab_run.specs.Runs.{run_of}
+use Rattle.stab_steps.specs.Runs.{run_of}
 use Rattle.stab_run.specs.Laws.{DependsOnCoinsAt}
 use Rattle.stab_run.specs.Samplers.{SamplerState}
 use Rattle.stab_run.specs.inner.Shots.{IsShotOf}

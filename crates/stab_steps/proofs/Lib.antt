@@ -1,0 +1,4 @@
+pub mod RecordLemmas
+pub mod ProductLemmas
+pub mod RunLemmas
+pub mod TargetLemmas

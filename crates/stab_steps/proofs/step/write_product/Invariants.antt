@@ -1,0 +1,11 @@
+use Rattle.std.proofs.Common.{◌≡◌, false, drop, length, replicate}
+use Rattle.stab_letters.specs.declared.letter.Letter.TheVariants.{I}
+use Rattle.stab_steps.specs.Runs.{with_factors}
+use Rattle.stab_steps.proofs.step.write_product.Given as goal
+
+abbrev pub invariant-loop-factor : goal.invariant-loop-factor
+invariant-loop-factor l = record {
+  positive : l.string.negative ≡ false;
+  size : length l.string.letters ≡ length l.initial.string.letters;
+  letters : with_factors (drop l.factor-index l.factors) l.string.letters ≡ with_factors l.factors (replicate (length l.initial.string.letters) I);
+}

@@ -1,0 +1,12 @@
+use Rattle.std.proofs.Common.{◌≡◌, ℕ, Bool, map, take}
+use Rattle.stab_circuit.specs.Steps.{one}
+use Rattle.stab_steps.specs.Points.{RunOutput}
+use Rattle.stab_steps.specs.ProgramStates.{IsRun, program_state}
+use Rattle.stab_steps.proofs.steps.apply_gates.Given as goal
+
+abbrev pub invariant-loop-qubit : goal.invariant-loop-qubit
+invariant-loop-qubit l = record {
+  qubits : l.tableau.qubits ≡ l.initial.tableau.qubits;
+  run : (coins : ℕ → Bool) (output : RunOutput)
+      → IsRun l.initial.tableau.qubits coins (map (one l.gate) (take l.qubit-index l.qubits)) (program_state l.initial.tableau output) (program_state l.tableau output);
+}

@@ -1,0 +1,6 @@
+pub mod Coins
+pub mod Records
+pub mod Runs
+pub mod Points
+pub mod ProgramStates
+pub mod Cuts

@@ -1,0 +1,35 @@
+//! Coins, and the steps of a circuit, carried out on a tableau.
+//!
+//! In the order in which data flows; each module uses only those before it:
+//!
+//! - `coins`: the bits that decide outcomes which nothing else decides.
+//! - `records`: what steps have given so far, and the parity of the records that `rec[-k]` names.
+//! - `step`, `steps`: one step on a tableau, and those of one instruction.
+//!
+//! `specs/` says which bit each coin is, what the steps of a circuit make of its qubits and records, and
+//! how a program that carries them out follows them. Which steps a circuit has is said by
+//! `stab_circuit`; runs of some or all of them, and what a run depends on, are `stab_run`'s, where the
+//! names and definitions of this crate stand too.
+//!
+//! Sources: Stim's circuit file format, for what the steps of a circuit do to records, detectors and observables;
+//! D. Gottesman, Stabilizer codes and quantum error correction (1997), and S. Aaronson and D. Gottesman, Improved
+//! simulation of stabilizer circuits (2004), section III, for its qubits; D. J. Bernstein, ChaCha, a variant of
+//! Salsa20 (2008), for the coins of a seed. It differs in that the coin of each measurement is given by number, and in
+//! that a detector is the parity of its records.
+//!
+//! Proved: coins are one fixed sequence of bits by number, which no call changes, and a seed gives
+//! the bits of ChaCha8 that `specs/Coins.antt` names. A step, and the steps of one instruction, lead a
+//! tableau and what was gathered from one point to the next (`specs/Points.antt`,
+//! `specs/ProgramStates.antt`), and ask for at most as many coins as decide. That where steps lead and
+//! what they give is the run by the group rules of `specs/Runs.antt` is a law of `stab_run`.
+#![tactic(auto)]
+
+mod coins;
+mod records;
+mod step;
+mod steps;
+
+pub use coins::{Coins, ListCoins, SeedCoins, seed_coins};
+pub use records::{Addition, Lengths, Outputs, looked_up, observables, parity};
+pub use step::{apply_step, flip, write_product};
+pub use steps::apply_steps;
