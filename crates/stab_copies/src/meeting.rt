@@ -37,12 +37,7 @@ pub fn meets(
 {
     let alike = outputs.free.len() == copy.lengths.free
         && outputs.records.len() == copy.lengths.records
-        && same_last(
-            outputs.records.as_slice(),
-            records,
-            base,
-            reach as usize,
-        );
+        && same_last(outputs.records.as_slice(), records, base, reach as usize);
     if !alike {
         return Ok(false);
     }

@@ -1,10 +1,10 @@
 //! Texts that are gathered up to a limit.
-ghost use Rattle.std.specs.Prelude.{◌≡◌, ℕ, ◌++◌, List, [], length, Option, Some, None, IfErr, OnOk, MatchOption, if◌then◌else◌};
+ghost use Rattle.std.specs.Prelude.{◌≡◌, ℕ, List, [], Option, Some, None, IfErr, OnOk, MatchOption, if◌then◌else◌};
 ghost use Rattle.stab_replies.specs.ScriptWords.{more, is_nothing as nothing};
 ghost use Rattle.stab_io.specs.Refusals.{whole};
 ghost use Rattle.stab_io.specs.declared.refusal.Refusal.TheVariants.{OutOfMemory};
 
-use stab_io::{Fault, Refusal};
+use stab_io::Fault;
 use std::alloc::Global;
 use std::marker::Model;
 

@@ -1,5 +1,5 @@
 //! An input in memory that keeps a log of its reads.
-ghost use Rattle.std.specs.Prelude.{◌≡◌, ◌<◌, ◌≤◌, List, ◌++◌, ◌∷◌, [], length, Some, None, IfSome};
+ghost use Rattle.std.specs.Prelude.{◌≡◌, ◌<◌, ◌≤◌, ◌++◌, ◌∷◌, [], length, Some, None, IfSome};
 ghost use Rattle.stab_replies.specs.Watchers.{Logs};
 ghost use Rattle.stab_replies.specs.LoggedInputs.{logged_input};
 

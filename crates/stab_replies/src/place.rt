@@ -1,5 +1,5 @@
 //! Words of a script, and the paths that they stand for.
-ghost use Rattle.std.specs.Prelude.{◌≡◌, ◌≤◌, ℕ, List, true, false, length, take, Some, None, MatchOption};
+ghost use Rattle.std.specs.Prelude.{◌≡◌, ◌≤◌, true, false, length, Some, None, MatchOption};
 ghost use Rattle.std.specs.List.{position_or_len};
 ghost use Rattle.stab_lines.specs.Lines.{is_spacing as spacing};
 ghost use Rattle.stab_lines.specs.Words.{value};

@@ -1,5 +1,5 @@
 //! The Pauli strings of words.
-ghost use Rattle.std.specs.Prelude.{◌≡◌, ◌<◌, All, IfOk, length, nat_lt, true};
+ghost use Rattle.std.specs.Prelude.{◌≡◌, ◌<◌, IfOk, length, nat_lt, true};
 ghost use Rattle.std.specs.List.{list_all};
 ghost use Rattle.stab_lines.specs.Results.{Gives};
 ghost use Rattle.stab_circuit.specs.Steps.{is_inverted as inverted_of};

@@ -1,4 +1,4 @@
-ghost use Rattle.std.specs.Prelude.{◌≡◌, ◌+◌, ◌*◌, ◌^◌, ◌<◌, ◌≤◌, ℕ, Bool, false, slice_index_or};
+ghost use Rattle.std.specs.Prelude.{◌≡◌, ◌+◌, ◌*◌, ◌^◌, ◌<◌, ℕ, Bool, false, slice_index_or};
 ghost use Rattle.std.specs.Option.{ForSome};
 ghost use Rattle.stab_steps.specs.Coins.{one_more, list_coin, key_bytes, seed_coin, Listed, Seeded};
 

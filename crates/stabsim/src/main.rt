@@ -159,7 +159,14 @@ fn run_written<E: Output>(
         return run_on(rt, job, input, script, Writer::AtOnce(sink), err);
     }
     match BufWriter::new(rt.alloc(), sink) {
-        Ok(writer) => run_on(rt, job, input, Reader::Nothing, Writer::Gathered(writer), err),
+        Ok(writer) => run_on(
+            rt,
+            job,
+            input,
+            Reader::Nothing,
+            Writer::Gathered(writer),
+            err,
+        ),
         Err(_) => tell_fault(Refusal::OutOfMemory, err),
     }
 }
