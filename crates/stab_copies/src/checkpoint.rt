@@ -5,21 +5,11 @@ use stab_run::Lengths;
 use stab_tableau::CompactTableau;
 
 /// A copy of the state before a step, and how long the lists were there.
+#[derive(Drop)]
 pub struct Checkpoint {
     pub step: usize,
     pub lengths: Lengths,
     pub tableau: CompactTableau,
-}
-
-// Written out, so that to a proof a value that is let go is one call, and not one for each of its parts.
-impl Drop for Checkpoint {
-    fn drop(self) {
-        let Checkpoint {
-            step: _,
-            lengths: _,
-            tableau: _,
-        } = self;
-    }
 }
 
 /// Where a replay met a copy of the old run: from there on the old run moves to behind the new one.

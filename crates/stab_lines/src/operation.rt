@@ -80,16 +80,10 @@ impl Kind {
 }
 
 /// One instruction.
+#[derive(Drop)]
 pub struct Operation {
     pub kind: Kind,
     pub tag: Sequence<u8>,
-}
-
-// Written out, so that to a proof a value that is let go is one call, and not one for each of its parts.
-impl Drop for Operation {
-    fn drop(self) {
-        let Operation { kind: _, tag: _ } = self;
-    }
 }
 
 impl Operation {
