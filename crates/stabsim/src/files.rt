@@ -67,6 +67,11 @@ pub(crate) enum Reader {
 }
 
 impl Read for Reader {
+    ghost use Rattle.stabsim.specs.Readers.{bytes_left};
+
+    // So a device round no bytes is an honest one, as the empty circuit of `edit` is.
+    ghost remaining = { bytes_left };
+
     fn read(&mut self, buf: &mut [u8]) -> io::Result<usize> {
         match self {
             Reader::File(file) => file.read(buf),
