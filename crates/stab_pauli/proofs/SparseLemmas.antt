@@ -1,11 +1,14 @@
 -- Words of which most are 0: what a word behind them makes, how they are written over words 0, and how they are compared.
-use Rattle.std.proofs.Common.{◌≡◌, ℕ, zero, suc, ◌+◌, ◌-◌, ◌*◌, ◌<◌, ◌≤◌, refl, sym, ◌∙◌, ap, arith, append_assoc, length-append, length-drop, List, [], ◌∷◌, ◌++◌, length, get_or, set, take, drop, replicate, ◌↔◌}
-use Rattle.std.proofs.lemmas.List.{length-replicate, replicate-append-replicate, set-append_right, set_at, drop_more, take_more, length-set, get_or_at, take_at, drop_at, drop_all, take_all, drop-drop, take-append-drop}
-use Rattle.std.specs.Prelude.{bit_or}
-use Rattle.std.proofs.lemmas.Nat.{le_or_l, le_or_r}
+use Rattle.std.proofs.Common.{◌≡◌, ℕ, zero, suc, ◌+◌, ◌-◌, ◌<◌, ◌≤◌, refl, sym, ◌∙◌, ap, arith, append_assoc, length-append, length-drop, List, [], ◌∷◌, ◌++◌, length, get_or, set, take, drop, replicate, ◌↔◌}
+use Rattle.std.proofs.lemmas.List.{length-replicate, replicate-append-replicate, set-append_right, set_at, drop_more, length-set, get_or_at, take_at, drop_at, drop_all, take_all, drop-drop, take-append-drop}
 use Rattle.stab_pauli.specs.inner.Words.{AreShort}
-use Rattle.stab_pauli.specs.inner.Sparse.{spread, IsSparse}
+use Rattle.stab_pauli.specs.declared.packed.sparse.SparseWords.{SparseWords}
+use Rattle.stab_pauli.specs.inner.Sparse.{spread}
 use Rattle.stab_pauli.proofs.TellLemmas.{short_more, short_tail}
+
+-- the words that a value stands for
+abbrev pub told_by : SparseWords → List ℕ
+told_by w = spread w.gaps.items w.kept.items w.behind
 
 -- behind them
 
@@ -14,61 +17,11 @@ spread-zeros [] ks b m = replicate-append-replicate b m 0
 spread-zeros (g ∷ gs) [] b m = replicate-append-replicate b m 0
 spread-zeros (g ∷ gs) (w ∷ ks) b m = append_assoc (replicate g 0) (w ∷ spread gs ks b) (replicate m 0) ∙ ap (λ t. replicate g 0 ++ w ∷ t) (spread-zeros gs ks b m)
 
-spread-kept : (gs ks : List ℕ) (b w : ℕ) → length gs ≡ length ks → spread (gs ++ b ∷ []) (ks ++ w ∷ []) 0 ≡ spread gs ks b ++ w ∷ []
+pub spread-kept : (gs ks : List ℕ) (b w : ℕ) → length gs ≡ length ks → spread (gs ++ b ∷ []) (ks ++ w ∷ []) 0 ≡ spread gs ks b ++ w ∷ []
 spread-kept [] [] b w e = refl
 spread-kept [] (k ∷ ks) b w e = absurd (omega arith)
 spread-kept (g ∷ gs) [] b w e = absurd (omega arith)
 spread-kept (g ∷ gs) (k ∷ ks) b w e = ap (λ t. replicate g 0 ++ k ∷ t) (spread-kept gs ks b w (omega arith)) ∙ sym (append_assoc (replicate g 0) (k ∷ spread gs ks b) (w ∷ []))
-
-pub sparse-none : (gs ks : List ℕ) → gs ≡ [] → ks ≡ [] → IsSparse gs ks 0 []
-sparse-none gs ks eg ek = record { even = ap length eg ∙ sym (ap length ek); words_are = λ i. spread (eg i) (ek i) 0 }
-
-pub sparse-zeros : (gs ks : List ℕ) (b m : ℕ) → length gs ≡ length ks → IsSparse gs ks (b + m) (spread gs ks b ++ replicate m 0)
-sparse-zeros gs ks b m e = record { even = e; words_are = sym (spread-zeros gs ks b m) }
-
-pub sparse-kept : (gs ks : List ℕ) (b w : ℕ) → length gs ≡ length ks → IsSparse (gs ++ b ∷ []) (ks ++ w ∷ []) 0 (spread gs ks b ++ w ∷ [])
-sparse-kept gs ks b w e = record { even = length-append gs (b ∷ []) ∙ ap (λ n. n + 1) e ∙ sym (length-append ks (w ∷ [])); words_are = spread-kept gs ks b w e }
-
--- one by one, four words are put behind others
-pub four-behind : (xs us vs ws : List ℕ) (a b c d : ℕ) → us ≡ xs ++ a ∷ [] → vs ≡ us ++ b ∷ [] → ws ≡ vs ++ c ∷ [] → ws ++ d ∷ [] ≡ xs ++ a ∷ b ∷ c ∷ d ∷ []
-four-behind xs us vs ws a b c d ea eb ec =
-    ap (λ t. t ++ d ∷ []) (ec ∙ ap (λ t. t ++ c ∷ []) (eb ∙ ap (λ t. t ++ b ∷ []) ea))
-    ∙ append_assoc ((xs ++ a ∷ []) ++ b ∷ []) (c ∷ []) (d ∷ [])
-    ∙ append_assoc (xs ++ a ∷ []) (b ∷ []) (c ∷ d ∷ [])
-    ∙ append_assoc xs (a ∷ []) (b ∷ c ∷ d ∷ [])
-
-four-zeros : (a b c d : ℕ) → bit_or (bit_or a b) (bit_or c d) ≡ 0 → a ∷ b ∷ c ∷ d ∷ [] ≡ 0 ∷ 0 ∷ 0 ∷ 0 ∷ []
-four-zeros a b c d none =
-    let a0 = le_or_l a b in
-    let b0 = le_or_r a b in
-    let c0 = le_or_l c d in
-    let d0 = le_or_r c d in
-    let l = le_or_l (bit_or a b) (bit_or c d) in
-    let r = le_or_r (bit_or a b) (bit_or c d) in
-    let za : a ≡ 0 = omega arith in
-    let zb : b ≡ 0 = omega arith in
-    let zc : c ≡ 0 = omega arith in
-    let zd : d ≡ 0 = omega arith in
-    λ i. za i ∷ zb i ∷ zc i ∷ zd i ∷ []
-
--- four words 0
-pub sparse-half : (gs ks : List ℕ) (n a b c d : ℕ) → length gs ≡ length ks → bit_or (bit_or a b) (bit_or c d) ≡ 0 → IsSparse gs ks (n + 4) (spread gs ks n ++ a ∷ b ∷ c ∷ d ∷ [])
-sparse-half gs ks n a b c d e none = record { even = e; words_are = sym (spread-zeros gs ks n 4) ∙ ap (λ t. spread gs ks n ++ t) (sym (four-zeros a b c d none)) }
-
-take-half : (xs : List ℕ) (half : ℕ) → 4 * half + 4 ≤ length xs
-    → take (4 * (half + 1)) xs ≡ take (4 * half) xs ++ get_or xs (4 * half) 0 ∷ get_or xs (4 * half + 1) 0 ∷ get_or xs (4 * half + 2) 0 ∷ get_or xs (4 * half + 3) 0 ∷ []
-take-half xs half le =
-    ap (λ n. take n xs) (omega arith)
-    ∙ take_more xs (4 * half + 3) 0 (omega arith)
-    ∙ four-behind (take (4 * half) xs) (take (4 * half + 1) xs) (take (4 * half + 2) xs) (take (4 * half + 3) xs) _ _ _ _
-    (take_more xs (4 * half) 0 (omega arith))
-    (ap (λ n. take n xs) (omega arith) ∙ take_more xs (4 * half + 1) 0 (omega arith))
-    (ap (λ n. take n xs) (omega arith) ∙ take_more xs (4 * half + 2) 0 (omega arith))
-
--- four words more
-pub half-more : (xs : List ℕ) (half : ℕ) (old new : List ℕ) → 4 * half + 4 ≤ length xs → old ≡ take (4 * half) xs
-    → new ≡ old ++ get_or xs (4 * half) 0 ∷ get_or xs (4 * half + 1) 0 ∷ get_or xs (4 * half + 2) 0 ∷ get_or xs (4 * half + 3) 0 ∷ [] → new ≡ take (4 * (half + 1)) xs
-half-more xs half old new le eo en = en ∙ ap (λ t. t ++ get_or xs (4 * half) 0 ∷ get_or xs (4 * half + 1) 0 ∷ get_or xs (4 * half + 2) 0 ∷ get_or xs (4 * half + 3) 0 ∷ []) eo ∙ sym (take-half xs half le)
 
 -- one of a list, and those behind it
 drop_here : (xs : List ℕ) (k x : ℕ) → k < length xs → x ≡ get_or xs k x → drop k xs ≡ x ∷ drop (k + 1) xs
@@ -79,7 +32,7 @@ pub spread-from : (gs ks : List ℕ) (b k g w : ℕ) → length gs ≡ length ks
     → spread (drop k gs) (drop k ks) b ≡ replicate g 0 ++ w ∷ spread (drop (k + 1) gs) (drop (k + 1) ks) b
 spread-from gs ks b k g w e lt eg ew = λ i. spread (drop_here gs k g (omega arith) eg i) (drop_here ks k w lt ew i) b
 
-length-from : (g w : ℕ) (rest : List ℕ) → length (replicate g 0 ++ w ∷ rest) ≡ g + 1 + length rest
+pub length-from : (g w : ℕ) (rest : List ℕ) → length (replicate g 0 ++ w ∷ rest) ≡ g + 1 + length rest
 length-from g w rest = length-append (replicate g 0) (w ∷ rest) ∙ (λ i. length-replicate {A = ℕ} g 0 i + suc (length rest)) ∙ omega arith
 
 -- how many are left

@@ -1,19 +1,19 @@
 //! Words of which most are 0.
 
-ghost use Rattle.std.specs.Prelude.{◌≡◌, ◌++◌, [], ◌∷◌, ◌*◌, ◌↔◌, IsTrue, IfOk, OnOk, length, take, replicate, slice_index_or, ◌<◌};
+ghost use Rattle.std.specs.Prelude.{◌≡◌, ◌+◌, ◌++◌, [], ◌∷◌, ◌*◌, ◌↔◌, IsTrue, IfOk, OnOk, length, take, replicate, slice_index_or, ◌<◌, ◌≤◌, ◌^◌};
 ghost use Rattle.stab_pauli.specs.inner.Words.{AreShort};
-ghost use Rattle.stab_pauli.specs.inner.Sparse.{spread, IsSparse};
+ghost use Rattle.stab_pauli.specs.inner.Sparse.{spread, IsSparse, IsPacking};
 
 use std::alloc::{AllocError, Global};
 
 /// Words, without those that are 0.
 #[derive(Drop)]
 pub(crate) struct SparseWords {
-    /// How many words 0 stand before each word that is kept. Behind 255 of them one more is kept.
+    /// How many words 0 stand before each word that is kept. A gap that fits no byte is cut by words 0 that are kept.
     pub(crate) gaps: Vec<u8>,
     pub(crate) kept: Vec<u64>,
     /// How many stand behind the last word that is kept.
-    pub(crate) behind: u8,
+    pub(crate) behind: usize,
 }
 
 /// A law, and no work: words have 64 bits.
@@ -52,74 +52,184 @@ fn begin_with(words: &[u64], gap: usize, word: u64) -> bool
     words[gap] == word && are_zeros(&words[..gap])
 }
 
-impl SparseWords {
-    /// What these words are, of which there are four times so many.
-    pub(crate) fn of(alloc: Global, words: &[u64], halves: usize) -> Result<SparseWords, AllocError>
-        requires all { length words.now ≡ 4 * halves }
-        ensures value { IfOk result (λ s. IsSparse s.gaps.items s.kept.items s.behind words.now) }
-    {
-        let count = count_of(words);
-        let mut sparse = SparseWords {
-            gaps: Vec::with_capacity(alloc, count)?,
-            kept: Vec::with_capacity(alloc, count)?,
-            behind: 0,
-        };
-        for half in 0..halves {
-            let at = 4 * half;
-            sparse.push_half(words[at], words[at + 1], words[at + 2], words[at + 3])?;
-        }
-        Ok(sparse)
-    }
+/// Whether all eight words of a block are 0, as most are: one question.
+#[inline(always)]
+fn is_blank(block: &[u64]) -> bool
+    requires size { length block.now ≡ 8 }
+    ensures value { IsTrue result → block.now ≡ replicate 8 0 }
+{
+    let x = (block[0] | block[1]) | (block[2] | block[3]);
+    let z = (block[4] | block[5]) | (block[6] | block[7]);
+    x | z == 0
+}
 
-    /// The same words again.
-    pub(crate) fn copy(&self, alloc: Global) -> Result<SparseWords, AllocError>
-        ensures gaps { IfOk result (λ s. s.gaps.items ≡ self.now.gaps.items) }
-        ensures kept { IfOk result (λ s. s.kept.items ≡ self.now.kept.items) }
-        ensures behind { IfOk result (λ s. s.behind ≡ self.now.behind) }
+/// Where the next word is to be kept, and how many words 0 stand before it.
+#[derive(Clone, Copy, Drop)]
+struct Place {
+    len: usize,
+    behind: usize,
+}
+
+/// Puts a word behind those that stand before the place. It is written at the place in any case, and the place moves on
+/// where it is not 0: a branch on that no processor could guess.
+#[inline(always)]
+fn put(gaps: &mut [u8], kept: &mut [u64], place: Place, word: u64) -> Place
+    requires even { length gaps.old ≡ length kept.old }
+    requires room { place.len < length kept.old }
+    requires fits { place.behind ≤ 255 }
+    ensures size { length kept.new ≡ length kept.old }
+    ensures near { (result.len ≤ place.len + 1) × (result.behind ≤ place.behind + 1) }
+    ensures value { IsPacking gaps.new kept.new result.len result.behind (spread (take place.len gaps.old) (take place.len kept.old) place.behind ++ word ∷ []) }
+{
+    kept[place.len] = word;
+    gaps[place.len] = place.behind as u8;
+    let keep = word != 0;
+    Place {
+        len: place.len + usize::from(keep),
+        behind: if keep { 0 } else { place.behind + 1 },
+    }
+}
+
+/// Puts the eight words of a block behind those that stand before the place.
+#[inline(always)]
+fn put_block(gaps: &mut [u8], kept: &mut [u64], start: Place, block: &[u64]) -> Place
+    requires even { length gaps.old ≡ length kept.old }
+    requires room { start.len + 8 ≤ length kept.old }
+    requires fits { start.behind ≤ 247 }
+    requires size { length block.now ≡ 8 }
+    ensures size { length kept.new ≡ length kept.old }
+    ensures value { IsPacking gaps.new kept.new result.len result.behind (spread (take start.len gaps.old) (take start.len kept.old) start.behind ++ block.now) }
+{
+    let mut place = start;
+    for k in 0..8 {
+        place = put(gaps, kept, place, block[k]);
+    }
+    place
+}
+
+/// Lists in whose first places words are kept, with room for others.
+#[derive(Drop)]
+struct Room {
+    gaps: Vec<u8>,
+    kept: Vec<u64>,
+}
+
+impl Room {
+    /// Room for so many words.
+    fn new(alloc: Global, size: usize) -> Result<Room, AllocError>
+        ensures value { IfOk result (λ r. length r.gaps.items ≡ length r.kept.items) }
     {
-        Ok(SparseWords {
-            gaps: Vec::from_slice(alloc, self.gaps.as_slice())?,
-            kept: Vec::from_slice(alloc, self.kept.as_slice())?,
-            behind: self.behind,
+        Ok(Room {
+            gaps: vec![in alloc; 0; size]?,
+            kept: vec![in alloc; 0; size]?,
         })
     }
 
-    /// Puts four words behind the others. Where all are 0, as most are, that is one question.
+    /// Makes room for a block behind the place.
     #[inline(always)]
-    fn push_half(
-        &mut self,
-        first: u64,
-        second: u64,
-        third: u64,
-        fourth: u64,
-    ) -> Result<(), AllocError>
+    fn make_room(&mut self, place: Place) -> Result<(), AllocError>
         requires even { length self.old.gaps.items ≡ length self.old.kept.items }
-        ensures value { OnOk result (IsSparse self.new.gaps.items self.new.kept.items self.new.behind (spread self.old.gaps.items self.old.kept.items self.old.behind ++ first ∷ second ∷ third ∷ fourth ∷ [])) }
+        requires room { place.len ≤ length self.old.kept.items }
+        ensures room { OnOk result (place.len + 8 ≤ length self.new.kept.items) }
+        ensures value { OnOk result (IsPacking self.new.gaps.items self.new.kept.items place.len place.behind (spread (take place.len self.old.gaps.items) (take place.len self.old.kept.items) place.behind)) }
     {
-        if self.behind <= 251 && (first | second) | (third | fourth) == 0 {
-            self.behind += 4;
-            return Ok(());
+        if self.kept.len() - place.len < 8 {
+            let size = self.kept.len().saturating_add(8);
+            self.gaps.resize(size, 0)?;
+            self.kept.resize(size, 0)?;
         }
-        self.push(first)?;
-        self.push(second)?;
-        self.push(third)?;
-        self.push(fourth)
+        Ok(())
     }
 
-    /// Puts a word behind the others.
-    #[inline(always)]
-    fn push(&mut self, word: u64) -> Result<(), AllocError>
+    /// Cuts a gap: keeps a word 0, behind as many others as fit a byte.
+    fn cut_gap(&mut self, place: Place) -> Result<Place, AllocError>
         requires even { length self.old.gaps.items ≡ length self.old.kept.items }
-        ensures value { OnOk result (IsSparse self.new.gaps.items self.new.kept.items self.new.behind (spread self.old.gaps.items self.old.kept.items self.old.behind ++ word ∷ [])) }
+        requires room { place.len ≤ length self.old.kept.items }
+        requires many { 0 < place.behind }
+        ensures fewer { IfOk result (λ p. p.behind < place.behind) }
+        ensures value { IfOk result (λ p. IsPacking self.new.gaps.items self.new.kept.items p.len p.behind (spread (take place.len self.old.gaps.items) (take place.len self.old.kept.items) place.behind)) }
     {
-        if word == 0 && self.behind < 255 {
-            self.behind += 1;
-            return Ok(());
+        self.make_room(place)?;
+        let gap = (place.behind - 1).min(255);
+        self.gaps[place.len] = gap as u8;
+        self.kept[place.len] = 0;
+        Ok(Place {
+            len: place.len + 1,
+            behind: place.behind - gap - 1,
+        })
+    }
+
+    /// Cuts a gap until those within the block that is put next fit a byte.
+    #[inline(always)]
+    fn cut_gaps(&mut self, start: Place) -> Result<Place, AllocError>
+        requires even { length self.old.gaps.items ≡ length self.old.kept.items }
+        requires room { start.len ≤ length self.old.kept.items }
+        ensures fits { IfOk result (λ p. p.behind ≤ 247) }
+        ensures value { IfOk result (λ p. IsPacking self.new.gaps.items self.new.kept.items p.len p.behind (spread (take start.len self.old.gaps.items) (take start.len self.old.kept.items) start.behind)) }
+    {
+        let mut place = start;
+        while place.behind > 247 {
+            place = self.cut_gap(place)?;
         }
-        self.gaps.push(self.behind)?;
-        self.kept.push(word)?;
-        self.behind = 0;
-        Ok(())
+        Ok(place)
+    }
+
+    /// Puts the eight words of a block behind those that stand before the place.
+    #[inline(always)]
+    fn push_block(&mut self, start: Place, block: &[u64]) -> Result<Place, AllocError>
+        requires even { length self.old.gaps.items ≡ length self.old.kept.items }
+        requires room { start.len ≤ length self.old.kept.items }
+        requires fits { start.behind + 8 < 2 ^ 64 }
+        requires size { length block.now ≡ 8 }
+        ensures value { IfOk result (λ p. IsPacking self.new.gaps.items self.new.kept.items p.len p.behind (spread (take start.len self.old.gaps.items) (take start.len self.old.kept.items) start.behind ++ block.now)) }
+    {
+        if is_blank(block) {
+            return Ok(Place {
+                len: start.len,
+                behind: start.behind + 8,
+            });
+        }
+        let place = self.cut_gaps(start)?;
+        self.make_room(place)?;
+        Ok(put_block(
+            self.gaps.as_mut_slice(),
+            self.kept.as_mut_slice(),
+            place,
+            block,
+        ))
+    }
+
+    /// The words that stand before the place, without the room for others.
+    fn finish(self, place: Place) -> SparseWords
+        requires even { length self.gaps.items ≡ length self.kept.items }
+        ensures value { IsSparse result.gaps.items result.kept.items result.behind (spread (take place.len self.gaps.items) (take place.len self.kept.items) place.behind) }
+    {
+        let Room { mut gaps, mut kept } = self;
+        gaps.truncate(place.len);
+        kept.truncate(place.len);
+        SparseWords {
+            gaps,
+            kept,
+            behind: place.behind,
+        }
+    }
+}
+
+impl SparseWords {
+    /// What these words are, of which there are eight times so many.
+    pub(crate) fn of(alloc: Global, words: &[u64], blocks: usize) -> Result<SparseWords, AllocError>
+        requires all { length words.now ≡ 8 * blocks }
+        ensures value { IfOk result (λ s. IsSparse s.gaps.items s.kept.items s.behind words.now) }
+    {
+        // Words 0 that cut gaps, each of 248 or more, and a block: with these no list has to grow.
+        let others = words.len() / 248 + 8;
+        let mut room = Room::new(alloc, count_of(words).saturating_add(others))?;
+        let mut place = Place { len: 0, behind: 0 };
+        for block in 0..blocks {
+            let at = 8 * block;
+            place = room.push_block(place, &words[at..at + 8])?;
+        }
+        Ok(room.finish(place))
     }
 
     /// Writes the words over as many words 0.

@@ -1,9 +1,13 @@
+ghost use Rattle.std.specs.Prelude.{◌≡◌, ◌*◌, ◌/◌, length, IfOk};
+ghost use Rattle.stab_pauli.specs.inner.Sparse.{IsSparse};
+
 use super::PauliRows;
 use crate::packed::sparse::{SparseWords, are_short};
 use stab_io::Refusal;
 use stab_letters::Phase;
-use std::alloc::Global;
+use std::alloc::{AllocError, Global};
 use std::marker::Model;
+use std::rc::Rc;
 
 /// Signed Pauli strings of one length that are kept in little memory, to be gone back to: words that are 0 take none.
 ///
@@ -13,7 +17,8 @@ pub struct CompactRows {
     blocks: usize,
     // How many words the rows have.
     size: usize,
-    words: SparseWords,
+    // Copies share them: what a copy may change is its signs.
+    words: Rc<SparseWords>,
     powers: Vec<Phase>,
 }
 
@@ -37,9 +42,18 @@ impl Model for CompactRows {
 
     ghost Value = { Rows };
 
-    ghost view = { λ p. table p.qubits p.blocks (spread p.words.gaps.items p.words.kept.items p.words.behind) p.powers.items };
+    ghost view = { λ p. table p.qubits p.blocks (spread p.words.value.gaps.items p.words.value.kept.items p.words.value.behind) p.powers.items };
 
-    ghost invariant = { λ p. IsCompact p.qubits p.blocks p.words.gaps.items p.words.kept.items p.words.behind p.size p.powers.items };
+    ghost invariant = { λ p. IsCompact p.qubits p.blocks p.words.value.gaps.items p.words.value.kept.items p.words.value.behind p.size p.powers.items };
+}
+
+/// Words, without those that are 0, to be shared. There are eight times as many as blocks.
+fn shared(alloc: Global, words: &[u64]) -> Result<Rc<SparseWords>, AllocError>
+    requires all { length words.now ≡ 8 * (length words.now / 8) }
+    ensures value { IfOk result (λ s. IsSparse s.value.gaps.items s.value.kept.items s.value.behind words.now) }
+{
+    let sparse = SparseWords::of(alloc, words, words.len() / 8)?;
+    Ok(Rc::new(alloc, sparse)?)
 }
 
 impl PauliRows {
@@ -58,7 +72,7 @@ impl PauliRows {
             qubits: self.qubits,
             blocks: self.blocks,
             size: words.len(),
-            words: SparseWords::of(alloc, words, words.len() / 4)?,
+            words: shared(alloc, words)?,
             powers: Vec::from_slice(alloc, self.powers.as_slice())?,
         })
     }
@@ -78,7 +92,7 @@ impl CompactRows {
         self.qubits
     }
 
-    /// The same strings again, kept in as little memory.
+    /// The same strings again. It takes memory for their signs alone.
     ///
     /// Refusal `OutOfMemory` alone.
     pub fn copy(&self, alloc: Global) -> Result<CompactRows, Refusal>
@@ -89,7 +103,7 @@ impl CompactRows {
             qubits: self.qubits,
             blocks: self.blocks,
             size: self.size,
-            words: self.words.copy(alloc)?,
+            words: self.words.clone()?,
             powers: Vec::from_slice(alloc, self.powers.as_slice())?,
         })
     }
@@ -102,7 +116,7 @@ impl CompactRows {
         ensures err { IfErr result (λ r. r ≡ OutOfMemory) }
     {
         let mut words = vec![in alloc; 0; self.size]?;
-        self.words.write_into(words.as_mut_slice());
+        self.words.as_ref().write_into(words.as_mut_slice());
         Ok(PauliRows {
             qubits: self.qubits,
             blocks: self.blocks,
@@ -119,7 +133,7 @@ impl CompactRows {
     {
         let words = rows.words.as_mut_slice();
         words.fill(0);
-        self.words.write_into(words);
+        self.words.as_ref().write_into(words);
         rows.powers
             .as_mut_slice()
             .copy_from_slice(self.powers.as_slice());
@@ -137,9 +151,10 @@ impl CompactRows {
             return false;
         }
         let words = rows.words.as_slice();
+        let sparse = self.words.as_ref();
         are_short(words);
-        are_short(self.words.kept.as_slice());
-        self.words.are(words)
+        are_short(sparse.kept.as_slice());
+        sparse.are(words)
     }
 
     /// Whether both have as many strings over as many qubits, with the same letters, whatever their signs.
@@ -153,9 +168,10 @@ impl CompactRows {
             return false;
         }
         let words = rows.words.as_slice();
+        let sparse = self.words.as_ref();
         are_short(words);
-        are_short(self.words.kept.as_slice());
-        self.words.are(words)
+        are_short(sparse.kept.as_slice());
+        sparse.are(words)
     }
 
     /// Whether the signs of row a differ in both, where its letters are the same: then none has to be looked at.

@@ -54,7 +54,7 @@ impl CompactTable {
         self.rows.qubits()
     }
 
-    /// The same rows again, kept in as little memory.
+    /// The same rows again. It takes memory for their signs alone.
     pub fn copy(&self, alloc: Global) -> Result<CompactTable, Refusal>
         ensures ok { IfOk result (λ t. t ≡ self.now) }
         ensures err { IfErr result (λ r. r ≡ OutOfMemory) }

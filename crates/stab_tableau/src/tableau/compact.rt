@@ -64,7 +64,7 @@ impl CompactTableau {
         self.table.len()
     }
 
-    /// The same state again, kept in as little memory.
+    /// The same state again. It takes memory for its signs alone.
     ///
     /// Refusal `OutOfMemory` alone.
     pub fn copy(&self, alloc: Global) -> Result<CompactTableau, Refusal>
@@ -96,6 +96,14 @@ impl CompactTableau {
             preimage,
             multiplier,
         })
+    }
+
+    /// Makes a tableau of as many qubits this state, in the memory that it has.
+    pub fn write_into(&self, tableau: &mut Tableau)
+        requires same_qubits { tableau.old.qubits ≡ self.now.qubits }
+        ensures value { tableau.new ≡ self.now }
+    {
+        self.table.write_into(&mut tableau.table);
     }
 
     /// Applies a Pauli gate to a qubit of the kept state, where it lies: at most two signs are turned. It takes no memory.

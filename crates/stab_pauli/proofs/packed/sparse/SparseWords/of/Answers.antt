@@ -1,22 +1,14 @@
-use Rattle.std.proofs.Common.{arith, ◌∙◌, ◌*◌}
-use Rattle.std.proofs.lemmas.List.{take_all}
-use Rattle.stab_pauli.specs.inner.Sparse.{spread}
-use Rattle.stab_pauli.proofs.SparseLemmas.{half-more, sparse-none}
+use Rattle.std.proofs.Common.{arith, ◌*◌, take}
+use Rattle.std.proofs.lemmas.List.{length-take}
+use Rattle.stab_pauli.proofs.PackingLemmas.{packing-few, packing-behind, blocks-next}
 use Rattle.stab_pauli.proofs.packed.sparse.SparseWords.of.Goals as goal
 
-pub loop-half-init : goal.loop-half-init
-loop-half-init c = sparse-none _ _ c.in_ok-with_capacity.ensures.items c.in_ok-with_capacity-2.ensures.items
+pub push_block-requires-clause-fits : goal.push_block-requires-clause-fits
+push_block-requires-clause-fits c =
+    let few = packing-few c.loop-block.room.gaps.items c.loop-block.room.kept.items c.loop-block.place.len c.loop-block.place.behind (take (8 * c.loop-block.block) c.args.words.now) c.loop-block.invariant in
+    omega (arith, few, length-take (8 * c.loop-block.block) c.args.words.now, c.requires.all, c.loop-block-test.true)
 
-pub push_half-requires : goal.push_half-requires
-push_half-requires c = record { even = c.loop-half.invariant.even }
-
-pub loop-half-preserved : goal.loop-half-preserved
-loop-half-preserved c = record {
-  even = c.in_ok-push_half.ensures.value.even;
-  words_are = half-more c.args.words.now c.loop-half.half (spread c.loop-half.sparse.gaps.items c.loop-half.sparse.kept.items c.loop-half.sparse.behind) _ (omega arith) c.loop-half.invariant.words_are c.in_ok-push_half.ensures.value.words_are;
-}
-
-pub returns : goal.returns
-returns c = record {
-  value = record { even = c.loop-half.invariant.even; words_are = c.loop-half.invariant.words_are ∙ take_all (4 * c.loop-half.half) c.args.words.now (omega arith) };
-}
+pub loop-block-preserved : goal.loop-block-preserved
+loop-block-preserved c =
+    packing-behind c.loop-block.room.gaps.items c.loop-block.room.kept.items c.push_block.new.self.gaps.items c.push_block.new.self.kept.items c.loop-block.place.len c.loop-block.place.behind c.in_ok-place.place.len c.in_ok-place.place.behind _ _ _
+    (blocks-next c.args.words.now c.loop-block.block _ (omega arith)) c.loop-block.invariant c.in_ok-place.ensures.value

@@ -1,7 +1,8 @@
 use Rattle.std.proofs.Common.{arith, ◌≡◌, ◌∙◌, ◌*◌, sym, subst, ap, length}
 use Rattle.stab_pauli.specs.inner.Words.{AreShort}
 use Rattle.stab_pauli.specs.inner.Blocks.{blocks_of}
-use Rattle.stab_pauli.proofs.SparseLemmas.{short-spread}
+use Rattle.stab_pauli.specs.declared.packed.sparse.SparseWords.{SparseWords}
+use Rattle.stab_pauli.proofs.SparseLemmas.{short-spread, told_by}
 use Rattle.stab_pauli.proofs.TellLemmas.{words_told, letters_told, same_number, no_false}
 use Rattle.stab_pauli.proofs.SeenLemmas.{seen_of, qubits_seen}
 use Rattle.stab_pauli.proofs.rows.compact.CompactRows.same_letters.Goals as goal
@@ -27,7 +28,7 @@ are-requires-clause-size c =
     let number : length c.self.inside.powers.items ≡ length c.rows.inside.powers.items = omega arith in
     let blocks : c.self.inside.blocks ≡ c.rows.inside.blocks =
     c.self.invariant.lies.blocks.count ∙ ap blocks_of c.if-self-rows.false ∙ sym c.rows.invariant.blocks.count in
-    ap length c.as_slice-words.ensures.value ∙ c.rows.invariant.size ∙ sym (c.self.invariant.lies.size ∙ (λ i. 8 * blocks i * number i))
+    ap length c.as_slice-words.ensures.value ∙ c.rows.invariant.size ∙ sym (ap (λ w. length (told_by w)) c.as_ref-sparse.ensures ∙ c.self.invariant.lies.size ∙ (λ i. 8 * blocks i * number i))
 
 pub returns : goal.returns
 returns c =
@@ -36,15 +37,16 @@ returns c =
     let k = c.self.inside.powers.ok.0 in
     let k' = c.rows.inside.powers.ok.0 in
     let number : length c.self.inside.powers.items ≡ length c.rows.inside.powers.items = omega arith in
-    let kept = subst (AreShort 64) c.as_slice.ensures.value c.are_short-2.ensures.law in
-    let short = short-spread c.self.inside.words.gaps.items c.self.inside.words.kept.items c.self.inside.words.behind kept in
+    let same = ap told_by c.as_ref-sparse.ensures in
+    let kept = subst (AreShort 64) (c.as_slice.ensures.value ∙ ap (λ (w : SparseWords). w.kept.items) c.as_ref-sparse.ensures) c.are_short-2.ensures.law in
+    let short = short-spread c.self.inside.words.value.gaps.items c.self.inside.words.value.kept.items c.self.inside.words.value.behind kept in
     let shorts = subst (AreShort 64) c.as_slice-words.ensures.value c.are_short.ensures.law in
     record {
       value = (
         (λ h. (
           sym (qubits_seen mine) ∙ c.if-self-rows.false ∙ qubits_seen theirs,
-          letters_told mine theirs c.if-self-rows.false number (c.are.ensures.value.0 h ∙ c.as_slice-words.ensures.value),
+          letters_told mine theirs c.if-self-rows.false number (sym same ∙ c.are.ensures.value.0 h ∙ c.as_slice-words.ensures.value),
         )),
-        (λ both. c.are.ensures.value.1 (words_told mine theirs short shorts both.0 both.1 ∙ sym c.as_slice-words.ensures.value)),
+        (λ both. c.are.ensures.value.1 (same ∙ words_told mine theirs short shorts both.0 both.1 ∙ sym c.as_slice-words.ensures.value)),
       );
     }
