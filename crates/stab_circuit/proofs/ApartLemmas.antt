@@ -26,7 +26,7 @@ apart_each P f h (x ∷ xs) e = All-cons IsApart (f x) (map f xs) (h x e.0) (apa
 
 apart_pair : (axis : Axis) (p : ControlledPair) → IsControlled p → IsApart (controlled_step axis p)
 apart_pair axis (pair.Qubits p) e = λ same. e.2 (sym same)
-apart_pair axis (pair.Record k q) e = tt
+apart_pair axis (pair.Record q k) e = tt
 
 -- one instruction
 apart_kind : (k : Kind) → IsGoodKind k → All IsApart (steps_of k)

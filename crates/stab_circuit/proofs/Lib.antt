@@ -2,6 +2,7 @@ mod InputLemmas
 mod StepPartLemmas
 mod WalkLemmas
 mod SkipLemmas
+mod DetectorLemmas
 mod FaultLemmas
 mod ReadingLemmas
 mod RefusalLemmas

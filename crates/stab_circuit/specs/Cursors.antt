@@ -1,11 +1,13 @@
 -- Cursors: which steps the values of the code stand for.
 -- Source: this project's own.
-use Rattle.std.specs.Prelude.{List, [], ◌∷◌, map}
+use Rattle.std.specs.Prelude.{ℕ, List, [], ◌∷◌, map}
+use Rattle.stab_circuit.specs.declared.detectors.Detectors.{Detectors as DetectorsValue}
 use Rattle.stab_circuit.specs.declared.step.Step.{Step as StepValue}
 use Rattle.stab_circuit.specs.declared.step.Step.TheVariants.{One, Two, Controlled, Collapse, Product, Detector, Observable}
 use Rattle.stab_circuit.specs.declared.steps.Steps.{Steps}
-use Rattle.stab_circuit.specs.declared.steps.Steps.TheVariants.{Gates, Pairs, Measurements, Single}
+use Rattle.stab_circuit.specs.declared.steps.Steps.TheVariants.{Gates, Pairs, Measurements, Detectors, Single}
 use Rattle.stab_items.specs.Steps.{Step, one, two, controlled, collapse, product, detector, observable, controlled_step, measured}
+use Rattle.stab_circuit.specs.Detectors.{lookbacks_at}
 pub use Rattle.stab_items.specs.Steps.{IsApart}
 
 -- the step that a value stands for
@@ -18,11 +20,16 @@ step_shown (Product factors inverted) = product factors.now inverted
 step_shown (Detector ks) = detector ks.now
 step_shown (Observable j ks) = observable j ks.now
 
+-- the lookbacks of each of some detectors
+abbrev pub lookbacks_of : DetectorsValue → List (List ℕ)
+lookbacks_of ds = map lookbacks_at ds.items.now
+
 -- the steps that a value stands for
 abbrev pub steps_shown : Steps → List Step
 steps_shown (Gates g qubits) = map (one g) qubits.now
 steps_shown (Pairs axis pairs) = map (controlled_step axis) pairs.now
 steps_shown (Measurements m targets) = map (measured m) targets.now
+steps_shown (Detectors ds) = map detector (lookbacks_of ds)
 steps_shown (Single step) = step_shown step ∷ []
 
 -- so it is of a step that is given by itself
@@ -30,6 +37,7 @@ abbrev pub IsApartAlone : Steps → Type 0
 IsApartAlone (Gates g qubits) = Unit {0}
 IsApartAlone (Pairs axis pairs) = Unit {0}
 IsApartAlone (Measurements m targets) = Unit {0}
+IsApartAlone (Detectors ds) = Unit {0}
 IsApartAlone (Single step) = IsApart (step_shown step)
 
 -- what contracts see of a cursor: all steps of its circuit, and those that are left

@@ -6,6 +6,7 @@ pub use Rattle.stab_items.specs.Nothings
 pub mod Views
 pub mod Inputs
 pub mod Readings
+pub mod Detectors
 pub mod Cursors
 pub mod Paths
 pub mod Places

@@ -69,8 +69,8 @@ impl<'a> Cursor<'a> {
         self.walk.next()
     }
 
-    /// The next steps, of one instruction, up to so many, or `None` where none is left, and then for
-    /// ever. It takes no memory.
+    /// The next steps, of one instruction or of detectors, up to so many, or `None` where none is
+    /// left, and then for ever. It takes no memory.
     pub fn next_steps(&mut self, most: usize) -> Option<Steps<'a>>
         requires some { 0 < most }
         ensures all { self.new.all ≡ self.old.all }

@@ -68,7 +68,7 @@ fn controlled(axis: Axis, pair: &ControlledPair) -> Step<'static>
             let first = pair.first().number();
             Step::Two(controlled_gate(axis), first, pair.second().number())
         }
-        ControlledPair::Record(lookback, qubit) => {
+        ControlledPair::Record(qubit, lookback) => {
             Step::Controlled(axis.letter(), lookback.number(), qubit.number())
         }
     }
@@ -178,7 +178,7 @@ pub fn step_at(kind: &Kind, place: usize) -> Option<Step<'_>>
         }
         Kind::Reset(axis, qubits) => reset_at(*axis, qubits.as_slice(), place),
         Kind::MeasureProducts(products) => product_at(products.as_slice(), place),
-        Kind::Detector(located) => { only_at(Step::Detector(located.targets().as_slice()), place) },
+        Kind::Detector(located) => { only_at(Step::Detector(located.records()), place) },
         Kind::ObservableInclude(observable, records) => {
             let number = observable.number();
             only_at(Step::Observable(number, records.as_slice()), place)

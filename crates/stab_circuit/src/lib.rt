@@ -12,6 +12,7 @@
 //!   and the item that a step is of.
 //! - `print`: the one text of a circuit.
 //! - `step`, `instruction`, `steps`: the steps of an instruction, one at a time and together.
+//! - `detectors`: detectors that stand one behind the other.
 //! - `walk`, `cursor`: the unrolled steps of a circuit, from any place on.
 //! - `laws`: what holds between all texts and all items.
 //!
@@ -39,6 +40,7 @@ mod chunks;
 mod circuit;
 mod commit;
 mod cursor;
+mod detectors;
 mod edit;
 mod input;
 mod instruction;
@@ -52,6 +54,7 @@ mod walk;
 
 pub use circuit::{Circuit, StepItem, circuit_of_text, read_circuit, read_item};
 pub use cursor::Cursor;
+pub use detectors::Detectors;
 pub use edit::{Edit, Refused, Span};
 pub use input::read_text;
 pub use instruction::{controlled_gate, measured_step};

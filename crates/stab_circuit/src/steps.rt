@@ -2,12 +2,13 @@ ghost use Rattle.std.specs.Prelude.{◌≡◌, ◌≤◌, ◌<◌, ◌+◌, ◌+
 ghost use Rattle.stab_items.specs.Steps.{steps_of};
 ghost use Rattle.stab_circuit.specs.Cursors.{steps_shown, IsApartAlone};
 
+use crate::detectors::Detectors;
 use crate::instruction::step_at;
 use crate::step::Step;
 use stab_letters::Gate;
 use stab_lines::{Axis, ControlledPair, Kind, MeasureTarget, Measurement, Qubit};
 
-/// Steps of one instruction, one behind the other, at least one.
+/// Steps of one instruction, or of detectors, one behind the other, at least one.
 #[derive(Clone, Copy)]
 pub enum Steps<'a> {
     /// A gate on each of these qubits.
@@ -16,6 +17,8 @@ pub enum Steps<'a> {
     Pairs(Axis, &'a [ControlledPair]),
     /// A measurement of each of these targets.
     Measurements(Measurement, &'a [MeasureTarget]),
+    /// Detectors, each an instruction of its own.
+    Detectors(Detectors<'a>),
     /// One step.
     Single(Step<'a>),
 }
@@ -32,13 +35,14 @@ impl<'a> Steps<'a> {
             Steps::Gates(_, qubits) => qubits.len(),
             Steps::Pairs(_, pairs) => pairs.len(),
             Steps::Measurements(_, targets) => targets.len(),
+            Steps::Detectors(detectors) => detectors.len(),
             Steps::Single(_) => 1,
         }
     }
 }
 
 /// The elements of a list from a place on, up to so many, or `None` where there are none.
-fn part<T>(list: &[T], place: usize, most: usize) -> Option<&[T]>
+pub fn part<T>(list: &[T], place: usize, most: usize) -> Option<&[T]>
     requires some { 0 < most }
     ensures value { IfSome result (λ p. p.now ≡ take most (drop place list.now)) }
     ensures some { IfSome result (λ p. (0 < length p.now) × (length p.now ≤ most) × (place + length p.now < 2 ^ 64)) }

@@ -2,9 +2,10 @@ ghost use Rattle.std.specs.Prelude.{◌≡◌, ◌≤◌, ◌<◌, ◌+◌, ◌*
 ghost use Rattle.stab_circuit.specs.Cursors.{step_shown, IsApart};
 ghost use Rattle.stab_circuit.specs.inner.Walks.{shown_step, kind_steps};
 
+use crate::detectors::Detectors;
 use crate::instruction::{step_at, step_count};
 use crate::step::Step;
-use crate::steps::{Steps, steps_from};
+use crate::steps::{Steps, part, steps_from};
 use stab_items::{Item, Part};
 use stab_lines::Kind;
 use std::alloc::{AllocError, Global};
@@ -41,10 +42,10 @@ pub struct Walk<'a> {
 }
 
 impl<'a> Walk<'a> {
-    ghost use Rattle.std.specs.Prelude.{◌≡◌, ◌≤◌, ◌<◌, ◌+◌, ◌-◌, ◌*◌, ◌∷◌, ◌++◌, [], None, min, length, drop, IfOk, IfSome, IfNone};
+    ghost use Rattle.std.specs.Prelude.{◌≡◌, ◌≤◌, ◌<◌, ◌+◌, ◌-◌, ◌*◌, ◌∷◌, ◌++◌, [], None, min, length, drop, map, IfOk, IfSome, IfNone};
     ghost use Rattle.stab_items.specs.Items.{depth, listed};
-    ghost use Rattle.stab_items.specs.Steps.{unroll, steps_of, rounds as rounds_of, most_steps, steps_cap};
-    ghost use Rattle.stab_circuit.specs.Cursors.{step_shown, steps_shown, IsApart, IsApartAlone};
+    ghost use Rattle.stab_items.specs.Steps.{unroll, steps_of, detector, rounds as rounds_of, most_steps, steps_cap};
+    ghost use Rattle.stab_circuit.specs.Cursors.{step_shown, lookbacks_of, steps_shown, IsApart, IsApartAlone};
     ghost use Rattle.stab_circuit.specs.inner.Walks.{kind_steps, ahead, walk_left, walk_weight, weight, weight_at, IsWalk, SameKind, Takes, GoesOn, Passes};
 
     /// A walk over the items from a place on, with room for every level.
@@ -213,8 +214,28 @@ impl<'a> Walk<'a> {
         Some(steps)
     }
 
-    /// The next steps, of one instruction, up to so many, or `None` where none is left, and then for
-    /// ever.
+    /// The detectors that stand next in the innermost block, up to so many, unless none does.
+    fn detectors(&mut self, most: usize) -> Option<Detectors<'a>>
+        requires walks { IsWalk self.old }
+        requires some { 0 < most }
+        requires given { drop self.old.within (kind_steps self.old.kind) ≡ [] }
+        ensures walks { IsWalk self.new }
+        ensures some { IfSome result (λ d. walk_left self.old ≡ map detector (lookbacks_of d) ++ walk_left self.new) }
+        ensures within { IfSome result (λ d. (0 < length (lookbacks_of d)) × (length (lookbacks_of d) ≤ most)) }
+        ensures none { IfNone result (self.new ≡ self.old) }
+    {
+        let ahead = part(self.top.items, self.top.place, most)?;
+        let detectors = Detectors::at_front(ahead);
+        let count = detectors.len();
+        if count == 0 {
+            return None;
+        }
+        self.top.place += count;
+        Some(detectors)
+    }
+
+    /// The next steps, of one instruction or of detectors, up to so many, or `None` where none is
+    /// left, and then for ever.
     pub fn next_steps(&mut self, most: usize) -> Option<Steps<'a>>
         requires walks { IsWalk self.old }
         requires some { 0 < most }
@@ -225,13 +246,14 @@ impl<'a> Walk<'a> {
         ensures none { IfNone result ((walk_left self.old ≡ []) × (walk_left self.new ≡ [])) }
     {
         'walk: loop {
-            match self.steps(most) {
-                Some(steps) => return Some(steps),
-                None => {
-                    if !self.go_on() {
-                        return None;
-                    }
-                }
+            if let Some(steps) = self.steps(most) {
+                return Some(steps);
+            }
+            if let Some(detectors) = self.detectors(most) {
+                return Some(Steps::Detectors(detectors));
+            }
+            if !self.go_on() {
+                return None;
             }
         }
     }

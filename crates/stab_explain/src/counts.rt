@@ -23,7 +23,7 @@ impl Counts {
             Kind::MeasureProducts(products) => {
                 Counts::of_measurements(products.as_slice().len())
             }
-            Kind::Detector(located) => Counts::of_lookbacks(located.targets().as_slice()),
+            Kind::Detector(located) => Counts::of_lookbacks(located.records()),
             Kind::ObservableInclude(_, records) => Counts::of_lookbacks(records.as_slice()),
             Kind::Tick | Kind::QubitCoords(_) | Kind::ShiftCoords(_) => Counts::of_steps(0),
         }
@@ -65,7 +65,7 @@ fn furthest(lookbacks: &[u32]) -> u64 {
 fn furthest_of_pairs(pairs: &[ControlledPair]) -> u64 {
     let mut furthest = 0;
     for pair in pairs {
-        if let ControlledPair::Record(lookback, _) = pair {
+        if let ControlledPair::Record(_, lookback) = pair {
             furthest = furthest.max(u64::from(lookback.number()));
         }
     }

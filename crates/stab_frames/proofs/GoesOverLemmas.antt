@@ -12,9 +12,9 @@ use Rattle.stab_lines.specs.declared.control.ControlledPair.TheVariants as pair
 use Rattle.stab_lines.specs.declared.range.MeasureTarget.{MeasureTarget}
 use Rattle.stab_lines.specs.declared.operation.Measurement.{Measurement}
 use Rattle.stab_lines.specs.Axes.{letter_of}
-use Rattle.stab_circuit.specs.Steps.{Step, one, controlled, collapse, controlled_step, measured}
-use Rattle.stab_run.specs.Records.{looked_up}
-use Rattle.stab_run.specs.Points.{coins_of, nothing}
+use Rattle.stab_circuit.specs.Steps.{Step, one, controlled, collapse, detector, controlled_step, measured}
+use Rattle.stab_run.specs.Records.{looked_up, parity}
+use Rattle.stab_run.specs.Points.{coins_of, nothing, joined}
 use Rattle.stab_run.specs.ProgramStates.{StepFits}
 use Rattle.stab_frames.specs.Frames.{Frame, plus, times_where}
 use Rattle.stab_frames.specs.Notes.{Notes, same_coins}
@@ -23,7 +23,7 @@ use Rattle.stab_frames.specs.KeptStrings.{note_at}
 use Rattle.stab_frames.specs.Walks.{WalkState, frame_at, IsPlaced}
 use Rattle.stab_frames.specs.inner.Passes.{Passes, IsTold, AreTold, GoesOver, GoesFreely}
 use Rattle.stab_frames.proofs.PassLemmas.{over-none, over-step, over-append, told-append}
-use Rattle.stab_frames.proofs.MeasuredPassLemmas.{passes-letters, told-unmeasured}
+use Rattle.stab_frames.proofs.MeasuredPassLemmas.{passes-letters, passes-flips, told-unmeasured}
 use Rattle.stab_frames.proofs.OverLemmas.{coins-few}
 
 -- over none, one step, and steps one after another
@@ -105,7 +105,7 @@ freely-gate n g q r old new same e size =
     subst (λ k. GoesFreely n (one g k ∷ []) old new) same
     (freely-letters n (one g q) old new (image g q (plus old.letters)).letters e size (λ notes. refl) (λ notes. refl) refl)
 
-pub freely-controlled : (n : ℕ) (axis : Axis) (p : ControlledPair) (k q : ℕ) (l : Letter) (j r : ℕ) (old new : WalkState) → p ≡ pair.Record k q → l ≡ letter_of axis → j ≡ k → r ≡ q
+pub freely-controlled : (n : ℕ) (axis : Axis) (p : ControlledPair) (k q : ℕ) (l : Letter) (j r : ℕ) (old new : WalkState) → p ≡ pair.Record q k → l ≡ letter_of axis → j ≡ k → r ≡ q
     → new ≡ record old { letters = times_where (looked_up old.flips.records j) (single (length old.letters) r l).letters old.letters }
     → length old.letters ≡ n → length new.letters ≡ n → GoesFreely n (controlled_step axis p ∷ []) old new
 freely-controlled n axis p k q l j r old new is el ej er e size size_new =
@@ -113,6 +113,16 @@ freely-controlled n axis p k q l j r old new is el ej er e size size_new =
     (freely-letters n (controlled (letter_of axis) k q) old new (times_where (looked_up old.flips.records k) (single n q (letter_of axis)).letters old.letters)
     (e ∙ (λ i. record old { letters = times_where (looked_up old.flips.records (ej i)) (single (size i) (er i) (el i)).letters old.letters }))
     size_new (λ notes. refl) (λ notes. refl) refl)
+
+-- a detector, which measures nothing
+pub freely-detector : (n : ℕ) (ks : List ℕ) (old new : WalkState) → new ≡ record old { flips = joined old.flips (record nothing { detectors = parity old.flips.records ks ∷ [] }) }
+    → length new.letters ≡ n → GoesFreely n (detector ks ∷ []) old new
+freely-detector n ks old new e size = λ strings free placed.
+    goes-step n strings free (detector ks) old new
+    (passes-flips n (note_at strings free) (detector ks) old new (record nothing { detectors = parity old.flips.records ks ∷ [] }) e refl refl refl)
+    (told-unmeasured n strings free (detector ks) old.coin old.letters refl)
+    (subst (IsPlaced free) (sym e) placed)
+    size
 
 -- steps that need no strings, one after another
 

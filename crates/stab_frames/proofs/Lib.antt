@@ -30,3 +30,5 @@ pub mod ImageLemmas
 pub mod StepsWalkedLemmas
 pub mod GoesOverLemmas
 pub mod GoneLemmas
+pub mod TouchLemmas
+pub mod StillWalkLemmas

@@ -123,14 +123,19 @@ letters-alike : (note : Option (List Letter)) (f : List Letter) → f ≡ letter
 letters-alike None f = refl
 letters-alike (Some s) f = refl
 
+pub passed-still : (strings : ℕ → Option (List Letter)) (old new : WalkState) → new.letters ≡ old.letters → new.flips ≡ joined old.flips one_coin
+    → new.coin ≡ old.coin + 1 → IsPassed strings false false old new
+passed-still strings old new letters flips coin = record {
+  outcome = flip-alike (strings old.coin);
+  letters = letters ∙ letters-alike (strings old.coin) old.letters;
+  flips = flips;
+  coin = coin;
+}
+
 pub passed-alike : (strings : List (List Letter)) (free : List Bool) (old new : WalkState) → new ≡ behind_coin true old
     → IsPassed (note_at strings free) false false old new
-passed-alike strings free old new is = record {
-  outcome = flip-alike (note_at strings free old.coin);
-  letters = ap (λ (w : WalkState). w.letters) is ∙ letters-alike (note_at strings free old.coin) old.letters;
-  flips = ap (λ (w : WalkState). w.flips) is;
-  coin = ap (λ (w : WalkState). w.coin) is;
-}
+passed-alike strings free old new is =
+    passed-still (note_at strings free) old new (ap (λ (w : WalkState). w.letters) is) (ap (λ (w : WalkState). w.flips) is) (ap (λ (w : WalkState). w.coin) is)
 
 pub passed-apart : (strings : List (List Letter)) (free : List Bool) (string : List Letter) (old mid new : WalkState) → get_or free old.coin false ≡ true
     → IsPlaced free old → old.number < length strings → string ≡ get_or strings old.number []

@@ -6,7 +6,7 @@ use Rattle.stab_letters.specs.declared.gate.Gate.{Gate}
 use Rattle.stab_lines.specs.declared.axis.Axis.{Axis}
 use Rattle.stab_lines.specs.declared.control.ControlledPair.{ControlledPair}
 use Rattle.stab_lines.specs.declared.control.ControlledPair.TheVariants as pair
-use Rattle.stab_circuit.specs.Steps.{Step, one, controlled_step, lookbacks}
+use Rattle.stab_circuit.specs.Steps.{Step, one, controlled_step, detector, lookbacks}
 use Rattle.stab_run.specs.Points.{all_coins_of}
 use Rattle.stab_run.specs.ProgramStates.{ProgramState, IsRun}
 use Rattle.stab_steps.proofs.RunLemmas.{IsRun-none, IsRun-append}
@@ -104,7 +104,11 @@ near-gates reach g (q ∷ qubits) = All-cons (LooksWithin reach) (one g q) (map 
 pub coins-pairs : (axis : Axis) (pairs : List ControlledPair) → all_coins_of (map (controlled_step axis) pairs) ≡ 0
 coins-pairs axis [] = refl
 coins-pairs axis (pair.Qubits p ∷ pairs) = let e = coins-pairs axis pairs in omega (arith, e)
-coins-pairs axis (pair.Record k q ∷ pairs) = let e = coins-pairs axis pairs in omega (arith, e)
+coins-pairs axis (pair.Record q k ∷ pairs) = let e = coins-pairs axis pairs in omega (arith, e)
+
+pub coins-detectors : (kss : List (List ℕ)) → all_coins_of (map detector kss) ≡ 0
+coins-detectors [] = refl
+coins-detectors (ks ∷ kss) = let e = coins-detectors kss in omega (arith, e)
 
 -- how far back the steps of targets look, one more of them
 pub within-target : {X : Type 0} (near far : ℕ) (step : X → Step) (xs : List X) (i : ℕ) (x : X) → i < length xs → x ≡ get_or xs i x → near ≤ far

@@ -1,6 +1,7 @@
 -- Still: records of which the newest are not flipped, and records behind others.
 use Rattle.std.proofs.Common.{◌≡◌, ℕ, zero, suc, ◌+◌, ◌-◌, ◌<◌, ◌≤◌, refl, sym, ◌∙◌, ap, Bool, false, List, [], ◌∷◌, ◌++◌, append-nil, length, replicate, arith, ◌⊎◌, inl, inr}
 use Rattle.std.proofs.lemmas.Bool.{cases_lt}
+use Rattle.std.proofs.lemmas.List.{length-replicate}
 use Rattle.stab_letters.specs.Letters.{◌⊕◌}
 use Rattle.stab_run.specs.Records.{looked_up, parity}
 use Rattle.stab_frames.specs.Walks.{WalkState, frame_at, IsGone}
@@ -47,6 +48,11 @@ pub still-more : (m j : ℕ) (bits : List Bool) → j ≤ m + 1 → IsStill m bi
 still-more m j bits le is k lk =
     looked_up-more m bits [] (false ∷ []) (λ i l. is i l ∙ sym (looked_up-zeros 0 i)) k (omega arith)
     ∙ looked_up-zeros 1 k
+
+pub still-longer : (m k j : ℕ) (bits : List Bool) → j ≤ m + k → IsStill m bits → IsStill j (bits ++ replicate k false)
+still-longer m k j bits le is i lk =
+    looked_up-more m bits [] (replicate k false) (λ h l. is h l ∙ sym (looked_up-zeros 0 h)) i (omega (arith, length-replicate k false))
+    ∙ looked_up-zeros k i
 
 pub still-base : (base m : ℕ) (bits : List Bool) → IsStill m bits → IsStill m (replicate base false ++ bits)
 still-base base m bits is k le = looked_up-base base bits k ∙ is k le

@@ -1,7 +1,8 @@
 ghost use Rattle.std.specs.Prelude.{◌≡◌, ◌+◌, ◌<◌, ◌≤◌, ◌^◌, false, nat_lt, All, length, map, take, drop, OnOk, IfErr};
 ghost use Rattle.std.specs.List.{list_any};
 ghost use Rattle.stab_io.specs.declared.refusal.Refusal.TheVariants.{OutOfMemory};
-ghost use Rattle.stab_circuit.specs.Steps.{controlled_step};
+ghost use Rattle.stab_circuit.specs.Steps.{controlled_step, detector};
+ghost use Rattle.stab_circuit.specs.Cursors.{lookbacks_of};
 ghost use Rattle.stab_run.specs.Records.{ones};
 ghost use Rattle.stab_run.specs.Points.{all_coins_of};
 ghost use Rattle.stab_run.specs.ProgramStates.{StepFits, IsRun, program_state, output_of};
@@ -10,7 +11,7 @@ ghost use Rattle.stab_frames.specs.Lookbacks.{LooksWithin};
 
 use crate::strings::KeptStrings;
 use stab_circuit::{
-    Axis, ControlledPair, Cursor, MeasureTarget, Measurement, Step, Steps, measured_step,
+    Axis, ControlledPair, Cursor, Detectors, MeasureTarget, Measurement, Step, Steps, measured_step,
 };
 use stab_io::Refusal;
 use stab_pauli::Pauli;
@@ -95,7 +96,7 @@ fn lookback_of(pair: ControlledPair) -> u32
 {
     match pair {
         ControlledPair::Qubits(_) => 0,
-        ControlledPair::Record(lookback, _) => lookback.number(),
+        ControlledPair::Record(_, lookback) => lookback.number(),
     }
 }
 
@@ -109,6 +110,18 @@ fn furthest(least: u32, pairs: &[ControlledPair]) -> u32
         greatest = greatest.max(lookback_of(*pair));
     }
     greatest
+}
+
+/// The greatest of a number and the lookbacks of detectors.
+fn furthest_detector(least: u32, detectors: Detectors) -> u32
+    ensures more { least ≤ result }
+    ensures within { All (LooksWithin result) (map detector (lookbacks_of detectors.entry)) }
+{
+    let mut reach = least;
+    for place in 0..detectors.len() {
+        reach = greatest(reach, detectors.get(place));
+    }
+    reach
 }
 
 impl RunNotes {
@@ -156,6 +169,10 @@ impl RunNotes {
             Steps::Gates(..) => apply_steps(tableau, string, coins, outputs, steps, applied)?,
             Steps::Pairs(_, pairs) => {
                 self.reach = furthest(self.reach, pairs);
+                apply_steps(tableau, string, coins, outputs, steps, applied)?;
+            }
+            Steps::Detectors(detectors) => {
+                self.reach = furthest_detector(self.reach, detectors);
                 apply_steps(tableau, string, coins, outputs, steps, applied)?;
             }
             Steps::Measurements(measurement, targets) => {

@@ -239,7 +239,7 @@ fn pass_product(
 }
 
 /// Leads a frame over a detector.
-fn pass_detector(walk: &mut FrameWalk, lookbacks: &[u32]) -> Result<(), AllocError>
+pub fn pass_detector(walk: &mut FrameWalk, lookbacks: &[u32]) -> Result<(), AllocError>
     ensures value { OnOk result (walk.new ≡ record walk.old { flips = joined walk.old.flips (record nothing { detectors = parity_of walk.old.flips.records lookbacks.now ∷ [] }) }) }
     ensures letters { walk.new.letters ≡ walk.old.letters }
 {

@@ -1,20 +1,29 @@
-//! Steps of one instruction on the way of a frame.
+//! Steps of one instruction, or detectors, on the way of a frame.
 
 ghost use Rattle.std.specs.Prelude.{◌≡◌, ◌+◌, ◌^◌, ◌<◌, ◌≤◌, ◌∷◌, [], All, length, map, take, OnOk, IfOk};
-ghost use Rattle.stab_circuit.specs.Steps.{one, controlled_step, measured};
-ghost use Rattle.stab_circuit.specs.Cursors.{steps_shown, IsApartAlone};
+ghost use Rattle.std.specs.List.{list_any};
+ghost use Rattle.stab_circuit.specs.Steps.{one, controlled_step, measured, detector};
+ghost use Rattle.stab_circuit.specs.Cursors.{lookbacks_of, steps_shown, IsApartAlone};
 ghost use Rattle.stab_run.specs.ProgramStates.{StepFits};
 ghost use Rattle.stab_frames.specs.Walks.{IsPlaced};
 ghost use Rattle.stab_frames.specs.inner.Passes.{GoesOver, GoesFreely};
+ghost use Rattle.stab_frames.specs.inner.Touches.{PairFits, touches_pair, touches_target};
 
-use crate::pass::{pass, pass_collapse, pass_controlled, pass_gate, pass_pair};
+use crate::pass::{pass, pass_collapse, pass_controlled, pass_detector, pass_gate, pass_pair};
 use crate::strings::KeptStrings;
 use crate::walk::FrameWalk;
 use stab_circuit::{
-    Axis, ControlledPair, MeasureTarget, Measurement, Qubit, Steps, controlled_gate,
+    Axis, ControlledPair, Detectors, MeasureTarget, Measurement, Qubit, Steps, controlled_gate,
 };
+use stab_pauli::Letter;
 use stab_tableau::Gate;
 use std::alloc::AllocError;
+
+// A frame touches few of the steps on its way: so many are looked at at once.
+const PART: usize = 32;
+
+// Fewer measurements than this are sooner gone over one by one.
+const FEW: usize = 4;
 
 /// Leads a frame over steps of a run with these kept strings and flags, and tells over how many it
 /// did: not over one whose string is missing, at which it stops.
@@ -45,6 +54,10 @@ pub fn pass_steps(
         Steps::Measurements(measurement, targets) => {
             pass_measurements(walk, strings, free, measurement, targets)
         }
+        Steps::Detectors(detectors) => {
+            pass_detectors(walk, detectors)?;
+            Ok(detectors.len())
+        }
         Steps::Single(step) => {
             let went = pass(walk, strings, free, step)?;
             Ok(usize::from(went))
@@ -74,14 +87,41 @@ fn pass_controlled_pair(walk: &mut FrameWalk, axis: Axis, pair: ControlledPair)
             let first = pair.first().number();
             pass_pair(walk, controlled_gate(axis), first, pair.second().number());
         }
-        ControlledPair::Record(lookback, qubit) => {
+        ControlledPair::Record(qubit, lookback) => {
             pass_controlled(walk, axis.letter(), lookback.number(), qubit.number());
         }
     }
 }
 
-/// Leads a frame over pairs of a controlled gate.
-fn pass_pairs(walk: &mut FrameWalk, axis: Axis, pairs: &[ControlledPair])
+/// Whether the frame has another letter than I at a qubit of the pair, or a record controls it.
+fn touches(letters: &[Letter], pair: ControlledPair) -> bool
+    requires fits { PairFits (length letters.now) pair }
+    ensures value { result ≡ touches_pair letters.now pair }
+{
+    match pair {
+        ControlledPair::Qubits(pair) => {
+            let first = letters[pair.first().number()];
+            let second = letters[pair.second().number()];
+            (first != Letter::I) | (second != Letter::I)
+        }
+        ControlledPair::Record(_, _) => true,
+    }
+}
+
+// Looks at all pairs, also behind one that is touched: so it has no branch on the letters.
+fn touches_some(letters: &[Letter], pairs: &[ControlledPair]) -> bool
+    requires fits { All (PairFits (length letters.now)) pairs.now }
+    ensures value { result ≡ list_any (touches_pair letters.now) pairs.now }
+{
+    let mut found = false;
+    for pair in pairs {
+        found |= touches(letters, *pair);
+    }
+    found
+}
+
+/// Leads a frame over pairs of a controlled gate, one after another.
+fn pass_each_pair(walk: &mut FrameWalk, axis: Axis, pairs: &[ControlledPair])
     requires fits { All (StepFits (length walk.old.letters)) (map (controlled_step axis) pairs.now) }
     ensures length { length walk.new.letters ≡ length walk.old.letters }
     ensures goes { GoesFreely (length walk.old.letters) (map (controlled_step axis) pairs.now) walk.old walk.new }
@@ -91,8 +131,46 @@ fn pass_pairs(walk: &mut FrameWalk, axis: Axis, pairs: &[ControlledPair])
     }
 }
 
-/// Leads a frame over a measurement of each of some targets, and tells over how many it did.
-fn pass_measurements(
+/// Leads a frame over pairs of a controlled gate, past all of them where it touches none.
+fn pass_few_pairs(walk: &mut FrameWalk, axis: Axis, pairs: &[ControlledPair])
+    requires fits { All (StepFits (length walk.old.letters)) (map (controlled_step axis) pairs.now) }
+    ensures length { length walk.new.letters ≡ length walk.old.letters }
+    ensures goes { GoesFreely (length walk.old.letters) (map (controlled_step axis) pairs.now) walk.old walk.new }
+{
+    if !touches_some(walk.letters(), pairs) {
+        return;
+    }
+    pass_each_pair(walk, axis, pairs);
+}
+
+/// Leads a frame over pairs of a controlled gate.
+fn pass_pairs(walk: &mut FrameWalk, axis: Axis, pairs: &[ControlledPair])
+    requires fits { All (StepFits (length walk.old.letters)) (map (controlled_step axis) pairs.now) }
+    ensures length { length walk.new.letters ≡ length walk.old.letters }
+    ensures goes { GoesFreely (length walk.old.letters) (map (controlled_step axis) pairs.now) walk.old walk.new }
+{
+    let mut done = 0;
+    while done < pairs.len() {
+        let count = PART.min(pairs.len() - done);
+        pass_few_pairs(walk, axis, pairs.split_at(done).1.split_at(count).0);
+        done += count;
+    }
+}
+
+/// Looks at all targets, also behind one at which the frame anticommutes with the letter.
+fn anticommutes_some(letters: &[Letter], letter: Letter, targets: &[MeasureTarget]) -> bool
+    requires fits { All (λ t. t.qubit < length letters.now) targets.now }
+    ensures value { result ≡ list_any (touches_target letters.now letter) targets.now }
+{
+    let mut found = false;
+    for target in targets {
+        found |= letters[target.qubit.number()].anticommutes(letter);
+    }
+    found
+}
+
+/// Leads a frame over measurements of targets, one after another, and tells over how many it did.
+fn pass_each_measurement(
     walk: &mut FrameWalk,
     strings: &KeptStrings,
     free: &[bool],
@@ -117,4 +195,68 @@ fn pass_measurements(
         count += 1;
     }
     Ok(count)
+}
+
+/// Leads a frame over measurements of targets, past all of them where it commutes with each.
+fn pass_few_measurements(
+    walk: &mut FrameWalk,
+    strings: &KeptStrings,
+    free: &[bool],
+    measurement: Measurement,
+    targets: &[MeasureTarget],
+) -> Result<usize, AllocError>
+    requires same_length { strings.now.qubits ≡ length walk.old.letters }
+    requires fits { All (StepFits (length walk.old.letters)) (map (measured measurement) targets.now) }
+    requires placed { IsPlaced free.now walk.old }
+    requires few { walk.old.coin + length targets.now < 2 ^ 63 }
+    ensures length { length walk.new.letters ≡ length walk.old.letters }
+    ensures within { IfOk result (λ count. count ≤ length targets.now) }
+    ensures goes { IfOk result (λ count. GoesOver (length walk.old.letters) strings.now.strings free.now (take count (map (measured measurement) targets.now)) walk.old walk.new) }
+{
+    let letter = measurement.axis.letter();
+    if targets.len() < FEW || anticommutes_some(walk.letters(), letter, targets) {
+        return pass_each_measurement(walk, strings, free, measurement, targets);
+    }
+    walk.pass_still(free, targets.len())?;
+    Ok(targets.len())
+}
+
+/// Leads a frame over a measurement of each of some targets, and tells over how many it did.
+fn pass_measurements(
+    walk: &mut FrameWalk,
+    strings: &KeptStrings,
+    free: &[bool],
+    measurement: Measurement,
+    targets: &[MeasureTarget],
+) -> Result<usize, AllocError>
+    requires same_length { strings.now.qubits ≡ length walk.old.letters }
+    requires fits { All (StepFits (length walk.old.letters)) (map (measured measurement) targets.now) }
+    requires placed { IsPlaced free.now walk.old }
+    requires few { walk.old.coin + length targets.now < 2 ^ 63 }
+    ensures length { length walk.new.letters ≡ length walk.old.letters }
+    ensures within { IfOk result (λ count. count ≤ length targets.now) }
+    ensures goes { IfOk result (λ count. GoesOver (length walk.old.letters) strings.now.strings free.now (take count (map (measured measurement) targets.now)) walk.old walk.new) }
+{
+    let mut done = 0;
+    while done < targets.len() {
+        let count = PART.min(targets.len() - done);
+        let part = targets.split_at(done).1.split_at(count).0;
+        let went = pass_few_measurements(walk, strings, free, measurement, part)?;
+        done += went;
+        if went < count {
+            return Ok(done);
+        }
+    }
+    Ok(done)
+}
+
+/// Leads a frame over detectors.
+fn pass_detectors(walk: &mut FrameWalk, detectors: Detectors) -> Result<(), AllocError>
+    ensures length { length walk.new.letters ≡ length walk.old.letters }
+    ensures goes { OnOk result (GoesFreely (length walk.old.letters) (map detector (lookbacks_of detectors.entry)) walk.old walk.new) }
+{
+    for place in 0..detectors.len() {
+        pass_detector(walk, detectors.get(place))?;
+    }
+    Ok(())
 }

@@ -5,16 +5,17 @@ use stab_io::Refusal;
 use stab_pauli::Pauli;
 use std::alloc::Global;
 use std::marker::Model;
+use std::rc::Rc;
 
-/// Strings of letters that a run keeps, packed, at most 16 MiB of them. Contracts see how many
-/// letters each has, and the list of their letters.
+/// Strings of letters that a run keeps, packed, at most 16 MiB of them, which copies of the list share.
+/// Contracts see how many letters each has, and the list of their letters.
 #[derive(Drop)]
 pub struct KeptStrings {
     qubits: usize,
     // How many may be kept.
     most: usize,
     // Their signs are of no account.
-    strings: Vec<Pauli>,
+    strings: Vec<Rc<Pauli>>,
 }
 
 impl Model for KeptStrings {
@@ -24,9 +25,9 @@ impl Model for KeptStrings {
 
     ghost Value = { StringsState };
 
-    ghost view = { λ k. record { qubits = k.qubits; most = k.most; strings = map (λ p. p.letters) k.strings.items } };
+    ghost view = { λ k. record { qubits = k.qubits; most = k.most; strings = map (λ p. p.value.letters) k.strings.items } };
 
-    ghost invariant = { λ k. All (λ p. length p.letters ≡ k.qubits) k.strings.items × (length k.strings.items ≤ k.most) × (k.most ≤ most_strings k.qubits) };
+    ghost invariant = { λ k. All (λ p. length p.value.letters ≡ k.qubits) k.strings.items × (length k.strings.items ≤ k.most) × (k.most ≤ most_strings k.qubits) };
 }
 
 impl KeptStrings {
@@ -65,7 +66,8 @@ impl KeptStrings {
         ensures err { IfErr result (λ r. r ≡ OutOfMemory) }
     {
         if self.strings.len() < self.most {
-            self.strings.push(string.copy(alloc)?)?;
+            let kept = Rc::new(alloc, string.copy(alloc)?)?;
+            self.strings.push(kept)?;
         }
         Ok(())
     }
@@ -88,7 +90,7 @@ impl KeptStrings {
         let len = self.strings.len();
         let mut front = KeptStrings::new(alloc, self.qubits);
         let (strings, _) = self.strings.as_slice().split_at(count.min(len));
-        front.append(alloc, strings)?;
+        front.append(strings)?;
         if len < count {
             front.most = self.most;
         }
@@ -102,16 +104,10 @@ impl KeptStrings {
         self.most = self.strings.len();
     }
 
-    /// Puts copies of others behind these, from the one with this number on, as far as there may be
-    /// as many.
+    /// Puts others behind these, from the one with this number on, as far as there may be as many.
     ///
     /// Refusal `OutOfMemory` alone.
-    pub fn append_rest(
-        &mut self,
-        alloc: Global,
-        other: &KeptStrings,
-        from: usize,
-    ) -> Result<(), Refusal>
+    pub fn append_rest(&mut self, other: &KeptStrings, from: usize) -> Result<(), Refusal>
         requires same_length { other.now.qubits ≡ self.old.qubits }
         ensures qubits { self.new.qubits ≡ self.old.qubits }
         ensures most { self.new.most ≡ self.old.most }
@@ -122,16 +118,15 @@ impl KeptStrings {
             .strings
             .as_slice()
             .split_at(from.min(other.strings.len()));
-        self.append(alloc, rest)
+        self.append(rest)
     }
 
-    /// Puts copies of others behind these, from the one with a number up to another's, as far as there
-    /// may be as many.
+    /// Puts others behind these, from the one with a number up to another's, as far as there may be as
+    /// many.
     ///
     /// Refusal `OutOfMemory` alone.
     pub fn append_between(
         &mut self,
-        alloc: Global,
         other: &KeptStrings,
         from: usize,
         to: usize,
@@ -147,21 +142,35 @@ impl KeptStrings {
             .as_slice()
             .split_at(to.min(other.strings.len()));
         let (_, between) = front.split_at(from.min(front.len()));
-        self.append(alloc, between)
+        self.append(between)
     }
 
-    /// Puts copies of strings behind these, as far as there may be as many.
-    fn append(&mut self, alloc: Global, strings: &[Pauli]) -> Result<(), Refusal>
-        requires same_length { All (λ p. length p.letters ≡ self.old.qubits) strings.now }
+    /// Puts strings that another list keeps too behind these, as far as there may be as many.
+    fn append(&mut self, strings: &[Rc<Pauli>]) -> Result<(), Refusal>
+        requires same_length { All (λ p. length p.value.letters ≡ self.old.qubits) strings.now }
         ensures qubits { self.new.qubits ≡ self.old.qubits }
         ensures most { self.new.most ≡ self.old.most }
-        ensures strings { OnOk result (self.new.strings ≡ kept_with self.old.most self.old.strings (map (λ p. p.letters) strings.now)) }
+        ensures strings { OnOk result (self.new.strings ≡ kept_with self.old.most self.old.strings (map (λ p. p.value.letters) strings.now)) }
         ensures err { IfErr result (λ r. r ≡ OutOfMemory) }
     {
         // What a struct keeps is known where a field of it is looked at.
         let _ = &self.strings;
         for string in strings {
-            self.push(alloc, string)?;
+            self.share(string)?;
+        }
+        Ok(())
+    }
+
+    /// Puts a string that another list keeps too behind the others, unless as many are kept as may be.
+    fn share(&mut self, string: &Rc<Pauli>) -> Result<(), Refusal>
+        requires same_length { length string.now.value.letters ≡ self.old.qubits }
+        ensures qubits { self.new.qubits ≡ self.old.qubits }
+        ensures most { self.new.most ≡ self.old.most }
+        ensures strings { OnOk result (self.new.strings ≡ kept_with self.old.most self.old.strings (string.now.value.letters ∷ [])) }
+        ensures err { IfErr result (λ r. r ≡ OutOfMemory) }
+    {
+        if self.strings.len() < self.most {
+            self.strings.push(string.clone()?)?;
         }
         Ok(())
     }

@@ -1,4 +1,4 @@
-ghost use Rattle.std.specs.Prelude.{◌≡◌};
+ghost use Rattle.std.specs.Prelude.{◌≡◌, ◌≤◌, take, drop};
 ghost use Rattle.stab_run.specs.Records.{ones};
 
 use crate::letters::weight_of;
@@ -46,13 +46,13 @@ impl Model for FrameWalk {
 }
 
 impl FrameWalk {
-    ghost use Rattle.std.specs.Prelude.{◌≡◌, ℕ, ◌+◌, ◌^◌, ◌≤◌, ◌<◌, ◌∷◌, [], ◌++◌, true, length, replicate, take, slice_index_or, slice_set, OnOk, IfOk};
+    ghost use Rattle.std.specs.Prelude.{◌≡◌, ℕ, ◌+◌, ◌^◌, ◌≤◌, ◌<◌, ◌∷◌, [], ◌++◌, true, length, replicate, take, drop, slice_index_or, slice_set, OnOk, IfOk};
     ghost use Rattle.stab_letters.specs.declared.letter.Letter.TheVariants.{I};
     ghost use Rattle.stab_pauli.specs.Paulis.{single, string_product};
     ghost use Rattle.stab_run.specs.Records.{ones};
     ghost use Rattle.stab_run.specs.Points.{nothing, joined};
     ghost use Rattle.stab_frames.specs.Walks.{frame_at, IsGone};
-    ghost use Rattle.stab_frames.specs.inner.Passes.{one_coin};
+    ghost use Rattle.stab_frames.specs.inner.Passes.{one_coin, none_flipped};
     ghost use Rattle.stab_frames.specs.Flips.{flipped};
 
     /// The identity on n qubits, which has flipped nothing, before the coin with this number of a
@@ -218,6 +218,21 @@ impl FrameWalk {
         self.passed += 1;
         self.number += usize::from(free);
     }
+
+    /// Goes over measurements of the next so many coins of a run with these flags, each of which
+    /// makes a record that is not flipped.
+    pub(crate) fn pass_still(&mut self, free: &[bool], count: usize) -> Result<(), AllocError>
+        requires few { self.old.coin + count < 2 ^ 63 }
+        ensures value { OnOk result (self.new ≡ record self.old { flips = joined self.old.flips (none_flipped count); coin = self.old.coin + count; number = self.old.number + ones (take count (drop self.old.coin free.now)) }) }
+        ensures letters { self.new.letters ≡ self.old.letters }
+    {
+        self.records.resize(self.records.len() + count, false)?;
+        self.number += ones_from(free, self.coin, count);
+        self.still = self.still.saturating_add(count);
+        self.coin += count;
+        self.passed += count;
+        Ok(())
+    }
 }
 
 /// How many bits are 1.
@@ -229,4 +244,13 @@ fn count_ones(bits: &[bool]) -> usize
         count += usize::from(*bit);
     }
     count
+}
+
+/// How many of so many bits from a place on are 1, as far as there are any.
+fn ones_from(bits: &[bool], from: usize, count: usize) -> usize
+    ensures value { result ≡ ones (take count (drop from bits.now)) }
+    ensures few { result ≤ count }
+{
+    let rest = bits.split_at(from.min(bits.len())).1;
+    count_ones(rest.split_at(count.min(rest.len())).0)
 }

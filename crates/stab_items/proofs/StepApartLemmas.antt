@@ -48,7 +48,7 @@ product_apart ps seen e h = All-map IsApart measured_product ps (subst (All IsPr
 
 pair_apart : (a : Axis) (p : ControlledPair) → IsPairApart p → IsApart (controlled_step a p)
 pair_apart a (pair.Qubits p) h = h
-pair_apart a (pair.Record k q) h = tt
+pair_apart a (pair.Record q k) h = tt
 
 pub controlled_apart : (a : Axis) (ps seen : List ControlledPair) → seen ≡ ps → All IsPairApart seen → All IsApart (steps_of (kind.Controlled a ps))
 controlled_apart a ps seen e h = All-map IsApart (controlled_step a) ps (λ k d lt. pair_apart a (get_or ps k d) (subst (All IsPairApart) e h k d lt))

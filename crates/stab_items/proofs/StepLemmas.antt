@@ -1,11 +1,13 @@
 -- Numbers over the unrolled steps.
-use Rattle.std.proofs.Common.{◌≡◌, ◌≤◌, ◌<◌, refl, ap, sym, ◌∙◌, ℕ, ◌+◌, ◌*◌, ◌-◌, zero, suc, max, min, List, [], ◌∷◌, ◌++◌, ◌||◌, nat_lt, length, All, arith, append_assoc}
+use Rattle.std.proofs.Common.{◌≡◌, ◌≤◌, ◌<◌, refl, ap, sym, ◌∙◌, Some, append-nil, ℕ, ◌+◌, ◌*◌, ◌-◌, zero, suc, max, min, List, [], ◌∷◌, ◌++◌, ◌||◌, nat_lt, length, All, arith, append_assoc}
 use Rattle.std.proofs.lemmas.List.{length-append}
 use Rattle.std.proofs.lemmas.List.Elements.{All-head, All-tail}
 use Rattle.std.specs.List.{list_any}
+use Rattle.stab_lines.specs.declared.operation.Kind.{Kind}
+use Rattle.stab_lines.specs.declared.operation.Kind.TheVariants as kind
 use Rattle.stab_lines.specs.Lookbacks.{IsLookback}
-use Rattle.stab_items.specs.Items.{Items, done, next, block, join}
-use Rattle.stab_items.specs.Steps.{Step, steps_of, rounds, unroll, makes, records_of, lookbacks, looks_too_far}
+use Rattle.stab_items.specs.Items.{Items, OneItem, done, next, block, join, operation, repeat, before}
+use Rattle.stab_items.specs.Steps.{Step, detector, steps_of, detector_in, detector_of, rounds, unroll, makes, records_of, lookbacks, looks_too_far}
 use Rattle.stab_items.specs.inner.Summaries.{greatest, reach}
 
 pub greatest_small : (ks : List ℕ) → All IsLookback ks → greatest ks ≤ 16777215
@@ -77,3 +79,21 @@ capped_left w r cap h = omega arith
 pub capped_times : (n a cap : ℕ) → min (n * min a cap) cap ≡ min (n * a) cap
 capped_times zero a cap = omega arith
 capped_times (suc n) a cap = grind arith
+
+-- a detector has one step
+detector_in_step : (k : Kind) (ks : List ℕ) → detector_in k ≡ Some ks → steps_of k ≡ detector ks ∷ []
+detector_in_step (kind.Detector located) ks e = grind arith
+detector_in_step (kind.Gate g qubits) ks e = absurd (cc)
+detector_in_step (kind.Controlled axis pairs) ks e = absurd (cc)
+detector_in_step (kind.Swap pairs) ks e = absurd (cc)
+detector_in_step (kind.Measure m targets) ks e = absurd (cc)
+detector_in_step (kind.Reset axis qubits) ks e = absurd (cc)
+detector_in_step (kind.MeasureProducts products) ks e = absurd (cc)
+detector_in_step (kind.ObservableInclude j more) ks e = absurd (cc)
+detector_in_step kind.Tick ks e = absurd (cc)
+detector_in_step (kind.QubitCoords located) ks e = absurd (cc)
+detector_in_step (kind.ShiftCoords coordinates) ks e = absurd (cc)
+
+pub detector_step : (x : OneItem) (ks : List ℕ) → detector_of x ≡ Some ks → unroll (before x done) ≡ detector ks ∷ []
+detector_step (operation op) ks e = append-nil (steps_of op.kind) ∙ detector_in_step op.kind ks e
+detector_step (repeat count tag body) ks e = absurd (cc)

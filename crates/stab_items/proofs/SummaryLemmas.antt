@@ -64,7 +64,7 @@ past_products_dropped ps i d h = from_place (λ l. past (product_qubits l)) (λ 
 
 past_pair_more : (p : ControlledPair) (more : List ControlledPair) → past (controlled_qubits (p ∷ more)) ≡ max (past (controlled_qubits (p ∷ []))) (past (controlled_qubits more))
 past_pair_more (pair.Qubits p) more = omega arith
-past_pair_more (pair.Record k q) more = omega arith
+past_pair_more (pair.Record q k) more = omega arith
 
 pub past_controlled_dropped : (ps : List ControlledPair) (i : ℕ) (d : ControlledPair) → i < length ps
     → past (controlled_qubits (drop i ps)) ≡ max (past (controlled_qubits (get_or ps i d ∷ []))) (past (controlled_qubits (drop (i + 1) ps)))
@@ -106,7 +106,7 @@ reset_summary a qubits = plain_summary (λ q. collapse (letter_of a) q false fal
 -- the pairs of a controlled gate
 controlled_makes : (a : Axis) (p : ControlledPair) → (makes (controlled_step a p) ≡ 0) × (greatest (lookbacks (controlled_step a p)) ≡ looks_back p)
 controlled_makes a (pair.Qubits p) = (refl, refl)
-controlled_makes a (pair.Record k q) = (refl, omega arith)
+controlled_makes a (pair.Record q k) = (refl, omega arith)
 
 controlled_steps : (a : Axis) (ps : List ControlledPair) → (records_of (map (controlled_step a) ps) ≡ 0) × (reach (map (controlled_step a) ps) ≡ furthest ps)
 controlled_steps a [] = (refl, refl)

@@ -24,7 +24,7 @@ use Rattle.stab_lines.specs.declared.operation.Kind.TheVariants as kind
 use Rattle.stab_lines.specs.Axes.{letter_of}
 use Rattle.stab_lines.specs.Targets.{pair_qubits}
 use Rattle.stab_lines.specs.Products.{names_twice}
-use Rattle.stab_items.specs.Items.{Items, done, next, block}
+use Rattle.stab_items.specs.Items.{Items, OneItem, done, next, block, operation, repeat}
 
 -- a step of an unrolled circuit
 pub data Step : Type 0 where
@@ -58,7 +58,7 @@ controlled_gate axis.Z = gate.Cz
 -- the step of a pair of a controlled gate
 abbrev pub controlled_step : Axis → ControlledPair → Step
 controlled_step a (pair.Qubits p) = two (controlled_gate a) p.0 p.1
-controlled_step a (pair.Record k q) = controlled (letter_of a) k q
+controlled_step a (pair.Record q k) = controlled (letter_of a) k q
 
 -- the steps of one instruction
 abbrev pub steps_of : Kind → List Step
@@ -84,6 +84,25 @@ abbrev pub unroll : Items → List Step
 unroll done = []
 unroll (next op rest) = steps_of op.kind ++ unroll rest
 unroll (block count tag body rest) = rounds count (unroll body) ++ unroll rest
+
+-- the lookbacks of an instruction that is a detector
+abbrev pub detector_in : Kind → Option (List ℕ)
+detector_in (kind.Detector located) = Some located.1
+detector_in (kind.Gate g qubits) = None
+detector_in (kind.Controlled axis pairs) = None
+detector_in (kind.Swap pairs) = None
+detector_in (kind.Measure m targets) = None
+detector_in (kind.Reset axis qubits) = None
+detector_in (kind.MeasureProducts products) = None
+detector_in (kind.ObservableInclude j ks) = None
+detector_in kind.Tick = None
+detector_in (kind.QubitCoords located) = None
+detector_in (kind.ShiftCoords coordinates) = None
+
+-- the lookbacks of an item that is a detector
+abbrev pub detector_of : OneItem → Option (List ℕ)
+detector_of (operation op) = detector_in op.kind
+detector_of (repeat count tag body) = None
 
 -- how many records a step makes
 abbrev pub makes : Step → ℕ
@@ -153,7 +172,7 @@ target_qubits targets = map (λ t. t.qubit) targets
 abbrev pub controlled_qubits : List ControlledPair → List ℕ
 controlled_qubits [] = []
 controlled_qubits (pair.Qubits p ∷ pairs) = p.0 ∷ p.1 ∷ controlled_qubits pairs
-controlled_qubits (pair.Record k q ∷ pairs) = q ∷ controlled_qubits pairs
+controlled_qubits (pair.Record q k ∷ pairs) = q ∷ controlled_qubits pairs
 
 -- the qubits of factors
 abbrev pub factor_qubits : List Factor → List ℕ

@@ -86,8 +86,8 @@ pub enum Part<'a> {
 }
 
 impl Item {
-    ghost use Rattle.std.specs.Prelude.{◌≡◌, ◌≤◌, [], All, IfOk, IfSome, IfNone};
-    ghost use Rattle.stab_items.specs.Steps.{unroll, IsApart};
+    ghost use Rattle.std.specs.Prelude.{◌≡◌, ◌≤◌, [], Some, None, All, IfOk, IfSome, IfNone};
+    ghost use Rattle.stab_items.specs.Steps.{unroll, IsApart, detector_of};
     ghost use Rattle.stab_items.specs.Nothings.{IsNothing};
     ghost use Rattle.stab_items.specs.Items.{operation as single, repeat as repeated, listed, before, done, depth};
     ghost use Rattle.stab_items.specs.inner.Summaries.{summary_of, IsSummary};
@@ -152,6 +152,20 @@ impl Item {
                 kept: head.kept,
                 body: body.as_slice(),
             },
+        }
+    }
+
+    /// The numbers k of the `rec[-k]` of a detector, or `None` for any other item.
+    pub fn detector(&self) -> Option<&[u32]>
+        ensures some { IfSome result (λ ks. detector_of self.now ≡ Some ks.now) }
+        ensures none { IfNone result (detector_of self.now ≡ None) }
+    {
+        match self.part() {
+            Part::Operation {
+                kind: Kind::Detector(located),
+                ..
+            } => Some(located.records()),
+            Part::Operation { .. } | Part::Block { .. } => None,
         }
     }
 

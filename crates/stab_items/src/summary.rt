@@ -1,12 +1,13 @@
 ghost use Rattle.std.specs.Prelude.{◌≡◌, ◌≤◌, ◌*◌, min, length, ◌∷◌, [], All};
 ghost use Rattle.stab_letters.specs.Limits.{most_qubits};
 ghost use Rattle.stab_lines.specs.Limits.{most_lookback};
+ghost use Rattle.stab_lines.specs.Lookbacks.{IsLookback};
 ghost use Rattle.stab_lines.specs.Targets.{pair_qubits};
 ghost use Rattle.stab_items.specs.Steps.{steps_of, past as past_of, target_qubits, factor_qubits, product_qubits, controlled_qubits, steps_cap, IsApart};
 ghost use Rattle.stab_items.specs.inner.Summaries.{greatest as greatest_of, looks_back, furthest as furthest_of, kind_summary_of, IsPairApart, IsSwapApart, IsProductApart, IsSummary};
 
 use stab_io::Refusal;
-use stab_lines::{ControlledPair, Factor, Kind, Lookbacks, MeasureTarget, Pair, Product, Qubit};
+use stab_lines::{ControlledPair, Factor, Kind, MeasureTarget, Pair, Product, Qubit};
 
 /// What checks need to know of items: how many steps they make, up to 1,048,577, how many
 /// records, up to 16,777,215, how many records have to stand before them, how many qubits and
@@ -192,7 +193,7 @@ fn past_pair(pair: &ControlledPair) -> u32
             let first = pair.first().number() as u32 + 1;
             first.max(pair.second().number() as u32 + 1)
         }
-        ControlledPair::Record(_, qubit) => qubit.number() as u32 + 1,
+        ControlledPair::Record(qubit, _) => qubit.number() as u32 + 1,
     }
 }
 
@@ -216,7 +217,7 @@ fn reach_of_pair(pair: &ControlledPair) -> u32
 {
     match pair {
         ControlledPair::Qubits(_) => 0,
-        ControlledPair::Record(lookback, _) => lookback.number(),
+        ControlledPair::Record(_, lookback) => lookback.number(),
     }
 }
 
@@ -247,13 +248,14 @@ fn plain(steps: usize, qubits: u32) -> Summary
 
 /// The summary of one step that looks back.
 #[tactic(auto, using(crate::proofs::SummaryLemmas::greatest_small))]
-fn look(records: &Lookbacks, observables: u32) -> Summary
+fn look(records: &[u32], observables: u32) -> Summary
+    requires each { All IsLookback records.now }
     ensures value { result ≡ record { steps = 1; records = 0; reach = greatest_of records.now; qubits = 0; observables = observables; depth = 0 } }
     ensures small { IsSummary result }
 {
     Summary {
         steps: 1,
-        reach: greatest(records.as_slice()),
+        reach: greatest(records),
         observables,
         ..Summary::NONE
     }
@@ -304,8 +306,10 @@ pub fn kind_summary(kind: &Kind) -> Summary
                 past_products(products.as_slice()),
             )
         }
-        Kind::Detector(located) => look(located.targets(), 0),
-        Kind::ObservableInclude(observable, records) => look(records, observable.number() + 1),
+        Kind::Detector(located) => look(located.records(), 0),
+        Kind::ObservableInclude(observable, records) => {
+            look(records.as_slice(), observable.number() + 1)
+        }
         Kind::QubitCoords(located) => plain(0, past(located.targets().as_slice())),
         Kind::Tick | Kind::ShiftCoords(_) => Summary::NONE,
     }

@@ -280,7 +280,7 @@ impl KeptRun {
                     new_lengths: outputs.lengths(),
                 };
                 outputs.append_rest(&self.outputs, copy.lengths)?;
-                self.append_strings(alloc, strings, copy.lengths.free, outputs.free.as_slice())?;
+                self.append_strings(strings, copy.lengths.free, outputs.free.as_slice())?;
                 let room = Vec::with_capacity(alloc, self.checkpoints.len() - number)?;
                 *spare = Some(tableau);
                 Ok(Rest::Old(number, meeting, room))
@@ -294,7 +294,6 @@ impl KeptRun {
     /// Refusal `OutOfMemory` alone.
     fn append_strings(
         &self,
-        alloc: Global,
         strings: &mut KeptStrings,
         coin: usize,
         free: &[bool],
@@ -308,7 +307,7 @@ impl KeptRun {
             .free
             .as_slice()
             .split_at(coin.min(self.outputs.free.len()));
-        strings.append_rest(alloc, &self.strings, count_ones(before))?;
+        strings.append_rest(&self.strings, count_ones(before))?;
         // Where strings were missing, none may be put behind those that are there.
         if strings.len() < count_ones(free) {
             strings.close();

@@ -162,7 +162,7 @@ product_targets products g =
 controlled_clear : (pairs : List ControlledPair) → Each IsControlled pairs → AreClear (λ w. w) (flat pairs)
 controlled_clear [] g = tt
 controlled_clear (pair.Qubits a ∷ pairs) g = (decimal_clear a.0 (omega (arith, g.0.0)), (decimal_clear a.1 (omega (arith, g.0.1)), controlled_clear pairs g.1))
-controlled_clear (pair.Record k q ∷ pairs) g = (lookback_clear k g.0.0, (decimal_clear q (omega (arith, g.0.1)), controlled_clear pairs g.1))
+controlled_clear (pair.Record q k ∷ pairs) g = (lookback_clear k g.0.0, (decimal_clear q (omega (arith, g.0.1)), controlled_clear pairs g.1))
 
 controlled_targets : (pairs : List ControlledPair) → Each IsControlled pairs → AreTargets (spaced controlled_text pairs)
 controlled_targets pairs g = subst AreTargets (sym (controlled_spaced pairs)) (spaced_targets (λ w. w) (flat pairs) (flat_words pairs g) (controlled_clear pairs g))

@@ -22,11 +22,11 @@ use Rattle.stab_lines.proofs.AgainLemmas.{IsWord, AreWords, decimal_digits, deci
 -- the text of a control, and the qubit that it acts on
 abbrev front : ControlledPair → List ℕ
 front (pair.Qubits p) = decimal p.0
-front (pair.Record k q) = lookback_text k
+front (pair.Record q k) = lookback_text k
 
 abbrev back : ControlledPair → ℕ
 back (pair.Qubits p) = p.1
-back (pair.Record k q) = q
+back (pair.Record q k) = q
 
 -- the targets of pairs, a word each
 abbrev pub flat : List ControlledPair → List (List ℕ)
@@ -35,7 +35,7 @@ flat (x ∷ xs) = front x ∷ decimal (back x) ∷ flat xs
 
 two_words : (x : ControlledPair) → controlled_text x ≡ front x ++ (codes " " ++ decimal (back x))
 two_words (pair.Qubits p) = refl
-two_words (pair.Record k q) = refl
+two_words (pair.Record q k) = refl
 
 pub controlled_spaced : (xs : List ControlledPair) → spaced controlled_text xs ≡ spaced (λ w. w) (flat xs)
 controlled_spaced [] = refl
@@ -46,11 +46,11 @@ controlled_spaced (x ∷ xs) =
 
 front_word : (x : ControlledPair) → IsControlled x → IsWord (front x)
 front_word (pair.Qubits p) g = decimal_word p.0 (omega (arith, g.0))
-front_word (pair.Record k q) g = lookback_word k g.0
+front_word (pair.Record q k) g = lookback_word k g.0
 
 back_small : (x : ControlledPair) → IsControlled x → back x < most_qubits
 back_small (pair.Qubits p) g = g.1
-back_small (pair.Record k q) g = g.1
+back_small (pair.Record q k) g = g.1
 
 pub flat_words : (xs : List ControlledPair) → Each IsControlled xs → AreWords (λ w. w) (flat xs)
 flat_words [] g = tt
@@ -59,13 +59,13 @@ flat_words (x ∷ xs) g = (front_word x g.0, (decimal_word (back x) (omega (arit
 -- the control of a pair
 abbrev control_in : ControlledPair → Control
 control_in (pair.Qubits p) = control.Qubit p.0
-control_in (pair.Record k q) = control.Record k
+control_in (pair.Record q k) = control.Record k
 
 control_again : (x : ControlledPair) → IsControlled x → control_of (front x) ≡ Ok (control_in x)
 unfolding control_of
 control_again (pair.Qubits p) g =
     passed (is_lookback (decimal p.0)) _ _ (no_record (decimal p.0) (decimal_digits p.0 (omega (arith, g.0)))) ∙ ap (λ r. r >>= λ q. Ok (control.Qubit q)) (qubit_again p.0 g.0)
-control_again (pair.Record k q) g =
+control_again (pair.Record q k) g =
     chosen (is_lookback (lookback_text k)) _ _ (lookback_written k (omega (arith, g.0.1))) ∙ ap (λ r. r >>= λ j. Ok (control.Record j)) (lookback_again k g.0)
 
 abbrev turn : ControlledPair → ControlTarget
@@ -80,7 +80,7 @@ turns_again (x ∷ xs) g =
 
 pair_again : (x : ControlledPair) → IsControlled x → paired (turn x) ≡ Ok x
 pair_again (pair.Qubits p) g = passed (p.0 == p.1) _ _ (different p.0 p.1 g.2)
-pair_again (pair.Record k q) g = refl
+pair_again (pair.Record q k) g = refl
 
 -- the words of pairs are read as the pairs
 pub controlled_pairs_again : (xs : List ControlledPair) → Each IsControlled xs → controlled_of (words (spaced controlled_text xs)) ≡ Ok xs

@@ -9,6 +9,7 @@ mod PieceLemmas
 mod NumberLemmas
 mod TargetLemmas
 mod CoordinateLemmas
+mod DetectorLemmas
 mod ProductLemmas
 pub mod FreeLemmas
 mod FrontTargetLemmas

@@ -5,11 +5,17 @@ use Rattle.std.specs.List.{slice_split, prefix_len, position_or_len}
 use Rattle.std.proofs.lemmas.List.Splits.{slice_split-cons_yes, slice_split_first, slice_split_none}
 use Rattle.std.proofs.lemmas.List.Sums.{prefix_len_stops, prefix_len-le-length, fails_before_first}
 use Rattle.stab_lines.specs.Lines.{is_spacing, trimmed_front}
-use Rattle.stab_lines.specs.Words.{words, is_some_word}
+use Rattle.stab_lines.specs.Words.{words, is_some_word, is_blank}
+use Rattle.stab_lines.proofs.BoolLemmas.{and_left, and_right}
 
 -- spacing in front makes no word
 words_spacing : (x : ℕ) (xs : List ℕ) → is_spacing x ≡ true → words (x ∷ xs) ≡ words xs
 words_spacing x xs e = ap (filter is_some_word) (slice_split-cons_yes is_spacing x xs e)
+
+-- spacing alone makes no words
+pub blank_words : (bs : List ℕ) → is_blank bs ≡ true → words bs ≡ []
+blank_words [] h = refl
+blank_words (x ∷ xs) h = words_spacing x xs (and_left (is_spacing x) (is_blank xs) h) ∙ blank_words xs (and_right (is_spacing x) (is_blank xs) h)
 
 -- the spacing in front may be cut
 cut_front : (x : ℕ) (xs : List ℕ) (b : Bool) → is_spacing x ≡ b → words (trimmed_front xs) ≡ words xs

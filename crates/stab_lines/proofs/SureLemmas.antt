@@ -205,11 +205,11 @@ turns_sure (a ∷ b ∷ rest) =
 
 abbrev pub IsControlled : ControlledPair → Type 0
 IsControlled (pair.Qubits p) = IsPair p
-IsControlled (pair.Record k q) = IsLookback k × IsQubit q
+IsControlled (pair.Record q k) = IsLookback k × IsQubit q
 
 pair_sure : (c : Control) (q : ℕ) → IsControl c → IsQubit q → IsSure IsControlled (pair_of c q)
 pair_sure (control.Qubit a) q p r = sure_if IsControlled (a == q) _ _ (λ e. sure_err IsControlled _) (λ e. sure_ok IsControlled (pair.Qubits (a, q)) (p, r, differ a q e))
-pair_sure (control.Record k) q p r = sure_ok IsControlled (pair.Record k q) (p, r)
+pair_sure (control.Record k) q p r = sure_ok IsControlled (pair.Record q k) (p, r)
 
 sure_each_of : {A X : Type 0} (P : A → Type 0) (Q : X → Type 0) (f : A → Result X Refusal) → ((a : A) → P a → IsSure Q (f a)) → (as' : List A) → Each P as' → IsSure (Each Q) (each f as')
 sure_each_of P Q f s [] e = sure_ok (Each Q) [] tt

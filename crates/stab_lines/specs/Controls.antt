@@ -26,7 +26,7 @@ by_turns (a ∷ b ∷ rest) = control_of a >>= λ c. qubit_of b >>= λ q. by_tur
 -- the pair of a control and a qubit, which differs from a qubit that controls it
 abbrev pub pair_of : Control → ℕ → Result ControlledPair Refusal
 pair_of (control.Qubit a) b = if a == b then Err BadPairing else Ok (pair.Qubits (a, b))
-pair_of (control.Record k) q = Ok (pair.Record k q)
+pair_of (control.Record k) q = Ok (pair.Record q k)
 
 -- the same, of a pair of targets
 abbrev pub paired : ControlTarget → Result ControlledPair Refusal

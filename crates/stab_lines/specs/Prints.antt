@@ -77,7 +77,7 @@ lookback_text k = codes "rec[-" ++ (decimal k ++ codes "]")
 -- a control, and the qubit that it acts on
 abbrev pub controlled_text : ControlledPair → List ℕ
 controlled_text (pair.Qubits p) = pair_text p
-controlled_text (pair.Record k q) = lookback_text k ++ (codes " " ++ decimal q)
+controlled_text (pair.Record q k) = lookback_text k ++ (codes " " ++ decimal q)
 
 -- a letter, as a capital
 abbrev pub axis_text : Axis → List ℕ

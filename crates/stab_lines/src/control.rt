@@ -31,8 +31,12 @@ pub struct ControlTarget {
 #[derive(Clone, Copy, Debug, PartialEq, Eq)]
 pub enum ControlledPair {
     Qubits(Pair),
-    Record(Lookback, Qubit),
+    // The qubit on which the record acts stands before it, so that no room is left between them.
+    Record(Qubit, Lookback),
 }
+
+// Long circuits are lists of such pairs.
+const _: () = prove!(size_of::<ControlledPair>() <= 8);
 
 /// The control of a word.
 #[tactic(auto, unfolding(crate::specs::Controls::control_of))]
@@ -83,7 +87,7 @@ fn pair(target: ControlTarget) -> Result<ControlledPair, Refusal>
 {
     match &target.control {
         Control::Qubit(first) => qubit_pair(*first, target.qubit),
-        Control::Record(lookback) => Ok(ControlledPair::Record(*lookback, target.qubit)),
+        Control::Record(lookback) => Ok(ControlledPair::Record(target.qubit, *lookback)),
     }
 }
 

@@ -14,7 +14,7 @@
 //! - `operation`: instructions.
 //! - `table`: the names of all instructions.
 //! - `name`, `target`, `argument`, `coordinates`: the parts of an instruction.
-//! - `located`: targets behind coordinates.
+//! - `located`: targets behind coordinates; `detector`: the records of a detector behind them.
 //! - `factor`, `control`: the targets that are products, and those of controlled gates.
 //! - `meanings`: what a line means, or why it is refused.
 //! - `print`: the one text of an instruction, and of the opening of a block.
@@ -32,6 +32,7 @@ mod argument;
 mod axis;
 mod control;
 mod coordinates;
+mod detector;
 mod factor;
 pub mod laws;
 mod line;
@@ -50,6 +51,7 @@ mod word;
 pub use axis::Axis;
 pub use control::ControlledPair;
 pub use coordinates::Coordinates;
+pub use detector::DetectorTargets;
 pub use factor::read_product;
 pub use line::{content, ends_with, is_spacing, starts_with, without_spacing_in_front};
 pub use located::Located;

@@ -3,12 +3,13 @@ ghost use Rattle.stab_lines.specs.Results.{Gives};
 ghost use Rattle.stab_lines.specs.Words.{words};
 ghost use Rattle.stab_lines.specs.Controls.{controlled_of};
 ghost use Rattle.stab_lines.specs.inner.Parts.{shape_shown};
-ghost use Rattle.stab_lines.specs.declared.name.Instruction.TheVariants.{ShiftCoords};
+ghost use Rattle.stab_lines.specs.declared.name.Instruction.TheVariants.{Detector, ShiftCoords};
 ghost use Rattle.stab_lines.specs.declared.name.Name.{Name};
 ghost use Rattle.stab_lines.specs.Meanings.{without_arguments, targets_alone as alone, observable_include_of, kind_of, only_count as only_count_of, block_of, named_line as named_line_of, shape_meaning, is_close as is_close_of, meaning_of};
 
 use crate::argument::{coordinates, observable, only_number};
 use crate::control::{ControlledPair, controlled_pairs};
+use crate::detector::{DetectorTargets, short_targets};
 use crate::factor::ProductTargets;
 use crate::line::{Shape, starts_with};
 use crate::located::Located;
@@ -52,6 +53,18 @@ fn pairs_alone(alloc: Global, shape: &Shape) -> Result<Sequence<ControlledPair>,
     } else {
         Err(Refusal::BadArguments)
     }
+}
+
+#[tactic(auto, unfolding(crate::specs::Meanings::kind_of))]
+fn detector(alloc: Global, shape: &Shape) -> Result<Kind, Refusal>
+    ensures gives { Gives result (kind_of Detector (shape_shown shape.now)) }
+{
+    let coordinates = coordinates(alloc, shape.arguments)?;
+    if let Some(targets) = short_targets(&coordinates, shape.targets) {
+        return Ok(Kind::Detector(targets));
+    }
+    let records = lookbacks(alloc, shape.targets)?;
+    Ok(Kind::Detector(DetectorTargets::long(alloc, coordinates, records)?))
 }
 
 #[tactic(auto, unfolding(crate::specs::Meanings::observable_include_of))]
@@ -103,11 +116,7 @@ fn kind(alloc: Global, instruction: Instruction, shape: &Shape) -> Result<Kind, 
         Instruction::MeasureProducts => {
             Ok(Kind::MeasureProducts(targets_alone::<ProductTargets>(alloc, shape)?))
         }
-        Instruction::Detector => {
-            let coordinates = coordinates(alloc, shape.arguments)?;
-            let records = lookbacks(alloc, shape.targets)?;
-            Ok(Kind::Detector(Located::new(alloc, coordinates, records)?))
-        }
+        Instruction::Detector => detector(alloc, shape),
         Instruction::ObservableInclude => observable_include(alloc, shape),
         Instruction::Tick if !is_blank(shape.arguments) => Err(Refusal::BadArguments),
         Instruction::Tick if !is_blank(shape.targets) => Err(Refusal::BadTarget),

@@ -3,6 +3,7 @@ ghost use Rattle.std.specs.Prelude.{◌≡◌, IfOk};
 use crate::axis::Axis;
 use crate::control::ControlledPair;
 use crate::coordinates::Coordinates;
+use crate::detector::DetectorTargets;
 use crate::located::Located;
 use crate::product::{Product, copied_products};
 use crate::range::{Lookbacks, MeasureTarget, ObservableNumber, Pair, Qubit};
@@ -26,12 +27,15 @@ pub enum Kind {
     Measure(Measurement, Sequence<MeasureTarget>),
     Reset(Axis, Sequence<Qubit>),
     MeasureProducts(Sequence<Product>),
-    Detector(Located<Lookbacks>),
+    Detector(DetectorTargets),
     ObservableInclude(ObservableNumber, Lookbacks),
     Tick,
     QubitCoords(Located<Sequence<Qubit>>),
     ShiftCoords(Coordinates),
 }
+
+// Long circuits are lists of instructions: what they do stands in place, where it is short.
+const _: () = prove!(size_of::<Kind>() <= 32);
 
 // Written out, so that to a proof a value that is let go is one call, and not one for each of its parts.
 impl Drop for Kind {
@@ -43,7 +47,7 @@ impl Drop for Kind {
             Kind::Measure(_measurement, _targets) => {}
             Kind::Reset(_axis, _qubits) => {}
             Kind::MeasureProducts(_products) => {}
-            Kind::Detector(_located) => {}
+            Kind::Detector(_targets) => {}
             Kind::ObservableInclude(_number, _lookbacks) => {}
             Kind::Tick => {}
             Kind::QubitCoords(_located) => {}
@@ -68,7 +72,7 @@ impl Kind {
             Kind::MeasureProducts(products) => {
                 Ok(Kind::MeasureProducts(copied_products(alloc, products)?))
             }
-            Kind::Detector(located) => Ok(Kind::Detector(located.copy(alloc)?)),
+            Kind::Detector(targets) => Ok(Kind::Detector(targets.copy(alloc)?)),
             Kind::ObservableInclude(number, lookbacks) => {
                 Ok(Kind::ObservableInclude(*number, lookbacks.copy(alloc)?))
             }

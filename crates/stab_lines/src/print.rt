@@ -4,13 +4,12 @@ ghost use Rattle.std.specs.List.{slice_split};
 ghost use Rattle.std.specs.Option.{option_copied};
 ghost use Rattle.stab_io.specs.Devices.{WritesAll};
 ghost use Rattle.stab_lines.specs.Lines.{is_byte, trimmed};
-ghost use Rattle.stab_lines.specs.Words.{pieces_after};
+ghost use Rattle.stab_lines.specs.Words.{arguments_of, pieces_after};
 ghost use Rattle.stab_lines.specs.Names.{gate_name as gate_name_of, controlled_name as controlled_name_of, measurement_name as measurement_name_of, instruction_name as instruction_name_of};
 ghost use Rattle.stab_lines.specs.Prints.{axis_text as axis_text_of, kind_name as kind_name_of, tag_text, each_after, head_text, arguments_text, kind_arguments, pair_text, target_text, lookback_text, controlled_text, factor_text, product_text, targets_text, operation_text, open_text};
 
 use crate::axis::Axis;
 use crate::control::ControlledPair;
-use crate::coordinates::Coordinates;
 use crate::line::without_spacing;
 use crate::name::Instruction;
 use crate::operation::{Kind, Measurement};
@@ -179,7 +178,7 @@ impl Word for ControlledPair {
     fn write<O: Output>(&self, out: &mut O) -> Result<(), Refusal> {
         match self {
             ControlledPair::Qubits(pair) => pair.write(out),
-            ControlledPair::Record(lookback, qubit) => write_feedback(out, *lookback, *qubit),
+            ControlledPair::Record(qubit, lookback) => write_feedback(out, *lookback, *qubit),
         }
     }
 }
@@ -278,10 +277,10 @@ fn write_bracketed<O: Output>(out: &mut O, arguments: &[u8]) -> Result<(), Refus
     write_all(out, b")")
 }
 
-fn write_coordinates<O: Output>(out: &mut O, coordinates: &Coordinates) -> Result<(), Refusal>
-    ensures writes { WritesAll (O.seen out.old) (O.seen out.new) (arguments_text coordinates.now) result }
+/// Writes coordinates as they stand in their brackets, none where these hold nothing.
+fn write_coordinates<O: Output>(out: &mut O, written: &[u8]) -> Result<(), Refusal>
+    ensures writes { WritesAll (O.seen out.old) (O.seen out.new) (arguments_text (arguments_of written.now)) result }
 {
-    let written = coordinates.written();
     if is_blank(written) {
         return Ok(());
     }
@@ -292,15 +291,15 @@ fn write_arguments<O: Output>(out: &mut O, kind: &Kind) -> Result<(), Refusal>
     ensures writes { WritesAll (O.seen out.old) (O.seen out.new) (arguments_text (kind_arguments kind.now)) result }
 {
     match kind {
-        Kind::Detector(located) => write_coordinates(out, located.coordinates()),
+        Kind::Detector(targets) => write_coordinates(out, targets.written()),
         Kind::ObservableInclude(observable, _) => write_number(
             out,
             b"(",
             u64::from(observable.number()),
             b")",
         ),
-        Kind::QubitCoords(located) => write_coordinates(out, located.coordinates()),
-        Kind::ShiftCoords(coordinates) => write_coordinates(out, coordinates),
+        Kind::QubitCoords(located) => write_coordinates(out, located.coordinates().written()),
+        Kind::ShiftCoords(coordinates) => write_coordinates(out, coordinates.written()),
         Kind::Gate(_, _)
         | Kind::Controlled(_, _)
         | Kind::Swap(_)
@@ -321,7 +320,7 @@ fn write_targets<O: Output>(out: &mut O, kind: &Kind) -> Result<(), Refusal>
         Kind::Measure(_, targets) => write_each(out, b" ", targets.as_slice()),
         Kind::Reset(_, qubits) => write_each(out, b" ", qubits.as_slice()),
         Kind::MeasureProducts(products) => write_each(out, b" ", products.as_slice()),
-        Kind::Detector(located) => write_each(out, b" ", located.targets().as_slice()),
+        Kind::Detector(targets) => write_each(out, b" ", targets.records()),
         Kind::ObservableInclude(_, records) => write_each(out, b" ", records.as_slice()),
         Kind::QubitCoords(located) => write_each(out, b" ", located.targets().as_slice()),
         Kind::Tick | Kind::ShiftCoords(_) => Ok(()),

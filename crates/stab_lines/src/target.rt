@@ -159,7 +159,7 @@ impl Target for RecordTargets {
 
 /// How far back the record of the first word is looked for, and what follows the word, where it is
 /// written as a record in range is.
-fn record_at_front(bytes: &[u8]) -> Option<(u32, &[u8])>
+pub fn record_at_front(bytes: &[u8]) -> Option<(u32, &[u8])>
     ensures value { MatchOption result (Unit {0}) (λ p. BeginsWithTarget lookback_of bytes.now p.0 p.1.now) }
     ensures shorter { MatchOption result (Unit {0}) (λ p. length p.1.now < length bytes.now) }
 {

@@ -18,7 +18,7 @@ each m f below xs = All-map (NamesBelow m) f xs (λ k d lt. below (get_or xs k d
 
 controlled-below : (m : ℕ) (a : Axis) (p : ControlledPair) → NamesBelow m (controlled_step a p)
 controlled-below m a (pair.Qubits p) = tt
-controlled-below m a (pair.Record k q) = tt
+controlled-below m a (pair.Record q k) = tt
 
 single : (m : ℕ) (x : Step) → NamesBelow m x → All (NamesBelow m) (x ∷ [])
 single m x below = All-cons (NamesBelow m) x [] below (All-nil (NamesBelow m))

@@ -92,7 +92,6 @@ pub fn turned_copy(
 ///
 /// Refusal `OutOfMemory` alone.
 fn append_strings(
-    alloc: Global,
     to: &mut KeptStrings,
     strings: &KeptStrings,
     from: usize,
@@ -105,7 +104,7 @@ fn append_strings(
     ensures closed { OnOk result (length strings.now.strings < end → to.new.most ≡ length to.new.strings) }
     ensures err { IfErr result (λ r. r ≡ OutOfMemory) }
 {
-    to.append_between(alloc, strings, from, end)?;
+    to.append_between(strings, from, end)?;
     if strings.len() < end {
         to.close();
     }
@@ -161,7 +160,6 @@ impl<'a> Replay<'a> {
     /// Refusal `OutOfMemory` alone.
     pub(crate) fn frame_to(
         &mut self,
-        alloc: Global,
         old: &Outputs,
         strings: &KeptStrings,
         plan: Plan,
@@ -217,7 +215,6 @@ impl<'a> Replay<'a> {
         )?;
         let free = between(old.free.as_slice(), from.lengths.free, to.lengths.free);
         append_strings(
-            alloc,
             &mut self.notes.strings,
             strings,
             number,

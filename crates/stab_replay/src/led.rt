@@ -69,13 +69,13 @@ impl<'a> Replay<'a> {
         ensures err { IfErr result (λ r. r ≡ OutOfMemory) }
     {
         let to = &copies[number];
-        let stop = self.frame_to(alloc, old, strings, plan, &copies[number - 1], to, walk)?;
+        let stop = self.frame_to(old, strings, plan, &copies[number - 1], to, walk)?;
         if stop == Stop::NoString {
             return Ok(Passage::Stopped);
         }
         let turned = turned_copy(alloc, &to.tableau, walk.letters())?;
         if stop == Stop::Gone || !has_one(walk.records()) {
-            self.tableau = turned.tableau(alloc, None)?;
+            turned.write_into(&mut self.tableau);
             return Ok(Passage::Arrived);
         }
         self.laid.push(Checkpoint {

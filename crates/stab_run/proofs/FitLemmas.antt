@@ -66,7 +66,7 @@ within-controlled n a (pair.Qubits p ∷ ps) le =
     All-cons (IsWithin n) (two (controlled_gate a) p.0 p.1) (map (controlled_step a) ps)
     (past-head n p.0 (p.1 ∷ controlled_qubits ps) le, past-head n p.1 (controlled_qubits ps) later)
     (within-controlled n a ps (past-tail n p.1 (controlled_qubits ps) later))
-within-controlled n a (pair.Record k q ∷ ps) le =
+within-controlled n a (pair.Record q k ∷ ps) le =
     All-cons (IsWithin n) (controlled (letter_of a) k q) (map (controlled_step a) ps)
     (past-head n q (controlled_qubits ps) le) (within-controlled n a ps (past-tail n q (controlled_qubits ps) le))
 

@@ -13,7 +13,7 @@ use std::alloc::Global;
 /// out a bit of all of them takes up to 19 bytes more.
 const MOST_BYTES: usize = 12 * 1024 * 1024;
 
-/// How many steps are passed together at most: as many as one instruction has.
+/// How many steps are passed together at most: as many as stand together.
 const MOST_TOGETHER: usize = usize::MAX;
 
 /// How many bits a shot has: its records, detectors and observables.
@@ -24,10 +24,18 @@ fn bits_of_shot(alloc: Global, circuit: &Circuit) -> Result<usize, Refusal>
     let mut bits = circuit.records().saturating_add(circuit.observables());
     let mut cursor = Cursor::at(alloc, circuit, 0)?;
     'steps: while let Some(steps) = cursor.next_steps(MOST_TOGETHER) {
-        let detector = matches!(steps, Steps::Single(Step::Detector(_)));
-        bits = bits.saturating_add(usize::from(detector));
+        bits = bits.saturating_add(count_detectors(steps));
     }
     Ok(bits)
+}
+
+/// How many of some steps are detectors.
+fn count_detectors(steps: Steps) -> usize {
+    match steps {
+        Steps::Detectors(detectors) => detectors.len(),
+        Steps::Single(Step::Detector(_)) => 1,
+        Steps::Gates(..) | Steps::Pairs(..) | Steps::Measurements(..) | Steps::Single(_) => 0,
+    }
 }
 
 /// Whether the bits of so many lanes, so many in each, stay within the bytes that they may take.

@@ -11,7 +11,7 @@ use stab_pauli::Pauli;
 use stab_tableau::Tableau;
 use std::alloc::AllocError;
 
-/// How many steps go together at most: as many as one instruction has.
+/// How many steps go together at most: as many as stand together.
 const MOST_TOGETHER: usize = usize::MAX;
 
 /// Carries out the steps that a cursor has left, on a tableau and all lanes. The two strings are for

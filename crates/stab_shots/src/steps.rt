@@ -1,17 +1,19 @@
-//! Steps of one instruction, carried out together on a tableau and all lanes.
+//! Steps of one instruction, or of detectors, carried out together on a tableau and all lanes.
 ghost use Rattle.std.specs.Prelude.{◌≡◌, ℕ, ◌<◌, Bool, ◌∷◌, [], All, length, map, OnOk};
-ghost use Rattle.stab_circuit.specs.Steps.{one, controlled_step, measured};
-ghost use Rattle.stab_circuit.specs.Cursors.{steps_shown};
+ghost use Rattle.stab_tableau.specs.Tableaus.{TableauState};
+ghost use Rattle.stab_circuit.specs.Steps.{one, controlled_step, measured, detector};
+ghost use Rattle.stab_circuit.specs.Cursors.{lookbacks_of, steps_shown};
 ghost use Rattle.stab_run.specs.ProgramStates.{StepFits, IsRun};
 ghost use Rattle.stab_shots.specs.LaneRules.{lane_state};
 
 use crate::coins::LaneCoins;
 use crate::gates::{apply_gate, apply_pair_gate, apply_where};
-use crate::lanes::Lanes;
+use crate::lanes::{Lanes, parity};
 use crate::step::apply_step;
 use crate::word::Word;
 use stab_circuit::{
-    Axis, ControlledPair, MeasureTarget, Measurement, Qubit, Steps, controlled_gate, measured_step,
+    Axis, ControlledPair, Detectors, MeasureTarget, Measurement, Qubit, Steps, controlled_gate,
+    measured_step,
 };
 use stab_pauli::Pauli;
 use stab_tableau::{Gate, Tableau};
@@ -49,7 +51,7 @@ fn apply_controlled<W: Word>(
             let second = pair.second().number();
             apply_pair_gate(tableau, lanes, controlled_gate(axis), first, second);
         }
-        ControlledPair::Record(lookback, qubit) => {
+        ControlledPair::Record(qubit, lookback) => {
             apply_where(lanes, axis.letter(), lookback.number(), qubit.number());
         }
     }
@@ -101,6 +103,18 @@ fn measure_targets<W: Word, C: LaneCoins<W>>(
     Ok(())
 }
 
+/// Gathers the parities of the records that detectors name.
+fn take_parities<W: Word>(lanes: &mut Lanes<W>, detectors: Detectors) -> Result<(), AllocError>
+    ensures frames { length lanes.new.frames.letters.items ≡ length lanes.old.frames.letters.items }
+    ensures run { OnOk result ((l : ℕ) → l < W.lanes → (coins : ℕ → Bool) (tableau : TableauState) → IsRun tableau.qubits coins (map detector (lookbacks_of detectors.entry)) (lane_state W.at l tableau lanes.old) (lane_state W.at l tableau lanes.new)) }
+{
+    for place in 0..detectors.len() {
+        let bits = parity(lanes.records.as_slice(), detectors.get(place));
+        lanes.detectors.push(bits)?;
+    }
+    Ok(())
+}
+
 /// Carries out steps on a tableau and all lanes. The two strings are for products and for
 /// stabilisers to be written into.
 pub fn apply_steps<W: Word, C: LaneCoins<W>>(
@@ -141,6 +155,10 @@ pub fn apply_steps<W: Word, C: LaneCoins<W>>(
                 measurement,
                 targets,
             )
+        }
+        Steps::Detectors(detectors) => {
+            take_parities(lanes, detectors)?;
+            Ok(())
         }
         Steps::Single(step) => apply_step(tableau, string, exchange, coins, lanes, step),
     }

@@ -15,7 +15,8 @@ use Rattle.stab_tableau.specs.Rules.{outcome_by, is_free_by, projected_by}
 use Rattle.stab_tableau.proofs.OneLetterLemmas.{length-one_letter}
 use Rattle.stab_tableau.proofs.MemberLemmas.{same-applied, same-projected, same-outcome, same-free}
 use Rattle.stab_lines.specs.declared.product.Factor.{Factor}
-use Rattle.stab_circuit.specs.Steps.{Step, one, collapse, product}
+use Rattle.stab_circuit.specs.Steps.{Step, one, collapse, product, detector}
+use Rattle.stab_steps.specs.Records.{parity}
 use Rattle.stab_steps.specs.Runs.{when, string_of, gate_of, flip_of, applied_where, outcome_at}
 use Rattle.stab_steps.specs.Points.{Point, RunOutput, nothing, joined, given, trace_after, coins_of, next_point, point_after, outputs}
 use Rattle.stab_steps.specs.ProgramStates.{StepFits, ProgramState, IsAt, Leads, IsRun, applied_by}
@@ -96,6 +97,19 @@ run-gate n m coins g q a b output same members = λ p s.
     one-run n coins (one g q) (record { stabilised = a; output = output }) (record { stabilised = b; output = output }) p s
     (λ r lr. members r (lr ∙ sym same) ∙ same-applied n a (member p.trace) g q s.group r lr)
     refl (sym (joined-nothing output))
+
+-- a detector, whose parity is gathered
+pub run-detector : (n : ℕ) (coins : ℕ → Bool) (ks : List ℕ) (a : Signed → Bool) (old new : RunOutput) → new.records ≡ old.records → new.free ≡ old.free
+    → new.detectors ≡ old.detectors ++ parity old.records ks ∷ [] → new.additions ≡ old.additions
+    → IsRun n coins (detector ks ∷ []) (record { stabilised = a; output = old }) (record { stabilised = a; output = new })
+run-detector n coins ks a old new records free detectors additions = λ p s.
+    one-run n coins (detector ks) (record { stabilised = a; output = old }) (record { stabilised = a; output = new }) p s s.group refl
+    (λ i. record {
+      records = (records ∙ sym (append-nil old.records)) i;
+      free = (free ∙ sym (append-nil old.free)) i;
+      detectors = (detectors ∙ ap (λ r. old.detectors ++ parity r ks ∷ []) s.records) i;
+      additions = (additions ∙ sym (append-nil old.additions)) i;
+    })
 
 -- what the program does where it measures a string with some outcome: it projects, applies a letter to a qubit where it resets
 -- an outcome 1, and gathers the flag and the record

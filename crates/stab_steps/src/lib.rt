@@ -4,7 +4,7 @@
 //!
 //! - `coins`: the bits that decide outcomes which nothing else decides.
 //! - `records`: what steps have given so far, and the parity of the records that `rec[-k]` names.
-//! - `step`, `steps`: one step on a tableau, and those of one instruction.
+//! - `step`, `steps`: one step on a tableau, and those of one instruction or of detectors.
 //!
 //! `specs/` says which bit each coin is, what the steps of a circuit make of its qubits and records, and
 //! how a program that carries them out follows them. Which steps a circuit has is said by

@@ -1,17 +1,19 @@
-//! Steps of one instruction, carried out together.
+//! Steps of one instruction, or of detectors, carried out together.
 
 ghost use Rattle.std.specs.Prelude.{◌≡◌, ℕ, ◌+◌, ◌<◌, ◌≤◌, ◌^◌, Bool, ◌∷◌, [], All, length, map, OnOk};
-ghost use Rattle.stab_circuit.specs.Steps.{one, controlled_step, measured};
-ghost use Rattle.stab_circuit.specs.Cursors.{steps_shown};
+ghost use Rattle.stab_tableau.specs.Tableaus.{TableauState};
+ghost use Rattle.stab_circuit.specs.Steps.{one, controlled_step, measured, detector};
+ghost use Rattle.stab_circuit.specs.Cursors.{lookbacks_of, steps_shown};
 ghost use Rattle.stab_steps.specs.Records.{ones};
 ghost use Rattle.stab_steps.specs.Points.{RunOutput, all_coins_of};
 ghost use Rattle.stab_steps.specs.ProgramStates.{StepFits, IsRun, program_state, output_of};
 
 use crate::coins::Coins;
-use crate::records::{Outputs, looked_up};
+use crate::records::{Outputs, looked_up, parity};
 use crate::step::{apply_step, apply_where};
 use stab_circuit::{
-    Axis, ControlledPair, MeasureTarget, Measurement, Qubit, Steps, controlled_gate, measured_step,
+    Axis, ControlledPair, Detectors, MeasureTarget, Measurement, Qubit, Steps, controlled_gate,
+    measured_step,
 };
 use stab_pauli::Pauli;
 use stab_tableau::{Gate, Tableau};
@@ -60,6 +62,11 @@ pub fn apply_steps<C: Coins>(
                 applied,
             )
         }
+        Steps::Detectors(detectors) => {
+            take_parities(outputs, detectors)?;
+            *applied += detectors.len() as u64;
+            Ok(())
+        }
         Steps::Single(step) => apply_step(tableau, string, coins, outputs, step, applied),
     }
 }
@@ -86,7 +93,7 @@ fn apply_pair(tableau: &mut Tableau, records: &[bool], axis: Axis, pair: Control
             let first = pair.first().number();
             tableau.apply_pair(controlled_gate(axis), first, pair.second().number());
         }
-        ControlledPair::Record(lookback, qubit) => {
+        ControlledPair::Record(qubit, lookback) => {
             let bit = looked_up(records, lookback.number());
             apply_where(tableau, bit, axis.letter(), qubit.number());
         }
@@ -128,6 +135,18 @@ fn measure_targets<C: Coins>(
     for target in targets {
         let step = measured_step(measurement, *target);
         apply_step(tableau, string, coins, outputs, step, applied)?;
+    }
+    Ok(())
+}
+
+/// Gathers the parities of the records that detectors name.
+fn take_parities(outputs: &mut Outputs, detectors: Detectors) -> Result<(), AllocError>
+    ensures free { outputs.new.free ≡ outputs.old.free }
+    ensures run { OnOk result ((tableau : TableauState) (coins : ℕ → Bool) → IsRun tableau.qubits coins (map detector (lookbacks_of detectors.entry)) (program_state tableau (output_of outputs.old)) (program_state tableau (output_of outputs.new))) }
+{
+    for place in 0..detectors.len() {
+        let bit = parity(outputs.records.as_slice(), detectors.get(place));
+        outputs.detectors.push(bit)?;
     }
     Ok(())
 }

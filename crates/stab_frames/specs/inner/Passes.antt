@@ -1,6 +1,6 @@
 -- Passes: a frame on its way over one step, and what it must know of a measurement.
 -- Source: this project's own.
-use Rattle.std.specs.Prelude.{◌≡◌, ℕ, ◌+◌, Bool, true, false, List, [], ◌∷◌, Option, Some, None, IfSome, slice_index_or, length}
+use Rattle.std.specs.Prelude.{◌≡◌, ℕ, ◌+◌, Bool, true, false, List, [], ◌∷◌, Option, Some, None, IfSome, slice_index_or, length, replicate}
 use Rattle.stab_letters.specs.declared.letter.Letter.{Letter}
 use Rattle.stab_letters.specs.declared.letter.Letter.TheVariants.{I}
 use Rattle.stab_letters.specs.Letters.{◌⊕◌, letters_anticommute}
@@ -40,6 +40,10 @@ letters_for (Some s) apart f = times_where apart s f
 -- what is flipped by one that gives no record
 abbrev pub one_coin : RunOutput
 one_coin = record nothing { free = false ∷ [] }
+
+-- what is flipped by measurements whose records are not flipped
+abbrev pub none_flipped : ℕ → RunOutput
+none_flipped k = record nothing { records = replicate k false; free = replicate k false }
 
 -- over the outcome of something with which the frame anticommutes or not, which is flipped or not
 pub record IsPassed (strings : ℕ → Option (List Letter)) (apart flip : Bool) (old new : WalkState) : Type 0 where

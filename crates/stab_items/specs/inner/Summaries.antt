@@ -22,7 +22,7 @@ greatest (k ∷ ks) = max k (greatest ks)
 -- how far back a pair of a controlled gate looks, or 0
 abbrev pub looks_back : ControlledPair → ℕ
 looks_back (pair.Qubits p) = 0
-looks_back (pair.Record k q) = k
+looks_back (pair.Record q k) = k
 
 -- how far back the furthest of the pairs looks, or 0
 abbrev pub furthest : List ControlledPair → ℕ
@@ -56,7 +56,7 @@ summary_of items = steps_summary (unroll items) (qubits_of items) (observables_o
 -- the qubits of a pair of a controlled gate are different ones
 abbrev pub IsPairApart : ControlledPair → Type 0
 IsPairApart (pair.Qubits p) = p.1 ≢ p.0
-IsPairApart (pair.Record k q) = Unit {0}
+IsPairApart (pair.Record q k) = Unit {0}
 
 -- the qubits of an exchanged pair are different ones
 abbrev pub IsSwapApart : ℕ × ℕ → Type 0

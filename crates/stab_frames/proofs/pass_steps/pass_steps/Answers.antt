@@ -1,6 +1,6 @@
-use Rattle.std.proofs.Common.{refl, ap, subst, length, arith}
-use Rattle.stab_circuit.specs.Steps.{one, controlled_step}
-use Rattle.stab_circuit.specs.Cursors.{step_shown, steps_shown}
+use Rattle.std.proofs.Common.{refl, sym, ◌∙◌, ap, subst, length, take, arith}
+use Rattle.stab_circuit.specs.Steps.{one, controlled_step, detector}
+use Rattle.stab_circuit.specs.Cursors.{step_shown, steps_shown, lookbacks_of}
 use Rattle.stab_frames.specs.inner.Passes.{GoesOver}
 use Rattle.stab_frames.proofs.GoesOverLemmas.{goes-step, all-mapped, goes-single}
 use Rattle.stab_frames.proofs.pass_steps.pass_steps.Goals as goal
@@ -16,6 +16,13 @@ returns-in-Pairs-clause-goes c =
     subst (λ xs. GoesOver (length c.args.walk.now.letters) c.args.strings.now.strings c.args.free.now xs c.args.walk.now c.pass_pairs.new.walk)
     (all-mapped (controlled_step c.in-Pairs.axis) c.in-Pairs.pairs.now (steps_shown c.args.steps) (ap steps_shown c.in-Pairs.is))
     (c.pass_pairs.ensures.goes c.args.strings.now.strings c.args.free.now c.requires.placed)
+
+pub returns-in_ok-pass_detectors-in-Detectors-clause-goes : goal.returns-in_ok-pass_detectors-in-Detectors-clause-goes
+returns-in_ok-pass_detectors-in-Detectors-clause-goes c =
+    let shown = steps_shown c.args.steps in
+    subst (λ xs. GoesOver (length c.args.walk.now.letters) c.args.strings.now.strings c.args.free.now xs c.args.walk.now c.pass_detectors.new.walk)
+    (all-mapped detector (lookbacks_of c.in-Detectors.detectors) shown (ap steps_shown c.in-Detectors.is) ∙ ap (λ k. take k shown) (sym c.len.ensures.value))
+    ((c.in_ok-pass_detectors-in-Detectors.ensures {u = tt}).goes c.args.strings.now.strings c.args.free.now c.requires.placed)
 
 pub returns-in_ok-went-in-Single-clause-goes : goal.returns-in_ok-went-in-Single-clause-goes
 returns-in_ok-went-in-Single-clause-goes c =

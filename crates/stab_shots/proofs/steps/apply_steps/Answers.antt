@@ -23,3 +23,10 @@ returns-in-Measurements-clause-run g c =
     subst (λ xs. OnOk c.measure_targets.result ((j : ℕ) → j < g.W.Word.lanes → IsRun c.args.tableau.now.qubits (g.C.LaneCoins.sequences c.args.coins.now j) xs
     (lane_state g.W.Word.at j c.args.tableau.now c.args.lanes.now) (lane_state g.W.Word.at j c.measure_targets.new.tableau c.measure_targets.new.lanes)))
     (sym (ap steps_shown c.in-Measurements.is)) c.measure_targets.ensures.run
+
+pub returns-in_ok-take_parities-in-Detectors-clause-run : goal.returns-in_ok-take_parities-in-Detectors-clause-run
+returns-in_ok-take_parities-in-Detectors-clause-run g c = λ j lt.
+    let coins = g.C.LaneCoins.sequences c.args.coins.now j in
+    subst (λ xs. IsRun c.args.tableau.now.qubits coins xs
+    (lane_state g.W.Word.at j c.args.tableau.now c.args.lanes.now) (lane_state g.W.Word.at j c.args.tableau.now c.take_parities.new.lanes))
+    (sym (ap steps_shown c.in-Detectors.is)) ((c.in_ok-take_parities-in-Detectors.ensures {u = tt}).run j lt coins c.args.tableau.now)

@@ -28,3 +28,9 @@ returns-in-Measurements-clause-run g c =
     subst (λ xs. OnOk c.measure_targets.result (IsRun c.args.tableau.now.qubits (g.C.Coins.sequence c.args.coins.now) xs
     (program_state c.args.tableau.now (output_of c.args.outputs.now)) (program_state c.measure_targets.new.tableau (output_of c.measure_targets.new.outputs))))
     (sym (ap steps_shown c.in-Measurements.is)) c.measure_targets.ensures.run
+
+pub returns-in_ok-take_parities-in-Detectors-clause-run : goal.returns-in_ok-take_parities-in-Detectors-clause-run
+returns-in_ok-take_parities-in-Detectors-clause-run g c =
+    subst (λ xs. IsRun c.args.tableau.now.qubits (g.C.Coins.sequence c.args.coins.now) xs
+    (program_state c.args.tableau.now (output_of c.args.outputs.now)) (program_state c.args.tableau.now (output_of c.take_parities.new.outputs)))
+    (sym (ap steps_shown c.in-Detectors.is)) ((c.in_ok-take_parities-in-Detectors.ensures {u = tt}).run c.args.tableau.now (g.C.Coins.sequence c.args.coins.now))

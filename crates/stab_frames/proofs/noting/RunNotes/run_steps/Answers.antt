@@ -1,10 +1,10 @@
 use Rattle.std.proofs.Common.{◌≡◌, arith, ap, sym, ◌∙◌, subst, All}
-use Rattle.stab_circuit.specs.Cursors.{steps_shown}
+use Rattle.stab_circuit.specs.Cursors.{lookbacks_of, steps_shown}
 use Rattle.stab_run.specs.Points.{all_coins_of}
 use Rattle.stab_run.specs.ProgramStates.{program_state, output_of}
 use Rattle.stab_steps.proofs.TargetLemmas.{coins-measured}
 use Rattle.stab_frames.specs.Lookbacks.{LooksWithin}
-use Rattle.stab_frames.proofs.NotesStepsLemmas.{notes-unmeasured, coins-gates, near-gates, coins-pairs}
+use Rattle.stab_frames.proofs.NotesStepsLemmas.{notes-unmeasured, coins-gates, near-gates, coins-pairs, coins-detectors}
 use Rattle.stab_frames.proofs.noting.RunNotes.run_steps.Goals as goal
 
 pub returns-in_ok-apply_steps-in-Gates-clause-noted : goal.returns-in_ok-apply_steps-in-Gates-clause-noted
@@ -23,6 +23,15 @@ returns-in_ok-apply_steps-in-Pairs-clause-noted g c =
     (program_state c.args.tableau.now (output_of c.args.outputs.now)) (program_state c.apply_steps-in-Pairs.new.tableau (output_of c.apply_steps-in-Pairs.new.outputs))
     (subst (λ xs. all_coins_of xs ≡ 0) is (coins-pairs c.in-Pairs.field-0 c.in-Pairs.pairs.now))
     (subst (All (LooksWithin c.furthest-self.result)) is (c.furthest-self.ensures.within c.in-Pairs.field-0)) (c.in_ok-apply_steps-in-Pairs.ensures {u = tt}).run
+
+pub returns-in_ok-apply_steps-in-Detectors-clause-noted : goal.returns-in_ok-apply_steps-in-Detectors-clause-noted
+returns-in_ok-apply_steps-in-Detectors-clause-noted g c =
+    let is = sym (ap steps_shown c.in-Detectors.is) in
+    let reach = c.furthest_detector-self.result in
+    notes-unmeasured c.args.tableau.now.qubits (g.C.Coins.sequence c.args.coins.now) (steps_shown c.args.steps) reach c.args.self.now.strings
+    (program_state c.args.tableau.now (output_of c.args.outputs.now)) (program_state c.apply_steps-in-Detectors.new.tableau (output_of c.apply_steps-in-Detectors.new.outputs))
+    (subst (λ xs. all_coins_of xs ≡ 0) is (coins-detectors (lookbacks_of c.in-Detectors.detectors)))
+    (subst (All (LooksWithin reach)) is c.furthest_detector-self.ensures.within) (c.in_ok-apply_steps-in-Detectors.ensures {u = tt}).run
 
 pub returns-in_ok-run_targets-in-Measurements-clause-asks : goal.returns-in_ok-run_targets-in-Measurements-clause-asks
 returns-in_ok-run_targets-in-Measurements-clause-asks g c =

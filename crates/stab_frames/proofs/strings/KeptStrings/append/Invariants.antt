@@ -6,5 +6,5 @@ abbrev pub invariant-loop-string : goal.invariant-loop-string
 invariant-loop-string l = record {
   qubits : l.self.qubits ≡ l.initial.self.qubits;
   most : l.self.most ≡ l.initial.self.most;
-  strings : l.self.strings ≡ kept_with l.initial.self.most l.initial.self.strings (map (λ p. p.letters) (take l.string-index l.strings));
+  strings : l.self.strings ≡ kept_with l.initial.self.most l.initial.self.strings (map (λ p. p.value.letters) (take l.string-index l.strings));
 }

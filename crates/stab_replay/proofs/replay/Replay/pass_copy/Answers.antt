@@ -1,5 +1,6 @@
-use Rattle.std.proofs.Common.{◌≢◌, ◌-◌, ◌≤◌, ◌++◌, refl, ◌∙◌, ap, subst, [], ◌∷◌, length, arith, rules}
+use Rattle.std.proofs.Common.{◌≢◌, ◌-◌, ◌≤◌, ◌++◌, refl, sym, ◌∙◌, ap, subst, [], ◌∷◌, length, arith, rules}
 use Rattle.std.proofs.lemmas.Option.{slice_get_read}
+use Rattle.stab_tableau.specs.Tableaus.{TableauState}
 use Rattle.stab_frames.specs.declared.steps.Stop.TheVariants.{NoString}
 use Rattle.stab_run.specs.Records.{ones}
 use Rattle.stab_copies.specs.declared.checkpoint.Checkpoint.{Checkpoint}
@@ -19,6 +20,17 @@ frame_to-requires-clause-few_framed c =
     let from = slice_get_read c.args.copies.now (length c.args.copies.now) (c.args.number - 1) c.index-copies-number-2.result refl (omega (arith, c.requires.within)) c.index-copies-number-2.is in
     let to = slice_get_read c.args.copies.now (length c.args.copies.now) c.args.number c.index-copies-number.result refl c.requires.within c.index-copies-number.is in
     steps-between c.args.number c.index-copies-number.result from to c.requires.few c.args.self.now c.requires.led.1 c.requires.led.2 c.requires.few_framed
+
+pub write_into-requires : goal.write_into-requires
+write_into-requires c = record {
+  same_qubits =
+      let from = slice_get_read c.args.copies.now (length c.args.copies.now) (c.args.number - 1) c.index-copies-number-2.result refl (omega (arith, c.requires.within)) c.index-copies-number-2.is in
+      let to = slice_get_read c.args.copies.now (length c.args.copies.now) c.args.number c.index-copies-number.result refl c.requires.within c.index-copies-number.is in
+      let told : c.in_ok-stop.stop ≢ NoString = search rules in
+      ap (λ (t : TableauState). t.qubits) c.frame_to.ensures.tableau
+      ∙ sym
+      (qubits-there c.args.number c.index-copies-number.result from to c.requires.few c.args.self.now c.requires.led.1 c.requires.led.2 (c.in_ok-stop.ensures.went told) told c.in_ok-turned.turned c.letters.ensures.value c.in_ok-turned.ensures.qubits c.in_ok-turned.ensures.turned c.in_ok-turned.turned refl);
+}
 
 pub returns-then-eq-2-clause-further : goal.returns-then-eq-2-clause-further
 returns-then-eq-2-clause-further c =
@@ -46,7 +58,7 @@ returns-then-eq-2-clause-qubits c =
     let from = slice_get_read c.args.copies.now (length c.args.copies.now) (c.args.number - 1) c.index-copies-number-2.result refl (omega (arith, c.requires.within)) c.index-copies-number-2.is in
     let to = slice_get_read c.args.copies.now (length c.args.copies.now) c.args.number c.index-copies-number.result refl c.requires.within c.index-copies-number.is in
     let told : c.in_ok-stop.stop ≢ NoString = search rules in
-    qubits-there c.args.number c.index-copies-number.result from to c.requires.few c.args.self.now c.requires.led.1 c.requires.led.2 (c.in_ok-stop.ensures.went told) told c.in_ok-turned.turned c.letters.ensures.value c.in_ok-turned.ensures.qubits c.in_ok-turned.ensures.turned c.in_ok-self.field-0 c.in_ok-self.ensures.ok
+    qubits-there c.args.number c.index-copies-number.result from to c.requires.few c.args.self.now c.requires.led.1 c.requires.led.2 (c.in_ok-stop.ensures.went told) told c.in_ok-turned.turned c.letters.ensures.value c.in_ok-turned.ensures.qubits c.in_ok-turned.ensures.turned c.write_into.new.tableau c.write_into.ensures.value
 
 pub returns-then-eq-2-clause-on : goal.returns-then-eq-2-clause-on
 returns-then-eq-2-clause-on c =
@@ -56,7 +68,7 @@ returns-then-eq-2-clause-on c =
     let went = c.in_ok-stop.ensures.went told in
     let step = step-there c.args.number c.index-copies-number.result from to c.requires.few c.args.self.now c.requires.led.1 c.requires.led.2 went told in
     led-arrived c.args.plan c.args.copies.now c.args.number c.index-copies-number.result to c.args.self.now
-    (record { tableau = c.in_ok-self.field-0; string = c.frame_to.new.self.string; outputs = c.frame_to.new.self.outputs; notes = c.frame_to.new.self.notes; cursor = c.frame_to.new.self.cursor; step = c.frame_to.new.self.step; applied = c.frame_to.new.self.applied; framed = c.frame_to.new.self.framed; laid = c.frame_to.new.self.laid })
+    (record { tableau = c.write_into.new.tableau; string = c.frame_to.new.self.string; outputs = c.frame_to.new.self.outputs; notes = c.frame_to.new.self.notes; cursor = c.frame_to.new.self.cursor; step = c.frame_to.new.self.step; applied = c.frame_to.new.self.applied; framed = c.frame_to.new.self.framed; laid = c.frame_to.new.self.laid })
     c.requires.within c.requires.ascending went.step (c.index-copies-number.result.step - c.index-copies-number-2.result.step) step went.framed c.frame_to.ensures.applied
     (free-there c.args.number c.index-copies-number.result from to c.requires.few c.args.self.now c.requires.led.1 c.requires.led.2 went told) c.frame_to.ensures.reach c.frame_to.ensures.laid
 
@@ -79,8 +91,8 @@ returns-then-eq-2-clause-passed c = λ coins passed led.
     let to = slice_get_read c.args.copies.now (length c.args.copies.now) c.args.number c.index-copies-number.result refl c.requires.within c.index-copies-number.is in
     let told : c.in_ok-stop.stop ≢ NoString = search rules in
     has-arrived c.args.number c.index-copies-number.result from to c.requires.few c.args.self.now passed led (c.in_ok-stop.ensures.went told) told c.in_ok-turned.turned c.letters.ensures.value c.in_ok-turned.ensures.qubits c.in_ok-turned.ensures.turned
-    (record { tableau = c.in_ok-self.field-0; string = c.frame_to.new.self.string; outputs = c.frame_to.new.self.outputs; notes = c.frame_to.new.self.notes; cursor = c.frame_to.new.self.cursor; step = c.frame_to.new.self.step; applied = c.frame_to.new.self.applied; framed = c.frame_to.new.self.framed; laid = c.frame_to.new.self.laid })
-    c.in_ok-self.ensures.ok c.frame_to.ensures.string refl refl refl refl c.frame_to.ensures.scratch c.frame_to.ensures.reach c.frame_to.ensures.laid
+    (record { tableau = c.write_into.new.tableau; string = c.frame_to.new.self.string; outputs = c.frame_to.new.self.outputs; notes = c.frame_to.new.self.notes; cursor = c.frame_to.new.self.cursor; step = c.frame_to.new.self.step; applied = c.frame_to.new.self.applied; framed = c.frame_to.new.self.framed; laid = c.frame_to.new.self.laid })
+    c.write_into.ensures.value c.frame_to.ensures.string refl refl refl refl c.frame_to.ensures.scratch c.frame_to.ensures.reach c.frame_to.ensures.laid
 
 pub returns-clause-passed : goal.returns-clause-passed
 returns-clause-passed c = λ coins passed led.

@@ -1,0 +1,24 @@
+use Rattle.std.proofs.Common.{◌<◌, [], ◌∙◌, subst, All, map, length, arith}
+use Rattle.std.proofs.lemmas.List.{take_all, get_or_default}
+use Rattle.stab_circuit.specs.Steps.{detector}
+use Rattle.stab_circuit.specs.Cursors.{lookbacks_of}
+use Rattle.stab_frames.specs.Lookbacks.{LooksWithin}
+use Rattle.stab_frames.proofs.NotesStepsLemmas.{within-target}
+use Rattle.stab_frames.proofs.noting.furthest_detector.Goals as goal
+
+pub loop-place-preserved : goal.loop-place-preserved
+loop-place-preserved c =
+    let all = lookbacks_of c.args.detectors in
+    let place = c.loop-place.place in
+    let lt : place < length all = omega (arith, c.loop-place-test.true, c.len-place-end.ensures.value) in
+    record {
+      more = omega (arith, c.greatest-reach.ensures.more, c.loop-place.invariant.more);
+      within =
+          within-target c.loop-place.reach c.greatest-reach.result detector all place c.get.result.now lt
+          (c.get.ensures.value ∙ get_or_default all place [] c.get.result.now lt) c.greatest-reach.ensures.more c.loop-place.invariant.within c.greatest-reach.ensures.within;
+    }
+
+pub returns-clause-within : goal.returns-clause-within
+returns-clause-within c =
+    subst (λ kss. All (LooksWithin c.loop-place.reach) (map detector kss))
+    (take_all c.loop-place.place (lookbacks_of c.args.detectors) (omega (arith, c.loop-place-test.false, c.len-place-end.ensures.value))) c.loop-place.invariant.within

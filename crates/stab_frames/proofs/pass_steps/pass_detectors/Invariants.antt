@@ -1,0 +1,11 @@
+use Rattle.std.proofs.Common.{◌≡◌, length, map, take}
+use Rattle.stab_circuit.specs.Steps.{detector}
+use Rattle.stab_circuit.specs.Cursors.{lookbacks_of}
+use Rattle.stab_frames.specs.inner.Passes.{GoesFreely}
+use Rattle.stab_frames.proofs.pass_steps.pass_detectors.Given as goal
+
+abbrev pub invariant-loop-place : goal.invariant-loop-place
+invariant-loop-place l = record {
+  size : length l.walk.letters ≡ length l.initial.walk.letters;
+  goes : GoesFreely (length l.initial.walk.letters) (map detector (take l.place (lookbacks_of l.detectors))) l.initial.walk l.walk;
+}
