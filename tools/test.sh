@@ -24,6 +24,7 @@ tools/try_files.py
 tools/try_help.py
 tools/try_drive.sh
 tools/wrong_bodies.py "$told/gate"
+tools/try_build.py
 tools/check_version.sh
 tools/check_words.py
 tools/check_gates.py
