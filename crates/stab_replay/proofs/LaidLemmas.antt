@@ -1,11 +1,11 @@
--- Laid copies: how many a replay lays on its way, one for each stride or for an old copy that it passes.
+-- Laid copies: how many a replay lays on its way, one for each spacing or for an old copy that it passes.
 use Rattle.std.proofs.Common.{◌≡◌, ℕ, ◌+◌, ◌-◌, ◌*◌, ◌≤◌, ap, Bool, ◌⊎◌, inl, inr, List, arith}
 use Rattle.std.proofs.Math.Nat.{mul-le-mul_left}
 use Rattle.stab_copies.specs.declared.checkpoint.Checkpoint.{Checkpoint}
 use Rattle.stab_replay.specs.declared.replay.Replay.{Replay}
 use Rattle.stab_replay.specs.declared.replay.Plan.{Plan}
 use Rattle.stab_replay.specs.declared.replay.Arrival.TheVariants.{Between}
-use Rattle.stab_replay.specs.Replays.{StopsAt}
+use Rattle.stab_replay.specs.Replays.{spacing_of, StopsAt}
 use Rattle.stab_replay.specs.inner.Arrivals.{IsArrival}
 use Rattle.stab_replay.proofs.ReplayLemmas.{went-on}
 
@@ -28,10 +28,10 @@ one-more K count more a b begin from step few longer le how =
 
 -- one more copy is laid
 pub laid-more : (n : ℕ) (p : Plan) (copies : List Checkpoint) (old : List Bool) (next later from begin count more : ℕ) (r : Replay)
-    → p.stride * count + begin ≤ from + p.stride * (next - p.next) → more ≡ count + 1 → p.next ≤ next → from ≤ r.step → StopsAt p copies next from r.step
-    → IsArrival n p r copies old next (Between later) → p.stride * more + begin ≤ r.step + p.stride * (later - p.next)
+    → spacing_of p.stride * count + begin ≤ from + spacing_of p.stride * (next - p.next) → more ≡ count + 1 → p.next ≤ next → from ≤ r.step → StopsAt p copies next from r.step
+    → IsArrival n p r copies old next (Between later) → spacing_of p.stride * more + begin ≤ r.step + spacing_of p.stride * (later - p.next)
 laid-more n p copies old next later from begin count more r few longer order further stops arrival =
-    one-more p.stride count more (next - p.next) (later - p.next) begin from r.step few longer further
+    one-more (spacing_of p.stride) count more (next - p.next) (later - p.next) begin from r.step few longer further
     (elim (went-on n p copies old next later from r stops arrival) [
       | inl far ↦ inl (omega (arith, far.0), far.1)
       | inr passed ↦ inr (omega (arith, passed.0, order))

@@ -21,7 +21,7 @@ use Rattle.stab_copies.specs.Checkpoints.{IsRunFromStart, IsCheckpoint, checkpoi
 use Rattle.stab_frames.specs.KeptStrings.{KeepsTrue}
 use Rattle.stab_frames.specs.Lookbacks.{LooksWithin}
 use Rattle.stab_replay.specs.NotedStrings.{IsNoted}
-use Rattle.stab_replay.specs.Replays.{IsAtStep, Ascending, MeetsAt, IsPlacedAt, Misses, EndsSoon, step_among_new, copy_of, IsAtStop, IsOnWay, StopsAt}
+use Rattle.stab_replay.specs.Replays.{IsAtStep, Ascending, MeetsAt, IsPlacedAt, Misses, EndsSoon, step_among_new, spacing_of, copy_of, IsAtStop, IsOnWay, StopsAt}
 use Rattle.stab_replay.specs.inner.Arrivals.{IsArrival}
 use Rattle.stab_copies.specs.Meets.{Meets}
 use Rattle.stab_run.proofs.PointLemmas.{flags-are-coins, records-are-records}
@@ -346,7 +346,7 @@ module _ (n : ℕ) (coins : ℕ → Bool) (begin : ℕ) (p : Plan) (ys : List St
                 (missed r (slice_get copies next) h.replay.at_step (if-some (slice_get copies next) (λ c. step_among_new p c ≡ r.step) placed.1) arrival.1))
           ]
 
--- where it goes on it went a stride, or passed the copy
+-- where it goes on it went a spacing, or passed the copy
 
 not-there : (p : Plan) (copies : List Checkpoint) (next step : ℕ) → step ≢ p.total → (IsPlacedAt p copies next step → ⊥) → (step ≡ p.total) ⊎ IsPlacedAt p copies next step → ⊥
 not-there p copies next step further unplaced at =
@@ -356,7 +356,7 @@ not-there p copies next step further unplaced at =
     ]
 
 pub went-on : (n : ℕ) (p : Plan) (copies : List Checkpoint) (old : List Bool) (next later from : ℕ) (r : Replay) → StopsAt p copies next from r.step
-    → IsArrival n p r copies old next (Between later) → ((later ≡ next) × (from + p.stride ≤ r.step)) ⊎ ((later ≡ next + 1) × (next < length copies))
+    → IsArrival n p r copies old next (Between later) → ((later ≡ next) × (from + spacing_of p.stride ≤ r.step)) ⊎ ((later ≡ next + 1) × (next < length copies))
 went-on n p copies old next later from r stops arrival =
     elim arrival.2 [
       | inl same ↦

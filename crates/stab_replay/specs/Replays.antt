@@ -1,6 +1,6 @@
 -- Replays: how a run that begins, and may end, like a kept one is made from it.
 -- Source: this project's own.
-use Rattle.std.specs.Prelude.{◌≡◌, ℕ, ◌+◌, ◌-◌, ◌<◌, ◌≤◌, min, Bool, ◌⊎◌, Option, Some, None, List, [], ◌∷◌, ◌++◌, All, IfSome, IsSomeAnd, length, take, drop, slice_get}
+use Rattle.std.specs.Prelude.{◌≡◌, ℕ, ◌+◌, ◌-◌, ◌/◌, ◌<◌, ◌≤◌, min, nat_le, Bool, if◌then◌else◌, ◌⊎◌, Option, Some, None, List, [], ◌∷◌, ◌++◌, All, IfSome, IsSomeAnd, length, take, drop, slice_get}
 use Rattle.stab_circuit.specs.Steps.{Step}
 use Rattle.stab_copies.specs.declared.checkpoint.Checkpoint.{Checkpoint}
 use Rattle.stab_replay.specs.declared.replay.Replay.{Replay}
@@ -21,11 +21,16 @@ use Rattle.stab_copies.specs.LaidCopies.{moved}
 abbrev pub step_among_new : Plan → Checkpoint → ℕ
 step_among_new p c = moved p.old_end p.new_end c.step
 
--- where a replay stops next: a stride further, or behind the last step, or at the place of the old copy that may be met next,
--- whichever comes first
+-- so far apart a replay lays copies: less than a stride K, where it is 8 or more, so that steps can be put in between two neighbours
+-- before these are more than a stride apart
+abbrev pub spacing_of : ℕ → ℕ
+spacing_of K = K - K / 8
+
+-- where a replay stops next: at the place of the old copy that may be met next where that is no more than a stride further, and else
+-- a spacing further, or behind the last step if that comes first
 abbrev pub next_stop : Plan → ℕ → Option ℕ → ℕ
-next_stop p step None = min (step + p.stride) p.total
-next_stop p step (Some place) = min (min (step + p.stride) p.total) place
+next_stop p step None = min (step + spacing_of p.stride) p.total
+next_stop p step (Some place) = min (if nat_le place (step + p.stride) then place else step + spacing_of p.stride) p.total
 
 -- what a replay holds is the run of the steps behind it, and its cursor has the others left
 pub record IsAtStep (n : ℕ) (coins : ℕ → Bool) (ys : List Step) (r : Replay) : Type 0 where
@@ -95,10 +100,10 @@ pub record IsOnWay (n : ℕ) (coins : ℕ → Bool) (begin : ℕ) (p : Plan) (ys
   pub stop : IsAtStop n coins begin p ys copies old next r
   pub last : last_of begin (checkpoint_steps r.laid.items) ≡ r.step
 
--- where a replay that went on from a step stops: a stride further, or behind the last step, or at the place of the old copy that may
+-- where a replay that went on from a step stops: a spacing further, or behind the last step, or at the place of the old copy that may
 -- be met next
 abbrev pub StopsAt : Plan → List Checkpoint → ℕ → ℕ → ℕ → Type 0
-StopsAt p copies next from step = (from + p.stride ≤ step) ⊎ ((step ≡ p.total) ⊎ IsPlacedAt p copies next step)
+StopsAt p copies next from step = (from + spacing_of p.stride ≤ step) ⊎ ((step ≡ p.total) ⊎ IsPlacedAt p copies next step)
 
 -- how many of so many old copies a replay passed
 abbrev pub copies_passed : Plan → ℕ → End → ℕ

@@ -5,7 +5,7 @@ ghost use Rattle.stab_circuit.specs.Views.{circuit_items};
 ghost use Rattle.stab_run.specs.Records.{ones};
 ghost use Rattle.stab_run.specs.Points.{all_coins_of};
 ghost use Rattle.stab_run.specs.ProgramStates.{StepFits, output_of};
-ghost use Rattle.stab_replay.specs.Replays.{IsAtStep, IsReplay, Ascending, copy_of, IsEnd, EndsSoon, IsAtStop, IsOnWay, StopsAt, copies_passed};
+ghost use Rattle.stab_replay.specs.Replays.{IsAtStep, IsReplay, Ascending, spacing_of, copy_of, IsEnd, EndsSoon, IsAtStop, IsOnWay, StopsAt, copies_passed};
 ghost use Rattle.stab_replay.specs.inner.Arrivals.{IsArrival};
 ghost use Rattle.stab_replay.specs.FramedReplays.{IsOldRun};
 
@@ -76,7 +76,7 @@ enum Arrival {
 impl Plan {
     ghost use Rattle.std.specs.Prelude.{◌≡◌, ◌+◌, ◌≤◌, ◌<◌, ◌⊎◌, Option, Some, IfSome, slice_get};
     ghost use Rattle.std.specs.Option.{option_map};
-    ghost use Rattle.stab_replay.specs.Replays.{step_among_new, next_stop};
+    ghost use Rattle.stab_replay.specs.Replays.{step_among_new, spacing_of, next_stop};
 
     /// Where the old copy with a number stands among the new steps, if there is one.
     fn place(self, copies: &[Checkpoint], number: usize) -> Option<usize>
@@ -86,6 +86,16 @@ impl Plan {
             Some(copy) => Some(shifted(self.old_end, self.new_end, copy.step)),
             None => None,
         }
+    }
+
+    /// How far apart a replay lays copies.
+    fn spacing(self) -> usize
+        requires stride { 1 ≤ self.stride }
+        ensures value { result ≡ spacing_of self.stride }
+        ensures above { 1 ≤ result }
+        ensures within { result ≤ self.stride }
+    {
+        self.stride - self.stride / 8
     }
 
     /// Where a replay that is at a step stops next, before the place of an old copy or at it.
@@ -100,10 +110,16 @@ impl Plan {
         ensures before { IfSome place (λ p. result ≤ p) }
         ensures further { (step < result) ⊎ ((result ≡ self.total) ⊎ (place ≡ Some result)) }
     {
-        let stop = step.saturating_add(self.stride).min(self.total);
+        let further = step.saturating_add(self.spacing()).min(self.total);
         match place {
-            Some(place) => stop.min(place),
-            None => stop,
+            Some(place) => {
+                if place.saturating_sub(step) <= self.stride {
+                    place.min(self.total)
+                } else {
+                    further
+                }
+            }
+            None => further,
         }
     }
 }
@@ -242,7 +258,7 @@ impl<'a> Replay<'a> {
         ensures asks { OnOk result (C.asks coins.new + self.old.applied ≤ C.asks coins.old + self.new.applied) }
         ensures asks_free { OnOk result (C.asks coins.new + ones self.old.outputs.free.items ≤ C.asks coins.old + ones self.new.outputs.free.items) }
         ensures asked { C.asks coins.new + all_coins_of (drop self.new.step self.old.cursor.all) ≤ C.asks coins.old + all_coins_of (drop self.old.step self.old.cursor.all) }
-        ensures few_laid { IfOk result (λ later. plan.stride * length self.new.laid.items + plan.stride * next ≤ plan.stride * length self.old.laid.items + plan.stride * later) }
+        ensures few_laid { IfOk result (λ later. spacing_of plan.stride * length self.new.laid.items + spacing_of plan.stride * next ≤ spacing_of plan.stride * length self.old.laid.items + spacing_of plan.stride * later) }
         ensures stops { IfOk result (λ later. StopsAt plan copies.now later self.old.step self.new.step) }
         ensures order { IfOk result (λ later. next ≤ later) }
         ensures further { self.old.step ≤ self.new.step }
@@ -258,7 +274,7 @@ impl<'a> Replay<'a> {
     }
 
     /// Carries out steps until the replay meets an old copy or is behind the last step, and lays
-    /// copies on the way: one for each stride, and one for each old copy that it passes, at most.
+    /// copies on the way: one for each spacing, and one for each old copy that it passes, at most.
     pub fn follow<C: Coins>(
         &mut self,
         alloc: Global,
@@ -297,7 +313,7 @@ impl<'a> Replay<'a> {
         ensures asked { C.asks coins.new ≤ C.asks coins.old + all_coins_of (drop self.old.step self.old.cursor.all) }
         ensures end { IfOk result (IsEnd self.old.tableau.qubits plan self.new copies.now old.now.records.items) }
         ensures soon { OnOk result (EndsSoon self.old.tableau.qubits (C.sequence coins.old) plan self.old.cursor.all copies.now old.now.records.items self.new.step) }
-        ensures few_laid { IfOk result (λ end. plan.stride * length self.new.laid.items + self.old.step ≤ self.new.step + plan.stride * copies_passed plan (length copies.now) end) }
+        ensures few_laid { IfOk result (λ end. spacing_of plan.stride * length self.new.laid.items + self.old.step ≤ self.new.step + spacing_of plan.stride * copies_passed plan (length copies.now) end) }
         ensures err { IfErr result (λ r. r ≡ OutOfMemory) }
     {
         let mut next = plan.next;

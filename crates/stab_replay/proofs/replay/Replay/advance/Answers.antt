@@ -1,5 +1,6 @@
 use Rattle.std.proofs.Common.{◌≡◌, refl, ap, subst, false, inr, length, drop, arith}
 use Rattle.stab_run.specs.Points.{all_coins_of}
+use Rattle.stab_replay.specs.Replays.{spacing_of}
 use Rattle.stab_replay.specs.inner.LedReplays.{IsLedTo}
 use Rattle.stab_replay.proofs.ReplayLemmas.{coins-cut, place-behind, on-stop}
 use Rattle.stab_replay.proofs.LaidLemmas.{laid-led}
@@ -50,7 +51,7 @@ returns-in_ok-run_to-clause-way g c = λ begin way.
 pub returns-in_ok-run_to-clause-few_laid : goal.returns-in_ok-run_to-clause-few_laid
 returns-in_ok-run_to-clause-few_laid g c =
     let on = c.in_ok-led.ensures.on in
-    laid-led c.args.plan.stride (length c.frame_on.new.self.laid.items) c.args.next (length c.args.self.now.laid.items) c.in_ok-led.led.next (length c.run_to.new.self.laid.items) on.laid
+    laid-led (spacing_of c.args.plan.stride) (length c.frame_on.new.self.laid.items) c.args.next (length c.args.self.now.laid.items) c.in_ok-led.led.next (length c.run_to.new.self.laid.items) on.laid
     (ap length c.run_to.ensures.laid)
 
 pub returns-else-not-led-clause-asked : goal.returns-else-not-led-clause-asked
@@ -60,7 +61,7 @@ returns-else-not-led-clause-asked g c =
 pub returns-else-not-led-clause-few_laid : goal.returns-else-not-led-clause-few_laid
 returns-else-not-led-clause-few_laid g c =
     let on = c.in_ok-led.ensures.on in
-    laid-led c.args.plan.stride (length c.frame_on.new.self.laid.items) c.args.next (length c.args.self.now.laid.items) c.in_ok-led.led.next (length c.frame_on.new.self.laid.items) on.laid refl
+    laid-led (spacing_of c.args.plan.stride) (length c.frame_on.new.self.laid.items) c.args.next (length c.args.self.now.laid.items) c.in_ok-led.led.next (length c.frame_on.new.self.laid.items) on.laid refl
 
 pub returns-else-not-led-clause-stops : goal.returns-else-not-led-clause-stops
 returns-else-not-led-clause-stops g c =

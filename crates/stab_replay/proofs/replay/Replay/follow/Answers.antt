@@ -5,7 +5,7 @@ use Rattle.stab_replay.specs.declared.replay.Arrival.{Arrival}
 use Rattle.stab_replay.specs.declared.replay.Arrival.TheVariants.{Met, Behind, Between}
 use Rattle.stab_run.specs.Records.{ones}
 use Rattle.stab_run.specs.Points.{all_coins_of}
-use Rattle.stab_replay.specs.Replays.{IsReplay, IsEnd, EndsSoon, IsAtStop, copy_of}
+use Rattle.stab_replay.specs.Replays.{IsReplay, IsEnd, EndsSoon, IsAtStop, spacing_of, copy_of}
 use Rattle.stab_replay.specs.inner.Arrivals.{IsArrival}
 use Rattle.stab_replay.proofs.ReplayLemmas.{went-so, met-behind, ends-soon, on-further, fewer-left}
 use Rattle.stab_replay.proofs.LaidLemmas.{laid-on, laid-more, laid-end}
@@ -29,10 +29,10 @@ arrived g c records a b seen same h =
 
 -- no more were laid than copies were passed
 few : (g : Over) (c : In_ok-reached g)
-    → c.args.plan.stride * length c.advance.new.self.laid.items + c.args.self.now.step ≤ c.loop-spare.self.step + c.args.plan.stride * (c.in_ok-reached.reached - c.args.plan.next)
+    → spacing_of c.args.plan.stride * length c.advance.new.self.laid.items + c.args.self.now.step ≤ c.loop-spare.self.step + spacing_of c.args.plan.stride * (c.in_ok-reached.reached - c.args.plan.next)
 few g c =
     let inv = c.loop-spare.invariant in
-    laid-on c.args.plan.stride (length c.loop-spare.self.laid.items) (length c.advance.new.self.laid.items) c.args.plan.next c.loop-spare.next c.in_ok-reached.reached
+    laid-on (spacing_of c.args.plan.stride) (length c.loop-spare.self.laid.items) (length c.advance.new.self.laid.items) c.args.plan.next c.loop-spare.next c.in_ok-reached.reached
     c.args.self.now.step c.loop-spare.self.step inv.few_laid c.in_ok-reached.ensures.few_laid inv.way.stop.order c.in_ok-reached.ensures.order
 
 -- what was changed was carried out
@@ -111,7 +111,7 @@ returns-in-Behind-clause-end g c =
 pub returns-in-Met-clause-few_laid : goal.returns-in-Met-clause-few_laid
 returns-in-Met-clause-few_laid g c =
     let at = (goal.at.returns-in-Met-clause-few_laid g c).In_ok-reached in
-    laid-end c.args.plan.stride (length c.advance.new.self.laid.items) (length c.arrive.new.self.laid.items) (c.in_ok-reached.reached - c.args.plan.next)
+    laid-end (spacing_of c.args.plan.stride) (length c.advance.new.self.laid.items) (length c.arrive.new.self.laid.items) (c.in_ok-reached.reached - c.args.plan.next)
     (c.in_ok-reached.reached - c.args.plan.next) c.args.self.now.step c.loop-spare.self.step c.arrive.new.self.step (few g at)
     (ap (λ (r : Replay). length r.laid.items) c.arrive.ensures.unchanged)
     (let further = c.advance.ensures.further in omega (arith, further, ap (λ (r : Replay). r.step) c.arrive.ensures.unchanged)) (omega arith)
@@ -119,7 +119,7 @@ returns-in-Met-clause-few_laid g c =
 pub returns-in-Behind-clause-few_laid : goal.returns-in-Behind-clause-few_laid
 returns-in-Behind-clause-few_laid g c =
     let at = (goal.at.returns-in-Behind-clause-few_laid g c).In_ok-reached in
-    laid-end c.args.plan.stride (length c.advance.new.self.laid.items) (length c.arrive.new.self.laid.items) (c.in_ok-reached.reached - c.args.plan.next)
+    laid-end (spacing_of c.args.plan.stride) (length c.advance.new.self.laid.items) (length c.arrive.new.self.laid.items) (c.in_ok-reached.reached - c.args.plan.next)
     (length c.args.copies.now - c.args.plan.next) c.args.self.now.step c.loop-spare.self.step c.arrive.new.self.step (few g at)
     (ap (λ (r : Replay). length r.laid.items) c.arrive.ensures.unchanged)
     (let further = c.advance.ensures.further in omega (arith, further, ap (λ (r : Replay). r.step) c.arrive.ensures.unchanged))
@@ -169,7 +169,7 @@ loop-spare-preserved g c =
           );
       changed = omega (arith, changed g at, step, applied);
       few_laid =
-          subst (λ k. c.args.plan.stride * length c.lay.new.self.laid.items + c.args.self.now.step ≤ k + c.args.plan.stride * (c.in-Between.later - c.args.plan.next)) (sym step)
+          subst (λ k. spacing_of c.args.plan.stride * length c.lay.new.self.laid.items + c.args.self.now.step ≤ k + spacing_of c.args.plan.stride * (c.in-Between.later - c.args.plan.next)) (sym step)
           (laid-more c.args.self.now.tableau.qubits c.args.plan c.args.copies.now c.args.old.now.records.items c.in_ok-reached.reached c.in-Between.later c.loop-spare.self.step
           c.args.self.now.step (length c.advance.new.self.laid.items) (length c.lay.new.self.laid.items) c.advance.new.self (few g at)
           (ap length (c.in_ok-lay.ensures {u = tt}).laid

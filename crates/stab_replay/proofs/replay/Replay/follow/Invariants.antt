@@ -1,7 +1,7 @@
 use Rattle.std.proofs.Common.{◌≡◌, ◌+◌, ◌-◌, ◌*◌, ◌≤◌, min, length, drop}
 use Rattle.stab_run.specs.Records.{ones}
 use Rattle.stab_run.specs.Points.{all_coins_of}
-use Rattle.stab_replay.specs.Replays.{IsOnWay}
+use Rattle.stab_replay.specs.Replays.{spacing_of, IsOnWay}
 use Rattle.stab_replay.proofs.replay.Replay.follow.Given as goal
 
 abbrev pub invariant-loop-spare : goal.invariant-loop-spare
@@ -15,7 +15,7 @@ invariant-loop-spare g l = record {
   asked : g.C.Coins.asks l.coins + all_coins_of (drop l.self.step l.initial.self.cursor.all)
       ≤ g.C.Coins.asks l.initial.coins + all_coins_of (drop l.initial.self.step l.initial.self.cursor.all);
   changed : min l.self.step l.plan.new_end ≤ l.initial.self.step + l.self.applied;
-  few_laid : l.plan.stride * length l.self.laid.items + l.initial.self.step ≤ l.self.step + l.plan.stride * (l.next - l.plan.next);
+  few_laid : spacing_of l.plan.stride * length l.self.laid.items + l.initial.self.step ≤ l.self.step + spacing_of l.plan.stride * (l.next - l.plan.next);
   way : IsOnWay l.initial.self.tableau.qubits (g.C.Coins.sequence l.initial.coins) l.initial.self.step l.plan l.initial.self.cursor.all l.copies l.old.records.items l.next l.self;
 }
 
