@@ -9,7 +9,7 @@ use Rattle.stab_items.specs.Items.{OneItem, listed}
 use Rattle.stab_items.specs.Steps.{detector, detector_of, rounds, unroll}
 use Rattle.stab_circuit.specs.Detectors.{detects, lookbacks_at}
 use Rattle.stab_circuit.specs.Cursors.{lookbacks_of}
-use Rattle.stab_circuit.specs.inner.Walks.{kind_steps, levels_left, ahead, walk_left}
+use Rattle.stab_circuit.specs.inner.Walks.{kind_steps, levels_left, chunks_left, ahead, walk_left}
 use Rattle.stab_items.proofs.StepLemmas.{detector_step}
 use Rattle.stab_circuit.proofs.EditLemmas.{steps-append}
 use Rattle.stab_circuit.proofs.WalkLemmas.{unroll_before}
@@ -48,7 +48,7 @@ front_from xs seen ds place most n part e =
     ∙ ap (λ l. ds ++ l) (drop-drop (length ds) place xs)
 
 abbrev pub past_items : Walk → ℕ → Walk
-past_items w n = record { kind = w.kind; within = w.within; top = record { items = w.top.items; place = w.top.place + n; rounds = w.top.rounds }; around = w.around }
+past_items w n = record { kind = w.kind; within = w.within; top = record { items = w.top.items; place = w.top.place + n; rounds = w.top.rounds }; around = w.around; rest = w.rest }
 
 -- past them in the innermost block
 pub detectors_taken : (w : Walk) (seen : List OneItem) (ds : Detectors) (most : ℕ) → drop w.within (kind_steps w.kind) ≡ []
@@ -58,7 +58,7 @@ detectors_taken w seen ds most given part e =
     let xs = w.top.items.now in
     let n = length (lookbacks_of ds) in
     let more = rounds w.top.rounds (unroll (listed xs)) in
-    let others = levels_left w.around.items in
+    let others = levels_left (chunks_left w.rest.now) w.around.items in
     let behind = unroll (listed (drop (w.top.place + n) xs)) in
     let cut : drop w.top.place xs ≡ ds.items.now ++ drop (w.top.place + n) xs =
     front_from xs seen ds.items.now w.top.place most n part e

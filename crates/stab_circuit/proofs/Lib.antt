@@ -10,9 +10,6 @@ mod OneItemLemmas
 mod TextLemmas
 mod BlankLemmas
 mod RoundLemmas
-mod ChunkLemmas
-mod ChunkSumLemmas
-mod ChunkPartLemmas
 pub mod ApartLemmas
 mod ItemTextLemmas
 mod CircuitFaultLemmas
@@ -21,6 +18,8 @@ mod LineItemLemmas
 mod SpliceLemmas
 mod JudgementLemmas
 mod EditResultLemmas
+mod ChunkLemmas
+mod EditPartLemmas
 mod ChunkEditLemmas
 mod CommitLemmas
 mod PathLemmas

@@ -11,6 +11,10 @@ use Rattle.stab_circuit.specs.Paths.{Path, numbers}
 use Rattle.stab_circuit.specs.StepPaths.{outside, within, path_rounds, paths_from, paths_of}
 use Rattle.stab_circuit.specs.inner.Chunks.{Skips}
 use Rattle.stab_items.proofs.StepLemmas.{length-rounds}
+use Rattle.stab_items.specs.inner.Chunks.{flattened}
+use Rattle.stab_items.proofs.ChunkLemmas.{flattened_split}
+use Rattle.stab_circuit.proofs.EditLemmas.{steps-append}
+use Rattle.stab_circuit.proofs.ChunkLemmas.{flattened_from}
 use Rattle.stab_circuit.proofs.WalkLemmas.{unroll_before, items_from}
 use Rattle.stab_circuit.proofs.PathLemmas.{path_is}
 
@@ -60,35 +64,61 @@ steps_split (suc n) (x ∷ xs) =
       steps_split n xs,
     )
 
-paths_split : (place n : ℕ) (xs : List OneItem) → n ≤ length xs → paths_from place (listed xs) ≡ paths_from place (listed (take n xs)) ++ paths_from (place + n) (listed (drop n xs))
-paths_split place zero xs h = let same : place ≡ place + 0 = omega arith in ap (λ p. paths_from p (listed xs)) same
-paths_split place (suc n) [] h = absurd (omega arith)
-paths_split place (suc n) (x ∷ xs) h =
-    let behind = paths_from (place + suc n) (listed (drop n xs)) in
-    let further : place + 1 + n ≡ place + suc n = omega arith in
-    paths_before place x (listed xs)
-    ∙ ap (λ l. paths_from place (before x done) ++ l) (paths_split (place + 1) n xs (omega arith) ∙ ap (λ p. paths_from (place + 1) (listed (take n xs)) ++ paths_from p (listed (drop n xs))) further)
-    ∙ sym (append_assoc (paths_from place (before x done)) (paths_from (place + 1) (listed (take n xs))) behind)
-    ∙ ap (λ l. l ++ behind) (sym (paths_before place x (listed (take n xs))))
+paths-append : (place : ℕ) (xs ys : List OneItem) → paths_from place (listed (xs ++ ys)) ≡ paths_from place (listed xs) ++ paths_from (place + length xs) (listed ys)
+paths-append place [] ys = let same : place ≡ place + 0 = omega arith in ap (λ p. paths_from p (listed ys)) same
+paths-append place (x ∷ xs) ys =
+    let behind = paths_from (place + suc (length xs)) (listed ys) in
+    let further : place + 1 + length xs ≡ place + suc (length xs) = omega arith in
+    paths_before place x (listed (xs ++ ys))
+    ∙ ap (λ l. paths_from place (before x done) ++ l) (paths-append (place + 1) xs ys ∙ ap (λ p. paths_from (place + 1) (listed xs) ++ paths_from p (listed ys)) further)
+    ∙ sym (append_assoc (paths_from place (before x done)) (paths_from (place + 1) (listed xs)) behind)
+    ∙ ap (λ l. l ++ behind) (sym (paths_before place x (listed xs)))
+
+-- the steps of the first chunks, and of the others
+pub steps_of_chunks : (cs : List (List OneItem)) (k : ℕ) → length (unroll (listed (flattened cs))) ≡ length (unroll (listed (flattened (take k cs)))) + length (unroll (listed (flattened (drop k cs))))
+steps_of_chunks cs k =
+    ap (λ l. length (unroll (listed l))) (sym (flattened_split k cs))
+    ∙ ap length (steps-append (flattened (take k cs)) (flattened (drop k cs)))
+    ∙ length-append (unroll (listed (flattened (take k cs)))) (unroll (listed (flattened (drop k cs))))
+
+pub step_behind : (cs : List (List OneItem)) (step : ℕ) (s : SkippedChunks) → Skips step cs s → step < length (unroll (listed (flattened cs))) → step ≡ length (unroll (listed (flattened (take s.number cs)))) + s.rest
+step_behind cs step s skips h =
+    omega (arith, h, ap length skips.same, length-drop s.rest (unroll (listed (flattened (drop s.number cs)))), length-drop step (unroll (listed (flattened cs))), steps_of_chunks cs s.number)
 
 -- what chunks left out, told by the paths
-pub chunks_passed : (xs : List OneItem) (step : ℕ) (s : SkippedChunks) → Skips step xs s → step < length (unroll (listed xs))
-    → drop s.rest (paths_from s.items (listed (drop s.items xs))) ≡ drop step (paths_of (listed xs))
-chunks_passed xs step s skips h =
-    let front = take s.items xs in
-    let back = drop s.items xs in
-    let left = ap length skips.same in
-    let at : step ≡ length (paths_from 0 (listed front)) + s.rest =
-    omega (arith, h, left, length-drop s.rest (unroll (listed back)), length-drop step (unroll (listed xs)), steps_split s.items xs, length-paths 0 (listed front)) in
-    let place : 0 + s.items ≡ s.items = omega arith in
-    sym (ap (λ l. drop step l) (paths_split 0 s.items xs skips.within)
-    ∙ ap (λ n. drop n (paths_from 0 (listed front) ++ paths_from (0 + s.items) (listed back))) at
-    ∙ drop-append-add (paths_from 0 (listed front)) (paths_from (0 + s.items) (listed back)) s.rest
+pub chunks_passed : (cs : List (List OneItem)) (step : ℕ) (s : SkippedChunks) → Skips step cs s → step < length (unroll (listed (flattened cs)))
+    → drop s.rest (paths_from s.items (listed (flattened (drop s.number cs)))) ≡ drop step (paths_of (listed (flattened cs)))
+chunks_passed cs step s skips h =
+    let front = flattened (take s.number cs) in
+    let back = flattened (drop s.number cs) in
+    let at : step ≡ length (paths_from 0 (listed front)) + s.rest = omega (arith, step_behind cs step s skips h, length-paths 0 (listed front)) in
+    let place : 0 + length front ≡ s.items = omega (arith, skips.before) in
+    sym (ap (λ l. drop step (paths_from 0 (listed l))) (sym (flattened_split s.number cs))
+    ∙ ap (drop step) (paths-append 0 front back)
+    ∙ ap (λ n. drop n (paths_from 0 (listed front) ++ paths_from (0 + length front) (listed back))) at
+    ∙ drop-append-add (paths_from 0 (listed front)) (paths_from (0 + length front) (listed back)) s.rest
     ∙ ap (λ p. drop s.rest (paths_from p (listed back))) place)
 
-pub rest_within : (xs : List OneItem) (step : ℕ) (s : SkippedChunks) → Skips step xs s → step < length (unroll (listed xs)) → s.rest < length (unroll (listed (drop s.items xs)))
-rest_within xs step s skips h =
-    omega (arith, h, ap length skips.same, length-drop s.rest (unroll (listed (drop s.items xs))), length-drop step (unroll (listed xs)))
+some_chunk : (cs : List (List OneItem)) (k n : ℕ) → n < length (unroll (listed (flattened (drop k cs)))) → k < length cs
+some_chunk [] zero n h = absurd (omega (arith, h))
+some_chunk [] (suc k) n h = absurd (omega (arith, h))
+some_chunk (c ∷ cs) zero n h = omega arith
+some_chunk (c ∷ cs) (suc k) n h = omega (arith, some_chunk cs k n h)
+
+-- the step is of a chunk
+pub chunk_there : (cs : List (List OneItem)) (step : ℕ) (s : SkippedChunks) → Skips step cs s → step < length (unroll (listed (flattened cs))) → s.number < length cs
+chunk_there cs step s skips h =
+    some_chunk cs s.number s.rest (omega (arith, h, ap length skips.same, length-drop s.rest (unroll (listed (flattened (drop s.number cs)))), length-drop step (unroll (listed (flattened cs)))))
+
+pub few_in_chunk : (cs : List (List OneItem)) (k : ℕ) (c : List OneItem) → k < length cs → c ≡ get_or cs k c → length (unroll (listed c)) ≤ length (unroll (listed (flattened cs)))
+few_in_chunk cs k c h e =
+    omega (
+      arith,
+      steps_of_chunks cs k,
+      ap (λ l. length (unroll (listed l))) (flattened_from cs k c h e),
+      ap length (steps-append c (flattened (drop (k + 1) cs))),
+      length-append (unroll (listed c)) (unroll (listed (flattened (drop (k + 1) cs)))),
+    )
 
 -- the item at a place
 
@@ -174,16 +204,19 @@ round_of x n kept w tag body is small h few =
     min_same l h = omega arith
 
 -- past an item
-pub item_passed : (xs : List OneItem) (p w n : ℕ) (x : OneItem) → p < length xs → x ≡ get_or xs p x → n ≡ length (unroll (before x done)) → n ≤ w
-    → drop (w - n) (paths_from (p + 1) (listed (drop (p + 1) xs))) ≡ drop w (paths_from p (listed (drop p xs)))
-item_passed xs p w n x h e is enough =
+pub item_passed : (first : ℕ) (xs : List OneItem) (p w n : ℕ) (x : OneItem) → p < length xs → x ≡ get_or xs p x → n ≡ length (unroll (before x done)) → n ≤ w
+    → drop (w - n) (paths_from (first + (p + 1)) (listed (drop (p + 1) xs))) ≡ drop w (paths_from (first + p) (listed (drop p xs)))
+item_passed first xs p w n x h e is enough =
+    let q = first + p in
     let rest = listed (drop (p + 1) xs) in
-    let own = paths_from p (before x done) in
-    let at : w ≡ length own + (w - n) = omega (arith, is, enough, length-paths p (before x done)) in
-    sym (ap (λ l. drop w (paths_from p l)) (items_from xs p x h e)
-    ∙ ap (drop w) (paths_before p x rest)
-    ∙ ap (λ k. drop k (own ++ paths_from (p + 1) rest)) at
-    ∙ drop-append-add own (paths_from (p + 1) rest) (w - n))
+    let own = paths_from q (before x done) in
+    let at : w ≡ length own + (w - n) = omega (arith, is, enough, length-paths q (before x done)) in
+    let next' : q + 1 ≡ first + (p + 1) = omega arith in
+    sym (ap (λ l. drop w (paths_from q l)) (items_from xs p x h e)
+    ∙ ap (drop w) (paths_before q x rest)
+    ∙ ap (λ k. drop k (own ++ paths_from (q + 1) rest)) at
+    ∙ drop-append-add own (paths_from (q + 1) rest) (w - n)
+    ∙ ap (λ k. drop (w - n) (paths_from k rest)) next')
 
 -- a path in some blocks
 abbrev pub around : List ℕ → Path → Path
@@ -203,16 +236,28 @@ around_replicate : (bs : List ℕ) (n : ℕ) (path : Path) → map (around bs) (
 around_replicate bs zero path = refl
 around_replicate bs (suc n) path = ap (λ l. around bs path ∷ l) (around_replicate bs n path)
 
--- the paths are those of a list in some blocks, from a step within the item at a place on, and then others
-pub record Reached (all : List Path) (bs : List ℕ) (xs : List OneItem) (p w : ℕ) : Type 0 where
+-- the paths are those of a list in some blocks, before which so many items stand, from a step within the item at a place on, and then others
+pub record Reached (all : List Path) (bs : List ℕ) (first : ℕ) (xs : List OneItem) (p w : ℕ) : Type 0 where
   pub others : List Path
-  pub same : all ≡ map (around bs) (drop w (paths_from p (listed (drop p xs)))) ++ others
+  pub same : all ≡ map (around bs) (drop w (paths_from (first + p) (listed (drop p xs)))) ++ others
 
--- the outermost list
-pub reached_first : (all : List Path) (xs : List OneItem) (p w : ℕ) → drop w (paths_from p (listed (drop p xs))) ≡ all → Reached all [] xs p w
-reached_first all xs p w e =
-    let left = drop w (paths_from p (listed (drop p xs))) in
-    record { others = []; same = sym e ∙ sym (around_none left) ∙ sym (append-nil (map (around []) left)) }
+-- a chunk of the outermost list
+pub reached_first : (cs : List (List OneItem)) (step : ℕ) (s : SkippedChunks) (c : List OneItem) (p w : ℕ) → Skips step cs s → step < length (unroll (listed (flattened cs))) → s.number < length cs → c ≡ get_or cs s.number c
+    → drop w (paths_from (s.items + p) (listed (drop p c))) ≡ drop s.rest (paths_from s.items (listed c)) → Reached (drop step (paths_of (listed (flattened cs)))) [] s.items c p w
+reached_first cs step s c p w skips h there is found =
+    let behind = flattened (drop (s.number + 1) cs) in
+    let own = paths_from s.items (listed c) in
+    let others = paths_from (s.items + length c) (listed behind) in
+    let few : s.rest ≤ length own = omega (arith, skips.stops c there is, length-paths s.items (listed c)) in
+    let left = drop w (paths_from (s.items + p) (listed (drop p c))) in
+    record {
+      others = others;
+      same = sym (chunks_passed cs step s skips h)
+          ∙ ap (λ l. drop s.rest (paths_from s.items (listed l))) (flattened_from cs s.number c there is)
+          ∙ ap (drop s.rest) (paths-append s.items c behind)
+          ∙ drop-append-le s.rest own others few
+          ∙ ap (λ l. l ++ others) (sym found ∙ sym (around_none left));
+    }
 
 -- into the round of a block
 into_round : (n k r : ℕ) (ps others : List Path) → k < n → r ≤ length ps → drop (k * length ps + r) (path_rounds n ps ++ others) ≡ drop r ps ++ (path_rounds (n - k - 1) ps ++ others)
@@ -233,23 +278,24 @@ into_round (suc n) (suc k) r ps others h few =
     ∙ into_round n k r ps others (omega arith) few
     ∙ ap (λ m. drop r ps ++ (path_rounds m ps ++ others)) rest
 
-pub reached_block : (all : List Path) (bs : List ℕ) (xs ys : List OneItem) (p w n k r q v : ℕ) (tag : List ℕ) (x : OneItem) → Reached all bs xs p w → p < length xs → x ≡ get_or xs p x → x ≡ repeat n tag (listed ys)
-    → w ≡ k * length (unroll (listed ys)) + r → k < n → r ≤ length (unroll (listed ys)) → drop v (paths_from q (listed (drop q ys))) ≡ drop r (paths_from 0 (listed ys)) → Reached all (bs ++ p ∷ []) ys q v
-reached_block all bs xs ys p w n k r q v tag x reached h e is at some few found =
-    let rest = paths_from (p + 1) (listed (drop (p + 1) xs)) in
+pub reached_block : (all : List Path) (bs : List ℕ) (first : ℕ) (xs ys : List OneItem) (p w n k r q v : ℕ) (tag : List ℕ) (x : OneItem) → Reached all bs first xs p w → p < length xs → x ≡ get_or xs p x → x ≡ repeat n tag (listed ys)
+    → w ≡ k * length (unroll (listed ys)) + r → k < n → r ≤ length (unroll (listed ys)) → drop v (paths_from (0 + q) (listed (drop q ys))) ≡ drop r (paths_from 0 (listed ys)) → Reached all (bs ++ (first + p) ∷ []) 0 ys q v
+reached_block all bs first xs ys p w n k r q v tag x reached h e is at some few found =
+    let b = first + p in
+    let rest = paths_from (b + 1) (listed (drop (p + 1) xs)) in
     let inside = paths_from 0 (listed ys) in
-    let round = map (within p) inside in
+    let round = map (within b) inside in
     let others = path_rounds (n - k - 1) round ++ rest in
-    let as_many : length (unroll (listed ys)) ≡ length round = sym (length-map inside (within p) ∙ length-paths 0 (listed ys)) in
-    let left : drop w (paths_from p (listed (drop p xs))) ≡ drop r round ++ others =
-    ap (λ l. drop w (paths_from p l)) (items_from xs p x h e)
-    ∙ ap (λ y. drop w (paths_from p (before y (listed (drop (p + 1) xs))))) is
+    let as_many : length (unroll (listed ys)) ≡ length round = sym (length-map inside (within b) ∙ length-paths 0 (listed ys)) in
+    let left : drop w (paths_from b (listed (drop p xs))) ≡ drop r round ++ others =
+    ap (λ l. drop w (paths_from b l)) (items_from xs p x h e)
+    ∙ ap (λ y. drop w (paths_from b (before y (listed (drop (p + 1) xs))))) is
     ∙ ap (λ m. drop m (path_rounds n round ++ rest)) (at ∙ ap (λ m. k * m + r) as_many)
     ∙ into_round n k r round rest some (omega (arith, few, as_many)) in
-    let down : map (around bs) (drop r round) ≡ map (around (bs ++ p ∷ [])) (drop v (paths_from q (listed (drop q ys)))) =
-    ap (map (around bs)) (drop-map (within p) r inside)
-    ∙ around_within bs p (drop r inside)
-    ∙ ap (map (around (bs ++ p ∷ []))) (sym found) in
+    let down : map (around bs) (drop r round) ≡ map (around (bs ++ b ∷ [])) (drop v (paths_from (0 + q) (listed (drop q ys)))) =
+    ap (map (around bs)) (drop-map (within b) r inside)
+    ∙ around_within bs b (drop r inside)
+    ∙ ap (map (around (bs ++ b ∷ []))) (sym found) in
     record {
       others = map (around bs) others ++ reached.others;
       same = reached.same
@@ -264,24 +310,25 @@ take_same zero path others = refl
 take_same (suc n) path others = ap (λ l. path ∷ l) (take_same n path others)
 
 -- the instruction that the step is of
-pub reached_operation : (all : List Path) (bs : List ℕ) (xs : List OneItem) (p w steps : ℕ) (op : Operation) (x : OneItem) (path : Path) → Reached all bs xs p w → p < length xs → x ≡ get_or xs p x → x ≡ operation op
-    → w ≤ length (steps_of op.kind) → steps ≡ length (steps_of op.kind) - w → numbers path ≡ bs ++ p ∷ [] → take steps all ≡ replicate steps path
-reached_operation all bs xs p w steps op x path reached h e is few count named =
+pub reached_operation : (all : List Path) (bs : List ℕ) (first : ℕ) (xs : List OneItem) (p w steps : ℕ) (op : Operation) (x : OneItem) (path : Path) → Reached all bs first xs p w → p < length xs → x ≡ get_or xs p x → x ≡ operation op
+    → w ≤ length (steps_of op.kind) → steps ≡ length (steps_of op.kind) - w → numbers path ≡ bs ++ (first + p) ∷ [] → take steps all ≡ replicate steps path
+reached_operation all bs first xs p w steps op x path reached h e is few count named =
+    let b = first + p in
     let n = length (steps_of op.kind) in
-    let own = replicate n (outside p) in
-    let rest = paths_from (p + 1) (listed (drop (p + 1) xs)) in
-    let here = around bs (outside p) in
+    let own = replicate n (outside b) in
+    let rest = paths_from (b + 1) (listed (drop (p + 1) xs)) in
+    let here = around bs (outside b) in
     let others = map (around bs) rest ++ reached.others in
-    let path' : here ≡ path = ap (λ l. record { blocks = l; place = p }) (append-nil bs) ∙ sym (path_is path bs p named) in
-    let left : drop w (paths_from p (listed (drop p xs))) ≡ replicate (n - w) (outside p) ++ rest =
-    ap (λ l. drop w (paths_from p l)) (items_from xs p x h e)
-    ∙ ap (λ y. drop w (paths_from p (before y (listed (drop (p + 1) xs))))) is
-    ∙ drop-append-le w own rest (omega (arith, few, length-replicate n (outside p)))
-    ∙ ap (λ l. l ++ rest) (drop-replicate w n (outside p)) in
+    let path' : here ≡ path = ap (λ l. record { blocks = l; place = b }) (append-nil bs) ∙ sym (path_is path bs b named) in
+    let left : drop w (paths_from b (listed (drop p xs))) ≡ replicate (n - w) (outside b) ++ rest =
+    ap (λ l. drop w (paths_from b l)) (items_from xs p x h e)
+    ∙ ap (λ y. drop w (paths_from b (before y (listed (drop (p + 1) xs))))) is
+    ∙ drop-append-le w own rest (omega (arith, few, length-replicate n (outside b)))
+    ∙ ap (λ l. l ++ rest) (drop-replicate w n (outside b)) in
     let all' : all ≡ replicate (n - w) here ++ others =
     reached.same
     ∙ ap (λ l. map (around bs) l ++ reached.others) left
-    ∙ ap (λ l. l ++ reached.others) (map-append (around bs) (replicate (n - w) (outside p)) rest ∙ ap (λ l. l ++ map (around bs) rest) (around_replicate bs (n - w) (outside p)))
+    ∙ ap (λ l. l ++ reached.others) (map-append (around bs) (replicate (n - w) (outside b)) rest ∙ ap (λ l. l ++ map (around bs) rest) (around_replicate bs (n - w) (outside b)))
     ∙ append_assoc (replicate (n - w) here) (map (around bs) rest) reached.others in
     ap (take steps) all'
     ∙ ap (λ m. take steps (replicate m here ++ others)) (sym count)

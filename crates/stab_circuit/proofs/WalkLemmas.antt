@@ -2,6 +2,7 @@
 use Rattle.std.proofs.Common.{◌≡◌, ◌≤◌, ◌<◌, refl, ap, sym, ◌∙◌, ℕ, ◌+◌, ◌*◌, ◌-◌, zero, suc, min, Bool, true, false, List, [], ◌∷◌, ◌++◌, length, drop, get_or, arith, drop-cons, append-nil, append_assoc, Bor, subst, Some, None}
 use Rattle.std.specs.List.{slice_get}
 use Rattle.std.specs.Prelude.{vec_capacity}
+use Rattle.std.specs.Global.{Vec}
 use Rattle.std.proofs.lemmas.List.{length-append, drop_all}
 use Rattle.stab_lines.specs.declared.operation.Operation.{Operation}
 use Rattle.stab_lines.specs.declared.operation.Kind.{Kind}
@@ -9,8 +10,9 @@ use Rattle.stab_circuit.specs.declared.walk.Level.{Level}
 use Rattle.stab_circuit.specs.declared.walk.Walk.{Walk}
 use Rattle.stab_items.specs.Items.{Items, OneItem, operation, repeat, done, before, listed, depth}
 use Rattle.stab_items.specs.Steps.{Step, steps_of, rounds, unroll}
-use Rattle.stab_circuit.specs.inner.Walks.{kind_steps, level_left, levels_left, IsNested, weight, weight_at, level_weight, levels_weight, ahead, walk_left, walk_weight, IsWalk, SameKind, Takes, GoesOn}
-use Rattle.stab_items.proofs.ItemLemmas.{before-join, depth_at}
+use Rattle.stab_circuit.specs.inner.Walks.{kind_steps, level_left, levels_left, IsNested, weight, weight_at, level_weight, levels_weight, chunks_left, chunks_weight, ahead, walk_left, walk_weight, IsWalk, SameKind, Takes, GoesOn}
+use Rattle.stab_items.specs.inner.Chunks.{flattened}
+use Rattle.stab_items.proofs.ItemLemmas.{before-join, depth_at, listed-append, depth-join}
 use Rattle.stab_items.proofs.StepLemmas.{unroll-join}
 
 -- an item before others
@@ -33,9 +35,9 @@ items_from xs p x h e =
 abbrev pub past_one : Level → Level
 past_one t = record { items = t.items; place = t.place + 1; rounds = t.rounds }
 
-pub levels_left-push : (ls : List Level) (l : Level) → levels_left (ls ++ l ∷ []) ≡ level_left l ++ levels_left ls
-levels_left-push [] l = sym (append-nil (level_left l))
-levels_left-push (k ∷ ls) l = ap (λ t. t ++ level_left k) (levels_left-push ls l) ∙ append_assoc (level_left l) (levels_left ls) (level_left k)
+pub levels_left-push : (more : List Step) (ls : List Level) (l : Level) → levels_left more (ls ++ l ∷ []) ≡ level_left l ++ levels_left more ls
+levels_left-push more [] l = refl
+levels_left-push more (k ∷ ls) l = levels_left-push (level_left k ++ more) ls l
 
 pub levels_weight-push : (ls : List Level) (l : Level) → levels_weight (ls ++ l ∷ []) ≡ level_weight l + levels_weight ls
 levels_weight-push [] l = omega arith
@@ -73,56 +75,58 @@ no_steps (s ∷ ss) h = absurd (omega arith)
 
 -- past an item of the innermost block
 
-pub taken_left : (t : Level) (ls : List Level) (x : OneItem) → t.place < length t.items.now → x ≡ get_or t.items.now t.place x
-    → level_left t ++ levels_left ls ≡ unroll (before x done) ++ (level_left (past_one t) ++ levels_left ls)
-taken_left t ls x h e =
+pub taken_left : (t : Level) (more : List Step) (x : OneItem) → t.place < length t.items.now → x ≡ get_or t.items.now t.place x
+    → level_left t ++ more ≡ unroll (before x done) ++ (level_left (past_one t) ++ more)
+taken_left t more x h e =
     let xs = t.items.now in
     let others = unroll (listed (drop (t.place + 1) xs)) in
-    ap (λ l. (unroll l ++ rounds t.rounds (unroll (listed xs))) ++ levels_left ls) (items_from xs t.place x h e)
-    ∙ ap (λ l. (l ++ rounds t.rounds (unroll (listed xs))) ++ levels_left ls) (unroll_before x (listed (drop (t.place + 1) xs)))
-    ∙ ap (λ l. l ++ levels_left ls) (append_assoc (unroll (before x done)) others (rounds t.rounds (unroll (listed xs))))
-    ∙ append_assoc (unroll (before x done)) (level_left (past_one t)) (levels_left ls)
+    ap (λ l. (unroll l ++ rounds t.rounds (unroll (listed xs))) ++ more) (items_from xs t.place x h e)
+    ∙ ap (λ l. (l ++ rounds t.rounds (unroll (listed xs))) ++ more) (unroll_before x (listed (drop (t.place + 1) xs)))
+    ∙ ap (λ l. l ++ more) (append_assoc (unroll (before x done)) others (rounds t.rounds (unroll (listed xs))))
+    ∙ append_assoc (unroll (before x done)) (level_left (past_one t)) (more)
 
-pub taken_weight : (t : Level) (ls : List Level) (x : OneItem) → t.place < length t.items.now → x ≡ get_or t.items.now t.place x
-    → level_weight t + levels_weight ls ≡ weight (before x done) + (level_weight (past_one t) + levels_weight ls)
-taken_weight t ls x h e =
+pub taken_weight : (t : Level) (x : OneItem) → t.place < length t.items.now → x ≡ get_or t.items.now t.place x
+    → level_weight t ≡ weight (before x done) + level_weight (past_one t)
+taken_weight t x h e =
     let xs = t.items.now in
     let here : weight (listed (drop t.place xs)) ≡ weight (before x done) + weight (listed (drop (t.place + 1) xs)) =
     ap weight (items_from xs t.place x h e) ∙ weight_before x (listed (drop (t.place + 1) xs)) in
     omega (arith, here)
 
 abbrev pub past_item : Walk → Walk
-past_item w = record { kind = w.kind; within = w.within; top = past_one w.top; around = w.around }
+past_item w = record { kind = w.kind; within = w.within; top = past_one w.top; around = w.around; rest = w.rest }
 
 pub taken : (old new : Walk) (x : Bor OneItem) → IsWalk old → old.top.place < length old.top.items.now → x.now ≡ get_or old.top.items.now old.top.place x.now
-    → new.top ≡ past_one old.top → new.around ≡ old.around → Takes old new (Some x)
-taken old new x w h e top around = (
-  taken_left old.top old.around.items x.now h e ∙ (λ i. unroll (before x.now done) ++ (level_left (sym top i) ++ levels_left (sym around i).items)),
-  taken_weight old.top old.around.items x.now h e ∙ (λ i. weight (before x.now done) + (level_weight (sym top i) + levels_weight (sym around i).items)),
+    → new.top ≡ past_one old.top → new.around ≡ old.around → new.rest ≡ old.rest → Takes old new (Some x)
+taken old new x w h e top around rest = (
+  taken_left old.top (levels_left (chunks_left old.rest.now) old.around.items) x.now h e
+      ∙ (λ i. unroll (before x.now done) ++ (level_left (sym top i) ++ levels_left (chunks_left (sym rest i).now) (sym around i).items)),
+  omega (arith, taken_weight old.top x.now h e, ap level_weight top, ap (λ v. levels_weight v.items) around, ap (λ r. chunks_weight r.now) rest),
   omega (arith, w.shallow, depth_at old.top.items.now old.top.place x.now h e, ap (λ v. length v.items) around),
 )
 
 -- into a block, which stands ahead of the level outside
 
-pub entered_left : (t : Level) (ls new : List Level) (body : Bor (List OneItem)) (more : ℕ) → new ≡ ls ++ t ∷ []
-    → level_left (record { items = body; place = 0; rounds = more }) ++ levels_left new ≡ (unroll (listed body.now) ++ rounds more (unroll (listed body.now))) ++ (level_left t ++ levels_left ls)
-entered_left t ls new body more pushed =
+pub entered_left : (others : List Step) (t : Level) (ls new : List Level) (body : Bor (List OneItem)) (more : ℕ) → new ≡ ls ++ t ∷ []
+    → level_left (record { items = body; place = 0; rounds = more }) ++ levels_left others new ≡ (unroll (listed body.now) ++ rounds more (unroll (listed body.now))) ++ (level_left t ++ levels_left others ls)
+entered_left others t ls new body more pushed =
     let bs = unroll (listed body.now) in
-    ap (λ l. (bs ++ rounds more bs) ++ l) (ap levels_left pushed ∙ levels_left-push ls t)
+    ap (λ l. (bs ++ rounds more bs) ++ l) (ap (levels_left others) pushed ∙ levels_left-push others ls t)
 
-pub entered_weight : (t : Level) (ls new : List Level) (body : Bor (List OneItem)) (more : ℕ) → new ≡ ls ++ t ∷ []
-    → level_weight (record { items = body; place = 0; rounds = more }) + levels_weight new ≡ weight_at body.now 0 more + (level_weight t + levels_weight ls)
-entered_weight t ls new body more pushed = ap (λ n. weight_at body.now 0 more + n) (ap levels_weight pushed ∙ levels_weight-push ls t)
+pub entered_weight : (others : ℕ) (t : Level) (ls new : List Level) (body : Bor (List OneItem)) (more : ℕ) → new ≡ ls ++ t ∷ []
+    → level_weight (record { items = body; place = 0; rounds = more }) + levels_weight new + others ≡ weight_at body.now 0 more + (level_weight t + levels_weight ls + others)
+entered_weight others t ls new body more pushed = omega (arith, ap levels_weight pushed, levels_weight-push ls t)
 
-pub entered : (w u : Walk) → IsWalk w → u.around.items ≡ w.around.items ++ w.top ∷ [] → vec_capacity u.around ≡ vec_capacity w.around
+pub entered : (w u : Walk) → IsWalk w → u.around.items ≡ w.around.items ++ w.top ∷ [] → vec_capacity u.around ≡ vec_capacity w.around → u.rest ≡ w.rest
     → depth (listed u.top.items.now) + 1 + length w.around.items ≤ 16 → IsWalk u
-entered w u h pushed same room =
+entered w u h pushed same rest room =
     let P : List Level → Type 0 = λ l. IsNested 0 l in
     let len : length u.around.items ≡ length w.around.items + 1 = ap length pushed ∙ length-append w.around.items (w.top ∷ []) in
     record {
       roomy = omega (arith, h.roomy);
       nested = subst P (sym pushed) (nested-push 0 w.around.items w.top h.nested (omega (arith, h.shallow)));
       shallow = omega (arith, len);
+      others = omega (arith, h.others, ap (λ r. depth (listed (flattened r.now))) rest);
     }
 
 -- to the next round
@@ -130,49 +134,84 @@ entered w u h pushed same room =
 pub ended_left : (t : Level) → length t.items.now ≤ t.place → level_left t ≡ rounds t.rounds (unroll (listed t.items.now))
 ended_left t h = ap (λ l. unroll (listed l) ++ rounds t.rounds (unroll (listed t.items.now))) (drop_all t.place t.items.now h)
 
-pub next_round : (t : Level) (ls : List Level) → length t.items.now ≤ t.place → 0 < t.rounds
-    → level_left (record { items = t.items; place = 0; rounds = t.rounds - 1 }) ++ levels_left ls ≡ level_left t ++ levels_left ls
-next_round t ls h some = ap (λ l. l ++ levels_left ls) (sym (more_rounds t.rounds (unroll (listed t.items.now)) some) ∙ sym (ended_left t h))
+pub next_round : (t : Level) (more : List Step) → length t.items.now ≤ t.place → 0 < t.rounds
+    → level_left (record { items = t.items; place = 0; rounds = t.rounds - 1 }) ++ more ≡ level_left t ++ more
+next_round t more h some = ap (λ l. l ++ more) (sym (more_rounds t.rounds (unroll (listed t.items.now)) some) ∙ sym (ended_left t h))
 
-pub next_round_less : (t : Level) (ls : List Level) → length t.items.now ≤ t.place → 0 < t.rounds
-    → level_weight (record { items = t.items; place = 0; rounds = t.rounds - 1 }) + levels_weight ls < level_weight t + levels_weight ls
-next_round_less t ls h some =
+pub next_round_less : (t : Level) (n m : ℕ) → length t.items.now ≤ t.place → 0 < t.rounds
+    → level_weight (record { items = t.items; place = 0; rounds = t.rounds - 1 }) + n + m < level_weight t + n + m
+next_round_less t n m h some =
     let xs = t.items.now in
     omega (arith, ap (λ l. weight (listed l)) (drop_all t.place xs h), more_times t.rounds (1 + weight (listed xs)) some)
 
 -- out of the innermost block
 
-pub left_out : (t l : Level) (ls new : List Level) → length t.items.now ≤ t.place → t.rounds ≤ 0 → ls ≡ new ++ l ∷ []
-    → level_left l ++ levels_left new ≡ level_left t ++ levels_left ls
-left_out t l ls new h last popped =
+pub left_out : (more : List Step) (t l : Level) (ls new : List Level) → length t.items.now ≤ t.place → t.rounds ≤ 0 → ls ≡ new ++ l ∷ []
+    → level_left l ++ levels_left more new ≡ level_left t ++ levels_left more ls
+left_out more t l ls new h last popped =
     let none : t.rounds ≡ 0 = omega arith in
-    sym (levels_left-push new l) ∙ ap levels_left (sym popped)
-    ∙ ap (λ q. q ++ levels_left ls) (sym (ended_left t h ∙ ap (λ n. rounds n (unroll (listed t.items.now))) none))
+    sym (levels_left-push more new l) ∙ ap (levels_left more) (sym popped)
+    ∙ ap (λ q. q ++ levels_left more ls) (sym (ended_left t h ∙ ap (λ n. rounds n (unroll (listed t.items.now))) none))
 
-pub left_out_less : (t l : Level) (ls new : List Level) → ls ≡ new ++ l ∷ [] → level_weight l + levels_weight new < level_weight t + levels_weight ls
-left_out_less t l ls new popped = omega (arith, ap levels_weight popped, levels_weight-push new l)
+pub left_out_less : (m : ℕ) (t l : Level) (ls new : List Level) → ls ≡ new ++ l ∷ [] → level_weight l + levels_weight new + m < level_weight t + levels_weight ls + m
+left_out_less m t l ls new popped = omega (arith, ap levels_weight popped, levels_weight-push new l)
 
-pub left_walk : (w u : Walk) → IsWalk w → w.around.items ≡ u.around.items ++ u.top ∷ [] → vec_capacity u.around ≡ vec_capacity w.around → IsWalk u
-left_walk w u h popped same =
+pub left_walk : (w u : Walk) → IsWalk w → w.around.items ≡ u.around.items ++ u.top ∷ [] → vec_capacity u.around ≡ vec_capacity w.around → u.rest ≡ w.rest → IsWalk u
+left_walk w u h popped same rest =
     let P : List Level → Type 0 = λ q. IsNested 0 q in
     let inner : IsNested 0 (u.around.items ++ u.top ∷ []) = subst P popped h.nested in
     record {
       roomy = omega (arith, h.roomy);
       nested = nested-front 0 u.around.items u.top inner;
       shallow = omega (arith, nested-last 0 u.around.items u.top inner);
+      others = omega (arith, h.others, ap (λ r. depth (listed (flattened r.now))) rest);
     }
 
 no_levels : (ls : List Level) → length ls ≡ 0 → ls ≡ []
 no_levels [] h = refl
 no_levels (l ∷ ls) h = absurd (omega arith)
 
-pub at_end : (t : Level) (ls : List Level) → length t.items.now ≤ t.place → t.rounds ≤ 0 → length ls ≡ 0 → level_left t ++ levels_left ls ≡ []
-at_end t ls h last empty =
+-- what is left at the end of a chunk
+at_end : (more : List Step) (t : Level) (ls : List Level) → length t.items.now ≤ t.place → t.rounds ≤ 0 → length ls ≤ 0 → level_left t ++ levels_left more ls ≡ more
+at_end more t ls h last empty =
     let none : t.rounds ≡ 0 = omega arith in
-    ap (λ q. level_left t ++ levels_left q) (no_levels ls empty)
-    ∙ append-nil (level_left t)
-    ∙ ended_left t h
-    ∙ ap (λ n. rounds n (unroll (listed t.items.now))) none
+    ap (λ q. level_left t ++ levels_left more q) (no_levels ls (omega (arith, empty)))
+    ∙ ap (λ l. l ++ more) (ended_left t h ∙ ap (λ n. rounds n (unroll (listed t.items.now))) none)
+
+-- to the next chunk
+
+abbrev chunk_level : Bor (List OneItem) → Level
+chunk_level items = record { items = items; place = 0; rounds = 0 }
+
+pub next_chunk_left : (t : Level) (ls : List Level) (cs ds : List (List OneItem)) (items : Bor (List OneItem)) → length t.items.now ≤ t.place → t.rounds ≤ 0 → length ls ≤ 0 → cs ≡ items.now ∷ ds
+    → level_left (chunk_level items) ++ levels_left (chunks_left ds) ls ≡ level_left t ++ levels_left (chunks_left cs) ls
+next_chunk_left t ls cs ds items h last empty e =
+    let here = unroll (listed items.now) in
+    ap (λ q. level_left (chunk_level items) ++ levels_left (chunks_left ds) q) (no_levels ls (omega (arith, empty)))
+    ∙ ap (λ l. l ++ chunks_left ds) (append-nil here)
+    ∙ sym (ap unroll (listed-append items.now (flattened ds)) ∙ unroll-join (listed items.now) (listed (flattened ds)))
+    ∙ ap chunks_left (sym e)
+    ∙ sym (at_end (chunks_left cs) t ls h last empty)
+
+pub next_chunk_less : (t : Level) (n : ℕ) (cs ds : List (List OneItem)) (items : Bor (List OneItem)) → cs ≡ items.now ∷ ds
+    → level_weight (chunk_level items) + n + chunks_weight ds < level_weight t + n + chunks_weight cs
+next_chunk_less t n cs ds items e = omega (arith, ap chunks_weight e)
+
+pub next_chunk_walk : (w u : Walk) (c : List OneItem) → IsWalk w → length w.around.items ≤ 0 → u.around ≡ w.around → u.top.items.now ≡ c → w.rest.now ≡ c ∷ u.rest.now → IsWalk u
+next_chunk_walk w u c h none same top rest =
+    let V : Vec Level → Type 0 = λ v. (16 ≤ vec_capacity v) × IsNested 0 v.items in
+    let held : V u.around = subst V (sym same) (h.roomy, h.nested) in
+    let both = ap (λ l. depth (listed l)) top in
+    let all = ap (λ l. depth (listed (flattened l))) rest ∙ ap depth (listed-append c (flattened u.rest.now)) ∙ depth-join (listed c) (listed (flattened u.rest.now)) in
+    record {
+      roomy = held.0;
+      nested = held.1;
+      shallow = omega (arith, none, ap (λ v. length v.items) same, both, all, h.others);
+      others = omega (arith, all, h.others);
+    }
+
+pub past_chunks : (t : Level) (ls : List Level) (cs : List (List OneItem)) → length t.items.now ≤ t.place → t.rounds ≤ 0 → length ls ≤ 0 → cs ≡ [] → level_left t ++ levels_left (chunks_left cs) ls ≡ []
+past_chunks t ls cs h last empty e = at_end (chunks_left cs) t ls h last empty ∙ ap chunks_left e
 
 -- an instruction that has no more steps
 
@@ -192,7 +231,7 @@ goes_out a b c false e s t u g =
 
 -- an instruction was taken
 pub goes_into : (a b : Walk) (x : Bor OneItem) (op : Operation) (kind : Bor Kind) → drop a.within (kind_steps a.kind) ≡ [] → Takes a b (Some x) → x.now ≡ operation op → kind.now ≡ op.kind
-    → GoesOn (walk_left a) (walk_left (record { kind = Some kind; within = 0; top = b.top; around = b.around })) a (record { kind = Some kind; within = 0; top = b.top; around = b.around }) true
+    → GoesOn (walk_left a) (walk_left (record { kind = Some kind; within = 0; top = b.top; around = b.around; rest = b.rest })) a (record { kind = Some kind; within = 0; top = b.top; around = b.around; rest = b.rest }) true
 goes_into a b x op kind e t is k = (
   sym (given_left a e ∙ t.0 ∙ ap (λ y. unroll (before y done) ++ ahead b) is ∙ ap (λ l. l ++ ahead b) (append-nil (steps_of op.kind)) ∙ ap (λ q. steps_of q ++ ahead b) (sym k)),
   omega (arith, t.1, ap (λ y. weight (before y done)) is),
@@ -241,5 +280,5 @@ some_given (r ∷ l) zero s e = let same : r ≡ s = cc in ap (λ x. x ∷ l) sa
 some_given (r ∷ l) (suc n) s e = let next' : suc n + 1 ≡ suc (n + 1) = omega arith in some_given l n s e ∙ ap (λ k. s ∷ drop k (r ∷ l)) (sym next')
 
 pub gives : (w : Walk) (s : Step) → Some s ≡ slice_get (kind_steps w.kind) w.within
-    → walk_left w ≡ s ∷ walk_left (record { kind = w.kind; within = w.within + 1; top = w.top; around = w.around })
+    → walk_left w ≡ s ∷ walk_left (record { kind = w.kind; within = w.within + 1; top = w.top; around = w.around; rest = w.rest })
 gives w s e = ap (λ l. l ++ ahead w) (some_given (kind_steps w.kind) w.within s e)

@@ -5,5 +5,6 @@ pub mod Splices
 pub mod Judgements
 pub mod EditResults
 pub mod Chunks
+pub mod Behind
 pub mod StepItems
 pub mod Changes

@@ -1,201 +1,223 @@
-ghost use Rattle.std.specs.Prelude.{◌≡◌, ◌≤◌, ◌<◌, ◌+◌, ◌-◌, ◌^◌, ℕ, List, All, length, take, drop, slice_set, IfOk, OnOk};
-ghost use Rattle.stab_items.specs.Items.{OneItem, listed};
+ghost use Rattle.std.specs.Prelude.{◌≡◌, ◌≤◌, ◌<◌, ◌+◌, ◌-◌, ◌^◌, All, [], ◌∷◌, length, take, drop, slice_get, slice_index_or, slice_set, IfOk, IfErr, OnOk, OnErr};
+ghost use Rattle.stab_io.specs.declared.refusal.Refusal.TheVariants.{OutOfMemory};
+ghost use Rattle.stab_items.specs.Items.{listed};
 ghost use Rattle.stab_items.specs.Steps.{unroll, most_steps};
 ghost use Rattle.stab_circuit.specs.Cursors.{IsApart};
 ghost use Rattle.stab_items.specs.inner.Summaries.{summary_of, IsSummary};
-ghost use Rattle.stab_circuit.specs.inner.Chunks.{chunk_of as chunk_value, chunk_items, AreConsecutive, AreChunksOf, IsChunk, IsFound, Skips};
+ghost use Rattle.stab_items.specs.inner.Chunks.{flattened};
+ghost use Rattle.stab_circuit.specs.inner.Chunks.{shown_item, IsFound, Skips};
 
-use stab_items::{Item, Summary, items_summary};
-use std::alloc::{AllocError, Global};
-
-/// How many items a chunk has where a list is cut up.
-const CUT: usize = 256;
+use stab_io::Refusal;
+use stab_items::{Chunk, Item, Summary, items_summary};
+use std::alloc::AllocError;
+use std::mem;
 
 /// A chunk of so many items is halved before one is put into it.
 const FULL: usize = 512;
 
-/// Some items that stand beside each other in a list: how many, and the summary of them all.
-#[derive(Clone, Copy)]
-pub(crate) struct Chunk {
-    items: usize,
-    sum: Summary,
-}
-
-/// A chunk, by its number: how many items stand before it, and how many before its end.
+/// A chunk, by its number, and how many of its items stand before a place.
 #[derive(Clone, Copy)]
 pub(crate) struct FoundChunk {
-    number: usize,
-    before: usize,
-    pub(crate) end: usize,
+    pub(crate) number: usize,
+    pub(crate) within: usize,
 }
 
-/// How many items whole chunks have that were left out, and how many steps are still to be left out.
+/// A chunk, by its number, before which whole chunks are left out: how many items these have, and how
+/// many steps are still to be left out.
 #[derive(Clone, Copy)]
 pub(crate) struct SkippedChunks {
+    pub(crate) number: usize,
     pub(crate) items: usize,
     pub(crate) rest: u32,
 }
 
-/// The chunk of these items.
-fn chunk_of(items: &[Item]) -> Chunk
-    ensures value { result ≡ chunk_value items.now }
-    ensures small { IsChunk result }
-    ensures apart { All IsApart (unroll (listed items.now)) }
-{
-    Chunk {
-        items: items.len(),
-        sum: items_summary(items),
-    }
-}
-
-/// Cuts a list into chunks.
-pub(crate) fn cut(alloc: Global, items: &[Item]) -> Result<Vec<Chunk>, AllocError>
-    ensures cut { IfOk result (λ chunks. AreChunksOf chunks.items items.now) }
-    ensures apart { OnOk result (All IsApart (unroll (listed items.now))) }
-{
-    let mut chunks = Vec::with_capacity(alloc, items.len() / CUT + 1)?;
-    let mut place = 0;
-    'chunks: while place < items.len() {
-        let end = place + CUT.min(items.len() - place);
-        chunks.push(chunk_of(&items[place..end]))?;
-        place = end;
-    }
-    Ok(chunks)
-}
-
-/// The summary of the items of some chunks.
-fn chunks_summary(chunks: &[Chunk]) -> Summary
-    requires small { All IsChunk chunks.now }
-    ensures value { (xs : List OneItem) → AreConsecutive chunks.now xs → result ≡ summary_of (listed xs) }
+/// The summary of the items of chunks.
+pub(crate) fn chunks_summary(chunks: &[Chunk]) -> Summary
+    ensures value { result ≡ summary_of (listed (flattened chunks.now)) }
     ensures small { IsSummary result }
+    ensures apart { All IsApart (unroll (listed (flattened chunks.now))) }
 {
     let mut all = Summary::NONE;
     for chunk in chunks {
-        all = all.then(chunk.sum);
+        all = all.then(chunk.sum());
     }
     all
 }
 
+/// How many items chunks have, or `OutOfMemory` where a `usize` cannot say it.
+pub(crate) fn chunks_len(chunks: &[Chunk]) -> Result<usize, Refusal>
+    ensures ok { IfOk result (λ n. n ≡ length (flattened chunks.now)) }
+    ensures err { IfErr result (λ r. r ≡ OutOfMemory) }
+{
+    let mut all: usize = 0;
+    for chunk in chunks {
+        match all.checked_add(chunk.items().len()) {
+            Some(more) => all = more,
+            None => return Err(Refusal::OutOfMemory),
+        }
+    }
+    Ok(all)
+}
+
+/// The item at a place, if there is one.
+pub(crate) fn item_at(chunks: &[Chunk], place: usize) -> Option<&Item>
+    ensures value { shown_item result ≡ slice_get (flattened chunks.now) place }
+{
+    let mut rest = place;
+    'chunks: for chunk in chunks {
+        let items = chunk.items();
+        if rest < items.len() {
+            return Some(&items[rest]);
+        }
+        rest -= items.len();
+    }
+    None
+}
+
 /// The first chunk that reaches up to a place or behind it, or a number past the chunks.
 pub(crate) fn find_chunk(chunks: &[Chunk], place: usize) -> FoundChunk
-    requires fits { chunk_items chunks.now < 2 ^ 64 }
     ensures found { IsFound chunks.now place result }
 {
-    let mut before = 0;
+    let mut within = place;
     'chunks: for number in 0..chunks.len() {
-        let items = chunks[number].items;
-        if place - before <= items {
-            return FoundChunk {
-                number,
-                before,
-                end: before + items,
-            };
+        let items = chunks[number].items().len();
+        if within <= items {
+            return FoundChunk { number, within };
         }
-        before += items;
+        within -= items;
     }
     FoundChunk {
         number: chunks.len(),
-        before,
-        end: before,
+        within,
     }
 }
 
-/// The summary of the items before a place.
-pub(crate) fn front_summary(items: &[Item], chunks: &[Chunk], place: usize) -> Summary
-    requires cut { AreChunksOf chunks.now items.now }
-    requires within { place ≤ length items.now }
-    ensures value { result ≡ summary_of (listed (take place items.now)) }
+/// The summary of the items before a place, or of all where the place is behind them.
+pub(crate) fn front_summary(chunks: &[Chunk], place: usize) -> Summary
+    ensures value { result ≡ summary_of (listed (take place (flattened chunks.now))) }
     ensures small { IsSummary result }
 {
     let found = find_chunk(chunks, place);
-    let (whole, _) = chunks.split_at(found.number);
-    chunks_summary(whole).then(items_summary(&items[found.before..place]))
+    let (whole, behind) = chunks.split_at(found.number);
+    let front = chunks_summary(whole);
+    match behind.split_first() {
+        None => front,
+        Some((chunk, _)) => {
+            let (items, _) = chunk.items().split_at(found.within);
+            front.then(items_summary(items))
+        }
+    }
 }
 
 /// The summary of the items from a place on.
-#[tactic(auto, using(crate::proofs::ChunkLemmas::chunks_length))]
-pub(crate) fn back_summary(items: &[Item], chunks: &[Chunk], place: usize) -> Summary
-    requires cut { AreChunksOf chunks.now items.now }
-    requires within { place ≤ length items.now }
-    ensures value { result ≡ summary_of (listed (drop place items.now)) }
+pub(crate) fn back_summary(chunks: &[Chunk], place: usize) -> Summary
+    ensures value { result ≡ summary_of (listed (drop place (flattened chunks.now))) }
     ensures small { IsSummary result }
 {
     let found = find_chunk(chunks, place);
     let (_, behind) = chunks.split_at(found.number);
     match behind.split_first() {
         None => Summary::NONE,
-        Some((_, whole)) => items_summary(&items[place..found.end]).then(chunks_summary(whole)),
+        Some((chunk, whole)) => {
+            let (_, items) = chunk.items().split_at(found.within);
+            items_summary(items).then(chunks_summary(whole))
+        }
+    }
+}
+
+/// The summary of the items from a place up to another, where that is at most one item.
+pub(crate) fn item_summary(chunks: &[Chunk], first: usize, behind: usize) -> Summary
+    requires order { first ≤ behind }
+    requires one { behind ≤ first + 1 }
+    ensures value { result ≡ summary_of (listed (take (behind - first) (drop first (flattened chunks.now)))) }
+    ensures small { IsSummary result }
+{
+    if first == behind {
+        return Summary::NONE;
+    }
+    match item_at(chunks, first) {
+        None => Summary::NONE,
+        Some(item) => item.summary(),
     }
 }
 
 /// Leaves out steps, by whole chunks.
-pub(crate) fn skip_chunks(items: &[Item], chunks: &[Chunk], steps: u32) -> SkippedChunks
-    requires cut { AreChunksOf chunks.now items.now }
+pub(crate) fn skip_chunks(chunks: &[Chunk], steps: u32) -> SkippedChunks
+    requires fits { length (flattened chunks.now) < 2 ^ 64 }
     requires few { steps ≤ most_steps }
-    ensures skips { Skips steps items.now result }
+    ensures skips { Skips steps chunks.now result }
 {
-    let mut skipped = SkippedChunks {
-        items: 0,
-        rest: steps,
-    };
-    'chunks: for chunk in chunks {
-        if skipped.rest < chunk.sum.steps {
-            return skipped;
+    let mut items = 0;
+    let mut rest = steps;
+    'chunks: for number in 0..chunks.len() {
+        let chunk = &chunks[number];
+        let sum = chunk.sum();
+        if rest < sum.steps {
+            return SkippedChunks {
+                number,
+                items,
+                rest,
+            };
         }
-        skipped.items += chunk.items;
-        skipped.rest -= chunk.sum.steps;
+        items += chunk.items().len();
+        rest -= sum.steps;
     }
-    skipped
+    SkippedChunks {
+        number: chunks.len(),
+        items,
+        rest,
+    }
 }
 
-/// Halves a chunk. The chunks are as before where memory is refused.
-fn halve(chunks: &mut Vec<Chunk>, items: &[Item], found: FoundChunk) -> Result<(), AllocError>
-    requires cut { AreChunksOf chunks.old.items items.now }
-    requires in_range { found.number < length chunks.old.items }
-    requires before { found.before ≡ chunk_items (take found.number chunks.old.items) }
-    requires order { found.before ≤ found.end }
-    requires within { found.end ≤ length items.now }
-    requires end { found.end ≡ chunk_items (take (found.number + 1) chunks.old.items) }
-    ensures cut { AreChunksOf chunks.new.items items.now }
+/// Halves a chunk. The items stay where memory is refused.
+fn halve(chunks: &mut Vec<Chunk>, number: usize, middle: usize) -> Result<(), AllocError>
+    requires in_range { number < length chunks.old.items }
+    requires within { middle ≤ length (slice_index_or chunks.old.items number []) }
+    ensures same { flattened chunks.new.items ≡ flattened chunks.old.items }
     ensures some { 0 < length chunks.new.items }
 {
-    let middle = found.before + (found.end - found.before) / 2;
-    let back = chunk_of(&items[middle..found.end]);
-    chunks.insert(found.number + 1, back)?;
-    chunks[found.number] = chunk_of(&items[found.before..middle]);
+    let empty = Chunk::new(Vec::new(*chunks.allocator()));
+    chunks.insert(number + 1, empty)?;
+    let back = chunks[number].split_off(middle)?;
+    chunks[number + 1] = back;
     Ok(())
 }
 
-/// Sees to it that there is a chunk into which an item can be put at a place. The chunks stay those of
-/// the items where memory is refused.
-pub(crate) fn make_room(
-    chunks: &mut Vec<Chunk>,
-    items: &[Item],
-    place: usize,
-) -> Result<(), AllocError>
-    requires cut { AreChunksOf chunks.old.items items.now }
-    requires within { place ≤ length items.now }
-    ensures cut { AreChunksOf chunks.new.items items.now }
+/// Sees to it that there is a chunk into which an item can be put at a place. The items stay.
+pub(crate) fn make_room(chunks: &mut Vec<Chunk>, place: usize) -> Result<(), AllocError>
+    ensures same { flattened chunks.new.items ≡ flattened chunks.old.items }
     ensures some { OnOk result (0 < length chunks.new.items) }
 {
     if chunks.is_empty() {
-        chunks.push(chunk_of(items))?;
+        let empty = Chunk::new(Vec::new(*chunks.allocator()));
+        chunks.push(empty)?;
         return Ok(());
     }
     let found = find_chunk(chunks.as_slice(), place);
-    if found.end - found.before < FULL {
+    if found.number >= chunks.len() {
         return Ok(());
     }
-    halve(chunks, items, found)
+    let items = chunks[found.number].items().len();
+    if items < FULL {
+        return Ok(());
+    }
+    halve(chunks, found.number, items / 2)
 }
 
-/// Renews a chunk, where other items stand in it now, and so many behind it.
-pub(crate) fn renew(chunks: &mut Vec<Chunk>, items: &[Item], found: FoundChunk, behind: usize)
-    requires in_range { found.number < length chunks.old.items }
-    requires order { found.before + behind ≤ length items.now }
-    ensures value { chunks.new.items ≡ slice_set chunks.old.items found.number (chunk_value (take (length items.now - behind - found.before) (drop found.before items.now))) }
-    ensures small { All IsChunk chunks.old.items → All IsChunk chunks.new.items }
+/// Takes the items out of a chunk, which is then empty. It takes no memory.
+pub(crate) fn take_items(chunks: &mut Vec<Chunk>, number: usize) -> Vec<Item>
+    requires in_range { number < length chunks.old.items }
+    ensures value { result.items ≡ slice_index_or chunks.old.items number result.items }
+    ensures left { chunks.new.items ≡ slice_set chunks.old.items number [] }
 {
-    let end = items.len() - behind;
-    chunks[found.number] = chunk_of(&items[found.before..end]);
+    let empty = Chunk::new(Vec::new(*chunks.allocator()));
+    mem::replace(&mut chunks[number], empty).into_items()
+}
+
+/// Puts items into a chunk, in the stead of those in it. It takes no memory.
+pub(crate) fn put_items(chunks: &mut Vec<Chunk>, number: usize, items: Vec<Item>)
+    requires in_range { number < length chunks.old.items }
+    ensures value { chunks.new.items ≡ slice_set chunks.old.items number items.items }
+{
+    chunks[number] = Chunk::new(items);
 }

@@ -1,6 +1,7 @@
-ghost use Rattle.std.specs.Prelude.{◌≡◌, None, IfOk, IfErr};
-ghost use Rattle.stab_items.specs.Items.{depth, listed};
+ghost use Rattle.std.specs.Prelude.{◌≡◌, ◌++◌, ◌∷◌, [], List, None, IfOk, IfErr, IfSome, IfNone};
+ghost use Rattle.stab_items.specs.Items.{OneItem, depth, listed};
 ghost use Rattle.stab_items.specs.Steps.{check_of, Checks};
+ghost use Rattle.stab_items.specs.inner.Chunks.{flattened};
 ghost use Rattle.stab_circuit.specs.Views.{circuit_items};
 ghost use Rattle.stab_circuit.specs.Readings.{ReadsCircuit, ReadsInput, ReadsItem, IsPlaced, is_of_circuit, is_of_item};
 
@@ -9,10 +10,10 @@ mod places;
 mod splits;
 mod step_items;
 
-use crate::chunks::{Chunk, SkippedChunks, cut, front_summary, skip_chunks};
+use crate::chunks::{chunks_len, chunks_summary};
 use crate::input::{MOST_BYTES, read_text};
 use stab_io::{Fault, Input, Refusal};
-use stab_items::{Item, STEPS_CAP, Summary, read_lines};
+use stab_items::{Chunk, Item, STEPS_CAP, Summary, read_lines};
 use std::alloc::Global;
 use std::marker::Model;
 pub use step_items::StepItem;
@@ -21,9 +22,9 @@ pub use step_items::StepItem;
 ///
 /// What is known of them all is kept, so that no call walks over them for it.
 pub struct Circuit {
-    items: Vec<Item>,
-    /// The items in chunks.
+    /// The items in chunks of some hundred, so that an edit moves those of one chunk alone.
     chunks: Vec<Chunk>,
+    len: usize,
     total: Summary,
 }
 
@@ -31,15 +32,15 @@ pub struct Circuit {
 impl Drop for Circuit {
     fn drop(self) {
         let Circuit {
-            items: _,
             chunks: _,
+            len: _,
             total: _,
         } = self;
     }
 }
 
 impl Model for Circuit {
-    ghost use Rattle.std.specs.Prelude.{◌≡◌, ◌≤◌, List, All};
+    ghost use Rattle.std.specs.Prelude.{◌≡◌, ◌≤◌, List, All, length};
     ghost use Rattle.stab_items.specs.Items.{OneItem, listed};
     ghost use Rattle.stab_items.specs.Steps.{unroll};
     ghost use Rattle.stab_circuit.specs.Cursors.{IsApart};
@@ -50,21 +51,22 @@ impl Model for Circuit {
     ghost coded = { entries_code };
 
     ghost use Rattle.stab_items.specs.inner.Summaries.{summary_of, IsSummary};
-    ghost use Rattle.stab_circuit.specs.inner.Chunks.{AreChunksOf};
+    ghost use Rattle.stab_items.specs.inner.Chunks.{flattened};
 
-    ghost view = { λ c. c.items.items };
+    ghost view = { λ c. flattened c.chunks.items };
 
-    ghost invariant = { λ c. (c.total ≡ summary_of (listed c.items.items)) × IsSummary c.total × (c.total.depth ≤ 16) × All IsApart (unroll (listed c.items.items)) × AreChunksOf c.chunks.items c.items.items };
+    ghost invariant = { λ c. (c.total ≡ summary_of (listed (flattened c.chunks.items))) × IsSummary c.total × (c.total.depth ≤ 16) × All IsApart (unroll (listed (flattened c.chunks.items))) × (c.len ≡ length (flattened c.chunks.items)) };
 }
 
 impl Circuit {
-    ghost use Rattle.std.specs.Prelude.{◌≡◌, ◌≤◌, [], All, min, length, IfOk};
+    ghost use Rattle.std.specs.Prelude.{◌≡◌, ◌≤◌, ◌<◌, ◌^◌, [], All, min, length, IfOk};
     ghost use Rattle.stab_items.specs.Items.{listed, depth};
     ghost use Rattle.stab_letters.specs.Limits.{most_qubits};
     ghost use Rattle.stab_items.specs.Steps.{unroll, records_of, qubits_of, observables_of, most_steps, steps_cap, check_of, check_within, Checks};
     ghost use Rattle.stab_circuit.specs.Cursors.{IsApart};
+    ghost use Rattle.stab_items.specs.inner.Chunks.{flattened};
     ghost use Rattle.stab_circuit.specs.Views.{circuit_items};
-    ghost use Rattle.stab_circuit.specs.inner.Chunks.{AreChunksOf, Skips};
+    ghost use Rattle.stab_items.specs.inner.Chunks.{flattened};
 
     /// The empty circuit, which takes no memory.
     #[tactic(auto, using(stab_items::proofs::StepApartLemmas::nothing_apart))]
@@ -72,48 +74,47 @@ impl Circuit {
         ensures empty { result ≡ [] }
     {
         Circuit {
-            items: Vec::new(alloc),
             chunks: Vec::new(alloc),
+            len: 0,
             total: Summary::NONE,
         }
     }
 
-    /// The circuit of these items, which are cut into chunks, where nothing refuses it as a whole.
-    #[tactic(auto, using(crate::proofs::ChunkPartLemmas::check_taken))]
-    fn of_items(items: Vec<Item>, chunks: Vec<Chunk>) -> Result<Circuit, Fault>
-        requires shallow { depth (listed items.items) ≤ 16 }
-        requires cut { AreChunksOf chunks.items items.items }
-        requires apart { All IsApart (unroll (listed items.items)) }
-        ensures value { IfOk result (λ c. c ≡ items.items) }
-        ensures checked { Checks result (check_of (listed items.items)) }
+    /// The circuit of these items, so many, where nothing refuses it as a whole.
+    #[tactic(auto, using(stab_items::proofs::SummaryLemmas::check_judged))]
+    fn of_chunks(chunks: Vec<Chunk>, len: usize) -> Result<Circuit, Fault>
+        requires shallow { depth (listed (flattened chunks.items)) ≤ 16 }
+        requires len { len ≡ length (flattened chunks.items) }
+        ensures value { IfOk result (λ c. c ≡ flattened chunks.items) }
+        ensures checked { Checks result (check_of (listed (flattened chunks.items))) }
     {
-        let total = front_summary(items.as_slice(), chunks.as_slice(), items.len());
+        let total = chunks_summary(chunks.as_slice());
         match total.refusal() {
             Some(refusal) => Err(Fault::whole(refusal)),
-            None => Ok(Circuit {
-                items,
-                chunks,
-                total,
-            }),
+            None => Ok(Circuit { chunks, len, total }),
         }
     }
 
-    /// The items.
-    pub fn items(&self) -> &[Item]
-        ensures value { result.now ≡ self.now }
+    /// How many items the outermost list has. It takes no time, however long the list.
+    pub fn len(&self) -> usize
+        ensures value { result ≡ length self.now }
         ensures shallow { depth (circuit_items self.now) ≤ 16 }
         ensures apart { All IsApart (unroll (circuit_items self.now)) }
     {
         let _ = &self.total;
-        self.items.as_slice()
+        self.len
     }
 
-    /// Leaves out steps from the first on, by whole chunks of items.
-    pub(crate) fn skip(&self, steps: u32) -> SkippedChunks
-        requires few { steps ≤ most_steps }
-        ensures skips { Skips steps self.now result }
+    /// The items in chunks.
+    pub(crate) fn chunks(&self) -> &[Chunk]
+        ensures value { flattened result.now ≡ self.now }
+        ensures shallow { depth (circuit_items self.now) ≤ 16 }
+        ensures apart { All IsApart (unroll (circuit_items self.now)) }
+        ensures fits { length self.now < 2 ^ 64 }
     {
-        skip_chunks(self.items.as_slice(), self.chunks.as_slice(), steps)
+        let _ = &self.total;
+        let _len = self.len;
+        self.chunks.as_slice()
     }
 
     /// One more than the greatest qubit named anywhere, by QUBIT_COORDS too, or 0. It is at most
@@ -172,9 +173,9 @@ pub fn circuit_of_text(alloc: Global, text: &[u8]) -> Result<Circuit, Fault>
     if text.len() > MOST_BYTES {
         return Err(Fault::whole(Refusal::TooLong));
     }
-    let items = read_lines(alloc, false, text)?;
-    let chunks = cut(alloc, items.as_slice())?;
-    Circuit::of_items(items, chunks)
+    let chunks = read_lines(alloc, false, text)?;
+    let len = chunks_len(chunks.as_slice()).map_err(Fault::whole)?;
+    Circuit::of_chunks(chunks, len)
 }
 
 /// Reads the circuit that the input's text stands for.
@@ -199,9 +200,24 @@ pub fn read_item(alloc: Global, text: &[u8]) -> Result<Item, Fault>
     if text.len() > MOST_BYTES {
         return Err(Fault::whole(Refusal::TooLong));
     }
-    let mut items = read_lines(alloc, true, text)?;
-    match items.pop() {
+    let chunks = read_lines(alloc, true, text)?;
+    match last_item(chunks) {
         Some(item) => Ok(item),
         None => Err(Fault::whole(Refusal::BadLine)),
     }
+}
+
+/// The last item in chunks, if there is one.
+fn last_item(mut chunks: Vec<Chunk>) -> Option<Item>
+    ensures some { IfSome result (λ x. (front : List OneItem) × (flattened chunks.items ≡ front ++ x ∷ [])) }
+    ensures none { IfNone result (flattened chunks.items ≡ []) }
+{
+    'chunks: while let Some(chunk) = chunks.pop() {
+        let mut items = chunk.into_items();
+        match items.pop() {
+            Some(item) => return Some(item),
+            None => {}
+        }
+    }
+    None
 }

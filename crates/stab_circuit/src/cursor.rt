@@ -1,9 +1,10 @@
+use crate::chunks::skip_chunks;
 use crate::circuit::Circuit;
 use crate::step::Step;
 use crate::steps::Steps;
 use crate::walk::Walk;
 use stab_io::Refusal;
-use stab_items::Item;
+use stab_items::Chunk;
 use std::alloc::Global;
 use std::marker::Model;
 
@@ -13,7 +14,7 @@ use std::marker::Model;
 /// It keeps a place within nested blocks, and no list of steps.
 #[derive(Drop)]
 pub struct Cursor<'a> {
-    items: &'a [Item],
+    chunks: &'a [Chunk],
     walk: Walk<'a>,
 }
 
@@ -21,15 +22,16 @@ impl<'a> Model for Cursor<'a> {
     ghost use Rattle.std.specs.Prelude.{◌≤◌};
     ghost use Rattle.stab_items.specs.Items.{listed, depth};
     ghost use Rattle.stab_items.specs.Steps.{unroll};
+    ghost use Rattle.stab_items.specs.inner.Chunks.{flattened};
     ghost use Rattle.stab_circuit.specs.Cursors.{CursorState};
 
     ghost Value = { CursorState };
 
     ghost use Rattle.stab_circuit.specs.inner.Walks.{walk_left, IsWalk};
 
-    ghost view = { λ c. record { all = unroll (listed c.items.now); left = walk_left c.walk } };
+    ghost view = { λ c. record { all = unroll (listed (flattened c.chunks.now)); left = walk_left c.walk } };
 
-    ghost invariant = { λ c. IsWalk c.walk × (depth (listed c.items.now) ≤ 16) };
+    ghost invariant = { λ c. IsWalk c.walk × (depth (listed (flattened c.chunks.now)) ≤ 16) };
 }
 
 impl<'a> Cursor<'a> {
@@ -52,11 +54,12 @@ impl<'a> Cursor<'a> {
         ensures apart { IfOk result (λ c. All IsApart c.all) }
         ensures err { IfErr result (λ r. r ≡ OutOfMemory) }
     {
-        let items = circuit.items();
-        let skipped = circuit.skip(step as u32);
-        let mut walk = Walk::new(alloc, items, skipped.items)?;
+        let chunks = circuit.chunks();
+        let skipped = skip_chunks(chunks, step as u32);
+        let (_, rest) = chunks.split_at(skipped.number);
+        let mut walk = Walk::new(alloc, rest)?;
         walk.skip(skipped.rest);
-        Ok(Cursor { items, walk })
+        Ok(Cursor { chunks, walk })
     }
 
     /// The next step, or `None` where none is left, and then for ever. It takes no memory.
@@ -87,6 +90,6 @@ impl<'a> Cursor<'a> {
         ensures all { self.new.all ≡ self.old.all }
         ensures left { self.new.left ≡ self.old.all }
     {
-        self.walk.restart(self.items);
+        self.walk.restart(self.chunks);
     }
 }

@@ -6,12 +6,13 @@ ghost use Rattle.stab_items.specs.inner.Summaries.{IsSummary};
 ghost use Rattle.stab_circuit.specs.inner.Splices.{splice_of, splice_at};
 ghost use Rattle.stab_circuit.specs.inner.Judgements.{judgement_of, IsBlockAt, BeginsWith};
 ghost use Rattle.stab_circuit.specs.inner.EditResults.{steps_within, PutsApart, AreApart, edit_result_by, IsEditResult};
-ghost use Rattle.stab_circuit.specs.inner.Chunks.{AreChunksOf};
+ghost use Rattle.stab_items.specs.inner.Chunks.{flattened};
+ghost use Rattle.stab_circuit.specs.inner.Chunks.{shown_item};
 
-use crate::chunks::{Chunk, back_summary, front_summary};
+use crate::chunks::{back_summary, front_summary, item_at, item_summary};
 use crate::edit::Edit;
 use stab_io::Refusal;
-use stab_items::{Item, Part, STEPS_CAP, Summary, items_summary};
+use stab_items::{Chunk, Item, Part, STEPS_CAP, Summary, items_summary};
 use stab_lines::Count;
 
 /// What an edit comes to in a list of items: which items leave it, from the first up to the one
@@ -50,7 +51,14 @@ pub(crate) struct Block<'a> {
 pub(crate) fn block_at(items: &[Item], place: usize) -> Result<Block<'_>, Refusal>
     ensures value { IsBlockAt (slice_get items.now place) result }
 {
-    match items.get(place) {
+    block_of(items.get(place))
+}
+
+/// The block that the item at a place is, if there is one.
+pub(crate) fn block_of(found: Option<&Item>) -> Result<Block<'_>, Refusal>
+    ensures value { IsBlockAt (shown_item found.entry) result }
+{
+    match found {
         None => Err(Refusal::PlaceOutOfRange),
         Some(item) => match item.part() {
             Part::Operation { .. } => Err(Refusal::NotABlock),
@@ -166,25 +174,58 @@ fn edit_result_in(items: &[Item], blocks: &[usize], edit: &Edit) -> Result<EditR
     }
 }
 
-/// What a list that is cut into chunks comes to by an edit.
-pub(crate) fn edit_result_by_chunks(
-    items: &[Item],
+/// What an edit in nested blocks comes to in the outermost list, which is in chunks.
+fn judge_chunks(
     chunks: &[Chunk],
+    len: usize,
+    blocks: &[usize],
+    edit: &Edit,
+) -> Result<Judgement, Refusal>
+    requires len { len ≡ length (flattened chunks.now) }
+    ensures value { result ≡ judgement_of (min (length (steps_within blocks.now (edit_path edit.now).place (flattened chunks.now))) steps_cap) (splice_of edit.now blocks.now (flattened chunks.now)) }
+    ensures small { IfOk result (λ j. IsSummary j.put) }
+    ensures within { IfOk result (λ j. (j.first ≤ j.behind) × (j.behind ≤ length (flattened chunks.now)) × (j.within ≤ steps_cap)) }
+    ensures front { OnOk result (BeginsWith (steps_of_place blocks.now (edit_path edit.now).place (flattened chunks.now)) (unroll (listed (flattened chunks.now)))) }
+    ensures apart { OnOk result (IfOk (splice_of edit.now blocks.now (flattened chunks.now)) PutsApart) }
+    ensures within_put { IfOk result (λ j. j.within ≤ j.put.steps) }
+    ensures within_gone { IfOk result (λ j. j.within ≤ length (unroll (listed (drop j.first (take j.behind (flattened chunks.now)))))) }
+{
+    match blocks.split_first() {
+        None => judge_at(len, edit),
+        Some((block, others)) => match block_of(item_at(chunks, *block)) {
+            Err(refusal) => Err(refusal),
+            Ok(inner) => match edit_result_in(inner.body, others, edit) {
+                Err(refusal) => Err(refusal),
+                Ok(round) => Ok(Judgement {
+                    first: *block,
+                    behind: *block + 1,
+                    put: round.total.repeated(inner.count.number()),
+                    within: round.first,
+                }),
+            },
+        },
+    }
+}
+
+/// What a list in chunks, of so many items, comes to by an edit.
+pub(crate) fn edit_result_by_chunks(
+    chunks: &[Chunk],
+    len: usize,
     edit: &Edit,
 ) -> Result<EditResult, Refusal>
-    requires cut { AreChunksOf chunks.now items.now }
-    requires apart { AreApart items.now }
-    ensures ok { IfOk result (IsEditResult edit.now (edit_path edit.now).blocks items.now) }
-    ensures refused { IfErr result (λ r. edited edit.now items.now ≡ Err r) }
+    requires len { len ≡ length (flattened chunks.now) }
+    requires apart { AreApart (flattened chunks.now) }
+    ensures ok { IfOk result (IsEditResult edit.now (edit_path edit.now).blocks (flattened chunks.now)) }
+    ensures refused { IfErr result (λ r. edited edit.now (flattened chunks.now) ≡ Err r) }
 {
     let path = edit.path();
-    match judge(items, path.blocks(), edit) {
+    match judge_chunks(chunks, len, path.blocks(), edit) {
         Err(refusal) => Err(refusal),
         Ok(judgement) => Ok(edit_result_of(
             judgement,
-            front_summary(items, chunks, judgement.first),
-            items_summary(&items[judgement.first..judgement.behind]),
-            back_summary(items, chunks, judgement.behind),
+            front_summary(chunks, judgement.first),
+            item_summary(chunks, judgement.first, judgement.behind),
+            back_summary(chunks, judgement.behind),
         )),
     }
 }
@@ -223,31 +264,27 @@ fn steps_up_to(items: &[Item], place: usize) -> u32
     items_summary(front).steps
 }
 
-/// How many steps stand before a place in nested blocks of a list that is cut into chunks, or
-/// 1,048,577 where there are more.
-pub(crate) fn steps_by_chunks(
-    items: &[Item],
-    chunks: &[Chunk],
-    blocks: &[usize],
-    place: usize,
-) -> u32
-    requires cut { AreChunksOf chunks.now items.now }
-    ensures value { result ≡ min (length (steps_of_place blocks.now place items.now)) steps_cap }
+/// How many steps stand before a place in nested blocks of a list in chunks, or 1,048,577 where there
+/// are more.
+pub(crate) fn steps_by_chunks(chunks: &[Chunk], blocks: &[usize], place: usize) -> u32
+    ensures value { result ≡ min (length (steps_of_place blocks.now place (flattened chunks.now))) steps_cap }
 {
     match blocks.split_first() {
-        None => steps_up_to_by_chunks(items, chunks, place),
+        None => front_summary(chunks, place).steps,
         Some((block, others)) => {
-            let front = steps_up_to_by_chunks(items, chunks, *block);
-            (front + steps_inside(items, *block, others, place)).min(STEPS_CAP)
+            let front = front_summary(chunks, *block).steps;
+            (front + steps_inside_chunks(chunks, *block, others, place)).min(STEPS_CAP)
         }
     }
 }
 
-/// How many steps the items before a place make in a list that is cut into chunks, or 1,048,577
-/// where they make more.
-fn steps_up_to_by_chunks(items: &[Item], chunks: &[Chunk], place: usize) -> u32
-    requires cut { AreChunksOf chunks.now items.now }
-    ensures value { result ≡ min (length (unroll (listed (take place items.now)))) steps_cap }
+/// How many steps stand before a place in a block of a list in chunks and the blocks in it, or
+/// 1,048,577 where there are more; none where the list has no block there.
+fn steps_inside_chunks(chunks: &[Chunk], block: usize, others: &[usize], place: usize) -> u32
+    ensures value { result ≡ min (length (steps_of_place others.now place (inner (slice_get (flattened chunks.now) block)))) steps_cap }
 {
-    front_summary(items, chunks, place.min(items.len())).steps
+    match block_of(item_at(chunks, block)) {
+        Err(_) => 0,
+        Ok(found) => steps_in(found.body, others, place),
+    }
 }

@@ -4,7 +4,7 @@
 //! `stab_items`; here items are put together.
 //!
 //! - `input`: reading an input whole.
-//! - `chunks`: what is known of chunks of a circuit's items, so that a long circuit is added up fast.
+//! - `chunks`: lists of items in chunks, so that a long circuit is added up, and one edited, fast.
 //! - `path`: the places of items.
 //! - `edit`: how a circuit is edited at a path, and which steps that changes.
 //! - `judge`, `commit`: judging an edit by what items keep, and making it.

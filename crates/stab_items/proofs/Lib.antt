@@ -1,6 +1,7 @@
 pub mod ItemLemmas
-mod ViewLemmas
+pub mod ChunkLemmas
 pub mod ReaderLemmas
+mod ReadChunkLemmas
 mod PrintLemmas
 pub mod StepLemmas
 pub mod StepApartLemmas

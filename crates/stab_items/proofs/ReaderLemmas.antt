@@ -1,14 +1,12 @@
 -- The reader's way over the lines.
-use Rattle.std.proofs.Common.{◌≡◌, ◌≤◌, ◌<◌, refl, ap, sym, ◌∙◌, subst, ℕ, ◌+◌, suc, List, [], ◌∷◌, Bool, true, false, nat_lt, ◌==◌, length, map, reverse, ◌&&◌, not, ◌⊎◌, inl, inr, Result, Ok, Err, if◌then◌else◌, arith}
+use Rattle.std.proofs.Common.{◌≡◌, ◌≤◌, ◌<◌, refl, ap, sym, ◌∙◌, subst, ℕ, ◌+◌, suc, List, [], ◌∷◌, Bool, true, false, nat_lt, ◌==◌, length, map, not, ◌⊎◌, inl, inr, Result, Ok, Err, if◌then◌else◌, arith}
 use Rattle.std.specs.List.{slice_split}
 use Rattle.std.specs.Result.{IfOk}
 use Rattle.std.specs.Global.{Vec}
 use Rattle.std.proofs.lemmas.Bool.Decides.{nat_tests}
-use Rattle.std.proofs.lemmas.List.{length-reverse, length-map}
 use Rattle.stab_io.specs.declared.refusal.Refusal.{Refusal}
 use Rattle.stab_io.specs.declared.refusal.Refusal.TheVariants.{TooDeep, BadLine, OutOfMemory}
 use Rattle.stab_io.specs.Refusals.{whole}
-use Rattle.stab_items.specs.declared.reader.OpenBlock.{OpenBlock as StoredBlock}
 use Rattle.stab_io.specs.declared.refusal.Fault.{Fault}
 use Rattle.stab_lines.specs.declared.meanings.Line.TheVariants.{Blank, Close, Open}
 use Rattle.stab_lines.specs.declared.meanings.Line.TheVariants as line
@@ -16,7 +14,8 @@ use Rattle.stab_lines.specs.Lines.{is_byte, content_of}
 use Rattle.stab_items.specs.Items.{Items, OneItem, operation, repeat, before, done, next, block, join, listed, depth}
 use Rattle.stab_lines.specs.Meanings.{meaning_of, is_close}
 use Rattle.stab_items.specs.Circuits.{Meaning, at_line, meaning_after, one_item, contents, depth_after, ends_item}
-use Rattle.stab_items.specs.inner.Readers.{OpenBlock, Progress, closed, stepped, finished, read_on, is_some_items, is_whole, meaning_at, pending, line_fault, open_block_of, ReadsItems, IsShallowProgress}
+use Rattle.stab_items.specs.inner.Readers.{OpenBlock, Progress, closed, stepped, finished, read_on, is_some_items, is_whole, meaning_at, pending, line_fault, ReadsItems, IsShallowProgress}
+use Rattle.stab_items.specs.inner.Chunks.{flattened}
 use Rattle.stab_items.proofs.ItemLemmas.{depth-join}
 use Rattle.stab_lines.proofs.BoolLemmas.{chosen}
 
@@ -157,12 +156,12 @@ stepped_shallow n m s t h e = lines m s.open_blocks s.now h e
 pub closes_shallow : (gs : List OpenBlock) (f : OpenBlock) (fs : List OpenBlock) (now : Items) → gs ≡ f ∷ fs → IsShallowProgress (record { open_blocks = gs; now = now }) → depth now ≤ 15
 closes_shallow gs f fs now e h = omega (arith, h.now, ap length e)
 
-pub finished_shallow : (s : Progress) (given : Result (Vec OneItem) Fault) → IsShallowProgress s → ReadsItems given (finished s) → IfOk given (λ v. depth (listed v.items) ≤ 16)
+pub finished_shallow : (s : Progress) (given : Result (Vec (List OneItem)) Fault) → IsShallowProgress s → ReadsItems given (finished s) → IfOk given (λ v. depth (listed (flattened v.items)) ≤ 16)
 finished_shallow s (Err f) h e = tt
 finished_shallow s (Ok v) h e = ended s.open_blocks s.now h e
   where
-    ended : (fs : List OpenBlock) (now : Items) → IsShallowProgress (record { open_blocks = fs; now = now }) → finished (record { open_blocks = fs; now = now }) ≡ Ok (listed v.items) → depth (listed v.items) ≤ 16
-    ended [] now h e = let same : now ≡ listed v.items = cc in omega (arith, h.now, ap depth same)
+    ended : (fs : List OpenBlock) (now : Items) → IsShallowProgress (record { open_blocks = fs; now = now }) → finished (record { open_blocks = fs; now = now }) ≡ Ok (listed (flattened v.items)) → depth (listed (flattened v.items)) ≤ 16
+    ended [] now h e = let same : now ≡ listed (flattened v.items) = cc in omega (arith, h.now, ap depth same)
     ended (f ∷ fs) now h e = cc
 
 -- the fault of a line's refusal
@@ -171,23 +170,12 @@ told n OutOfMemory given h = inl refl
 told n r given (inl e) = cc
 told n r given (inr e) = inr e
 
-some_before : (x : OneItem) (xs : Items) → is_some_items (before x xs) ≡ true
+pub some_before : (x : OneItem) (xs : Items) → is_some_items (before x xs) ≡ true
 some_before (operation op) xs = refl
 some_before (repeat c t body) xs = refl
 
-not_empty : (n : ℕ) → true ≡ not (suc n == 0)
+pub not_empty : (n : ℕ) → true ≡ not (suc n == 0)
 not_empty n = ap not (not_none n)
-
--- whether a whole item was read, by the lists that the reader holds
-whole_lists : (gs : List OpenBlock) (fs : List StoredBlock) (xs : List OneItem) → length gs ≡ length fs → is_whole (record { open_blocks = gs; now = listed xs }) ≡ ((length fs == 0) && not (length xs == 0))
-whole_lists [] [] [] e = refl
-whole_lists [] [] (x ∷ xs) e = some_before x (listed xs) ∙ not_empty (length xs)
-whole_lists [] (f ∷ fs) xs e = absurd (omega (arith, e))
-whole_lists (g ∷ gs) [] xs e = absurd (omega (arith, e))
-whole_lists (g ∷ gs) (f ∷ fs) xs e = ap (λ b. b && not (length xs == 0)) (not_none (length fs))
-
-pub is_whole_held : (fs : List StoredBlock) (xs : List OneItem) → is_whole (record { open_blocks = reverse (map open_block_of fs); now = listed xs }) ≡ ((length fs == 0) && not (length xs == 0))
-is_whole_held fs xs = whole_lists (reverse (map open_block_of fs)) fs xs (length-reverse (map open_block_of fs) ∙ length-map fs open_block_of)
 
 -- a line that is refused ends the reading, with its fault or for want of memory
 pub reading_refused : (single : Bool) (n : ℕ) (s : Progress) (rest line bytes : List ℕ) (more : List (List ℕ)) (r : Refusal) (all : Result Items Fault) (fault : Fault)

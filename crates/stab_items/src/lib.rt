@@ -5,6 +5,7 @@
 //! them, with edits and unrolled steps, are `stab_circuit`'s.
 //!
 //! - `item`: instructions and blocks, which keep the numbers of one round.
+//! - `chunk`: some items of a list and their summary, so that a long list is kept in parts.
 //! - `reader`: the items of a text's lines, with the blocks that are open.
 //! - `summary`: the numbers that are kept.
 //! - `copy`: copies of items.
@@ -24,14 +25,16 @@
 //! block keeps; what is printed of items is their one text; a copy is the same item.
 #![tactic(auto)]
 
+mod chunk;
 mod copy;
 mod item;
 mod print;
 mod reader;
 mod summary;
 
+pub use chunk::Chunk;
 pub use copy::copied_item;
 pub use item::{Item, Part, items_summary};
-pub use print::{write_all_items, write_one_item};
+pub use print::{write_all_chunks, write_one_item};
 pub use reader::read_lines;
 pub use summary::{STEPS_CAP, Summary};

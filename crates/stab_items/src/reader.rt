@@ -1,12 +1,18 @@
-ghost use Rattle.std.specs.Prelude.{◌≡◌, ◌≤◌, length, IfOk};
+ghost use Rattle.std.specs.Prelude.{◌≡◌, ◌≤◌, ◌++◌, length, IfOk};
 ghost use Rattle.stab_items.specs.Circuits.{most_bytes, meaning_after as meaning_after_of};
 ghost use Rattle.stab_items.specs.Items.{listed, depth};
 ghost use Rattle.stab_items.specs.inner.Readers.{ReadsItems, reading, line_fault};
+ghost use Rattle.stab_items.specs.inner.Chunks.{flattened};
 
+use crate::chunk::{Chunk, are_empty};
 use crate::item::Item;
 use stab_io::{Fault, Refusal};
 use stab_lines::{Count, Line, Sequence, content, first_piece, is_close, meaning};
-use std::alloc::Global;
+use std::alloc::{AllocError, Global};
+use std::mem;
+
+/// How many items of the outermost list are put into a chunk.
+const FULL: usize = 256;
 
 /// A block that is open: its line, count and tag, and the items before it.
 #[derive(Drop)]
@@ -17,16 +23,19 @@ pub struct OpenBlock {
     before: Vec<Item>,
 }
 
-/// The open blocks, the innermost last, and the items read in that.
+/// The first items of the outermost list, in chunks, the open blocks, the innermost last, and the
+/// items read in that, where no block is open those behind the chunks.
 #[derive(Drop)]
 pub struct CircuitReader {
     alloc: Global,
+    full: Vec<Chunk>,
     open_blocks: Vec<OpenBlock>,
     items: Vec<Item>,
 }
 
 impl CircuitReader {
-    ghost use Rattle.std.specs.Prelude.{◌≡◌, [], List, ◌∷◌};
+    ghost use Rattle.std.specs.Prelude.{◌≡◌, [], List, ◌∷◌, OnOk, IfErr};
+    ghost use Rattle.stab_io.specs.declared.refusal.Refusal.TheVariants.{OutOfMemory};
     ghost use Rattle.stab_lines.specs.Results.{Gives};
     ghost use Rattle.stab_items.specs.inner.Readers.{progress_of, before_reading, stepped, opening, closing, finished, is_whole as whole_of, meaning_at, TakesLine, ReadsItems, IsShallowProgress};
 
@@ -35,18 +44,19 @@ impl CircuitReader {
     {
         CircuitReader {
             alloc,
+            full: Vec::new(alloc),
             open_blocks: Vec::new(alloc),
             items: Vec::new(alloc),
         }
     }
 
     /// The items, where no block is open.
-    #[tactic(auto, using(crate::proofs::ViewLemmas::open_blocks_pushed))]
-    fn finish(self) -> Result<Vec<Item>, Fault>
+    fn finish(self) -> Result<Vec<Chunk>, Fault>
         ensures gives { ReadsItems result (finished (progress_of self)) }
     {
         let CircuitReader {
             alloc: _,
+            full,
             mut open_blocks,
             items,
         } = self;
@@ -55,16 +65,20 @@ impl CircuitReader {
                 refusal: Refusal::BadBlock,
                 line: open_block.line,
             }),
-            None => Ok(items),
+            None => {
+                let chunks = with_last(full, items)?;
+                Ok(chunks)
+            }
         }
     }
 
     /// Whether a whole item was read.
-    #[tactic(auto, using(crate::proofs::ReaderLemmas::is_whole_held))]
+    #[tactic(auto, using(crate::proofs::ReadChunkLemmas::is_whole_kept))]
     fn is_whole(&self) -> bool
         ensures value { result ≡ whole_of (progress_of self.now) }
     {
-        self.open_blocks.is_empty() && !self.items.is_empty()
+        let none = are_empty(self.full.as_slice());
+        self.open_blocks.is_empty() && !(none && self.items.is_empty())
     }
 
     /// What a content means here, perhaps in one item's text.
@@ -86,7 +100,7 @@ impl CircuitReader {
         self.take(line, found)
     }
 
-    #[tactic(auto, using(crate::proofs::ItemLemmas::listed_pushed))]
+    #[tactic(auto, using(crate::proofs::ReadChunkLemmas::kept_pushed))]
     fn take(&mut self, line: u64, found: Line) -> Result<(), Refusal>
         requires shallow { IsShallowProgress (progress_of self.old) }
         ensures gives { TakesLine (progress_of self.new) result (stepped line (Ok found) (progress_of self.old)) }
@@ -95,11 +109,26 @@ impl CircuitReader {
             Line::Blank => Ok(()),
             Line::Operation(operation) => {
                 self.items.push(Item::operation(self.alloc, operation)?)?;
+                self.settle()?;
                 Ok(())
             }
             Line::Open { count, tag } => self.open(line, count, tag),
             Line::Close => self.close(),
         }
+    }
+
+    /// Puts the items behind the chunks into a chunk, where there are enough.
+    fn settle(&mut self) -> Result<(), Refusal>
+        ensures same { OnOk result (progress_of self.new ≡ progress_of self.old) }
+        ensures fault { IfErr result (λ r. r ≡ OutOfMemory) }
+    {
+        if self.items.len() < FULL || !self.open_blocks.is_empty() {
+            return Ok(());
+        }
+        let next = Vec::with_capacity(self.alloc, FULL)?;
+        let items = mem::replace(&mut self.items, next);
+        self.full.push(Chunk::new(items))?;
+        Ok(())
     }
 
     fn open(&mut self, line: u64, count: Count, tag: Sequence<u8>) -> Result<(), Refusal>
@@ -108,7 +137,7 @@ impl CircuitReader {
         if self.open_blocks.len() >= 16 {
             return Err(Refusal::TooDeep);
         }
-        let before = std::mem::replace(&mut self.items, Vec::new(self.alloc));
+        let before = mem::replace(&mut self.items, Vec::new(self.alloc));
         self.open_blocks.push(OpenBlock {
             line,
             count,
@@ -118,7 +147,6 @@ impl CircuitReader {
         Ok(())
     }
 
-    #[tactic(auto, using(crate::proofs::ItemLemmas::listed_pushed, crate::proofs::ViewLemmas::open_blocks_pushed, crate::proofs::ReaderLemmas::closes_shallow))]
     fn close(&mut self) -> Result<(), Refusal>
         requires shallow { IsShallowProgress (progress_of self.old) }
         ensures gives { TakesLine (progress_of self.new) result (closing (progress_of self.old)) }
@@ -132,13 +160,25 @@ impl CircuitReader {
                     tag,
                     before,
                 } = open_block;
-                let body = std::mem::replace(&mut self.items, before);
+                let body = mem::replace(&mut self.items, before);
                 self.items
                     .push(Item::repeat(self.alloc, count, tag, body)?)?;
+                self.settle()?;
                 Ok(())
             }
         }
     }
+}
+
+/// Chunks with items behind them, in a chunk of their own.
+fn with_last(mut chunks: Vec<Chunk>, items: Vec<Item>) -> Result<Vec<Chunk>, AllocError>
+    ensures ok { IfOk result (λ v. flattened v.items ≡ flattened chunks.items ++ items.items) }
+{
+    if items.is_empty() {
+        return Ok(chunks);
+    }
+    chunks.push(Chunk::new(items))?;
+    Ok(chunks)
 }
 
 /// What a content means after a whole item.
@@ -164,12 +204,12 @@ fn fault_at(refusal: Refusal, line: u64) -> Fault
     }
 }
 
-/// The items that a text stands for, perhaps as one item's text.
+/// The items that a text stands for, perhaps as one item's text, in chunks of at most 256.
 #[tactic(auto, using(crate::proofs::ReaderLemmas::lines_taken, crate::proofs::ReaderLemmas::lines_ended, crate::proofs::ReaderLemmas::stepped_shallow, crate::proofs::ReaderLemmas::finished_shallow))]
-pub fn read_lines(alloc: Global, single: bool, text: &[u8]) -> Result<Vec<Item>, Fault>
+pub fn read_lines(alloc: Global, single: bool, text: &[u8]) -> Result<Vec<Chunk>, Fault>
     requires small { length text.now ≤ most_bytes }
     ensures gives { ReadsItems result (reading single text.now) }
-    ensures shallow { IfOk result (λ v. depth (listed v.items) ≤ 16) }
+    ensures shallow { IfOk result (λ v. depth (listed (flattened v.items)) ≤ 16) }
 {
     let mut reader = CircuitReader::new(alloc);
     let mut rest = text;

@@ -265,7 +265,7 @@ pub fn sweep_back(
     ensures fits { OnOk result (All (StepFits qubits) (unroll (circuit_items circuit.now))) }
     ensures err { IfErr result (λ r. r ≡ OutOfMemory) }
 {
-    let _ = circuit.items();
+    let _ = circuit.len();
     let detectors = count_detectors(alloc, circuit)?;
     check_few(detectors, circuit.observables())?;
     let mut sweep = Sweep::at_end(alloc, qubits, detectors, circuit.observables())?;

@@ -1,47 +1,30 @@
--- Chunks: a list of items cut into chunks, each with its summary, so that a long list is added up without a look at its items.
+-- Chunks: how a place and a step are found in a list in chunks.
 -- Source: this project's own.
-use Rattle.std.specs.Prelude.{◌≡◌, ◌≤◌, ◌<◌, ℕ, ◌+◌, List, [], ◌∷◌, length, take, drop, All}
-use Rattle.stab_circuit.specs.declared.chunks.Chunk.{Chunk}
+use Rattle.std.specs.Prelude.{◌≡◌, ◌≤◌, ◌<◌, ℕ, ◌+◌, List, length, take, drop, get_or, Option, Some, None}
+use Rattle.std.specs.Borrow.{Bor}
 use Rattle.stab_circuit.specs.declared.chunks.FoundChunk.{FoundChunk}
 use Rattle.stab_circuit.specs.declared.chunks.SkippedChunks.{SkippedChunks}
 use Rattle.stab_items.specs.Items.{OneItem, listed}
 use Rattle.stab_items.specs.Steps.{unroll}
-use Rattle.stab_items.specs.inner.Summaries.{summary_of, IsSummary}
+use Rattle.stab_items.specs.inner.Chunks.{flattened}
 
--- the chunk of these items
-abbrev pub chunk_of : List OneItem → Chunk
-chunk_of xs = record { items = length xs; sum = summary_of (listed xs) }
+-- the item that is lent, if there is one
+abbrev pub shown_item : Option (Bor OneItem) → Option OneItem
+shown_item None = None
+shown_item (Some x) = Some x.now
 
--- the chunks are those of all the items, in order
-abbrev pub AreConsecutive : List Chunk → List OneItem → Type 0
-AreConsecutive [] xs = xs ≡ []
-AreConsecutive (r ∷ rs) xs = (r ≡ chunk_of (take r.items xs)) × AreConsecutive rs (drop r.items xs)
-
--- a chunk's summary has its numbers within their bounds
-abbrev pub IsChunk : Chunk → Type 0
-IsChunk r = IsSummary r.sum
-
--- the items are cut into these chunks
-pub record AreChunksOf (chunks : List Chunk) (items : List OneItem) : Type 0 where
-  pub order : AreConsecutive chunks items
-  pub small : All IsChunk chunks
-
--- how many items the chunks have
-abbrev pub chunk_items : List Chunk → ℕ
-chunk_items [] = 0
-chunk_items (r ∷ rs) = r.items + chunk_items rs
-
--- this is the first chunk that reaches up to a place or behind it, with how many items stand before it and before its end; or all chunks end before the place
-pub record IsFound (chunks : List Chunk) (place : ℕ) (f : FoundChunk) : Type 0 where
+-- this is the first chunk that reaches up to a place or behind it, with how many of its items stand before the place; or all chunks end
+-- before the place
+pub record IsFound (chunks : List (List OneItem)) (place : ℕ) (f : FoundChunk) : Type 0 where
   pub in_range : f.number ≤ length chunks
-  pub before : f.before ≡ chunk_items (take f.number chunks)
-  pub end : f.end ≡ chunk_items (take (f.number + 1) chunks)
-  pub start : f.before ≤ place
-  pub later : 0 < f.number → f.before < place
-  pub reaches : f.number < length chunks → place ≤ f.end
+  pub at : place ≡ length (flattened (take f.number chunks)) + f.within
+  pub later : 0 < f.number → 0 < f.within
+  pub reaches : (c : List OneItem) → f.number < length chunks → c ≡ get_or chunks f.number c → f.within ≤ length c
 
--- with whole chunks of the items left out, so many steps are left to be left out
-pub record Skips (steps : ℕ) (xs : List OneItem) (s : SkippedChunks) : Type 0 where
-  pub within : s.items ≤ length xs
+-- with the chunks before this one left out, so many steps are left to be left out, fewer than it has
+pub record Skips (steps : ℕ) (chunks : List (List OneItem)) (s : SkippedChunks) : Type 0 where
+  pub in_range : s.number ≤ length chunks
+  pub before : s.items ≡ length (flattened (take s.number chunks))
   pub fewer : s.rest ≤ steps
-  pub same : drop s.rest (unroll (listed (drop s.items xs))) ≡ drop steps (unroll (listed xs))
+  pub same : drop s.rest (unroll (listed (flattened (drop s.number chunks)))) ≡ drop steps (unroll (listed (flattened chunks)))
+  pub stops : (c : List OneItem) → s.number < length chunks → c ≡ get_or chunks s.number c → s.rest < length (unroll (listed c))

@@ -1,17 +1,17 @@
-ghost use Rattle.std.specs.Prelude.{◌≡◌, ◌≤◌, ◌<◌, ◌+◌, length, Some, None, OnOk, OnErr, if◌then◌else◌, nat_lt};
+ghost use Rattle.std.specs.Prelude.{◌≡◌, ◌<◌, ◌+◌, ◌^◌, length, Some, None, OnOk, OnErr, if◌then◌else◌, nat_lt};
 ghost use Rattle.stab_io.specs.declared.refusal.Refusal.TheVariants.{QubitOutOfRange};
 ghost use Rattle.stab_circuit.specs.Edits.{IsInsert};
 ghost use Rattle.stab_items.specs.inner.Summaries.{judged};
-ghost use Rattle.stab_circuit.specs.inner.Chunks.{AreChunksOf};
+ghost use Rattle.stab_items.specs.inner.Chunks.{flattened};
 
 use super::Circuit;
-use crate::chunks::{Chunk, find_chunk, make_room, renew};
+use crate::chunks::{find_chunk, make_room, put_items, take_items};
 use crate::commit::commit;
 use crate::edit::{Edit, Refused, Span};
 use crate::judge::{EditResult, edit_result_by_chunks, steps_by_chunks};
 use crate::path::Path;
 use stab_io::{Fault, Refusal};
-use stab_items::{Item, Summary};
+use stab_items::{Chunk, Item, Summary};
 use std::alloc::AllocError;
 
 /// What refuses a whole circuit of this summary on n qubits.
@@ -25,22 +25,26 @@ fn refusal_on(total: Summary, n: usize) -> Option<Refusal>
     }
 }
 
-/// Sees to it that there is a chunk for what an edit puts in at a place. An insertion alone may want
-/// memory for that.
+/// Sees to it that there is a chunk for what an edit puts in at a place of a list of so many items, and
+/// that the list can have one more. An insertion alone may want memory for that.
 fn make_room_for(
     edit: &Edit,
     chunks: &mut Vec<Chunk>,
-    items: &[Item],
+    len: usize,
     place: usize,
 ) -> Result<(), AllocError>
-    requires cut { AreChunksOf chunks.old.items items.now }
-    requires within { place ≤ length items.now }
-    ensures cut { AreChunksOf chunks.new.items items.now }
+    ensures same { flattened chunks.new.items ≡ flattened chunks.old.items }
     ensures some { OnOk result (IsInsert edit.now → 0 < length chunks.new.items) }
+    ensures room { OnOk result (IsInsert edit.now → len + 1 < 2 ^ 64) }
     ensures memory { OnErr result (IsInsert edit.now) }
 {
     match edit {
-        Edit::Insert { .. } => make_room(chunks, items, place),
+        Edit::Insert { .. } => {
+            if len == usize::MAX {
+                return Err(AllocError);
+            }
+            make_room(chunks, place)
+        }
         Edit::Replace { .. } | Edit::Delete { .. } => Ok(()),
     }
 }
@@ -60,9 +64,7 @@ impl Circuit {
     pub fn steps_before(&self, path: Path) -> usize
         ensures value { result ≡ min (length (steps_before path self.now)) steps_cap }
     {
-        let items = self.items.as_slice();
-        let chunks = self.chunks.as_slice();
-        steps_by_chunks(items, chunks, path.blocks(), path.place()) as usize
+        steps_by_chunks(self.chunks(), path.blocks(), path.place()) as usize
     }
 
     /// What the circuit comes to by an edit, or what refuses that: its path, and then the depth of
@@ -73,11 +75,7 @@ impl Circuit {
         ensures allowed { OnOk result (edit_refusal edit.now self.now ≡ None) }
         ensures refused { IfErr result (λ r. edit_refusal edit.now self.now ≡ Some r) }
     {
-        let edit_result = edit_result_by_chunks(
-            self.items.as_slice(),
-            self.chunks.as_slice(),
-            edit,
-        )?;
+        let edit_result = edit_result_by_chunks(self.chunks(), self.len(), edit)?;
         if edit_result.total.depth > 16 {
             return Err(Refusal::TooDeep);
         }
@@ -95,25 +93,25 @@ impl Circuit {
         ensures fault { IfErr result (λ r. r.fault ≡ whole OutOfMemory) }
         ensures memory { OnErr result (IsInsert edit) }
     {
-        let items = self.items.len();
-        let Ok(()) = make_room_for(
-            &edit,
-            &mut self.chunks,
-            self.items.as_slice(),
-            edit_result.behind,
-        ) else {
+        let Ok(()) = make_room_for(&edit, &mut self.chunks, self.len, edit_result.behind) else {
             return Err(edit.refused(Refusal::OutOfMemory));
         };
         let found = find_chunk(self.chunks.as_slice(), edit_result.behind);
-        let behind = items - found.end;
+        let before = edit_result.behind - found.within;
+        let mut items = take_items(&mut self.chunks, found.number);
+        let others = self.len - items.len();
         let path = edit.path();
-        match commit(&mut self.items, path.blocks(), edit) {
+        match commit(&mut items, before, path.blocks(), edit) {
             Ok(taken) => {
-                renew(&mut self.chunks, self.items.as_slice(), found, behind);
+                self.len = others + items.len();
+                put_items(&mut self.chunks, found.number, items);
                 self.total = edit_result.total;
                 Ok(taken)
             }
-            Err(edit) => Err(edit.refused(Refusal::OutOfMemory)),
+            Err(edit) => {
+                put_items(&mut self.chunks, found.number, items);
+                Err(edit.refused(Refusal::OutOfMemory))
+            }
         }
     }
 

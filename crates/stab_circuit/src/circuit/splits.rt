@@ -119,7 +119,7 @@ impl Circuit {
         ensures fault { IfErr result (λ f. f ≡ whole OutOfMemory) }
     {
         // That no blocks are nested too deep is what lets edits of parts as deep pass.
-        let _ = self.items();
+        let _ = self.len();
         let Some(part) = parts.pop() else {
             return Ok(());
         };
@@ -142,7 +142,7 @@ impl Circuit {
         ensures fault { IfErr result (λ f. f ≡ whole OutOfMemory) }
     {
         // That no blocks are nested too deep is what lets edits of parts as deep pass.
-        let _ = self.items();
+        let _ = self.len();
         let Some(last) = parts.pop() else {
             unreachable!()
         };
@@ -166,7 +166,7 @@ impl Circuit {
         ensures unchanged { OnErr result (self.new ≡ self.old) }
         ensures fault { IfErr result (λ f. IsCallFault (split_refusal path round self.old) f) }
     {
-        let alloc = *self.items.allocator();
+        let alloc = *self.chunks.allocator();
         let parts = match self.item(path) {
             Ok(item) => parts_of_item(alloc, item, round)?,
             Err(refusal) => return Err(Fault::whole(refusal)),

@@ -1,10 +1,11 @@
-ghost use Rattle.std.specs.Prelude.{◌≡◌, ◌≤◌, ◌<◌, length, drop, slice_index_or};
+ghost use Rattle.std.specs.Prelude.{◌≡◌, ◌≤◌, ◌<◌, length, slice_index_or};
 ghost use Rattle.stab_items.specs.Items.{before, done, listed};
 ghost use Rattle.stab_items.specs.Steps.{unroll, most_steps};
 ghost use Rattle.stab_items.specs.inner.Parts.{part_of, IsPart};
 ghost use Rattle.stab_circuit.specs.inner.StepItems.{IsFoundItem};
 
 use super::Circuit;
+use crate::chunks::skip_chunks;
 use crate::instruction::step_count;
 use crate::path::Path;
 use stab_items::{Item, Part};
@@ -44,14 +45,14 @@ fn part_at(items: &[Item], place: usize) -> Part<'_>
     items[place].part()
 }
 
-/// The item of a step, counted from the item at a place on.
-fn find_item(items: &[Item], start: usize, step: u32) -> FoundItem
+/// The item of a step of a list.
+fn find_item(items: &[Item], step: u32) -> FoundItem
     requires few { length (unroll (listed items.now)) ≤ most_steps }
-    requires in_range { step < length (unroll (listed (drop start items.now))) }
-    ensures found { IsFoundItem items.now start step result }
+    requires in_range { step < length (unroll (listed items.now)) }
+    ensures found { IsFoundItem items.now step result }
 {
     let mut found = FoundItem {
-        place: start,
+        place: 0,
         within: step,
     };
     'items: loop {
@@ -82,13 +83,16 @@ impl Circuit {
         ensures steps { result.steps ≡ item_steps_left (circuit_items self.now) step }
         ensures path { take result.steps (drop step (paths_of (circuit_items self.now))) ≡ replicate result.steps result.path }
     {
-        let skipped = self.skip(step as u32);
-        let mut items = self.items();
+        let chunks = self.chunks();
+        let skipped = skip_chunks(chunks, step as u32);
+        let mut items = chunks[skipped.number].items();
+        // How many items of the list stand before these.
+        let mut before = skipped.items;
         let mut places = [0; 17];
         let mut depth = 0;
-        let mut found = find_item(items, skipped.items, skipped.rest);
+        let mut found = find_item(items, skipped.rest);
         'levels: loop {
-            places[depth] = found.place;
+            places[depth] = before + found.place;
             match part_at(items, found.place) {
                 Part::Operation { kind, .. } => {
                     return StepItem {
@@ -98,8 +102,9 @@ impl Circuit {
                 }
                 Part::Block { kept, body, .. } => {
                     items = body;
+                    before = 0;
                     depth += 1;
-                    found = find_item(body, 0, found.within % kept.steps);
+                    found = find_item(body, found.within % kept.steps);
                 }
             }
         }

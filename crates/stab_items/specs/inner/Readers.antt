@@ -1,6 +1,6 @@
 -- Readers: the way over the lines of a text, with a stack of open blocks.
 -- Source: this project's own.
-use Rattle.std.specs.Prelude.{◌≡◌, ◌≤◌, ℕ, ◌+◌, Bool, true, false, List, [], ◌∷◌, nat_lt, length, map, reverse, if◌then◌else◌, Result, Ok, Err, ◌⊎◌}
+use Rattle.std.specs.Prelude.{◌≡◌, ◌≤◌, ℕ, ◌+◌, Bool, true, false, List, [], ◌∷◌, ◌++◌, nat_lt, length, map, reverse, if◌then◌else◌, Result, Ok, Err, ◌⊎◌}
 use Rattle.std.specs.Global.{Vec}
 use Rattle.stab_io.specs.declared.refusal.Refusal.{Refusal}
 use Rattle.stab_io.specs.declared.refusal.Refusal.TheVariants.{BadBlock, TooDeep, OutOfMemory}
@@ -13,6 +13,7 @@ use Rattle.stab_items.specs.declared.reader.CircuitReader.{CircuitReader}
 use Rattle.stab_items.specs.Items.{Items, OneItem, done, next, block, join, listed, depth}
 use Rattle.stab_lines.specs.Meanings.{meaning_of}
 use Rattle.stab_items.specs.Circuits.{Meaning, at_line, meaning_after, one_item, contents}
+use Rattle.stab_items.specs.inner.Chunks.{flattened}
 
 -- an open block, and the items before it
 pub record OpenBlock : Type 0 where
@@ -26,13 +27,27 @@ pub record Progress : Type 0 where
   pub open_blocks : List OpenBlock
   pub now : Items
 
--- an open block without pointers
-abbrev pub open_block_of : StoredBlock → OpenBlock
-open_block_of f = record { line = f.line; count = f.count; tag = f.tag; before = listed f.before.items }
+-- an open block without pointers, where these items stand before those that it keeps
+abbrev pub open_block_of : List OneItem → StoredBlock → OpenBlock
+open_block_of xs f = record { line = f.line; count = f.count; tag = f.tag; before = listed (xs ++ f.before.items) }
+
+-- the same of open blocks, the outermost first: these items stand before those that the outermost keeps
+abbrev pub open_blocks_of : List OneItem → List StoredBlock → List OpenBlock
+open_blocks_of xs [] = []
+open_blocks_of xs (f ∷ fs) = open_block_of xs f ∷ map (open_block_of []) fs
+
+-- which of these items stand in the innermost open block: all where no block is open
+abbrev pub outermost : List OneItem → List StoredBlock → List OneItem
+outermost xs [] = xs
+outermost xs (f ∷ fs) = []
+
+-- what is kept by items of the outermost list, by open blocks, the outermost first, and by the items behind
+abbrev pub kept_progress : List OneItem → List StoredBlock → List OneItem → Progress
+kept_progress xs fs ys = record { open_blocks = reverse (open_blocks_of xs fs); now = listed (outermost xs fs ++ ys) }
 
 -- what a reader keeps, without pointers
 abbrev pub progress_of : CircuitReader → Progress
-progress_of r = record { open_blocks = reverse (map open_block_of r.open_blocks.items); now = listed r.items.items }
+progress_of r = kept_progress (flattened r.full.items) r.open_blocks.items r.items.items
 
 -- blocks are nested at most 16 deep in what stands before open blocks, the innermost of them first, with those around it
 abbrev pub AreShallow : List OpenBlock → Type 0
@@ -113,6 +128,6 @@ TakesLine new (Ok x) given = given ≡ Ok new
 TakesLine new (Err r) given = (r ≡ OutOfMemory) ⊎ (given ≡ Err r)
 
 -- the call read the items, or failed as the definition does, or for want of memory, which has no line
-abbrev pub ReadsItems : Result (Vec OneItem) Fault → Result Items Fault → Type 0
-ReadsItems (Ok v) given = given ≡ Ok (listed v.items)
+abbrev pub ReadsItems : Result (Vec (List OneItem)) Fault → Result Items Fault → Type 0
+ReadsItems (Ok v) given = given ≡ Ok (listed (flattened v.items))
 ReadsItems (Err f) given = (f ≡ whole OutOfMemory) ⊎ (given ≡ Err f)

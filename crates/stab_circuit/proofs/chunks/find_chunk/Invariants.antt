@@ -1,10 +1,9 @@
-use Rattle.std.proofs.Common.{◌≡◌, ◌≤◌, ◌<◌, take}
-use Rattle.stab_circuit.specs.inner.Chunks.{chunk_items}
+use Rattle.std.proofs.Common.{◌≡◌, ◌<◌, ◌+◌, take, length}
+use Rattle.stab_items.specs.inner.Chunks.{flattened}
 use Rattle.stab_circuit.proofs.chunks.find_chunk.Given as goal
 
 abbrev pub invariant-chunks : goal.invariant-chunks
 invariant-chunks l = record {
-  counted : l.before ≡ chunk_items (take l.number l.chunks);
-  start : l.before ≤ l.place;
-  later : 0 < l.number → l.before < l.place;
+  at : l.place ≡ length (flattened (take l.number l.chunks)) + l.within;
+  later : 0 < l.number → 0 < l.within;
 }

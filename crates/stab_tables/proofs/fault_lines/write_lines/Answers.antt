@@ -1,6 +1,6 @@
-use Rattle.std.proofs.Common.{ℕ, List, ◌≡◌, ◌∙◌, ◌+◌, ◌*◌, ◌++◌, suc, sym, ap, length, drop, arith}
+use Rattle.std.proofs.Common.{ℕ, List, ◌≡◌, refl, subst, ◌∙◌, ◌+◌, ◌*◌, ◌++◌, suc, sym, ap, length, drop, arith}
 use Rattle.std.specs.List.{flat_map}
-use Rattle.stab_io.proofs.DeviceLemmas.{wrote_part, wrote_and_failed, failed_on}
+use Rattle.stab_io.proofs.DeviceLemmas.{WroteUpTo, wrote_none, wrote_part, wrote_and_failed, failed_on}
 use Rattle.stab_circuit.specs.Steps.{unroll}
 use Rattle.stab_circuit.specs.Cursors.{step_shown}
 use Rattle.stab_circuit.specs.Views.{circuit_items}
@@ -9,6 +9,19 @@ use Rattle.stab_tables.specs.FaultTables.{path_at, table_lines}
 use Rattle.stab_tables.proofs.CheckLaws.{few_steps}
 use Rattle.stab_tables.proofs.FaultTextLaws.{length-from, lines_at_step, path_here, stretch_next}
 use Rattle.stab_tables.proofs.fault_lines.write_lines.Goals as goal
+
+pub steps-init : goal.steps-init
+steps-init g c =
+    let rows = c.args.table.now.rows in
+    let seen = g.O.Output.seen c.args.out.now in
+    let path = path_at (circuit_items c.args.circuit.now) in
+    let all = table_lines c.args.kinds path (faults_of c.args.everywhere (unroll (circuit_items c.args.circuit.now))) rows in
+    record {
+      count = omega (arith, ap length c.requires.all);
+      rows = omega (arith, c.requires.rows, ap (λ xs. length (faults_from c.args.everywhere 0 xs)) c.requires.all);
+      stretch = refl;
+      wrote = subst (λ xs. WroteUpTo seen seen all (table_lines c.args.kinds path (faults_from c.args.everywhere 0 xs) rows)) (sym c.requires.all) (wrote_none seen all);
+    }
 
 pub write_step-requires-clause-few : goal.write_step-requires-clause-few
 write_step-requires-clause-few g c = omega (arith, c.steps.invariant.count, few_steps (circuit_items c.args.circuit.now) c.requires.checked)
