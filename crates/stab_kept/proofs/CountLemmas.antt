@@ -32,7 +32,7 @@ use Rattle.stab_replay.proofs.PointLemmas.{meets-agree, agree-later}
 use Rattle.stab_kept.proofs.SpacingLemmas.{IsBefore, IsNearCopy, near-copy, behind-near, all-behind, moved-within}
 use Rattle.stab_kept.proofs.FollowLemmas.{at-get, some-at, if-some, some-and, from-drop, same-rest, all-next, front-spaced}
 
-match-weaker : {X : Type 0} (A B : Type 0) (P Q : X → Type 0) (o : Option X) → (A → B) → ((x : X) → P x → Q x) → MatchOption o A P → MatchOption o B Q
+pub match-weaker : {X : Type 0} (A B : Type 0) (P Q : X → Type 0) (o : Option X) → (A → B) → ((x : X) → P x → Q x) → MatchOption o A P → MatchOption o B Q
 match-weaker A B P Q None f g h = f h
 match-weaker A B P Q (Some x) f g h = g x h
 
@@ -124,7 +124,7 @@ module _ (n : ℕ) (coins : ℕ → Bool) (K : ℕ) (xs : List Step) (count : �
       missed xs h records agree_there
 
   -- where both runs agree so many steps behind what was changed, it ends at most a stride behind that
-  ends-near : (p : Plan) → p.old_end ≡ s.old_end → p.new_end ≡ s.new_end → length ys < 2 ^ 64 → (far : ℕ) → AgreeBehindSpan n coins xs ys s far → (end : ℕ)
+  pub ends-near : (p : Plan) → p.old_end ≡ s.old_end → p.new_end ≡ s.new_end → length ys < 2 ^ 64 → (far : ℕ) → AgreeBehindSpan n coins xs ys s far → (end : ℕ)
       → EndsSoon n coins p ys old.checkpoints.items old.outputs.records.items end → end ≤ length ys
       → (length xs ≤ (s.old_end + far) + K) ⊎ IsNearCopy K (s.old_end + far) p.next old.checkpoints.items → end ≤ (s.new_end + far) + K
   ends-near p old_end new_end few far agree end soon within h =

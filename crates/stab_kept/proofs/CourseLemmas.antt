@@ -1,5 +1,5 @@
 -- The course of an edit that is followed: from what each call ensures to what is kept at the end.
-use Rattle.std.proofs.Common.{◌≡◌, ℕ, ◌+◌, ◌-◌, ◌*◌, ◌<◌, ◌≤◌, max, sym, ◌∙◌, ap, subst, Bool, false, List, [], length, take, drop, All, replicate, arith}
+use Rattle.std.proofs.Common.{◌≡◌, ℕ, ◌+◌, ◌-◌, ◌*◌, ◌<◌, ◌≤◌, max, sym, ◌∙◌, ap, subst, Bool, false, List, [], length, take, drop, All, None, replicate, arith}
 use Rattle.std.specs.Prelude.{IfSome, slice_get}
 use Rattle.std.proofs.lemmas.List.{length-map, length-drop}
 use Rattle.std.proofs.lemmas.Option.{slice_get_within, IfSome_then}
@@ -26,17 +26,11 @@ use Rattle.stab_kept.specs.KeptRuns.{IsKeptRun, IsSameKept, Follows, AgreeBehind
 use Rattle.stab_replay.specs.NotedStrings.{IsNoted}
 use Rattle.stab_replay.specs.Replays.{IsReplay, Ascending, IsEnd, EndsSoon, step_among_new}
 use Rattle.stab_copies.specs.Meets.{Meets}
-use Rattle.stab_kept.specs.inner.Prepared.{Begins, HasCopy, IsRest, IsOldRest, IsPrepared, IsCommitted, copies_behind, meeting_of}
+use Rattle.stab_kept.specs.inner.Prepared.{IsCount, Begins, HasCopy, IsRest, IsOldRest, IsPrepared, IsCommitted, copies_behind, meeting_of}
 use Rattle.stab_replay.proofs.ReplayLemmas.{coins-steps}
 use Rattle.stab_kept.proofs.SpacingLemmas.{IsBefore}
 use Rattle.stab_kept.proofs.FollowLemmas.{some-at, some-and, prepared-same, committed-same, before-first, begun, same-records, next-behind, all-ascending, all-qubits, kept-end, end-flags}
 use Rattle.stab_kept.proofs.CountLemmas.{applied-within, few-steps, ends-at, none-before, is-counted}
-
--- so many of the first copies are before a step
-pub record IsCount (step : ℕ) (copies : List Checkpoint) (m : ℕ) : Type 0 where
-  pub within : m ≤ length copies
-  pub before : All (λ c. c.step < step) (take m copies)
-  pub behind : IfSome (slice_get copies m) (λ c. step ≤ c.step)
 
 pub count-of : (step : ℕ) (seen copies : List Checkpoint) (m : ℕ) → seen ≡ copies → m ≤ length seen → All (λ c. c.step < step) (take m seen)
     → IfSome (slice_get seen m) (λ c. step ≤ c.step) → IsCount step copies m
@@ -119,7 +113,7 @@ pub record HasEnded (n : ℕ) (coins : ℕ → Bool) (K : ℕ) (ys : List Step) 
       → IsCounted (AgreeBehindSpan n coins xs ys s) (AgreeBackBehindSpan n coins xs ys s) (checkpoint_steps old.checkpoints.items) s.first s.old_end s.new_end (length ys) applied
   pub ready : (mid : KeptRun) → IsSameKept mid old → (observables : ℕ) (q : Prepared) → IsPrepared mid r observables end q → IsReady n coins K ys m r mid observables q
 
-module _ {n : ℕ} {coins : ℕ → Bool} {K : ℕ} {ys : List Step} {s : Span} {old : KeptRun} (f : Follows n coins K ys s old) (few : length ys ≤ 1048576)
+module _ {n : ℕ} {coins : ℕ → Bool} {K : ℕ} {ys : List Step} {s : Span} {old : KeptRun} (f : Follows n coins K ys s None old) (few : length ys ≤ 1048576)
     {m : ℕ} (count : IsCount (s.first + 1) old.checkpoints.items m) where
   near : IsBefore K (length f.old) s.first m old.checkpoints.items
   near = before-first n coins K f.old f.count old f.kept ys s f.span m count.within count.before count.behind

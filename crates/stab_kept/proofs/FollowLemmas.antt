@@ -196,7 +196,7 @@ module _ (n : ℕ) (coins : ℕ → Bool) (K : ℕ) (xs : List Step) (count : �
 
   -- what is kept of its end
 
-  front-copies : (m : ℕ) → All (λ c. c.step < s.first + 1) (take m old.checkpoints.items) → All (IsCheckpoint n coins ys) (take m old.checkpoints.items)
+  pub front-copies : (m : ℕ) → All (λ c. c.step < s.first + 1) (take m old.checkpoints.items) → All (IsCheckpoint n coins ys) (take m old.checkpoints.items)
   front-copies m front = λ k d lt.
       copy-of-new (get_or (take m old.checkpoints.items) k d) (let l = front k d lt in omega arith)
       (All-take (IsCheckpoint n coins xs) m old.checkpoints.items kept.checkpoints k d lt)

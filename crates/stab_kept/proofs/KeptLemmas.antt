@@ -1,5 +1,5 @@
 -- Kept runs: what is kept of the run of no steps, where a replay begins, and what is kept of the run that it ends.
-use Rattle.std.proofs.Common.{◌≡◌, ℕ, refl, sym, ◌∙◌, ap, subst, Bool, false, List, [], ◌∷◌, length, All, replicate, arith}
+use Rattle.std.proofs.Common.{◌≡◌, ℕ, refl, sym, ◌∙◌, ap, subst, Bool, false, List, [], ◌∷◌, length, All, None, replicate, arith}
 use Rattle.std.proofs.lemmas.List.{take_all, drop_all}
 use Rattle.std.proofs.lemmas.List.Elements.{All-nil, All-cons}
 use Rattle.stab_pauli.specs.Paulis.{Signed}
@@ -46,7 +46,7 @@ kept-nothing n coins K r c qubits zeros empty none one first short same unnoted 
 
 -- any steps follow it: all of them are put in
 pub nothing-follows : (n : ℕ) (coins : ℕ → Bool) (K : ℕ) (r : KeptRun) → IsKeptRun n coins K [] 0 r → (ys : List Step) (end : ℕ) → end ≡ length ys
-    → Follows r.tableau.qubits coins K ys (record { first = 0; old_end = 0; new_end = end }) r
+    → Follows r.tableau.qubits coins K ys (record { first = 0; old_end = 0; new_end = end }) None r
 nothing-follows n coins K r kept ys end is = record {
   old = [];
   count = 0;
@@ -59,4 +59,5 @@ nothing-follows n coins K r kept ys end is = record {
     before = refl;
     behind = sym (drop_all end ys (omega (arith, is)));
   };
+  differ = tt;
 }

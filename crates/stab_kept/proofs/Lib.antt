@@ -3,3 +3,8 @@ mod FollowLemmas
 mod CountLemmas
 mod CourseLemmas
 pub mod SpacingLemmas
+mod StateLemmas
+mod TurnSpacingLemmas
+mod TurnLemmas
+mod TurningLemmas
+mod TellLemmas

@@ -15,7 +15,7 @@ use Rattle.stab_replay.specs.Replays.{Ascending, step_among_new}
 
 -- parts of near and of sparse steps
 
-near-tail : (K L a : ℕ) (xs : List ℕ) → Near K (a ∷ xs ++ L ∷ []) → Near K (xs ++ L ∷ [])
+pub near-tail : (K L a : ℕ) (xs : List ℕ) → Near K (a ∷ xs ++ L ∷ []) → Near K (xs ++ L ∷ [])
 near-tail K L a [] h = tt
 near-tail K L a (b ∷ xs) h = h.2
 
@@ -24,7 +24,7 @@ near-init K L [] h = tt
 near-init K L (a ∷ []) h = tt
 near-init K L (a ∷ b ∷ xs) h = (h.0, h.1, near-init K L (b ∷ xs) h.2)
 
-near-le : (K L a : ℕ) (xs : List ℕ) → Near K (a ∷ xs ++ L ∷ []) → a ≤ L
+pub near-le : (K L a : ℕ) (xs : List ℕ) → Near K (a ∷ xs ++ L ∷ []) → a ≤ L
 near-le K L a [] h = h.0
 near-le K L a (b ∷ xs) h = let first = h.0 in let rest = near-le K L b xs h.2 in omega arith
 
@@ -325,7 +325,7 @@ ascending-behind p K L step zero (c ∷ cs) h g l t f s =
     (omega arith, ascending-from p K L c.step (step_among_new p c) cs h t f (omega arith))
 ascending-behind p K L step (suc n) (c ∷ cs) h g l t f s = ascending-behind p K L step n cs (near-tail K L c.step (checkpoint_steps cs) h) g l t f s
 
-near-moved : (K old new L a : ℕ) (steps : List ℕ) → old ≤ a → Near K (a ∷ steps ++ L ∷ []) → new + (L - old) < 2 ^ 64
+pub near-moved : (K old new L a : ℕ) (steps : List ℕ) → old ≤ a → Near K (a ∷ steps ++ L ∷ []) → new + (L - old) < 2 ^ 64
     → Near K ((new + (a - old)) ∷ map (moved old new) steps ++ (new + (L - old)) ∷ [])
 near-moved K old new L a [] l h f = let within = h.0 in let near = h.1 in (omega arith, omega arith, tt)
 near-moved K old new L a (b ∷ steps) l h f =

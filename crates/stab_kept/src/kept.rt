@@ -142,13 +142,13 @@ impl KeptRun {
         })
     }
 
-    /// Makes this the run of an edited circuit, whose steps differ within the span, and tells how
-    /// many steps were carried out for it, and how many a frame went over. The run is as before where
+    /// Makes this the run of an edited circuit, whose steps differ within the span, by carrying out
+    /// steps anew, and tells how many were, and how many a frame went over. The run is as before where
     /// memory is refused.
     ///
     /// The replay goes on in the memory of a spare tableau if there is one, and one of the two
     /// that are then at hand is the next spare.
-    pub fn follow<C: Coins>(
+    pub(crate) fn replay<C: Coins>(
         &mut self,
         alloc: Global,
         circuit: &Circuit,
@@ -159,7 +159,7 @@ impl KeptRun {
     ) -> Result<Followed, Refusal>
         requires checked { check_within self.old.tableau.qubits (circuit_items circuit.now) ≡ None }
         requires stride { 1 ≤ stride }
-        requires follows { Follows self.old.tableau.qubits (C.sequence coins.old) stride (unroll (circuit_items circuit.now)) span self.old }
+        requires follows { Follows self.old.tableau.qubits (C.sequence coins.old) stride (unroll (circuit_items circuit.now)) span None self.old }
         ensures kept { OnOk result (IsKeptRun self.old.tableau.qubits (C.sequence coins.old) stride (unroll (circuit_items circuit.now)) (observables_of (circuit_items circuit.now)) self.new) }
         ensures apart { OnOk result (All IsApart (unroll (circuit_items circuit.now))) }
         ensures qubits { self.new.tableau.qubits ≡ self.old.tableau.qubits }

@@ -1,10 +1,13 @@
 //! Runs of circuits that are kept, and follow edits.
 //!
-//! - `kept`: a run that is kept with its copies, and follows the edits of its circuit.
+//! - `kept`: a run that is kept with its copies, and how steps are carried out anew for an edit of its
+//!   circuit.
+//! - `turning`: how it follows an edit: turned where it lies, where old and new steps differ by Pauli
+//!   gates alone, and else by steps that are carried out anew.
 //! - `opening`: the run of a circuit, kept for the first time.
 //!
-//! Copies of the state are `stab_copies`', and how steps are carried out anew behind one of them
-//! `stab_replay`'s. What edits are, and which steps they change, is `stab_circuit`'s: here an edit is a span
+//! Copies of the state are `stab_copies`', how steps are carried out anew behind one of them
+//! `stab_replay`'s, and how a frame turns a run `stab_turns`'. What edits are, and which steps they change, is `stab_circuit`'s: here an edit is a span
 //! of steps that changed.
 //!
 //! Source: how a run is kept, and how it follows an edit, is this project's own.
@@ -18,6 +21,7 @@
 
 mod kept;
 mod opening;
+mod turning;
 
 pub use kept::{Followed, KeptRun};
 pub use opening::run_kept;

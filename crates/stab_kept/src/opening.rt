@@ -62,6 +62,6 @@ fn run_checked<C: Coins>(
         new_end: circuit.steps(),
     };
     let mut kept = KeptRun::new(alloc, n)?;
-    kept.follow(alloc, circuit, span, stride, coins, &mut None)?;
+    kept.replay(alloc, circuit, span, stride, coins, &mut None)?;
     Ok(kept)
 }

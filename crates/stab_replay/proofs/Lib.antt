@@ -2,10 +2,10 @@ pub mod PointLemmas
 pub mod ReplayLemmas
 mod LaidLemmas
 pub mod FramedLemmas
-mod SegmentLemmas
-mod TurnedCopyLemmas
+pub mod SegmentLemmas
+pub mod TurnedCopyLemmas
 mod FlippedLemmas
-mod FrameStartLemmas
+pub mod FrameStartLemmas
 mod FramedStepLemmas
 mod NotedSegmentLemmas
 mod OverCopyLemmas

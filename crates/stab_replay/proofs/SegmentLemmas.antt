@@ -31,7 +31,7 @@ use Rattle.stab_replay.proofs.NotedLemmas.{true-back, near-enough, coins-are}
 use Rattle.stab_replay.proofs.FramedLemmas.{IsFramedBehind, flipped-empty, framed-gone, framed-all}
 
 -- no flag is flipped
-flips-free : (n : ℕ) (notes : Notes) (xs : List Step) (coin : ℕ) (f : Frame) → (flips_over n notes xs coin f).free ≡ replicate (all_coins_of xs) false
+pub flips-free : (n : ℕ) (notes : Notes) (xs : List Step) (coin : ℕ) (f : Frame) → (flips_over n notes xs coin f).free ≡ replicate (all_coins_of xs) false
 flips-free n notes [] coin f = refl
 flips-free n notes (one g q ∷ xs) coin f = flips-free n notes xs (coin + 0) (frame_after n notes (one g q) coin f) ∙ ap (λ m. replicate m false) (omega arith)
 flips-free n notes (two g x y ∷ xs) coin f = flips-free n notes xs (coin + 0) (frame_after n notes (two g x y) coin f) ∙ ap (λ m. replicate m false) (omega arith)
@@ -45,7 +45,7 @@ flips-free n notes (product factors inverted ∷ xs) coin f =
 flips-free n notes (detector js ∷ xs) coin f = flips-free n notes xs (coin + 0) (frame_after n notes (detector js) coin f) ∙ ap (λ m. replicate m false) (omega arith)
 flips-free n notes (observable j js ∷ xs) coin f = flips-free n notes xs (coin + 0) (frame_after n notes (observable j js) coin f) ∙ ap (λ m. replicate m false) (omega arith)
 
-flipped-zeros : (bits : List Bool) (m : ℕ) → flipped bits (replicate m false) ≡ flipped bits []
+pub flipped-zeros : (bits : List Bool) (m : ℕ) → flipped bits (replicate m false) ≡ flipped bits []
 flipped-zeros [] m = refl
 flipped-zeros (bit ∷ bits) zero = refl
 flipped-zeros (bit ∷ bits) (suc m) = ap (λ more. bit ∷ more) (flipped-zeros bits m ∙ flipped-empty bits)

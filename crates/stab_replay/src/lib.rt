@@ -26,4 +26,5 @@ mod led;
 mod replay;
 
 pub use bits::count_ones;
+pub use framed::turned_copy;
 pub use replay::{End, Plan, Replay};

@@ -27,7 +27,7 @@ use Rattle.stab_session.proofs.SessionLemmas.{session-kept}
 use Rattle.stab_session.proofs.PendingLemmas.{verdict-checked}
 use Rattle.stab_session.proofs.SpanLemmas.{put-within}
 
-ok_same : (xs ys : List OneItem) → ◌≡◌ {A = Result (List OneItem) Refusal} (Ok xs) (Ok ys) → xs ≡ ys
+pub ok_same : (xs ys : List OneItem) → ◌≡◌ {A = Result (List OneItem) Refusal} (Ok xs) (Ok ys) → xs ≡ ys
 ok_same xs ys e = cc
 
 -- the verdict that a session sees is that on its circuit

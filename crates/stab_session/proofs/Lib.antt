@@ -3,3 +3,6 @@ mod SpanLemmas
 mod PendingLemmas
 mod EditedLemmas
 mod SplitLemmas
+mod PauliItemLemmas
+mod PauliLetterLemmas
+mod PauliSpanLemmas

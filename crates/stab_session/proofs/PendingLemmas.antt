@@ -57,6 +57,7 @@ module _ (n : ℕ) (at : Path) (old now : List OneItem) (shallow : depth (listed
   begun-insert x e v t =
       let back = insert-undone at x old now e in
       record {
+        same = refl;
         new = now;
         edited = e;
         accepted = v;
@@ -75,6 +76,7 @@ module _ (n : ℕ) (at : Path) (old now : List OneItem) (shallow : depth (listed
   begun-replace x y e v t h =
       let back = replace-undone at x y old now e h in
       record {
+        same = (y, refl);
         new = now;
         edited = e;
         accepted = v;
@@ -98,6 +100,7 @@ module _ (n : ℕ) (at : Path) (old now : List OneItem) (shallow : depth (listed
       let accepted : verdict n (Delete at) old ≡ None = sym (verdict-instead n x is at old) ∙ v in
       let steps = steps-cleared x is at now found.0 ahead held in
       record {
+        same = (y, refl);
         new = found.0;
         edited = found.1;
         accepted = accepted;

@@ -58,7 +58,7 @@ span-deleted x at old now new s e same is =
     }
 
 -- a list with items put into it, up to their end
-up_to : (p k : ℕ) (front put rest ys : List OneItem) → ys ≡ front ++ (put ++ rest) → length front ≡ p → k ≡ p + length put
+pub up_to : (p k : ℕ) (front put rest ys : List OneItem) → ys ≡ front ++ (put ++ rest) → length front ≡ p → k ≡ p + length put
     → length (unroll (listed (take k ys))) ≡ length (unroll (listed front)) + length (unroll (listed put))
 up_to p k front put rest ys e size end =
     let long : length (front ++ put) ≡ k = length-append front put ∙ ap (λ n. n + length put) size ∙ sym end in

@@ -1,2 +1,3 @@
 pub mod KeptSessions
 pub mod Pendings
+pub mod PauliItems

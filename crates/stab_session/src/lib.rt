@@ -3,6 +3,7 @@
 //! In the order in which data flows; each module uses only those before it:
 //!
 //! - `pending`: edits of a circuit that can be taken back.
+//! - `paulis`: the Pauli string that an edit amounts to, where it is of Pauli gates alone.
 //! - `session`: a circuit with what its run gives, to be read and edited; a round that is split off
 //!   leaves the run.
 //!
@@ -19,6 +20,7 @@
 //! `specs/inner/` has what only private contracts cite.
 #![tactic(auto)]
 
+mod paulis;
 mod pending;
 mod session;
 

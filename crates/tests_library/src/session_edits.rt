@@ -125,16 +125,20 @@ fn path(block: Option<usize>, place: usize) -> Path {
 type Item = (Option<usize>, usize, &'static str);
 
 // An edit whose flips die is followed as far as steps look back. The X flips the first record, and the reset
-// behind that ends the flip. Then come 38 measurements, and copies before the steps 10, 20, 30 and 40, behind
-// 9, 19, 29 and 39 records. So where nothing looks back the first copy is met, before step 11 of the new ones;
-// where a detector looks back to 15 records the second one, before whose last 15 the flipped one stands; and
-// where it looks back to all, none is. From the first copy on a frame leads, up to the last one; the step
-// behind that is carried out.
+// behind that ends the flip. Then come 38 measurements, and copies before the steps 9, 18, 27 and 36, behind 8,
+// 17, 26 and 35 records. So where nothing looks back both runs agree at the first copy, before step 10 of the new
+// ones; where a detector looks back to 15 records they do at the second one, behind whose first record 16 more
+// stand; and where it looks back to all, at none. A frame tells all of that, and the X counts as carried out.
+//
+// Two square roots of X do the same, and are no Pauli gates: steps are carried out up to the first copy, before
+// step 11; from there on a frame leads, up to the last copy, and the five steps behind that are carried out.
 const DIES: &str = "M 0\nR 0\nREPEAT 38 {\nM 0\n}";
 
 const DIES_NEAR: &str = "M 0\nR 0\nREPEAT 38 {\nM 0\n}\nDETECTOR rec[-15]";
 
 const DIES_FAR: &str = "M 0\nR 0\nREPEAT 38 {\nM 0\n}\nDETECTOR rec[-39]";
+
+const ROOTS: &str = "SQRT_X 0 0";
 
 const TWO_BLOCKS: &str = "REPEAT 10 {\nX 0\nX 0\n}\nREPEAT 1000 {\nX 0\n}";
 
@@ -166,17 +170,15 @@ const COSTS: &[(&str, Item, [(usize, usize); 3], (u64, u64))] = &[
         (0, 0),
     ),
     (FREE, (None, 0, "I 0"), [(0, 21), ANY, (0, 402)], (2000, 21)),
-    (DIES, (None, 0, "X 0"), [(11, 11), (0, 0), ANY], (0, 0)),
-    (
-        DIES_NEAR,
-        (None, 0, "X 0"),
-        [(11, 11), (10, 10), ANY],
-        (0, 0),
-    ),
+    (DIES, (None, 0, "X 0"), [(1, 1), (9, 9), ANY], (0, 0)),
+    (DIES_NEAR, (None, 0, "X 0"), [(1, 1), (18, 18), ANY], (0, 0)),
+    (DIES_FAR, (None, 0, "X 0"), [(1, 1), (41, 41), ANY], (0, 0)),
+    (DIES, (None, 0, ROOTS), [(11, 11), (0, 0), ANY], (0, 0)),
+    (DIES_NEAR, (None, 0, ROOTS), [(11, 11), (9, 9), ANY], (0, 0)),
     (
         DIES_FAR,
-        (None, 0, "X 0"),
-        [(12, 12), (30, 30), ANY],
+        (None, 0, ROOTS),
+        [(16, 16), (27, 27), ANY],
         (0, 0),
     ),
 ];

@@ -56,7 +56,10 @@ fn edit(rt: &HostRuntime, circuit: Circuit) -> Result<(), Failure> {
         item: read_item(alloc, b"X 1")?,
     };
     match session.apply(edit) {
-        Ok(report) => println!(rt; "edited, by {} steps", report.applied)?,
+        Ok(report) => println!(rt;
+            "steps carried out {}, gone over by a frame {}",
+            report.applied, report.framed
+        )?,
         Err(refused) => return Err(refused.fault.into()),
     }
     println!(rt;

@@ -21,6 +21,12 @@ use Rattle.stab_frames.specs.KeptStrings.{StringsState, front_kept}
 use Rattle.stab_replay.specs.NotedStrings.{IsSpliced}
 use Rattle.stab_copies.specs.LaidCopies.{moved_copy, all_laid}
 
+-- so many of the first copies are before a step
+pub record IsCount (step : ℕ) (copies : List Checkpoint) (m : ℕ) : Type 0 where
+  pub within : m ≤ length copies
+  pub before : All (λ c. c.step < step) (take m copies)
+  pub behind : IfSome (slice_get copies m) (λ c. step ≤ c.step)
+
 -- a replay of some steps begins at a copy that is kept: it has done nothing yet
 pub record Begins (ys : List Step) (kept : KeptRun) (c : Checkpoint) (r : Replay) : Type 0 where
   pub tableau : r.tableau ≡ c.tableau

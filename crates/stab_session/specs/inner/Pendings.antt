@@ -4,13 +4,26 @@ use Rattle.std.specs.Prelude.{◌≡◌, ℕ, List, Option, None, Result, Ok}
 use Rattle.stab_io.specs.declared.refusal.Refusal.{Refusal}
 use Rattle.stab_circuit.specs.Items.{OneItem, listed}
 use Rattle.stab_circuit.specs.Steps.{unroll, observables_of, check_within}
+use Rattle.stab_circuit.specs.Paths.{Path}
 use Rattle.stab_circuit.specs.Edits.{edited, list_refusal, verdict, taken, put_item, first_changed, old_end, new_end}
 use Rattle.stab_circuit.specs.declared.edit.Edit.{Edit}
 use Rattle.stab_circuit.specs.declared.edit.Span.{Span}
-use Rattle.stab_circuit.specs.declared.edit.Edit.TheVariants.{Replace, Delete}
+use Rattle.stab_circuit.specs.declared.edit.Edit.TheVariants.{Insert, Replace, Delete}
 use Rattle.stab_session.specs.declared.pending.Pending.{Pending}
 use Rattle.stab_session.specs.declared.pending.Pending.TheVariants.{Inserted, Replaced, Deleted}
 use Rattle.stab_kept.specs.KeptRuns.{IsSpan}
+
+-- where the edit was made
+abbrev pub pending_path : Pending → Path
+pending_path (Inserted path) = path
+pending_path (Replaced path old) = path
+pending_path (Deleted path old) = path
+
+-- the pending edit is this one
+abbrev pub IsPendingOf : Edit → Pending → Type 0
+IsPendingOf (Insert at x) p = p ≡ Inserted at
+IsPendingOf (Replace at x) p = (old : OneItem) × (p ≡ Replaced at old)
+IsPendingOf (Delete at) p = (old : OneItem) × (p ≡ Deleted at old)
 
 -- the items after the edit is taken back
 abbrev pub taken_back : Pending → List OneItem → Result (List OneItem) Refusal
@@ -46,6 +59,7 @@ pub record IsSpanNow (edit : Edit) (old now new : List OneItem) (s : Span) : Typ
 -- an edit that nothing refuses on n qubits was begun: it leads back to the old items, with what it put in, and ahead to the new
 -- ones, which have the same runs as those that there are now
 pub record IsBegun (n : ℕ) (edit : Edit) (old now : List OneItem) (p : Pending) (s : Span) : Type 0 where
+  pub same : IsPendingOf edit p
   pub new : List OneItem
   pub edited : edited edit old ≡ Ok new
   pub accepted : verdict n edit old ≡ None

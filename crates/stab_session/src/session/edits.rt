@@ -1,4 +1,5 @@
 use super::Session;
+use crate::paulis::difference;
 use crate::pending::{begin, finish, take_back};
 use stab_circuit::{Edit, Refused};
 use stab_io::Fault;
@@ -49,10 +50,21 @@ impl<C: Coins> Session<C> {
             Ok(begun) => begun,
             Err(refused) => return Err(refused),
         };
+        let paulis = match difference(self.alloc, &self.circuit, n, &pending) {
+            Ok(paulis) => paulis,
+            Err(refusal) => {
+                let item = take_back(&mut self.circuit, pending);
+                return Err(Refused {
+                    fault: Fault::whole(refusal),
+                    item,
+                });
+            }
+        };
         match self.kept.follow(
             self.alloc,
             &self.circuit,
             span,
+            paulis,
             self.stride,
             &mut self.coins,
             &mut self.spare,

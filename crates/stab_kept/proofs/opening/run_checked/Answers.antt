@@ -7,13 +7,13 @@ use Rattle.stab_run.proofs.FitLemmas.{check-whole, check-steps}
 use Rattle.stab_kept.proofs.KeptLemmas.{nothing-follows}
 use Rattle.stab_kept.proofs.opening.run_checked.Goals as goal
 
-pub follow-requires-clause-checked : goal.follow-requires-clause-checked
-follow-requires-clause-checked g c =
+pub replay-requires-clause-checked : goal.replay-requires-clause-checked
+replay-requires-clause-checked g c =
     let empty = c.in_ok-kept.ensures.kept (g.C.Coins.sequence c.args.coins.now) c.args.stride in
     subst (λ n. check_within n (circuit_items c.args.circuit.now) ≡ None) (sym empty.qubits) c.requires.checked
 
-pub follow-requires-clause-follows : goal.follow-requires-clause-follows
-follow-requires-clause-follows g c =
+pub replay-requires-clause-follows : goal.replay-requires-clause-follows
+replay-requires-clause-follows g c =
     let coins = g.C.Coins.sequence c.args.coins.now in
     let items = circuit_items c.args.circuit.now in
     let few : length (unroll items) ≤ 1048576 = check-steps items (check-whole c.args.n items c.requires.checked) in
@@ -25,4 +25,4 @@ returns-clause-kept g c =
     let coins = g.C.Coins.sequence c.args.coins.now in
     let items = circuit_items c.args.circuit.now in
     let empty = c.in_ok-kept.ensures.kept coins c.args.stride in
-    subst (λ n. IsKeptRun n coins c.args.stride (unroll items) (observables_of items) c.follow.new.self) empty.qubits c.in_ok-follow.ensures.kept
+    subst (λ n. IsKeptRun n coins c.args.stride (unroll items) (observables_of items) c.replay.new.self) empty.qubits c.in_ok-replay.ensures.kept

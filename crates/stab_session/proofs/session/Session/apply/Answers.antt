@@ -144,6 +144,15 @@ returns-in-Ok-follow-clause-few_checkpoints g c =
     (ap (λ (s : SessionState g.row.C.Denot). s.stride) c.self.view_is) (ran.same_coins ∙ coins) run)
     c.self.invariant.stride_above
 
+pub returns-in-Err-difference-clause-refused : goal.returns-in-Err-difference-clause-refused
+returns-in-Err-difference-clause-refused g c =
+    let begun = c.in-Ok.ensures {u = tt} in
+    let told = c.in-Err-difference.ensures {u = tt} in
+    run-fault g.C.Coins.sequence c.args.edit c.args.self.now c.len-n.result c.self.inside.circuit c.begin.new.circuit c.in-Ok.begun.0 c.in-Ok.begun.1 begun.begun
+    (ap (λ (s : SessionState g.row.C.Denot). s.items) (sym c.self.view_is))
+    (ap (λ (s : SessionState g.row.C.Denot). s.qubits) (sym c.self.view_is) ∙ sym c.len-n.ensures.value)
+    c.whole.result (c.whole.ensures.value ∙ ap whole told.err)
+
 pub returns-in-Err-follow-clause-refused : goal.returns-in-Err-follow-clause-refused
 returns-in-Err-follow-clause-refused g c =
     let begun = c.in-Ok.ensures {u = tt} in
@@ -151,7 +160,7 @@ returns-in-Err-follow-clause-refused g c =
     run-fault g.C.Coins.sequence c.args.edit c.args.self.now c.len-n.result c.self.inside.circuit c.begin.new.circuit c.in-Ok.begun.0 c.in-Ok.begun.1 begun.begun
     (ap (λ (s : SessionState g.row.C.Denot). s.items) (sym c.self.view_is))
     (ap (λ (s : SessionState g.row.C.Denot). s.qubits) (sym c.self.view_is) ∙ sym c.len-n.ensures.value)
-    c.whole.result (c.whole.ensures.value ∙ ap whole ran.err)
+    c.whole-in-Err-follow.result (c.whole-in-Err-follow.ensures.value ∙ ap whole ran.err)
 
 pub returns-in-Err-follow-clause-refused_asks : goal.returns-in-Err-follow-clause-refused_asks
 returns-in-Err-follow-clause-refused_asks g c =

@@ -1,0 +1,61 @@
+-- States put in the stead of those of copies, from the last on.
+use Rattle.std.proofs.Common.{◌≡◌, ℕ, zero, suc, ◌<◌, ◌≤◌, refl, ◌∙◌, ap, arith, List, [], ◌∷◌, ◌++◌, length, take, drop, map, reverse, set, get_or}
+use Rattle.std.proofs.lemmas.List.{length-append, length-take, length-drop, reverse-reverse}
+use Rattle.stab_tableau.specs.Tableaus.{TableauState}
+use Rattle.stab_copies.specs.declared.checkpoint.Checkpoint.{Checkpoint}
+use Rattle.stab_copies.specs.declared.checkpoint.Meeting.{Meeting}
+use Rattle.stab_copies.specs.LaidCopies.{moved_copy, all_laid}
+use Rattle.stab_turns.specs.LedFrames.{with_states}
+
+-- the last state is put first: then the others are put before it
+pub states-last : (ts : List TableauState) (t : TableauState) (cs : List Checkpoint) (d : Checkpoint) → length ts < length cs
+    → with_states ts (set cs (length ts) (record (get_or cs (length ts) d) { tableau = t })) ≡ with_states (ts ++ t ∷ []) cs
+states-last [] t [] d within = absurd (omega arith)
+states-last [] t (c ∷ cs) d within = refl
+states-last (s ∷ ts) t [] d within = absurd (omega arith)
+states-last (s ∷ ts) t (c ∷ cs) d within = ap (λ rest. record c { tableau = s } ∷ rest) (states-last ts t cs d (omega arith))
+
+same-length : (ts : List TableauState) (cs : List Checkpoint) → length (with_states ts cs) ≡ length cs
+same-length [] cs = refl
+same-length (t ∷ ts) [] = refl
+same-length (t ∷ ts) (c ∷ cs) = ap suc (same-length ts cs)
+
+-- a list of which the first so many stayed, and others came behind
+take-front : {X : Type 0} (k : ℕ) (xs ys : List X) → k ≤ length xs → take k (take k xs ++ ys) ≡ take k xs
+take-front zero xs ys le = refl
+take-front (suc k) [] ys le = absurd (omega arith)
+take-front (suc k) (x ∷ xs) ys le = ap (λ zs. x ∷ zs) (take-front k xs ys (omega arith))
+
+drop-front : {X : Type 0} (k : ℕ) (xs ys : List X) → k ≤ length xs → drop k (take k xs ++ ys) ≡ ys
+drop-front zero xs ys le = refl
+drop-front (suc k) [] ys le = absurd (omega arith)
+drop-front (suc k) (x ∷ xs) ys le = drop-front k xs ys (omega arith)
+
+module _ (k K : ℕ) (ts : List TableauState) (cs put : List Checkpoint) (within : k ≤ length cs) (is : put ≡ take k cs ++ with_states ts (drop k cs)) where
+  pub put-length : length put ≡ length cs
+  put-length =
+      omega (
+        arith,
+        ap length is,
+        length-append (take k cs) (with_states ts (drop k cs)),
+        same-length ts (drop k cs),
+        length-take k cs,
+        length-drop k cs,
+        within,
+      )
+
+  pub put-front : take k put ≡ take k cs
+  put-front = ap (take k) is ∙ take-front k cs (with_states ts (drop k cs)) within
+
+  -- moved, and laid behind those before
+  pub put-laid : (s : Meeting) (room taken left laid : List Checkpoint) → room ≡ [] → taken ≡ room ++ reverse (map (moved_copy s) (drop k put)) → left ≡ take k put
+      → laid ≡ all_laid K (reverse taken) left → laid ≡ all_laid K (map (moved_copy s) (with_states ts (drop k cs))) (take k cs)
+  put-laid s room taken left laid empty took kept done =
+      done
+      ∙ (λ i. all_laid K (turned i) ((kept ∙ put-front) i))
+    where
+      turned : reverse taken ≡ map (moved_copy s) (with_states ts (drop k cs))
+      turned =
+          ap reverse (took ∙ ap (λ zs. zs ++ reverse (map (moved_copy s) (drop k put))) empty)
+          ∙ reverse-reverse (map (moved_copy s) (drop k put))
+          ∙ ap (map (moved_copy s)) (ap (drop k) is ∙ drop-front k cs (with_states ts (drop k cs)) within)

@@ -1,0 +1,71 @@
+-- Turned copies: where copies stand that were turned, and moved with a span.
+use Rattle.std.proofs.Common.{◌≡◌, ℕ, zero, suc, ◌+◌, ◌-◌, ◌^◌, ◌<◌, ◌≤◌, refl, sym, ◌∙◌, ap, subst, List, [], ◌∷◌, ◌++◌, drop, map, Option, Some, None, arith}
+use Rattle.std.specs.Prelude.{IfSome, slice_get}
+use Rattle.stab_tableau.specs.Tableaus.{TableauState}
+use Rattle.stab_circuit.specs.declared.edit.Span.{Span}
+use Rattle.stab_steps.specs.declared.records.Lengths.{Lengths}
+use Rattle.stab_copies.specs.declared.checkpoint.Checkpoint.{Checkpoint}
+use Rattle.stab_copies.specs.Spacing.{Near}
+use Rattle.stab_copies.specs.Checkpoints.{checkpoint_steps}
+use Rattle.stab_copies.specs.LaidCopies.{moved, moved_copy}
+use Rattle.stab_turns.specs.LedFrames.{AreInOrder, with_states}
+use Rattle.stab_kept.specs.inner.Turned.{StaysNear, span_meeting}
+use Rattle.stab_kept.proofs.SpacingLemmas.{near-le, near-tail, near-moved, moved-within, steps-moved}
+
+-- other states stand where the states before stood
+pub same-steps : (ts : List TableauState) (cs : List Checkpoint) → checkpoint_steps (with_states ts cs) ≡ checkpoint_steps cs
+same-steps [] cs = refl
+same-steps (t ∷ ts) [] = refl
+same-steps (t ∷ ts) (c ∷ cs) = ap (λ steps. c.step ∷ steps) (same-steps ts cs)
+
+-- copies from a step on, up to the last step, stand in order
+near-order : (K L a : ℕ) (cs : List Checkpoint) → Near K (a ∷ checkpoint_steps cs ++ L ∷ []) → AreInOrder a L cs
+near-order K L a [] h = h.0
+near-order K L a (c ∷ cs) h = (h.0, near-order K L c.step cs h.2)
+
+pub in-order : (K L from n : ℕ) (cs : List Checkpoint) → Near K (checkpoint_steps cs ++ L ∷ []) → from ≤ L → IfSome (slice_get cs n) (λ c. from ≤ c.step)
+    → AreInOrder from L (drop n cs)
+in-order K L from zero [] near within behind = within
+in-order K L from (suc n) [] near within behind = within
+in-order K L from zero (c ∷ cs) near within behind = (behind, near-order K L c.step cs near)
+in-order K L from (suc n) (c ∷ cs) near within behind = in-order K L from n cs (near-tail K L c.step (checkpoint_steps cs) near) within behind
+
+-- moved with a span, copies that stay near one another and the one before stay so
+moved-on : (K L total step : ℕ) (s : Span) (ds : List Checkpoint) → s.old_end ≤ L → total ≡ s.new_end + (L - s.old_end) → total < 2 ^ 64 → step ≤ s.new_end
+    → (o : Option Checkpoint) → slice_get ds 0 ≡ o → StaysNear K s total step o → Near K (checkpoint_steps ds ++ L ∷ [])
+    → Near K (step ∷ map (moved s.old_end s.new_end) (checkpoint_steps ds) ++ total ∷ [])
+moved-on K L total step s [] end total_is few order None is stays near = (omega arith, stays, tt)
+moved-on K L total step s [] end total_is few order (Some d) is stays near = absurd (cc)
+moved-on K L total step s (c ∷ cs) end total_is few order None is stays near = absurd (cc)
+moved-on K L total step s (c ∷ cs) end total_is few order (Some d) is stays near =
+    let same : c ≡ d = cc in
+    let here : (s.old_end ≤ c.step) × (moved s.old_end s.new_end c.step ≤ step + K) =
+    subst (λ (x : Checkpoint). (s.old_end ≤ x.step) × (moved s.old_end s.new_end x.step ≤ step + K)) (sym same) stays in
+    let behind : s.old_end ≤ c.step = here.0 in
+    let place : moved s.old_end s.new_end c.step ≡ s.new_end + (c.step - s.old_end) =
+    moved-within s.old_end s.new_end c.step L (near-le K L c.step (checkpoint_steps cs) near) (omega (arith, total_is, few)) in (
+      omega (arith, place, order),
+      here.1,
+      subst (λ t. Near K (moved s.old_end s.new_end c.step ∷ map (moved s.old_end s.new_end) (checkpoint_steps cs) ++ t ∷ [])) (sym total_is)
+          (subst (λ t. Near K (t ∷ map (moved s.old_end s.new_end) (checkpoint_steps cs) ++ (s.new_end + (L - s.old_end)) ∷ [])) (sym place)
+          (near-moved K s.old_end s.new_end L c.step (checkpoint_steps cs) behind near (omega (arith, total_is, few)))),
+    )
+
+near-from : (K L n : ℕ) (cs : List Checkpoint) → Near K (checkpoint_steps cs ++ L ∷ []) → Near K (checkpoint_steps (drop n cs) ++ L ∷ [])
+near-from K L zero cs near = near
+near-from K L (suc n) [] near = near
+near-from K L (suc n) (c ∷ cs) near = near-from K L n cs (near-tail K L c.step (checkpoint_steps cs) near)
+
+first-dropped : (n : ℕ) (cs : List Checkpoint) → slice_get (drop n cs) 0 ≡ slice_get cs n
+first-dropped zero cs = refl
+first-dropped (suc n) [] = refl
+first-dropped (suc n) (c ∷ cs) = first-dropped n cs
+
+pub turned-near : (K L total step n : ℕ) (s : Span) (l : Lengths) (ts : List TableauState) (cs : List Checkpoint) → s.old_end ≤ L → total ≡ s.new_end + (L - s.old_end)
+    → total < 2 ^ 64 → step ≤ s.new_end → StaysNear K s total step (slice_get cs n) → Near K (checkpoint_steps cs ++ L ∷ [])
+    → Near K (step ∷ checkpoint_steps (map (moved_copy (span_meeting s l)) (with_states ts (drop n cs))) ++ total ∷ [])
+turned-near K L total step n s l ts cs end total_is few order stays near =
+    subst (λ steps. Near K (step ∷ steps ++ total ∷ []))
+    (ap (map (moved s.old_end s.new_end)) (sym (same-steps ts (drop n cs)))
+    ∙ sym (steps-moved (span_meeting s l) (with_states ts (drop n cs))))
+    (moved-on K L total step s (drop n cs) end total_is few order (slice_get cs n) (first-dropped n cs) stays (near-from K L n cs near))

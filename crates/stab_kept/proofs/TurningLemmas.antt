@@ -1,0 +1,156 @@
+-- Turnings: what a frame needs to be led over the steps behind a span of a kept run's circuit, and what was made of the run then.
+use Rattle.std.proofs.Common.{◌≡◌, ℕ, ◌+◌, ◌-◌, ◌^◌, ◌<◌, ◌≤◌, sym, ◌∙◌, ap, subst, Bool, List, [], ◌∷◌, ◌++◌, length, take, drop, All, Option, Some, None, replicate, get_or, arith}
+use Rattle.std.specs.Prelude.{IfSome, slice_get}
+use Rattle.std.proofs.lemmas.List.{length-append, length-drop, length-take, drop-take}
+use Rattle.std.proofs.lemmas.List.Elements.{All-drop}
+use Rattle.std.proofs.lemmas.Option.{get_or_from_slice_get}
+use Rattle.stab_letters.specs.declared.letter.Letter.{Letter}
+use Rattle.stab_letters.specs.declared.letter.Letter.TheVariants.{I}
+use Rattle.stab_pauli.specs.Paulis.{Signed, string_product}
+use Rattle.stab_pauli.proofs.StringLemmas.{string_product-blank}
+use Rattle.stab_tableau.specs.Tableaus.{TableauState}
+use Rattle.stab_circuit.specs.Steps.{Step}
+use Rattle.stab_circuit.specs.declared.edit.Span.{Span}
+use Rattle.stab_steps.specs.declared.records.Lengths.{Lengths}
+use Rattle.stab_run.specs.Records.{ones}
+use Rattle.stab_run.specs.Points.{Point, RunOutput, nothing, origin, point_after, outputs}
+use Rattle.stab_run.specs.Cuts.{lengths_of}
+use Rattle.stab_run.proofs.PointLemmas.{HasAtMost, outputs-short, cut}
+use Rattle.stab_copies.specs.declared.checkpoint.Checkpoint.{Checkpoint}
+use Rattle.stab_copies.specs.Checkpoints.{IsCheckpoint}
+use Rattle.stab_copies.proofs.LastBitsLemmas.{take-more}
+use Rattle.stab_steps.proofs.RunLemmas.{outputs-append}
+use Rattle.stab_turns.specs.LongerLists.{longer, AreBelow}
+use Rattle.stab_frames.specs.Walks.{WalkState}
+use Rattle.stab_turns.specs.LedFrames.{AreInOrder, AreTurnedCopies, IsLedFrame}
+use Rattle.stab_kept.specs.declared.kept.KeptRun.{KeptRun}
+use Rattle.stab_kept.specs.KeptRuns.{IsKeptRun, IsSpan}
+use Rattle.stab_kept.specs.inner.Prepared.{IsCount}
+use Rattle.stab_kept.specs.inner.Turned.{StaysNear}
+use Rattle.stab_kept.proofs.SpacingLemmas.{IsBefore}
+use Rattle.stab_kept.proofs.FollowLemmas.{at-get, before-first, same-rest, all-qubits}
+use Rattle.stab_kept.proofs.TurnSpacingLemmas.{in-order}
+
+-- lists that others are put behind
+lengths-longer : (a b c : RunOutput) → c ≡ record { records = a.records ++ b.records; free = a.free ++ b.free; detectors = a.detectors ++ b.detectors; additions = a.additions ++ b.additions }
+    → longer (lengths_of a) (lengths_of b) ≡ lengths_of c
+lengths-longer a b c is = (λ i. record {
+  records = sym (length-append a.records b.records) i;
+  free = sym (length-append a.free b.free) i;
+  detectors = sym (length-append a.detectors b.detectors) i;
+  additions = sym (length-append a.additions b.additions) i;
+}) ∙ ap lengths_of (sym is)
+
+-- a copy that stays near is followed by one behind the span
+pub stays-behind : (K : ℕ) (s : Span) (total step : ℕ) (o : Option Checkpoint) → StaysNear K s total step o → IfSome o (λ c. s.old_end ≤ c.step)
+stays-behind K s total step None h = tt
+stays-behind K s total step (Some c) h = h.0
+
+module _ {n : ℕ} {coins : ℕ → Bool} {K : ℕ} {xs ys : List Step} {s : Span} {old : KeptRun} {m : ℕ} (count : ℕ) (kept : IsKeptRun n coins K xs count old) (span : IsSpan xs ys s)
+    (few : length ys ≤ 1048576) (counted : IsCount (s.first + 1) old.checkpoints.items m) where
+  abbrev pub before : IsBefore K (length xs) s.first m old.checkpoints.items
+  before = before-first n coins K xs count old kept ys s span m counted.within counted.before counted.behind
+
+  pub some-copies : 1 ≤ m
+  some-copies = let o = before.some in omega arith
+
+  pub copy-is : (c : Checkpoint) → c ≡ get_or old.checkpoints.items (m - 1) c → slice_get old.checkpoints.items (m - 1) ≡ Some c
+  copy-is c e = before.here ∙ ap (λ d. Some d) (sym (e ∙ get_or_from_slice_get old.checkpoints.items (m - 1) before.copy c before.here))
+
+  module _ (c : Checkpoint) (here : slice_get old.checkpoints.items (m - 1) ≡ Some c) where
+    is : IsCheckpoint n coins xs c
+    is = at-get (IsCheckpoint n coins xs) old.checkpoints.items (m - 1) c kept.checkpoints here
+
+    pub copy-before : c.step ≤ s.first
+    copy-before =
+        let same : before.copy ≡ c = (let e : Some before.copy ≡ Some c = sym before.here ∙ here in cc) in
+        subst (λ (d : Checkpoint). d.step ≤ s.first) same before.within
+
+    pub copy-within : c.step ≤ length ys
+    copy-within = let o = span.new_order in let w = span.new_within in omega (arith, copy-before)
+
+    pub copy-below : AreBelow (2 ^ 63) (length (drop c.step ys)) c.lengths
+    copy-below = subst (AreBelow (2 ^ 63) (length (drop c.step ys))) (sym is.lengths) (record {
+      records = let r = short.records in omega (arith, r, some, rest);
+      free = let r = short.free in omega (arith, r, some, rest);
+      detectors = let r = short.detectors in omega (arith, r, some, rest);
+      additions = let r = short.additions in omega (arith, r, some, rest);
+    })
+      where
+        short : HasAtMost (length (take c.step xs)) (outputs n coins (take c.step xs) origin)
+        short = outputs-short n coins (take c.step xs) origin
+
+        some : length (take c.step xs) ≤ length ys
+        some = omega (arith, length-take c.step xs, copy-within)
+
+        rest : length (drop c.step ys) ≤ length ys
+        rest = omega (arith, length-drop c.step ys)
+
+    -- how long the lists are before the span
+    pub from-is : (from : Lengths) → ((k : ℕ) (others : ℕ → Bool) (a : Point) → from ≡ longer c.lengths (lengths_of (outputs k others (take (s.first - c.step) (drop c.step ys)) a)))
+        → from ≡ lengths_of (outputs n coins (take s.first xs) origin)
+    from-is from counts =
+        counts n coins (point_after n coins (take c.step xs) origin)
+        ∙ (λ i. longer (is.lengths i) (lengths_of (outputs n coins (between i) (point_after n coins (take c.step xs) origin))))
+        ∙ lengths-longer (outputs n coins (take c.step xs) origin) (outputs n coins (take (s.first - c.step) (drop c.step xs)) (point_after n coins (take c.step xs) origin))
+        (outputs n coins (take s.first xs) origin)
+        (ap (λ zs. outputs n coins zs origin)
+        (ap (λ k. take k xs) (omega (arith, copy-before)) ∙ take-more c.step (s.first - c.step) xs)
+        ∙ outputs-append n coins (take c.step xs) (take (s.first - c.step) (drop c.step xs)) origin)
+      where
+        between : take (s.first - c.step) (drop c.step ys) ≡ take (s.first - c.step) (drop c.step xs)
+        between =
+            sym (drop-take c.step (s.first - c.step) ys)
+            ∙ ap (drop c.step) (ap (λ k. take k ys) (omega (arith, copy-before)) ∙ sym span.before ∙ ap (λ k. take k xs) (omega (arith, copy-before)))
+            ∙ drop-take c.step (s.first - c.step) xs
+
+    module _ (from : Lengths) (counts : (k : ℕ) (others : ℕ → Bool) (a : Point)
+        → from ≡ longer c.lengths (lengths_of (outputs k others (take (s.first - c.step) (drop c.step ys)) a))) where
+      pub from-within : from.free ≤ length old.outputs.free.items
+      from-within =
+          omega (
+            arith,
+            ap (λ (l : Lengths). l.free) (from-is from counts),
+            ap (λ (o : RunOutput). length o.free) (kept.run.output ∙ cut n coins xs s.first),
+            length-append (outputs n coins (take s.first xs) origin).free (outputs n coins (drop s.first xs) (point_after n coins (take s.first xs) origin)).free,
+          )
+
+      pub from-few : from.free + length (drop s.new_end ys) < 2 ^ 63
+      from-few =
+          let short = (outputs-short n coins (take s.first xs) origin).free in
+          let o = span.old_order in
+          let p = span.new_order in
+          let w = span.new_within in
+          omega (arith, ap (λ (l : Lengths). l.free) (from-is from counts), short, length-take s.first xs, length-drop s.new_end ys, few)
+
+  pub behind-order : (stays : IfSome (slice_get old.checkpoints.items m) (λ c. s.old_end ≤ c.step))
+      → AreInOrder s.old_end (s.old_end + length (drop s.new_end ys)) (drop m old.checkpoints.items)
+  behind-order stays =
+      subst (λ L. AreInOrder s.old_end L (drop m old.checkpoints.items))
+      (let w = span.old_within in omega (arith, length-drop s.new_end ys, same-rest n coins K xs count old kept ys s span))
+      (in-order K (length xs) s.old_end m old.checkpoints.items kept.spaced.near span.old_within stays)
+
+  pub behind-qubits : (k : ℕ) → k ≡ n → All (λ c. c.tableau.qubits ≡ k) (drop m old.checkpoints.items)
+  behind-qubits k e = All-drop (λ c. c.tableau.qubits ≡ k) m old.checkpoints.items (all-qubits n coins K xs count old kept ys s span k e)
+
+-- no more copies were turned than there are
+turned-few : (k : ℕ) (strings : List (List Letter)) (free : List Bool) (back : List Step) (from steps : ℕ) (w : WalkState) (cs : List Checkpoint) (ts : List TableauState)
+    → AreTurnedCopies k strings free back from steps w cs ts → length ts ≤ length cs
+turned-few k strings free back from steps w cs [] are = omega arith
+turned-few k strings free back from steps w [] (t ∷ ts) are = absurd are
+turned-few k strings free back from steps w (c ∷ cs) (t ∷ ts) are = let le = turned-few k strings free back from steps w cs ts are.2 in omega arith
+
+pub led-few : (k : ℕ) (strings : List (List Letter)) (free : List Bool) (reach : ℕ) (back : List Step) (from m : ℕ) (cs : List Checkpoint) (ts : List TableauState) (w v : WalkState)
+    → IsLedFrame k strings free reach back from (drop m cs) ts w v → m ≤ length cs → length ts + m ≤ length cs
+led-few k strings free reach back from m cs ts w v led within =
+    let le = turned-few k strings free back from led.steps w (drop m cs) ts led.copies in
+    omega (arith, length-drop m cs, within)
+
+-- a frame that begins with a string's letters
+pub begun-letters : (k count : ℕ) (p : Signed) (free : List Bool) (w v : WalkState) → length p.letters ≡ k
+    → w ≡ record { letters = replicate k I; flips = nothing; coin = count; number = ones (take count free) }
+    → v ≡ record w { letters = string_product w.letters p.letters } → v ≡ record { letters = p.letters; flips = nothing; coin = count; number = ones (take count free) }
+begun-letters k count p free w v size is then =
+    then
+    ∙ (λ i. record (is i) { letters = string_product (is i).letters p.letters })
+    ∙ ap (λ l. record { letters = l; flips = nothing; coin = count; number = ones (take count free) }) (string_product-blank k p.letters size)

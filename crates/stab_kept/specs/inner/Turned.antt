@@ -1,0 +1,79 @@
+-- Turned runs: what a frame made of a kept run, and what is kept once that is put in place.
+-- Source: this project's own.
+use Rattle.std.specs.Prelude.{◌≡◌, ℕ, ◌+◌, ◌-◌, ◌*◌, ◌≤◌, Bool, false, List, [], Option, None, Some, IfSome, MatchOption, length, take, drop, map, replicate, slice_get, vec_capacity}
+use Rattle.stab_pauli.specs.Paulis.{Signed}
+use Rattle.stab_tableau.specs.Tableaus.{stabilises}
+use Rattle.stab_tableau.specs.Turns.{IsTurned}
+use Rattle.stab_circuit.specs.Steps.{Step}
+use Rattle.stab_circuit.specs.declared.edit.Span.{Span}
+use Rattle.stab_copies.specs.declared.checkpoint.Checkpoint.{Checkpoint}
+use Rattle.stab_copies.specs.declared.checkpoint.Meeting.{Meeting}
+use Rattle.stab_copies.specs.Checkpoints.{checkpoint_steps}
+use Rattle.stab_copies.specs.LaidCopies.{moved, moved_copy, all_laid}
+use Rattle.stab_run.specs.Points.{Point, nothing, joined, with_additions, outputs}
+use Rattle.stab_run.specs.Records.{ones}
+use Rattle.stab_run.specs.ProgramStates.{output_of}
+use Rattle.stab_run.specs.Cuts.{lengths_of, front_of, rest_of}
+use Rattle.stab_steps.specs.declared.records.Lengths.{Lengths}
+use Rattle.stab_frames.specs.Flips.{flipped_output}
+use Rattle.stab_frames.specs.Walks.{WalkState}
+use Rattle.stab_turns.specs.LongerLists.{longer}
+use Rattle.stab_turns.specs.LedFrames.{IsLedFrame, with_states}
+use Rattle.stab_kept.specs.declared.kept.KeptRun.{KeptRun}
+use Rattle.stab_kept.specs.declared.kept.Followed.{Followed}
+use Rattle.stab_kept.specs.declared.turning.Turning.{Turning}
+use Rattle.stab_kept.specs.Counts.{IsCounted}
+use Rattle.stab_kept.specs.KeptRuns.{IsKeptRun, IsSpan, AgreeBehindSpan, AgreeBackBehindSpan}
+
+-- the next copy, or the last step, is at most K steps from the copy before, once it has moved; and no copy stands within the span
+abbrev pub StaysNear : ℕ → Span → (total step : ℕ) → Option Checkpoint → Type 0
+StaysNear K s total step next =
+    MatchOption next (total ≤ step + K) (λ c. (s.old_end ≤ c.step) × (moved s.old_end s.new_end c.step ≤ step + K))
+
+-- the copies of a run move with the end of a span, at which its lists were so long, and stay so
+abbrev pub span_meeting : Span → Lengths → Meeting
+span_meeting s l = record { old_step = s.old_end; new_step = s.new_end; old_lengths = l; new_lengths = l }
+
+-- a frame of a string's letters was led over the steps behind a span, past the copies that stand behind so many; it began where the lists
+-- of the run were so long
+pub record IsTurning (ys : List Step) (s : Span) (before : ℕ) (p : Signed) (r : KeptRun) (t : Turning) : Type 0 where
+  pub from : IfSome (slice_get r.checkpoints.items (before - 1)) (λ c. (n : ℕ) (coins : ℕ → Bool) (a : Point)
+      → t.from ≡ longer c.lengths (lengths_of (outputs n coins (take (s.first - c.step) (drop c.step ys)) a)))
+  pub start : WalkState
+  pub begins : start ≡ record { letters = p.letters; flips = nothing; coin = t.from.free; number = ones (take t.from.free r.outputs.free.items) }
+  pub led : IsLedFrame r.tableau.qubits r.strings.strings r.outputs.free.items r.reach (drop s.new_end ys) s.old_end (drop before r.checkpoints.items) t.turned.items start t.walk
+  pub letters : length t.walk.letters ≡ r.tableau.qubits
+  pub room : (t.room.items ≡ []) × (length r.checkpoints.items ≤ vec_capacity t.room + before)
+  pub few : length t.turned.items + before ≤ length r.checkpoints.items
+
+-- what it made was put in place
+pub record IsPut (old : KeptRun) (s : Span) (before K : ℕ) (t : Turning) (new : KeptRun) : Type 0 where
+  pub qubits : new.tableau.qubits ≡ old.tableau.qubits
+  pub turned : IsTurned old.tableau.qubits t.walk.letters (stabilises old.tableau) (stabilises new.tableau)
+  pub output : output_of new.outputs ≡ joined (front_of t.from (output_of old.outputs)) (flipped_output (rest_of t.from (output_of old.outputs)) (record t.walk.flips { free = [] }))
+  pub observables : new.observables.items ≡ with_additions new.outputs.additions.items (replicate (length old.observables.items) false)
+  pub strings : new.strings ≡ old.strings
+  pub reach : new.reach ≡ old.reach
+  pub checkpoints : new.checkpoints.items
+      ≡ all_laid K (map (moved_copy (span_meeting s t.from)) (with_states t.turned.items (drop before old.checkpoints.items))) (take before old.checkpoints.items)
+
+-- where the first copy stands that was not turned, or behind the last step
+abbrev pub turned_end : Span → (total : ℕ) → Option Checkpoint → ℕ
+turned_end s total None = total
+turned_end s total (Some c) = moved s.old_end s.new_end c.step
+
+-- from the copy before a span on, up to that end, the steps put in count as carried out, and a frame went over the others
+pub record IsFollowed (s : Span) (total before turned : ℕ) (copies : List Checkpoint) (f : Followed) : Type 0 where
+  pub applied : f.applied + s.first ≡ s.new_end
+  pub counted : IfSome (slice_get copies (before - 1)) (λ c. (f.applied + f.framed) + c.step ≡ turned_end s total (slice_get copies (before + turned)))
+
+-- the run was turned: it is that of the new steps, with so many observables, and so many steps were followed for it
+pub record HasTurned (n : ℕ) (coins : ℕ → Bool) (K : ℕ) (ys : List Step) (observables : ℕ) (s : Span) (old : KeptRun) (f : Followed) (new : KeptRun) : Type 0 where
+  pub kept : IsKeptRun n coins K ys observables new
+  pub applied : f.applied + f.framed ≤ (length ys - s.first) + K
+  pub at_least : s.new_end ≤ s.first + f.applied
+  pub few : (xs : List Step) (count far : ℕ) → IsKeptRun n coins K xs count old → IsSpan xs ys s → AgreeBehindSpan n coins xs ys s far
+      → f.applied + f.framed ≤ ((s.new_end - s.first) + 2 * K) + far
+  pub counted : (xs : List Step) (count : ℕ) → IsKeptRun n coins K xs count old → IsSpan xs ys s
+      → IsCounted (AgreeBehindSpan n coins xs ys s) (AgreeBackBehindSpan n coins xs ys s) (checkpoint_steps old.checkpoints.items) s.first s.old_end s.new_end (length ys)
+      (f.applied + f.framed)

@@ -1,0 +1,11 @@
+use Rattle.std.proofs.Common.{◌≡◌, length, drop}
+use Rattle.stab_pauli.specs.Paulis.{string_product}
+use Rattle.stab_frames.specs.Starts.{letters_on}
+use Rattle.stab_session.proofs.paulis.multiply_letter.Given as goal
+
+abbrev pub invariant-loop-qubit : goal.invariant-loop-qubit
+invariant-loop-qubit l = record {
+  size : length l.string.letters ≡ length l.initial.string.letters;
+  left : string_product (letters_on (length l.initial.string.letters) l.letter (drop l.qubit-index l.qubits)) l.string.letters
+      ≡ string_product (letters_on (length l.initial.string.letters) l.letter l.qubits) l.initial.string.letters;
+}

@@ -1,0 +1,17 @@
+use Rattle.std.proofs.Common.{◌≡◌, ℕ, ◌^◌, Bool, length, take, drop}
+use Rattle.stab_run.specs.Points.{Point, outputs}
+use Rattle.stab_run.specs.Cuts.{lengths_of}
+use Rattle.stab_turns.specs.LongerLists.{longer, AreBelow}
+use Rattle.stab_turns.proofs.counting.lengths_behind.Given as goal
+
+abbrev pub invariant-loop-left : goal.invariant-loop-left
+invariant-loop-left l = record {
+  all : l.cursor.all ≡ l.initial.cursor.all;
+  left : drop l.left l.cursor.left ≡ drop l.most l.initial.cursor.left;
+  few : AreBelow (2 ^ 63) (length l.cursor.left) l.lengths;
+  value : (n : ℕ) (coins : ℕ → Bool) (a : Point)
+      → longer l.lengths (lengths_of (outputs n coins (take l.left l.cursor.left) a)) ≡ longer l.fn.before (lengths_of (outputs n coins (take l.most l.initial.cursor.left) a));
+}
+
+abbrev pub decreases-loop-left : goal.decreases-loop-left
+decreases-loop-left l = l.left

@@ -1,0 +1,3 @@
+pub mod LongerLists
+pub mod PauliSpans
+pub mod LedFrames

@@ -1,0 +1,29 @@
+//! Runs that a frame turns where they lie.
+//!
+//! Where two lists of steps differ by Pauli gates alone, the run of the one is that of the other with
+//! signs turned and bits flipped. So what was kept of it is turned where it lies, and no state is run.
+//!
+//! - `counting`: how long a run's lists are behind some steps.
+//! - `leading`: a frame led over the copies of a run, with turned copies made on the way.
+//! - `flips`: what a run gave, flipped where it lies.
+//! - `states`: a state, turned where it lies.
+//!
+//! Frames themselves are `stab_frames`', and copies of states `stab_copies`'.
+//!
+//! Source: this project's own, over the Pauli frames of C. Gidney, Stim: a fast stabilizer circuit
+//! simulator (2021).
+//!
+//! Proved: lengths are those of what the steps give at any point (`specs/LongerLists.antt`); a frame that
+//! was led over copies went over the steps before each, and what was made there is that copy, turned by
+//! the frame (`specs/LedFrames.antt`); flipped lists are what they were, inverted where the flips are 1.
+#![tactic(auto)]
+
+mod counting;
+mod flips;
+mod leading;
+mod states;
+
+pub use counting::lengths_behind;
+pub use flips::{flip_outputs, sum_additions};
+pub use leading::lead_frame;
+pub use states::turn_tableau;
