@@ -91,6 +91,8 @@ def try_build(what: str, built: list[str], says: str, ends: int, calls: list[str
 
 def try_interrupt() -> None:
     """Interrupts a build a second after it began, which ends rt."""
+    # A shell starts what it runs in the background with interrupts ignored.
+    signal.signal(signal.SIGINT, signal.default_int_handler)
     with tempfile.TemporaryDirectory() as folder:
         threading.Timer(1, os.kill, (os.getpid(), signal.SIGINT)).start()
         status, _, notes = build(Path(folder), [], "", "exec sleep 60")
