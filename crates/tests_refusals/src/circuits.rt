@@ -26,6 +26,15 @@ REPEAT 2 {
 OBSERVABLE_INCLUDE(1) rec[-1]
 ";
 
+/// A circuit with a Pauli gate at place 1, whose flips go on to the end.
+pub const WITH_PAULI: &[u8] = b"H 0
+X 2
+M 2 0 2 1 2
+M 2 2
+DETECTOR rec[-1] rec[-3]
+OBSERVABLE_INCLUDE(1) rec[-1]
+";
+
 /// An item that is a block.
 const BLOCK: &[u8] = b"REPEAT 5 {\nCY 1 2\nREPEAT 2 {\nMY 0 !1\n}\n}";
 

@@ -1,5 +1,5 @@
 //! Edits of a session.
-use crate::circuits::NESTED;
+use crate::circuits::{NESTED, WITH_PAULI};
 use crate::item_slot::ItemSlot;
 use crate::one_drop::OneDrop;
 use crate::sessions::{session_of, show_session};
@@ -11,7 +11,8 @@ use stab_session::{Edit, SeedCoins, Session};
 use std::alloc::Global;
 use std::io;
 
-/// An edit of the nested circuit: in its outermost list, or at a path of three numbers.
+/// An edit of the nested circuit, in its outermost list, or at a path of three numbers; or of the circuit
+/// with a Pauli gate, in whose stead there is another.
 #[derive(Clone, Copy)]
 enum NestedEdit {
     Insert,
@@ -19,11 +20,20 @@ enum NestedEdit {
     InsertNested,
     Replace,
     ReplaceNested,
+    ReplacePauli,
     Delete,
     DeleteNested,
 }
 
 impl NestedEdit {
+    /// The text of the circuit that it edits.
+    fn circuit(self) -> &'static [u8] {
+        match self {
+            NestedEdit::ReplacePauli => WITH_PAULI,
+            _ => NESTED,
+        }
+    }
+
     /// Where it is made.
     fn path(self) -> Path {
         match self {
@@ -42,6 +52,7 @@ impl NestedEdit {
             NestedEdit::InsertNested => b"MPP Y0*Y1",
             NestedEdit::Replace => b"CZ 0 1",
             NestedEdit::ReplaceNested => b"MRX 0 1 2",
+            NestedEdit::ReplacePauli => b"Z 2",
             NestedEdit::Delete | NestedEdit::DeleteNested => b"",
         }
     }
@@ -85,10 +96,12 @@ impl Applied {
                     item: self.item.take()?,
                 },
             ),
-            NestedEdit::Replace | NestedEdit::ReplaceNested => Ok(Edit::Replace {
-                place,
-                item: self.item.take()?,
-            }),
+            NestedEdit::Replace | NestedEdit::ReplaceNested | NestedEdit::ReplacePauli => Ok(
+                Edit::Replace {
+                    place,
+                    item: self.item.take()?,
+                },
+            ),
             NestedEdit::Delete | NestedEdit::DeleteNested => Ok(Edit::Delete { place }),
         }
     }
@@ -109,7 +122,7 @@ impl Trial for Applied {
     fn new(alloc: Global, change: NestedEdit) -> Result<Applied, Stop> {
         Ok(Applied {
             change,
-            session: session_of(alloc, NESTED)?,
+            session: session_of(alloc, change.circuit())?,
             item: change.slot(alloc)?,
         })
     }
@@ -151,6 +164,10 @@ pub fn print_all<R: AllocGlobal + Print>(rt: &R) -> io::Result<()> {
         (
             "Session::apply, replacement in blocks",
             NestedEdit::ReplaceNested,
+        ),
+        (
+            "Session::apply, a Pauli for another",
+            NestedEdit::ReplacePauli,
         ),
         ("Session::apply, deletion", NestedEdit::Delete),
         (
