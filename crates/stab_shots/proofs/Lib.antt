@@ -9,4 +9,5 @@ pub mod LaneLemmas
 pub mod StepLemmas
 pub mod ShotLemmas
 pub mod SeedLemmas
+pub mod SeedByteLemmas
 pub mod BatchLemmas

@@ -1,4 +1,4 @@
--- Seeds: a word with a bit flipped in one lane.
+-- Seeds: a byte with a bit flipped in one lane, and the coins of a lane or part more.
 use Rattle.std.proofs.Common.{◌≡◌, ◌≢◌, ℕ, ◌+◌, ◌*◌, ◌<◌, ◌≤◌, ◌^◌, ◌%◌, sym, ◌∙◌, ap, subst, eqb, Bool, true, false, List, [], get_or, set, length, replicate, ◌/◌, inl, inr, arith}
 use Rattle.std.specs.Prelude.{bit_xor, if◌then◌else◌, ◌⊎◌}
 use Rattle.std.proofs.lemmas.Bool.{cases_order}
@@ -14,29 +14,29 @@ use Rattle.stab_shots.specs.Seeds.{lane_coin, AreCoins, AreCoinsOfParts}
 use Rattle.stab_shots.proofs.WordLemmas.{word_bit-xor, word_bit-zero}
 
 -- 1 or 0, moved to a lane
-moved-one : (lane : ℕ) → lane < 64 → 1 * 2 ^ lane % 18446744073709551616 ≡ 2 ^ lane
-moved-one lane lt = let e : 1 * 2 ^ lane ≡ 2 ^ lane = omega arith in ap (λ w. w % 18446744073709551616) e ∙ mod-eq_of_lt (pow-lt lt)
+moved-one : (lane : ℕ) → lane < 8 → 1 * 2 ^ lane % 256 ≡ 2 ^ lane
+moved-one lane lt = let e : 1 * 2 ^ lane ≡ 2 ^ lane = omega arith in ap (λ w. w % 256) e ∙ mod-eq_of_lt (pow-lt lt)
 
-moved-none : (lane one : ℕ) → one ≡ 0 → one * 2 ^ lane % 18446744073709551616 ≡ 0
-moved-none lane one e = let zero : one * 2 ^ lane ≡ 0 = ap (λ w. w * 2 ^ lane) e ∙ omega arith in ap (λ w. w % 18446744073709551616) zero
+moved-none : (lane one : ℕ) → one ≡ 0 → one * 2 ^ lane % 256 ≡ 0
+moved-none lane one e = let zero : one * 2 ^ lane ≡ 0 = ap (λ w. w * 2 ^ lane) e ∙ omega arith in ap (λ w. w % 256) zero
 
-moved-here : (lane : ℕ) → lane < 64 → (bit : Bool) (one : ℕ) → one ≡ (if bit then 1 else 0) → word_bit (one * 2 ^ lane % 18446744073709551616) lane ≡ bit
-moved-here lane lt true one e = ap (λ w. word_bit (w * 2 ^ lane % 18446744073709551616) lane) e ∙ ap (λ w. word_bit w lane) (moved-one lane lt) ∙ ap (λ b. eqb b 1) (bit_at-pow_same lane)
+moved-here : (lane : ℕ) → lane < 8 → (bit : Bool) (one : ℕ) → one ≡ (if bit then 1 else 0) → word_bit (one * 2 ^ lane % 256) lane ≡ bit
+moved-here lane lt true one e = ap (λ w. word_bit (w * 2 ^ lane % 256) lane) e ∙ ap (λ w. word_bit w lane) (moved-one lane lt) ∙ ap (λ b. eqb b 1) (bit_at-pow_same lane)
 moved-here lane lt false one e = ap (λ w. word_bit w lane) (moved-none lane one e) ∙ word_bit-zero lane
 
-moved-off : (lane : ℕ) → lane < 64 → (bit : Bool) (one l : ℕ) → l ≢ lane → one ≡ (if bit then 1 else 0) → word_bit (one * 2 ^ lane % 18446744073709551616) l ≡ false
+moved-off : (lane : ℕ) → lane < 8 → (bit : Bool) (one l : ℕ) → l ≢ lane → one ≡ (if bit then 1 else 0) → word_bit (one * 2 ^ lane % 256) l ≡ false
 moved-off lane lt true one l ne e =
-    ap (λ w. word_bit (w * 2 ^ lane % 18446744073709551616) l) e ∙ ap (λ w. word_bit w l) (moved-one lane lt) ∙ ap (λ b. eqb b 1) (bit_at-pow_other lane l ne)
+    ap (λ w. word_bit (w * 2 ^ lane % 256) l) e ∙ ap (λ w. word_bit w l) (moved-one lane lt) ∙ ap (λ b. eqb b 1) (bit_at-pow_other lane l ne)
 moved-off lane lt false one l ne e = ap (λ w. word_bit w l) (moved-none lane one e) ∙ word_bit-zero l
 
-pub flipped-here : (word lane one : ℕ) (bit : Bool) → lane < 64 → one ≡ (if bit then 1 else 0) → word_bit word lane ≡ false
-    → word_bit (bit_xor word (one * 2 ^ lane % 18446744073709551616)) lane ≡ bit
-flipped-here word lane one bit lt is zero = word_bit-xor word (one * 2 ^ lane % 18446744073709551616) lane ∙ (λ i. zero i ⊕ moved-here lane lt bit one is i)
+pub flipped-here : (byte lane one : ℕ) (bit : Bool) → lane < 8 → one ≡ (if bit then 1 else 0) → word_bit byte lane ≡ false
+    → word_bit (bit_xor byte (one * 2 ^ lane % 256)) lane ≡ bit
+flipped-here byte lane one bit lt is zero = word_bit-xor byte (one * 2 ^ lane % 256) lane ∙ (λ i. zero i ⊕ moved-here lane lt bit one is i)
 
-pub flipped-off : (word lane one : ℕ) (bit : Bool) → lane < 64 → one ≡ (if bit then 1 else 0) → (l : ℕ) → l ≢ lane
-    → word_bit (bit_xor word (one * 2 ^ lane % 18446744073709551616)) l ≡ word_bit word l
-flipped-off word lane one bit lt is l ne =
-    word_bit-xor word (one * 2 ^ lane % 18446744073709551616) l ∙ ap (λ b. word_bit word l ⊕ b) (moved-off lane lt bit one l ne is) ∙ parity-false (word_bit word l)
+pub flipped-off : (byte lane one : ℕ) (bit : Bool) → lane < 8 → one ≡ (if bit then 1 else 0) → (l : ℕ) → l ≢ lane
+    → word_bit (bit_xor byte (one * 2 ^ lane % 256)) l ≡ word_bit byte l
+flipped-off byte lane one bit lt is l ne =
+    word_bit-xor byte (one * 2 ^ lane % 256) l ∙ ap (λ b. word_bit byte l ⊕ b) (moved-off lane lt bit one l ne is) ∙ parity-false (word_bit byte l)
 
 -- one lane more
 

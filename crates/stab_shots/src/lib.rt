@@ -23,8 +23,8 @@
 //! Sources: C. Gidney, Stim: a fast stabilizer circuit simulator (2021), for shots as lanes of frames beside a
 //! reference. It differs in that each shot has numbered coins of its own, and so is exactly the run with these.
 //!
-//! Proved: each lane, and each shot that is made of one, is the run that the group rules of `stab_run` give for the circuit
-//! and the coins of its shot.
+//! Proved: each lane, and each shot that is made of one, is the run that the group rules of `stab_steps` give for the
+//! circuit and the coins of its shot.
 #![tactic(auto)]
 
 mod batches;

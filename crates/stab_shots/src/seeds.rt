@@ -1,4 +1,4 @@
-ghost use Rattle.std.specs.Prelude.{◌≡◌, ◌≢◌, ℕ, ◌+◌, ◌%◌, ◌<◌, ◌^◌, false, slice_index_or};
+ghost use Rattle.std.specs.Prelude.{◌≡◌, ◌≢◌, ℕ, ◌+◌, ◌/◌, ◌%◌, ◌<◌, ◌^◌, false, slice_index_or};
 ghost use Rattle.std.specs.Option.{ForSome};
 ghost use Rattle.stab_run.specs.Coins.{seed_coin};
 ghost use Rattle.stab_shots.specs.Words.{word_bit};
@@ -68,29 +68,62 @@ pub fn coins_of_group(seed: u64, first: u64, group: u64) -> [u64; 64]
     ensures each { AreCoins seed first group 64 result }
 {
     let mut words = [0; 64];
-    for lane in 0..64 {
-        let coins = seed_coins(seed, first.wrapping_add(lane as u64), group);
-        put_lane(&mut words, lane, &coins);
+    for place in 0..8 {
+        let bytes = coins_of_eight(seed, first.wrapping_add(8 * place as u64), group);
+        put_bytes(&mut words, place, &bytes);
     }
     words
 }
 
-/// A word whose bit in a lane is flipped, if it is to be.
-fn flip_lane(word: u64, lane: usize, bit: bool) -> u64
-    requires in_range { lane < 64 }
-    ensures here { word_bit word lane ≡ false → word_bit result lane ≡ bit }
-    ensures others { (l : ℕ) → l ≢ lane → word_bit result l ≡ word_bit word l }
+/// The 64 coins from 64 times the group's number on, of eight shots. Bytes are an eighth of words to go through for each shot.
+fn coins_of_eight(seed: u64, first: u64, group: u64) -> [u8; 64]
+    requires small { group < 2 ^ 58 }
+    ensures each { AreCoins seed first group 8 result }
 {
-    word ^ (u64::from(bit) << lane)
+    let mut bytes = [0; 64];
+    for lane in 0..8 {
+        let coins = seed_coins(seed, first.wrapping_add(lane as u64), group);
+        put_lane(&mut bytes, lane, &coins);
+    }
+    bytes
 }
 
-/// Puts 64 bits into a lane of as many words, whose bits are 0 there.
-fn put_lane(words: &mut [u64; 64], lane: usize, bits: &[bool; 64])
-    requires in_range { lane < 64 }
-    ensures here { (k : ℕ) → k < 64 → word_bit (slice_index_or words.old k 0) lane ≡ false → word_bit (slice_index_or words.new k 0) lane ≡ slice_index_or bits.now k false }
-    ensures others { (k l : ℕ) → k < 64 → l ≢ lane → word_bit (slice_index_or words.new k 0) l ≡ word_bit (slice_index_or words.old k 0) l }
+/// A byte whose bit in a lane is flipped, if it is to be.
+fn flip_lane(byte: u8, lane: usize, bit: bool) -> u8
+    requires in_range { lane < 8 }
+    ensures here { word_bit byte lane ≡ false → word_bit result lane ≡ bit }
+    ensures others { (l : ℕ) → l ≢ lane → word_bit result l ≡ word_bit byte l }
+{
+    byte ^ (u8::from(bit) << lane)
+}
+
+/// Puts 64 bits into a lane of as many bytes, whose bits are 0 there.
+fn put_lane(bytes: &mut [u8; 64], lane: usize, bits: &[bool; 64])
+    requires in_range { lane < 8 }
+    ensures here { (k : ℕ) → k < 64 → word_bit (slice_index_or bytes.old k 0) lane ≡ false → word_bit (slice_index_or bytes.new k 0) lane ≡ slice_index_or bits.now k false }
+    ensures others { (k l : ℕ) → k < 64 → l ≢ lane → word_bit (slice_index_or bytes.new k 0) l ≡ word_bit (slice_index_or bytes.old k 0) l }
 {
     for k in 0..64 {
-        words[k] = flip_lane(words[k], lane, bits[k]);
+        bytes[k] = flip_lane(bytes[k], lane, bits[k]);
+    }
+}
+
+/// A word whose byte at a place, counted from the lowest, is flipped where another has ones.
+fn flip_byte(word: u64, place: usize, byte: u8) -> u64
+    requires in_range { place < 8 }
+    ensures here { (l : ℕ) → l / 8 ≡ place → word_bit word l ≡ false → word_bit result l ≡ word_bit byte (l % 8) }
+    ensures others { (l : ℕ) → l / 8 ≢ place → word_bit result l ≡ word_bit word l }
+{
+    word ^ (u64::from(byte) << (8 * place))
+}
+
+/// Puts 64 bytes at a place of as many words, whose bits are 0 there.
+fn put_bytes(words: &mut [u64; 64], place: usize, bytes: &[u8; 64])
+    requires in_range { place < 8 }
+    ensures here { (k l : ℕ) → k < 64 → l / 8 ≡ place → word_bit (slice_index_or words.old k 0) l ≡ false → word_bit (slice_index_or words.new k 0) l ≡ word_bit (slice_index_or bytes.now k 0) (l % 8) }
+    ensures others { (k l : ℕ) → k < 64 → l / 8 ≢ place → word_bit (slice_index_or words.new k 0) l ≡ word_bit (slice_index_or words.old k 0) l }
+{
+    for k in 0..64 {
+        words[k] = flip_byte(words[k], place, bytes[k]);
     }
 }

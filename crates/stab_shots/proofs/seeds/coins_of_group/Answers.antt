@@ -1,17 +1,16 @@
-use Rattle.std.proofs.Common.{rules, arith, ◌∙◌, ap, ◌+◌, ◌*◌}
-use Rattle.stab_run.specs.Coins.{seed_coin}
-use Rattle.stab_shots.proofs.SeedLemmas.{coins-next, blank-next, zeros-blank}
+use Rattle.std.proofs.Common.{rules, arith, subst}
+use Rattle.stab_shots.specs.Seeds.{AreCoins}
+use Rattle.stab_shots.proofs.SeedLemmas.{zeros-blank}
+use Rattle.stab_shots.proofs.SeedByteLemmas.{coins-eight, blank-eight}
 use Rattle.stab_shots.proofs.seeds.coins_of_group.Goals as goal
 
-pub loop-lane-init : goal.loop-lane-init
-loop-lane-init c = record { made = λ k l small none. absurd (omega arith); blank = λ k j small le. zeros-blank k j small }
+pub loop-place-init : goal.loop-place-init
+loop-place-init c = record { made = λ k l small none. absurd (omega arith); blank = λ k j small le. zeros-blank k j small }
 
-pub loop-lane-preserved : goal.loop-lane-preserved
-loop-lane-preserved c = record {
-  made = coins-next c.args.seed c.args.first c.args.group c.loop-lane.lane c.loop-lane.words c.put_lane.new.words c.loop-lane.invariant.made
-      (λ k small.
-      c.put_lane.ensures.here k small (c.loop-lane.invariant.blank k c.loop-lane.lane small (omega arith))
-      ∙ c.seed_coins-coins.ensures.each k small
-      ∙ ap (λ shot. seed_coin c.args.seed shot (64 * c.args.group + k)) (search rules)) c.put_lane.ensures.others;
-  blank = blank-next c.loop-lane.lane c.loop-lane.words c.put_lane.new.words c.loop-lane.invariant.blank c.put_lane.ensures.others;
+pub loop-place-preserved : goal.loop-place-preserved
+loop-place-preserved c = record {
+  made = coins-eight c.loop-place.place c.loop-place.words c.put_bytes.new.words c.put_bytes.ensures.others c.loop-place.invariant.blank c.args.seed c.args.first c.args.group
+      c.coins_of_eight-bytes.result c.loop-place.invariant.made
+      (subst (λ shot. AreCoins c.args.seed shot c.args.group 8 c.coins_of_eight-bytes.result) (search rules) c.coins_of_eight-bytes.ensures.each) c.put_bytes.ensures.here;
+  blank = blank-eight c.loop-place.place c.loop-place.words c.put_bytes.new.words c.put_bytes.ensures.others c.loop-place.invariant.blank;
 }

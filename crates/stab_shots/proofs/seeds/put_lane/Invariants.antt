@@ -4,8 +4,8 @@ use Rattle.stab_shots.proofs.seeds.put_lane.Given as goal
 
 abbrev pub invariant-loop-k : goal.invariant-loop-k
 invariant-loop-k l = record {
-  size : length l.words ≡ 64;
-  here : (k : ℕ) → k < l.k → word_bit (slice_index_or l.initial.words k 0) l.lane ≡ false → word_bit (slice_index_or l.words k 0) l.lane ≡ slice_index_or l.bits k false;
-  behind : (k : ℕ) → l.k ≤ k → slice_index_or l.words k 0 ≡ slice_index_or l.initial.words k 0;
-  others : (k j : ℕ) → k < 64 → j ≢ l.lane → word_bit (slice_index_or l.words k 0) j ≡ word_bit (slice_index_or l.initial.words k 0) j;
+  size : length l.bytes ≡ 64;
+  here : (k : ℕ) → k < l.k → word_bit (slice_index_or l.initial.bytes k 0) l.lane ≡ false → word_bit (slice_index_or l.bytes k 0) l.lane ≡ slice_index_or l.bits k false;
+  behind : (k : ℕ) → l.k ≤ k → slice_index_or l.bytes k 0 ≡ slice_index_or l.initial.bytes k 0;
+  others : (k j : ℕ) → k < 64 → j ≢ l.lane → word_bit (slice_index_or l.bytes k 0) j ≡ word_bit (slice_index_or l.initial.bytes k 0) j;
 }
