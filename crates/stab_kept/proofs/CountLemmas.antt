@@ -1,9 +1,9 @@
 -- Counts: how many steps a replay of an edited circuit carries out, from where it begins to where it ends.
-use Rattle.std.proofs.Common.{◌≡◌, ℕ, zero, suc, ◌+◌, ◌-◌, ◌*◌, ◌^◌, ◌<◌, ◌≤◌, max, false, refl, sym, ◌∙◌, ap, subst, Bool, ◌⊎◌, inl, inr, List, [], ◌∷◌, length, take, drop, All, Option, Some, None, arith}
+use Rattle.std.proofs.Common.{◌≡◌, ℕ, zero, suc, ◌+◌, ◌-◌, ◌*◌, ◌^◌, ◌<◌, ◌≤◌, max, false, refl, sym, ◌∙◌, ap, subst, Bool, ◌⊎◌, inl, inr, List, [], ◌∷◌, ◌++◌, length, take, drop, All, Option, Some, None, arith}
 use Rattle.std.specs.Prelude.{IfSome, IsSomeAnd, MatchOption, option_map, slice_get, if◌then◌else◌}
 use Rattle.std.proofs.lemmas.Bool.{cases_lt}
 use Rattle.std.proofs.lemmas.Bool.Decides.{leb_tells}
-use Rattle.std.proofs.lemmas.List.{drop-drop}
+use Rattle.std.proofs.lemmas.List.{drop-drop, take-append-drop}
 use Rattle.std.proofs.lemmas.List.Elements.{All-head, All-tail, All-drop, All-weaker}
 use Rattle.std.proofs.lemmas.Option.{slice_get-map}
 use Rattle.stab_circuit.specs.Steps.{Step, looks_too_far}
@@ -17,7 +17,7 @@ use Rattle.stab_replay.specs.declared.replay.End.{End}
 use Rattle.stab_replay.specs.declared.replay.End.TheVariants.{Last, Joined}
 use Rattle.stab_kept.specs.declared.kept.KeptRun.{KeptRun}
 use Rattle.stab_circuit.specs.declared.edit.Span.{Span}
-use Rattle.stab_run.specs.Points.{RunOutput, origin, point_after, outputs}
+use Rattle.stab_run.specs.Points.{RunOutput, origin, point_after, outputs, all_coins_of}
 use Rattle.stab_run.specs.Laws.{AgreeAt}
 use Rattle.stab_kept.specs.Counts.{last_until, MayBeMet, EndsAt, NoneBefore, IsCounted}
 use Rattle.stab_run.specs.ProgramStates.{program_state, output_of}
@@ -250,3 +250,12 @@ module _ (n : ℕ) (coins : ℕ → Bool) (K : ℕ) (xs : List Step) (count : �
         let last : last_until s.first 0 (checkpoint_steps old.checkpoints.items) ≡ b.copy.step =
         last-is s.first m 0 old.checkpoints.items within front behind ∙ (front-spaced n coins K xs count old kept ys s span m b).1 in
         record { end = end; count = omega (arith, here, last, counted); ends = ends; none_before = none }
+
+-- coins of some of the steps
+
+coins-append : (xs ys : List Step) → all_coins_of (xs ++ ys) ≡ all_coins_of xs + all_coins_of ys
+coins-append [] ys = omega arith
+coins-append (x ∷ xs) ys = omega (arith, coins-append xs ys)
+
+pub coins-behind : (i : ℕ) (xs : List Step) → all_coins_of (drop i xs) ≤ all_coins_of xs
+coins-behind i xs = omega (arith, ap all_coins_of (take-append-drop i xs), coins-append (take i xs) (drop i xs))

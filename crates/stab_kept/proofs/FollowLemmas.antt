@@ -1,7 +1,7 @@
 -- Following an edit: where a replay of the new steps begins, which old copies it may meet, and what is kept of its end.
 use Rattle.std.proofs.Common.{◌≡◌, ℕ, ◌+◌, ◌-◌, ◌^◌, ◌<◌, ◌≤◌, reverse, append_assoc, refl, sym, ◌∙◌, ap, subst, Bool, false, List, [], ◌∷◌, ◌++◌, length, take, drop, map, get_or, All, Option, Some, None, replicate, arith}
 use Rattle.std.specs.Prelude.{IfSome, IsSomeAnd, option_map, slice_get}
-use Rattle.std.proofs.lemmas.List.{take_all, take_min, take-map, drop-map, drop_more, drop-drop, map-append, length-take, length-drop, get_or-drop, take-append-drop}
+use Rattle.std.proofs.lemmas.List.{take_all, take_min, take-map, drop-map, drop_more, drop-drop, map-append, length-take, length-drop, get_or-drop}
 use Rattle.std.proofs.lemmas.List.Elements.{All-weaker, All-map, All-append, All-take, All-drop, All-nil}
 use Rattle.std.proofs.lemmas.Option.{get_or_from_slice_get, slice_get_within, slice_get-map, IfSome_then}
 use Rattle.stab_tableau.specs.Traces.{member}
@@ -19,7 +19,7 @@ use Rattle.stab_circuit.specs.declared.edit.Span.{Span}
 use Rattle.stab_kept.specs.declared.kept.Prepared.{Prepared}
 use Rattle.stab_kept.specs.declared.kept.Rest.{Rest}
 use Rattle.stab_run.specs.Records.{ones}
-use Rattle.stab_run.specs.Points.{RunOutput, origin, joined, point_after, outputs, all_coins_of, with_additions}
+use Rattle.stab_run.specs.Points.{RunOutput, origin, joined, point_after, outputs, with_additions}
 use Rattle.stab_frames.specs.Ends.{AgreeBack}
 use Rattle.stab_frames.specs.Lookbacks.{LooksWithin}
 use Rattle.stab_run.specs.ProgramStates.{StepFits, program_state, output_of}
@@ -381,7 +381,7 @@ module _ (n : ℕ) (coins : ℕ → Bool) (K : ℕ) (xs : List Step) (count : �
         (committed.reach ∙ reach)
         (committed.checkpoints ∙ (λ i. all_laid K (is.copies i) (all_laid K (laid i) (take m old.checkpoints.items))))
 
--- flags and coins
+-- flags
 
 pub end-flags : (n : ℕ) (p : Plan) (r : Replay) (old : KeptRun) (end : End) (new : RunOutput) (strings : StringsState) (rest : Rest)
     → IsEnd n p r old.checkpoints.items old.outputs.records.items end → IsRest old r.tableau (output_of r.outputs) r.notes.strings r.step end new strings rest
@@ -392,10 +392,3 @@ end-flags n p r old (Joined j) new strings rest end is =
     let d = found.0 in
     let old_rest = some-at (IsOldRest old (output_of r.outputs) r.notes.strings r.step j new strings rest) old.checkpoints.items j d found.1 is in
     omega (arith, ap (λ (o : RunOutput). ones o.free) old_rest.output, ones-append r.outputs.free.items (drop d.lengths.free old.outputs.free.items))
-
-coins-append : (xs ys : List Step) → all_coins_of (xs ++ ys) ≡ all_coins_of xs + all_coins_of ys
-coins-append [] ys = omega arith
-coins-append (x ∷ xs) ys = omega (arith, coins-append xs ys)
-
-pub coins-behind : (i : ℕ) (xs : List Step) → all_coins_of (drop i xs) ≤ all_coins_of xs
-coins-behind i xs = omega (arith, ap all_coins_of (take-append-drop i xs), coins-append (take i xs) (drop i xs))

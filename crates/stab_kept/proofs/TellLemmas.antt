@@ -8,16 +8,13 @@ use Rattle.stab_circuit.specs.declared.edit.Span.{Span}
 use Rattle.stab_run.specs.Points.{RunOutput, origin, joined, outputs}
 use Rattle.stab_run.specs.Cuts.{lengths_of, front_of, rest_of}
 use Rattle.stab_run.specs.ProgramStates.{StepFits, output_of}
-use Rattle.stab_frames.specs.KeptStrings.{note_at}
-use Rattle.stab_frames.specs.Walks.{WalkState}
 use Rattle.stab_copies.specs.declared.checkpoint.Checkpoint.{Checkpoint}
 use Rattle.stab_copies.specs.Checkpoints.{IsCheckpoint}
 use Rattle.stab_replay.specs.NotedStrings.{IsNoted}
 use Rattle.stab_turns.specs.PauliSpans.{DifferByPaulis}
 use Rattle.stab_turns.specs.LedFrames.{AreInOrder}
-use Rattle.stab_turns.proofs.FlagLemmas.{flags-stay}
 use Rattle.stab_turns.proofs.PauliSpanLemmas.{span-old-output}
-use Rattle.stab_turns.proofs.LedRunLemmas.{IsLedRun, led-run, run-output, run-group, run-noted}
+use Rattle.stab_turns.proofs.LedRunLemmas.{IsLedRun, led-run, run-output, run-unflagged, run-group, run-noted}
 use Rattle.stab_turns.proofs.LedCopyLemmas.{run-copies, run-agrees, run-differs}
 use Rattle.stab_kept.specs.declared.kept.KeptRun.{KeptRun}
 use Rattle.stab_kept.specs.declared.turning.Turning.{Turning}
@@ -39,14 +36,15 @@ module _ {coins : ℕ → Bool} {K : ℕ} {xs ys : List Step} {s : Span} {p : Si
       (some-at _ old.checkpoints.items (m - 1) (before count kept span few counted).copy (before count kept span few counted).here turning.from)
       ∙ ap lengths_of (sym (span-old-output old.tableau.qubits coins xs ys s p.letters span.old_order span.new_order span.before differ))
 
+  order : AreInOrder s.old_end (length xs) (drop m old.checkpoints.items)
+  order = in-order K (length xs) s.old_end m old.checkpoints.items kept.spaced.near span.old_within behind
+
   run : IsLedRun old.tableau.qubits coins xs ys (drop s.new_end ys) s.old_end s.new_end old.strings old.outputs.free.items old.reach (drop m old.checkpoints.items) t.turned.items
       (output_of old.outputs) t.from turning.start t.walk
   run =
       led-run old.tableau.qubits coins xs ys s p.letters old.strings old.outputs.free.items old.reach (drop m old.checkpoints.items) t.turned.items (output_of old.outputs) t.from turning.start t.walk
-      span.old_order span.old_within span.new_order span.new_within span.before span.behind differ kept.run.output refl kept.noted kept.fits from_is turning.begins turning.led
-
-  order : AreInOrder s.old_end (length xs) (drop m old.checkpoints.items)
-  order = in-order K (length xs) s.old_end m old.checkpoints.items kept.spaced.near span.old_within behind
+      span.old_order span.old_within span.new_order span.new_within span.before span.behind differ kept.run.output refl kept.noted kept.fits from_is turning.begins
+      (All-drop (IsCheckpoint old.tableau.qubits coins xs) m old.checkpoints.items kept.checkpoints) order turning.led
 
   pub tells-run : TellsRun old.tableau.qubits coins xs ys s (drop m old.checkpoints.items) (output_of old.outputs) old.strings old.reach t.from t.walk t.turned.items
   tells-run = record {
@@ -54,14 +52,14 @@ module _ {coins : ℕ → Bool} {K : ℕ} {xs ys : List Step} {s : Span} {p : Si
         run-output old.tableau.qubits coins xs ys (drop s.new_end ys) s.old_end s.new_end old.strings old.outputs.free.items old.reach (drop m old.checkpoints.items) t.turned.items
         (output_of old.outputs) t.from turning.start t.walk run
         ∙ ap (joined (front_of t.from (output_of old.outputs)))
-        (sym (flags-stay old.tableau.qubits (note_at old.strings.strings old.outputs.free.items) (take turning.led.steps (drop s.new_end ys)) turning.start t.walk
-        (rest_of t.from (output_of old.outputs)) turning.led.walked (ap (λ (w : WalkState). w.flips) turning.begins)));
+        (run-unflagged old.tableau.qubits coins xs ys (drop s.new_end ys) s.old_end s.new_end old.strings old.outputs.free.items old.reach (drop m old.checkpoints.items) t.turned.items
+        (output_of old.outputs) t.from turning.start t.walk run (rest_of t.from (output_of old.outputs)));
     group =
         run-group old.tableau.qubits coins xs ys (drop s.new_end ys) s.old_end s.new_end old.strings old.outputs.free.items old.reach (drop m old.checkpoints.items) t.turned.items
         (output_of old.outputs) t.from turning.start t.walk run;
     moved_copies =
         run-copies old.tableau.qubits coins xs ys (drop s.new_end ys) s.old_end s.new_end old.strings old.outputs.free.items old.reach (drop m old.checkpoints.items) t.turned.items
-        (output_of old.outputs) t.from turning.start t.walk run (omega (arith, few)) (All-drop (IsCheckpoint old.tableau.qubits coins xs) m old.checkpoints.items kept.checkpoints) order;
+        (output_of old.outputs) t.from turning.start t.walk run (omega (arith, few));
     noted =
         subst (λ (o : RunOutput). IsNoted old.tableau.qubits coins ys old.strings o.free old.reach)
         (sym (run-output old.tableau.qubits coins xs ys (drop s.new_end ys) s.old_end s.new_end old.strings old.outputs.free.items old.reach (drop m old.checkpoints.items) t.turned.items
@@ -70,10 +68,10 @@ module _ {coins : ℕ → Bool} {K : ℕ} {xs ys : List Step} {s : Span} {p : Si
         (output_of old.outputs) t.from turning.start t.walk run);
     apart =
         run-differs old.tableau.qubits coins xs ys (drop s.new_end ys) s.old_end s.new_end old.strings old.outputs.free.items old.reach (drop m old.checkpoints.items) t.turned.items
-        (output_of old.outputs) t.from turning.start t.walk run order;
+        (output_of old.outputs) t.from turning.start t.walk run;
     agree =
         run-agrees old.tableau.qubits coins xs ys (drop s.new_end ys) s.old_end s.new_end old.strings old.outputs.free.items old.reach (drop m old.checkpoints.items) t.turned.items
-        (output_of old.outputs) t.from turning.start t.walk run order;
+        (output_of old.outputs) t.from turning.start t.walk run;
   }
 
 -- the end that a frame leads to is behind the span

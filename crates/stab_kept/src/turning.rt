@@ -90,7 +90,8 @@ fn put_states(copies: &mut Vec<Checkpoint>, from: usize, states: &mut Vec<Compac
 
 impl KeptRun {
     /// Leads the frame of a string over the steps behind a span that differs by Pauli gates alone, from
-    /// the copy before it, which has the number one less. `None` where it can't tell the run behind.
+    /// the copy before it, which has the number one less. `None` where it can't tell the run behind. Copies
+    /// are looked at in the memory of a spare tableau if there is one.
     ///
     /// Refusal `OutOfMemory` alone.
     fn turning(
@@ -100,6 +101,7 @@ impl KeptRun {
         span: Span,
         before: usize,
         string: &Pauli,
+        spare: &mut Option<Tableau>,
     ) -> Result<Option<Turning>, Refusal>
         requires checked { check_within self.now.tableau.qubits (circuit_items circuit.now) ≡ None }
         requires same_length { length string.now.letters ≡ self.now.tableau.qubits }
@@ -129,6 +131,7 @@ impl KeptRun {
             &mut cursor,
             &mut walk,
             &mut turned,
+            spare,
         )?;
         if !led {
             return Ok(None);
@@ -171,7 +174,8 @@ impl KeptRun {
 
     /// Makes this the run of an edited circuit, whose steps differ within the span by Pauli gates alone,
     /// which come to a string, by turning it where it lies. `None`, and nothing has changed, where a frame
-    /// can't tell the new run, or a copy must be laid.
+    /// can't tell the new run, or a copy must be laid. Copies are looked at in the memory of a spare tableau
+    /// if there is one.
     ///
     /// Refusal `OutOfMemory` alone; then nothing has changed either.
     fn turn(
@@ -181,6 +185,7 @@ impl KeptRun {
         span: Span,
         string: &Pauli,
         stride: usize,
+        spare: &mut Option<Tableau>,
     ) -> Result<Option<Followed>, Refusal>
         requires checked { check_within self.old.tableau.qubits (circuit_items circuit.now) ≡ None }
         requires same_length { length string.now.letters ≡ self.old.tableau.qubits }
@@ -199,7 +204,7 @@ impl KeptRun {
         if !stays_near(self.checkpoints.as_slice(), before, span, total, stride) {
             return Ok(None);
         }
-        match self.turning(alloc, circuit, span, before, string)? {
+        match self.turning(alloc, circuit, span, before, string, spare)? {
             Some(turning) => {
                 let copies = self.checkpoints.as_slice();
                 let end = end_place(copies, before + turning.turned.len(), span, total);
@@ -249,7 +254,7 @@ impl KeptRun {
         ensures err { IfErr result (λ r. r ≡ OutOfMemory) }
     {
         if let Some(string) = paulis {
-            if let Some(followed) = self.turn(alloc, circuit, span, &string, stride)? {
+            if let Some(followed) = self.turn(alloc, circuit, span, &string, stride, spare)? {
                 return Ok(followed);
             }
         }

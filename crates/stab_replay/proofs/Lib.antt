@@ -1,5 +1,6 @@
 pub mod PointLemmas
 pub mod ReplayLemmas
+mod BitLemmas
 mod LaidLemmas
 pub mod FramedLemmas
 pub mod SegmentLemmas

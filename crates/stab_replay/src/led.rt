@@ -8,6 +8,7 @@ ghost use Rattle.stab_frames.specs.KeptStrings.{StringsState};
 ghost use Rattle.stab_replay.specs.Replays.{IsAtStep, Ascending, IsOnWay, IsPlacedAt};
 ghost use Rattle.stab_replay.specs.inner.LedReplays.{IsBeside, IsLed, IsPassed, LedOn, IsLedTo, later_of, with_state, with_cursor};
 
+use crate::bits::has_one;
 use crate::framed::turned_copy;
 use crate::replay::{Plan, Replay};
 use stab_circuit::{Circuit, Cursor};
@@ -239,16 +240,4 @@ impl<'a> Replay<'a> {
             None => Ok(Led { next, there: false }),
         }
     }
-}
-
-/// Whether there is a 1 among bits.
-fn has_one(bits: &[bool]) -> bool
-    ensures one { result ≡ true → 1 ≤ ones bits.now }
-{
-    for bit in bits {
-        if *bit {
-            return true;
-        }
-    }
-    false
 }

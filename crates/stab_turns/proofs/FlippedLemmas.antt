@@ -3,7 +3,10 @@ use Rattle.std.proofs.Common.{◌≡◌, ℕ, zero, suc, ◌+◌, ◌<◌, ◌�
 use Rattle.std.proofs.Math.Bool.{beq}
 use Rattle.stab_letters.specs.Letters.{◌⊕◌}
 use Rattle.stab_steps.specs.declared.records.Addition.{Addition}
-use Rattle.stab_frames.specs.Flips.{flipped, flipped_additions}
+use Rattle.stab_run.specs.Points.{RunOutput, nothing, joined}
+use Rattle.stab_steps.proofs.RunLemmas.{joined-nothing}
+use Rattle.stab_frames.specs.Flips.{flipped, flipped_additions, flipped_output, Matches}
+use Rattle.stab_frames.proofs.FlipLemmas.{flipped-joined}
 
 -- where two bits differ
 differ : (x y : Bool) → not (beq x y) ≡ y ⊕ x
@@ -74,3 +77,17 @@ additions-all (suc i) (x ∷ adds) [] all = refl
 additions-all zero (x ∷ adds) (y ∷ flips) all = absurd (omega arith)
 additions-all (suc i) (x ∷ adds) (y ∷ flips) all =
     ap (λ more. flipped_addition x y ∷ more) (additions-all i adds flips (omega arith))
+
+-- flips as long as the first of two outputs flip that one alone
+
+output-none : (o : RunOutput) → flipped_output o nothing ≡ o
+output-none o = λ i. record {
+  records = flipped-none o.records i;
+  free = flipped-none o.free i;
+  detectors = flipped-none o.detectors i;
+  additions = additions-none o.additions i;
+}
+
+pub flipped-front : (a b flips : RunOutput) → Matches a flips → flipped_output (joined a b) flips ≡ joined (flipped_output a flips) b
+flipped-front a b flips same =
+    ap (flipped_output (joined a b)) (sym (joined-nothing flips)) ∙ flipped-joined a b flips nothing same ∙ ap (joined (flipped_output a flips)) (output-none b)

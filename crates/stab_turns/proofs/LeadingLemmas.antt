@@ -1,13 +1,16 @@
 -- Led frames: a frame that went over some of the steps, over some more, and past the next copy.
-use Rattle.std.proofs.Common.{◌≡◌, ◌≢◌, ℕ, suc, ◌+◌, ◌-◌, ◌^◌, ◌<◌, ◌≤◌, refl, sym, ◌∙◌, ap, subst, Bool, List, [], ◌∷◌, ◌++◌, append-nil, length, take, drop, get_or, All, Option, inl, inr, arith}
+use Rattle.std.proofs.Common.{◌≡◌, ◌≢◌, ℕ, suc, ◌+◌, ◌-◌, ◌^◌, ◌<◌, ◌≤◌, refl, sym, ◌∙◌, ap, subst, Bool, true, false, List, [], ◌∷◌, ◌++◌, append-nil, length, replicate, take, drop, slice_get, get_or, All, Option, Some, ◌⊎◌, inl, inr, arith}
 use Rattle.std.proofs.Math.Seq.{take-add, take-suc, drop-cons, drop-append_seam}
 use Rattle.std.proofs.lemmas.List.{take-append-drop, length-take, length-drop, length-append, drop-drop}
+use Rattle.std.proofs.lemmas.Option.{slice_get_read}
 use Rattle.std.proofs.lemmas.List.Elements.{All-nil, All-cons, All-get_or}
 use Rattle.stab_letters.specs.declared.letter.Letter.{Letter}
+use Rattle.stab_letters.specs.declared.letter.Letter.TheVariants.{I}
+use Rattle.stab_pauli.specs.Paulis.{Signed}
 use Rattle.stab_tableau.specs.Tableaus.{TableauState, stabilises}
 use Rattle.stab_tableau.specs.Turns.{IsTurned}
 use Rattle.stab_circuit.specs.Steps.{Step, one, two, controlled, collapse, product, detector, observable}
-use Rattle.stab_run.specs.Records.{ones}
+use Rattle.stab_run.specs.Records.{looked_up, ones}
 use Rattle.stab_run.specs.Points.{Point, RunOutput, coins_of, all_coins_of, given, next_point, point_after, outputs}
 use Rattle.stab_steps.proofs.RunLemmas.{outputs-append}
 use Rattle.stab_frames.specs.Notes.{same_coins}
@@ -23,7 +26,9 @@ use Rattle.stab_frames.proofs.TrueLemmas.{true-rest}
 use Rattle.stab_frames.proofs.PassLemmas.{over-append}
 use Rattle.stab_copies.specs.declared.checkpoint.Checkpoint.{Checkpoint}
 use Rattle.stab_replay.specs.FramedReplays.{AreEnoughBy}
-use Rattle.stab_turns.specs.LedFrames.{AreInOrder, IsTurnedBehind, AreTurnedCopies, IsLedFrame}
+use Rattle.stab_turns.specs.LedFrames.{AreInOrder, IsTurnedBehind, AreTurnedCopies, Stabilise, TurnSome, Ending, IsLastApart, IsLedFrame}
+use Rattle.stab_turns.proofs.TurnSomeLemmas.{turned-apart}
+use Rattle.stab_turns.proofs.QuietLemmas.{quiet-gone, flips-more}
 
 -- copies in order
 
@@ -37,6 +42,9 @@ order-first at end j cs c is lt order =
     let here : (at ≤ c.step) × AreInOrder c.step end (drop (suc j) cs) =
     subst (λ d. (at ≤ d.step) × AreInOrder d.step end (drop (suc j) cs)) (sym is) (subst (AreInOrder at end) (drop-cons cs j c lt) order) in
     (here.0, order-end c.step end (drop (suc j) cs) here.1, subst (λ k. AreInOrder c.step end (drop k cs)) {x = suc j} (omega arith) here.1)
+
+pub next-copy : (j k : ℕ) (cs : List Checkpoint) (c : Checkpoint) → k ≡ length (take j cs) → c ≡ get_or cs j c → j < length cs → slice_get cs k ≡ Some c
+next-copy j k cs c count is lt = ap (slice_get cs) {y = j} (omega (arith, count, length-take j cs, lt)) ∙ slice_get_read cs (length cs) j c refl lt is
 
 -- copies behind a step are behind what was gone over before
 order-behind : (from steps at end : ℕ) (cs : List Checkpoint) → from + steps ≤ at → AreInOrder at end cs → All (λ c. steps ≤ c.step - from) cs
@@ -145,7 +153,26 @@ module _ (n : ℕ) (strings : List (List Letter)) (free : List Bool) (back : Lis
   turned-before steps [] rest (u ∷ ts) count behind are = absurd are
   turned-before steps (b ∷ cs) rest (u ∷ ts) count behind are = (are.0, are.1, turned-before steps cs rest ts (omega (arith, count)) behind are.2)
 
--- a frame went over so many steps, past these copies, which were turned
+-- the last turned copy
+
+apart-with : (n : ℕ) (cs : List Checkpoint) (ts : List TableauState) (c : Checkpoint) (t : TableauState) → length ts ≡ length cs
+    → (p : Signed) × (length p.letters ≡ n) × (stabilises c.tableau p ≡ true) × (stabilises t p ≡ false) → IsLastApart n (cs ++ c ∷ []) (ts ++ t ∷ [])
+apart-with n [] [] c t count apart = apart
+apart-with n (b ∷ cs) [] c t count apart = absurd (omega (arith, count))
+apart-with n [] (u ∷ ts) c t count apart = absurd (omega (arith, count))
+apart-with n (b ∷ []) (u ∷ []) c t count apart = apart
+apart-with n (b ∷ d ∷ cs) (u ∷ []) c t count apart = absurd (omega (arith, count))
+apart-with n (b ∷ cs) (u ∷ v ∷ ts) c t count apart = apart-with n cs (v ∷ ts) c t (omega (arith, count)) apart
+
+apart-before : (n : ℕ) (cs rest : List Checkpoint) (ts : List TableauState) → IsLastApart n cs ts → IsLastApart n (cs ++ rest) ts
+apart-before n [] rest [] apart = absurd apart
+apart-before n (c ∷ cs) rest [] apart = absurd apart
+apart-before n [] rest (t ∷ ts) apart = absurd apart
+apart-before n (c ∷ cs) rest (t ∷ []) apart = apart
+apart-before n (c ∷ cs) rest (t ∷ u ∷ ts) apart = apart-before n cs rest (u ∷ ts) apart
+
+-- a frame went over so many steps, past these copies, which were turned; where there are any, it flips a record, or turns a stabiliser of
+-- the last of them
 pub record IsPast (n : ℕ) (strings : List (List Letter)) (free : List Bool) (back : List Step) (from steps : ℕ) (cs : List Checkpoint) (ts : List TableauState) (old new : WalkState) : Type 0 where
   pub within : steps ≤ length back
   pub size : length new.letters ≡ n
@@ -154,14 +181,15 @@ pub record IsPast (n : ℕ) (strings : List (List Letter)) (free : List Bool) (b
   pub enough : AreEnoughBy n (note_at strings free) free back steps old
   pub count : length ts ≡ length cs
   pub copies : AreTurnedCopies n strings free back from steps old cs ts
+  pub differs : 1 ≤ length ts → (1 ≤ ones new.flips.records) ⊎ IsLastApart n cs ts
 
 -- with the state of the copy at its place turned
 
-pub past-copy : {n : ℕ} {strings : List (List Letter)} {free : List Bool} {back : List Step} {from steps : ℕ} {cs : List Checkpoint} {ts : List TableauState} {old new : WalkState}
-    → IsPast n strings free back from steps cs ts old new → (c : Checkpoint) (t : TableauState) (letters : List Letter) → steps ≡ c.step - from → letters ≡ new.letters → c.tableau.qubits ≡ n
-    → t.qubits ≡ c.tableau.qubits → IsTurned c.tableau.qubits letters (stabilises c.tableau) (stabilises t)
+past-copy : {n : ℕ} {strings : List (List Letter)} {free : List Bool} {back : List Step} {from steps : ℕ} {cs : List Checkpoint} {ts : List TableauState} {old new : WalkState}
+    → IsPast n strings free back from steps cs ts old new → (c : Checkpoint) (t : TableauState) → steps ≡ c.step - from → c.tableau.qubits ≡ n → t.qubits ≡ c.tableau.qubits
+    → IsTurned c.tableau.qubits new.letters (stabilises c.tableau) (stabilises t) → (1 ≤ ones new.flips.records) ⊎ TurnSome new.letters c.tableau
     → IsPast n strings free back from (c.step - from) (cs ++ c ∷ []) (ts ++ t ∷ []) old new
-past-copy {n} {strings} {free} {back} {from} {steps} {cs} {ts} {old} {new} past c t letters at read same qubits turned =
+past-copy {n} {strings} {free} {back} {from} {steps} {cs} {ts} {old} {new} past c t at same qubits turned turns =
     subst (λ k. IsPast n strings free back from k (cs ++ c ∷ []) (ts ++ t ∷ []) old new) at
     (record {
       within = past.within;
@@ -176,20 +204,26 @@ past-copy {n} {strings} {free} {back} {from} {steps} {cs} {ts} {old} {new} past 
             walk = new;
             walked = subst (λ k. WalksOver n (note_at strings free) (take k back) old new) at past.walked;
             qubits = qubits;
-            turned =
-                subst (λ l. IsTurned n l (stabilises c.tableau) (stabilises t)) read
-                (subst (λ m. IsTurned m letters (stabilises c.tableau) (stabilises t)) same turned);
+            turned = subst (λ m. IsTurned m new.letters (stabilises c.tableau) (stabilises t)) same turned;
           }) past.copies;
+      differs = λ some. differs turns;
     })
+  where
+    differs : (1 ≤ ones new.flips.records) ⊎ TurnSome new.letters c.tableau → (1 ≤ ones new.flips.records) ⊎ IsLastApart n (cs ++ c ∷ []) (ts ++ t ∷ [])
+    differs (inl flips) = inl flips
+    differs (inr some) = inr (apart-with n cs ts c t past.count (turned-apart n new.letters c.tableau t same some turned))
 
 pub past-next : {n : ℕ} {strings : List (List Letter)} {free : List Bool} {back : List Step} {from steps : ℕ} {ts : List TableauState} {old new : WalkState} (j : ℕ) (copies : List Checkpoint)
-    → IsPast n strings free back from steps (take j copies) ts old new → (c : Checkpoint) (t : TableauState) (letters : List Letter) (us : List TableauState) → c ≡ get_or copies j c → j < length copies
-    → us ≡ ts ++ t ∷ [] → steps ≡ c.step - from → letters ≡ new.letters → All (λ d. d.tableau.qubits ≡ n) copies → t.qubits ≡ c.tableau.qubits
-    → IsTurned c.tableau.qubits letters (stabilises c.tableau) (stabilises t) → IsPast n strings free back from (c.step - from) (take (j + 1) copies) us old new
-past-next {n} {strings} {free} {back} {from} {steps} {ts} {old} {new} j copies past c t letters us is lt with_it at read same qubits turned =
-    subst (λ vs. IsPast n strings free back from (c.step - from) (take (j + 1) copies) vs old new) (sym with_it)
+    → IsPast n strings free back from steps (take j copies) ts old new → (c : Checkpoint) (t : TableauState) (after : WalkState) (us : List TableauState) → c ≡ get_or copies j c → j < length copies
+    → us ≡ ts ++ t ∷ [] → steps ≡ c.step - from → after ≡ new → All (λ d. d.tableau.qubits ≡ n) copies → t.qubits ≡ c.tableau.qubits
+    → (letters : List Letter) → letters ≡ after.letters → IsTurned c.tableau.qubits letters (stabilises c.tableau) (stabilises t) → (1 ≤ ones new.flips.records) ⊎ TurnSome new.letters c.tableau
+    → IsPast n strings free back from (c.step - from) (take (j + 1) copies) us old after
+past-next {n} {strings} {free} {back} {from} {steps} {ts} {old} {new} j copies past c t after us is lt with_it at same_walk same qubits letters read turned turns =
+    subst (λ w. IsPast n strings free back from (c.step - from) (take (j + 1) copies) us old w) (sym same_walk)
+    (subst (λ vs. IsPast n strings free back from (c.step - from) (take (j + 1) copies) vs old new) (sym with_it)
     (subst (λ ds. IsPast n strings free back from (c.step - from) ds (ts ++ t ∷ []) old new) (sym front)
-    (past-copy past c t letters at read (subst (λ d. d.tableau.qubits ≡ n) (sym is) (All-get_or (λ d. d.tableau.qubits ≡ n) copies j c lt same)) qubits turned))
+    (past-copy past c t at (subst (λ d. d.tableau.qubits ≡ n) (sym is) (All-get_or (λ d. d.tableau.qubits ≡ n) copies j c lt same)) qubits
+    (subst (λ l. IsTurned c.tableau.qubits l (stabilises c.tableau) (stabilises t)) (read ∙ ap (λ (w : WalkState). w.letters) same_walk) turned) turns)))
   where
     front : take (j + 1) copies ≡ take j copies ++ c ∷ []
     front = ap (λ k. take k copies) {y = suc j} (omega arith) ∙ take-suc copies j c lt ∙ ap (λ d. take j copies ++ d ∷ []) (sym is)
@@ -227,46 +261,83 @@ module _ {n : ℕ} {strings : List (List Letter)} {free : List Bool} {back : Lis
       enough = enough-more n (note_at strings free) free back k m old now past.walked past.enough enough_rest;
       count = past.count;
       copies = turned-further n strings free back from old k (k + m) cs ts (omega arith) past.count past.copies;
+      differs = λ some. differs (past.differs some);
     }
+      where
+        differs : (1 ≤ ones now.flips.records) ⊎ IsLastApart n cs ts → (1 ≤ ones new.flips.records) ⊎ IsLastApart n cs ts
+        differs (inl flips) = inl (flips-more n (note_at strings free) (take m (drop k back)) now new walked_rest flips)
+        differs (inr apart) = inr apart
 
-    module _ (reach : ℕ) (copies : List Checkpoint) (stop : Stop) (stops : IsStop (length now.letters) reach m (length (take most left)) new stop)
-        (differs : 1 ≤ length ts → 1 ≤ ones new.flips.records) where
-      -- the frame is gone before the next copies
-      pub led-gone : (others : List Checkpoint) → cs ++ others ≡ copies → All (λ c. k + m ≤ c.step - from) others → stop ≡ Gone
-          → IsLedFrame n strings free reach back from copies ts old new
-      led-gone others all behind gone = record {
+    module _ (reach : ℕ) (copies others : List Checkpoint) (all : cs ++ others ≡ copies) (behind : All (λ c. k + m ≤ c.step - from) others) where
+      -- where it ends, of all copies
+      turned_all : AreTurnedCopies n strings free back from (k + m) old copies ts
+      turned_all = subst (λ ds. AreTurnedCopies n strings free back from (k + m) old ds ts) all (turned-before n strings free back from old (k + m) cs others ts past.count behind past-more.copies)
+
+      differs_all : 1 ≤ length ts → (1 ≤ ones new.flips.records) ⊎ IsLastApart n copies ts
+      differs_all some = of-all (past-more.differs some)
+        where
+          of-all : (1 ≤ ones new.flips.records) ⊎ IsLastApart n cs ts → (1 ≤ ones new.flips.records) ⊎ IsLastApart n copies ts
+          of-all (inl flips) = inl flips
+          of-all (inr apart) = inr (subst (λ ds. IsLastApart n ds ts) all (apart-before n cs others ts apart))
+
+      led-there : Ending n reach back from (k + m) copies ts new new → IsLedFrame n strings free reach back from copies ts old new
+      led-there ends = record {
         steps = k + m;
         within = past-more.within;
+        last = new;
         walked = past-more.walked;
         enough = past-more.enough;
-        ends = inr (λ base. subst (λ i. IsGone i reach (frame_at base new)) past.size (subst (IsStop (length now.letters) reach m (length (take most left)) new) gone stops base));
-        copies = subst (λ ds. AreTurnedCopies n strings free back from (k + m) old ds ts) all (turned-before n strings free back from old (k + m) cs others ts past.count behind past-more.copies);
-        differs = differs;
+        ends = ends;
+        copies = turned_all;
+        differs = differs_all;
       }
 
-      -- it went over all that is left, behind the last copy
-      led-over : cs ≡ copies → length left ≤ most → stop ≡ Behind → IsLedFrame n strings free reach back from copies ts old new
-      led-over all long behind = record {
+      -- it is dropped at the next copy
+      pub led-dropped : (c : Checkpoint) (left-over : WalkState) → slice_get copies (length ts) ≡ Some c → k + m ≡ c.step - from → Stabilise new.letters c.tableau
+          → left-over ≡ record new { letters = replicate (length new.letters) I } → ((i : ℕ) → i ≤ reach → looked_up new.flips.records i ≡ false)
+          → IsLedFrame n strings free reach back from copies ts old left-over
+      led-dropped c left-over here at stabilise blank quiet = record {
         steps = k + m;
         within = past-more.within;
+        last = new;
         walked = past-more.walked;
         enough = past-more.enough;
-        ends = inl (over, past.count ∙ ap length all);
-        copies = subst (λ ds. AreTurnedCopies n strings free back from (k + m) old ds ts) all past-more.copies;
-        differs = differs;
+        ends =
+            Ending.dropped c here (sym at)
+            (record {
+              stabilise = stabilise;
+              left = blank_there;
+              gone = λ base.
+                  quiet-gone n reach base left-over (ap (λ (w : WalkState). w.letters) blank_there)
+                  (subst (λ (w : WalkState). (i : ℕ) → i ≤ reach → looked_up w.flips.records i ≡ false) (sym blank_there) quiet);
+            });
+        copies = turned_all;
+        differs = subst (λ (w : WalkState). 1 ≤ length ts → (1 ≤ ones w.flips.records) ⊎ IsLastApart n copies ts) (sym blank_there) differs_all;
       }
         where
-          steps_all : m ≡ length (take most left)
-          steps_all = subst (IsStop (length now.letters) reach m (length (take most left)) new) behind stops
+          blank_there : left-over ≡ record new { letters = replicate n I }
+          blank_there = blank ∙ ap (λ i. record new { letters = replicate i I }) past-more.size
 
-          over : k + m ≡ length back
-          over = omega (arith, steps_all, length-take most left, long, ap length rest, length-drop k back, past.within)
+      -- it is gone before the next copy
+      pub led-gone : (stop : Stop) → IsStop (length now.letters) reach m (length (take most left)) new stop → stop ≡ Gone → IsLedFrame n strings free reach back from copies ts old new
+      led-gone stop stops is =
+          led-there
+          (Ending.gone (λ base. subst (λ i. IsGone i reach (frame_at base new)) past.size (subst (IsStop (length now.letters) reach m (length (take most left)) new) is stops base)) refl)
 
-      -- or is gone there
-      pub led-behind : cs ≡ copies → length left ≤ most → stop ≢ NoString → IsLedFrame n strings free reach back from copies ts old new
-      led-behind all long told = by-stop stop refl
-        where
-          by-stop : (s : Stop) → stop ≡ s → IsLedFrame n strings free reach back from copies ts old new
-          by-stop Behind e = led-over all long e
-          by-stop Gone e = led-gone [] (append-nil cs ∙ all) (All-nil (λ c. k + m ≤ c.step - from)) e
-          by-stop NoString e = absurd (told e)
+    -- behind the last copy it went over all that is left, or is gone there
+    pub led-behind : (reach : ℕ) (copies : List Checkpoint) → cs ≡ copies → length left ≤ most → (stop : Stop) → IsStop (length now.letters) reach m (length (take most left)) new stop
+        → stop ≢ NoString → IsLedFrame n strings free reach back from copies ts old new
+    led-behind reach copies all long stop stops told = by-stop stop refl
+      where
+        none-behind : All (λ (c : Checkpoint). k + m ≤ c.step - from) []
+        none-behind = All-nil (λ (c : Checkpoint). k + m ≤ c.step - from)
+
+        whole : stop ≡ Behind → k + m ≡ length back
+        whole is =
+            let steps_all : m ≡ length (take most left) = subst (IsStop (length now.letters) reach m (length (take most left)) new) is stops in
+            omega (arith, steps_all, length-take most left, long, ap length rest, length-drop k back, past.within)
+
+        by-stop : (s : Stop) → stop ≡ s → IsLedFrame n strings free reach back from copies ts old new
+        by-stop Behind e = led-there reach copies [] (append-nil cs ∙ all) none-behind (Ending.over (whole e) (past.count ∙ ap length all) refl)
+        by-stop Gone e = led-gone reach copies [] (append-nil cs ∙ all) none-behind stop stops e
+        by-stop NoString e = absurd (told e)

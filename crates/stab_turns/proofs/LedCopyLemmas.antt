@@ -1,33 +1,37 @@
 -- Led copies: copies of a run, turned by a frame that was led past them, are copies of the run that the frame makes of it.
-use Rattle.std.proofs.Common.{◌≡◌, ℕ, zero, suc, ◌+◌, ◌-◌, ◌^◌, ◌<◌, ◌≤◌, sym, ◌∙◌, ap, subst, Bool, ◌⊎◌, inl, inr, List, [], ◌∷◌, ◌++◌, All, map, length, take, drop, replicate, slice_get, Option, Some, None, arith}
+use Rattle.std.proofs.Common.{◌≡◌, ℕ, zero, suc, ◌+◌, ◌-◌, ◌^◌, ◌<◌, ◌≤◌, refl, sym, ◌∙◌, ap, subst, Bool, true, false, ◌⊎◌, inl, inr, List, [], ◌∷◌, ◌++◌, All, map, length, take, drop, replicate, slice_get, Some, arith}
 use Rattle.std.specs.Prelude.{IfSome}
 use Rattle.std.proofs.lemmas.List.{length-append, length-drop, length-take-le}
 use Rattle.std.proofs.lemmas.List.Elements.{All-nil, All-cons, All-head, All-tail}
+use Rattle.std.proofs.lemmas.Option.{slice_get_within}
 use Rattle.stab_letters.specs.declared.letter.Letter.{Letter}
 use Rattle.stab_letters.specs.declared.letter.Letter.TheVariants.{I}
-use Rattle.stab_pauli.specs.Paulis.{with_sign, strings_anticommute}
+use Rattle.stab_pauli.specs.Paulis.{Signed, with_sign, strings_anticommute}
 use Rattle.stab_tableau.specs.Tableaus.{TableauState, stabilises}
 use Rattle.stab_tableau.specs.Traces.{member}
+use Rattle.stab_tableau.specs.Groups.{SameGroup}
 use Rattle.stab_tableau.specs.Turns.{IsTurned}
 use Rattle.stab_circuit.specs.Steps.{Step}
 use Rattle.stab_steps.specs.declared.records.Lengths.{Lengths}
+use Rattle.stab_run.specs.Records.{ones}
 use Rattle.stab_run.specs.Points.{Point, RunOutput, origin, joined, point_after, outputs}
 use Rattle.stab_run.specs.Cuts.{lengths_of}
 use Rattle.stab_run.specs.Laws.{AgreeAt}
-use Rattle.stab_steps.proofs.RunLemmas.{after-append, outputs-append}
+use Rattle.stab_steps.proofs.RunLemmas.{outputs-append}
 use Rattle.stab_run.proofs.PointLemmas.{HasAtMost, outputs-short}
 use Rattle.stab_frames.specs.Ends.{AgreeBack}
 use Rattle.stab_frames.specs.KeptStrings.{StringsState, note_at}
-use Rattle.stab_frames.specs.Walks.{WalkState, frame_at, IsGone}
+use Rattle.stab_frames.specs.Walks.{WalkState}
 use Rattle.stab_frames.proofs.TurnedLemmas.{turned-blank}
 use Rattle.stab_copies.specs.declared.checkpoint.Checkpoint.{Checkpoint}
 use Rattle.stab_copies.specs.declared.checkpoint.Meeting.{Meeting}
 use Rattle.stab_copies.specs.Checkpoints.{IsCheckpoint}
 use Rattle.stab_copies.specs.LaidCopies.{moved, moved_lengths, moved_copy}
 use Rattle.stab_copies.proofs.LastBitsLemmas.{take-more}
-use Rattle.stab_turns.specs.LedFrames.{AreInOrder, AreTurnedCopies, with_states}
-use Rattle.stab_turns.proofs.LedFrameLemmas.{led-on-way, led-further, led-lengths, led-differ, led-agree}
-use Rattle.stab_turns.proofs.LedRunLemmas.{IsLedRun, run-behind}
+use Rattle.stab_turns.specs.LedFrames.{AreInOrder, AreTurnedCopies, IsLastApart, with_states}
+use Rattle.stab_turns.proofs.EndingLemmas.{IsEnded, rest-point, order-from}
+use Rattle.stab_turns.proofs.LedFrameLemmas.{IsLedBehind, agree-further, led-on-way, led-further, led-lengths, led-differ, led-agree}
+use Rattle.stab_turns.proofs.LedRunLemmas.{IsLedRun, run-ends, run-flips, run-behind}
 
 -- lengths that stay where they are
 
@@ -55,19 +59,6 @@ kept-lengths k a b few short = λ i. record {
 
 -- copies in order, the first of which were turned
 
-order-from : (from end : ℕ) (cs : List Checkpoint) (j : ℕ) → AreInOrder from end cs → IfSome (slice_get cs j) (λ c. from ≤ c.step)
-order-from from end [] j order = tt
-order-from from end (c ∷ cs) zero order = order.0
-order-from from end (c ∷ cs) (suc j) order = below (slice_get cs j) (order-from c.step end cs j order.1)
-  where
-    below : (found : Option Checkpoint) → IfSome found (λ d. c.step ≤ d.step) → IfSome found (λ d. from ≤ d.step)
-    below None h = tt
-    below (Some d) h = omega (arith, order.0, h)
-
-none-beyond : (cs : List Checkpoint) → IfSome (slice_get cs (length cs)) (λ c. ⊥)
-none-beyond [] = tt
-none-beyond (c ∷ cs) = none-beyond cs
-
 turned-within : (n : ℕ) (strings : List (List Letter)) (free : List Bool) (back : List Step) (from steps : ℕ) (old : WalkState) (cs : List Checkpoint) (ts : List TableauState) (j : ℕ)
     → AreTurnedCopies n strings free back from steps old cs ts → j < length ts → IfSome (slice_get cs j) (λ c. c.step - from ≤ steps)
 turned-within n strings free back from steps old cs [] j are lt = absurd (omega (arith, lt))
@@ -85,16 +76,10 @@ left-beyond n strings free back from steps old (c ∷ cs) (t ∷ ts) are = left-
 module _ (n : ℕ) (coins : ℕ → Bool) (xs ys back : List Step) (i k : ℕ) (strings : StringsState) (free : List Bool) (reach : ℕ) (copies : List Checkpoint) (turned : List TableauState)
     (o : RunOutput) (from : Lengths) (old new : WalkState) (r : IsLedRun n coins xs ys back i k strings free reach copies turned o from old new) where
   old_at : (m : ℕ) → point_after n coins (take (i + m) xs) origin ≡ point_after n coins (take m back) (point_after n coins (take i xs) origin)
-  old_at m =
-      ap (λ zs. point_after n coins zs origin) (take-more i m xs)
-      ∙ after-append n coins (take i xs) (take m (drop i xs)) origin
-      ∙ ap (λ zs. point_after n coins (take m zs) (point_after n coins (take i xs) origin)) r.old_behind
+  old_at = rest-point n coins xs back i r.old_behind
 
   new_at : (m : ℕ) → point_after n coins (take (k + m) ys) origin ≡ point_after n coins (take m back) (point_after n coins (take k ys) origin)
-  new_at m =
-      ap (λ zs. point_after n coins zs origin) (take-more k m ys)
-      ∙ after-append n coins (take k ys) (take m (drop k ys)) origin
-      ∙ ap (λ zs. point_after n coins (take m zs) (point_after n coins (take k ys) origin)) r.new_behind
+  new_at = rest-point n coins ys back k r.new_behind
 
   old_given : (m : ℕ) → outputs n coins (take (i + m) xs) origin
       ≡ joined (outputs n coins (take i xs) origin) (outputs n coins (take m back) (point_after n coins (take i xs) origin))
@@ -110,17 +95,34 @@ module _ (n : ℕ) (coins : ℕ → Bool) (xs ys back : List Step) (i k : ℕ) (
       ∙ outputs-append n coins (take k ys) (take m (drop k ys)) origin
       ∙ (λ j. joined (r.given j) (outputs n coins (take m (r.new_behind j)) (point_after n coins (take k ys) origin)))
 
+  here : IsLedBehind n coins (note_at strings.strings free) reach back (point_after n coins (take i xs) origin) (point_after n coins (take k ys) origin)
+      (length (point_after n coins (take i xs) origin).records) old r.led.last new r.led.steps
+  here = run-behind n coins xs ys back i k strings free reach copies turned o from old new r
+
+  -- a copy is so many steps behind the place
+  place : (j : ℕ) (c : Checkpoint) → slice_get copies j ≡ Some c → c.step ≡ i + (c.step - i)
+  place j c found = omega (arith, subst (λ d. IfSome d (λ e. i ≤ e.step)) found (order-from i (length xs) copies j r.order))
+
   -- where the two meet: their lists are as long as each other there
   abbrev pub meeting : Meeting
   meeting = record { old_step = i; new_step = k; old_lengths = from; new_lengths = from }
 
   -- a copy, turned by letters by which the runs differ there
-  module _ (c : Checkpoint) (t : TableauState) (g : List Letter) (behind : i ≤ c.step) (few : length ys < 2 ^ 64) (is : IsCheckpoint n coins xs c) (qubits : t.qubits ≡ n)
+  module _ (c : Checkpoint) (t : TableauState) (g : List Letter) (behind : i ≤ c.step) (is : IsCheckpoint n coins xs c)
       (turns : IsTurned n g (stabilises c.tableau) (stabilises t))
       (differ : IsTurned n g (member (point_after n coins (take (c.step - i) back) (point_after n coins (take i xs) origin)).trace)
       (member (point_after n coins (take (c.step - i) back) (point_after n coins (take k ys) origin)).trace)) where
     at : c.step ≡ i + (c.step - i)
     at = omega (arith, behind)
+
+    old-group : SameGroup n (stabilises c.tableau) (member (point_after n coins (take (c.step - i) back) (point_after n coins (take i xs) origin)).trace)
+    old-group p size =
+        is.group p size
+        ∙ ap (λ m. member (point_after n coins (take m xs) origin).trace p) at
+        ∙ ap (λ (q : Point). member q.trace p) (old_at (c.step - i))
+
+    new-group : SameGroup n (stabilises t) (member (point_after n coins (take (c.step - i) back) (point_after n coins (take k ys) origin)).trace)
+    new-group p size = turns p size ∙ old-group (with_sign (strings_anticommute g p.letters) p) size ∙ sym (differ p size)
 
     inside : k + (c.step - i) ≤ length ys
     inside =
@@ -136,9 +138,6 @@ module _ (n : ℕ) (coins : ℕ → Bool) (xs ys back : List Step) (i k : ℕ) (
           length-drop k ys,
         )
 
-    place : moved i k c.step ≡ k + (c.step - i)
-    place = omega (arith, inside, few)
-
     shown : c.lengths ≡ lengths_of (joined (outputs n coins (take i xs) origin) (outputs n coins (take (c.step - i) back) (point_after n coins (take k ys) origin)))
     shown =
         is.lengths
@@ -146,24 +145,18 @@ module _ (n : ℕ) (coins : ℕ → Bool) (xs ys back : List Step) (i k : ℕ) (
         ∙ ap lengths_of (old_given (c.step - i))
         ∙ lengths-joined (outputs n coins (take i xs) origin) (outputs n coins (take (c.step - i) back) (point_after n coins (take i xs) origin))
         (outputs n coins (take (c.step - i) back) (point_after n coins (take k ys) origin))
-        (sym (led-lengths n coins (note_at strings.strings free) reach back (point_after n coins (take i xs) origin) (point_after n coins (take k ys) origin)
-        (length (point_after n coins (take i xs) origin).records) old new r.led.steps
-        (run-behind n coins xs ys back i k strings free reach copies turned o from old new r) (c.step - i)))
+        (sym (led-lengths here (c.step - i)))
 
     short : HasAtMost (length (take (k + (c.step - i)) ys))
         (joined (outputs n coins (take i xs) origin) (outputs n coins (take (c.step - i) back) (point_after n coins (take k ys) origin)))
     short = subst (HasAtMost (length (take (k + (c.step - i)) ys))) (new_given (c.step - i)) (outputs-short n coins (take (k + (c.step - i)) ys) origin)
 
-    moved-turned : IsCheckpoint n coins ys (moved_copy meeting (record c { tableau = t }))
-    moved-turned = record {
+    moved-turned : length ys < 2 ^ 64 → t.qubits ≡ n → IsCheckpoint n coins ys (moved_copy meeting (record c { tableau = t }))
+    moved-turned few qubits = record {
       within = omega (arith, place, inside);
       qubits = qubits;
       group = λ p size.
-          turns p size
-          ∙ is.group (with_sign (strings_anticommute g p.letters) p) size
-          ∙ ap (λ m. member (point_after n coins (take m xs) origin).trace (with_sign (strings_anticommute g p.letters) p)) at
-          ∙ ap (λ (q : Point). member q.trace (with_sign (strings_anticommute g p.letters) p)) (old_at (c.step - i))
-          ∙ sym (differ p size)
+          new-group p size
           ∙ ap (λ (q : Point). member q.trace p) (sym (new_at (c.step - i)))
           ∙ ap (λ m. member (point_after n coins (take m ys) origin).trace p) (sym place);
       lengths =
@@ -173,6 +166,15 @@ module _ (n : ℕ) (coins : ℕ → Bool) (xs ys back : List Step) (i k : ℕ) (
           ∙ ap lengths_of (sym (new_given (c.step - i)))
           ∙ ap (λ m. lengths_of (outputs n coins (take m ys) origin)) (sym place);
     }
+      where
+        place : moved i k c.step ≡ k + (c.step - i)
+        place = omega (arith, inside, few)
+
+    -- where a stabiliser of the copy is none of the turned one, the runs don't agree
+    apart-here : (p : Signed) → length p.letters ≡ n → stabilises c.tableau p ≡ true → stabilises t p ≡ false
+        → AgreeAt n (point_after n coins (take (c.step - i) back) (point_after n coins (take i xs) origin)) (point_after n coins (take (c.step - i) back) (point_after n coins (take k ys) origin)) → ⊥
+    apart-here p size was none agree =
+        let same : true ≡ false = sym was ∙ old-group p size ∙ agree.group p size ∙ sym (new-group p size) ∙ none in cc
 
   -- one after another
 
@@ -182,82 +184,90 @@ module _ (n : ℕ) (coins : ℕ → Bool) (xs ys back : List Step) (i k : ℕ) (
   all-moved start end [] [] le few order are turns left = All-nil (IsCheckpoint n coins ys)
   all-moved start end [] (t ∷ ts) le few order are turns left = absurd turns
   all-moved start end (c ∷ cs) [] le few order are turns (inl same) = absurd (omega (arith, same))
-  all-moved start end (c ∷ cs) [] le few order are turns (inr gone) =
+  all-moved start end (c ∷ cs) [] le few order are turns (inr blank) =
       All-cons (IsCheckpoint n coins ys) (moved_copy meeting c) (map (moved_copy meeting) cs)
-      (moved-turned c c.tableau (replicate n I) (omega (arith, le, order.0)) few (All-head (IsCheckpoint n coins xs) c cs are) (All-head (IsCheckpoint n coins xs) c cs are).qubits
-      (turned-blank n (stabilises c.tableau))
+      (moved-turned c c.tableau (replicate n I) (omega (arith, le, order.0)) (All-head (IsCheckpoint n coins xs) c cs are) (turned-blank n (stabilises c.tableau))
       (subst (λ g. IsTurned n g (member (point_after n coins (take (c.step - i) back) (point_after n coins (take i xs) origin)).trace)
-      (member (point_after n coins (take (c.step - i) back) (point_after n coins (take k ys) origin)).trace)) gone
-      (led-further n coins (note_at strings.strings free) reach back (point_after n coins (take i xs) origin) (point_after n coins (take k ys) origin)
-      (length (point_after n coins (take i xs) origin).records) old new r.led.steps
-      (run-behind n coins xs ys back i k strings free reach copies turned o from old new r) (c.step - i)
-      (All-head (λ d. r.led.steps ≤ d.step - i) c cs turns))))
+      (member (point_after n coins (take (c.step - i) back) (point_after n coins (take k ys) origin)).trace)) blank
+      (led-further here (c.step - i) (All-head (λ d. r.led.steps ≤ d.step - i) c cs turns)))
+      few (All-head (IsCheckpoint n coins xs) c cs are).qubits)
       (all-moved c.step end cs [] (omega (arith, le, order.0)) few order.1 (All-tail (IsCheckpoint n coins xs) c cs are)
-      (All-tail (λ d. r.led.steps ≤ d.step - i) c cs turns) (inr gone))
+      (All-tail (λ d. r.led.steps ≤ d.step - i) c cs turns) (inr blank))
   all-moved start end (c ∷ cs) (t ∷ ts) le few order are turns left =
       All-cons (IsCheckpoint n coins ys) (moved_copy meeting (record c { tableau = t })) (map (moved_copy meeting) (with_states ts cs))
-      (moved-turned c t turns.1.walk.letters (omega (arith, le, order.0)) few (All-head (IsCheckpoint n coins xs) c cs are)
-      (turns.1.qubits ∙ (All-head (IsCheckpoint n coins xs) c cs are).qubits) turns.1.turned
-      (led-on-way n coins (note_at strings.strings free) reach back (point_after n coins (take i xs) origin) (point_after n coins (take k ys) origin)
-      (length (point_after n coins (take i xs) origin).records) old new r.led.steps
-      (run-behind n coins xs ys back i k strings free reach copies turned o from old new r) (c.step - i) turns.1.walk turns.0 turns.1.walked))
+      (moved-turned c t turns.1.walk.letters (omega (arith, le, order.0)) (All-head (IsCheckpoint n coins xs) c cs are) turns.1.turned
+      (led-on-way here.led (c.step - i) turns.1.walk turns.0 turns.1.walked) few (turns.1.qubits ∙ (All-head (IsCheckpoint n coins xs) c cs are).qubits))
       (all-moved c.step end cs ts (omega (arith, le, order.0)) few order.1 (All-tail (IsCheckpoint n coins xs) c cs are) turns.2 (fewer left))
     where
       fewer : (length (t ∷ ts) ≡ length (c ∷ cs)) ⊎ (new.letters ≡ replicate n I) → (length ts ≡ length cs) ⊎ (new.letters ≡ replicate n I)
       fewer (inl same) = inl (omega (arith, same))
-      fewer (inr gone) = inr gone
+      fewer (inr blank) = inr blank
+
+  -- where the last that was turned has another state, the runs agree at none before it, since they would agree there then
+  apart-before : (start end : ℕ) (cs : List Checkpoint) (ts : List TableauState) (j : ℕ) (c : Checkpoint) → i ≤ start → AreInOrder start end cs → All (IsCheckpoint n coins xs) cs
+      → AreTurnedCopies n strings.strings free back i r.led.steps old cs ts → IsLastApart n cs ts → j < length ts → slice_get cs j ≡ Some c
+      → AgreeAt n (point_after n coins (take (c.step - i) back) (point_after n coins (take i xs) origin)) (point_after n coins (take (c.step - i) back) (point_after n coins (take k ys) origin)) → ⊥
+  apart-before start end cs [] j c le order are turns apart lt found agree = omega (arith, lt)
+  apart-before start end [] (t ∷ ts) j c le order are turns apart lt found agree = turns
+  apart-before start end (d ∷ cs) (t ∷ []) zero c le order are turns apart lt found agree =
+      let same : c ≡ d = cc in
+      apart-here d t turns.1.walk.letters (omega (arith, le, order.0)) (All-head (IsCheckpoint n coins xs) d cs are) turns.1.turned
+      (led-on-way here.led (d.step - i) turns.1.walk turns.0 turns.1.walked) apart.0 apart.1 apart.2 apart.3
+      (subst (λ (e : Checkpoint). AgreeAt n (point_after n coins (take (e.step - i) back) (point_after n coins (take i xs) origin))
+      (point_after n coins (take (e.step - i) back) (point_after n coins (take k ys) origin))) same agree)
+  apart-before start end (d ∷ cs) (t ∷ []) (suc j) c le order are turns apart lt found agree = omega (arith, lt)
+  apart-before start end (d ∷ []) (t ∷ u ∷ ts) j c le order are turns apart lt found agree = apart
+  apart-before start end (d ∷ e ∷ cs) (t ∷ u ∷ ts) zero c le order are turns apart lt found agree =
+      let same : c ≡ d = cc in
+      apart-before d.step end (e ∷ cs) (u ∷ ts) zero e (omega (arith, le, order.0)) order.1 (All-tail (IsCheckpoint n coins xs) d (e ∷ cs) are) turns.2 apart (omega arith) refl
+      (agree-further n coins back (point_after n coins (take i xs) origin) (point_after n coins (take k ys) origin) (c.step - i) (e.step - i)
+      (omega (arith, order.1.0, ap (λ (x : Checkpoint). x.step) same)) agree)
+  apart-before start end (d ∷ e ∷ cs) (t ∷ u ∷ ts) (suc j) c le order are turns apart lt found agree =
+      apart-before d.step end (e ∷ cs) (u ∷ ts) j c (omega (arith, le, order.0)) order.1 (All-tail (IsCheckpoint n coins xs) d (e ∷ cs) are) turns.2 apart (omega (arith, lt)) found agree
 
   -- the copies of the old run behind both places, those that the frame came to turned, are copies of the new one
-  pub run-copies : length ys < 2 ^ 64 → All (IsCheckpoint n coins xs) copies → AreInOrder i (length xs) copies
-      → All (IsCheckpoint n coins ys) (map (moved_copy meeting) (with_states turned copies))
-  run-copies few are order =
-      all-moved i (length xs) copies turned (omega arith) few order are r.led.copies
-      (elim r.led.ends [
+  pub run-copies : length ys < 2 ^ 64 → All (IsCheckpoint n coins ys) (map (moved_copy meeting) (with_states turned copies))
+  run-copies few =
+      all-moved i (length xs) copies turned (omega arith) few r.order r.are_copies r.led.copies
+      (elim (run-ends n coins xs ys back i k strings free reach copies turned o from old new r) [
         | inl all ↦ inl all.1
-        | inr gone ↦ inr (gone 0).letters
+        | inr ended ↦ inr (ended.blank 0).letters
       ])
 
   -- at the first that was not turned both agree, as far back as the steps look
-  pub run-agrees : AreInOrder i (length xs) copies → (c : Checkpoint) → slice_get copies (length turned) ≡ Some c
+  pub run-agrees : (c : Checkpoint) → slice_get copies (length turned) ≡ Some c
       → AgreeBack n reach (point_after n coins (take c.step xs) origin) (point_after n coins (take (k + (c.step - i)) ys) origin)
-  run-agrees order c found =
-      subst (λ p. AgreeBack n reach p (point_after n coins (take (k + (c.step - i)) ys) origin)) (sym (ap (λ m. point_after n coins (take m xs) origin) at ∙ old_at (c.step - i)))
+  run-agrees c found =
+      subst (λ p. AgreeBack n reach p (point_after n coins (take (k + (c.step - i)) ys) origin)) (sym (ap (λ m. point_after n coins (take m xs) origin) (place (length turned) c found) ∙ old_at (c.step - i)))
       (subst (AgreeBack n reach (point_after n coins (take (c.step - i) back) (point_after n coins (take i xs) origin))) (sym (new_at (c.step - i)))
-      (led-agree n coins (note_at strings.strings free) reach back (point_after n coins (take i xs) origin) (point_after n coins (take k ys) origin)
-      (length (point_after n coins (take i xs) origin).records) old new r.led.steps
-      (run-behind n coins xs ys back i k strings free reach copies turned o from old new r) gone (c.step - i) beyond))
+      (led-agree here ended (c.step - i) beyond))
     where
-      behind : i ≤ c.step
-      behind = subst (λ d. IfSome d (λ e. i ≤ e.step)) found (order-from i (length xs) copies (length turned) order)
-
-      at : c.step ≡ i + (c.step - i)
-      at = omega (arith, behind)
-
       beyond : r.led.steps ≤ c.step - i
       beyond = subst (λ d. IfSome d (λ e. r.led.steps ≤ e.step - i)) found (left-beyond n strings.strings free back i r.led.steps old copies turned r.led.copies)
 
-      gone : (m : ℕ) → IsGone n reach (frame_at m new)
-      gone =
-          elim r.led.ends [
-            | inl all ↦ absurd (subst (λ d. IfSome d (λ e. ⊥)) (ap (slice_get copies) (sym all.1) ∙ found) (none-beyond copies))
-            | inr is_gone ↦ is_gone
+      ended : IsEnded n reach (point_after n coins (take r.led.steps back) (point_after n coins (take i xs) origin)) r.led.last new
+      ended =
+          elim (run-ends n coins xs ys back i k strings free reach copies turned o from old new r) [
+            | inl all ↦ absurd (omega (arith, all.1, slice_get_within copies (length turned) c found))
+            | inr is ↦ is
           ]
 
   -- and at none that was turned do both agree
-  pub run-differs : AreInOrder i (length xs) copies → (j : ℕ) (c : Checkpoint) → j < length turned → slice_get copies j ≡ Some c
+  pub run-differs : (j : ℕ) (c : Checkpoint) → j < length turned → slice_get copies j ≡ Some c
       → AgreeAt n (point_after n coins (take c.step xs) origin) (point_after n coins (take (k + (c.step - i)) ys) origin) → ⊥
-  run-differs order j c lt found agree =
-      led-differ n coins (note_at strings.strings free) reach back (point_after n coins (take i xs) origin) (point_after n coins (take k ys) origin)
-      (length (point_after n coins (take i xs) origin).records) old new r.led.steps
-      (run-behind n coins xs ys back i k strings free reach copies turned o from old new r) (c.step - i) near (r.led.differs (omega (arith, lt)))
-      (subst (λ p. AgreeAt n p (point_after n coins (take (c.step - i) back) (point_after n coins (take k ys) origin))) (ap (λ m. point_after n coins (take m xs) origin) at ∙ old_at (c.step - i))
-      (subst (AgreeAt n (point_after n coins (take c.step xs) origin)) (new_at (c.step - i)) agree))
+  run-differs j c lt found agree =
+      elim (r.led.differs (omega (arith, lt))) [
+        | inl some ↦
+            led-differ here.led (c.step - i) near
+            (subst (λ (q : RunOutput). 1 ≤ ones q.records) (run-flips n coins xs ys back i k strings free reach copies turned o from old new r) some) both
+        | inr apart ↦ apart-before i (length xs) copies turned j c (omega arith) r.order r.are_copies r.led.copies apart lt found both
+      ]
     where
-      behind : i ≤ c.step
-      behind = subst (λ d. IfSome d (λ e. i ≤ e.step)) found (order-from i (length xs) copies j order)
-
-      at : c.step ≡ i + (c.step - i)
-      at = omega (arith, behind)
+      both : AgreeAt n (point_after n coins (take (c.step - i) back) (point_after n coins (take i xs) origin)) (point_after n coins (take (c.step - i) back) (point_after n coins (take k ys) origin))
+      both =
+          subst (λ p. AgreeAt n p (point_after n coins (take (c.step - i) back) (point_after n coins (take k ys) origin)))
+          (ap (λ m. point_after n coins (take m xs) origin) (place j c found) ∙ old_at (c.step - i))
+          (subst (AgreeAt n (point_after n coins (take c.step xs) origin)) (new_at (c.step - i)) agree)
 
       near : c.step - i ≤ r.led.steps
       near = subst (λ d. IfSome d (λ e. e.step - i ≤ r.led.steps)) found (turned-within n strings.strings free back i r.led.steps old copies turned j r.led.copies lt)

@@ -1,20 +1,21 @@
--- Led frames: what is so at each point behind, where a frame went over all steps, or over so many and then was gone.
-use Rattle.std.proofs.Common.{◌≡◌, ℕ, ◌-◌, ◌≤◌, min, sym, ◌∙◌, ap, subst, Bool, false, ◌⊎◌, inl, inr, List, All, Option, length, take, drop, arith}
-use Rattle.std.proofs.lemmas.List.{take_all}
+-- Led frames: what is so at each point behind, where a frame went over all steps, or over so many and then ended.
+use Rattle.std.proofs.Common.{◌≡◌, ℕ, ◌-◌, ◌≤◌, sym, ◌∙◌, ap, subst, Bool, false, ◌⊎◌, inl, inr, List, ◌++◌, All, Option, length, take, drop, replicate, arith}
+use Rattle.std.proofs.lemmas.Bool.{cases_lt}
+use Rattle.std.proofs.lemmas.List.{take_all, take-take}
 use Rattle.std.proofs.lemmas.List.Elements.{All-take, All-drop}
 use Rattle.stab_letters.specs.declared.letter.Letter.{Letter}
 use Rattle.stab_letters.specs.Letters.{◌⊕◌}
 use Rattle.stab_tableau.specs.Traces.{member}
 use Rattle.stab_tableau.specs.Groups.{IsStabiliserGroup}
 use Rattle.stab_tableau.specs.Turns.{IsTurned}
-use Rattle.stab_circuit.specs.Steps.{Step, looks_too_far}
+use Rattle.stab_circuit.specs.Steps.{Step}
 use Rattle.stab_run.specs.Records.{looked_up, ones}
 use Rattle.stab_run.specs.Points.{Point, RunOutput, nothing, joined, point_after, outputs, all_coins_of}
 use Rattle.stab_run.specs.ProgramStates.{StepFits}
 use Rattle.stab_run.specs.Cuts.{lengths_of}
 use Rattle.stab_run.specs.Laws.{AgreeAt}
 use Rattle.stab_run.proofs.FutureLemmas.{same-future}
-use Rattle.stab_steps.proofs.RunLemmas.{after-append}
+use Rattle.stab_steps.proofs.RunLemmas.{after-append, outputs-append}
 use Rattle.stab_frames.specs.Ends.{AgreeBack}
 use Rattle.stab_frames.specs.Flips.{flipped, flipped_output}
 use Rattle.stab_frames.specs.Frames.{Frame, PointsDifferBy}
@@ -22,16 +23,19 @@ use Rattle.stab_frames.specs.FrameSteps.{frame_over, flips_over}
 use Rattle.stab_frames.specs.Lookbacks.{LooksWithin}
 use Rattle.stab_frames.specs.Notes.{same_coins}
 use Rattle.stab_frames.specs.StepNotes.{AreEnough}
-use Rattle.stab_frames.specs.Walks.{WalkState, frame_at, IsGone, WalksOver}
+use Rattle.stab_frames.specs.Walks.{WalkState, frame_at, WalksOver}
 use Rattle.stab_frames.proofs.EndLemmas.{same-future-back}
 use Rattle.stab_frames.proofs.FlipLemmas.{length-flipped, length-flipped_additions, looked_up-flipped}
-use Rattle.stab_frames.proofs.StepLemmas.{over-framed}
+use Rattle.stab_frames.proofs.NoteLemmas.{enough-before}
+use Rattle.stab_frames.proofs.StepLemmas.{over-framed, outputs-matches}
 use Rattle.stab_frames.proofs.TurnedLemmas.{turned-blank}
 use Rattle.stab_copies.proofs.LastBitsLemmas.{take-more}
-use Rattle.stab_replay.proofs.FramedLemmas.{AreTurnedBehind, IsFramedBehind, flipped-empty, framed-gone, framed-all}
+use Rattle.stab_replay.proofs.FramedLemmas.{AreTurnedBehind, flipped-empty}
 use Rattle.stab_replay.proofs.SegmentLemmas.{flips-free, flipped-zeros}
 use Rattle.stab_replay.proofs.FrameStartLemmas.{flips-differ}
 use Rattle.stab_replay.proofs.NotedLemmas.{near-enough}
+use Rattle.stab_turns.proofs.EndingLemmas.{IsEnded}
+use Rattle.stab_turns.proofs.FlippedLemmas.{flipped-front}
 
 -- an output is as long as it was where it is flipped
 same-lengths : (o flips : RunOutput) → lengths_of (flipped_output o flips) ≡ lengths_of o
@@ -46,67 +50,175 @@ same-lengths o flips = λ i. record {
 nearer : (n m k : ℕ) (a b : Point) → k ≤ m → AgreeBack n m a b → AgreeBack n k a b
 nearer n m k a b le agree = record { group = agree.group; coin = agree.coin; records = λ j near. agree.records j (omega (arith, le, near)) }
 
--- a run behind a point differs from another by a frame, which went over all the steps that both have there, or over so many and is gone
-pub record IsLedBehind (n : ℕ) (coins : ℕ → Bool) (strings : ℕ → Option (List Letter)) (reach : ℕ) (back : List Step) (a b : Point) (base : ℕ) (old new : WalkState) (steps : ℕ) : Type 0 where
+-- points of a run further on
+further : (n : ℕ) (coins : ℕ → Bool) (back : List Step) (i m : ℕ) → i ≤ m → (c : Point)
+    → point_after n coins (take m back) c ≡ point_after n coins (take (m - i) (drop i back)) (point_after n coins (take i back) c)
+further n coins back i m le c =
+    ap (λ k. point_after n coins (take k back) c) {x = m} (omega (arith, le))
+    ∙ ap (λ zs. point_after n coins zs c) (take-more i (m - i) back)
+    ∙ after-append n coins (take i back) (take (m - i) (drop i back)) c
+
+-- and what it gives up to there
+given-further : (n : ℕ) (coins : ℕ → Bool) (back : List Step) (i m : ℕ) → i ≤ m → (c : Point)
+    → outputs n coins (take m back) c ≡ joined (outputs n coins (take i back) c) (outputs n coins (take (m - i) (drop i back)) (point_after n coins (take i back) c))
+given-further n coins back i m le c =
+    ap (λ k. outputs n coins (take k back) c) {x = m} (omega (arith, le))
+    ∙ ap (λ zs. outputs n coins zs c) (take-more i (m - i) back)
+    ∙ outputs-append n coins (take i back) (take (m - i) (drop i back)) c
+
+-- where two runs agree, they agree further on
+pub agree-further : (n : ℕ) (coins : ℕ → Bool) (back : List Step) (a b : Point) (i m : ℕ) → i ≤ m
+    → AgreeAt n (point_after n coins (take i back) a) (point_after n coins (take i back) b)
+    → AgreeAt n (point_after n coins (take m back) a) (point_after n coins (take m back) b)
+agree-further n coins back a b i m le agree =
+    subst (λ p. AgreeAt n p (point_after n coins (take m back) b)) (sym (further n coins back i m le a))
+    (subst (AgreeAt n (point_after n coins (take (m - i) (drop i back)) (point_after n coins (take i back) a))) (sym (further n coins back i m le b))
+    (same-future n coins (take (m - i) (drop i back)) (point_after n coins (take i back) a) (point_after n coins (take i back) b) agree).1)
+
+-- a run behind a point differs from another by a frame, which went over so many of the steps that both have there
+pub record IsLedOver (n : ℕ) (coins : ℕ → Bool) (strings : ℕ → Option (List Letter)) (reach : ℕ) (back : List Step) (a b : Point) (base : ℕ) (old last : WalkState) (steps : ℕ) : Type 0 where
   pub fits : All (StepFits n) back
   pub near : All (LooksWithin reach) back
   pub group : IsStabiliserGroup n (member a.trace)
   pub framed : PointsDifferBy n (frame_at base old) a b
   pub coin : a.coin ≡ old.coin
   pub within : steps ≤ length back
-  pub walked : WalksOver n strings (take steps back) old new
+  pub walked : WalksOver n strings (take steps back) old last
   pub told : AreEnough n coins (same_coins strings) (take steps back) (frame_at base old) a
-  pub ends : (steps ≡ length back) ⊎ ((k : ℕ) → IsGone n reach (frame_at k new))
 
-module _ (n : ℕ) (coins : ℕ → Bool) (strings : ℕ → Option (List Letter)) (reach : ℕ) (back : List Step) (a b : Point) (base : ℕ) (old new : WalkState) (steps : ℕ)
-    (h : IsLedBehind n coins strings reach back a b base old new steps) where
-  frame_is : frame_at base new ≡ frame_over n (same_coins strings) (take steps back) a.coin (frame_at base old)
-  frame_is = h.walked.frame base ∙ ap (λ c. frame_over n (same_coins strings) (take steps back) c (frame_at base old)) (sym h.coin)
+module _ {n : ℕ} {coins : ℕ → Bool} {strings : ℕ → Option (List Letter)} {reach : ℕ} {back : List Step} {a b : Point} {base : ℕ} {old last : WalkState} {steps : ℕ}
+    (o : IsLedOver n coins strings reach back a b base old last steps) where
+  -- so many steps on
+  on-way : (m : ℕ) → m ≤ steps
+      → (outputs n coins (take m back) b ≡ flipped_output (outputs n coins (take m back) a) (flips_over n (same_coins strings) (take m back) a.coin (frame_at base old)))
+      × PointsDifferBy n (frame_over n (same_coins strings) (take m back) a.coin (frame_at base old)) (point_after n coins (take m back) a) (point_after n coins (take m back) b)
+  on-way m le =
+      over-framed n coins (same_coins strings) (take m back) (frame_at base old) a b (All-take (StepFits n) m back o.fits) o.group
+      (subst (λ zs. AreEnough n coins (same_coins strings) zs (frame_at base old) a) (take-take m steps back le)
+      (enough-before n coins (same_coins strings) m (take steps back) (frame_at base old) a o.told)) o.framed
 
-  led-behind : (m : ℕ) → IsFramedBehind n coins strings steps back (frame_at base old) a b m
-  led-behind m =
-      elim h.ends [
-        | inl all ↦ framed-all n coins strings steps back (frame_at base old) a b h.fits h.group h.framed h.told all m
-        | inr gone ↦
-            framed-gone n coins strings steps back (frame_at base old) a b h.fits h.group h.framed h.told reach (subst (IsGone n reach) frame_is (gone base))
-            (near-enough reach reach (drop steps back) (omega arith) (All-drop (LooksWithin reach) steps back h.near)) m
-      ]
-
-  -- so many steps on, where a walk over them says by which letters
+  -- where a walk over them says by which letters
   pub led-on-way : (m : ℕ) (v : WalkState) → m ≤ steps → WalksOver n strings (take m back) old v
       → IsTurned n v.letters (member (point_after n coins (take m back) a).trace) (member (point_after n coins (take m back) b).trace)
   led-on-way m v le walk =
-      subst (λ g. IsTurned n g (member (point_after n coins (take m back) a).trace) (member (point_after n coins (take m back) b).trace)) letters (led-behind m).group
+      subst (λ g. IsTurned n g (member (point_after n coins (take m back) a).trace) (member (point_after n coins (take m back) b).trace)) letters (on-way m le).1.group
     where
-      least : min m steps ≡ m
-      least = omega (arith, le)
+      letters : (frame_over n (same_coins strings) (take m back) a.coin (frame_at base old)).letters ≡ v.letters
+      letters = (λ i. (frame_over n (same_coins strings) (take m back) (o.coin i) (frame_at base old)).letters) ∙ ap (λ (f : Frame). f.letters) (sym (walk.frame base))
 
-      letters : (frame_over n (same_coins strings) (take (min m steps) back) a.coin (frame_at base old)).letters ≡ v.letters
-      letters =
-          (λ i. (frame_over n (same_coins strings) (take (least i) back) (h.coin i) (frame_at base old)).letters)
-          ∙ ap (λ (f : Frame). f.letters) (sym (walk.frame base))
+  -- where the walk ends
+  pub led-there : PointsDifferBy n (frame_at base last) (point_after n coins (take steps back) a) (point_after n coins (take steps back) b)
+  led-there =
+      subst (λ f. PointsDifferBy n f (point_after n coins (take steps back) a) (point_after n coins (take steps back) b))
+      ((λ i. frame_over n (same_coins strings) (take steps back) (o.coin i) (frame_at base old)) ∙ sym (o.walked.frame base)) (on-way steps (omega arith)).1
 
-  -- and further on by its last ones
+  flips-are : old.flips ≡ nothing → flips_over n (same_coins strings) (take steps back) a.coin (frame_at base old) ≡ last.flips
+  flips-are none =
+      (λ i. flips_over n (same_coins strings) (take steps back) (o.coin i) (frame_at base old))
+      ∙ ap (λ q. joined q (flips_over n (same_coins strings) (take steps back) old.coin (frame_at base old))) (sym none)
+      ∙ sym (o.walked.flips base)
+
+  -- where it flips a record in all, the runs agree nowhere on its way
+  pub led-differ : (m : ℕ) → m ≤ steps → 1 ≤ ones last.flips.records → AgreeAt n (point_after n coins (take m back) a) (point_after n coins (take m back) b) → ⊥
+  led-differ m le some agree =
+      flips-differ n base last (point_after n coins (take steps back) a) (point_after n coins (take steps back) b) led-there some
+      (agree-further n coins back a b m steps le agree).records
+
+-- and it went over all of them, or ended there
+pub record IsLedBehind (n : ℕ) (coins : ℕ → Bool) (strings : ℕ → Option (List Letter)) (reach : ℕ) (back : List Step) (a b : Point) (base : ℕ) (old last new : WalkState) (steps : ℕ) : Type 0 where
+  pub led : IsLedOver n coins strings reach back a b base old last steps
+  pub flips : new.flips ≡ last.flips
+  pub ends : ((steps ≡ length back) × (new.letters ≡ last.letters)) ⊎ IsEnded n reach (point_after n coins (take steps back) a) last new
+
+module _ {n : ℕ} {coins : ℕ → Bool} {strings : ℕ → Option (List Letter)} {reach : ℕ} {back : List Step} {a b : Point} {base : ℕ} {old last new : WalkState} {steps : ℕ}
+    (h : IsLedBehind n coins strings reach back a b base old last new steps) where
+  -- where it ended, they agree from there on as far back as the steps look
+
+  module _ (ended : IsEnded n reach (point_after n coins (take steps back) a) last new) where
+    quiet : AgreeBack n reach (point_after n coins (take steps back) a) (point_after n coins (take steps back) b)
+    quiet =
+        let there = led-there h.led in
+        record {
+          group = λ p size. ended.quiet p size ∙ sym (there.group p size);
+          coin = sym there.coin;
+          records = λ k le.
+              sym (ap (λ r. looked_up r k) there.records
+              ∙ looked_up-flipped (point_after n coins (take steps back) a).records (frame_at base last).flips there.count k
+              ∙ ap (λ c. c ⊕ looked_up (point_after n coins (take steps back) a).records k)
+              (ap (λ (q : RunOutput). looked_up (replicate base false ++ q.records) k) (sym h.flips) ∙ (ended.blank base).flips k le));
+        }
+
+    rest : (m : ℕ) → (outputs n coins (take m (drop steps back)) (point_after n coins (take steps back) a) ≡ outputs n coins (take m (drop steps back)) (point_after n coins (take steps back) b))
+        × AgreeBack n reach (point_after n coins (take m (drop steps back)) (point_after n coins (take steps back) a))
+        (point_after n coins (take m (drop steps back)) (point_after n coins (take steps back) b))
+    rest m =
+        let both = same-future-back n coins reach (take m (drop steps back)) (point_after n coins (take steps back) a) (point_after n coins (take steps back) b)
+        (near-enough reach reach (take m (drop steps back)) (omega arith)
+        (All-take (LooksWithin reach) m (drop steps back) (All-drop (LooksWithin reach) steps back h.led.near))) quiet in
+        (both.0, nearer n _ reach _ _ (omega arith) both.1)
+
+    pub led-agree : (m : ℕ) → steps ≤ m → AgreeBack n reach (point_after n coins (take m back) a) (point_after n coins (take m back) b)
+    led-agree m le =
+        subst (λ p. AgreeBack n reach p (point_after n coins (take m back) b)) (sym (further n coins back steps m le a))
+        (subst (AgreeBack n reach (point_after n coins (take (m - steps) (drop steps back)) (point_after n coins (take steps back) a))) (sym (further n coins back steps m le b))
+        (rest (m - steps)).1)
+
+    given-ended : (m : ℕ) → steps ≤ m
+        → outputs n coins (take m back) b ≡ flipped_output (outputs n coins (take m back) a) (flips_over n (same_coins strings) (take steps back) a.coin (frame_at base old))
+    given-ended m le =
+        given-further n coins back steps m le b
+        ∙ (λ i. joined ((on-way h.led steps (omega arith)).0 i) (sym (rest (m - steps)).0 i))
+        ∙ sym (flipped-front (outputs n coins (take steps back) a) (outputs n coins (take (m - steps) (drop steps back)) (point_after n coins (take steps back) a))
+        (flips_over n (same_coins strings) (take steps back) a.coin (frame_at base old))
+        (outputs-matches n coins (same_coins strings) (take steps back) a a.coin (frame_at base old)))
+        ∙ ap (λ q. flipped_output q (flips_over n (same_coins strings) (take steps back) a.coin (frame_at base old))) (sym (given-further n coins back steps m le a))
+
+  -- from where its walk ended on, it differs by its last letters, and by what it flipped
+
+  all-steps : (m : ℕ) → steps ≡ length back → steps ≤ m → take steps back ≡ take m back
+  all-steps m all le = take_all steps back (omega (arith, all)) ∙ sym (take_all m back (omega (arith, all, le)))
+
   pub led-further : (m : ℕ) → steps ≤ m
       → IsTurned n new.letters (member (point_after n coins (take m back) a).trace) (member (point_after n coins (take m back) b).trace)
   led-further m le =
-      subst (λ g. IsTurned n g (member (point_after n coins (take m back) a).trace) (member (point_after n coins (take m back) b).trace)) letters (led-behind m).group
-    where
-      least : min m steps ≡ steps
-      least = omega (arith, le)
+      elim h.ends [
+        | inl all ↦
+            subst (λ g. IsTurned n g (member (point_after n coins (take m back) a).trace) (member (point_after n coins (take m back) b).trace)) (sym all.1)
+            (subst (λ zs. IsTurned n last.letters (member (point_after n coins zs a).trace) (member (point_after n coins zs b).trace)) (all-steps m all.0 le) (led-there h.led).group)
+        | inr ended ↦
+            subst (λ g. IsTurned n g (member (point_after n coins (take m back) a).trace) (member (point_after n coins (take m back) b).trace)) (sym (ended.blank 0).letters)
+            (λ p size. sym ((led-agree ended m le).group p size) ∙ turned-blank n (member (point_after n coins (take m back) a).trace) p size)
+      ]
 
-      letters : (frame_over n (same_coins strings) (take (min m steps) back) a.coin (frame_at base old)).letters ≡ new.letters
-      letters =
-          (λ i. (frame_over n (same_coins strings) (take (least i) back) (h.coin i) (frame_at base old)).letters)
-          ∙ ap (λ (f : Frame). f.letters) (sym (h.walked.frame base))
+  given-beyond : (m : ℕ) → steps ≤ m
+      → outputs n coins (take m back) b ≡ flipped_output (outputs n coins (take m back) a) (flips_over n (same_coins strings) (take steps back) a.coin (frame_at base old))
+  given-beyond m le =
+      elim h.ends [
+        | inl all ↦
+            subst (λ zs. outputs n coins zs b ≡ flipped_output (outputs n coins zs a) (flips_over n (same_coins strings) (take steps back) a.coin (frame_at base old)))
+            (all-steps m all.0 le) (on-way h.led steps (omega arith)).0
+        | inr ended ↦ given-ended ended m le
+      ]
+
+  -- so many steps on, wherever that is
 
   pub led-turned : AreTurnedBehind n coins back a b
-  led-turned m = (_, (led-behind m).group)
+  led-turned m =
+      elim (cases_lt steps m) [
+        | inl lt ↦ (new.letters, led-further m (omega arith))
+        | inr le ↦ (_, (on-way h.led m le).1.group)
+      ]
 
   pub led-lengths : (m : ℕ) → lengths_of (outputs n coins (take m back) b) ≡ lengths_of (outputs n coins (take m back) a)
   led-lengths m =
-      ap lengths_of (led-behind m).given
-      ∙ same-lengths (outputs n coins (take m back) a) (flips_over n (same_coins strings) (take (min m steps) back) a.coin (frame_at base old))
+      elim (cases_lt steps m) [
+        | inl lt ↦ flips_by (flips_over n (same_coins strings) (take steps back) a.coin (frame_at base old)) (given-beyond m (omega arith))
+        | inr le ↦ flips_by (flips_over n (same_coins strings) (take m back) a.coin (frame_at base old)) (on-way h.led m le).0
+      ]
+    where
+      flips_by : (flips : RunOutput) → outputs n coins (take m back) b ≡ flipped_output (outputs n coins (take m back) a) flips
+          → lengths_of (outputs n coins (take m back) b) ≡ lengths_of (outputs n coins (take m back) a)
+      flips_by flips is = ap lengths_of is ∙ same-lengths (outputs n coins (take m back) a) flips
 
   -- behind the last step
 
@@ -116,79 +228,18 @@ module _ (n : ℕ) (coins : ℕ → Bool) (strings : ℕ → Option (List Letter
   pub led-end : IsTurned n new.letters (member (point_after n coins back a).trace) (member (point_after n coins back b).trace)
   led-end =
       subst (λ zs. IsTurned n new.letters (member (point_after n coins zs a).trace) (member (point_after n coins zs b).trace)) whole
-      (led-further (length back) h.within)
-
-  flips_are : old.flips ≡ nothing → flips_over n (same_coins strings) (take (min (length back) steps) back) a.coin (frame_at base old) ≡ new.flips
-  flips_are none =
-      (λ i. flips_over n (same_coins strings) (take (least i) back) (h.coin i) (frame_at base old))
-      ∙ ap (λ o. joined o (flips_over n (same_coins strings) (take steps back) old.coin (frame_at base old))) (sym none)
-      ∙ sym (h.walked.flips base)
-    where
-      least : min (length back) steps ≡ steps
-      least = omega (arith, h.within)
+      (led-further (length back) h.led.within)
 
   pub led-given : old.flips ≡ nothing → outputs n coins back b ≡ flipped_output (outputs n coins back a) new.flips
   led-given none =
       subst (λ zs. outputs n coins zs b ≡ flipped_output (outputs n coins zs a) new.flips) whole
-      (subst (λ o. outputs n coins (take (length back) back) b ≡ flipped_output (outputs n coins (take (length back) back) a) o) (flips_are none) (led-behind (length back)).given)
+      (subst (λ q. outputs n coins (take (length back) back) b ≡ flipped_output (outputs n coins (take (length back) back) a) q) (flips-are h.led none ∙ sym h.flips)
+      (given-beyond (length back) h.led.within))
 
   -- no flag is flipped
   pub led-flags : old.flips ≡ nothing → (bits : List Bool) → flipped bits new.flips.free ≡ bits
   led-flags none bits =
-      ap (λ (o : RunOutput). flipped bits o.free) (sym (flips_are none))
-      ∙ ap (flipped bits) (flips-free n (same_coins strings) (take (min (length back) steps) back) a.coin (frame_at base old))
-      ∙ flipped-zeros bits (all_coins_of (take (min (length back) steps) back))
+      ap (λ (q : RunOutput). flipped bits q.free) (h.flips ∙ sym (flips-are h.led none))
+      ∙ ap (flipped bits) (flips-free n (same_coins strings) (take steps back) a.coin (frame_at base old))
+      ∙ flipped-zeros bits (all_coins_of (take steps back))
       ∙ flipped-empty bits
-
-  -- where the walk ends
-
-  there : PointsDifferBy n (frame_at base new) (point_after n coins (take steps back) a) (point_after n coins (take steps back) b)
-  there =
-      subst (λ f. PointsDifferBy n f (point_after n coins (take steps back) a) (point_after n coins (take steps back) b)) (sym frame_is)
-      (over-framed n coins (same_coins strings) (take steps back) (frame_at base old) a b (All-take (StepFits n) steps back h.fits) h.group h.told h.framed).1
-
-  on : (i m : ℕ) → i ≤ m → (c : Point) → point_after n coins (take m back) c ≡ point_after n coins (take (m - i) (drop i back)) (point_after n coins (take i back) c)
-  on i m le c =
-      ap (λ k. point_after n coins (take k back) c) {x = m} (omega (arith, le))
-      ∙ ap (λ zs. point_after n coins zs c) (take-more i (m - i) back)
-      ∙ after-append n coins (take i back) (take (m - i) (drop i back)) c
-
-  -- where it flips a record in all, the runs agree nowhere on its way
-  pub led-differ : (m : ℕ) → m ≤ steps → 1 ≤ ones new.flips.records → AgreeAt n (point_after n coins (take m back) a) (point_after n coins (take m back) b) → ⊥
-  led-differ m le some agree =
-      flips-differ n base new (point_after n coins (take steps back) a) (point_after n coins (take steps back) b) there some later.records
-    where
-      later : AgreeAt n (point_after n coins (take steps back) a) (point_after n coins (take steps back) b)
-      later =
-          subst (λ p. AgreeAt n p (point_after n coins (take steps back) b)) (sym (on m steps le a))
-          (subst (AgreeAt n (point_after n coins (take (steps - m) (drop m back)) (point_after n coins (take m back) a))) (sym (on m steps le b))
-          (same-future n coins (take (steps - m) (drop m back)) (point_after n coins (take m back) a) (point_after n coins (take m back) b) agree).1)
-
-  -- and where it is gone, they agree from there on as far back as the steps look
-
-  module _ (gone : (k : ℕ) → IsGone n reach (frame_at k new)) where
-    quiet : AgreeBack n reach (point_after n coins (take steps back) a) (point_after n coins (take steps back) b)
-    quiet = record {
-      group = λ p l.
-          turned-blank n (member (point_after n coins (take steps back) a).trace) p l
-          ∙ sym (subst (λ g. IsTurned n g (member (point_after n coins (take steps back) a).trace) (member (point_after n coins (take steps back) b).trace))
-          (gone base).letters there.group p l);
-      coin = sym there.coin;
-      records = λ k le.
-          sym (ap (λ r. looked_up r k) there.records
-          ∙ looked_up-flipped (point_after n coins (take steps back) a).records (frame_at base new).flips there.count k
-          ∙ ap (λ c. c ⊕ looked_up (point_after n coins (take steps back) a).records k) ((gone base).flips k le));
-    }
-
-    rest-near : (m : ℕ) → looks_too_far reach (take m (drop steps back)) ≡ false
-    rest-near m =
-        near-enough reach reach (take m (drop steps back)) (omega arith)
-        (All-take (LooksWithin reach) m (drop steps back) (All-drop (LooksWithin reach) steps back h.near))
-
-    pub led-agree : (m : ℕ) → steps ≤ m → AgreeBack n reach (point_after n coins (take m back) a) (point_after n coins (take m back) b)
-    led-agree m le =
-        subst (λ p. AgreeBack n reach p (point_after n coins (take m back) b)) (sym (on steps m le a))
-        (subst (AgreeBack n reach (point_after n coins (take (m - steps) (drop steps back)) (point_after n coins (take steps back) a))) (sym (on steps m le b))
-        (nearer n _ reach _ _ (omega arith)
-        (same-future-back n coins reach (take (m - steps) (drop steps back)) (point_after n coins (take steps back) a) (point_after n coins (take steps back) b)
-        (rest-near (m - steps)) quiet).1))

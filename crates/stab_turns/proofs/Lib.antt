@@ -1,8 +1,11 @@
 mod LengthLemmas
 mod FlippedLemmas
 pub mod FlagLemmas
+mod TurnSomeLemmas
+mod QuietLemmas
 mod LeadingLemmas
 pub mod PauliSpanLemmas
+pub mod EndingLemmas
 pub mod LedFrameLemmas
 pub mod LedRunLemmas
 pub mod LedCopyLemmas

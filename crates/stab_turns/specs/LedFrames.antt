@@ -1,7 +1,9 @@
 -- Led frames: a frame that went over the steps of a run, past copies of its state, and what it made of these copies.
 -- Source: this project's own.
-use Rattle.std.specs.Prelude.{◌≡◌, ◌⊎◌, ℕ, ◌-◌, ◌≤◌, Bool, List, [], ◌∷◌, All, length, take}
+use Rattle.std.specs.Prelude.{◌≡◌, ◌⊎◌, ℕ, ◌-◌, ◌≤◌, Bool, true, false, List, [], ◌∷◌, All, Some, length, take, replicate, slice_get}
 use Rattle.stab_letters.specs.declared.letter.Letter.{Letter}
+use Rattle.stab_letters.specs.declared.letter.Letter.TheVariants.{I}
+use Rattle.stab_pauli.specs.Paulis.{Signed, minus, strings_anticommute}
 use Rattle.stab_tableau.specs.Tableaus.{TableauState, stabilises}
 use Rattle.stab_tableau.specs.Turns.{IsTurned}
 use Rattle.stab_circuit.specs.Steps.{Step}
@@ -31,17 +33,49 @@ AreTurnedCopies n strings free back from steps old [] (t ∷ turned) = ⊥
 AreTurnedCopies n strings free back from steps old (c ∷ copies) (t ∷ turned) =
     (c.step - from ≤ steps) × IsTurnedBehind n strings free back (c.step - from) old c.tableau t × AreTurnedCopies n strings free back from steps old copies turned
 
--- a frame went over all steps and past all copies, or over so many steps and is gone, whoever looks back no further than the reach; its
--- notes were enough; the copies on its way were turned, and where there are any it flips a record
+-- with one of two signs letters stabilise a state
+abbrev pub Stabilise : List Letter → TableauState → Type 0
+Stabilise letters t = (sign : Bool) × (stabilises t (record { negative = sign; letters = letters }) ≡ true)
+
+-- the letters of a frame stabilise the state of a copy, so they turn nothing there; the frame goes on without them, and is gone, whoever
+-- looks back no further than the reach
+pub record IsDropped (n : ℕ) (reach : ℕ) (c : Checkpoint) (last new : WalkState) : Type 0 where
+  pub stabilise : Stabilise last.letters c.tableau
+  pub left : new ≡ record last { letters = replicate n I }
+  pub gone : (base : ℕ) → IsGone n reach (frame_at base new)
+
+-- letters turn some stabiliser of a state, which is then none
+abbrev pub TurnSome : List Letter → TableauState → Type 0
+TurnSome letters t =
+    (p : Signed) × (length p.letters ≡ t.qubits) × (stabilises t p ≡ true) × (stabilises t (minus p) ≡ false) × (strings_anticommute letters p.letters ≡ true)
+
+-- how a frame ends that went over so many steps: it went over all, past all copies, or is gone, or it is dropped at the first copy that
+-- was not turned
+pub data Ending (n : ℕ) (reach : ℕ) (back : List Step) (from steps : ℕ) (kept : List Checkpoint) (turned : List TableauState) (last new : WalkState) : Type 0 where
+  over : steps ≡ length back → length turned ≡ length kept → new ≡ last → Ending n reach back from steps kept turned last new
+  gone : ((base : ℕ) → IsGone n reach (frame_at base new)) → new ≡ last → Ending n reach back from steps kept turned last new
+  dropped : (c : Checkpoint) → slice_get kept (length turned) ≡ Some c → c.step - from ≡ steps → IsDropped n reach c last new
+      → Ending n reach back from steps kept turned last new
+
+-- of the last of the copies that were turned some stabiliser is none of what was made of it
+abbrev pub IsLastApart : (n : ℕ) → List Checkpoint → List TableauState → Type 0
+IsLastApart n copies [] = ⊥
+IsLastApart n [] (t ∷ turned) = ⊥
+IsLastApart n (c ∷ copies) (t ∷ []) = (p : Signed) × (length p.letters ≡ n) × (stabilises c.tableau p ≡ true) × (stabilises t p ≡ false)
+IsLastApart n (c ∷ copies) (t ∷ u ∷ turned) = IsLastApart n copies (u ∷ turned)
+
+-- a frame went over so many steps and ended there; its notes were enough; the copies on its way were turned, and where there are any, it
+-- flips a record, or turns a stabiliser of the last of them
 pub record IsLedFrame (n : ℕ) (strings : List (List Letter)) (free : List Bool) (reach : ℕ) (back : List Step) (from : ℕ) (kept : List Checkpoint)
     (turned : List TableauState) (old new : WalkState) : Type 0 where
   pub steps : ℕ
   pub within : steps ≤ length back
-  pub walked : WalksOver n (note_at strings free) (take steps back) old new
+  pub last : WalkState
+  pub walked : WalksOver n (note_at strings free) (take steps back) old last
   pub enough : AreEnoughBy n (note_at strings free) free back steps old
-  pub ends : ((steps ≡ length back) × (length turned ≡ length kept)) ⊎ ((base : ℕ) → IsGone n reach (frame_at base new))
+  pub ends : Ending n reach back from steps kept turned last new
   pub copies : AreTurnedCopies n strings free back from steps old kept turned
-  pub differs : 1 ≤ length turned → 1 ≤ ones new.flips.records
+  pub differs : 1 ≤ length turned → (1 ≤ ones new.flips.records) ⊎ IsLastApart n kept turned
 
 -- the first of some copies, with other states
 abbrev pub with_states : List TableauState → List Checkpoint → List Checkpoint

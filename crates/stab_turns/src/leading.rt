@@ -1,16 +1,18 @@
-ghost use Rattle.std.specs.Prelude.{◌≡◌, ◌+◌, ◌<◌, ◌≤◌, ◌^◌, [], true, All, length, IfOk, IfErr};
+ghost use Rattle.std.specs.Prelude.{◌≡◌, ◌⊎◌, ℕ, ◌+◌, ◌<◌, ◌≤◌, ◌^◌, [], true, false, All, length, replicate, IfOk, IfErr};
 ghost use Rattle.stab_io.specs.declared.refusal.Refusal.TheVariants.{OutOfMemory};
-ghost use Rattle.stab_run.specs.Records.{ones};
+ghost use Rattle.stab_letters.specs.declared.letter.Letter.TheVariants.{I};
+ghost use Rattle.stab_run.specs.Records.{looked_up, ones};
 ghost use Rattle.stab_run.specs.ProgramStates.{StepFits};
 ghost use Rattle.stab_frames.specs.Walks.{IsPlaced};
-ghost use Rattle.stab_turns.specs.LedFrames.{AreInOrder, IsLedFrame};
+ghost use Rattle.stab_turns.specs.LedFrames.{AreInOrder, Stabilise, TurnSome, IsLedFrame};
 
 use stab_circuit::Cursor;
 use stab_copies::Checkpoint;
 use stab_frames::{FrameWalk, KeptStrings, Stop, walk_steps};
 use stab_io::Refusal;
-use stab_replay::turned_copy;
-use stab_tableau::CompactTableau;
+use stab_pauli::{Letter, Pauli};
+use stab_replay::{has_one, turned_copy};
+use stab_tableau::{CompactTableau, Tableau};
 use std::alloc::Global;
 
 /// How many steps are gone over together at most: as many as are left.
@@ -18,12 +20,11 @@ const MOST_TOGETHER: usize = usize::MAX;
 
 /// Leads a frame over the steps that a cursor has left, from the place of one step of a run on, past
 /// copies of that run's state in order, until it is gone or behind the last step. At each copy that it
-/// comes to it makes that copy, turned by the frame.
+/// comes to it makes that copy, turned by the frame. Where it flipped no record that later steps look
+/// back to, and its letters stabilise the copy with one of their signs, it turns nothing from there on,
+/// and ends; the copy is looked at in the memory of a spare tableau if there is one.
 ///
-/// False where it can't tell the run behind: a string is missing; or it flips no record by the second
-/// copy, or by the end, or has flipped some, and at a copy none since the last one, nor any that later
-/// steps look back to, so that both runs may agree, which a look at states would have to say. What it
-/// made so far is then of no account.
+/// False where a string is missing. What it made so far is then of no account.
 ///
 /// Refusal `OutOfMemory` alone.
 pub fn lead_frame(
@@ -36,6 +37,7 @@ pub fn lead_frame(
     cursor: &mut Cursor,
     walk: &mut FrameWalk,
     turned: &mut Vec<CompactTableau>,
+    spare: &mut Option<Tableau>,
 ) -> Result<bool, Refusal>
     requires same_length { strings.now.qubits ≡ length walk.old.letters }
     requires fits { All (StepFits (length walk.old.letters)) cursor.old.left }
@@ -50,51 +52,79 @@ pub fn lead_frame(
 {
     let mut at = from;
     for copy in copies {
-        let before = walk.records().len();
         let walked = walk_steps(walk, strings, free, cursor, copy.step - at, reach)?;
         match walked.stop {
             Stop::NoString => return Ok(false),
-            Stop::Gone => return Ok(tells(walk, turned)),
+            Stop::Gone => return Ok(true),
             Stop::Behind => {}
         }
-        let silent = !turned.is_empty() && !has_one(walk.records());
-        if silent || may_be_over(walk, before, reach) {
-            return Ok(false);
+        if drop_letters(alloc, copy, reach, walk, spare)? {
+            return Ok(true);
         }
         turned.push(turned_copy(alloc, &copy.tableau, walk.letters())?)?;
         at = copy.step;
     }
     let walked = walk_steps(walk, strings, free, cursor, MOST_TOGETHER, reach)?;
-    if walked.stop == Stop::NoString {
+    Ok(walked.stop != Stop::NoString)
+}
+
+/// Whether a frame flips none of the newest records, as many as steps look back to.
+fn is_quiet(walk: &FrameWalk, reach: u32) -> bool
+    ensures quiet { result ≡ true → (k : ℕ) → k ≤ reach → looked_up walk.now.flips.records k ≡ false }
+    ensures flips { result ≡ false → 1 ≤ ones walk.now.flips.records }
+{
+    let records = walk.records();
+    let (_, newest) = records.split_at(records.len().saturating_sub(reach as usize));
+    !has_one(newest)
+}
+
+/// Makes all letters of a frame I where it flipped none of the newest records, as many as steps look back to, and
+/// its letters stabilise the state of a copy with one of their signs; and tells whether that is so. The copy is looked
+/// at in the memory of a spare tableau if there is one, which is the spare then.
+///
+/// Refusal `OutOfMemory` alone.
+fn drop_letters(
+    alloc: Global,
+    copy: &Checkpoint,
+    reach: u32,
+    walk: &mut FrameWalk,
+    spare: &mut Option<Tableau>,
+) -> Result<bool, Refusal>
+    requires same_qubits { copy.now.tableau.qubits ≡ length walk.old.letters }
+    ensures length { length walk.new.letters ≡ length walk.old.letters }
+    ensures quiet { IfOk result (λ dropped. dropped ≡ true → (k : ℕ) → k ≤ reach → looked_up walk.old.flips.records k ≡ false) }
+    ensures stabilise { IfOk result (λ dropped. dropped ≡ true → Stabilise walk.old.letters copy.now.tableau) }
+    ensures value { IfOk result (λ dropped. dropped ≡ true → walk.new ≡ record walk.old { letters = replicate (length walk.old.letters) I }) }
+    ensures unchanged { IfOk result (λ dropped. dropped ≡ false → walk.new ≡ walk.old) }
+    ensures turn { IfOk result (λ dropped. dropped ≡ false → (1 ≤ ones walk.old.flips.records) ⊎ TurnSome walk.old.letters copy.now.tableau) }
+    ensures err { IfErr result (λ r. r ≡ OutOfMemory) }
+{
+    if !is_quiet(walk, reach) {
         return Ok(false);
     }
-    Ok(tells(walk, turned))
+    let string = string_of(alloc, walk.letters())?;
+    let mut tableau = copy.tableau.tableau(alloc, spare.take())?;
+    tableau.stabilises_a_group();
+    tableau.stabilisers_generate();
+    let sign = tableau.sign_of(&string);
+    *spare = Some(tableau);
+    let Some(_) = sign else {
+        return Ok(false);
+    };
+    walk.multiply(&string);
+    Ok(true)
 }
 
-/// Whether a frame has flipped records, and none behind the first so many, nor of the newest, as many as
-/// steps look back to: though it has letters, these may turn nothing any more.
-fn may_be_over(walk: &FrameWalk, before: usize, reach: u32) -> bool {
-    let records = walk.records();
-    let from = records.len().saturating_sub(reach as usize).min(before);
-    let (_, newest) = records.split_at(from);
-    has_one(records) && !has_one(newest)
-}
-
-/// Whether what a frame made of a run is known to be all: where it turned copies, it flips a record.
-fn tells(walk: &FrameWalk, turned: &Vec<CompactTableau>) -> bool
-    ensures differs { result ≡ true → 1 ≤ length turned.now.items → 1 ≤ ones walk.now.flips.records }
+/// The string of these letters, one a qubit.
+///
+/// Refusal `OutOfMemory` alone.
+fn string_of(alloc: Global, letters: &[Letter]) -> Result<Pauli, Refusal>
+    ensures value { IfOk result (λ p. p ≡ record { negative = false; letters = letters.now }) }
+    ensures err { IfErr result (λ r. r ≡ OutOfMemory) }
 {
-    turned.is_empty() || has_one(walk.records())
-}
-
-/// Whether there is a 1 among bits.
-fn has_one(bits: &[bool]) -> bool
-    ensures one { result ≡ true → 1 ≤ ones bits.now }
-{
-    for bit in bits {
-        if *bit {
-            return true;
-        }
+    let mut string = Pauli::identity(alloc, letters.len())?;
+    for qubit in 0..letters.len() {
+        string.set(qubit, letters[qubit]);
     }
-    false
+    Ok(string)
 }

@@ -15,7 +15,9 @@
 //!
 //! Proved: lengths are those of what the steps give at any point (`specs/LongerLists.antt`); a frame that
 //! was led over copies went over the steps before each, and what was made there is that copy, turned by
-//! the frame (`specs/LedFrames.antt`); flipped lists are what they were, inverted where the flips are 1.
+//! the frame; it went on to the last step, or to where it was gone or its letters stabilised the state;
+//! and where it turned copies, it flips a record, or the last of them became another state
+//! (`specs/LedFrames.antt`); flipped lists are what they were, inverted where the flips are 1.
 #![tactic(auto)]
 
 mod counting;

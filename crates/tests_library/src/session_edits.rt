@@ -140,6 +140,19 @@ const DIES_FAR: &str = "M 0\nR 0\nREPEAT 38 {\nM 0\n}\nDETECTOR rec[-39]";
 
 const ROOTS: &str = "SQRT_X 0 0";
 
+// A frame ends at a copy too whose state its letters stabilise, with one of both signs, if it flipped no record that
+// later steps look back to. The X flips the first record, and behind the first measurement of X it stabilises. Copies
+// stand as above: the first one tells it where nothing looks back, the second one behind a detector that looks back to
+// 15 records, and none where a detector looks back to all. Z stabilises a qubit that X gates alone act on; X stabilises
+// it nowhere, so its frame leads up to the end, though it flips nothing.
+const SETTLES: &str = "M 0\nREPEAT 39 {\nMX 0\n}";
+
+const SETTLES_NEAR: &str = "M 0\nREPEAT 39 {\nMX 0\n}\nDETECTOR rec[-15]";
+
+const SETTLES_FAR: &str = "M 0\nREPEAT 39 {\nMX 0\n}\nDETECTOR rec[-40]";
+
+const STILL: &str = "REPEAT 100 {\nX 0\n}";
+
 const TWO_BLOCKS: &str = "REPEAT 10 {\nX 0\nX 0\n}\nREPEAT 1000 {\nX 0\n}";
 
 const FREE: &str = "REPEAT 1000 {\nMX 0\nM 0\n}";
@@ -151,12 +164,7 @@ const ANY: (usize, usize) = (0, usize::MAX);
 // most steps that this carries out, those that a frame goes over, and the copies that are kept; how many coins
 // the opening asks for, and the most that the edit does.
 const COSTS: &[(&str, Item, [(usize, usize); 3], (u64, u64))] = &[
-    (
-        "REPEAT 100 {\nX 0\n}",
-        (None, 1, "I 0"),
-        [(0, 11), ANY, (0, 22)],
-        (0, 0),
-    ),
+    (STILL, (None, 1, "I 0"), [(0, 11), ANY, (0, 22)], (0, 0)),
     (
         "X 0\nREPEAT 1000 {\nX 0\n}",
         (None, 0, "I 0"),
@@ -173,6 +181,21 @@ const COSTS: &[(&str, Item, [(usize, usize); 3], (u64, u64))] = &[
     (DIES, (None, 0, "X 0"), [(1, 1), (9, 9), ANY], (0, 0)),
     (DIES_NEAR, (None, 0, "X 0"), [(1, 1), (18, 18), ANY], (0, 0)),
     (DIES_FAR, (None, 0, "X 0"), [(1, 1), (41, 41), ANY], (0, 0)),
+    (SETTLES, (None, 0, "X 0"), [(1, 1), (9, 9), ANY], (1, 0)),
+    (
+        SETTLES_NEAR,
+        (None, 0, "X 0"),
+        [(1, 1), (18, 18), ANY],
+        (1, 0),
+    ),
+    (
+        SETTLES_FAR,
+        (None, 0, "X 0"),
+        [(1, 1), (41, 41), ANY],
+        (1, 0),
+    ),
+    (STILL, (None, 0, "Z 0"), [(1, 1), (9, 9), ANY], (0, 0)),
+    (STILL, (None, 0, "X 0"), [(1, 1), (100, 100), ANY], (0, 0)),
     (DIES, (None, 0, ROOTS), [(11, 11), (0, 0), ANY], (0, 0)),
     (DIES_NEAR, (None, 0, ROOTS), [(11, 11), (9, 9), ANY], (0, 0)),
     (

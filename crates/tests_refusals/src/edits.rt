@@ -12,7 +12,7 @@ use std::alloc::Global;
 use std::io;
 
 /// An edit of the nested circuit, in its outermost list, or at a path of three numbers; or of the circuit
-/// with a Pauli gate, in whose stead there is another.
+/// with a Pauli gate, in whose stead there is another, or one that does the same to that state.
 #[derive(Clone, Copy)]
 enum NestedEdit {
     Insert,
@@ -21,6 +21,7 @@ enum NestedEdit {
     Replace,
     ReplaceNested,
     ReplacePauli,
+    ReplaceAlike,
     Delete,
     DeleteNested,
 }
@@ -29,7 +30,7 @@ impl NestedEdit {
     /// The text of the circuit that it edits.
     fn circuit(self) -> &'static [u8] {
         match self {
-            NestedEdit::ReplacePauli => WITH_PAULI,
+            NestedEdit::ReplacePauli | NestedEdit::ReplaceAlike => WITH_PAULI,
             _ => NESTED,
         }
     }
@@ -53,6 +54,7 @@ impl NestedEdit {
             NestedEdit::Replace => b"CZ 0 1",
             NestedEdit::ReplaceNested => b"MRX 0 1 2",
             NestedEdit::ReplacePauli => b"Z 2",
+            NestedEdit::ReplaceAlike => b"Y 2",
             NestedEdit::Delete | NestedEdit::DeleteNested => b"",
         }
     }
@@ -96,12 +98,13 @@ impl Applied {
                     item: self.item.take()?,
                 },
             ),
-            NestedEdit::Replace | NestedEdit::ReplaceNested | NestedEdit::ReplacePauli => Ok(
-                Edit::Replace {
-                    place,
-                    item: self.item.take()?,
-                },
-            ),
+            NestedEdit::Replace
+            | NestedEdit::ReplaceNested
+            | NestedEdit::ReplacePauli
+            | NestedEdit::ReplaceAlike => Ok(Edit::Replace {
+                place,
+                item: self.item.take()?,
+            }),
             NestedEdit::Delete | NestedEdit::DeleteNested => Ok(Edit::Delete { place }),
         }
     }
@@ -168,6 +171,10 @@ pub fn print_all<R: AllocGlobal + Print>(rt: &R) -> io::Result<()> {
         (
             "Session::apply, a Pauli for another",
             NestedEdit::ReplacePauli,
+        ),
+        (
+            "Session::apply, a Pauli for one that does the same",
+            NestedEdit::ReplaceAlike,
         ),
         ("Session::apply, deletion", NestedEdit::Delete),
         (

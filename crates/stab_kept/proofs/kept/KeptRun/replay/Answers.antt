@@ -11,7 +11,7 @@ use Rattle.stab_replay.specs.FramedReplays.{IsOldRun}
 use Rattle.stab_kept.specs.KeptRuns.{IsKeptRun, Follows}
 use Rattle.stab_replay.specs.Replays.{Ascending}
 use Rattle.stab_run.proofs.FitLemmas.{check-fits, check-whole, check-steps}
-use Rattle.stab_kept.proofs.FollowLemmas.{coins-behind}
+use Rattle.stab_kept.proofs.CountLemmas.{coins-behind}
 use Rattle.stab_kept.specs.inner.Prepared.{IsCount}
 use Rattle.stab_kept.proofs.CourseLemmas.{HasBegun, HasEnded, count-of, seen-end, seen-soon, some-before, copy-within, has-begun, asked-behind, ascending-here, old-run, has-ended}
 use Rattle.stab_kept.proofs.kept.KeptRun.replay.Given.{Over}

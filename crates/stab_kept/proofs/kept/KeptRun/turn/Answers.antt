@@ -40,18 +40,18 @@ stays_near-requires-clause-some c =
     let some = some-copies f.count f.kept f.span (few at.After-as_slice) (counted at.After-count_before-before) in
     omega (arith, some)
 
-stays : (c : Else-not-stays_near) → IfSome (slice_get c.args.self.now.checkpoints.items (c.count_before-before.result - 1))
+stays : (c : Else-not-stays_near) → c.steps-total.result ≡ length (unroll (circuit_items c.args.circuit.now)) → IfSome (slice_get c.args.self.now.checkpoints.items (c.count_before-before.result - 1))
     (λ (d : Checkpoint). StaysNear c.args.stride c.args.span (length (unroll (circuit_items c.args.circuit.now))) d.step (slice_get c.args.self.now.checkpoints.items c.count_before-before.result))
-stays c =
-    let at = goal.at.turning-requires-clause-near c in
-    let total = total-is at.After-as_slice in
+stays c total =
     let same = c.as_slice-2.ensures.value in
     subst (λ x. x)
     (λ i. IfSome (slice_get (same i) (c.count_before-before.result - 1)) (λ (d : Checkpoint). StaysNear c.args.stride c.args.span (total i) d.step (slice_get (same i) c.count_before-before.result)))
     (c.stays_near.ensures.near c.if-not-stays_near.false)
 
 pub turning-requires-clause-near : goal.turning-requires-clause-near
-turning-requires-clause-near c = (c.args.stride, stays c)
+turning-requires-clause-near c =
+    let at = goal.at.turning-requires-clause-near c in
+    (c.args.stride, stays at.Else-not-stays_near (total-is at.After-as_slice))
 
 pub overflow_sub-before : goal.overflow_sub-before
 overflow_sub-before c =
@@ -104,7 +104,7 @@ returns-in-Some-clause-turned c =
     subst (λ k. HasTurned n coins c.args.stride (unroll items) k c.args.span c.args.self.now c.followed_between-followed.result c.put.new.self) count
     (has-turned-here f (few at.After-as_slice) (counted at.After-count_before-before) d d_here
     (some-at (λ (x : Checkpoint). StaysNear c.args.stride c.args.span (length (unroll items)) x.step (slice_get c.args.self.now.checkpoints.items c.count_before-before.result))
-    c.args.self.now.checkpoints.items (c.count_before-before.result - 1) d d_here (stays at.Else-not-stays_near))
+    c.args.self.now.checkpoints.items (c.count_before-before.result - 1) d d_here (stays at.Else-not-stays_near (total-is at.After-as_slice)))
     c.in-Some.turning
     (subst (λ o. IfSome o (IsTurning (unroll items) c.args.span c.count_before-before.result c.args.string.now c.args.self.now)) c.in-Some.is c.in_ok-turning.ensures.turning)
     c.put.new.self c.put.ensures.put
