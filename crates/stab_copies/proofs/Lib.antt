@@ -1,2 +1,3 @@
-pub mod LastBitsLemmas
+pub mod BitLemmas
+pub mod TakeLemmas
 mod CheckpointLemmas

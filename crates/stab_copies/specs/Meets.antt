@@ -1,15 +1,15 @@
 -- Meets: where another run comes to a copy of a run's state.
 -- Source: this project's own.
-use Rattle.std.specs.Prelude.{◌≡◌, ℕ, ◌-◌, Bool, List, length, take, drop}
+use Rattle.std.specs.Prelude.{◌≡◌, ◌⊎◌, ℕ, ◌-◌, Bool, List, length, take, drop}
 use Rattle.stab_tableau.specs.Tableaus.{TableauState, stabilises}
 use Rattle.stab_tableau.specs.Groups.{SameGroup}
+use Rattle.stab_run.specs.Records.{ones}
 use Rattle.stab_run.specs.Points.{RunOutput}
 use Rattle.stab_copies.specs.declared.checkpoint.Checkpoint.{Checkpoint}
 
--- where an old copy is of a state that another run has come to: the same strings stabilise, and the number of the next coin, that of the
--- records and the newest of them are the same
-pub record Meets (n reach : ℕ) (t : TableauState) (o : RunOutput) (old : List Bool) (c : Checkpoint) : Type 0 where
+-- where a copy of an old run, which has these records and flags, is of a state that another run has come to: the same strings stabilise, the newest
+-- records are the same, and the next coin has the same number, unless no coin decides behind the copy
+pub record Meets (n reach : ℕ) (t : TableauState) (o : RunOutput) (old free : List Bool) (c : Checkpoint) : Type 0 where
   pub group : SameGroup n (stabilises t) (stabilises c.tableau)
-  pub coin : length o.free ≡ c.lengths.free
-  pub count : length o.records ≡ c.lengths.records
-  pub records : drop (c.lengths.records - reach) o.records ≡ drop (c.lengths.records - reach) (take c.lengths.records old)
+  pub coin : (length o.free ≡ c.lengths.free) ⊎ (ones (drop c.lengths.free free) ≡ 0)
+  pub records : drop (length o.records - reach) o.records ≡ drop (length (take c.lengths.records old) - reach) (take c.lengths.records old)

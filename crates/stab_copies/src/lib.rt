@@ -1,5 +1,6 @@
 //! Copies of a run's state, kept on the way.
 //!
+//! - `bits`: whether there is a 1 among bits.
 //! - `checkpoint`: copies of the state before a step, where they are kept, and how they move.
 //! - `meeting`: whether another run meets a copy.
 //!
@@ -9,11 +10,14 @@
 //!
 //! Proved: what a copy is of (`specs/Checkpoints.antt`), how copies are laid and move
 //! (`specs/LaidCopies.antt`), and that `meets` answers yes exactly where the other run comes to the state of
-//! the copy, with the same coin to come and the same records as far back as is looked (`specs/Meets.antt`).
+//! the copy, with the same records as far back as is looked, and with the same coin to come unless none decides
+//! any more (`specs/Meets.antt`).
 #![tactic(auto)]
 
+mod bits;
 mod checkpoint;
 mod meeting;
 
+pub use bits::has_one;
 pub use checkpoint::{Checkpoint, Meeting, count_before, lay_all, shifted, take_moved};
-pub use meeting::meets;
+pub use meeting::{may_have_coin, meets};

@@ -1,19 +1,21 @@
-ghost use Rattle.std.specs.Prelude.{◌≡◌, ◌-◌, ◌≤◌, ◌↔◌, IsTrue, IfOk, IfErr, length, take, drop};
+ghost use Rattle.std.specs.Prelude.{◌≡◌, ◌⊎◌, ◌-◌, ◌↔◌, IsTrue, IfOk, IfErr, length, take, drop};
 ghost use Rattle.stab_io.specs.declared.refusal.Refusal.TheVariants.{OutOfMemory};
 ghost use Rattle.stab_tableau.specs.Groups.{SameGroup};
 ghost use Rattle.stab_tableau.specs.Tableaus.{stabilises};
+ghost use Rattle.stab_run.specs.Records.{ones};
 ghost use Rattle.stab_run.specs.ProgramStates.{output_of};
 ghost use Rattle.stab_copies.specs.Meets.{Meets};
 
+use crate::bits::has_one;
 use crate::checkpoint::Checkpoint;
 use stab_io::Refusal;
 use stab_run::Outputs;
 use stab_tableau::{CompactTableau, Tableau};
 use std::alloc::Global;
 
-/// Whether a run that came to this state, and gave this, meets a copy of another one's state. The
-/// other run has these records, of which the first, up to the base, are the same, and its steps look
-/// back no further than the reach: what is cheap to compare comes first.
+/// Whether a run that came to this state, and gave this, meets a copy of another one's state: from there on the other run goes on
+/// as this one would. That one gave so much in all, and its steps look back no further than the reach. What is cheap to compare
+/// comes first.
 ///
 /// The copy is expanded into the spare tableau if there is one, and is then the spare itself.
 ///
@@ -23,22 +25,19 @@ pub fn meets(
     tableau: &mut Tableau,
     outputs: &Outputs,
     copy: &Checkpoint,
-    records: &[bool],
-    base: usize,
+    old: &Outputs,
     reach: u32,
     spare: &mut Option<Tableau>,
 ) -> Result<bool, Refusal>
     requires same_qubits { copy.now.tableau.qubits ≡ tableau.old.qubits }
-    requires base { base ≤ length outputs.now.records.items }
-    requires same_records { take base outputs.now.records.items ≡ take base records.now }
     ensures unchanged { tableau.new ≡ tableau.old }
-    ensures value { IfOk result (λ meets. IsTrue meets ↔ Meets tableau.old.qubits reach tableau.old (output_of outputs.now) records.now copy.now) }
+    ensures value { IfOk result (λ meets. IsTrue meets ↔ Meets tableau.old.qubits reach tableau.old (output_of outputs.now) old.now.records.items old.now.free.items copy.now) }
     ensures err { IfErr result (λ r. r ≡ OutOfMemory) }
 {
-    let alike = outputs.free.len() == copy.lengths.free
-        && outputs.records.len() == copy.lengths.records
-        && same_last(outputs.records.as_slice(), records, base, reach as usize);
-    if !alike {
+    let records = first(old.records.as_slice(), copy.lengths.records);
+    if !end_alike(outputs.records.as_slice(), records, reach as usize)
+        || !may_have_coin(copy, old.free.as_slice(), outputs.free.len())
+    {
         return Ok(false);
     }
     has_group_of(tableau, alloc, &copy.tableau, spare)
@@ -68,26 +67,36 @@ fn has_group_of(
     Ok(same)
 }
 
-/// Whether the last bits of a list, so many, stand at their places in another one, where both have the
-/// same bits before the base.
-fn same_last(bits: &[bool], others: &[bool], base: usize, reach: usize) -> bool
-    requires base { base ≤ length bits.now }
-    requires same { take base bits.now ≡ take base others.now }
-    ensures value { IsTrue result ↔ (drop (length bits.now - reach) bits.now ≡ drop (length bits.now - reach) (take (length bits.now) others.now)) }
+/// Whether the next coin may have this number where a copy is, in a run with these flags: it has it there, or no coin decides behind.
+pub fn may_have_coin(copy: &Checkpoint, free: &[bool], coin: usize) -> bool
+    ensures value { IsTrue result ↔ ((coin ≡ copy.now.lengths.free) ⊎ (ones (drop copy.now.lengths.free free.now) ≡ 0)) }
 {
-    let from = bits.len().saturating_sub(reach);
-    let (_, last) = bits.split_at(from);
-    let (_, others) = others.split_at(from.min(others.len()));
-    same_behind(last, others, base.saturating_sub(from))
+    if coin == copy.lengths.free {
+        return true;
+    }
+    let (_, behind) = free.split_at(copy.lengths.free.min(free.len()));
+    !has_one(behind)
 }
 
-/// Whether a list goes on behind so many bits, which are the same, as another one begins.
-fn same_behind(bits: &[bool], others: &[bool], base: usize) -> bool
-    requires base { base ≤ length bits.now }
-    requires same { take base bits.now ≡ take base others.now }
-    ensures value { IsTrue result ↔ (bits.now ≡ take (length bits.now) others.now) }
+/// The first bits of a list, so many.
+fn first(bits: &[bool], count: usize) -> &[bool]
+    ensures value { result.now ≡ take count bits.now }
 {
-    let (_, rest) = bits.split_at(base);
-    let (_, others) = others.split_at(base);
-    others.starts_with(rest)
+    let (first, _) = bits.split_at(count.min(bits.len()));
+    first
+}
+
+/// The last bits of a list, so many.
+fn last(bits: &[bool], count: usize) -> &[bool]
+    ensures value { result.now ≡ drop (length bits.now - count) bits.now }
+{
+    let (_, last) = bits.split_at(bits.len().saturating_sub(count));
+    last
+}
+
+/// Whether the last bits of two lists are the same, so many, or all where a list has fewer.
+fn end_alike(bits: &[bool], others: &[bool], count: usize) -> bool
+    ensures value { IsTrue result ↔ (drop (length bits.now - count) bits.now ≡ drop (length others.now - count) others.now) }
+{
+    last(bits, count) == last(others, count)
 }

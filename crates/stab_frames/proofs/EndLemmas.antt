@@ -1,13 +1,13 @@
 -- Where frames end: letters that turn nothing, and flipped records that no step looks back to.
-use Rattle.std.proofs.Common.{◌≡◌, ℕ, ◌+◌, ◌≤◌, refl, sym, ◌∙◌, ap, subst, Bool, true, false, [], ◌∷◌, ◌++◌, length, replicate, nat_lt, arith}
+use Rattle.std.proofs.Common.{◌≡◌, ℕ, ◌+◌, ◌≤◌, refl, sym, ◌∙◌, ap, subst, Bool, true, false, List, [], ◌∷◌, ◌++◌, length, replicate, nat_lt, arith}
 use Rattle.std.specs.List.{list_any}
-use Rattle.std.proofs.lemmas.List.{length-replicate}
+use Rattle.std.proofs.lemmas.List.{length-append, length-replicate}
 use Rattle.stab_letters.specs.Letters.{◌⊕◌}
 use Rattle.stab_pauli.proofs.StringLemmas.{length-string_product}
 use Rattle.stab_tableau.specs.Traces.{member}
-use Rattle.stab_circuit.specs.Steps.{Step, one, two, controlled, collapse, product, detector, observable, makes, lookbacks, looks_too_far}
+use Rattle.stab_circuit.specs.Steps.{Step, one, two, controlled, collapse, product, detector, observable, makes, records_of, lookbacks, looks_too_far}
 use Rattle.stab_run.specs.Records.{looked_up}
-use Rattle.stab_run.specs.Points.{Point, RunOutput, joined, given, coins_of, next_point, point_after}
+use Rattle.stab_run.specs.Points.{Point, RunOutput, joined, given, coins_of, next_point, point_after, outputs}
 use Rattle.stab_run.proofs.FutureLemmas.{given-same, trace-same}
 use Rattle.stab_frames.specs.Ends.{AgreeBack}
 use Rattle.stab_frames.specs.EndLaws.{StabilisersTurnNothing, FramesUpToStabilisers, FramesEnd, SameFutureBack}
@@ -40,6 +40,13 @@ made n coins a (collapse l q false inverted resets) = refl
 made n coins a (product factors inverted) = refl
 made n coins a (detector ks) = refl
 made n coins a (observable j ks) = refl
+
+-- how many records steps make
+pub records-made : (n : ℕ) (coins : ℕ → Bool) (xs : List Step) (a : Point) → length (outputs n coins xs a).records ≡ records_of xs
+records-made n coins [] a = refl
+records-made n coins (x ∷ xs) a =
+    length-append (given n coins x a).records (outputs n coins xs (next_point n coins x a)).records
+    ∙ (λ i. made n coins a x i + records-made n coins xs (next_point n coins x a) i)
 
 module _ (n m : ℕ) (coins : ℕ → Bool) (a b : Point) (same : AgreeBack n m a b) (x : Step) (near : list_any (nat_lt m) (lookbacks x) ≡ false) where
   given-back : given n coins x a ≡ given n coins x b

@@ -7,7 +7,7 @@ use Rattle.std.proofs.lemmas.List.{drop-drop, take-append-drop}
 use Rattle.std.proofs.lemmas.List.Elements.{All-head, All-tail, All-drop, All-weaker}
 use Rattle.std.proofs.lemmas.Option.{slice_get-map}
 use Rattle.stab_circuit.specs.Steps.{Step, looks_too_far}
-use Rattle.stab_frames.specs.Ends.{AgreeBack}
+use Rattle.stab_frames.specs.Ends.{AgreeBack, with_coin, MayHaveCoin}
 use Rattle.stab_frames.specs.Lookbacks.{LooksWithin}
 use Rattle.stab_replay.proofs.NotedLemmas.{near-enough}
 use Rattle.stab_copies.specs.declared.checkpoint.Checkpoint.{Checkpoint}
@@ -167,11 +167,11 @@ module _ (n : ℕ) (coins : ℕ → Bool) (K : ℕ) (xs : List Step) (count : �
   pub ends-at : (p : Plan) → p.reach ≡ old.reach → p.old_end ≡ s.old_end → p.new_end ≡ s.new_end → p.total ≡ length ys → length ys < 2 ^ 64
       → IfSome (slice_get old.checkpoints.items p.next) (λ c. s.old_end ≤ c.step) → (m : ℕ) → m ≤ p.next
       → IfSome (slice_get old.checkpoints.items m) (λ c. s.first + 1 ≤ c.step) → (r : Replay) (end : End)
-      → IsRunFromStart n coins (take r.step ys) (program_state r.tableau (output_of r.outputs)) → IsEnd n p r old.checkpoints.items old.outputs.records.items end
+      → IsRunFromStart n coins (take r.step ys) (program_state r.tableau (output_of r.outputs)) → IsEnd n p r old.checkpoints.items old.outputs.records.items old.outputs.free.items end
       → EndsAt (AgreeBackBehindSpan n coins xs ys s) (checkpoint_steps old.checkpoints.items) s.first s.old_end s.new_end (length ys) r.step
   ends-at p reach old_end new_end total few behind m le later r Last run is = inl (is ∙ total)
   ends-at p reach old_end new_end total few behind m le later r (Joined j) run is =
-      let found = some-and (λ c. (step_among_new p c ≡ r.step) × Meets n p.reach r.tableau (output_of r.outputs) old.outputs.records.items c) (slice_get old.checkpoints.items j) is.1 in
+      let found = some-and (λ c. (step_among_new p c ≡ r.step) × Meets n p.reach r.tableau (output_of r.outputs) old.outputs.records.items old.outputs.free.items c) (slice_get old.checkpoints.items j) is.1 in
       let d = found.0 in
       let from = is.0 in
       let after : s.old_end ≤ d.step =
@@ -189,13 +189,16 @@ module _ (n : ℕ) (coins : ℕ → Bool) (K : ℕ) (xs : List Step) (count : �
       ∙ sym (drop-drop (d.step - s.old_end) s.old_end xs)
       ∙ ap (drop (d.step - s.old_end)) span.behind
       ∙ drop-drop (d.step - s.old_end) s.new_end ys in
+      let met = meets-agree n p.reach coins xs (take r.step ys) d r.tableau (output_of r.outputs) old.outputs.records.items old.outputs.free.items h
+      (ap (λ (o : RunOutput). o.records) kept.run.output) (ap (λ (o : RunOutput). o.free) kept.run.output) run found.2.1 in
+      let far : d.step ≡ s.old_end + (d.step - s.old_end) = omega (arith, after) in
       let agree : AgreeBackBehindSpan n coins xs ys s (d.step - s.old_end) = (
+        subst (λ x. x) (λ i. MayHaveCoin n coins (back i) (point_after n coins (take (far i) xs) origin) (point_after n coins (take (step i) ys) origin).coin) met.0,
         p.reach,
         subst (λ zs. looks_too_far p.reach zs ≡ false) back
             (near-enough old.reach p.reach (drop d.step xs) (omega (arith, reach)) (All-drop (LooksWithin old.reach) d.step xs kept.noted.near)),
-        subst (λ k. AgreeBack n p.reach (point_after n coins (take k xs) origin) (point_after n coins (take (s.new_end + (d.step - s.old_end)) ys) origin)) (omega (arith, after))
-            (subst (λ k. AgreeBack n p.reach (point_after n coins (take d.step xs) origin) (point_after n coins (take k ys) origin)) step
-            (meets-agree n p.reach coins xs (take r.step ys) d r.tableau (output_of r.outputs) old.outputs.records.items h (ap (λ (o : RunOutput). o.records) kept.run.output) run found.2.1)),
+        subst (λ x. x)
+            (λ i. AgreeBack n p.reach (with_coin (point_after n coins (take (step i) ys) origin).coin (point_after n coins (take (far i) xs) origin)) (point_after n coins (take (step i) ys) origin)) met.1,
       ) in
       let here : slice_get (checkpoint_steps old.checkpoints.items) j ≡ Some d.step =
       slice_get-map (λ c. c.step) old.checkpoints.items j ∙ ap (option_map (λ c. c.step)) found.1 in

@@ -46,17 +46,16 @@ same-trans a b c f g = record {
   checkpoints = f.checkpoints ∙ g.checkpoints;
 }
 
-has-copy : (n : ℕ) (p : Plan) (r : Replay) (copies : List Checkpoint) (bits : List Bool) (end : End) → IsEnd n p r copies bits end → HasCopy copies end
-has-copy n p r copies bits Last is = tt
-has-copy n p r copies bits (Joined j) is =
-    let found = some-and (λ c. (step_among_new p c ≡ r.step) × Meets n p.reach r.tableau (output_of r.outputs) bits c) (slice_get copies j) is.1 in
+has-copy : (n : ℕ) (p : Plan) (r : Replay) (copies : List Checkpoint) (bits free : List Bool) (end : End) → IsEnd n p r copies bits free end → HasCopy copies end
+has-copy n p r copies bits free Last is = tt
+has-copy n p r copies bits free (Joined j) is =
+    let found = some-and (λ c. (step_among_new p c ≡ r.step) × Meets n p.reach r.tableau (output_of r.outputs) bits free c) (slice_get copies j) is.1 in
     slice_get_within copies j found.0 found.1
 
--- a replay ended at copies and records that are those that were kept
-pub seen-end : (n : ℕ) (p : Plan) (r : Replay) {seen copies : List Checkpoint} {bits records : List Bool} (end : End) → seen ≡ copies → bits ≡ records
-    → IsEnd n p r seen bits end → IsEnd n p r copies records end
-seen-end n p r {seen} {copies} {bits} end same also is =
-    subst (λ records. IsEnd n p r copies records end) also (subst (λ cs. IsEnd n p r cs bits end) same is)
+-- a replay ended at copies that are those that were kept
+pub seen-end : (n : ℕ) (p : Plan) (r : Replay) {seen copies : List Checkpoint} (records free : List Bool) (end : End) → seen ≡ copies
+    → IsEnd n p r seen records free end → IsEnd n p r copies records free end
+seen-end n p r records free end same is = subst (λ cs. IsEnd n p r cs records free end) same is
 
 pub seen-soon : {n k : ℕ} (coins : ℕ → Bool) (p : Plan) {zs ys : List Step} {seen copies : List Checkpoint} {bits records : List Bool} (end : ℕ) → k ≡ n → zs ≡ ys
     → seen ≡ copies → bits ≡ records → EndsSoon k coins p zs seen bits end → EndsSoon n coins p ys copies records end
@@ -68,11 +67,11 @@ seen-soon {n} {k} coins p {zs} {ys} {seen} {copies} {bits} end qubits all same a
 
 -- the old copies that come behind a replay stand behind the first of them that may be met
 few-behind : (n : ℕ) (p : Plan) (r : Replay) (old : KeptRun) (end : End) (new : RunOutput) (strings : StringsState) (rest : Rest) (m : ℕ) → m ≤ p.next → m ≤ length old.checkpoints.items
-    → IsEnd n p r old.checkpoints.items old.outputs.records.items end → IsRest old r.tableau (output_of r.outputs) r.notes.strings r.step end new strings rest
+    → IsEnd n p r old.checkpoints.items old.outputs.records.items old.outputs.free.items end → IsRest old r.tableau (output_of r.outputs) r.notes.strings r.step end new strings rest
     → m + length (copies_behind rest old.checkpoints.items) ≤ length old.checkpoints.items
 few-behind n p r old Last new strings rest m next within end is = omega (arith, ap length is.0)
 few-behind n p r old (Joined j) new strings rest m next within end is =
-    let found = some-and (λ c. (step_among_new p c ≡ r.step) × Meets n p.reach r.tableau (output_of r.outputs) old.outputs.records.items c) (slice_get old.checkpoints.items j) end.1 in
+    let found = some-and (λ c. (step_among_new p c ≡ r.step) × Meets n p.reach r.tableau (output_of r.outputs) old.outputs.records.items old.outputs.free.items c) (slice_get old.checkpoints.items j) end.1 in
     let d = found.0 in
     let old_rest = some-at (IsOldRest old (output_of r.outputs) r.notes.strings r.step j new strings rest) old.checkpoints.items j d found.1 is in
     let later = end.0 in
@@ -174,6 +173,7 @@ module _ {n : ℕ} {coins : ℕ → Bool} {K : ℕ} {ys : List Step} {s : Span} 
         subst (λ zs. IsOldRun r0.tableau.qubits coins p zs old.checkpoints.items (output_of old.outputs) old.strings) (sym begins.all)
         (subst (λ k. IsOldRun k coins p ys old.checkpoints.items (output_of old.outputs) old.strings) (sym begins.qubits) (record {
           steps = f.old;
+          few = f.kept.few;
           are_copies = f.kept.checkpoints;
           output = f.kept.run.output;
           noted = subst (IsNoted n coins f.old old.strings old.outputs.free.items) (sym reach) f.kept.noted;
@@ -184,15 +184,15 @@ module _ {n : ℕ} {coins : ℕ → Bool} {K : ℕ} {ys : List Step} {s : Span} 
         }))
 
     module _ (r : Replay) (end : End) (replay : IsReplay r0.tableau.qubits coins K r0.step r0.cursor.all r) (raised : r0.notes.reach ≤ r.notes.reach)
-        (is_end : IsEnd r0.tableau.qubits p r old.checkpoints.items old.outputs.records.items end) where
+        (is_end : IsEnd r0.tableau.qubits p r old.checkpoints.items old.outputs.records.items old.outputs.free.items end) where
       done : IsReplay n coins K near.copy.step ys r
       done =
           subst (λ k. IsReplay n coins K k ys r) step_is
           (subst (λ zs. IsReplay n coins K r0.step zs r) begins.all
           (subst (λ k. IsReplay k coins K r0.step r0.cursor.all r) begins.qubits replay))
 
-      end_here : IsEnd n p r old.checkpoints.items old.outputs.records.items end
-      end_here = subst (λ k. IsEnd k p r old.checkpoints.items old.outputs.records.items end) begins.qubits is_end
+      end_here : IsEnd n p r old.checkpoints.items old.outputs.records.items old.outputs.free.items end
+      end_here = subst (λ k. IsEnd k p r old.checkpoints.items old.outputs.records.items old.outputs.free.items end) begins.qubits is_end
 
       ends-here : EndsAt (AgreeBackBehindSpan n coins f.old ys s) (checkpoint_steps old.checkpoints.items) s.first s.old_end s.new_end (length ys) r.step
       ends-here =
@@ -208,7 +208,7 @@ module _ {n : ℕ} {coins : ℕ → Bool} {K : ℕ} {ys : List Step} {s : Span} 
 
         kept-here : All (StepFits n) ys → (new : KeptRun) → IsCommitted old q m K new → IsKeptRun n coins K ys observables new
         kept-here fits new put =
-            kept-end n coins K f.old f.count old f.kept ys s f.span m near count.before r done (omega (arith, raised, begins.reach)) fits observables new
+            kept-end n coins K f.old f.count old f.kept ys s f.span m near count.before r done (omega (arith, raised, begins.reach)) fits few observables new
             (put.observables
             ∙ prepared_here.observables
             ∙ ap (λ (o : RunOutput). with_additions o.additions (replicate observables false)) (sym put.output))
@@ -230,7 +230,7 @@ module _ {n : ℕ} {coins : ℕ → Bool} {K : ℕ} {ys : List Step} {s : Span} 
       pub has-ended : HasEnded n coins K ys s old m f.old r0.step p r end
       has-ended = record {
         strings = done.at_step.noted.size ∙ sym f.kept.noted.size;
-        copy = has-copy n p r old.checkpoints.items old.outputs.records.items end end_here;
+        copy = has-copy n p r old.checkpoints.items old.outputs.records.items old.outputs.free.items end end_here;
         applied = λ applied counted.
             applied-within n coins K f.old f.count old f.kept ys s f.span m near r0.step r.step applied begins.at counted done.at_step.within;
         few = λ applied counted soon far agree.

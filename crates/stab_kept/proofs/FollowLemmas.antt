@@ -20,7 +20,7 @@ use Rattle.stab_kept.specs.declared.kept.Prepared.{Prepared}
 use Rattle.stab_kept.specs.declared.kept.Rest.{Rest}
 use Rattle.stab_run.specs.Records.{ones}
 use Rattle.stab_run.specs.Points.{RunOutput, origin, joined, point_after, outputs, with_additions}
-use Rattle.stab_frames.specs.Ends.{AgreeBack}
+use Rattle.stab_frames.specs.Ends.{AgreeBack, with_coin, MayHaveCoin}
 use Rattle.stab_frames.specs.Lookbacks.{LooksWithin}
 use Rattle.stab_run.specs.ProgramStates.{StepFits, program_state, output_of}
 use Rattle.stab_copies.specs.Spacing.{Near, IsSpaced, last_of}
@@ -37,8 +37,9 @@ use Rattle.stab_steps.specs.declared.records.Lengths.{Lengths}
 use Rattle.stab_steps.proofs.RecordLemmas.{ones-append}
 use Rattle.stab_run.proofs.PointLemmas.{flags-are-coins, front-output}
 use Rattle.stab_replay.proofs.NotedLemmas.{near-enough, noted-front, noted-spliced}
-use Rattle.stab_replay.proofs.FramedLemmas.{future-back, future-turned}
-use Rattle.stab_replay.proofs.PointLemmas.{take-same, checkpoint-before, begun-from-start, meets-agree, HaveSameFuture, group-end, kept-tail, checkpoint-moved}
+use Rattle.stab_replay.proofs.FramedLemmas.{future-moved, future-turned}
+use Rattle.stab_replay.specs.FramedReplays.{HaveSameFuture}
+use Rattle.stab_replay.proofs.PointLemmas.{take-same, checkpoint-before, begun-from-start, meets-agree, group-end, kept-tail, checkpoint-moved}
 use Rattle.stab_kept.proofs.SpacingLemmas.{IsBefore, before-near, all-behind, ascending-behind, spaced-front, spaced-all, all-laid-all, all-laid-append, moved-within, moved-near, steps-moved, near-drop, near-join}
 
 -- lists and their elements
@@ -214,7 +215,7 @@ module _ (n : ℕ) (coins : ℕ → Bool) (K : ℕ) (xs : List Step) (count : �
       here = slice_get-map (λ c. c.step) old.checkpoints.items (m - 1) ∙ ap (option_map (λ c. c.step)) b.here
 
   module _ (m : ℕ) (b : IsBefore K (length xs) s.first m old.checkpoints.items) (front : All (λ c. c.step < s.first + 1) (take m old.checkpoints.items))
-      (r : Replay) (replay : IsReplay n coins K b.copy.step ys r) (raised : old.reach ≤ r.notes.reach) (fits : All (StepFits n) ys) (total : ℕ) (new : KeptRun)
+      (r : Replay) (replay : IsReplay n coins K b.copy.step ys r) (raised : old.reach ≤ r.notes.reach) (fits : All (StepFits n) ys) (small : length ys ≤ 1048576) (total : ℕ) (new : KeptRun)
       (observables : new.observables.items ≡ with_additions new.outputs.additions.items (replicate total false)) where
     -- behind the last step
     kept-last : r.step ≡ length ys → new.tableau ≡ r.tableau → output_of new.outputs ≡ output_of r.outputs → new.strings ≡ r.notes.strings → new.reach ≡ r.notes.reach
@@ -227,6 +228,7 @@ module _ (n : ℕ) (coins : ℕ → Bool) (K : ℕ) (xs : List Step) (count : �
       };
       observables = observables;
       fits = fits;
+      few = small;
       noted =
           subst (λ x. x) (λ i. IsNoted n coins (take_all r.step ys (omega (arith, end)) i) (sym strings i) (sym output i).free (sym reach i)) replay.at_step.noted;
       checkpoints =
@@ -246,7 +248,7 @@ module _ (n : ℕ) (coins : ℕ → Bool) (K : ℕ) (xs : List Step) (count : �
 
     -- at an old copy that it meets
     kept-joined : (j reach : ℕ) → reach ≡ old.reach → (d : Checkpoint) → slice_get old.checkpoints.items j ≡ Some d → s.old_end ≤ d.step → moved s.old_end s.new_end d.step ≡ r.step
-        → Meets n reach r.tableau (output_of r.outputs) old.outputs.records.items d → length ys < 2 ^ 64 → new.tableau ≡ old.tableau
+        → Meets n reach r.tableau (output_of r.outputs) old.outputs.records.items old.outputs.free.items d → length ys < 2 ^ 64 → new.tableau ≡ old.tableau
         → output_of new.outputs ≡ joined (output_of r.outputs) (rest_of d.lengths (output_of old.outputs))
         → IsSpliced r.notes.strings old.strings (ones (take d.lengths.free old.outputs.free.items)) (ones new.outputs.free.items) new.strings
         → new.reach ≡ r.notes.reach
@@ -264,9 +266,10 @@ module _ (n : ℕ) (coins : ℕ → Bool) (K : ℕ) (xs : List Step) (count : �
       };
       observables = observables;
       fits = fits;
+      few = small;
       noted =
           subst (IsNoted n coins ys new.strings new.outputs.free.items) (sym new_reach)
-          (noted-spliced n coins xs ys d.step r.step same (sym agree.coin)
+          (noted-spliced n coins xs ys d.step r.step same agree.0
           (future-turned n coins (drop d.step xs) (point_after n coins (take d.step xs) origin) (point_after n coins (take r.step ys) origin) future)
           old.strings r.notes.strings new.strings old.outputs.free.items r.outputs.free.items new.outputs.free.items d.lengths.free old.reach r.notes.reach
           kept.noted (ap (λ (o : RunOutput). o.free) kept.run.output) replay.at_step.noted (ap (λ (o : RunOutput). o.free) replay.at_step.run.output) raised
@@ -299,15 +302,16 @@ module _ (n : ℕ) (coins : ℕ → Bool) (K : ℕ) (xs : List Step) (count : �
             ∙ drop-drop (d.step - s.old_end) s.new_end ys
             ∙ ap (λ k. drop k ys) (sym step)
 
-        agree : AgreeBack n reach (point_after n coins (take d.step xs) origin) (point_after n coins (take r.step ys) origin)
+        agree : MayHaveCoin n coins (drop d.step xs) (point_after n coins (take d.step xs) origin) (point_after n coins (take r.step ys) origin).coin
+            × AgreeBack n reach (with_coin (point_after n coins (take r.step ys) origin).coin (point_after n coins (take d.step xs) origin)) (point_after n coins (take r.step ys) origin)
         agree =
-            meets-agree n reach coins xs (take r.step ys) d r.tableau (output_of r.outputs) old.outputs.records.items is
-            (ap (λ (o : RunOutput). o.records) kept.run.output) replay.at_step.run meets
+            meets-agree n reach coins xs (take r.step ys) d r.tableau (output_of r.outputs) old.outputs.records.items old.outputs.free.items is
+            (ap (λ (o : RunOutput). o.records) kept.run.output) (ap (λ (o : RunOutput). o.free) kept.run.output) replay.at_step.run meets
 
         future : HaveSameFuture n coins (drop d.step xs) (point_after n coins (take d.step xs) origin) (point_after n coins (take r.step ys) origin)
         future =
-            future-back n reach coins (drop d.step xs) (point_after n coins (take d.step xs) origin) (point_after n coins (take r.step ys) origin)
-            (near-enough old.reach reach (drop d.step xs) (omega (arith, reach_is)) (All-drop (LooksWithin old.reach) d.step xs kept.noted.near)) agree
+            future-moved n reach coins (drop d.step xs) (point_after n coins (take d.step xs) origin) (point_after n coins (take r.step ys) origin)
+            (near-enough old.reach reach (drop d.step xs) (omega (arith, reach_is)) (All-drop (LooksWithin old.reach) d.step xs kept.noted.near)) agree.0 agree.1
 
         meeting : Meeting
         meeting = meeting_of (output_of r.outputs) r.step d
@@ -363,14 +367,14 @@ module _ (n : ℕ) (coins : ℕ → Bool) (K : ℕ) (xs : List Step) (count : �
     -- however it ends
     pub kept-end : (p : Plan) (end : End) (q : Prepared) → p.reach ≡ old.reach → p.old_end ≡ s.old_end → p.new_end ≡ s.new_end → p.total ≡ length ys → length ys < 2 ^ 64
         → IfSome (slice_get old.checkpoints.items p.next) (λ c. s.old_end ≤ c.step)
-        → IsEnd n p r old.checkpoints.items old.outputs.records.items end
+        → IsEnd n p r old.checkpoints.items old.outputs.records.items old.outputs.free.items end
         → IsRest old r.tableau (output_of r.outputs) r.notes.strings r.step end (output_of q.outputs) q.strings q.rest → q.reach ≡ r.notes.reach
         → reverse q.laid.items ≡ r.laid.items → IsCommitted old q m K new → IsKeptRun n coins K ys total new
     kept-end p Last q reach_is old_end new_end total few next end rest reach laid committed =
         kept-last (end ∙ total) (committed.tableau ∙ rest.1) (committed.output ∙ rest.2) (committed.strings ∙ rest.3) (committed.reach ∙ reach)
         (committed.checkpoints ∙ (λ i. all_laid K (rest.0 i) (all_laid K (laid i) (take m old.checkpoints.items))))
     kept-end p (Joined j) q reach_is old_end new_end total few next end rest reach laid committed =
-        let found = some-and (λ c. (step_among_new p c ≡ r.step) × Meets n p.reach r.tableau (output_of r.outputs) old.outputs.records.items c) (slice_get old.checkpoints.items j) end.1 in
+        let found = some-and (λ c. (step_among_new p c ≡ r.step) × Meets n p.reach r.tableau (output_of r.outputs) old.outputs.records.items old.outputs.free.items c) (slice_get old.checkpoints.items j) end.1 in
         let d = found.0 in
         let is = some-at (IsOldRest old (output_of r.outputs) r.notes.strings r.step j (output_of q.outputs) q.strings q.rest) old.checkpoints.items j d found.1 rest in
         kept-joined j p.reach reach_is d found.1 (some-at (λ c. s.old_end ≤ c.step) old.checkpoints.items j d found.1 (from-drop (λ c. s.old_end ≤ c.step) old.checkpoints.items p.next j end.0 (all-next p.next next)))
@@ -384,11 +388,11 @@ module _ (n : ℕ) (coins : ℕ → Bool) (K : ℕ) (xs : List Step) (count : �
 -- flags
 
 pub end-flags : (n : ℕ) (p : Plan) (r : Replay) (old : KeptRun) (end : End) (new : RunOutput) (strings : StringsState) (rest : Rest)
-    → IsEnd n p r old.checkpoints.items old.outputs.records.items end → IsRest old r.tableau (output_of r.outputs) r.notes.strings r.step end new strings rest
+    → IsEnd n p r old.checkpoints.items old.outputs.records.items old.outputs.free.items end → IsRest old r.tableau (output_of r.outputs) r.notes.strings r.step end new strings rest
     → ones r.outputs.free.items ≤ ones new.free
 end-flags n p r old Last new strings rest end is = omega (arith, ap (λ (o : RunOutput). ones o.free) is.2)
 end-flags n p r old (Joined j) new strings rest end is =
-    let found = some-and (λ c. (step_among_new p c ≡ r.step) × Meets n p.reach r.tableau (output_of r.outputs) old.outputs.records.items c) (slice_get old.checkpoints.items j) end.1 in
+    let found = some-and (λ c. (step_among_new p c ≡ r.step) × Meets n p.reach r.tableau (output_of r.outputs) old.outputs.records.items old.outputs.free.items c) (slice_get old.checkpoints.items j) end.1 in
     let d = found.0 in
     let old_rest = some-at (IsOldRest old (output_of r.outputs) r.notes.strings r.step j new strings rest) old.checkpoints.items j d found.1 is in
     omega (arith, ap (λ (o : RunOutput). ones o.free) old_rest.output, ones-append r.outputs.free.items (drop d.lengths.free old.outputs.free.items))

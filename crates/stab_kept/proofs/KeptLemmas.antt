@@ -32,6 +32,7 @@ kept-nothing n coins K r c qubits zeros empty none one first short same unnoted 
   run = record { group = zeros; output = empty };
   observables = none ∙ ap (λ (o : RunOutput). with_additions o.additions (replicate 0 false)) (sym empty);
   fits = All-nil (StepFits n);
+  few = omega arith;
   noted = noted-nothing n coins r.strings r.outputs.free.items r.reach unnoted (ap (λ (o : RunOutput). o.free) empty);
   checkpoints = subst (All (IsCheckpoint n coins [])) (sym one) (All-cons (IsCheckpoint n coins []) c [] (record {
     within = omega arith;

@@ -18,7 +18,7 @@ use Rattle.stab_run.specs.Laws.{AgreeAt}
 use Rattle.stab_run.specs.ProgramStates.{StepFits, output_of}
 use Rattle.stab_run.specs.Cuts.{front_of, rest_of}
 use Rattle.stab_run.proofs.PointLemmas.{flags-are-coins, front-output, records-are-records}
-use Rattle.stab_frames.specs.Ends.{AgreeBack}
+use Rattle.stab_frames.specs.Ends.{AgreeBack, with_coin}
 use Rattle.stab_frames.specs.Flips.{flipped_output}
 use Rattle.stab_frames.specs.KeptStrings.{StringsState}
 use Rattle.stab_frames.specs.Lookbacks.{LooksWithin}
@@ -125,6 +125,7 @@ module _ {n : ℕ} {coins : ℕ → Bool} {K : ℕ} {xs ys : List Step} {s : Spa
     };
     observables = put.observables;
     fits = fits;
+    few = few;
     noted =
         subst (λ x. x) (λ i. IsNoted n coins ys (sym put.strings i) (sym (put.output ∙ sym tells.output) i).free (sym put.reach i)) tells.noted;
     checkpoints =
@@ -256,13 +257,16 @@ module _ {n : ℕ} {coins : ℕ → Bool} {K : ℕ} {xs ys : List Step} {s : Spa
               ∙ sym (drop-drop (d.step - s.old_end) s.old_end zs)
               ∙ ap (drop (d.step - s.old_end)) span_also.behind
               ∙ drop-drop (d.step - s.old_end) s.new_end ys in
+              let agreed : AgreeBack n old.reach (point_after n coins (take (s.old_end + (d.step - s.old_end)) zs) origin) (point_after n coins (take (s.new_end + (d.step - s.old_end)) ys) origin) =
+              subst (λ k. AgreeBack n old.reach (point_after n coins (take k zs) origin) (point_after n coins (take (s.new_end + (d.step - s.old_end)) ys) origin)) (omega (arith, after))
+              (agrees-back (m + length t.turned.items) d is (tells.agree d (get-dropped m (length t.turned.items) old.checkpoints.items ∙ is))) in
               let agree : AgreeBackBehindSpan n coins zs ys s (d.step - s.old_end) = (
+                inl agreed.coin,
                 old.reach,
                 subst (λ ws. looks_too_far old.reach ws ≡ false) back
                     (near-enough old.reach old.reach (drop d.step zs) (omega arith) (All-drop (LooksWithin old.reach) d.step zs also.noted.near)),
-                subst (λ k. AgreeBack n old.reach (point_after n coins (take k zs) origin) (point_after n coins (take (s.new_end + (d.step - s.old_end)) ys) origin)) (omega (arith, after))
-                    (agrees-back (m + length t.turned.items) d is
-                    (tells.agree d (get-dropped m (length t.turned.items) old.checkpoints.items ∙ is))),
+                subst (λ c. AgreeBack n old.reach (with_coin c (point_after n coins (take (s.old_end + (d.step - s.old_end)) zs) origin)) (point_after n coins (take (s.new_end + (d.step - s.old_end)) ys) origin))
+                    agreed.coin agreed,
               ) in
               let here : slice_get (checkpoint_steps old.checkpoints.items) (m + length t.turned.items) ≡ Some d.step =
               slice_get-map (λ c. c.step) old.checkpoints.items (m + length t.turned.items) ∙ ap (option_map (λ c. c.step)) is in

@@ -18,7 +18,7 @@ use Rattle.stab_run.specs.Cuts.{lengths_of}
 use Rattle.stab_run.proofs.PointLemmas.{HasAtMost, outputs-short, cut}
 use Rattle.stab_copies.specs.declared.checkpoint.Checkpoint.{Checkpoint}
 use Rattle.stab_copies.specs.Checkpoints.{IsCheckpoint}
-use Rattle.stab_copies.proofs.LastBitsLemmas.{take-more}
+use Rattle.stab_copies.proofs.TakeLemmas.{take-more}
 use Rattle.stab_steps.proofs.RunLemmas.{outputs-append}
 use Rattle.stab_turns.specs.LongerLists.{longer, AreBelow}
 use Rattle.stab_frames.specs.Walks.{WalkState}

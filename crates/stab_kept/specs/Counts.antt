@@ -1,13 +1,15 @@
 -- Counts: how many steps an edit of a kept run takes, by where the replay of it begins and ends.
 -- Source: this project's own.
-use Rattle.std.specs.Prelude.{◌≡◌, ◌⊎◌, ℕ, ◌+◌, ◌-◌, ◌<◌, ◌≤◌, nat_le, if◌then◌else◌, false, List, [], ◌∷◌, IfSome, IsSomeAnd, slice_get}
+use Rattle.std.specs.Prelude.{◌≡◌, ◌⊎◌, ℕ, ◌+◌, ◌-◌, ◌<◌, ◌≤◌, nat_le, if◌then◌else◌, Bool, false, List, [], ◌∷◌, IfSome, IsSomeAnd, slice_get}
 use Rattle.stab_circuit.specs.Steps.{Step, looks_too_far}
 use Rattle.stab_run.specs.Points.{Point}
-use Rattle.stab_frames.specs.Ends.{AgreeBack}
+use Rattle.stab_frames.specs.Ends.{AgreeBack, with_coin, MayHaveCoin}
 
--- two points before some steps have one group, the same number of the next coin, and the same records as far back as these steps look
-abbrev pub AgreeAsFarAsLooked : ℕ → List Step → Point → Point → Type 0
-AgreeAsFarAsLooked n xs a b = (reach : ℕ) × (looks_too_far reach xs ≡ false) × AgreeBack n reach a b
+-- two points before some steps have one group, the same number of the next coin unless none decides in these steps, and the same records
+-- as far back as these look
+abbrev pub AgreeAsFarAsLooked : ℕ → (ℕ → Bool) → List Step → Point → Point → Type 0
+AgreeAsFarAsLooked n coins xs a b =
+    MayHaveCoin n coins xs a b.coin × (reach : ℕ) × (looks_too_far reach xs ≡ false) × AgreeBack n reach (with_coin b.coin a) b
 
 -- of steps in order the last that is not behind a place, and the given one where none is
 abbrev pub last_until : ℕ → ℕ → List ℕ → ℕ

@@ -2,7 +2,7 @@
 -- Source: this project's own.
 use Rattle.std.specs.Prelude.{◌≡◌, ℕ, ◌+◌, ◌≤◌, Bool, false, List, All, Option, IfSome, length, take, drop, replicate}
 use Rattle.stab_pauli.specs.Paulis.{Signed}
-use Rattle.stab_circuit.specs.Steps.{Step}
+use Rattle.stab_circuit.specs.Steps.{Step, most_steps}
 use Rattle.stab_kept.specs.declared.kept.KeptRun.{KeptRun}
 use Rattle.stab_circuit.specs.declared.edit.Span.{Span}
 use Rattle.stab_run.specs.Points.{origin, point_after, with_additions}
@@ -20,6 +20,7 @@ pub record IsKeptRun (n : ℕ) (coins : ℕ → Bool) (K : ℕ) (xs : List Step)
   pub run : IsRunFromStart n coins xs (program_state r.tableau (output_of r.outputs))
   pub observables : r.observables.items ≡ with_additions r.outputs.additions.items (replicate count false)
   pub fits : All (StepFits n) xs
+  pub few : length xs ≤ most_steps
   pub noted : IsNoted n coins xs r.strings r.outputs.free.items r.reach
   pub checkpoints : All (IsCheckpoint n coins xs) r.checkpoints.items
   pub spaced : IsSpaced K (length xs) (checkpoint_steps r.checkpoints.items)
@@ -56,7 +57,8 @@ abbrev pub AgreeBehindSpan : ℕ → (ℕ → Bool) → List Step → List Step 
 AgreeBehindSpan n coins xs ys s far =
     AgreeAt n (point_after n coins (take (s.old_end + far) xs) origin) (point_after n coins (take (s.new_end + far) ys) origin)
 
--- and so they have the same records as far back as the steps behind look, where these differ before that
+-- and so they have the same records as far back as the steps behind look, where these differ before that, and another number of the
+-- next coin at most where none decides any more
 abbrev pub AgreeBackBehindSpan : ℕ → (ℕ → Bool) → List Step → List Step → Span → ℕ → Type 0
 AgreeBackBehindSpan n coins xs ys s far =
-    AgreeAsFarAsLooked n (drop (s.new_end + far) ys) (point_after n coins (take (s.old_end + far) xs) origin) (point_after n coins (take (s.new_end + far) ys) origin)
+    AgreeAsFarAsLooked n coins (drop (s.new_end + far) ys) (point_after n coins (take (s.old_end + far) xs) origin) (point_after n coins (take (s.new_end + far) ys) origin)

@@ -4,7 +4,7 @@ use Rattle.std.proofs.Common.{◌≡◌, ℕ, zero, suc, ◌+◌, ◌-◌, ◌<�
 use Rattle.std.specs.Prelude.{IfSome}
 use Rattle.std.specs.List.{list_any}
 use Rattle.std.proofs.lemmas.Bool.{cases_lt}
-use Rattle.std.proofs.lemmas.List.{take-take, take_all}
+use Rattle.std.proofs.lemmas.List.{take-append-drop, take-take, take_all}
 use Rattle.std.proofs.lemmas.List.Elements.{All-take}
 use Rattle.std.proofs.lemmas.Option.{IfSome_then}
 use Rattle.stab_letters.specs.declared.letter.Letter.{Letter}
@@ -17,7 +17,7 @@ use Rattle.stab_tableau.specs.Exchanges.{Exchanges}
 use Rattle.stab_tableau.specs.Turns.{IsTurned}
 use Rattle.stab_circuit.specs.Steps.{Step, makes, lookbacks, looks_too_far}
 use Rattle.stab_steps.specs.declared.records.Addition.{Addition}
-use Rattle.stab_run.specs.Records.{looked_up}
+use Rattle.stab_run.specs.Records.{looked_up, ones}
 use Rattle.stab_run.specs.Points.{Point, RunOutput, nothing, joined, coins_of, next_point, point_after, outputs}
 use Rattle.stab_run.specs.ProgramStates.{StepFits}
 use Rattle.stab_steps.proofs.RunLemmas.{after-append, outputs-append, joined-nothing}
@@ -28,9 +28,9 @@ use Rattle.stab_frames.specs.FrameSteps.{frame_over, flips_over}
 use Rattle.stab_frames.specs.StepNotes.{AreEnough, measured_by}
 use Rattle.stab_frames.specs.KeptStrings.{IsTrueAt, AreTrue}
 use Rattle.stab_frames.specs.Walks.{IsGone}
-use Rattle.stab_frames.specs.Ends.{AgreeBack}
-use Rattle.stab_replay.proofs.PointLemmas.{HaveSameFuture}
-use Rattle.stab_copies.proofs.LastBitsLemmas.{take-more}
+use Rattle.stab_frames.specs.Ends.{AgreeBack, with_coin, MayHaveCoin}
+use Rattle.stab_replay.specs.FramedReplays.{HaveSameFuture}
+use Rattle.stab_copies.proofs.TakeLemmas.{take-more}
 use Rattle.stab_frames.proofs.SignLemmas.{sign-twice}
 use Rattle.stab_frames.proofs.TurnedLemmas.{turned-blank}
 use Rattle.stab_frames.proofs.LookbackLemmas.{or-left, or-right}
@@ -38,6 +38,7 @@ use Rattle.stab_frames.proofs.FlipLemmas.{looked_up-flipped, flipped-joined}
 use Rattle.stab_frames.proofs.StepLemmas.{over-framed, outputs-matches}
 use Rattle.stab_frames.proofs.NoteLemmas.{enough-before}
 use Rattle.stab_frames.proofs.EndLemmas.{same-future-back}
+use Rattle.stab_frames.proofs.FixedLemmas.{fixed-future, fixed-front}
 
 -- strings that exchange outcomes in the one state do so in the other
 
@@ -107,6 +108,19 @@ pub future-back : (n reach : ℕ) (coins : ℕ → Bool) (back : List Step) (a b
 future-back n reach coins back a b near agree m =
     let both = same-future-back n coins reach (take m back) a b (looks-front reach m back near) agree in
     (both.0, both.1.group)
+
+-- so have points at which the next coin has another number, where none decides behind
+pub future-moved : (n reach : ℕ) (coins : ℕ → Bool) (back : List Step) (a b : Point) → looks_too_far reach back ≡ false → MayHaveCoin n coins back a b.coin
+    → AgreeBack n reach (with_coin b.coin a) b → HaveSameFuture n coins back a b
+future-moved n reach coins back a b near (inl same) agree m =
+    future-back n reach coins back a b near (subst (λ c. AgreeBack n reach (with_coin c a) b) (sym same) agree) m
+future-moved n reach coins back a b near (inr none) agree m =
+    let first = fixed-front n coins (take m back) (drop m back) a (ap (λ xs. ones (outputs n coins xs a).free) (take-append-drop m back) ∙ none) in
+    let fixed = fixed-future n coins b.coin (take m back) a first in
+    let both = same-future-back n coins reach (take m back) (with_coin b.coin a) b (looks-front reach m back near) agree in (
+      sym fixed.0 ∙ both.0,
+      (λ p size. ap (λ (q : Point). member q.trace p) (sym fixed.1) ∙ both.1.group p size),
+    )
 
 -- and differ by no letter
 pub future-turned : (n : ℕ) (coins : ℕ → Bool) (back : List Step) (a b : Point) → HaveSameFuture n coins back a b → AreTurnedBehind n coins back a b

@@ -27,12 +27,12 @@ one-more K count more a b begin from step few longer le how =
     ]
 
 -- one more copy is laid
-pub laid-more : (n : ℕ) (p : Plan) (copies : List Checkpoint) (old : List Bool) (next later from begin count more : ℕ) (r : Replay)
+pub laid-more : (n : ℕ) (p : Plan) (copies : List Checkpoint) (old free : List Bool) (next later from begin count more : ℕ) (r : Replay)
     → spacing_of p.stride * count + begin ≤ from + spacing_of p.stride * (next - p.next) → more ≡ count + 1 → p.next ≤ next → from ≤ r.step → StopsAt p copies next from r.step
-    → IsArrival n p r copies old next (Between later) → spacing_of p.stride * more + begin ≤ r.step + spacing_of p.stride * (later - p.next)
-laid-more n p copies old next later from begin count more r few longer order further stops arrival =
+    → IsArrival n p r copies old free next (Between later) → spacing_of p.stride * more + begin ≤ r.step + spacing_of p.stride * (later - p.next)
+laid-more n p copies old free next later from begin count more r few longer order further stops arrival =
     one-more (spacing_of p.stride) count more (next - p.next) (later - p.next) begin from r.step few longer further
-    (elim (went-on n p copies old next later from r stops arrival) [
+    (elim (went-on n p copies old free next later from r stops arrival) [
       | inl far ↦ inl (omega (arith, far.0), far.1)
       | inr passed ↦ inr (omega (arith, passed.0, order))
     ])

@@ -1,7 +1,7 @@
 -- Led replays: a replay that a frame led to the place of the next old copy is there, and differs still where the frame is not gone.
-use Rattle.std.proofs.Common.{◌≡◌, ◌≢◌, ℕ, ◌+◌, ◌-◌, ◌^◌, ◌<◌, ◌≤◌, refl, sym, ◌∙◌, ap, subst, Bool, true, List, [], ◌∷◌, ◌++◌, All, Option, None, Some, slice_get, IsSomeAnd, length, take, drop, arith}
+use Rattle.std.proofs.Common.{◌≡◌, ◌≢◌, ℕ, ◌+◌, ◌-◌, ◌^◌, ◌<◌, ◌≤◌, refl, sym, ◌∙◌, ap, subst, Bool, true, ◌⊎◌, inl, inr, List, [], ◌∷◌, ◌++◌, All, Option, None, Some, slice_get, IsSomeAnd, length, take, drop, arith}
 use Rattle.std.proofs.lemmas.List.{length-drop, length-append, drop-drop, take_at}
-use Rattle.std.proofs.lemmas.List.Elements.{All-get_or}
+use Rattle.std.proofs.lemmas.List.Elements.{All-get_or, All-drop}
 use Rattle.std.proofs.lemmas.Option.{slice_get_within, get_or_from_slice_get}
 use Rattle.stab_letters.specs.declared.letter.Letter.{Letter}
 use Rattle.stab_pauli.specs.Paulis.{Signed}
@@ -13,22 +13,23 @@ use Rattle.stab_run.specs.Records.{ones}
 use Rattle.stab_run.specs.Points.{RunOutput, origin, joined, point_after, outputs}
 use Rattle.stab_run.specs.ProgramStates.{output_of}
 use Rattle.stab_steps.proofs.RecordLemmas.{ones-append}
-use Rattle.stab_run.proofs.PointLemmas.{cut, front-output, records-are-records}
+use Rattle.stab_run.proofs.PointLemmas.{cut, front-output, flags-are-coins, records-are-records}
 use Rattle.stab_frames.specs.declared.noting.RunNotes.{RunNotes}
 use Rattle.stab_frames.specs.declared.steps.Stop.{Stop}
 use Rattle.stab_frames.specs.declared.steps.Stop.TheVariants.{Behind, NoString}
 use Rattle.stab_frames.specs.Flips.{flipped}
 use Rattle.stab_frames.specs.KeptStrings.{StringsState}
 use Rattle.stab_frames.specs.Walks.{WalkState, IsPlaced}
+use Rattle.stab_frames.specs.Lookbacks.{LooksWithin}
 use Rattle.stab_replay.specs.declared.led.Passage.TheVariants.{Arrived, Passed}
 use Rattle.stab_copies.specs.declared.checkpoint.Checkpoint.{Checkpoint}
 use Rattle.stab_replay.specs.declared.replay.Plan.{Plan}
 use Rattle.stab_replay.specs.declared.replay.Replay.{Replay}
 use Rattle.stab_copies.specs.Checkpoints.{IsCheckpoint}
 use Rattle.stab_replay.specs.Replays.{IsAtStep, Misses, step_among_new, copy_of}
-use Rattle.stab_replay.specs.FramedReplays.{IsFramedAt, IsFramedOver, IsContinued, IsFrameFrom, WentOver, between, flips_since}
+use Rattle.stab_replay.specs.FramedReplays.{HaveMoved, IsFramedAt, IsFramedOver, IsContinued, IsFrameFrom, WentOver, between, flips_since}
 use Rattle.stab_replay.specs.inner.LedReplays.{IsBeside, IsAtCopy, IsLed, IsPassed, WentTo, last_state, state_of, with_state, with_cursor}
-use Rattle.stab_replay.proofs.NotedLemmas.{coins-are, noted-more}
+use Rattle.stab_replay.proofs.NotedLemmas.{coins-are, near-enough, noted-more}
 use Rattle.stab_replay.proofs.ReplayLemmas.{coins-few}
 use Rattle.stab_replay.proofs.FrameStartLemmas.{frame-begins, flips-differ}
 use Rattle.stab_replay.proofs.OverCopyLemmas.{over, there, at-copy}
@@ -76,7 +77,7 @@ at-noted n coins ys r string reach at long raised = record {
 -- a frame found at the place of an old copy may lead the replay from there
 pub led-from : (n : ℕ) (coins : ℕ → Bool) (p : Plan) (ys : List Step) (copies : List Checkpoint) (o : RunOutput) (s : StringsState) (last : ℕ) (c : Checkpoint) (r : Replay)
     (string : Signed) (reach : ℕ) (w : WalkState) → IsBeside n coins p ys copies o s r → slice_get copies last ≡ Some c → p.old_end ≤ c.step → step_among_new p c ≡ r.step
-    → p.base ≤ length r.outputs.records.items → take p.base r.outputs.records.items ≡ take p.base o.records → IsFrameFrom r.tableau (output_of r.outputs) o p.base c w
+    → p.base ≤ length r.outputs.records.items → take p.base r.outputs.records.items ≡ take p.base o.records → IsFrameFrom r.tableau (output_of r.outputs) o p.base p.reach c w
     → length string.letters ≡ length r.string.letters → r.notes.reach ≤ reach → p.reach ≤ reach
     → IsLed n coins p ys copies o s last (record r { string = string; notes = record r.notes { reach = reach } }) w
 led-from n coins p ys copies o s last c r string reach w beside from behind place within same found long raised far = record {
@@ -88,10 +89,12 @@ led-from n coins p ys copies o s last c r string reach w beside from behind plac
       (record {
         behind = behind;
         place = place;
+        base = length r.outputs.records.items - found.compared;
         framed =
-            frame-begins n coins beside.old.steps ys r.step c r.tableau (output_of r.outputs) o p.base w at.qubits
+            frame-begins n coins beside.old.steps ys r.step c r.tableau (output_of r.outputs) o p.base p.reach w at.qubits
             (at-number (IsCheckpoint n coins beside.old.steps) copies last c from beside.old.are_copies)
-            beside.old.output at.run within same found;
+            beside.old.output at.run within same beside.old.fits
+            (near-enough p.reach p.reach (drop c.step beside.old.steps) (omega arith) (All-drop (LooksWithin p.reach) c.step beside.old.steps beside.old.noted.near)) found;
       });
 }
   where
@@ -163,18 +166,17 @@ module _ {n : ℕ} {coins : ℕ → Bool} {p : Plan} {ys : List Step} {copies : 
 
   -- few coins and few steps
 
-  coin-here : w.coin ≤ r.step
+  coin-here : w.coin ≤ c.step
   coin-here =
       omega (
         arith,
         here.framed.coin,
-        here.framed.framed.coin,
-        coins-are n coins (take r.step ys) origin,
-        coins-few r.step ys,
+        coins-are n coins (take c.step led.old.steps) origin,
+        coins-few c.step led.old.steps,
       )
 
   pub coins-left : w.coin + length r.cursor.left < 2 ^ 63
-  coins-left = omega (arith, coin-here, ap length led.at_step.left, length-drop r.step ys, led.at_step.within, few)
+  coins-left = omega (arith, coin-here, is.within, led.old.few, ap length led.at_step.left, length-drop r.step ys, led.at_step.within, few)
 
   pub steps-between : r.framed ≤ r.step → r.framed + (d.step - c.step) < 2 ^ 63
   steps-between le =
@@ -188,10 +190,10 @@ module _ {n : ℕ} {coins : ℕ → Bool} {p : Plan} {ys : List Step} {copies : 
     few-steps = omega (arith, few)
 
     pub step-there : q.step ≡ r.step + (d.step - c.step)
-    step-there = there n coins p ys copies o s led.old c d is also here.behind went.order few-steps (with_state passed r) here.place p.base w v here.framed led.at_step q stop went told
+    step-there = there n coins p ys copies o s led.old c d is also here.behind went.order few-steps (with_state passed r) here.place here.base w v here.framed led.at_step q stop went told
 
-    over-it : IsFramedOver n coins led.old.steps ys c.step r.step (d.step - c.step) o.free p.base w v stop
-    over-it = over n coins p ys copies o s led.old c d is also here.behind went.order few-steps (with_state passed r) here.place p.base w v here.framed led.at_step q stop went told
+    over-it : IsFramedOver n coins led.old.steps ys c.step r.step (d.step - c.step) o.free here.base w v stop
+    over-it = over n coins p ys copies o s led.old c d is also here.behind went.order few-steps (with_state passed r) here.place here.base w v here.framed led.at_step q stop went told
 
     -- with no fewer free outcomes
     pub free-there : ones r.outputs.free.items ≤ ones q.outputs.free.items
@@ -204,10 +206,10 @@ module _ {n : ℕ} {coins : ℕ → Bool} {p : Plan} {ys : List Step} {copies : 
 
     -- which a frame that is not gone leads on from the next copy
     module _ (behind : stop ≡ Behind) (placed : IsPlaced o.free v) where
-      framed-at : (k : ℕ) → k ≡ q.step → IsFramedAt n coins led.old.steps ys d.step k o.free p.base v
+      framed-at : (k : ℕ) → k ≡ q.step → IsFramedAt n coins led.old.steps ys d.step k o.free here.base v
       framed-at k at =
-          subst (λ m. IsFramedAt n coins led.old.steps ys m k o.free p.base v) {x = c.step + (d.step - c.step)} (let le = went.order in omega arith)
-          (subst (λ m. IsFramedAt n coins led.old.steps ys (c.step + (d.step - c.step)) m o.free p.base v) (sym (at ∙ step-there)) (over-it.goes_on behind placed))
+          subst (λ m. IsFramedAt n coins led.old.steps ys m k o.free here.base v) {x = c.step + (d.step - c.step)} (let le = went.order in omega arith)
+          (subst (λ m. IsFramedAt n coins led.old.steps ys (c.step + (d.step - c.step)) m o.free here.base v) (sym (at ∙ step-there)) (over-it.goes_on behind placed))
 
       led-on : (t : Replay) → IsAtStep n coins ys t → t.step ≡ q.step → p.reach ≤ t.notes.reach → IsLed n coins p ys copies o s number t v
       led-on t at_step step raised = record {
@@ -219,21 +221,41 @@ module _ {n : ℕ} {coins : ℕ → Bool} {p : Plan} {ys : List Step} {copies : 
             (record {
               behind = let le = went.order in let first = here.behind in omega arith;
               place = sym went.step ∙ sym step;
+              base = here.base;
               framed = framed-at t.step step;
             });
       }
 
       -- and where the frame flips a record the runs differ
       differs : 1 ≤ ones v.flips.records → Misses n coins p ys o.records d
-      differs some xs same_copy kept agree =
-          flips-differ n p.base v (point_after n coins (take d.step led.old.steps) origin) (point_after n coins (take (step_among_new p d) ys) origin)
-          (framed-at (step_among_new p d) (sym went.step)).framed some
-          (sym (records-are-records n coins (take d.step led.old.steps))
-          ∙ sym (ap (λ (x : RunOutput). x.records) (front-output n coins led.old.steps d.step))
-          ∙ (λ i. take (sym (ap (λ (l : Lengths). l.records) also.lengths) i) (sym led.old.output i).records)
-          ∙ kept
-          ∙ records-are-records n coins (take d.step xs)
-          ∙ agree.records)
+      differs some xs same_copy kept agree = told_apart at_new.told
+        where
+          at_new : IsFramedAt n coins led.old.steps ys d.step (step_among_new p d) o.free here.base v
+          at_new = framed-at (step_among_new p d) (sym went.step)
+
+          same_records : (point_after n coins (take d.step led.old.steps) origin).records ≡ (point_after n coins (take (step_among_new p d) ys) origin).records
+          same_records =
+              sym (records-are-records n coins (take d.step led.old.steps))
+              ∙ sym (ap (λ (x : RunOutput). x.records) (front-output n coins led.old.steps d.step))
+              ∙ (λ i. take (sym (ap (λ (l : Lengths). l.records) also.lengths) i) (sym led.old.output i).records)
+              ∙ kept
+              ∙ records-are-records n coins (take d.step xs)
+              ∙ agree.records
+
+          same_coin : (point_after n coins (take d.step led.old.steps) origin).coin ≡ (point_after n coins (take (step_among_new p d) ys) origin).coin
+          same_coin =
+              sym (flags-are-coins n coins (take d.step led.old.steps))
+              ∙ sym (ap (λ (l : Lengths). l.free) also.lengths)
+              ∙ ap (λ (l : Lengths). l.free) same_copy.lengths
+              ∙ flags-are-coins n coins (take d.step xs)
+              ∙ agree.coin
+
+          told_apart : (at_new.seen.records ≡ (point_after n coins (take d.step led.old.steps) origin).records)
+              ⊎ HaveMoved (point_after n coins (take d.step led.old.steps) origin) (point_after n coins (take (step_among_new p d) ys) origin) → ⊥
+          told_apart (inl seen_records) =
+              flips-differ n here.base v at_new.seen (point_after n coins (take (step_among_new p d) ys) origin) at_new.framed some (seen_records ∙ same_records)
+          told_apart (inr (inl apart)) = apart same_coin
+          told_apart (inr (inr apart)) = apart (ap length same_records)
 
     -- with the state that a turned copy is of
     module _ {letters : List Letter} (kept : TableauState) (read : letters ≡ v.letters) (size : kept.qubits ≡ d.tableau.qubits)
@@ -251,7 +273,7 @@ module _ {n : ℕ} {coins : ℕ → Bool} {p : Plan} {ys : List Step} {copies : 
           → t.cursor.left ≡ drop t.step ys → t.step ≡ q.step → t.framed ≡ q.framed → q.notes.string ≡ r.notes.string → q.notes.reach ≡ r.notes.reach → WentTo n coins p ys r t d
       went-to t tableau string output notes all left step framed scratch reach = record {
         at_step =
-            at-copy n coins p ys copies o s led.old c d is also here.behind went.order few-steps (with_state passed r) here.place p.base w v here.framed led.at_step t stop
+            at-copy n coins p ys copies o s led.old c d is also here.behind went.order few-steps (with_state passed r) here.place here.base w v here.framed led.at_step t stop
             (went-same n p c d o s (with_state passed r) q t w v stop went output (ap (λ (x : RunNotes). x.strings) notes) step framed) told
             led.raised (turned-there t.tableau tableau) (qubits-there t.tableau tableau) (ap (λ (x : Signed). length x.letters) string ∙ led.at_step.string) all left
             (ap (λ (x : RunNotes). length x.string.letters) notes ∙ ap (λ (x : Signed). length x.letters) scratch ∙ led.at_step.scratch)

@@ -1,8 +1,8 @@
 pub mod PointLemmas
 pub mod ReplayLemmas
-mod BitLemmas
 mod LaidLemmas
 pub mod FramedLemmas
+mod SeenLemmas
 pub mod SegmentLemmas
 pub mod TurnedCopyLemmas
 mod FlippedLemmas

@@ -1,22 +1,28 @@
 -- Noted strings: those that exchange the free outcomes of a run, cut and put together where runs are.
-use Rattle.std.proofs.Common.{◌≡◌, ℕ, zero, suc, ◌+◌, ◌-◌, ◌<◌, ◌≤◌, min, refl, sym, ◌∙◌, ap, subst, Bool, true, false, ◌||◌, ◌⊎◌, inl, inr, List, [], ◌∷◌, ◌++◌, length, take, drop, All, slice_get, get_or, nat_lt, nat_le, Option, None, arith}
+use Rattle.std.proofs.Common.{◌≡◌, ℕ, zero, suc, ◌+◌, ◌-◌, ◌<◌, ◌≤◌, min, refl, sym, ◌∙◌, ap, subst, Bool, true, false, ◌||◌, ◌⊎◌, inl, inr, List, [], ◌∷◌, ◌++◌, length, take, drop, All, slice_get, get_or, nat_lt, nat_le, Option, None, Some, arith}
 use Rattle.std.specs.Prelude.{IfSome, if◌then◌else◌}
 use Rattle.std.specs.List.{list_any}
 use Rattle.std.proofs.lemmas.Bool.{cases_lt}
 use Rattle.std.proofs.lemmas.Bool.Decides.{leb_tells}
-use Rattle.std.proofs.lemmas.List.{length-append, length-drop, take-append-drop}
+use Rattle.std.proofs.lemmas.List.{length-append, length-drop, take-append-drop, drop_at}
 use Rattle.std.proofs.lemmas.List.Elements.{All-head, All-tail, All-append, All-drop, All-take, All-nil, All-weaker}
 use Rattle.stab_letters.specs.declared.letter.Letter.{Letter}
+use Rattle.stab_pauli.specs.Paulis.{Signed}
+use Rattle.stab_tableau.specs.Traces.{member}
+use Rattle.stab_tableau.specs.Exchanges.{Exchanges}
 use Rattle.stab_circuit.specs.Steps.{Step, one, two, controlled, collapse, product, detector, observable, makes, lookbacks, looks_too_far}
 use Rattle.stab_run.specs.Records.{ones}
 use Rattle.stab_run.specs.Points.{Point, RunOutput, origin, coins_of, all_coins_of, next_point, point_after, outputs}
 use Rattle.stab_run.specs.ProgramStates.{ProgramState, IsAt}
 use Rattle.stab_steps.proofs.RecordLemmas.{ones-append}
-use Rattle.stab_run.proofs.PointLemmas.{flags-are-coins, front-output}
+use Rattle.stab_run.proofs.PointLemmas.{flags-are-coins, front-output, rest-output}
 use Rattle.stab_frames.specs.Limits.{most_strings}
 use Rattle.stab_frames.specs.KeptStrings.{StringsState, IsNumbered, IsTrueAt, AreTrue, KeepsTrue, note_at, front_kept}
 use Rattle.stab_frames.specs.Lookbacks.{LooksWithin}
+use Rattle.stab_frames.specs.StepNotes.{measured_by}
+use Rattle.stab_frames.specs.Ends.{MayHaveCoin}
 use Rattle.stab_frames.proofs.LookbackLemmas.{or-left, or-right}
+use Rattle.stab_copies.proofs.BitLemmas.{counted}
 use Rattle.stab_replay.specs.NotedStrings.{IsNoted, IsSpliced}
 use Rattle.stab_replay.proofs.FramedLemmas.{AreTurnedBehind, true-turned}
 
@@ -174,14 +180,6 @@ take-on (suc c) t (false ∷ bits) = ap (λ k. ones (take k (false ∷ bits))) (
 
 pub ones-take : (c : ℕ) (bits : List Bool) → ones (take c bits) + ones (drop c bits) ≡ ones bits
 ones-take c bits = sym (ones-append (take c bits) (drop c bits)) ∙ ap ones (take-append-drop c bits)
-
--- a bit that is 1 is counted
-pub counted : (t : ℕ) (bits : List Bool) → get_or bits t false ≡ true → ones (take t bits) < ones bits
-counted t [] e = absurd (cc)
-counted zero (true ∷ bits) e = omega arith
-counted zero (false ∷ bits) e = absurd (cc)
-counted (suc t) (true ∷ bits) e = let le = counted t bits e in omega arith
-counted (suc t) (false ∷ bits) e = counted t bits e
 
 -- a note where strings and flags are cut
 
@@ -344,9 +342,34 @@ noted-on n coins xs zs s t old new before after noted at size most raised near k
   near = All-append (LooksWithin after) xs zs (within-more before after xs raised noted.near) near;
 }
 
--- a run with the rest of another behind it, from points on that differ by letters alone
+-- where no coin decides there are no notes
+
+none-one : (bits : List Bool) (t : ℕ) → ones bits ≡ 0 → get_or bits t false ≡ false
+none-one [] t none = refl
+none-one (true ∷ bits) t none = absurd (omega (arith, none))
+none-one (false ∷ bits) zero none = refl
+none-one (false ∷ bits) (suc t) none = none-one bits t none
+
+pub unnoted : (strings : List (List Letter)) (free : List Bool) (c t : ℕ) → ones (drop c free) ≡ 0 → c ≤ t → note_at strings free t ≡ None
+unnoted strings free c t none le =
+    ap (λ b. if b then slice_get strings (ones (take t free)) else None)
+    (ap (λ k. get_or free k false) {x = t} {y = c + (t - c)} (omega arith) ∙ sym (bit-drop c (t - c) free) ∙ none-one (drop c free) (t - c) none)
+
+true-none : (n : ℕ) (coins : ℕ → Bool) (strings : ℕ → Option (List Letter)) (xs : List Step) (a : Point) → ((t : ℕ) → a.coin ≤ t → strings t ≡ None) → AreTrue n coins strings xs a
+true-none n coins strings [] a none = tt
+true-none n coins strings (x ∷ xs) a none = (
+  IfSome_then-none (measured_by n x),
+  true-none n coins strings xs (next_point n coins x a) (λ t le. none t (omega (arith, le))),
+)
+  where
+    IfSome_then-none : (m : Option Signed) → IfSome m (λ m. IfSome (strings a.coin) (λ s. Exchanges n (member a.trace) m s))
+    IfSome_then-none None = tt
+    IfSome_then-none (Some m) = subst (λ o. IfSome o (λ s. Exchanges n (member a.trace) m s)) (sym (none a.coin (omega arith))) tt
+
+-- a run with the rest of another behind it, from points on that differ by letters alone, and in the number of the next coin where none
+-- decides behind
 pub noted-spliced : (n : ℕ) (coins : ℕ → Bool) (xs ys : List Step) (i k : ℕ) → drop i xs ≡ drop k ys
-    → (point_after n coins (take k ys) origin).coin ≡ (point_after n coins (take i xs) origin).coin
+    → MayHaveCoin n coins (drop i xs) (point_after n coins (take i xs) origin) (point_after n coins (take k ys) origin).coin
     → AreTurnedBehind n coins (drop i xs) (point_after n coins (take i xs) origin) (point_after n coins (take k ys) origin)
     → (s t u : StringsState) (free flags all : List Bool) (c old_reach reach : ℕ)
     → IsNoted n coins xs s free old_reach → free ≡ (outputs n coins xs origin).free
@@ -365,13 +388,7 @@ noted-spliced n coins xs ys i k same coin turned s t u free flags all c old_reac
       (λ m le lt. subst (λ x. x) (λ j. IsNoneOr (note_at (sym spliced.strings j) (sym is j) m) (note_at t.strings flags m))
       (note-left t flags noted.numbered (drop (ones (take c free)) s.strings) (drop c free) m (omega (arith, lt, coins-are n coins (take k ys) origin, count))))
       noted.are_true)
-      (subst (λ zs. AreTrue n coins (note_at u.strings all) zs (point_after n coins (take k ys) origin)) same
-      (true-changed n coins (note_at s.strings free) (note_at u.strings all) (drop i xs) (point_after n coins (take k ys) origin)
-      (λ m le lt. subst (λ x. x) (λ j. IsNoneOr (note_at (sym spliced.strings j) (sym is j) m) (note_at s.strings free m))
-      (note-right t flags noted.numbered s.strings free c (count ∙ coin ∙ sym at) m (omega (arith, le, coin, at))))
-      (true-turned n coins (note_at s.strings free) (drop i xs) (point_after n coins (take i xs) origin) (point_after n coins (take k ys) origin) coin turned
-      (true-back n coins (note_at s.strings free) (take i xs) (drop i xs) origin
-      (subst (λ zs. AreTrue n coins (note_at s.strings free) zs origin) (sym (take-append-drop i xs)) old.are_true))))));
+      (subst (λ zs. AreTrue n coins (note_at u.strings all) zs (point_after n coins (take k ys) origin)) same (true_behind coin)));
   near =
       subst (All (LooksWithin reach)) (take-append-drop k ys)
       (All-append (LooksWithin reach) (take k ys) (drop k ys) noted.near
@@ -380,6 +397,25 @@ noted-spliced n coins xs ys i k same coin turned s t u free flags all c old_reac
   where
     count : length flags ≡ (point_after n coins (take k ys) origin).coin
     count = ap length new_flags ∙ flags-are-coins n coins (take k ys)
+
+    rest : drop c free ≡ (outputs n coins (drop i xs) (point_after n coins (take i xs) origin)).free
+    rest =
+        (λ j. drop ((at ∙ sym (flags-are-coins n coins (take i xs))) j) (old_flags j))
+        ∙ ap (λ (o : RunOutput). o.free) (rest-output n coins xs i)
+
+    true_behind : MayHaveCoin n coins (drop i xs) (point_after n coins (take i xs) origin) (point_after n coins (take k ys) origin).coin
+        → AreTrue n coins (note_at u.strings all) (drop i xs) (point_after n coins (take k ys) origin)
+    true_behind (inr none) =
+        true-none n coins (note_at u.strings all) (drop i xs) (point_after n coins (take k ys) origin)
+        (λ m le. ap (λ bits. note_at u.strings bits m) is
+        ∙ unnoted u.strings (flags ++ drop c free) (length flags) m (ap ones (drop_at flags (drop c free) (length flags) refl ∙ rest) ∙ none) (omega (arith, le, count)))
+    true_behind (inl same_coin) =
+        true-changed n coins (note_at s.strings free) (note_at u.strings all) (drop i xs) (point_after n coins (take k ys) origin)
+        (λ m le lt. subst (λ x. x) (λ j. IsNoneOr (note_at (sym spliced.strings j) (sym is j) m) (note_at s.strings free m))
+        (note-right t flags noted.numbered s.strings free c (count ∙ sym same_coin ∙ sym at) m (omega (arith, le, same_coin, at))))
+        (true-turned n coins (note_at s.strings free) (drop i xs) (point_after n coins (take i xs) origin) (point_after n coins (take k ys) origin) (sym same_coin) turned
+        (true-back n coins (note_at s.strings free) (take i xs) (drop i xs) origin
+        (subst (λ zs. AreTrue n coins (note_at s.strings free) zs origin) (sym (take-append-drop i xs)) old.are_true)))
 
     long : length u.strings ≤ length t.strings + (length s.strings - ones (take c free))
     long = omega (arith, ap length spliced.strings, length-least t.most (t.strings ++ drop (ones (take c free)) s.strings), length-append t.strings (drop (ones (take c free)) s.strings), length-drop (ones (take c free)) s.strings)

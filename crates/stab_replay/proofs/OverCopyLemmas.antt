@@ -22,9 +22,9 @@ use Rattle.stab_copies.specs.Checkpoints.{IsRunFromStart, IsCheckpoint}
 use Rattle.stab_replay.specs.NotedStrings.{IsNoted}
 use Rattle.stab_replay.specs.Replays.{IsAtStep, step_among_new}
 use Rattle.stab_replay.specs.FramedReplays.{IsOldRun, IsFramedAt, IsFramedOver, IsContinued, AreEnoughBy, WentOver}
-use Rattle.stab_copies.proofs.LastBitsLemmas.{take-more}
+use Rattle.stab_copies.proofs.TakeLemmas.{take-more}
 use Rattle.stab_replay.proofs.FramedLemmas.{flipped-empty}
-use Rattle.stab_replay.proofs.NotedLemmas.{coins-are, ones-take}
+use Rattle.stab_replay.proofs.NotedLemmas.{coins-are, ones-take, unnoted}
 use Rattle.stab_replay.proofs.SegmentLemmas.{over-segment}
 use Rattle.stab_replay.proofs.FramedStepLemmas.{framed-run}
 use Rattle.stab_replay.proofs.NotedSegmentLemmas.{noted-segment}
@@ -59,7 +59,7 @@ module _ (n : ℕ) (coins : ℕ → Bool) (p : Plan) (ys : List Step) (copies : 
   pub over : IsFramedOver n coins old.steps ys c.step r.step (d.step - c.step) o.free base w v stop
   over =
       over-segment n coins old.steps ys c.step r.step (d.step - c.step) same (omega (arith, also.within, order)) (note_at s.strings o.free) o.free
-      (ap (λ (t : RunOutput). t.free) old.output) old.noted.are_true old.fits p.reach old.noted.near base w v at went.steps
+      (ap (λ (t : RunOutput). t.free) old.output) old.noted.are_true (λ from t none le. unnoted s.strings o.free from t none le) old.fits p.reach old.noted.near base w v at went.steps
       (subst (λ left. went.steps ≤ length (take (d.step - c.step) left)) at_step.left went.few)
       (subst (λ left. WalksOver n (note_at s.strings o.free) (take went.steps left) w v) at_step.left went.walked)
       (subst (λ left. AreEnoughBy n (note_at s.strings o.free) o.free left went.steps w) at_step.left went.enough)
@@ -111,7 +111,7 @@ module _ (n : ℕ) (coins : ℕ → Bool) (p : Plan) (ys : List Step) (copies : 
     noted =
         subst (λ k. IsNoted n coins (take k ys) q.notes.strings q.outputs.free.items q.notes.reach) (sym there)
         (subst (λ m. IsNoted n coins (take (r.step + (d.step - c.step)) ys) q.notes.strings q.outputs.free.items m) (sym reach)
-        (noted-segment n coins old.steps ys c.step r.step (d.step - c.step) same at.framed.coin over.turned s r.notes.strings q.notes.strings o.free r.outputs.free.items q.outputs.free.items
+        (noted-segment n coins old.steps ys c.step r.step (d.step - c.step) same at.may_have over.turned s r.notes.strings q.notes.strings o.free r.outputs.free.items q.outputs.free.items
         c.lengths.free d.lengths.free p.reach r.notes.reach old.noted (ap (λ (t : RunOutput). t.free) old.output) at_step.noted (ap (λ (t : RunOutput). t.free) at_step.run.output)
         raised coin-here coin-there coins-order flags-there
         (subst (λ x. x) (λ i. IsContinued r.notes.strings s (number-here i) (number-there i) q.notes.strings) went.strings)));

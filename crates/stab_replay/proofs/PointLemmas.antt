@@ -1,7 +1,7 @@
 -- Points: runs that go on from states on the way, copies of these, and meetings, where two runs come to points of one future.
-use Rattle.std.proofs.Common.{◌≡◌, ℕ, ◌+◌, ◌-◌, ◌^◌, ◌<◌, ◌≤◌, sym, ◌∙◌, ap, subst, Bool, false, List, ◌++◌, length, take, drop, get_or, nat_lt, arith}
-use Rattle.std.specs.Prelude.{if◌then◌else◌}
-use Rattle.std.proofs.lemmas.List.{length-append, length-take-le, length-drop, take-append-drop, take-take, take_all, get_or-drop}
+use Rattle.std.proofs.Common.{◌≡◌, ℕ, ◌+◌, ◌-◌, ◌^◌, ◌<◌, ◌≤◌, refl, sym, ◌∙◌, ap, subst, Bool, ◌⊎◌, inl, inr, List, ◌++◌, length, take, drop, arith}
+use Rattle.std.proofs.lemmas.Bool.{cases_lt}
+use Rattle.std.proofs.lemmas.List.{length-append, length-take-le, length-drop, take-append-drop, take-take, take_all}
 use Rattle.stab_tableau.specs.Traces.{member}
 use Rattle.stab_tableau.specs.Groups.{SameGroup}
 use Rattle.stab_tableau.specs.Tableaus.{TableauState, stabilises}
@@ -10,15 +10,17 @@ use Rattle.stab_steps.specs.declared.records.Lengths.{Lengths}
 use Rattle.stab_copies.specs.declared.checkpoint.Checkpoint.{Checkpoint}
 use Rattle.stab_copies.specs.declared.checkpoint.Meeting.{Meeting}
 use Rattle.stab_run.specs.Points.{Point, RunOutput, origin, joined, point_after, outputs}
-use Rattle.stab_run.specs.Records.{looked_up}
+use Rattle.stab_run.specs.Records.{looked_up, ones}
 use Rattle.stab_run.specs.Laws.{AgreeAt}
-use Rattle.stab_frames.specs.Ends.{AgreeBack}
+use Rattle.stab_frames.specs.Ends.{AgreeBack, with_coin, MayHaveCoin}
+use Rattle.stab_frames.proofs.LookbackLemmas.{looked_up-near}
 use Rattle.stab_run.specs.ProgramStates.{ProgramState, IsAt, IsRun, program_state}
 use Rattle.stab_run.specs.Cuts.{lengths_of, front_of, rest_of}
 use Rattle.stab_copies.specs.Checkpoints.{IsRunFromStart, IsCheckpoint}
 use Rattle.stab_copies.specs.LaidCopies.{moved, moved_lengths, moved_copy}
 use Rattle.stab_copies.specs.Meets.{Meets}
-use Rattle.stab_copies.proofs.LastBitsLemmas.{take-more}
+use Rattle.stab_replay.specs.FramedReplays.{HaveSameFuture}
+use Rattle.stab_copies.proofs.TakeLemmas.{take-more}
 use Rattle.stab_steps.proofs.RunLemmas.{after-append, outputs-append}
 use Rattle.stab_run.proofs.FutureLemmas.{same-future}
 use Rattle.stab_run.proofs.PointLemmas.{flags-are-coins, records-are-records, cut, front-output, rest-output, HasAtMost, outputs-short}
@@ -86,40 +88,53 @@ begun-from-start n coins xs ys c t o h same tableau front = record {
     lengths : c.lengths ≡ lengths_of (outputs n coins (take c.step xs) origin)
     lengths = h.lengths ∙ ap (λ zs. lengths_of (outputs n coins zs origin)) (sym same)
 
--- records that are the same as far back as is looked
-looked-last : (m k : ℕ) (xs ys : List Bool) → length xs ≡ length ys → drop (length xs - m) xs ≡ drop (length xs - m) ys → k ≤ m → looked_up xs k ≡ looked_up ys k
-looked-last m k xs ys same last le =
-    ap (λ b. if nat_lt (length xs) k then false else b) bit
-    ∙ ap (λ l. if nat_lt l k then false else get_or ys (l - k) false) same
-  where
-    place : length xs - k ≡ (length xs - m) + ((length xs - k) - (length xs - m))
-    place = omega arith
+-- records that end with the same ones are the same as far back as these
+looked-last : (m k : ℕ) (xs ys : List Bool) → drop (length xs - m) xs ≡ drop (length ys - m) ys → k ≤ m → looked_up xs k ≡ looked_up ys k
+looked-last m k xs ys last le =
+    elim (cases_lt (length (drop (length xs - m) xs)) k) [
+      | inl lt ↦
+          ap (λ l. looked_up l k)
+          (sym (ap (λ i. drop i xs) {y = 0} (omega (arith, lt, length-drop (length xs - m) xs)))
+          ∙ last
+          ∙ ap (λ i. drop i ys) {y = 0} (omega (arith, lt, ap length last, length-drop (length ys - m) ys)))
+      | inr near ↦
+          ap (λ l. looked_up l k) (sym (take-append-drop (length xs - m) xs))
+          ∙ looked_up-near (take (length xs - m) xs) (drop (length xs - m) xs) k near
+          ∙ ap (λ l. looked_up l k) last
+          ∙ sym (looked_up-near (take (length ys - m) ys) (drop (length ys - m) ys) k (subst (λ l. k ≤ length l) last near))
+          ∙ ap (λ l. looked_up l k) (take-append-drop (length ys - m) ys)
+    ]
 
-    bit : get_or xs (length xs - k) false ≡ get_or ys (length xs - k) false
-    bit =
-        ap (λ j. get_or xs j false) place
-        ∙ sym (get_or-drop (length xs - m) xs ((length xs - k) - (length xs - m)) false)
-        ∙ ap (λ zs. get_or zs ((length xs - k) - (length xs - m)) false) last
-        ∙ get_or-drop (length xs - m) ys ((length xs - k) - (length xs - m)) false
-        ∙ ap (λ j. get_or ys j false) (sym place)
+-- where the next coin has the same number at a copy, or none decides behind it, so it is at the point of the copy
+pub may-have-coin : (n : ℕ) (coins : ℕ → Bool) (xs : List Step) (c : Checkpoint) (free : List Bool) (coin : ℕ) → IsCheckpoint n coins xs c → free ≡ (outputs n coins xs origin).free
+    → (coin ≡ c.lengths.free) ⊎ (ones (drop c.lengths.free free) ≡ 0) → MayHaveCoin n coins (drop c.step xs) (point_after n coins (take c.step xs) origin) coin
+may-have-coin n coins xs c free coin h flags (inl same) =
+    inl (sym (flags-are-coins n coins (take c.step xs)) ∙ sym (ap (λ (l : Lengths). l.free) h.lengths) ∙ sym same)
+may-have-coin n coins xs c free coin h flags (inr none) =
+    inr
+    (ap ones
+    (sym (ap (λ (q : RunOutput). q.free) (rest-output n coins xs c.step))
+    ∙ (λ i. drop (sym (ap (λ (l : Lengths). l.free) h.lengths) i) (sym flags i)))
+    ∙ none)
 
 -- a copy of one run that the other meets is at a point of the same future
-pub meets-agree : (n reach : ℕ) (coins : ℕ → Bool) (xs zs : List Step) (c : Checkpoint) (t : TableauState) (o : RunOutput) (records : List Bool)
-    → IsCheckpoint n coins xs c → records ≡ (outputs n coins xs origin).records → IsRunFromStart n coins zs (program_state t o) → Meets n reach t o records c
-    → AgreeBack n reach (point_after n coins (take c.step xs) origin) (point_after n coins zs origin)
-meets-agree n reach coins xs zs c t o records h kept run meets = record {
-  group = λ p size. sym (h.group p size) ∙ sym (meets.group p size) ∙ run.group p size;
-  coin =
-      sym (flags-are-coins n coins (take c.step xs))
-      ∙ sym (ap (λ (l : Lengths). l.free) h.lengths)
-      ∙ sym meets.coin
-      ∙ shown.coin;
-  records = λ k le.
-      ap (λ bits. looked_up bits k) (sym old_records)
-      ∙ sym (looked-last reach k o.records (take c.lengths.records records) (meets.count ∙ sym long)
-      (subst (λ l. drop (l - reach) o.records ≡ drop (l - reach) (take c.lengths.records records)) (sym meets.count) meets.records) le)
-      ∙ ap (λ bits. looked_up bits k) shown.records;
-}
+pub meets-agree : (n reach : ℕ) (coins : ℕ → Bool) (xs zs : List Step) (c : Checkpoint) (t : TableauState) (o : RunOutput) (records free : List Bool)
+    → IsCheckpoint n coins xs c → records ≡ (outputs n coins xs origin).records → free ≡ (outputs n coins xs origin).free → IsRunFromStart n coins zs (program_state t o)
+    → Meets n reach t o records free c
+    → MayHaveCoin n coins (drop c.step xs) (point_after n coins (take c.step xs) origin) (point_after n coins zs origin).coin
+    × AgreeBack n reach (with_coin (point_after n coins zs origin).coin (point_after n coins (take c.step xs) origin)) (point_after n coins zs origin)
+meets-agree n reach coins xs zs c t o records free h kept flags run meets = (
+  subst (MayHaveCoin n coins (drop c.step xs) (point_after n coins (take c.step xs) origin)) shown.coin
+      (may-have-coin n coins xs c free (length o.free) h flags meets.coin),
+  record {
+    group = λ p size. sym (h.group p size) ∙ sym (meets.group p size) ∙ run.group p size;
+    coin = refl;
+    records = λ k le.
+        ap (λ bits. looked_up bits k) (sym old_records)
+        ∙ sym (looked-last reach k o.records (take c.lengths.records records) meets.records le)
+        ∙ ap (λ bits. looked_up bits k) shown.records;
+  },
+)
   where
     shown : IsAt n (program_state t o) (point_after n coins zs origin)
     shown = shows-from-start n coins zs (program_state t o) run
@@ -130,19 +145,7 @@ meets-agree n reach coins xs zs c t o records h kept run meets = record {
         ∙ ap (λ (q : RunOutput). q.records) (front-output n coins xs c.step)
         ∙ records-are-records n coins (take c.step xs)
 
-    long : length (take c.lengths.records records) ≡ c.lengths.records
-    long =
-        ap length old_records
-        ∙ ap length (sym (records-are-records n coins (take c.step xs)))
-        ∙ sym (ap (λ (l : Lengths). l.records) h.lengths)
-
 -- two runs that come to points of one future before step i of one and step k of the other, and have the same steps from there on
-
--- the first steps, however many, give the same at both points, and lead to the same group
-abbrev pub HaveSameFuture : ℕ → (ℕ → Bool) → List Step → Point → Point → Type 0
-HaveSameFuture n coins back a b =
-    (m : ℕ) → (outputs n coins (take m back) a ≡ outputs n coins (take m back) b)
-    × SameGroup n (member (point_after n coins (take m back) a).trace) (member (point_after n coins (take m back) b).trace)
 
 module _ (n : ℕ) (coins : ℕ → Bool) (xs ys : List Step) (i k : ℕ) (same : drop i xs ≡ drop k ys) where
   old_later : (m : ℕ) → point_after n coins (take (i + m) xs) origin ≡ point_after n coins (take m (drop i xs)) (point_after n coins (take i xs) origin)

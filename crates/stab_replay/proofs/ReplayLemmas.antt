@@ -27,7 +27,7 @@ use Rattle.stab_copies.specs.Meets.{Meets}
 use Rattle.stab_run.proofs.PointLemmas.{flags-are-coins, records-are-records}
 use Rattle.stab_replay.proofs.NotedLemmas.{noted-on}
 use Rattle.stab_replay.proofs.PointLemmas.{resumed, shows-from-start}
-use Rattle.stab_copies.proofs.LastBitsLemmas.{take-more}
+use Rattle.stab_copies.proofs.TakeLemmas.{take-more}
 
 -- the coins that steps use up
 
@@ -137,18 +137,17 @@ near-more K a e (b ∷ xs) h = (h.0, h.1, near-more K b e xs h.2)
 
 -- where a run agrees with an old one at a copy, it meets that copy
 
-agree-meets : (n reach : ℕ) (coins : ℕ → Bool) (xs zs : List Step) (c : Checkpoint) (t : TableauState) (o : RunOutput) (records : List Bool) → IsRunFromStart n coins zs (program_state t o)
+agree-meets : (n reach : ℕ) (coins : ℕ → Bool) (xs zs : List Step) (c : Checkpoint) (t : TableauState) (o : RunOutput) (records free : List Bool) → IsRunFromStart n coins zs (program_state t o)
     → IsCheckpoint n coins xs c → take c.lengths.records records ≡ (outputs n coins (take c.step xs) origin).records
-    → AgreeAt n (point_after n coins (take c.step xs) origin) (point_after n coins zs origin) → Meets n reach t o records c
-agree-meets n reach coins xs zs c t o records run h kept agree = record {
+    → AgreeAt n (point_after n coins (take c.step xs) origin) (point_after n coins zs origin) → Meets n reach t o records free c
+agree-meets n reach coins xs zs c t o records free run h kept agree = record {
   group = λ p size. run.group p size ∙ sym (agree.group p size) ∙ sym (h.group p size);
   coin =
-      now.coin
+      inl (now.coin
       ∙ sym agree.coin
       ∙ sym (flags-are-coins n coins (take c.step xs))
-      ∙ sym (ap (λ (l : Lengths). l.free) h.lengths);
-  count = ap length same ∙ sym (ap (λ (l : Lengths). l.records) h.lengths);
-  records = ap (drop (c.lengths.records - reach)) (same ∙ sym kept);
+      ∙ sym (ap (λ (l : Lengths). l.free) h.lengths));
+  records = ap (λ bits. drop (length bits - reach) bits) (same ∙ sym kept);
 }
   where
     now : IsAt n (program_state t o) (point_after n coins zs origin)
@@ -252,18 +251,18 @@ module _ (n : ℕ) (coins : ℕ → Bool) (begin : ℕ) (p : Plan) (ys : List St
       was = h.stop.replay.at_step
 
   -- where it does not meet a copy at its place, the runs do not agree there
-  misses : (r : Replay) (c : Checkpoint) → IsAtStep n coins ys r → step_among_new p c ≡ r.step → (MeetsAt n p r old c → ⊥) → Misses n coins p ys old c
-  misses r c h place apart xs is_copy kept agree =
+  misses : (r : Replay) (free : List Bool) (c : Checkpoint) → IsAtStep n coins ys r → step_among_new p c ≡ r.step → (MeetsAt n p r old free c → ⊥) → Misses n coins p ys old c
+  misses r free c h place apart xs is_copy kept agree =
       apart (
         place,
-        agree-meets n p.reach coins xs (take r.step ys) c r.tableau (output_of r.outputs) old h.run is_copy kept
+        agree-meets n p.reach coins xs (take r.step ys) c r.tableau (output_of r.outputs) old free h.run is_copy kept
             (subst (λ k. AgreeAt n (point_after n coins (take c.step xs) origin) (point_after n coins (take k ys) origin)) place agree),
       )
 
-  missed : (r : Replay) (o : Option Checkpoint) → IsAtStep n coins ys r → IfSome o (λ c. step_among_new p c ≡ r.step) → IfSome o (λ c. MeetsAt n p r old c → ⊥)
-      → IfSome o (Misses n coins p ys old)
-  missed r None h place apart = tt
-  missed r (Some c) h place apart = misses r c h place apart
+  missed : (r : Replay) (free : List Bool) (o : Option Checkpoint) → IsAtStep n coins ys r → IfSome o (λ c. step_among_new p c ≡ r.step)
+      → IfSome o (λ c. MeetsAt n p r old free c → ⊥) → IfSome o (Misses n coins p ys old)
+  missed r free None h place apart = tt
+  missed r free (Some c) h place apart = misses r free c h place apart
 
   -- so that one was missed as those before it were
   all-missed : (next : ℕ) (r : Replay) → IsAtStop n coins begin p ys copies old next r → IfSome (slice_get copies next) (Misses n coins p ys old)
@@ -333,9 +332,9 @@ module _ (n : ℕ) (coins : ℕ → Bool) (begin : ℕ) (p : Plan) (ys : List St
       steps : checkpoint_steps s.laid.items ≡ checkpoint_steps r.laid.items ++ r.step ∷ []
       steps = ap checkpoint_steps laid ∙ map-append (λ (c : Checkpoint). c.step) r.laid.items (copy_of r ∷ [])
 
-  pub on-further : (next later : ℕ) (r s : Replay) → IsAtStop n coins begin p ys copies old next r → IsArrival n p r copies old next (Between later)
+  pub on-further : (free : List Bool) (next later : ℕ) (r s : Replay) → IsAtStop n coins begin p ys copies old next r → IsArrival n p r copies old free next (Between later)
       → s ≡ record r { laid = s.laid } → s.laid.items ≡ r.laid.items ++ copy_of r ∷ [] → IsOnWay n coins begin p ys copies old later s
-  on-further next later r s h arrival unchanged laid = subst (IsOnWay n coins begin p ys copies old later) (sym unchanged) (with-laid later r s there laid)
+  on-further free next later r s h arrival unchanged laid = subst (IsOnWay n coins begin p ys copies old later) (sym unchanged) (with-laid later r s there laid)
     where
       there : IsAtStop n coins begin p ys copies old later r
       there =
@@ -343,7 +342,7 @@ module _ (n : ℕ) (coins : ℕ → Bool) (begin : ℕ) (p : Plan) (ys : List St
             | inl same ↦ subst (λ k. IsAtStop n coins begin p ys copies old k r) (sym same.0) h
             | inr placed ↦ subst (λ k. IsAtStop n coins begin p ys copies old k r) (sym placed.0)
                 (past next r h placed.1
-                (missed r (slice_get copies next) h.replay.at_step (if-some (slice_get copies next) (λ c. step_among_new p c ≡ r.step) placed.1) arrival.1))
+                (missed r free (slice_get copies next) h.replay.at_step (if-some (slice_get copies next) (λ c. step_among_new p c ≡ r.step) placed.1) arrival.1))
           ]
 
 -- where it goes on it went a spacing, or passed the copy
@@ -355,9 +354,9 @@ not-there p copies next step further unplaced at =
       | inr e ↦ unplaced e
     ]
 
-pub went-on : (n : ℕ) (p : Plan) (copies : List Checkpoint) (old : List Bool) (next later from : ℕ) (r : Replay) → StopsAt p copies next from r.step
-    → IsArrival n p r copies old next (Between later) → ((later ≡ next) × (from + spacing_of p.stride ≤ r.step)) ⊎ ((later ≡ next + 1) × (next < length copies))
-went-on n p copies old next later from r stops arrival =
+pub went-on : (n : ℕ) (p : Plan) (copies : List Checkpoint) (old free : List Bool) (next later from : ℕ) (r : Replay) → StopsAt p copies next from r.step
+    → IsArrival n p r copies old free next (Between later) → ((later ≡ next) × (from + spacing_of p.stride ≤ r.step)) ⊎ ((later ≡ next + 1) × (next < length copies))
+went-on n p copies old free next later from r stops arrival =
     elim arrival.2 [
       | inl same ↦
           elim stops [
@@ -368,11 +367,11 @@ went-on n p copies old next later from r stops arrival =
     ]
 
 -- and fewer steps or fewer copies are left
-pub fewer-left : (n : ℕ) (p : Plan) (copies : List Checkpoint) (old : List Bool) (first next later from : ℕ) (r : Replay) → 1 ≤ p.stride → from ≤ r.step → r.step ≤ p.total
-    → first ≤ next → next ≤ length copies → StopsAt p copies next from r.step → IsArrival n p r copies old next (Between later)
+pub fewer-left : (n : ℕ) (p : Plan) (copies : List Checkpoint) (old free : List Bool) (first next later from : ℕ) (r : Replay) → 1 ≤ p.stride → from ≤ r.step → r.step ≤ p.total
+    → first ≤ next → next ≤ length copies → StopsAt p copies next from r.step → IsArrival n p r copies old free next (Between later)
     → (p.total - r.step) + (length copies - later) < (p.total - from) + (length copies - first)
-fewer-left n p copies old first next later from r stride further within order among stops arrival =
-    elim (went-on n p copies old next later from r stops arrival) [
+fewer-left n p copies old free first next later from r stride further within order among stops arrival =
+    elim (went-on n p copies old free next later from r stops arrival) [
       | inl far ↦ let same = far.0 in let more = far.1 in omega (arith, same, more, stride, within, order, among)
       | inr passed ↦ let one = passed.0 in let lt = passed.1 in omega (arith, one, lt, further, within, order)
     ]
@@ -386,6 +385,6 @@ went-so begin p copies old next later r s qubits coins all =
     subst (λ t. t) (λ i. IsOnWay (qubits i) (coins i) begin p (all i) copies old next r → IsAtStop (qubits i) (coins i) begin p (all i) copies old later s)
 
 -- where it meets a copy it is behind what was changed
-pub met-behind : (n : ℕ) (p : Plan) (r : Replay) (records : List Bool) (o : Option Checkpoint) → p.new_end ≤ 1048576 → IsSomeAnd o (MeetsAt n p r records) → p.new_end ≤ r.step
-met-behind n p r records None few h = absurd h
-met-behind n p r records (Some c) few h = let place = h.0 in omega (arith, place, few)
+pub met-behind : (n : ℕ) (p : Plan) (r : Replay) (records free : List Bool) (o : Option Checkpoint) → p.new_end ≤ 1048576 → IsSomeAnd o (MeetsAt n p r records free) → p.new_end ≤ r.step
+met-behind n p r records free None few h = absurd h
+met-behind n p r records free (Some c) few h = let place = h.0 in omega (arith, place, few)

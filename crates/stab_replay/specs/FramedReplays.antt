@@ -1,11 +1,12 @@
 -- Framed replays: how a replay goes on by a frame from an old copy of a run to the next one.
 -- Source: this project's own.
-use Rattle.std.specs.Prelude.{◌≡◌, ℕ, ◌+◌, ◌-◌, ◌<◌, ◌≤◌, Bool, List, [], All, Option, length, take, drop}
+use Rattle.std.specs.Prelude.{◌≡◌, ◌≢◌, ◌⊎◌, ℕ, ◌+◌, ◌-◌, ◌<◌, ◌≤◌, Bool, List, [], All, Option, length, take, drop}
 use Rattle.stab_letters.specs.declared.letter.Letter.{Letter}
 use Rattle.stab_tableau.specs.Traces.{member}
+use Rattle.stab_tableau.specs.Groups.{SameGroup, IsStabiliserGroup}
 use Rattle.stab_tableau.specs.Tableaus.{TableauState, stabilises}
 use Rattle.stab_tableau.specs.Turns.{IsTurned}
-use Rattle.stab_circuit.specs.Steps.{Step}
+use Rattle.stab_circuit.specs.Steps.{Step, most_steps}
 use Rattle.stab_copies.specs.declared.checkpoint.Checkpoint.{Checkpoint}
 use Rattle.stab_replay.specs.declared.replay.Plan.{Plan}
 use Rattle.stab_replay.specs.declared.replay.Replay.{Replay}
@@ -19,6 +20,7 @@ use Rattle.stab_frames.specs.declared.steps.Stop.TheVariants.{Behind}
 use Rattle.stab_frames.specs.Flips.{flipped, flipped_output}
 use Rattle.stab_frames.specs.Frames.{PointsDifferBy}
 use Rattle.stab_frames.specs.KeptStrings.{StringsState, AreTrue, note_at, kept_with}
+use Rattle.stab_frames.specs.Ends.{MayHaveCoin}
 use Rattle.stab_frames.specs.Notes.{same_coins}
 use Rattle.stab_frames.specs.StepNotes.{AreEnough}
 use Rattle.stab_frames.specs.Stops.{IsStop}
@@ -30,6 +32,7 @@ use Rattle.stab_replay.specs.NotedStrings.{IsNoted}
 -- an older run, of which these are copies, output and strings, and whose steps behind what was changed are the new ones
 pub record IsOldRun (n : ℕ) (coins : ℕ → Bool) (p : Plan) (ys : List Step) (copies : List Checkpoint) (o : RunOutput) (strings : StringsState) : Type 0 where
   pub steps : List Step
+  pub few : length steps ≤ most_steps
   pub are_copies : All (IsCheckpoint n coins steps) copies
   pub output : o ≡ outputs n coins steps origin
   pub noted : IsNoted n coins steps strings o.free p.reach
@@ -38,10 +41,26 @@ pub record IsOldRun (n : ℕ) (coins : ℕ → Bool) (p : Plan) (ys : List Step)
   pub new_within : p.new_end ≤ length ys
   pub behind : drop p.old_end steps ≡ drop p.new_end ys
 
--- before a step of an old run and a step of a new one these differ by a frame that began behind so many records
+-- two points from which the first of some steps, however many, give the same and lead to the same group
+abbrev pub HaveSameFuture : ℕ → (ℕ → Bool) → List Step → Point → Point → Type 0
+HaveSameFuture n coins back a b =
+    (m : ℕ) → (outputs n coins (take m back) a ≡ outputs n coins (take m back) b)
+    × SameGroup n (member (point_after n coins (take m back) a).trace) (member (point_after n coins (take m back) b).trace)
+
+-- two runs have come to other numbers of records, or of the next coin
+abbrev pub HaveMoved : Point → Point → Type 0
+HaveMoved a b = (a.coin ≢ b.coin) ⊎ (length a.records ≢ length b.records)
+
+-- before a step of an old run and a step of a new one the new one differs by a frame, which began behind so many records, from a point at
+-- which the old run would go on as it does: its own, or where its records or coins have other numbers, one with those of the new run
 pub record IsFramedAt (n : ℕ) (coins : ℕ → Bool) (xs ys : List Step) (i k : ℕ) (free : List Bool) (base : ℕ) (w : WalkState) : Type 0 where
-  pub framed : PointsDifferBy n (frame_at base w) (point_after n coins (take i xs) origin) (point_after n coins (take k ys) origin)
+  pub seen : Point
+  pub group : IsStabiliserGroup n (member seen.trace)
+  pub future : HaveSameFuture n coins (drop i xs) (point_after n coins (take i xs) origin) seen
+  pub framed : PointsDifferBy n (frame_at base w) seen (point_after n coins (take k ys) origin)
   pub coin : w.coin ≡ (point_after n coins (take i xs) origin).coin
+  pub may_have : MayHaveCoin n coins (drop i xs) (point_after n coins (take i xs) origin) (point_after n coins (take k ys) origin).coin
+  pub told : (seen.records ≡ (point_after n coins (take i xs) origin).records) ⊎ HaveMoved (point_after n coins (take i xs) origin) (point_after n coins (take k ys) origin)
   pub placed : IsPlaced free w
 
 -- what a frame flipped behind so much of it: never a flag
@@ -72,14 +91,25 @@ pub record IsFramedOver (n : ℕ) (coins : ℕ → Bool) (xs ys : List Step) (i 
       (member (point_after n coins (take m (take len (drop i xs))) (point_after n coins (take k ys) origin)).trace)
   pub goes_on : stop ≡ Behind → IsPlaced free new → IsFramedAt n coins xs ys (i + len) (k + len) free base new
 
--- the frame by which a state with this output differs from an old copy, whose run gave these, behind the first records, which are the
--- same
-pub record IsFrameFrom (t : TableauState) (o old : RunOutput) (base : ℕ) (c : Checkpoint) (w : WalkState) : Type 0 where
+-- so many of the newest records are compared where a frame begins: all behind the first ones, which are the same, where both runs have as
+-- many records and the same number of the next coin; else those to which steps look back, where the next coin may have another number
+abbrev pub AreCompared : (o old : RunOutput) → (base reach : ℕ) → Checkpoint → ℕ → Type 0
+AreCompared o old base reach c m =
+    ((length o.free ≡ c.lengths.free) × (length o.records ≡ c.lengths.records) × (m + base ≡ length o.records))
+    ⊎ ((m ≡ reach)
+    × (m ≤ length o.records)
+    × (m ≤ c.lengths.records)
+    × ((length o.free ≢ c.lengths.free) ⊎ (length o.records ≢ c.lengths.records))
+    × ((length o.free ≡ c.lengths.free) ⊎ (ones (drop c.lengths.free old.free) ≡ 0)))
+
+-- the frame by which a state with this output differs from an old copy, whose run gave these
+pub record IsFrameFrom (t : TableauState) (o old : RunOutput) (base reach : ℕ) (c : Checkpoint) (w : WalkState) : Type 0 where
   pub size : length w.letters ≡ t.qubits
   pub turned : IsTurned t.qubits w.letters (stabilises c.tableau) (stabilises t)
-  pub coin_count : length o.free ≡ c.lengths.free
-  pub count : length o.records ≡ c.lengths.records
-  pub flips : w.flips ≡ record nothing { records = flipped (drop base (take c.lengths.records old.records)) (drop base (take c.lengths.records o.records)) }
+  pub compared : ℕ
+  pub are_compared : AreCompared o old base reach c compared
+  pub flips : w.flips
+      ≡ record nothing { records = flipped (drop (c.lengths.records - compared) (take c.lengths.records old.records)) (drop (length o.records - compared) o.records) }
   pub coin : w.coin ≡ c.lengths.free
   pub placed : IsPlaced old.free w
 

@@ -63,13 +63,13 @@ abbrev pub copy_of : Replay → Checkpoint
 copy_of r = record { step = r.step; lengths = lengths_of (output_of r.outputs); tableau = r.tableau }
 
 -- a replay is at the place of an old copy, and meets it
-abbrev pub MeetsAt : ℕ → Plan → Replay → List Bool → Checkpoint → Type 0
-MeetsAt n p r records c = (step_among_new p c ≡ r.step) × Meets n p.reach r.tableau (output_of r.outputs) records c
+abbrev pub MeetsAt : ℕ → Plan → Replay → (records free : List Bool) → Checkpoint → Type 0
+MeetsAt n p r records free c = (step_among_new p c ≡ r.step) × Meets n p.reach r.tableau (output_of r.outputs) records free c
 
 -- how a replay ended: behind the last step, or at the place of an old copy that it meets
-abbrev pub IsEnd : ℕ → Plan → Replay → List Checkpoint → List Bool → End → Type 0
-IsEnd n p r copies records Last = r.step ≡ p.total
-IsEnd n p r copies records (Joined j) = (p.next ≤ j) × IsSomeAnd (slice_get copies j) (MeetsAt n p r records)
+abbrev pub IsEnd : ℕ → Plan → Replay → List Checkpoint → (records free : List Bool) → End → Type 0
+IsEnd n p r copies records free Last = r.step ≡ p.total
+IsEnd n p r copies records free (Joined j) = (p.next ≤ j) × IsSomeAnd (slice_get copies j) (MeetsAt n p r records free)
 
 -- no old run with these records agrees with the new one at a copy
 abbrev pub Misses : ℕ → (ℕ → Bool) → Plan → List Step → List Bool → Checkpoint → Type 0

@@ -1,4 +1,4 @@
-ghost use Rattle.std.specs.Prelude.{◌≡◌, ◌++◌, ◌≤◌, true, false, take, drop, OnOk};
+ghost use Rattle.std.specs.Prelude.{◌≡◌, ◌++◌, take, drop, OnOk};
 ghost use Rattle.stab_run.specs.Records.{ones};
 ghost use Rattle.stab_frames.specs.Flips.{flipped, flipped_additions};
 
@@ -14,19 +14,6 @@ pub fn count_ones(bits: &[bool]) -> usize
         count += usize::from(*bit);
     }
     count
-}
-
-/// Whether there is a 1 among bits.
-pub fn has_one(bits: &[bool]) -> bool
-    ensures one { result ≡ true → 1 ≤ ones bits.now }
-    ensures none { result ≡ false → ones bits.now ≡ 0 }
-{
-    for bit in bits {
-        if *bit {
-            return true;
-        }
-    }
-    false
 }
 
 /// Appends bits, inverted where the flips are 1. Where there are no more flips they are as they are.

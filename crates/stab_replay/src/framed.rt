@@ -8,11 +8,11 @@ ghost use Rattle.stab_frames.specs.Flips.{flipped_output};
 ghost use Rattle.stab_frames.specs.KeptStrings.{kept_with};
 ghost use Rattle.stab_frames.specs.Walks.{IsPlaced};
 ghost use Rattle.stab_frames.specs.declared.steps.Stop.TheVariants.{Behind, NoString};
-ghost use Rattle.stab_replay.specs.FramedReplays.{between as between_lengths, flips_behind, IsFrameFrom, WentOver};
+ghost use Rattle.stab_replay.specs.FramedReplays.{between as between_lengths, flips_behind, AreCompared, IsFrameFrom, WentOver};
 
 use crate::bits::{append_flipped, append_flipped_additions, between, count_ones};
 use crate::replay::{Plan, Replay};
-use stab_copies::{Checkpoint, shifted};
+use stab_copies::{Checkpoint, may_have_coin, shifted};
 use stab_frames::{FrameWalk, KeptStrings, Stop, walk_steps};
 use stab_io::Refusal;
 use stab_pauli::Letter;
@@ -111,9 +111,42 @@ fn append_strings(
     Ok(())
 }
 
+/// How many of the newest records are compared where a frame begins that leads a run, which gave so much, from an old copy on; none
+/// where it can't begin. So many records are those of the old run, whose steps look back no further than the reach.
+fn records_compared(
+    outputs: &Outputs,
+    old: &Outputs,
+    copy: &Checkpoint,
+    base: usize,
+    reach: u32,
+) -> Option<usize>
+    requires within { base ≤ length outputs.now.records.items }
+    ensures compared { IfSome result (AreCompared (output_of outputs.now) (output_of old.now) base reach copy.now) }
+{
+    let records = outputs.records.len();
+    let coin = outputs.free.len();
+    if coin == copy.lengths.free && records == copy.lengths.records {
+        return Some(records - base);
+    }
+    let newest = reach as usize;
+    let all_there = newest <= records && newest <= copy.lengths.records;
+    if all_there && may_have_coin(copy, old.free.as_slice(), coin) {
+        Some(newest)
+    } else {
+        None
+    }
+}
+
+/// The last of the first so many elements, so many.
+fn last_of_first(bits: &[bool], first: usize, last: usize) -> &[bool]
+    ensures value { result.now ≡ drop (first - last) (take first bits.now) }
+{
+    between(bits, first.saturating_sub(last), first)
+}
+
 impl<'a> Replay<'a> {
     /// The frame by which the replay differs from an old copy of a run, where the rows of both states
-    /// have the same letters. So many records are those of the old run.
+    /// have the same letters. So many records are those of the old run, whose steps look back no further than the reach.
     ///
     /// Refusal `OutOfMemory` alone.
     pub(crate) fn frame_from(
@@ -122,21 +155,22 @@ impl<'a> Replay<'a> {
         copy: &Checkpoint,
         old: &Outputs,
         base: usize,
+        reach: u32,
     ) -> Result<Option<FrameWalk>, Refusal>
         requires same_qubits { copy.now.tableau.qubits ≡ self.old.tableau.qubits }
+        requires within { base ≤ length self.old.outputs.records.items }
         requires string { length self.old.string.letters ≡ self.old.tableau.qubits }
         requires flags { copy.now.lengths.free ≤ length old.now.free.items }
         requires records { copy.now.lengths.records ≤ length old.now.records.items }
         ensures unchanged { self.new ≡ record self.old { string = self.new.string } }
         ensures string { length self.new.string.letters ≡ length self.old.string.letters }
-        ensures walk { IfOk result (λ found. IfSome found (IsFrameFrom self.old.tableau (output_of self.old.outputs) (output_of old.now) base copy.now)) }
+        ensures walk { IfOk result (λ found. IfSome found (IsFrameFrom self.old.tableau (output_of self.old.outputs) (output_of old.now) base reach copy.now)) }
         ensures err { IfErr result (λ r. r ≡ OutOfMemory) }
     {
-        if self.outputs.free.len() != copy.lengths.free
-            || self.outputs.records.len() != copy.lengths.records
-        {
-            return Ok(None);
-        }
+        let compared = match records_compared(&self.outputs, old, copy, base, reach) {
+            Some(compared) => compared,
+            None => return Ok(None),
+        };
         if !copy.tableau.frame_to(&self.tableau, &mut self.string) {
             return Ok(None);
         }
@@ -147,9 +181,10 @@ impl<'a> Replay<'a> {
             copy.lengths.free,
         )?;
         walk.multiply(&self.string);
+        let records = self.outputs.records.len();
         walk.flip_records(
-            between(old.records.as_slice(), base, copy.lengths.records),
-            between(self.outputs.records.as_slice(), base, copy.lengths.records),
+            last_of_first(old.records.as_slice(), copy.lengths.records, compared),
+            last_of_first(self.outputs.records.as_slice(), records, compared),
         )?;
         Ok(Some(walk))
     }

@@ -8,11 +8,10 @@ ghost use Rattle.stab_frames.specs.KeptStrings.{StringsState};
 ghost use Rattle.stab_replay.specs.Replays.{IsAtStep, Ascending, IsOnWay, IsPlacedAt};
 ghost use Rattle.stab_replay.specs.inner.LedReplays.{IsBeside, IsLed, IsPassed, LedOn, IsLedTo, later_of, with_state, with_cursor};
 
-use crate::bits::has_one;
 use crate::framed::turned_copy;
 use crate::replay::{Plan, Replay};
 use stab_circuit::{Circuit, Cursor};
-use stab_copies::{Checkpoint, shifted};
+use stab_copies::{Checkpoint, has_one, shifted};
 use stab_frames::{FrameWalk, KeptStrings, Stop};
 use stab_io::Refusal;
 use stab_run::Outputs;
@@ -191,7 +190,7 @@ impl<'a> Replay<'a> {
         if copy.step < plan.old_end || shifted(plan.old_end, plan.new_end, copy.step) != self.step {
             return Ok(None);
         }
-        let found = self.frame_from(alloc, copy, old, plan.base)?;
+        let found = self.frame_from(alloc, copy, old, plan.base, plan.reach)?;
         self.notes.reach = self.notes.reach.max(plan.reach);
         Ok(found)
     }

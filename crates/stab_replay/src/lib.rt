@@ -25,6 +25,6 @@ mod framed;
 mod led;
 mod replay;
 
-pub use bits::{count_ones, has_one};
+pub use bits::count_ones;
 pub use framed::turned_copy;
 pub use replay::{End, Plan, Replay};

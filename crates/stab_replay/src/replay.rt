@@ -187,17 +187,15 @@ impl<'a> Replay<'a> {
         &mut self,
         alloc: Global,
         copies: &[Checkpoint],
-        records: &[bool],
+        old: &Outputs,
         plan: Plan,
         next: usize,
         spare: &mut Option<Tableau>,
     ) -> Result<Arrival, Refusal>
         requires same_qubits { All (λ c. c.tableau.qubits ≡ self.old.tableau.qubits) copies.now }
-        requires base { plan.base ≤ length self.old.outputs.records.items }
-        requires same_records { take plan.base self.old.outputs.records.items ≡ take plan.base records.now }
         requires next { next ≤ length copies.now }
         ensures unchanged { self.new ≡ self.old }
-        ensures value { IfOk result (IsArrival self.old.tableau.qubits plan self.old copies.now records.now next) }
+        ensures value { IfOk result (IsArrival self.old.tableau.qubits plan self.old copies.now old.now.records.items old.now.free.items next) }
         ensures err { IfErr result (λ r. r ≡ OutOfMemory) }
     {
         let placed = plan.place(copies, next) == Some(self.step);
@@ -207,8 +205,7 @@ impl<'a> Replay<'a> {
                 &mut self.tableau,
                 &self.outputs,
                 &copies[next],
-                records,
-                plan.base,
+                old,
                 plan.reach,
                 spare,
             )?
@@ -311,7 +308,7 @@ impl<'a> Replay<'a> {
         ensures asks { OnOk result (C.asks coins.new ≤ C.asks coins.old + self.new.applied) }
         ensures asks_free { OnOk result (C.asks coins.new + ones self.old.outputs.free.items ≤ C.asks coins.old + ones self.new.outputs.free.items) }
         ensures asked { C.asks coins.new ≤ C.asks coins.old + all_coins_of (drop self.old.step self.old.cursor.all) }
-        ensures end { IfOk result (IsEnd self.old.tableau.qubits plan self.new copies.now old.now.records.items) }
+        ensures end { IfOk result (IsEnd self.old.tableau.qubits plan self.new copies.now old.now.records.items old.now.free.items) }
         ensures soon { OnOk result (EndsSoon self.old.tableau.qubits (C.sequence coins.old) plan self.old.cursor.all copies.now old.now.records.items self.new.step) }
         ensures few_laid { IfOk result (λ end. spacing_of plan.stride * length self.new.laid.items + self.old.step ≤ self.new.step + spacing_of plan.stride * copies_passed plan (length copies.now) end) }
         ensures err { IfErr result (λ r. r ≡ OutOfMemory) }
@@ -321,8 +318,7 @@ impl<'a> Replay<'a> {
         let mut spare: Option<Tableau> = None;
         loop {
             let reached = self.advance(alloc, circuit, copies, old, strings, plan, next, coins)?;
-            let records = old.records.as_slice();
-            match self.arrive(alloc, copies, records, plan, reached, &mut spare)? {
+            match self.arrive(alloc, copies, old, plan, reached, &mut spare)? {
                 Arrival::Met => return Ok(End::Joined(reached)),
                 Arrival::Behind => return Ok(End::Last),
                 Arrival::Between(later) => next = later,

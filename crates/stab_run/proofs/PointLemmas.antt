@@ -24,7 +24,7 @@ flags-counted n coins (x ∷ xs) p =
     let later : (point_after n coins xs next).coin ≡ (p.coin + coins_of x) + length (outputs n coins xs next).free = flags-counted n coins xs next in
     omega (arith, later, flags-given n coins x p, length-append (given n coins x p).free (outputs n coins xs next).free)
 
-records-gathered : (n : ℕ) (coins : ℕ → Bool) (xs : List Step) (p : Point) → (point_after n coins xs p).records ≡ p.records ++ (outputs n coins xs p).records
+pub records-gathered : (n : ℕ) (coins : ℕ → Bool) (xs : List Step) (p : Point) → (point_after n coins xs p).records ≡ p.records ++ (outputs n coins xs p).records
 records-gathered n coins [] p = sym (append-nil p.records)
 records-gathered n coins (x ∷ xs) p =
     records-gathered n coins xs (next_point n coins x p)
@@ -46,7 +46,7 @@ front-joined a b = λ i. record {
   additions = take_at a.additions b.additions (length a.additions) refl i;
 }
 
-rest-joined : (a b : RunOutput) → rest_of (lengths_of a) (joined a b) ≡ b
+pub rest-joined : (a b : RunOutput) → rest_of (lengths_of a) (joined a b) ≡ b
 rest-joined a b = λ i. record {
   records = drop_at a.records b.records (length a.records) refl i;
   free = drop_at a.free b.free (length a.free) refl i;

@@ -45,10 +45,10 @@ same_agree n m k bits others xs us ys vs i a j c em ek eb ex ey ei ej =
     λ p. AgreeAt (ek p) (point_after (em p) bits (take (ei p) (ex p)) origin) (point_after (ek p) (eb p) (take (ej p) (ey p)) origin)
 
 same_agree_back : (n m k : ℕ) (bits others : ℕ → Bool) (xs us ys vs : List Step) (i a j c : ℕ) → m ≡ n → k ≡ n → others ≡ bits → us ≡ xs → vs ≡ ys → a ≡ i → c ≡ j
-    → AgreeAsFarAsLooked k (drop c vs) (point_after m bits (take a us) origin) (point_after k others (take c vs) origin)
-    ≡ AgreeAsFarAsLooked n (drop j ys) (point_after n bits (take i xs) origin) (point_after n bits (take j ys) origin)
+    → AgreeAsFarAsLooked k bits (drop c vs) (point_after m bits (take a us) origin) (point_after k others (take c vs) origin)
+    ≡ AgreeAsFarAsLooked n bits (drop j ys) (point_after n bits (take i xs) origin) (point_after n bits (take j ys) origin)
 same_agree_back n m k bits others xs us ys vs i a j c em ek eb ex ey ei ej =
-    λ p. AgreeAsFarAsLooked (ek p) (drop (ej p) (ey p)) (point_after (em p) bits (take (ei p) (ex p)) origin) (point_after (ek p) (eb p) (take (ej p) (ey p)) origin)
+    λ p. AgreeAsFarAsLooked (ek p) bits (drop (ej p) (ey p)) (point_after (em p) bits (take (ei p) (ex p)) origin) (point_after (ek p) (eb p) (take (ej p) (ey p)) origin)
 
 -- a run that is kept, and an agreement, on the same number of qubits with the same coins
 

@@ -66,10 +66,11 @@ AgreeBehind sequence e old new far =
     AgreeAt new.qubits (point_at sequence old (old_end e (entries old.items) + far))
     (point_at sequence new (new_end e (entries new.items) + far))
 
--- so many steps behind they have the same group, number of the next coin, and records as far back as the steps from there on look
+-- so many steps behind they have the same group, number of the next coin unless none decides any more, and records as far back as the
+-- steps from there on look
 abbrev pub AgreeBackBehind : {C : Type 0} → (C → ℕ → Bool) → Edit → SessionState C → SessionState C → ℕ → Type 0
 AgreeBackBehind sequence e old new far =
-    AgreeAsFarAsLooked new.qubits (drop (new_end e (entries new.items) + far) (unroll new.items))
+    AgreeAsFarAsLooked new.qubits (sequence old.coins) (drop (new_end e (entries new.items) + far) (unroll new.items))
     (point_at sequence old (old_end e (entries old.items) + far)) (point_at sequence new (new_end e (entries new.items) + far))
 
 -- from the first changed step to the end of what an edit put in: it carries out at least so many

@@ -15,7 +15,7 @@ use Rattle.stab_frames.proofs.FrontLemmas.{group-origin}
 use Rattle.stab_frames.proofs.TurnedLemmas.{turned-blank, turned-stabiliser}
 use Rattle.stab_copies.specs.declared.checkpoint.Checkpoint.{Checkpoint}
 use Rattle.stab_copies.specs.Checkpoints.{IsCheckpoint}
-use Rattle.stab_copies.proofs.LastBitsLemmas.{take-more}
+use Rattle.stab_copies.proofs.TakeLemmas.{take-more}
 use Rattle.stab_turns.specs.LedFrames.{AreInOrder, IsDropped, Ending, over, gone, dropped}
 
 -- a frame turns nothing at a point, where it goes on without letters; from there on it is gone, whoever looks back no further than the reach

@@ -27,7 +27,7 @@ use Rattle.stab_copies.specs.declared.checkpoint.Checkpoint.{Checkpoint}
 use Rattle.stab_copies.specs.declared.checkpoint.Meeting.{Meeting}
 use Rattle.stab_copies.specs.Checkpoints.{IsCheckpoint}
 use Rattle.stab_copies.specs.LaidCopies.{moved, moved_lengths, moved_copy}
-use Rattle.stab_copies.proofs.LastBitsLemmas.{take-more}
+use Rattle.stab_copies.proofs.TakeLemmas.{take-more}
 use Rattle.stab_turns.specs.LedFrames.{AreInOrder, AreTurnedCopies, IsLastApart, with_states}
 use Rattle.stab_turns.proofs.EndingLemmas.{IsEnded, rest-point, order-from}
 use Rattle.stab_turns.proofs.LedFrameLemmas.{IsLedBehind, agree-further, led-on-way, led-further, led-lengths, led-differ, led-agree}

@@ -29,7 +29,7 @@ use Rattle.stab_frames.proofs.FlipLemmas.{length-flipped, length-flipped_additio
 use Rattle.stab_frames.proofs.NoteLemmas.{enough-before}
 use Rattle.stab_frames.proofs.StepLemmas.{over-framed, outputs-matches}
 use Rattle.stab_frames.proofs.TurnedLemmas.{turned-blank}
-use Rattle.stab_copies.proofs.LastBitsLemmas.{take-more}
+use Rattle.stab_copies.proofs.TakeLemmas.{take-more}
 use Rattle.stab_replay.proofs.FramedLemmas.{AreTurnedBehind, flipped-empty}
 use Rattle.stab_replay.proofs.SegmentLemmas.{flips-free, flipped-zeros}
 use Rattle.stab_replay.proofs.FrameStartLemmas.{flips-differ}

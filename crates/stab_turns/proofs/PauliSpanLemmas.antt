@@ -15,7 +15,7 @@ use Rattle.stab_frames.specs.Lookbacks.{LooksWithin}
 use Rattle.stab_frames.proofs.FlipLemmas.{unflipped-output}
 use Rattle.stab_frames.proofs.FrontLemmas.{paulis-front, paulis-given}
 use Rattle.stab_frames.proofs.TrueLemmas.{true-append, true-front}
-use Rattle.stab_copies.proofs.LastBitsLemmas.{take-more}
+use Rattle.stab_copies.proofs.TakeLemmas.{take-more}
 use Rattle.stab_turns.specs.PauliSpans.{DifferByPaulis}
 
 -- Pauli gates measure nothing, look back to nothing and give nothing

@@ -7,11 +7,11 @@ ghost use Rattle.stab_frames.specs.Walks.{IsPlaced};
 ghost use Rattle.stab_turns.specs.LedFrames.{AreInOrder, Stabilise, TurnSome, IsLedFrame};
 
 use stab_circuit::Cursor;
-use stab_copies::Checkpoint;
+use stab_copies::{Checkpoint, has_one};
 use stab_frames::{FrameWalk, KeptStrings, Stop, walk_steps};
 use stab_io::Refusal;
 use stab_pauli::{Letter, Pauli};
-use stab_replay::{has_one, turned_copy};
+use stab_replay::turned_copy;
 use stab_tableau::{CompactTableau, Tableau};
 use std::alloc::Global;
 

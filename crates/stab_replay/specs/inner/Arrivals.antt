@@ -10,10 +10,10 @@ use Rattle.stab_replay.specs.Replays.{IsPlacedAt, MeetsAt}
 
 -- what a replay comes to at the step where it stops: the old copy that may be met next, or the last step, or neither, and which copy
 -- may be met then
-abbrev pub IsArrival : ℕ → Plan → Replay → List Checkpoint → List Bool → ℕ → Arrival → Type 0
-IsArrival n p r copies records next Met = IsSomeAnd (slice_get copies next) (MeetsAt n p r records)
-IsArrival n p r copies records next Behind = (r.step ≡ p.total) × IfSome (slice_get copies next) (λ c. MeetsAt n p r records c → ⊥)
-IsArrival n p r copies records next (Between later) =
+abbrev pub IsArrival : ℕ → Plan → Replay → List Checkpoint → (records free : List Bool) → ℕ → Arrival → Type 0
+IsArrival n p r copies records free next Met = IsSomeAnd (slice_get copies next) (MeetsAt n p r records free)
+IsArrival n p r copies records free next Behind = (r.step ≡ p.total) × IfSome (slice_get copies next) (λ c. MeetsAt n p r records free c → ⊥)
+IsArrival n p r copies records free next (Between later) =
     (r.step ≢ p.total)
-    × IfSome (slice_get copies next) (λ c. MeetsAt n p r records c → ⊥)
+    × IfSome (slice_get copies next) (λ c. MeetsAt n p r records free c → ⊥)
     × ((later ≡ next) × (IsPlacedAt p copies next r.step → ⊥) ⊎ (later ≡ next + 1) × IsPlacedAt p copies next r.step)

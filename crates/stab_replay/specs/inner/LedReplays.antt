@@ -24,7 +24,8 @@ pub record IsBeside (n : ℕ) (coins : ℕ → Bool) (p : Plan) (ys : List Step)
 pub record IsAtCopy (n : ℕ) (coins : ℕ → Bool) (p : Plan) (xs ys : List Step) (free : List Bool) (r : Replay) (w : WalkState) (c : Checkpoint) : Type 0 where
   pub behind : p.old_end ≤ c.step
   pub place : step_among_new p c ≡ r.step
-  pub framed : IsFramedAt n coins xs ys c.step r.step free p.base w
+  pub base : ℕ
+  pub framed : IsFramedAt n coins xs ys c.step r.step free base w
 
 -- so it may be led from there, from the old copy with this number
 pub record IsLed (n : ℕ) (coins : ℕ → Bool) (p : Plan) (ys : List Step) (copies : List Checkpoint) (o : RunOutput) (s : StringsState) (number : ℕ) (r : Replay) (w : WalkState) : Type 0 where

@@ -73,7 +73,7 @@ end_of g c f few first begins behind =
     let plan = planned c.steps.result c.args.stride c.args.span c.max.result c.len.result c.args.self.now.reach in
     has-ended f few first begins behind plan refl refl (omega (arith, c.steps.ensures.value, few)) c.max.ensures refl c.follow.new.self c.in_ok-end.end
     c.in_ok-end.ensures.replay c.in_ok-end.ensures.raised
-    (seen-end c.in_ok-replay.replay.tableau.qubits plan c.follow.new.self c.in_ok-end.end c.as_slice-3.ensures.value refl c.in_ok-end.ensures.end)
+    (seen-end c.in_ok-replay.replay.tableau.qubits plan c.follow.new.self c.args.self.now.outputs.records.items c.args.self.now.outputs.free.items c.in_ok-end.end c.as_slice-3.ensures.value c.in_ok-end.ensures.end)
 
 pub overflow_add-span : goal.overflow_add-span
 overflow_add-span g c =

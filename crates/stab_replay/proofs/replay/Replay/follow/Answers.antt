@@ -20,12 +20,12 @@ stopped g c =
     went-so c.args.self.now.step c.args.plan c.args.copies.now c.args.old.now.records.items c.loop-spare.next c.in_ok-reached.reached c.loop-spare.self c.advance.new.self
     inv.qubits inv.same_coins inv.all (c.in_ok-reached.ensures.way c.args.self.now.step) inv.way
 
-arrived : (g : Over) (c : In_ok-reached g) (records : List Bool) (a b : Arrival) → records ≡ c.args.old.now.records.items → a ≡ b
-    → IsArrival c.advance.new.self.tableau.qubits c.args.plan c.advance.new.self c.args.copies.now records c.in_ok-reached.reached a
-    → IsArrival c.args.self.now.tableau.qubits c.args.plan c.advance.new.self c.args.copies.now c.args.old.now.records.items c.in_ok-reached.reached b
-arrived g c records a b seen same h =
+arrived : (g : Over) (c : In_ok-reached g) (a b : Arrival) → a ≡ b
+    → IsArrival c.advance.new.self.tableau.qubits c.args.plan c.advance.new.self c.args.copies.now c.args.old.now.records.items c.args.old.now.free.items c.in_ok-reached.reached a
+    → IsArrival c.args.self.now.tableau.qubits c.args.plan c.advance.new.self c.args.copies.now c.args.old.now.records.items c.args.old.now.free.items c.in_ok-reached.reached b
+arrived g c a b same h =
     subst (λ x. x)
-    (λ i. IsArrival ((stopped g c).replay.at_step.qubits i) c.args.plan c.advance.new.self c.args.copies.now (seen i) c.in_ok-reached.reached (same i)) h
+    (λ i. IsArrival ((stopped g c).replay.at_step.qubits i) c.args.plan c.advance.new.self c.args.copies.now c.args.old.now.records.items c.args.old.now.free.items c.in_ok-reached.reached (same i)) h
 
 -- no more were laid than copies were passed
 few : (g : Over) (c : In_ok-reached g)
@@ -80,16 +80,16 @@ returns-in-Behind-clause-soon g c = ended g ((goal.at.returns-in-Behind-clause-s
 pub returns-in-Met-clause-changed : goal.returns-in-Met-clause-changed
 returns-in-Met-clause-changed g c =
     let at = (goal.at.returns-in-Met-clause-changed g c).In_ok-reached in
-    let met = arrived g at c.as_slice-records.result.now _ Met c.as_slice-records.ensures.value c.in-Met.is c.in_ok-arrive.ensures.value in
+    let met = arrived g at _ Met c.in-Met.is c.in_ok-arrive.ensures.value in
     let within = c.requires.old.new_within in
-    let behind = met-behind c.args.self.now.tableau.qubits c.args.plan c.advance.new.self c.args.old.now.records.items (slice_get c.args.copies.now c.in_ok-reached.reached)
+    let behind = met-behind c.args.self.now.tableau.qubits c.args.plan c.advance.new.self c.args.old.now.records.items c.args.old.now.free.items (slice_get c.args.copies.now c.in_ok-reached.reached)
     (omega (arith, within, c.requires.total, c.requires.few)) met in
     omega (arith, behind, changed g at, ap (λ (r : Replay). r.applied) c.arrive.ensures.unchanged)
 
 pub returns-in-Behind-clause-changed : goal.returns-in-Behind-clause-changed
 returns-in-Behind-clause-changed g c =
     let at = (goal.at.returns-in-Behind-clause-changed g c).In_ok-reached in
-    let behind = arrived g at c.as_slice-records.result.now _ Behind c.as_slice-records.ensures.value c.in-Behind.is c.in_ok-arrive.ensures.value in
+    let behind = arrived g at _ Behind c.in-Behind.is c.in_ok-arrive.ensures.value in
     let within = c.requires.old.new_within in
     let end = behind.0 in
     omega (arith, within, end, c.requires.total, changed g at, ap (λ (r : Replay). r.applied) c.arrive.ensures.unchanged)
@@ -97,16 +97,16 @@ returns-in-Behind-clause-changed g c =
 pub returns-in-Met-clause-end : goal.returns-in-Met-clause-end
 returns-in-Met-clause-end g c =
     let at = (goal.at.returns-in-Met-clause-end g c).In_ok-reached in
-    let met = arrived g at c.as_slice-records.result.now _ Met c.as_slice-records.ensures.value c.in-Met.is c.in_ok-arrive.ensures.value in
-    subst (λ (r : Replay). IsEnd c.args.self.now.tableau.qubits c.args.plan r c.args.copies.now c.args.old.now.records.items (Joined c.in_ok-reached.reached))
+    let met = arrived g at _ Met c.in-Met.is c.in_ok-arrive.ensures.value in
+    subst (λ (r : Replay). IsEnd c.args.self.now.tableau.qubits c.args.plan r c.args.copies.now c.args.old.now.records.items c.args.old.now.free.items (Joined c.in_ok-reached.reached))
     (sym c.arrive.ensures.unchanged)
     ((stopped g at).order, met)
 
 pub returns-in-Behind-clause-end : goal.returns-in-Behind-clause-end
 returns-in-Behind-clause-end g c =
     let at = (goal.at.returns-in-Behind-clause-end g c).In_ok-reached in
-    let behind = arrived g at c.as_slice-records.result.now _ Behind c.as_slice-records.ensures.value c.in-Behind.is c.in_ok-arrive.ensures.value in
-    subst (λ (r : Replay). IsEnd c.args.self.now.tableau.qubits c.args.plan r c.args.copies.now c.args.old.now.records.items Last) (sym c.arrive.ensures.unchanged) behind.0
+    let behind = arrived g at _ Behind c.in-Behind.is c.in_ok-arrive.ensures.value in
+    subst (λ (r : Replay). IsEnd c.args.self.now.tableau.qubits c.args.plan r c.args.copies.now c.args.old.now.records.items c.args.old.now.free.items Last) (sym c.arrive.ensures.unchanged) behind.0
 
 pub returns-in-Met-clause-few_laid : goal.returns-in-Met-clause-few_laid
 returns-in-Met-clause-few_laid g c =
@@ -130,10 +130,10 @@ loop-spare-smaller g c =
     let at = (goal.at.loop-spare-smaller g c).In_ok-reached in
     let stop = stopped g at in
     let within = stop.replay.at_step.within in
-    let fewer = fewer-left c.args.self.now.tableau.qubits c.args.plan c.args.copies.now c.args.old.now.records.items c.loop-spare.next c.in_ok-reached.reached c.in-Between.later
+    let fewer = fewer-left c.args.self.now.tableau.qubits c.args.plan c.args.copies.now c.args.old.now.records.items c.args.old.now.free.items c.loop-spare.next c.in_ok-reached.reached c.in-Between.later
     c.loop-spare.self.step c.advance.new.self c.requires.stride c.advance.ensures.further (omega (arith, within, c.requires.total)) c.in_ok-reached.ensures.order stop.within
     c.in_ok-reached.ensures.stops
-    (arrived g at c.as_slice-records.result.now _ (Between c.in-Between.later) c.as_slice-records.ensures.value c.in-Between.is c.in_ok-arrive.ensures.value) in
+    (arrived g at _ (Between c.in-Between.later) c.in-Between.is c.in_ok-arrive.ensures.value) in
     omega (
       arith,
       fewer,
@@ -146,7 +146,7 @@ loop-spare-preserved g c =
     let inv = c.loop-spare.invariant in
     let done = c.in_ok-reached.ensures {u = tt} in
     let at = (goal.at.loop-spare-preserved g c).In_ok-reached in
-    let arrival = arrived g at c.as_slice-records.result.now _ (Between c.in-Between.later) c.as_slice-records.ensures.value c.in-Between.is c.in_ok-arrive.ensures.value in
+    let arrival = arrived g at _ (Between c.in-Between.later) c.in-Between.is c.in_ok-arrive.ensures.value in
     let same : c.lay.new.self ≡ record c.advance.new.self { laid = c.lay.new.self.laid } =
     c.lay.ensures.unchanged ∙ ap (λ (r : Replay). record r { laid = c.lay.new.self.laid }) c.arrive.ensures.unchanged in
     let step : c.lay.new.self.step ≡ c.advance.new.self.step = ap (λ (r : Replay). r.step) same in
@@ -170,7 +170,7 @@ loop-spare-preserved g c =
       changed = omega (arith, changed g at, step, applied);
       few_laid =
           subst (λ k. spacing_of c.args.plan.stride * length c.lay.new.self.laid.items + c.args.self.now.step ≤ k + spacing_of c.args.plan.stride * (c.in-Between.later - c.args.plan.next)) (sym step)
-          (laid-more c.args.self.now.tableau.qubits c.args.plan c.args.copies.now c.args.old.now.records.items c.in_ok-reached.reached c.in-Between.later c.loop-spare.self.step
+          (laid-more c.args.self.now.tableau.qubits c.args.plan c.args.copies.now c.args.old.now.records.items c.args.old.now.free.items c.in_ok-reached.reached c.in-Between.later c.loop-spare.self.step
           c.args.self.now.step (length c.advance.new.self.laid.items) (length c.lay.new.self.laid.items) c.advance.new.self (few g at)
           (ap length (c.in_ok-lay.ensures {u = tt}).laid
           ∙ length-append c.arrive.new.self.laid.items (copy_of c.arrive.new.self ∷ [])
@@ -178,6 +178,6 @@ loop-spare-preserved g c =
           (stopped g at).order c.advance.ensures.further done.stops arrival);
       way =
           on-further c.args.self.now.tableau.qubits (g.C.Coins.sequence c.args.coins.now) c.args.self.now.step c.args.plan c.args.self.now.cursor.all
-          c.args.copies.now c.args.old.now.records.items c.in_ok-reached.reached c.in-Between.later c.advance.new.self c.lay.new.self (stopped g at) arrival same
+          c.args.copies.now c.args.old.now.records.items c.args.old.now.free.items c.in_ok-reached.reached c.in-Between.later c.advance.new.self c.lay.new.self (stopped g at) arrival same
           ((c.in_ok-lay.ensures {u = tt}).laid ∙ ap (λ (r : Replay). r.laid.items ++ copy_of r ∷ []) c.arrive.ensures.unchanged);
     }

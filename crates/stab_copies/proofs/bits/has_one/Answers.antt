@@ -1,7 +1,6 @@
 use Rattle.std.proofs.Common.{arith}
-use Rattle.stab_replay.proofs.BitLemmas.{none-further}
-use Rattle.stab_replay.proofs.NotedLemmas.{counted}
-use Rattle.stab_replay.proofs.bits.has_one.Goals as goal
+use Rattle.stab_copies.proofs.BitLemmas.{none-further, counted}
+use Rattle.stab_copies.proofs.bits.has_one.Goals as goal
 
 pub returns-then-bit-clause-one : goal.returns-then-bit-clause-one
 returns-then-bit-clause-one c = λ e. omega (arith, counted c.loop-bit.bit-index c.args.bits.now c.if-bit.true)
