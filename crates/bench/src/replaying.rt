@@ -111,8 +111,8 @@ fn print_opening<R: CpuClock + Files + AllocGlobal + Print>(
     print_sentence(rt, &parts, HEADINGS)
 }
 
-/// Prints what edits of three kinds at three places take: nothing downstream changes, a record
-/// flips, the group changes.
+/// Prints what edits of four kinds at three places take: nothing downstream changes, a record
+/// flips, later records and coins have other numbers, the group changes.
 fn print_edits<R: CpuClock + AllocGlobal + Print>(
     rt: &R,
     session: &mut Session<SeedCoins>,
@@ -126,7 +126,7 @@ fn print_edits<R: CpuClock + AllocGlobal + Print>(
     Ok(())
 }
 
-/// Prints what edits of three kinds take at a place.
+/// Prints what edits of four kinds take at a place.
 fn print_edits_at<R: CpuClock + AllocGlobal + Print>(
     rt: &R,
     session: &mut Session<SeedCoins>,
@@ -136,6 +136,7 @@ fn print_edits_at<R: CpuClock + AllocGlobal + Print>(
 ) -> Result<(), Failure> {
     print_edit(rt, session, place, "I 1", whole)?;
     print_edit(rt, session, place, flip, whole)?;
+    print_edit(rt, session, place, "M 1", whole)?;
     print_edit(rt, session, place, "H 1", whole)
 }
 

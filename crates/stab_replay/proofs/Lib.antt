@@ -12,4 +12,5 @@ mod NotedSegmentLemmas
 mod OverCopyLemmas
 mod LedLemmas
 mod LedWayLemmas
+pub mod CutLemmas
 pub mod NotedLemmas

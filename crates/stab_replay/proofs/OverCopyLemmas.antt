@@ -24,7 +24,8 @@ use Rattle.stab_replay.specs.Replays.{IsAtStep, step_among_new}
 use Rattle.stab_replay.specs.FramedReplays.{IsOldRun, IsFramedAt, IsFramedOver, IsContinued, AreEnoughBy, WentOver}
 use Rattle.stab_copies.proofs.TakeLemmas.{take-more}
 use Rattle.stab_replay.proofs.FramedLemmas.{flipped-empty}
-use Rattle.stab_replay.proofs.NotedLemmas.{coins-are, ones-take, unnoted}
+use Rattle.stab_replay.proofs.CutLemmas.{ones-take}
+use Rattle.stab_replay.proofs.NotedLemmas.{coins-are, unnoted}
 use Rattle.stab_replay.proofs.SegmentLemmas.{over-segment}
 use Rattle.stab_replay.proofs.FramedStepLemmas.{framed-run}
 use Rattle.stab_replay.proofs.NotedSegmentLemmas.{noted-segment}

@@ -153,6 +153,16 @@ const SETTLES_FAR: &str = "M 0\nREPEAT 39 {\nMX 0\n}\nDETECTOR rec[-40]";
 
 const STILL: &str = "REPEAT 100 {\nX 0\n}";
 
+// A measurement or reset that is put in gives all later records or coins other numbers. Where no coin decides behind a copy,
+// the old run is kept all the same: from the first copy on, before step 10 of the new ones, where nothing looks back; from the
+// second one on behind a detector that looks back to 15 records, since both runs have as many there for the first time; and
+// from none where a detector looks back to all. A reset turns a 1 into a 0, so that all records behind it flip: from the first
+// copy on a frame leads, up to the last copy, and the four steps behind that are carried out. Where a coin decides behind each
+// copy, all 2,001 steps are.
+const ONES: &str = "X 0\nREPEAT 39 {\nM 0\n}";
+
+const ONE_COIN: &str = "REPEAT 40 {\nMX 0\n}";
+
 const TWO_BLOCKS: &str = "REPEAT 10 {\nX 0\nX 0\n}\nREPEAT 1000 {\nX 0\n}";
 
 const FREE: &str = "REPEAT 1000 {\nMX 0\nM 0\n}";
@@ -204,6 +214,12 @@ const COSTS: &[(&str, Item, [(usize, usize); 3], (u64, u64))] = &[
         [(16, 16), (27, 27), ANY],
         (0, 0),
     ),
+    (DIES, (None, 0, "M 0"), [(10, 10), (0, 0), ANY], (0, 0)),
+    (DIES_NEAR, (None, 0, "M 0"), [(19, 19), (0, 0), ANY], (0, 0)),
+    (DIES_FAR, (None, 0, "M 0"), [(42, 42), (0, 0), ANY], (0, 0)),
+    (ONE_COIN, (None, 0, "M 0"), [(10, 10), (0, 0), ANY], (1, 1)),
+    (ONES, (None, 1, "R 0"), [(14, 14), (27, 27), ANY], (0, 0)),
+    (FREE, (None, 0, "M 0"), [(2001, 2001), (0, 0), ANY], (2000, 2001)),
 ];
 
 fn is_within(number: usize, (least, most): (usize, usize)) -> bool {
