@@ -75,11 +75,3 @@ fixed-front n coins (x ∷ xs) ys a none =
     let first = ones-append (given n coins x a).free (outputs n coins xs (next_point n coins x a)).free in
     let behind : ones (outputs n coins xs (next_point n coins x a)).free ≡ 0 = fixed-front n coins xs ys (next_point n coins x a) (omega (arith, none, sum)) in
     omega (arith, none, sum, first, behind)
-
--- nor in those behind them
-pub fixed-back : (n : ℕ) (coins : ℕ → Bool) (xs ys : List Step) (a : Point) → ones (outputs n coins (xs ++ ys) a).free ≡ 0
-    → ones (outputs n coins ys (point_after n coins xs a)).free ≡ 0
-fixed-back n coins [] ys a none = none
-fixed-back n coins (x ∷ xs) ys a none =
-    let sum = ones-append (given n coins x a).free (outputs n coins (xs ++ ys) (next_point n coins x a)).free in
-    fixed-back n coins xs ys (next_point n coins x a) (omega (arith, none, sum))

@@ -34,7 +34,8 @@ pub struct Walked {
 }
 
 /// Leads a frame over the steps that a cursor has left, up to so many, of a run with these kept
-/// strings and flags, none of whose steps looks back further than `reach` records.
+/// strings and flags, none of whose steps looks back further than `reach` records. It ends where the frame is gone,
+/// if it may, and else goes on without one.
 pub fn walk_steps(
     walk: &mut FrameWalk,
     strings: &KeptStrings,
@@ -42,6 +43,7 @@ pub fn walk_steps(
     cursor: &mut Cursor,
     most: usize,
     reach: u32,
+    may_end: bool,
 ) -> Result<Walked, AllocError>
     requires same_length { strings.now.qubits ≡ length walk.old.letters }
     requires fits { All (StepFits (length walk.old.letters)) cursor.old.left }
@@ -59,7 +61,7 @@ pub fn walk_steps(
     let reach = reach as usize;
     let mut steps = 0;
     while steps < most {
-        if walk.is_gone(reach) {
+        if may_end && walk.is_gone(reach) {
             return Ok(Walked {
                 stop: Stop::Gone,
                 steps,

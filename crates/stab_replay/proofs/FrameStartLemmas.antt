@@ -8,7 +8,7 @@ use Rattle.stab_pauli.specs.Paulis.{Signed, with_sign, strings_anticommute, stri
 use Rattle.stab_pauli.proofs.StringLemmas.{string_product-blank}
 use Rattle.stab_tableau.specs.Tableaus.{TableauState, stabilises}
 use Rattle.stab_tableau.specs.Turns.{IsTurned}
-use Rattle.stab_circuit.specs.Steps.{Step, looks_too_far}
+use Rattle.stab_circuit.specs.Steps.{Step}
 use Rattle.stab_steps.specs.declared.records.Lengths.{Lengths}
 use Rattle.stab_run.specs.Records.{looked_up, ones}
 use Rattle.stab_run.specs.Points.{Point, RunOutput, nothing, origin, point_after, outputs}
@@ -17,15 +17,12 @@ use Rattle.stab_run.proofs.PointLemmas.{flags-are-coins, records-are-records, fr
 use Rattle.stab_frames.specs.Flips.{flipped}
 use Rattle.stab_frames.specs.Frames.{PointsDifferBy}
 use Rattle.stab_frames.specs.Walks.{WalkState, frame_at}
-use Rattle.stab_frames.specs.Ends.{MayHaveCoin}
 use Rattle.stab_frames.proofs.FrontLemmas.{group-origin}
 use Rattle.stab_frames.proofs.LookbackLemmas.{looked_up-near}
 use Rattle.stab_frames.proofs.FlipLemmas.{length-flipped, flipped-apart}
 use Rattle.stab_copies.specs.declared.checkpoint.Checkpoint.{Checkpoint}
 use Rattle.stab_copies.specs.Checkpoints.{IsRunFromStart, IsCheckpoint}
 use Rattle.stab_replay.specs.FramedReplays.{HaveMoved, AreCompared, IsFrameFrom, IsFramedAt}
-use Rattle.stab_replay.proofs.PointLemmas.{may-have-coin}
-use Rattle.stab_replay.proofs.FramedLemmas.{future-moved}
 
 -- where two lists are the same at first, nothing differs
 
@@ -44,7 +41,7 @@ apart-behind (suc base) (a ∷ bits) (b ∷ others) size le same =
 -- the frame found from an old copy
 pub frame-found : (t : TableauState) (o old : RunOutput) (base reach n m : ℕ) (c : Checkpoint) (string : Signed) (bits others : List Bool) (v u w : WalkState) → n ≡ t.qubits
     → c.tableau.qubits ≡ t.qubits → length string.letters ≡ t.qubits → IsTurned c.tableau.qubits string.letters (stabilises c.tableau) (stabilises t)
-    → AreCompared o old base reach c m
+    → AreCompared o base reach c m
     → v ≡ record { letters = replicate n I; flips = nothing; coin = c.lengths.free; number = ones (take c.lengths.free old.free) }
     → u ≡ record v { letters = string_product v.letters string.letters }
     → bits ≡ drop (c.lengths.records - m) (take c.lengths.records old.records) → others ≡ drop (length o.records - m) o.records
@@ -79,7 +76,7 @@ frame-found t o old base reach n m c string bits others v u w qubits alike long 
 module _ (n : ℕ) (coins : ℕ → Bool) (xs ys : List Step) (k : ℕ) (c : Checkpoint) (t : TableauState) (o old : RunOutput) (base reach : ℕ) (w : WalkState)
     (qubits : t.qubits ≡ n) (is : IsCheckpoint n coins xs c) (kept : old ≡ outputs n coins xs origin) (run : IsRunFromStart n coins (take k ys) (program_state t o))
     (within : base ≤ length o.records) (same : take base o.records ≡ take base old.records) (fits : All (StepFits n) xs)
-    (near : looks_too_far reach (drop c.step xs) ≡ false) (from : IsFrameFrom t o old base reach c w) where
+    (from : IsFrameFrom t o old base reach c w) where
   abbrev here : Point
   here = point_after n coins (take c.step xs) origin
 
@@ -124,7 +121,7 @@ module _ (n : ℕ) (coins : ℕ → Bool) (xs ys : List Step) (k : ℕ) (c : Che
   copy_coin : c.lengths.free ≡ here.coin
   copy_coin = ap (λ (l : Lengths). l.free) is.lengths ∙ flags-are-coins n coins (take c.step xs)
 
-  few : AreCompared o old base reach c from.compared → (from.compared ≤ length o.records) × (from.compared ≤ c.lengths.records)
+  few : AreCompared o base reach c from.compared → (from.compared ≤ length o.records) × (from.compared ≤ c.lengths.records)
   few (inl alike) = (omega (arith, alike.2), omega (arith, alike.1, alike.2))
   few (inr moved) = (moved.1, moved.2)
 
@@ -146,7 +143,7 @@ module _ (n : ℕ) (coins : ℕ → Bool) (xs ys : List Step) (k : ℕ) (c : Che
   take-short : (i m : ℕ) (bits : List Bool) → i ≤ m → take i bits ≡ take i (take m bits)
   take-short i m bits le = sym (take-take i m bits le)
 
-  alike-records : AreCompared o old base reach c from.compared → (seen_at.records ≡ here.records) ⊎ HaveMoved here there
+  alike-records : AreCompared o base reach c from.compared → (seen_at.records ≡ here.records) ⊎ HaveMoved here there
   alike-records (inl alike) =
       inl
       ((λ i. take (counted i) o.records ++ drop (behind i) olds)
@@ -166,7 +163,7 @@ module _ (n : ℕ) (coins : ℕ → Bool) (xs ys : List Step) (k : ℕ) (c : Che
         | inr apart ↦ inr (λ e. apart (ap length own ∙ sym e ∙ ap length (sym olds_are) ∙ short))
       ])
 
-  as-far : AreCompared o old base reach c from.compared → (j : ℕ) → j ≤ reach → looked_up here.records j ≡ looked_up seen_at.records j
+  as-far : AreCompared o base reach c from.compared → (j : ℕ) → j ≤ reach → looked_up here.records j ≡ looked_up seen_at.records j
   as-far (inl alike) j le =
       elim (alike-records (inl alike)) [
         | inl e ↦ ap (λ l. looked_up l j) (sym e)
@@ -181,15 +178,6 @@ module _ (n : ℕ) (coins : ℕ → Bool) (xs ys : List Step) (k : ℕ) (c : Che
       ∙ looked_up-near (take (c.lengths.records - from.compared) olds) recent j (omega (arith, recent-long, moved.0, le))
       ∙ sym (looked_up-near (take count o.records) recent j (omega (arith, recent-long, moved.0, le)))
 
-  may-have : AreCompared o old base reach c from.compared → MayHaveCoin n coins (drop c.step xs) here there.coin
-  may-have compared =
-      subst (MayHaveCoin n coins (drop c.step xs) here) own_coin
-      (may-have-coin n coins xs c old.free (length o.free) is (ap (λ (q : RunOutput). q.free) kept)
-      (elim compared [
-        | inl alike ↦ inl alike.0
-        | inr moved ↦ moved.4
-      ]))
-
   flips_are : (frame_at count w).flips ≡ flipped seen_at.records there.records
   flips_are =
       ap (λ (q : RunOutput). replicate count false ++ q.records) from.flips
@@ -198,13 +186,11 @@ module _ (n : ℕ) (coins : ℕ → Bool) (xs ys : List Step) (k : ℕ) (c : Che
       (omega (arith, length-append (take count o.records) recent, front-long))
       (take_at (take count o.records) recent count front-long ∙ ap (take count) own)
 
-  pub frame-begins : IsFramedAt n coins xs ys c.step k old.free (length o.records - from.compared) w
+  pub frame-begins : IsFramedAt n coins xs ys c.step k old.free (length o.records - from.compared) reach w
   frame-begins = record {
     seen = seen_at;
     group = group-origin n coins (take c.step xs) (All-take (StepFits n) c.step xs fits);
-    future =
-        future-moved n reach coins (drop c.step xs) here seen_at near (may-have from.are_compared)
-        (record { group = λ p size. refl; coin = refl; records = as-far from.are_compared });
+    agree = record { group = λ p size. refl; coin = refl; records = as-far from.are_compared };
     framed = record {
       size = from.size ∙ qubits;
       group = λ p size.
@@ -216,7 +202,6 @@ module _ (n : ℕ) (coins : ℕ → Bool) (xs ys : List Step) (k : ℕ) (c : Che
       records = sym (flipped-apart seen_at.records there.records seen-long) ∙ ap (flipped seen_at.records) (sym flips_are);
     };
     coin = from.coin ∙ copy_coin;
-    may_have = may-have from.are_compared;
     told = alike-records from.are_compared;
     placed = from.placed;
   }

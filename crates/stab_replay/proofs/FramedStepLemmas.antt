@@ -35,14 +35,14 @@ segment-output n coins xs len o c d is also further kept =
     first = is.lengths ∙ ap (λ zs. lengths_of (outputs n coins zs origin)) (sym front)
 
 -- a state that differs by the frame from the next copy, with what was given before and what the frame made of the steps between, is the run
-pub framed-run : (n : ℕ) (coins : ℕ → Bool) (xs ys : List Step) (k len : ℕ) (free : List Bool) (base : ℕ) (w v : WalkState) (stop : Stop) (c d : Checkpoint) (t : TableauState)
+pub framed-run : (n : ℕ) (coins : ℕ → Bool) (xs ys : List Step) (k len : ℕ) (free : List Bool) (base reach : ℕ) (w v : WalkState) (stop : Stop) (c d : Checkpoint) (t : TableauState)
     (before after old : RunOutput)
     → IsCheckpoint n coins xs c → IsCheckpoint n coins xs d → d.step ≡ c.step + len → old ≡ outputs n coins xs origin
-    → IsFramedOver n coins xs ys c.step k len free base w v stop → before ≡ outputs n coins (take k ys) origin
+    → IsFramedOver n coins xs ys c.step k len free base reach w v stop → before ≡ outputs n coins (take k ys) origin
     → IsTurned n v.letters (stabilises d.tableau) (stabilises t)
     → after ≡ joined before (flipped_output (between c.lengths d.lengths old) (flips_since w v))
     → IsRunFromStart n coins (take (k + len) ys) (program_state t after)
-framed-run n coins xs ys k len free base w v stop c d t before after old is also further kept over given turned then = record {
+framed-run n coins xs ys k len free base reach w v stop c d t before after old is also further kept over given turned then = record {
   group = λ p size.
       turned p size
       ∙ also.group (with_sign (strings_anticommute v.letters p.letters) p) size

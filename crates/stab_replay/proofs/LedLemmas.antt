@@ -1,7 +1,7 @@
 -- Led replays: a replay that a frame led to the place of the next old copy is there, and differs still where the frame is not gone.
 use Rattle.std.proofs.Common.{◌≡◌, ◌≢◌, ℕ, ◌+◌, ◌-◌, ◌^◌, ◌<◌, ◌≤◌, refl, sym, ◌∙◌, ap, subst, Bool, true, ◌⊎◌, inl, inr, List, [], ◌∷◌, ◌++◌, All, Option, None, Some, slice_get, IsSomeAnd, length, take, drop, arith}
 use Rattle.std.proofs.lemmas.List.{length-drop, length-append, drop-drop, take_at}
-use Rattle.std.proofs.lemmas.List.Elements.{All-get_or, All-drop}
+use Rattle.std.proofs.lemmas.List.Elements.{All-get_or}
 use Rattle.std.proofs.lemmas.Option.{slice_get_within, get_or_from_slice_get}
 use Rattle.stab_letters.specs.declared.letter.Letter.{Letter}
 use Rattle.stab_pauli.specs.Paulis.{Signed}
@@ -20,7 +20,6 @@ use Rattle.stab_frames.specs.declared.steps.Stop.TheVariants.{Behind, NoString}
 use Rattle.stab_frames.specs.Flips.{flipped}
 use Rattle.stab_frames.specs.KeptStrings.{StringsState}
 use Rattle.stab_frames.specs.Walks.{WalkState, IsPlaced}
-use Rattle.stab_frames.specs.Lookbacks.{LooksWithin}
 use Rattle.stab_replay.specs.declared.led.Passage.TheVariants.{Arrived, Passed}
 use Rattle.stab_copies.specs.declared.checkpoint.Checkpoint.{Checkpoint}
 use Rattle.stab_replay.specs.declared.replay.Plan.{Plan}
@@ -29,10 +28,10 @@ use Rattle.stab_copies.specs.Checkpoints.{IsCheckpoint}
 use Rattle.stab_replay.specs.Replays.{IsAtStep, Misses, step_among_new, copy_of}
 use Rattle.stab_replay.specs.FramedReplays.{HaveMoved, IsFramedAt, IsFramedOver, IsContinued, IsFrameFrom, WentOver, between, flips_since}
 use Rattle.stab_replay.specs.inner.LedReplays.{IsBeside, IsAtCopy, IsLed, IsPassed, WentTo, last_state, state_of, with_state, with_cursor}
-use Rattle.stab_replay.proofs.NotedLemmas.{coins-are, near-enough, noted-more}
+use Rattle.stab_replay.proofs.NotedLemmas.{coins-are, noted-more}
 use Rattle.stab_replay.proofs.ReplayLemmas.{coins-few}
 use Rattle.stab_replay.proofs.FrameStartLemmas.{frame-begins, flips-differ}
-use Rattle.stab_replay.proofs.OverCopyLemmas.{over, there, at-copy}
+use Rattle.stab_replay.proofs.OverCopyLemmas.{over, there, coins-apart, at-copy}
 
 -- what is so of all copies is so of the one with a number
 pub at-number : {X : Type 0} (P : X → Type 0) (xs : List X) (k : ℕ) (x : X) → slice_get xs k ≡ Some x → All P xs → P x
@@ -93,8 +92,7 @@ led-from n coins p ys copies o s last c r string reach w beside from behind plac
         framed =
             frame-begins n coins beside.old.steps ys r.step c r.tableau (output_of r.outputs) o p.base p.reach w at.qubits
             (at-number (IsCheckpoint n coins beside.old.steps) copies last c from beside.old.are_copies)
-            beside.old.output at.run within same beside.old.fits
-            (near-enough p.reach p.reach (drop c.step beside.old.steps) (omega arith) (All-drop (LooksWithin p.reach) c.step beside.old.steps beside.old.noted.near)) found;
+            beside.old.output at.run within same beside.old.fits found;
       });
 }
   where
@@ -116,6 +114,7 @@ pub went-same : (n : ℕ) (p : Plan) (c d : Checkpoint) (o : RunOutput) (s : Str
 went-same n p c d o s r q t w v stop went output strings step framed = record {
   steps = went.steps;
   order = went.order;
+  coins = went.coins;
   near = went.near;
   few = went.few;
   walked = went.walked;
@@ -133,6 +132,7 @@ went-from : (n : ℕ) (p : Plan) (c d : Checkpoint) (o : RunOutput) (s : Strings
 went-from n p c d o s r q t w v stop went = record {
   steps = went.steps;
   order = went.order;
+  coins = went.coins;
   near = went.near;
   few = went.few;
   walked = went.walked;
@@ -192,7 +192,7 @@ module _ {n : ℕ} {coins : ℕ → Bool} {p : Plan} {ys : List Step} {copies : 
     pub step-there : q.step ≡ r.step + (d.step - c.step)
     step-there = there n coins p ys copies o s led.old c d is also here.behind went.order few-steps (with_state passed r) here.place here.base w v here.framed led.at_step q stop went told
 
-    over-it : IsFramedOver n coins led.old.steps ys c.step r.step (d.step - c.step) o.free here.base w v stop
+    over-it : IsFramedOver n coins led.old.steps ys c.step r.step (d.step - c.step) o.free here.base p.reach w v stop
     over-it = over n coins p ys copies o s led.old c d is also here.behind went.order few-steps (with_state passed r) here.place here.base w v here.framed led.at_step q stop went told
 
     -- with no fewer free outcomes
@@ -206,10 +206,10 @@ module _ {n : ℕ} {coins : ℕ → Bool} {p : Plan} {ys : List Step} {copies : 
 
     -- which a frame that is not gone leads on from the next copy
     module _ (behind : stop ≡ Behind) (placed : IsPlaced o.free v) where
-      framed-at : (k : ℕ) → k ≡ q.step → IsFramedAt n coins led.old.steps ys d.step k o.free here.base v
+      framed-at : (k : ℕ) → k ≡ q.step → IsFramedAt n coins led.old.steps ys d.step k o.free here.base p.reach v
       framed-at k at =
-          subst (λ m. IsFramedAt n coins led.old.steps ys m k o.free here.base v) {x = c.step + (d.step - c.step)} (let le = went.order in omega arith)
-          (subst (λ m. IsFramedAt n coins led.old.steps ys (c.step + (d.step - c.step)) m o.free here.base v) (sym (at ∙ step-there)) (over-it.goes_on behind placed))
+          subst (λ m. IsFramedAt n coins led.old.steps ys m k o.free here.base p.reach v) {x = c.step + (d.step - c.step)} (let le = went.order in omega arith)
+          (subst (λ m. IsFramedAt n coins led.old.steps ys (c.step + (d.step - c.step)) m o.free here.base p.reach v) (sym (at ∙ step-there)) (over-it.goes_on behind placed))
 
       led-on : (t : Replay) → IsAtStep n coins ys t → t.step ≡ q.step → p.reach ≤ t.notes.reach → IsLed n coins p ys copies o s number t v
       led-on t at_step step raised = record {
@@ -226,11 +226,17 @@ module _ {n : ℕ} {coins : ℕ → Bool} {p : Plan} {ys : List Step} {copies : 
             });
       }
 
-      -- and where the frame flips a record the runs differ
-      differs : 1 ≤ ones v.flips.records → Misses n coins p ys o.records d
-      differs some xs same_copy kept agree = told_apart at_new.told
+      -- and where the frame flips a record, or coins have other numbers, the runs differ
+      differs : (length r.outputs.free.items ≢ c.lengths.free) ⊎ (1 ≤ ones v.flips.records) → Misses n coins p ys o.records d
+      differs how xs same_copy kept agree =
+          elim how [
+            | inl apart ↦
+                coins-apart n coins p ys copies o s led.old c d is also here.behind went.order few-steps (with_state passed r) here.place here.base w v here.framed led.at_step q stop went told
+                (step_among_new p d) (sym went.step ∙ step-there) apart same_coin
+            | inr some ↦ told_apart some at_new.told
+          ]
         where
-          at_new : IsFramedAt n coins led.old.steps ys d.step (step_among_new p d) o.free here.base v
+          at_new : IsFramedAt n coins led.old.steps ys d.step (step_among_new p d) o.free here.base p.reach v
           at_new = framed-at (step_among_new p d) (sym went.step)
 
           same_records : (point_after n coins (take d.step led.old.steps) origin).records ≡ (point_after n coins (take (step_among_new p d) ys) origin).records
@@ -250,12 +256,12 @@ module _ {n : ℕ} {coins : ℕ → Bool} {p : Plan} {ys : List Step} {copies : 
               ∙ flags-are-coins n coins (take d.step xs)
               ∙ agree.coin
 
-          told_apart : (at_new.seen.records ≡ (point_after n coins (take d.step led.old.steps) origin).records)
+          told_apart : 1 ≤ ones v.flips.records → (at_new.seen.records ≡ (point_after n coins (take d.step led.old.steps) origin).records)
               ⊎ HaveMoved (point_after n coins (take d.step led.old.steps) origin) (point_after n coins (take (step_among_new p d) ys) origin) → ⊥
-          told_apart (inl seen_records) =
+          told_apart some (inl seen_records) =
               flips-differ n here.base v at_new.seen (point_after n coins (take (step_among_new p d) ys) origin) at_new.framed some (seen_records ∙ same_records)
-          told_apart (inr (inl apart)) = apart same_coin
-          told_apart (inr (inr apart)) = apart (ap length same_records)
+          told_apart some (inr (inl apart)) = apart same_coin
+          told_apart some (inr (inr apart)) = apart (ap length same_records)
 
     -- with the state that a turned copy is of
     module _ {letters : List Letter} (kept : TableauState) (read : letters ≡ v.letters) (size : kept.qubits ≡ d.tableau.qubits)
@@ -296,7 +302,8 @@ module _ {n : ℕ} {coins : ℕ → Bool} {p : Plan} {ys : List Step} {copies : 
 
       pub has-passed : (t : Replay) → t.string ≡ r.string → output_of t.outputs ≡ output_of q.outputs → t.notes ≡ q.notes → t.step ≡ q.step → t.framed ≡ q.framed
           → q.notes.string ≡ r.notes.string → q.notes.reach ≡ r.notes.reach → t.laid.items ≡ r.laid.items ++ copy_of (record t { tableau = kept }) ∷ []
-          → t.cursor.all ≡ ys → t.cursor.left ≡ drop (d.step - c.step) r.cursor.left → stop ≡ Behind → IsPlaced o.free v → 1 ≤ ones v.flips.records
+          → t.cursor.all ≡ ys → t.cursor.left ≡ drop (d.step - c.step) r.cursor.left → stop ≡ Behind → IsPlaced o.free v
+          → (length r.outputs.free.items ≢ c.lengths.free) ⊎ (1 ≤ ones v.flips.records)
           → IsPassed n coins p ys copies o s number r t v Passed
       has-passed t string output notes step framed scratch reach laid all left behind placed some = (
         laid ∙ ap (λ x. r.laid.items ++ copy_of (record t { tableau = x }) ∷ []) (sym state),

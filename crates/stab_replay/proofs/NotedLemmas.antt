@@ -4,7 +4,7 @@ use Rattle.std.specs.Prelude.{IfSome, if◌then◌else◌}
 use Rattle.std.specs.List.{list_any}
 use Rattle.std.proofs.lemmas.Bool.{cases_lt}
 use Rattle.std.proofs.lemmas.Bool.Decides.{leb_tells}
-use Rattle.std.proofs.lemmas.List.{length-append, length-drop, take-append-drop, drop_at}
+use Rattle.std.proofs.lemmas.List.{length-append, length-drop, take-append-drop}
 use Rattle.std.proofs.lemmas.List.Elements.{All-head, All-tail, All-append, All-drop, All-take, All-nil, All-weaker}
 use Rattle.stab_letters.specs.declared.letter.Letter.{Letter}
 use Rattle.stab_pauli.specs.Paulis.{Signed}
@@ -262,16 +262,14 @@ noted-on n coins xs zs s t old new before after noted at size most raised near k
 
 -- where no coin decides there are no notes
 
-none-one : (bits : List Bool) (t : ℕ) → ones bits ≡ 0 → get_or bits t false ≡ false
+pub none-one : (bits : List Bool) (t : ℕ) → ones bits ≡ 0 → get_or bits t false ≡ false
 none-one [] t none = refl
 none-one (true ∷ bits) t none = absurd (omega (arith, none))
 none-one (false ∷ bits) zero none = refl
 none-one (false ∷ bits) (suc t) none = none-one bits t none
 
-pub unnoted : (strings : List (List Letter)) (free : List Bool) (c t : ℕ) → ones (drop c free) ≡ 0 → c ≤ t → note_at strings free t ≡ None
-unnoted strings free c t none le =
-    ap (λ b. if b then slice_get strings (ones (take t free)) else None)
-    (ap (λ k. get_or free k false) {x = t} {y = c + (t - c)} (omega arith) ∙ sym (bit-drop c (t - c) free) ∙ none-one (drop c free) (t - c) none)
+pub unnoted : (strings : List (List Letter)) (free : List Bool) (t : ℕ) → get_or free t false ≡ false → note_at strings free t ≡ None
+unnoted strings free t off = ap (λ b. if b then slice_get strings (ones (take t free)) else None) off
 
 true-none : (n : ℕ) (coins : ℕ → Bool) (strings : ℕ → Option (List Letter)) (xs : List Step) (a : Point) → ((t : ℕ) → a.coin ≤ t → strings t ≡ None) → AreTrue n coins strings xs a
 true-none n coins strings [] a none = tt
@@ -326,7 +324,13 @@ noted-spliced n coins xs ys i k same coin turned s t u free flags all c old_reac
     true_behind (inr none) =
         true-none n coins (note_at u.strings all) (drop i xs) (point_after n coins (take k ys) origin)
         (λ m le. ap (λ bits. note_at u.strings bits m) is
-        ∙ unnoted u.strings (flags ++ drop c free) (length flags) m (ap ones (drop_at flags (drop c free) (length flags) refl ∙ rest) ∙ none) (omega (arith, le, count)))
+        ∙ unnoted u.strings (flags ++ drop c free) m (off m (omega (arith, le, count))))
+      where
+        off : (m : ℕ) → length flags ≤ m → get_or (flags ++ drop c free) m false ≡ false
+        off m le =
+            ap (λ k. get_or (flags ++ drop c free) k false) {x = m} {y = length flags + (m - length flags)} (omega (arith, le))
+            ∙ bit-right flags (drop c free) (m - length flags)
+            ∙ none-one (drop c free) (m - length flags) (ap ones rest ∙ none)
     true_behind (inl same_coin) =
         true-changed n coins (note_at s.strings free) (note_at u.strings all) (drop i xs) (point_after n coins (take k ys) origin)
         (λ m le lt. subst (λ x. x) (λ j. IsNoneOr (note_at (sym spliced.strings j) (sym is j) m) (note_at s.strings free m))

@@ -1,7 +1,7 @@
 -- Noted segments: the strings of a run that goes on as another did, up to the next copy of that one.
 use Rattle.std.proofs.Common.{◌≡◌, ℕ, zero, suc, ◌+◌, ◌-◌, ◌^◌, ◌<◌, ◌≤◌, min, refl, sym, ◌∙◌, ap, subst, Bool, inl, inr, List, [], ◌∷◌, ◌++◌, length, take, drop, arith}
 use Rattle.std.proofs.lemmas.Bool.{cases_lt}
-use Rattle.std.proofs.lemmas.List.{length-append, length-take, length-drop, take-append-drop, take-take, drop-take}
+use Rattle.std.proofs.lemmas.List.{length-append, length-take, length-drop, take-take, drop-take}
 use Rattle.stab_letters.specs.declared.letter.Letter.{Letter}
 use Rattle.stab_tableau.specs.Traces.{member}
 use Rattle.stab_tableau.specs.Turns.{IsTurned}
@@ -12,7 +12,6 @@ use Rattle.stab_steps.proofs.RecordLemmas.{ones-append}
 use Rattle.stab_run.proofs.PointLemmas.{flags-are-coins, front-output}
 use Rattle.stab_frames.specs.KeptStrings.{StringsState, kept_with, front_kept}
 use Rattle.stab_frames.specs.Ends.{MayHaveCoin}
-use Rattle.stab_frames.proofs.FixedLemmas.{fixed-front}
 use Rattle.stab_frames.proofs.WalkLemmas.{ones-few}
 use Rattle.stab_replay.specs.NotedStrings.{IsNoted}
 use Rattle.stab_replay.specs.FramedReplays.{IsContinued}
@@ -65,7 +64,7 @@ spliced-front s t u from end before all is numbered order all_is =
         ∙ ap (λ m. length t.strings + m) (length-drop from (take end s.strings) ∙ ap (λ m. m - from) (length-cut end s.strings)))
 
 module _ (n : ℕ) (coins : ℕ → Bool) (xs ys : List Step) (i k len : ℕ) (same : drop i xs ≡ drop k ys)
-    (coin : MayHaveCoin n coins (drop i xs) (point_after n coins (take i xs) origin) (point_after n coins (take k ys) origin).coin)
+    (coin : MayHaveCoin n coins (take len (drop i xs)) (point_after n coins (take i xs) origin) (point_after n coins (take k ys) origin).coin)
     (turned : (m : ℕ) → (g : List Letter) × IsTurned n g (member (point_after n coins (take m (take len (drop i xs))) (point_after n coins (take i xs) origin)).trace)
     (member (point_after n coins (take m (take len (drop i xs))) (point_after n coins (take k ys) origin)).trace)) where
   old_front : take i (take (i + len) xs) ≡ take i xs
@@ -73,15 +72,6 @@ module _ (n : ℕ) (coins : ℕ → Bool) (xs ys : List Step) (i k len : ℕ) (s
 
   new_front : take k (take (k + len) ys) ≡ take k ys
   new_front = take-take k (k + len) ys (omega arith)
-
-  coin_between : MayHaveCoin n coins (take len (drop i xs)) (point_after n coins (take i xs) origin) (point_after n coins (take k ys) origin).coin
-  coin_between =
-      elim coin [
-        | inl same_coin ↦ inl same_coin
-        | inr none ↦
-            inr (fixed-front n coins (take len (drop i xs)) (drop len (drop i xs)) (point_after n coins (take i xs) origin)
-            (ap (λ zs. ones (outputs n coins zs (point_after n coins (take i xs) origin)).free) (take-append-drop len (drop i xs)) ∙ none))
-      ]
 
   pub noted-segment : (s t u : StringsState) (free flags all : List Bool) (c d old_reach reach : ℕ)
       → IsNoted n coins xs s free old_reach → free ≡ (outputs n coins xs origin).free
@@ -93,7 +83,7 @@ module _ (n : ℕ) (coins : ℕ → Bool) (xs ys : List Step) (i k len : ℕ) (s
       noted-spliced n coins (take (i + len) xs) (take (k + len) ys) i k
       (drop-take i len xs ∙ ap (take len) same ∙ sym (drop-take k len ys))
       (subst (λ x. x)
-      (λ j. MayHaveCoin n coins (sym (drop-take i len xs) j) (point_after n coins (sym old_front j) origin) (point_after n coins (sym new_front j) origin).coin) coin_between)
+      (λ j. MayHaveCoin n coins (sym (drop-take i len xs) j) (point_after n coins (sym old_front j) origin) (point_after n coins (sym new_front j) origin).coin) coin)
       (subst (λ zs. AreTurnedBehind n coins zs (point_after n coins (take i (take (i + len) xs)) origin) (point_after n coins (take k (take (k + len) ys)) origin)) (sym (drop-take i len xs))
       (subst (λ zs. AreTurnedBehind n coins (take len (drop i xs)) (point_after n coins zs origin) (point_after n coins (take k (take (k + len) ys)) origin)) (sym old_front)
       (subst (λ zs. AreTurnedBehind n coins (take len (drop i xs)) (point_after n coins (take i xs) origin) (point_after n coins zs origin)) (sym new_front) turned)))

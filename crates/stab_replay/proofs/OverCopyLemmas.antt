@@ -1,12 +1,12 @@
 -- Over copies: a replay that went by a frame to the place of the next copy of an older run is the run of the steps behind it there.
-use Rattle.std.proofs.Common.{◌≡◌, ◌≢◌, ℕ, ◌+◌, ◌-◌, ◌^◌, ◌<◌, ◌≤◌, sym, ◌∙◌, ap, subst, Bool, List, ◌++◌, length, take, drop, arith}
+use Rattle.std.proofs.Common.{◌≡◌, ◌≢◌, ℕ, ◌+◌, ◌-◌, ◌^◌, ◌<◌, ◌≤◌, sym, ◌∙◌, ap, subst, Bool, inl, inr, List, ◌++◌, length, take, drop, arith}
 use Rattle.std.proofs.lemmas.List.{length-drop, drop-drop, take-take}
 use Rattle.stab_tableau.specs.Tableaus.{stabilises}
 use Rattle.stab_tableau.specs.Turns.{IsTurned}
 use Rattle.stab_circuit.specs.Steps.{Step}
 use Rattle.stab_steps.specs.declared.records.Lengths.{Lengths}
 use Rattle.stab_run.specs.Records.{ones}
-use Rattle.stab_run.specs.Points.{Point, RunOutput, origin, point_after}
+use Rattle.stab_run.specs.Points.{Point, RunOutput, origin, all_coins_of, point_after}
 use Rattle.stab_run.specs.ProgramStates.{program_state, output_of}
 use Rattle.stab_steps.proofs.RunLemmas.{after-append}
 use Rattle.stab_run.proofs.PointLemmas.{flags-are-coins}
@@ -15,6 +15,7 @@ use Rattle.stab_frames.specs.declared.steps.Stop.TheVariants.{NoString}
 use Rattle.stab_frames.specs.KeptStrings.{StringsState, note_at}
 use Rattle.stab_frames.specs.Walks.{WalkState, WalksOver}
 use Rattle.stab_frames.specs.Stops.{IsStop}
+use Rattle.stab_frames.specs.Ends.{MayHaveCoin}
 use Rattle.stab_copies.specs.declared.checkpoint.Checkpoint.{Checkpoint}
 use Rattle.stab_replay.specs.declared.replay.Plan.{Plan}
 use Rattle.stab_replay.specs.declared.replay.Replay.{Replay}
@@ -27,12 +28,12 @@ use Rattle.stab_replay.proofs.FramedLemmas.{flipped-empty}
 use Rattle.stab_replay.proofs.CutLemmas.{ones-take}
 use Rattle.stab_replay.proofs.NotedLemmas.{coins-are, unnoted}
 use Rattle.stab_replay.proofs.SegmentLemmas.{over-segment}
-use Rattle.stab_replay.proofs.FramedStepLemmas.{framed-run}
+use Rattle.stab_replay.proofs.FramedStepLemmas.{segment-output, framed-run}
 use Rattle.stab_replay.proofs.NotedSegmentLemmas.{noted-segment}
 
 module _ (n : ℕ) (coins : ℕ → Bool) (p : Plan) (ys : List Step) (copies : List Checkpoint) (o : RunOutput) (s : StringsState) (old : IsOldRun n coins p ys copies o s)
     (c d : Checkpoint) (is : IsCheckpoint n coins old.steps c) (also : IsCheckpoint n coins old.steps d) (behind : p.old_end ≤ c.step) (order : c.step ≤ d.step) (few : length ys < 2 ^ 64)
-    (r : Replay) (place : step_among_new p c ≡ r.step) (base : ℕ) (w v : WalkState) (at : IsFramedAt n coins old.steps ys c.step r.step o.free base w)
+    (r : Replay) (place : step_among_new p c ≡ r.step) (base : ℕ) (w v : WalkState) (at : IsFramedAt n coins old.steps ys c.step r.step o.free base p.reach w)
     (at_step : IsAtStep n coins ys r) (q : Replay) (stop : Stop) (went : WentOver n p c d o s r q w v stop) (told : stop ≢ NoString) where
   len : ℕ
   len = d.step - c.step
@@ -57,17 +58,48 @@ module _ (n : ℕ) (coins : ℕ → Bool) (p : Plan) (ys : List Step) (copies : 
   pub there : q.step ≡ r.step + (d.step - c.step)
   there = omega (arith, went.step, here, also.within, same-rest, old.old_within, old.new_within, behind, order, few)
 
-  pub over : IsFramedOver n coins old.steps ys c.step r.step (d.step - c.step) o.free base w v stop
+  coin-here : c.lengths.free ≡ (point_after n coins (take c.step old.steps) origin).coin
+  coin-here = ap (λ (l : Lengths). l.free) is.lengths ∙ flags-are-coins n coins (take c.step old.steps)
+
+  own-coin : length r.outputs.free.items ≡ (point_after n coins (take r.step ys) origin).coin
+  own-coin = ap (λ (t : RunOutput). length t.free) at_step.run.output ∙ flags-are-coins n coins (take r.step ys)
+
+  -- the coins of the old run serve the new one up to the next copy
+  may_have : MayHaveCoin n coins (take (d.step - c.step) (drop c.step old.steps)) (point_after n coins (take c.step old.steps) origin) (point_after n coins (take r.step ys) origin).coin
+  may_have =
+      elim went.coins [
+        | inl alike ↦ inl (sym coin-here ∙ sym alike ∙ own-coin)
+        | inr none ↦ inr (ap (λ (t : RunOutput). ones t.free) (sym (segment-output n coins old.steps (d.step - c.step) o c d is also further old.output)) ∙ none)
+      ]
+
+  -- where they have other numbers at the one copy, they have at the next
+  pub coins-apart : (k : ℕ) → k ≡ r.step + (d.step - c.step) → length r.outputs.free.items ≢ c.lengths.free
+      → (point_after n coins (take d.step old.steps) origin).coin ≢ (point_after n coins (take k ys) origin).coin
+  coins-apart k at_k apart alike =
+      apart (omega (
+        arith,
+        alike,
+        coin-here,
+        own-coin,
+        ap (λ m. (point_after n coins (take m old.steps) origin).coin) further,
+        ap (λ m. (point_after n coins (take m ys) origin).coin) at_k,
+        ap (λ zs. (point_after n coins zs origin).coin) (take-more c.step (d.step - c.step) old.steps),
+        ap (λ zs. (point_after n coins zs origin).coin) (take-more r.step (d.step - c.step) ys),
+        ap (λ (b : Point). b.coin) (after-append n coins (take c.step old.steps) (take (d.step - c.step) (drop c.step old.steps)) origin),
+        ap (λ (b : Point). b.coin) (after-append n coins (take r.step ys) (take (d.step - c.step) (drop r.step ys)) origin),
+        coins-are n coins (take (d.step - c.step) (drop c.step old.steps)) (point_after n coins (take c.step old.steps) origin),
+        coins-are n coins (take (d.step - c.step) (drop r.step ys)) (point_after n coins (take r.step ys) origin),
+        ap (λ zs. all_coins_of (take (d.step - c.step) zs)) same,
+      ))
+
+  pub over : IsFramedOver n coins old.steps ys c.step r.step (d.step - c.step) o.free base p.reach w v stop
   over =
       over-segment n coins old.steps ys c.step r.step (d.step - c.step) same (omega (arith, also.within, order)) (note_at s.strings o.free) o.free
-      (ap (λ (t : RunOutput). t.free) old.output) old.noted.are_true (λ from t none le. unnoted s.strings o.free from t none le) old.fits p.reach old.noted.near base w v at went.steps
+      (ap (λ (t : RunOutput). t.free) old.output) old.noted.are_true (unnoted s.strings o.free) old.fits p.reach old.noted.near base w v at may_have went.steps
       (subst (λ left. went.steps ≤ length (take (d.step - c.step) left)) at_step.left went.few)
       (subst (λ left. WalksOver n (note_at s.strings o.free) (take went.steps left) w v) at_step.left went.walked)
       (subst (λ left. AreEnoughBy n (note_at s.strings o.free) o.free left went.steps w) at_step.left went.enough)
       stop (subst (λ left. IsStop n p.reach went.steps (length (take (d.step - c.step) left)) v stop) at_step.left went.stops) told
-
-  coin-here : c.lengths.free ≡ (point_after n coins (take c.step old.steps) origin).coin
-  coin-here = ap (λ (l : Lengths). l.free) is.lengths ∙ flags-are-coins n coins (take c.step old.steps)
 
   coin-there : d.lengths.free ≡ (point_after n coins (take (c.step + (d.step - c.step)) old.steps) origin).coin
   coin-there =
@@ -106,13 +138,13 @@ module _ (n : ℕ) (coins : ℕ → Bool) (p : Plan) (ys : List Step) (copies : 
     within = omega (arith, there, here, also.within, same-rest, old.old_within, old.new_within, behind, order);
     run =
         subst (λ k. IsRunFromStart n coins (take k ys) (program_state q.tableau (output_of q.outputs))) (sym there)
-        (framed-run n coins old.steps ys r.step (d.step - c.step) o.free base w v stop c d q.tableau (output_of r.outputs) (output_of q.outputs) o is also further old.output over
+        (framed-run n coins old.steps ys r.step (d.step - c.step) o.free base p.reach w v stop c d q.tableau (output_of r.outputs) (output_of q.outputs) o is also further old.output over
         at_step.run.output turned went.output);
     scratch = scratch;
     noted =
         subst (λ k. IsNoted n coins (take k ys) q.notes.strings q.outputs.free.items q.notes.reach) (sym there)
         (subst (λ m. IsNoted n coins (take (r.step + (d.step - c.step)) ys) q.notes.strings q.outputs.free.items m) (sym reach)
-        (noted-segment n coins old.steps ys c.step r.step (d.step - c.step) same at.may_have over.turned s r.notes.strings q.notes.strings o.free r.outputs.free.items q.outputs.free.items
+        (noted-segment n coins old.steps ys c.step r.step (d.step - c.step) same may_have over.turned s r.notes.strings q.notes.strings o.free r.outputs.free.items q.outputs.free.items
         c.lengths.free d.lengths.free p.reach r.notes.reach old.noted (ap (λ (t : RunOutput). t.free) old.output) at_step.noted (ap (λ (t : RunOutput). t.free) at_step.run.output)
         raised coin-here coin-there coins-order flags-there
         (subst (λ x. x) (λ i. IsContinued r.notes.strings s (number-here i) (number-there i) q.notes.strings) went.strings)));

@@ -1,19 +1,19 @@
 -- Segments: a frame that went over the steps from one copy of a run to the next.
-use Rattle.std.proofs.Common.{◌≡◌, ℕ, zero, suc, ◌+◌, ◌≤◌, min, refl, sym, ◌∙◌, ap, subst, Bool, false, ◌⊎◌, inl, inr, List, [], ◌∷◌, ◌++◌, All, Option, None, length, take, drop, replicate, arith}
+use Rattle.std.proofs.Common.{◌≡◌, ℕ, zero, suc, ◌+◌, ◌≤◌, min, refl, sym, ◌∙◌, ap, subst, Bool, false, ◌⊎◌, inl, inr, List, [], ◌∷◌, ◌++◌, ◌<◌, All, Option, None, length, take, drop, get_or, replicate, arith}
 use Rattle.std.specs.Prelude.{◌≢◌}
-use Rattle.std.proofs.lemmas.List.{length-append, length-take-le, length-drop, take-append-drop, take-take, take_all, drop_at, drop-drop}
+use Rattle.std.proofs.lemmas.List.{length-append, length-take-le, length-drop, take-append-drop, take-take, take_all, drop_at}
 use Rattle.std.proofs.lemmas.List.Elements.{All-take, All-drop}
 use Rattle.stab_letters.specs.declared.letter.Letter.{Letter}
 use Rattle.stab_pauli.specs.Paulis.{Signed, with_sign, strings_anticommute}
 use Rattle.stab_tableau.specs.Traces.{member}
 use Rattle.stab_tableau.specs.Groups.{SameGroup}
 use Rattle.stab_tableau.specs.Turns.{IsTurned}
-use Rattle.stab_circuit.specs.Steps.{Step, one, two, controlled, collapse, product, detector, observable, records_of}
+use Rattle.stab_circuit.specs.Steps.{Step, one, two, controlled, collapse, product, detector, observable, records_of, looks_too_far}
 use Rattle.stab_run.specs.Records.{ones}
 use Rattle.stab_run.specs.Points.{Point, RunOutput, origin, joined, point_after, outputs, all_coins_of}
 use Rattle.stab_run.specs.ProgramStates.{StepFits}
 use Rattle.stab_steps.proofs.RunLemmas.{after-append, outputs-append}
-use Rattle.stab_run.proofs.PointLemmas.{flags-are-coins, records-gathered, rest-output}
+use Rattle.stab_run.proofs.PointLemmas.{flags-are-coins, flags-counted, records-gathered, rest-output}
 use Rattle.stab_frames.specs.declared.steps.Stop.{Stop}
 use Rattle.stab_frames.specs.declared.steps.Stop.TheVariants.{Behind, Gone, NoString}
 use Rattle.stab_frames.specs.Flips.{flipped, flipped_additions, flipped_output}
@@ -23,18 +23,19 @@ use Rattle.stab_frames.specs.FrameSteps.{frame_after, frame_over, flips_over}
 use Rattle.stab_frames.specs.StepNotes.{AreEnough}
 use Rattle.stab_frames.specs.KeptStrings.{AreTrue}
 use Rattle.stab_frames.specs.Lookbacks.{LooksWithin}
-use Rattle.stab_frames.specs.Ends.{MayHaveCoin}
+use Rattle.stab_frames.specs.Ends.{AgreeBack, with_coin, MayHaveCoin}
 use Rattle.stab_frames.specs.Stops.{IsStop}
 use Rattle.stab_frames.specs.Walks.{WalkState, frame_at, WalksOver, IsGone}
 use Rattle.stab_frames.proofs.FrontLemmas.{group-after}
 use Rattle.stab_frames.proofs.EndLemmas.{records-made}
-use Rattle.stab_frames.proofs.FixedLemmas.{fixed-front, fixed-back}
+use Rattle.stab_frames.proofs.FixedLemmas.{fixed-front}
 use Rattle.stab_frames.proofs.StepLemmas.{over-framed}
 use Rattle.stab_replay.specs.FramedReplays.{HaveSameFuture, HaveMoved, IsFramedAt, IsFramedOver, AreEnoughBy, flips_since}
 use Rattle.stab_copies.proofs.TakeLemmas.{take-more}
-use Rattle.stab_replay.proofs.NotedLemmas.{true-back, near-enough, coins-are}
-use Rattle.stab_replay.proofs.FramedLemmas.{IsFramedBehind, flipped-empty, true-turned, future-turned, framed-gone, framed-all}
-use Rattle.stab_replay.proofs.SeenLemmas.{AreSameFrom, over-same, flips-same, enough-fixed, future-whole, future-cut, future-later}
+use Rattle.stab_replay.proofs.CutLemmas.{bit-drop, bit-left}
+use Rattle.stab_replay.proofs.NotedLemmas.{true-back, near-enough, coins-are, none-one}
+use Rattle.stab_replay.proofs.FramedLemmas.{IsFramedBehind, flipped-empty, future-moved, true-turned, future-turned, framed-gone, framed-all}
+use Rattle.stab_replay.proofs.SeenLemmas.{AreSameFor, same-fewer, over-same, flips-same, coins-first, enough-fixed, seen-later}
 
 -- no flag is flipped
 pub flips-free : (n : ℕ) (notes : Notes) (xs : List Step) (coin : ℕ) (f : Frame) → (flips_over n notes xs coin f).free ≡ replicate (all_coins_of xs) false
@@ -100,9 +101,10 @@ turned-from n g u v w same turned p size = turned p size ∙ sym (same (with_sig
 
 module _ (n : ℕ) (coins : ℕ → Bool) (xs ys : List Step) (i k len : ℕ) (same : drop i xs ≡ drop k ys) (within : i + len ≤ length xs)
     (strings : ℕ → Option (List Letter)) (free : List Bool) (flags : free ≡ (outputs n coins xs origin).free) (are_true : AreTrue n coins strings xs origin)
-    (unnoted : (c t : ℕ) → ones (drop c free) ≡ 0 → c ≤ t → strings t ≡ None)
+    (unnoted : (t : ℕ) → get_or free t false ≡ false → strings t ≡ None)
     (fits : All (StepFits n) xs) (reach : ℕ) (near : All (LooksWithin reach) xs)
-    (base : ℕ) (old new : WalkState) (at : IsFramedAt n coins xs ys i k free base old)
+    (base : ℕ) (old new : WalkState) (at : IsFramedAt n coins xs ys i k free base reach old)
+    (may_have : MayHaveCoin n coins (take len (drop i xs)) (point_after n coins (take i xs) origin) (point_after n coins (take k ys) origin).coin)
     (steps : ℕ) (few : steps ≤ length (take len (drop k ys))) (walked : WalksOver n strings (take steps (drop k ys)) old new)
     (enough : AreEnoughBy n strings free (drop k ys) steps old) where
   abbrev a : Point
@@ -139,52 +141,97 @@ module _ (n : ℕ) (coins : ℕ → Bool) (xs ys : List Step) (i k len : ℕ) (s
       ∙ (λ j. drop (flags-are-coins n coins (take i xs) j) (sym flags j))
       ∙ ap (λ c. drop c free) (sym at.coin)
 
-  -- what is noted where the frame begins: of the old run, or nothing where no coin decides
-  abbrev noted : MayHaveCoin n coins (drop i xs) a b.coin → ℕ → Option (List Letter)
+  -- so many steps on the old run goes on as from the point that is seen
+
+  near_back : looks_too_far reach (take len (drop i xs)) ≡ false
+  near_back = near-enough reach reach (take len (drop i xs)) (omega arith) (All-take (LooksWithin reach) len (drop i xs) (All-drop (LooksWithin reach) i xs near))
+
+  seen_coin : at.seen.coin ≡ (point_after n coins (take k ys) origin).coin
+  seen_coin = sym at.framed.coin
+
+  seen_may : MayHaveCoin n coins (take len (drop i xs)) (point_after n coins (take i xs) origin) at.seen.coin
+  seen_may = subst (MayHaveCoin n coins (take len (drop i xs)) (point_after n coins (take i xs) origin)) at.framed.coin may_have
+
+  future : HaveSameFuture n coins (take len (drop i xs)) (point_after n coins (take i xs) origin) at.seen
+  future = future-moved n reach coins (take len (drop i xs)) (point_after n coins (take i xs) origin) at.seen near_back seen_may at.agree
+
+  whole : take len (take len (drop i xs)) ≡ take len (drop i xs)
+  whole = take_all len (take len (drop i xs)) (omega (arith, long))
+
+  future-all : (outputs n coins (take len (drop i xs)) (point_after n coins (take i xs) origin) ≡ outputs n coins (take len (drop i xs)) at.seen)
+      × SameGroup n (member (point_after n coins (take len (drop i xs)) (point_after n coins (take i xs) origin)).trace) (member (point_after n coins (take len (drop i xs)) at.seen).trace)
+  future-all =
+      subst (λ zs. (outputs n coins zs (point_after n coins (take i xs) origin) ≡ outputs n coins zs at.seen)
+      × SameGroup n (member (point_after n coins zs (point_after n coins (take i xs) origin)).trace) (member (point_after n coins zs at.seen).trace)) whole (future len)
+
+  -- what is noted from there on: of the old run, or nothing where no coin decides
+  abbrev noted : MayHaveCoin n coins (take len (drop i xs)) a b.coin → ℕ → Option (List Letter)
   noted (inl coin) = strings
   noted (inr none) = λ t. None
 
-  noted-same : (m : MayHaveCoin n coins (drop i xs) a b.coin) → AreSameFrom (noted m) strings at.seen.coin old.coin
-  noted-same (inl coin) t = ap (λ c. strings (c + t)) (sym at.framed.coin ∙ sym coin ∙ sym at.coin)
-  noted-same (inr none) t =
-      sym (unnoted old.coin (old.coin + t)
-      (ap ones (sym flags_here) ∙ ap (λ zs. ones (outputs n coins zs (point_after n coins (take i xs) origin)).free) (sym same) ∙ none) (omega arith))
+  -- a flag of these steps
+  flag_here : (t : ℕ) → t < all_coins_of (take len (drop i xs)) → ones (outputs n coins (take len (drop i xs)) (point_after n coins (take i xs) origin)).free ≡ 0
+      → get_or free (old.coin + t) false ≡ false
+  flag_here t lt none =
+      sym (bit-drop old.coin t free)
+      ∙ ap (λ bits. get_or bits t false)
+      (sym flags_here
+      ∙ ap (λ zs. (outputs n coins zs (point_after n coins (take i xs) origin)).free) (sym same ∙ sym (take-append-drop len (drop i xs)))
+      ∙ ap (λ (o : RunOutput). o.free) (outputs-append n coins (take len (drop i xs)) (drop len (drop i xs)) (point_after n coins (take i xs) origin)))
+      ∙ bit-left (outputs n coins (take len (drop i xs)) (point_after n coins (take i xs) origin)).free _ t
+      (omega (arith, lt, flags-counted n coins (take len (drop i xs)) (point_after n coins (take i xs) origin), coins-are n coins (take len (drop i xs)) (point_after n coins (take i xs) origin)))
+      ∙ none-one (outputs n coins (take len (drop i xs)) (point_after n coins (take i xs) origin)).free t none
 
-  future_here : HaveSameFuture n coins (drop k ys) (point_after n coins (take i xs) origin) at.seen
-  future_here = subst (λ zs. HaveSameFuture n coins zs (point_after n coins (take i xs) origin) at.seen) same at.future
+  noted-same : (m : MayHaveCoin n coins (take len (drop i xs)) a b.coin) → AreSameFor (noted m) strings at.seen.coin old.coin (all_coins_of (take len (drop i xs)))
+  noted-same (inl coin) t lt = ap (λ c. strings (c + t)) (seen_coin ∙ sym coin ∙ sym at.coin)
+  noted-same (inr none) t lt = sym (unnoted (old.coin + t) (flag_here t lt none))
 
-  noted-enough : (m : MayHaveCoin n coins (drop i xs) a b.coin)
+  noted-enough : (m : MayHaveCoin n coins (take len (drop i xs)) a b.coin)
       → AreEnough n coins (same_coins (noted m)) (take steps (take len (drop i xs))) (frame_at base old) at.seen
   noted-enough (inl coin) =
       subst (λ zs. AreEnough n coins (same_coins strings) zs (frame_at base old) at.seen) (sym first)
-      (enough coins at.seen base (sym at.framed.coin ∙ sym coin ∙ sym at.coin)
-      (true-turned n coins strings (drop k ys) (point_after n coins (take i xs) origin) at.seen (sym at.framed.coin ∙ sym coin)
-      (future-turned n coins (drop k ys) (point_after n coins (take i xs) origin) at.seen future_here) true_here)
-      (ap (λ (o : RunOutput). o.free) (sym (future-whole n coins (drop k ys) (point_after n coins (take i xs) origin) at.seen future_here)) ∙ flags_here))
+      (enough coins at.seen base (seen_coin ∙ sym coin ∙ sym at.coin)
+      (true-turned n coins strings (drop k ys) (point_after n coins (take i xs) origin) at.seen (seen_coin ∙ sym coin)
+      (future-turned n coins (drop k ys) (point_after n coins (take i xs) origin) at.seen rest_future) true_here)
+      (ap (λ zs. (outputs n coins zs at.seen).free) (sym (take_all (length (drop k ys)) (drop k ys) (omega arith)))
+      ∙ ap (λ (o : RunOutput). o.free) (sym (rest_future (length (drop k ys))).0)
+      ∙ ap (λ zs. (outputs n coins zs (point_after n coins (take i xs) origin)).free) (take_all (length (drop k ys)) (drop k ys) (omega arith))
+      ∙ flags_here))
+    where
+      rest_future : HaveSameFuture n coins (drop k ys) (point_after n coins (take i xs) origin) at.seen
+      rest_future =
+          subst (λ zs. HaveSameFuture n coins zs (point_after n coins (take i xs) origin) at.seen) same
+          (future-moved n reach coins (drop i xs) (point_after n coins (take i xs) origin) at.seen
+          (near-enough reach reach (drop i xs) (omega arith) (All-drop (LooksWithin reach) i xs near)) (inl (coin ∙ sym seen_coin)) at.agree)
   noted-enough (inr none) =
       enough-fixed n coins (take steps (take len (drop i xs))) (frame_at base old) at.seen
-      (ap (λ zs. ones (outputs n coins zs at.seen).free) (take-take steps len (drop i xs) below)
-      ∙ ap (λ (o : RunOutput). ones o.free) (sym (at.future steps).0)
-      ∙ fixed-front n coins (take steps (drop i xs)) (drop steps (drop i xs)) (point_after n coins (take i xs) origin)
-      (ap (λ zs. ones (outputs n coins zs (point_after n coins (take i xs) origin)).free) (take-append-drop steps (drop i xs)) ∙ none))
+      (ap (λ (o : RunOutput). ones o.free) (sym (future steps).0)
+      ∙ fixed-front n coins (take steps (take len (drop i xs))) (drop steps (take len (drop i xs))) (point_after n coins (take i xs) origin)
+      (ap (λ zs. ones (outputs n coins zs (point_after n coins (take i xs) origin)).free) (take-append-drop steps (take len (drop i xs))) ∙ none))
 
-  told : AreEnough n coins (same_coins (noted at.may_have)) (take steps (take len (drop i xs))) (frame_at base old) at.seen
-  told = noted-enough at.may_have
+  told : AreEnough n coins (same_coins (noted may_have)) (take steps (take len (drop i xs))) (frame_at base old) at.seen
+  told = noted-enough may_have
 
-  frames-are : (zs : List Step) → frame_over n (same_coins (noted at.may_have)) zs at.seen.coin (frame_at base old) ≡ frame_over n (same_coins strings) zs old.coin (frame_at base old)
-  frames-are zs = over-same n (noted at.may_have) strings zs at.seen.coin old.coin (frame_at base old) (noted-same at.may_have)
+  same-first-steps : (m : ℕ) → AreSameFor (noted may_have) strings at.seen.coin old.coin (all_coins_of (take m (take len (drop i xs))))
+  same-first-steps m =
+      same-fewer (noted may_have) strings at.seen.coin old.coin (all_coins_of (take len (drop i xs))) (all_coins_of (take m (take len (drop i xs))))
+      (coins-first m (take len (drop i xs))) (noted-same may_have)
 
-  letters_are : (frame_over n (same_coins (noted at.may_have)) (take (min len steps) (take len (drop i xs))) at.seen.coin (frame_at base old)).letters ≡ new.letters
+  frames-are : (m : ℕ) → frame_over n (same_coins (noted may_have)) (take m (take len (drop i xs))) at.seen.coin (frame_at base old)
+      ≡ frame_over n (same_coins strings) (take m (take len (drop i xs))) old.coin (frame_at base old)
+  frames-are m = over-same n (noted may_have) strings (take m (take len (drop i xs))) at.seen.coin old.coin (frame_at base old) (same-first-steps m)
+
+  letters_are : (frame_over n (same_coins (noted may_have)) (take (min len steps) (take len (drop i xs))) at.seen.coin (frame_at base old)).letters ≡ new.letters
   letters_are =
-      ap (λ (f : Frame). f.letters) (frames-are (take (min len steps) (take len (drop i xs))))
+      ap (λ (f : Frame). f.letters) (frames-are (min len steps))
       ∙ (λ j. (frame_over n (same_coins strings) (first-min j) old.coin (frame_at base old)).letters)
       ∙ ap (λ (f : Frame). f.letters) (sym (walked.frame base))
 
   flips_are : (o : RunOutput)
-      → flipped_output o (flips_over n (same_coins (noted at.may_have)) (take (min len steps) (take len (drop i xs))) at.seen.coin (frame_at base old))
+      → flipped_output o (flips_over n (same_coins (noted may_have)) (take (min len steps) (take len (drop i xs))) at.seen.coin (frame_at base old))
       ≡ flipped_output o (flips_since old new)
   flips_are o =
-      ap (flipped_output o) (flips-same n (noted at.may_have) strings (take (min len steps) (take len (drop i xs))) at.seen.coin old.coin (frame_at base old) (noted-same at.may_have))
+      ap (flipped_output o) (flips-same n (noted may_have) strings (take (min len steps) (take len (drop i xs))) at.seen.coin old.coin (frame_at base old) (same-first-steps (min len steps)))
       ∙ (λ j. flipped_output o (flips_over n (same_coins strings) (first-min j) old.coin (frame_at base old)))
       ∙ since-joined o (flips_over n (same_coins strings) (take steps (drop k ys)) old.coin (frame_at base old)) old new (all_coins_of (take steps (drop k ys)))
       (flips-free n (same_coins strings) (take steps (drop k ys)) old.coin (frame_at base old)) (walked.flips base)
@@ -198,17 +245,11 @@ module _ (n : ℕ) (coins : ℕ → Bool) (xs ys : List Step) (i k len : ℕ) (s
   new_later : point_after n coins (take (k + len) ys) origin ≡ point_after n coins (take len (drop i xs)) (point_after n coins (take k ys) origin)
   new_later = ap (λ zs. point_after n coins zs origin) new_steps ∙ after-append n coins (take k ys) (take len (drop i xs)) origin
 
-  future_cut : HaveSameFuture n coins (take len (drop i xs)) (point_after n coins (take i xs) origin) at.seen
-  future_cut = future-cut n coins len (drop i xs) (point_after n coins (take i xs) origin) at.seen at.future
-
-  module _ (behind : IsFramedBehind n coins (noted at.may_have) steps (take len (drop i xs)) (frame_at base old) at.seen (point_after n coins (take k ys) origin) len) where
-    whole : take len (take len (drop i xs)) ≡ take len (drop i xs)
-    whole = take_all len (take len (drop i xs)) (omega (arith, long))
-
+  module _ (behind : IsFramedBehind n coins (noted may_have) steps (take len (drop i xs)) (frame_at base old) at.seen (point_after n coins (take k ys) origin) len) where
     turned_there : IsTurned n new.letters (member (point_after n coins (take len (drop i xs)) (point_after n coins (take i xs) origin)).trace)
         (member (point_after n coins (take len (drop i xs)) (point_after n coins (take k ys) origin)).trace)
     turned_there =
-        turned-from n new.letters _ _ _ (at.future len).1
+        turned-from n new.letters _ _ _ future-all.1
         (subst (λ zs. IsTurned n new.letters (member (point_after n coins zs at.seen).trace) (member (point_after n coins zs (point_after n coins (take k ys) origin)).trace)) whole
         (subst (λ l. IsTurned n l (member (point_after n coins (take len (take len (drop i xs))) at.seen).trace)
         (member (point_after n coins (take len (take len (drop i xs))) (point_after n coins (take k ys) origin)).trace)) letters_are behind.group))
@@ -230,35 +271,33 @@ module _ (n : ℕ) (coins : ℕ → Bool) (xs ys : List Step) (i k len : ℕ) (s
         ∙ behind.given
         ∙ flips_are (outputs n coins (take len (take len (drop i xs))) at.seen)
         ∙ ap (λ zs. flipped_output (outputs n coins zs at.seen) (flips_since old new)) whole
-        ∙ ap (λ o. flipped_output o (flips_since old new)) (sym (at.future len).0))
+        ∙ ap (λ o. flipped_output o (flips_since old new)) (sym future-all.0))
 
-  turned-at : (m : ℕ) → IsFramedBehind n coins (noted at.may_have) steps (take len (drop i xs)) (frame_at base old) at.seen (point_after n coins (take k ys) origin) m
+  turned-at : (m : ℕ) → IsFramedBehind n coins (noted may_have) steps (take len (drop i xs)) (frame_at base old) at.seen (point_after n coins (take k ys) origin) m
       → (g : List Letter) × IsTurned n g (member (point_after n coins (take m (take len (drop i xs))) (point_after n coins (take i xs) origin)).trace)
       (member (point_after n coins (take m (take len (drop i xs))) (point_after n coins (take k ys) origin)).trace)
-  turned-at m behind = (_, turned-from n _ _ _ _ (future_cut m).1 behind.group)
+  turned-at m behind = (_, turned-from n _ _ _ _ (future m).1 behind.group)
 
-  over-all : steps ≡ length (take len (drop k ys)) → IsFramedOver n coins xs ys i k len free base old new Behind
+  over-all : steps ≡ length (take len (drop k ys)) → IsFramedOver n coins xs ys i k len free base reach old new Behind
   over-all all = record {
     group = over-group behind;
     given = over-given behind;
     turned = λ m.
         turned-at m
-        (framed-all n coins (noted at.may_have) steps (take len (drop i xs)) (frame_at base old) at.seen (point_after n coins (take k ys) origin) fits_back at.group at.framed told count m);
+        (framed-all n coins (noted may_have) steps (take len (drop i xs)) (frame_at base old) at.seen (point_after n coins (take k ys) origin) fits_back at.group at.framed told count m);
     goes_on = λ _ placed. record {
       seen = point_after n coins (take len (drop i xs)) at.seen;
       group = group-after n coins (take len (drop i xs)) at.seen fits_back at.group;
-      future =
-          subst (λ zs. HaveSameFuture n coins zs (point_after n coins (take (i + len) xs) origin) (point_after n coins (take len (drop i xs)) at.seen)) rest
-          (subst (λ p. HaveSameFuture n coins (drop len (drop i xs)) p (point_after n coins (take len (drop i xs)) at.seen)) (sym old_later)
-          (future-later n coins len (drop i xs) (point_after n coins (take i xs) origin) at.seen at.future));
+      agree =
+          subst (λ p. AgreeBack n reach (with_coin (point_after n coins (take len (drop i xs)) at.seen).coin p) (point_after n coins (take len (drop i xs)) at.seen)) (sym old_later)
+          (seen-later n reach coins (take len (drop i xs)) (point_after n coins (take i xs) origin) at.seen near_back seen_may at.agree);
       framed =
           subst (λ (p : Point). PointsDifferBy n (frame_at base new) (point_after n coins (take len (drop i xs)) at.seen) p) (sym new_later)
           (subst (λ f. PointsDifferBy n f (point_after n coins (take len (drop i xs)) at.seen) (point_after n coins (take len (drop i xs)) (point_after n coins (take k ys) origin)))
           frame_is
-          (over-framed n coins (same_coins (noted at.may_have)) (take len (drop i xs)) (frame_at base old) at.seen (point_after n coins (take k ys) origin)
-          fits_back at.group (subst (λ zs. AreEnough n coins (same_coins (noted at.may_have)) zs (frame_at base old) at.seen) all_back told) at.framed).1);
+          (over-framed n coins (same_coins (noted may_have)) (take len (drop i xs)) (frame_at base old) at.seen (point_after n coins (take k ys) origin)
+          fits_back at.group (subst (λ zs. AreEnough n coins (same_coins (noted may_have)) zs (frame_at base old) at.seen) all_back told) at.framed).1);
       coin = sym (ap (λ (p : Point). p.coin) old_later ∙ coin_is);
-      may_have = may-have-later at.may_have;
       told = told-later at.told;
       placed = placed;
     };
@@ -270,16 +309,13 @@ module _ (n : ℕ) (coins : ℕ → Bool) (xs ys : List Step) (i k len : ℕ) (s
       all_back : take steps (take len (drop i xs)) ≡ take len (drop i xs)
       all_back = take_all steps (take len (drop i xs)) (omega (arith, count))
 
-      rest : drop len (drop i xs) ≡ drop (i + len) xs
-      rest = drop-drop len i xs
-
-      behind : IsFramedBehind n coins (noted at.may_have) steps (take len (drop i xs)) (frame_at base old) at.seen (point_after n coins (take k ys) origin) len
+      behind : IsFramedBehind n coins (noted may_have) steps (take len (drop i xs)) (frame_at base old) at.seen (point_after n coins (take k ys) origin) len
       behind =
-          framed-all n coins (noted at.may_have) steps (take len (drop i xs)) (frame_at base old) at.seen (point_after n coins (take k ys) origin) fits_back at.group at.framed told count len
+          framed-all n coins (noted may_have) steps (take len (drop i xs)) (frame_at base old) at.seen (point_after n coins (take k ys) origin) fits_back at.group at.framed told count len
 
-      frame_is : frame_over n (same_coins (noted at.may_have)) (take len (drop i xs)) at.seen.coin (frame_at base old) ≡ frame_at base new
+      frame_is : frame_over n (same_coins (noted may_have)) (take len (drop i xs)) at.seen.coin (frame_at base old) ≡ frame_at base new
       frame_is =
-          frames-are (take len (drop i xs))
+          subst (λ zs. frame_over n (same_coins (noted may_have)) zs at.seen.coin (frame_at base old) ≡ frame_over n (same_coins strings) zs old.coin (frame_at base old)) whole (frames-are len)
           ∙ (λ j. frame_over n (same_coins strings) ((sym all_back ∙ first) j) old.coin (frame_at base old))
           ∙ sym (walked.frame base)
 
@@ -291,15 +327,6 @@ module _ (n : ℕ) (coins : ℕ → Bool) (xs ys : List Step) (i k len : ℕ) (s
 
       new_coin : (point_after n coins (take (k + len) ys) origin).coin ≡ (point_after n coins (take k ys) origin).coin + all_coins_of (take len (drop i xs))
       new_coin = ap (λ (p : Point). p.coin) new_later ∙ coins-are n coins (take len (drop i xs)) (point_after n coins (take k ys) origin)
-
-      may-have-later : MayHaveCoin n coins (drop i xs) (point_after n coins (take i xs) origin) (point_after n coins (take k ys) origin).coin
-          → MayHaveCoin n coins (drop (i + len) xs) (point_after n coins (take (i + len) xs) origin) (point_after n coins (take (k + len) ys) origin).coin
-      may-have-later (inl coin) = inl (omega (arith, coin, old_coin, new_coin))
-      may-have-later (inr none) =
-          inr
-          ((λ j. ones (outputs n coins (sym rest j) (old_later j)).free)
-          ∙ fixed-back n coins (take len (drop i xs)) (drop len (drop i xs)) (point_after n coins (take i xs) origin)
-          (ap (λ zs. ones (outputs n coins zs (point_after n coins (take i xs) origin)).free) (take-append-drop len (drop i xs)) ∙ none))
 
       old_records : (point_after n coins (take (i + len) xs) origin).records
           ≡ (point_after n coins (take i xs) origin).records ++ (outputs n coins (take len (drop i xs)) (point_after n coins (take i xs) origin)).records
@@ -328,11 +355,11 @@ module _ (n : ℕ) (coins : ℕ → Bool) (xs ys : List Step) (i k len : ℕ) (s
           → ((point_after n coins (take len (drop i xs)) at.seen).records ≡ (point_after n coins (take (i + len) xs) origin).records)
           ⊎ HaveMoved (point_after n coins (take (i + len) xs) origin) (point_after n coins (take (k + len) ys) origin)
       told-later (inl same_records) =
-          inl (records-gathered n coins (take len (drop i xs)) at.seen ∙ (λ j. same_records j ++ (sym (at.future len).0 j).records) ∙ sym old_records)
+          inl (records-gathered n coins (take len (drop i xs)) at.seen ∙ (λ j. same_records j ++ (sym future-all.0 j).records) ∙ sym old_records)
       told-later (inr (inl apart)) = inr (inl (λ e. apart (omega (arith, e, old_coin, new_coin))))
       told-later (inr (inr apart)) = inr (inr (λ e. apart (omega (arith, e, old_count, new_count))))
 
-  over-gone : ((m : ℕ) → IsGone n reach (frame_at m new)) → IsFramedOver n coins xs ys i k len free base old new Gone
+  over-gone : ((m : ℕ) → IsGone n reach (frame_at m new)) → IsFramedOver n coins xs ys i k len free base reach old new Gone
   over-gone gone = record {
     group = over-group behind;
     given = over-given behind;
@@ -343,20 +370,20 @@ module _ (n : ℕ) (coins : ℕ → Bool) (xs ys : List Step) (i k len : ℕ) (s
       not-behind : Gone ≡ Behind → ⊥
       not-behind e = subst is-left e tt
 
-      everywhere : (m : ℕ) → IsFramedBehind n coins (noted at.may_have) steps (take len (drop i xs)) (frame_at base old) at.seen (point_after n coins (take k ys) origin) m
-      everywhere = framed-gone n coins (noted at.may_have) steps (take len (drop i xs)) (frame_at base old) at.seen (point_after n coins (take k ys) origin) fits_back at.group at.framed told
+      everywhere : (m : ℕ) → IsFramedBehind n coins (noted may_have) steps (take len (drop i xs)) (frame_at base old) at.seen (point_after n coins (take k ys) origin) m
+      everywhere = framed-gone n coins (noted may_have) steps (take len (drop i xs)) (frame_at base old) at.seen (point_after n coins (take k ys) origin) fits_back at.group at.framed told
           reach
           (subst (IsGone n reach)
-          (walked.frame base ∙ (λ j. frame_over n (same_coins strings) (sym first j) old.coin (frame_at base old)) ∙ sym (frames-are (take steps (take len (drop i xs))))) (gone base))
+          (walked.frame base ∙ (λ j. frame_over n (same_coins strings) (sym first j) old.coin (frame_at base old)) ∙ sym (frames-are steps)) (gone base))
           (near-enough reach reach (drop steps (take len (drop i xs))) (omega arith)
           (All-drop (LooksWithin reach) steps (take len (drop i xs)) (All-take (LooksWithin reach) len (drop i xs) (All-drop (LooksWithin reach) i xs near))))
 
-      behind : IsFramedBehind n coins (noted at.may_have) steps (take len (drop i xs)) (frame_at base old) at.seen (point_after n coins (take k ys) origin) len
+      behind : IsFramedBehind n coins (noted may_have) steps (take len (drop i xs)) (frame_at base old) at.seen (point_after n coins (take k ys) origin) len
       behind = everywhere len
 
   -- over the steps to the next copy, or until it was gone
   pub over-segment : (stop : Stop) → IsStop n reach steps (length (take len (drop k ys))) new stop → stop ≢ NoString
-      → IsFramedOver n coins xs ys i k len free base old new stop
+      → IsFramedOver n coins xs ys i k len free base reach old new stop
   over-segment Behind is told_all = over-all is
   over-segment Gone is told_all = over-gone is
   over-segment NoString is told_all = absurd (told_all refl)

@@ -20,7 +20,7 @@ use Rattle.stab_frames.specs.declared.steps.Stop.TheVariants.{Behind}
 use Rattle.stab_frames.specs.Flips.{flipped, flipped_output}
 use Rattle.stab_frames.specs.Frames.{PointsDifferBy}
 use Rattle.stab_frames.specs.KeptStrings.{StringsState, AreTrue, note_at, kept_with}
-use Rattle.stab_frames.specs.Ends.{MayHaveCoin}
+use Rattle.stab_frames.specs.Ends.{AgreeBack, with_coin}
 use Rattle.stab_frames.specs.Notes.{same_coins}
 use Rattle.stab_frames.specs.StepNotes.{AreEnough}
 use Rattle.stab_frames.specs.Stops.{IsStop}
@@ -51,15 +51,15 @@ HaveSameFuture n coins back a b =
 abbrev pub HaveMoved : Point → Point → Type 0
 HaveMoved a b = (a.coin ≢ b.coin) ⊎ (length a.records ≢ length b.records)
 
--- before a step of an old run and a step of a new one the new one differs by a frame, which began behind so many records, from a point at
--- which the old run would go on as it does: its own, or where its records or coins have other numbers, one with those of the new run
-pub record IsFramedAt (n : ℕ) (coins : ℕ → Bool) (xs ys : List Step) (i k : ℕ) (free : List Bool) (base : ℕ) (w : WalkState) : Type 0 where
+-- before a step of an old run and a step of a new one the new one differs by a frame, which began behind so many records, from the point of
+-- the old one: from that itself, or from it with the new one's numbers of records and of the next coin, and as far back as steps look with
+-- its own records
+pub record IsFramedAt (n : ℕ) (coins : ℕ → Bool) (xs ys : List Step) (i k : ℕ) (free : List Bool) (base reach : ℕ) (w : WalkState) : Type 0 where
   pub seen : Point
   pub group : IsStabiliserGroup n (member seen.trace)
-  pub future : HaveSameFuture n coins (drop i xs) (point_after n coins (take i xs) origin) seen
+  pub agree : AgreeBack n reach (with_coin seen.coin (point_after n coins (take i xs) origin)) seen
   pub framed : PointsDifferBy n (frame_at base w) seen (point_after n coins (take k ys) origin)
   pub coin : w.coin ≡ (point_after n coins (take i xs) origin).coin
-  pub may_have : MayHaveCoin n coins (drop i xs) (point_after n coins (take i xs) origin) (point_after n coins (take k ys) origin).coin
   pub told : (seen.records ≡ (point_after n coins (take i xs) origin).records) ⊎ HaveMoved (point_after n coins (take i xs) origin) (point_after n coins (take k ys) origin)
   pub placed : IsPlaced free w
 
@@ -82,32 +82,28 @@ between from to o = rest_of from (front_of to o)
 
 -- so many steps on the runs differ by the frame's letters, and by the frame where it is not gone; and the new one gave what the old one
 -- gave, flipped
-pub record IsFramedOver (n : ℕ) (coins : ℕ → Bool) (xs ys : List Step) (i k len : ℕ) (free : List Bool) (base : ℕ) (old new : WalkState) (stop : Stop) : Type 0 where
+pub record IsFramedOver (n : ℕ) (coins : ℕ → Bool) (xs ys : List Step) (i k len : ℕ) (free : List Bool) (base reach : ℕ) (old new : WalkState) (stop : Stop) : Type 0 where
   pub group : IsTurned n new.letters (member (point_after n coins (take (i + len) xs) origin).trace) (member (point_after n coins (take (k + len) ys) origin).trace)
   pub given : outputs n coins (take (k + len) ys) origin
       ≡ joined (outputs n coins (take k ys) origin)
       (flipped_output (outputs n coins (take len (drop i xs)) (point_after n coins (take i xs) origin)) (flips_since old new))
   pub turned : (m : ℕ) → (g : List Letter) × IsTurned n g (member (point_after n coins (take m (take len (drop i xs))) (point_after n coins (take i xs) origin)).trace)
       (member (point_after n coins (take m (take len (drop i xs))) (point_after n coins (take k ys) origin)).trace)
-  pub goes_on : stop ≡ Behind → IsPlaced free new → IsFramedAt n coins xs ys (i + len) (k + len) free base new
+  pub goes_on : stop ≡ Behind → IsPlaced free new → IsFramedAt n coins xs ys (i + len) (k + len) free base reach new
 
 -- so many of the newest records are compared where a frame begins: all behind the first ones, which are the same, where both runs have as
--- many records and the same number of the next coin; else those to which steps look back, where the next coin may have another number
-abbrev pub AreCompared : (o old : RunOutput) → (base reach : ℕ) → Checkpoint → ℕ → Type 0
-AreCompared o old base reach c m =
+-- many records and the same number of the next coin; else those to which steps look back
+abbrev pub AreCompared : RunOutput → (base reach : ℕ) → Checkpoint → ℕ → Type 0
+AreCompared o base reach c m =
     ((length o.free ≡ c.lengths.free) × (length o.records ≡ c.lengths.records) × (m + base ≡ length o.records))
-    ⊎ ((m ≡ reach)
-    × (m ≤ length o.records)
-    × (m ≤ c.lengths.records)
-    × ((length o.free ≢ c.lengths.free) ⊎ (length o.records ≢ c.lengths.records))
-    × ((length o.free ≡ c.lengths.free) ⊎ (ones (drop c.lengths.free old.free) ≡ 0)))
+    ⊎ ((m ≡ reach) × (m ≤ length o.records) × (m ≤ c.lengths.records) × ((length o.free ≢ c.lengths.free) ⊎ (length o.records ≢ c.lengths.records)))
 
 -- the frame by which a state with this output differs from an old copy, whose run gave these
 pub record IsFrameFrom (t : TableauState) (o old : RunOutput) (base reach : ℕ) (c : Checkpoint) (w : WalkState) : Type 0 where
   pub size : length w.letters ≡ t.qubits
   pub turned : IsTurned t.qubits w.letters (stabilises c.tableau) (stabilises t)
   pub compared : ℕ
-  pub are_compared : AreCompared o old base reach c compared
+  pub are_compared : AreCompared o base reach c compared
   pub flips : w.flips
       ≡ record nothing { records = flipped (drop (c.lengths.records - compared) (take c.lengths.records old.records)) (drop (length o.records - compared) o.records) }
   pub coin : w.coin ≡ c.lengths.free
@@ -130,6 +126,7 @@ pub record IsContinued (front others : StringsState) (from end : ℕ) (new : Str
 pub record WentOver (n : ℕ) (p : Plan) (c d : Checkpoint) (o : RunOutput) (s : StringsState) (old new : Replay) (w v : WalkState) (stop : Stop) : Type 0 where
   pub steps : ℕ
   pub order : c.step ≤ d.step
+  pub coins : (length old.outputs.free.items ≡ c.lengths.free) ⊎ (ones (drop c.lengths.free (take d.lengths.free o.free)) ≡ 0)
   pub near : d.step - c.step ≤ p.stride
   pub few : steps ≤ length (take (d.step - c.step) old.cursor.left)
   pub walked : WalksOver n (note_at s.strings o.free) (take steps old.cursor.left) w v

@@ -1,7 +1,8 @@
-ghost use Rattle.std.specs.Prelude.{◌≡◌, ◌≢◌, ◌+◌, ◌-◌, ◌^◌, ◌<◌, ◌≤◌, All, length, take, drop, OnOk, OnErr, IfOk, IfErr, IfSome};
+ghost use Rattle.std.specs.Prelude.{◌≡◌, ◌≢◌, ◌⊎◌, true, ◌+◌, ◌-◌, ◌^◌, ◌<◌, ◌≤◌, All, length, take, drop, OnOk, OnErr, IfOk, IfErr, IfSome};
 ghost use Rattle.stab_io.specs.declared.refusal.Refusal.TheVariants.{OutOfMemory};
 ghost use Rattle.stab_tableau.specs.Tableaus.{stabilises};
 ghost use Rattle.stab_tableau.specs.Turns.{IsTurned};
+ghost use Rattle.stab_run.specs.Records.{ones};
 ghost use Rattle.stab_run.specs.Points.{joined};
 ghost use Rattle.stab_run.specs.ProgramStates.{StepFits, output_of};
 ghost use Rattle.stab_frames.specs.Flips.{flipped_output};
@@ -12,7 +13,7 @@ ghost use Rattle.stab_replay.specs.FramedReplays.{between as between_lengths, fl
 
 use crate::bits::{append_flipped, append_flipped_additions, between, count_ones};
 use crate::replay::{Plan, Replay};
-use stab_copies::{Checkpoint, may_have_coin, shifted};
+use stab_copies::{Checkpoint, has_one, shifted};
 use stab_frames::{FrameWalk, KeptStrings, Stop, walk_steps};
 use stab_io::Refusal;
 use stab_pauli::Letter;
@@ -113,28 +114,28 @@ fn append_strings(
 
 /// How many of the newest records are compared where a frame begins that leads a run, which gave so much, from an old copy on; none
 /// where it can't begin. So many records are those of the old run, whose steps look back no further than the reach.
-fn records_compared(
-    outputs: &Outputs,
-    old: &Outputs,
-    copy: &Checkpoint,
-    base: usize,
-    reach: u32,
-) -> Option<usize>
+fn records_compared(outputs: &Outputs, copy: &Checkpoint, base: usize, reach: u32) -> Option<usize>
     requires within { base ≤ length outputs.now.records.items }
-    ensures compared { IfSome result (AreCompared (output_of outputs.now) (output_of old.now) base reach copy.now) }
+    ensures compared { IfSome result (AreCompared (output_of outputs.now) base reach copy.now) }
 {
     let records = outputs.records.len();
-    let coin = outputs.free.len();
-    if coin == copy.lengths.free && records == copy.lengths.records {
+    if outputs.free.len() == copy.lengths.free && records == copy.lengths.records {
         return Some(records - base);
     }
     let newest = reach as usize;
-    let all_there = newest <= records && newest <= copy.lengths.records;
-    if all_there && may_have_coin(copy, old.free.as_slice(), coin) {
+    if newest <= records && newest <= copy.lengths.records {
         Some(newest)
     } else {
         None
     }
+}
+
+/// Whether the coins of the old run, in so many numbers of which none decided, serve another one that comes to a copy with this number
+/// of the next coin.
+fn coins_serve(coin: usize, from: &Checkpoint, flags: &[bool]) -> bool
+    ensures value { result ≡ true → (coin ≡ from.now.lengths.free) ⊎ (ones flags.now ≡ 0) }
+{
+    coin == from.lengths.free || !has_one(flags)
 }
 
 /// The last of the first so many elements, so many.
@@ -167,7 +168,7 @@ impl<'a> Replay<'a> {
         ensures walk { IfOk result (λ found. IfSome found (IsFrameFrom self.old.tableau (output_of self.old.outputs) (output_of old.now) base reach copy.now)) }
         ensures err { IfErr result (λ r. r ≡ OutOfMemory) }
     {
-        let compared = match records_compared(&self.outputs, old, copy, base, reach) {
+        let compared = match records_compared(&self.outputs, copy, base, reach) {
             Some(compared) => compared,
             None => return Ok(None),
         };
@@ -189,8 +190,9 @@ impl<'a> Replay<'a> {
         Ok(Some(walk))
     }
 
-    /// Goes on to the place of the next old copy by a frame, and appends what the steps between give.
-    /// `NoString` where it can't, since a string is missing or the copy is too far.
+    /// Goes on to the place of the next old copy by a frame, and appends what the steps between give. The frame ends where it is
+    /// gone, if it may. `NoString` where it can't go there, since a string is missing, the copy is too far, or coins decide that have
+    /// other numbers in the old run.
     ///
     /// Refusal `OutOfMemory` alone.
     pub(crate) fn frame_to(
@@ -201,6 +203,7 @@ impl<'a> Replay<'a> {
         from: &Checkpoint,
         to: &Checkpoint,
         walk: &mut FrameWalk,
+        may_end: bool,
     ) -> Result<Stop, Refusal>
         requires same_length { strings.now.qubits ≡ length walk.old.letters }
         requires same_strings { self.old.notes.strings.qubits ≡ strings.now.qubits }
@@ -227,6 +230,10 @@ impl<'a> Replay<'a> {
         if to.step < from.step || steps > plan.stride {
             return Ok(Stop::NoString);
         }
+        let free = between(old.free.as_slice(), from.lengths.free, to.lengths.free);
+        if !coins_serve(self.outputs.free.len(), from, free) {
+            return Ok(Stop::NoString);
+        }
         let before = lengths_walked(walk);
         let number = walk.number();
         let walked = walk_steps(
@@ -236,6 +243,7 @@ impl<'a> Replay<'a> {
             &mut self.cursor,
             steps,
             plan.reach,
+            may_end,
         )?;
         if walked.stop == Stop::NoString {
             return Ok(Stop::NoString);
@@ -248,7 +256,6 @@ impl<'a> Replay<'a> {
             walk,
             before,
         )?;
-        let free = between(old.free.as_slice(), from.lengths.free, to.lengths.free);
         append_strings(
             &mut self.notes.strings,
             strings,

@@ -1,17 +1,18 @@
-ghost use Rattle.std.specs.Prelude.{◌≡◌, ℕ, ◌-◌, ◌<◌, ◌≤◌, min, Bool, true, None, All, length, take, drop, OnOk, OnErr, IfOk, IfErr, IfSome};
+ghost use Rattle.std.specs.Prelude.{◌≡◌, ◌≢◌, ◌⊎◌, ℕ, ◌-◌, ◌<◌, ◌≤◌, min, Bool, true, false, None, All, length, take, drop, OnOk, OnErr, IfOk, IfErr, IfSome};
 ghost use Rattle.stab_io.specs.declared.refusal.Refusal.TheVariants.{OutOfMemory};
 ghost use Rattle.stab_circuit.specs.Steps.{most_steps, unroll, check_of};
 ghost use Rattle.stab_circuit.specs.Views.{circuit_items};
 ghost use Rattle.stab_run.specs.ProgramStates.{StepFits, output_of};
 ghost use Rattle.stab_run.specs.Records.{ones};
 ghost use Rattle.stab_frames.specs.KeptStrings.{StringsState};
+ghost use Rattle.stab_frames.specs.declared.steps.Stop.TheVariants.{Gone};
 ghost use Rattle.stab_replay.specs.Replays.{IsAtStep, Ascending, IsOnWay, IsPlacedAt};
 ghost use Rattle.stab_replay.specs.inner.LedReplays.{IsBeside, IsLed, IsPassed, LedOn, IsLedTo, later_of, with_state, with_cursor};
 
 use crate::framed::turned_copy;
 use crate::replay::{Plan, Replay};
 use stab_circuit::{Circuit, Cursor};
-use stab_copies::{Checkpoint, has_one, shifted};
+use stab_copies::{Checkpoint, has_one, may_have_coin, shifted};
 use stab_frames::{FrameWalk, KeptStrings, Stop};
 use stab_io::Refusal;
 use stab_run::Outputs;
@@ -37,10 +38,26 @@ enum Passage {
     Passed,
 }
 
+/// Whether a frame that leads a run with this number of the next coin from an old copy on may end where it is gone: the old run is
+/// kept from there on, if it can be joined, or both have the same coins.
+fn can_end(joins: bool, coin: usize, from: &Checkpoint) -> bool
+    ensures moved { result ≡ false → coin ≢ from.now.lengths.free }
+{
+    joins || coin == from.lengths.free
+}
+
+/// Whether a frame that stopped so may have ended: it is gone or flipped nothing, if it may end at all.
+fn may_have_ended(stop: Stop, may_end: bool, flips: &[bool]) -> bool
+    ensures gone { stop ≡ Gone → result ≡ true }
+    ensures goes_on { result ≡ false → (may_end ≡ false) ⊎ (1 ≤ ones flips.now) }
+{
+    stop == Stop::Gone || may_end && !has_one(flips)
+}
+
 impl<'a> Replay<'a> {
     /// Goes on by a frame to the place of the old copy with a number, and lays a turned copy there where the runs differ.
     /// Nothing reads the tableau while a frame leads: it lags behind the copies that were laid on the way, and is
-    /// written where the frame may have ended.
+    /// written where the frame may have ended, which it does only where the old run can be joined or has the same coins.
     ///
     /// Refusal `OutOfMemory` alone.
     fn pass_copy(
@@ -52,6 +69,7 @@ impl<'a> Replay<'a> {
         plan: Plan,
         number: usize,
         walk: &mut FrameWalk,
+        joins: bool,
     ) -> Result<Passage, Refusal>
         requires number { 1 ≤ number }
         requires within { number < length copies.now }
@@ -69,12 +87,14 @@ impl<'a> Replay<'a> {
         ensures err { IfErr result (λ r. r ≡ OutOfMemory) }
     {
         let to = &copies[number];
-        let stop = self.frame_to(old, strings, plan, &copies[number - 1], to, walk)?;
+        let from = &copies[number - 1];
+        let may_end = can_end(joins, self.outputs.free.len(), from);
+        let stop = self.frame_to(old, strings, plan, from, to, walk, may_end)?;
         if stop == Stop::NoString {
             return Ok(Passage::Stopped);
         }
         let turned = turned_copy(alloc, &to.tableau, walk.letters())?;
-        if stop == Stop::Gone || !has_one(walk.records()) {
+        if may_have_ended(stop, may_end, walk.records()) {
             turned.write_into(&mut self.tableau);
             return Ok(Passage::Arrived);
         }
@@ -137,8 +157,10 @@ impl<'a> Replay<'a> {
     {
         let mut walk = walk;
         let mut passed = false;
+        let coin = self.outputs.free.len();
+        let joins = may_have_coin(&copies[next - 1], old.free.as_slice(), coin);
         for number in next..copies.len() {
-            match self.pass_copy(alloc, copies, old, strings, plan, number, &mut walk)? {
+            match self.pass_copy(alloc, copies, old, strings, plan, number, &mut walk, joins)? {
                 Passage::Passed => passed = true,
                 Passage::Arrived => return Ok(Led {
                     next: number,

@@ -17,7 +17,7 @@ flags-given n coins (product factors inverted) p = refl
 flags-given n coins (detector ks) p = refl
 flags-given n coins (observable j ks) p = refl
 
-flags-counted : (n : ℕ) (coins : ℕ → Bool) (xs : List Step) (p : Point) → (point_after n coins xs p).coin ≡ p.coin + length (outputs n coins xs p).free
+pub flags-counted : (n : ℕ) (coins : ℕ → Bool) (xs : List Step) (p : Point) → (point_after n coins xs p).coin ≡ p.coin + length (outputs n coins xs p).free
 flags-counted n coins [] p = omega arith
 flags-counted n coins (x ∷ xs) p =
     let next = next_point n coins x p in

@@ -52,7 +52,7 @@ pub fn lead_frame(
 {
     let mut at = from;
     for copy in copies {
-        let walked = walk_steps(walk, strings, free, cursor, copy.step - at, reach)?;
+        let walked = walk_steps(walk, strings, free, cursor, copy.step - at, reach, true)?;
         match walked.stop {
             Stop::NoString => return Ok(false),
             Stop::Gone => return Ok(true),
@@ -64,7 +64,7 @@ pub fn lead_frame(
         turned.push(turned_copy(alloc, &copy.tableau, walk.letters())?)?;
         at = copy.step;
     }
-    let walked = walk_steps(walk, strings, free, cursor, MOST_TOGETHER, reach)?;
+    let walked = walk_steps(walk, strings, free, cursor, MOST_TOGETHER, reach, true)?;
     Ok(walked.stop != Stop::NoString)
 }
 

@@ -25,7 +25,7 @@ pub record IsAtCopy (n : ℕ) (coins : ℕ → Bool) (p : Plan) (xs ys : List St
   pub behind : p.old_end ≤ c.step
   pub place : step_among_new p c ≡ r.step
   pub base : ℕ
-  pub framed : IsFramedAt n coins xs ys c.step r.step free base w
+  pub framed : IsFramedAt n coins xs ys c.step r.step free base p.reach w
 
 -- so it may be led from there, from the old copy with this number
 pub record IsLed (n : ℕ) (coins : ℕ → Bool) (p : Plan) (ys : List Step) (copies : List Checkpoint) (o : RunOutput) (s : StringsState) (number : ℕ) (r : Replay) (w : WalkState) : Type 0 where

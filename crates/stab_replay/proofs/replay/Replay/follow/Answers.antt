@@ -1,4 +1,4 @@
-use Rattle.std.proofs.Common.{◌≡◌, ◌+◌, ◌-◌, ◌*◌, ◌≤◌, min, [], ◌∷◌, ◌++◌, Bool, List, slice_get, sym, ◌∙◌, ap, subst, length, length-append, drop, arith}
+use Rattle.std.proofs.Common.{◌≡◌, ◌+◌, ◌-◌, ◌*◌, ◌≤◌, min, [], ◌∷◌, ◌++◌, slice_get, sym, ◌∙◌, ap, subst, length, length-append, drop, arith}
 use Rattle.stab_replay.specs.declared.replay.Replay.{Replay}
 use Rattle.stab_replay.specs.declared.replay.End.TheVariants.{Last, Joined}
 use Rattle.stab_replay.specs.declared.replay.Arrival.{Arrival}

@@ -1,4 +1,4 @@
-use Rattle.std.proofs.Common.{◌≢◌, ◌-◌, ◌≤◌, ◌++◌, refl, sym, ◌∙◌, ap, subst, [], ◌∷◌, length, arith, rules}
+use Rattle.std.proofs.Common.{◌≢◌, inl, inr, ◌-◌, ◌≤◌, ◌++◌, refl, sym, ◌∙◌, ap, subst, [], ◌∷◌, length, arith, rules}
 use Rattle.std.proofs.lemmas.Option.{slice_get_read}
 use Rattle.stab_tableau.specs.Tableaus.{TableauState}
 use Rattle.stab_frames.specs.declared.steps.Stop.TheVariants.{NoString}
@@ -32,8 +32,8 @@ write_into-requires c = record {
       (qubits-there c.args.number c.index-copies-number.result from to c.requires.few c.args.self.now c.requires.led.1 c.requires.led.2 (c.in_ok-stop.ensures.went told) told c.in_ok-turned.turned c.letters.ensures.value c.in_ok-turned.ensures.qubits c.in_ok-turned.ensures.turned c.in_ok-turned.turned refl);
 }
 
-pub returns-then-eq-2-clause-further : goal.returns-then-eq-2-clause-further
-returns-then-eq-2-clause-further c =
+pub returns-then-may_have_ended-clause-further : goal.returns-then-may_have_ended-clause-further
+returns-then-may_have_ended-clause-further c =
     let from = slice_get_read c.args.copies.now (length c.args.copies.now) (c.args.number - 1) c.index-copies-number-2.result refl (omega (arith, c.requires.within)) c.index-copies-number-2.is in
     let to = slice_get_read c.args.copies.now (length c.args.copies.now) c.args.number c.index-copies-number.result refl c.requires.within c.index-copies-number.is in
     let told : c.in_ok-stop.stop ≢ NoString = search rules in
@@ -53,15 +53,15 @@ returns-clause-further c =
     let told : c.in_ok-stop.stop ≢ NoString = search rules in
     omega (arith, (step-there c.args.number c.index-copies-number.result from to c.requires.few c.args.self.now c.requires.led.1 c.requires.led.2 (c.in_ok-stop.ensures.went told) told))
 
-pub returns-then-eq-2-clause-qubits : goal.returns-then-eq-2-clause-qubits
-returns-then-eq-2-clause-qubits c =
+pub returns-then-may_have_ended-clause-qubits : goal.returns-then-may_have_ended-clause-qubits
+returns-then-may_have_ended-clause-qubits c =
     let from = slice_get_read c.args.copies.now (length c.args.copies.now) (c.args.number - 1) c.index-copies-number-2.result refl (omega (arith, c.requires.within)) c.index-copies-number-2.is in
     let to = slice_get_read c.args.copies.now (length c.args.copies.now) c.args.number c.index-copies-number.result refl c.requires.within c.index-copies-number.is in
     let told : c.in_ok-stop.stop ≢ NoString = search rules in
     qubits-there c.args.number c.index-copies-number.result from to c.requires.few c.args.self.now c.requires.led.1 c.requires.led.2 (c.in_ok-stop.ensures.went told) told c.in_ok-turned.turned c.letters.ensures.value c.in_ok-turned.ensures.qubits c.in_ok-turned.ensures.turned c.write_into.new.tableau c.write_into.ensures.value
 
-pub returns-then-eq-2-clause-on : goal.returns-then-eq-2-clause-on
-returns-then-eq-2-clause-on c =
+pub returns-then-may_have_ended-clause-on : goal.returns-then-may_have_ended-clause-on
+returns-then-may_have_ended-clause-on c =
     let from = slice_get_read c.args.copies.now (length c.args.copies.now) (c.args.number - 1) c.index-copies-number-2.result refl (omega (arith, c.requires.within)) c.index-copies-number-2.is in
     let to = slice_get_read c.args.copies.now (length c.args.copies.now) c.args.number c.index-copies-number.result refl c.requires.within c.index-copies-number.is in
     let told : c.in_ok-stop.stop ≢ NoString = search rules in
@@ -85,8 +85,8 @@ returns-clause-on c =
     c.requires.within c.requires.ascending went.step (c.index-copies-number.result.step - c.index-copies-number-2.result.step) step went.framed c.frame_to.ensures.applied
     (free-there c.args.number c.index-copies-number.result from to c.requires.few c.args.self.now c.requires.led.1 c.requires.led.2 went told) c.frame_to.ensures.reach pushed (c.in_ok-push.ensures.items ∙ ap (λ more. more ++ pushed ∷ []) c.frame_to.ensures.laid)
 
-pub returns-then-eq-2-clause-passed : goal.returns-then-eq-2-clause-passed
-returns-then-eq-2-clause-passed c = λ coins passed led.
+pub returns-then-may_have_ended-clause-passed : goal.returns-then-may_have_ended-clause-passed
+returns-then-may_have_ended-clause-passed c = λ coins passed led.
     let from = slice_get_read c.args.copies.now (length c.args.copies.now) (c.args.number - 1) c.index-copies-number-2.result refl (omega (arith, c.requires.within)) c.index-copies-number-2.is in
     let to = slice_get_read c.args.copies.now (length c.args.copies.now) c.args.number c.index-copies-number.result refl c.requires.within c.index-copies-number.is in
     let told : c.in_ok-stop.stop ≢ NoString = search rules in
@@ -107,4 +107,7 @@ returns-clause-passed c = λ coins passed led.
     (c.in_ok-push.ensures.items
     ∙ (λ i. c.frame_to.ensures.laid i ++ record { step = c.frame_to.new.self.step; lengths = c.lengths.ensures.value i; tableau = c.in_ok-turned.turned } ∷ []))
     c.frame_to.ensures.all (c.in_ok-stop.ensures.left behind) behind c.in_ok-stop.ensures.placed
-    (subst (λ bits. 1 ≤ ones bits) c.records.ensures.value (c.has_one.ensures.one (search rules)))
+    (elim (c.may_have_ended.ensures.goes_on (grind (arith, c.if-may_have_ended.false))) [
+      | inl never ↦ inl (λ e. c.can_end-may_end.ensures.moved never (grind (arith, e, c.len.ensures)))
+      | inr some ↦ inr (subst (λ bits. 1 ≤ ones bits) c.records.ensures.value some)
+    ])
