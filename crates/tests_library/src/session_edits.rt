@@ -219,7 +219,12 @@ const COSTS: &[(&str, Item, [(usize, usize); 3], (u64, u64))] = &[
     (DIES_FAR, (None, 0, "M 0"), [(42, 42), (0, 0), ANY], (0, 0)),
     (ONE_COIN, (None, 0, "M 0"), [(10, 10), (0, 0), ANY], (1, 1)),
     (ONES, (None, 1, "R 0"), [(14, 14), (27, 27), ANY], (0, 0)),
-    (FREE, (None, 0, "M 0"), [(2001, 2001), (0, 0), ANY], (2000, 2001)),
+    (
+        FREE,
+        (None, 0, "M 0"),
+        [(2001, 2001), (0, 0), ANY],
+        (2000, 2001),
+    ),
 ];
 
 fn is_within(number: usize, (least, most): (usize, usize)) -> bool {
