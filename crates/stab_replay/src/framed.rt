@@ -132,10 +132,17 @@ fn records_compared(outputs: &Outputs, copy: &Checkpoint, base: usize, reach: u3
 
 /// Whether the coins of the old run, in so many numbers of which none decided, serve another one that comes to a copy with this number
 /// of the next coin.
-fn coins_serve(coin: usize, from: &Checkpoint, flags: &[bool]) -> bool
+pub(crate) fn coins_serve(coin: usize, from: &Checkpoint, flags: &[bool]) -> bool
     ensures value { result ≡ true → (coin ≡ from.now.lengths.free) ⊎ (ones flags.now ≡ 0) }
 {
     coin == from.lengths.free || !has_one(flags)
+}
+
+/// The flags of a run between two copies.
+pub(crate) fn flags_between<'a>(old: &'a Outputs, from: &Checkpoint, to: &Checkpoint) -> &'a [bool]
+    ensures value { result.now ≡ drop from.now.lengths.free (take to.now.lengths.free old.now.free.items) }
+{
+    between(old.free.as_slice(), from.lengths.free, to.lengths.free)
 }
 
 /// The last of the first so many elements, so many.
@@ -230,7 +237,7 @@ impl<'a> Replay<'a> {
         if to.step < from.step || steps > plan.stride {
             return Ok(Stop::NoString);
         }
-        let free = between(old.free.as_slice(), from.lengths.free, to.lengths.free);
+        let free = flags_between(old, from, to);
         if !coins_serve(self.outputs.free.len(), from, free) {
             return Ok(Stop::NoString);
         }

@@ -9,7 +9,7 @@ ghost use Rattle.stab_frames.specs.declared.steps.Stop.TheVariants.{Gone};
 ghost use Rattle.stab_replay.specs.Replays.{IsAtStep, Ascending, IsOnWay, IsPlacedAt};
 ghost use Rattle.stab_replay.specs.inner.LedReplays.{IsBeside, IsLed, IsPassed, LedOn, IsLedTo, later_of, with_state, with_cursor};
 
-use crate::framed::turned_copy;
+use crate::framed::{coins_serve, flags_between, turned_copy};
 use crate::replay::{Plan, Replay};
 use stab_circuit::{Circuit, Cursor};
 use stab_copies::{Checkpoint, has_one, may_have_coin, shifted};
@@ -210,6 +210,11 @@ impl<'a> Replay<'a> {
         }
         let copy = &copies[next - 1];
         if copy.step < plan.old_end || shifted(plan.old_end, plan.new_end, copy.step) != self.step {
+            return Ok(None);
+        }
+        // Where it would stop at once, no frame is looked for.
+        let flags = flags_between(old, copy, &copies[next]);
+        if !coins_serve(self.outputs.free.len(), copy, flags) {
             return Ok(None);
         }
         let found = self.frame_from(alloc, copy, old, plan.base, plan.reach)?;
