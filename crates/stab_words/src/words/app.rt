@@ -12,8 +12,8 @@ use std::alloc::{AllocError, Global};
 /// The names of the result formats.
 pub(crate) static FORMATS: [&str; 5] = ["01", "b8", "r8", "hits", "dets"];
 
-// The version of the program, and by which kit and logic it was proved.
-const VERSION: &str = "0.2.0\nproved with rattle-kit-13f logic dac8208d650f15bf";
+// The version of the program, and the logic in which it was proved.
+const VERSION: &str = "0.2.0\nproved in the logic dac8208d650f15bf of Rattle";
 
 const ABOUT: &str = "Simulates Clifford circuits by the stabiliser rules";
 
