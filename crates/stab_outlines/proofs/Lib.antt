@@ -1,0 +1,5 @@
+mod PlaceLemmas
+mod PartLemmas
+mod DetectorPlaceLemmas
+mod SameLemmas
+mod OutlineLemmas
