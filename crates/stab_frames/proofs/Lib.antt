@@ -33,3 +33,9 @@ pub mod GoesOverLemmas
 pub mod GoneLemmas
 pub mod TouchLemmas
 pub mod StillWalkLemmas
+pub mod FlippedLemmas
+pub mod DetectorListLemmas
+pub mod TargetListLemmas
+pub mod PassedLemmas
+pub mod OutlineLemmas
+pub mod KeyLemmas

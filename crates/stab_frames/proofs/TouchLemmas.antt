@@ -32,7 +32,7 @@ pairs-fit n axis pairs fits = λ i d lt. pair-fits n axis (get_or pairs i d) (fi
 
 -- a pair where the frame has no letter, and such pairs
 
-no-letter : (l : Letter) → acts l ≡ false → I ≡ l
+pub no-letter : (l : Letter) → acts l ≡ false → I ≡ l
 no-letter I e = refl
 no-letter X e = cc
 no-letter Y e = cc
@@ -50,7 +50,7 @@ second-blank gate.Cy = refl
 second-blank gate.Cz = refl
 second-blank gate.Swap = refl
 
-set-same : (letters : List Letter) (q : ℕ) → I ≡ get_or letters q I → set letters q I ≡ letters
+pub set-same : (letters : List Letter) (q : ℕ) → I ≡ get_or letters q I → set letters q I ≡ letters
 set-same letters q e = ap (set letters q) e ∙ set-get_or letters q I
 
 image-blank : (g : PairGate) (letters : List Letter) (a b : ℕ) → I ≡ get_or letters a I → I ≡ get_or letters b I

@@ -21,9 +21,14 @@
 //! - `strings`: strings that exchange the free outcomes of a run, within a bound of memory.
 //! - `noting`: a run that keeps them on its way, and how far back its steps look.
 //! - `letters`: what gates make of the letters of a frame.
+//! - `keys`: a few qubits, among which are those at which a frame has letters.
 //! - `walk`: a frame on its way, with what it has flipped.
 //! - `pass`, `pass_steps`: one step on its way, and those of one instruction.
+//! - `flipped`: how far back the records are that it flipped.
+//! - `pass_targets`: the targets or detectors of a list that tells which of them name some numbers.
+//! - `pass_lists`: those of a list that tells where its qubits are named.
 //! - `steps`: steps, until all are behind, the frame is gone, or a string is missing.
+//! - `outlines`: the same with steps that stand in an outline.
 //!
 //! In `specs/`, `Frames`, `Notes` and `FrameSteps` say what a frame is and what a step makes of it, `Flips`
 //! and `StepNotes` what it flips and which notes it needs; `KeptStrings`, `Lookbacks`, `Walks` and `Stops` say
@@ -41,11 +46,16 @@
 #![tactic(auto)]
 
 pub mod end_laws;
+mod flipped;
+mod keys;
 mod letters;
 pub mod note_laws;
 mod noting;
+mod outlines;
 mod pass;
+mod pass_lists;
 mod pass_steps;
+mod pass_targets;
 pub mod run_laws;
 pub mod start_laws;
 pub mod step_laws;
@@ -55,6 +65,7 @@ pub mod tableau_laws;
 mod walk;
 
 pub use noting::{RunNotes, run_noting};
+pub use outlines::walk_outline;
 pub use steps::{Stop, Walked, walk_steps};
 pub use strings::KeptStrings;
 pub use walk::FrameWalk;

@@ -66,7 +66,7 @@ pub fn pass_steps(
 }
 
 /// Leads a frame over a gate on each of some qubits.
-fn pass_gates(walk: &mut FrameWalk, gate: Gate, qubits: &[Qubit])
+pub fn pass_gates(walk: &mut FrameWalk, gate: Gate, qubits: &[Qubit])
     requires fits { All (StepFits (length walk.old.letters)) (map (one gate) qubits.now) }
     ensures length { length walk.new.letters ≡ length walk.old.letters }
     ensures goes { GoesFreely (length walk.old.letters) (map (one gate) qubits.now) walk.old walk.new }
@@ -77,7 +77,7 @@ fn pass_gates(walk: &mut FrameWalk, gate: Gate, qubits: &[Qubit])
 }
 
 /// Leads a frame over a pair of a controlled gate.
-fn pass_controlled_pair(walk: &mut FrameWalk, axis: Axis, pair: ControlledPair)
+pub fn pass_controlled_pair(walk: &mut FrameWalk, axis: Axis, pair: ControlledPair)
     requires fits { StepFits (length walk.old.letters) (controlled_step axis pair) }
     ensures length { length walk.new.letters ≡ length walk.old.letters }
     ensures goes { GoesFreely (length walk.old.letters) (controlled_step axis pair ∷ []) walk.old walk.new }
@@ -144,7 +144,7 @@ fn pass_few_pairs(walk: &mut FrameWalk, axis: Axis, pairs: &[ControlledPair])
 }
 
 /// Leads a frame over pairs of a controlled gate.
-fn pass_pairs(walk: &mut FrameWalk, axis: Axis, pairs: &[ControlledPair])
+pub fn pass_pairs(walk: &mut FrameWalk, axis: Axis, pairs: &[ControlledPair])
     requires fits { All (StepFits (length walk.old.letters)) (map (controlled_step axis) pairs.now) }
     ensures length { length walk.new.letters ≡ length walk.old.letters }
     ensures goes { GoesFreely (length walk.old.letters) (map (controlled_step axis) pairs.now) walk.old walk.new }
@@ -170,7 +170,7 @@ fn anticommutes_some(letters: &[Letter], letter: Letter, targets: &[MeasureTarge
 }
 
 /// Leads a frame over measurements of targets, one after another, and tells over how many it did.
-fn pass_each_measurement(
+pub fn pass_each_measurement(
     walk: &mut FrameWalk,
     strings: &KeptStrings,
     free: &[bool],
@@ -222,7 +222,7 @@ fn pass_few_measurements(
 }
 
 /// Leads a frame over a measurement of each of some targets, and tells over how many it did.
-fn pass_measurements(
+pub fn pass_measurements(
     walk: &mut FrameWalk,
     strings: &KeptStrings,
     free: &[bool],

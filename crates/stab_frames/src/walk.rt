@@ -1,6 +1,7 @@
 ghost use Rattle.std.specs.Prelude.{◌≡◌, ◌≤◌, take, drop};
 ghost use Rattle.stab_run.specs.Records.{ones};
 
+use crate::keys::Keys;
 use crate::letters::weight_of;
 use stab_pauli::{Letter, Pauli};
 use stab_run::Addition;
@@ -16,6 +17,9 @@ pub struct FrameWalk {
     letters: Vec<Letter>,
     // How many letters are not I.
     weight: usize,
+    // Qubits, among which are all of these, if that is covered.
+    keys: Keys,
+    covered: bool,
     records: Vec<bool>,
     detectors: Vec<bool>,
     additions: Vec<Addition>,
@@ -28,10 +32,11 @@ pub struct FrameWalk {
 }
 
 impl Model for FrameWalk {
-    ghost use Rattle.std.specs.Prelude.{◌≡◌, ℕ, ◌+◌, ◌≤◌, false, replicate};
+    ghost use Rattle.std.specs.Prelude.{◌≡◌, ℕ, ◌+◌, ◌≤◌, true, false, replicate};
     ghost use Rattle.stab_run.specs.Records.{looked_up};
     ghost use Rattle.stab_frames.specs.Walks.{WalkState};
     ghost use Rattle.stab_frames.specs.inner.Weights.{string_weight};
+    ghost use Rattle.stab_frames.specs.inner.Touches.{Covers};
 
     ghost Value = { WalkState };
 
@@ -42,17 +47,18 @@ impl Model for FrameWalk {
       number = w.number;
     } };
 
-    ghost invariant = { λ w. (w.weight ≡ string_weight w.letters.items) × ((k : ℕ) → k ≤ w.still → looked_up w.records.items k ≡ false) × (w.passed ≤ w.coin) × (w.number ≤ w.coin) };
+    ghost invariant = { λ w. (w.weight ≡ string_weight w.letters.items) × ((k : ℕ) → k ≤ w.still → looked_up w.records.items k ≡ false) × (w.passed ≤ w.coin) × (w.number ≤ w.coin) × (w.covered ≡ true → Covers w.keys w.letters.items) };
 }
 
 impl FrameWalk {
-    ghost use Rattle.std.specs.Prelude.{◌≡◌, ℕ, ◌+◌, ◌^◌, ◌≤◌, ◌<◌, ◌∷◌, [], ◌++◌, true, length, replicate, take, drop, slice_index_or, slice_set, OnOk, IfOk};
+    ghost use Rattle.std.specs.Prelude.{◌≡◌, ℕ, ◌+◌, ◌^◌, ◌≤◌, ◌<◌, ◌∷◌, [], ◌++◌, true, length, replicate, take, drop, slice_index_or, slice_set, OnOk, IfOk, IfSome};
     ghost use Rattle.stab_letters.specs.declared.letter.Letter.TheVariants.{I};
     ghost use Rattle.stab_pauli.specs.Paulis.{single, string_product};
     ghost use Rattle.stab_run.specs.Records.{ones};
     ghost use Rattle.stab_run.specs.Points.{nothing, joined};
     ghost use Rattle.stab_frames.specs.Walks.{frame_at, IsGone};
-    ghost use Rattle.stab_frames.specs.inner.Passes.{one_coin, none_flipped};
+    ghost use Rattle.stab_frames.specs.inner.Passes.{one_coin, none_flipped, no_detectors};
+    ghost use Rattle.stab_frames.specs.inner.Touches.{Covers};
     ghost use Rattle.stab_frames.specs.Flips.{flipped};
 
     /// The identity on n qubits, which has flipped nothing, before the coin with this number of a
@@ -65,6 +71,8 @@ impl FrameWalk {
         Ok(FrameWalk {
             letters: vec![in alloc; Letter::I; n]?,
             weight: 0,
+            keys: Keys::new(),
+            covered: true,
             records: Vec::new(alloc),
             detectors: Vec::new(alloc),
             additions: Vec::new(alloc),
@@ -166,6 +174,17 @@ impl FrameWalk {
         self.weight == 0 && reach <= self.still
     }
 
+    /// Qubits, among which are all at which it has another letter than I; `None` where these are more than a few.
+    pub(crate) fn keys(&self) -> Option<&[u16]>
+        ensures covers { IfSome result (λ keys. Covers keys.now self.now.letters) }
+    {
+        if self.covered {
+            Some(self.keys.as_slice())
+        } else {
+            None
+        }
+    }
+
     /// Puts a letter at a qubit.
     pub(crate) fn set(&mut self, qubit: usize, letter: Letter)
         requires in_range { qubit < length self.old.letters }
@@ -175,6 +194,8 @@ impl FrameWalk {
         let old = self.letters[qubit];
         self.letters[qubit] = letter;
         self.weight = self.weight - weight_of(old) + weight_of(letter);
+        let letters = self.letters.as_slice();
+        self.covered = self.keys.follow(self.covered, letters, qubit, old);
     }
 
     /// Flips the next record, or not.
@@ -197,6 +218,16 @@ impl FrameWalk {
         ensures letters { self.new.letters ≡ self.old.letters }
     {
         self.detectors.push(flip)?;
+        Ok(())
+    }
+
+    /// Flips none of the next so many detectors.
+    pub(crate) fn flip_no_detectors(&mut self, count: usize) -> Result<(), AllocError>
+        ensures value { OnOk result (self.new ≡ record self.old { flips = joined self.old.flips (no_detectors count) }) }
+        ensures letters { self.new.letters ≡ self.old.letters }
+    {
+        self.detectors
+            .resize(self.detectors.len().saturating_add(count), false)?;
         Ok(())
     }
 

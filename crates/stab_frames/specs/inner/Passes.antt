@@ -45,6 +45,10 @@ one_coin = record nothing { free = false ∷ [] }
 abbrev pub none_flipped : ℕ → RunOutput
 none_flipped k = record nothing { records = replicate k false; free = replicate k false }
 
+-- what is flipped by detectors that are not
+abbrev pub no_detectors : ℕ → RunOutput
+no_detectors k = record nothing { detectors = replicate k false }
+
 -- over the outcome of something with which the frame anticommutes or not, which is flipped or not
 pub record IsPassed (strings : ℕ → Option (List Letter)) (apart flip : Bool) (old new : WalkState) : Type 0 where
   pub outcome : flip ≡ flip_by (strings old.coin) apart

@@ -1,6 +1,8 @@
-use Rattle.std.proofs.Common.{arith}
+use Rattle.std.proofs.Common.{◌≡◌, ◌<◌, true, sym, subst, length, set, arith}
+use Rattle.stab_frames.specs.inner.Touches.{acts, Covers, CoversBut}
 use Rattle.stab_frames.proofs.WeightLemmas.{weight-set, weight-letter, weight-length, letter-light}
 use Rattle.stab_frames.proofs.WalkLemmas.{read-letter}
+use Rattle.stab_frames.proofs.KeyLemmas.{covers-set}
 use Rattle.stab_frames.proofs.walk.FrameWalk.set.Goals as goal
 
 pub overflow_sub-self : goal.overflow_sub-self
@@ -16,4 +18,12 @@ invariant_of-self c = (
   c.self.invariant.1,
   c.self.invariant.2,
   c.self.invariant.3,
+  λ yes.
+      let within : c.args.qubit < length c.self.inside.letters.items = grind arith in
+      let covers = c.self.invariant.4 (c.follow-self-inside.ensures.before yes) in
+      let same : c.as_slice-letters.result.now ≡ set c.self.inside.letters.items c.args.qubit c.args.letter = grind arith in
+      subst (Covers c.follow-self-inside.new.self) same
+      (c.follow-self-inside.ensures.covers yes
+      (λ touched. covers c.args.qubit (subst (λ l. acts l ≡ true) (read-letter c.self.inside.letters.items c.args.qubit c.index-old.result.now within (grind arith)) touched))
+      (subst (CoversBut c.args.qubit c.self.inside.keys) (sym same) (covers-set c.self.inside.keys c.self.inside.letters.items c.args.qubit c.args.letter covers))),
 )
