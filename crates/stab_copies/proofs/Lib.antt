@@ -1,3 +1,4 @@
 pub mod BitLemmas
 pub mod TakeLemmas
 mod CheckpointLemmas
+mod SameStateLemmas

@@ -1,5 +1,7 @@
-ghost use Rattle.std.specs.Prelude.{◌≡◌, ◌⊎◌, ◌-◌, ◌↔◌, IsTrue, IfOk, IfErr, length, take, drop};
+ghost use Rattle.std.specs.Prelude.{◌≡◌, ◌⊎◌, ◌-◌, ◌↔◌, ℕ, ◌<◌, ◌≤◌, true, false, IsTrue, OnOk, IfOk, IfErr, IfSome, length, take, drop};
 ghost use Rattle.stab_io.specs.declared.refusal.Refusal.TheVariants.{OutOfMemory};
+ghost use Rattle.stab_pauli.specs.Paulis.{Signed};
+ghost use Rattle.stab_tableau.specs.Columns.{stabiliser_of};
 ghost use Rattle.stab_tableau.specs.Groups.{SameGroup};
 ghost use Rattle.stab_tableau.specs.Tableaus.{stabilises};
 ghost use Rattle.stab_run.specs.Records.{ones};
@@ -9,6 +11,7 @@ ghost use Rattle.stab_copies.specs.Meets.{Meets};
 use crate::bits::has_one;
 use crate::checkpoint::Checkpoint;
 use stab_io::Refusal;
+use stab_pauli::Pauli;
 use stab_run::Outputs;
 use stab_tableau::{CompactTableau, Tableau};
 use std::alloc::Global;
@@ -17,7 +20,9 @@ use std::alloc::Global;
 /// as this one would. That one gave so much in all, and its steps look back no further than the reach. What is cheap to compare
 /// comes first.
 ///
-/// The copy is expanded into the spare tableau if there is one, and is then the spare itself.
+/// Where rows have other letters the copy is expanded into the spare tableau if there is one, and is then the spare itself; and
+/// the stabiliser of the state with the number that is given is asked first whether it tells the states apart. If they are
+/// apart, the number is then that of the one that tells.
 ///
 /// Refusal `OutOfMemory` alone.
 pub fn meets(
@@ -28,6 +33,7 @@ pub fn meets(
     old: &Outputs,
     reach: u32,
     spare: &mut Option<Tableau>,
+    telling: &mut usize,
 ) -> Result<bool, Refusal>
     requires same_qubits { copy.now.tableau.qubits ≡ tableau.old.qubits }
     ensures unchanged { tableau.new ≡ tableau.old }
@@ -40,11 +46,11 @@ pub fn meets(
     {
         return Ok(false);
     }
-    has_group_of(tableau, alloc, &copy.tableau, spare)
+    has_group_of(tableau, alloc, &copy.tableau, spare, telling)
 }
 
-/// Whether the same strings stabilise a state and a copy, which is expanded into the spare tableau
-/// where it is not a copy of that very state.
+/// Whether the same strings stabilise a state and a copy, which is expanded into the spare tableau where its rows have other
+/// letters. The stabiliser with the number that is given is asked first, and the number becomes that of one that tells.
 ///
 /// Refusal `OutOfMemory` alone.
 fn has_group_of(
@@ -52,6 +58,7 @@ fn has_group_of(
     alloc: Global,
     copy: &CompactTableau,
     spare: &mut Option<Tableau>,
+    telling: &mut usize,
 ) -> Result<bool, Refusal>
     requires same_qubits { copy.now.qubits ≡ tableau.old.qubits }
     ensures unchanged { tableau.new ≡ tableau.old }
@@ -61,10 +68,121 @@ fn has_group_of(
     if copy.is_of(tableau) {
         return Ok(true);
     }
+    if let Some(same) = same_by_signs(tableau, alloc, copy)? {
+        return Ok(same);
+    }
     let mut other = copy.tableau(alloc, spare.take())?;
-    let same = tableau.same_group(&mut other);
+    let same = same_by_stabilisers(tableau, alloc, &mut other, telling)?;
     *spare = Some(other);
     Ok(same)
+}
+
+/// Whether the same strings stabilise a state and a copy, where their rows have the same letters: the states differ by a string,
+/// which changes nothing where one of its signs stabilises them.
+///
+/// Refusal `OutOfMemory` alone.
+fn same_by_signs(
+    tableau: &mut Tableau,
+    alloc: Global,
+    copy: &CompactTableau,
+) -> Result<Option<bool>, Refusal>
+    requires same_qubits { copy.now.qubits ≡ tableau.old.qubits }
+    ensures unchanged { tableau.new ≡ tableau.old }
+    ensures value { IfOk result (λ found. IfSome found (λ same. IsTrue same ↔ SameGroup tableau.old.qubits (stabilises tableau.old) (stabilises copy.now))) }
+    ensures err { IfErr result (λ r. r ≡ OutOfMemory) }
+{
+    let mut frame = Pauli::identity(alloc, tableau.len())?;
+    if !copy.frame_to(tableau, &mut frame) {
+        return Ok(None);
+    }
+    tableau.stabilises_a_group();
+    tableau.stabilisers_generate();
+    match tableau.sign_of(&frame) {
+        Some(_) => Ok(Some(true)),
+        None => Ok(Some(false)),
+    }
+}
+
+/// Whether the same strings stabilise two states: each stabiliser of the one is asked whether it stabilises the other, from that
+/// with the number on that is given, and then those before it. The number becomes that of the first that does not.
+///
+/// Refusal `OutOfMemory` alone.
+fn same_by_stabilisers(
+    tableau: &mut Tableau,
+    alloc: Global,
+    other: &mut Tableau,
+    telling: &mut usize,
+) -> Result<bool, Refusal>
+    requires same_qubits { other.old.qubits ≡ tableau.old.qubits }
+    ensures unchanged { tableau.new ≡ tableau.old }
+    ensures other_unchanged { other.new ≡ other.old }
+    ensures value { IfOk result (λ same. IsTrue same ↔ SameGroup tableau.old.qubits (stabilises tableau.old) (stabilises other.old)) }
+    ensures err { IfErr result (λ r. r ≡ OutOfMemory) }
+{
+    tableau.stabilises_a_group();
+    tableau.stabilisers_generate();
+    other.stabilises_a_group();
+    let end = tableau.len();
+    let start = end.min(*telling);
+    if !are_shared(tableau, alloc, other, start, end, telling)? {
+        return Ok(false);
+    }
+    let same = are_shared(tableau, alloc, other, 0, start, telling)?;
+    Ok(same)
+}
+
+/// Whether the stabilisers of a state from one number to another stabilise another state. If not, the number that is kept
+/// becomes that of the first that does not.
+///
+/// Refusal `OutOfMemory` alone.
+fn are_shared(
+    tableau: &mut Tableau,
+    alloc: Global,
+    other: &mut Tableau,
+    from: usize,
+    end: usize,
+    telling: &mut usize,
+) -> Result<bool, Refusal>
+    requires within { end ≤ tableau.old.qubits }
+    requires same_qubits { other.old.qubits ≡ tableau.old.qubits }
+    ensures unchanged { tableau.new ≡ tableau.old }
+    ensures other_unchanged { other.new ≡ other.old }
+    ensures all { IfOk result (λ shared. shared ≡ true → (k : ℕ) → k < end → from ≤ k → (length (stabiliser_of tableau.old k).letters ≡ tableau.old.qubits) × (stabilises other.old (stabiliser_of tableau.old k) ≡ true)) }
+    ensures not_all { IfOk result (λ shared. shared ≡ false → (p : Signed) × (length p.letters ≡ tableau.old.qubits) × (stabilises tableau.old p ≡ true) × (stabilises other.old p ≡ false)) }
+    ensures err { IfErr result (λ r. r ≡ OutOfMemory) }
+{
+    for k in from..end {
+        if !is_shared(tableau, alloc, other, k)? {
+            *telling = k;
+            return Ok(false);
+        }
+    }
+    Ok(true)
+}
+
+/// Whether a stabiliser of a state stabilises another one.
+///
+/// Refusal `OutOfMemory` alone.
+fn is_shared(
+    tableau: &mut Tableau,
+    alloc: Global,
+    other: &mut Tableau,
+    k: usize,
+) -> Result<bool, Refusal>
+    requires in_range { k < tableau.old.qubits }
+    requires same_qubits { other.old.qubits ≡ tableau.old.qubits }
+    ensures unchanged { tableau.new ≡ tableau.old }
+    ensures other_unchanged { other.new ≡ other.old }
+    ensures size { OnOk result (length (stabiliser_of tableau.old k).letters ≡ tableau.old.qubits) }
+    ensures member { OnOk result (stabilises tableau.old (stabiliser_of tableau.old k) ≡ true) }
+    ensures value { IfOk result (λ shared. shared ≡ stabilises other.old (stabiliser_of tableau.old k)) }
+    ensures err { IfErr result (λ r. r ≡ OutOfMemory) }
+{
+    let stabiliser = tableau.stabiliser(alloc, k)?;
+    match other.sign_of(&stabiliser) {
+        Some(negative) => Ok(!negative),
+        None => Ok(false),
+    }
 }
 
 /// Whether the next coin may have this number where a copy is, in a run with these flags: it has it there, or no coin decides behind.

@@ -145,6 +145,18 @@ pub(crate) fn flags_between<'a>(old: &'a Outputs, from: &Checkpoint, to: &Checkp
     between(old.free.as_slice(), from.lengths.free, to.lengths.free)
 }
 
+/// Whether a frame can go from one copy to another: that one stands no further behind it than a stride, and the coins of the old run
+/// between serve another one that comes to the first with this number of the next coin.
+fn can_go(coin: usize, old: &Outputs, from: &Checkpoint, to: &Checkpoint, stride: usize) -> bool
+    ensures order { result ≡ true → from.now.step ≤ to.now.step }
+    ensures near { result ≡ true → to.now.step - from.now.step ≤ stride }
+    ensures coins { result ≡ true → (coin ≡ from.now.lengths.free) ⊎ (ones (drop from.now.lengths.free (take to.now.lengths.free old.now.free.items)) ≡ 0) }
+{
+    from.step <= to.step
+        && to.step - from.step <= stride
+        && coins_serve(coin, from, flags_between(old, from, to))
+}
+
 /// The last of the first so many elements, so many.
 fn last_of_first(bits: &[bool], first: usize, last: usize) -> &[bool]
     ensures value { result.now ≡ drop (first - last) (take first bits.now) }
@@ -233,14 +245,11 @@ impl<'a> Replay<'a> {
         ensures went { IfOk result (λ stop. stop ≢ NoString → WentOver (length walk.old.letters) plan from.now to.now (output_of old.now) strings.now self.old self.new walk.old walk.new stop) }
         ensures err { IfErr result (λ r. r ≡ OutOfMemory) }
     {
+        if !can_go(self.outputs.free.len(), old, from, to, plan.stride) {
+            return Ok(Stop::NoString);
+        }
         let steps = to.step.saturating_sub(from.step);
-        if to.step < from.step || steps > plan.stride {
-            return Ok(Stop::NoString);
-        }
         let free = flags_between(old, from, to);
-        if !coins_serve(self.outputs.free.len(), from, free) {
-            return Ok(Stop::NoString);
-        }
         let before = lengths_walked(walk);
         let number = walk.number();
         let walked = walk_steps(

@@ -191,6 +191,7 @@ impl<'a> Replay<'a> {
         plan: Plan,
         next: usize,
         spare: &mut Option<Tableau>,
+        telling: &mut usize,
     ) -> Result<Arrival, Refusal>
         requires same_qubits { All (λ c. c.tableau.qubits ≡ self.old.tableau.qubits) copies.now }
         requires next { next ≤ length copies.now }
@@ -208,6 +209,7 @@ impl<'a> Replay<'a> {
                 old,
                 plan.reach,
                 spare,
+                telling,
             )?
         {
             Ok(Arrival::Met)
@@ -314,11 +316,13 @@ impl<'a> Replay<'a> {
         ensures err { IfErr result (λ r. r ≡ OutOfMemory) }
     {
         let mut next = plan.next;
+        // The stabiliser that told the state apart from a copy last, which most likely tells it apart from the next one too.
+        let mut telling = 0;
         // What copies are expanded into, so that memory for it is asked for once at most.
         let mut spare: Option<Tableau> = None;
         loop {
             let reached = self.advance(alloc, circuit, copies, old, strings, plan, next, coins)?;
-            match self.arrive(alloc, copies, old, plan, reached, &mut spare)? {
+            match self.arrive(alloc, copies, old, plan, reached, &mut spare, &mut telling)? {
                 Arrival::Met => return Ok(End::Joined(reached)),
                 Arrival::Behind => return Ok(End::Last),
                 Arrival::Between(later) => next = later,

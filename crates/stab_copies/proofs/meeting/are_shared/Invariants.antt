@@ -1,0 +1,11 @@
+use Rattle.std.proofs.Common.{◌≡◌, ℕ, ◌<◌, ◌≤◌, true, length}
+use Rattle.stab_tableau.specs.Tableaus.{stabilises}
+use Rattle.stab_tableau.specs.Columns.{stabiliser_of}
+use Rattle.stab_copies.proofs.meeting.are_shared.Given as goal
+
+abbrev pub invariant-loop-k : goal.invariant-loop-k
+invariant-loop-k l = record {
+  same : l.tableau ≡ l.fn.tableau;
+  other_same : l.other ≡ l.fn.other;
+  all : (j : ℕ) → j < l.k → l.fn.from ≤ j → (length (stabiliser_of l.fn.tableau j).letters ≡ l.fn.tableau.qubits) × (stabilises l.fn.other (stabiliser_of l.fn.tableau j) ≡ true);
+}
