@@ -40,7 +40,7 @@ use Rattle.stab_kept.specs.KeptRuns.{IsKeptRun, IsSpan, AgreeBehindSpan, AgreeBa
 use Rattle.stab_kept.specs.inner.Prepared.{IsCount}
 use Rattle.stab_kept.specs.inner.Turned.{StaysNear, IsPut, IsFollowed, HasTurned, span_meeting, turned_end}
 use Rattle.stab_kept.proofs.SpacingLemmas.{IsBefore, all-laid-all, spaced-all, all-behind, near-copy, moved-within}
-use Rattle.stab_kept.proofs.FollowLemmas.{at-get, some-at, if-some, from-drop, before-first, front-copies, front-spaced, same-rest}
+use Rattle.stab_kept.proofs.FollowLemmas.{are-moved, at-get, some-at, if-some, from-drop, before-first, front-copies, front-spaced, same-rest}
 use Rattle.stab_kept.proofs.CountLemmas.{match-weaker, applied-within, ends-near, none-before, is-counted}
 use Rattle.stab_kept.proofs.TurnSpacingLemmas.{turned-near}
 
@@ -139,6 +139,7 @@ module _ {n : ℕ} {coins : ℕ → Bool} {K : ℕ} {xs ys : List Step} {s : Spa
         (turned-near K (length xs) (length ys) near.copy.step m s t.from t.turned.items old.checkpoints.items span.old_within rest (omega (arith, few))
         (let w = near.within in let o = span.new_order in omega arith) stays kept.spaced.near)
         (front-spaced n coins K xs count old kept ys s span m near).0 (front-spaced n coins K xs count old kept ys s span m near).1);
+    sections = put.sections xs ys few (are-moved n coins K xs count old kept ys s span) kept.sections;
   }
     where
       put_turned : IsTurned n t.walk.letters (stabilises old.tableau) (stabilises new.tableau)

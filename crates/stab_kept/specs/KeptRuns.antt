@@ -13,8 +13,10 @@ use Rattle.stab_copies.specs.Spacing.{IsSpaced}
 use Rattle.stab_copies.specs.Checkpoints.{IsRunFromStart, IsCheckpoint, checkpoint_steps}
 use Rattle.stab_replay.specs.NotedStrings.{IsNoted}
 use Rattle.stab_turns.specs.PauliSpans.{DifferByPaulis}
+use Rattle.stab_turns.specs.Sections.{IsSection}
 
--- what is kept is the run of these steps, which fit on the qubits, with so many observables, and copies at most K steps apart
+-- what is kept is the run of these steps, which fit on the qubits, with so many observables, copies at most K steps apart, and outlines of
+-- parts of the steps
 pub record IsKeptRun (n : ℕ) (coins : ℕ → Bool) (K : ℕ) (xs : List Step) (count : ℕ) (r : KeptRun) : Type 0 where
   pub qubits : r.tableau.qubits ≡ n
   pub run : IsRunFromStart n coins xs (program_state r.tableau (output_of r.outputs))
@@ -24,6 +26,7 @@ pub record IsKeptRun (n : ℕ) (coins : ℕ → Bool) (K : ℕ) (xs : List Step)
   pub noted : IsNoted n coins xs r.strings r.outputs.free.items r.reach
   pub checkpoints : All (IsCheckpoint n coins xs) r.checkpoints.items
   pub spaced : IsSpaced K (length xs) (checkpoint_steps r.checkpoints.items)
+  pub sections : All (IsSection xs) r.sections.items
 
 -- contracts see the same of both
 pub record IsSameKept (a b : KeptRun) : Type 0 where
@@ -33,6 +36,7 @@ pub record IsSameKept (a b : KeptRun) : Type 0 where
   pub strings : a.strings ≡ b.strings
   pub reach : a.reach ≡ b.reach
   pub checkpoints : a.checkpoints.items ≡ b.checkpoints.items
+  pub sections : a.sections.items ≡ b.sections.items
 
 -- two lists of steps are the same before one step, and behind another of each
 pub record IsSpan (xs ys : List Step) (s : Span) : Type 0 where

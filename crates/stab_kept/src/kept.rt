@@ -12,7 +12,7 @@ ghost use Rattle.stab_frames.specs.KeptStrings.{front_kept};
 ghost use Rattle.stab_copies.specs.Checkpoints.{checkpoint_steps};
 ghost use Rattle.stab_copies.specs.LaidCopies.{all_laid};
 ghost use Rattle.stab_kept.specs.KeptRuns.{IsKeptRun, IsSameKept, IsSpan, Follows, AgreeBehindSpan, AgreeBackBehindSpan};
-ghost use Rattle.stab_kept.specs.inner.Prepared.{Begins, HasCopy, IsRest, HasRoom, IsPrepared, copies_behind, IsCommitted};
+ghost use Rattle.stab_kept.specs.inner.Prepared.{Begins, HasCopy, IsRest, HasRoom, IsPrepared, copies_behind, IsInPlace};
 ghost use Rattle.stab_replay.specs.NotedStrings.{IsSpliced};
 
 use stab_circuit::{Circuit, Cursor, Span};
@@ -23,6 +23,7 @@ use stab_pauli::Pauli;
 use stab_replay::{End, Plan, Replay, count_ones};
 use stab_run::{Coins, Outputs, observables};
 use stab_tableau::Tableau;
+use stab_turns::{Section, move_sections};
 use std::alloc::{AllocError, Global};
 
 /// A run that is kept: the state behind the last step, what the steps gave, copies of the state on
@@ -34,6 +35,8 @@ pub struct KeptRun {
     pub outputs: Outputs,
     pub observables: Vec<bool>,
     pub checkpoints: Vec<Checkpoint>,
+    /// Outlines of parts of its steps.
+    pub sections: Vec<Section>,
     pub strings: KeptStrings,
     pub reach: u32,
 }
@@ -88,6 +91,7 @@ impl KeptRun {
             checkpoints,
             strings: KeptStrings::new(alloc, n),
             reach: 0,
+            sections: Vec::new(alloc),
         })
     }
 
@@ -201,6 +205,7 @@ impl KeptRun {
         };
         let prepared = self.prepare(alloc, replay, end, circuit.observables(), spare)?;
         self.commit(prepared, before, stride, spare);
+        move_sections(&mut self.sections, span);
         Ok(followed)
     }
 
@@ -327,7 +332,8 @@ impl KeptRun {
         requires room { HasRoom prepared.rest self.old.checkpoints.items }
         requires capacity { length self.old.checkpoints.items + length prepared.laid.items ≤ vec_capacity self.old.checkpoints }
         requires behind { before + length (copies_behind prepared.rest self.old.checkpoints.items) ≤ length self.old.checkpoints.items }
-        ensures committed { IsCommitted self.old prepared before stride self.new }
+        ensures in_place { IsInPlace self.old prepared before stride self.new }
+        ensures sections { self.new.sections.items ≡ self.old.sections.items }
     {
         let Prepared {
             outputs,
@@ -363,6 +369,7 @@ impl KeptRun {
         ensures observables { self.new.observables.items ≡ self.old.observables.items }
         ensures strings { self.new.strings ≡ self.old.strings }
         ensures reach { self.new.reach ≡ self.old.reach }
+        ensures sections { self.new.sections.items ≡ self.old.sections.items }
         ensures checkpoints { self.new.checkpoints.items ≡ all_laid stride (reverse laid.old.items) (take before self.old.checkpoints.items) }
         ensures shorter { length self.new.checkpoints.items ≤ before + length laid.old.items }
         ensures capacity { vec_capacity self.new.checkpoints ≡ vec_capacity self.old.checkpoints }

@@ -13,6 +13,7 @@ use crate::kept::KeptRun;
 use stab_circuit::{Circuit, Span};
 use stab_io::{Fault, Refusal};
 use stab_run::Coins;
+use stab_turns::outline_between;
 use std::alloc::Global;
 
 /// Runs a circuit once on n qubits, at most 1,024, and keeps the run.
@@ -63,5 +64,6 @@ fn run_checked<C: Coins>(
     };
     let mut kept = KeptRun::new(alloc, n)?;
     kept.replay(alloc, circuit, span, stride, coins, &mut None)?;
+    kept.sections = outline_between(alloc, circuit, kept.checkpoints.as_slice())?;
     Ok(kept)
 }

@@ -20,7 +20,9 @@ use stab_io::Refusal;
 use stab_pauli::Pauli;
 use stab_run::{Coins, Lengths};
 use stab_tableau::{CompactTableau, Tableau};
-use stab_turns::{flip_outputs, lead_frame, lengths_behind, sum_additions, turn_tableau};
+use stab_turns::{
+    Trail, flip_outputs, lead_frame, lengths_behind, move_sections, sum_additions, turn_tableau,
+};
 use std::alloc::Global;
 
 /// What a frame makes of a kept run, in memory of its own.
@@ -115,7 +117,12 @@ impl KeptRun {
         let copy = &self.checkpoints[before - 1];
         let mut cursor = Cursor::at(alloc, circuit, copy.step)?;
         let from = lengths_behind(&mut cursor, span.first - copy.step, copy.lengths);
-        let mut cursor = Cursor::at(alloc, circuit, span.new_end)?;
+        let mut trail = Trail::new(
+            circuit,
+            self.sections.as_slice(),
+            span.old_end,
+            span.new_end,
+        );
         let free = self.outputs.free.as_slice();
         let mut walk = FrameWalk::new(alloc, self.tableau.len(), free, from.free)?;
         walk.multiply(string);
@@ -128,7 +135,7 @@ impl KeptRun {
             &self.strings,
             free,
             self.reach,
-            &mut cursor,
+            &mut trail,
             &mut walk,
             &mut turned,
             spare,
@@ -170,6 +177,7 @@ impl KeptRun {
         };
         take_moved(&mut self.checkpoints, before, meeting, &mut room);
         lay_all(&mut self.checkpoints, &mut room, stride);
+        move_sections(&mut self.sections, span);
     }
 
     /// Makes this the run of an edited circuit, whose steps differ within the span by Pauli gates alone,

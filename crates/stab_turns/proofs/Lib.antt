@@ -3,6 +3,7 @@ mod FlippedLemmas
 pub mod FlagLemmas
 mod TurnSomeLemmas
 mod QuietLemmas
+pub mod SectionLemmas
 mod LeadingLemmas
 pub mod PauliSpanLemmas
 pub mod EndingLemmas

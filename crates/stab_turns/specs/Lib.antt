@@ -1,3 +1,4 @@
 pub mod LongerLists
 pub mod PauliSpans
+pub mod Sections
 pub mod LedFrames

@@ -4,6 +4,9 @@
 //! signs turned and bits flipped. So what was kept of it is turned where it lies, and no state is run.
 //!
 //! - `counting`: how long a run's lists are behind some steps.
+//! - `sections`: outlines of parts of a run's steps, and where they stand once some steps are others.
+//! - `outlining`: outlines of all steps of a circuit, from copy to copy.
+//! - `trail`: the steps of a circuit from a place on, by outlines where there are some, and else by a cursor.
 //! - `leading`: a frame led over the copies of a run, with turned copies made on the way.
 //! - `flips`: what a run gave, flipped where it lies.
 //! - `states`: a state, turned where it lies.
@@ -23,9 +26,15 @@
 mod counting;
 mod flips;
 mod leading;
+mod outlining;
+mod sections;
 mod states;
+mod trail;
 
 pub use counting::lengths_behind;
 pub use flips::{flip_outputs, sum_additions};
 pub use leading::lead_frame;
+pub use outlining::outline_between;
+pub use sections::{Section, move_sections};
 pub use states::turn_tableau;
+pub use trail::Trail;

@@ -2,7 +2,8 @@
 -- Source: this project's own.
 use Rattle.std.specs.Prelude.{◌≡◌, ℕ, ◌+◌, ◌<◌, ◌≤◌, false, List, [], All, IfSome, length, take, drop, map, reverse, replicate, slice_get, vec_capacity}
 use Rattle.stab_tableau.specs.Tableaus.{TableauState}
-use Rattle.stab_circuit.specs.Steps.{Step}
+use Rattle.stab_circuit.specs.Steps.{Step, most_steps}
+use Rattle.stab_circuit.specs.declared.edit.Span.{Span}
 use Rattle.stab_circuit.specs.Cursors.{IsApart}
 use Rattle.stab_copies.specs.declared.checkpoint.Checkpoint.{Checkpoint}
 use Rattle.stab_copies.specs.declared.checkpoint.Meeting.{Meeting}
@@ -20,6 +21,7 @@ use Rattle.stab_run.specs.Cuts.{lengths_of, front_of, rest_of}
 use Rattle.stab_frames.specs.KeptStrings.{StringsState, front_kept}
 use Rattle.stab_replay.specs.NotedStrings.{IsSpliced}
 use Rattle.stab_copies.specs.LaidCopies.{moved_copy, all_laid}
+use Rattle.stab_turns.specs.Sections.{IsSection, IsMoved}
 
 -- so many of the first copies are before a step
 pub record IsCount (step : ℕ) (copies : List Checkpoint) (m : ℕ) : Type 0 where
@@ -88,7 +90,7 @@ pub record IsPrepared (kept : KeptRun) (r : Replay) (count : ℕ) (end : End) (p
   pub laid : reverse p.laid.items ≡ r.laid.items
 
 -- what was prepared is put in place, behind so many of the old copies
-pub record IsCommitted (old : KeptRun) (p : Prepared) (before K : ℕ) (new : KeptRun) : Type 0 where
+pub record IsInPlace (old : KeptRun) (p : Prepared) (before K : ℕ) (new : KeptRun) : Type 0 where
   pub tableau : new.tableau ≡ tableau_behind p.rest old.tableau
   pub output : output_of new.outputs ≡ output_of p.outputs
   pub observables : new.observables.items ≡ p.observables.items
@@ -96,3 +98,14 @@ pub record IsCommitted (old : KeptRun) (p : Prepared) (before K : ℕ) (new : Ke
   pub reach : new.reach ≡ p.reach
   pub checkpoints : new.checkpoints.items
       ≡ all_laid K (copies_behind p.rest old.checkpoints.items) (all_laid K (reverse p.laid.items) (take before old.checkpoints.items))
+
+-- and the outlines are those of steps that differ within a span
+pub record IsCommitted (old : KeptRun) (p : Prepared) (s : Span) (before K : ℕ) (new : KeptRun) : Type 0 where
+  pub tableau : new.tableau ≡ tableau_behind p.rest old.tableau
+  pub output : output_of new.outputs ≡ output_of p.outputs
+  pub observables : new.observables.items ≡ p.observables.items
+  pub strings : new.strings ≡ p.strings
+  pub reach : new.reach ≡ p.reach
+  pub checkpoints : new.checkpoints.items
+      ≡ all_laid K (copies_behind p.rest old.checkpoints.items) (all_laid K (reverse p.laid.items) (take before old.checkpoints.items))
+  pub sections : (xs ys : List Step) → length ys ≤ most_steps → IsMoved xs ys s → All (IsSection xs) old.sections.items → All (IsSection ys) new.sections.items

@@ -1,10 +1,10 @@
 -- Turned runs: what a frame made of a kept run, and what is kept once that is put in place.
 -- Source: this project's own.
-use Rattle.std.specs.Prelude.{◌≡◌, ℕ, ◌+◌, ◌-◌, ◌*◌, ◌≤◌, Bool, false, List, [], Option, None, Some, IfSome, MatchOption, length, take, drop, map, replicate, slice_get, vec_capacity}
+use Rattle.std.specs.Prelude.{◌≡◌, ℕ, ◌+◌, ◌-◌, ◌*◌, ◌≤◌, Bool, false, List, [], Option, None, Some, IfSome, MatchOption, All, length, take, drop, map, replicate, slice_get, vec_capacity}
 use Rattle.stab_pauli.specs.Paulis.{Signed}
 use Rattle.stab_tableau.specs.Tableaus.{stabilises}
 use Rattle.stab_tableau.specs.Turns.{IsTurned}
-use Rattle.stab_circuit.specs.Steps.{Step}
+use Rattle.stab_circuit.specs.Steps.{Step, most_steps}
 use Rattle.stab_circuit.specs.declared.edit.Span.{Span}
 use Rattle.stab_copies.specs.declared.checkpoint.Checkpoint.{Checkpoint}
 use Rattle.stab_copies.specs.declared.checkpoint.Meeting.{Meeting}
@@ -19,6 +19,7 @@ use Rattle.stab_frames.specs.Flips.{flipped_output}
 use Rattle.stab_frames.specs.Walks.{WalkState}
 use Rattle.stab_turns.specs.LongerLists.{longer}
 use Rattle.stab_turns.specs.LedFrames.{IsLedFrame, with_states}
+use Rattle.stab_turns.specs.Sections.{IsSection, IsMoved}
 use Rattle.stab_kept.specs.declared.kept.KeptRun.{KeptRun}
 use Rattle.stab_kept.specs.declared.kept.Followed.{Followed}
 use Rattle.stab_kept.specs.declared.turning.Turning.{Turning}
@@ -56,6 +57,7 @@ pub record IsPut (old : KeptRun) (s : Span) (before K : ℕ) (t : Turning) (new 
   pub reach : new.reach ≡ old.reach
   pub checkpoints : new.checkpoints.items
       ≡ all_laid K (map (moved_copy (span_meeting s t.from)) (with_states t.turned.items (drop before old.checkpoints.items))) (take before old.checkpoints.items)
+  pub sections : (xs ys : List Step) → length ys ≤ most_steps → IsMoved xs ys s → All (IsSection xs) old.sections.items → All (IsSection ys) new.sections.items
 
 -- where the first copy stands that was not turned, or behind the last step
 abbrev pub turned_end : Span → (total : ℕ) → Option Checkpoint → ℕ

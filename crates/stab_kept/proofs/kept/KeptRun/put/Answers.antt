@@ -36,5 +36,6 @@ returns c =
             put-laid c.args.before c.args.stride c.args.turning.turned.items cs c.put_states.new.copies.items (omega (arith, few)) c.put_states.ensures.value
             (span_meeting c.args.span c.args.turning.from) c.args.turning.room.items c.take_moved.new.taken.items c.take_moved.new.copies.items c.lay_all.new.copies.items
             c.requires.nothing c.take_moved.ensures.taken c.take_moved.ensures.left c.lay_all.ensures.value;
+        sections = c.move_sections.ensures.moved;
       };
     }

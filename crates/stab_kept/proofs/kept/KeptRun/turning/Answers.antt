@@ -15,6 +15,8 @@ use Rattle.stab_run.specs.Cuts.{lengths_of}
 use Rattle.stab_run.specs.ProgramStates.{StepFits}
 use Rattle.stab_run.proofs.FitLemmas.{check-fits, check-whole, check-steps}
 use Rattle.stab_turns.specs.LongerLists.{longer, AreBelow}
+use Rattle.stab_turns.specs.Sections.{IsSectionBehind}
+use Rattle.stab_turns.proofs.SectionLemmas.{behind-sections}
 use Rattle.stab_turns.specs.LedFrames.{AreInOrder, IsLedFrame}
 use Rattle.stab_kept.specs.inner.Turned.{StaysNear}
 use Rattle.stab_kept.proofs.FollowLemmas.{some-at}
@@ -69,13 +71,20 @@ new-requires c =
           (c.lengths_behind-from.ensures.value k others a)));
     }
 
+pub new-trail-requires-clause-sections : goal.new-trail-requires-clause-sections
+new-trail-requires-clause-sections c =
+    let f = c.requires.follows.2 in
+    let ys = unroll (circuit_items c.args.circuit.now) in
+    subst (All (IsSectionBehind c.args.span.old_end c.args.span.new_end ys)) (sym c.as_slice.ensures.value)
+    (behind-sections f.old ys c.args.span.old_end c.args.span.new_end f.span.behind c.args.self.now.sections.items f.kept.sections)
+
 pub lead_frame-requires-clause-fits : goal.lead_frame-requires-clause-fits
 lead_frame-requires-clause-fits c =
     let ys = unroll (circuit_items c.args.circuit.now) in
     let n = c.args.self.now.tableau.qubits in
-    let apart : All IsApart ys = subst (All IsApart) c.in_ok-cursor-2.ensures.all c.in_ok-cursor-2.ensures.apart in
-    subst (λ k. All (StepFits k) c.in_ok-cursor-2.cursor.left) (sym (letters-long c.args.self.now.tableau.qubits c.len.result c.in_ok-walk.walk c.multiply.new.self c.len.ensures.value c.in_ok-walk.ensures.value c.multiply.ensures.length))
-    (subst (All (StepFits n)) (sym c.in_ok-cursor-2.ensures.steps)
+    let apart : All IsApart ys = subst (All IsApart) c.in_ok-cursor.ensures.all c.in_ok-cursor.ensures.apart in
+    subst (λ k. All (StepFits k) c.new-trail.result.left) (sym (letters-long c.args.self.now.tableau.qubits c.len.result c.in_ok-walk.walk c.multiply.new.self c.len.ensures.value c.in_ok-walk.ensures.value c.multiply.ensures.length))
+    (subst (All (StepFits n)) (sym c.new-trail.ensures.left)
     (All-drop (StepFits n) c.args.span.new_end ys (check-fits n (circuit_items c.args.circuit.now) ys c.requires.checked refl apart)))
 
 pub lead_frame-requires-clause-few : goal.lead_frame-requires-clause-few
@@ -89,14 +98,14 @@ lead_frame-requires-clause-few c =
           (c.lengths_behind-from.ensures.value k others a)),
       ap (λ (w : WalkState). w.coin) c.multiply.ensures.value,
       ap (λ (w : WalkState). w.coin) c.in_ok-walk.ensures.value,
-      ap length c.in_ok-cursor-2.ensures.steps,
+      ap length c.new-trail.ensures.left,
     )
 
 pub lead_frame-requires-clause-same_qubits : goal.lead_frame-requires-clause-same_qubits
 lead_frame-requires-clause-same_qubits c =
     let at = (goal.at.lead_frame-requires-clause-same_qubits c).After-index-copy in
     let f = c.requires.follows.2 in
-    subst (All (λ d. d.tableau.qubits ≡ length c.multiply.new.self.letters)) (sym (c.split_at.ensures.back ∙ ap (drop c.args.before) c.as_slice.ensures.value))
+    subst (All (λ d. d.tableau.qubits ≡ length c.multiply.new.self.letters)) (sym (c.split_at.ensures.back ∙ ap (drop c.args.before) c.as_slice-2.ensures.value))
     (behind-qubits f.count f.kept f.span (few at) c.requires.before (length c.multiply.new.self.letters)
     (letters-long c.args.self.now.tableau.qubits c.len.result c.in_ok-walk.walk c.multiply.new.self c.len.ensures.value c.in_ok-walk.ensures.value c.multiply.ensures.length))
 
@@ -107,8 +116,8 @@ lead_frame-requires-clause-order c =
     let ys = unroll (circuit_items c.args.circuit.now) in
     let cs = c.args.self.now.checkpoints.items in
     let stays = some-at (λ d. StaysNear c.requires.near.0 c.args.span (length ys) d.step (slice_get cs c.args.before)) cs (c.args.before - 1) c.index-copy.result.now (here at) c.requires.near.1 in
-    subst (AreInOrder c.args.span.old_end (c.args.span.old_end + length c.in_ok-cursor-2.cursor.left)) (sym (c.split_at.ensures.back ∙ ap (drop c.args.before) c.as_slice.ensures.value))
-    (subst (λ zs. AreInOrder c.args.span.old_end (c.args.span.old_end + length zs) (drop c.args.before cs)) (sym c.in_ok-cursor-2.ensures.steps)
+    subst (AreInOrder c.args.span.old_end (c.args.span.old_end + length c.new-trail.result.left)) (sym (c.split_at.ensures.back ∙ ap (drop c.args.before) c.as_slice-2.ensures.value))
+    (subst (λ zs. AreInOrder c.args.span.old_end (c.args.span.old_end + length zs) (drop c.args.before cs)) (sym c.new-trail.ensures.left)
     (behind-order f.count f.kept f.span (few at) c.requires.before
     (stays-behind c.requires.near.0 c.args.span (length ys) c.index-copy.result.now.step (slice_get cs c.args.before) stays)))
 
@@ -126,8 +135,8 @@ returns-clause-turning c =
     let led : IsLedFrame n c.args.self.now.strings.strings c.args.self.now.outputs.free.items c.args.self.now.reach (drop c.args.span.new_end ys) c.args.span.old_end (drop c.args.before cs)
     c.lead_frame.new.turned.items start c.lead_frame.new.walk =
     subst (λ x. x)
-    (λ i. IsLedFrame (long i) c.args.self.now.strings.strings (c.as_slice-free.ensures.value i) c.args.self.now.reach (c.in_ok-cursor-2.ensures.steps i) c.args.span.old_end
-    ((c.split_at.ensures.back ∙ ap (drop c.args.before) c.as_slice.ensures.value) i) c.lead_frame.new.turned.items start c.lead_frame.new.walk)
+    (λ i. IsLedFrame (long i) c.args.self.now.strings.strings (c.as_slice-free.ensures.value i) c.args.self.now.reach (c.new-trail.ensures.left i) c.args.span.old_end
+    ((c.split_at.ensures.back ∙ ap (drop c.args.before) c.as_slice-2.ensures.value) i) c.lead_frame.new.turned.items start c.lead_frame.new.walk)
     (c.in_ok-led.ensures.led c.if-not-led.false) in
     record {
       from =
