@@ -8,6 +8,7 @@ pub mod FrameLemmas
 pub mod LaneLemmas
 pub mod StepLemmas
 pub mod ShotLemmas
+pub mod PlaceLemmas
 pub mod SeedLemmas
 pub mod SeedByteLemmas
 pub mod BatchLemmas

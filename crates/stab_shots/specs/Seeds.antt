@@ -1,6 +1,8 @@
 -- Seeds: the coins of so many shots of a seed, as words.
 -- Source: this project's own.
 use Rattle.std.specs.Prelude.{◌≡◌, ℕ, ◌+◌, ◌*◌, ◌%◌, ◌^◌, ◌<◌, Bool, List, [], slice_index_or}
+use Rattle.rand_chacha.specs.ChaCha.{word_at, key_of}
+use Rattle.stab_steps.specs.Coins.{key_bytes}
 use Rattle.stab_run.specs.Coins.{seed_coin}
 use Rattle.stab_shots.specs.Words.{word_bit}
 
@@ -16,6 +18,10 @@ pub record SeededLanes : Type 0 where
 -- coin t of the shot l behind the first; numbers of shots go on from 2^64 - 1 with 0
 abbrev pub lane_coin : SeededLanes → (l t : ℕ) → Bool
 lane_coin c l t = seed_coin c.seed ((c.first + l) % 2 ^ 64) t
+
+-- 32-bit word t of a shot's stream, whose lowest bit is its coin t
+abbrev pub shot_word : (seed shot t : ℕ) → ℕ
+shot_word seed shot t = word_at 4 (key_of (key_bytes seed)) shot t
 
 -- bit l of word k is coin 64 g + k of the shot l behind the first
 abbrev pub AreCoins : ℕ → ℕ → ℕ → ℕ → List ℕ → Type 0

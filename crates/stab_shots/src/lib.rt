@@ -15,6 +15,7 @@
 //! - `step`: one step, on a tableau and all lanes.
 //! - `steps`: the steps of one instruction.
 //! - `run`: all steps of a circuit.
+//! - `streams`: the words of a shot's stream, whose lowest bits are its coins.
 //! - `coins`, `seeds`, `wide_seeds`: the coins of all lanes, and those of 64 or 64 N shots of a seed.
 //! - `squares`: the bits of lanes as bytes, for eight lanes at a time.
 //! - `shots`: so many shots of a circuit, at once.
@@ -40,6 +41,7 @@ mod shots;
 mod squares;
 mod step;
 mod steps;
+mod streams;
 mod wide;
 mod wide_seeds;
 mod word;

@@ -1,11 +1,11 @@
-ghost use Rattle.std.specs.Prelude.{◌≡◌, ◌≢◌, ℕ, ◌+◌, ◌/◌, ◌%◌, ◌<◌, ◌^◌, false, slice_index_or};
+ghost use Rattle.std.specs.Prelude.{◌≡◌, ◌≢◌, ◌==◌, ℕ, ◌+◌, ◌/◌, ◌%◌, ◌<◌, ◌^◌, false, [], slice_index_or};
 ghost use Rattle.std.specs.Option.{ForSome};
 ghost use Rattle.stab_run.specs.Coins.{seed_coin};
 ghost use Rattle.stab_shots.specs.Words.{word_bit};
 ghost use Rattle.stab_shots.specs.Seeds.{SeededLanes, lane_coin, AreCoins};
 
 use crate::coins::LaneCoins;
-use stab_run::seed_coins;
+use crate::streams::words_of_shot;
 use std::marker::Model;
 
 /// The coins of 64 shots of a seed, numbered one after another from a first one on. Contracts see the seed and the first
@@ -82,8 +82,8 @@ fn coins_of_eight(seed: u64, first: u64, group: u64) -> [u8; 64]
 {
     let mut bytes = [0; 64];
     for lane in 0..8 {
-        let coins = seed_coins(seed, first.wrapping_add(lane as u64), group);
-        put_lane(&mut bytes, lane, &coins);
+        let blocks = words_of_shot(seed, first.wrapping_add(lane as u64), group);
+        put_lane(&mut bytes, lane, &blocks);
     }
     bytes
 }
@@ -97,14 +97,28 @@ fn flip_lane(byte: u8, lane: usize, bit: bool) -> u8
     byte ^ (u8::from(bit) << lane)
 }
 
-/// Puts 64 bits into a lane of as many bytes, whose bits are 0 there.
-fn put_lane(bytes: &mut [u8; 64], lane: usize, bits: &[bool; 64])
+/// Puts the lowest bits of 64 words, sixteen in each block, into a lane of as many bytes, whose bits are 0 there.
+fn put_lane(bytes: &mut [u8; 64], lane: usize, blocks: &[[u32; 16]; 4])
     requires in_range { lane < 8 }
-    ensures here { (k : ℕ) → k < 64 → word_bit (slice_index_or bytes.old k 0) lane ≡ false → word_bit (slice_index_or bytes.new k 0) lane ≡ slice_index_or bits.now k false }
+    ensures here { (k : ℕ) → k < 64 → word_bit (slice_index_or bytes.old k 0) lane ≡ false → word_bit (slice_index_or bytes.new k 0) lane ≡ (slice_index_or (slice_index_or blocks.now (k / 16) []) (k % 16) 0 % 2 == 1) }
     ensures others { (k l : ℕ) → k < 64 → l ≢ lane → word_bit (slice_index_or bytes.new k 0) l ≡ word_bit (slice_index_or bytes.old k 0) l }
 {
-    for k in 0..64 {
-        bytes[k] = flip_lane(bytes[k], lane, bits[k]);
+    for block in 0..4 {
+        put_block(bytes, block, lane, &blocks[block]);
+    }
+}
+
+/// Puts the lowest bits of sixteen words into a lane of the sixteen bytes of a block, whose bits are 0 there.
+fn put_block(bytes: &mut [u8; 64], block: usize, lane: usize, words: &[u32; 16])
+    requires in_range { lane < 8 }
+    requires in_bytes { block < 4 }
+    ensures here { (k : ℕ) → k / 16 ≡ block → word_bit (slice_index_or bytes.old k 0) lane ≡ false → word_bit (slice_index_or bytes.new k 0) lane ≡ (slice_index_or words.now (k % 16) 0 % 2 == 1) }
+    ensures elsewhere { (k : ℕ) → k / 16 ≢ block → slice_index_or bytes.new k 0 ≡ slice_index_or bytes.old k 0 }
+    ensures others { (k l : ℕ) → k < 64 → l ≢ lane → word_bit (slice_index_or bytes.new k 0) l ≡ word_bit (slice_index_or bytes.old k 0) l }
+{
+    for k in 0..16 {
+        let place = 16 * block + k;
+        bytes[place] = flip_lane(bytes[place], lane, words[k] % 2 == 1);
     }
 }
 
