@@ -1,6 +1,6 @@
 -- Turned copies: a kept state turned by one letter after another is turned by all of them.
-use Rattle.std.proofs.Common.{◌≡◌, ℕ, zero, suc, ◌+◌, ◌-◌, ◌<◌, ◌≤◌, refl, ◌∙◌, ap, subst, Bool, List, [], ◌∷◌, ◌++◌, append-nil, length, take, get_or, set, replicate, arith}
-use Rattle.std.proofs.lemmas.List.{take_all, length-replicate}
+use Rattle.std.proofs.Common.{◌≡◌, ℕ, zero, suc, ◌+◌, ◌-◌, ◌<◌, ◌≤◌, refl, sym, ◌∙◌, ap, subst, Bool, List, [], ◌∷◌, ◌++◌, append-nil, length, take, get_or, set, replicate, arith}
+use Rattle.std.proofs.lemmas.List.{take_all, length-replicate, get_or-replicate, set-get_or}
 use Rattle.stab_letters.specs.declared.letter.Letter.{Letter}
 use Rattle.stab_letters.specs.declared.letter.Letter.TheVariants.{I, X, Y, Z}
 use Rattle.stab_letters.specs.Letters.{letter_product}
@@ -44,6 +44,13 @@ turned-next n q letters u v w size lt so next =
 
 pub turned-none : (n : ℕ) (letters : List Letter) (u : Signed → Bool) → IsTurned n (take 0 letters ++ replicate (n - 0) I) u u
 turned-none n letters u = subst (λ k. IsTurned n (replicate k I) u u) {x = n} (omega arith) (turned-blank n u)
+
+-- the letter I on a qubit turns nothing
+pub turned-still : (n q : ℕ) (l : Letter) (u : Signed → Bool) → q < n → l ≡ I → IsTurned n (single n q l).letters u u
+turned-still n q l u lt e =
+    subst (λ letters. IsTurned n letters u u)
+    (sym (ap (set (replicate n I) q) (e ∙ sym (get_or-replicate n q I I lt)) ∙ set-get_or (replicate n I) q I))
+    (turned-blank n u)
 
 pub turned-all : (n q : ℕ) (letters : List Letter) (u v : Signed → Bool) → length letters ≡ n → n ≤ q
     → IsTurned n (take q letters ++ replicate (n - q) I) u v → IsTurned n letters u v

@@ -1,5 +1,6 @@
 ghost use Rattle.std.specs.Prelude.{◌≡◌, ◌≢◌, ◌⊎◌, true, ◌+◌, ◌-◌, ◌^◌, ◌<◌, ◌≤◌, All, length, take, drop, OnOk, OnErr, IfOk, IfErr, IfSome};
 ghost use Rattle.stab_io.specs.declared.refusal.Refusal.TheVariants.{OutOfMemory};
+ghost use Rattle.stab_pauli.specs.Paulis.{single};
 ghost use Rattle.stab_tableau.specs.Tableaus.{stabilises};
 ghost use Rattle.stab_tableau.specs.Turns.{IsTurned};
 ghost use Rattle.stab_run.specs.Records.{ones};
@@ -68,6 +69,18 @@ fn append_framed(
     Ok(())
 }
 
+/// Applies a letter to a qubit of a kept state. Most letters of a frame are I, which turns nothing.
+fn turn_at(state: &mut CompactTableau, letter: Letter, qubit: usize)
+    requires in_range { qubit < state.old.qubits }
+    ensures qubits { state.new.qubits ≡ state.old.qubits }
+    ensures turned { IsTurned state.old.qubits (single state.old.qubits qubit letter).letters (stabilises state.old) (stabilises state.new) }
+{
+    match letter {
+        Letter::I => {}
+        Letter::X | Letter::Y | Letter::Z => state.turn_letter(letter, qubit),
+    }
+}
+
 /// A copy of a kept state, turned by letters, one a qubit.
 ///
 /// Refusal `OutOfMemory` alone.
@@ -83,7 +96,7 @@ pub fn turned_copy(
 {
     let mut turned = copy.copy(alloc)?;
     for qubit in 0..letters.len() {
-        turned.turn_letter(letters[qubit], qubit);
+        turn_at(&mut turned, letters[qubit], qubit);
     }
     Ok(turned)
 }

@@ -20,12 +20,12 @@ pub loop-qubit-preserved : goal.loop-qubit-preserved
 loop-qubit-preserved c =
     let inv = c.loop-qubit.invariant in
     record {
-      qubits = c.turn_letter.ensures.qubits ∙ inv.qubits;
+      qubits = c.turn_at.ensures.qubits ∙ inv.qubits;
       turned =
-          turned-next c.args.copy.now.qubits c.loop-qubit.qubit c.args.letters.now (stabilises c.args.copy.now) (stabilises c.loop-qubit.turned) (stabilises c.turn_letter.new.self)
+          turned-next c.args.copy.now.qubits c.loop-qubit.qubit c.args.letters.now (stabilises c.args.copy.now) (stabilises c.loop-qubit.turned) (stabilises c.turn_at.new.state)
           c.requires.same_length (omega (arith, c.requires.same_length, c.loop-qubit-test.true)) inv.turned
-          (subst (λ n. IsTurned n (single n c.loop-qubit.qubit (get_or c.args.letters.now c.loop-qubit.qubit I)).letters (stabilises c.loop-qubit.turned) (stabilises c.turn_letter.new.self))
-          inv.qubits c.turn_letter.ensures.turned);
+          (subst (λ n. IsTurned n (single n c.loop-qubit.qubit (get_or c.args.letters.now c.loop-qubit.qubit I)).letters (stabilises c.loop-qubit.turned) (stabilises c.turn_at.new.state))
+          inv.qubits c.turn_at.ensures.turned);
     }
 
 pub returns-clause-turned : goal.returns-clause-turned
