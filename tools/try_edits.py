@@ -1,11 +1,12 @@
 #!/usr/bin/env python3
-"""Edits random circuits at random places with the built program, beside sessions that are opened anew.
+"""Edits random circuits and a code at random places with the built program, beside sessions that are opened anew.
 
     tools/try_edits.py
 
 Behind each edit, made or refused, the session shows what one shows that is opened anew on the text that this script keeps by edits
-of its own: with few steps between copies of the state and with many. At least half of the edits are made. It prints how many
-were, and ends with 1 where something differs. It needs the program: build it by ./stabsim --help.
+of its own: with few steps between copies of the state and with many. At least half of the edits are made. A surface code is written
+out, and edited by Pauli gates alone: its instructions are long enough that frames go by outlines of them. It prints how many were
+made, and ends with 1 where something differs. It needs the program: build it by ./stabsim --help.
 """
 
 import pathlib
@@ -16,6 +17,10 @@ import tempfile
 from dataclasses import dataclass
 
 TOP = pathlib.Path(__file__).resolve().parent.parent
+sys.path.insert(0, str(TOP / "python"))
+
+from stabsim import codes  # noqa: E402
+
 PROGRAM = TOP / "crates" / "stabsim" / "out" / "stabsim"
 # The script ends itself after so many seconds, so that no reply is waited for without end.
 TIME_LIMIT = 300
@@ -23,6 +28,12 @@ STRIDES = (1, 3, 64, 8192)
 CIRCUITS = 10
 EDITS = 20
 QUBITS = 4
+# A code of this distance has instructions of some forty qubits, and names so many qubits in all.
+DISTANCE = 9
+ROUNDS = 12
+CODE_QUBITS = 188
+CODE_STRIDES = (300, 1000, 3000)
+CODE_EDITS = 25
 SHOWS = ["show " + what for what in ("measurements", "free", "detectors", "observables", "stabilisers", "circuit")]
 KINDS = ("insert", "replace", "delete")
 
@@ -138,9 +149,9 @@ def change_kept(items: list[Item], edit: Edit) -> bool:
 class Session:
     """A framed session on a circuit: each reply is `ok` with its number of lines, or a refusal."""
 
-    def __init__(self, circuit: pathlib.Path, items: list[Item], stride: int) -> None:
+    def __init__(self, circuit: pathlib.Path, items: list[Item], stride: int, qubits: int = QUBITS) -> None:
         circuit.write_text("".join(item.text() + "\n" for item in items))
-        words = [str(PROGRAM), "edit", "--framed", "--qubits", str(QUBITS), "--seed", "3", "--stride", str(stride), "--in", str(circuit)]
+        words = [str(PROGRAM), "edit", "--framed", "--qubits", str(qubits), "--seed", "3", "--stride", str(stride), "--in", str(circuit)]
         self.program = subprocess.Popen(words, stdin=subprocess.PIPE, stdout=subprocess.PIPE, text=True)
         self.begins = self.program.stdout.readline().startswith("ready 1 ")
 
@@ -164,9 +175,9 @@ class Session:
         return self.program.wait()
 
 
-def shown_anew(folder: pathlib.Path, items: list[Item], stride: int) -> list[list[str]]:
+def shown_anew(folder: pathlib.Path, items: list[Item], stride: int, qubits: int = QUBITS) -> list[list[str]]:
     """What a session shows that is opened anew on these items."""
-    session = Session(folder / "anew.stim", items, stride)
+    session = Session(folder / "anew.stim", items, stride, qubits)
     shown = session.ask(*SHOWS)
     if not session.begins or session.close() != 0:
         raise ValueError("a session was refused on the items of edits that were made")
@@ -215,10 +226,39 @@ def try_stride(folder: pathlib.Path, stride: int) -> bool:
     return made >= CIRCUITS * EDITS // 2
 
 
+def pauli_edit(numbers: Numbers, length: int) -> Edit:
+    """A Pauli gate on one qubit or two, put in at a random place of so many items."""
+    targets = [str(numbers.below(CODE_QUBITS)) for _ in range(1 + numbers.below(2))]
+    return Edit("insert", numbers.below(length + 1), None, Item(("XYZ"[numbers.below(3)] + " " + " ".join(targets), [])))
+
+
+def try_code(folder: pathlib.Path, stride: int) -> bool:
+    """Puts Pauli gates into a surface code, and takes each third one out again; whether each session shows what it has to."""
+    numbers = Numbers(stride)
+    lines = codes.surface_code(DISTANCE, ROUNDS, written_out=True).splitlines()
+    items = [Item((line, [])) for line in lines if line and not line.startswith("#")]
+    session = Session(folder / "edited.stim", items, stride, CODE_QUBITS)
+    for number in range(CODE_EDITS):
+        edit = pauli_edit(numbers, len(items))
+        edits = [edit, Edit("delete", edit.place, None, edit.item)] if number % 3 == 0 else [edit]
+        for each in edits:
+            was_made, shown = edit_both(session, items, each)
+            if not was_made or shown != shown_anew(folder, items, stride, CODE_QUBITS):
+                print(f"the code, stride {stride}, edit {number}, {each.text()!r}: shows something else", file=sys.stderr)
+                return False
+    if session.close() != 0:
+        print(f"the code, stride {stride}: its session did not end with 0", file=sys.stderr)
+        return False
+    print(f"stride {stride}: a surface code of distance {DISTANCE} shows behind each Pauli gate what one opened anew does")
+    return True
+
+
 def main() -> int:
     signal.alarm(TIME_LIMIT)
     with tempfile.TemporaryDirectory() as name:
-        right = [try_stride(pathlib.Path(name), stride) for stride in STRIDES]
+        folder = pathlib.Path(name)
+        right = [try_stride(folder, stride) for stride in STRIDES]
+        right += [try_code(folder, stride) for stride in CODE_STRIDES]
     return 0 if all(right) else 1
 
 
