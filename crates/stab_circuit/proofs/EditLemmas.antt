@@ -48,7 +48,7 @@ put_in (Insert at x) = x ∷ []
 put_in (Replace at x) = x ∷ []
 put_in (Delete at) = []
 
-behind_put_is : (edit : Edit) → behind_put edit ≡ (edit_path edit).place + length (put_in edit)
+pub behind_put_is : (edit : Edit) → behind_put edit ≡ (edit_path edit).place + length (put_in edit)
 behind_put_is (Insert at x) = refl
 behind_put_is (Replace at x) = refl
 behind_put_is (Delete at) = omega arith
@@ -81,12 +81,12 @@ changed_split (Delete at) xs ys e =
     let within = lt_holds at.place (length xs) h.0 in
     (omega arith, sym h.1 ∙ ap (λ n. take at.place xs ++ drop n xs) (next_place at.place))
 
-changed_before : (edit : Edit) (xs ys : List OneItem) → changed edit xs ≡ Ok ys → take (edit_path edit).place ys ≡ take (edit_path edit).place xs
+pub changed_before : (edit : Edit) (xs ys : List OneItem) → changed edit xs ≡ Ok ys → take (edit_path edit).place ys ≡ take (edit_path edit).place xs
 changed_before edit xs ys e =
     let s = changed_split edit xs ys e in
     ap (take (edit_path edit).place) s.1 ∙ take_at (take (edit_path edit).place xs) (put_in edit ++ drop (behind_taken edit) xs) (edit_path edit).place (length-take-le (edit_path edit).place xs s.0)
 
-changed_behind : (edit : Edit) (xs ys : List OneItem) → changed edit xs ≡ Ok ys → drop (behind_taken edit) xs ≡ drop (behind_put edit) ys
+pub changed_behind : (edit : Edit) (xs ys : List OneItem) → changed edit xs ≡ Ok ys → drop (behind_taken edit) xs ≡ drop (behind_put edit) ys
 changed_behind edit xs ys e =
     let s = changed_split edit xs ys e in
     let front = take (edit_path edit).place xs ++ put_in edit in

@@ -23,7 +23,7 @@ mod EditPartLemmas
 mod ChunkEditLemmas
 mod CommitLemmas
 mod PathLemmas
-mod PlaceLemmas
+pub mod PlaceLemmas
 mod StepPathLemmas
 mod StepsLeftLemmas
 pub mod EditingLemmas
@@ -34,3 +34,7 @@ mod ChangeLemmas
 mod DepthLemmas
 mod PartLemmas
 mod SplitLineLemmas
+mod GapLemmas
+pub mod PieceLemmas
+mod GapPartLemmas
+pub mod EachRoundLemmas

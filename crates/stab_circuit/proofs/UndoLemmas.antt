@@ -33,7 +33,7 @@ lt_is m n h = grind arith
 there : (f : List OneItem) (x : OneItem) (r : List OneItem) → nat_lt (length f) (length (f ++ x ∷ r)) ≡ true
 there f x r = lt_is (length f) (length (f ++ x ∷ r)) (omega (arith, length-append f (x ∷ r)))
 
-found : (f : List OneItem) (x : OneItem) (r : List OneItem) (b : ℕ) → length f ≡ b → slice_get (f ++ x ∷ r) b ≡ Some x
+pub found : (f : List OneItem) (x : OneItem) (r : List OneItem) (b : ℕ) → length f ≡ b → slice_get (f ++ x ∷ r) b ≡ Some x
 found f x r b size = subst (λ n. slice_get (f ++ x ∷ r) n ≡ Some x) size (get-at f x r)
 
 module _ (f : List OneItem) (x : OneItem) (r : List OneItem) (at : Path) (size : length f ≡ at.place) where
@@ -80,7 +80,7 @@ module _ (edit : List OneItem → Result (List OneItem) Refusal) (b : ℕ) (xs y
   pub new_parts : ys ≡ take b xs ++ repeat is.count is.tag (listed is.within) ∷ drop (suc b) xs
   new_parts = is.same ∙ set_split xs b (repeat is.count is.tag (listed is.within)) within
 
-  new_inner : inner (slice_get ys b) ≡ is.within
+  pub new_inner : inner (slice_get ys b) ≡ is.within
   new_inner =
       ap (λ l. inner (slice_get l b)) new_parts
       ∙ inside_block (take b xs) is.count is.tag (listed is.within) (drop (suc b) xs) b front_size

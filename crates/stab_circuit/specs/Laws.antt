@@ -15,7 +15,8 @@ use Rattle.stab_circuit.specs.Cursors.{IsApart}
 use Rattle.stab_circuit.specs.Readings.{IsCircuit, IsFaultOf}
 use Rattle.stab_circuit.specs.StepPaths.{paths_of}
 use Rattle.stab_circuit.specs.Paths.{Path}
-use Rattle.stab_circuit.specs.Edits.{edited, taken, put_item, first_changed, old_end, new_end}
+use Rattle.stab_circuit.specs.Edits.{edit_path, edited, taken, put_item, first_changed, old_end, new_end}
+use Rattle.stab_circuit.specs.Rounds.{HaveRounds, ChangesEachRound}
 use Rattle.stab_circuit.specs.Splits.{split}
 
 -- the text stands for the items, and for no others
@@ -84,6 +85,10 @@ pub record LeavesTheRest (edit : Edit) (old new : List OneItem) : Type 0 where
 -- each edit leaves the rest of the steps
 abbrev pub EditsLeaveTheRest : Type 0
 EditsLeaveTheRest = (edit : Edit) (old new : List OneItem) → edited edit old ≡ Ok new → LeavesTheRest edit old new
+
+-- each edit in blocks that have a round changes each of them so
+abbrev pub EditsChangeEachRound : Type 0
+EditsChangeEachRound = (edit : Edit) (old new : List OneItem) → edited edit old ≡ Ok new → HaveRounds (edit_path edit).blocks old → ChangesEachRound edit old new
 
 -- items have the same steps, nest blocks as deep, and name the same greatest numbers, of qubits as of observables: so what refuses the
 -- one on any number of qubits refuses the other

@@ -12,6 +12,7 @@ pub mod Paths
 pub mod Places
 pub mod StepPaths
 pub mod Edits
+pub mod Rounds
 pub mod Splits
 pub mod Editings
 pub mod Laws

@@ -7,4 +7,5 @@ pub mod EditResults
 pub mod Chunks
 pub mod Behind
 pub mod StepItems
+pub mod Gaps
 pub mod Changes

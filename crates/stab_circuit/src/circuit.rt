@@ -6,6 +6,7 @@ ghost use Rattle.stab_circuit.specs.Views.{circuit_items};
 ghost use Rattle.stab_circuit.specs.Readings.{ReadsCircuit, ReadsInput, ReadsItem, IsPlaced, is_of_circuit, is_of_item};
 
 mod edits;
+mod gaps;
 mod places;
 mod splits;
 mod step_items;

@@ -232,7 +232,7 @@ pub(crate) fn edit_result_by_chunks(
 
 /// How many steps stand before a place in nested blocks, or 1,048,577 where there are more.
 #[cycle(counting)]
-fn steps_in(items: &[Item], blocks: &[usize], place: usize) -> u32
+pub(crate) fn steps_in(items: &[Item], blocks: &[usize], place: usize) -> u32
     ensures value { result ≡ min (length (steps_of_place blocks.now place items.now)) steps_cap }
 {
     match blocks.split_first() {

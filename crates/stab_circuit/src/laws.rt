@@ -1,7 +1,7 @@
 //! Laws of circuit texts. Each function does nothing: its contract is the law, and the check
 //! proves it.
 
-ghost use Rattle.stab_circuit.specs.Laws.{CircuitsHaveNoFault, EachTextHasAMeaning, EditedItemsAreOfLines, EditsLeaveTheRest, ItemTextsAreLines, ItemTextsHaveOneMeaning, LinesKeepQubitsApart, PrintedItemsAreReadBack, SplitItemsAreOfLines, SplitsLeaveTheSteps, StepsHaveOnePath, TakenItemsAreOfLines, TextsAreLines, TextsAreOfOneCircuit, TextsHaveOneFault, TextsHaveOneMeaning};
+ghost use Rattle.stab_circuit.specs.Laws.{CircuitsHaveNoFault, EachTextHasAMeaning, EditedItemsAreOfLines, EditsChangeEachRound, EditsLeaveTheRest, ItemTextsAreLines, ItemTextsHaveOneMeaning, LinesKeepQubitsApart, PrintedItemsAreReadBack, SplitItemsAreOfLines, SplitsLeaveTheSteps, StepsHaveOnePath, TakenItemsAreOfLines, TextsAreLines, TextsAreOfOneCircuit, TextsHaveOneFault, TextsHaveOneMeaning};
 
 /// A text without a faulty line stands for one list of items, and for no other.
 pub fn texts_have_one_meaning()
@@ -62,6 +62,13 @@ pub fn circuits_have_no_fault()
 /// or taken out of it.
 pub fn edits_leave_the_rest()
     ensures law { EditsLeaveTheRest }
+{}
+
+/// An edit changes each round of the blocks around its place: from the first changed step to the end
+/// of the outermost block there stand what is taken out, and what is put in, before the same steps
+/// in each round.
+pub fn edits_change_each_round()
+    ensures law { EditsChangeEachRound }
 {}
 
 /// A round of a block that is split off, so that it is a block by itself with the other rounds in

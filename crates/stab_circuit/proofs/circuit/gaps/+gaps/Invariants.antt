@@ -1,0 +1,8 @@
+use Rattle.std.proofs.Common.{length, ◌+◌, ◌*◌}
+use Rattle.stab_circuit.proofs.circuit.gaps.+gaps.Given as goal
+
+abbrev pub decreases-gaps_in : goal.decreases-gaps_in
+decreases-gaps_in l = 2 * length l.blocks.now
+
+abbrev pub decreases-gaps_inside : goal.decreases-gaps_inside
+decreases-gaps_inside l = 2 * length l.others.now + 1
