@@ -1,5 +1,5 @@
 -- The steps of stretches, one behind the other.
-use Rattle.std.proofs.Common.{◌≡◌, sym, ap, ◌∙◌, ℕ, ◌+◌, List, [], ◌∷◌, ◌++◌, length, take, drop, map, Option, Some, None, IfSome, IsSomeAnd, append_assoc, append-nil}
+use Rattle.std.proofs.Common.{◌≡◌, sym, ap, ◌∙◌, ℕ, ◌+◌, List, [], ◌∷◌, ◌++◌, length, take, drop, map, append_assoc, append-nil}
 use Rattle.std.proofs.lemmas.List.{drop-drop}
 use Rattle.std.proofs.Math.Seq.{take-add}
 use Rattle.stab_circuit.specs.Steps.{Step}
@@ -19,11 +19,3 @@ goes_behind n xs part rest e = sym (sym (drop-drop (length part) n xs) ∙ ap (d
 pub goes_before : {X : Type 0} (n : ℕ) (xs part rest : List X) → drop n xs ≡ part ++ rest → take n xs ++ part ≡ take (n + length part) xs
 goes_before n xs part rest e =
     sym (take-add n (length part) xs ∙ ap (λ l. take n xs ++ l) (ap (take (length part)) e ∙ taken_front part rest))
-
--- stretches that go on with the steps of a part stand for one part more
-pub gathered_more : {V : Type 0} (f : V → List Step) (old new : Option V) (n m : ℕ) (all part rest : List Step) → IfSome new (λ v. IsSomeAnd old (λ before. f v ≡ f before ++ part))
-    → IfSome old (λ v. f v ≡ take n all) → drop n all ≡ part ++ rest → m ≡ length part → IfSome new (λ v. f v ≡ take (n + m) all)
-gathered_more f old None n m all part rest goes is e same = tt
-gathered_more f None (Some v) n m all part rest goes is e same = absurd goes
-gathered_more f (Some before) (Some v) n m all part rest goes is e same =
-    goes ∙ ap (λ l. l ++ part) is ∙ goes_before n all part rest e ∙ ap (λ j. take (n + j) all) (sym same)

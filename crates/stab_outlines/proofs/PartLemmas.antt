@@ -1,5 +1,5 @@
 -- Lists that stand one behind the other in one.
-use Rattle.std.proofs.Common.{◌≡◌, ◌≤◌, ◌<◌, refl, sym, ap, ◌∙◌, ℕ, zero, suc, ◌+◌, List, [], ◌∷◌, ◌++◌, length, take, drop, get_or, arith}
+use Rattle.std.proofs.Common.{◌≡◌, ◌≤◌, ◌<◌, refl, sym, ap, ◌∙◌, ℕ, zero, suc, ◌+◌, List, [], ◌∷◌, ◌++◌, length, take, drop, get_or, append_assoc, arith}
 use Rattle.std.proofs.lemmas.List.{take_all, take_more, take-append-le}
 use Rattle.stab_outlines.specs.inner.Parts.{parts, AreEnds}
 
@@ -54,8 +54,11 @@ pub ends_push : (place : ℕ) (ends : List ℕ) (all more : ℕ) → AreEnds pla
 ends_push place [] all more h le = (omega arith, refl)
 ends_push place (end ∷ ends) all more h le = (h.0, ends_push end ends all more h.1 le)
 
--- and it is the next of some lists
-pub parts_more : (lists : List (List ℕ)) (n : ℕ) (ends xs ys : List ℕ) → parts 0 ends xs ≡ take n lists → AreEnds 0 ends (length xs) → n < length lists → ys ≡ get_or lists n []
-    → parts 0 (ends ++ length (xs ++ ys) ∷ []) (xs ++ ys) ≡ take (n + 1) lists
-parts_more lists n ends xs ys e h lt is =
-    parts_push 0 ends xs ys h ∙ ap (λ l. l ++ ys ∷ []) e ∙ ap (λ y. take n lists ++ y ∷ []) is ∙ sym (take_more lists n [] lt)
+-- and it is the next of some lists, which stand behind others
+pub parts_more : (before lists : List (List ℕ)) (n : ℕ) (ends xs ys : List ℕ) → parts 0 ends xs ≡ before ++ take n lists → AreEnds 0 ends (length xs) → n < length lists → ys ≡ get_or lists n []
+    → parts 0 (ends ++ length (xs ++ ys) ∷ []) (xs ++ ys) ≡ before ++ take (n + 1) lists
+parts_more before lists n ends xs ys e h lt is =
+    parts_push 0 ends xs ys h
+    ∙ ap (λ l. l ++ ys ∷ []) e
+    ∙ append_assoc before (take n lists) (ys ∷ [])
+    ∙ ap (λ l. before ++ l) (ap (λ y. take n lists ++ y ∷ []) is ∙ sym (take_more lists n [] lt))

@@ -2,7 +2,10 @@
 -- Source: this project's own.
 use Rattle.std.specs.Prelude.{List, [], ◌∷◌, ◌++◌, map}
 use Rattle.stab_circuit.specs.Steps.{Step, one, controlled_step, measured, detector}
+use Rattle.stab_circuit.specs.Cursors.{steps_shown}
 use Rattle.stab_outlines.specs.declared.stretch.Stretch.{Stretch}
+use Rattle.stab_outlines.specs.declared.stretch.Together.{Together}
+use Rattle.stab_outlines.specs.declared.stretch.Together.TheVariants as together
 use Rattle.stab_outlines.specs.declared.stretch.Stretch.TheVariants.{Gates, Pairs, Measurements, Detectors}
 
 -- the steps that a stretch stands for
@@ -16,3 +19,8 @@ stretch_steps (Detectors lists) = map detector lists
 abbrev pub stretches_steps : List Stretch → List Step
 stretches_steps [] = []
 stretches_steps (s ∷ more) = stretch_steps s ++ stretches_steps more
+
+-- steps that a stretch may stand for
+abbrev pub together_steps : Together → List Step
+together_steps (together.Instruction steps) = steps_shown steps
+together_steps (together.Detectors lookbacks) = map detector lookbacks.now

@@ -4,7 +4,6 @@ ghost use Rattle.stab_outlines.specs.inner.Places.{lookbacks_stand_at, AllStand}
 
 use crate::lookbacks::Lookbacks;
 use crate::places::Places;
-use stab_circuit::Detectors;
 use std::alloc::{AllocError, Global};
 use std::marker::Model;
 
@@ -76,42 +75,31 @@ fn all_stand(lookbacks: &Lookbacks, places: &Places) -> bool
 impl DetectorList {
     ghost use Rattle.std.specs.Prelude.{◌≡◌, ◌<◌, ◌≤◌, [], All, length, slice_index_or, IfOk, IfSome};
     ghost use Rattle.std.specs.Bool.{OnTrue};
-    ghost use Rattle.stab_circuit.specs.Cursors.{lookbacks_of};
     ghost use Rattle.stab_outlines.specs.Names.{names_lookback, PassesBy};
 
     /// The list of some detectors, or `None` where two of them look at the same record, one looks far back, or there are too many.
     pub(crate) fn of(
         alloc: Global,
-        detectors: Detectors,
+        detectors: &Lookbacks,
     ) -> Result<Option<DetectorList>, AllocError>
-        ensures value { IfOk result (λ found. IfSome found (λ l. l ≡ lookbacks_of detectors.entry)) }
+        ensures value { IfOk result (λ found. IfSome found (λ l. l ≡ detectors.now)) }
     {
         if detectors.len() > MOST_DETECTORS {
             return Ok(None);
         }
-        let Some(lookbacks) = Lookbacks::of(alloc, detectors)? else {
-            return Ok(None);
-        };
-        let places = places_of(alloc, &lookbacks)?;
-        if !all_stand(&lookbacks, &places) {
+        let places = places_of(alloc, detectors)?;
+        if !all_stand(detectors, &places) {
             return Ok(None);
         }
+        let lookbacks = detectors.copy(alloc)?;
         Ok(Some(DetectorList { lookbacks, places }))
     }
 
     /// Whether it is the list of some detectors.
-    pub(crate) fn is(&self, detectors: Detectors) -> bool
-        ensures same { OnTrue result (self.now ≡ lookbacks_of detectors.entry) }
+    pub(crate) fn is(&self, detectors: &Lookbacks) -> bool
+        ensures same { OnTrue result (self.now ≡ detectors.now) }
     {
-        if self.len() != detectors.len() {
-            return false;
-        }
-        for place in 0..self.len() {
-            if self.get(place) != detectors.get(place) {
-                return false;
-            }
-        }
-        true
+        self.lookbacks.is(detectors)
     }
 
     /// How many keys its table of places has.

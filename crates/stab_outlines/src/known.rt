@@ -1,9 +1,7 @@
 ghost use Rattle.std.specs.Prelude.{◌≡◌, ◌<◌, length, IfOk, IfSome};
-ghost use Rattle.stab_circuit.specs.Cursors.{steps_shown};
-ghost use Rattle.stab_outlines.specs.Outlines.{stretch_steps};
+ghost use Rattle.stab_outlines.specs.Outlines.{stretch_steps, together_steps};
 
-use crate::stretch::Stretch;
-use stab_circuit::Steps;
+use crate::stretch::{Stretch, Together};
 use std::alloc::{AllocError, Global};
 use std::rc::Rc;
 
@@ -38,9 +36,9 @@ pub struct Known {
 }
 
 /// The first of some stretches that is the one of some steps, and its place.
-fn find<'a>(stretches: &'a [Rc<Stretch>], steps: Steps) -> Option<(usize, &'a Rc<Stretch>)>
+fn find<'a>(stretches: &'a [Rc<Stretch>], steps: Together) -> Option<(usize, &'a Rc<Stretch>)>
     ensures within { IfSome result (λ found. found.0 < length stretches.now) }
-    ensures same { IfSome result (λ found. stretch_steps found.1.now.value ≡ steps_shown steps.entry) }
+    ensures same { IfSome result (λ found. stretch_steps found.1.now.value ≡ together_steps steps.entry) }
 {
     for (place, stretch) in stretches.iter().enumerate() {
         if stretch.is(steps) {
@@ -51,14 +49,13 @@ fn find<'a>(stretches: &'a [Rc<Stretch>], steps: Steps) -> Option<(usize, &'a Rc
 }
 
 /// Whether they are detectors.
-fn are_detectors(steps: Steps) -> bool {
-    matches!(steps, Steps::Detectors(_))
+fn are_detectors(steps: Together) -> bool {
+    matches!(steps, Together::Detectors(_))
 }
 
 impl Ring {
     ghost use Rattle.std.specs.Prelude.{◌≡◌, IfOk, IfSome};
-    ghost use Rattle.stab_circuit.specs.Cursors.{steps_shown};
-    ghost use Rattle.stab_outlines.specs.Outlines.{stretch_steps};
+    ghost use Rattle.stab_outlines.specs.Outlines.{stretch_steps, together_steps};
 
     /// None.
     fn new(alloc: Global) -> Ring {
@@ -70,8 +67,8 @@ impl Ring {
     }
 
     /// The stretch of some steps where it is held. The one behind the last is looked at first, as rounds have the same order.
-    fn found(&mut self, steps: Steps) -> Result<Option<Rc<Stretch>>, AllocError>
-        ensures value { IfOk result (λ found. IfSome found (λ r. stretch_steps r.value ≡ steps_shown steps.entry)) }
+    fn found(&mut self, steps: Together) -> Result<Option<Rc<Stretch>>, AllocError>
+        ensures value { IfOk result (λ found. IfSome found (λ r. stretch_steps r.value ≡ together_steps steps.entry)) }
     {
         let first = self.behind.min(self.stretches.len());
         let (front, back) = self.stretches.as_slice().split_at(first);
@@ -105,8 +102,7 @@ impl Ring {
 
 impl Known {
     ghost use Rattle.std.specs.Prelude.{◌≡◌, IfOk, IfSome};
-    ghost use Rattle.stab_circuit.specs.Cursors.{steps_shown};
-    ghost use Rattle.stab_outlines.specs.Outlines.{stretch_steps};
+    ghost use Rattle.stab_outlines.specs.Outlines.{stretch_steps, together_steps};
 
     /// None.
     pub fn new(alloc: Global) -> Known {
@@ -118,8 +114,8 @@ impl Known {
     }
 
     /// The stretch of some steps where it is known.
-    fn found(&mut self, steps: Steps) -> Result<Option<Rc<Stretch>>, AllocError>
-        ensures value { IfOk result (λ found. IfSome found (λ r. stretch_steps r.value ≡ steps_shown steps.entry)) }
+    fn found(&mut self, steps: Together) -> Result<Option<Rc<Stretch>>, AllocError>
+        ensures value { IfOk result (λ found. IfSome found (λ r. stretch_steps r.value ≡ together_steps steps.entry)) }
     {
         if are_detectors(steps) {
             let found = self.detectors.found(steps)?;
@@ -130,7 +126,7 @@ impl Known {
     }
 
     /// Keeps the stretch of some steps.
-    fn remember(&mut self, steps: Steps, stretch: Rc<Stretch>) -> Result<(), AllocError> {
+    fn remember(&mut self, steps: Together, stretch: Rc<Stretch>) -> Result<(), AllocError> {
         if are_detectors(steps) {
             self.detectors.remember(stretch)?;
             return Ok(());
@@ -140,10 +136,10 @@ impl Known {
     }
 
     /// A new stretch of some steps, or `None` where there is none, or it takes more room than is left. No further one is made then.
-    fn made(&mut self, alloc: Global, steps: Steps) -> Result<Option<Stretch>, AllocError>
-        ensures value { IfOk result (λ made. IfSome made (λ s. stretch_steps s ≡ steps_shown steps.entry)) }
+    fn made(&mut self, alloc: Global, steps: Together) -> Result<Option<Stretch>, AllocError>
+        ensures value { IfOk result (λ made. IfSome made (λ s. stretch_steps s ≡ together_steps steps.entry)) }
     {
-        let count = steps.len();
+        let count = steps.count();
         if count > self.left {
             self.left = 0;
             return Ok(None);
@@ -151,7 +147,8 @@ impl Known {
         let Some(stretch) = Stretch::of(alloc, steps)? else {
             return Ok(None);
         };
-        self.left = self.left.saturating_sub(count + stretch.keys() / KEYS_EACH);
+        let room = count.saturating_add(stretch.keys() / KEYS_EACH);
+        self.left = self.left.saturating_sub(room);
         Ok(Some(stretch))
     }
 
@@ -159,9 +156,9 @@ impl Known {
     pub(crate) fn stretch(
         &mut self,
         alloc: Global,
-        steps: Steps,
+        steps: Together,
     ) -> Result<Option<Rc<Stretch>>, AllocError>
-        ensures value { IfOk result (λ found. IfSome found (λ r. stretch_steps r.value ≡ steps_shown steps.entry)) }
+        ensures value { IfOk result (λ found. IfSome found (λ r. stretch_steps r.value ≡ together_steps steps.entry)) }
     {
         if let Some(stretch) = self.found(steps)? {
             return Ok(Some(stretch));

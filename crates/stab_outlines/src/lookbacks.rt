@@ -39,15 +39,28 @@ fn start_of(ends: &[u16], place: usize) -> usize
 }
 
 impl Lookbacks {
-    ghost use Rattle.std.specs.Prelude.{◌≡◌, ◌<◌, [], length, slice_index_or, IfOk, IfSome};
+    ghost use Rattle.std.specs.Prelude.{◌≡◌, ◌<◌, [], ◌++◌, length, slice_index_or, IfOk, IfSome};
+    ghost use Rattle.std.specs.Bool.{OnTrue};
     ghost use Rattle.stab_circuit.specs.Cursors.{lookbacks_of};
 
-    /// Those of some detectors, or `None` where they are too many.
-    pub fn of(alloc: Global, detectors: Detectors) -> Result<Option<Lookbacks>, AllocError>
-        ensures value { IfOk result (λ found. IfSome found (λ l. l ≡ lookbacks_of detectors.entry)) }
+    /// Those of no detectors. It takes no memory.
+    pub fn new(alloc: Global) -> Lookbacks
+        ensures none { result ≡ [] }
     {
-        let mut numbers = Vec::new(alloc);
-        let mut ends = Vec::with_capacity(alloc, detectors.len())?;
+        Lookbacks {
+            numbers: Vec::new(alloc),
+            ends: Vec::new(alloc),
+        }
+    }
+
+    /// These with those of further detectors behind them, or `None` where they are too many.
+    pub fn with(self, detectors: Detectors) -> Result<Option<Lookbacks>, AllocError>
+        ensures value { IfOk result (λ found. IfSome found (λ l. l ≡ self ++ lookbacks_of detectors.entry)) }
+    {
+        let Lookbacks {
+            mut numbers,
+            mut ends,
+        } = self;
         for place in 0..detectors.len() {
             numbers.extend_from_slice(detectors.get(place))?;
             if numbers.len() > MOST_LOOKBACKS {
@@ -56,6 +69,38 @@ impl Lookbacks {
             ends.push(numbers.len() as u16)?;
         }
         Ok(Some(Lookbacks { numbers, ends }))
+    }
+
+    /// A copy, in no more memory than it needs.
+    pub fn copy(&self, alloc: Global) -> Result<Lookbacks, AllocError>
+        ensures value { IfOk result (λ l. l ≡ self.now) }
+    {
+        Ok(Lookbacks {
+            numbers: Vec::from_slice(alloc, self.numbers.as_slice())?,
+            ends: Vec::from_slice(alloc, self.ends.as_slice())?,
+        })
+    }
+
+    /// Makes them those of no detectors. It keeps its memory.
+    pub fn clear(&mut self)
+        ensures none { self.new ≡ [] }
+    {
+        self.numbers.clear();
+        self.ends.clear();
+    }
+
+    /// Whether they are others.
+    pub fn is(&self, other: &Lookbacks) -> bool
+        ensures same { OnTrue result (self.now ≡ other.now) }
+    {
+        let same_ends = self.ends.as_slice() == other.ends.as_slice();
+        let same_numbers = self.numbers.as_slice() == other.numbers.as_slice();
+        same_ends && same_numbers
+    }
+
+    /// How many numbers there are in all.
+    pub(crate) fn count(&self) -> usize {
+        self.numbers.len()
     }
 
     /// How many detectors there are.

@@ -1,11 +1,9 @@
-ghost use Rattle.std.specs.Prelude.{◌≡◌, map, IfOk, IfSome};
-ghost use Rattle.stab_circuit.specs.Cursors.{steps_shown};
-
 use crate::detector_list::DetectorList;
 use crate::gate_list::GateList;
+use crate::lookbacks::Lookbacks;
 use crate::pair_list::PairList;
 use crate::target_list::TargetList;
-use stab_circuit::{Axis, ControlledPair, Detectors, MeasureTarget, Measurement, Qubit, Steps};
+use stab_circuit::{Axis, ControlledPair, MeasureTarget, Measurement, Qubit, Steps};
 use stab_letters::Gate;
 use std::alloc::{AllocError, Global};
 
@@ -22,16 +20,48 @@ pub enum Stretch {
     Detectors(DetectorList),
 }
 
+/// Steps that a stretch may stand for.
+#[derive(Clone, Copy)]
+pub enum Together<'a> {
+    /// Those of an instruction.
+    Instruction(Steps<'a>),
+    /// Detectors, by their lookbacks.
+    Detectors(&'a Lookbacks),
+}
+
+impl Together<'_> {
+    /// How many numbers their lists have.
+    pub(crate) fn count(self) -> usize {
+        match self {
+            Together::Instruction(steps) => steps.len(),
+            Together::Detectors(lookbacks) => lookbacks.count().saturating_add(lookbacks.len()),
+        }
+    }
+}
+
 impl Stretch {
     ghost use Rattle.std.specs.Prelude.{◌≡◌, true, map, IfOk, IfSome};
     ghost use Rattle.std.specs.Bool.{OnTrue};
     ghost use Rattle.stab_circuit.specs.Steps.{one, controlled_step, measured, detector};
-    ghost use Rattle.stab_circuit.specs.Cursors.{steps_shown, lookbacks_of};
-    ghost use Rattle.stab_outlines.specs.Outlines.{stretch_steps};
+    ghost use Rattle.stab_circuit.specs.Cursors.{steps_shown};
+    ghost use Rattle.stab_outlines.specs.Outlines.{stretch_steps, together_steps};
 
     /// The stretch of some steps, or `None` where there is none: since they are of another kind, an instruction names a qubit twice
     /// or a record as a control, two detectors look at the same record, or one looks far back.
-    pub(crate) fn of(alloc: Global, steps: Steps) -> Result<Option<Stretch>, AllocError>
+    pub(crate) fn of(alloc: Global, steps: Together) -> Result<Option<Stretch>, AllocError>
+        ensures value { IfOk result (λ found. IfSome found (λ s. stretch_steps s ≡ together_steps steps.entry)) }
+    {
+        match steps {
+            Together::Instruction(steps) => Stretch::of_instruction(alloc, steps),
+            Together::Detectors(lookbacks) => match DetectorList::of(alloc, lookbacks)? {
+                Some(list) => Ok(Some(Stretch::Detectors(list))),
+                None => Ok(None),
+            },
+        }
+    }
+
+    /// The stretch of the steps of an instruction.
+    fn of_instruction(alloc: Global, steps: Steps) -> Result<Option<Stretch>, AllocError>
         ensures value { IfOk result (λ found. IfSome found (λ s. stretch_steps s ≡ steps_shown steps.entry)) }
     {
         match steps {
@@ -47,11 +77,7 @@ impl Stretch {
                 Some(list) => Ok(Some(Stretch::Measurements(measurement, list))),
                 None => Ok(None),
             },
-            Steps::Detectors(detectors) => match DetectorList::of(alloc, detectors)? {
-                Some(list) => Ok(Some(Stretch::Detectors(list))),
-                None => Ok(None),
-            },
-            Steps::Single(_) => Ok(None),
+            Steps::Detectors(_) | Steps::Single(_) => Ok(None),
         }
     }
 
@@ -66,15 +92,24 @@ impl Stretch {
     }
 
     /// Whether it is the stretch of some steps.
-    pub(crate) fn is(&self, steps: Steps) -> bool
+    pub(crate) fn is(&self, steps: Together) -> bool
+        ensures same { OnTrue result (stretch_steps self.now ≡ together_steps steps.entry) }
+    {
+        match steps {
+            Together::Instruction(steps) => self.is_instruction(steps),
+            Together::Detectors(lookbacks) => self.is_detectors(lookbacks),
+        }
+    }
+
+    /// Whether it is the stretch of the steps of an instruction.
+    fn is_instruction(&self, steps: Steps) -> bool
         ensures same { OnTrue result (stretch_steps self.now ≡ steps_shown steps.entry) }
     {
         match steps {
             Steps::Gates(gate, qubits) => self.is_gates(gate, qubits),
             Steps::Pairs(axis, pairs) => self.is_pairs(axis, pairs),
             Steps::Measurements(measurement, targets) => self.is_measurements(measurement, targets),
-            Steps::Detectors(detectors) => self.is_detectors(detectors),
-            Steps::Single(_) => false,
+            Steps::Detectors(_) | Steps::Single(_) => false,
         }
     }
 
@@ -121,11 +156,11 @@ impl Stretch {
     }
 
     /// Whether it is these detectors.
-    fn is_detectors(&self, detectors: Detectors) -> bool
-        ensures same { OnTrue result (stretch_steps self.now ≡ map detector (lookbacks_of detectors.entry)) }
+    fn is_detectors(&self, lookbacks: &Lookbacks) -> bool
+        ensures same { OnTrue result (stretch_steps self.now ≡ map detector lookbacks.now) }
     {
         match self {
-            Stretch::Detectors(list) => list.is(detectors),
+            Stretch::Detectors(list) => list.is(lookbacks),
             _ => false,
         }
     }
