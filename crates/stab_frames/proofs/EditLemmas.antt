@@ -13,14 +13,14 @@ use Rattle.stab_frames.specs.Frames.{identity_frame}
 use Rattle.stab_frames.specs.Notes.{same_coins, changed}
 use Rattle.stab_frames.specs.FrameSteps.{frame_over, flips_over}
 use Rattle.stab_frames.specs.Fronts.{edit_frame, IsFlippedRun}
-use Rattle.stab_frames.specs.RunLaws.{FrontsFlip, PauliFronts, PauliEditsFlip, CoinsFlip}
+use Rattle.stab_frames.specs.RunLaws.{FrontsFlip, FrontsGoOn, FrontsTakePaulis, PauliFronts, PauliEditsFlip, CoinsFlip}
 use Rattle.stab_frames.specs.TableauLaws.{CopiesTurn}
 use Rattle.stab_frames.proofs.FlipLemmas.{length-flipped, length-flipped_additions}
 use Rattle.stab_frames.proofs.StartLemmas.{framed-same}
 use Rattle.stab_frames.proofs.TableauLemmas.{turned-group}
-use Rattle.stab_frames.proofs.FrontLemmas.{fronts-outputs, fronts-matches, fronts-framed, paulis-front, paulis-given, paulis-match, records-flipped, flags-flipped, detectors-flipped, observables-flipped}
+use Rattle.stab_frames.proofs.FrontLemmas.{fronts-outputs, fronts-matches, fronts-framed, paulis-front, paulis-given, paulis-match, gates-framed, gates-given, gates-match, records-flipped, flags-flipped, detectors-flipped, observables-flipped}
 
-gates-fit : (n : ℕ) (l : Letter) (qs : List ℕ) → All (λ q. q < n) qs → All (StepFits n) (map (one (gate_of l)) qs)
+pub gates-fit : (n : ℕ) (l : Letter) (qs : List ℕ) → All (λ q. q < n) qs → All (StepFits n) (map (one (gate_of l)) qs)
 gates-fit n l [] fits = All-nil (StepFits n)
 gates-fit n l (q ∷ qs) fits =
     All-cons (StepFits n) (one (gate_of l) q) (map (one (gate_of l)) qs) (All-head (λ q. q < n) q qs fits) (gates-fit n l qs (All-tail (λ q. q < n) q qs fits))
@@ -43,7 +43,21 @@ fronts-flip n coins notes us vs xs f flips fits later fronts enough = (
   fronts-framed n coins notes us vs xs f flips fits later fronts enough,
 )
 
+pub fronts-go-on : FrontsGoOn
+fronts-go-on n coins notes us vs xs f flips fits later fronts enough = record {
+  framed = fronts-framed n coins notes us vs xs f flips fits later fronts enough;
+  given = fronts-outputs n coins notes us vs xs f flips fits later fronts enough;
+  matches = fronts-matches n coins notes us vs xs f flips fits later fronts enough;
+}
+
 -- Pauli gates
+
+pub fronts-take-paulis : FrontsTakePaulis
+fronts-take-paulis n coins others us vs f flips l m qs rs left right fronts = record {
+  framed = gates-framed n coins others us vs f flips l m qs rs left right fronts;
+  given = gates-given n coins others us vs f flips l m qs rs left right fronts;
+  matches = gates-match n coins others us vs f flips l m qs rs left right fronts;
+}
 
 pub pauli-fronts : PauliFronts
 pauli-fronts n coins front l m qs rs left right = record {
@@ -69,7 +83,7 @@ coins-flip n coins notes xs fits enough =
 
 -- copies
 
-same-lengths : (o flips : RunOutput) → lengths_of (flipped_output o flips) ≡ lengths_of o
+pub same-lengths : (o flips : RunOutput) → lengths_of (flipped_output o flips) ≡ lengths_of o
 same-lengths o flips = λ i. record {
   records = length-flipped o.records flips.records i;
   free = length-flipped o.free flips.free i;

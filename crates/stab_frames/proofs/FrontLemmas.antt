@@ -21,7 +21,7 @@ use Rattle.stab_frames.specs.Starts.{letters_on}
 use Rattle.stab_frames.specs.Fronts.{AreFronts}
 use Rattle.stab_frames.proofs.FlipLemmas.{flipped-joined, joined-matches, flipped-none, unflipped-output, unflipped-matches, additions-flipped}
 use Rattle.stab_frames.proofs.StepLemmas.{group-next, outputs-matches, over-framed}
-use Rattle.stab_frames.proofs.StartLemmas.{framed-exchanged}
+use Rattle.stab_frames.proofs.StartLemmas.{framed-exchanged, framed-gates}
 use Rattle.stab_steps.proofs.RunLemmas.{joined-nothing, after-append, outputs-append}
 use Rattle.stab_run.proofs.StateLemmas.{run-state}
 use Rattle.stab_run.proofs.PointLemmas.{records-are-records}
@@ -76,7 +76,7 @@ module _ (n : ℕ) (coins : ℕ → Bool) (notes : Notes) (us vs xs : List Step)
 
 -- Pauli gates give nothing
 
-gates-give-nothing : (n : ℕ) (coins : ℕ → Bool) (l : Letter) (qs : List ℕ) (a : Point) → outputs n coins (map (one (gate_of l)) qs) a ≡ nothing
+pub gates-give-nothing : (n : ℕ) (coins : ℕ → Bool) (l : Letter) (qs : List ℕ) (a : Point) → outputs n coins (map (one (gate_of l)) qs) a ≡ nothing
 gates-give-nothing n coins l [] a = refl
 gates-give-nothing n coins l (q ∷ qs) a = gates-give-nothing n coins l qs (next_point n coins (one (gate_of l) q) a)
 
@@ -106,6 +106,32 @@ pub paulis-match : (n : ℕ) (coins : ℕ → Bool) (l : Letter) (qs : List ℕ)
     → Matches (outputs n coins (xs ++ map (one (gate_of l)) qs) origin) (unflipped (outputs n coins xs origin))
 paulis-match n coins l qs xs =
     subst (λ o. Matches o (unflipped (outputs n coins xs origin))) (sym (behind-gates n coins l qs xs)) (unflipped-matches (outputs n coins xs origin))
+
+-- where fronts differ by a frame, Pauli gates behind each multiply their letters onto it
+
+module _ (n : ℕ) (coins others : ℕ → Bool) (us vs : List Step) (f : Frame) (flips : RunOutput) (l m : Letter) (qs rs : List ℕ)
+    (left : All (λ q. q < n) qs) (right : All (λ q. q < n) rs) (fronts : AreFronts n coins others us vs f flips) where
+  abbrev olds : List Step
+  olds = map (one (gate_of l)) qs
+
+  abbrev news : List Step
+  news = map (one (gate_of m)) rs
+
+  pub gates-framed : PointsDifferBy n (record f { letters = string_product f.letters (string_product (letters_on n l qs) (letters_on n m rs)) })
+      (point_after n coins (us ++ olds) origin) (point_after n others (vs ++ news) origin)
+  gates-framed =
+      subst (λ x. x)
+      (λ i. PointsDifferBy n (record f { letters = string_product f.letters (string_product (letters_on n l qs) (letters_on n m rs)) }) (sym (after-append n coins us olds origin) i) (sym (after-append n others vs news origin) i))
+      (framed-gates n coins others l m qs rs left right f (point_after n coins us origin) (point_after n others vs origin) fronts.framed)
+
+  pub gates-given : outputs n others (vs ++ news) origin ≡ flipped_output (outputs n coins (us ++ olds) origin) flips
+  gates-given =
+      behind-gates n others m rs vs
+      ∙ fronts.given
+      ∙ ap (λ o. flipped_output o flips) (sym (behind-gates n coins l qs us))
+
+  pub gates-match : Matches (outputs n coins (us ++ olds) origin) flips
+  gates-match = subst (λ o. Matches o flips) (sym (behind-gates n coins l qs us)) fronts.matches
 
 -- what a whole run shows, where its output is flipped
 

@@ -8,7 +8,7 @@ use Rattle.stab_letters.specs.declared.letter.Letter.TheVariants as letter
 use Rattle.stab_letters.specs.Letters.{◌⊕◌}
 use Rattle.stab_pauli.specs.Paulis.{single, string_product}
 use Rattle.stab_letters.proofs.ParityLemmas.{parity-assoc}
-use Rattle.stab_pauli.proofs.StringLemmas.{length-string_product}
+use Rattle.stab_pauli.proofs.StringLemmas.{length-string_product, string_product-assoc, string_product-comm}
 use Rattle.stab_letters.specs.declared.gate.Gate.{Gate}
 use Rattle.stab_tableau.specs.Traces.{applied, member}
 use Rattle.stab_tableau.specs.Turns.{IsTurned}
@@ -107,6 +107,42 @@ framed-exchanged n coins l m qs rs left right a =
     (point_after n coins (map (one (gate_of l)) qs) a) a (point_after n coins (map (one (gate_of m)) rs) a)
     (framed-back n (frame_of (letters_on n l qs) (length a.records)) a (point_after n coins (map (one (gate_of l)) qs) a) (framed-paulis n coins l qs left a))
     (framed-paulis n coins m rs right a))
+
+-- and behind points that differ by a frame
+pub framed-gates : (n : ℕ) (coins others : ℕ → Bool) (l m : Letter) (qs rs : List ℕ) → All (λ q. q < n) qs → All (λ q. q < n) rs → (f : Frame) (a b : Point)
+    → PointsDifferBy n f a b → PointsDifferBy n (record f { letters = string_product f.letters (string_product (letters_on n l qs) (letters_on n m rs)) })
+    (point_after n coins (map (one (gate_of l)) qs) a) (point_after n others (map (one (gate_of m)) rs) b)
+framed-gates n coins others l m qs rs left right f a b apart =
+    subst (λ (g : Frame). PointsDifferBy n g (point_after n coins (map (one (gate_of l)) qs) a) (point_after n others (map (one (gate_of m)) rs) b))
+    (λ i. record {
+      letters =
+          (ap (λ s. string_product s (letters_on n m rs)) (string_product-comm (letters_on n l qs) f.letters)
+          ∙ string_product-assoc f.letters (letters_on n l qs) (letters_on n m rs)) i;
+      flips = (identity_frame-flips (length b.records) (flipped (replicate (length a.records) false) f.flips) long ∙ flipped-zeros (length a.records) f.flips apart.count) i;
+    })
+    (framed-over n (frame_product (frame_of (letters_on n l qs) (length a.records)) f) (frame_of (letters_on n m rs) (length b.records))
+    (point_after n coins (map (one (gate_of l)) qs) a) b (point_after n others (map (one (gate_of m)) rs) b)
+    (framed-over n (frame_of (letters_on n l qs) (length a.records)) f (point_after n coins (map (one (gate_of l)) qs) a) a b
+    (framed-back n (frame_of (letters_on n l qs) (length a.records)) a (point_after n coins (map (one (gate_of l)) qs) a) (framed-paulis n coins l qs left a))
+    apart)
+    (framed-paulis n others m rs right b))
+  where
+    long : length (flipped (replicate (length a.records) false) f.flips) ≡ length b.records
+    long =
+        length-flipped (replicate (length a.records) false) f.flips
+        ∙ length-replicate (length a.records) false
+        ∙ sym (length-flipped a.records f.flips)
+        ∙ sym (ap length apart.records)
+
+    flipped-zeros : (k : ℕ) (flips : List Bool) → length flips ≡ k → flipped (replicate k false) flips ≡ flips
+    flipped-zeros k flips e =
+        ap (λ j. flipped (replicate j false) flips) (sym e)
+        ∙ zeros flips
+      where
+        zeros : (bits : List Bool) → flipped (replicate (length bits) false) bits ≡ bits
+        zeros [] = refl
+        zeros (true ∷ bits) = ap (λ more. true ∷ more) (zeros bits)
+        zeros (false ∷ bits) = ap (λ more. false ∷ more) (zeros bits)
 
 -- a letter that a record controls
 

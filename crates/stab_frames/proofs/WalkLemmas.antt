@@ -1,10 +1,10 @@
 -- Walks: what loops over lists have done so far, one element more.
-use Rattle.std.proofs.Common.{◌≡◌, ℕ, zero, suc, ◌+◌, ◌<◌, ◌≤◌, refl, sym, ◌∙◌, ap, Bool, true, false, ◌||◌, List, [], ◌∷◌, ◌++◌, append_assoc, append-nil, length, take, drop, get_or, set, replicate, nat_lt, arith}
+use Rattle.std.proofs.Common.{◌≡◌, ℕ, zero, suc, ◌+◌, ◌-◌, ◌<◌, ◌≤◌, refl, sym, ◌∙◌, ap, Bool, true, false, ◌||◌, List, [], ◌∷◌, ◌++◌, append_assoc, append-nil, length, take, drop, get_or, set, replicate, nat_lt, arith}
 use Rattle.std.proofs.lemmas.List.{length-replicate, set-get_or, get_or_default, take_all, drop_all}
 use Rattle.std.specs.List.{list_any}
 use Rattle.std.proofs.Math.Seq.{drop-cons}
 use Rattle.stab_letters.specs.declared.letter.Letter.{Letter}
-use Rattle.stab_letters.specs.declared.letter.Letter.TheVariants.{I}
+use Rattle.stab_letters.specs.declared.letter.Letter.TheVariants.{I, X, Y, Z}
 use Rattle.stab_letters.specs.Letters.{◌⊕◌, letters_anticommute, letter_product}
 use Rattle.stab_pauli.specs.Paulis.{string_product}
 use Rattle.stab_pauli.proofs.StringLemmas.{string_product-blank_right, length-string_product, get_or-string_product}
@@ -77,6 +77,52 @@ multiplied-next q string w now new l r e lt is el er then =
         ∙ ap (λ (v : WalkState). get_or v.letters q I) is
         ∙ mixed-here q (string_product w.letters string) w.letters (product-size string w.letters e))
         ∙ sym (get_or-string_product w.letters string q)
+
+-- where the string has letters I nothing is multiplied on
+
+times-I : (x : Letter) → letter_product x I ≡ x
+times-I I = refl
+times-I X = refl
+times-I Y = refl
+times-I Z = refl
+
+mixed-blank : (q : ℕ) (string letters : List Letter) → length string ≡ length letters → q < length letters → get_or string q I ≡ I
+    → take q (string_product letters string) ++ drop q letters ≡ take (suc q) (string_product letters string) ++ drop (suc q) letters
+mixed-blank q string letters e lt blank =
+    sym (set-get_or mixed q I)
+    ∙ ap (set mixed q) (mixed-here q product letters (product-size string letters e) ∙ same)
+    ∙ mixed-set q product letters (product-size string letters e) lt
+  where
+    product : List Letter
+    product = string_product letters string
+
+    mixed : List Letter
+    mixed = take q product ++ drop q letters
+
+    same : get_or letters q I ≡ get_or product q I
+    same =
+        sym (times-I (get_or letters q I))
+        ∙ ap (letter_product (get_or letters q I)) (sym blank)
+        ∙ sym (get_or-string_product letters string q)
+
+mixed-over : (i d : ℕ) (string letters : List Letter) → length string ≡ length letters → i + d ≤ length letters → ((k : ℕ) → i ≤ k → k < i + d → get_or string k I ≡ I)
+    → take i (string_product letters string) ++ drop i letters ≡ take (i + d) (string_product letters string) ++ drop (i + d) letters
+mixed-over i zero string letters e le blank =
+    let same : i ≡ i + 0 = omega arith in ap (λ k. take k (string_product letters string) ++ drop k letters) same
+mixed-over i (suc d) string letters e le blank =
+    let same : suc (i + d) ≡ i + suc d = omega arith in
+    mixed-over i d string letters e (omega (arith, le)) (λ k from lt. blank k from (omega (arith, lt)))
+    ∙ mixed-blank (i + d) string letters e (omega (arith, le)) (blank (i + d) (omega arith) (omega arith))
+    ∙ ap (λ k. take k (string_product letters string) ++ drop k letters) same
+
+pub multiplied-over : (i j : ℕ) (string : List Letter) (w now : WalkState) → length string ≡ length w.letters → i ≤ j → j ≤ length w.letters
+    → ((k : ℕ) → i ≤ k → k < j → get_or string k I ≡ I) → now ≡ multiplied i string w → now ≡ multiplied j string w
+multiplied-over i j string w now e le within blank is =
+    let same : i + (j - i) ≡ j = omega (arith, le) in
+    is
+    ∙ ap (λ s. record w { letters = s })
+    (mixed-over i (j - i) string w.letters e (omega (arith, le, within)) (λ k from lt. blank k from (omega (arith, le, lt)))
+    ∙ ap (λ k. take k (string_product w.letters string) ++ drop k w.letters) same)
 
 pub multiplied-all : (q : ℕ) (string : List Letter) (w now : WalkState) → length string ≡ length w.letters → length w.letters ≤ q → now ≡ multiplied q string w
     → now ≡ record w { letters = string_product w.letters string }

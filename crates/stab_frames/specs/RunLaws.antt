@@ -2,6 +2,7 @@
 -- Source: this project's own.
 use Rattle.std.specs.Prelude.{ℕ, ◌<◌, Bool, List, ◌++◌, All, Option}
 use Rattle.stab_letters.specs.declared.letter.Letter.{Letter}
+use Rattle.stab_pauli.specs.Paulis.{string_product}
 use Rattle.stab_circuit.specs.Steps.{Step}
 use Rattle.stab_run.specs.Points.{RunOutput, origin, joined, point_after, outputs}
 use Rattle.stab_run.specs.ProgramStates.{StepFits}
@@ -10,6 +11,7 @@ use Rattle.stab_frames.specs.Frames.{Frame, PointsDifferBy, identity_frame}
 use Rattle.stab_frames.specs.Notes.{Notes, same_coins, changed}
 use Rattle.stab_frames.specs.FrameSteps.{frame_over, flips_over}
 use Rattle.stab_frames.specs.StepNotes.{AreEnough}
+use Rattle.stab_frames.specs.Starts.{letters_on}
 use Rattle.stab_frames.specs.Fronts.{AreFronts, IsFlippedRun, with_letters, edit_frame, edit_flips}
 
 -- behind fronts that differ by a frame the same steps make the one run the other, flipped, and lead to points that differ by a frame
@@ -21,6 +23,23 @@ FrontsFlip =
     IsFlippedRun n coins (changed coins notes.changes) (old ++ back) (new ++ back) (joined flips (flips_over n notes back (point_after n coins old origin).coin f))
     × PointsDifferBy n (frame_over n notes back (point_after n coins old origin).coin f) (point_after n coins (old ++ back) origin)
     (point_after n (changed coins notes.changes) (new ++ back) origin)
+
+-- with these steps they are fronts again
+abbrev pub FrontsGoOn : Type 0
+FrontsGoOn =
+    (n : ℕ) (coins : ℕ → Bool) (notes : Notes) (old new back : List Step) (f : Frame) (flips : RunOutput) →
+    All (StepFits n) old → All (StepFits n) back → AreFronts n coins (changed coins notes.changes) old new f flips →
+    AreEnough n coins notes back f (point_after n coins old origin) →
+    AreFronts n coins (changed coins notes.changes) (old ++ back) (new ++ back)
+    (frame_over n notes back (point_after n coins old origin).coin f) (joined flips (flips_over n notes back (point_after n coins old origin).coin f))
+
+-- and so they are with Pauli gates behind each, whose letters are multiplied onto the frame
+abbrev pub FrontsTakePaulis : Type 0
+FrontsTakePaulis =
+    (n : ℕ) (coins others : ℕ → Bool) (old new : List Step) (f : Frame) (flips : RunOutput) (l m : Letter) (qs rs : List ℕ) →
+    All (λ q. q < n) qs → All (λ q. q < n) rs → AreFronts n coins others old new f flips →
+    AreFronts n coins others (with_letters old l qs) (with_letters new m rs)
+    (record f { letters = string_product f.letters (string_product (letters_on n l qs) (letters_on n m rs)) }) flips
 
 -- Pauli gates in the place of others, behind the same steps, make such fronts
 abbrev pub PauliFronts : Type 0

@@ -123,16 +123,14 @@ impl Keys {
         self.push(qubit)
     }
 
+    // Not inlined, since where letters change most, in a frame of many, no qubits are kept.
     /// Follows a change of the letter at a qubit, and tells whether all at which a letter is not I are among these, if they were
     /// before.
-    pub fn follow(&mut self, covered: bool, letters: &[Letter], qubit: usize, old: Letter) -> bool
+    #[inline(never)]
+    pub fn follow(&mut self, letters: &[Letter], qubit: usize, old: Letter) -> bool
         requires in_range { qubit < length letters.now }
-        ensures before { result ≡ true → covered ≡ true }
         ensures covers { result ≡ true → (acts old ≡ true → is_key self.old qubit ≡ true) → CoversBut qubit self.old letters.now → Covers self.new letters.now }
     {
-        if !covered {
-            return false;
-        }
         if old != Letter::I || letters[qubit] == Letter::I {
             return true;
         }

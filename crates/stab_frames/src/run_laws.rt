@@ -1,11 +1,22 @@
 //! Laws of whole runs: what an edit by Pauli gates, or other coins, make of a run.
 
-ghost use Rattle.stab_frames.specs.RunLaws.{CoinsFlip, FrontsFlip, PauliEditsFlip, PauliFronts};
+ghost use Rattle.stab_frames.specs.RunLaws.{CoinsFlip, FrontsFlip, FrontsGoOn, FrontsTakePaulis, PauliEditsFlip, PauliFronts};
 
 /// Behind fronts that differ by a frame the same steps make the one run the other, flipped: its
 /// records, flags, detectors and observables.
 pub fn fronts_flip()
     ensures law { FrontsFlip }
+{}
+
+/// With these steps they are fronts again, which differ by the frame that went over the steps.
+pub fn fronts_go_on()
+    ensures law { FrontsGoOn }
+{}
+
+/// With Pauli gates behind the one and the other they are fronts again, which differ by the frame times
+/// the letters of these gates.
+pub fn fronts_take_paulis()
+    ensures law { FrontsTakePaulis }
 {}
 
 /// Pauli gates in the place of others, behind the same steps, make such fronts.

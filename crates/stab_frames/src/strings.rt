@@ -175,8 +175,8 @@ impl KeptStrings {
         Ok(())
     }
 
-    /// The one with a number.
-    pub(crate) fn string(&self, number: usize) -> &Pauli
+    /// The one with a number, counted from 0.
+    pub fn string(&self, number: usize) -> &Pauli
         requires in_range { number < length self.now.strings }
         ensures letters { result.now.letters ≡ slice_index_or self.now.strings number [] }
         ensures length { length result.now.letters ≡ self.now.qubits }

@@ -99,9 +99,11 @@ impl FrameWalk {
         ensures value { self.new ≡ record self.old { letters = string_product self.old.letters string.now.letters } }
         ensures length { length self.new.letters ≡ length self.old.letters }
     {
-        for qubit in 0..self.letters.len() {
+        let mut qubit = string.next_letter(0);
+        while qubit < self.letters.len() {
             let product = self.letter(qubit).times(string.letter(qubit));
             self.set(qubit, product);
+            qubit = string.next_letter(qubit + 1);
         }
     }
 
@@ -194,8 +196,9 @@ impl FrameWalk {
         let old = self.letters[qubit];
         self.letters[qubit] = letter;
         self.weight = self.weight - weight_of(old) + weight_of(letter);
-        let letters = self.letters.as_slice();
-        self.covered = self.keys.follow(self.covered, letters, qubit, old);
+        if self.covered {
+            self.covered = self.keys.follow(self.letters.as_slice(), qubit, old);
+        }
     }
 
     /// Flips the next record, or not.
