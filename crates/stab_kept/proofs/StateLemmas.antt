@@ -1,11 +1,12 @@
 -- States put in the stead of those of copies, from the last on.
-use Rattle.std.proofs.Common.{◌≡◌, ℕ, zero, suc, ◌<◌, ◌≤◌, refl, ◌∙◌, ap, arith, List, [], ◌∷◌, ◌++◌, length, take, drop, map, reverse, set, get_or}
-use Rattle.std.proofs.lemmas.List.{length-append, length-take, length-drop, reverse-reverse}
+use Rattle.std.proofs.Common.{◌≡◌, ℕ, zero, suc, ◌<◌, ◌≤◌, refl, sym, ◌∙◌, ap, arith, List, [], ◌∷◌, ◌++◌, length, take, drop, map, reverse, set, get_or}
+use Rattle.std.proofs.lemmas.List.{length-append, length-take, length-drop, reverse-reverse, take-take}
 use Rattle.stab_tableau.specs.Tableaus.{TableauState}
 use Rattle.stab_copies.specs.declared.checkpoint.Checkpoint.{Checkpoint}
 use Rattle.stab_copies.specs.declared.checkpoint.Meeting.{Meeting}
 use Rattle.stab_copies.specs.LaidCopies.{moved_copy, all_laid}
 use Rattle.stab_turns.specs.LedFrames.{with_states}
+use Rattle.stab_kept.proofs.SpacingLemmas.{all-laid-append}
 
 -- the last state is put first: then the others are put before it
 pub states-last : (ts : List TableauState) (t : TableauState) (cs : List Checkpoint) (d : Checkpoint) → length ts < length cs
@@ -47,15 +48,22 @@ module _ (k K : ℕ) (ts : List TableauState) (cs put : List Checkpoint) (within
   pub put-front : take k put ≡ take k cs
   put-front = ap (take k) is ∙ take-front k cs (with_states ts (drop k cs)) within
 
-  -- moved, and laid behind those before
-  pub put-laid : (s : Meeting) (room taken left laid : List Checkpoint) → room ≡ [] → taken ≡ room ++ reverse (map (moved_copy s) (drop k put)) → left ≡ take k put
-      → laid ≡ all_laid K (reverse taken) left → laid ≡ all_laid K (map (moved_copy s) (with_states ts (drop k cs))) (take k cs)
-  put-laid s room taken left laid empty took kept done =
+  -- moved, and laid behind others, which were laid behind those before
+  pub put-laid : (m : ℕ) (s : Meeting) (room taken left passed flipped mid laid : List Checkpoint) → m ≤ k → room ≡ [] → taken ≡ room ++ reverse (map (moved_copy s) (drop k put))
+      → left ≡ take k put → flipped ≡ reverse passed → mid ≡ all_laid K (reverse flipped) (take m left) → laid ≡ all_laid K (reverse taken) mid
+      → laid ≡ all_laid K (passed ++ map (moved_copy s) (with_states ts (drop k cs))) (take m cs)
+  put-laid m s room taken left passed flipped mid laid order empty took kept turned_over between done =
       done
-      ∙ (λ i. all_laid K (turned i) ((kept ∙ put-front) i))
+      ∙ (λ i. all_laid K (turned i) (front i))
+      ∙ sym (all-laid-append K passed (map (moved_copy s) (with_states ts (drop k cs))) (take m cs))
     where
       turned : reverse taken ≡ map (moved_copy s) (with_states ts (drop k cs))
       turned =
           ap reverse (took ∙ ap (λ zs. zs ++ reverse (map (moved_copy s) (drop k put))) empty)
           ∙ reverse-reverse (map (moved_copy s) (drop k put))
           ∙ ap (map (moved_copy s)) (ap (drop k) is ∙ drop-front k cs (with_states ts (drop k cs)) within)
+
+      front : mid ≡ all_laid K passed (take m cs)
+      front =
+          between
+          ∙ (λ i. all_laid K ((ap reverse turned_over ∙ reverse-reverse passed) i) ((ap (take m) (kept ∙ put-front) ∙ take-take m k cs order) i))

@@ -1,77 +1,150 @@
 -- What a led frame tells: from what was made of a kept run to the run of the new steps.
-use Rattle.std.proofs.Common.{◌≡◌, ℕ, ◌+◌, ◌-◌, ◌≤◌, refl, sym, ◌∙◌, ap, subst, Bool, List, length, take, drop, All, Option, Some, None, arith}
+use Rattle.std.proofs.Common.{◌≡◌, ℕ, ◌+◌, ◌-◌, ◌≤◌, refl, sym, ◌∙◌, ap, subst, Bool, List, [], ◌∷◌, ◌++◌, length, take, drop, All, Option, Some, None, arith}
 use Rattle.std.specs.Prelude.{IfSome, slice_get}
-use Rattle.std.proofs.lemmas.List.Elements.{All-drop}
-use Rattle.stab_pauli.specs.Paulis.{Signed}
+use Rattle.std.proofs.lemmas.List.Elements.{All-append, All-drop, All-take}
+use Rattle.stab_letters.specs.declared.letter.Letter.{Letter}
 use Rattle.stab_circuit.specs.Steps.{Step}
 use Rattle.stab_circuit.specs.declared.edit.Span.{Span}
-use Rattle.stab_run.specs.Points.{RunOutput, origin, joined, outputs}
+use Rattle.stab_steps.specs.declared.records.Lengths.{Lengths}
+use Rattle.stab_run.specs.Records.{ones}
+use Rattle.stab_run.specs.Points.{RunOutput, origin, joined, point_after, outputs}
 use Rattle.stab_run.specs.Cuts.{lengths_of, front_of, rest_of}
 use Rattle.stab_run.specs.ProgramStates.{StepFits, output_of}
+use Rattle.stab_frames.specs.Flips.{flipped_output, unflipped}
+use Rattle.stab_frames.specs.KeptStrings.{note_at}
 use Rattle.stab_copies.specs.declared.checkpoint.Checkpoint.{Checkpoint}
-use Rattle.stab_copies.specs.Checkpoints.{IsCheckpoint}
+use Rattle.stab_copies.specs.Checkpoints.{IsCheckpoint, checkpoint_steps}
+use Rattle.stab_copies.specs.Spacing.{Near, last_of}
 use Rattle.stab_replay.specs.NotedStrings.{IsNoted}
-use Rattle.stab_turns.specs.PauliSpans.{DifferByPaulis}
-use Rattle.stab_turns.specs.LedFrames.{AreInOrder}
-use Rattle.stab_turns.proofs.PauliSpanLemmas.{span-old-output}
-use Rattle.stab_turns.proofs.LedRunLemmas.{IsLedRun, led-run, run-output, run-unflagged, run-group, run-noted}
+use Rattle.stab_turns.specs.PauliSpans.{DifferByPaulis, DifferAtPlaces}
+use Rattle.stab_turns.specs.PassedPlaces.{IsFrameBetween, IsBeforePlaces}
+use Rattle.stab_turns.specs.declared.passing.PauliChange.{PauliChange}
+use Rattle.stab_turns.proofs.FrameBetweenLemmas.{between-first}
+use Rattle.stab_turns.proofs.PauliSpanLemmas.{span-near, span-true, span-true-all, span-flags}
+use Rattle.stab_turns.proofs.LedRunLemmas.{IsLedRun, run-output, run-unflagged, run-group, run-noted}
 use Rattle.stab_turns.proofs.LedCopyLemmas.{run-copies, run-agrees, run-differs}
 use Rattle.stab_kept.specs.declared.kept.KeptRun.{KeptRun}
+use Rattle.stab_kept.specs.declared.turning.Passed.{Passed}
 use Rattle.stab_kept.specs.declared.turning.Turning.{Turning}
 use Rattle.stab_kept.specs.declared.kept.Followed.{Followed}
 use Rattle.stab_kept.specs.KeptRuns.{IsKeptRun, IsSpan, Follows}
 use Rattle.stab_kept.specs.inner.Prepared.{IsCount}
-use Rattle.stab_kept.specs.inner.Turned.{StaysNear, IsTurning, IsPut, HasTurned, turned_end}
+use Rattle.stab_kept.specs.inner.Turned.{StaysNear, HasPassed, IsTurning, IsPut, HasTurned, copies_moved, turned_end}
 use Rattle.stab_kept.proofs.FollowLemmas.{some-at}
-use Rattle.stab_kept.proofs.TurnLemmas.{TellsRun, has-turned}
-use Rattle.stab_kept.proofs.TurnSpacingLemmas.{in-order}
-use Rattle.stab_kept.proofs.TurningLemmas.{before, from-is, stays-behind}
+use Rattle.stab_kept.proofs.TurnLemmas.{TellsRun, AreInside, has-turned}
+use Rattle.stab_kept.proofs.TurnSpacingLemmas.{in-order, stays-behind}
+use Rattle.stab_kept.proofs.TurningLemmas.{before, from-is}
 
-module _ {coins : ℕ → Bool} {K : ℕ} {xs ys : List Step} {s : Span} {p : Signed} {old : KeptRun} {m : ℕ} (count : ℕ) (kept : IsKeptRun old.tableau.qubits coins K xs count old)
-    (span : IsSpan xs ys s) (few : length ys ≤ 1048576) (counted : IsCount (s.first + 1) old.checkpoints.items m) (differ : DifferByPaulis old.tableau.qubits xs ys s p.letters)
-    (behind : IfSome (slice_get old.checkpoints.items m) (λ c. s.old_end ≤ c.step)) (t : Turning) (turning : IsTurning ys s m p old t) where
-  from_is : t.from ≡ lengths_of (outputs old.tableau.qubits coins (take s.old_end xs) origin)
+module _ {coins : ℕ → Bool} {K : ℕ} {xs ys : List Step} {s : Span} {change : PauliChange} {old : KeptRun} {m j : ℕ} (count : ℕ) (kept : IsKeptRun old.tableau.qubits coins K xs count old)
+    (span : IsSpan xs ys s) (few : length ys ≤ 1048576) (counted : IsCount (s.first + 1) old.checkpoints.items m)
+    (differ : DifferByPaulis old.tableau.qubits xs ys s change.string.letters change.old change.new change.gaps.items) (fits : All (StepFits old.tableau.qubits) ys)
+    (behind : IfSome (slice_get old.checkpoints.items j) (λ c. s.old_end ≤ c.step)) (p : Passed) (passed : HasPassed ys s m j change old p.from p.walk p.copies.items)
+    (t : Turning) (turning : IsTurning ys s j p old t) where
+  abbrev n : ℕ
+  n = old.tableau.qubits
+
+  abbrev free : List Bool
+  free = old.outputs.free.items
+
+  abbrev notes : ℕ → Option (List Letter)
+  notes = note_at old.strings.strings free
+
+  abbrev front : RunOutput
+  front = outputs n coins (take s.first xs) origin
+
+  abbrev base : ℕ
+  base = length (point_after n coins (take s.first xs) origin).records
+
+  from_is : p.from ≡ lengths_of front
   from_is =
-      from-is count kept span few counted (before count kept span few counted).copy (before count kept span few counted).here t.from
-      (some-at _ old.checkpoints.items (m - 1) (before count kept span few counted).copy (before count kept span few counted).here turning.from)
-      ∙ ap lengths_of (sym (span-old-output old.tableau.qubits coins xs ys s p.letters span.old_order span.new_order span.before differ))
+      from-is count kept span few counted (before count kept span few counted).copy (before count kept span few counted).here p.from
+      (some-at _ old.checkpoints.items (m - 1) (before count kept span few counted).copy (before count kept span few counted).here passed.from_is)
 
-  order : AreInOrder s.old_end (length xs) (drop m old.checkpoints.items)
-  order = in-order K (length xs) s.old_end m old.checkpoints.items kept.spaced.near span.old_within behind
+  at_places : DifferAtPlaces n xs ys s change
+  at_places = record {
+    old_order = span.old_order;
+    new_order = span.new_order;
+    old_within = span.old_within;
+    new_within = span.new_within;
+    old_few = kept.few;
+    new_few = few;
+    behind = span.behind;
+    differ = differ;
+  }
 
-  run : IsLedRun old.tableau.qubits coins xs ys (drop s.new_end ys) s.old_end s.new_end old.strings old.outputs.free.items old.reach (drop m old.checkpoints.items) t.turned.items
-      (output_of old.outputs) t.from turning.start t.walk
-  run =
-      led-run old.tableau.qubits coins xs ys s p.letters old.strings old.outputs.free.items old.reach (drop m old.checkpoints.items) t.turned.items (output_of old.outputs) t.from turning.start t.walk
-      span.old_order span.old_within span.new_order span.new_within span.before span.behind differ kept.run.output refl kept.noted kept.fits from_is turning.begins
-      (All-drop (IsCheckpoint old.tableau.qubits coins xs) m old.checkpoints.items kept.checkpoints) order turning.led
+  begins : IsBeforePlaces n coins xs ys notes free base (unflipped front) s change (drop s.first ys) passed.start
+  begins = record {
+    left_is = refl;
+    differ = at_places;
+    between =
+        between-first n coins xs ys notes free s.first (ones (take p.from.free free)) p.from passed.start kept.fits fits (let o = span.old_order in let w = span.old_within in omega arith)
+        (let o = span.new_order in let w = span.new_within in omega arith) span.before from_is passed.begins
+        (span-true span.old_order span.new_order differ span.before span.behind coins notes kept.fits fits kept.noted.are_true)
+        (span-flags span.old_order span.new_order differ span.before span.behind coins notes kept.fits fits
+        ∙ (λ i. drop (ap (λ (l : Lengths). l.free) (sym from_is) i) (ap (λ (o : RunOutput). o.free) (sym kept.run.output) i)));
+  }
 
-  pub tells-run : TellsRun old.tableau.qubits coins xs ys s (drop m old.checkpoints.items) (output_of old.outputs) old.strings old.reach t.from t.walk t.turned.items
+  between : IsFrameBetween n coins xs ys notes free base (unflipped front) s.old_end s.new_end p.walk
+  between = passed.between coins xs base (unflipped front) begins
+
+  run : IsLedRun n coins xs ys (drop s.new_end ys) s.old_end s.new_end old.strings free old.reach (drop j old.checkpoints.items) t.turned.items
+      (output_of old.outputs) p.from p.walk t.walk
+  run = record {
+    old_behind = span.behind;
+    new_behind = refl;
+    first = s.first;
+    begins = span.old_order;
+    from_is = from_is;
+    between = between;
+    are_true = span-true-all span.old_order span.new_order differ span.before span.behind coins notes kept.fits fits kept.noted.are_true;
+    near = span-near span.old_order span.new_order differ span.before span.behind old.reach kept.noted.near;
+    output = kept.run.output;
+    flags = refl;
+    noted = kept.noted;
+    are_copies = All-drop (IsCheckpoint n coins xs) j old.checkpoints.items kept.checkpoints;
+    order = in-order K (length xs) s.old_end j old.checkpoints.items kept.spaced.near span.old_within behind;
+    led = turning.led;
+  }
+
+  abbrev runs : RunOutput
+  runs = outputs n coins ys origin
+
+  output_is : runs ≡ joined (front_of p.from (output_of old.outputs)) (flipped_output (rest_of p.from (output_of old.outputs)) t.walk.flips)
+  output_is =
+      run-output n coins xs ys (drop s.new_end ys) s.old_end s.new_end old.strings free old.reach (drop j old.checkpoints.items) t.turned.items
+      (output_of old.outputs) p.from p.walk t.walk run
+
+  copies : All (IsCheckpoint n coins ys) (p.copies.items ++ copies_moved s p.from t.turned.items (drop j old.checkpoints.items))
+  copies =
+      All-append (IsCheckpoint n coins ys) p.copies.items (copies_moved s p.from t.turned.items (drop j old.checkpoints.items))
+      (passed.are_copies coins xs base (unflipped front) begins
+      (All-take (IsCheckpoint n coins xs) (j - m) (drop m old.checkpoints.items) (All-drop (IsCheckpoint n coins xs) m old.checkpoints.items kept.checkpoints)))
+      (run-copies n coins xs ys (drop s.new_end ys) s.old_end s.new_end old.strings free old.reach (drop j old.checkpoints.items) t.turned.items
+      (output_of old.outputs) p.from p.walk t.walk run (omega (arith, few)))
+
+  pub tells-run : TellsRun n coins xs ys s (drop j old.checkpoints.items) (output_of old.outputs) old.strings old.reach t.from t.walk t.passed.items t.turned.items
   tells-run = record {
     output =
-        run-output old.tableau.qubits coins xs ys (drop s.new_end ys) s.old_end s.new_end old.strings old.outputs.free.items old.reach (drop m old.checkpoints.items) t.turned.items
-        (output_of old.outputs) t.from turning.start t.walk run
-        ∙ ap (joined (front_of t.from (output_of old.outputs)))
-        (run-unflagged old.tableau.qubits coins xs ys (drop s.new_end ys) s.old_end s.new_end old.strings old.outputs.free.items old.reach (drop m old.checkpoints.items) t.turned.items
-        (output_of old.outputs) t.from turning.start t.walk run (rest_of t.from (output_of old.outputs)));
+        output_is
+        ∙ ap (joined (front_of p.from (output_of old.outputs)))
+        (run-unflagged n coins xs ys (drop s.new_end ys) s.old_end s.new_end old.strings free old.reach (drop j old.checkpoints.items) t.turned.items
+        (output_of old.outputs) p.from p.walk t.walk run (rest_of p.from (output_of old.outputs)))
+        ∙ ap (λ l. joined (front_of l (output_of old.outputs)) (flipped_output (rest_of l (output_of old.outputs)) (record t.walk.flips { free = [] }))) (sym turning.from);
     group =
-        run-group old.tableau.qubits coins xs ys (drop s.new_end ys) s.old_end s.new_end old.strings old.outputs.free.items old.reach (drop m old.checkpoints.items) t.turned.items
-        (output_of old.outputs) t.from turning.start t.walk run;
+        run-group n coins xs ys (drop s.new_end ys) s.old_end s.new_end old.strings free old.reach (drop j old.checkpoints.items) t.turned.items
+        (output_of old.outputs) p.from p.walk t.walk run;
     moved_copies =
-        run-copies old.tableau.qubits coins xs ys (drop s.new_end ys) s.old_end s.new_end old.strings old.outputs.free.items old.reach (drop m old.checkpoints.items) t.turned.items
-        (output_of old.outputs) t.from turning.start t.walk run (omega (arith, few));
+        subst (λ x. x) (λ i. All (IsCheckpoint n coins ys) (sym turning.passed i ++ copies_moved s (sym turning.from i) t.turned.items (drop j old.checkpoints.items))) copies;
     noted =
-        subst (λ (o : RunOutput). IsNoted old.tableau.qubits coins ys old.strings o.free old.reach)
-        (sym (run-output old.tableau.qubits coins xs ys (drop s.new_end ys) s.old_end s.new_end old.strings old.outputs.free.items old.reach (drop m old.checkpoints.items) t.turned.items
-        (output_of old.outputs) t.from turning.start t.walk run))
-        (run-noted old.tableau.qubits coins xs ys (drop s.new_end ys) s.old_end s.new_end old.strings old.outputs.free.items old.reach (drop m old.checkpoints.items) t.turned.items
-        (output_of old.outputs) t.from turning.start t.walk run);
+        subst (λ (o : RunOutput). IsNoted n coins ys old.strings o.free old.reach) (sym output_is)
+        (run-noted n coins xs ys (drop s.new_end ys) s.old_end s.new_end old.strings free old.reach (drop j old.checkpoints.items) t.turned.items
+        (output_of old.outputs) p.from p.walk t.walk run);
     apart =
-        run-differs old.tableau.qubits coins xs ys (drop s.new_end ys) s.old_end s.new_end old.strings old.outputs.free.items old.reach (drop m old.checkpoints.items) t.turned.items
-        (output_of old.outputs) t.from turning.start t.walk run;
+        run-differs n coins xs ys (drop s.new_end ys) s.old_end s.new_end old.strings free old.reach (drop j old.checkpoints.items) t.turned.items
+        (output_of old.outputs) p.from p.walk t.walk run;
     agree =
-        run-agrees old.tableau.qubits coins xs ys (drop s.new_end ys) s.old_end s.new_end old.strings old.outputs.free.items old.reach (drop m old.checkpoints.items) t.turned.items
-        (output_of old.outputs) t.from turning.start t.walk run;
+        run-agrees n coins xs ys (drop s.new_end ys) s.old_end s.new_end old.strings free old.reach (drop j old.checkpoints.items) t.turned.items
+        (output_of old.outputs) p.from p.walk t.walk run;
   }
 
 -- the end that a frame leads to is behind the span
@@ -80,21 +153,23 @@ end-behind s total None within few = within
 end-behind s total (Some c) within few = omega (arith, within, few)
 
 -- so the run was turned
-pub has-turned-here : {coins : ℕ → Bool} {K : ℕ} {ys : List Step} {s : Span} {p : Signed} {old : KeptRun} {m : ℕ} (f : Follows old.tableau.qubits coins K ys s (Some p) old)
-    → length ys ≤ 1048576 → IsCount (s.first + 1) old.checkpoints.items m → (c : Checkpoint) → slice_get old.checkpoints.items (m - 1) ≡ Some c
-    → StaysNear K s (length ys) c.step (slice_get old.checkpoints.items m) → (t : Turning) → IsTurning ys s m p old t → (new : KeptRun) → IsPut old s m K t new
-    → All (StepFits old.tableau.qubits) ys → (g : Followed) → g.applied + s.first ≡ s.new_end
-    → (g.applied + g.framed) + c.step ≡ turned_end s (length ys) (slice_get old.checkpoints.items (m + length t.turned.items))
+pub has-turned-here : {coins : ℕ → Bool} {K : ℕ} {ys : List Step} {s : Span} {change : PauliChange} {old : KeptRun} {m j : ℕ} (f : Follows old.tableau.qubits coins K ys s (Some change) old)
+    → length ys ≤ 1048576 → IsCount (s.first + 1) old.checkpoints.items m → AreInside s old.checkpoints.items m j → (c : Checkpoint) → slice_get old.checkpoints.items (m - 1) ≡ Some c
+    → (p : Passed) → HasPassed ys s m j change old p.from p.walk p.copies.items → (last : ℕ) → Near K (c.step ∷ checkpoint_steps p.copies.items)
+    → last_of c.step (checkpoint_steps p.copies.items) ≡ last → StaysNear K s (length ys) last (slice_get old.checkpoints.items j)
+    → (t : Turning) → IsTurning ys s j p old t → (new : KeptRun) → IsPut old s m j K t new → All (StepFits old.tableau.qubits) ys → (g : Followed) → g.applied + s.first ≡ s.new_end
+    → (g.applied + g.framed) + c.step ≡ turned_end s (length ys) (slice_get old.checkpoints.items (j + length t.turned.items))
     → HasTurned old.tableau.qubits coins K ys (length old.observables.items) s old g new
-has-turned-here {coins} {K} {ys} {s} {p} {old} {m} f few counted c here stays t turning new put fits g applied took =
-    let tells = tells-run f.count f.kept f.span few counted f.differ (stays-behind K s (length ys) c.step (slice_get old.checkpoints.items m) stays) t turning in
-    has-turned f.count f.kept f.span few m counted t tells
-    (some-at (λ (d : Checkpoint). StaysNear K s (length ys) d.step (slice_get old.checkpoints.items m)) old.checkpoints.items (m - 1) (before f.count f.kept f.span few counted).copy
-    (before f.count f.kept f.span few counted).here
-    (subst (λ o. IfSome o (λ (d : Checkpoint). StaysNear K s (length ys) d.step (slice_get old.checkpoints.items m))) (sym here) stays))
-    new put fits g
+has-turned-here {coins} {K} {ys} {s} {change} {old} {m} {j} f few counted inside c here p passed last close last_is stays t turning new put fits g applied took =
+    let tells = tells-run f.count f.kept f.span few counted f.differ fits (stays-behind K s (length ys) last (slice_get old.checkpoints.items j) stays) p passed t turning in
+    let first : Checkpoint = (before f.count f.kept f.span few counted).copy in
+    let same : c ≡ first = (let e : Some c ≡ Some first = sym here ∙ (before f.count f.kept f.span few counted).here in cc) in
+    has-turned f.count f.kept f.span few m j counted inside t tells last stays new put
+    (subst (λ x. x) (λ i. Near K ((same i).step ∷ checkpoint_steps (sym turning.passed i))) close)
+    ((λ i. last_of (sym same i).step (checkpoint_steps (turning.passed i))) ∙ last_is)
+    fits g
     (record {
       applied = applied;
       counted =
-          subst (λ o. IfSome o (λ (d : Checkpoint). (g.applied + g.framed) + d.step ≡ turned_end s (length ys) (slice_get old.checkpoints.items (m + length t.turned.items)))) (sym here) took;
+          subst (λ o. IfSome o (λ (d : Checkpoint). (g.applied + g.framed) + d.step ≡ turned_end s (length ys) (slice_get old.checkpoints.items (j + length t.turned.items)))) (sym here) took;
     })

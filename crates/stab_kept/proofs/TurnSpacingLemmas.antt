@@ -1,16 +1,21 @@
 -- Turned copies: where copies stand that were turned, and moved with a span.
 use Rattle.std.proofs.Common.{◌≡◌, ℕ, zero, suc, ◌+◌, ◌-◌, ◌^◌, ◌<◌, ◌≤◌, refl, sym, ◌∙◌, ap, subst, List, [], ◌∷◌, ◌++◌, drop, map, Option, Some, None, arith}
-use Rattle.std.specs.Prelude.{IfSome, slice_get}
+use Rattle.std.specs.Prelude.{IfSome, MatchOption, slice_get}
 use Rattle.stab_tableau.specs.Tableaus.{TableauState}
 use Rattle.stab_circuit.specs.declared.edit.Span.{Span}
 use Rattle.stab_steps.specs.declared.records.Lengths.{Lengths}
 use Rattle.stab_copies.specs.declared.checkpoint.Checkpoint.{Checkpoint}
-use Rattle.stab_copies.specs.Spacing.{Near}
+use Rattle.stab_copies.specs.Spacing.{Near, last_of}
 use Rattle.stab_copies.specs.Checkpoints.{checkpoint_steps}
 use Rattle.stab_copies.specs.LaidCopies.{moved, moved_copy}
 use Rattle.stab_turns.specs.LedFrames.{AreInOrder, with_states}
 use Rattle.stab_kept.specs.inner.Turned.{StaysNear, span_meeting}
 use Rattle.stab_kept.proofs.SpacingLemmas.{near-le, near-tail, near-moved, moved-within, steps-moved}
+
+-- a copy that stays near is behind the span
+pub stays-behind : (K : ℕ) (s : Span) (total step : ℕ) (o : Option Checkpoint) → StaysNear K s total step o → IfSome o (λ c. s.old_end ≤ c.step)
+stays-behind K s total step None h = tt
+stays-behind K s total step (Some c) h = h.1.0
 
 -- other states stand where the states before stood
 pub same-steps : (ts : List TableauState) (cs : List Checkpoint) → checkpoint_steps (with_states ts cs) ≡ checkpoint_steps cs
@@ -32,7 +37,8 @@ in-order K L from (suc n) (c ∷ cs) near within behind = in-order K L from n cs
 
 -- moved with a span, copies that stay near one another and the one before stay so
 moved-on : (K L total step : ℕ) (s : Span) (ds : List Checkpoint) → s.old_end ≤ L → total ≡ s.new_end + (L - s.old_end) → total < 2 ^ 64 → step ≤ s.new_end
-    → (o : Option Checkpoint) → slice_get ds 0 ≡ o → StaysNear K s total step o → Near K (checkpoint_steps ds ++ L ∷ [])
+    → (o : Option Checkpoint) → slice_get ds 0 ≡ o
+    → MatchOption o (total ≤ step + K) (λ c. (s.old_end ≤ c.step) × (moved s.old_end s.new_end c.step ≤ step + K)) → Near K (checkpoint_steps ds ++ L ∷ [])
     → Near K (step ∷ map (moved s.old_end s.new_end) (checkpoint_steps ds) ++ total ∷ [])
 moved-on K L total step s [] end total_is few order None is stays near = (omega arith, stays, tt)
 moved-on K L total step s [] end total_is few order (Some d) is stays near = absurd (cc)
@@ -62,10 +68,24 @@ first-dropped (suc n) [] = refl
 first-dropped (suc n) (c ∷ cs) = first-dropped n cs
 
 pub turned-near : (K L total step n : ℕ) (s : Span) (l : Lengths) (ts : List TableauState) (cs : List Checkpoint) → s.old_end ≤ L → total ≡ s.new_end + (L - s.old_end)
-    → total < 2 ^ 64 → step ≤ s.new_end → StaysNear K s total step (slice_get cs n) → Near K (checkpoint_steps cs ++ L ∷ [])
+    → total < 2 ^ 64 → StaysNear K s total step (slice_get cs n) → Near K (checkpoint_steps cs ++ L ∷ [])
     → Near K (step ∷ checkpoint_steps (map (moved_copy (span_meeting s l)) (with_states ts (drop n cs))) ++ total ∷ [])
-turned-near K L total step n s l ts cs end total_is few order stays near =
+turned-near K L total step n s l ts cs end total_is few stays near =
     subst (λ steps. Near K (step ∷ steps ++ total ∷ []))
     (ap (map (moved s.old_end s.new_end)) (sym (same-steps ts (drop n cs)))
     ∙ sym (steps-moved (span_meeting s l) (with_states ts (drop n cs))))
-    (moved-on K L total step s (drop n cs) end total_is few order (slice_get cs n) (first-dropped n cs) stays (near-from K L n cs near))
+    (moved-on K L total step s (drop n cs) end total_is few stays.0 (slice_get cs n) (first-dropped n cs) stays.1 (near-from K L n cs near))
+
+-- copies near one another, and others from the last of them on
+
+pub near-more : (K a last : ℕ) (cs : List Checkpoint) (c : Checkpoint) → Near K (a ∷ checkpoint_steps cs) → last_of a (checkpoint_steps cs) ≡ last → last ≤ c.step → c.step ≤ last + K
+    → Near K (a ∷ checkpoint_steps (cs ++ c ∷ [])) × (last_of a (checkpoint_steps (cs ++ c ∷ [])) ≡ c.step)
+near-more K a last [] c near is from to = ((omega (arith, is, from), omega (arith, is, to), tt), refl)
+near-more K a last (b ∷ cs) c near is from to =
+    let more = near-more K b.step last cs c near.2 is from to in
+    ((near.0, near.1, more.0), more.1)
+
+pub near-both : (K total a last : ℕ) (cs ds : List Checkpoint) → Near K (a ∷ checkpoint_steps cs) → last_of a (checkpoint_steps cs) ≡ last → Near K (last ∷ checkpoint_steps ds ++ total ∷ [])
+    → Near K (a ∷ checkpoint_steps (cs ++ ds) ++ total ∷ [])
+near-both K total a last [] ds near is next = subst (λ k. Near K (k ∷ checkpoint_steps ds ++ total ∷ [])) (sym is) next
+near-both K total a last (c ∷ cs) ds near is next = (near.0, near.1, near-both K total c.step last cs ds near.2 is next)

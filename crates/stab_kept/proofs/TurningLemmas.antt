@@ -1,19 +1,15 @@
 -- Turnings: what a frame needs to be led over the steps behind a span of a kept run's circuit, and what was made of the run then.
-use Rattle.std.proofs.Common.{◌≡◌, ℕ, ◌+◌, ◌-◌, ◌^◌, ◌<◌, ◌≤◌, sym, ◌∙◌, ap, subst, Bool, List, [], ◌∷◌, ◌++◌, length, take, drop, All, Option, Some, None, replicate, get_or, arith}
+use Rattle.std.proofs.Common.{◌≡◌, ℕ, ◌+◌, ◌-◌, ◌^◌, ◌<◌, ◌≤◌, sym, ◌∙◌, ap, subst, Bool, List, [], ◌∷◌, ◌++◌, length, take, drop, All, Some, get_or, arith}
 use Rattle.std.specs.Prelude.{IfSome, slice_get}
 use Rattle.std.proofs.lemmas.List.{length-append, length-drop, length-take, drop-take}
 use Rattle.std.proofs.lemmas.List.Elements.{All-drop}
 use Rattle.std.proofs.lemmas.Option.{get_or_from_slice_get}
 use Rattle.stab_letters.specs.declared.letter.Letter.{Letter}
-use Rattle.stab_letters.specs.declared.letter.Letter.TheVariants.{I}
-use Rattle.stab_pauli.specs.Paulis.{Signed, string_product}
-use Rattle.stab_pauli.proofs.StringLemmas.{string_product-blank}
 use Rattle.stab_tableau.specs.Tableaus.{TableauState}
 use Rattle.stab_circuit.specs.Steps.{Step}
 use Rattle.stab_circuit.specs.declared.edit.Span.{Span}
 use Rattle.stab_steps.specs.declared.records.Lengths.{Lengths}
-use Rattle.stab_run.specs.Records.{ones}
-use Rattle.stab_run.specs.Points.{Point, RunOutput, nothing, origin, point_after, outputs}
+use Rattle.stab_run.specs.Points.{Point, RunOutput, origin, point_after, outputs}
 use Rattle.stab_run.specs.Cuts.{lengths_of}
 use Rattle.stab_run.proofs.PointLemmas.{HasAtMost, outputs-short, cut}
 use Rattle.stab_copies.specs.declared.checkpoint.Checkpoint.{Checkpoint}
@@ -26,7 +22,6 @@ use Rattle.stab_turns.specs.LedFrames.{AreInOrder, AreTurnedCopies, IsLedFrame}
 use Rattle.stab_kept.specs.declared.kept.KeptRun.{KeptRun}
 use Rattle.stab_kept.specs.KeptRuns.{IsKeptRun, IsSpan}
 use Rattle.stab_kept.specs.inner.Prepared.{IsCount}
-use Rattle.stab_kept.specs.inner.Turned.{StaysNear}
 use Rattle.stab_kept.proofs.SpacingLemmas.{IsBefore}
 use Rattle.stab_kept.proofs.FollowLemmas.{at-get, before-first, same-rest, all-qubits}
 use Rattle.stab_kept.proofs.TurnSpacingLemmas.{in-order}
@@ -41,10 +36,18 @@ lengths-longer a b c is = (λ i. record {
   additions = sym (length-append a.additions b.additions) i;
 }) ∙ ap lengths_of (sym is)
 
--- a copy that stays near is followed by one behind the span
-pub stays-behind : (K : ℕ) (s : Span) (total step : ℕ) (o : Option Checkpoint) → StaysNear K s total step o → IfSome o (λ c. s.old_end ≤ c.step)
-stays-behind K s total step None h = tt
-stays-behind K s total step (Some c) h = h.0
+-- copies from one behind a span on
+
+module _ {n : ℕ} {coins : ℕ → Bool} {K : ℕ} {xs ys : List Step} {s : Span} {old : KeptRun} (count : ℕ) (kept : IsKeptRun n coins K xs count old) (span : IsSpan xs ys s) where
+  pub behind-order : (j : ℕ) → IfSome (slice_get old.checkpoints.items j) (λ c. s.old_end ≤ c.step)
+      → AreInOrder s.old_end (s.old_end + length (drop s.new_end ys)) (drop j old.checkpoints.items)
+  behind-order j stays =
+      subst (λ L. AreInOrder s.old_end L (drop j old.checkpoints.items))
+      (let w = span.old_within in omega (arith, length-drop s.new_end ys, same-rest n coins K xs count old kept ys s span))
+      (in-order K (length xs) s.old_end j old.checkpoints.items kept.spaced.near span.old_within stays)
+
+  pub behind-qubits : (j k : ℕ) → k ≡ n → All (λ c. c.tableau.qubits ≡ k) (drop j old.checkpoints.items)
+  behind-qubits j k e = All-drop (λ c. c.tableau.qubits ≡ k) j old.checkpoints.items (all-qubits n coins K xs count old kept ys s span k e)
 
 module _ {n : ℕ} {coins : ℕ → Bool} {K : ℕ} {xs ys : List Step} {s : Span} {old : KeptRun} {m : ℕ} (count : ℕ) (kept : IsKeptRun n coins K xs count old) (span : IsSpan xs ys s)
     (few : length ys ≤ 1048576) (counted : IsCount (s.first + 1) old.checkpoints.items m) where
@@ -115,23 +118,12 @@ module _ {n : ℕ} {coins : ℕ → Bool} {K : ℕ} {xs ys : List Step} {s : Spa
             length-append (outputs n coins (take s.first xs) origin).free (outputs n coins (drop s.first xs) (point_after n coins (take s.first xs) origin)).free,
           )
 
-      pub from-few : from.free + length (drop s.new_end ys) < 2 ^ 63
-      from-few =
+      pub from-few : (k : ℕ) → from.free + length (drop k ys) < 2 ^ 62
+      from-few k =
           let short = (outputs-short n coins (take s.first xs) origin).free in
-          let o = span.old_order in
-          let p = span.new_order in
+          let o = span.new_order in
           let w = span.new_within in
-          omega (arith, ap (λ (l : Lengths). l.free) (from-is from counts), short, length-take s.first xs, length-drop s.new_end ys, few)
-
-  pub behind-order : (stays : IfSome (slice_get old.checkpoints.items m) (λ c. s.old_end ≤ c.step))
-      → AreInOrder s.old_end (s.old_end + length (drop s.new_end ys)) (drop m old.checkpoints.items)
-  behind-order stays =
-      subst (λ L. AreInOrder s.old_end L (drop m old.checkpoints.items))
-      (let w = span.old_within in omega (arith, length-drop s.new_end ys, same-rest n coins K xs count old kept ys s span))
-      (in-order K (length xs) s.old_end m old.checkpoints.items kept.spaced.near span.old_within stays)
-
-  pub behind-qubits : (k : ℕ) → k ≡ n → All (λ c. c.tableau.qubits ≡ k) (drop m old.checkpoints.items)
-  behind-qubits k e = All-drop (λ c. c.tableau.qubits ≡ k) m old.checkpoints.items (all-qubits n coins K xs count old kept ys s span k e)
+          omega (arith, ap (λ (l : Lengths). l.free) (from-is from counts), short, length-take s.first xs, length-drop k ys, few, o, w)
 
 -- no more copies were turned than there are
 turned-few : (k : ℕ) (strings : List (List Letter)) (free : List Bool) (back : List Step) (from steps : ℕ) (w : WalkState) (cs : List Checkpoint) (ts : List TableauState)
@@ -145,12 +137,3 @@ pub led-few : (k : ℕ) (strings : List (List Letter)) (free : List Bool) (reach
 led-few k strings free reach back from m cs ts w v led within =
     let le = turned-few k strings free back from led.steps w (drop m cs) ts led.copies in
     omega (arith, length-drop m cs, within)
-
--- a frame that begins with a string's letters
-pub begun-letters : (k count : ℕ) (p : Signed) (free : List Bool) (w v : WalkState) → length p.letters ≡ k
-    → w ≡ record { letters = replicate k I; flips = nothing; coin = count; number = ones (take count free) }
-    → v ≡ record w { letters = string_product w.letters p.letters } → v ≡ record { letters = p.letters; flips = nothing; coin = count; number = ones (take count free) }
-begun-letters k count p free w v size is then =
-    then
-    ∙ (λ i. record (is i) { letters = string_product (is i).letters p.letters })
-    ∙ ap (λ l. record { letters = l; flips = nothing; coin = count; number = ones (take count free) }) (string_product-blank k p.letters size)

@@ -1,7 +1,6 @@
 -- Kept runs: a run that is kept with copies of its state, and another one whose steps differ from its within a span.
 -- Source: this project's own.
 use Rattle.std.specs.Prelude.{◌≡◌, ℕ, ◌+◌, ◌≤◌, Bool, false, List, All, Option, IfSome, length, take, drop, replicate}
-use Rattle.stab_pauli.specs.Paulis.{Signed}
 use Rattle.stab_circuit.specs.Steps.{Step, most_steps}
 use Rattle.stab_kept.specs.declared.kept.KeptRun.{KeptRun}
 use Rattle.stab_circuit.specs.declared.edit.Span.{Span}
@@ -13,6 +12,7 @@ use Rattle.stab_copies.specs.Spacing.{IsSpaced}
 use Rattle.stab_copies.specs.Checkpoints.{IsRunFromStart, IsCheckpoint, checkpoint_steps}
 use Rattle.stab_replay.specs.NotedStrings.{IsNoted}
 use Rattle.stab_turns.specs.PauliSpans.{DifferByPaulis}
+use Rattle.stab_turns.specs.declared.passing.PauliChange.{PauliChange}
 use Rattle.stab_turns.specs.Sections.{IsSection}
 
 -- what is kept is the run of these steps, which fit on the qubits, with so many observables, copies at most K steps apart, and outlines of
@@ -47,14 +47,13 @@ pub record IsSpan (xs ys : List Step) (s : Span) : Type 0 where
   pub before : take s.first xs ≡ take s.first ys
   pub behind : drop s.old_end xs ≡ drop s.new_end ys
 
--- what is kept is the run of other steps, from which these differ within the span; where a string is given, by Pauli gates alone, which
--- come to this string
-pub record Follows (n : ℕ) (coins : ℕ → Bool) (K : ℕ) (ys : List Step) (s : Span) (paulis : Option Signed) (r : KeptRun) : Type 0 where
+-- what is kept is the run of other steps, from which these differ within the span; where a change is given, by Pauli gates alone, as it says
+pub record Follows (n : ℕ) (coins : ℕ → Bool) (K : ℕ) (ys : List Step) (s : Span) (paulis : Option PauliChange) (r : KeptRun) : Type 0 where
   pub old : List Step
   pub count : ℕ
   pub kept : IsKeptRun n coins K old count r
   pub span : IsSpan old ys s
-  pub differ : IfSome paulis (λ p. DifferByPaulis n old ys s p.letters)
+  pub differ : IfSome paulis (λ p. DifferByPaulis n old ys s p.string.letters p.old p.new p.gaps.items)
 
 -- so many steps behind what was changed both runs have the same group, number of the next coin and records
 abbrev pub AgreeBehindSpan : ℕ → (ℕ → Bool) → List Step → List Step → Span → ℕ → Type 0

@@ -362,7 +362,7 @@ impl KeptRun {
 
     /// Lays copies, the last of them first, behind so many of those that are kept. It takes no
     /// memory.
-    fn lay_behind(&mut self, before: usize, laid: &mut Vec<Checkpoint>, stride: usize)
+    pub(crate) fn lay_behind(&mut self, before: usize, laid: &mut Vec<Checkpoint>, stride: usize)
         requires room { before + length laid.old.items ≤ vec_capacity self.old.checkpoints }
         ensures tableau { self.new.tableau ≡ self.old.tableau }
         ensures output { output_of self.new.outputs ≡ output_of self.old.outputs }

@@ -1,29 +1,43 @@
-ghost use Rattle.std.specs.Prelude.{◌≡◌, ℕ, ◌+◌, ◌-◌, ◌*◌, ◌<◌, ◌≤◌, [], None, Some, true, Bool, List, All, length, take, drop, slice_get, vec_capacity, IfSome, IfOk, IfErr, OnOk, OnErr, ◌++◌};
+ghost use Rattle.std.specs.Prelude.{◌≡◌, ℕ, ◌+◌, ◌-◌, ◌*◌, ◌^◌, ◌<◌, ◌≤◌, [], ◌∷◌, None, Some, true, Bool, List, All, length, take, drop, slice_get, vec_capacity, IfSome, IfOk, IfErr, OnOk, OnErr, ◌++◌};
 ghost use Rattle.stab_io.specs.declared.refusal.Refusal.TheVariants.{OutOfMemory};
 ghost use Rattle.stab_circuit.specs.Steps.{Step, unroll, observables_of, check_within};
 ghost use Rattle.stab_circuit.specs.Views.{circuit_items};
 ghost use Rattle.stab_circuit.specs.Cursors.{IsApart};
 ghost use Rattle.stab_run.specs.Records.{ones};
 ghost use Rattle.stab_run.specs.Points.{all_coins_of};
+ghost use Rattle.stab_frames.specs.Walks.{IsPlaced};
 ghost use Rattle.stab_copies.specs.Checkpoints.{checkpoint_steps};
+ghost use Rattle.stab_copies.specs.Spacing.{Near, last_of};
 ghost use Rattle.stab_turns.specs.LedFrames.{with_states};
+ghost use Rattle.stab_turns.specs.declared.passing.PauliChange.{PauliChange};
 ghost use Rattle.stab_kept.specs.Counts.{IsCounted};
 ghost use Rattle.stab_kept.specs.KeptRuns.{IsKeptRun, IsSameKept, IsSpan, Follows, AgreeBehindSpan, AgreeBackBehindSpan};
 ghost use Rattle.stab_kept.specs.inner.Prepared.{IsCount};
-ghost use Rattle.stab_kept.specs.inner.Turned.{StaysNear, IsTurning, IsPut, IsFollowed, HasTurned, turned_end};
+ghost use Rattle.stab_kept.specs.inner.Turned.{StaysNear, HasPassed, IsTurning, IsPut, IsFollowed, HasTurned, turned_end};
 
 use crate::kept::{Followed, KeptRun};
 use stab_circuit::{Circuit, Cursor, Span};
 use stab_copies::{Checkpoint, Meeting, count_before, lay_all, shifted, take_moved};
 use stab_frames::FrameWalk;
 use stab_io::Refusal;
-use stab_pauli::Pauli;
 use stab_run::{Coins, Lengths};
 use stab_tableau::{CompactTableau, Tableau};
 use stab_turns::{
-    Trail, flip_outputs, lead_frame, lengths_behind, move_sections, sum_additions, turn_tableau,
+    PauliChange, Trail, flip_outputs, lead_frame, lengths_behind, move_sections, pass_places,
+    sum_additions, turn_tableau,
 };
 use std::alloc::Global;
+
+/// A frame that went past the places of a change, in memory of its own.
+#[derive(Drop)]
+struct Passed {
+    /// How long the lists are where the frame begins.
+    from: Lengths,
+    /// The frame, with what it flipped from there on.
+    walk: FrameWalk,
+    /// The copies that stand between the places, turned, where they stand now.
+    copies: Vec<Checkpoint>,
+}
 
 /// What a frame makes of a kept run, in memory of its own.
 #[derive(Drop)]
@@ -32,21 +46,59 @@ struct Turning {
     from: Lengths,
     /// The frame, with what it flipped from there on.
     walk: FrameWalk,
+    /// The copies between the places of the change, turned, where they stand now.
+    passed: Vec<Checkpoint>,
     /// The first copies behind, turned.
     turned: Vec<CompactTableau>,
     // Where copies stand while they move.
     room: Vec<Checkpoint>,
 }
 
-/// Whether no copy stands within a span, and the next one, or the last step, stays at most a stride
-/// from the copy before it.
-fn stays_near(copies: &[Checkpoint], before: usize, span: Span, total: usize, stride: usize) -> bool
-    requires some { 0 < before }
+/// How many of some copies stand before a step, where so many of the first do.
+fn count_within(copies: &[Checkpoint], before: usize, step: usize) -> usize
     requires in_range { before ≤ length copies.now }
-    ensures near { result ≡ true → IfSome (slice_get copies.now (before - 1)) (λ c. StaysNear stride span total c.step (slice_get copies.now before)) }
+    ensures order { before ≤ result }
+    ensures within { result ≤ length copies.now }
+    ensures among { All (λ c. c.step < step) (take (result - before) (drop before copies.now)) }
+    ensures behind { IfSome (slice_get copies.now result) (λ c. step ≤ c.step) }
 {
-    let last = copies[before - 1].step.saturating_add(stride);
-    match copies.get(before) {
+    let (_, behind) = copies.split_at(before);
+    before + count_before(behind, step)
+}
+
+/// The last of a step and those of copies, where each is at least the one before, and at most a stride
+/// behind it.
+fn last_near(step: usize, copies: &[Checkpoint], stride: usize) -> Option<usize>
+    ensures near { IfSome result (λ last. Near stride (step ∷ checkpoint_steps copies.now)) }
+    ensures value { IfSome result (λ last. last_of step (checkpoint_steps copies.now) ≡ last) }
+{
+    let mut last = step;
+    for copy in copies {
+        if copy.step < last || copy.step - last > stride {
+            return None;
+        }
+        last = copy.step;
+    }
+    Some(last)
+}
+
+/// Whether the copy with a number, once it has moved with a span behind which it stands, or the last
+/// step where there is none, is at most a stride from a step that is not behind the span.
+fn stays_near(
+    step: usize,
+    copies: &[Checkpoint],
+    number: usize,
+    span: Span,
+    total: usize,
+    stride: usize,
+) -> bool
+    ensures near { result ≡ true → StaysNear stride span total step (slice_get copies.now number) }
+{
+    let last = step.saturating_add(stride);
+    if step > span.new_end {
+        return false;
+    }
+    match copies.get(number) {
         Some(copy) => {
             span.old_end <= copy.step && shifted(span.old_end, span.new_end, copy.step) <= last
         }
@@ -91,9 +143,62 @@ fn put_states(copies: &mut Vec<Checkpoint>, from: usize, states: &mut Vec<Compac
 }
 
 impl KeptRun {
-    /// Leads the frame of a string over the steps behind a span that differs by Pauli gates alone, from
-    /// the copy before it, which has the number one less. `None` where it can't tell the run behind. Copies
-    /// are looked at in the memory of a spare tableau if there is one.
+    /// Leads a frame past the places of a change of Pauli gates within a span, from the copy before it on,
+    /// which has the number one less than the one count of copies; those up to the other count stand within
+    /// the span. `None` where it can't tell the run there.
+    ///
+    /// Refusal `OutOfMemory` alone.
+    fn passing(
+        &self,
+        alloc: Global,
+        circuit: &Circuit,
+        span: Span,
+        before: usize,
+        inside: usize,
+        change: &PauliChange,
+    ) -> Result<Option<Passed>, Refusal>
+        requires checked { check_within self.now.tableau.qubits (circuit_items circuit.now) ≡ None }
+        requires same_length { length change.now.string.letters ≡ self.now.tableau.qubits }
+        requires follows { (coins : ℕ → Bool) × (K : ℕ) × Follows self.now.tableau.qubits coins K (unroll (circuit_items circuit.now)) span (Some change.now) self.now }
+        requires before { IsCount (span.first + 1) self.now.checkpoints.items before }
+        requires order { before ≤ inside }
+        requires inside { inside ≤ length self.now.checkpoints.items }
+        ensures passed { IfOk result (λ found. IfSome found (λ p. HasPassed (unroll (circuit_items circuit.now)) span before inside change.now self.now p.from p.walk p.copies.items)) }
+        ensures apart { OnOk result (All IsApart (unroll (circuit_items circuit.now))) }
+        ensures err { IfErr result (λ r. r ≡ OutOfMemory) }
+    {
+        let copy = &self.checkpoints[before - 1];
+        let mut cursor = Cursor::at(alloc, circuit, copy.step)?;
+        let from = lengths_behind(&mut cursor, span.first - copy.step, copy.lengths);
+        let free = self.outputs.free.as_slice();
+        let mut walk = FrameWalk::new(alloc, self.tableau.len(), free, from.free)?;
+        let (_, behind) = self.checkpoints.as_slice().split_at(before);
+        let (within, _) = behind.split_at(inside - before);
+        let mut passed = Vec::new(alloc);
+        let went = pass_places(
+            alloc,
+            within,
+            span.first,
+            change,
+            &self.strings,
+            free,
+            &mut cursor,
+            &mut walk,
+            &mut passed,
+        )?;
+        if !went {
+            return Ok(None);
+        }
+        Ok(Some(Passed {
+            from,
+            walk,
+            copies: passed,
+        }))
+    }
+
+    /// Leads a frame that went past the places of a change on over the steps behind its span, past the
+    /// copies from a number on. `None` where it can't tell the run behind. Copies are looked at in the
+    /// memory of a spare tableau if there is one.
     ///
     /// Refusal `OutOfMemory` alone.
     fn turning(
@@ -101,39 +206,40 @@ impl KeptRun {
         alloc: Global,
         circuit: &Circuit,
         span: Span,
-        before: usize,
-        string: &Pauli,
+        inside: usize,
+        passed: Passed,
         spare: &mut Option<Tableau>,
     ) -> Result<Option<Turning>, Refusal>
         requires checked { check_within self.now.tableau.qubits (circuit_items circuit.now) ≡ None }
-        requires same_length { length string.now.letters ≡ self.now.tableau.qubits }
-        requires follows { (coins : ℕ → Bool) × (K : ℕ) × Follows self.now.tableau.qubits coins K (unroll (circuit_items circuit.now)) span (Some string.now) self.now }
-        requires before { IsCount (span.first + 1) self.now.checkpoints.items before }
-        requires near { (K : ℕ) × IfSome (slice_get self.now.checkpoints.items (before - 1)) (λ c. StaysNear K span (length (unroll (circuit_items circuit.now))) c.step (slice_get self.now.checkpoints.items before)) }
-        ensures turning { IfOk result (λ found. IfSome found (IsTurning (unroll (circuit_items circuit.now)) span before string.now self.now)) }
-        ensures apart { OnOk result (All IsApart (unroll (circuit_items circuit.now))) }
+        requires follows { (coins : ℕ → Bool) × (K : ℕ) × (change : PauliChange) × Follows self.now.tableau.qubits coins K (unroll (circuit_items circuit.now)) span (Some change) self.now }
+        requires apart { All IsApart (unroll (circuit_items circuit.now)) }
+        requires letters { length passed.walk.letters ≡ self.now.tableau.qubits }
+        requires placed { IsPlaced self.now.outputs.free.items passed.walk }
+        requires few { passed.walk.coin + length (drop span.new_end (unroll (circuit_items circuit.now))) < 2 ^ 63 }
+        requires inside { inside ≤ length self.now.checkpoints.items }
+        requires behind { IfSome (slice_get self.now.checkpoints.items inside) (λ c. span.old_end ≤ c.step) }
+        ensures turning { IfOk result (λ found. IfSome found (IsTurning (unroll (circuit_items circuit.now)) span inside passed self.now)) }
         ensures err { IfErr result (λ r. r ≡ OutOfMemory) }
     {
-        let copy = &self.checkpoints[before - 1];
-        let mut cursor = Cursor::at(alloc, circuit, copy.step)?;
-        let from = lengths_behind(&mut cursor, span.first - copy.step, copy.lengths);
+        let Passed {
+            from,
+            mut walk,
+            copies,
+        } = passed;
         let mut trail = Trail::new(
             circuit,
             self.sections.as_slice(),
             span.old_end,
             span.new_end,
         );
-        let free = self.outputs.free.as_slice();
-        let mut walk = FrameWalk::new(alloc, self.tableau.len(), free, from.free)?;
-        walk.multiply(string);
-        let (_, behind) = self.checkpoints.as_slice().split_at(before);
+        let (_, behind) = self.checkpoints.as_slice().split_at(inside);
         let mut turned = Vec::new(alloc);
         let led = lead_frame(
             alloc,
             behind,
             span.old_end,
             &self.strings,
-            free,
+            self.outputs.free.as_slice(),
             self.reach,
             &mut trail,
             &mut walk,
@@ -146,42 +252,47 @@ impl KeptRun {
         Ok(Some(Turning {
             from,
             walk,
+            passed: copies,
             turned,
-            room: Vec::with_capacity(alloc, self.checkpoints.len() - before)?,
+            room: Vec::with_capacity(alloc, self.checkpoints.len() - inside)?,
         }))
     }
 
     /// Puts what a frame made of the run in place. It takes no memory.
-    fn put(&mut self, turning: Turning, span: Span, before: usize, stride: usize)
+    fn put(&mut self, turning: Turning, span: Span, before: usize, inside: usize, stride: usize)
         requires letters { length turning.walk.letters ≡ self.old.tableau.qubits }
-        requires few { before + length turning.turned.items ≤ length self.old.checkpoints.items }
+        requires count { length turning.passed.items + before ≡ inside }
+        requires few { inside + length turning.turned.items ≤ length self.old.checkpoints.items }
         requires nothing { turning.room.items ≡ [] }
-        requires room { length self.old.checkpoints.items ≤ vec_capacity turning.room + before }
-        ensures put { IsPut self.old span before stride turning self.new }
+        requires room { length self.old.checkpoints.items ≤ vec_capacity turning.room + inside }
+        ensures put { IsPut self.old span before inside stride turning self.new }
     {
         let Turning {
             from,
             walk,
+            mut passed,
             mut turned,
             mut room,
         } = turning;
         flip_outputs(&mut self.outputs, from, &walk);
         sum_additions(&mut self.observables, self.outputs.additions.as_slice());
         turn_tableau(&mut self.tableau, walk.letters());
-        put_states(&mut self.checkpoints, before, &mut turned);
+        put_states(&mut self.checkpoints, inside, &mut turned);
         let meeting = Meeting {
             old_step: span.old_end,
             new_step: span.new_end,
             old_lengths: from,
             new_lengths: from,
         };
-        take_moved(&mut self.checkpoints, before, meeting, &mut room);
+        take_moved(&mut self.checkpoints, inside, meeting, &mut room);
+        passed.reverse();
+        self.lay_behind(before, &mut passed, stride);
         lay_all(&mut self.checkpoints, &mut room, stride);
         move_sections(&mut self.sections, span);
     }
 
     /// Makes this the run of an edited circuit, whose steps differ within the span by Pauli gates alone,
-    /// which come to a string, by turning it where it lies. `None`, and nothing has changed, where a frame
+    /// as a change says, by turning it where it lies. `None`, and nothing has changed, where a frame
     /// can't tell the new run, or a copy must be laid. Copies are looked at in the memory of a spare tableau
     /// if there is one.
     ///
@@ -191,14 +302,14 @@ impl KeptRun {
         alloc: Global,
         circuit: &Circuit,
         span: Span,
-        string: &Pauli,
+        change: &PauliChange,
         stride: usize,
         spare: &mut Option<Tableau>,
     ) -> Result<Option<Followed>, Refusal>
         requires checked { check_within self.old.tableau.qubits (circuit_items circuit.now) ≡ None }
-        requires same_length { length string.now.letters ≡ self.old.tableau.qubits }
-        requires follows { (coins : ℕ → Bool) × Follows self.old.tableau.qubits coins stride (unroll (circuit_items circuit.now)) span (Some string.now) self.old }
-        ensures turned { IfOk result (λ found. IfSome found (λ f. (coins : ℕ → Bool) → Follows self.old.tableau.qubits coins stride (unroll (circuit_items circuit.now)) span (Some string.now) self.old → HasTurned self.old.tableau.qubits coins stride (unroll (circuit_items circuit.now)) (observables_of (circuit_items circuit.now)) span self.old f self.new)) }
+        requires same_length { length change.now.string.letters ≡ self.old.tableau.qubits }
+        requires follows { (coins : ℕ → Bool) × Follows self.old.tableau.qubits coins stride (unroll (circuit_items circuit.now)) span (Some change.now) self.old }
+        ensures turned { IfOk result (λ found. IfSome found (λ f. (coins : ℕ → Bool) → Follows self.old.tableau.qubits coins stride (unroll (circuit_items circuit.now)) span (Some change.now) self.old → HasTurned self.old.tableau.qubits coins stride (unroll (circuit_items circuit.now)) (observables_of (circuit_items circuit.now)) span self.old f self.new)) }
         ensures apart { IfOk result (λ found. IfSome found (λ _. All IsApart (unroll (circuit_items circuit.now)))) }
         ensures none { IfOk result (λ found. found ≡ None → self.new ≡ self.old) }
         ensures unchanged { OnErr result (self.new ≡ self.old) }
@@ -208,27 +319,33 @@ impl KeptRun {
             return Ok(None);
         }
         let total = circuit.steps();
-        let before = count_before(self.checkpoints.as_slice(), span.first + 1);
-        if !stays_near(self.checkpoints.as_slice(), before, span, total, stride) {
+        let copies = self.checkpoints.as_slice();
+        let before = count_before(copies, span.first + 1);
+        let inside = count_within(copies, before, span.old_end);
+        let begin = copies[before - 1].step;
+        let Some(passed) = self.passing(alloc, circuit, span, before, inside, change)? else {
+            return Ok(None);
+        };
+        let Some(last) = last_near(begin, passed.copies.as_slice(), stride) else {
+            return Ok(None);
+        };
+        if !stays_near(last, copies, inside, span, total, stride) {
             return Ok(None);
         }
-        match self.turning(alloc, circuit, span, before, string, spare)? {
-            Some(turning) => {
-                let copies = self.checkpoints.as_slice();
-                let end = end_place(copies, before + turning.turned.len(), span, total);
-                let followed = followed_between(span, copies[before - 1].step, end);
-                self.put(turning, span, before, stride);
-                Ok(Some(followed))
-            }
-            None => Ok(None),
-        }
+        let Some(turning) = self.turning(alloc, circuit, span, inside, passed, spare)? else {
+            return Ok(None);
+        };
+        let end = end_place(copies, inside + turning.turned.len(), span, total);
+        let followed = followed_between(span, begin, end);
+        self.put(turning, span, before, inside, stride);
+        Ok(Some(followed))
     }
 
     /// Makes this the run of an edited circuit, whose steps differ within the span, and tells how
     /// many steps were carried out for it, and how many a frame went over. The run is as before where
     /// memory is refused.
     ///
-    /// Where old and new steps differ by Pauli gates alone, they come to the string that is given; the steps
+    /// Where old and new steps differ by Pauli gates alone, they do as the change that is given says; the steps
     /// that are put in then count as carried out, though the run is turned where it lies. Else, and where that
     /// can't be, steps are carried out anew, in the memory of a spare tableau if there is one, and one of
     /// the two that are then at hand is the next spare.
@@ -237,7 +354,7 @@ impl KeptRun {
         alloc: Global,
         circuit: &Circuit,
         span: Span,
-        paulis: Option<Pauli>,
+        paulis: Option<PauliChange>,
         stride: usize,
         coins: &mut C,
         spare: &mut Option<Tableau>,
@@ -245,7 +362,7 @@ impl KeptRun {
         requires checked { check_within self.old.tableau.qubits (circuit_items circuit.now) ≡ None }
         requires stride { 1 ≤ stride }
         requires follows { Follows self.old.tableau.qubits (C.sequence coins.old) stride (unroll (circuit_items circuit.now)) span paulis self.old }
-        requires same_length { IfSome paulis (λ p. length p.letters ≡ self.old.tableau.qubits) }
+        requires same_length { IfSome paulis (λ p. length p.string.letters ≡ self.old.tableau.qubits) }
         ensures kept { OnOk result (IsKeptRun self.old.tableau.qubits (C.sequence coins.old) stride (unroll (circuit_items circuit.now)) (observables_of (circuit_items circuit.now)) self.new) }
         ensures apart { OnOk result (All IsApart (unroll (circuit_items circuit.now))) }
         ensures qubits { self.new.tableau.qubits ≡ self.old.tableau.qubits }
@@ -261,8 +378,8 @@ impl KeptRun {
         ensures counted { IfOk result (λ f. (xs : List Step) (count : ℕ) → IsKeptRun self.old.tableau.qubits (C.sequence coins.old) stride xs count self.old → IsSpan xs (unroll (circuit_items circuit.now)) span → IsCounted (AgreeBehindSpan self.old.tableau.qubits (C.sequence coins.old) xs (unroll (circuit_items circuit.now)) span) (AgreeBackBehindSpan self.old.tableau.qubits (C.sequence coins.old) xs (unroll (circuit_items circuit.now)) span) (checkpoint_steps self.old.checkpoints.items) span.first span.old_end span.new_end (length (unroll (circuit_items circuit.now))) (f.applied + f.framed)) }
         ensures err { IfErr result (λ r. r ≡ OutOfMemory) }
     {
-        if let Some(string) = paulis {
-            if let Some(followed) = self.turn(alloc, circuit, span, &string, stride, spare)? {
+        if let Some(change) = paulis {
+            if let Some(followed) = self.turn(alloc, circuit, span, &change, stride, spare)? {
                 return Ok(followed);
             }
         }

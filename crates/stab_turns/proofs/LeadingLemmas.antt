@@ -87,13 +87,13 @@ flags-given n coins (product factors inverted) a = refl
 flags-given n coins (detector ks) a = refl
 flags-given n coins (observable j ks) a = refl
 
-flags-counted : (n : ℕ) (coins : ℕ → Bool) (xs : List Step) (a : Point) → length (outputs n coins xs a).free ≡ all_coins_of xs
+pub flags-counted : (n : ℕ) (coins : ℕ → Bool) (xs : List Step) (a : Point) → length (outputs n coins xs a).free ≡ all_coins_of xs
 flags-counted n coins [] a = refl
 flags-counted n coins (x ∷ xs) a =
     let later = flags-counted n coins xs (next_point n coins x a) in
     omega (arith, later, flags-given n coins x a, length-append (given n coins x a).free (outputs n coins xs (next_point n coins x a)).free)
 
-rest-flags : (front rest flags : List Bool) (coin some later : ℕ) → front ++ rest ≡ drop coin flags → length front ≡ some → later ≡ coin + some → rest ≡ drop later flags
+pub rest-flags : (front rest flags : List Bool) (coin some later : ℕ) → front ++ rest ≡ drop coin flags → length front ≡ some → later ≡ coin + some → rest ≡ drop later flags
 rest-flags front rest flags coin some later e long at =
     sym (drop-append_seam front rest)
     ∙ (λ i. drop (long i) (e i))

@@ -20,8 +20,10 @@ use Rattle.stab_run.specs.Laws.{AgreeAt}
 use Rattle.stab_steps.proofs.RunLemmas.{outputs-append}
 use Rattle.stab_run.proofs.PointLemmas.{HasAtMost, outputs-short}
 use Rattle.stab_frames.specs.Ends.{AgreeBack}
+use Rattle.stab_frames.specs.Flips.{unflipped}
 use Rattle.stab_frames.specs.KeptStrings.{StringsState, note_at}
 use Rattle.stab_frames.specs.Walks.{WalkState}
+use Rattle.stab_frames.proofs.EditLemmas.{same-lengths}
 use Rattle.stab_frames.proofs.TurnedLemmas.{turned-blank}
 use Rattle.stab_copies.specs.declared.checkpoint.Checkpoint.{Checkpoint}
 use Rattle.stab_copies.specs.declared.checkpoint.Meeting.{Meeting}
@@ -35,26 +37,27 @@ use Rattle.stab_turns.proofs.LedRunLemmas.{IsLedRun, run-ends, run-flips, run-be
 
 -- lengths that stay where they are
 
-lengths-joined : (a b c : RunOutput) → lengths_of b ≡ lengths_of c → lengths_of (joined a b) ≡ lengths_of (joined a c)
-lengths-joined a b c e = λ i. record {
-  records = longer a.records b.records c.records (ap (λ (l : Lengths). l.records) e) i;
-  free = longer a.free b.free c.free (ap (λ (l : Lengths). l.free) e) i;
-  detectors = longer a.detectors b.detectors c.detectors (ap (λ (l : Lengths). l.detectors) e) i;
-  additions = longer a.additions b.additions c.additions (ap (λ (l : Lengths). l.additions) e) i;
+lengths-joined : (a d b c : RunOutput) → lengths_of a ≡ lengths_of d → lengths_of b ≡ lengths_of c → lengths_of (joined a b) ≡ lengths_of (joined d c)
+lengths-joined a d b c f e = λ i. record {
+  records = longer a.records d.records b.records c.records (ap (λ (l : Lengths). l.records) f) (ap (λ (l : Lengths). l.records) e) i;
+  free = longer a.free d.free b.free c.free (ap (λ (l : Lengths). l.free) f) (ap (λ (l : Lengths). l.free) e) i;
+  detectors = longer a.detectors d.detectors b.detectors c.detectors (ap (λ (l : Lengths). l.detectors) f) (ap (λ (l : Lengths). l.detectors) e) i;
+  additions = longer a.additions d.additions b.additions c.additions (ap (λ (l : Lengths). l.additions) f) (ap (λ (l : Lengths). l.additions) e) i;
 }
   where
-    longer : {X : Type 0} (xs ys zs : List X) → length ys ≡ length zs → length (xs ++ ys) ≡ length (xs ++ zs)
-    longer xs ys zs same = length-append xs ys ∙ ap (λ m. length xs + m) same ∙ sym (length-append xs zs)
+    longer : {X : Type 0} (xs ws ys zs : List X) → length xs ≡ length ws → length ys ≡ length zs → length (xs ++ ys) ≡ length (ws ++ zs)
+    longer xs ws ys zs front same = length-append xs ys ∙ (λ i. front i + same i) ∙ sym (length-append ws zs)
 
 kept-length : {X : Type 0} (xs zs : List X) → length (xs ++ zs) < 2 ^ 64 → moved (length xs) (length xs) (length (xs ++ zs)) ≡ length (xs ++ zs)
 kept-length xs zs few = omega (arith, few, length-append xs zs)
 
-kept-lengths : (k : ℕ) (a b : RunOutput) → k < 2 ^ 64 → HasAtMost k (joined a b) → moved_lengths (lengths_of a) (lengths_of a) (lengths_of (joined a b)) ≡ lengths_of (joined a b)
-kept-lengths k a b few short = λ i. record {
-  records = kept-length a.records b.records (omega (arith, few, short.records)) i;
-  free = kept-length a.free b.free (omega (arith, few, short.free)) i;
-  detectors = kept-length a.detectors b.detectors (omega (arith, few, short.detectors)) i;
-  additions = kept-length a.additions b.additions (omega (arith, few, short.additions)) i;
+kept-lengths : (k : ℕ) (a b c : RunOutput) → k < 2 ^ 64 → lengths_of (joined a b) ≡ lengths_of c → HasAtMost k c
+    → moved_lengths (lengths_of a) (lengths_of a) (lengths_of (joined a b)) ≡ lengths_of (joined a b)
+kept-lengths k a b c few same short = λ i. record {
+  records = kept-length a.records b.records (omega (arith, few, short.records, ap (λ (l : Lengths). l.records) same)) i;
+  free = kept-length a.free b.free (omega (arith, few, short.free, ap (λ (l : Lengths). l.free) same)) i;
+  detectors = kept-length a.detectors b.detectors (omega (arith, few, short.detectors, ap (λ (l : Lengths). l.detectors) same)) i;
+  additions = kept-length a.additions b.additions (omega (arith, few, short.additions, ap (λ (l : Lengths). l.additions) same)) i;
 }
 
 -- copies in order, the first of which were turned
@@ -89,21 +92,26 @@ module _ (n : ℕ) (coins : ℕ → Bool) (xs ys back : List Step) (i k : ℕ) (
       ∙ ap (λ zs. joined (outputs n coins (take i xs) origin) (outputs n coins (take m zs) (point_after n coins (take i xs) origin))) r.old_behind
 
   new_given : (m : ℕ) → outputs n coins (take (k + m) ys) origin
-      ≡ joined (outputs n coins (take i xs) origin) (outputs n coins (take m back) (point_after n coins (take k ys) origin))
+      ≡ joined (outputs n coins (take k ys) origin) (outputs n coins (take m back) (point_after n coins (take k ys) origin))
   new_given m =
       ap (λ zs. outputs n coins zs origin) (take-more k m ys)
       ∙ outputs-append n coins (take k ys) (take m (drop k ys)) origin
-      ∙ (λ j. joined (r.given j) (outputs n coins (take m (r.new_behind j)) (point_after n coins (take k ys) origin)))
+      ∙ ap (λ zs. joined (outputs n coins (take k ys) origin) (outputs n coins (take m zs) (point_after n coins (take k ys) origin))) r.new_behind
+
+  same_front : lengths_of (outputs n coins (take i xs) origin) ≡ lengths_of (outputs n coins (take k ys) origin)
+  same_front =
+      sym (ap lengths_of r.between.fronts.given
+      ∙ same-lengths (outputs n coins (take i xs) origin) (joined (unflipped (outputs n coins (take r.first xs) origin)) old.flips))
 
   here : IsLedBehind n coins (note_at strings.strings free) reach back (point_after n coins (take i xs) origin) (point_after n coins (take k ys) origin)
-      (length (point_after n coins (take i xs) origin).records) old r.led.last new r.led.steps
+      (length (point_after n coins (take r.first xs) origin).records) old r.led.last new r.led.steps
   here = run-behind n coins xs ys back i k strings free reach copies turned o from old new r
 
   -- a copy is so many steps behind the place
   place : (j : ℕ) (c : Checkpoint) → slice_get copies j ≡ Some c → c.step ≡ i + (c.step - i)
   place j c found = omega (arith, subst (λ d. IfSome d (λ e. i ≤ e.step)) found (order-from i (length xs) copies j r.order))
 
-  -- where the two meet: their lists are as long as each other there
+  -- where the two meet: their lists are as long as each other, there and where the frame began
   abbrev pub meeting : Meeting
   meeting = record { old_step = i; new_step = k; old_lengths = from; new_lengths = from }
 
@@ -130,26 +138,34 @@ module _ (n : ℕ) (coins : ℕ → Bool) (xs ys back : List Step) (i k : ℕ) (
           arith,
           behind,
           is.within,
-          r.old_within,
-          r.new_within,
+          r.between.old_within,
+          r.between.new_within,
           ap length r.old_behind,
           ap length r.new_behind,
           length-drop i xs,
           length-drop k ys,
         )
 
-    shown : c.lengths ≡ lengths_of (joined (outputs n coins (take i xs) origin) (outputs n coins (take (c.step - i) back) (point_after n coins (take k ys) origin)))
+    shown : c.lengths ≡ lengths_of (outputs n coins (take (k + (c.step - i)) ys) origin)
     shown =
         is.lengths
         ∙ ap (λ m. lengths_of (outputs n coins (take m xs) origin)) at
         ∙ ap lengths_of (old_given (c.step - i))
-        ∙ lengths-joined (outputs n coins (take i xs) origin) (outputs n coins (take (c.step - i) back) (point_after n coins (take i xs) origin))
-        (outputs n coins (take (c.step - i) back) (point_after n coins (take k ys) origin))
+        ∙ lengths-joined (outputs n coins (take i xs) origin) (outputs n coins (take k ys) origin) (outputs n coins (take (c.step - i) back) (point_after n coins (take i xs) origin))
+        (outputs n coins (take (c.step - i) back) (point_after n coins (take k ys) origin)) same_front
         (sym (led-lengths here (c.step - i)))
+        ∙ sym (ap lengths_of (new_given (c.step - i)))
 
-    short : HasAtMost (length (take (k + (c.step - i)) ys))
-        (joined (outputs n coins (take i xs) origin) (outputs n coins (take (c.step - i) back) (point_after n coins (take k ys) origin)))
-    short = subst (HasAtMost (length (take (k + (c.step - i)) ys))) (new_given (c.step - i)) (outputs-short n coins (take (k + (c.step - i)) ys) origin)
+    -- what was given before the frame began stands before what was given there
+    abbrev since : RunOutput
+    since = outputs n coins (take (c.step - r.first) (drop r.first xs)) (point_after n coins (take r.first xs) origin)
+
+    longer : c.lengths ≡ lengths_of (joined (outputs n coins (take r.first xs) origin) since)
+    longer =
+        is.lengths
+        ∙ ap (λ m. lengths_of (outputs n coins (take m xs) origin)) (omega (arith, behind, r.begins))
+        ∙ ap (λ zs. lengths_of (outputs n coins zs origin)) (take-more r.first (c.step - r.first) xs)
+        ∙ ap lengths_of (outputs-append n coins (take r.first xs) (take (c.step - r.first) (drop r.first xs)) origin)
 
     moved-turned : length ys < 2 ^ 64 → t.qubits ≡ n → IsCheckpoint n coins ys (moved_copy meeting (record c { tableau = t }))
     moved-turned few qubits = record {
@@ -160,10 +176,12 @@ module _ (n : ℕ) (coins : ℕ → Bool) (xs ys back : List Step) (i k : ℕ) (
           ∙ ap (λ (q : Point). member q.trace p) (sym (new_at (c.step - i)))
           ∙ ap (λ m. member (point_after n coins (take m ys) origin).trace p) (sym place);
       lengths =
-          (λ j. moved_lengths (r.from_is j) (r.from_is j) (shown j))
-          ∙ kept-lengths (length (take (k + (c.step - i)) ys)) (outputs n coins (take i xs) origin)
-          (outputs n coins (take (c.step - i) back) (point_after n coins (take k ys) origin)) (omega (arith, length-take-le (k + (c.step - i)) ys inside, inside, few)) short
-          ∙ ap lengths_of (sym (new_given (c.step - i)))
+          (λ j. moved_lengths (r.from_is j) (r.from_is j) (longer j))
+          ∙ kept-lengths (length (take (k + (c.step - i)) ys)) (outputs n coins (take r.first xs) origin) since
+          (outputs n coins (take (k + (c.step - i)) ys) origin) (omega (arith, length-take-le (k + (c.step - i)) ys inside, inside, few)) (sym longer ∙ shown)
+          (outputs-short n coins (take (k + (c.step - i)) ys) origin)
+          ∙ sym longer
+          ∙ shown
           ∙ ap (λ m. lengths_of (outputs n coins (take m ys) origin)) (sym place);
     }
       where

@@ -1,7 +1,7 @@
 -- Led frames: what is so at each point behind, where a frame went over all steps, or over so many and then ended.
-use Rattle.std.proofs.Common.{◌≡◌, ℕ, ◌-◌, ◌≤◌, sym, ◌∙◌, ap, subst, Bool, false, ◌⊎◌, inl, inr, List, ◌++◌, All, Option, length, take, drop, replicate, arith}
+use Rattle.std.proofs.Common.{◌≡◌, ℕ, ◌+◌, ◌-◌, ◌≤◌, sym, ◌∙◌, ap, subst, Bool, false, ◌⊎◌, inl, inr, List, ◌++◌, All, Option, length, take, drop, replicate, arith}
 use Rattle.std.proofs.lemmas.Bool.{cases_lt}
-use Rattle.std.proofs.lemmas.List.{take_all, take-take}
+use Rattle.std.proofs.lemmas.List.{take_all, take-take, replicate-append-replicate}
 use Rattle.std.proofs.lemmas.List.Elements.{All-take, All-drop}
 use Rattle.stab_letters.specs.declared.letter.Letter.{Letter}
 use Rattle.stab_letters.specs.Letters.{◌⊕◌}
@@ -10,14 +10,14 @@ use Rattle.stab_tableau.specs.Groups.{IsStabiliserGroup}
 use Rattle.stab_tableau.specs.Turns.{IsTurned}
 use Rattle.stab_circuit.specs.Steps.{Step}
 use Rattle.stab_run.specs.Records.{looked_up, ones}
-use Rattle.stab_run.specs.Points.{Point, RunOutput, nothing, joined, point_after, outputs, all_coins_of}
+use Rattle.stab_run.specs.Points.{Point, RunOutput, joined, point_after, outputs, all_coins_of}
 use Rattle.stab_run.specs.ProgramStates.{StepFits}
 use Rattle.stab_run.specs.Cuts.{lengths_of}
 use Rattle.stab_run.specs.Laws.{AgreeAt}
 use Rattle.stab_run.proofs.FutureLemmas.{same-future}
 use Rattle.stab_steps.proofs.RunLemmas.{after-append, outputs-append}
 use Rattle.stab_frames.specs.Ends.{AgreeBack}
-use Rattle.stab_frames.specs.Flips.{flipped, flipped_output}
+use Rattle.stab_frames.specs.Flips.{flipped_output}
 use Rattle.stab_frames.specs.Frames.{Frame, PointsDifferBy}
 use Rattle.stab_frames.specs.FrameSteps.{frame_over, flips_over}
 use Rattle.stab_frames.specs.Lookbacks.{LooksWithin}
@@ -30,8 +30,8 @@ use Rattle.stab_frames.proofs.NoteLemmas.{enough-before}
 use Rattle.stab_frames.proofs.StepLemmas.{over-framed, outputs-matches}
 use Rattle.stab_frames.proofs.TurnedLemmas.{turned-blank}
 use Rattle.stab_copies.proofs.TakeLemmas.{take-more}
-use Rattle.stab_replay.proofs.FramedLemmas.{AreTurnedBehind, flipped-empty}
-use Rattle.stab_replay.proofs.SegmentLemmas.{flips-free, flipped-zeros}
+use Rattle.stab_replay.proofs.FramedLemmas.{AreTurnedBehind}
+use Rattle.stab_replay.proofs.SegmentLemmas.{flips-free}
 use Rattle.stab_replay.proofs.FrameStartLemmas.{flips-differ}
 use Rattle.stab_replay.proofs.NotedLemmas.{near-enough}
 use Rattle.stab_turns.proofs.EndingLemmas.{IsEnded}
@@ -112,10 +112,10 @@ module _ {n : ℕ} {coins : ℕ → Bool} {strings : ℕ → Option (List Letter
       subst (λ f. PointsDifferBy n f (point_after n coins (take steps back) a) (point_after n coins (take steps back) b))
       ((λ i. frame_over n (same_coins strings) (take steps back) (o.coin i) (frame_at base old)) ∙ sym (o.walked.frame base)) (on-way steps (omega arith)).1
 
-  flips-are : old.flips ≡ nothing → flips_over n (same_coins strings) (take steps back) a.coin (frame_at base old) ≡ last.flips
-  flips-are none =
-      (λ i. flips_over n (same_coins strings) (take steps back) (o.coin i) (frame_at base old))
-      ∙ ap (λ q. joined q (flips_over n (same_coins strings) (take steps back) old.coin (frame_at base old))) (sym none)
+  -- what it flipped from where it was led
+  pub flips-are : joined old.flips (flips_over n (same_coins strings) (take steps back) a.coin (frame_at base old)) ≡ last.flips
+  flips-are =
+      (λ i. joined old.flips (flips_over n (same_coins strings) (take steps back) (o.coin i) (frame_at base old)))
       ∙ sym (o.walked.flips base)
 
   -- where it flips a record in all, the runs agree nowhere on its way
@@ -230,16 +230,17 @@ module _ {n : ℕ} {coins : ℕ → Bool} {strings : ℕ → Option (List Letter
       subst (λ zs. IsTurned n new.letters (member (point_after n coins zs a).trace) (member (point_after n coins zs b).trace)) whole
       (led-further (length back) h.led.within)
 
-  pub led-given : old.flips ≡ nothing → outputs n coins back b ≡ flipped_output (outputs n coins back a) new.flips
-  led-given none =
-      subst (λ zs. outputs n coins zs b ≡ flipped_output (outputs n coins zs a) new.flips) whole
-      (subst (λ q. outputs n coins (take (length back) back) b ≡ flipped_output (outputs n coins (take (length back) back) a) q) (flips-are h.led none ∙ sym h.flips)
-      (given-beyond (length back) h.led.within))
+  pub led-given : outputs n coins back b ≡ flipped_output (outputs n coins back a) (flips_over n (same_coins strings) (take steps back) a.coin (frame_at base old))
+  led-given =
+      subst (λ zs. outputs n coins zs b ≡ flipped_output (outputs n coins zs a) (flips_over n (same_coins strings) (take steps back) a.coin (frame_at base old))) whole
+      (given-beyond (length back) h.led.within)
 
-  -- no flag is flipped
-  pub led-flags : old.flips ≡ nothing → (bits : List Bool) → flipped bits new.flips.free ≡ bits
-  led-flags none bits =
-      ap (λ (q : RunOutput). flipped bits q.free) (h.flips ∙ sym (flips-are h.led none))
-      ∙ ap (flipped bits) (flips-free n (same_coins strings) (take steps back) a.coin (frame_at base old))
-      ∙ flipped-zeros bits (all_coins_of (take steps back))
-      ∙ flipped-empty bits
+  pub led-flips : joined old.flips (flips_over n (same_coins strings) (take steps back) a.coin (frame_at base old)) ≡ new.flips
+  led-flips = flips-are h.led ∙ sym h.flips
+
+  -- no flag is flipped, where none was before
+  pub led-unflagged : (flagged : ℕ) → old.flips.free ≡ replicate flagged false → new.flips.free ≡ replicate (flagged + all_coins_of (take steps back)) false
+  led-unflagged flagged none =
+      sym (ap (λ (q : RunOutput). q.free) led-flips)
+      ∙ (λ i. none i ++ flips-free n (same_coins strings) (take steps back) a.coin (frame_at base old) i)
+      ∙ replicate-append-replicate flagged (all_coins_of (take steps back)) false

@@ -1,11 +1,13 @@
 mod LengthLemmas
 mod FlippedLemmas
-pub mod FlagLemmas
 mod TurnSomeLemmas
 mod QuietLemmas
 pub mod SectionLemmas
 mod LeadingLemmas
+pub mod SameNotesLemmas
 pub mod PauliSpanLemmas
+pub mod FrameBetweenLemmas
+mod PlaceLemmas
 pub mod EndingLemmas
 pub mod LedFrameLemmas
 pub mod LedRunLemmas

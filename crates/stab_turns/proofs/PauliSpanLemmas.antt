@@ -1,96 +1,104 @@
--- Pauli spans: behind Pauli gates in the place of others two runs differ by the letters of both, and have given the same.
-use Rattle.std.proofs.Common.{◌≡◌, ℕ, ◌-◌, ◌≤◌, refl, sym, ◌∙◌, ap, subst, Bool, List, [], ◌∷◌, ◌++◌, append-nil, All, length, map, take, drop, Option, arith}
-use Rattle.std.proofs.lemmas.List.{take-append-drop}
+-- Pauli spans: what two lists of steps have in common that differ within a span by Pauli gates alone, before pieces that both share.
+use Rattle.std.proofs.Common.{◌≡◌, ℕ, ◌+◌, ◌-◌, ◌≤◌, refl, sym, ◌∙◌, ap, subst, Bool, List, [], ◌∷◌, ◌++◌, append_assoc, All, length, map, take, drop, Option, arith}
+use Rattle.std.proofs.lemmas.List.{take-append-drop, drop-drop}
 use Rattle.std.proofs.lemmas.List.Elements.{All-nil, All-cons, All-append, All-take, All-drop}
 use Rattle.stab_letters.specs.declared.letter.Letter.{Letter}
 use Rattle.stab_circuit.specs.Steps.{Step, one}
 use Rattle.stab_circuit.specs.declared.edit.Span.{Span}
 use Rattle.stab_run.specs.Runs.{gate_of}
-use Rattle.stab_run.specs.Points.{Point, RunOutput, origin, next_point, point_after, outputs}
-use Rattle.stab_run.proofs.PointLemmas.{records-are-records}
-use Rattle.stab_frames.specs.Flips.{flipped_output, unflipped}
-use Rattle.stab_frames.specs.Frames.{PointsDifferBy, frame_of}
+use Rattle.stab_run.specs.Points.{Point, RunOutput, origin, point_after, outputs}
+use Rattle.stab_run.specs.ProgramStates.{StepFits}
+use Rattle.stab_run.proofs.PointLemmas.{rest-output}
 use Rattle.stab_frames.specs.KeptStrings.{AreTrue}
 use Rattle.stab_frames.specs.Lookbacks.{LooksWithin}
-use Rattle.stab_frames.proofs.FlipLemmas.{unflipped-output}
-use Rattle.stab_frames.proofs.FrontLemmas.{paulis-front, paulis-given}
-use Rattle.stab_frames.proofs.TrueLemmas.{true-append, true-front}
-use Rattle.stab_copies.proofs.TakeLemmas.{take-more}
+use Rattle.stab_frames.proofs.TrueLemmas.{true-append, true-front, true-rest}
+use Rattle.stab_circuit.specs.Rounds.{interleaved}
 use Rattle.stab_turns.specs.PauliSpans.{DifferByPaulis}
+use Rattle.stab_turns.proofs.SameNotesLemmas.{AreSameNotes, interleaved-same, all-front, all-rest}
 
--- Pauli gates measure nothing, look back to nothing and give nothing
-
-gates-are-true : (n : ℕ) (coins : ℕ → Bool) (strings : ℕ → Option (List Letter)) (l : Letter) (qs : List ℕ) (a : Point) → AreTrue n coins strings (map (one (gate_of l)) qs) a
-gates-are-true n coins strings l [] a = tt
-gates-are-true n coins strings l (q ∷ qs) a = (tt, gates-are-true n coins strings l qs (next_point n coins (one (gate_of l) q) a))
+-- Pauli gates look back to nothing
 
 gates-look-within : (reach : ℕ) (l : Letter) (qs : List ℕ) → All (LooksWithin reach) (map (one (gate_of l)) qs)
 gates-look-within reach l [] = All-nil (LooksWithin reach)
 gates-look-within reach l (q ∷ qs) = All-cons (LooksWithin reach) (one (gate_of l) q) (map (one (gate_of l)) qs) refl (gates-look-within reach l qs)
 
-behind-gates : (n : ℕ) (coins : ℕ → Bool) (l : Letter) (qs : List ℕ) (xs : List Step) → outputs n coins (xs ++ map (one (gate_of l)) qs) origin ≡ outputs n coins xs origin
-behind-gates n coins l qs xs =
-    paulis-given n coins l l [] qs xs
-    ∙ ap (λ zs. flipped_output (outputs n coins zs origin) (unflipped (outputs n coins xs origin))) (append-nil xs)
-    ∙ unflipped-output (outputs n coins xs origin)
+interleaved-look-within : (reach : ℕ) (olds news : List Step) (pieces : List (List Step)) (back : List Step) → All (LooksWithin reach) news
+    → All (LooksWithin reach) (interleaved olds pieces ++ back) → All (LooksWithin reach) (interleaved news pieces ++ back)
+interleaved-look-within reach olds news [] back gates near = near
+interleaved-look-within reach olds news (p ∷ ps) back gates near =
+    subst (All (LooksWithin reach)) (sym (apart news (interleaved news ps)))
+    (All-append (LooksWithin reach) news (p ++ (interleaved news ps ++ back)) gates
+    (All-append (LooksWithin reach) p (interleaved news ps ++ back) (all-front (LooksWithin reach) p (interleaved olds ps ++ back) later)
+    (interleaved-look-within reach olds news ps back gates (all-rest (LooksWithin reach) p (interleaved olds ps ++ back) later))))
+  where
+    apart : (gates more : List Step) → gates ++ (p ++ more) ++ back ≡ gates ++ (p ++ (more ++ back))
+    apart gates more = append_assoc gates (p ++ more) back ∙ ap (λ l. gates ++ l) (append_assoc p more back)
 
--- steps up to the end of a span
-up-to : (first end : ℕ) (xs : List Step) → first ≤ end → take end xs ≡ take first xs ++ take (end - first) (drop first xs)
-up-to first end xs le = ap (λ k. take k xs) {x = end} (omega arith) ∙ take-more first (end - first) xs
+    later : All (LooksWithin reach) (p ++ (interleaved olds ps ++ back))
+    later =
+        all-rest (LooksWithin reach) olds (p ++ (interleaved olds ps ++ back))
+        (subst (All (LooksWithin reach)) (apart olds (interleaved olds ps)) near)
+
+-- the steps from one place on, by those up to another
+left-is : (first end : ℕ) (xs zs : List Step) → first ≤ end → take (end - first) (drop first xs) ≡ zs → drop first xs ≡ zs ++ drop end xs
+left-is first end xs zs le is =
+    sym (take-append-drop (end - first) (drop first xs))
+    ∙ (λ i. is i ++ (drop-drop (end - first) first xs ∙ ap (λ k. drop k xs) {x = first + (end - first)} {y = end} (omega (arith, le))) i)
 
 -- two lists of steps that differ by Pauli gates in a span
 
-module _ (n : ℕ) (coins : ℕ → Bool) (xs ys : List Step) (s : Span) (letters : List Letter) (old_order : s.first ≤ s.old_end) (new_order : s.first ≤ s.new_end)
-    (front : take s.first xs ≡ take s.first ys) (differ : DifferByPaulis n xs ys s letters) where
-  old_steps : take s.old_end xs ≡ take s.first xs ++ map (one (gate_of differ.old_letter)) differ.old_qubits
-  old_steps = up-to s.first s.old_end xs old_order ∙ ap (λ zs. take s.first xs ++ zs) differ.old.steps
+module _ {n : ℕ} {xs ys : List Step} {s : Span} {letters : List Letter} {i j : ℕ} {gaps : List ℕ} (old_order : s.first ≤ s.old_end) (new_order : s.first ≤ s.new_end)
+    (d : DifferByPaulis n xs ys s letters i j gaps) where
+  pub old-left : drop s.first xs ≡ interleaved d.old_gates d.pieces ++ drop s.old_end xs
+  old-left = left-is s.first s.old_end xs (interleaved d.old_gates d.pieces) old_order d.old
 
-  new_steps : take s.new_end ys ≡ take s.first xs ++ map (one (gate_of differ.new_letter)) differ.new_qubits
-  new_steps = up-to s.first s.new_end ys new_order ∙ (λ i. sym front i ++ differ.new.steps i)
+  pub new-left : drop s.first ys ≡ interleaved d.new_gates d.pieces ++ drop s.new_end ys
+  new-left = left-is s.first s.new_end ys (interleaved d.new_gates d.pieces) new_order d.new
 
-  -- up to its end each gives what the steps before it give
-  pub span-old-output : outputs n coins (take s.old_end xs) origin ≡ outputs n coins (take s.first xs) origin
-  span-old-output =
-      ap (λ zs. outputs n coins zs origin) old_steps
-      ∙ behind-gates n coins differ.old_letter differ.old_qubits (take s.first xs)
+  module _ (front : take s.first xs ≡ take s.first ys) (behind : drop s.old_end xs ≡ drop s.new_end ys) where
+    -- the one looks back no further than the other
+    pub span-near : (reach : ℕ) → All (LooksWithin reach) xs → All (LooksWithin reach) ys
+    span-near reach near =
+        subst (All (LooksWithin reach)) (take-append-drop s.first ys)
+        (All-append (LooksWithin reach) (take s.first ys) (drop s.first ys)
+        (subst (All (LooksWithin reach)) front (All-take (LooksWithin reach) s.first xs near))
+        (subst (All (LooksWithin reach)) (sym new-left)
+        (interleaved-look-within reach d.old_gates d.new_gates d.pieces (drop s.new_end ys)
+        (subst (All (LooksWithin reach)) (sym d.new_are.steps) (gates-look-within reach d.new_letter d.new_qubits))
+        (subst (All (LooksWithin reach)) (old-left ∙ ap (λ zs. interleaved d.old_gates d.pieces ++ zs) behind) (All-drop (LooksWithin reach) s.first xs near)))))
 
-  pub span-new-output : outputs n coins (take s.new_end ys) origin ≡ outputs n coins (take s.first xs) origin
-  span-new-output =
-      ap (λ zs. outputs n coins zs origin) new_steps
-      ∙ behind-gates n coins differ.new_letter differ.new_qubits (take s.first xs)
+    module _ (coins : ℕ → Bool) (strings : ℕ → Option (List Letter)) (old_fit : All (StepFits n) xs) (new_fit : All (StepFits n) ys) where
+      abbrev here : Point
+      here = point_after n coins (take s.first xs) origin
 
-  pub span-outputs : outputs n coins (take s.new_end ys) origin ≡ outputs n coins (take s.old_end xs) origin
-  span-outputs = span-new-output ∙ sym span-old-output
+      olds_are : drop s.first xs ≡ interleaved (map (one (gate_of d.old_letter)) d.old_qubits) d.pieces ++ drop s.new_end ys
+      olds_are = old-left ∙ (λ t. interleaved (d.old_are.steps t) d.pieces ++ behind t)
 
-  records_are : (point_after n coins (take s.first xs) origin).records ≡ (point_after n coins (take s.old_end xs) origin).records
-  records_are =
-      sym (records-are-records n coins (take s.first xs))
-      ∙ ap (λ (o : RunOutput). o.records) (sym span-old-output)
-      ∙ records-are-records n coins (take s.old_end xs)
+      news_are : drop s.first ys ≡ interleaved (map (one (gate_of d.new_letter)) d.new_qubits) d.pieces ++ drop s.new_end ys
+      news_are = new-left ∙ (λ t. interleaved (d.new_are.steps t) d.pieces ++ drop s.new_end ys)
 
-  -- and there both differ by the letters
-  pub span-framed : PointsDifferBy n (frame_of letters (length (point_after n coins (take s.old_end xs) origin).records)) (point_after n coins (take s.old_end xs) origin)
-      (point_after n coins (take s.new_end ys) origin)
-  span-framed =
-      subst (λ x. x)
-      (λ i. PointsDifferBy n (frame_of (sym differ.product i) (length (records_are i))) (point_after n coins (sym old_steps i) origin) (point_after n coins (sym new_steps i) origin))
-      (paulis-front n coins differ.old_letter differ.new_letter differ.old_qubits differ.new_qubits differ.old.fit differ.new.fit (take s.first xs))
+      same : AreSameNotes n coins strings (drop s.first xs) (drop s.first ys) here
+      same =
+          subst (λ x. x) (λ t. AreSameNotes n coins strings (sym olds_are t) (sym news_are t) here)
+          (interleaved-same n coins strings d.old_letter d.new_letter d.old_qubits d.new_qubits d.old_are.fit d.new_are.fit d.pieces (drop s.new_end ys) here
+          (subst (All (StepFits n)) news_are (All-drop (StepFits n) s.first ys new_fit))
+          (record { steps = take s.first xs; fit = All-take (StepFits n) s.first xs old_fit; is = refl }))
 
-  -- strings that are true of the one run are so of the other, up to its end
-  pub span-true : (strings : ℕ → Option (List Letter)) → AreTrue n coins strings xs origin → AreTrue n coins strings (take s.new_end ys) origin
-  span-true strings are_true =
-      subst (λ zs. AreTrue n coins strings zs origin) (sym new_steps)
-      (true-append n coins strings (take s.first xs) (map (one (gate_of differ.new_letter)) differ.new_qubits) origin
-      (true-front n coins strings (take s.first xs) (drop s.first xs) origin
-      (subst (λ zs. AreTrue n coins strings zs origin) (sym (take-append-drop s.first xs)) are_true))
-      (gates-are-true n coins strings differ.new_letter differ.new_qubits (point_after n coins (take s.first xs) origin)))
+      -- what was noted of the one run is true of it with the steps of the other from the span on
+      pub span-true : AreTrue n coins strings xs origin → AreTrue n coins strings (drop s.first ys) here
+      span-true are =
+          same.are_true
+          (true-rest n coins strings (take s.first xs) (drop s.first xs) origin
+          (subst (λ zs. AreTrue n coins strings zs origin) (sym (take-append-drop s.first xs)) are))
 
-  -- and where the same steps follow, the one looks back no further than the other
-  pub span-near : (reach : ℕ) → drop s.old_end xs ≡ drop s.new_end ys → All (LooksWithin reach) xs → All (LooksWithin reach) ys
-  span-near reach back near =
-      subst (All (LooksWithin reach)) (take-append-drop s.new_end ys)
-      (All-append (LooksWithin reach) (take s.new_end ys) (drop s.new_end ys)
-      (subst (All (LooksWithin reach)) (sym new_steps)
-      (All-append (LooksWithin reach) (take s.first xs) (map (one (gate_of differ.new_letter)) differ.new_qubits) (All-take (LooksWithin reach) s.first xs near)
-      (gates-look-within reach differ.new_letter differ.new_qubits)))
-      (subst (All (LooksWithin reach)) back (All-drop (LooksWithin reach) s.old_end xs near)))
+      -- and of the other run
+      pub span-true-all : AreTrue n coins strings xs origin → AreTrue n coins strings ys origin
+      span-true-all are =
+          subst (λ zs. AreTrue n coins strings zs origin) (ap (λ zs. zs ++ drop s.first ys) front ∙ take-append-drop s.first ys)
+          (true-append n coins strings (take s.first xs) (drop s.first ys) origin
+          (true-front n coins strings (take s.first xs) (drop s.first xs) origin
+          (subst (λ zs. AreTrue n coins strings zs origin) (sym (take-append-drop s.first xs)) are))
+          (span-true are))
+
+      pub span-flags : (outputs n coins (drop s.first ys) here).free ≡ drop (length (outputs n coins (take s.first xs) origin).free) (outputs n coins xs origin).free
+      span-flags = same.flags ∙ ap (λ (o : RunOutput). o.free) (sym (rest-output n coins xs s.first))

@@ -1,4 +1,5 @@
 pub mod LongerLists
 pub mod PauliSpans
+pub mod PassedPlaces
 pub mod Sections
 pub mod LedFrames

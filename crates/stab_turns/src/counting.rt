@@ -1,4 +1,4 @@
-ghost use Rattle.std.specs.Prelude.{◌≡◌, ℕ, ◌+◌, ◌<◌, ◌^◌, Bool, length, take};
+ghost use Rattle.std.specs.Prelude.{◌≡◌, ℕ, ◌+◌, ◌<◌, ◌^◌, Bool, length, take, drop};
 ghost use Rattle.stab_circuit.specs.Cursors.{step_shown, steps_shown};
 ghost use Rattle.stab_run.specs.Points.{Point, given, outputs};
 ghost use Rattle.stab_run.specs.Cuts.{lengths_of};
@@ -8,9 +8,11 @@ use stab_circuit::{Cursor, Step, Steps};
 use stab_run::Lengths;
 
 /// How long the lists of a run are behind the next steps of a cursor, up to so many, where they are so
-/// long before these.
+/// long before these. The cursor goes over these steps.
 pub fn lengths_behind(cursor: &mut Cursor, most: usize, before: Lengths) -> Lengths
     requires few { AreBelow (2 ^ 63) (length cursor.old.left) before }
+    ensures all { cursor.new.all ≡ cursor.old.all }
+    ensures left { cursor.new.left ≡ drop most cursor.old.left }
     ensures value { (n : ℕ) (coins : ℕ → Bool) (a : Point) → result ≡ longer before (lengths_of (outputs n coins (take most cursor.old.left) a)) }
 {
     let mut lengths = before;

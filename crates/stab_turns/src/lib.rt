@@ -7,6 +7,8 @@
 //! - `sections`: outlines of parts of a run's steps, and where they stand once some steps are others.
 //! - `outlining`: outlines of all steps of a circuit, from copy to copy.
 //! - `trail`: the steps of a circuit from a place on, by outlines where there are some, and else by a cursor.
+//! - `passing`: a frame led past the places at which Pauli gates stand in the old circuit or the new one, and
+//!   over what stands between them.
 //! - `leading`: a frame led over the copies of a run, with turned copies made on the way.
 //! - `flips`: what a run gave, flipped where it lies.
 //! - `states`: a state, turned where it lies.
@@ -17,16 +19,19 @@
 //! simulator (2021).
 //!
 //! Proved: lengths are those of what the steps give at any point (`specs/LongerLists.antt`); a frame that
-//! was led over copies went over the steps before each, and what was made there is that copy, turned by
-//! the frame; it went on to the last step, or to where it was gone or its letters stabilised the state;
-//! and where it turned copies, it flips a record, or the last of them became another state
-//! (`specs/LedFrames.antt`); flipped lists are what they were, inverted where the flips are 1.
+//! went past such places is that between the old run and the new one there, and what was made of copies
+//! on its way are copies of the new run (`specs/PassedPlaces.antt`); a frame that was led over copies
+//! went over the steps before each, and what was made there is that copy, turned by the frame; it went on
+//! to the last step, or to where it was gone or its letters stabilised the state; and where it turned
+//! copies, it flips a record, or the last of them became another state (`specs/LedFrames.antt`); flipped
+//! lists are what they were, inverted where the flips are 1.
 #![tactic(auto)]
 
 mod counting;
 mod flips;
 mod leading;
 mod outlining;
+mod passing;
 mod sections;
 mod states;
 mod trail;
@@ -35,6 +40,7 @@ pub use counting::lengths_behind;
 pub use flips::{flip_outputs, sum_additions};
 pub use leading::lead_frame;
 pub use outlining::outline_between;
+pub use passing::{PauliChange, pass_places};
 pub use sections::{Section, move_sections};
 pub use states::turn_tableau;
 pub use trail::Trail;

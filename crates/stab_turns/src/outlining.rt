@@ -1,4 +1,4 @@
-ghost use Rattle.std.specs.Prelude.{◌≡◌, ◌+◌, ◌≤◌, None, All, length, drop, IfOk, IfErr, OnOk};
+ghost use Rattle.std.specs.Prelude.{◌≡◌, ◌+◌, ◌≤◌, None, All, length, drop, IfOk, IfErr, IfSome, OnOk};
 ghost use Rattle.stab_io.specs.declared.refusal.Refusal.TheVariants.{OutOfMemory};
 ghost use Rattle.stab_circuit.specs.Steps.{check_of, unroll};
 ghost use Rattle.stab_circuit.specs.Views.{circuit_items};
@@ -29,40 +29,78 @@ pub fn outline_between(
     let total = circuit.steps();
     let mut first = 0;
     for copy in copies {
-        let count = copy.step.min(total).saturating_sub(first);
-        push_outline(alloc, &mut cursor, first, count, &mut known, &mut sections)?;
-        first += count;
+        let end = copy.step.min(total).max(first);
+        push_outline(
+            alloc,
+            circuit,
+            &mut cursor,
+            first,
+            end,
+            &mut known,
+            &mut sections,
+        )?;
+        first = end;
     }
     push_outline(
         alloc,
+        circuit,
         &mut cursor,
         first,
-        total - first,
+        total,
         &mut known,
         &mut sections,
     )?;
     Ok(sections)
 }
 
-/// Puts the outline of the next so many steps that a cursor has left, the first of which has this number, behind others, if these steps
-/// have one.
-fn push_outline(
+/// The outline of the steps from one number up to another, if they have one, where a cursor is at the first. It is at the end then.
+fn section_between(
     alloc: Global,
     cursor: &mut Cursor,
     first: usize,
-    count: usize,
+    end: usize,
+    known: &mut Known,
+) -> Result<Option<Section>, AllocError>
+    requires left { cursor.old.left ≡ drop first cursor.old.all }
+    requires order { first ≤ end }
+    requires within { end ≤ length cursor.old.all }
+    ensures all { cursor.new.all ≡ cursor.old.all }
+    ensures left { IfOk result (λ found. IfSome found (λ s. cursor.new.left ≡ drop end cursor.old.all)) }
+    ensures section { IfOk result (λ found. IfSome found (IsSection cursor.old.all)) }
+{
+    match Outline::of(alloc, cursor, end - first, known)? {
+        Some(outline) => Ok(Some(Section { first, outline })),
+        None => Ok(None),
+    }
+}
+
+/// Puts the outline of the steps from one number up to another behind others, if they have one, where a cursor is at the first. It is
+/// at the end then; where they have none it begins anew there.
+///
+/// Refusal `OutOfMemory` alone.
+fn push_outline<'a>(
+    alloc: Global,
+    circuit: &'a Circuit,
+    cursor: &mut Cursor<'a>,
+    first: usize,
+    end: usize,
     known: &mut Known,
     sections: &mut Vec<Section>,
-) -> Result<(), AllocError>
+) -> Result<(), Refusal>
+    requires checked { check_of (circuit_items circuit.now) ≡ None }
+    requires all { cursor.old.all ≡ unroll (circuit_items circuit.now) }
     requires left { cursor.old.left ≡ drop first cursor.old.all }
-    requires within { first + count ≤ length cursor.old.all }
+    requires order { first ≤ end }
+    requires within { end ≤ length cursor.old.all }
     requires sections { All (IsSection cursor.old.all) sections.old.items }
     ensures all { cursor.new.all ≡ cursor.old.all }
-    ensures left { OnOk result (cursor.new.left ≡ drop (first + count) cursor.old.all) }
+    ensures left { OnOk result (cursor.new.left ≡ drop end cursor.old.all) }
     ensures sections { OnOk result (All (IsSection cursor.old.all) sections.new.items) }
+    ensures err { IfErr result (λ r. r ≡ OutOfMemory) }
 {
-    if let Some(outline) = Outline::of(alloc, cursor, count, known)? {
-        sections.push(Section { first, outline })?;
+    match section_between(alloc, cursor, first, end, known)? {
+        Some(section) => sections.push(section)?,
+        None => *cursor = Cursor::at(alloc, circuit, end)?,
     }
     Ok(())
 }

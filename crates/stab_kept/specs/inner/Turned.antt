@@ -1,54 +1,77 @@
 -- Turned runs: what a frame made of a kept run, and what is kept once that is put in place.
 -- Source: this project's own.
-use Rattle.std.specs.Prelude.{◌≡◌, ℕ, ◌+◌, ◌-◌, ◌*◌, ◌≤◌, Bool, false, List, [], Option, None, Some, IfSome, MatchOption, All, length, take, drop, map, replicate, slice_get, vec_capacity}
-use Rattle.stab_pauli.specs.Paulis.{Signed}
-use Rattle.stab_tableau.specs.Tableaus.{stabilises}
+use Rattle.std.specs.Prelude.{◌≡◌, ℕ, ◌+◌, ◌-◌, ◌*◌, ◌≤◌, Bool, false, List, [], ◌++◌, Option, None, Some, IfSome, MatchOption, All, length, take, drop, map, replicate, slice_get, vec_capacity}
+use Rattle.stab_letters.specs.declared.letter.Letter.TheVariants.{I}
+use Rattle.stab_tableau.specs.Tableaus.{TableauState, stabilises}
 use Rattle.stab_tableau.specs.Turns.{IsTurned}
 use Rattle.stab_circuit.specs.Steps.{Step, most_steps}
 use Rattle.stab_circuit.specs.declared.edit.Span.{Span}
 use Rattle.stab_copies.specs.declared.checkpoint.Checkpoint.{Checkpoint}
 use Rattle.stab_copies.specs.declared.checkpoint.Meeting.{Meeting}
-use Rattle.stab_copies.specs.Checkpoints.{checkpoint_steps}
+use Rattle.stab_copies.specs.Checkpoints.{IsCheckpoint, checkpoint_steps}
 use Rattle.stab_copies.specs.LaidCopies.{moved, moved_copy, all_laid}
-use Rattle.stab_run.specs.Points.{Point, nothing, joined, with_additions, outputs}
+use Rattle.stab_run.specs.Points.{Point, RunOutput, nothing, joined, with_additions, outputs}
 use Rattle.stab_run.specs.Records.{ones}
 use Rattle.stab_run.specs.ProgramStates.{output_of}
 use Rattle.stab_run.specs.Cuts.{lengths_of, front_of, rest_of}
 use Rattle.stab_steps.specs.declared.records.Lengths.{Lengths}
 use Rattle.stab_frames.specs.Flips.{flipped_output}
-use Rattle.stab_frames.specs.Walks.{WalkState}
+use Rattle.stab_frames.specs.KeptStrings.{note_at}
+use Rattle.stab_frames.specs.Walks.{WalkState, IsPlaced}
 use Rattle.stab_turns.specs.LongerLists.{longer}
 use Rattle.stab_turns.specs.LedFrames.{IsLedFrame, with_states}
+use Rattle.stab_turns.specs.PassedPlaces.{IsFrameBetween, IsBeforePlaces}
+use Rattle.stab_turns.specs.declared.passing.PauliChange.{PauliChange}
 use Rattle.stab_turns.specs.Sections.{IsSection, IsMoved}
 use Rattle.stab_kept.specs.declared.kept.KeptRun.{KeptRun}
 use Rattle.stab_kept.specs.declared.kept.Followed.{Followed}
+use Rattle.stab_kept.specs.declared.turning.Passed.{Passed}
 use Rattle.stab_kept.specs.declared.turning.Turning.{Turning}
 use Rattle.stab_kept.specs.Counts.{IsCounted}
 use Rattle.stab_kept.specs.KeptRuns.{IsKeptRun, IsSpan, AgreeBehindSpan, AgreeBackBehindSpan}
 
--- the next copy, or the last step, is at most K steps from the copy before, once it has moved; and no copy stands within the span
+-- a step is not behind a span, and the next copy, which is, once it has moved, or the last step, is at most K steps from it
 abbrev pub StaysNear : ℕ → Span → (total step : ℕ) → Option Checkpoint → Type 0
 StaysNear K s total step next =
-    MatchOption next (total ≤ step + K) (λ c. (s.old_end ≤ c.step) × (moved s.old_end s.new_end c.step ≤ step + K))
+    (step ≤ s.new_end) × MatchOption next (total ≤ step + K) (λ c. (s.old_end ≤ c.step) × (moved s.old_end s.new_end c.step ≤ step + K))
 
--- the copies of a run move with the end of a span, at which its lists were so long, and stay so
+-- the copies of a run move with the end of a span, and its lists stay as long as they are
 abbrev pub span_meeting : Span → Lengths → Meeting
 span_meeting s l = record { old_step = s.old_end; new_step = s.new_end; old_lengths = l; new_lengths = l }
 
--- a frame of a string's letters was led over the steps behind a span, past the copies that stand behind so many; it began where the lists
--- of the run were so long
-pub record IsTurning (ys : List Step) (s : Span) (before : ℕ) (p : Signed) (r : KeptRun) (t : Turning) : Type 0 where
-  pub from : IfSome (slice_get r.checkpoints.items (before - 1)) (λ c. (n : ℕ) (coins : ℕ → Bool) (a : Point)
-      → t.from ≡ longer c.lengths (lengths_of (outputs n coins (take (s.first - c.step) (drop c.step ys)) a)))
+-- a frame that began where the lists of a run were so long went past the places of a change within a span; of the copies that stand behind
+-- so many, those up to another count were made copies of the new run
+pub record HasPassed (ys : List Step) (s : Span) (before inside : ℕ) (change : PauliChange) (r : KeptRun) (from : Lengths) (w : WalkState) (copies : List Checkpoint) : Type 0 where
+  pub from_is : IfSome (slice_get r.checkpoints.items (before - 1)) (λ c. (n : ℕ) (coins : ℕ → Bool) (a : Point)
+      → from ≡ longer c.lengths (lengths_of (outputs n coins (take (s.first - c.step) (drop c.step ys)) a)))
   pub start : WalkState
-  pub begins : start ≡ record { letters = p.letters; flips = nothing; coin = t.from.free; number = ones (take t.from.free r.outputs.free.items) }
-  pub led : IsLedFrame r.tableau.qubits r.strings.strings r.outputs.free.items r.reach (drop s.new_end ys) s.old_end (drop before r.checkpoints.items) t.turned.items start t.walk
+  pub begins : start ≡ record { letters = replicate r.tableau.qubits I; flips = nothing; coin = from.free; number = ones (take from.free r.outputs.free.items) }
+  pub letters : length w.letters ≡ r.tableau.qubits
+  pub placed : IsPlaced r.outputs.free.items w
+  pub few : w.coin ≤ from.free + length (drop s.first ys)
+  pub count : length copies + before ≡ inside
+  pub between : (coins : ℕ → Bool) (xs : List Step) (base : ℕ) (front : RunOutput)
+      → IsBeforePlaces r.tableau.qubits coins xs ys (note_at r.strings.strings r.outputs.free.items) r.outputs.free.items base front s change (drop s.first ys) start
+      → IsFrameBetween r.tableau.qubits coins xs ys (note_at r.strings.strings r.outputs.free.items) r.outputs.free.items base front s.old_end s.new_end w
+  pub are_copies : (coins : ℕ → Bool) (xs : List Step) (base : ℕ) (front : RunOutput)
+      → IsBeforePlaces r.tableau.qubits coins xs ys (note_at r.strings.strings r.outputs.free.items) r.outputs.free.items base front s change (drop s.first ys) start
+      → All (IsCheckpoint r.tableau.qubits coins xs) (take (inside - before) (drop before r.checkpoints.items)) → All (IsCheckpoint r.tableau.qubits coins ys) copies
+
+-- it was led on over the steps behind the span, past the copies that stand there
+pub record IsTurning (ys : List Step) (s : Span) (inside : ℕ) (p : Passed) (r : KeptRun) (t : Turning) : Type 0 where
+  pub from : t.from ≡ p.from
+  pub passed : t.passed.items ≡ p.copies.items
+  pub led : IsLedFrame r.tableau.qubits r.strings.strings r.outputs.free.items r.reach (drop s.new_end ys) s.old_end (drop inside r.checkpoints.items) t.turned.items p.walk t.walk
   pub letters : length t.walk.letters ≡ r.tableau.qubits
-  pub room : (t.room.items ≡ []) × (length r.checkpoints.items ≤ vec_capacity t.room + before)
-  pub few : length t.turned.items + before ≤ length r.checkpoints.items
+  pub room : (t.room.items ≡ []) × (length r.checkpoints.items ≤ vec_capacity t.room + inside)
+  pub few : length t.turned.items + inside ≤ length r.checkpoints.items
+
+-- the copies behind a span, those that a frame turned with their new states, and moved with it
+abbrev pub copies_moved : Span → Lengths → List TableauState → List Checkpoint → List Checkpoint
+copies_moved s from turned copies = map (moved_copy (span_meeting s from)) (with_states turned copies)
 
 -- what it made was put in place
-pub record IsPut (old : KeptRun) (s : Span) (before K : ℕ) (t : Turning) (new : KeptRun) : Type 0 where
+pub record IsPut (old : KeptRun) (s : Span) (before inside K : ℕ) (t : Turning) (new : KeptRun) : Type 0 where
   pub qubits : new.tableau.qubits ≡ old.tableau.qubits
   pub turned : IsTurned old.tableau.qubits t.walk.letters (stabilises old.tableau) (stabilises new.tableau)
   pub output : output_of new.outputs ≡ joined (front_of t.from (output_of old.outputs)) (flipped_output (rest_of t.from (output_of old.outputs)) (record t.walk.flips { free = [] }))
@@ -56,7 +79,7 @@ pub record IsPut (old : KeptRun) (s : Span) (before K : ℕ) (t : Turning) (new 
   pub strings : new.strings ≡ old.strings
   pub reach : new.reach ≡ old.reach
   pub checkpoints : new.checkpoints.items
-      ≡ all_laid K (map (moved_copy (span_meeting s t.from)) (with_states t.turned.items (drop before old.checkpoints.items))) (take before old.checkpoints.items)
+      ≡ all_laid K (t.passed.items ++ copies_moved s t.from t.turned.items (drop inside old.checkpoints.items)) (take before old.checkpoints.items)
   pub sections : (xs ys : List Step) → length ys ≤ most_steps → IsMoved xs ys s → All (IsSection xs) old.sections.items → All (IsSection ys) new.sections.items
 
 -- where the first copy stands that was not turned, or behind the last step
@@ -64,10 +87,10 @@ abbrev pub turned_end : Span → (total : ℕ) → Option Checkpoint → ℕ
 turned_end s total None = total
 turned_end s total (Some c) = moved s.old_end s.new_end c.step
 
--- from the copy before a span on, up to that end, the steps put in count as carried out, and a frame went over the others
-pub record IsFollowed (s : Span) (total before turned : ℕ) (copies : List Checkpoint) (f : Followed) : Type 0 where
+-- from the copy before a span on, up to that end, its new steps count as carried out, and a frame went over the others
+pub record IsFollowed (s : Span) (total before number : ℕ) (copies : List Checkpoint) (f : Followed) : Type 0 where
   pub applied : f.applied + s.first ≡ s.new_end
-  pub counted : IfSome (slice_get copies (before - 1)) (λ c. (f.applied + f.framed) + c.step ≡ turned_end s total (slice_get copies (before + turned)))
+  pub counted : IfSome (slice_get copies (before - 1)) (λ c. (f.applied + f.framed) + c.step ≡ turned_end s total (slice_get copies number))
 
 -- the run was turned: it is that of the new steps, with so many observables, and so many steps were followed for it
 pub record HasTurned (n : ℕ) (coins : ℕ → Bool) (K : ℕ) (ys : List Step) (observables : ℕ) (s : Span) (old : KeptRun) (f : Followed) (new : KeptRun) : Type 0 where

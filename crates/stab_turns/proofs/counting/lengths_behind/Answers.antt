@@ -1,11 +1,16 @@
-use Rattle.std.proofs.Common.{◌^◌, ◌∙◌, false}
+use Rattle.std.proofs.Common.{◌^◌, sym, ◌∙◌, false}
 use Rattle.stab_circuit.specs.Cursors.{steps_shown}
 use Rattle.stab_run.specs.Points.{origin}
-use Rattle.stab_turns.proofs.LengthLemmas.{below-next, below-rest, drop-next, longer-next, longer-none, take-none, take-zero}
+use Rattle.stab_turns.proofs.LengthLemmas.{below-next, below-rest, drop-next, drop-none, drop-zero, longer-next, longer-none, take-none, take-zero}
 use Rattle.stab_turns.proofs.counting.lengths_behind.Goals as goal
 
 pub returns-in_default : goal.returns-in_default
 returns-in_default c = record {
+  all = c.next_steps.ensures.all ∙ c.loop-left.invariant.all;
+  left =
+      c.in_default.ensures.none.1
+      ∙ sym (drop-none c.loop-left.left c.loop-left.cursor.left c.in_default.ensures.none.0)
+      ∙ c.loop-left.invariant.left;
   value = λ n coins a. longer-none n coins _ a c.loop-left.lengths (take-none c.loop-left.left c.loop-left.cursor.left c.in_default.ensures.none.0) ∙ c.loop-left.invariant.value n coins a;
 }
 
@@ -35,5 +40,7 @@ loop-left-preserved c =
 
 pub returns : goal.returns
 returns c = record {
+  all = c.loop-left.invariant.all;
+  left = sym (drop-zero c.loop-left.left c.loop-left.cursor.left c.loop-left-test.false) ∙ c.loop-left.invariant.left;
   value = λ n coins a. longer-none n coins _ a c.loop-left.lengths (take-zero c.loop-left.left c.loop-left.cursor.left c.loop-left-test.false) ∙ c.loop-left.invariant.value n coins a;
 }

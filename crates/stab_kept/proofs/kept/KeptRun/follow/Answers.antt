@@ -16,7 +16,7 @@ turned : (g : Over) (c : In-Some-2 g) → HasTurned c.args.self.now.tableau.qubi
     (observables_of (circuit_items c.args.circuit.now)) c.args.span c.args.self.now c.in-Some-2.followed c.turn.new.self
 turned g c =
     subst (λ o. IfSome o (λ f. (coins : ℕ → Bool) →
-    Follows c.args.self.now.tableau.qubits coins c.args.stride (unroll (circuit_items c.args.circuit.now)) c.args.span (Some c.in-Some.string) c.args.self.now →
+    Follows c.args.self.now.tableau.qubits coins c.args.stride (unroll (circuit_items c.args.circuit.now)) c.args.span (Some c.in-Some.change) c.args.self.now →
     HasTurned c.args.self.now.tableau.qubits coins c.args.stride (unroll (circuit_items c.args.circuit.now)) (observables_of (circuit_items c.args.circuit.now)) c.args.span c.args.self.now f c.turn.new.self))
     c.in-Some-2.is c.in_ok-followed.ensures.turned (g.C.Coins.sequence c.args.coins.now)
     (subst (λ p. Follows c.args.self.now.tableau.qubits (g.C.Coins.sequence c.args.coins.now) c.args.stride (unroll (circuit_items c.args.circuit.now)) c.args.span p c.args.self.now) c.in-Some.is

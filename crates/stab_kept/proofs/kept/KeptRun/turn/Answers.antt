@@ -1,113 +1,129 @@
-use Rattle.std.proofs.Common.{◌≡◌, ◌+◌, ◌-◌, ◌≤◌, refl, sym, ◌∙◌, ap, subst, arith, Some, length, get_or}
+use Rattle.std.proofs.Common.{◌≡◌, ℕ, Bool, ◌+◌, ◌-◌, ◌<◌, ◌≤◌, ◌∷◌, refl, sym, ◌∙◌, ap, subst, arith, Some, length, take, drop, get_or, All}
 use Rattle.std.specs.Prelude.{IfSome, slice_get}
 use Rattle.stab_circuit.specs.Steps.{unroll, observables_of}
 use Rattle.stab_circuit.specs.Views.{circuit_items}
 use Rattle.stab_copies.specs.declared.checkpoint.Checkpoint.{Checkpoint}
+use Rattle.stab_copies.specs.Checkpoints.{checkpoint_steps}
+use Rattle.stab_copies.specs.Spacing.{Near, last_of}
+use Rattle.stab_run.specs.Points.{Point, outputs}
+use Rattle.stab_run.specs.Cuts.{lengths_of}
 use Rattle.stab_run.proofs.FitLemmas.{check-fits, check-whole, check-steps}
+use Rattle.stab_turns.specs.LongerLists.{longer}
 use Rattle.stab_kept.specs.inner.Prepared.{IsCount}
-use Rattle.stab_kept.specs.inner.Turned.{StaysNear, IsTurning, HasTurned, turned_end}
+use Rattle.stab_kept.specs.inner.Turned.{StaysNear, HasPassed, IsTurning, HasTurned, turned_end}
 use Rattle.stab_kept.proofs.FollowLemmas.{some-at}
 use Rattle.stab_kept.proofs.CourseLemmas.{count-of}
-use Rattle.stab_kept.proofs.TurningLemmas.{some-copies, copy-is, copy-before}
+use Rattle.stab_kept.proofs.TurnLemmas.{AreInside}
+use Rattle.stab_kept.proofs.TurningLemmas.{copy-is, copy-before, from-few}
 use Rattle.stab_kept.proofs.TellLemmas.{end-behind, has-turned-here}
 use Rattle.stab_kept.proofs.kept.KeptRun.turn.Goals as goal
-use Rattle.stab_kept.proofs.kept.KeptRun.turn.Goals.{After-as_slice, After-count_before-before, Else-not-stays_near, After-index-copies-before}
+use Rattle.stab_kept.proofs.kept.KeptRun.turn.Goals.{After-as_slice-copies, After-count_before-before, After-count_within-inside, After-index-copies-before, In-Some, After-end_place-end}
 
-few : (c : After-as_slice) → length (unroll (circuit_items c.args.circuit.now)) ≤ 1048576
+few : (c : After-as_slice-copies) → length (unroll (circuit_items c.args.circuit.now)) ≤ 1048576
 few c = check-steps (circuit_items c.args.circuit.now) (check-whole c.args.self.now.tableau.qubits (circuit_items c.args.circuit.now) c.requires.checked)
 
-total-is : (c : After-as_slice) → c.steps-total.result ≡ length (unroll (circuit_items c.args.circuit.now))
-total-is c = omega (arith, c.steps-total.ensures.value, few c)
+total-is : (c : After-as_slice-copies) → length (unroll (circuit_items c.args.circuit.now)) ≤ 1048576 → c.steps-total.result ≡ length (unroll (circuit_items c.args.circuit.now))
+total-is c small = omega (arith, c.steps-total.ensures.value, small)
 
 counted : (c : After-count_before-before) → IsCount (c.args.span.first + 1) c.args.self.now.checkpoints.items c.count_before-before.result
 counted c =
     let count = c.count_before-before.ensures in
-    count-of (c.args.span.first + 1) c.as_slice.result.now c.args.self.now.checkpoints.items c.count_before-before.result c.as_slice.ensures.value count.within count.before
+    count-of (c.args.span.first + 1) c.as_slice-copies.result.now c.args.self.now.checkpoints.items c.count_before-before.result c.as_slice-copies.ensures.value count.within count.before
     count.behind
 
-pub overflow_add-span : goal.overflow_add-span
-overflow_add-span c =
-    let at = goal.at.overflow_add-span c in
+inside : (c : After-count_within-inside) → AreInside c.args.span c.args.self.now.checkpoints.items c.count_before-before.result c.count_within-inside.result
+inside c =
+    let count = c.count_within-inside.ensures in
+    record {
+      order = count.order;
+      within = subst (λ cs. c.count_within-inside.result ≤ length cs) c.as_slice-copies.ensures.value count.within;
+      among =
+          subst (λ cs. All (λ (d : Checkpoint). d.step < c.args.span.old_end) (take (c.count_within-inside.result - c.count_before-before.result) (drop c.count_before-before.result cs)))
+          c.as_slice-copies.ensures.value count.among;
+    }
+
+here : (c : After-index-copies-before) → length (unroll (circuit_items c.args.circuit.now)) ≤ 1048576 → IsCount (c.args.span.first + 1) c.args.self.now.checkpoints.items c.count_before-before.result
+    → slice_get c.args.self.now.checkpoints.items (c.count_before-before.result - 1) ≡ Some c.index-copies-before.result
+here c small count =
     let f = c.requires.follows.1 in
-    let order = f.span.new_order in
-    let within = f.span.new_within in
-    omega (arith, few at.After-as_slice, order, within)
-
-pub stays_near-requires-clause-some : goal.stays_near-requires-clause-some
-stays_near-requires-clause-some c =
-    let at = goal.at.stays_near-requires-clause-some c in
-    let f = c.requires.follows.1 in
-    let some = some-copies f.count f.kept f.span (few at.After-as_slice) (counted at.After-count_before-before) in
-    omega (arith, some)
-
-stays : (c : Else-not-stays_near) → c.steps-total.result ≡ length (unroll (circuit_items c.args.circuit.now)) → IfSome (slice_get c.args.self.now.checkpoints.items (c.count_before-before.result - 1))
-    (λ (d : Checkpoint). StaysNear c.args.stride c.args.span (length (unroll (circuit_items c.args.circuit.now))) d.step (slice_get c.args.self.now.checkpoints.items c.count_before-before.result))
-stays c total =
-    let same = c.as_slice-2.ensures.value in
-    subst (λ x. x)
-    (λ i. IfSome (slice_get (same i) (c.count_before-before.result - 1)) (λ (d : Checkpoint). StaysNear c.args.stride c.args.span (total i) d.step (slice_get (same i) c.count_before-before.result)))
-    (c.stays_near.ensures.near c.if-not-stays_near.false)
-
-pub turning-requires-clause-near : goal.turning-requires-clause-near
-turning-requires-clause-near c =
-    let at = goal.at.turning-requires-clause-near c in
-    (c.args.stride, stays at.Else-not-stays_near (total-is at.After-as_slice))
-
-pub overflow_sub-before : goal.overflow_sub-before
-overflow_sub-before c =
-    let at = goal.at.overflow_sub-before c in
-    let f = c.requires.follows.1 in
-    some-copies f.count f.kept f.span (few at.After-as_slice) (counted at.After-count_before-before)
-
-here : (c : After-index-copies-before) → slice_get c.args.self.now.checkpoints.items (c.count_before-before.result - 1) ≡ Some c.index-copies-before.result
-here c =
-    let at = goal.at.followed_between-followed-requires-clause-before c in
-    let f = c.requires.follows.1 in
-    copy-is f.count f.kept f.span (few at.After-as_slice) (counted at.After-count_before-before) c.index-copies-before.result
+    copy-is f.count f.kept f.span small count c.index-copies-before.result
     (c.index-copies-before.is ∙ ap (λ cs. get_or cs (c.count_before-before.result - 1) c.index-copies-before.result) c.as_slice-copies.ensures.value)
 
-end-is : (c : After-index-copies-before) → c.end_place-end.result
-    ≡ turned_end c.args.span (length (unroll (circuit_items c.args.circuit.now))) (slice_get c.args.self.now.checkpoints.items (c.count_before-before.result + length c.in-Some.turning.turned.items))
-end-is c =
-    let at = goal.at.followed_between-followed-requires-clause-before c in
-    let total = total-is at.After-as_slice in
+passed : (c : In-Some) → HasPassed (unroll (circuit_items c.args.circuit.now)) c.args.span c.count_before-before.result c.count_within-inside.result c.args.change.now c.args.self.now
+    c.in-Some.passed.from c.in-Some.passed.walk c.in-Some.passed.copies.items
+passed c =
+    subst (λ o. IfSome o (λ p. HasPassed (unroll (circuit_items c.args.circuit.now)) c.args.span c.count_before-before.result c.count_within-inside.result c.args.change.now c.args.self.now
+    p.from p.walk p.copies.items)) c.in-Some.is c.in_ok-passed.ensures.passed
+
+pub turning-requires-clause-few : goal.turning-requires-clause-few
+turning-requires-clause-few c =
+    let at = goal.at.turning-requires-clause-few c in
+    let f = c.requires.follows.1 in
+    let ys = unroll (circuit_items c.args.circuit.now) in
+    let small = few at.After-as_slice-copies in
+    let count = counted at.After-count_before-before in
+    let d_here = here at.After-index-copies-before small count in
+    let went = passed at.In-Some in
+    let counts = some-at (λ (d : Checkpoint). (n : ℕ) (coins : ℕ → Bool) (a : Point) → c.in-Some.passed.from ≡ longer d.lengths (lengths_of (outputs n coins (take (c.args.span.first - d.step) (drop d.step ys)) a)))
+    c.args.self.now.checkpoints.items (c.count_before-before.result - 1) c.index-copies-before.result d_here went.from_is in
+    omega (
+      arith,
+      went.few,
+      from-few f.count f.kept f.span small count c.index-copies-before.result d_here c.in-Some.passed.from counts c.args.span.first,
+      from-few f.count f.kept f.span small count c.index-copies-before.result d_here c.in-Some.passed.from counts c.args.span.new_end,
+    )
+
+end-is : (c : After-end_place-end) → c.steps-total.result ≡ length (unroll (circuit_items c.args.circuit.now)) → c.end_place-end.result
+    ≡ turned_end c.args.span (length (unroll (circuit_items c.args.circuit.now))) (slice_get c.args.self.now.checkpoints.items (c.count_within-inside.result + length c.in-Some-2.turning.turned.items))
+end-is c total =
     let same = c.as_slice-copies.ensures.value in
-    let count : c.len-in-Some.result ≡ length c.in-Some.turning.turned.items = c.len-in-Some.ensures ∙ c.in-Some.turning.turned.ok.0 in
+    let count : c.len-2.result ≡ length c.in-Some-2.turning.turned.items = c.len-2.ensures ∙ c.in-Some-2.turning.turned.ok.0 in
     c.end_place-end.ensures.value
-    ∙ (λ i. turned_end c.args.span (total i) (slice_get (same i) (c.count_before-before.result + count i)))
+    ∙ (λ i. turned_end c.args.span (total i) (slice_get (same i) (c.count_within-inside.result + count i)))
 
 pub followed_between-followed-requires-clause-before : goal.followed_between-followed-requires-clause-before
 followed_between-followed-requires-clause-before c =
     let at = goal.at.followed_between-followed-requires-clause-before c in
     let f = c.requires.follows.1 in
+    let small = few at.After-as_slice-copies in
+    let count = counted at.After-count_before-before in
     subst (λ (d : Checkpoint). d.step ≤ c.args.span.first) c.index-copies-before.is
-    (copy-before f.count f.kept f.span (few at.After-as_slice) (counted at.After-count_before-before) c.index-copies-before.result (here c))
+    (copy-before f.count f.kept f.span small count c.index-copies-before.result (here at.After-index-copies-before small count))
 
 pub followed_between-followed-requires-clause-behind : goal.followed_between-followed-requires-clause-behind
 followed_between-followed-requires-clause-behind c =
     let at = goal.at.followed_between-followed-requires-clause-behind c in
     let f = c.requires.follows.1 in
-    subst (λ k. c.args.span.new_end ≤ k) (sym (end-is c))
-    (end-behind c.args.span (length (unroll (circuit_items c.args.circuit.now))) (slice_get c.args.self.now.checkpoints.items (c.count_before-before.result + length c.in-Some.turning.turned.items))
-    f.span.new_within (few at.After-as_slice))
+    let small = few at.After-as_slice-copies in
+    subst (λ k. c.args.span.new_end ≤ k) (sym (end-is at.After-end_place-end (total-is at.After-as_slice-copies small)))
+    (end-behind c.args.span (length (unroll (circuit_items c.args.circuit.now)))
+    (slice_get c.args.self.now.checkpoints.items (c.count_within-inside.result + length c.in-Some-2.turning.turned.items)) f.span.new_within small)
 
-pub returns-in-Some-clause-turned : goal.returns-in-Some-clause-turned
-returns-in-Some-clause-turned c =
-    let at = goal.at.returns-in-Some-clause-turned c in
+pub returns-clause-turned : goal.returns-clause-turned
+returns-clause-turned c =
+    let at = goal.at.returns-clause-turned c in
     let items = circuit_items c.args.circuit.now in
     let n = c.args.self.now.tableau.qubits in
     let d = c.index-copies-before.result in
-    let d_here = here at.After-index-copies-before in
+    let small = few at.After-as_slice-copies in
+    let total = total-is at.After-as_slice-copies small in
+    let before = counted at.After-count_before-before in
+    let d_here = here at.After-index-copies-before small before in
+    let same = c.as_slice-copies.ensures.value in
+    let first = c.index-copies-before.is in
+    let copies = c.as_slice.ensures.value in
     let count : length c.args.self.now.observables.items ≡ observables_of items =
     sym (sym c.observables.ensures.value ∙ c.if-observables-len.false ∙ c.len.ensures ∙ c.args.self.now.observables.ok.0) in
     λ coins f.
     subst (λ k. HasTurned n coins c.args.stride (unroll items) k c.args.span c.args.self.now c.followed_between-followed.result c.put.new.self) count
-    (has-turned-here f (few at.After-as_slice) (counted at.After-count_before-before) d d_here
-    (some-at (λ (x : Checkpoint). StaysNear c.args.stride c.args.span (length (unroll items)) x.step (slice_get c.args.self.now.checkpoints.items c.count_before-before.result))
-    c.args.self.now.checkpoints.items (c.count_before-before.result - 1) d d_here (stays at.Else-not-stays_near (total-is at.After-as_slice)))
-    c.in-Some.turning
-    (subst (λ o. IfSome o (IsTurning (unroll items) c.args.span c.count_before-before.result c.args.string.now c.args.self.now)) c.in-Some.is c.in_ok-turning.ensures.turning)
+    (has-turned-here f small before (inside at.After-count_within-inside) d d_here c.in-Some.passed (passed at.In-Some) c.in-Some-last_near.last
+    (subst (λ x. x) (λ i. Near c.args.stride ((sym first i).step ∷ checkpoint_steps (copies i))) c.in-Some-last_near.ensures.near)
+    ((λ i. last_of (first i).step (checkpoint_steps (sym copies i))) ∙ c.in-Some-last_near.ensures.value)
+    (subst (λ x. x) (λ i. StaysNear c.args.stride c.args.span (total i) c.in-Some-last_near.last (slice_get (same i) c.count_within-inside.result))
+    (c.stays_near.ensures.near c.if-not-stays_near.false))
+    c.in-Some-2.turning
+    (subst (λ o. IfSome o (IsTurning (unroll items) c.args.span c.count_within-inside.result c.in-Some.passed c.args.self.now)) c.in-Some-2.is c.in_ok-turning.ensures.turning)
     c.put.new.self c.put.ensures.put
-    (check-fits n items (unroll items) c.requires.checked refl c.in_ok-turning.ensures.apart)
+    (check-fits n items (unroll items) c.requires.checked refl c.in_ok-passed.ensures.apart)
     c.followed_between-followed.result c.followed_between-followed.ensures.applied
-    (omega (arith, c.followed_between-followed.ensures.counted, ap (λ (x : Checkpoint). x.step) c.index-copies-before.is, end-is at.After-index-copies-before)))
+    (omega (arith, c.followed_between-followed.ensures.counted, ap (λ (x : Checkpoint). x.step) first, end-is at.After-end_place-end total)))

@@ -1,0 +1,181 @@
+use Rattle.std.proofs.Common.{◌≡◌, ℕ, Bool, List, ◌+◌, ◌-◌, ◌≤◌, refl, sym, ◌∙◌, ap, subst, arith, Some, length, drop, take, All, replicate}
+use Rattle.std.specs.Prelude.{IfSome, slice_get}
+use Rattle.std.proofs.lemmas.List.{drop-drop, length-replicate, length-take, length-drop}
+use Rattle.std.proofs.lemmas.List.Elements.{All-drop, All-take}
+use Rattle.stab_letters.specs.declared.letter.Letter.TheVariants.{I}
+use Rattle.stab_circuit.specs.Steps.{Step, unroll}
+use Rattle.stab_circuit.specs.Views.{circuit_items}
+use Rattle.stab_circuit.specs.Cursors.{IsApart}
+use Rattle.stab_steps.specs.declared.records.Lengths.{Lengths}
+use Rattle.stab_copies.specs.declared.checkpoint.Checkpoint.{Checkpoint}
+use Rattle.stab_copies.specs.Checkpoints.{IsCheckpoint}
+use Rattle.stab_frames.specs.KeptStrings.{note_at}
+use Rattle.stab_frames.specs.Walks.{WalkState, IsPlaced}
+use Rattle.stab_run.specs.Records.{ones}
+use Rattle.stab_run.specs.Points.{Point, RunOutput, nothing, outputs}
+use Rattle.stab_run.specs.Cuts.{lengths_of}
+use Rattle.stab_run.specs.ProgramStates.{StepFits}
+use Rattle.stab_run.proofs.FitLemmas.{check-fits, check-whole, check-steps}
+use Rattle.stab_turns.specs.LongerLists.{longer, AreBelow}
+use Rattle.stab_turns.specs.PassedPlaces.{IsFrameBetween, IsBeforePlaces}
+use Rattle.stab_kept.proofs.TurningLemmas.{copy-is, copy-before, copy-within, copy-below, from-within, from-few, behind-qubits}
+use Rattle.stab_kept.proofs.kept.KeptRun.passing.Goals as goal
+use Rattle.stab_kept.proofs.kept.KeptRun.passing.Goals.{After-index-copy, In_ok-walk}
+
+few : (c : After-index-copy) → length (unroll (circuit_items c.args.circuit.now)) ≤ 1048576
+few c = check-steps (circuit_items c.args.circuit.now) (check-whole c.args.self.now.tableau.qubits (circuit_items c.args.circuit.now) c.requires.checked)
+
+here : (c : After-index-copy) → slice_get c.args.self.now.checkpoints.items (c.args.before - 1) ≡ Some c.index-copy.result.now
+here c = let f = c.requires.follows.2 in copy-is f.count f.kept f.span (few c) c.requires.before c.index-copy.result.now c.index-copy.ensures
+
+-- the lengths are those that the steps give at any point
+counts : (first : ℕ) (d : Checkpoint) (left ys : List Step) (from : Lengths) → left ≡ drop d.step ys → (k : ℕ) (others : ℕ → Bool) (a : Point)
+    → from ≡ longer d.lengths (lengths_of (outputs k others (take (first - d.step) left) a)) → from ≡ longer d.lengths (lengths_of (outputs k others (take (first - d.step) (drop d.step ys)) a))
+counts first d left ys from is k others a value = value ∙ ap (λ zs. longer d.lengths (lengths_of (outputs k others (take (first - d.step) zs) a))) is
+
+letters-long : (n len : ℕ) (w : WalkState) → len ≡ n → {flips : RunOutput} {coin number : ℕ} → w ≡ record { letters = replicate len I; flips = flips; coin = coin; number = number }
+    → length w.letters ≡ n
+letters-long n len w size is = ap (λ (u : WalkState). length u.letters) is ∙ length-replicate len I ∙ size
+
+-- behind the copy's step the cursor goes on to the first of the span
+first-left : (first step : ℕ) (left behind ys : List Step) → step ≤ first → left ≡ drop step ys → behind ≡ drop (first - step) left → behind ≡ drop first ys
+first-left first step left behind ys le is went =
+    went
+    ∙ ap (drop (first - step)) is
+    ∙ drop-drop (first - step) step ys
+    ∙ ap (λ k. drop k ys) {x = step + (first - step)} {y = first} (omega (arith, le))
+
+pub at-requires-clause-in_range : goal.at-requires-clause-in_range
+at-requires-clause-in_range c =
+    let f = c.requires.follows.2 in copy-within f.count f.kept f.span (few c) c.requires.before c.index-copy.result.now (here c)
+
+pub overflow_sub-span : goal.overflow_sub-span
+overflow_sub-span c =
+    let at = (goal.at.overflow_sub-span c).After-index-copy in
+    let f = c.requires.follows.2 in
+    copy-before f.count f.kept f.span (few at) c.requires.before c.index-copy.result.now (here at)
+
+pub lengths_behind-from-requires : goal.lengths_behind-from-requires
+lengths_behind-from-requires c =
+    let at = (goal.at.lengths_behind-from-requires c).After-index-copy in
+    let f = c.requires.follows.2 in
+    record {
+      few =
+          subst (λ zs. AreBelow 9223372036854775808 (length zs) c.index-copy.result.now.lengths) (sym c.in_ok-cursor.ensures.steps)
+          (copy-below f.count f.kept f.span (few at) c.requires.before c.index-copy.result.now (here at));
+    }
+
+pub new-requires : goal.new-requires
+new-requires c =
+    let at = (goal.at.new-requires c).After-index-copy in
+    let f = c.requires.follows.2 in
+    record {
+      in_range =
+          subst (λ bits. c.lengths_behind-from.result.free ≤ length bits) (sym c.as_slice-free.ensures.value)
+          (from-within f.count f.kept f.span (few at) c.requires.before c.index-copy.result.now (here at) c.lengths_behind-from.result
+          (λ k others a. counts c.args.span.first c.index-copy.result.now c.in_ok-cursor.cursor.left (unroll (circuit_items c.args.circuit.now)) c.lengths_behind-from.result c.in_ok-cursor.ensures.steps k others a
+          (c.lengths_behind-from.ensures.value k others a)));
+    }
+
+-- the steps that are left where the frame begins
+left : (c : In_ok-walk) → c.index-copy.result.now.step ≤ c.args.span.first → c.lengths_behind-from.new.cursor.left ≡ drop c.args.span.first (unroll (circuit_items c.args.circuit.now))
+left c le =
+    first-left c.args.span.first c.index-copy.result.now.step c.in_ok-cursor.cursor.left c.lengths_behind-from.new.cursor.left (unroll (circuit_items c.args.circuit.now)) le
+    c.in_ok-cursor.ensures.steps c.lengths_behind-from.ensures.left
+
+at-first : (c : After-index-copy) → c.index-copy.result.now.step ≤ c.args.span.first
+at-first c = let f = c.requires.follows.2 in copy-before f.count f.kept f.span (few c) c.requires.before c.index-copy.result.now (here c)
+
+long : (c : In_ok-walk) → length c.in_ok-walk.walk.letters ≡ c.args.self.now.tableau.qubits
+long c = letters-long c.args.self.now.tableau.qubits c.len.result c.in_ok-walk.walk c.len.ensures.value c.in_ok-walk.ensures.value
+
+pub pass_places-requires-clause-fits : goal.pass_places-requires-clause-fits
+pass_places-requires-clause-fits c =
+    let at = goal.at.pass_places-requires-clause-fits c in
+    let ys = unroll (circuit_items c.args.circuit.now) in
+    let n = c.args.self.now.tableau.qubits in
+    let apart : All IsApart ys = subst (All IsApart) c.in_ok-cursor.ensures.all c.in_ok-cursor.ensures.apart in
+    subst (λ k. All (StepFits k) c.lengths_behind-from.new.cursor.left) (sym (long at.In_ok-walk))
+    (subst (All (StepFits n)) (sym (left at.In_ok-walk (at-first at.After-index-copy)))
+    (All-drop (StepFits n) c.args.span.first ys (check-fits n (circuit_items c.args.circuit.now) ys c.requires.checked refl apart)))
+
+pub pass_places-requires-clause-few : goal.pass_places-requires-clause-few
+pass_places-requires-clause-few c =
+    let at = goal.at.pass_places-requires-clause-few c in
+    let f = c.requires.follows.2 in
+    omega (
+      arith,
+      from-few f.count f.kept f.span (few at.After-index-copy) c.requires.before c.index-copy.result.now (here at.After-index-copy) c.lengths_behind-from.result
+          (λ k others a. counts c.args.span.first c.index-copy.result.now c.in_ok-cursor.cursor.left (unroll (circuit_items c.args.circuit.now)) c.lengths_behind-from.result c.in_ok-cursor.ensures.steps k others a
+          (c.lengths_behind-from.ensures.value k others a)) c.args.span.first,
+      ap (λ (w : WalkState). w.coin) c.in_ok-walk.ensures.value,
+      ap length (left at.In_ok-walk (at-first at.After-index-copy)),
+    )
+
+-- the copies that stand within the span
+within : (back cs : List Checkpoint) (before inside : ℕ) (some all : List Checkpoint) → some ≡ take (inside - before) back → back ≡ drop before all → all ≡ cs
+    → some ≡ take (inside - before) (drop before cs)
+within back cs before inside some all is behind same = is ∙ ap (take (inside - before)) (behind ∙ ap (drop before) same)
+
+pub pass_places-requires-clause-same_qubits : goal.pass_places-requires-clause-same_qubits
+pass_places-requires-clause-same_qubits c =
+    let at = goal.at.pass_places-requires-clause-same_qubits c in
+    let f = c.requires.follows.2 in
+    let cs = c.args.self.now.checkpoints.items in
+    subst (All (λ d. d.tableau.qubits ≡ length c.in_ok-walk.walk.letters))
+    (sym (within c.split_at.result.1.now cs c.args.before c.args.inside c.split_at-2.result.0.now c.as_slice.result.now c.split_at-2.ensures.front c.split_at.ensures.back c.as_slice.ensures.value))
+    (All-take (λ d. d.tableau.qubits ≡ length c.in_ok-walk.walk.letters) (c.args.inside - c.args.before) (drop c.args.before cs)
+    (behind-qubits f.count f.kept f.span c.args.before (length c.in_ok-walk.walk.letters) (long at.In_ok-walk)))
+
+pub returns-clause-passed : goal.returns-clause-passed
+returns-clause-passed c =
+    let at = goal.at.returns-clause-passed c in
+    let n = c.args.self.now.tableau.qubits in
+    let ys = unroll (circuit_items c.args.circuit.now) in
+    let cs = c.args.self.now.checkpoints.items in
+    let from = c.lengths_behind-from.result in
+    let walk = c.in_ok-walk.walk in
+    let strings = c.args.self.now.strings.strings in
+    let went = c.in_ok-went.ensures in
+    let did = c.if-not-went.false in
+    let size : length walk.letters ≡ n = long at.In_ok-walk in
+    let all : c.lengths_behind-from.new.cursor.all ≡ ys = c.lengths_behind-from.ensures.all ∙ c.in_ok-cursor.ensures.all in
+    let rest : c.lengths_behind-from.new.cursor.left ≡ drop c.args.span.first ys = left at.In_ok-walk (at-first at.After-index-copy) in
+    let flags : c.as_slice-free.result.now ≡ c.args.self.now.outputs.free.items = c.as_slice-free.ensures.value in
+    let some : c.split_at-2.result.0.now ≡ take (c.args.inside - c.args.before) (drop c.args.before cs) =
+    within c.split_at.result.1.now cs c.args.before c.args.inside c.split_at-2.result.0.now c.as_slice.result.now c.split_at-2.ensures.front c.split_at.ensures.back c.as_slice.ensures.value in
+    record {
+      from_is =
+          subst (λ o. IfSome o (λ d. (k : ℕ) (others : ℕ → Bool) (a : Point) → from ≡ longer d.lengths (lengths_of (outputs k others (take (c.args.span.first - d.step) (drop d.step ys)) a))))
+          (sym (here at.After-index-copy))
+          (λ k others a. counts c.args.span.first c.index-copy.result.now c.in_ok-cursor.cursor.left ys from c.in_ok-cursor.ensures.steps k others a (c.lengths_behind-from.ensures.value k others a));
+      start = walk;
+      begins =
+          subst (λ x. x)
+          (λ i. walk ≡ record { letters = replicate (c.len.ensures.value i) I; flips = nothing; coin = from.free; number = ones (take from.free (flags i)) })
+          c.in_ok-walk.ensures.value;
+      letters = went.length ∙ size;
+      placed = subst (λ bits. IsPlaced bits c.pass_places.new.walk) flags went.placed;
+      few = omega (arith, went.coin did, ap (λ (w : WalkState). w.coin) c.in_ok-walk.ensures.value, ap length rest);
+      count =
+          omega (
+            arith,
+            went.count did,
+            ap length some,
+            length-take (c.args.inside - c.args.before) (drop c.args.before cs),
+            length-drop c.args.before cs,
+            c.requires.order,
+            c.requires.inside,
+          );
+      between = λ coins xs base front b.
+          subst (λ x. x) (λ i. IsFrameBetween (size i) coins xs (all i) (note_at strings (flags i)) (flags i) base front c.args.span.old_end c.args.span.new_end c.pass_places.new.walk)
+          (went.between did coins xs base front c.args.span refl
+          (subst (λ x. x)
+          (λ i. IsBeforePlaces (sym size i) coins xs (sym all i) (note_at strings (sym flags i)) (sym flags i) base front c.args.span c.args.change.now (sym rest i) walk) b));
+      are_copies = λ coins xs base front b are.
+          subst (λ x. x) (λ i. All (IsCheckpoint (size i) coins (all i)) c.pass_places.new.passed.items)
+          (went.copies did coins xs base front c.args.span refl
+          (subst (λ x. x)
+          (λ i. IsBeforePlaces (sym size i) coins xs (sym all i) (note_at strings (sym flags i)) (sym flags i) base front c.args.span c.args.change.now (sym rest i) walk) b)
+          (subst (λ x. x) (λ i. All (IsCheckpoint (sym size i) coins xs) (sym some i)) are));
+    }

@@ -1,0 +1,206 @@
+ghost use Rattle.std.specs.Prelude.{◌≡◌, ℕ, ◌+◌, ◌^◌, ◌<◌, ◌≤◌, Bool, [], true, List, All, length, take, drop, IfOk, IfErr, IfSome, OnOk};
+ghost use Rattle.stab_io.specs.declared.refusal.Refusal.TheVariants.{OutOfMemory};
+ghost use Rattle.stab_circuit.specs.Steps.{Step};
+ghost use Rattle.stab_circuit.specs.declared.edit.Span.{Span};
+ghost use Rattle.stab_run.specs.Points.{RunOutput};
+ghost use Rattle.stab_run.specs.ProgramStates.{StepFits};
+ghost use Rattle.stab_frames.specs.KeptStrings.{note_at};
+ghost use Rattle.stab_frames.specs.Walks.{IsPlaced, WalksOver};
+ghost use Rattle.stab_copies.specs.Checkpoints.{IsCheckpoint};
+ghost use Rattle.stab_replay.specs.FramedReplays.{AreEnoughBy};
+ghost use Rattle.stab_turns.specs.PassedPlaces.{IsFrameBetween, IsBeforePiece, IsBeforePlaces};
+
+use stab_circuit::Cursor;
+use stab_copies::{Checkpoint, count_before};
+use stab_frames::{FrameWalk, KeptStrings, Stop, walk_steps};
+use stab_io::Refusal;
+use stab_pauli::Pauli;
+use stab_replay::turned_copy;
+use std::alloc::{AllocError, Global};
+
+/// Pauli gates that stand where others stood, at one place or at several: the same at each.
+#[derive(Drop)]
+pub struct PauliChange {
+    /// The letters of the old gates at a place and of the new ones, multiplied.
+    pub string: Pauli,
+    /// How many steps the old gates take at each place.
+    pub old: usize,
+    /// How many steps the new gates take at each place.
+    pub new: usize,
+    /// How many steps stand behind each place, up to the next one, and behind the last, up to the end
+    /// of what the change spans.
+    pub gaps: Vec<usize>,
+}
+
+/// Goes over the next so many steps of a cursor. False where fewer are left.
+fn skip_steps(cursor: &mut Cursor, count: usize) -> bool
+    ensures all { cursor.new.all ≡ cursor.old.all }
+    ensures within { result ≡ true → count ≤ length cursor.old.left }
+    ensures left { result ≡ true → cursor.new.left ≡ drop count cursor.old.left }
+{
+    let mut left = count;
+    while left > 0 {
+        let Some(steps) = cursor.next_steps(left) else {
+            return false;
+        };
+        left -= steps.len();
+    }
+    true
+}
+
+/// Leads a frame over just the next so many steps of a cursor. False where fewer are left, or a string
+/// is missing.
+///
+/// Refusal of memory alone.
+fn walk_exactly(
+    walk: &mut FrameWalk,
+    strings: &KeptStrings,
+    free: &[bool],
+    cursor: &mut Cursor,
+    count: usize,
+) -> Result<bool, AllocError>
+    requires same_length { strings.now.qubits ≡ length walk.old.letters }
+    requires fits { All (StepFits (length walk.old.letters)) cursor.old.left }
+    requires placed { IsPlaced free.now walk.old }
+    requires few { walk.old.coin + length cursor.old.left < 2 ^ 63 }
+    ensures all { cursor.new.all ≡ cursor.old.all }
+    ensures length { length walk.new.letters ≡ length walk.old.letters }
+    ensures placed { OnOk result (IsPlaced free.now walk.new) }
+    ensures within { IfOk result (λ went. went ≡ true → count ≤ length cursor.old.left) }
+    ensures left { IfOk result (λ went. went ≡ true → cursor.new.left ≡ drop count cursor.old.left) }
+    ensures walked { IfOk result (λ went. went ≡ true → WalksOver (length walk.old.letters) (note_at strings.now.strings free.now) (take count cursor.old.left) walk.old walk.new) }
+    ensures enough { IfOk result (λ went. went ≡ true → AreEnoughBy (length walk.old.letters) (note_at strings.now.strings free.now) free.now cursor.old.left count walk.old) }
+{
+    let walked = walk_steps(walk, strings, free, cursor, count, 0, false)?;
+    Ok(walked.stop != Stop::NoString && walked.steps == count)
+}
+
+/// How far a step is behind a place, where that is no less than one number and no more than another.
+fn behind_place(step: usize, place: usize, least: usize, most: usize) -> Option<usize>
+    ensures some { IfSome result (λ behind. (least ≤ behind) × (behind ≤ most) × (place + behind ≡ step)) }
+{
+    let behind = step.checked_sub(place)?;
+    if least <= behind && behind <= most {
+        Some(behind)
+    } else {
+        None
+    }
+}
+
+/// Leads a frame over the next so many steps of a cursor, which stand behind so many old ones and so
+/// many new ones and are the same in both runs, past copies of the old run that stand among them. It
+/// makes each such copy one of the new run, behind others. False where a string is missing, or a copy
+/// stands elsewhere.
+///
+/// Refusal `OutOfMemory` alone.
+fn pass_piece(
+    alloc: Global,
+    copies: &[Checkpoint],
+    old: usize,
+    new: usize,
+    gap: usize,
+    strings: &KeptStrings,
+    free: &[bool],
+    cursor: &mut Cursor,
+    walk: &mut FrameWalk,
+    passed: &mut Vec<Checkpoint>,
+) -> Result<bool, Refusal>
+    requires same_length { strings.now.qubits ≡ length walk.old.letters }
+    requires fits { All (StepFits (length walk.old.letters)) cursor.old.left }
+    requires placed { IsPlaced free.now walk.old }
+    requires few { walk.old.coin + length cursor.old.left < 2 ^ 63 }
+    requires same_qubits { All (λ c. c.tableau.qubits ≡ length walk.old.letters) copies.now }
+    ensures all { cursor.new.all ≡ cursor.old.all }
+    ensures length { length walk.new.letters ≡ length walk.old.letters }
+    ensures placed { OnOk result (IsPlaced free.now walk.new) }
+    ensures left { IfOk result (λ went. went ≡ true → cursor.new.left ≡ drop gap cursor.old.left) }
+    ensures coin { IfOk result (λ went. went ≡ true → walk.new.coin + length cursor.new.left ≤ walk.old.coin + length cursor.old.left) }
+    ensures count { IfOk result (λ went. went ≡ true → length passed.new.items ≡ length passed.old.items + length copies.now) }
+    ensures between { IfOk result (λ went. went ≡ true → (coins : ℕ → Bool) (xs : List Step) (base : ℕ) (front : RunOutput) → IsBeforePiece (length walk.old.letters) coins xs cursor.old.all (note_at strings.now.strings free.now) free.now base front old new gap cursor.old.left walk.old → IsFrameBetween (length walk.old.letters) coins xs cursor.old.all (note_at strings.now.strings free.now) free.now base front (old + gap) (new + gap) walk.new) }
+    ensures copies { IfOk result (λ went. went ≡ true → (coins : ℕ → Bool) (xs : List Step) (base : ℕ) (front : RunOutput) → IsBeforePiece (length walk.old.letters) coins xs cursor.old.all (note_at strings.now.strings free.now) free.now base front old new gap cursor.old.left walk.old → All (IsCheckpoint (length walk.old.letters) coins xs) copies.now → All (IsCheckpoint (length walk.old.letters) coins cursor.old.all) passed.old.items → All (IsCheckpoint (length walk.old.letters) coins cursor.old.all) passed.new.items) }
+    ensures err { IfErr result (λ r. r ≡ OutOfMemory) }
+{
+    let mut gone = 0;
+    for copy in copies {
+        let Some(behind) = behind_place(copy.step, old, gone, gap) else {
+            return Ok(false);
+        };
+        if !walk_exactly(walk, strings, free, cursor, behind - gone)? {
+            return Ok(false);
+        }
+        passed.push(Checkpoint {
+            step: new.saturating_add(behind),
+            lengths: copy.lengths,
+            tableau: turned_copy(alloc, &copy.tableau, walk.letters())?,
+        })?;
+        gone = behind;
+    }
+    Ok(walk_exactly(walk, strings, free, cursor, gap - gone)?)
+}
+
+/// The first copies of some, behind so many, that stand before a step or at it.
+fn copies_until(copies: &[Checkpoint], from: usize, step: usize) -> &[Checkpoint]
+    requires in_range { from ≤ length copies.now }
+    ensures value { (count : ℕ) × (result.now ≡ take count (drop from copies.now)) }
+{
+    let (_, behind) = copies.split_at(from);
+    let count = count_before(behind, step.saturating_add(1));
+    let (first, _) = behind.split_at(count);
+    first
+}
+
+/// Leads a frame that begins before a step, which both runs have, past the places of a change of Pauli
+/// gates, the first of which stands at that step, and over what stands between them and behind the
+/// last. A cursor is at that step of the new run. At each place the frame is multiplied by the string
+/// of the change. Copies of the old run that stand there are made copies of the new one, in order.
+///
+/// False where a string is missing, or a copy stands among the gates of a place, or behind all. What it
+/// made so far is then of no account.
+///
+/// Refusal `OutOfMemory` alone.
+pub fn pass_places(
+    alloc: Global,
+    copies: &[Checkpoint],
+    first: usize,
+    change: &PauliChange,
+    strings: &KeptStrings,
+    free: &[bool],
+    cursor: &mut Cursor,
+    walk: &mut FrameWalk,
+    passed: &mut Vec<Checkpoint>,
+) -> Result<bool, Refusal>
+    requires same_length { strings.now.qubits ≡ length walk.old.letters }
+    requires string { length change.now.string.letters ≡ length walk.old.letters }
+    requires fits { All (StepFits (length walk.old.letters)) cursor.old.left }
+    requires placed { IsPlaced free.now walk.old }
+    requires few { walk.old.coin + length cursor.old.left < 2 ^ 63 }
+    requires same_qubits { All (λ c. c.tableau.qubits ≡ length walk.old.letters) copies.now }
+    requires nothing { passed.old.items ≡ [] }
+    ensures length { length walk.new.letters ≡ length walk.old.letters }
+    ensures placed { OnOk result (IsPlaced free.now walk.new) }
+    ensures coin { IfOk result (λ went. went ≡ true → walk.new.coin ≤ walk.old.coin + length cursor.old.left) }
+    ensures count { IfOk result (λ went. went ≡ true → length passed.new.items ≡ length copies.now) }
+    ensures between { IfOk result (λ went. went ≡ true → (coins : ℕ → Bool) (xs : List Step) (base : ℕ) (front : RunOutput) (s : Span) → s.first ≡ first → IsBeforePlaces (length walk.old.letters) coins xs cursor.old.all (note_at strings.now.strings free.now) free.now base front s change.now cursor.old.left walk.old → IsFrameBetween (length walk.old.letters) coins xs cursor.old.all (note_at strings.now.strings free.now) free.now base front s.old_end s.new_end walk.new) }
+    ensures copies { IfOk result (λ went. went ≡ true → (coins : ℕ → Bool) (xs : List Step) (base : ℕ) (front : RunOutput) (s : Span) → s.first ≡ first → IsBeforePlaces (length walk.old.letters) coins xs cursor.old.all (note_at strings.now.strings free.now) free.now base front s change.now cursor.old.left walk.old → All (IsCheckpoint (length walk.old.letters) coins xs) copies.now → All (IsCheckpoint (length walk.old.letters) coins cursor.old.all) passed.new.items) }
+    ensures err { IfErr result (λ r. r ≡ OutOfMemory) }
+{
+    let mut old = first;
+    let mut new = first;
+    for gap in change.gaps.as_slice() {
+        if !skip_steps(cursor, change.new) {
+            return Ok(false);
+        }
+        walk.multiply(&change.string);
+        old = old.saturating_add(change.old);
+        new = new.saturating_add(change.new);
+        let here = copies_until(copies, passed.len(), old.saturating_add(*gap));
+        if !pass_piece(
+            alloc, here, old, new, *gap, strings, free, cursor, walk, passed,
+        )? {
+            return Ok(false);
+        }
+        old = old.saturating_add(*gap);
+        new = new.saturating_add(*gap);
+    }
+    Ok(passed.len() == copies.len())
+}
