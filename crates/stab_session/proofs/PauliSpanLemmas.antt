@@ -1,165 +1,179 @@
--- Pauli spans: what stands around the place of a pending edit in the outermost list, in the old steps and in those that there are now.
-use Rattle.std.proofs.Common.{◌≡◌, ℕ, ◌+◌, ◌-◌, ◌≤◌, ◌<◌, refl, sym, ◌∙◌, ap, subst, List, [], ◌∷◌, ◌++◌, length, take, drop, All, arith, Some, None, Ok}
-use Rattle.std.proofs.lemmas.List.{length-append, length-take-le, take_at, drop_at}
+-- Pauli spans: what stands in the span of a pending edit, in the old steps and in those that there are now.
+use Rattle.std.proofs.Common.{◌≡◌, ℕ, ◌+◌, ◌≤◌, ◌<◌, refl, sym, ◌∙◌, ap, subst, List, [], ◌∷◌, map, length, take, All, arith, Some, None, Ok}
+use Rattle.std.proofs.lemmas.List.{length-drop, length-map}
 use Rattle.std.specs.Prelude.{slice_get}
 use Rattle.stab_letters.specs.declared.letter.Letter.{Letter}
 use Rattle.stab_pauli.specs.Paulis.{string_product}
 use Rattle.stab_circuit.specs.Items.{OneItem, listed}
-use Rattle.stab_circuit.specs.Steps.{Step, unroll, check_within}
+use Rattle.stab_circuit.specs.Steps.{Step, one, unroll, named_qubits, qubits_of, check_within}
 use Rattle.stab_circuit.specs.Paths.{Path}
-use Rattle.stab_circuit.specs.Edits.{edit_path, edited_in, steps_in, behind_taken, outermost, first_changed, new_end}
+use Rattle.stab_circuit.specs.Places.{item_at}
+use Rattle.stab_circuit.specs.Edits.{edit_path, edited, taken_at, taken, put_item, steps_before, behind_taken, behind_put, outermost, first_changed, old_end, new_end}
+use Rattle.stab_circuit.specs.Rounds.{interleaved, pieces, HaveRounds, AreGaps, item_steps, steps_between, ChangesEachRound}
 use Rattle.stab_circuit.specs.declared.edit.Edit.{Edit}
 use Rattle.stab_circuit.specs.declared.edit.Edit.TheVariants.{Insert, Replace, Delete}
 use Rattle.stab_circuit.specs.declared.edit.Span.{Span}
-use Rattle.stab_circuit.proofs.EditLemmas.{changed_split, got_split, next_place, steps-append}
+use Rattle.stab_circuit.proofs.EditLemmas.{edits_leave}
+use Rattle.stab_circuit.proofs.EachRoundLemmas.{changes_each_round, same_lead}
+use Rattle.stab_circuit.proofs.PlaceLemmas.{found_taken, taken_named}
+use Rattle.stab_circuit.proofs.UndoLemmas.{replace-retaken}
+use Rattle.stab_run.specs.Runs.{gate_of}
 use Rattle.stab_frames.specs.Starts.{letters_on}
-use Rattle.stab_turns.specs.PauliSpans.{ArePaulis, DifferByPaulis}
+use Rattle.stab_turns.specs.PauliSpans.{DifferByPaulis}
 use Rattle.stab_session.specs.declared.pending.Pending.{Pending}
 use Rattle.stab_session.specs.declared.pending.Pending.TheVariants.{Inserted, Replaced, Deleted}
 use Rattle.stab_session.specs.inner.Pendings.{pending_path, IsPendingOf, taken_back, kept, IsBegun}
 use Rattle.stab_session.specs.inner.PauliItems.{ArePauliItems, taken_items, AreAccepted}
 use Rattle.stab_session.proofs.EditedLemmas.{ok_same}
-use Rattle.stab_session.proofs.SpanLemmas.{up_to}
+use Rattle.stab_session.proofs.SpanLemmas.{ends-within}
 use Rattle.stab_session.proofs.PauliItemLemmas.{gates-fit}
 
 -- the steps of a list
 abbrev steps : List OneItem → List Step
 steps xs = unroll (listed xs)
 
--- the old list, by the one that there is now
-pub old-parts : (p : Pending) (now old : List OneItem) → (pending_path p).blocks ≡ [] → taken_back p now ≡ Ok old
-    → ((pending_path p).place ≤ length now) × (old ≡ take (pending_path p).place now ++ (taken_items p ++ drop ((pending_path p).place + 1) now))
-old-parts (Inserted at) now old o e = changed_split (Delete at) now old (sym (ap (λ bs. edited_in (Delete at) bs now) o) ∙ e)
-old-parts (Replaced at y) now old o e = changed_split (Replace at y) now old (sym (ap (λ bs. edited_in (Replace at y) bs now) o) ∙ e)
-old-parts (Deleted at y) now old o e = changed_split (Replace at y) now old (sym (ap (λ bs. edited_in (Replace at y) bs now) o) ∙ e)
+-- the edit that takes a pending edit back
+abbrev back_edit : Pending → Edit
+back_edit (Inserted at) = Delete at
+back_edit (Replaced at y) = Replace at y
+back_edit (Deleted at y) = Replace at y
 
--- the list that there is now, around the item at a place
-pub now-parts : (now : List OneItem) (k : ℕ) (x : OneItem) → slice_get now k ≡ Some x → now ≡ take k now ++ (x ∷ drop (k + 1) now)
-now-parts now k x e = got_split now k x e ∙ ap (λ j. take k now ++ (x ∷ drop j now)) (next_place k)
+-- what a pending edit says of the edit that it is, and of the one that takes it back
 
--- what a pending edit says of the edit that it is
+same-path : (edit : Edit) (p : Pending) → IsPendingOf edit p → edit_path edit ≡ edit_path (back_edit p)
+same-path (Insert at x) p is = sym (ap (λ q. edit_path (back_edit q)) is)
+same-path (Replace at x) p is = sym (ap (λ q. edit_path (back_edit q)) is.1)
+same-path (Delete at) p is = sym (ap (λ q. edit_path (back_edit q)) is.1)
 
-same-path : (edit : Edit) (p : Pending) → IsPendingOf edit p → edit_path edit ≡ pending_path p
-same-path (Insert at x) p is = sym (ap pending_path is)
-same-path (Replace at x) p is = sym (ap pending_path is.1)
-same-path (Delete at) p is = sym (ap pending_path is.1)
+same-behind : (edit : Edit) (p : Pending) → IsPendingOf edit p → behind_taken edit ≡ behind_put (back_edit p)
+same-behind (Insert at x) p is = sym (ap (λ q. behind_put (back_edit q)) is)
+same-behind (Replace at x) p is = sym (ap (λ q. behind_put (back_edit q)) is.1)
+same-behind (Delete at) p is = sym (ap (λ q. behind_put (back_edit q)) is.1)
 
-taken-end : (edit : Edit) (p : Pending) → IsPendingOf edit p → behind_taken edit ≡ (edit_path edit).place + length (taken_items p)
-taken-end (Insert at x) p is = omega (arith, ap (λ q. length (taken_items q)) is)
-taken-end (Replace at x) p is = omega (arith, ap (λ q. length (taken_items q)) is.1)
-taken-end (Delete at) p is = omega (arith, ap (λ q. length (taken_items q)) is.1)
+back-path : (p : Pending) → edit_path (back_edit p) ≡ pending_path p
+back-path (Inserted at) = refl
+back-path (Replaced at y) = refl
+back-path (Deleted at y) = refl
 
--- where an edit in the outermost list ends
+back-behind : (p : Pending) → behind_taken (back_edit p) ≡ (edit_path (back_edit p)).place + 1
+back-behind (Inserted at) = refl
+back-behind (Replaced at y) = refl
+back-behind (Deleted at y) = refl
 
-first-at : (edit : Edit) (at : Path) (old front rest : List OneItem) → edit_path edit ≡ at → at.blocks ≡ [] → length front ≡ at.place → old ≡ front ++ rest
-    → first_changed edit old ≡ length (steps front)
-first-at edit at old front rest path o size e =
-    ap (λ q. length (steps_in q.blocks q.place old)) path
-    ∙ ap (λ bs. length (steps_in bs at.place old)) o
-    ∙ ap (λ l. length (steps l)) (ap (take at.place) e ∙ take_at front rest at.place size)
+back-takes : (p : Pending) (us : List OneItem) → taken_at (back_edit p) us ≡ slice_get us (edit_path (back_edit p)).place
+back-takes (Inserted at) us = refl
+back-takes (Replaced at y) us = refl
+back-takes (Deleted at y) us = refl
 
-end-at : (k : ℕ) (blocks : List ℕ) (place : ℕ) (ys front put rest : List OneItem) → blocks ≡ [] → length front ≡ place → k ≡ place + length put → ys ≡ front ++ (put ++ rest)
-    → length (steps (take (outermost k blocks) ys)) ≡ length (steps front) + length (steps put)
-end-at k blocks place ys front put rest o size end e =
-    ap (λ bs. length (steps (take (outermost k bs) ys))) o ∙ up_to place k front put rest ys e size end
+back-puts : (p : Pending) → item_steps (put_item (back_edit p)) ≡ steps (taken_items p)
+back-puts (Inserted at) = refl
+back-puts (Replaced at y) = refl
+back-puts (Deleted at y) = refl
 
-no_length : (xs : List Step) → length xs ≡ 0 → xs ≡ []
-no_length [] e = refl
-no_length (x ∷ xs) e = absurd (omega (arith, e))
+back-edited : (p : Pending) (now : List OneItem) → taken_back p now ≡ edited (back_edit p) now
+back-edited (Inserted at) now = refl
+back-edited (Replaced at y) now = refl
+back-edited (Deleted at y) now = refl
 
-length-around : (front xs rest : List OneItem) → length (steps (front ++ (xs ++ rest))) ≡ length (steps front) + (length (steps xs) + length (steps rest))
-length-around front xs rest =
-    ap length (steps-append front (xs ++ rest) ∙ ap (λ l. steps front ++ l) (steps-append xs rest))
-    ∙ length-append (steps front) (steps xs ++ steps rest)
-    ∙ ap (λ k. length (steps front) + k) (length-append (steps xs) (steps rest))
+-- the end of what was put in is that of what there is now, which has no steps where nothing was put in
+new-end-at : (edit : Edit) (p : Pending) (now new : List OneItem) → IsPendingOf edit p → kept p now ≡ Ok new → steps now ≡ steps new → new_end edit new ≡ old_end (back_edit p) now
+new-end-at (Insert at x) p now new is ahead same =
+    ap (new_end (Insert at x)) (ok_same new now (sym ahead ∙ ap (λ q. kept q now) is)) ∙ sym (ap (λ q. old_end (back_edit q) now) is)
+new-end-at (Replace at x) p now new is ahead same =
+    ap (new_end (Replace at x)) (ok_same new now (sym ahead ∙ ap (λ q. kept q now) is.1)) ∙ sym (ap (λ q. old_end (back_edit q) now) is.1)
+new-end-at (Delete at) p now new is ahead same =
+    let rest = edits_leave (Delete at) now new (sym (ap (λ q. kept q now) is.1) ∙ ahead) in
+    let was = old_end (Delete at) now in
+    let end = new_end (Delete at) new in
+    let left = sym (length-drop was (steps now)) ∙ ap length rest.behind ∙ length-drop end (steps new) in
+    let was_within = ends-within (outermost (behind_taken (Delete at)) at.blocks) now in
+    let end_within = ends-within (outermost (behind_put (Delete at)) at.blocks) new in
+    let ends : end ≡ was = omega (arith, left, was_within, end_within, ap length same) in
+    ends ∙ sym (ap (λ q. old_end (back_edit q) now) is.1)
 
--- the end of what was put in is that of the item that there is now, which has no steps where nothing was put in
-new-end-at : (edit : Edit) (p : Pending) (now new : List OneItem) (x : OneItem) → IsPendingOf edit p → (edit_path edit).blocks ≡ [] → (edit_path edit).place ≤ length now
-    → now ≡ take (edit_path edit).place now ++ (x ∷ drop ((edit_path edit).place + 1) now) → kept p now ≡ Ok new → steps now ≡ steps new
-    → new_end edit new ≡ length (steps (take (edit_path edit).place now)) + length (steps (x ∷ []))
-new-end-at (Insert at z) p now new x is o within e ahead same =
-    let whole : now ≡ new = ok_same now new (sym (ap (λ q. kept q now) is) ∙ ahead) in
-    end-at (at.place + 1) at.blocks at.place new (take at.place now) (x ∷ []) (drop (at.place + 1) now) o (length-take-le at.place now within) refl (sym whole ∙ e)
-new-end-at (Replace at z) p now new x is o within e ahead same =
-    let whole : now ≡ new = ok_same now new (sym (ap (λ q. kept q now) is.1) ∙ ahead) in
-    end-at (at.place + 1) at.blocks at.place new (take at.place now) (x ∷ []) (drop (at.place + 1) now) o (length-take-le at.place now within) refl (sym whole ∙ e)
-new-end-at (Delete at) p now new x is o within e ahead same =
-    let deleted = changed_split (Delete at) now new (sym (ap (λ bs. edited_in (Delete at) bs now) o) ∙ sym (ap (λ q. kept q now) is.1) ∙ ahead) in
-    let front = take at.place now in
-    let rest = drop (at.place + 1) now in
-    let end = end-at at.place at.blocks at.place new front [] rest o (length-take-le at.place now within) (omega arith) deleted.1 in
-    let long : length (steps front) + (length (steps (x ∷ [])) + length (steps rest)) ≡ length (steps front) + (0 + length (steps rest)) =
-    sym (length-around front (x ∷ []) rest) ∙ sym (ap (λ l. length (steps l)) e) ∙ ap length same ∙ ap (λ l. length (steps l)) deleted.1 ∙ length-around front [] rest in
-    omega (arith, end, long)
+-- a pending edit, around which each block has a round
+module _ (p : Pending) (now old : List OneItem) (back : taken_back p now ≡ Ok old) (x : OneItem) (found : item_at (pending_path p) now ≡ Ok x) (rounds : HaveRounds (pending_path p).blocks now) where
+  abbrev at : Path
+  at = edit_path (back_edit p)
 
--- the steps between two places
+  found_at : item_at at now ≡ Ok x
+  found_at = ap (λ q. item_at q now) (back-path p) ∙ found
 
-between : (f t r xs : List Step) (a b : ℕ) → xs ≡ f ++ (t ++ r) → a ≡ length f → b ≡ length f + length t → take (b - a) (drop a xs) ≡ t
-between f t r xs a b e first end =
-    ap (λ l. take (b - a) (drop a l)) e
-    ∙ ap (take (b - a)) (drop_at f (t ++ r) a (sym first))
-    ∙ take_at t r (b - a) (omega (arith, first, end))
+  takes_back : edited (back_edit p) now ≡ Ok old
+  takes_back = sym (back-edited p now) ∙ back
 
-items-between : (all front xs rest : List OneItem) (a b : ℕ) → all ≡ front ++ (xs ++ rest) → a ≡ length (steps front) → b ≡ length (steps front) + length (steps xs)
-    → take (b - a) (drop a (steps all)) ≡ steps xs
-items-between all front xs rest a b e first end =
-    between (steps front) (steps xs) (steps rest) (steps all) a b
-    (ap steps e ∙ steps-append front (xs ++ rest) ∙ ap (λ l. steps front ++ l) (steps-append xs rest)) first end
+  each_round : ChangesEachRound (back_edit p) now old
+  each_round = changes_each_round (back_edit p) now old takes_back (subst (λ q. HaveRounds q.blocks now) (sym (back-path p)) rounds)
 
--- gates that stand between two places
-paulis-between : (n : ℕ) (l : Letter) (qs : List ℕ) (all front xs rest : List OneItem) (a b : ℕ) → ArePauliItems l qs xs → All (λ q. q < n) qs → all ≡ front ++ (xs ++ rest)
-    → a ≡ length (steps front) → b ≡ length (steps front) + length (steps xs) → ArePaulis n l qs (take (b - a) (drop a (steps all)))
-paulis-between n l qs all front xs rest a b is fit e first end = record {
-  steps = items-between all front xs rest a b e first end ∙ is.steps;
-  fit = fit;
-}
+  there : taken (back_edit p) now ≡ Some x
+  there = found_taken (back_edit p) at.place (back-takes p) at.blocks now x found_at
 
--- a pending edit in the outermost list, where nothing refuses what was before and what there is now
-module _ (n : ℕ) (p : Pending) (now : List OneItem) (given : AreAccepted n p now) (at : Path) (is : at ≡ pending_path p) (outer : at.blocks ≡ [])
-    (x : OneItem) (found : slice_get now at.place ≡ Some x) (l m : Letter) (qs rs : List ℕ) where
-  o : (pending_path p).blocks ≡ []
-  o = sym (ap (λ q. q.blocks) is) ∙ outer
+  pieces_is : pieces at (behind_taken (back_edit p)) now ≡ pieces (pending_path p) ((pending_path p).place + 1) now
+  pieces_is = ap (λ k. pieces at k now) (back-behind p) ∙ ap (λ q. pieces q (q.place + 1) now) (back-path p)
 
-  there : slice_get now (pending_path p).place ≡ Some x
-  there = sym (ap (λ q. slice_get now q.place) is) ∙ found
+  pub now_part : steps_between (first_changed (back_edit p) now) (old_end (back_edit p) now) (steps now) ≡ interleaved (steps (x ∷ [])) (pieces (pending_path p) ((pending_path p).place + 1) now)
+  now_part = each_round.taken_out ∙ ap (λ o. interleaved (item_steps o) (pieces at (behind_taken (back_edit p)) now)) there ∙ ap (interleaved (steps (x ∷ []))) pieces_is
 
-  abbrev front : List OneItem
-  front = take (pending_path p).place now
+  pub old_part : steps_between (first_changed (back_edit p) now) (new_end (back_edit p) old) (steps old) ≡ interleaved (steps (taken_items p)) (pieces (pending_path p) ((pending_path p).place + 1) now)
+  old_part =
+      each_round.put_in
+      ∙ ap (λ g. interleaved g (pieces at (behind_put (back_edit p)) old)) (back-puts p)
+      ∙ ap (interleaved (steps (taken_items p))) (each_round.same ∙ pieces_is)
 
-  abbrev rest : List OneItem
-  rest = drop ((pending_path p).place + 1) now
+  pub lead : steps_before at old ≡ steps_before at now
+  lead = same_lead (back_edit p) at.blocks now old takes_back
+
+  -- where nothing refuses what there is now, the qubits of what was put in are there
+  pub put-named : qubits_of (listed (x ∷ [])) ≤ qubits_of (listed now)
+  put-named = taken_named named_qubits (back_edit p) at.blocks now x there
+
+-- and those of what was taken out where nothing refuses what there was
+taken-named : (p : Pending) (now old : List OneItem) → taken_back p now ≡ Ok old → qubits_of (listed (taken_items p)) ≤ qubits_of (listed old)
+taken-named (Inserted at) now old back = omega arith
+taken-named (Replaced at y) now old back = taken_named named_qubits (Replace at y) at.blocks old y (replace-retaken at y y now old back)
+taken-named (Deleted at y) now old back = taken_named named_qubits (Replace at y) at.blocks old y (replace-retaken at y y now old back)
+
+-- a pending edit where nothing refuses what was before and what there is now
+module _ (n : ℕ) (p : Pending) (now : List OneItem) (given : AreAccepted n p now) (at : Path) (is : at ≡ pending_path p) (x : OneItem) (found : item_at at now ≡ Ok x)
+    (gaps : List ℕ) (told : AreGaps at now gaps) (l m : Letter) (qs rs : List ℕ) where
+  found_there : item_at (pending_path p) now ≡ Ok x
+  found_there = subst (λ q. item_at q now ≡ Ok x) is found
+
+  rounds_there : HaveRounds (pending_path p).blocks now
+  rounds_there = subst (λ q. HaveRounds q.blocks now) is told.rounds
 
   pub taken-fit : ArePauliItems l qs (taken_items p) → All (λ q. q < n) qs
-  taken-fit taken = gates-fit n l qs given.old front (taken_items p) rest taken given.old_checked (old-parts p now given.old o given.back).1
+  taken-fit taken = gates-fit n l qs given.old (taken_items p) taken given.old_checked (taken-named p now given.old given.back)
 
   pub put-fit : ArePauliItems m rs (x ∷ []) → All (λ q. q < n) rs
-  put-fit put = gates-fit n m rs now front (x ∷ []) rest put given.now_checked (now-parts now (pending_path p).place x there)
+  put-fit put = gates-fit n m rs now (x ∷ []) put given.now_checked (put-named p now given.old given.back x found_there rounds_there)
 
   -- the steps before the edit and those that there are now differ by the letters of both
-  pub pending-differs : (letters : List Letter) → letters ≡ string_product (letters_on n l qs) (letters_on n m rs) → ArePauliItems l qs (taken_items p) → ArePauliItems m rs (x ∷ [])
-      → (edit : Edit) (old : List OneItem) (s : Span) → IsBegun n edit old now p s → DifferByPaulis n (unroll (listed old)) (unroll (listed now)) s letters
-  pending-differs letters product taken put edit old s b =
+  pub pending-differs : (letters : List Letter) (old_count new_count : ℕ) → letters ≡ string_product (letters_on n l qs) (letters_on n m rs) → old_count ≡ length qs → new_count ≡ length rs
+      → ArePauliItems l qs (taken_items p) → ArePauliItems m rs (x ∷ []) → (edit : Edit) (old : List OneItem) (s : Span) → IsBegun n edit old now p s
+      → DifferByPaulis n (unroll (listed old)) (unroll (listed now)) s letters old_count new_count gaps
+  pending-differs letters old_count new_count product old_counted new_counted taken put edit old s b =
       let path = same-path edit p b.same in
-      let blocks : (edit_path edit).blocks ≡ [] = ap (λ q. q.blocks) path ∙ o in
-      let place : (edit_path edit).place ≡ (pending_path p).place = ap (λ q. q.place) path in
-      let was = old-parts p now old o b.back in
-      let parts = now-parts now (pending_path p).place x there in
-      let size : length front ≡ (pending_path p).place = length-take-le (pending_path p).place now was.0 in
-      let first : s.first ≡ length (steps front) = b.span.first ∙ first-at edit (pending_path p) old front (taken_items p ++ rest) path o size was.1 in
-      let old_ends : s.old_end ≡ length (steps front) + length (steps (taken_items p)) =
-      b.span.old_end ∙ end-at (behind_taken edit) (edit_path edit).blocks (edit_path edit).place old front (taken_items p) rest blocks (size ∙ sym place) (taken-end edit p b.same) was.1 in
-      let new_ends : s.new_end ≡ length (steps front) + length (steps (x ∷ [])) =
-      b.span.new_end
-      ∙ new-end-at edit p now b.new x b.same blocks (subst (λ k. k ≤ length now) (sym place) was.0)
-      (subst (λ k. now ≡ take k now ++ (x ∷ drop (k + 1) now)) (sym place) parts) b.ahead b.same_runs.steps
-      ∙ ap (λ k. length (steps (take k now)) + length (steps (x ∷ []))) place in
+      let behind = same-behind edit p b.same in
+      let first : s.first ≡ first_changed (back_edit p) now =
+      b.span.first ∙ ap (λ q. length (steps_before q old)) path ∙ ap length (lead p now old b.back x found_there rounds_there) in
+      let old_ends : s.old_end ≡ new_end (back_edit p) old = b.span.old_end ∙ (λ i. length (steps (take (outermost (behind i) (path i).blocks) old))) in
+      let new_ends : s.new_end ≡ old_end (back_edit p) now = b.span.new_end ∙ new-end-at edit p now b.new b.same b.ahead b.same_runs.steps in
       record {
         old_letter = l;
         new_letter = m;
         old_qubits = qs;
         new_qubits = rs;
-        old = paulis-between n l qs old front (taken_items p) rest s.first s.old_end taken (taken-fit taken) was.1 first old_ends;
-        new = paulis-between n m rs now front (x ∷ []) rest s.first s.new_end put (put-fit put) parts first new_ends;
+        old_gates = steps (taken_items p);
+        new_gates = steps (x ∷ []);
+        pieces = pieces (pending_path p) ((pending_path p).place + 1) now;
+        old_are = record { steps = taken.steps; fit = taken-fit taken };
+        new_are = record { steps = put.steps; fit = put-fit put };
+        lengths = sym (told.lengths ∙ ap (λ q. map length (pieces q (q.place + 1) now)) is);
+        old = (λ i. steps_between (first i) (old_ends i) (steps old)) ∙ old_part p now old b.back x found_there rounds_there;
+        new = (λ i. steps_between (first i) (new_ends i) (steps now)) ∙ now_part p now old b.back x found_there rounds_there;
+        old_counted = ap length taken.steps ∙ length-map qs (one (gate_of l)) ∙ sym old_counted;
+        new_counted = ap length put.steps ∙ length-map rs (one (gate_of m)) ∙ sym new_counted;
         product = product;
       }
 

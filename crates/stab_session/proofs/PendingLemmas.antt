@@ -43,7 +43,7 @@ not_deep d h = grind arith
 shallow-allowed : (xs : List OneItem) → depth (listed xs) ≤ 16 → list_refusal (Ok xs) ≡ None
 shallow-allowed xs h = allowed_where (nat_lt 16 (depth (listed xs))) (not_deep (depth (listed xs)) h)
 
-few : (n : ℕ) (xs : List OneItem) → check_within n (listed xs) ≡ None → length (unroll (listed xs)) ≤ 1048576
+pub few : (n : ℕ) (xs : List OneItem) → check_within n (listed xs) ≡ None → length (unroll (listed xs)) ≤ 1048576
 few n xs e = check-steps (listed xs) (check-whole n (listed xs) e)
 
 -- the three ways

@@ -15,7 +15,7 @@ use Rattle.stab_circuit.proofs.UndoLemmas.{new_parts, front_size}
 use Rattle.stab_session.specs.Bounds.{steps_of_item}
 use Rattle.stab_session.specs.inner.Pendings.{IsSpanNow}
 
-ends-within : (k : ℕ) (xs : List OneItem) → length (unroll (listed (take k xs))) ≤ length (unroll (listed xs))
+pub ends-within : (k : ℕ) (xs : List OneItem) → length (unroll (listed (take k xs))) ≤ length (unroll (listed xs))
 ends-within k xs = omega (arith, ap length (steps_split k xs) ∙ length-append (unroll (listed (take k xs))) (unroll (listed (drop k xs))))
 
 -- what an edit tells is the span of the steps, where neither list has too many

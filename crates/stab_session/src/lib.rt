@@ -3,7 +3,8 @@
 //! In the order in which data flows; each module uses only those before it:
 //!
 //! - `pending`: edits of a circuit that can be taken back.
-//! - `paulis`: the Pauli string that an edit amounts to, where it is of Pauli gates alone.
+//! - `paulis`: the change of Pauli gates that an edit amounts to, in each round of the blocks around its
+//!   place, where it is of such gates alone.
 //! - `session`: a circuit with what its run gives, to be read and edited; a round that is split off
 //!   leaves the run.
 //!

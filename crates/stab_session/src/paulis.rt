@@ -1,4 +1,4 @@
-ghost use Rattle.std.specs.Prelude.{◌≡◌, ◌<◌, ◌∷◌, false, [], List, All, length, slice_get, Some, None, IfOk, IfErr, IfSome, IfNone};
+ghost use Rattle.std.specs.Prelude.{◌≡◌, ◌<◌, ◌∷◌, false, [], List, All, length, None, IfOk, IfErr, IfSome, IfNone};
 ghost use Rattle.std.specs.List.{AllByRecursion};
 ghost use Rattle.stab_io.specs.declared.refusal.Refusal.TheVariants.{OutOfMemory};
 ghost use Rattle.stab_pauli.specs.Paulis.{string_product};
@@ -20,6 +20,7 @@ use stab_items::Part;
 use stab_letters::{Gate, Letter};
 use stab_lines::Kind;
 use stab_pauli::Pauli;
+use stab_turns::PauliChange;
 use std::alloc::Global;
 
 /// A Pauli gate on each of some qubits, one after another.
@@ -108,21 +109,6 @@ fn place_of(pending: &Pending) -> Path
     }
 }
 
-/// The item at a place of the outermost list.
-fn outermost_item(circuit: &Circuit, path: Path) -> Option<&Item>
-    ensures outermost { IfSome result (λ item. path.blocks ≡ []) }
-    ensures some { IfSome result (λ item. slice_get circuit.now path.place ≡ Some item.now) }
-    ensures none { IfNone result (path.blocks ≡ [] → slice_get circuit.now path.place ≡ None) }
-{
-    if !path.blocks().is_empty() {
-        return None;
-    }
-    match circuit.item(path) {
-        Ok(item) => Some(item),
-        Err(_) => None,
-    }
-}
-
 /// Multiplies a letter at each of some qubits onto a string. Where a qubit is named twice it cancels.
 fn multiply_letter(string: &mut Pauli, letter: Letter, qubits: &[Qubit])
     requires fit { All (λ q. q < length string.old.letters) qubits.now }
@@ -157,9 +143,10 @@ fn gates_string(
     Ok(string)
 }
 
-/// The string by which the old run and the new one differ behind an edit that was begun on n qubits,
-/// or `None` where they may differ by more than Pauli gates: where the edit's place is in a block, or
-/// what it took out or put in makes other steps.
+/// The change of Pauli gates by which the old run and the new one differ at an edit that was begun on n
+/// qubits, in each round of the blocks around its place; or `None` where they may differ by more than such
+/// gates, since what it took out or put in makes other steps, or where it makes none and blocks have more
+/// than 1,048,576 rounds of it.
 ///
 /// Refusal `OutOfMemory` alone.
 pub fn difference(
@@ -167,18 +154,27 @@ pub fn difference(
     circuit: &Circuit,
     n: usize,
     pending: &Pending,
-) -> Result<Option<Pauli>, Refusal>
+) -> Result<Option<PauliChange>, Refusal>
     requires accepted { AreAccepted n pending.now circuit.now }
-    ensures length { IfOk result (λ found. IfSome found (λ p. length p.letters ≡ n)) }
-    ensures differs { IfOk result (λ found. IfSome found (λ p. (edit : Edit) (old : List OneItem) (s : Span) → IsBegun n edit old circuit.now pending.now s → DifferByPaulis n (unroll (listed old)) (unroll (listed circuit.now)) s p.letters)) }
+    ensures length { IfOk result (λ found. IfSome found (λ p. length p.string.letters ≡ n)) }
+    ensures differs { IfOk result (λ found. IfSome found (λ p. (edit : Edit) (old : List OneItem) (s : Span) → IsBegun n edit old circuit.now pending.now s → DifferByPaulis n (unroll (listed old)) (unroll (listed circuit.now)) s p.string.letters p.old p.new p.gaps.items)) }
     ensures found { IfOk result (λ found. found ≡ None → IsPauliEdit pending.now circuit.now → ⊥) }
     ensures err { IfErr result (λ r. r ≡ OutOfMemory) }
 {
-    let Some(item) = outermost_item(circuit, place_of(pending)) else {
+    let place = place_of(pending);
+    let Ok(item) = circuit.item(place) else {
         return Ok(None);
     };
     let (Some(taken), Some(put)) = (taken_gates(pending), item_gates(item)) else {
         return Ok(None);
     };
-    Ok(Some(gates_string(alloc, n, taken, put)?))
+    let Some(gaps) = circuit.gaps(alloc, place)? else {
+        return Ok(None);
+    };
+    Ok(Some(PauliChange {
+        string: gates_string(alloc, n, taken, put)?,
+        old: taken.qubits.len(),
+        new: put.qubits.len(),
+        gaps,
+    }))
 }

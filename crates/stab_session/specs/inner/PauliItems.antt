@@ -1,6 +1,6 @@
 -- Pauli items: items that are Pauli gates alone, and the items that a pending edit took out.
 -- Source: this project's own.
-use Rattle.std.specs.Prelude.{◌≡◌, ◌⊎◌, ℕ, ◌≤◌, Bool, true, false, List, [], ◌∷◌, map, slice_get, Some, None, Ok}
+use Rattle.std.specs.Prelude.{◌≡◌, ◌⊎◌, ℕ, ◌≤◌, Bool, true, false, ◌+◌, List, [], ◌∷◌, length, map, None, Ok}
 use Rattle.std.specs.List.{AllByRecursion}
 use Rattle.stab_letters.specs.declared.letter.Letter.{Letter}
 use Rattle.stab_letters.specs.declared.gate.Gate.{Gate}
@@ -8,7 +8,9 @@ use Rattle.stab_letters.specs.declared.gate.Gate.TheVariants as gate
 use Rattle.stab_lines.specs.declared.operation.Kind.{Kind}
 use Rattle.stab_lines.specs.declared.operation.Kind.TheVariants as kind
 use Rattle.stab_circuit.specs.Items.{OneItem, operation, repeat, listed}
-use Rattle.stab_circuit.specs.Steps.{one, unroll, past, qubits_of, check_within}
+use Rattle.stab_circuit.specs.Steps.{one, unroll, past, qubits_of, check_within, most_steps}
+use Rattle.stab_circuit.specs.Places.{item_at}
+use Rattle.stab_circuit.specs.Rounds.{pieces}
 use Rattle.stab_run.specs.Runs.{gate_of}
 use Rattle.stab_session.specs.declared.pending.Pending.{Pending}
 use Rattle.stab_session.specs.declared.pending.Pending.TheVariants.{Inserted, Replaced, Deleted}
@@ -71,10 +73,11 @@ is_pauli_item (repeat count tag body) = false
 abbrev pub IsPauliItem : OneItem → Type 0
 IsPauliItem x = (unroll (listed (x ∷ [])) ≡ []) ⊎ (is_pauli_item x ≡ true)
 
--- a pending edit is of such items alone, in the outermost list
+-- a pending edit is of such items alone, and what it put in, or what stands for nothing in its stead, is carried out no more often than a
+-- circuit may have steps
 pub record IsPauliEdit (p : Pending) (now : List OneItem) : Type 0 where
-  pub outermost : (pending_path p).blocks ≡ []
   pub taken : AllByRecursion IsPauliItem (taken_items p)
   pub put : OneItem
-  pub found : slice_get now (pending_path p).place ≡ Some put
+  pub found : item_at (pending_path p) now ≡ Ok put
   pub is : IsPauliItem put
+  pub few : length (pieces (pending_path p) ((pending_path p).place + 1) now) ≤ most_steps
