@@ -1,5 +1,6 @@
 -- Laws of memory: a run on the qubits of its own circuit is refused for want of memory alone.
-use Rattle.std.proofs.Common.{◌≡◌, ap, subst, ◌∙◌, ℕ, false, Err, None, nat_lt, arith}
+use Rattle.std.proofs.Common.{◌≡◌, ap, subst, ◌∙◌, ℕ, false, Result, Ok, Err, None, nat_lt, arith}
+use Rattle.std.specs.Prelude.{IfErr}
 use Rattle.stab_io.specs.declared.refusal.Refusal.TheVariants.{OutOfMemory}
 use Rattle.stab_io.specs.declared.refusal.Fault.{Fault}
 use Rattle.stab_io.specs.Refusals.{whole, Refuses}
@@ -16,3 +17,8 @@ checked_on_own_qubits items checked = rw (not_below (qubits_of items)) checked
 -- what nothing else refuses is refused for want of memory
 pub memory_alone : (A : Type 0) (f : Fault) (n : ℕ) (items : Items) → check_of items ≡ None → n ≡ qubits_of items → Refuses {A = A} (Err f) (check_within n items) → f ≡ whole OutOfMemory
 memory_alone A f n items checked e refuses = subst (λ given. Refuses {A = A} (Err f) given) (ap (λ m. check_within m items) e ∙ checked_on_own_qubits items checked) refuses
+
+-- so it is of whatever a call answers
+pub memory_or_ok : {A : Type 0} (r : Result A Fault) (n : ℕ) (items : Items) → check_of items ≡ None → n ≡ qubits_of items → Refuses r (check_within n items) → IfErr r (λ f. f ≡ whole OutOfMemory)
+memory_or_ok (Ok x) n items checked e refuses = tt
+memory_or_ok {A = A} (Err f) n items checked e refuses = memory_alone A f n items checked e refuses

@@ -4,6 +4,7 @@
 //!
 //! - `widths`: how many shots go through a circuit at once.
 //! - `packed`: the bits of lanes in `01` and `b8`.
+//! - `lanes`: the bits of lanes in any format.
 //! - `shots`: the shots of a circuit, written one after another.
 //! - `laws`: outputs of parts are joined to that of all shots.
 //!
@@ -17,6 +18,7 @@
 //! shots go at once, and in which words, changes nothing of that.
 #![tactic(auto)]
 
+mod lanes;
 pub mod laws;
 mod packed;
 mod shots;

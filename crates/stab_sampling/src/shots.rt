@@ -1,21 +1,23 @@
 //! The shots of a circuit, written one after another.
 //!
-//! All shots of a list of coins are the same run, which is made once. Shots of a seed are run by batches of lanes, so that the
-//! tableau goes through the circuit once for each batch; a shot that is alone is run alone.
-ghost use Rattle.std.specs.Prelude.{◌≡◌, ℕ, ◌+◌, ◌<◌, ◌≤◌, None, Bool, length, IfOk};
+//! All shots of a list of coins are the same run, which is made once. Shots of a seed are run by batches of lanes. Where there
+//! is more than one batch, the tableau goes through the circuit once, and all are led by what was noted of that run, unless
+//! this takes too much memory; else it goes once for each batch. A shot that is alone is run alone.
+ghost use Rattle.std.specs.Prelude.{◌≡◌, ℕ, ◌+◌, ◌<◌, ◌≤◌, None, Bool, length, IfOk, IfSome, IfErr};
+ghost use Rattle.stab_io.specs.Refusals.{whole};
+ghost use Rattle.stab_io.specs.declared.refusal.Refusal.TheVariants.{OutOfMemory};
 ghost use Rattle.stab_circuit.specs.Items.{Items};
 ghost use Rattle.stab_circuit.specs.Steps.{check_of, qubits_of};
 ghost use Rattle.stab_circuit.specs.Views.{circuit_items};
 ghost use Rattle.stab_results.specs.Formats.{detectors_of};
 ghost use Rattle.stab_run.specs.Runs.{State, run_of};
 ghost use Rattle.stab_run.specs.Coins.{list_coin, seed_coin};
-ghost use Rattle.stab_shots.specs.Words.{word_bit};
-ghost use Rattle.stab_shots.specs.Lanes.{lane_bits};
+ghost use Rattle.stab_shots.specs.References.{IsReference};
 ghost use Rattle.stab_jobs.specs.Limits.{shots_of_seed};
 ghost use Rattle.stab_sampling.specs.Outputs.{of_shots};
 ghost use Rattle.stab_sampling.specs.Sendings.{IsShown, SendsUnflushed, shots_of, shown_bytes, shown_kinds, shown_items};
 
-use crate::packed::{Packing, send_packed};
+use crate::lanes::send_lanes;
 use crate::widths::shots_at_once;
 use stab_circuit::Circuit;
 use stab_io::{Fault, Output};
@@ -23,8 +25,7 @@ use stab_jobs::{Shots, Source};
 use stab_results::{Format, Kinds, write_shot};
 use stab_run::{Coins, ListCoins, SeedCoins, Shot, run_once};
 use stab_shots::{
-    LaneCoins, SeedLanes, Shots as LaneShots, Wide, WideSeedLanes, Word, run_lanes, write_lane,
-    write_part,
+    LaneCoins, Reference, SeedLanes, Shots as LaneShots, Wide, WideSeedLanes, Word, run_lanes,
 };
 use std::alloc::{AllocError, Global};
 
@@ -117,78 +118,12 @@ fn send_copies<O: Output, C: Coins>(
     write_copies(out, format, &bits, copies)
 }
 
-/// Writes the bits of so many of 64 lanes, one lane after another, each from a list of its own.
-fn write_lanes<O: Output>(
-    alloc: Global,
-    out: &mut O,
-    format: Format,
-    kinds: Kinds,
-    words: &[u64],
-    lanes: usize,
-) -> Result<(), Fault>
-    requires in_range { lanes ≤ 64 }
-    requires within { detectors_of kinds ≤ length words.now }
-    ensures sends { (first : ℕ) (shown : Shown) (run : ℕ → State) → ((l : ℕ) → l < lanes → IsShown shown (run (first + l)) kinds (lane_bits word_bit l words.now)) → SendsUnflushed (of_shots (λ shot. shown_bytes format shown (run shot)) first lanes) (O.seen out.old) (O.seen out.new) result }
-{
-    let mut bits = Vec::with_capacity(alloc, words.len())?;
-    for lane in 0..lanes {
-        write_lane(words, lane, &mut bits)?;
-        write_shot(out, format, kinds, bits.as_slice())?;
-    }
-    Ok(())
-}
-
-/// Writes the bits of so many lanes, one lane after another, each from a list of its own. Each 64 lanes are copied out first,
-/// since each lane goes over all words.
-fn write_parts<O: Output, W: Word>(
-    alloc: Global,
-    out: &mut O,
-    format: Format,
-    kinds: Kinds,
-    words: &[W],
-    lanes: usize,
-) -> Result<(), Fault>
-    requires in_range { lanes ≤ W.lanes }
-    requires within { detectors_of kinds ≤ length words.now }
-    ensures sends { (first : ℕ) (shown : Shown) (run : ℕ → State) → ((l : ℕ) → l < lanes → IsShown shown (run (first + l)) kinds (lane_bits W.at l words.now)) → SendsUnflushed (of_shots (λ shot. shown_bytes format shown (run shot)) first lanes) (O.seen out.old) (O.seen out.new) result }
-{
-    let mut part = vec![in alloc; 0; words.len()]?;
-    let mut sent = 0;
-    while sent < lanes {
-        let some = (lanes - sent).min(64);
-        write_part(words, sent / 64, part.as_mut_slice());
-        write_lanes(alloc, out, format, kinds, part.as_slice(), some)?;
-        sent += some;
-    }
-    Ok(())
-}
-
-/// Writes the bits of so many lanes in a format, one lane after another. In `01` and `b8` they are packed for eight lanes at
-/// a time.
-fn send_lanes<O: Output, W: Word>(
-    alloc: Global,
-    out: &mut O,
-    format: Format,
-    kinds: Kinds,
-    words: &[W],
-    lanes: usize,
-) -> Result<(), Fault>
-    requires in_range { lanes ≤ W.lanes }
-    requires within { detectors_of kinds ≤ length words.now }
-    ensures sends { (first : ℕ) (shown : Shown) (run : ℕ → State) → ((l : ℕ) → l < lanes → IsShown shown (run (first + l)) kinds (lane_bits W.at l words.now)) → SendsUnflushed (of_shots (λ shot. shown_bytes format shown (run shot)) first lanes) (O.seen out.old) (O.seen out.new) result }
-{
-    match format {
-        Format::F01 => send_packed(alloc, out, Packing::Line, words, lanes),
-        Format::B8 => send_packed(alloc, out, Packing::Bytes, words, lanes),
-        _ => write_parts(alloc, out, format, kinds, words, lanes),
-    }
-}
-
 /// Runs so many shots, at most as many as there are lanes, with the coins of the lanes, and writes what is shown of each. What
 /// the shots give is put in place of what the lists had.
 fn send_batch<O: Output, W: Word, C: LaneCoins<W>>(
     alloc: Global,
     circuit: &Circuit,
+    reference: Option<&Reference>,
     out: &mut O,
     format: Format,
     shown: Shown,
@@ -197,10 +132,11 @@ fn send_batch<O: Output, W: Word, C: LaneCoins<W>>(
     shots: usize,
 ) -> Result<(), Fault>
     requires checked { check_of (circuit_items circuit.now) ≡ None }
+    requires reference { IfSome reference (λ r. IsReference (qubits_of (circuit_items circuit.now)) (circuit_items circuit.now) r.now) }
     requires few { shots ≤ W.lanes }
     ensures sends { (first : ℕ) (run : ℕ → State) → ((l : ℕ) → l < shots → run (first + l) ≡ run_of (qubits_of (circuit_items circuit.now)) (C.sequences coins.old l) (circuit_items circuit.now)) → SendsUnflushed (of_shots (λ shot. shown_bytes format shown (run shot)) first shots) (O.seen out.old) (O.seen out.new) result }
 {
-    run_lanes(alloc, circuit, circuit.qubits(), coins, lists)?;
+    run_lanes(alloc, circuit, circuit.qubits(), reference, coins, lists)?;
     let kinds = Kinds::Detectors(lists.detectors.len());
     match shown {
         Shown::Records => {
@@ -225,6 +161,7 @@ fn send_batch<O: Output, W: Word, C: LaneCoins<W>>(
 fn send_batches<O: Output, W: Word, C: LaneCoins<W>>(
     alloc: Global,
     circuit: &Circuit,
+    reference: Option<&Reference>,
     out: &mut O,
     format: Format,
     shown: Shown,
@@ -234,6 +171,7 @@ fn send_batches<O: Output, W: Word, C: LaneCoins<W>>(
     lanes: usize,
 ) -> Result<(), Fault>
     requires checked { check_of (circuit_items circuit.now) ≡ None }
+    requires reference { IfSome reference (λ r. IsReference (qubits_of (circuit_items circuit.now)) (circuit_items circuit.now) r.now) }
     requires some { 0 < lanes }
     requires few { lanes ≤ W.lanes }
     requires in_range { first + shots ≤ shots_of_seed }
@@ -245,7 +183,7 @@ fn send_batches<O: Output, W: Word, C: LaneCoins<W>>(
         let batch = (shots - sent).min(lanes);
         let mut coins = C::of_seed(seed, first + sent as u64);
         send_batch(
-            alloc, circuit, out, format, shown, &mut coins, &mut lists, batch,
+            alloc, circuit, reference, out, format, shown, &mut coins, &mut lists, batch,
         )?;
         sent += batch;
     }
@@ -257,6 +195,7 @@ fn send_batches<O: Output, W: Word, C: LaneCoins<W>>(
 fn send_wide<O: Output>(
     alloc: Global,
     circuit: &Circuit,
+    reference: Option<&Reference>,
     out: &mut O,
     format: Format,
     shown: Shown,
@@ -266,6 +205,7 @@ fn send_wide<O: Output>(
     lanes: usize,
 ) -> Result<(), Fault>
     requires checked { check_of (circuit_items circuit.now) ≡ None }
+    requires reference { IfSome reference (λ r. IsReference (qubits_of (circuit_items circuit.now)) (circuit_items circuit.now) r.now) }
     requires some { 0 < lanes }
     requires few { lanes ≤ 1024 }
     requires in_range { first + shots ≤ shots_of_seed }
@@ -273,19 +213,19 @@ fn send_wide<O: Output>(
 {
     if lanes <= 64 {
         send_batches::<O, u64, SeedLanes>(
-            alloc, circuit, out, format, shown, seed, first, shots, lanes,
+            alloc, circuit, reference, out, format, shown, seed, first, shots, lanes,
         )
     } else if lanes <= 256 {
         send_batches::<O, Wide<4>, WideSeedLanes<4>>(
-            alloc, circuit, out, format, shown, seed, first, shots, lanes,
+            alloc, circuit, reference, out, format, shown, seed, first, shots, lanes,
         )
     } else if lanes <= 512 {
         send_batches::<O, Wide<8>, WideSeedLanes<8>>(
-            alloc, circuit, out, format, shown, seed, first, shots, lanes,
+            alloc, circuit, reference, out, format, shown, seed, first, shots, lanes,
         )
     } else {
         send_batches::<O, Wide<16>, WideSeedLanes<16>>(
-            alloc, circuit, out, format, shown, seed, first, shots, lanes,
+            alloc, circuit, reference, out, format, shown, seed, first, shots, lanes,
         )
     }
 }
@@ -294,6 +234,7 @@ fn send_wide<O: Output>(
 fn send_rest<O: Output>(
     alloc: Global,
     circuit: &Circuit,
+    reference: Option<&Reference>,
     out: &mut O,
     format: Format,
     shown: Shown,
@@ -302,6 +243,7 @@ fn send_rest<O: Output>(
     shots: usize,
 ) -> Result<(), Fault>
     requires checked { check_of (circuit_items circuit.now) ≡ None }
+    requires reference { IfSome reference (λ r. IsReference (qubits_of (circuit_items circuit.now)) (circuit_items circuit.now) r.now) }
     requires few { shots ≤ 1024 }
     requires in_range { first + shots ≤ shots_of_seed }
     ensures sends { SendsUnflushed (of_shots (λ shot. shown_bytes format shown (run_of (qubits_of (circuit_items circuit.now)) (seed_coin seed shot) (circuit_items circuit.now))) first shots) (O.seen out.old) (O.seen out.new) result }
@@ -314,10 +256,22 @@ fn send_rest<O: Output>(
         }
         _ => {
             send_wide(
-                alloc, circuit, out, format, shown, seed, first, shots, shots,
+                alloc, circuit, reference, out, format, shown, seed, first, shots, shots,
             )
         }
     }
+}
+
+/// The reference of a circuit, where it has one and there is more than one batch to be led by it.
+fn reference_of(alloc: Global, circuit: &Circuit, many: bool) -> Result<Option<Reference>, Fault>
+    requires checked { check_of (circuit_items circuit.now) ≡ None }
+    ensures reference { IfOk result (λ found. IfSome found (λ r. IsReference (qubits_of (circuit_items circuit.now)) (circuit_items circuit.now) r)) }
+    ensures err { IfErr result (λ f. f ≡ whole OutOfMemory) }
+{
+    if !many {
+        return Ok(None);
+    }
+    Reference::of(alloc, circuit, circuit.qubits())
 }
 
 /// Runs so many shots of a seed from a first one on, and writes what is shown of each. A shot that is alone is run alone, and
@@ -339,15 +293,21 @@ fn send_seeded<O: Output>(
     let most = shots_at_once(alloc, circuit, shots)?;
     let full = shots - shots % most;
     if full == 0 {
-        return send_rest(alloc, circuit, out, format, shown, seed, first, shots);
+        return send_rest(alloc, circuit, None, out, format, shown, seed, first, shots);
     }
-    send_wide(alloc, circuit, out, format, shown, seed, first, full, most)?;
+    let found = reference_of(alloc, circuit, most < shots)?;
+    let reference = found.as_ref();
+    send_wide(
+        alloc, circuit, reference, out, format, shown, seed, first, full, most,
+    )?;
     if full == shots {
         return Ok(());
     }
     let next = first + full as u64;
     let rest = shots - full;
-    send_rest(alloc, circuit, out, format, shown, seed, next, rest)
+    send_rest(
+        alloc, circuit, reference, out, format, shown, seed, next, rest,
+    )
 }
 
 /// Runs these shots of a circuit that nothing refuses, and writes what is shown of each, without a flush.

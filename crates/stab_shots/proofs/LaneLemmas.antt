@@ -1,10 +1,11 @@
 -- Lanes: the bits of a lane of words that are added up, and put behind others.
-use Rattle.std.proofs.Common.{◌≡◌, ℕ, zero, suc, ◌+◌, ◌<◌, refl, sym, ◌∙◌, ap, Bool, true, false, List, [], ◌∷◌, ◌++◌, length, get_or, set, drop, map, replicate}
+use Rattle.std.proofs.Common.{◌≡◌, ℕ, zero, suc, ◌+◌, ◌<◌, ◌≤◌, refl, sym, ◌∙◌, ap, subst, Bool, true, false, List, [], ◌∷◌, ◌++◌, append-nil, length, get_or, set, take, drop, map, replicate, arith}
 use Rattle.std.specs.Prelude.{if◌then◌else◌}
-use Rattle.std.proofs.lemmas.List.{get_or-map, map-append, map-set, drop_more}
+use Rattle.std.proofs.lemmas.List.{get_or-map, length-map, map-append, map-set, drop_more, take_all, drop_all}
 use Rattle.stab_letters.specs.Letters.{◌⊕◌}
 use Rattle.stab_run.specs.Runs.{when, added}
 use Rattle.stab_run.specs.Points.{with_additions}
+use Rattle.stab_frames.specs.Flips.{flipped}
 use Rattle.stab_shots.specs.declared.lanes.Sum.{Sum}
 use Rattle.stab_shots.specs.Lanes.{lane_bits, lane_additions}
 
@@ -35,3 +36,38 @@ pub bits-when : {W : Type 0} (at : W → ℕ → Bool) (l : ℕ) (ws : List W) (
     → lane_bits at l (ws ++ (if test then w ∷ [] else [])) ≡ lane_bits at l ws ++ when test b
 bits-when at l ws true w b is = map-append (λ w. at w l) ws (w ∷ []) ∙ ap (λ b. lane_bits at l ws ++ b ∷ []) is
 bits-when at l ws false w b is = map-append (λ w. at w l) ws []
+
+-- bits flipped one after another
+
+flip-next : (i : ℕ) (bits flips : List Bool) → i < length bits → i < length flips
+    → take (suc i) (set flips i (get_or flips i false ⊕ get_or bits i false)) ++ flipped (drop (suc i) bits) (drop (suc i) (set flips i (get_or flips i false ⊕ get_or bits i false)))
+    ≡ take i flips ++ flipped (drop i bits) (drop i flips)
+flip-next i [] flips lt within = absurd (omega arith)
+flip-next i (b ∷ bits) [] lt within = absurd (omega arith)
+flip-next zero (b ∷ bits) (f ∷ flips) lt within = refl
+flip-next (suc i) (b ∷ bits) (f ∷ flips) lt within = ap (λ l. f ∷ l) (flip-next i bits flips (omega arith) (omega arith))
+
+pub flips-next : {W : Type 0} (at : W → ℕ → Bool) (l : ℕ) (ws : List W) (bits total : List Bool) (i : ℕ) (w v : W) (b : Bool) → i < length bits → i < length ws
+    → w ≡ get_or ws i w → b ≡ get_or bits i false → at v l ≡ at w l ⊕ b
+    → take i (lane_bits at l ws) ++ flipped (drop i bits) (drop i (lane_bits at l ws)) ≡ total
+    → take (i + 1) (lane_bits at l (set ws i v)) ++ flipped (drop (i + 1) bits) (drop (i + 1) (lane_bits at l (set ws i v))) ≡ total
+flips-next at l ws bits total i w v b lt within is is_bit made were =
+    (λ k. take (one_more k) (put k) ++ flipped (drop (one_more k) bits) (drop (one_more k) (put k)))
+    ∙ flip-next i bits (lane_bits at l ws) lt (subst (λ n. i < n) (sym (length-map ws (λ w. at w l))) within)
+    ∙ were
+  where
+    one_more : i + 1 ≡ suc i
+    one_more = omega arith
+
+    put : lane_bits at l (set ws i v) ≡ set (lane_bits at l ws) i (get_or (lane_bits at l ws) i false ⊕ get_or bits i false)
+    put =
+        map-set (λ w. at w l) ws i v
+        ∙ ap (set (lane_bits at l ws) i)
+        (made ∙ (λ k. (ap (λ x. at x l) is ∙ sym (get_or-map (λ w. at w l) ws i w false within)) k ⊕ is_bit k))
+
+pub flips-all : (bits flips total : List Bool) (i : ℕ) → length flips ≡ length bits → length bits ≤ i
+    → take i flips ++ flipped (drop i bits) (drop i flips) ≡ total → flips ≡ total
+flips-all bits flips total i same all were =
+    sym (append-nil flips)
+    ∙ (λ k. sym (take_all i flips (omega (arith, same, all))) k ++ flipped (sym (drop_all i bits all) k) (drop i flips))
+    ∙ were

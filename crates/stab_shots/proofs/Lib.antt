@@ -12,3 +12,6 @@ pub mod PlaceLemmas
 pub mod SeedLemmas
 pub mod SeedByteLemmas
 pub mod BatchLemmas
+pub mod FollowLemmas
+pub mod ReferenceLemmas
+pub mod NotedLemmas

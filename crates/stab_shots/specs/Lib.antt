@@ -4,3 +4,5 @@ pub mod LaneRules
 pub mod Shots
 pub mod Seeds
 pub mod Squares
+pub mod References
+pub mod Differences

@@ -1,5 +1,5 @@
 //! Shots of a seed, run by batches of lanes, each with lists of its own.
-ghost use Rattle.std.specs.Prelude.{◌≡◌, ℕ, ◌+◌, ◌<◌, ◌≤◌, Bool, None, length, IfOk, OnOk, IfErr};
+ghost use Rattle.std.specs.Prelude.{◌≡◌, ℕ, ◌+◌, ◌<◌, ◌≤◌, Bool, None, length, IfOk, IfSome, OnOk, IfErr};
 ghost use Rattle.stab_io.specs.declared.refusal.Refusal.TheVariants.{OutOfMemory};
 ghost use Rattle.stab_io.specs.Refusals.{Refuses};
 ghost use Rattle.stab_letters.specs.Limits.{most_qubits};
@@ -7,13 +7,16 @@ ghost use Rattle.stab_circuit.specs.Items.{Items};
 ghost use Rattle.stab_circuit.specs.Steps.{check_within};
 ghost use Rattle.stab_circuit.specs.Views.{circuit_items};
 ghost use Rattle.stab_shots.specs.Lanes.{lane_bits};
+ghost use Rattle.stab_shots.specs.References.{IsReference};
 ghost use Rattle.stab_shots.specs.Seeds.{shot_coins};
 ghost use Rattle.stab_shots.specs.Shots.{AreRuns, IsShot, AreShots};
 
 use crate::coins::LaneCoins;
 use crate::lanes::write_lane;
+use crate::noted::run_checked_batch;
+use crate::reference::Reference;
 use crate::seeds::SeedLanes;
-use crate::shots::{Shots, run_checked};
+use crate::shots::Shots;
 use crate::wide::Wide;
 use crate::wide_seeds::WideSeedLanes;
 use crate::word::Word;
@@ -65,6 +68,24 @@ fn push_lanes<W: Word>(
     Ok(())
 }
 
+/// The reference of a circuit that nothing refuses, where it has one and there is more than one batch to be led by it.
+fn reference_of(
+    alloc: Global,
+    circuit: &Circuit,
+    n: usize,
+    many: bool,
+) -> Result<Option<Reference>, Refusal>
+    requires in_range { n ≤ most_qubits }
+    requires checked { check_within n (circuit_items circuit.now) ≡ None }
+    ensures reference { IfOk result (λ found. IfSome found (λ r. IsReference n (circuit_items circuit.now) r)) }
+    ensures err { IfErr result (λ r. r ≡ OutOfMemory) }
+{
+    if !many {
+        return Ok(None);
+    }
+    Reference::of_checked(alloc, circuit, n)
+}
+
 /// Runs so many shots of a seed from a first one on, by batches of so many lanes.
 fn run_batches<W: Word, C: LaneCoins<W>>(
     alloc: Global,
@@ -85,11 +106,13 @@ fn run_batches<W: Word, C: LaneCoins<W>>(
 {
     let mut shots = Vec::with_capacity(alloc, number)?;
     let mut lists: Shots<W> = Shots::with_room(alloc, circuit.records())?;
+    let found = reference_of(alloc, circuit, n, lanes < number)?;
+    let reference = found.as_ref();
     let mut made = 0;
     while made < number {
         let batch = (number - made).min(lanes);
         let mut coins = C::of_seed(seed, first.wrapping_add(made as u64));
-        run_checked(alloc, circuit, n, &mut coins, &mut lists)?;
+        run_checked_batch(alloc, circuit, n, reference, &mut coins, &mut lists)?;
         push_lanes(alloc, &lists, batch, &mut shots)?;
         made += batch;
     }
@@ -121,8 +144,8 @@ fn run_by_number(
 /// Runs so many shots of a seed from a first one on, on n qubits, at most 1,024. Numbers of shots go on from 2^64 - 1 with 0.
 ///
 /// Each shot is the run that `stab_run::run_once` makes with `SeedCoins` of its number. The tableau goes through the circuit
-/// once for 64 shots, or for 256 where there are more. Refused as `Circuit::check` refuses, else `OutOfMemory`, always with
-/// line 0.
+/// once, or once for 256 shots where more of its outcomes are free than a `Reference` notes. Refused as `Circuit::check`
+/// refuses, else `OutOfMemory`, always with line 0.
 pub fn run_shots(
     alloc: Global,
     circuit: &Circuit,

@@ -1,4 +1,4 @@
-ghost use Rattle.std.specs.Prelude.{◌≡◌, ℕ, ◌+◌, ◌<◌, Bool, false, length, replicate, IfOk, OnOk};
+ghost use Rattle.std.specs.Prelude.{◌≡◌, ℕ, ◌+◌, ◌<◌, Bool, false, [], length, replicate, IfOk, OnOk};
 ghost use Rattle.stab_letters.specs.declared.letter.Letter.TheVariants;
 ghost use Rattle.stab_run.specs.Points.{nothing, with_additions};
 ghost use Rattle.stab_run.specs.Runs.{added};
@@ -39,6 +39,7 @@ impl<W: Word> Lanes<W> {
     ) -> Result<Lanes<W>, AllocError>
         ensures qubits { IfOk result (λ s. length s.frames.letters.items ≡ n) }
         ensures letters { IfOk result (λ s. (l : ℕ) → l < W.lanes → lane_letters W.at l s.frames.letters.items ≡ replicate n Rattle.stab_letters.specs.declared.letter.Letter.TheVariants.I) }
+        ensures free { IfOk result (λ s. s.free.items ≡ []) }
         ensures output { IfOk result (λ s. (l : ℕ) → l < W.lanes → lane_output W.at l s ≡ nothing) }
     {
         records.clear();

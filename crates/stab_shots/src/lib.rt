@@ -2,7 +2,9 @@
 //!
 //! All shots of a circuit go through the same gates and measure the same strings; their states differ
 //! by signs alone, and so by a Pauli string each. A word has a bit for each lane, and each lane is a
-//! shot: a step is carried out once on the tableau, and on all lanes by some operations on words.
+//! shot: a step is carried out once on the tableau, and on all lanes by some operations on words. Since the
+//! tableau does the same each time, further shots are led by what was noted of one run of it: which outcomes
+//! were free, and by which strings they are exchanged.
 //!
 //! In the order in which data flows; each module uses only those before it:
 //!
@@ -18,7 +20,10 @@
 //! - `streams`: the words of a shot's stream, whose lowest bits are its coins.
 //! - `coins`, `seeds`, `wide_seeds`: the coins of all lanes, and those of 64 or 64 N shots of a seed.
 //! - `squares`: the bits of lanes as bytes, for eight lanes at a time.
-//! - `shots`: so many shots of a circuit, at once.
+//! - `shots`: so many shots of a circuit, at once, beside a tableau.
+//! - `reference`: a run whose free outcomes are noted, each with a string that exchanges it.
+//! - `noted_step`, `noted_steps`: one step of a reference, and those of one instruction, on all lanes.
+//! - `noted`: so many shots of a circuit by a reference, without a tableau, or else beside one.
 //! - `batches`: shots of a seed, each with lists of its own.
 //!
 //! Sources: C. Gidney, Stim: a fast stabilizer circuit simulator (2021), for shots as lanes of frames beside a
@@ -34,6 +39,10 @@ mod frames;
 mod gates;
 mod lanes;
 mod letters;
+mod noted;
+mod noted_step;
+mod noted_steps;
+mod reference;
 mod repeated;
 mod run;
 mod seeds;
@@ -49,8 +58,10 @@ mod word;
 pub use batches::run_shots;
 pub use coins::LaneCoins;
 pub use lanes::write_lane;
+pub use noted::run_lanes;
+pub use reference::Reference;
 pub use seeds::SeedLanes;
-pub use shots::{Shots, run_lanes};
+pub use shots::Shots;
 pub use squares::{write_bytes, write_part, write_squares};
 pub use wide::Wide;
 pub use wide_seeds::WideSeedLanes;

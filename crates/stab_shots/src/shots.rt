@@ -1,7 +1,6 @@
 ghost use Rattle.std.specs.Prelude.{◌≡◌, ℕ, ◌<◌, ◌≤◌, None, [], length, replicate, IfOk, OnOk, IfErr};
 ghost use Rattle.stab_letters.specs.declared.letter.Letter.TheVariants;
 ghost use Rattle.stab_io.specs.declared.refusal.Refusal.TheVariants.{OutOfMemory};
-ghost use Rattle.stab_io.specs.Refusals.{Refuses};
 ghost use Rattle.stab_letters.specs.Limits.{most_qubits};
 ghost use Rattle.stab_circuit.specs.Steps.{check_within};
 ghost use Rattle.stab_circuit.specs.Views.{circuit_items};
@@ -14,7 +13,7 @@ use crate::lanes::{Lanes, observables};
 use crate::run::run_steps;
 use crate::word::Word;
 use stab_circuit::{Circuit, Cursor};
-use stab_io::{Fault, Refusal};
+use stab_io::Refusal;
 use stab_pauli::Pauli;
 use stab_tableau::Tableau;
 use std::alloc::{AllocError, Global};
@@ -51,9 +50,10 @@ impl<W: Word> Shots<W> {
 
     /// Lanes that are all as a tableau on n qubits and have given nothing, with the memory of these lists, which are
     /// empty then.
-    fn lanes(&mut self, alloc: Global, n: usize) -> Result<Lanes<W>, AllocError>
+    pub(crate) fn lanes(&mut self, alloc: Global, n: usize) -> Result<Lanes<W>, AllocError>
         ensures qubits { IfOk result (λ s. length s.frames.letters.items ≡ n) }
         ensures letters { IfOk result (λ s. (l : ℕ) → l < W.lanes → lane_letters W.at l s.frames.letters.items ≡ replicate n TheVariants.I) }
+        ensures free { IfOk result (λ s. s.free.items ≡ []) }
         ensures output { IfOk result (λ s. (l : ℕ) → l < W.lanes → lane_output W.at l s ≡ nothing) }
     {
         let records = mem::replace(&mut self.records, Vec::new(alloc));
@@ -63,7 +63,7 @@ impl<W: Word> Shots<W> {
     }
 }
 
-/// Runs a circuit that nothing refuses once in each lane, with the coins of the lane.
+/// Runs a circuit that nothing refuses once in each lane, with the coins of the lane, beside one tableau.
 pub fn run_checked<W: Word, C: LaneCoins<W>>(
     alloc: Global,
     circuit: &Circuit,
@@ -105,26 +105,4 @@ pub fn run_checked<W: Word, C: LaneCoins<W>>(
         observables,
     };
     Ok(())
-}
-
-/// Runs a circuit on n qubits, at most 1,024, once in each lane, with the coins of the lane, and puts what the shots give in
-/// place of what the lists had. Their memory serves again, so that many such runs need little that is fresh.
-///
-/// Each lane is the run that `stab_run::run_once` makes with these coins. The tableau goes through the
-/// circuit once, however many lanes there are. Refused as `Circuit::check` refuses, else `OutOfMemory`,
-/// always with line 0; nothing is said of the lists then.
-pub fn run_lanes<W: Word, C: LaneCoins<W>>(
-    alloc: Global,
-    circuit: &Circuit,
-    n: usize,
-    coins: &mut C,
-    shots: &mut Shots<W>,
-) -> Result<(), Fault>
-    requires in_range { n ≤ most_qubits }
-    ensures runs { OnOk result ((l : ℕ) → l < W.lanes → AreRuns W.at l n (C.sequences coins.old l) (circuit_items circuit.now) shots.new) }
-    ensures same_coins { C.sequences coins.new ≡ C.sequences coins.old }
-    ensures refused { Refuses result (check_within n (circuit_items circuit.now)) }
-{
-    circuit.check(n)?;
-    run_checked(alloc, circuit, n, coins, shots).map_err(Fault::whole)
 }

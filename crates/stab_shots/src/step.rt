@@ -89,7 +89,7 @@ fn decide<W: Word, C: LaneCoins<W>>(
 }
 
 /// Multiplies the strings of the lanes whose outcome is 1 by a letter that flips it, where the measurement resets.
-fn reset_if<W: Word>(
+pub fn reset_if<W: Word>(
     frames: &mut Frames<W>,
     letter: Letter,
     qubit: usize,
@@ -188,7 +188,7 @@ fn measure_product<W: Word, C: LaneCoins<W>>(
 }
 
 /// Appends bits, where there are any.
-fn push_when<W: Word>(words: &mut Vec<W>, test: bool, word: W) -> Result<(), AllocError>
+pub fn push_when<W: Word>(words: &mut Vec<W>, test: bool, word: W) -> Result<(), AllocError>
     ensures value { OnOk result (words.new.items ≡ words.old.items ++ (if test then word ∷ [] else [])) }
 {
     if test {

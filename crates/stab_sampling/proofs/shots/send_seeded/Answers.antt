@@ -5,6 +5,8 @@ use Rattle.stab_circuit.specs.Steps.{qubits_of}
 use Rattle.stab_circuit.specs.Views.{circuit_items}
 use Rattle.stab_run.specs.Coins.{seed_coin}
 use Rattle.stab_run.specs.Runs.{run_of}
+use Rattle.stab_shots.specs.References.{IsReference}
+use Rattle.stab_shots.proofs.NotedLemmas.{if-copied}
 use Rattle.stab_sampling.specs.Sendings.{shown_bytes}
 use Rattle.stab_sampling.proofs.SendingLaws.{sends_none}
 use Rattle.stab_sampling.proofs.ShotLaws.{front_breaks_off, rest_sent}
@@ -14,6 +16,16 @@ pub returns-in_err-most : goal.returns-in_err-most
 returns-in_err-most g c = record {
   sends = sends_none (g.O.Output.seen c.args.out.now) _ c.from_residual.result (subst (λ f. IsErrAnd c.from_residual.result (λ y. y ≡ f)) c.in_err-most.ensures.err c.from_residual.ensures.1);
 }
+
+pub returns-in_err-found : goal.returns-in_err-found
+returns-in_err-found g c = record {
+  sends = sends_none (g.O.Output.seen c.args.out.now) _ c.from_residual-in_err-found.result (subst (λ f. IsErrAnd c.from_residual-in_err-found.result (λ y. y ≡ f)) c.in_err-found.ensures.err c.from_residual-in_err-found.ensures.1);
+}
+
+pub send_wide-requires-clause-reference : goal.send_wide-requires-clause-reference
+send_wide-requires-clause-reference g c =
+    let items = circuit_items c.args.circuit.now in
+    if-copied (λ r. IsReference (qubits_of items) items r) c.as_ref-reference.result c.in_ok-found.found c.as_ref-reference.ensures.value c.in_ok-found.ensures.reference
 
 pub returns-in_err-send_wide : goal.returns-in_err-send_wide
 returns-in_err-send_wide g c =

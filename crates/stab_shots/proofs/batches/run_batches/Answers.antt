@@ -1,9 +1,16 @@
 use Rattle.std.proofs.Common.{arith, ◌∙◌, ◌+◌, ◌<◌, ap, subst}
 use Rattle.stab_circuit.specs.Views.{circuit_items}
 use Rattle.stab_shots.specs.Seeds.{shot_coins}
+use Rattle.stab_shots.specs.References.{IsReference}
 use Rattle.stab_shots.specs.Shots.{AreRuns}
 use Rattle.stab_shots.proofs.BatchLemmas.{lane-coins}
+use Rattle.stab_shots.proofs.NotedLemmas.{if-copied}
 use Rattle.stab_shots.proofs.batches.run_batches.Goals as goal
+
+pub run_checked_batch-requires-clause-reference : goal.run_checked_batch-requires-clause-reference
+run_checked_batch-requires-clause-reference g c =
+    if-copied (λ r. IsReference c.args.n (circuit_items c.args.circuit.now) r) c.as_ref-reference.result c.in_ok-found.found
+    c.as_ref-reference.ensures.value c.in_ok-found.ensures.reference
 
 pub loop-made-preserved : goal.loop-made-preserved
 loop-made-preserved g c =
@@ -15,7 +22,7 @@ loop-made-preserved g c =
       shots = c.in_ok-push_lanes.ensures.shots c.args.n (shot_coins c.args.seed c.args.first) items so_far.shots
           (λ l less.
           let within : l < g.W.Word.lanes = omega (arith, less, c.min-batch.ensures, c.requires.few) in
-          subst (λ coins. AreRuns g.W.Word.at l c.args.n coins items c.run_checked.new.shots)
+          subst (λ coins. AreRuns g.W.Word.at l c.args.n coins items c.run_checked_batch.new.shots)
           (lane-coins c.args.seed c.args.first c.loop-made.made _ l _ so_far.number (λ t. c.of_seed-coins.ensures.value l t within))
-          (c.in_ok-run_checked.ensures.runs l within));
+          (c.in_ok-run_checked_batch.ensures.runs l within));
     }

@@ -3,7 +3,7 @@ use Rattle.stab_results.specs.declared.format.Format.TheVariants.{F01, B8}
 use Rattle.stab_sampling.specs.Outputs.{of_shots}
 use Rattle.stab_sampling.specs.Sendings.{SendsUnflushed, shown_bytes}
 use Rattle.stab_sampling.proofs.ShotLaws.{bytes_shown}
-use Rattle.stab_sampling.proofs.shots.send_lanes.Goals as goal
+use Rattle.stab_sampling.proofs.lanes.send_lanes.Goals as goal
 
 pub returns-in-F01 : goal.returns-in-F01
 returns-in-F01 g c = record {

@@ -7,7 +7,7 @@ use Rattle.stab_sampling.specs.Outputs.{of_shots}
 use Rattle.stab_sampling.specs.Sendings.{shown_bytes}
 use Rattle.stab_sampling.proofs.SendingLaws.{sends_none, sent_shot, shots_break_off}
 use Rattle.stab_sampling.proofs.ShotLaws.{bytes_shown, cut_off_as, cut_off_here}
-use Rattle.stab_sampling.proofs.shots.write_lanes.Goals as goal
+use Rattle.stab_sampling.proofs.lanes.write_lanes.Goals as goal
 
 pub loop-lane-preserved : goal.loop-lane-preserved
 loop-lane-preserved g c = λ first shown run are.

@@ -6,7 +6,7 @@ use Rattle.stab_shots.specs.Lanes.{lane_bits}
 use Rattle.stab_sampling.specs.declared.shots.Shown.{Shown}
 use Rattle.stab_sampling.specs.Outputs.{of_shots}
 use Rattle.stab_sampling.specs.Sendings.{IsShown, shown_bytes}
-use Rattle.stab_sampling.proofs.shots.write_lanes.Given as goal
+use Rattle.stab_sampling.proofs.lanes.write_lanes.Given as goal
 
 abbrev pub invariant-loop-lane : goal.invariant-loop-lane
 invariant-loop-lane g l =

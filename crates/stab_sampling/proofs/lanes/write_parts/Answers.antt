@@ -6,7 +6,7 @@ use Rattle.stab_sampling.specs.Outputs.{of_shots}
 use Rattle.stab_sampling.specs.Sendings.{shown_bytes}
 use Rattle.stab_sampling.proofs.ShotLaws.{sent_batch, batches_break_off, shown_of_part}
 use Rattle.stab_sampling.proofs.PackingLaws.{written}
-use Rattle.stab_sampling.proofs.shots.write_parts.Goals as goal
+use Rattle.stab_sampling.proofs.lanes.write_parts.Goals as goal
 
 pub loop-sent-preserved : goal.loop-sent-preserved
 loop-sent-preserved g c =

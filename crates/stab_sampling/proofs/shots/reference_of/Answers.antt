@@ -1,0 +1,13 @@
+use Rattle.std.proofs.Common.{subst}
+use Rattle.std.specs.Prelude.{IfOk, IfSome}
+use Rattle.stab_circuit.specs.Views.{circuit_items}
+use Rattle.stab_shots.specs.References.{IsReference}
+use Rattle.stab_sampling.proofs.MemoryLaws.{memory_or_ok}
+use Rattle.stab_sampling.proofs.shots.reference_of.Goals as goal
+
+pub returns-clause-reference : goal.returns-clause-reference
+returns-clause-reference c =
+    subst (λ n. IfOk c.of.result (λ found. IfSome found (λ r. IsReference n (circuit_items c.args.circuit.now) r))) c.qubits.ensures.value c.of.ensures.reference
+
+pub returns-clause-err : goal.returns-clause-err
+returns-clause-err c = memory_or_ok c.of.result c.qubits.result (circuit_items c.args.circuit.now) c.requires.checked c.qubits.ensures.value c.of.ensures.refused

@@ -1,0 +1,50 @@
+use Rattle.std.proofs.Common.{refl, sym, subst, ◌∙◌, ◌∷◌, []}
+use Rattle.stab_circuit.specs.Steps.{measured}
+use Rattle.stab_circuit.specs.Cursors.{step_shown}
+use Rattle.stab_run.specs.ProgramStates.{StepFits}
+use Rattle.stab_steps.proofs.TargetLemmas.{fits-target}
+use Rattle.stab_shots.specs.References.{lane_notes}
+use Rattle.stab_shots.specs.Differences.{lane_difference, Follows}
+use Rattle.stab_shots.proofs.FollowLemmas.{follows-target, follows-targets}
+use Rattle.stab_shots.proofs.noted_steps.pass_targets.Goals as goal
+
+pub pass_step-requires : goal.pass_step-requires
+pass_step-requires g c =
+    let inv = c.loop-target.invariant in
+    let n = c.args.reference.now.strings.qubits in
+    record {
+      string_length = inv.string ∙ c.requires.string_length;
+      all = c.requires.all;
+      counted = inv.counted;
+      frames = inv.frames ∙ c.requires.frames;
+      fits = subst (StepFits n) (sym c.measured_step-step.ensures.value)
+          (fits-target n n (measured c.args.measurement) c.args.targets.now c.loop-target.target-index c.target-item.result
+          refl c.loop-target-test.true c.target-item.is c.requires.fits);
+    }
+
+pub loop-target-preserved : goal.loop-target-preserved
+loop-target-preserved g c =
+    let inv = c.loop-target.invariant in
+    let done = c.in_ok-pass_step.ensures {u = tt} in
+    let reference = c.args.reference.now in
+    record {
+      string = done.string ∙ inv.string;
+      counted = done.counted;
+      frames = done.frames ∙ inv.frames;
+      same_coins = done.same_coins ∙ inv.same_coins;
+      follows = λ j lt.
+          let now = lane_difference g.W.Word.at j c.loop-target.lanes in
+          let then = lane_difference g.W.Word.at j c.pass_step.new.lanes in
+          let notes = lane_notes reference (g.C.LaneCoins.sequences c.args.coins.now j) in
+          follows-target reference.strings.qubits notes (measured c.args.measurement) c.args.targets.now c.loop-target.target-index c.target-item.result
+          (lane_difference g.W.Word.at j c.args.lanes.now) now then
+          c.loop-target-test.true c.target-item.is (inv.follows j lt)
+          (subst (λ x. Follows reference.strings.qubits notes (x ∷ []) now then) c.measured_step-step.ensures.value
+          (subst (λ s. Follows reference.strings.qubits (lane_notes reference (s j)) (step_shown c.measured_step-step.result ∷ []) now then) inv.same_coins (done.follows j lt)));
+    }
+
+pub returns-clause-follows : goal.returns-clause-follows
+returns-clause-follows g c = λ j lt.
+    follows-targets c.args.reference.now.strings.qubits (lane_notes c.args.reference.now (g.C.LaneCoins.sequences c.args.coins.now j)) (measured c.args.measurement) c.args.targets.now c.loop-target.target-index
+    (lane_difference g.W.Word.at j c.args.lanes.now) (lane_difference g.W.Word.at j c.loop-target.lanes)
+    c.loop-target-test.false (c.loop-target.invariant.follows j lt)

@@ -1,0 +1,57 @@
+-- Differences: how a lane differs from a reference, and what steps make of that.
+-- Source: this project's own.
+use Rattle.std.specs.Prelude.{◌≡◌, ℕ, ◌+◌, Bool, false, List, [], ◌∷◌, ◌++◌, length, replicate}
+use Rattle.stab_letters.specs.declared.letter.Letter.{Letter}
+use Rattle.stab_pauli.specs.Paulis.{Signed}
+use Rattle.stab_circuit.specs.Steps.{Step}
+use Rattle.stab_run.specs.Points.{RunOutput, joined, all_coins_of, with_additions}
+use Rattle.stab_run.specs.declared.run.Shot.{Shot}
+use Rattle.stab_frames.specs.Flips.{flipped}
+use Rattle.stab_frames.specs.Frames.{Frame}
+use Rattle.stab_frames.specs.Notes.{Notes}
+use Rattle.stab_frames.specs.FrameSteps.{flips_outcome, letters_measured, frame_over, flips_over}
+use Rattle.stab_shots.specs.declared.lanes.Lanes.{Lanes}
+use Rattle.stab_shots.specs.declared.shots.Shots.{Shots}
+use Rattle.stab_shots.specs.Lanes.{lane_bits, lane_letters, lane_output}
+
+-- the letters of a Pauli string, and which bits of what was given so far are flipped
+pub record Difference : Type 0 where
+  pub letters : List Letter
+  pub flips : RunOutput
+
+-- the difference of a lane, where lanes keep flips in place of bits
+abbrev pub lane_difference : {W : Type 0} → (W → ℕ → Bool) → ℕ → Lanes W → Difference
+lane_difference at l lanes = record { letters = lane_letters at l lanes.frames.letters.items; flips = lane_output at l lanes }
+
+-- as a frame
+abbrev pub frame_of_difference : Difference → Frame
+frame_of_difference d = record { letters = d.letters; flips = d.flips.records }
+
+-- the number of the next coin
+abbrev pub next_coin : Difference → ℕ
+next_coin d = length d.flips.free
+
+-- with these notes a difference went over steps, as frames do
+pub record Follows (n : ℕ) (notes : Notes) (xs : List Step) (old new : Difference) : Type 0 where
+  pub frame : frame_of_difference new ≡ frame_over n notes xs (next_coin old) (frame_of_difference old)
+  pub flips : new.flips ≡ joined old.flips (flips_over n notes xs (next_coin old) (frame_of_difference old))
+  pub coin : next_coin new ≡ next_coin old + all_coins_of xs
+
+-- it went over a measurement, whose outcome is flipped or not
+pub record IsMeasuredBy (notes : Notes) (measured : Signed) (flip : Bool) (old new : Difference) : Type 0 where
+  pub outcome : flip ≡ flips_outcome notes (next_coin old) measured old.letters
+  pub letters : new.letters ≡ letters_measured notes (next_coin old) measured old.letters
+  pub flips : new.flips ≡ record old.flips { free = old.flips.free ++ false ∷ [] }
+
+-- there is a flip for each bit of a shot, of which there are so many observables
+pub record IsAsLong (count : ℕ) (shot : Shot) (flips : RunOutput) : Type 0 where
+  pub records : length flips.records ≡ length shot.records.items
+  pub detectors : length flips.detectors ≡ length shot.detectors.items
+  pub observables : count ≡ length shot.observables.items
+
+-- what lane l gives is what a shot gives, flipped, with so many observables; which outcomes are free is the same
+pub record AreFlipped {W : Type 0} (at : W → ℕ → Bool) (l count : ℕ) (shot : Shot) (flips : RunOutput) (shots : Shots W) : Type 0 where
+  pub records : lane_bits at l shots.records.items ≡ flipped shot.records.items flips.records
+  pub free : shots.free.items ≡ shot.free.items
+  pub detectors : lane_bits at l shots.detectors.items ≡ flipped shot.detectors.items flips.detectors
+  pub observables : lane_bits at l shots.observables.items ≡ flipped shot.observables.items (with_additions flips.additions (replicate count false))
