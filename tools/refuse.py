@@ -56,6 +56,7 @@ RUNS = [
     Run(["sample", "--seed", "7", "--in", str(BELL)]),
     # More than 64 shots are run by lanes.
     Run(["sample", "--shots", "65", "--seed", "7", "--in", str(BELL)]),
+    Run(["sample", "--shots", "1025", "--seed", "7", "--in", str(BELL)]),
     Run(["detect", "--append_observables", "--out_format", "hits", "--in", str(TOP / "examples" / "surface_code.stim")]),
     Run(["stabilisers", "--in", str(TOP / "examples" / "steane_code.stim")]),
     Run(["check", "--in", str(CIRCUIT)]),

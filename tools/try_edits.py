@@ -4,9 +4,10 @@
     tools/try_edits.py
 
 Behind each edit, made or refused, the session shows what one shows that is opened anew on the text that this script keeps by edits
-of its own: with few steps between copies of the state and with many. At least half of the edits are made. A surface code is written
-out, and edited by Pauli gates alone: its instructions are long enough that frames go by outlines of them. It prints how many were
-made, and ends with 1 where something differs. It needs the program: build it by ./stabsim --help.
+of its own: with few steps between copies of the state and with many. At least half of the edits are made. A surface code, written
+out and in a block, is edited by Pauli gates alone: its instructions are long enough that frames go by outlines of them, and within
+the block each gate stands in every round. It prints how many were made, and ends with 1 where something differs. It needs the
+program: build it by ./stabsim --help.
 """
 
 import pathlib
@@ -226,30 +227,51 @@ def try_stride(folder: pathlib.Path, stride: int) -> bool:
     return made >= CIRCUITS * EDITS // 2
 
 
-def pauli_edit(numbers: Numbers, length: int) -> Edit:
-    """A Pauli gate on one qubit or two, put in at a random place of so many items."""
+def code_items(written_out: bool) -> list[Item]:
+    """The items of a surface code, whose blocks have no blocks in them."""
+    items: list[Item] = []
+    block: Item | None = None
+    for line in codes.surface_code(DISTANCE, ROUNDS, written_out=written_out).splitlines():
+        text = line.strip()
+        if text == "}":
+            block = None
+        elif block is not None and text:
+            block.body.append(text)
+        elif text and not text.startswith("#"):
+            items.append(Item((text, [])))
+            block = items[-1] if items[-1].is_block() else None
+    return items
+
+
+def pauli_edit(numbers: Numbers, items: list[Item]) -> Edit:
+    """A Pauli gate on one qubit or two, put in at a random place of items, or of a block's where that is one."""
     targets = [str(numbers.below(CODE_QUBITS)) for _ in range(1 + numbers.below(2))]
-    return Edit("insert", numbers.below(length + 1), None, Item(("XYZ"[numbers.below(3)] + " " + " ".join(targets), [])))
+    item = Item(("XYZ"[numbers.below(3)] + " " + " ".join(targets), []))
+    blocks = [place for place, it in enumerate(items) if it.is_block()]
+    if blocks and numbers.below(3) > 0:
+        place = blocks[numbers.below(len(blocks))]
+        return Edit("insert", place, numbers.below(len(items[place].body) + 1), item)
+    return Edit("insert", numbers.below(len(items) + 1), None, item)
 
 
-def try_code(folder: pathlib.Path, stride: int) -> bool:
+def try_code(folder: pathlib.Path, stride: int, written_out: bool) -> bool:
     """Puts Pauli gates into a surface code, and takes each third one out again; whether each session shows what it has to."""
     numbers = Numbers(stride)
-    lines = codes.surface_code(DISTANCE, ROUNDS, written_out=True).splitlines()
-    items = [Item((line, [])) for line in lines if line and not line.startswith("#")]
+    items = code_items(written_out)
+    form = "written out" if written_out else "in a block"
     session = Session(folder / "edited.stim", items, stride, CODE_QUBITS)
     for number in range(CODE_EDITS):
-        edit = pauli_edit(numbers, len(items))
-        edits = [edit, Edit("delete", edit.place, None, edit.item)] if number % 3 == 0 else [edit]
+        edit = pauli_edit(numbers, items)
+        edits = [edit, Edit("delete", edit.place, edit.within, edit.item)] if number % 3 == 0 else [edit]
         for each in edits:
             was_made, shown = edit_both(session, items, each)
             if not was_made or shown != shown_anew(folder, items, stride, CODE_QUBITS):
-                print(f"the code, stride {stride}, edit {number}, {each.text()!r}: shows something else", file=sys.stderr)
+                print(f"the code {form}, stride {stride}, edit {number}, {each.text()!r}: shows something else", file=sys.stderr)
                 return False
     if session.close() != 0:
-        print(f"the code, stride {stride}: its session did not end with 0", file=sys.stderr)
+        print(f"the code {form}, stride {stride}: its session did not end with 0", file=sys.stderr)
         return False
-    print(f"stride {stride}: a surface code of distance {DISTANCE} shows behind each Pauli gate what one opened anew does")
+    print(f"stride {stride}: a surface code of distance {DISTANCE}, {form}, shows behind each Pauli gate what one opened anew does")
     return True
 
 
@@ -258,7 +280,7 @@ def main() -> int:
     with tempfile.TemporaryDirectory() as name:
         folder = pathlib.Path(name)
         right = [try_stride(folder, stride) for stride in STRIDES]
-        right += [try_code(folder, stride) for stride in CODE_STRIDES]
+        right += [try_code(folder, stride, written_out) for stride in CODE_STRIDES for written_out in (True, False)]
     return 0 if all(right) else 1
 
 

@@ -94,7 +94,7 @@ def apart(written, form, number):
 def shots_by_themselves(random, run):
     """Shots of a seed that are asked for together, against some of the same that are asked for one by one."""
     _, text, _ = large_circuit(random)
-    number = random.choice([2, 3, 63, 64, 65, random.randint(127, 129), random.randint(255, 257), random.randint(319, 321), random.randint(383, 385), random.randint(447, 449), random.randint(511, 513), random.randint(1023, 1025), random.randint(1279, 1281)])
+    number = random.choice([2, 3, 63, 64, 65, random.randint(127, 129), random.randint(255, 257), random.randint(319, 321), random.randint(383, 385), random.randint(447, 449), random.randint(511, 513), random.randint(1023, 1025), random.randint(1279, 1281), random.randint(2047, 2049)])
     first = random.choice([0, 1, 63, 2**40, 2**64 - number])
     command = random.choice([["sample"], ["detect", "--append_observables"]])
     form = random.choice(["01", "b8", "hits", "dets"])
@@ -103,7 +103,7 @@ def shots_by_themselves(random, run):
     shots = apart(written, form, number)
     if (status, told, len(shots), b"".join(shots)) != (0, b"", number, written):
         return f"{command[0]} ended with status {status}, wrote {len(shots)} shots of {number} in {form} and told {told!r}\n{text!r}"
-    chosen = {0, 1, *range(62, 66), *range(254, 258), *range(382, 386), *range(446, 450), *range(510, 514), *range(1022, 1026), number - 1, *(random.randrange(number) for _ in range(3))}
+    chosen = {0, 1, *range(62, 66), *range(254, 258), *range(382, 386), *range(446, 450), *range(510, 514), *range(1022, 1026), *range(2046, 2050), number - 1, *(random.randrange(number) for _ in range(3))}
     for shot in sorted(shot for shot in chosen if shot < number):
         alone = run([*words, "--first_shot", str(first + shot)], text)
         if alone != (0, shots[shot], b""):

@@ -16,7 +16,7 @@ enum Call {
 }
 
 /// The path of these numbers, which are 1 to 17; else that of the first item.
-fn path_of(numbers: &[usize]) -> Path {
+pub(crate) fn path_of(numbers: &[usize]) -> Path {
     if numbers.is_empty() || numbers.len() > 17 {
         Path::new(&[0])
     } else {

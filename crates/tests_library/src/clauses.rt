@@ -3,7 +3,7 @@
 //! They are proved, and never run: where a clause came to say less than it does, the proof of its
 //! caller here would fail.
 
-ghost use Rattle.std.specs.Prelude.{◌≡◌, ℕ, ◌+◌, ◌<◌, ◌≤◌, [], length, take, min, slice_get, Some, None, Ok, true, IfOk, IfErr, OnOk};
+ghost use Rattle.std.specs.Prelude.{◌≡◌, ℕ, ◌+◌, ◌<◌, ◌≤◌, [], length, take, min, slice_get, nat_le, is_some, Some, None, Ok, true, IfOk, IfSome, IfErr, OnOk};
 ghost use Rattle.stab_letters.specs.Letters.{letter_phase};
 ghost use Rattle.stab_pauli.specs.Paulis.{commute};
 ghost use Rattle.stab_io.specs.MemoryDevices.{GivesWhatFits, GivesAPiece, TakesWhatFits, FlushesAsSet};
@@ -18,10 +18,12 @@ ghost use Rattle.stab_circuit.specs.Steps.{unroll, records_of, steps_cap, check_
 ghost use Rattle.stab_circuit.specs.StepPaths.{item_steps_left};
 ghost use Rattle.stab_circuit.specs.Views.{circuit_items};
 ghost use Rattle.stab_run.specs.Limits.{most_stride};
+ghost use Rattle.stab_run.specs.Records.{ones};
 ghost use Rattle.stab_run.specs.Runs.{run_of};
 ghost use Rattle.stab_io.specs.Refusals.{Refuses};
 ghost use Rattle.stab_shots.specs.Seeds.{shot_coins};
 ghost use Rattle.stab_shots.specs.Shots.{AreShots};
+ghost use Rattle.stab_shots.specs.References.{zero_coins, most_noted, IsReference};
 ghost use Rattle.stab_session.specs.Sessions.{IsSignIn};
 ghost use Rattle.stab_session.specs.Bounds.{steps_from_change, steps_near_change, steps_changed, AgreeBehind, IsCountOf};
 
@@ -31,7 +33,7 @@ use stab_pauli::{
     Refusal,
 };
 use stab_session::{Coins, Edit, OpenRefused, Report, Session, Shot, run_once};
-use stab_shots::run_shots;
+use stab_shots::{Reference, run_shots};
 use stab_tableau::Tableau;
 use std::alloc::Global;
 
@@ -187,6 +189,20 @@ fn runs_at_once(
     ensures refused { Refuses result (check_within n (circuit_items circuit.now)) }
 {
     run_shots(alloc, circuit, n, seed, first, number)
+}
+
+/// A reference is the run with all coins 0, and there is one just where no more outcomes are free than may be noted.
+fn noted_reference(
+    alloc: Global,
+    circuit: &Circuit,
+    n: usize,
+) -> Result<Option<Reference>, stab_pauli::Fault>
+    requires in_range { n ≤ most_qubits }
+    ensures reference { IfOk result (λ found. IfSome found (λ r. IsReference n (circuit_items circuit.now) r)) }
+    ensures kept { IfOk result (λ found. is_some found ≡ nat_le (ones (run_of n zero_coins (circuit_items circuit.now)).free) (most_noted n)) }
+    ensures refused { Refuses result (check_within n (circuit_items circuit.now)) }
+{
+    Reference::of(alloc, circuit, n)
 }
 
 /// A refused opening gives the circuit back.

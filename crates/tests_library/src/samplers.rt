@@ -110,6 +110,63 @@ fn shots_at_once_are_runs_of_their_own(rt: HostRuntime) -> Result<(), Fail> {
     Ok(())
 }
 
+/// Circuits on four qubits whose shots make more than one batch: one with entangled qubits, of which each basis is measured and
+/// reset, products of four letters, feedback by all letters, and the same in blocks; one with nothing free; and one whose
+/// outcomes are free in turn.
+const BATCHED: [&str; 3] = [
+    "H 0 2
+CX 0 1 2 3
+S 1
+REPEAT 4 {
+    SQRT_X 0
+    CY 1 2
+    MRX 0 !2
+    RY 1
+    CZ rec[-1] 3 rec[-2] 0
+    CY rec[-2] 2
+    MPP X0*Y1*!Z2*X3 Z0*Z1 !Y2
+    REPEAT 3 {
+        H 1 3
+        MY 1 !3
+        DETECTOR rec[-1] rec[-4]
+        RX 3
+        CX rec[-1] 0
+    }
+    DETECTOR rec[-2] rec[-5] rec[-9]
+    DETECTOR
+    OBSERVABLE_INCLUDE(2) rec[-3]
+    SWAP 0 3
+}
+M 0 1 2 3
+OBSERVABLE_INCLUDE(0) rec[-1] rec[-6]
+",
+    "X 0 3
+CX 0 1
+M 0 !1 2 3
+DETECTOR rec[-1] rec[-4]
+OBSERVABLE_INCLUDE(1) rec[-2]
+",
+    "REPEAT 50 {
+    H 0 1 2 3
+    M 0 0 1 2 3
+    MR 2
+    CX rec[-1] 3
+}
+DETECTOR rec[-1] rec[-200]
+",
+];
+
+#[test]
+fn shots_of_many_batches_are_runs_of_their_own(rt: HostRuntime) -> Result<(), Fail> {
+    let mut same = true;
+    for text in BATCHED {
+        let circuit = read(rt.alloc(), text)?;
+        same &= agree_at_once(rt.alloc(), &circuit, 3, 600)?;
+    }
+    assert!(rt; same);
+    Ok(())
+}
+
 /// What refuses a run on one qubit, shots, and shots at once, where something does.
 fn refusals(alloc: Global, text: &str) -> Result<[Option<Fault>; 3], Fault> {
     let circuit = read(alloc, text)?;

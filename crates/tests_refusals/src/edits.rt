@@ -12,12 +12,14 @@ use std::alloc::Global;
 use std::io;
 
 /// An edit of the nested circuit, in its outermost list, or at a path of three numbers; or of the circuit
-/// with a Pauli gate, in whose stead there is another, or one that does the same to that state.
+/// with a Pauli gate, in whose stead there is another, or one that does the same to that state; or of Pauli gates
+/// that are put in at such a path.
 #[derive(Clone, Copy)]
 enum NestedEdit {
     Insert,
     InsertBlock,
     InsertNested,
+    InsertPauliNested,
     Replace,
     ReplaceNested,
     ReplacePauli,
@@ -38,9 +40,10 @@ impl NestedEdit {
     /// Where it is made.
     fn path(self) -> Path {
         match self {
-            NestedEdit::InsertNested | NestedEdit::ReplaceNested | NestedEdit::DeleteNested => {
-                Path::new(&[2, 1, 1])
-            }
+            NestedEdit::InsertNested
+            | NestedEdit::InsertPauliNested
+            | NestedEdit::ReplaceNested
+            | NestedEdit::DeleteNested => Path::new(&[2, 1, 1]),
             _ => Path::new(&[1]),
         }
     }
@@ -51,6 +54,7 @@ impl NestedEdit {
             NestedEdit::Insert => b"MX 1",
             NestedEdit::InsertBlock => b"REPEAT 2 {\nH 0\nM 0 1\n}",
             NestedEdit::InsertNested => b"MPP Y0*Y1",
+            NestedEdit::InsertPauliNested => b"X 0 2",
             NestedEdit::Replace => b"CZ 0 1",
             NestedEdit::ReplaceNested => b"MRX 0 1 2",
             NestedEdit::ReplacePauli => b"Z 2",
@@ -92,12 +96,13 @@ impl Applied {
     fn edit(&mut self) -> Result<Edit, Stop> {
         let place = self.change.path();
         match self.change {
-            NestedEdit::Insert | NestedEdit::InsertBlock | NestedEdit::InsertNested => Ok(
-                Edit::Insert {
-                    place,
-                    item: self.item.take()?,
-                },
-            ),
+            NestedEdit::Insert
+            | NestedEdit::InsertBlock
+            | NestedEdit::InsertNested
+            | NestedEdit::InsertPauliNested => Ok(Edit::Insert {
+                place,
+                item: self.item.take()?,
+            }),
             NestedEdit::Replace
             | NestedEdit::ReplaceNested
             | NestedEdit::ReplacePauli
@@ -162,6 +167,10 @@ pub fn print_all<R: AllocGlobal + Print>(rt: &R) -> io::Result<()> {
         (
             "Session::apply, insertion in blocks",
             NestedEdit::InsertNested,
+        ),
+        (
+            "Session::apply, Paulis in blocks",
+            NestedEdit::InsertPauliNested,
         ),
         ("Session::apply, replacement", NestedEdit::Replace),
         (
