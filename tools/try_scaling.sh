@@ -89,8 +89,18 @@ for command in sample detect 'detect --append_observables'; do
 done
 echo "try_scaling: parts of 1, 63, 64, 65 and 1000 shots are the whole, in each format"
 
+# A circuit whose shots take long, and are some bytes each: coins decide its resets, which make no record.
+slow="$work/slow.stim"
+cat >"$slow" <<'END'
+REPEAT 30000 {
+    RX 0
+    R 0
+}
+M 0 0 0 0 0 0 0 0 0 0 0 0 0 0 0 0 0 0 0 0 0 0 0 0 0 0 0 0 0 0 0 0
+END
+
 # The program as the scripts are given it. It notes each first shot; a part that is to be killed (a file in `killed` has
-# the name of its first shot) writes shots without end, so that it is killed while it writes.
+# the name of its first shot) writes slow shots, which take minutes, so that it is killed while it writes.
 mkdir "$work/killed" "$work/begun"
 STABSIM="$work/the program"
 export STABSIM
@@ -105,7 +115,7 @@ if [ -n "\${first:-}" ]; then
     if [ -e "$work/killed/\$first" ]; then
         echo \$\$ >"$work/killed/\$first.making"
         mv "$work/killed/\$first.making" "$work/killed/\$first.number"
-        exec "$PROGRAM" sample --shots 1000000
+        exec "$PROGRAM" sample --shots 1000000 --in "$slow"
     fi
 fi
 exec "$PROGRAM" "\$@"
