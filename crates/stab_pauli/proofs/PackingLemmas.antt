@@ -1,11 +1,11 @@
--- Words that are kept in the first places of two lists: what a word more leaves, a gap that is cut, and a block.
-use Rattle.std.proofs.Common.{◌≡◌, ℕ, suc, ◌+◌, ◌*◌, ◌<◌, ◌≤◌, refl, sym, ◌∙◌, ap, arith, append_assoc, zero-add, List, [], ◌∷◌, ◌++◌, length, min, get_or, set, take, drop, replicate}
+-- Words of which those that are 0 are left out: what a word more leaves, a gap that is cut, and a block.
+use Rattle.std.proofs.Common.{◌≡◌, ℕ, suc, ◌+◌, ◌*◌, ◌<◌, ◌≤◌, refl, sym, ◌∙◌, ap, arith, append_assoc, length-append, zero-add, List, [], ◌∷◌, ◌++◌, length, get_or, take, drop, replicate}
 use Rattle.std.proofs.Math.Seq.{take-add}
-use Rattle.std.proofs.lemmas.List.{length-replicate, length-set, length-take, take_more, take_more_set, take-set, take_all}
+use Rattle.std.proofs.lemmas.List.{length-replicate, take_more, take_all}
 use Rattle.std.proofs.lemmas.Grind.{replicate_next}
 use Rattle.std.proofs.lemmas.Nat.{le_or_l, le_or_r}
 use Rattle.std.specs.Prelude.{bit_or}
-use Rattle.stab_pauli.specs.inner.Sparse.{spread, IsPacking}
+use Rattle.stab_pauli.specs.inner.Sparse.{spread, IsSparse}
 use Rattle.stab_pauli.proofs.SparseLemmas.{spread-zeros, spread-kept, length-from}
 
 -- a block of words 0
@@ -39,68 +39,46 @@ blank_block xs size none =
     let z = bit_or (bit_or (get_or xs 4 0) (get_or xs 5 0)) (bit_or (get_or xs 6 0) (get_or xs 7 0)) in
     sym (take_all 8 xs (omega (arith, size))) ∙ blank_four xs 4 8 (omega (arith, size)) refl (none_right x z none) (blank_four xs 0 4 (omega (arith, size)) refl (none_left x z none) refl)
 
--- behind the first places of two lists
+-- behind words
 
-even_take : (gs ks : List ℕ) (n : ℕ) → length gs ≡ length ks → length (take n gs) ≡ length (take n ks)
-even_take gs ks n e = length-take n gs ∙ ap (min n) e ∙ sym (length-take n ks)
-
-even_set : (gs ks : List ℕ) (n g w : ℕ) → length gs ≡ length ks → length (set gs n g) ≡ length (set ks n w)
-even_set gs ks n g w e = length-set gs n g ∙ e ∙ sym (length-set ks n w)
+even_more : (gs ks new_gs new_ks : List ℕ) (g w : ℕ) → length gs ≡ length ks → new_gs ≡ gs ++ g ∷ [] → new_ks ≡ ks ++ w ∷ [] → length new_gs ≡ length new_ks
+even_more gs ks new_gs new_ks g w e eg ek = ap length eg ∙ length-append gs (g ∷ []) ∙ ap (λ n. n + 1) e ∙ sym (length-append ks (w ∷ [])) ∙ ap length (sym ek)
 
 -- a word that is kept
-pub packing-kept : (gs ks : List ℕ) (n b w : ℕ) → length gs ≡ length ks → n < length ks
-    → IsPacking (set gs n b) (set ks n w) (n + 1) 0 (spread (take n gs) (take n ks) b ++ w ∷ [])
-packing-kept gs ks n b w e lt = record {
-  even = even_set gs ks n b w e;
-  room = omega (arith, length-set ks n w, lt);
-  words_are =
-      (λ i. spread (take_more_set gs n b (omega (arith, e, lt)) i) (take_more_set ks n w lt i) 0)
-      ∙ spread-kept (take n gs) (take n ks) b w (even_take gs ks n e);
-}
-
--- a word 0, that is not kept
-pub packing-zero : (gs ks : List ℕ) (n b w : ℕ) → length gs ≡ length ks → n < length ks → w ≡ 0
-    → IsPacking (set gs n b) (set ks n w) n (b + 1) (spread (take n gs) (take n ks) b ++ w ∷ [])
-packing-zero gs ks n b w e lt none = record {
-  even = even_set gs ks n b w e;
-  room = omega (arith, length-set ks n w, lt);
-  words_are =
-      (λ i. spread (take-set gs n b i) (take-set ks n w i) (b + 1))
-      ∙ sym (spread-zeros (take n gs) (take n ks) b 1)
-      ∙ ap (λ x. spread (take n gs) (take n ks) b ++ x ∷ []) (sym none);
+pub sparse-kept : (gs ks new_gs new_ks : List ℕ) (b w : ℕ) → length gs ≡ length ks → new_gs ≡ gs ++ b ∷ [] → new_ks ≡ ks ++ w ∷ []
+    → IsSparse new_gs new_ks 0 (spread gs ks b ++ w ∷ [])
+sparse-kept gs ks new_gs new_ks b w e eg ek = record {
+  even = even_more gs ks new_gs new_ks b w e eg ek;
+  words_are = (λ i. spread (eg i) (ek i) 0) ∙ spread-kept gs ks b w e;
 }
 
 -- a word 0, that is kept, of those that stand behind
-pub packing-cut : (gs ks : List ℕ) (n b g m : ℕ) (words : List ℕ) → n < length ks → b ≡ g + suc m → IsPacking gs ks n b words
-    → IsPacking (set gs n g) (set ks n 0) (n + 1) m words
-packing-cut gs ks n b g m words lt split is = record {
-  even = even_set gs ks n g 0 is.even;
-  room = omega (arith, length-set ks n 0, lt);
+pub sparse-cut : (gs ks new_gs new_ks : List ℕ) (b g m : ℕ) → length gs ≡ length ks → new_gs ≡ gs ++ g ∷ [] → new_ks ≡ ks ++ 0 ∷ [] → b ≡ g + suc m
+    → IsSparse new_gs new_ks m (spread gs ks b)
+sparse-cut gs ks new_gs new_ks b g m e eg ek split = record {
+  even = even_more gs ks new_gs new_ks g 0 e eg ek;
   words_are =
-      (λ i. spread (take_more_set gs n g (omega (arith, is.even, lt)) i) (take_more_set ks n 0 lt i) (sym (zero-add m) i))
-      ∙ sym (spread-zeros (take n gs ++ g ∷ []) (take n ks ++ 0 ∷ []) 0 m)
-      ∙ ap (λ t. t ++ replicate m 0) (spread-kept (take n gs) (take n ks) g 0 (even_take gs ks n is.even))
-      ∙ append_assoc (spread (take n gs) (take n ks) g) (0 ∷ []) (replicate m 0)
-      ∙ spread-zeros (take n gs) (take n ks) g (suc m)
-      ∙ ap (spread (take n gs) (take n ks)) (sym split)
-      ∙ is.words_are;
+      (λ i. spread (eg i) (ek i) (sym (zero-add m) i))
+      ∙ sym (spread-zeros (gs ++ g ∷ []) (ks ++ 0 ∷ []) 0 m)
+      ∙ ap (λ t. t ++ replicate m 0) (spread-kept gs ks g 0 e)
+      ∙ append_assoc (spread gs ks g) (0 ∷ []) (replicate m 0)
+      ∙ spread-zeros gs ks g (suc m)
+      ∙ ap (spread gs ks) (sym split);
 }
 
 -- words 0, that are not kept
-pub packing-blank : (gs ks : List ℕ) (n b m : ℕ) (block : List ℕ) → length gs ≡ length ks → n ≤ length ks → block ≡ replicate m 0
-    → IsPacking gs ks n (b + m) (spread (take n gs) (take n ks) b ++ block)
-packing-blank gs ks n b m block e le none = record {
+pub sparse-blank : (gs ks : List ℕ) (b m : ℕ) (block : List ℕ) → length gs ≡ length ks → block ≡ replicate m 0
+    → IsSparse gs ks (b + m) (spread gs ks b ++ block)
+sparse-blank gs ks b m block e none = record {
   even = e;
-  room = le;
-  words_are = sym (spread-zeros (take n gs) (take n ks) b m) ∙ ap (λ t. spread (take n gs) (take n ks) b ++ t) (sym none);
+  words_are = sym (spread-zeros gs ks b m) ∙ ap (λ t. spread gs ks b ++ t) (sym none);
 }
 
 -- more words behind some
-pub packing-behind : (gs ks new_gs new_ks : List ℕ) (n b m d : ℕ) (words more all : List ℕ) → words ++ more ≡ all → IsPacking gs ks n b words
-    → IsPacking new_gs new_ks m d (spread (take n gs) (take n ks) b ++ more) → IsPacking new_gs new_ks m d all
-packing-behind gs ks new_gs new_ks n b m d words more all whole is new = record {
+pub sparse-behind : (gs ks new_gs new_ks : List ℕ) (b d : ℕ) (words more all : List ℕ) → words ++ more ≡ all → IsSparse gs ks b words
+    → IsSparse new_gs new_ks d (spread gs ks b ++ more) → IsSparse new_gs new_ks d all
+sparse-behind gs ks new_gs new_ks b d words more all whole is new = record {
   even = new.even;
-  room = new.room;
   words_are = new.words_are ∙ ap (λ t. t ++ more) is.words_are ∙ whole;
 }
 
@@ -114,5 +92,5 @@ spread-behind [] ks b = omega (arith, length-replicate {A = ℕ} b 0)
 spread-behind (g ∷ gs) [] b = omega (arith, length-replicate {A = ℕ} b 0)
 spread-behind (g ∷ gs) (w ∷ ks) b = omega (arith, length-from g w (spread gs ks b), spread-behind gs ks b)
 
-pub packing-few : (gs ks : List ℕ) (n b : ℕ) (words : List ℕ) → IsPacking gs ks n b words → b ≤ length words
-packing-few gs ks n b words is = omega (arith, spread-behind (take n gs) (take n ks) b, ap length is.words_are)
+pub sparse-few : (gs ks : List ℕ) (b : ℕ) (words : List ℕ) → IsSparse gs ks b words → b ≤ length words
+sparse-few gs ks b words is = omega (arith, spread-behind gs ks b, ap length is.words_are)

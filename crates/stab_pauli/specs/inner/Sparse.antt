@@ -1,6 +1,6 @@
 -- Words of which most are 0.
 -- Source: this project's own.
-use Rattle.std.specs.Prelude.{ℕ, ◌≡◌, List, [], ◌∷◌, ◌++◌, ◌≤◌, length, take, replicate}
+use Rattle.std.specs.Prelude.{ℕ, ◌≡◌, List, [], ◌∷◌, ◌++◌, length, replicate}
 use Rattle.stab_letters.specs.declared.phase.Phase.{Phase}
 use Rattle.stab_pauli.specs.inner.Blocks.{IsTable}
 
@@ -14,12 +14,6 @@ spread (gap ∷ gaps) (word ∷ kept) behind = replicate gap 0 ++ word ∷ sprea
 pub record IsSparse (gaps kept : List ℕ) (behind : ℕ) (words : List ℕ) : Type 0 where
   pub even : length gaps ≡ length kept
   pub words_are : spread gaps kept behind ≡ words
-
--- what is kept of words in the first places of two lists
-pub record IsPacking (gaps kept : List ℕ) (len behind : ℕ) (words : List ℕ) : Type 0 where
-  pub even : length gaps ≡ length kept
-  pub room : len ≤ length kept
-  pub words_are : spread (take len gaps) (take len kept) behind ≡ words
 
 -- what is kept of so many words, with powers of i, that lie as rows of m blocks, for n letters each
 pub record IsCompact (n m : ℕ) (gaps kept : List ℕ) (behind size : ℕ) (powers : List Phase) : Type 0 where

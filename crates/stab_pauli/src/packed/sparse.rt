@@ -2,7 +2,7 @@
 
 ghost use Rattle.std.specs.Prelude.{◌≡◌, ◌+◌, ◌++◌, [], ◌∷◌, ◌*◌, ◌↔◌, IsTrue, IfOk, OnOk, length, take, replicate, slice_index_or, ◌<◌, ◌≤◌, ◌^◌};
 ghost use Rattle.stab_pauli.specs.inner.Words.{AreShort};
-ghost use Rattle.stab_pauli.specs.inner.Sparse.{spread, IsSparse, IsPacking};
+ghost use Rattle.stab_pauli.specs.inner.Sparse.{spread, IsSparse};
 
 use std::alloc::{AllocError, Global};
 
@@ -21,15 +21,6 @@ pub(crate) fn are_short(words: &[u64])
     ensures law { AreShort 64 words.now }
 {
     let _ = words;
-}
-
-/// How many of these words are not 0.
-fn count_of(words: &[u64]) -> usize {
-    let mut count = 0usize;
-    for word in words {
-        count = count.wrapping_add(usize::from(*word != 0));
-    }
-    count
 }
 
 /// Whether all of these words are 0.
@@ -63,173 +54,118 @@ fn is_blank(block: &[u64]) -> bool
     x | z == 0
 }
 
-/// Where the next word is to be kept, and how many words 0 stand before it.
-#[derive(Clone, Copy, Drop)]
-struct Place {
-    len: usize,
-    behind: usize,
-}
-
-/// Puts a word behind those that stand before the place. It is written at the place in any case, and the place moves on
-/// where it is not 0: a branch on that no processor could guess.
-#[inline(always)]
-fn put(gaps: &mut [u8], kept: &mut [u64], place: Place, word: u64) -> Place
-    requires even { length gaps.old ≡ length kept.old }
-    requires room { place.len < length kept.old }
-    requires fits { place.behind ≤ 255 }
-    ensures size { length kept.new ≡ length kept.old }
-    ensures near { (result.len ≤ place.len + 1) × (result.behind ≤ place.behind + 1) }
-    ensures value { IsPacking gaps.new kept.new result.len result.behind (spread (take place.len gaps.old) (take place.len kept.old) place.behind ++ word ∷ []) }
-{
-    kept[place.len] = word;
-    gaps[place.len] = place.behind as u8;
-    let keep = word != 0;
-    Place {
-        len: place.len + usize::from(keep),
-        behind: if keep { 0 } else { place.behind + 1 },
-    }
-}
-
-/// Puts the eight words of a block behind those that stand before the place.
-#[inline(always)]
-fn put_block(gaps: &mut [u8], kept: &mut [u64], start: Place, block: &[u64]) -> Place
-    requires even { length gaps.old ≡ length kept.old }
-    requires room { start.len + 8 ≤ length kept.old }
-    requires fits { start.behind ≤ 247 }
-    requires size { length block.now ≡ 8 }
-    ensures size { length kept.new ≡ length kept.old }
-    ensures value { IsPacking gaps.new kept.new result.len result.behind (spread (take start.len gaps.old) (take start.len kept.old) start.behind ++ block.now) }
-{
-    let mut place = start;
-    for k in 0..8 {
-        place = put(gaps, kept, place, block[k]);
-    }
-    place
-}
-
-/// Lists in whose first places words are kept, with room for others.
-#[derive(Drop)]
-struct Room {
-    gaps: Vec<u8>,
-    kept: Vec<u64>,
-}
-
-impl Room {
-    /// Room for so many words.
-    fn new(alloc: Global, size: usize) -> Result<Room, AllocError>
-        ensures value { IfOk result (λ r. length r.gaps.items ≡ length r.kept.items) }
+impl SparseWords {
+    /// No words, with room for so many that are kept.
+    fn with_room(alloc: Global, size: usize) -> Result<SparseWords, AllocError>
+        ensures value { IfOk result (λ s. IsSparse s.gaps.items s.kept.items s.behind []) }
     {
-        Ok(Room {
-            gaps: vec![in alloc; 0; size]?,
-            kept: vec![in alloc; 0; size]?,
+        Ok(SparseWords {
+            gaps: Vec::with_capacity(alloc, size)?,
+            kept: Vec::with_capacity(alloc, size)?,
+            behind: 0,
         })
     }
 
-    /// Makes room for a block behind the place.
+    /// Keeps a word behind so many words 0, whatever stands behind the last that is kept.
     #[inline(always)]
-    fn make_room(&mut self, place: Place) -> Result<(), AllocError>
-        requires even { length self.old.gaps.items ≡ length self.old.kept.items }
-        requires room { place.len ≤ length self.old.kept.items }
-        ensures room { OnOk result (place.len + 8 ≤ length self.new.kept.items) }
-        ensures value { OnOk result (IsPacking self.new.gaps.items self.new.kept.items place.len place.behind (spread (take place.len self.old.gaps.items) (take place.len self.old.kept.items) place.behind)) }
+    fn keep(&mut self, gap: usize, word: u64) -> Result<(), AllocError>
+        requires fits { gap ≤ 255 }
+        ensures gaps { OnOk result (self.new.gaps.items ≡ self.old.gaps.items ++ gap ∷ []) }
+        ensures kept { OnOk result (self.new.kept.items ≡ self.old.kept.items ++ word ∷ []) }
+        ensures behind { self.new.behind ≡ self.old.behind }
     {
-        if self.kept.len() - place.len < 8 {
-            let size = self.kept.len().saturating_add(8);
-            self.gaps.resize(size, 0)?;
-            self.kept.resize(size, 0)?;
+        self.gaps.push(gap as u8)?;
+        self.kept.push(word)?;
+        Ok(())
+    }
+
+    /// Puts a word behind these.
+    #[inline(always)]
+    fn push(&mut self, word: u64) -> Result<(), AllocError>
+        requires even { length self.old.gaps.items ≡ length self.old.kept.items }
+        requires fits { self.old.behind ≤ 255 }
+        ensures near { OnOk result (self.new.behind ≤ self.old.behind + 1) }
+        ensures value { OnOk result (IsSparse self.new.gaps.items self.new.kept.items self.new.behind (spread self.old.gaps.items self.old.kept.items self.old.behind ++ word ∷ [])) }
+    {
+        if word == 0 {
+            self.behind += 1;
+            return Ok(());
+        }
+        self.keep(self.behind, word)?;
+        self.behind = 0;
+        Ok(())
+    }
+
+    /// Cuts the gap behind the last word that is kept: keeps a word 0, behind as many others as fit a byte.
+    fn cut_gap(&mut self) -> Result<(), AllocError>
+        requires even { length self.old.gaps.items ≡ length self.old.kept.items }
+        requires many { 0 < self.old.behind }
+        ensures fewer { OnOk result (self.new.behind < self.old.behind) }
+        ensures value { OnOk result (IsSparse self.new.gaps.items self.new.kept.items self.new.behind (spread self.old.gaps.items self.old.kept.items self.old.behind)) }
+    {
+        let gap = (self.behind - 1).min(255);
+        self.keep(gap, 0)?;
+        self.behind = self.behind - gap - 1;
+        Ok(())
+    }
+
+    /// Cuts that gap until what a block may add to it fits a byte.
+    #[inline(always)]
+    fn cut_gaps(&mut self) -> Result<(), AllocError>
+        requires even { length self.old.gaps.items ≡ length self.old.kept.items }
+        ensures fits { OnOk result (self.new.behind ≤ 247) }
+        ensures value { OnOk result (IsSparse self.new.gaps.items self.new.kept.items self.new.behind (spread self.old.gaps.items self.old.kept.items self.old.behind)) }
+    {
+        while self.behind > 247 {
+            self.cut_gap()?;
         }
         Ok(())
     }
 
-    /// Cuts a gap: keeps a word 0, behind as many others as fit a byte.
-    fn cut_gap(&mut self, place: Place) -> Result<Place, AllocError>
-        requires even { length self.old.gaps.items ≡ length self.old.kept.items }
-        requires room { place.len ≤ length self.old.kept.items }
-        requires many { 0 < place.behind }
-        ensures fewer { IfOk result (λ p. p.behind < place.behind) }
-        ensures value { IfOk result (λ p. IsPacking self.new.gaps.items self.new.kept.items p.len p.behind (spread (take place.len self.old.gaps.items) (take place.len self.old.kept.items) place.behind)) }
-    {
-        self.make_room(place)?;
-        let gap = (place.behind - 1).min(255);
-        self.gaps[place.len] = gap as u8;
-        self.kept[place.len] = 0;
-        Ok(Place {
-            len: place.len + 1,
-            behind: place.behind - gap - 1,
-        })
-    }
-
-    /// Cuts a gap until those within the block that is put next fit a byte.
+    /// Puts the eight words of a block behind these.
     #[inline(always)]
-    fn cut_gaps(&mut self, start: Place) -> Result<Place, AllocError>
+    fn push_words(&mut self, block: &[u64]) -> Result<(), AllocError>
         requires even { length self.old.gaps.items ≡ length self.old.kept.items }
-        requires room { start.len ≤ length self.old.kept.items }
-        ensures fits { IfOk result (λ p. p.behind ≤ 247) }
-        ensures value { IfOk result (λ p. IsPacking self.new.gaps.items self.new.kept.items p.len p.behind (spread (take start.len self.old.gaps.items) (take start.len self.old.kept.items) start.behind)) }
-    {
-        let mut place = start;
-        while place.behind > 247 {
-            place = self.cut_gap(place)?;
-        }
-        Ok(place)
-    }
-
-    /// Puts the eight words of a block behind those that stand before the place.
-    #[inline(always)]
-    fn push_block(&mut self, start: Place, block: &[u64]) -> Result<Place, AllocError>
-        requires even { length self.old.gaps.items ≡ length self.old.kept.items }
-        requires room { start.len ≤ length self.old.kept.items }
-        requires fits { start.behind + 8 < 2 ^ 64 }
+        requires fits { self.old.behind ≤ 247 }
         requires size { length block.now ≡ 8 }
-        ensures value { IfOk result (λ p. IsPacking self.new.gaps.items self.new.kept.items p.len p.behind (spread (take start.len self.old.gaps.items) (take start.len self.old.kept.items) start.behind ++ block.now)) }
+        ensures value { OnOk result (IsSparse self.new.gaps.items self.new.kept.items self.new.behind (spread self.old.gaps.items self.old.kept.items self.old.behind ++ block.now)) }
+    {
+        for k in 0..8 {
+            self.push(block[k])?;
+        }
+        Ok(())
+    }
+
+    /// Puts a block behind these, that is blank or not.
+    #[inline(always)]
+    fn push_block(&mut self, block: &[u64]) -> Result<(), AllocError>
+        requires even { length self.old.gaps.items ≡ length self.old.kept.items }
+        requires fits { self.old.behind + 8 < 2 ^ 64 }
+        requires size { length block.now ≡ 8 }
+        ensures value { OnOk result (IsSparse self.new.gaps.items self.new.kept.items self.new.behind (spread self.old.gaps.items self.old.kept.items self.old.behind ++ block.now)) }
     {
         if is_blank(block) {
-            return Ok(Place {
-                len: start.len,
-                behind: start.behind + 8,
-            });
+            self.behind += 8;
+            return Ok(());
         }
-        let place = self.cut_gaps(start)?;
-        self.make_room(place)?;
-        Ok(put_block(
-            self.gaps.as_mut_slice(),
-            self.kept.as_mut_slice(),
-            place,
-            block,
-        ))
+        self.cut_gaps()?;
+        self.push_words(block)
     }
 
-    /// The words that stand before the place, without the room for others.
-    fn finish(self, place: Place) -> SparseWords
-        requires even { length self.gaps.items ≡ length self.kept.items }
-        ensures value { IsSparse result.gaps.items result.kept.items result.behind (spread (take place.len self.gaps.items) (take place.len self.kept.items) place.behind) }
-    {
-        let Room { mut gaps, mut kept } = self;
-        gaps.truncate(place.len);
-        kept.truncate(place.len);
-        SparseWords {
-            gaps,
-            kept,
-            behind: place.behind,
-        }
-    }
-}
-
-impl SparseWords {
     /// What these words are, of which there are eight times so many.
     pub(crate) fn of(alloc: Global, words: &[u64], blocks: usize) -> Result<SparseWords, AllocError>
         requires all { length words.now ≡ 8 * blocks }
         ensures value { IfOk result (λ s. IsSparse s.gaps.items s.kept.items s.behind words.now) }
     {
-        // Words 0 that cut gaps, each of 248 or more, and a block: with these no list has to grow.
-        let others = words.len() / 248 + 8;
-        let mut room = Room::new(alloc, count_of(words).saturating_add(others))?;
-        let mut place = Place { len: 0, behind: 0 };
+        // Room for one word of each block, which few states are over. What is not used is given back, mostly untouched.
+        let mut sparse = SparseWords::with_room(alloc, blocks)?;
         for block in 0..blocks {
             let at = 8 * block;
-            place = room.push_block(place, &words[at..at + 8])?;
+            sparse.push_block(&words[at..at + 8])?;
         }
-        Ok(room.finish(place))
+        sparse.gaps.shrink_to_fit();
+        sparse.kept.shrink_to_fit();
+        Ok(sparse)
     }
 
     /// Writes the words over as many words 0.

@@ -1,0 +1,9 @@
+use Rattle.std.proofs.Common.{rules, IsTrue, true}
+use Rattle.stab_pauli.proofs.PackingLemmas.{sparse-blank}
+use Rattle.stab_pauli.proofs.packed.sparse.SparseWords.push_block.Goals as goal
+
+pub returns-then-is_blank : goal.returns-then-is_blank
+returns-then-is_blank c =
+    let mine = c.args.self.now in
+    let holds : IsTrue true = search rules in
+    record { value = sparse-blank mine.gaps.items mine.kept.items mine.behind 8 c.args.block.now c.requires.even (c.if-is_blank.ensures.value holds) }
