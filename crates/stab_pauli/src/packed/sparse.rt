@@ -157,8 +157,8 @@ impl SparseWords {
         requires all { length words.now ≡ 8 * blocks }
         ensures value { IfOk result (λ s. IsSparse s.gaps.items s.kept.items s.behind words.now) }
     {
-        // Room for one word of each block, which few states are over. What is not used is given back, mostly untouched.
-        let mut sparse = SparseWords::with_room(alloc, blocks)?;
+        // Room for two words of each block, about as many as a code's states keep. What is not used is given back untouched.
+        let mut sparse = SparseWords::with_room(alloc, 2 * blocks)?;
         for block in 0..blocks {
             let at = 8 * block;
             sparse.push_block(&words[at..at + 8])?;
