@@ -15,8 +15,11 @@ use stab_frames::{KeptStrings, RunNotes, run_noting};
 use stab_io::Refusal;
 use stab_pauli::Pauli;
 use stab_run::{Coins, Outputs};
-use stab_tableau::Tableau;
+use stab_tableau::{CompactTableau, Tableau};
 use std::alloc::Global;
+
+/// A copy shares memory with one of so many before it: in codes a state comes again within them, or not at all.
+const SHARED_AMONG: usize = 16;
 
 /// A run from some step on, on its way.
 #[derive(Drop)]
@@ -165,6 +168,21 @@ impl<'a> Replay<'a> {
         Ok(())
     }
 
+    /// A copy of the state, in little memory. What it can share with the last copies takes none of its own.
+    ///
+    /// Refusal `OutOfMemory` alone.
+    fn compact(&self, alloc: Global) -> Result<CompactTableau, Refusal>
+        ensures ok { IfOk result (λ t. t ≡ self.now.tableau) }
+        ensures err { IfErr result (λ r. r ≡ OutOfMemory) }
+    {
+        let mut tableau = self.tableau.compact(alloc)?;
+        let first = self.laid.len().saturating_sub(SHARED_AMONG);
+        for place in first..self.laid.len() {
+            tableau.share(&self.laid[place].tableau);
+        }
+        Ok(tableau)
+    }
+
     /// Lays a copy of the state.
     fn lay(&mut self, alloc: Global) -> Result<(), Refusal>
         ensures unchanged { self.new ≡ record self.old { laid = self.new.laid } }
@@ -174,7 +192,7 @@ impl<'a> Replay<'a> {
         let copy = Checkpoint {
             step: self.step,
             lengths: self.outputs.lengths(),
-            tableau: self.tableau.compact(alloc)?,
+            tableau: self.compact(alloc)?,
         };
         self.laid.push(copy)?;
         Ok(())

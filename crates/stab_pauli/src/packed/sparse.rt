@@ -183,6 +183,17 @@ impl SparseWords {
         }
     }
 
+    /// Whether the same is kept of other words.
+    pub(crate) fn is_kept_as(&self, other: &SparseWords) -> bool
+        ensures gaps { IsTrue result → self.now.gaps.items ≡ other.now.gaps.items }
+        ensures kept { IsTrue result → self.now.kept.items ≡ other.now.kept.items }
+        ensures behind { IsTrue result → self.now.behind ≡ other.now.behind }
+    {
+        self.behind == other.behind
+            && self.kept.as_slice() == other.kept.as_slice()
+            && self.gaps.as_slice() == other.gaps.as_slice()
+    }
+
     /// Whether these are the words, of which there are as many.
     pub(crate) fn are(&self, words: &[u64]) -> bool
         requires even { length self.now.gaps.items ≡ length self.now.kept.items }

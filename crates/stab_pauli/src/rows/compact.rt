@@ -108,6 +108,21 @@ impl CompactRows {
         })
     }
 
+    /// Keeps the letters in the memory of other strings that are kept, if these have the same ones. What contracts see stays.
+    pub fn share(&mut self, other: &CompactRows)
+        ensures unchanged { self.new ≡ self.old }
+    {
+        if Rc::ptr_eq(&self.words, &other.words) {
+            return;
+        }
+        if !self.words.as_ref().is_kept_as(other.words.as_ref()) {
+            return;
+        }
+        if let Ok(words) = other.words.clone() {
+            self.words = words;
+        }
+    }
+
     /// The strings again, in memory of their own.
     ///
     /// Refusal `OutOfMemory` alone.

@@ -63,6 +63,13 @@ impl CompactTable {
         Ok(CompactTable { rows })
     }
 
+    /// Keeps the letters in the memory of other rows that are kept, if these have the same ones.
+    pub fn share(&mut self, other: &CompactTable)
+        ensures unchanged { self.new ≡ self.old }
+    {
+        self.rows.share(&other.rows);
+    }
+
     /// The rows again, in memory of their own.
     pub fn table(&self, alloc: Global) -> Result<Table, Refusal>
         ensures ok { IfOk result (λ t. t ≡ self.now) }

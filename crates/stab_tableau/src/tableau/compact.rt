@@ -75,6 +75,14 @@ impl CompactTableau {
         Ok(CompactTableau { table })
     }
 
+    /// Keeps the letters of the rows in the memory of another copy, if its rows have the same ones, as those of a code
+    /// have where its rounds come to the same state but for signs. What contracts see stays.
+    pub fn share(&mut self, other: &CompactTableau)
+        ensures unchanged { self.new ≡ self.old }
+    {
+        self.table.share(&other.table);
+    }
+
     /// The same state as a tableau, in the memory of a spare one that has as many qubits, else in memory of its own.
     ///
     /// Refusal `OutOfMemory` alone.
