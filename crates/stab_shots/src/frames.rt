@@ -1,13 +1,16 @@
-ghost use Rattle.std.specs.Prelude.{◌≡◌, ◌≢◌, ℕ, ◌+◌, ◌<◌, length, replicate, IfOk};
+ghost use Rattle.std.specs.Prelude.{◌≡◌, ◌≢◌, ℕ, ◌+◌, ◌<◌, false, All, length, replicate, IfOk};
 ghost use Rattle.stab_letters.specs.declared.letter.Letter.TheVariants;
 ghost use Rattle.stab_pauli.specs.Paulis.{single, strings_anticommute};
 ghost use Rattle.stab_tableau.specs.Gates.{image, image_pair};
+ghost use Rattle.stab_lines.specs.Products.{names_twice};
+ghost use Rattle.stab_run.specs.Runs.{string_of};
 ghost use Rattle.stab_frames.specs.Frames.{plus, times_where};
 ghost use Rattle.stab_shots.specs.Lanes.{lane_letters};
 
 use crate::letters::{Letters, PairLetters};
 use crate::repeated::repeated;
 use crate::word::Word;
+use stab_circuit::Factor;
 use stab_pauli::{Letter, Pauli};
 use stab_tableau::{Gate, PairGate};
 use std::alloc::{AllocError, Global};
@@ -61,6 +64,20 @@ impl<W: Word> Frames<W> {
         ensures value { (l : ℕ) → l < W.lanes → W.at result l ≡ strings_anticommute (lane_letters W.at l self.now.letters.items) (single (length self.now.letters.items) qubit letter).letters }
     {
         self.letters[qubit].anticommuting(letter)
+    }
+
+    /// The lanes whose string anticommutes with a product of letters on different qubits.
+    pub fn anticommuting_factors(&self, factors: &[Factor]) -> W
+        requires in_range { All (λ f. f.qubit < length self.now.letters.items) factors.now }
+        requires apart { names_twice factors.now ≡ false }
+        ensures value { (l : ℕ) → l < W.lanes → W.at result l ≡ strings_anticommute (lane_letters W.at l self.now.letters.items) (string_of (length self.now.letters.items) factors.now).letters }
+    {
+        let mut anticommuting = W::all(false);
+        for factor in factors {
+            let letters = self.letters[factor.qubit.number()];
+            anticommuting = anticommuting.xor(letters.anticommuting(factor.letter.letter()));
+        }
+        anticommuting
     }
 
     /// The lanes whose string anticommutes with another.

@@ -22,22 +22,18 @@ use stab_circuit::{Circuit, Cursor};
 use stab_frames::note_laws::right_notes_are_enough;
 use stab_frames::run_laws::coins_flip;
 use stab_io::{Fault, Refusal};
-use stab_pauli::Pauli;
 use std::alloc::{AllocError, Global};
 
 /// How many steps go together at most: as many as stand together.
 const MOST_TOGETHER: usize = usize::MAX;
 
-/// Leads all lanes over the steps that a cursor has left, from the first noted string on. The string is for products to be
-/// written into.
+/// Leads all lanes over the steps that a cursor has left, from the first noted string on.
 fn pass_all<W: Word, C: LaneCoins<W>>(
     reference: &Reference,
-    string: &mut Pauli,
     coins: &mut C,
     lanes: &mut Lanes<W>,
     cursor: &mut Cursor,
 ) -> Result<(), AllocError>
-    requires string_length { length string.old.letters ≡ reference.now.strings.qubits }
     requires all { HasAll reference.now }
     requires begins { length lanes.old.free.items ≡ 0 }
     requires frames { length lanes.old.frames.letters.items ≡ reference.now.strings.qubits }
@@ -47,7 +43,7 @@ fn pass_all<W: Word, C: LaneCoins<W>>(
 {
     let mut number = 0;
     while let Some(steps) = cursor.next_steps(MOST_TOGETHER) {
-        pass_steps(reference, &mut number, string, coins, lanes, steps)?;
+        pass_steps(reference, &mut number, coins, lanes, steps)?;
     }
     Ok(())
 }
@@ -110,10 +106,9 @@ fn run_noted<W: Word, C: LaneCoins<W>>(
     // That notes which are right are enough for other coins, and what these flip then, is what makes the lanes runs.
     right_notes_are_enough();
     coins_flip();
-    let mut string = Pauli::identity(alloc, n)?;
     let mut cursor = Cursor::at(alloc, circuit, 0)?;
     let mut lanes = shots.lanes(alloc, n)?;
-    pass_all(reference, &mut string, coins, &mut lanes, &mut cursor)?;
+    pass_all(reference, coins, &mut lanes, &mut cursor)?;
     *shots = shots_of(alloc, reference, lanes, circuit.observables())?;
     Ok(())
 }

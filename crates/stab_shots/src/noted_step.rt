@@ -1,7 +1,8 @@
 //! One step of a reference, on the lanes that are led by what is noted of it. Lanes keep flips in place of bits.
-ghost use Rattle.std.specs.Prelude.{◌≡◌, ℕ, ◌+◌, ◌<◌, ◌∷◌, [], All, length, slice_index_or, IfOk, OnOk};
+ghost use Rattle.std.specs.Prelude.{◌≡◌, ℕ, ◌+◌, ◌<◌, ◌∷◌, false, [], All, length, slice_index_or, IfOk, OnOk};
 ghost use Rattle.stab_pauli.specs.Paulis.{Signed, single, strings_anticommute};
-ghost use Rattle.stab_circuit.specs.Cursors.{step_shown};
+ghost use Rattle.stab_lines.specs.Products.{names_twice};
+ghost use Rattle.stab_circuit.specs.Cursors.{step_shown, IsApart};
 ghost use Rattle.stab_run.specs.Runs.{string_of};
 ghost use Rattle.stab_run.specs.ProgramStates.{StepFits};
 ghost use Rattle.stab_shots.specs.Lanes.{lane_letters};
@@ -14,8 +15,7 @@ use crate::reference::Reference;
 use crate::step::{push_when, reset_if};
 use crate::word::Word;
 use stab_circuit::{Factor, Step};
-use stab_pauli::{Letter, Pauli};
-use stab_run::write_product;
+use stab_pauli::Letter;
 use std::alloc::AllocError;
 
 /// Leads all lanes over the outcome of the next coin, by the lanes that anticommute with what is measured. Gives which
@@ -70,48 +70,41 @@ fn measure_letter<W: Word, C: LaneCoins<W>>(
     decide(reference, number, coins, lanes, anticommuting)
 }
 
-/// Leads all lanes over a measurement of a product, by a string that it is written into, and gives which outcomes are
-/// flipped.
+/// Leads all lanes over a measurement of a product of letters on different qubits, and gives which outcomes are flipped.
 fn measure_product<W: Word, C: LaneCoins<W>>(
     reference: &Reference,
     number: &mut usize,
-    string: &mut Pauli,
     coins: &mut C,
     lanes: &mut Lanes<W>,
     factors: &[Factor],
 ) -> Result<W, AllocError>
     requires in_range { All (λ f. f.qubit < reference.now.strings.qubits) factors.now }
-    requires string_length { length string.old.letters ≡ reference.now.strings.qubits }
+    requires apart { names_twice factors.now ≡ false }
     requires all { HasAll reference.now }
     requires counted { IsCounted reference.now number.old (length lanes.old.free.items) }
     requires frames { length lanes.old.frames.letters.items ≡ reference.now.strings.qubits }
-    ensures string { length string.new.letters ≡ length string.old.letters }
     ensures counted { OnOk result (IsCounted reference.now number.new (length lanes.new.free.items)) }
     ensures frames { length lanes.new.frames.letters.items ≡ length lanes.old.frames.letters.items }
     ensures same_coins { C.sequences coins.new ≡ C.sequences coins.old }
     ensures measures { IfOk result (λ flips. (l : ℕ) → l < W.lanes → IsMeasuredBy (lane_notes reference.now (C.sequences coins.old l)) (string_of reference.now.strings.qubits factors.now) (W.at flips l) (lane_difference W.at l lanes.old) (lane_difference W.at l lanes.new)) }
 {
-    write_product(string, factors);
-    let anticommuting = lanes.frames.anticommuting(string);
+    let anticommuting = lanes.frames.anticommuting_factors(factors);
     decide(reference, number, coins, lanes, anticommuting)
 }
 
-/// Leads all lanes over one step. The string is for products to be written into, and the number is that of the next noted
-/// string.
+/// Leads all lanes over one step. The number is that of the next noted string.
 pub fn pass_step<W: Word, C: LaneCoins<W>>(
     reference: &Reference,
     number: &mut usize,
-    string: &mut Pauli,
     coins: &mut C,
     lanes: &mut Lanes<W>,
     step: Step,
 ) -> Result<(), AllocError>
-    requires string_length { length string.old.letters ≡ reference.now.strings.qubits }
     requires all { HasAll reference.now }
     requires counted { IsCounted reference.now number.old (length lanes.old.free.items) }
     requires frames { length lanes.old.frames.letters.items ≡ reference.now.strings.qubits }
     requires fits { StepFits reference.now.strings.qubits (step_shown step) }
-    ensures string { length string.new.letters ≡ length string.old.letters }
+    requires apart { IsApart (step_shown step) }
     ensures counted { OnOk result (IsCounted reference.now number.new (length lanes.new.free.items)) }
     ensures frames { length lanes.new.frames.letters.items ≡ length lanes.old.frames.letters.items }
     ensures same_coins { C.sequences coins.new ≡ C.sequences coins.old }
@@ -139,7 +132,7 @@ pub fn pass_step<W: Word, C: LaneCoins<W>>(
             factors,
             inverted: _,
         } => {
-            let flips = measure_product(reference, number, string, coins, lanes, factors)?;
+            let flips = measure_product(reference, number, coins, lanes, factors)?;
             lanes.records.push(flips)?;
         }
         Step::Detector(lookbacks) => {

@@ -1,7 +1,7 @@
 //! Steps of one instruction, or of detectors, together on the lanes that are led by what is noted of a reference.
 ghost use Rattle.std.specs.Prelude.{◌≡◌, ℕ, ◌<◌, ◌∷◌, [], All, length, map, OnOk};
 ghost use Rattle.stab_circuit.specs.Steps.{one, controlled_step, measured, detector};
-ghost use Rattle.stab_circuit.specs.Cursors.{lookbacks_of, steps_shown};
+ghost use Rattle.stab_circuit.specs.Cursors.{lookbacks_of, steps_shown, IsApartAlone};
 ghost use Rattle.stab_run.specs.ProgramStates.{StepFits};
 ghost use Rattle.stab_frames.specs.Notes.{Notes};
 ghost use Rattle.stab_shots.specs.References.{HasAll, IsCounted, lane_notes};
@@ -16,7 +16,6 @@ use stab_circuit::{
     Axis, ControlledPair, Detectors, MeasureTarget, Measurement, Qubit, Steps, controlled_gate,
     measured_step,
 };
-use stab_pauli::Pauli;
 use stab_tableau::Gate;
 use std::alloc::AllocError;
 
@@ -68,22 +67,19 @@ fn pass_pairs<W: Word>(lanes: &mut Lanes<W>, axis: Axis, pairs: &[ControlledPair
     }
 }
 
-/// Leads all lanes over the measurements of targets. The number and the string are as for `pass_steps`.
+/// Leads all lanes over the measurements of targets. The number is as for `pass_steps`.
 fn pass_targets<W: Word, C: LaneCoins<W>>(
     reference: &Reference,
     number: &mut usize,
-    string: &mut Pauli,
     coins: &mut C,
     lanes: &mut Lanes<W>,
     measurement: Measurement,
     targets: &[MeasureTarget],
 ) -> Result<(), AllocError>
-    requires string_length { length string.old.letters ≡ reference.now.strings.qubits }
     requires all { HasAll reference.now }
     requires counted { IsCounted reference.now number.old (length lanes.old.free.items) }
     requires frames { length lanes.old.frames.letters.items ≡ reference.now.strings.qubits }
     requires fits { All (StepFits reference.now.strings.qubits) (map (measured measurement) targets.now) }
-    ensures string { length string.new.letters ≡ length string.old.letters }
     ensures counted { OnOk result (IsCounted reference.now number.new (length lanes.new.free.items)) }
     ensures frames { length lanes.new.frames.letters.items ≡ length lanes.old.frames.letters.items }
     ensures same_coins { C.sequences coins.new ≡ C.sequences coins.old }
@@ -91,7 +87,7 @@ fn pass_targets<W: Word, C: LaneCoins<W>>(
 {
     for target in targets {
         let step = measured_step(measurement, *target);
-        pass_step(reference, number, string, coins, lanes, step)?;
+        pass_step(reference, number, coins, lanes, step)?;
     }
     Ok(())
 }
@@ -109,22 +105,19 @@ fn pass_detectors<W: Word>(lanes: &mut Lanes<W>, detectors: Detectors) -> Result
     Ok(())
 }
 
-/// Leads all lanes over steps. The string is for products to be written into, and the number is that of the next noted
-/// string.
+/// Leads all lanes over steps. The number is that of the next noted string.
 pub fn pass_steps<W: Word, C: LaneCoins<W>>(
     reference: &Reference,
     number: &mut usize,
-    string: &mut Pauli,
     coins: &mut C,
     lanes: &mut Lanes<W>,
     steps: Steps,
 ) -> Result<(), AllocError>
-    requires string_length { length string.old.letters ≡ reference.now.strings.qubits }
     requires all { HasAll reference.now }
     requires counted { IsCounted reference.now number.old (length lanes.old.free.items) }
     requires frames { length lanes.old.frames.letters.items ≡ reference.now.strings.qubits }
     requires fits { All (StepFits reference.now.strings.qubits) (steps_shown steps) }
-    ensures string { length string.new.letters ≡ length string.old.letters }
+    requires apart { IsApartAlone steps }
     ensures counted { OnOk result (IsCounted reference.now number.new (length lanes.new.free.items)) }
     ensures frames { length lanes.new.frames.letters.items ≡ length lanes.old.frames.letters.items }
     ensures same_coins { C.sequences coins.new ≡ C.sequences coins.old }
@@ -140,20 +133,12 @@ pub fn pass_steps<W: Word, C: LaneCoins<W>>(
             Ok(())
         }
         Steps::Measurements(measurement, targets) => {
-            pass_targets(
-                reference,
-                number,
-                string,
-                coins,
-                lanes,
-                measurement,
-                targets,
-            )
+            pass_targets(reference, number, coins, lanes, measurement, targets)
         }
         Steps::Detectors(detectors) => {
             pass_detectors(lanes, detectors)?;
             Ok(())
         }
-        Steps::Single(step) => pass_step(reference, number, string, coins, lanes, step),
+        Steps::Single(step) => pass_step(reference, number, coins, lanes, step),
     }
 }

@@ -28,7 +28,6 @@ loop-steps-preserved g c =
     let n = reference.strings.qubits in
     record {
       fits = (fits-steps n n before shown behind more refl inv.fits).1;
-      string = done.string ∙ inv.string;
       counted = done.counted;
       frames = done.frames ∙ inv.frames;
       same_coins = done.same_coins ∙ inv.same_coins;

@@ -7,7 +7,6 @@ use Rattle.stab_shots.proofs.noted.pass_all.Given as goal
 abbrev pub invariant-loop-steps : goal.invariant-loop-steps
 invariant-loop-steps g l = record {
   fits : All (StepFits l.reference.strings.qubits) l.cursor.left;
-  string : length l.string.letters ≡ length l.initial.string.letters;
   counted : IsCounted l.reference l.number (length l.lanes.free.items);
   frames : length l.lanes.frames.letters.items ≡ length l.initial.lanes.frames.letters.items;
   same_coins : g.C.LaneCoins.sequences l.coins ≡ g.C.LaneCoins.sequences l.initial.coins;

@@ -1,10 +1,8 @@
 use Rattle.std.proofs.Common.{sym, ◌∙◌, ap, subst, All, length}
-use Rattle.stab_pauli.specs.Paulis.{Signed}
 use Rattle.stab_circuit.specs.Cursors.{IsApart}
 use Rattle.stab_circuit.specs.Views.{circuit_items}
 use Rattle.stab_run.specs.ProgramStates.{StepFits}
 use Rattle.stab_run.proofs.FitLemmas.{check-fits}
-use Rattle.stab_steps.proofs.ProductLemmas.{length_identity}
 use Rattle.stab_shots.specs.References.{lane_notes}
 use Rattle.stab_shots.specs.Differences.{lane_difference, Follows}
 use Rattle.stab_shots.proofs.NotedLemmas.{as-long, lane-runs}
@@ -15,7 +13,6 @@ pass_all-requires g c =
     let is = c.requires.reference in
     let items = circuit_items c.args.circuit.now in
     record {
-      string_length = ap (λ (p : Signed). length p.letters) c.in_ok-string.ensures.ok ∙ length_identity c.args.n ∙ sym is.qubits;
       all = is.all;
       begins = ap length c.in_ok-lanes.ensures.free;
       frames = c.in_ok-lanes.ensures.qubits ∙ sym is.qubits;

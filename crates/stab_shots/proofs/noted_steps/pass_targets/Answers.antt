@@ -1,6 +1,6 @@
 use Rattle.std.proofs.Common.{refl, sym, subst, ◌∙◌, ◌∷◌, []}
 use Rattle.stab_circuit.specs.Steps.{measured}
-use Rattle.stab_circuit.specs.Cursors.{step_shown}
+use Rattle.stab_circuit.specs.Cursors.{step_shown, IsApart}
 use Rattle.stab_run.specs.ProgramStates.{StepFits}
 use Rattle.stab_steps.proofs.TargetLemmas.{fits-target}
 use Rattle.stab_shots.specs.References.{lane_notes}
@@ -13,13 +13,13 @@ pass_step-requires g c =
     let inv = c.loop-target.invariant in
     let n = c.args.reference.now.strings.qubits in
     record {
-      string_length = inv.string ∙ c.requires.string_length;
       all = c.requires.all;
       counted = inv.counted;
       frames = inv.frames ∙ c.requires.frames;
       fits = subst (StepFits n) (sym c.measured_step-step.ensures.value)
           (fits-target n n (measured c.args.measurement) c.args.targets.now c.loop-target.target-index c.target-item.result
           refl c.loop-target-test.true c.target-item.is c.requires.fits);
+      apart = subst IsApart (sym c.measured_step-step.ensures.value) tt;
     }
 
 pub loop-target-preserved : goal.loop-target-preserved
@@ -28,7 +28,6 @@ loop-target-preserved g c =
     let done = c.in_ok-pass_step.ensures {u = tt} in
     let reference = c.args.reference.now in
     record {
-      string = done.string ∙ inv.string;
       counted = done.counted;
       frames = done.frames ∙ inv.frames;
       same_coins = done.same_coins ∙ inv.same_coins;

@@ -6,7 +6,6 @@ use Rattle.stab_shots.proofs.noted_steps.pass_targets.Given as goal
 
 abbrev pub invariant-loop-target : goal.invariant-loop-target
 invariant-loop-target g l = record {
-  string : length l.string.letters ≡ length l.initial.string.letters;
   counted : IsCounted l.reference l.number (length l.lanes.free.items);
   frames : length l.lanes.frames.letters.items ≡ length l.initial.lanes.frames.letters.items;
   same_coins : g.C.LaneCoins.sequences l.coins ≡ g.C.LaneCoins.sequences l.initial.coins;
