@@ -1,7 +1,7 @@
 -- Lanes: the bits of a lane of words that are added up, and put behind others.
-use Rattle.std.proofs.Common.{◌≡◌, ℕ, zero, suc, ◌+◌, ◌<◌, ◌≤◌, refl, sym, ◌∙◌, ap, subst, Bool, true, false, List, [], ◌∷◌, ◌++◌, append-nil, length, get_or, set, take, drop, map, replicate, arith}
+use Rattle.std.proofs.Common.{◌≡◌, ℕ, zero, suc, ◌+◌, ◌<◌, ◌≤◌, refl, sym, ◌∙◌, ap, Bool, true, false, List, [], ◌∷◌, ◌++◌, append-nil, length, get_or, set, take, drop, map, replicate, arith}
 use Rattle.std.specs.Prelude.{if◌then◌else◌}
-use Rattle.std.proofs.lemmas.List.{get_or-map, length-map, map-append, map-set, drop_more, take_all, drop_all}
+use Rattle.std.proofs.lemmas.List.{get_or-map, map-append, map-set, drop_more, take_all, drop_all}
 use Rattle.stab_letters.specs.Letters.{◌⊕◌}
 use Rattle.stab_run.specs.Runs.{when, added}
 use Rattle.stab_run.specs.Points.{with_additions}
@@ -47,23 +47,20 @@ flip-next i (b ∷ bits) [] lt within = absurd (omega arith)
 flip-next zero (b ∷ bits) (f ∷ flips) lt within = refl
 flip-next (suc i) (b ∷ bits) (f ∷ flips) lt within = ap (λ l. f ∷ l) (flip-next i bits flips (omega arith) (omega arith))
 
-pub flips-next : {W : Type 0} (at : W → ℕ → Bool) (l : ℕ) (ws : List W) (bits total : List Bool) (i : ℕ) (w v : W) (b : Bool) → i < length bits → i < length ws
-    → w ≡ get_or ws i w → b ≡ get_or bits i false → at v l ≡ at w l ⊕ b
-    → take i (lane_bits at l ws) ++ flipped (drop i bits) (drop i (lane_bits at l ws)) ≡ total
-    → take (i + 1) (lane_bits at l (set ws i v)) ++ flipped (drop (i + 1) bits) (drop (i + 1) (lane_bits at l (set ws i v))) ≡ total
-flips-next at l ws bits total i w v b lt within is is_bit made were =
-    (λ k. take (one_more k) (put k) ++ flipped (drop (one_more k) bits) (drop (one_more k) (put k)))
-    ∙ flip-next i bits (lane_bits at l ws) lt (subst (λ n. i < n) (sym (length-map ws (λ w. at w l))) within)
+pub flips-next : (bits flips new total : List Bool) (i : ℕ) → i < length bits → i < length flips → new ≡ set flips i (get_or flips i false ⊕ get_or bits i false)
+    → take i flips ++ flipped (drop i bits) (drop i flips) ≡ total → take (i + 1) new ++ flipped (drop (i + 1) bits) (drop (i + 1) new) ≡ total
+flips-next bits flips new total i lt within is were =
+    let one_more : i + 1 ≡ suc i = omega arith in
+    (λ k. take (one_more k) (is k) ++ flipped (drop (one_more k) bits) (drop (one_more k) (is k)))
+    ∙ flip-next i bits flips lt within
     ∙ were
-  where
-    one_more : i + 1 ≡ suc i
-    one_more = omega arith
 
-    put : lane_bits at l (set ws i v) ≡ set (lane_bits at l ws) i (get_or (lane_bits at l ws) i false ⊕ get_or bits i false)
-    put =
-        map-set (λ w. at w l) ws i v
-        ∙ ap (set (lane_bits at l ws) i)
-        (made ∙ (λ k. (ap (λ x. at x l) is ∙ sym (get_or-map (λ w. at w l) ws i w false within)) k ⊕ is_bit k))
+-- a word flipped in all lanes
+pub flips-at : {W : Type 0} (at : W → ℕ → Bool) (l : ℕ) (ws : List W) (i : ℕ) (w v : W) → i < length ws → w ≡ get_or ws i w → at v l ≡ at w l ⊕ true
+    → lane_bits at l (set ws i v) ≡ set (lane_bits at l ws) i (get_or (lane_bits at l ws) i false ⊕ true)
+flips-at at l ws i w v lt is made =
+    map-set (λ w. at w l) ws i v
+    ∙ ap (set (lane_bits at l ws) i) (made ∙ ap (λ b. b ⊕ true) (ap (λ x. at x l) is ∙ sym (get_or-map (λ w. at w l) ws i w false lt)))
 
 pub flips-all : (bits flips total : List Bool) (i : ℕ) → length flips ≡ length bits → length bits ≤ i
     → take i flips ++ flipped (drop i bits) (drop i flips) ≡ total → flips ≡ total

@@ -1,5 +1,6 @@
 //! All steps of a circuit, on lanes that are led by what is noted of a reference.
-ghost use Rattle.std.specs.Prelude.{◌≡◌, ℕ, ◌<◌, ◌≤◌, None, All, length, IfOk, IfSome, OnOk, IfErr};
+ghost use Rattle.std.specs.Prelude.{◌≡◌, ℕ, ◌<◌, ◌≤◌, None, false, All, length, slice_index_or, slice_set, IfOk, IfSome, OnOk, IfErr};
+ghost use Rattle.stab_letters.specs.Letters.{◌⊕◌};
 ghost use Rattle.stab_io.specs.declared.refusal.Refusal.TheVariants.{OutOfMemory};
 ghost use Rattle.stab_io.specs.Refusals.{Refuses};
 ghost use Rattle.stab_letters.specs.Limits.{most_qubits};
@@ -48,12 +49,23 @@ fn pass_all<W: Word, C: LaneCoins<W>>(
     Ok(())
 }
 
+/// Flips the bits of all lanes at a place, if the bit of the reference is 1. Else no word is fetched.
+fn flip_where<W: Word>(bit: bool, flips: &mut Vec<W>, place: usize)
+    requires in_range { place < length flips.old.items }
+    ensures size { length flips.new.items ≡ length flips.old.items }
+    ensures value { (l : ℕ) → l < W.lanes → lane_bits W.at l flips.new.items ≡ slice_set (lane_bits W.at l flips.old.items) place (slice_index_or (lane_bits W.at l flips.old.items) place false ⊕ bit) }
+{
+    if bit {
+        flips[place] = flips[place].xor(W::all(true));
+    }
+}
+
 /// Makes of flips the bits of all lanes, by those of the reference.
 fn flip_bits<W: Word>(bits: &[bool], flips: &mut Vec<W>)
     ensures value { (l : ℕ) → l < W.lanes → length (lane_bits W.at l flips.old.items) ≡ length bits.now → lane_bits W.at l flips.new.items ≡ flipped bits.now (lane_bits W.at l flips.old.items) }
 {
     for place in 0..bits.len().min(flips.len()) {
-        flips[place] = flips[place].xor(W::all(bits[place]));
+        flip_where(bits[place], flips, place);
     }
 }
 

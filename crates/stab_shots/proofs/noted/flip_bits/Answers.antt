@@ -1,6 +1,5 @@
-use Rattle.std.proofs.Common.{rules, arith, refl, ◌≡◌, ◌<◌, ◌≤◌, sym, ◌∙◌, ap, length, false, get_or}
-use Rattle.std.proofs.lemmas.List.{length-set, length-map}
-use Rattle.stab_letters.specs.Letters.{◌⊕◌}
+use Rattle.std.proofs.Common.{rules, arith, ◌≡◌, ◌<◌, ◌≤◌, sym, ◌∙◌, length}
+use Rattle.std.proofs.lemmas.List.{length-map}
 use Rattle.stab_frames.specs.Flips.{flipped}
 use Rattle.stab_shots.specs.Lanes.{lane_bits}
 use Rattle.stab_shots.proofs.LaneLemmas.{flips-next, flips-all}
@@ -13,13 +12,12 @@ loop-place-preserved g c =
     let within : place < length c.loop-place.flips.items = search rules in
     let inside : place < length c.args.bits.now = search rules in
     record {
-      size = length-set c.loop-place.flips.items place c.xor.result ∙ inv.size;
+      size = c.flip_where.ensures.size ∙ inv.size;
       made = λ j lt.
-          flips-next g.W.Word.at j c.loop-place.flips.items c.args.bits.now (flipped c.args.bits.now (lane_bits g.W.Word.at j c.args.flips.now.items)) place
-          c.index.result.now c.xor.result (get_or c.args.bits.now place false) inside within
-          (search rules) refl
-          (c.xor.ensures.value j lt ∙ ap (λ b. g.W.Word.at c.index.result.now j ⊕ b) (c.all.ensures.value j lt ∙ search rules))
-          (inv.made j lt);
+          let bits = lane_bits g.W.Word.at j c.loop-place.flips.items in
+          flips-next c.args.bits.now bits (lane_bits g.W.Word.at j c.flip_where.new.flips.items) (flipped c.args.bits.now (lane_bits g.W.Word.at j c.args.flips.now.items)) place
+          inside (omega (arith, length-map c.loop-place.flips.items (λ w. g.W.Word.at w j), within))
+          (c.flip_where.ensures.value j lt) (inv.made j lt);
     }
 
 pub returns : goal.returns
