@@ -101,7 +101,7 @@ impl<W: Word> Frames<W> {
         ensures size { length self.new.letters.items ≡ length self.old.letters.items }
         ensures letters { (l : ℕ) → l < W.lanes → lane_letters W.at l self.new.letters.items ≡ times_where (W.at lanes l) (single (length self.old.letters.items) qubit letter).letters (lane_letters W.at l self.old.letters.items) }
     {
-        self.letters[qubit] = self.letters[qubit].times(letter, lanes);
+        self.letters[qubit].multiply(letter, lanes);
     }
 
     /// Multiplies the strings of the lanes whose bit is 1 by another.
@@ -112,7 +112,7 @@ impl<W: Word> Frames<W> {
     {
         let mut qubit = string.next_letter(0);
         while qubit < self.letters.len() {
-            self.letters[qubit] = self.letters[qubit].times(string.letter(qubit), lanes);
+            self.letters[qubit].multiply(string.letter(qubit), lanes);
             qubit = string.next_letter(qubit + 1);
         }
     }

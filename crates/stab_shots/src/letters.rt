@@ -60,19 +60,20 @@ impl<W: Word> Letters<W> {
         }
     }
 
-    /// The letters times this one, in the lanes whose bit is 1.
-    pub fn times(self, letter: Letter, lanes: W) -> Letters<W>
-        ensures value { (l : ℕ) → l < W.lanes → letter_in W.at l result ≡ letter_times (W.at lanes l) letter (letter_in W.at l self) }
+    /// Multiplies the letters by this one, in the lanes whose bit is 1. It does so where they lie: words of many lanes would
+    /// be copied to and fro.
+    #[inline(always)]
+    pub fn multiply(&mut self, letter: Letter, lanes: W)
+        ensures value { (l : ℕ) → l < W.lanes → letter_in W.at l self.new ≡ letter_times (W.at lanes l) letter (letter_in W.at l self.old) }
     {
-        let Letters { x, z } = self;
         match letter {
-            Letter::I => self,
-            Letter::X => Letters { x: x.xor(lanes), z },
-            Letter::Y => Letters {
-                x: x.xor(lanes),
-                z: z.xor(lanes),
-            },
-            Letter::Z => Letters { x, z: z.xor(lanes) },
+            Letter::I => {}
+            Letter::X => self.x = self.x.xor(lanes),
+            Letter::Y => {
+                self.x = self.x.xor(lanes);
+                self.z = self.z.xor(lanes);
+            }
+            Letter::Z => self.z = self.z.xor(lanes),
         }
     }
 }

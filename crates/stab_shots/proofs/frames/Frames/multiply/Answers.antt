@@ -25,7 +25,7 @@ loop-qubit-preserved g c =
     let within : c.loop-qubit.qubit < length c.loop-qubit.self.letters.items = search rules in
     let before : c.loop-qubit.qubit < length c.args.self.now.letters.items = omega (arith, within, c.loop-qubit.invariant.size) in
     let inside : c.loop-qubit.qubit < length c.args.string.now.letters = omega (arith, before, c.requires.same_length) in
-    let size = length-set c.loop-qubit.self.letters.items c.loop-qubit.qubit c.times.result ∙ c.loop-qubit.invariant.size in
+    let size = length-set c.loop-qubit.self.letters.items c.loop-qubit.qubit c.multiply.new.self ∙ c.loop-qubit.invariant.size in
     record {
       size = size;
       within = omega (arith, size, next.in_range, c.requires.same_length);
@@ -33,8 +33,8 @@ loop-qubit-preserved g c =
           let lane = lane_letters g.W.Word.at k c.args.self.now.letters.items in
           let as_long = length-map c.args.self.now.letters.items (letter_in g.W.Word.at k) in
           product-put g.W.Word.at k c.loop-qubit.self.letters.items (g.W.Word.at c.args.lanes k) c.args.string.now.letters
-          lane c.loop-qubit.qubit c.index.result.now c.times.result c.letter.result
-          within inside (omega (arith, before, as_long)) c.index.ensures c.letter.ensures.value (c.loop-qubit.invariant.letters k lt) (c.times.ensures.value k lt)
+          lane c.loop-qubit.qubit c.index_mut.result.now c.multiply.new.self c.letter.result
+          within inside (omega (arith, before, as_long)) c.index_mut.ensures.value c.letter.ensures.value (c.loop-qubit.invariant.letters k lt) (c.multiply.ensures.value k lt)
           ∙ sym (times-blank (g.W.Word.at c.args.lanes k) lane c.args.string.now.letters (c.loop-qubit.qubit + 1) c.next_letter-qubit-in-loop-qubit.result next.from
           (omega (arith, as_long, next.in_range, c.requires.same_length)) next.in_range next.blank);
     }
