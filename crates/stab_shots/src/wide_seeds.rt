@@ -55,24 +55,22 @@ impl<const N: usize> LaneCoins<Wide<N>> for WideSeedLanes<N> {
     fn coins(&mut self, t: u64) -> Wide<N> {
         let group = t / 64;
         if self.group != Some(group) {
-            self.parts = coins_of_parts(self.seed, self.first, group);
+            write_parts(self.seed, self.first, group, &mut self.parts);
             self.group = Some(group);
         }
         Wide::new(coins_at(&self.parts, (t % 64) as usize))
     }
 }
 
-/// The 64 coins from 64 times the group's number on, of 64 shots for each part.
-fn coins_of_parts<const N: usize>(seed: u64, first: u64, group: u64) -> [[u64; 64]; N]
+/// Writes the 64 coins from 64 times the group's number on, of 64 shots for each part.
+fn write_parts<const N: usize>(seed: u64, first: u64, group: u64, parts: &mut [[u64; 64]; N])
     requires small { group < 2 ^ 58 }
-    ensures each { AreCoinsOfParts seed first group N result }
+    ensures each { AreCoinsOfParts seed first group N parts.new }
 {
-    let mut parts = [[0; 64]; N];
     for part in 0..N {
         let shot = first.wrapping_add((part as u64).wrapping_mul(64));
         parts[part] = coins_of_group(seed, shot, group);
     }
-    parts
 }
 
 /// The coins at a place among the 64 of each part.

@@ -1,11 +1,11 @@
-use Rattle.std.proofs.Common.{arith, subst, ◌∙◌}
-use Rattle.std.proofs.lemmas.List.{length-replicate, length-set}
+use Rattle.std.proofs.Common.{rules, arith, subst, ◌∙◌}
+use Rattle.std.proofs.lemmas.List.{length-set}
 use Rattle.stab_shots.specs.Seeds.{AreCoins}
 use Rattle.stab_shots.proofs.SeedLemmas.{part-next, part-begins}
-use Rattle.stab_shots.proofs.wide_seeds.coins_of_parts.Goals as goal
+use Rattle.stab_shots.proofs.wide_seeds.write_parts.Goals as goal
 
 pub loop-part-init : goal.loop-part-init
-loop-part-init g c = record { size = length-replicate g.row.N _; made = λ p none. absurd (omega arith) }
+loop-part-init g c = record { size = search rules; made = λ p none. absurd (omega arith) }
 
 pub loop-part-preserved : goal.loop-part-preserved
 loop-part-preserved g c = record {
