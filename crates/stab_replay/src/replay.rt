@@ -15,11 +15,8 @@ use stab_frames::{KeptStrings, RunNotes, run_noting};
 use stab_io::Refusal;
 use stab_pauli::Pauli;
 use stab_run::{Coins, Outputs};
-use stab_tableau::{CompactTableau, Tableau};
+use stab_tableau::Tableau;
 use std::alloc::Global;
-
-/// A copy shares memory with one of so many before it: in codes a state comes again within them, or not at all.
-const SHARED_AMONG: usize = 16;
 
 /// A run from some step on, on its way.
 #[derive(Drop)]
@@ -131,7 +128,12 @@ impl<'a> Replay<'a> {
     /// Carries out the steps up to one.
     ///
     /// Refusal `OutOfMemory` alone.
-    fn run_to<C: Coins>(&mut self, alloc: Global, coins: &mut C, stop: usize) -> Result<(), Refusal>
+    pub(crate) fn run_to<C: Coins>(
+        &mut self,
+        alloc: Global,
+        coins: &mut C,
+        stop: usize,
+    ) -> Result<(), Refusal>
         requires begun { IsAtStep self.old.tableau.qubits (C.sequence coins.old) self.old.cursor.all self.old }
         requires fits { All (StepFits self.old.tableau.qubits) self.old.cursor.all }
         requires order { self.old.step ≤ stop }
@@ -165,36 +167,6 @@ impl<'a> Replay<'a> {
             &mut self.applied,
             &mut self.notes,
         )?;
-        Ok(())
-    }
-
-    /// A copy of the state, in little memory. What it can share with the last copies takes none of its own.
-    ///
-    /// Refusal `OutOfMemory` alone.
-    fn compact(&self, alloc: Global) -> Result<CompactTableau, Refusal>
-        ensures ok { IfOk result (λ t. t ≡ self.now.tableau) }
-        ensures err { IfErr result (λ r. r ≡ OutOfMemory) }
-    {
-        let mut tableau = self.tableau.compact(alloc)?;
-        let first = self.laid.len().saturating_sub(SHARED_AMONG);
-        for place in first..self.laid.len() {
-            tableau.share(&self.laid[place].tableau);
-        }
-        Ok(tableau)
-    }
-
-    /// Lays a copy of the state.
-    fn lay(&mut self, alloc: Global) -> Result<(), Refusal>
-        ensures unchanged { self.new ≡ record self.old { laid = self.new.laid } }
-        ensures laid { OnOk result (self.new.laid.items ≡ self.old.laid.items ++ copy_of self.old ∷ []) }
-        ensures err { IfErr result (λ r. r ≡ OutOfMemory) }
-    {
-        let copy = Checkpoint {
-            step: self.step,
-            lengths: self.outputs.lengths(),
-            tableau: self.compact(alloc)?,
-        };
-        self.laid.push(copy)?;
         Ok(())
     }
 
@@ -284,8 +256,10 @@ impl<'a> Replay<'a> {
     {
         let led = self.frame_on(alloc, circuit, copies, old, strings, plan, next)?;
         if !led.there {
-            let stop = plan.stop(self.step, plan.place(copies, led.next));
-            self.run_to(alloc, coins, stop)?;
+            let place = plan.place(copies, led.next);
+            let stop = plan.stop(self.step, place);
+            let limit = plan.limit(self.step, stop, place);
+            self.run_past(alloc, coins, stop, limit)?;
         }
         Ok(led.next)
     }

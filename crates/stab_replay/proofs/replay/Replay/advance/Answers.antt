@@ -1,10 +1,15 @@
-use Rattle.std.proofs.Common.{◌≡◌, refl, ap, subst, false, inr, length, drop, arith}
+use Rattle.std.proofs.Common.{◌≡◌, ℕ, ◌≤◌, refl, ap, subst, false, inr, length, drop, arith, Option, Some, None, IfSome}
 use Rattle.stab_run.specs.Points.{all_coins_of}
 use Rattle.stab_replay.specs.Replays.{spacing_of}
 use Rattle.stab_replay.specs.inner.LedReplays.{IsLedTo}
 use Rattle.stab_replay.proofs.ReplayLemmas.{coins-cut, place-behind, on-stop}
 use Rattle.stab_replay.proofs.LaidLemmas.{laid-led}
 use Rattle.stab_replay.proofs.replay.Replay.advance.Goals as goal
+
+-- what is no further than something before a place is before it too
+no-further : (place : Option ℕ) (a b : ℕ) → a ≤ b → IfSome place (λ q. b ≤ q) → IfSome place (λ q. a ≤ q)
+no-further None a b le before = tt
+no-further (Some q) a b le before = omega (arith, le, before)
 
 pub returns-in_err-led-clause-asked : goal.returns-in_err-led-clause-asked
 returns-in_err-led-clause-asked g c =
@@ -13,46 +18,47 @@ returns-in_err-led-clause-asked g c =
 pub stop-stop-requires-clause-behind : goal.stop-stop-requires-clause-behind
 stop-stop-requires-clause-behind g c =
     let on = c.in_ok-led.ensures.on in
-    place-behind c.args.plan c.frame_on.new.self.step c.in_ok-led.led.next c.args.copies.now c.place.result c.place.ensures.value on.ascending
+    place-behind c.args.plan c.frame_on.new.self.step c.in_ok-led.led.next c.args.copies.now c.place-place.result c.place-place.ensures.value on.ascending
 
-pub returns-in_err-run_to-clause-asked : goal.returns-in_err-run_to-clause-asked
-returns-in_err-run_to-clause-asked g c =
+pub returns-in_err-run_past-clause-asked : goal.returns-in_err-run_past-clause-asked
+returns-in_err-run_past-clause-asked g c =
     omega (
       arith,
-      c.run_to.ensures.asked,
-      ap (λ k. all_coins_of (drop k c.args.self.now.cursor.all)) c.run_to.ensures.step,
-      ap (λ xs. all_coins_of (drop c.stop-stop.result xs)) c.frame_on.ensures.all,
+      c.run_past.ensures.asked,
+      ap (λ xs. all_coins_of (drop c.run_past.new.self.step xs)) c.frame_on.ensures.all,
       ap (λ xs. all_coins_of (drop c.frame_on.new.self.step xs)) c.frame_on.ensures.all,
       coins-cut c.args.self.now.step c.frame_on.new.self.step c.args.self.now.cursor.all (drop c.args.self.now.step c.args.self.now.cursor.all) c.frame_on.ensures.further refl,
     )
 
-pub returns-in_ok-run_to-clause-asked : goal.returns-in_ok-run_to-clause-asked
-returns-in_ok-run_to-clause-asked g c =
+pub returns-in_ok-run_past-clause-asked : goal.returns-in_ok-run_past-clause-asked
+returns-in_ok-run_past-clause-asked g c =
     omega (
       arith,
-      c.run_to.ensures.asked,
-      ap (λ k. all_coins_of (drop k c.args.self.now.cursor.all)) c.run_to.ensures.step,
-      ap (λ xs. all_coins_of (drop c.stop-stop.result xs)) c.frame_on.ensures.all,
+      c.run_past.ensures.asked,
+      ap (λ xs. all_coins_of (drop c.run_past.new.self.step xs)) c.frame_on.ensures.all,
       ap (λ xs. all_coins_of (drop c.frame_on.new.self.step xs)) c.frame_on.ensures.all,
       coins-cut c.args.self.now.step c.frame_on.new.self.step c.args.self.now.cursor.all (drop c.args.self.now.step c.args.self.now.cursor.all) c.frame_on.ensures.further refl,
     )
 
-pub returns-in_ok-run_to-clause-way : goal.returns-in_ok-run_to-clause-way
-returns-in_ok-run_to-clause-way g c = λ begin way.
-    let done = c.in_ok-run_to.ensures in
-    let stop = c.stop-stop.ensures in
+pub returns-in_ok-run_past-clause-way : goal.returns-in_ok-run_past-clause-way
+returns-in_ok-run_past-clause-way g c = λ begin way.
+    let done = c.in_ok-run_past.ensures in
+    let limit = c.limit-limit.ensures in
+    let most = c.run_past.ensures.most in
     let there : c.in_ok-led.led.there ≡ false = grind (arith, c.if-not-led.true) in
     on-stop c.args.self.now.tableau.qubits (g.C.Coins.sequence c.args.coins.now) begin c.args.plan c.args.self.now.cursor.all c.args.copies.now c.args.old.now.records.items (g.C.Coins.sequence c.args.coins.now)
-    c.in_ok-led.led.next c.stop-stop.result c.place.result c.frame_on.new.self c.run_to.new.self
+    c.in_ok-led.led.next c.run_past.new.self.step c.place-place.result c.frame_on.new.self c.run_past.new.self
     (subst (IsLedTo c.args.self.now.tableau.qubits (g.C.Coins.sequence c.args.coins.now) begin c.args.plan c.args.self.now.cursor.all c.args.copies.now c.args.old.now.records.items c.in_ok-led.led.next c.frame_on.new.self) there
     (c.in_ok-led.ensures.way (g.C.Coins.sequence c.args.coins.now) begin (record { old = c.requires.old; at_step = c.requires.at_step }) way))
-    refl done.at_step done.laid done.records (let counted = done.counted in let framed = done.framed in omega (arith, counted, framed)) done.step stop.order stop.within stop.near c.place.ensures.value stop.before
+    refl done.at_step done.laid done.records (let counted = done.counted in let framed = done.framed in omega (arith, counted, framed)) refl c.run_past.ensures.order
+    (let within = limit.within in omega (arith, within, most)) (let near = limit.near in omega (arith, near, most)) c.place-place.ensures.value
+    (no-further c.place-place.result c.run_past.new.self.step c.limit-limit.result most limit.before)
 
-pub returns-in_ok-run_to-clause-few_laid : goal.returns-in_ok-run_to-clause-few_laid
-returns-in_ok-run_to-clause-few_laid g c =
+pub returns-in_ok-run_past-clause-few_laid : goal.returns-in_ok-run_past-clause-few_laid
+returns-in_ok-run_past-clause-few_laid g c =
     let on = c.in_ok-led.ensures.on in
-    laid-led (spacing_of c.args.plan.stride) (length c.frame_on.new.self.laid.items) c.args.next (length c.args.self.now.laid.items) c.in_ok-led.led.next (length c.run_to.new.self.laid.items) on.laid
-    (ap length c.run_to.ensures.laid)
+    laid-led (spacing_of c.args.plan.stride) (length c.frame_on.new.self.laid.items) c.args.next (length c.args.self.now.laid.items) c.in_ok-led.led.next (length c.run_past.new.self.laid.items) on.laid
+    (ap length c.run_past.ensures.laid)
 
 pub returns-else-not-led-clause-asked : goal.returns-else-not-led-clause-asked
 returns-else-not-led-clause-asked g c =
@@ -67,10 +73,10 @@ pub returns-else-not-led-clause-stops : goal.returns-else-not-led-clause-stops
 returns-else-not-led-clause-stops g c =
     inr (inr (c.in_ok-led.ensures.placed (grind (arith, c.if-not-led.false))))
 
-pub returns-in_ok-run_to-clause-changed : goal.returns-in_ok-run_to-clause-changed
-returns-in_ok-run_to-clause-changed g c =
+pub returns-in_ok-run_past-clause-changed : goal.returns-in_ok-run_past-clause-changed
+returns-in_ok-run_past-clause-changed g c =
     let on = c.in_ok-led.ensures.on in
-    omega (arith, c.in_ok-led.ensures.behind, on.applied, c.in_ok-run_to.ensures.counted, c.run_to.ensures.step, c.stop-stop.ensures.order)
+    omega (arith, c.in_ok-led.ensures.behind, on.applied, c.in_ok-run_past.ensures.counted, c.run_past.ensures.order)
 
 pub returns-else-not-led-clause-changed : goal.returns-else-not-led-clause-changed
 returns-else-not-led-clause-changed g c =
