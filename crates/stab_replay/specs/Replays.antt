@@ -21,12 +21,12 @@ use Rattle.stab_copies.specs.LaidCopies.{moved}
 abbrev pub step_among_new : Plan → Checkpoint → ℕ
 step_among_new p c = moved p.old_end p.new_end c.step
 
--- so far apart a replay lays copies: less than a stride K, where it is 8 or more, so that steps can be put in between two neighbours
--- before these are more than a stride apart
+-- at least so far apart a replay lays copies: less than a stride K, where it is 8 or more, so that steps can be put in between two
+-- neighbours before these are more than a stride apart
 abbrev pub spacing_of : ℕ → ℕ
 spacing_of K = K - K / 8
 
--- where a replay stops next: at the place of the old copy that may be met next where that is no more than a stride further, and else
+-- where a replay may stop next: at the place of the old copy that may be met next where that is no more than a stride further, and else
 -- a spacing further, or behind the last step if that comes first
 abbrev pub next_stop : Plan → ℕ → Option ℕ → ℕ
 next_stop p step None = min (step + spacing_of p.stride) p.total
@@ -100,8 +100,8 @@ pub record IsOnWay (n : ℕ) (coins : ℕ → Bool) (begin : ℕ) (p : Plan) (ys
   pub stop : IsAtStop n coins begin p ys copies old next r
   pub last : last_of begin (checkpoint_steps r.laid.items) ≡ r.step
 
--- where a replay that went on from a step stops: a spacing further, or behind the last step, or at the place of the old copy that may
--- be met next
+-- where a replay that went on from a step stops: a spacing further or more, or behind the last step, or at the place of the old copy
+-- that may be met next
 abbrev pub StopsAt : Plan → List Checkpoint → ℕ → ℕ → ℕ → Type 0
 StopsAt p copies next from step = (from + spacing_of p.stride ≤ step) ⊎ ((step ≡ p.total) ⊎ IsPlacedAt p copies next step)
 

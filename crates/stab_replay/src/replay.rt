@@ -88,7 +88,7 @@ impl Plan {
         }
     }
 
-    /// How far apart a replay lays copies.
+    /// How far apart a replay lays copies at least.
     fn spacing(self) -> usize
         requires stride { 1 ≤ self.stride }
         ensures value { result ≡ spacing_of self.stride }
