@@ -5,8 +5,11 @@
    requests count: from behind one of OPENS bytes up to one of CLOSES bytes, anew each time. The file TOLD then gets a
    character for each such window: r where a request in it was refused, else g.
 
+   To make a block smaller, or no larger than it is already, is no request for memory: it is never refused, nor counted.
+
    Loaded by LD_PRELOAD, by tools/refuse.py alone. */
 #include <fcntl.h>
+#include <malloc.h>
 #include <stdlib.h>
 #include <unistd.h>
 
@@ -76,9 +79,15 @@ void *malloc(size_t n)
 }
 
 void *calloc(size_t n, size_t m) { return refused() ? 0 : __libc_calloc(n, m); }
-void *realloc(void *p, size_t n) { return refused() ? 0 : __libc_realloc(p, n); }
 void *memalign(size_t a, size_t n) { return refused() ? 0 : __libc_memalign(a, n); }
 void *aligned_alloc(size_t a, size_t n) { return refused() ? 0 : __libc_memalign(a, n); }
+
+void *realloc(void *p, size_t n)
+{
+    if (p && n <= malloc_usable_size(p))
+        return __libc_realloc(p, n);
+    return refused() ? 0 : __libc_realloc(p, n);
+}
 
 int posix_memalign(void **p, size_t a, size_t n)
 {
