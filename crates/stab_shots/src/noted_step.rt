@@ -1,5 +1,5 @@
 //! One step of a reference, on the lanes that are led by what is noted of it. Lanes keep flips in place of bits.
-ghost use Rattle.std.specs.Prelude.{◌≡◌, ℕ, ◌+◌, ◌<◌, ◌∷◌, false, [], All, length, slice_index_or, IfOk, OnOk};
+ghost use Rattle.std.specs.Prelude.{◌≡◌, ℕ, ◌+◌, ◌<◌, ◌∷◌, false, [], All, length, IfOk, OnOk};
 ghost use Rattle.stab_pauli.specs.Paulis.{Signed, single, strings_anticommute};
 ghost use Rattle.stab_lines.specs.Products.{names_twice};
 ghost use Rattle.stab_circuit.specs.Cursors.{step_shown, IsApart};
