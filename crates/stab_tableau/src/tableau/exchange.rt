@@ -1,53 +1,76 @@
 use super::Tableau;
-use crate::table::InverseRow;
+use crate::collapse::{Collapse, measure_with_exchange};
+use crate::observable::Observable;
 use crate::{inverse_rows, rows};
 use stab_pauli::{Letter, Pauli};
 
 impl Tableau {
-    ghost use Rattle.std.specs.Prelude.{◌≡◌, ◌<◌, true, false, length};
-    ghost use Rattle.stab_pauli.specs.Paulis.{single};
+    ghost use Rattle.std.specs.Prelude.{◌≡◌, ℕ, ◌<◌, true, false, length};
+    ghost use Rattle.stab_pauli.specs.Paulis.{Signed, single};
     ghost use Rattle.stab_tableau.specs.Tableaus.{stabilises};
-    ghost use Rattle.stab_tableau.specs.Rules.{is_free_by};
+    ghost use Rattle.stab_tableau.specs.Rules.{outcome_by, is_free_by, projected_by};
     ghost use Rattle.stab_tableau.specs.Exchanges.{Exchanges};
 
-    /// Whether a coin would decide the outcome of a measurement of a string; if so another string gets the letters of a
-    /// stabiliser that anticommutes with what is measured, and so exchanges the outcomes; its sign is of no account, and
-    /// else it stays as it was. It takes no memory.
-    pub fn exchange(&mut self, measured: &Pauli, string: &mut Pauli) -> bool
-        requires same_length { length measured.now.letters ≡ self.old.qubits }
-        requires string_length { length string.old.letters ≡ self.old.qubits }
-        ensures unchanged { self.new ≡ self.old }
-        ensures length { length string.new.letters ≡ length string.old.letters }
-        ensures free { result ≡ is_free_by (stabilises self.old) measured.now }
-        ensures exchanges { result ≡ true → Exchanges self.old.qubits (stabilises self.old) measured.now string.new.letters }
-        ensures kept { result ≡ false → string.new ≡ string.old }
+    /// `collapse`, which where the outcome is free makes another string the letters of a stabiliser of the state before that
+    /// anticommutes with what is measured, and so exchanges the outcomes. Its sign is then of no account; where the outcome
+    /// is fixed the string stays as it was.
+    pub fn collapse_with_exchange(
+        &mut self,
+        pauli: &Pauli,
+        coin: bool,
+        exchange: &mut Pauli,
+    ) -> Collapse
+        requires same_length { length pauli.now.letters ≡ self.old.qubits }
+        requires exchange_length { length exchange.old.letters ≡ self.old.qubits }
+        ensures qubits { self.new.qubits ≡ self.old.qubits }
+        ensures outcome { result.outcome ≡ outcome_by (stabilises self.old) pauli.now coin }
+        ensures free { result.free ≡ is_free_by (stabilises self.old) pauli.now }
+        ensures members { (p : Signed) → length p.letters ≡ self.old.qubits → stabilises self.new p ≡ projected_by (stabilises self.old) pauli.now result.outcome p }
+        ensures unchanged { result.free ≡ false → self.new ≡ self.old }
+        ensures length { length exchange.new.letters ≡ length exchange.old.letters }
+        ensures exchanges { result.free ≡ true → Exchanges self.old.qubits (stabilises self.old) pauli.now exchange.new.letters }
+        ensures kept { result.free ≡ false → exchange.new ≡ exchange.old }
     {
-        rows::write_preimage(&self.table, measured, &mut self.preimage);
-        rows::write_exchange(&self.table, self.preimage.first_x(), string)
+        rows::write_preimage(&self.table, pauli, &mut self.preimage);
+        let observable = &Observable::String(pauli);
+        measure_with_exchange(
+            &mut self.table,
+            &mut self.preimage,
+            &mut self.multiplier,
+            observable,
+            coin,
+            exchange,
+        )
     }
 
-    /// `exchange` of one letter on a qubit: of the string with that letter alone, which isn't built.
-    pub fn exchange_letter(&mut self, letter: Letter, qubit: usize, string: &mut Pauli) -> bool
+    /// `collapse_with_exchange` of one letter on a qubit: of the string with that letter alone, which isn't built.
+    pub fn collapse_letter_with_exchange(
+        &mut self,
+        letter: Letter,
+        qubit: usize,
+        coin: bool,
+        exchange: &mut Pauli,
+    ) -> Collapse
         requires in_range { qubit < self.old.qubits }
-        requires string_length { length string.old.letters ≡ self.old.qubits }
-        ensures unchanged { self.new ≡ self.old }
-        ensures length { length string.new.letters ≡ length string.old.letters }
-        ensures free { result ≡ is_free_by (stabilises self.old) (single self.old.qubits qubit letter) }
-        ensures exchanges { result ≡ true → Exchanges self.old.qubits (stabilises self.old) (single self.old.qubits qubit letter) string.new.letters }
-        ensures kept { result ≡ false → string.new ≡ string.old }
+        requires exchange_length { length exchange.old.letters ≡ self.old.qubits }
+        ensures qubits { self.new.qubits ≡ self.old.qubits }
+        ensures outcome { result.outcome ≡ outcome_by (stabilises self.old) (single self.old.qubits qubit letter) coin }
+        ensures free { result.free ≡ is_free_by (stabilises self.old) (single self.old.qubits qubit letter) }
+        ensures members { (p : Signed) → length p.letters ≡ self.old.qubits → stabilises self.new p ≡ projected_by (stabilises self.old) (single self.old.qubits qubit letter) result.outcome p }
+        ensures unchanged { result.free ≡ false → self.new ≡ self.old }
+        ensures length { length exchange.new.letters ≡ length exchange.old.letters }
+        ensures exchanges { result.free ≡ true → Exchanges self.old.qubits (stabilises self.old) (single self.old.qubits qubit letter) exchange.new.letters }
+        ensures kept { result.free ≡ false → exchange.new ≡ exchange.old }
     {
-        let table = &self.table;
-        match letter {
-            Letter::X => {
-                rows::write_exchange(table, table.first_x(InverseRow::OfX, qubit), string)
-            }
-            Letter::Z => {
-                rows::write_exchange(table, table.first_x(InverseRow::OfZ, qubit), string)
-            }
-            Letter::I | Letter::Y => {
-                inverse_rows::copy_into(table, qubit, letter, &mut self.preimage);
-                rows::write_exchange(table, self.preimage.first_x(), string)
-            }
-        }
+        inverse_rows::copy_into(&self.table, qubit, letter, &mut self.preimage);
+        let observable = &Observable::Single(letter, qubit);
+        measure_with_exchange(
+            &mut self.table,
+            &mut self.preimage,
+            &mut self.multiplier,
+            observable,
+            coin,
+            exchange,
+        )
     }
 }
