@@ -48,3 +48,4 @@ pub mod FrameLemmas
 pub mod SameStateLemmas
 pub mod TurnedRowLemmas
 pub mod ExchangedOutcomeLemmas
+pub mod CollapsedWalkLemmas

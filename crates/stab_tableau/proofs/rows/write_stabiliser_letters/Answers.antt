@@ -1,12 +1,11 @@
-use Rattle.std.proofs.Common.{◌<◌, ◌≤◌, ◌∙◌, refl, sym, length, arith}
-use Rattle.std.proofs.lemmas.List.{length-set, length-replicate, get_or-set_other}
+use Rattle.std.proofs.Common.{◌<◌, ◌≤◌, ◌∙◌, refl, sym, length, below_more, arith}
+use Rattle.std.proofs.lemmas.List.{length-set, length-replicate, get_or-set_other, get_or-set_same}
 use Rattle.stab_letters.specs.declared.letter.Letter.TheVariants.{I, Z}
 use Rattle.stab_pauli.proofs.SignedLemmas.{signed_path}
 use Rattle.stab_tableau.specs.Gates.{letter_at}
-use Rattle.stab_tableau.specs.inner.InverseRows.{rows_at}
-use Rattle.stab_tableau.specs.inner.ColumnLetters.{letter_anticommuting}
+use Rattle.stab_tableau.specs.inner.ColumnLetters.{column}
 use Rattle.stab_tableau.proofs.PlaceLemmas.{get_or-blank}
-use Rattle.stab_tableau.proofs.TableauColumnLemmas.{column-more, column-all, x-with_Z}
+use Rattle.stab_tableau.proofs.TableauColumnLemmas.{column-all}
 use Rattle.stab_tableau.proofs.rows.write_stabiliser_letters.Goals as goal
 
 pub loop-qubit-init : goal.loop-qubit-init
@@ -19,26 +18,25 @@ loop-qubit-init c =
       blank = λ q le. get_or-blank (length c.args.out.now.letters) q;
     })
 
-pub put_letter_where-requires : goal.put_letter_where-requires
-put_letter_where-requires c = record {
-  in_range = (let lt = c.loop-qubit-test.true in let e = c.len-qubit-end.ensures.value in let s = c.loop-qubit.invariant.size in omega arith);
+pub put_column_letter-requires : goal.put_column_letter-requires
+put_column_letter-requires c = record {
+  in_range = (let lt = c.loop-qubit-test.true in let e = c.len-qubit-end.ensures.value in omega arith);
+  place_in_range = c.requires.in_range;
+  out_length = c.loop-qubit.invariant.size;
   blank = c.loop-qubit.invariant.blank c.loop-qubit.qubit (omega arith);
 }
 
 pub loop-qubit-preserved : goal.loop-qubit-preserved
 loop-qubit-preserved c =
     let below : c.loop-qubit.qubit < length c.args.table.now = (let lt = c.loop-qubit-test.true in let e = c.len-qubit-end.ensures.value in omega arith) in
-    let letter = letter_anticommuting c.has_x-x.result c.has_x-z.result in
-    rw c.put_letter_where.ensures.value
+    let letter = letter_at (column Z c.args.k c.args.table.now) c.loop-qubit.qubit in
+    rw c.put_column_letter.ensures.value
     (record {
       size = length-set c.loop-qubit.out.letters c.loop-qubit.qubit letter ∙ c.loop-qubit.invariant.size;
       sign = c.loop-qubit.invariant.sign;
-      done = column-more Z c.args.k c.loop-qubit.qubit c.args.table.now c.loop-qubit.out.letters letter
-          c.loop-qubit.invariant.size below
-          (λ i. letter_anticommuting
-          ((c.has_x-x.ensures.value ∙ sym (x-with_Z (letter_at (rows_at c.args.table.now c.loop-qubit.qubit).x.letters c.args.k))) i)
-          ((c.has_x-z.ensures.value ∙ sym (x-with_Z (letter_at (rows_at c.args.table.now c.loop-qubit.qubit).z.letters c.args.k))) i))
-          c.loop-qubit.invariant.done;
+      done = below_more _ _
+          (λ j lj. get_or-set_other c.loop-qubit.out.letters c.loop-qubit.qubit j letter I (omega arith) ∙ c.loop-qubit.invariant.done j lj)
+          (get_or-set_same c.loop-qubit.out.letters c.loop-qubit.qubit letter I (let e = c.loop-qubit.invariant.size in omega arith));
       blank = λ q le.
           get_or-set_other c.loop-qubit.out.letters c.loop-qubit.qubit q letter I (omega arith)
           ∙ c.loop-qubit.invariant.blank q (omega arith);
