@@ -7,7 +7,7 @@ use Rattle.stab_letters.specs.declared.letter.Letter.TheVariants.{I, X, Z}
 use Rattle.stab_letters.specs.Letters.{◌⊕◌, letters_anticommute}
 use Rattle.stab_letters.specs.XParts.{has_x}
 use Rattle.stab_pauli.specs.Paulis.{Signed, anticommute}
-use Rattle.stab_pauli.specs.Phaseds.{Phased, phased}
+use Rattle.stab_pauli.specs.Phaseds.{phased}
 use Rattle.stab_tableau.specs.Gates.{letter_at}
 use Rattle.stab_tableau.specs.inner.InverseRows.{InverseRows, rows_at}
 use Rattle.stab_tableau.specs.inner.Collapses.{collapsed_row, CollapsedRow, IsTold, IsStill}
@@ -45,11 +45,11 @@ module _ (k q next : ℕ) (j : Signed) (rows now new : List InverseRows) (row : 
       → (i : ℕ) → i < next → CollapsedRow k j (rows_at rows i) (rows_at new i)
   walk-done letters told done here le blank still i li = elim (leb_tells (q + 1) i) [
     | inl past ↦
-      let after : q < i = omega (arith, past.1) in
-      subst (CollapsedRow k j (rows_at rows i)) (sym (walk-rest i after))
-      (collapsed-still k j (rows_at rows i) (subst (λ l. IsTold k j l (rows_at rows i)) (blank i after li) (told i (omega arith))) (still i after li))
+        let after : q < i = omega (arith, past.1) in
+        subst (CollapsedRow k j (rows_at rows i)) (sym (walk-rest i after))
+        (collapsed-still k j (rows_at rows i) (subst (λ l. IsTold k j l (rows_at rows i)) (blank i after li) (told i (omega arith))) (still i after li))
     | inr within ↦
-      below_more (λ a. CollapsedRow k j (rows_at rows a) (rows_at new a)) q
-      (λ a la. subst (CollapsedRow k j (rows_at rows a)) (sym (other a (omega arith))) (done a la))
-      (subst (λ old. CollapsedRow k j old (rows_at new q)) (rest q (omega arith)) here) i within.1
+        below_more (λ a. CollapsedRow k j (rows_at rows a) (rows_at new a)) q
+        (λ a la. subst (CollapsedRow k j (rows_at rows a)) (sym (other a (omega arith))) (done a la))
+        (subst (λ old. CollapsedRow k j old (rows_at new q)) (rest q (omega arith)) here) i within.1
   ]

@@ -1,4 +1,4 @@
-use Rattle.std.proofs.Common.{◌≡◌, ◌∙◌, refl, sym, ap, subst, length}
+use Rattle.std.proofs.Common.{◌∙◌, refl, sym, ap, subst, length}
 use Rattle.stab_letters.specs.declared.letter.Letter.TheVariants.{Z}
 use Rattle.stab_pauli.specs.Paulis.{Signed}
 use Rattle.stab_tableau.specs.Exchanges.{Exchanges}

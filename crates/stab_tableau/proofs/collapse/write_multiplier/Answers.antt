@@ -1,7 +1,7 @@
 use Rattle.std.proofs.Common.{◌≡◌, ◌∙◌, refl, ap, length, slice_set}
 use Rattle.stab_letters.specs.declared.letter.Letter.TheVariants.{Z}
 use Rattle.stab_letters.specs.declared.phase.Phase.TheVariants.{Quarter}
-use Rattle.stab_pauli.specs.Paulis.{Signed, single, with_sign}
+use Rattle.stab_pauli.specs.Paulis.{Signed, single}
 use Rattle.stab_pauli.specs.Phaseds.{phased, times_phase, phased_product}
 use Rattle.stab_tableau.proofs.MeasureLemmas.{place-opposed}
 use Rattle.stab_tableau.proofs.collapse.write_multiplier.Goals as goal

@@ -1,5 +1,5 @@
-use Rattle.std.proofs.Common.{rules, ◌≡◌, ℕ, ◌<◌, ◌≤◌, ◌+◌, ◌∙◌, refl, sym, ap, subst, length, get_or, arith}
-use Rattle.std.proofs.lemmas.List.{length-set, length-replicate, get_or-set_other, get_or-set_same}
+use Rattle.std.proofs.Common.{rules, ◌≡◌, ℕ, ◌<◌, ◌≤◌, ◌∙◌, refl, sym, ap, subst, length, get_or, arith}
+use Rattle.std.proofs.lemmas.List.{length-set, length-replicate, get_or-set_other}
 use Rattle.stab_letters.specs.declared.letter.Letter.{Letter}
 use Rattle.stab_letters.specs.declared.letter.Letter.TheVariants.{I, Z}
 use Rattle.stab_pauli.proofs.SignedLemmas.{signed_path}
@@ -48,8 +48,8 @@ loop-qubit-preserved c =
     let within : next ≤ length rows =
     omega (arith, c.next_changed-qubit-in-loop-qubit.ensures.in_range, c.letter_after-letter.ensures.in_range, c.len-in-loop-qubit-2.ensures.value, moved) in
     let still : (j : ℕ) → q < j → j < next → IsStill c.args.place (rows_at rows j) = λ j lt lj.
-        subst (IsStill c.args.place) (walk-rest c.args.place q next c.args.multiplier.now rows c.loop-qubit.table new row inv.rest c.collapse.ensures.rest j lt)
-        (c.next_changed-qubit-in-loop-qubit.ensures.still j (omega arith) lj) in
+    subst (IsStill c.args.place) (walk-rest c.args.place q next c.args.multiplier.now rows c.loop-qubit.table new row inv.rest c.collapse.ensures.rest j lt)
+    (c.next_changed-qubit-in-loop-qubit.ensures.still j (omega arith) lj) in
     record {
       size = moved;
       in_range = search rules;

@@ -1,4 +1,4 @@
-use Rattle.std.proofs.Common.{◌<◌, ◌≤◌, ◌∙◌, refl, sym, length, below_more, arith}
+use Rattle.std.proofs.Common.{◌<◌, ◌≤◌, ◌∙◌, refl, length, below_more, arith}
 use Rattle.std.proofs.lemmas.List.{length-set, length-replicate, get_or-set_other, get_or-set_same}
 use Rattle.stab_letters.specs.declared.letter.Letter.TheVariants.{I, Z}
 use Rattle.stab_pauli.proofs.SignedLemmas.{signed_path}
