@@ -53,7 +53,7 @@ impl Model for Tableau {
 }
 
 impl Tableau {
-    ghost use Rattle.std.specs.Prelude.{◌≡◌, ◌≢◌, ℕ, ◌<◌, ◌≤◌, ◌↔◌, Bool, true, false, [], length, IfOk, IfErr, IfSome};
+    ghost use Rattle.std.specs.Prelude.{◌≡◌, ◌≢◌, ℕ, ◌<◌, ◌≤◌, ◌↔◌, Bool, true, false, [], length, IsTrue, IfOk, IfErr, IfSome};
     ghost use Rattle.stab_pauli.specs.Paulis.{Signed, single, with_sign};
     ghost use Rattle.stab_io.specs.declared.refusal.Refusal.TheVariants.{OutOfMemory};
     ghost use Rattle.stab_letters.specs.Limits.{most_qubits};
@@ -275,6 +275,13 @@ impl Tableau {
         ensures law { (p : Signed) → length p.letters ≡ self.now.qubits → CommutesWithAll self.now p → IsGenerated self.now p }
     {
         let _ = &self.table;
+    }
+
+    /// Whether two tableaus are equal, row by row. States that are told apart so may still be stabilised by the same strings.
+    pub fn same(&self, other: &Tableau) -> bool
+        ensures value { IsTrue result ↔ (self.now ≡ other.now) }
+    {
+        self.table.same(&other.table)
     }
 
     /// Whether two states on as many qubits are stabilised by the same signed strings; it takes no memory.
