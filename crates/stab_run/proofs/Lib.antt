@@ -5,3 +5,4 @@ pub mod FitLemmas
 pub mod SoundLemmas
 mod ShotLemmas
 pub mod StepsLeftLemmas
+pub mod LedLemmas

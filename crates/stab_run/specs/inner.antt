@@ -1,2 +1,3 @@
 pub mod ReadySamplers
 pub mod Shots
+pub mod Led

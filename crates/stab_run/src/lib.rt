@@ -22,6 +22,7 @@
 #![tactic(auto)]
 
 pub mod laws;
+mod rounds;
 mod run;
 mod sampler;
 

@@ -1,0 +1,308 @@
+//! The rounds of a block. They are carried out until a state comes again; from there on they give again what they gave.
+
+ghost use Rattle.std.specs.Prelude.{◌≡◌, ℕ, ◌+◌, ◌*◌, ◌^◌, ◌<◌, ◌≤◌, false, [], None, IsTrue, length, take, drop, OnOk, IfOk, IfErr, IfSome};
+ghost use Rattle.stab_io.specs.declared.refusal.Refusal.TheVariants.{OutOfMemory};
+ghost use Rattle.stab_circuit.specs.Steps.{unroll, check_within};
+ghost use Rattle.stab_circuit.specs.Views.{circuit_items};
+ghost use Rattle.stab_circuit.specs.Repeats.{IsRepeat, AreRepeats};
+ghost use Rattle.stab_steps.specs.Records.{ones, looked_up};
+ghost use Rattle.stab_steps.specs.Points.{joined, all_coins_of};
+ghost use Rattle.stab_steps.specs.ProgramStates.{program_state, output_of};
+ghost use Rattle.stab_steps.specs.Cuts.{rest_of, lengths_of};
+ghost use Rattle.stab_run.specs.RoundLaws.{copies};
+ghost use Rattle.stab_run.specs.inner.Led.{IsLed, behind_rounds, IsEarlier, IsUndecided, GivesAgain};
+
+use crate::run::run_steps;
+use stab_circuit::{Circuit, Cursor, Repeat};
+use stab_io::Refusal;
+use stab_pauli::Pauli;
+use stab_steps::{Coins, Lengths, Outputs};
+use stab_tableau::Tableau;
+use std::alloc::{AllocError, Global};
+
+/// How many rounds of a block are carried out one by one, to see whether a state comes again. All others are carried
+/// out in one go.
+const MOST_SINGLE: usize = 64;
+
+/// What is kept of a run behind a round, for later ones to be compared with.
+#[derive(Drop)]
+pub struct Earlier {
+    pub tableau: Tableau,
+    pub lengths: Lengths,
+    /// How many rounds were done.
+    pub done: usize,
+}
+
+/// Carries out so many steps of a circuit from one on, or all where there are fewer.
+pub fn run_part<C: Coins>(
+    alloc: Global,
+    circuit: &Circuit,
+    tableau: &mut Tableau,
+    string: &mut Pauli,
+    coins: &mut C,
+    outputs: &mut Outputs,
+    from: usize,
+    count: usize,
+) -> Result<(), Refusal>
+    requires checked { check_within tableau.old.qubits (circuit_items circuit.now) ≡ None }
+    requires same_length { length string.old.letters ≡ tableau.old.qubits }
+    requires in_range { from ≤ length (unroll (circuit_items circuit.now)) }
+    requires led { IsLed tableau.old.qubits (C.sequence coins.old) (take from (unroll (circuit_items circuit.now))) (program_state tableau.old (output_of outputs.old)) }
+    ensures qubits { tableau.new.qubits ≡ tableau.old.qubits }
+    ensures string { length string.new.letters ≡ length string.old.letters }
+    ensures same_coins { C.sequence coins.new ≡ C.sequence coins.old }
+    ensures asks { C.asks coins.new + all_coins_of (take from (unroll (circuit_items circuit.now))) ≤ C.asks coins.old + all_coins_of (take (from + count) (unroll (circuit_items circuit.now))) }
+    ensures asks_free { OnOk result (C.asks coins.new + ones outputs.old.free.items ≤ C.asks coins.old + ones outputs.new.free.items) }
+    ensures led { OnOk result (IsLed tableau.old.qubits (C.sequence coins.old) (take (from + count) (unroll (circuit_items circuit.now))) (program_state tableau.new (output_of outputs.new))) }
+    ensures err { IfErr result (λ r. r ≡ OutOfMemory) }
+{
+    let mut cursor = Cursor::at(alloc, circuit, from)?;
+    let mut applied = 0;
+    run_steps(
+        tableau,
+        string,
+        coins,
+        outputs,
+        &mut cursor,
+        count,
+        &mut applied,
+    )?;
+    Ok(())
+}
+
+/// Whether the newest records are the same as they were when there were so many.
+fn same_records(records: &[bool], behind: usize, reach: usize) -> bool
+    ensures value { IsTrue result → (k : ℕ) → k ≤ reach → looked_up (take behind records.now) k ≡ looked_up records.now k }
+{
+    if behind < reach || records.len() < behind {
+        return false;
+    }
+    records[behind - reach..behind] == records[records.len() - reach..]
+}
+
+/// Whether a coin decided, by the flags behind so many.
+fn has_decided(flags: &[bool], behind: usize) -> bool
+    ensures value { result ≡ false → ones (drop behind flags.now) ≡ 0 }
+{
+    let (_, since) = flags.split_at(behind.min(flags.len()));
+    since.contains(&true)
+}
+
+/// Whether a run stands where it stood earlier: the tableau is the same, since then no coin decided, and what the steps of a
+/// round may look back to is the same.
+fn comes_again(earlier: &Earlier, tableau: &Tableau, outputs: &Outputs, reach: u32) -> bool
+    ensures tableau { IsTrue result → earlier.now.tableau ≡ tableau.now }
+    ensures undecided { IsTrue result → IsUndecided reach earlier.now.lengths.free earlier.now.lengths.records (output_of outputs.now) }
+{
+    let lengths = earlier.lengths;
+    !has_decided(outputs.free.as_slice(), lengths.free)
+        && same_records(outputs.records.as_slice(), lengths.records, reach as usize)
+        && earlier.tableau.same(tableau)
+}
+
+/// Gives again, so many times, what was given behind some lengths.
+fn give_again(
+    alloc: Global,
+    outputs: &mut Outputs,
+    lengths: Lengths,
+    times: usize,
+) -> Result<(), AllocError>
+    ensures value { OnOk result (output_of outputs.new ≡ joined (output_of outputs.old) (copies times (rest_of lengths (output_of outputs.old)))) }
+{
+    let mut rest = Outputs::new(alloc);
+    let none = rest.lengths();
+    rest.append_rest(outputs, lengths)?;
+    for _ in 0..times {
+        outputs.append_rest(&rest, none)?;
+    }
+    Ok(())
+}
+
+/// Gives again what the rounds since an earlier one gave, as often as they fit into the rounds that are left, where a run
+/// stands where it stood then. Tells how many rounds are done so.
+fn give_rounds(
+    alloc: Global,
+    tableau: &Tableau,
+    outputs: &mut Outputs,
+    repeat: Repeat,
+    earlier: &Earlier,
+    done: usize,
+) -> Result<usize, Refusal>
+    requires later { earlier.now.done < done }
+    requires within { done ≤ repeat.rounds }
+    requires inside { repeat.first + repeat.rounds * repeat.length < 2 ^ 63 }
+    requires some { 0 < repeat.length }
+    requires same { earlier.now.tableau ≡ tableau.now }
+    requires undecided { IsUndecided repeat.reach earlier.now.lengths.free earlier.now.lengths.records (output_of outputs.old) }
+    ensures more { IfOk result (λ now. (done ≤ now) × (now ≤ repeat.rounds)) }
+    ensures led { IfOk result (λ now. GivesAgain tableau.now (output_of outputs.old) (output_of outputs.new) repeat earlier.now done now) }
+    ensures asks_free { IfOk result (λ now. ones outputs.old.free.items ≤ ones outputs.new.free.items) }
+    ensures err { IfErr result (λ r. r ≡ OutOfMemory) }
+{
+    let period = done - earlier.done;
+    let times = (repeat.rounds - done) / period;
+    give_again(alloc, outputs, earlier.lengths, times)?;
+    Ok(done + times * period)
+}
+
+/// What is to be kept behind a round for later ones to be compared with, if that is a first, second, fourth, eighth one and
+/// so on in which no coin decided.
+fn kept_behind(
+    alloc: Global,
+    tableau: &Tableau,
+    outputs: &Outputs,
+    flags_before: usize,
+    done: usize,
+) -> Result<Option<Earlier>, Refusal>
+    ensures kept { IfOk result (λ kept. IfSome kept (λ e. (e.tableau ≡ tableau.now) × (e.lengths ≡ lengths_of (output_of outputs.now)) × (e.done ≡ done))) }
+    ensures err { IfErr result (λ r. r ≡ OutOfMemory) }
+{
+    if !done.is_power_of_two() || has_decided(outputs.free.as_slice(), flags_before) {
+        return Ok(None);
+    }
+    Ok(Some(Earlier {
+        tableau: tableau.copy(alloc)?,
+        lengths: outputs.lengths(),
+        done,
+    }))
+}
+
+/// Carries out a round of a block behind so many, and all those behind it that give again what earlier ones gave. Tells how
+/// many are done then.
+fn run_round<C: Coins>(
+    alloc: Global,
+    circuit: &Circuit,
+    tableau: &mut Tableau,
+    string: &mut Pauli,
+    coins: &mut C,
+    outputs: &mut Outputs,
+    repeat: Repeat,
+    earlier: &mut Option<Earlier>,
+    done: usize,
+) -> Result<usize, Refusal>
+    requires checked { check_within tableau.old.qubits (circuit_items circuit.now) ≡ None }
+    requires same_length { length string.old.letters ≡ tableau.old.qubits }
+    requires repeat { IsRepeat (unroll (circuit_items circuit.now)) repeat }
+    requires within { done < repeat.rounds }
+    requires earlier { IfSome earlier.old (λ e. IsEarlier tableau.old.qubits (C.sequence coins.old) (unroll (circuit_items circuit.now)) repeat done e) }
+    requires led { IsLed tableau.old.qubits (C.sequence coins.old) (take (behind_rounds repeat done) (unroll (circuit_items circuit.now))) (program_state tableau.old (output_of outputs.old)) }
+    ensures qubits { tableau.new.qubits ≡ tableau.old.qubits }
+    ensures string { length string.new.letters ≡ length string.old.letters }
+    ensures same_coins { C.sequence coins.new ≡ C.sequence coins.old }
+    ensures asks { C.asks coins.new + all_coins_of (take (behind_rounds repeat done) (unroll (circuit_items circuit.now))) ≤ C.asks coins.old + all_coins_of (take (behind_rounds repeat (done + 1)) (unroll (circuit_items circuit.now))) }
+    ensures asks_free { IfOk result (λ now. C.asks coins.new + ones outputs.old.free.items ≤ C.asks coins.old + ones outputs.new.free.items) }
+    ensures more { IfOk result (λ now. (done < now) × (now ≤ repeat.rounds)) }
+    ensures led { IfOk result (λ now. IsLed tableau.old.qubits (C.sequence coins.old) (take (behind_rounds repeat now) (unroll (circuit_items circuit.now))) (program_state tableau.new (output_of outputs.new))) }
+    ensures earlier { IfOk result (λ now. IfSome earlier.new (λ e. IsEarlier tableau.old.qubits (C.sequence coins.old) (unroll (circuit_items circuit.now)) repeat now e)) }
+    ensures err { IfErr result (λ r. r ≡ OutOfMemory) }
+{
+    let flags = outputs.free.len();
+    let from = repeat.first + done * repeat.length;
+    run_part(
+        alloc,
+        circuit,
+        tableau,
+        string,
+        coins,
+        outputs,
+        from,
+        repeat.length,
+    )?;
+    let done = done + 1;
+    if let Some(kept) = earlier {
+        if comes_again(kept, tableau, outputs, repeat.reach) {
+            return give_rounds(alloc, tableau, outputs, repeat, kept, done);
+        }
+    }
+    if let Some(kept) = kept_behind(alloc, tableau, outputs, flags, done)? {
+        *earlier = Some(kept);
+    }
+    Ok(done)
+}
+
+/// Carries out the rounds of a block.
+fn run_repeat<C: Coins>(
+    alloc: Global,
+    circuit: &Circuit,
+    tableau: &mut Tableau,
+    string: &mut Pauli,
+    coins: &mut C,
+    outputs: &mut Outputs,
+    repeat: Repeat,
+) -> Result<(), Refusal>
+    requires checked { check_within tableau.old.qubits (circuit_items circuit.now) ≡ None }
+    requires same_length { length string.old.letters ≡ tableau.old.qubits }
+    requires repeat { IsRepeat (unroll (circuit_items circuit.now)) repeat }
+    requires led { IsLed tableau.old.qubits (C.sequence coins.old) (take repeat.first (unroll (circuit_items circuit.now))) (program_state tableau.old (output_of outputs.old)) }
+    ensures qubits { tableau.new.qubits ≡ tableau.old.qubits }
+    ensures string { length string.new.letters ≡ length string.old.letters }
+    ensures same_coins { C.sequence coins.new ≡ C.sequence coins.old }
+    ensures asks { C.asks coins.new + all_coins_of (take repeat.first (unroll (circuit_items circuit.now))) ≤ C.asks coins.old + all_coins_of (take (behind_rounds repeat repeat.rounds) (unroll (circuit_items circuit.now))) }
+    ensures asks_free { OnOk result (C.asks coins.new + ones outputs.old.free.items ≤ C.asks coins.old + ones outputs.new.free.items) }
+    ensures led { OnOk result (IsLed tableau.old.qubits (C.sequence coins.old) (take (behind_rounds repeat repeat.rounds) (unroll (circuit_items circuit.now))) (program_state tableau.new (output_of outputs.new))) }
+    ensures err { IfErr result (λ r. r ≡ OutOfMemory) }
+{
+    let most = repeat.rounds.min(MOST_SINGLE);
+    let mut earlier = None;
+    let mut done = 0;
+    while done < most {
+        done = run_round(
+            alloc,
+            circuit,
+            tableau,
+            string,
+            coins,
+            outputs,
+            repeat,
+            &mut earlier,
+            done,
+        )?;
+    }
+    let from = repeat.first + done * repeat.length;
+    let rest = (repeat.rounds - done) * repeat.length;
+    run_part(
+        alloc, circuit, tableau, string, coins, outputs, from, rest,
+    )
+}
+
+/// Carries out the steps of a circuit up to the end of the last of its blocks, and tells which step comes next.
+pub fn run_repeats<C: Coins>(
+    alloc: Global,
+    circuit: &Circuit,
+    tableau: &mut Tableau,
+    string: &mut Pauli,
+    coins: &mut C,
+    outputs: &mut Outputs,
+    repeats: &[Repeat],
+) -> Result<usize, Refusal>
+    requires checked { check_within tableau.old.qubits (circuit_items circuit.now) ≡ None }
+    requires same_length { length string.old.letters ≡ tableau.old.qubits }
+    requires repeats { AreRepeats 0 (unroll (circuit_items circuit.now)) repeats.now }
+    requires led { IsLed tableau.old.qubits (C.sequence coins.old) [] (program_state tableau.old (output_of outputs.old)) }
+    ensures qubits { tableau.new.qubits ≡ tableau.old.qubits }
+    ensures string { length string.new.letters ≡ length string.old.letters }
+    ensures same_coins { C.sequence coins.new ≡ C.sequence coins.old }
+    ensures asks { C.asks coins.new ≤ C.asks coins.old + all_coins_of (unroll (circuit_items circuit.now)) }
+    ensures asks_part { IfOk result (λ from. C.asks coins.new ≤ C.asks coins.old + all_coins_of (take from (unroll (circuit_items circuit.now)))) }
+    ensures asks_free { IfOk result (λ from. C.asks coins.new + ones outputs.old.free.items ≤ C.asks coins.old + ones outputs.new.free.items) }
+    ensures in_range { IfOk result (λ from. from ≤ length (unroll (circuit_items circuit.now))) }
+    ensures led { IfOk result (λ from. IsLed tableau.old.qubits (C.sequence coins.old) (take from (unroll (circuit_items circuit.now))) (program_state tableau.new (output_of outputs.new))) }
+    ensures err { IfErr result (λ r. r ≡ OutOfMemory) }
+{
+    let mut from = 0;
+    for repeat in repeats {
+        run_part(
+            alloc,
+            circuit,
+            tableau,
+            string,
+            coins,
+            outputs,
+            from,
+            repeat.first - from,
+        )?;
+        run_repeat(alloc, circuit, tableau, string, coins, outputs, *repeat)?;
+        from = repeat.first + repeat.rounds * repeat.length;
+    }
+    Ok(from)
+}
