@@ -4,7 +4,9 @@ pub use Rattle.stab_steps.specs.Runs
 pub use Rattle.stab_steps.specs.Points
 pub use Rattle.stab_steps.specs.ProgramStates
 pub use Rattle.stab_steps.specs.Cuts
+pub mod Ends
 pub mod Laws
+pub mod RoundLaws
 pub mod Samplers
 pub mod Limits
 pub mod inner
