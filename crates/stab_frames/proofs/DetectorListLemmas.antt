@@ -8,10 +8,10 @@ use Rattle.stab_steps.proofs.RunLemmas.{joined-nothing, joined-assoc}
 use Rattle.stab_outlines.specs.Names.{names_lookback, PassesBy}
 use Rattle.stab_run.specs.Records.{parity}
 use Rattle.stab_run.specs.Points.{nothing, joined}
+use Rattle.stab_run.proofs.LookbackLemmas.{or-left, or-right}
 use Rattle.stab_frames.specs.Walks.{WalkState}
 use Rattle.stab_frames.specs.inner.Passes.{GoesOver, GoesFreely, no_detectors}
 use Rattle.stab_frames.specs.inner.Touches.{FindsDetectors}
-use Rattle.stab_frames.proofs.LookbackLemmas.{or-left, or-right}
 use Rattle.stab_frames.proofs.GoesOverLemmas.{goes-append, freely-none, freely-detector, freely-further}
 use Rattle.stab_frames.proofs.FlippedLemmas.{none-flipped}
 

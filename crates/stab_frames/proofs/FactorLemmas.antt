@@ -16,8 +16,8 @@ use Rattle.stab_lines.specs.declared.product.Factor.{Factor}
 use Rattle.stab_lines.specs.Axes.{letter_of}
 use Rattle.stab_lines.specs.Products.{is_on, names_twice}
 use Rattle.stab_run.specs.Runs.{with_factors, string_of}
+use Rattle.stab_run.proofs.LookbackLemmas.{or-left, or-right}
 use Rattle.stab_frames.specs.inner.Passes.{factors_anticommute}
-use Rattle.stab_frames.proofs.LookbackLemmas.{or-left, or-right}
 
 -- with one letter
 pub single-anticommute : (n q : ℕ) (l : Letter) (f : List Letter) → length f ≡ n → q < n

@@ -5,8 +5,8 @@ use Rattle.stab_tableau.specs.Traces.{member}
 use Rattle.stab_tableau.specs.Turns.{IsTurned}
 use Rattle.stab_run.specs.Records.{looked_up}
 use Rattle.stab_run.specs.Points.{Point}
+use Rattle.stab_run.specs.Ends.{AgreeBack}
 use Rattle.stab_frames.specs.Frames.{Frame, PointsDifferBy}
-use Rattle.stab_frames.specs.Ends.{AgreeBack}
 use Rattle.stab_frames.specs.Walks.{IsGone}
 use Rattle.stab_frames.proofs.TurnedLemmas.{turned-blank}
 use Rattle.stab_frames.proofs.FlipLemmas.{looked_up-flipped}

@@ -8,9 +8,7 @@ pub mod RunNoteLemmas
 pub mod TurnedCoinLemmas
 pub mod StartLemmas
 pub mod GateLemmas
-pub mod LookbackLemmas
 pub mod EndLemmas
-pub mod FixedLemmas
 pub mod TableauLemmas
 pub mod FrontLemmas
 pub mod EditLemmas

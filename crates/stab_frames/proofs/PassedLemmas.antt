@@ -12,13 +12,13 @@ use Rattle.stab_lines.specs.declared.control.ControlledPair.{ControlledPair}
 use Rattle.stab_lines.specs.declared.control.ControlledPair.TheVariants as pair
 use Rattle.stab_circuit.specs.Steps.{Step, one}
 use Rattle.stab_run.specs.ProgramStates.{StepFits}
+use Rattle.stab_run.proofs.LookbackLemmas.{or-left, or-right}
 use Rattle.stab_outlines.specs.Names.{is_key, names_pair, between}
 use Rattle.stab_frames.specs.Frames.{plus}
 use Rattle.stab_frames.specs.Walks.{WalkState}
 use Rattle.stab_frames.specs.inner.Passes.{GoesOver, GoesFreely}
 use Rattle.stab_frames.specs.inner.Touches.{acts, touches_qubit, touches_pair, Covers}
 use Rattle.stab_frames.proofs.ImageLemmas.{gate-image}
-use Rattle.stab_frames.proofs.LookbackLemmas.{or-left, or-right}
 use Rattle.stab_frames.proofs.WalkLemmas.{both}
 use Rattle.stab_frames.proofs.GoesOverLemmas.{goes-append, freely-none, freely-gate}
 use Rattle.stab_frames.proofs.TouchLemmas.{no-letter, set-same, freely-part}

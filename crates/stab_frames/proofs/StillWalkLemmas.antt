@@ -16,13 +16,13 @@ use Rattle.stab_run.specs.Records.{ones}
 use Rattle.stab_run.specs.Runs.{when, flip_of}
 use Rattle.stab_run.specs.Points.{nothing, joined}
 use Rattle.stab_run.specs.ProgramStates.{StepFits}
+use Rattle.stab_run.proofs.LookbackLemmas.{or-left, or-right}
 use Rattle.stab_frames.specs.Frames.{times_where}
 use Rattle.stab_frames.specs.KeptStrings.{note_at}
 use Rattle.stab_frames.specs.Walks.{WalkState, IsPlaced}
 use Rattle.stab_frames.specs.inner.Passes.{GoesOver, one_coin, none_flipped}
 use Rattle.stab_frames.specs.inner.Touches.{touches_target}
 use Rattle.stab_frames.proofs.FactorLemmas.{single-anticommute}
-use Rattle.stab_frames.proofs.LookbackLemmas.{or-left, or-right}
 use Rattle.stab_frames.proofs.MeasuredPassLemmas.{passed-still, passes-collapse, told-alike, told-measured}
 use Rattle.stab_frames.proofs.GoesOverLemmas.{goes-none, goes-step, goes-append, fits-mapped, all-mapped}
 use Rattle.stab_frames.proofs.TouchLemmas.{take-part}

@@ -12,10 +12,10 @@ use Rattle.stab_circuit.specs.Steps.{measured}
 use Rattle.stab_outlines.specs.Names.{is_key, names_target}
 use Rattle.stab_run.specs.Records.{ones}
 use Rattle.stab_run.specs.ProgramStates.{StepFits}
+use Rattle.stab_run.proofs.LookbackLemmas.{or-left, or-right}
 use Rattle.stab_frames.specs.Walks.{WalkState, IsPlaced}
 use Rattle.stab_frames.specs.inner.Passes.{GoesOver}
 use Rattle.stab_frames.specs.inner.Touches.{acts, touches_target, Covers}
-use Rattle.stab_frames.proofs.LookbackLemmas.{or-left, or-right}
 use Rattle.stab_frames.proofs.GoesOverLemmas.{all-mapped}
 use Rattle.stab_frames.proofs.TouchLemmas.{no-letter, fits-part}
 use Rattle.stab_frames.proofs.StillWalkLemmas.{still_behind, goes-still}

@@ -13,12 +13,12 @@ use Rattle.stab_lines.specs.declared.control.ControlledPair.{ControlledPair}
 use Rattle.stab_lines.specs.declared.control.ControlledPair.TheVariants as pair
 use Rattle.stab_circuit.specs.Steps.{Step, two, controlled_gate, controlled_step}
 use Rattle.stab_run.specs.ProgramStates.{StepFits}
+use Rattle.stab_run.proofs.LookbackLemmas.{or-left, or-right}
 use Rattle.stab_frames.specs.Frames.{plus}
 use Rattle.stab_frames.specs.Walks.{WalkState}
 use Rattle.stab_frames.specs.inner.Passes.{GoesOver, GoesFreely}
 use Rattle.stab_frames.specs.inner.Touches.{acts, PairFits, touches_pair}
 use Rattle.stab_frames.proofs.ImageLemmas.{pair-image}
-use Rattle.stab_frames.proofs.LookbackLemmas.{or-left, or-right}
 use Rattle.stab_frames.proofs.GoesOverLemmas.{goes-append, freely-none, freely-letters, fits-mapped}
 
 -- the pairs are of qubits

@@ -15,14 +15,14 @@ use Rattle.stab_circuit.specs.Steps.{Step, one, two, controlled, collapse, produ
 use Rattle.stab_run.specs.Runs.{string_of}
 use Rattle.stab_run.specs.Points.{Point, coins_of, all_coins_of, next_point, point_after}
 use Rattle.stab_run.specs.ProgramStates.{StepFits}
+use Rattle.stab_run.specs.Ends.{AgreeBack}
+use Rattle.stab_run.proofs.LookbackLemmas.{or-left, or-right}
+use Rattle.stab_run.proofs.FutureBackLemmas.{next-back}
 use Rattle.stab_frames.specs.Frames.{Frame, PointsDifferBy}
 use Rattle.stab_frames.specs.Notes.{same_coins}
-use Rattle.stab_frames.specs.Ends.{AgreeBack}
 use Rattle.stab_frames.specs.FrameSteps.{frame_after}
 use Rattle.stab_frames.specs.StepNotes.{measured_by, AreEnough}
 use Rattle.stab_frames.specs.KeptStrings.{AreTrue}
-use Rattle.stab_frames.proofs.LookbackLemmas.{or-left, or-right}
-use Rattle.stab_frames.proofs.EndLemmas.{next-back}
 use Rattle.stab_frames.proofs.StepLemmas.{step-framed, group-next}
 
 -- in parts

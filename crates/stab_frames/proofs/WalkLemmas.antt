@@ -13,10 +13,10 @@ use Rattle.stab_lines.specs.declared.product.Factor.{Factor}
 use Rattle.stab_lines.specs.Axes.{letter_of}
 use Rattle.stab_tableau.specs.Gates.{letter_at}
 use Rattle.stab_run.specs.Records.{ones}
+use Rattle.stab_run.proofs.LookbackLemmas.{or-left, or-right}
 use Rattle.stab_frames.specs.Flips.{flipped}
 use Rattle.stab_frames.specs.Walks.{WalkState}
 use Rattle.stab_frames.specs.inner.Passes.{factors_anticommute}
-use Rattle.stab_frames.proofs.LookbackLemmas.{or-left, or-right}
 
 -- a letter that was read
 pub read-letter : (letters : List Letter) (q : ℕ) (l : Letter) → q < length letters → l ≡ get_or letters q l → l ≡ get_or letters q I

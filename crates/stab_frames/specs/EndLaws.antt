@@ -1,17 +1,15 @@
--- Laws of ends: when a frame is none, and what follows is the same.
+-- Laws of ends: when a frame is none.
 -- Source: this project's own.
-use Rattle.std.specs.Prelude.{◌≡◌, ℕ, ◌+◌, Bool, true, false, List, ◌++◌, length, replicate}
+use Rattle.std.specs.Prelude.{◌≡◌, ℕ, Bool, true, false, List, ◌++◌, length, replicate}
 use Rattle.stab_letters.specs.declared.letter.Letter.{Letter}
 use Rattle.stab_letters.specs.declared.letter.Letter.TheVariants.{I}
 use Rattle.stab_pauli.specs.Paulis.{Signed, string_product}
 use Rattle.stab_tableau.specs.Traces.{member}
 use Rattle.stab_tableau.specs.Groups.{IsStabiliserGroup}
 use Rattle.stab_tableau.specs.Turns.{IsTurned}
-use Rattle.stab_circuit.specs.Steps.{Step, records_of, looks_too_far}
-use Rattle.stab_run.specs.Records.{ones}
-use Rattle.stab_run.specs.Points.{Point, all_coins_of, point_after, outputs}
+use Rattle.stab_run.specs.Points.{Point}
+use Rattle.stab_run.specs.Ends.{AgreeBack}
 use Rattle.stab_frames.specs.Frames.{Frame, PointsDifferBy}
-use Rattle.stab_frames.specs.Ends.{AgreeBack, with_coin}
 
 -- letters I turn no sign of a stabiliser, nor does a string of which one sign stabilises
 abbrev pub StabilisersTurnNothing : Type 0
@@ -31,16 +29,3 @@ abbrev pub FramesEnd : Type 0
 FramesEnd =
     (n m : ℕ) (f : Frame) (early : List Bool) (a b : Point) → PointsDifferBy n f a b → IsTurned n f.letters (member a.trace) (member a.trace) →
     f.flips ≡ early ++ replicate m false → AgreeBack n m a b
-
--- points that agree as far back as steps look give the same by these steps, and lead to points that agree so much further back
-abbrev pub SameFutureBack : Type 0
-SameFutureBack =
-    (n : ℕ) (coins : ℕ → Bool) (m : ℕ) (xs : List Step) (a b : Point) → looks_too_far m xs ≡ false → AgreeBack n m a b →
-    (outputs n coins xs a ≡ outputs n coins xs b) × AgreeBack n (m + records_of xs) (point_after n coins xs a) (point_after n coins xs b)
-
--- where no coin decides, steps give the same whichever number the next coin has, and lead to the same but for that number
-abbrev pub FixedOutcomesNeedNoCoins : Type 0
-FixedOutcomesNeedNoCoins =
-    (n : ℕ) (coins : ℕ → Bool) (c : ℕ) (xs : List Step) (a : Point) → ones (outputs n coins xs a).free ≡ 0 →
-    (outputs n coins xs (with_coin c a) ≡ outputs n coins xs a)
-    × (point_after n coins xs (with_coin c a) ≡ with_coin (c + all_coins_of xs) (point_after n coins xs a))

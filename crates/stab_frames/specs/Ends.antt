@@ -1,21 +1,9 @@
--- Ends: points of two runs that no step behind them tells apart.
+-- Ends: which number the next coin may have, where no step behind a point tells it apart from another.
 -- Source: this project's own.
-use Rattle.std.specs.Prelude.{◌≡◌, ◌⊎◌, ℕ, ◌≤◌, Bool, List}
-use Rattle.stab_tableau.specs.Traces.{member}
-use Rattle.stab_tableau.specs.Groups.{SameGroup}
+use Rattle.std.specs.Prelude.{◌≡◌, ◌⊎◌, ℕ, Bool, List}
 use Rattle.stab_circuit.specs.Steps.{Step}
-use Rattle.stab_run.specs.Records.{looked_up, ones}
+use Rattle.stab_run.specs.Records.{ones}
 use Rattle.stab_run.specs.Points.{Point, outputs}
-
--- two points have one group, the same number of the next coin, and the same records as far back as rec[-m]
-pub record AgreeBack (n m : ℕ) (a b : Point) : Type 0 where
-  pub group : SameGroup n (member a.trace) (member b.trace)
-  pub coin : a.coin ≡ b.coin
-  pub records : (k : ℕ) → k ≤ m → looked_up a.records k ≡ looked_up b.records k
-
--- a point, with another number for the next coin
-abbrev pub with_coin : ℕ → Point → Point
-with_coin c a = record { trace = a.trace; coin = c; records = a.records }
 
 -- of steps behind a point the next coin may have this number too: it has it, or no coin decides there
 abbrev pub MayHaveCoin : ℕ → (ℕ → Bool) → List Step → Point → ℕ → Type 0

@@ -1,6 +1,6 @@
 //! Laws of ends: when no step can tell two points apart any more.
 
-ghost use Rattle.stab_frames.specs.EndLaws.{FixedOutcomesNeedNoCoins, FramesEnd, FramesUpToStabilisers, SameFutureBack, StabilisersTurnNothing};
+ghost use Rattle.stab_frames.specs.EndLaws.{FramesEnd, FramesUpToStabilisers, StabilisersTurnNothing};
 
 /// Letters I turn no sign of a stabiliser, nor does a string of which one sign stabilises.
 pub fn stabilisers_turn_nothing()
@@ -16,14 +16,4 @@ pub fn frames_up_to_stabilisers()
 /// agree as far back as these.
 pub fn frames_end()
     ensures law { FramesEnd }
-{}
-
-/// Two points that agree as far back as steps look have the same future by these steps.
-pub fn same_future_back()
-    ensures law { SameFutureBack }
-{}
-
-/// Where no coin decides, the number of the next coin makes no difference.
-pub fn fixed_outcomes_need_no_coins()
-    ensures law { FixedOutcomesNeedNoCoins }
 {}

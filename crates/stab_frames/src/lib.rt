@@ -10,8 +10,7 @@
 //! - `step_laws`: steps keep two points apart by a frame; frames multiply, and what they flip adds.
 //! - `note_laws`: which notes are enough for a frame, that each run has right ones, and what tells them.
 //! - `start_laws`: Pauli gates, feedback, inverted records and pairs of gates that begin a frame.
-//! - `end_laws`: when a frame is none, how far back it may have flipped records by then, and that the number of a
-//!   coin which decides nothing makes no difference.
+//! - `end_laws`: when a frame is none, and how far back it may have flipped records by then.
 //! - `run_laws`: whole runs, after an edit by Pauli gates or with other coins, are old ones, flipped.
 //! - `tableau_laws`: a tableau of one run is one of the other, once signs of its rows are turned, and
 //!   what signs tell of a frame.

@@ -7,7 +7,7 @@ use Rattle.std.proofs.lemmas.List.{drop-drop, take-append-drop}
 use Rattle.std.proofs.lemmas.List.Elements.{All-head, All-tail, All-drop, All-weaker}
 use Rattle.std.proofs.lemmas.Option.{slice_get-map}
 use Rattle.stab_circuit.specs.Steps.{Step, looks_too_far}
-use Rattle.stab_frames.specs.Ends.{AgreeBack, with_coin, MayHaveCoin}
+use Rattle.stab_frames.specs.Ends.{MayHaveCoin}
 use Rattle.stab_frames.specs.Lookbacks.{LooksWithin}
 use Rattle.stab_replay.proofs.NotedLemmas.{near-enough}
 use Rattle.stab_copies.specs.declared.checkpoint.Checkpoint.{Checkpoint}
@@ -21,6 +21,7 @@ use Rattle.stab_run.specs.Points.{RunOutput, origin, point_after, outputs, all_c
 use Rattle.stab_run.specs.Laws.{AgreeAt}
 use Rattle.stab_kept.specs.Counts.{last_until, MayBeMet, EndsAt, NoneBefore, IsCounted}
 use Rattle.stab_run.specs.ProgramStates.{program_state, output_of}
+use Rattle.stab_run.specs.Ends.{AgreeBack, with_coin}
 use Rattle.stab_copies.specs.Spacing.{last_of}
 use Rattle.stab_copies.specs.Checkpoints.{IsRunFromStart, IsCheckpoint, checkpoint_steps}
 use Rattle.stab_copies.specs.LaidCopies.{moved}

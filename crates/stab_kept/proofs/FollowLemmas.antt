@@ -20,11 +20,12 @@ use Rattle.stab_kept.specs.declared.kept.Prepared.{Prepared}
 use Rattle.stab_kept.specs.declared.kept.Rest.{Rest}
 use Rattle.stab_run.specs.Records.{ones}
 use Rattle.stab_run.specs.Points.{RunOutput, origin, joined, point_after, outputs, with_additions}
-use Rattle.stab_frames.specs.Ends.{AgreeBack, with_coin, MayHaveCoin}
+use Rattle.stab_frames.specs.Ends.{MayHaveCoin}
 use Rattle.stab_frames.specs.Lookbacks.{LooksWithin}
 use Rattle.stab_run.specs.ProgramStates.{StepFits, program_state, output_of}
 use Rattle.stab_copies.specs.Spacing.{Near, IsSpaced, last_of}
 use Rattle.stab_run.specs.Cuts.{lengths_of, front_of, rest_of}
+use Rattle.stab_run.specs.Ends.{AgreeBack, with_coin}
 use Rattle.stab_copies.specs.Checkpoints.{IsRunFromStart, IsCheckpoint, checkpoint_steps}
 use Rattle.stab_copies.specs.LaidCopies.{all_laid, moved, moved_copy}
 use Rattle.stab_frames.specs.KeptStrings.{StringsState}

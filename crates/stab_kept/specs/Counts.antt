@@ -3,7 +3,8 @@
 use Rattle.std.specs.Prelude.{◌≡◌, ◌⊎◌, ℕ, ◌+◌, ◌-◌, ◌<◌, ◌≤◌, nat_le, if◌then◌else◌, Bool, false, List, [], ◌∷◌, IfSome, IsSomeAnd, slice_get}
 use Rattle.stab_circuit.specs.Steps.{Step, looks_too_far}
 use Rattle.stab_run.specs.Points.{Point}
-use Rattle.stab_frames.specs.Ends.{AgreeBack, with_coin, MayHaveCoin}
+use Rattle.stab_run.specs.Ends.{AgreeBack, with_coin}
+use Rattle.stab_frames.specs.Ends.{MayHaveCoin}
 
 -- two points before some steps have one group, the same number of the next coin unless none decides in these steps, and the same records
 -- as far back as these look

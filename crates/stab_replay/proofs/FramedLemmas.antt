@@ -20,6 +20,10 @@ use Rattle.stab_steps.specs.declared.records.Addition.{Addition}
 use Rattle.stab_run.specs.Records.{looked_up, ones}
 use Rattle.stab_run.specs.Points.{Point, RunOutput, nothing, joined, coins_of, next_point, point_after, outputs}
 use Rattle.stab_run.specs.ProgramStates.{StepFits}
+use Rattle.stab_run.specs.Ends.{AgreeBack, with_coin}
+use Rattle.stab_run.proofs.LookbackLemmas.{or-left, or-right}
+use Rattle.stab_run.proofs.FutureBackLemmas.{same-future-back}
+use Rattle.stab_run.proofs.FixedLemmas.{fixed-future, fixed-front}
 use Rattle.stab_steps.proofs.RunLemmas.{after-append, outputs-append, joined-nothing}
 use Rattle.stab_frames.specs.Flips.{flipped, flipped_additions, flipped_output}
 use Rattle.stab_frames.specs.Frames.{Frame, PointsDifferBy}
@@ -28,17 +32,14 @@ use Rattle.stab_frames.specs.FrameSteps.{frame_over, flips_over}
 use Rattle.stab_frames.specs.StepNotes.{AreEnough, measured_by}
 use Rattle.stab_frames.specs.KeptStrings.{IsTrueAt, AreTrue}
 use Rattle.stab_frames.specs.Walks.{IsGone}
-use Rattle.stab_frames.specs.Ends.{AgreeBack, with_coin, MayHaveCoin}
+use Rattle.stab_frames.specs.Ends.{MayHaveCoin}
 use Rattle.stab_replay.specs.FramedReplays.{HaveSameFuture}
 use Rattle.stab_copies.proofs.TakeLemmas.{take-more}
 use Rattle.stab_frames.proofs.SignLemmas.{sign-twice}
 use Rattle.stab_frames.proofs.TurnedLemmas.{turned-blank}
-use Rattle.stab_frames.proofs.LookbackLemmas.{or-left, or-right}
 use Rattle.stab_frames.proofs.FlipLemmas.{looked_up-flipped, flipped-joined}
 use Rattle.stab_frames.proofs.StepLemmas.{over-framed, outputs-matches}
 use Rattle.stab_frames.proofs.NoteLemmas.{enough-before}
-use Rattle.stab_frames.proofs.EndLemmas.{same-future-back}
-use Rattle.stab_frames.proofs.FixedLemmas.{fixed-future, fixed-front}
 
 -- strings that exchange outcomes in the one state do so in the other
 

@@ -16,12 +16,12 @@ use Rattle.stab_run.specs.Points.{Point, RunOutput, origin, coins_of, all_coins_
 use Rattle.stab_run.specs.ProgramStates.{ProgramState, IsAt}
 use Rattle.stab_steps.proofs.RecordLemmas.{ones-append}
 use Rattle.stab_run.proofs.PointLemmas.{flags-are-coins, front-output, rest-output}
+use Rattle.stab_run.proofs.LookbackLemmas.{or-left, or-right}
 use Rattle.stab_frames.specs.Limits.{most_strings}
 use Rattle.stab_frames.specs.KeptStrings.{StringsState, IsNumbered, IsTrueAt, AreTrue, KeepsTrue, note_at, front_kept}
 use Rattle.stab_frames.specs.Lookbacks.{LooksWithin}
 use Rattle.stab_frames.specs.StepNotes.{measured_by}
 use Rattle.stab_frames.specs.Ends.{MayHaveCoin}
-use Rattle.stab_frames.proofs.LookbackLemmas.{or-left, or-right}
 use Rattle.stab_copies.proofs.BitLemmas.{counted}
 use Rattle.stab_replay.specs.NotedStrings.{IsNoted, IsSpliced}
 use Rattle.stab_replay.proofs.CutLemmas.{get-take, get-beyond, get-left, get-right, get-drop, bit-take, bit-left, bit-right, bit-drop, take-left, take-right, take-again, take-on, ones-take}

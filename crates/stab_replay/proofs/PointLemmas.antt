@@ -12,10 +12,10 @@ use Rattle.stab_copies.specs.declared.checkpoint.Meeting.{Meeting}
 use Rattle.stab_run.specs.Points.{Point, RunOutput, origin, joined, point_after, outputs}
 use Rattle.stab_run.specs.Records.{looked_up, ones}
 use Rattle.stab_run.specs.Laws.{AgreeAt}
-use Rattle.stab_frames.specs.Ends.{AgreeBack, with_coin, MayHaveCoin}
-use Rattle.stab_frames.proofs.LookbackLemmas.{looked_up-near}
+use Rattle.stab_frames.specs.Ends.{MayHaveCoin}
 use Rattle.stab_run.specs.ProgramStates.{ProgramState, IsAt, IsRun, program_state}
 use Rattle.stab_run.specs.Cuts.{lengths_of, front_of, rest_of}
+use Rattle.stab_run.specs.Ends.{AgreeBack, with_coin}
 use Rattle.stab_copies.specs.Checkpoints.{IsRunFromStart, IsCheckpoint}
 use Rattle.stab_copies.specs.LaidCopies.{moved, moved_lengths, moved_copy}
 use Rattle.stab_copies.specs.Meets.{Meets}
@@ -24,6 +24,7 @@ use Rattle.stab_copies.proofs.TakeLemmas.{take-more}
 use Rattle.stab_steps.proofs.RunLemmas.{after-append, outputs-append}
 use Rattle.stab_run.proofs.FutureLemmas.{same-future}
 use Rattle.stab_run.proofs.PointLemmas.{flags-are-coins, records-are-records, cut, front-output, rest-output, HasAtMost, outputs-short}
+use Rattle.stab_run.proofs.LookbackLemmas.{looked_up-near}
 
 -- a run that goes on from a state of a run from the start
 

@@ -7,14 +7,15 @@ use Rattle.stab_circuit.specs.Steps.{Step, one, two, controlled, collapse, produ
 use Rattle.stab_run.specs.Records.{looked_up, ones}
 use Rattle.stab_run.specs.Runs.{when, string_of, flip_of}
 use Rattle.stab_run.specs.Points.{Point, nothing, joined, given, coins_of, all_coins_of, next_point, point_after, outputs}
+use Rattle.stab_run.specs.Ends.{AgreeBack, with_coin}
+use Rattle.stab_run.proofs.FutureBackLemmas.{same-future-back}
+use Rattle.stab_run.proofs.FixedLemmas.{fixed-future}
 use Rattle.stab_steps.proofs.RecordLemmas.{ones-append}
 use Rattle.stab_frames.specs.Frames.{Frame, times_where}
 use Rattle.stab_frames.specs.Notes.{same_coins}
 use Rattle.stab_frames.specs.FrameSteps.{flipped_by, letters_by, letters_after, flips_given, frame_after, frame_over, flips_over}
 use Rattle.stab_frames.specs.StepNotes.{IsEnoughAt, AreEnough}
-use Rattle.stab_frames.specs.Ends.{AgreeBack, with_coin, MayHaveCoin}
-use Rattle.stab_frames.proofs.EndLemmas.{same-future-back}
-use Rattle.stab_frames.proofs.FixedLemmas.{fixed-future}
+use Rattle.stab_frames.specs.Ends.{MayHaveCoin}
 
 -- what steps make of a frame, with notes that are the same at their coins
 

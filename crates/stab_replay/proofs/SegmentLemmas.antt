@@ -12,8 +12,11 @@ use Rattle.stab_circuit.specs.Steps.{Step, one, two, controlled, collapse, produ
 use Rattle.stab_run.specs.Records.{ones}
 use Rattle.stab_run.specs.Points.{Point, RunOutput, origin, joined, point_after, outputs, all_coins_of}
 use Rattle.stab_run.specs.ProgramStates.{StepFits}
+use Rattle.stab_run.specs.Ends.{AgreeBack, with_coin}
 use Rattle.stab_steps.proofs.RunLemmas.{after-append, outputs-append}
 use Rattle.stab_run.proofs.PointLemmas.{flags-are-coins, flags-counted, records-gathered, rest-output}
+use Rattle.stab_run.proofs.FutureBackLemmas.{records-made}
+use Rattle.stab_run.proofs.FixedLemmas.{fixed-front}
 use Rattle.stab_frames.specs.declared.steps.Stop.{Stop}
 use Rattle.stab_frames.specs.declared.steps.Stop.TheVariants.{Behind, Gone, NoString}
 use Rattle.stab_frames.specs.Flips.{flipped, flipped_additions, flipped_output}
@@ -23,12 +26,10 @@ use Rattle.stab_frames.specs.FrameSteps.{frame_after, frame_over, flips_over}
 use Rattle.stab_frames.specs.StepNotes.{AreEnough}
 use Rattle.stab_frames.specs.KeptStrings.{AreTrue}
 use Rattle.stab_frames.specs.Lookbacks.{LooksWithin}
-use Rattle.stab_frames.specs.Ends.{AgreeBack, with_coin, MayHaveCoin}
+use Rattle.stab_frames.specs.Ends.{MayHaveCoin}
 use Rattle.stab_frames.specs.Stops.{IsStop}
 use Rattle.stab_frames.specs.Walks.{WalkState, frame_at, WalksOver, IsGone}
 use Rattle.stab_frames.proofs.FrontLemmas.{group-after}
-use Rattle.stab_frames.proofs.EndLemmas.{records-made}
-use Rattle.stab_frames.proofs.FixedLemmas.{fixed-front}
 use Rattle.stab_frames.proofs.StepLemmas.{over-framed}
 use Rattle.stab_replay.specs.FramedReplays.{HaveSameFuture, HaveMoved, IsFramedAt, IsFramedOver, AreEnoughBy, flips_since}
 use Rattle.stab_copies.proofs.TakeLemmas.{take-more}

@@ -14,13 +14,13 @@ use Rattle.stab_run.specs.Records.{ones}
 use Rattle.stab_run.specs.Points.{Point, RunOutput, nothing, origin, joined, point_after, outputs}
 use Rattle.stab_run.specs.ProgramStates.{StepFits, output_of}
 use Rattle.stab_run.specs.Cuts.{lengths_of, front_of, rest_of}
+use Rattle.stab_run.specs.Ends.{AgreeBack, with_coin}
 use Rattle.stab_steps.specs.declared.records.Lengths.{Lengths}
 use Rattle.stab_frames.specs.declared.steps.Stop.{Stop}
 use Rattle.stab_frames.specs.declared.steps.Stop.TheVariants.{Behind}
 use Rattle.stab_frames.specs.Flips.{flipped, flipped_output}
 use Rattle.stab_frames.specs.Frames.{PointsDifferBy}
 use Rattle.stab_frames.specs.KeptStrings.{StringsState, AreTrue, note_at, kept_with}
-use Rattle.stab_frames.specs.Ends.{AgreeBack, with_coin}
 use Rattle.stab_frames.specs.Notes.{same_coins}
 use Rattle.stab_frames.specs.StepNotes.{AreEnough}
 use Rattle.stab_frames.specs.Stops.{IsStop}

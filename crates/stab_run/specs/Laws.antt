@@ -1,18 +1,21 @@
 -- Laws of runs: a state is a point with what was given so far; a coin that does not decide makes no difference; the trace of
--- a run is sound; and the future depends on the group, the number of the next coin and the records alone.
+-- a run is sound; and the future depends on the group, the number of the next coin and the records alone: on these as far back as
+-- steps look, and on that number where a coin decides.
 -- Source: Aaronson and Gottesman 2004, section III: an outcome is fixed, or either of both. That a coin is given for each, and what
 -- the future depends on, is this project's own.
-use Rattle.std.specs.Prelude.{◌≡◌, ℕ, Bool, true, false, List, All, None, slice_index_or}
+use Rattle.std.specs.Prelude.{◌≡◌, ℕ, ◌+◌, Bool, true, false, List, All, None, slice_index_or}
 use Rattle.stab_pauli.specs.Paulis.{Signed}
 use Rattle.stab_tableau.specs.Traces.{Event, member, outcome, is_free, Fits, IsSound}
 use Rattle.stab_tableau.specs.Groups.{SameGroup}
 use Rattle.stab_circuit.specs.Items.{Items}
-use Rattle.stab_circuit.specs.Steps.{Step, unroll, check_within}
+use Rattle.stab_circuit.specs.Steps.{Step, unroll, records_of, looks_too_far, check_within}
 use Rattle.stab_circuit.specs.Cursors.{IsApart}
 use Rattle.stab_circuit.specs.Laws.{AreLinesOf}
+use Rattle.stab_steps.specs.Records.{ones}
 use Rattle.stab_steps.specs.Runs.{State, run, run_of}
-use Rattle.stab_steps.specs.Points.{Point, point_after, outputs, point_of, state_at}
+use Rattle.stab_steps.specs.Points.{Point, all_coins_of, point_after, outputs, point_of, state_at}
 use Rattle.stab_steps.specs.ProgramStates.{StepFits}
+use Rattle.stab_run.specs.Ends.{AgreeBack, with_coin}
 
 -- a run ends at the point where its steps lead, with what they give put behind what there was
 abbrev pub RunsArePointsWithOutputs : Type 0
@@ -63,3 +66,16 @@ abbrev pub SameFuture : Type 0
 SameFuture =
     (n : ℕ) (coins : ℕ → Bool) (xs : List Step) (a b : Point) → AgreeAt n a b →
     (outputs n coins xs a ≡ outputs n coins xs b) × AgreeAt n (point_after n coins xs a) (point_after n coins xs b)
+
+-- points that agree as far back as steps look give the same by these steps, and lead to points that agree so much further back
+abbrev pub SameFutureBack : Type 0
+SameFutureBack =
+    (n : ℕ) (coins : ℕ → Bool) (m : ℕ) (xs : List Step) (a b : Point) → looks_too_far m xs ≡ false → AgreeBack n m a b →
+    (outputs n coins xs a ≡ outputs n coins xs b) × AgreeBack n (m + records_of xs) (point_after n coins xs a) (point_after n coins xs b)
+
+-- where no coin decides, steps give the same whichever number the next coin has, and lead to the same but for that number
+abbrev pub FixedOutcomesNeedNoCoins : Type 0
+FixedOutcomesNeedNoCoins =
+    (n : ℕ) (coins : ℕ → Bool) (c : ℕ) (xs : List Step) (a : Point) → ones (outputs n coins xs a).free ≡ 0 →
+    (outputs n coins xs (with_coin c a) ≡ outputs n coins xs a)
+    × (point_after n coins xs (with_coin c a) ≡ with_coin (c + all_coins_of xs) (point_after n coins xs a))

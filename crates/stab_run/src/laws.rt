@@ -1,6 +1,7 @@
 //! Laws of runs. Each function does nothing: its contract is the law, and the check proves it.
 
-ghost use Rattle.stab_run.specs.Laws.{CheckedStepsFit, RunsArePointsWithOutputs, CoinsDecideFreeOutcomes, RunsDependOnFreeCoins, RunsAreSound, SameFuture};
+ghost use Rattle.stab_run.specs.Laws.{CheckedStepsFit, FixedOutcomesNeedNoCoins, RunsArePointsWithOutputs, CoinsDecideFreeOutcomes, RunsDependOnFreeCoins, RunsAreSound, SameFuture, SameFutureBack};
+ghost use Rattle.stab_run.specs.RoundLaws.{RoundsComeAgain};
 
 /// A run ends at the point where its steps lead, with what the steps give put behind what there
 /// was; so prefixes and tails of runs are prefixes and tails of lists.
@@ -37,4 +38,20 @@ pub fn checked_steps_fit()
 /// and leads to two such points.
 pub fn same_future()
     ensures law { SameFuture }
+{}
+
+/// Two points that agree as far back as steps look have the same future by these steps.
+pub fn same_future_back()
+    ensures law { SameFutureBack }
+{}
+
+/// Where no coin decides, the number of the next coin makes no difference.
+pub fn fixed_outcomes_need_no_coins()
+    ensures law { FixedOutcomesNeedNoCoins }
+{}
+
+/// Steps that no coin decides, and that lead to where they began as far back as they look, give the
+/// same again, however often they are repeated.
+pub fn rounds_come_again()
+    ensures law { RoundsComeAgain }
 {}

@@ -4,7 +4,7 @@
 //!
 //! - `run`: some steps or all of a circuit, and what they give.
 //! - `sampler`: one circuit made ready for many runs, and one run of it.
-//! - `laws`: what a run depends on, and that what happens in it is sound.
+//! - `laws`: what a run depends on, that what happens in it is sound, and when rounds of steps come again.
 //!
 //! Coins, what steps give, and one step or those of one instruction are `stab_steps`', whose names and
 //! definitions stand here too.

@@ -14,9 +14,10 @@ use Rattle.stab_run.specs.Points.{Point, RunOutput, joined, point_after, outputs
 use Rattle.stab_run.specs.ProgramStates.{StepFits}
 use Rattle.stab_run.specs.Cuts.{lengths_of}
 use Rattle.stab_run.specs.Laws.{AgreeAt}
+use Rattle.stab_run.specs.Ends.{AgreeBack}
 use Rattle.stab_run.proofs.FutureLemmas.{same-future}
+use Rattle.stab_run.proofs.FutureBackLemmas.{same-future-back}
 use Rattle.stab_steps.proofs.RunLemmas.{after-append, outputs-append}
-use Rattle.stab_frames.specs.Ends.{AgreeBack}
 use Rattle.stab_frames.specs.Flips.{flipped_output}
 use Rattle.stab_frames.specs.Frames.{Frame, PointsDifferBy}
 use Rattle.stab_frames.specs.FrameSteps.{frame_over, flips_over}
@@ -24,7 +25,6 @@ use Rattle.stab_frames.specs.Lookbacks.{LooksWithin}
 use Rattle.stab_frames.specs.Notes.{same_coins}
 use Rattle.stab_frames.specs.StepNotes.{AreEnough}
 use Rattle.stab_frames.specs.Walks.{WalkState, frame_at, WalksOver}
-use Rattle.stab_frames.proofs.EndLemmas.{same-future-back}
 use Rattle.stab_frames.proofs.FlipLemmas.{length-flipped, length-flipped_additions, looked_up-flipped}
 use Rattle.stab_frames.proofs.NoteLemmas.{enough-before}
 use Rattle.stab_frames.proofs.StepLemmas.{over-framed, outputs-matches}

@@ -5,7 +5,7 @@ use Rattle.std.specs.List.{list_any}
 use Rattle.std.proofs.lemmas.Bool.{cases_lt}
 use Rattle.std.proofs.lemmas.List.{length-append, get_or_append_left, get_or-append-add}
 use Rattle.stab_letters.specs.Letters.{◌⊕◌}
-use Rattle.stab_run.specs.Records.{looked_up, parity}
+use Rattle.stab_steps.specs.Records.{looked_up, parity}
 
 -- lookbacks into a list behind another
 

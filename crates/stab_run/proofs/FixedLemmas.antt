@@ -5,12 +5,12 @@ use Rattle.stab_letters.specs.Letters.{◌⊕◌}
 use Rattle.stab_pauli.specs.Paulis.{Signed, single, minus}
 use Rattle.stab_tableau.specs.Traces.{Event, member, is_free, projected}
 use Rattle.stab_circuit.specs.Steps.{Step, one, two, controlled, collapse, product, detector, observable}
-use Rattle.stab_run.specs.Records.{ones}
-use Rattle.stab_run.specs.Runs.{when, string_of, outcome_at, collapsed}
-use Rattle.stab_run.specs.Points.{Point, nothing, joined, given, trace_after, coins_of, next_point, point_after, outputs}
+use Rattle.stab_steps.specs.Records.{ones}
+use Rattle.stab_steps.specs.Runs.{when, string_of, outcome_at, collapsed}
+use Rattle.stab_steps.specs.Points.{Point, nothing, joined, given, trace_after, coins_of, next_point, point_after, outputs}
+use Rattle.stab_run.specs.Ends.{with_coin}
+use Rattle.stab_run.specs.Laws.{FixedOutcomesNeedNoCoins}
 use Rattle.stab_steps.proofs.RecordLemmas.{ones-append}
-use Rattle.stab_frames.specs.Ends.{with_coin}
-use Rattle.stab_frames.specs.EndLaws.{FixedOutcomesNeedNoCoins}
 
 decided : (a b c d : Bool) → ones ((not a && not b) ∷ []) ≡ 0 → (if a then false else (if b then true else c)) ≡ (if a then false else (if b then true else d))
 decided true b c d none = refl
