@@ -64,9 +64,7 @@ pub fn measure_with_exchange<C: Coins>(
             outcome,
             free: false,
         },
-        None => {
-            tableau.collapse_letter_with_exchange(letter, qubit, coins.coin(coin), exchange)
-        }
+        None => { tableau.collapse_letter_with_exchange(letter, qubit, coins.coin(coin), exchange) }
     }
 }
 
