@@ -7,14 +7,13 @@ use Rattle.stab_pauli.specs.Paulis.{Signed, single, string_product, strings_anti
 use Rattle.stab_lines.specs.declared.product.Factor.{Factor}
 use Rattle.stab_circuit.specs.Steps.{Step, collapse, product}
 use Rattle.stab_run.specs.Records.{ones}
-use Rattle.stab_run.specs.Runs.{when, string_of, flip_of}
+use Rattle.stab_run.specs.Runs.{when, string_of, flip_of, measured_by}
 use Rattle.stab_run.specs.Points.{RunOutput, nothing, joined, coins_of}
 use Rattle.stab_steps.proofs.RunLemmas.{joined-nothing, joined-assoc}
 use Rattle.stab_frames.specs.Frames.{times_where}
 use Rattle.stab_frames.specs.Notes.{same_coins}
 use Rattle.stab_frames.specs.FrameSteps.{flipped_by, letters_by, letters_after, flips_given}
 use Rattle.stab_frames.specs.KeptStrings.{note_at}
-use Rattle.stab_frames.specs.StepNotes.{measured_by}
 use Rattle.stab_frames.specs.Walks.{WalkState, frame_at, IsPlaced}
 use Rattle.stab_frames.specs.inner.Passes.{Passes, IsPassed, IsTold, IsToldBy, flip_by, letters_for, one_coin}
 use Rattle.stab_frames.proofs.RunNoteLemmas.{unmeasured}

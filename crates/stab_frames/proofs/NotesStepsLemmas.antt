@@ -1,18 +1,23 @@
 -- Notes of steps: what a run notes of steps one after another, of those of targets, and of steps that measure nothing.
-use Rattle.std.proofs.Common.{◌≡◌, ℕ, ◌+◌, ◌<◌, ◌≤◌, refl, sym, ◌∙◌, ap, subst, Bool, List, [], ◌∷◌, ◌++◌, All, length, map, take, get_or, arith}
+use Rattle.std.proofs.Common.{◌≡◌, ℕ, ◌+◌, ◌<◌, ◌≤◌, refl, sym, ◌∙◌, ap, subst, Bool, true, false, List, [], ◌∷◌, ◌++◌, All, length, map, take, get_or, arith}
+use Rattle.std.specs.Prelude.{Option, Some, None}
 use Rattle.std.proofs.lemmas.List.{map_more, take_all}
 use Rattle.std.proofs.lemmas.List.Elements.{All-nil, All-cons, All-head, All-tail, All-append}
+use Rattle.stab_letters.specs.declared.letter.Letter.{Letter}
 use Rattle.stab_letters.specs.declared.gate.Gate.{Gate}
+use Rattle.stab_pauli.specs.Paulis.{Signed}
 use Rattle.stab_lines.specs.declared.axis.Axis.{Axis}
 use Rattle.stab_lines.specs.declared.control.ControlledPair.{ControlledPair}
 use Rattle.stab_lines.specs.declared.control.ControlledPair.TheVariants as pair
 use Rattle.stab_circuit.specs.Steps.{Step, one, controlled_step, detector, lookbacks}
+use Rattle.stab_run.specs.Runs.{measured_by}
+use Rattle.stab_run.specs.Exchanged.{IsExchanged}
 use Rattle.stab_run.specs.Points.{all_coins_of}
 use Rattle.stab_run.specs.ProgramStates.{ProgramState, IsRun}
 use Rattle.stab_steps.proofs.RunLemmas.{IsRun-none, IsRun-append}
-use Rattle.stab_frames.specs.KeptStrings.{StringsState}
+use Rattle.stab_frames.specs.KeptStrings.{StringsState, kept_with}
 use Rattle.stab_frames.specs.Lookbacks.{LooksWithin}
-use Rattle.stab_frames.specs.inner.Noted.{IsNoted, NotesSteps}
+use Rattle.stab_frames.specs.inner.Noted.{IsNotedOf, IsNoted, NotesSteps}
 use Rattle.stab_frames.proofs.WalkLemmas.{near-more}
 use Rattle.stab_frames.proofs.NotedLemmas.{keeps-unmeasured, keeps-step, keeps-none, keeps-append}
 
@@ -31,13 +36,30 @@ notes-none n coins xs reach kept a e = subst (λ ys. NotesSteps n coins ys reach
   within = All-nil (LooksWithin reach);
 })
 
-pub notes-step : (n : ℕ) (coins : ℕ → Bool) (x : Step) (reach : ℕ) (kept behind : StringsState) (a b : ProgramState) → IsNoted n a.stabilised x kept behind
+notes-step : (n : ℕ) (coins : ℕ → Bool) (x : Step) (reach : ℕ) (kept behind : StringsState) (a b : ProgramState) → IsNoted n a.stabilised x kept behind
     → behind.most ≡ kept.most → LooksWithin reach x → IsRun n coins (x ∷ []) a b → NotesSteps n coins (x ∷ []) reach kept behind a b
 notes-step n coins x reach kept behind a b noted most near run = record {
   run = run;
   noted = keeps-step n coins x kept behind a b noted most run;
   within = All-cons (LooksWithin reach) x [] near (All-nil (LooksWithin reach));
 }
+
+noted-of : (n : ℕ) (member : Signed → Bool) (m : Option Signed) (free : Bool) (letters : List Letter) (kept behind : StringsState)
+    → IsExchanged n member m free letters → (free ≡ true → behind.strings ≡ kept_with kept.most kept.strings (letters ∷ []))
+    → (free ≡ false → behind.strings ≡ kept.strings) → IsNotedOf n member m kept behind
+noted-of n member None free letters kept behind told more same = same told
+noted-of n member (Some m) free letters kept behind told more same = (
+  λ e. record { string = letters; exchanges = told.1 (told.0 ∙ e); strings = more (told.0 ∙ e) },
+  λ e. same (told.0 ∙ e),
+)
+
+-- the string that a step wrote was put behind the others, where a coin decided
+pub notes-exchanged : (n : ℕ) (coins : ℕ → Bool) (x : Step) (reach : ℕ) (free : Bool) (letters : List Letter) (kept behind : StringsState) (a b : ProgramState)
+    → IsExchanged n a.stabilised (measured_by n x) free letters → (free ≡ true → behind.strings ≡ kept_with kept.most kept.strings (letters ∷ []))
+    → (free ≡ false → behind.strings ≡ kept.strings) → behind.most ≡ kept.most → LooksWithin reach x → IsRun n coins (x ∷ []) a b
+    → NotesSteps n coins (x ∷ []) reach kept behind a b
+notes-exchanged n coins x reach free letters kept behind a b told more same most near run =
+    notes-step n coins x reach kept behind a b (noted-of n a.stabilised (measured_by n x) free letters kept behind told more same) most near run
 
 notes-append : (n : ℕ) (coins : ℕ → Bool) (xs ys : List Step) (near far : ℕ) (kept mid behind : StringsState) (a b c : ProgramState) → near ≤ far
     → NotesSteps n coins xs near kept mid a b → NotesSteps n coins ys far mid behind b c → NotesSteps n coins (xs ++ ys) far kept behind a c

@@ -12,7 +12,7 @@ use Rattle.stab_tableau.specs.Groups.{SameGroup, IsStabiliserGroup}
 use Rattle.stab_tableau.specs.Turns.{IsTurned}
 use Rattle.stab_tableau.specs.Exchanges.{Exchanges}
 use Rattle.stab_circuit.specs.Steps.{Step, one, two, controlled, collapse, product, detector, observable, lookbacks, makes, looks_too_far}
-use Rattle.stab_run.specs.Runs.{string_of}
+use Rattle.stab_run.specs.Runs.{string_of, measured_by}
 use Rattle.stab_run.specs.Points.{Point, coins_of, all_coins_of, next_point, point_after}
 use Rattle.stab_run.specs.ProgramStates.{StepFits}
 use Rattle.stab_run.specs.Ends.{AgreeBack}
@@ -21,7 +21,7 @@ use Rattle.stab_run.proofs.FutureBackLemmas.{next-back}
 use Rattle.stab_frames.specs.Frames.{Frame, PointsDifferBy}
 use Rattle.stab_frames.specs.Notes.{same_coins}
 use Rattle.stab_frames.specs.FrameSteps.{frame_after}
-use Rattle.stab_frames.specs.StepNotes.{measured_by, AreEnough}
+use Rattle.stab_frames.specs.StepNotes.{AreEnough}
 use Rattle.stab_frames.specs.KeptStrings.{AreTrue}
 use Rattle.stab_frames.proofs.StepLemmas.{step-framed, group-next}
 

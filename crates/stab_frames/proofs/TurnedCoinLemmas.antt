@@ -4,12 +4,12 @@ use Rattle.std.specs.Prelude.{IfSome}
 use Rattle.std.proofs.lemmas.Option.{IfSome_then}
 use Rattle.stab_pauli.specs.Paulis.{single, strings_anticommute}
 use Rattle.stab_circuit.specs.Steps.{Step, one, two, controlled, collapse, product, detector, observable}
-use Rattle.stab_run.specs.Runs.{string_of}
+use Rattle.stab_run.specs.Runs.{string_of, measured_by}
 use Rattle.stab_run.specs.Points.{coins_of}
 use Rattle.stab_frames.specs.Frames.{Frame}
 use Rattle.stab_frames.specs.Notes.{no_strings}
 use Rattle.stab_frames.specs.FrameSteps.{frame_after}
-use Rattle.stab_frames.specs.StepNotes.{measured_by, AreTurned}
+use Rattle.stab_frames.specs.StepNotes.{AreTurned}
 use Rattle.stab_frames.specs.NoteLaws.{FramesHaveCoins}
 use Rattle.stab_frames.proofs.RunNoteLemmas.{said_at, said-here, said-beyond, unmeasured}
 

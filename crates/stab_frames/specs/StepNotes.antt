@@ -1,25 +1,15 @@
 -- Step notes: notes of what the steps of a run measure, and whether they are enough for a frame that follows these steps.
 -- Source: this project's own.
-use Rattle.std.specs.Prelude.{◌≡◌, ℕ, ◌+◌, Bool, List, [], ◌∷◌, Option, Some, None, IfSome}
+use Rattle.std.specs.Prelude.{◌≡◌, ℕ, ◌+◌, Bool, List, [], ◌∷◌, Option, IfSome}
 use Rattle.stab_letters.specs.declared.letter.Letter.{Letter}
-use Rattle.stab_pauli.specs.Paulis.{Signed, single, strings_anticommute}
+use Rattle.stab_pauli.specs.Paulis.{strings_anticommute}
 use Rattle.stab_tableau.specs.Traces.{member}
-use Rattle.stab_circuit.specs.Steps.{Step, one, two, controlled, collapse, product, detector, observable}
-use Rattle.stab_run.specs.Runs.{string_of}
+use Rattle.stab_circuit.specs.Steps.{Step}
+use Rattle.stab_run.specs.Runs.{measured_by}
 use Rattle.stab_run.specs.Points.{Point, coins_of, next_point}
 use Rattle.stab_frames.specs.Frames.{Frame}
 use Rattle.stab_frames.specs.Notes.{Notes, no_strings, IsNoteOf, IsEnough}
 use Rattle.stab_frames.specs.FrameSteps.{frame_after}
-
--- what a step measures, if anything
-abbrev pub measured_by : ℕ → Step → Option Signed
-measured_by n (one g q) = None
-measured_by n (two g a b) = None
-measured_by n (controlled l k q) = None
-measured_by n (collapse l q recorded inverted resets) = Some (single n q l)
-measured_by n (product factors inverted) = Some (string_of n factors)
-measured_by n (detector ks) = None
-measured_by n (observable j ks) = None
 
 -- the note of what a step at a point measures is right
 abbrev pub IsRightAt : ℕ → (ℕ → Option (List Letter)) → Step → Point → Type 0

@@ -2,7 +2,7 @@ ghost use Rattle.std.specs.Prelude.{◌≡◌, ◌+◌, ◌<◌, ◌≤◌, ◌^
 ghost use Rattle.std.specs.List.{list_any};
 ghost use Rattle.stab_io.specs.declared.refusal.Refusal.TheVariants.{OutOfMemory};
 ghost use Rattle.stab_circuit.specs.Steps.{controlled_step, detector};
-ghost use Rattle.stab_circuit.specs.Cursors.{lookbacks_of};
+ghost use Rattle.stab_circuit.specs.Cursors.{lookbacks_of, step_shown};
 ghost use Rattle.stab_run.specs.Records.{ones};
 ghost use Rattle.stab_run.specs.Points.{all_coins_of};
 ghost use Rattle.stab_run.specs.ProgramStates.{StepFits, IsRun, program_state, output_of};
@@ -15,7 +15,7 @@ use stab_circuit::{
 };
 use stab_io::Refusal;
 use stab_pauli::Pauli;
-use stab_run::{Coins, Outputs, apply_step, apply_steps, write_product};
+use stab_run::{Coins, Outputs, apply_step_with_exchange, apply_steps};
 use stab_tableau::Tableau;
 use std::alloc::Global;
 
@@ -124,17 +124,27 @@ fn furthest_detector(least: u32, detectors: Detectors) -> u32
     reach
 }
 
+/// The greatest of a number and the lookbacks of a step.
+fn furthest_of(least: u32, step: Step) -> u32
+    ensures more { least ≤ result }
+    ensures within { LooksWithin result (step_shown step.entry) }
+{
+    match step {
+        Step::One(..) | Step::Two(..) | Step::Collapse { .. } | Step::Product { .. } => least,
+        Step::Controlled(_, k, _) => least.max(k),
+        Step::Detector(lookbacks) | Step::Observable(_, lookbacks) => greatest(least, lookbacks),
+    }
+}
+
 impl RunNotes {
     ghost use Rattle.std.specs.Prelude.{◌≡◌, ◌+◌, ◌<◌, ◌≤◌, ◌^◌, ◌∷◌, [], if◌then◌else◌, All, length, map, OnOk, IfErr};
     ghost use Rattle.stab_io.specs.declared.refusal.Refusal.TheVariants.{OutOfMemory};
-    ghost use Rattle.stab_tableau.specs.Tableaus.{stabilises};
     ghost use Rattle.stab_circuit.specs.Steps.{measured};
     ghost use Rattle.stab_circuit.specs.Cursors.{step_shown, steps_shown};
     ghost use Rattle.stab_run.specs.Records.{ones};
     ghost use Rattle.stab_run.specs.Points.{coins_of, all_coins_of};
     ghost use Rattle.stab_run.specs.ProgramStates.{StepFits, program_state, output_of};
-    ghost use Rattle.stab_frames.specs.Lookbacks.{LooksWithin};
-    ghost use Rattle.stab_frames.specs.inner.Noted.{IsNoted, NotesSteps};
+    ghost use Rattle.stab_frames.specs.inner.Noted.{NotesSteps};
 
     /// Carries out steps, and notes them. The other string is for products to be written into.
     fn run_steps<C: Coins>(
@@ -260,53 +270,17 @@ impl RunNotes {
         ensures noted { OnOk result (NotesSteps tableau.old.qubits (C.sequence coins.old) (step_shown step.entry ∷ []) self.new.reach self.old.strings self.new.strings (program_state tableau.old (output_of outputs.old)) (program_state tableau.new (output_of outputs.new))) }
         ensures err { IfErr result (λ r. r ≡ OutOfMemory) }
     {
-        self.note(alloc, tableau, string, step)?;
-        apply_step(tableau, string, coins, outputs, step, applied)?;
-        Ok(())
-    }
-
-    /// Notes a step that a state comes to: the string of a free outcome, or how far it looks back. The
-    /// other string is for products to be written into.
-    fn note(
-        &mut self,
-        alloc: Global,
-        tableau: &mut Tableau,
-        string: &mut Pauli,
-        step: Step,
-    ) -> Result<(), Refusal>
-        requires same_length { length string.old.letters ≡ tableau.old.qubits }
-        requires notes_length { length self.old.string.letters ≡ tableau.old.qubits }
-        requires strings_length { self.old.strings.qubits ≡ tableau.old.qubits }
-        requires fits { StepFits tableau.old.qubits (step_shown step) }
-        ensures unchanged { tableau.new ≡ tableau.old }
-        ensures string { length string.new.letters ≡ length string.old.letters }
-        ensures notes_length { length self.new.string.letters ≡ tableau.old.qubits }
-        ensures strings_length { self.new.strings.qubits ≡ tableau.old.qubits }
-        ensures most { self.new.strings.most ≡ self.old.strings.most }
-        ensures raised { self.old.reach ≤ self.new.reach }
-        ensures reach { OnOk result (LooksWithin self.new.reach (step_shown step.entry)) }
-        ensures noted { OnOk result (IsNoted tableau.old.qubits (stabilises tableau.old) (step_shown step.entry) self.old.strings self.new.strings) }
-        ensures err { IfErr result (λ r. r ≡ OutOfMemory) }
-    {
-        let is_free = match step {
-            Step::One(..) | Step::Two(..) => false,
-            Step::Controlled(_, k, _) => {
-                self.reach = self.reach.max(k);
-                false
-            }
-            Step::Detector(lookbacks) | Step::Observable(_, lookbacks) => {
-                self.reach = greatest(self.reach, lookbacks);
-                false
-            }
-            Step::Collapse { letter, qubit, .. } => {
-                tableau.exchange_letter(letter, qubit, &mut self.string)
-            }
-            Step::Product { factors, .. } => {
-                write_product(string, factors);
-                tableau.exchange(string, &mut self.string)
-            }
-        };
-        if is_free {
+        self.reach = furthest_of(self.reach, step);
+        let free = apply_step_with_exchange(
+            tableau,
+            string,
+            &mut self.string,
+            coins,
+            outputs,
+            step,
+            applied,
+        )?;
+        if free {
             self.strings.push(alloc, &self.string)?;
         }
         Ok(())

@@ -1,6 +1,7 @@
 pub use Rattle.stab_steps.specs.Coins
 pub use Rattle.stab_steps.specs.Records
 pub use Rattle.stab_steps.specs.Runs
+pub use Rattle.stab_steps.specs.Exchanged
 pub use Rattle.stab_steps.specs.Points
 pub use Rattle.stab_steps.specs.ProgramStates
 pub use Rattle.stab_steps.specs.Cuts

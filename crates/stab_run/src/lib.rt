@@ -29,6 +29,6 @@ mod sampler;
 pub use run::{Shot, run_steps};
 pub use sampler::{Sampler, run_once};
 pub use stab_steps::{
-    Addition, Coins, Lengths, ListCoins, Outputs, SeedCoins, apply_step, apply_steps, flip,
-    looked_up, observables, parity, seed_coins, write_product,
+    Addition, Coins, Lengths, ListCoins, Outputs, SeedCoins, apply_step, apply_step_with_exchange,
+    apply_steps, flip, looked_up, observables, parity, seed_coins, write_product,
 };

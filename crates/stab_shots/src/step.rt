@@ -41,10 +41,7 @@ fn project_letter(
             outcome,
             free: false,
         },
-        None => {
-            tableau.exchange_letter(letter, qubit, exchange);
-            tableau.collapse_letter(letter, qubit, false)
-        }
+        None => tableau.collapse_letter_with_exchange(letter, qubit, false, exchange),
     }
 }
 
@@ -57,8 +54,7 @@ fn project(tableau: &mut Tableau, string: &Pauli, exchange: &mut Pauli) -> Colla
     ensures length { length exchange.new.letters ≡ length exchange.old.letters }
     ensures projection { IsProjection tableau.old.qubits (stabilises tableau.old) string.now result exchange.new.letters (stabilises tableau.new) }
 {
-    tableau.exchange(string, exchange);
-    tableau.collapse(string, false)
+    tableau.collapse_with_exchange(string, false, exchange)
 }
 
 /// The outcomes of all lanes of what the tableau measured, by the lanes that anticommute with it: a fixed outcome is the

@@ -2,7 +2,7 @@
 -- Source: Stim's circuit file format, for what each instruction does, and Aaronson and Gottesman 2004, section III, for
 -- measurements. It differs in that coins are given by number, and that a detector is the parity of its records, where Stim's
 -- `detect` tells whether that parity differs from a reference run's.
-use Rattle.std.specs.Prelude.{ℕ, ◌+◌, Bool, true, false, ◌&&◌, List, [], ◌∷◌, ◌++◌, replicate, slice_index_or, slice_set}
+use Rattle.std.specs.Prelude.{ℕ, ◌+◌, Bool, true, false, ◌&&◌, List, [], ◌∷◌, ◌++◌, replicate, slice_index_or, slice_set, Option, Some, None}
 use Rattle.stab_letters.specs.declared.letter.Letter.{Letter}
 use Rattle.stab_letters.specs.declared.letter.Letter.TheVariants as letter
 use Rattle.stab_letters.specs.Letters.{◌⊕◌}
@@ -43,6 +43,16 @@ with_factors (f ∷ fs) letters = with_factors fs (slice_set letters f.qubit (le
 -- the factors' letters at their qubits among n, I elsewhere, with the sign +
 abbrev pub string_of : ℕ → List Factor → Signed
 string_of n factors = record { negative = false; letters = with_factors factors (replicate n letter.I) }
+
+-- what a step measures, if anything
+abbrev pub measured_by : ℕ → Step → Option Signed
+measured_by n (one g q) = None
+measured_by n (two g a b) = None
+measured_by n (controlled l k q) = None
+measured_by n (collapse l q recorded inverted resets) = Some (single n q l)
+measured_by n (product factors inverted) = Some (string_of n factors)
+measured_by n (detector ks) = None
+measured_by n (observable j ks) = None
 
 -- the gate that a letter is
 abbrev pub gate_of : Letter → Gate

@@ -4,7 +4,9 @@
 //!
 //! - `coins`: the bits that decide outcomes which nothing else decides.
 //! - `records`: what steps have given so far, and the parity of the records that `rec[-k]` names.
-//! - `step`, `steps`: one step on a tableau, and those of one instruction or of detectors.
+//! - `measure`: measurements that ask for a coin only where it decides, and strings that exchange their outcomes.
+//! - `step`, `step_with_exchange`, `steps`: one step on a tableau, the same with the string that exchanges its
+//!   outcomes, and the steps of one instruction or of detectors.
 //!
 //! `specs/` says which bit each coin is, what the steps of a circuit make of its qubits and records, and
 //! how a program that carries them out follows them. Which steps a circuit has is said by
@@ -25,11 +27,15 @@
 #![tactic(auto)]
 
 mod coins;
+mod measure;
 mod records;
 mod step;
+mod step_with_exchange;
 mod steps;
 
 pub use coins::{Coins, ListCoins, SeedCoins, seed_coins};
+pub use measure::write_product;
 pub use records::{Addition, Lengths, Outputs, looked_up, observables, parity};
-pub use step::{apply_step, flip, write_product};
+pub use step::{apply_step, flip};
+pub use step_with_exchange::apply_step_with_exchange;
 pub use steps::apply_steps;

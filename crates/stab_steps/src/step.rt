@@ -1,16 +1,19 @@
-ghost use Rattle.std.specs.Prelude.{◌≡◌, ◌+◌, ◌<◌, ◌≤◌, ◌^◌, ◌∷◌, [], ◌++◌, length, OnOk, ◌&&◌, All};
-ghost use Rattle.stab_pauli.specs.Paulis.{Signed, single};
+//! One step on a tableau, and what is done with what it measured.
+
+ghost use Rattle.std.specs.Prelude.{◌≡◌, ◌+◌, ◌<◌, ◌≤◌, ◌^◌, ◌∷◌, [], ◌++◌, length, OnOk, ◌&&◌};
+ghost use Rattle.stab_letters.specs.Letters.{◌⊕◌};
+ghost use Rattle.stab_pauli.specs.Paulis.{Signed};
 ghost use Rattle.stab_tableau.specs.Tableaus.{stabilises};
-ghost use Rattle.stab_tableau.specs.Rules.{outcome_by, is_free_by, projected_by};
 ghost use Rattle.stab_circuit.specs.Cursors.{step_shown};
 ghost use Rattle.stab_steps.specs.Records.{ones};
-ghost use Rattle.stab_steps.specs.Runs.{when, gate_of, flip_of, string_of};
+ghost use Rattle.stab_steps.specs.Runs.{when, gate_of, flip_of};
 ghost use Rattle.stab_steps.specs.Points.{coins_of};
 ghost use Rattle.stab_steps.specs.ProgramStates.{StepFits, IsRun, program_state, output_of, applied_by};
 
 use crate::coins::Coins;
+use crate::measure::{measure, measure_string, write_product};
 use crate::records::{Addition, Outputs, looked_up, parity};
-use stab_circuit::{Factor, Step};
+use stab_circuit::Step;
 use stab_pauli::{Letter, Pauli};
 use stab_tableau::{Collapse, Gate, Tableau};
 use std::alloc::AllocError;
@@ -59,70 +62,6 @@ pub fn reset_if(tableau: &mut Tableau, letter: Letter, qubit: usize, resets: boo
     }
 }
 
-/// Measures a letter on a qubit, and asks for the coin with this number only where it decides.
-fn measure<C: Coins>(
-    tableau: &mut Tableau,
-    coins: &mut C,
-    coin: u64,
-    letter: Letter,
-    qubit: usize,
-) -> Collapse
-    requires in_range { qubit < tableau.old.qubits }
-    ensures qubits { tableau.new.qubits ≡ tableau.old.qubits }
-    ensures same_coins { C.sequence coins.new ≡ C.sequence coins.old }
-    ensures asks { C.asks coins.new ≤ C.asks coins.old + ones (result.free ∷ []) }
-    ensures outcome { result.outcome ≡ outcome_by (stabilises tableau.old) (single tableau.old.qubits qubit letter) (C.sequence coins.old coin) }
-    ensures free { result.free ≡ is_free_by (stabilises tableau.old) (single tableau.old.qubits qubit letter) }
-    ensures members { (p : Signed) → length p.letters ≡ tableau.old.qubits → stabilises tableau.new p ≡ projected_by (stabilises tableau.old) (single tableau.old.qubits qubit letter) result.outcome p }
-{
-    match tableau.fixed_letter(letter, qubit) {
-        Some(outcome) => Collapse {
-            outcome,
-            free: false,
-        },
-        None => tableau.collapse_letter(letter, qubit, coins.coin(coin)),
-    }
-}
-
-/// Makes a string that of a product: the factors' letters at their qubits, I elsewhere, with the
-/// sign +.
-pub fn write_product(string: &mut Pauli, factors: &[Factor])
-    requires in_range { All (λ f. f.qubit < length string.old.letters) factors.now }
-    ensures value { string.new ≡ string_of (length string.old.letters) factors.now }
-    ensures same_length { length string.new.letters ≡ length string.old.letters }
-{
-    string.clear();
-    for factor in factors {
-        string.set(factor.qubit.number(), factor.letter.letter());
-    }
-}
-
-/// Measures a string, and asks for the coin with this number only where it decides.
-pub fn measure_string<C: Coins>(
-    tableau: &mut Tableau,
-    coins: &mut C,
-    coin: u64,
-    string: &Pauli,
-) -> Collapse
-    requires same_length { length string.now.letters ≡ tableau.old.qubits }
-    ensures qubits { tableau.new.qubits ≡ tableau.old.qubits }
-    ensures same_coins { C.sequence coins.new ≡ C.sequence coins.old }
-    ensures asks { C.asks coins.new ≤ C.asks coins.old + ones (result.free ∷ []) }
-    ensures outcome { result.outcome ≡ outcome_by (stabilises tableau.old) string.now (C.sequence coins.old coin) }
-    ensures free { result.free ≡ is_free_by (stabilises tableau.old) string.now }
-    ensures members { (p : Signed) → length p.letters ≡ tableau.old.qubits → stabilises tableau.new p ≡ projected_by (stabilises tableau.old) string.now result.outcome p }
-{
-    // That members are a group is what says that a fixed outcome leaves the state as it is.
-    tableau.stabilises_a_group();
-    match tableau.sign_of(string) {
-        Some(outcome) => Collapse {
-            outcome,
-            free: false,
-        },
-        None => tableau.collapse(string, coins.coin(coin)),
-    }
-}
-
 /// Appends a bit, where there is one.
 fn push_when(bits: &mut Vec<bool>, test: bool, bit: bool) -> Result<(), AllocError>
     ensures value { OnOk result (bits.new.items ≡ bits.old.items ++ when test bit) }
@@ -131,6 +70,19 @@ fn push_when(bits: &mut Vec<bool>, test: bool, bit: bool) -> Result<(), AllocErr
         bits.push(bit)?;
     }
     Ok(())
+}
+
+/// Gathers what was measured: whether a coin decided it, and a record, where there is one.
+pub fn gather(
+    outputs: &mut Outputs,
+    measured: Collapse,
+    recorded: bool,
+    inverted: bool,
+) -> Result<(), AllocError>
+    ensures value { OnOk result (output_of outputs.new ≡ record (output_of outputs.old) { records = outputs.old.records.items ++ when recorded (inverted ⊕ measured.outcome); free = outputs.old.free.items ++ measured.free ∷ [] }) }
+{
+    outputs.free.push(measured.free)?;
+    push_when(&mut outputs.records, recorded, inverted ^ measured.outcome)
 }
 
 /// Carries out one step on a tableau, gathers what it gives, and counts it. The string is for
@@ -172,14 +124,12 @@ pub fn apply_step<C: Coins>(
         } => {
             let measured = measure(tableau, coins, coin, letter, qubit);
             reset_if(tableau, letter, qubit, reset, measured.outcome);
-            outputs.free.push(measured.free)?;
-            push_when(&mut outputs.records, recorded, inverted ^ measured.outcome)?;
+            gather(outputs, measured, recorded, inverted)?;
         }
         Step::Product { factors, inverted } => {
             write_product(string, factors);
             let measured = measure_string(tableau, coins, coin, string);
-            outputs.free.push(measured.free)?;
-            outputs.records.push(inverted ^ measured.outcome)?;
+            gather(outputs, measured, true, inverted)?;
         }
         Step::Detector(lookbacks) => {
             let bit = parity(outputs.records.as_slice(), lookbacks);

@@ -6,7 +6,7 @@
 mod calls;
 mod kept;
 
-use crate::texts::{both, prints};
+use crate::texts::{both, prints, single};
 use calls::Call::{self, Copy, Measure, One, Reset, Two, Wear};
 use calls::Place::{First, Last};
 use calls::carry_out;
@@ -178,7 +178,14 @@ const ZERO_AND_FIXED: Collapse = Collapse {
     free: false,
 };
 
-// Whether I is measured as 0 whatever the coin, on either end, and no string exchanges its outcomes.
+// Whether a string is X on the first qubit and has no other letter.
+fn is_first_x(string: &Pauli) -> bool {
+    let n = string.len();
+    n > 0 && string.letter(0) == Letter::X && string.next_letter(1) == n
+}
+
+// Whether I is measured as 0 whatever the coin, on either end, and a string for what exchanges its outcomes stays as it
+// was.
 fn letter_i_is_fixed(tableau: &mut Tableau, coin: bool, string: &mut Pauli) -> bool {
     let n = tableau.len();
     if n == 0 || string.len() != n {
@@ -186,7 +193,8 @@ fn letter_i_is_fixed(tableau: &mut Tableau, coin: bool, string: &mut Pauli) -> b
     }
     tableau.fixed_letter(Letter::I, 0) == Some(false)
         && tableau.collapse_letter(Letter::I, n - 1, coin) == ZERO_AND_FIXED
-        && !tableau.exchange_letter(Letter::I, n - 1, string)
+        && tableau.collapse_letter_with_exchange(Letter::I, n - 1, coin, string) == ZERO_AND_FIXED
+        && is_first_x(string)
 }
 
 // Whether the same is so of the string without a letter.
@@ -200,14 +208,16 @@ fn identity_is_fixed(
     if identity.len() != n || string.len() != n {
         return false;
     }
-    tableau.collapse(identity, coin) == ZERO_AND_FIXED && !tableau.exchange(identity, string)
+    tableau.collapse(identity, coin) == ZERO_AND_FIXED
+        && tableau.collapse_with_exchange(identity, coin, string) == ZERO_AND_FIXED
+        && is_first_x(string)
 }
 
 // Whether both are so of a Bell pair of n qubits.
 fn identities_are_fixed(alloc: Global, n: usize, coin: bool) -> Result<bool, Refusal> {
     let mut tableau = state(alloc, n, BELL)?;
     let identity = Pauli::identity(alloc, tableau.len())?;
-    let mut string = Pauli::identity(alloc, tableau.len())?;
+    let mut string = single(alloc, tableau.len(), 0, Letter::X)?;
     let letter = letter_i_is_fixed(&mut tableau, coin, &mut string);
     Ok(letter && identity_is_fixed(&mut tableau, &identity, coin, &mut string))
 }

@@ -9,11 +9,11 @@ use Rattle.stab_tableau.specs.Gates.{letter_at}
 use Rattle.stab_lines.specs.declared.product.Factor.{Factor}
 use Rattle.stab_lines.specs.Axes.{letter_of}
 use Rattle.stab_circuit.specs.Steps.{Step}
+use Rattle.stab_run.specs.Runs.{measured_by}
 use Rattle.stab_run.specs.Points.{RunOutput, nothing, joined, coins_of}
 use Rattle.stab_frames.specs.Frames.{Frame, times_where}
 use Rattle.stab_frames.specs.Notes.{same_coins}
 use Rattle.stab_frames.specs.FrameSteps.{letters_after, flips_given, frame_after}
-use Rattle.stab_frames.specs.StepNotes.{measured_by}
 use Rattle.stab_frames.specs.KeptStrings.{note_at}
 use Rattle.stab_frames.specs.Walks.{WalkState, frame_at, IsPlaced, WalksOver}
 

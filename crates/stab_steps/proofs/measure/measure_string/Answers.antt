@@ -1,7 +1,7 @@
 use Rattle.std.proofs.Common.{sym, ◌∙◌, ap}
 use Rattle.stab_tableau.specs.Tableaus.{stabilises}
 use Rattle.stab_steps.proofs.ProductLemmas.{fixed-outcome_by, fixed-projected_by}
-use Rattle.stab_steps.proofs.step.measure_string.Goals as goal
+use Rattle.stab_steps.proofs.measure.measure_string.Goals as goal
 
 pub returns-in-Some-clause-outcome : goal.returns-in-Some-clause-outcome
 returns-in-Some-clause-outcome g c =

@@ -1,7 +1,7 @@
 use Rattle.std.proofs.Common.{◌≡◌, false, drop, length, replicate}
 use Rattle.stab_letters.specs.declared.letter.Letter.TheVariants.{I}
 use Rattle.stab_steps.specs.Runs.{with_factors}
-use Rattle.stab_steps.proofs.step.write_product.Given as goal
+use Rattle.stab_steps.proofs.measure.write_product.Given as goal
 
 abbrev pub invariant-loop-factor : goal.invariant-loop-factor
 invariant-loop-factor l = record {
