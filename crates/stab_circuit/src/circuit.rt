@@ -7,7 +7,6 @@ ghost use Rattle.stab_circuit.specs.Readings.{ReadsCircuit, ReadsInput, ReadsIte
 
 mod edits;
 mod gaps;
-mod repeats;
 mod places;
 mod splits;
 mod step_items;
@@ -18,7 +17,6 @@ use stab_io::{Fault, Input, Refusal};
 use stab_items::{Chunk, Item, STEPS_CAP, Summary, read_lines};
 use std::alloc::Global;
 use std::marker::Model;
-pub use repeats::Repeat;
 pub use step_items::StepItem;
 
 /// A list of items. Contracts see them one by one.

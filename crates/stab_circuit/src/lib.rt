@@ -55,7 +55,7 @@ mod step;
 mod steps;
 mod walk;
 
-pub use circuit::{Circuit, Repeat, StepItem, circuit_of_text, read_circuit, read_item};
+pub use circuit::{Circuit, StepItem, circuit_of_text, read_circuit, read_item};
 pub use cursor::Cursor;
 pub use detectors::Detectors;
 pub use edit::{Edit, Refused, Span};
