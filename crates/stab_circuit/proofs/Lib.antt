@@ -37,4 +37,5 @@ mod SplitLineLemmas
 mod GapLemmas
 pub mod PieceLemmas
 mod GapPartLemmas
+mod RepeatLemmas
 pub mod EachRoundLemmas

@@ -13,6 +13,7 @@ pub mod Places
 pub mod StepPaths
 pub mod Edits
 pub mod Rounds
+pub mod Repeats
 pub mod Splits
 pub mod Editings
 pub mod Laws

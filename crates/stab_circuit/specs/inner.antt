@@ -8,4 +8,5 @@ pub mod Chunks
 pub mod Behind
 pub mod StepItems
 pub mod Gaps
+pub mod Repeats
 pub mod Changes

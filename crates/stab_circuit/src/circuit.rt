@@ -8,11 +8,13 @@ ghost use Rattle.stab_circuit.specs.Readings.{ReadsCircuit, ReadsInput, ReadsIte
 mod edits;
 mod gaps;
 mod places;
+mod repeats;
 mod splits;
 mod step_items;
 
 use crate::chunks::{chunks_len, chunks_summary};
 use crate::input::{MOST_BYTES, read_text};
+pub use repeats::Repeat;
 use stab_io::{Fault, Input, Refusal};
 use stab_items::{Chunk, Item, STEPS_CAP, Summary, read_lines};
 use std::alloc::Global;

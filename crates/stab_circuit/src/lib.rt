@@ -9,17 +9,18 @@
 //! - `edit`: how a circuit is edited at a path, and which steps that changes.
 //! - `judge`, `commit`: judging an edit by what items keep, and making it.
 //! - `circuit`: circuits, reading one, editing one, splitting a round off a block, the item at a path,
-//!   the item that a step is of, and the steps behind each occurrence of an item in blocks.
+//!   the item that a step is of, the steps behind each occurrence of an item in blocks, and the blocks
+//!   of which the steps come again.
 //! - `print`: the one text of a circuit.
 //! - `step`, `instruction`, `steps`: the steps of an instruction, one at a time and together.
 //! - `detectors`: detectors that stand one behind the other.
 //! - `walk`, `cursor`: the unrolled steps of a circuit, from any place on.
 //! - `laws`: what holds between all texts and all items.
 //!
-//! `specs/` says how a text is read, which item each unrolled step is of, what an edit leaves of
-//! items, and where it changes their steps, and passes on what `stab_items` says of them: which items
-//! a text stands for, what its fault is, and what its unrolled steps are; `specs/inner` has what
-//! private contracts alone speak of.
+//! `specs/` says how a text is read, which item each unrolled step is of, what an edit leaves of items,
+//! where it changes their steps, and where the same steps come again, and passes on what `stab_items`
+//! says of them: which items a text stands for, what its fault is, and what its unrolled steps are;
+//! `specs/inner` has what private contracts alone speak of.
 //!
 //! Sources: Stim's circuit file format (.stim) without noise, in Stim's repository
 //! `doc/file_format_stim_circuit.md`. `docs/circuit-text.md` says where this differs; paths and edits are this
@@ -35,7 +36,8 @@
 //! `specs/Edits.antt` gives, and the steps before the first changed one and behind the outermost item
 //! around its place, or is refused by what refuses it first and leaves the circuit as it was; in each
 //! round of the blocks around its place it leaves the steps behind what it takes out and what it puts
-//! in, and how many these are is told; a split of a round leaves exactly the items that
+//! in, and how many these are is told; where the steps of an outermost block come again, how often, and
+//! how far back they look is told of each such block; a split of a round leaves exactly the items that
 //! `specs/Splits.antt` gives, and all steps, or is refused so.
 #![tactic(auto)]
 
@@ -55,7 +57,7 @@ mod step;
 mod steps;
 mod walk;
 
-pub use circuit::{Circuit, StepItem, circuit_of_text, read_circuit, read_item};
+pub use circuit::{Circuit, Repeat, StepItem, circuit_of_text, read_circuit, read_item};
 pub use cursor::Cursor;
 pub use detectors::Detectors;
 pub use edit::{Edit, Refused, Span};

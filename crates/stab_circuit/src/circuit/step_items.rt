@@ -26,7 +26,7 @@ struct FoundItem {
 }
 
 /// How many steps an item makes, by what a block keeps.
-fn item_steps(item: &Item) -> u32
+pub(super) fn item_steps(item: &Item) -> u32
     requires few { length (unroll (before item.now done)) ≤ most_steps }
     ensures value { result ≡ length (unroll (before item.now done)) }
 {

@@ -1,0 +1,154 @@
+-- Repeats: the blocks of a list, by the steps that they make.
+use Rattle.std.proofs.Common.{◌≡◌, ◌≤◌, ◌<◌, refl, ap, sym, ◌∙◌, subst, ℕ, ◌+◌, ◌*◌, zero, suc, min, Bool, true, false, ◌&&◌, nat_lt, if◌then◌else◌, List, [], ◌∷◌, ◌++◌, length, take, drop, get_or, arith, append_assoc, append-nil}
+use Rattle.std.proofs.lemmas.Bool.{ltb-true}
+use Rattle.std.proofs.lemmas.List.{length-append, drop_at, take_at, drop_all}
+use Rattle.stab_circuit.specs.declared.circuit.repeats.Repeat.{Repeat}
+use Rattle.stab_items.specs.Items.{OneItem, operation, repeat, done, before, listed, depth}
+use Rattle.stab_items.specs.Steps.{Step, rounds, unroll, looks_too_far}
+use Rattle.stab_items.specs.inner.Summaries.{reach}
+use Rattle.stab_items.specs.inner.Chunks.{flattened}
+use Rattle.stab_circuit.specs.Repeats.{IsRepeat, AreRepeats, repeated_blocks}
+use Rattle.stab_circuit.specs.inner.Repeats.{repeat_in, repeats_in}
+use Rattle.stab_items.proofs.StepLemmas.{length-rounds, looks_too_far_reach}
+use Rattle.stab_circuit.proofs.EditLemmas.{steps-append}
+use Rattle.stab_circuit.proofs.ChunkLemmas.{flattened_from}
+use Rattle.stab_circuit.proofs.WalkLemmas.{unroll_before}
+
+-- a block before which so many steps stand, by its rounds
+abbrev repeat_as : ℕ → ℕ → List Step → Repeat
+repeat_as first n ss = record { first = first; length = length ss; rounds = n; reach = reach ss }
+
+-- one list behind another
+repeats-append : (first : ℕ) (xs ys : List OneItem) → repeats_in first (xs ++ ys) ≡ repeats_in first xs ++ repeats_in (first + length (unroll (listed xs))) ys
+repeats-append first [] ys = let same : first ≡ first + 0 = omega arith in ap (λ n. repeats_in n ys) same
+repeats-append first (x ∷ xs) ys =
+    let n = length (unroll (before x done)) in
+    let m = length (unroll (listed xs)) in
+    let all : first + n + m ≡ first + length (unroll (before x (listed xs))) = omega (arith, ap length (unroll_before x (listed xs)), length-append (unroll (before x done)) (unroll (listed xs))) in
+    ap (λ l. repeat_in first x ++ l) (repeats-append (first + n) xs ys)
+    ∙ sym (append_assoc (repeat_in first x) (repeats_in (first + n) xs) (repeats_in (first + n + m) ys))
+    ∙ ap (λ k. (repeat_in first x ++ repeats_in (first + n) xs) ++ repeats_in k ys) all
+
+-- a list without a block
+repeats_flat : (first : ℕ) (xs : List OneItem) → depth (listed xs) ≡ 0 → repeats_in first xs ≡ []
+repeats_flat first [] h = refl
+repeats_flat first (operation op ∷ xs) h = repeats_flat (first + length (unroll (before (operation op) done))) xs h
+repeats_flat first (repeat count tag body ∷ xs) h = absurd (omega (arith, h))
+
+pub chunk_flat : (first deep : ℕ) (held : List Repeat) (xs : List OneItem) → deep ≡ min (depth (listed xs)) 17 → deep ≡ 0 → held ≡ held ++ repeats_in first xs
+chunk_flat first deep held xs e h = sym (ap (λ l. held ++ l) (repeats_flat first xs (omega (arith, e, h))) ∙ append-nil held)
+
+-- the repeats behind a chunk
+pub chunk_added : (held new : List Repeat) (first behind : ℕ) (cs : List (List OneItem)) (k : ℕ) (c : List OneItem) → k < length cs → c ≡ get_or cs k c → new ≡ held ++ repeats_in first c → behind ≡ first + length (unroll (listed c))
+    → new ++ repeats_in behind (flattened (drop (k + 1) cs)) ≡ held ++ repeats_in first (flattened (drop k cs))
+chunk_added held new first behind cs k c h e added at =
+    let rest = flattened (drop (k + 1) cs) in
+    (λ i. added i ++ repeats_in (at i) rest)
+    ∙ append_assoc held (repeats_in first c) (repeats_in (first + length (unroll (listed c))) rest)
+    ∙ ap (λ l. held ++ l) (sym (repeats-append first c rest))
+    ∙ ap (λ l. held ++ repeats_in first l) (sym (flattened_from cs k c h e))
+
+-- behind all chunks
+pub all_added : (held all : List Repeat) (first : ℕ) (cs : List (List OneItem)) (k : ℕ) → length cs ≤ k → held ++ repeats_in first (flattened (drop k cs)) ≡ all → held ≡ all
+all_added held all first cs k h e = sym (append-nil held) ∙ ap (λ l. held ++ repeats_in first (flattened l)) (sym (drop_all k cs h)) ∙ e
+
+-- the steps up to the end of a chunk
+
+chunk_steps : (first all : ℕ) (cs : List (List OneItem)) (k : ℕ) (c : List OneItem) → k < length cs → c ≡ get_or cs k c → first + length (unroll (listed (flattened (drop k cs)))) ≡ all
+    → first + length (unroll (listed c)) + length (unroll (listed (flattened (drop (k + 1) cs)))) ≡ all
+chunk_steps first all cs k c h e counted =
+    let rest = flattened (drop (k + 1) cs) in
+    let here = ap (λ l. length (unroll (listed l))) (flattened_from cs k c h e) ∙ ap length (steps-append c rest) ∙ length-append (unroll (listed c)) (unroll (listed rest)) in
+    omega (arith, here, counted)
+
+pub chunk_few : (first all : ℕ) (cs : List (List OneItem)) (k : ℕ) (c : List OneItem) → k < length cs → c ≡ get_or cs k c → first + length (unroll (listed (flattened (drop k cs)))) ≡ all → all ≤ 1048576
+    → first + length (unroll (listed c)) ≤ 1048576
+chunk_few first all cs k c h e counted few = omega (arith, chunk_steps first all cs k c h e counted, few)
+
+pub record IsCounted (first steps behind all : ℕ) (c : List OneItem) : Type 0 where
+  pub exact : steps ≡ length (unroll (listed c))
+  pub on : first + steps + behind ≡ all
+
+-- the same by a number that stops growing
+pub chunk_counted : (first steps all : ℕ) (cs : List (List OneItem)) (k : ℕ) (c : List OneItem) → k < length cs → c ≡ get_or cs k c → first + length (unroll (listed (flattened (drop k cs)))) ≡ all → all ≤ 1048576
+    → steps ≡ min (length (unroll (listed c))) 1048577 → IsCounted first steps (length (unroll (listed (flattened (drop (k + 1) cs))))) all c
+chunk_counted first steps all cs k c h e counted few capped =
+    let here = chunk_steps first all cs k c h e counted in
+    record {
+      exact = omega (arith, here, few, capped);
+      on = omega (arith, here, few, capped);
+    }
+
+-- how many there are
+
+one_or_none : (b : Bool) (r : Repeat) (rs : List Repeat) (n : ℕ) → length rs ≡ n → length ((if b then r ∷ [] else []) ++ rs) ≡ (if b then 1 + n else n)
+one_or_none true r rs n e = omega (arith, e)
+one_or_none false r rs n e = e
+
+pub length-repeats : (first : ℕ) (xs : List OneItem) → length (repeats_in first xs) ≡ repeated_blocks (listed xs)
+length-repeats first [] = refl
+length-repeats first (operation op ∷ xs) = length-repeats (first + length (unroll (before (operation op) done))) xs
+length-repeats first (repeat count tag body ∷ xs) =
+    one_or_none (nat_lt 0 (length (unroll body)) && nat_lt 1 count) (repeat_as first count (unroll body)) _ _ (length-repeats (first + length (unroll (before (repeat count tag body) done))) xs)
+
+-- a block among the steps
+
+below_itself : (n : ℕ) → nat_lt n n ≡ false
+below_itself n = grind arith
+
+first_round : (n : ℕ) (ss rest : List Step) → 1 < n → take (length ss) (rounds n ss ++ rest) ≡ ss
+first_round zero ss rest h = absurd (omega (arith, h))
+first_round (suc n) ss rest h = ap (take (length ss)) (append_assoc ss (rounds n ss) rest) ∙ take_at ss (rounds n ss ++ rest) (length ss) refl
+
+repeated : (front ss rest : List Step) (n : ℕ) → 0 < length ss → 1 < n
+    → IsRepeat (front ++ (rounds n ss ++ rest)) (repeat_as (length front) n ss)
+repeated front ss rest n some many =
+    let all = front ++ (rounds n ss ++ rest) in
+    let behind : drop (length front) all ≡ rounds n ss ++ rest = drop_at front (rounds n ss ++ rest) (length front) refl in
+    let round : take (length ss) (drop (length front) all) ≡ ss = ap (take (length ss)) behind ∙ first_round n ss rest many in
+    record {
+      some = some;
+      many = many;
+      inside = omega (arith, length-append front (rounds n ss ++ rest), length-append (rounds n ss) rest, length-rounds n ss);
+      again = ap (take (n * length ss)) behind ∙ take_at (rounds n ss) rest (n * length ss) (length-rounds n ss) ∙ ap (rounds n) (sym round);
+      within = ap (looks_too_far (reach ss)) round ∙ looks_too_far_reach (reach ss) ss ∙ below_itself (reach ss);
+    }
+
+-- a list behind some steps
+
+later : (from n : ℕ) (all : List Step) (rs : List Repeat) → from ≤ n → AreRepeats n all rs → AreRepeats from all rs
+later from n all [] h a = tt
+later from n all (r ∷ rs) h a = (omega (arith, h, a.0), a.1, a.2)
+
+block_chosen : (a b : Bool) (front ss rest : List Step) (n from behind : ℕ) (rs : List Repeat) → nat_lt 0 (length ss) ≡ a → nat_lt 1 n ≡ b → from ≤ length front → behind ≡ length front + n * length ss
+    → AreRepeats behind (front ++ (rounds n ss ++ rest)) rs → AreRepeats from (front ++ (rounds n ss ++ rest)) ((if a && b then repeat_as (length front) n ss ∷ [] else []) ++ rs)
+block_chosen true true front ss rest n from behind rs e f h at more =
+    (h, repeated front ss rest n (ltb-true 0 (length ss) e) (ltb-true 1 n f), subst (λ k. AreRepeats k (front ++ (rounds n ss ++ rest)) rs) at more)
+block_chosen true false front ss rest n from behind rs e f h at more = later from behind (front ++ (rounds n ss ++ rest)) rs (omega (arith, h, at)) more
+block_chosen false b front ss rest n from behind rs e f h at more = later from behind (front ++ (rounds n ss ++ rest)) rs (omega (arith, h, at)) more
+
+are_repeats : (front : List Step) (xs : List OneItem) (from : ℕ) → from ≤ length front → AreRepeats from (front ++ unroll (listed xs)) (repeats_in (length front) xs)
+are_repeats front [] from h = tt
+are_repeats front (operation op ∷ xs) from h =
+    let own = unroll (before (operation op) done) in
+    let len : length (front ++ own) ≡ length front + length own = length-append front own in
+    let all : (front ++ own) ++ unroll (listed xs) ≡ front ++ unroll (before (operation op) (listed xs)) =
+    append_assoc front own (unroll (listed xs)) ∙ ap (λ l. front ++ l) (sym (unroll_before (operation op) (listed xs))) in
+    subst (λ n. AreRepeats from (front ++ unroll (before (operation op) (listed xs))) (repeats_in n xs)) len
+    (subst (λ l. AreRepeats from l (repeats_in (length (front ++ own)) xs)) all
+    (are_repeats (front ++ own) xs from (omega (arith, h, len))))
+are_repeats front (repeat count tag body ∷ xs) from h =
+    let ss = unroll body in
+    let rest = unroll (listed xs) in
+    let own = unroll (before (repeat count tag body) done) in
+    let len : length (front ++ own) ≡ length front + length own = length-append front own in
+    let some : length own ≡ count * length ss = ap length (append-nil (rounds count ss)) ∙ length-rounds count ss in
+    let all : (front ++ own) ++ rest ≡ front ++ (rounds count ss ++ rest) =
+    append_assoc front own rest ∙ ap (λ l. front ++ (l ++ rest)) (append-nil (rounds count ss)) in
+    block_chosen (nat_lt 0 (length ss)) (nat_lt 1 count) front ss rest count from (length (front ++ own)) (repeats_in (length front + length own) xs) refl refl h (omega (arith, len, some))
+    (subst (λ n. AreRepeats (length (front ++ own)) (front ++ (rounds count ss ++ rest)) (repeats_in n xs)) len
+    (subst (λ l. AreRepeats (length (front ++ own)) l (repeats_in (length (front ++ own)) xs)) all
+    (are_repeats (front ++ own) xs (length (front ++ own)) (omega arith))))
+
+pub all_repeats : (xs : List OneItem) → AreRepeats 0 (unroll (listed xs)) (repeats_in 0 xs)
+all_repeats xs = are_repeats [] xs 0 (omega arith)

@@ -1,0 +1,11 @@
+use Rattle.std.proofs.Common.{◌≡◌, ◌+◌, ◌++◌, length, drop}
+use Rattle.stab_items.specs.Items.{listed}
+use Rattle.stab_items.specs.Steps.{unroll}
+use Rattle.stab_circuit.specs.inner.Repeats.{repeats_in}
+use Rattle.stab_circuit.proofs.circuit.repeats.add_repeats.Given as goal
+
+abbrev pub invariant-items : goal.invariant-items
+invariant-items l = record {
+  steps : l.first + length (unroll (listed (drop l.item-index l.items))) ≡ l.fn.first + length (unroll (listed l.items));
+  same : l.repeats.items ++ repeats_in l.first (drop l.item-index l.items) ≡ l.fn.repeats.items ++ repeats_in l.fn.first l.items;
+}
