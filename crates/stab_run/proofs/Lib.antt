@@ -10,3 +10,4 @@ pub mod SoundLemmas
 mod ShotLemmas
 pub mod StepsLeftLemmas
 pub mod LedLemmas
+pub mod AgainLemmas

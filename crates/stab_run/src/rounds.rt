@@ -5,7 +5,7 @@ ghost use Rattle.stab_io.specs.declared.refusal.Refusal.TheVariants.{OutOfMemory
 ghost use Rattle.stab_circuit.specs.Steps.{unroll, check_within};
 ghost use Rattle.stab_circuit.specs.Views.{circuit_items};
 ghost use Rattle.stab_circuit.specs.Repeats.{IsRepeat, AreRepeats};
-ghost use Rattle.stab_steps.specs.Records.{ones, looked_up};
+ghost use Rattle.stab_steps.specs.Records.{ones, looked_up as looked_up_of};
 ghost use Rattle.stab_steps.specs.Points.{joined, all_coins_of};
 ghost use Rattle.stab_steps.specs.ProgramStates.{program_state, output_of};
 ghost use Rattle.stab_steps.specs.Cuts.{rest_of, lengths_of};
@@ -16,7 +16,7 @@ use crate::run::run_steps;
 use stab_circuit::{Circuit, Cursor, Repeat};
 use stab_io::Refusal;
 use stab_pauli::Pauli;
-use stab_steps::{Coins, Lengths, Outputs};
+use stab_steps::{Coins, Lengths, Outputs, looked_up};
 use stab_tableau::Tableau;
 use std::alloc::{AllocError, Global};
 
@@ -71,21 +71,35 @@ pub fn run_part<C: Coins>(
 }
 
 /// Whether the newest records are the same as they were when there were so many.
-fn same_records(records: &[bool], behind: usize, reach: usize) -> bool
-    ensures value { IsTrue result → (k : ℕ) → k ≤ reach → looked_up (take behind records.now) k ≡ looked_up records.now k }
+fn same_records(records: &[bool], behind: usize, reach: u32) -> bool
+    ensures value { IsTrue result → (k : ℕ) → k ≤ reach → looked_up_of (take behind records.now) k ≡ looked_up_of records.now k }
 {
-    if behind < reach || records.len() < behind {
+    if behind > records.len() {
         return false;
     }
-    records[behind - reach..behind] == records[records.len() - reach..]
+    let (earlier, _) = records.split_at(behind);
+    for k in 0..=reach {
+        if looked_up(earlier, k) != looked_up(records, k) {
+            return false;
+        }
+    }
+    true
 }
 
-/// Whether a coin decided, by the flags behind so many.
-fn has_decided(flags: &[bool], behind: usize) -> bool
-    ensures value { result ≡ false → ones (drop behind flags.now) ≡ 0 }
+/// Whether no coin decided, by the flags behind so many.
+fn are_fixed(flags: &[bool], behind: usize) -> bool
+    ensures value { IsTrue result → ones (drop behind flags.now) ≡ 0 }
 {
-    let (_, since) = flags.split_at(behind.min(flags.len()));
-    since.contains(&true)
+    if behind > flags.len() {
+        return false;
+    }
+    let (_, since) = flags.split_at(behind);
+    for flag in since {
+        if *flag {
+            return false;
+        }
+    }
+    true
 }
 
 /// Whether a run stands where it stood earlier: the tableau is the same, since then no coin decided, and what the steps of a
@@ -95,8 +109,8 @@ fn comes_again(earlier: &Earlier, tableau: &Tableau, outputs: &Outputs, reach: u
     ensures undecided { IsTrue result → IsUndecided reach earlier.now.lengths.free earlier.now.lengths.records (output_of outputs.now) }
 {
     let lengths = earlier.lengths;
-    !has_decided(outputs.free.as_slice(), lengths.free)
-        && same_records(outputs.records.as_slice(), lengths.records, reach as usize)
+    are_fixed(outputs.free.as_slice(), lengths.free)
+        && same_records(outputs.records.as_slice(), lengths.records, reach)
         && earlier.tableau.same(tableau)
 }
 
@@ -157,7 +171,7 @@ fn kept_behind(
     ensures kept { IfOk result (λ kept. IfSome kept (λ e. (e.tableau ≡ tableau.now) × (e.lengths ≡ lengths_of (output_of outputs.now)) × (e.done ≡ done))) }
     ensures err { IfErr result (λ r. r ≡ OutOfMemory) }
 {
-    if !done.is_power_of_two() || has_decided(outputs.free.as_slice(), flags_before) {
+    if !done.is_power_of_two() || !are_fixed(outputs.free.as_slice(), flags_before) {
         return Ok(None);
     }
     Ok(Some(Earlier {

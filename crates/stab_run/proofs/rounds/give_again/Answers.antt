@@ -1,0 +1,19 @@
+use Rattle.std.proofs.Common.{◌∙◌, ap}
+use Rattle.stab_steps.specs.Points.{joined}
+use Rattle.stab_steps.specs.ProgramStates.{output_of}
+use Rattle.stab_steps.specs.Cuts.{rest_of}
+use Rattle.stab_steps.proofs.RunLemmas.{joined-assoc}
+use Rattle.stab_run.specs.RoundLaws.{copies}
+use Rattle.stab_run.proofs.AgainLemmas.{copies-more}
+use Rattle.stab_run.proofs.rounds.give_again.Goals as goal
+
+pub loop-preserved : goal.loop-preserved
+loop-preserved c =
+    let inv = c.loop.invariant in
+    let old = output_of c.args.outputs.now in
+    let more = rest_of c.args.lengths old in
+    record {
+      gives = inv.gives;
+      whole = inv.whole;
+      given = ?;
+    }
