@@ -1,7 +1,8 @@
 -- Rounds given again: a run that stands where it stood some rounds ago gives the same again by as many rounds.
-use Rattle.std.proofs.Common.{◌≡◌, ℕ, zero, suc, ◌+◌, ◌-◌, ◌*◌, ◌<◌, ◌≤◌, refl, sym, ◌∙◌, ap, subst, Bool, false, List, ◌++◌, append_assoc, length, take, drop, arith}
-use Rattle.std.proofs.Math.Seq.{take-add, take-append-add, drop-append-add}
-use Rattle.std.proofs.lemmas.List.{length-append, take_at, drop_at, take-take, drop-drop}
+use Rattle.std.proofs.Common.{◌≡◌, ℕ, zero, suc, ◌+◌, ◌-◌, ◌*◌, ◌<◌, ◌≤◌, refl, sym, ◌∙◌, ap, subst, Bool, false, List, ◌++◌, append_assoc, length, take, drop, add-one, arith}
+use Rattle.std.proofs.Math.Seq.{take-add, drop-drop, length-take-le}
+use Rattle.std.proofs.Math.Nat.{add-mul, mul-le-mul_right}
+use Rattle.std.proofs.lemmas.List.{length-drop, take_at, drop_at, take-append-drop}
 use Rattle.stab_tableau.specs.Traces.{member}
 use Rattle.stab_tableau.specs.Groups.{SameGroup}
 use Rattle.stab_tableau.specs.Tableaus.{TableauState, stabilises}
@@ -10,36 +11,165 @@ use Rattle.stab_circuit.specs.declared.circuit.repeats.Repeat.{Repeat}
 use Rattle.stab_circuit.specs.Repeats.{round_of, IsRepeat}
 use Rattle.stab_steps.specs.Records.{looked_up, ones}
 use Rattle.stab_steps.specs.Points.{Point, RunOutput, origin, nothing, joined, point_after, outputs}
-use Rattle.stab_steps.specs.Cuts.{rest_of, lengths_of}
+use Rattle.stab_steps.specs.declared.records.Lengths.{Lengths}
+use Rattle.stab_steps.specs.Cuts.{rest_of}
 use Rattle.stab_steps.specs.ProgramStates.{program_state, IsAt}
 use Rattle.stab_steps.proofs.RunLemmas.{joined-nothing, joined-assoc, after-append, outputs-append}
 use Rattle.stab_run.specs.Ends.{AgreeBack, with_coin}
 use Rattle.stab_run.specs.RoundLaws.{copies}
 use Rattle.stab_run.specs.declared.rounds.Earlier.{Earlier}
 use Rattle.stab_run.specs.inner.Led.{IsLed, behind_rounds, IsEarlier, IsUndecided}
-use Rattle.stab_run.proofs.PointLemmas.{flags-are-coins, records-are-records, front-joined, rest-joined}
+use Rattle.stab_run.proofs.PointLemmas.{flags-are-coins, records-are-records, rest-joined}
 use Rattle.stab_run.proofs.RoundLemmas.{rounds-append, rounds-rounds, rounds-within, length-rounds, rounds-again}
 
 -- one copy more
 
+nothing-joined : (a : RunOutput) → joined nothing a ≡ a
+nothing-joined a = refl
+
 pub copies-more : (k : ℕ) (o : RunOutput) → joined (copies k o) o ≡ copies (k + 1) o
-copies-more zero o = sym (joined-nothing o)
-copies-more (suc k) o = joined-assoc o (copies k o) o ∙ ap (joined o) (copies-more k o)
+copies-more k o = before k ∙ ap (λ n. copies n o) (sym (add-one k))
+  where
+    before : (j : ℕ) → joined (copies j o) o ≡ copies (suc j) o
+    before zero = sym (joined-nothing o)
+    before (suc j) = joined-assoc o (copies j o) o ∙ ap (joined o) (before j)
 
 -- the steps behind so many rounds, and those of as many more
 
 module _ (steps : List Step) (r : Repeat) (is : IsRepeat steps r) where
-  ys : List Step
-  ys = round_of r steps
+  abbrev behind : List Step
+  behind = drop r.first steps
 
-  length-round : length ys ≡ r.length
-  unfolding ys
-  length-round = ?
+  one_round : r.length ≤ r.rounds * r.length
+  one_round = let some : 1 ≤ r.rounds = omega (arith, is.many) in let le = mul-le-mul_right r.length some in omega arith
 
-  -- within the rounds
-  inner-part : (j m : ℕ) → j + m ≤ r.rounds → take (m * r.length) (drop (j * r.length) (rounds r.rounds ys)) ≡ rounds m ys
-  inner-part j m le = ?
+  length-round : length (round_of r steps) ≡ r.length
+  length-round = length-take-le r.length (drop r.first steps) (omega (arith, length-drop r.first steps, is.inside, one_round))
 
   pub more-rounds : (j m : ℕ) → j + m ≤ r.rounds → take (behind_rounds r (j + m)) steps ≡ take (behind_rounds r j) steps ++ rounds m (round_of r steps)
-  unfolding ys
-  more-rounds j m le = ?
+  more-rounds j m le =
+      ap (λ k. take k steps) {x = behind_rounds r (j + m)} {y = behind_rounds r j + m * L} (omega (arith, add-mul j m L))
+      ∙ take-add (behind_rounds r j) (m * L) steps
+      ∙ ap (λ l. take (behind_rounds r j) steps ++ l)
+      (ap (take (m * L)) (sym (drop-drop (j * L) r.first steps) ∙ ap (drop (j * L)) whole ∙ drop_at (rounds j ys) (rounds m ys ++ rest) (j * L) (sized j))
+      ∙ take_at (rounds m ys) rest (m * L) (sized m))
+    where
+      L : ℕ
+      L = r.length
+
+      ys : List Step
+      ys = round_of r steps
+
+      k : ℕ
+      k = r.rounds - (j + m)
+
+      rest : List Step
+      rest = rounds k ys ++ drop (r.rounds * L) behind
+
+      sized : (i : ℕ) → length (rounds i ys) ≡ i * L
+      sized i = length-rounds i ys ∙ ap (λ n. i * n) length-round
+
+      parts : rounds r.rounds ys ≡ rounds j ys ++ (rounds m ys ++ rounds k ys)
+      parts =
+          ap (λ n. rounds n ys) {x = r.rounds} {y = j + (m + k)} (omega arith)
+          ∙ rounds-append j (m + k) ys
+          ∙ ap (λ l. rounds j ys ++ l) (rounds-append m k ys)
+
+      whole : behind ≡ rounds j ys ++ (rounds m ys ++ rest)
+      whole =
+          sym (take-append-drop (r.rounds * L) behind)
+          ∙ ap (λ l. l ++ drop (r.rounds * L) behind) (is.again ∙ parts)
+          ∙ append_assoc (rounds j ys) (rounds m ys ++ rounds k ys) (drop (r.rounds * L) behind)
+          ∙ ap (λ l. rounds j ys ++ l) (append_assoc (rounds m ys) (rounds k ys) (drop (r.rounds * L) behind))
+
+  -- where a state has come again, the rounds since then come again
+
+  module _ (n : ℕ) (coins : ℕ → Bool) (e : Earlier) (done : ℕ) (t : TableauState) (old : RunOutput) (early : IsEarlier n coins steps r done e)
+      (led : IsLed n coins (take (behind_rounds r done) steps) (program_state t old)) (within : done ≤ r.rounds) (same : e.tableau ≡ t)
+      (undecided : IsUndecided r.reach e.lengths.free e.lengths.records old) where
+    abbrev period : ℕ
+    period = done - e.done
+
+    abbrev since : List Step
+    since = rounds period (round_of r steps)
+
+    abbrev first : List Step
+    first = take (behind_rounds r e.done) steps
+
+    abbrev then : Point
+    then = point_after n coins first origin
+
+    steps_now : take (behind_rounds r done) steps ≡ first ++ since
+    steps_now =
+        ap (λ k. take (behind_rounds r k) steps) {x = done} {y = e.done + (done - e.done)} (let le = early.before in omega arith)
+        ∙ more-rounds e.done (done - e.done) (let le = early.before in omega arith)
+
+    abbrev now : Point
+    now = point_after n coins since then
+
+    now_is : point_after n coins (take (behind_rounds r done) steps) origin ≡ now
+    now_is = ap (λ xs. point_after n coins xs origin) steps_now ∙ after-append n coins first since origin
+
+    old_is : old ≡ joined (outputs n coins first origin) (outputs n coins since then)
+    old_is = led.output ∙ ap (λ xs. outputs n coins xs origin) steps_now ∙ outputs-append n coins first since origin
+
+    pub rest_is : rest_of e.lengths old ≡ outputs n coins since then
+    rest_is = (λ i. rest_of (early.lengths i) (old_is i)) ∙ rest-joined (outputs n coins first origin) (outputs n coins since then)
+
+    fixed : ones (outputs n coins since then).free ≡ 0
+    fixed = ap (λ (o : RunOutput). ones o.free) (sym rest_is) ∙ undecided.fixed
+
+    at_now : IsAt n (program_state t old) now
+    at_now = subst (IsAt n (program_state t old)) now_is led.at
+
+    records_then : take e.lengths.records old.records ≡ then.records
+    records_then =
+        ap (λ (l : Lengths). take l.records old.records) early.lengths
+        ∙ ap (λ (o : RunOutput). take (length (outputs n coins first origin).records) o.records) old_is
+        ∙ take_at (outputs n coins first origin).records (outputs n coins since then).records (length (outputs n coins first origin).records) refl
+        ∙ records-are-records n coins first
+
+    agree : AgreeBack n r.reach (with_coin now.coin then) now
+    agree = record {
+      group = λ p lp. sym (early.group p lp) ∙ ap (λ s. stabilises s p) same ∙ at_now.group p lp;
+      coin = refl;
+      records = λ k le. ap (λ bits. looked_up bits k) (sym records_then) ∙ undecided.same k le ∙ ap (λ bits. looked_up bits k) at_now.records;
+    }
+
+    pub gives-again : (k : ℕ) (new : RunOutput) → done + k * period ≤ r.rounds → new ≡ joined old (copies k (rest_of e.lengths old))
+        → IsLed n coins (take (behind_rounds r (done + k * period)) steps) (program_state t new)
+    gives-again k new le is_new =
+        subst (λ xs. IsLed n coins xs (program_state t new)) (sym steps_then)
+        (record {
+          at = record {
+            group = λ p lp. at_now.group p lp ∙ again.1 p lp ∙ ap (λ (a : Point). member a.trace p) (sym point_then);
+            coin = ap (λ (o : RunOutput). length o.free) new_is ∙ flags-are-coins n coins (whole ++ more);
+            records = ap (λ (o : RunOutput). o.records) new_is ∙ records-are-records n coins (whole ++ more);
+          };
+          output = new_is;
+        })
+      where
+        whole : List Step
+        whole = take (behind_rounds r done) steps
+
+        more : List Step
+        more = rounds k since
+
+        steps_then : take (behind_rounds r (done + k * period)) steps ≡ whole ++ more
+        steps_then =
+            more-rounds done (k * period) le
+            ∙ ap (λ l. whole ++ l) (sym (rounds-rounds k period (round_of r steps)))
+
+        again : (outputs n coins more now ≡ copies k (outputs n coins since then))
+            × SameGroup n (member now.trace) (member (point_after n coins more now).trace)
+        again = rounds-again n coins r.reach k since then (rounds-within r.reach period (round_of r steps) is.within) fixed agree
+
+        point_then : point_after n coins (whole ++ more) origin ≡ point_after n coins more now
+        point_then = after-append n coins whole more origin ∙ ap (point_after n coins more) now_is
+
+        new_is : new ≡ outputs n coins (whole ++ more) origin
+        new_is =
+            is_new
+            ∙ (λ i. joined (led.output i) (copies k (rest_is i)))
+            ∙ ap (joined (outputs n coins whole origin)) (sym again.0 ∙ ap (outputs n coins more) (sym now_is))
+            ∙ sym (outputs-append n coins whole more origin)

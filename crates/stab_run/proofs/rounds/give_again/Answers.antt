@@ -15,5 +15,9 @@ loop-preserved c =
     record {
       gives = inv.gives;
       whole = inv.whole;
-      given = ?;
+      given =
+          (c.in_ok-append_rest-2.ensures {u = tt}).value
+          ∙ (λ i. joined (inv.given i) (rest_of (inv.whole i) (inv.gives i)))
+          ∙ joined-assoc old (copies c.loop.counter more) more
+          ∙ ap (joined old) (copies-more c.loop.counter more);
     }
