@@ -12,8 +12,8 @@ use Rattle.stab_circuit.specs.Repeats.{round_of, IsRepeat}
 use Rattle.stab_steps.specs.Records.{looked_up, ones}
 use Rattle.stab_steps.specs.Points.{Point, RunOutput, origin, nothing, joined, point_after, outputs}
 use Rattle.stab_steps.specs.declared.records.Lengths.{Lengths}
-use Rattle.stab_steps.specs.Cuts.{rest_of}
-use Rattle.stab_steps.specs.ProgramStates.{program_state, IsAt}
+use Rattle.stab_steps.specs.Cuts.{lengths_of, rest_of}
+use Rattle.stab_steps.specs.ProgramStates.{ProgramState, program_state, IsAt}
 use Rattle.stab_steps.proofs.RunLemmas.{joined-nothing, joined-assoc, after-append, outputs-append}
 use Rattle.stab_run.specs.Ends.{AgreeBack, with_coin}
 use Rattle.stab_run.specs.RoundLaws.{copies}
@@ -33,6 +33,41 @@ copies-more k o = before k ∙ ap (λ n. copies n o) (sym (add-one k))
     before : (j : ℕ) → joined (copies j o) o ≡ copies (suc j) o
     before zero = sym (joined-nothing o)
     before (suc j) = joined-assoc o (copies j o) o ∙ ap (joined o) (before j)
+
+-- the step behind one more round
+pub behind-more : (r : Repeat) (k : ℕ) → behind_rounds r k + r.length ≡ behind_rounds r (k + 1)
+behind-more r k = omega (arith, add-mul k 1 r.length)
+
+-- it is no later than that behind more rounds
+pub behind-later : (r : Repeat) (j k : ℕ) → j ≤ k → behind_rounds r j ≤ behind_rounds r k
+behind-later r j k le = let more = mul-le-mul_right r.length le in omega arith
+
+-- what is kept behind a round
+pub kept-earlier : (n : ℕ) (coins : ℕ → Bool) (steps : List Step) (r : Repeat) (done : ℕ) (e : Earlier) (t : TableauState) (o : RunOutput)
+    → IsLed n coins (take (behind_rounds r done) steps) (program_state t o) → t.qubits ≡ n
+    → (e.tableau ≡ t) × (e.lengths ≡ lengths_of o) × (e.done ≡ done) → IsEarlier n coins steps r done e
+kept-earlier n coins steps r done e t o led size is = record {
+  before = let same = is.2 in omega arith;
+  qubits = ap (λ (s : TableauState). s.qubits) is.0 ∙ size;
+  group = λ p lp.
+      ap (λ s. stabilises s p) is.0
+      ∙ led.at.group p lp
+      ∙ ap (λ k. member (point_after n coins (take (behind_rounds r k) steps) origin).trace p) (sym is.2);
+  lengths =
+      is.1
+      ∙ ap lengths_of led.output
+      ∙ ap (λ k. lengths_of (outputs n coins (take (behind_rounds r k) steps) origin)) (sym is.2);
+}
+
+-- the same number of qubits and the same coins
+
+pub led-same : (n m : ℕ) (c d : ℕ → Bool) (xs : List Step) (s : ProgramState) → m ≡ n → d ≡ c → IsLed m d xs s → IsLed n c xs s
+led-same n m c d xs s size same is = subst (λ k. IsLed k c xs s) size (subst (λ coins. IsLed m coins xs s) same is)
+
+pub earlier-same : (n m : ℕ) (c d : ℕ → Bool) (steps : List Step) (r : Repeat) (done : ℕ) (e : Earlier) → m ≡ n → d ≡ c
+    → IsEarlier m d steps r done e → IsEarlier n c steps r done e
+earlier-same n m c d steps r done e size same is =
+    subst (λ k. IsEarlier k c steps r done e) size (subst (λ coins. IsEarlier m coins steps r done e) same is)
 
 -- the steps behind so many rounds, and those of as many more
 
