@@ -1,5 +1,5 @@
 -- StepFits: the steps of a circuit that is not refused on n qubits are on these qubits.
-use Rattle.std.proofs.Common.{◌≡◌, ℕ, zero, suc, ◌<◌, ◌≤◌, max, refl, sym, subst, Bool, true, false, nat_lt, List, [], ◌∷◌, ◌++◌, length, map, All, get_or, arith}
+use Rattle.std.proofs.Common.{◌≡◌, ℕ, zero, suc, ◌<◌, ◌≤◌, ◌^◌, max, refl, sym, subst, Bool, true, false, nat_lt, List, [], ◌∷◌, ◌++◌, length, map, All, get_or, arith}
 use Rattle.std.specs.Prelude.{Option, Some, None, if◌then◌else◌}
 use Rattle.std.proofs.lemmas.List.Elements.{All-nil, All-cons, All-append}
 use Rattle.stab_io.specs.declared.refusal.Refusal.{Refusal}
@@ -152,6 +152,9 @@ check-whole n items e = (chosen _ _ _ e).1
 pub check-steps : (items : Items) → check_of items ≡ None → length (unroll items) ≤ 1048576
 unfolding check_of
 check-steps items e = not_less most_steps (length (unroll items)) (chosen _ _ _ (chosen _ _ _ e).1).0
+
+pub few-steps : (n : ℕ) (items : Items) → check_within n items ≡ None → length (unroll items) < 2 ^ 63
+few-steps n items e = omega (arith, check-steps items (check-whole n items e))
 
 pub check-fits : (n : ℕ) (items : Items) (xs : List Step) → check_within n items ≡ None → xs ≡ unroll items → All IsApart xs → All (StepFits n) xs
 check-fits n items xs e is apart = λ k d lt.

@@ -1,5 +1,5 @@
 -- Steps left: the first so many of them, as they are carried out one after another.
-use Rattle.std.proofs.Common.{◌≡◌, ℕ, zero, suc, ◌+◌, ◌-◌, ◌^◌, ◌<◌, ◌≤◌, refl, ◌∙◌, ap, subst, arith, List, [], ◌∷◌, ◌++◌, length, take, drop}
+use Rattle.std.proofs.Common.{◌≡◌, ℕ, zero, suc, ◌+◌, ◌-◌, ◌^◌, ◌<◌, ◌≤◌, refl, ◌∙◌, ap, arith, List, [], ◌∷◌, ◌++◌, length, take, drop}
 use Rattle.std.proofs.Math.Seq.{take-append-add, drop-append-add}
 use Rattle.stab_circuit.specs.Steps.{Step}
 use Rattle.stab_steps.specs.Points.{all_coins_of}
@@ -48,9 +48,10 @@ take-whole zero (x ∷ xs) l = absurd (omega arith)
 take-whole (suc k) (x ∷ xs) l = ap (λ t. x ∷ t) (take-whole k xs (omega arith))
 
 -- all steps, where no bound is as low as their number
-pub take-all : (k : ℕ) (left all : List Step) → left ≡ all → length all < 2 ^ 63 → 2 ^ 63 ≤ k → take k left ≡ all
-take-all k left all e few large = ap (take k) e ∙ take-whole k all (omega arith)
 
-pub asks-all : (k old new : ℕ) (left all : List Step) → left ≡ all → length all < 2 ^ 63 → 2 ^ 63 ≤ k → new ≤ old + all_coins_of (take k left)
-    → new ≤ old + all_coins_of all
-asks-all k old new left all e few large asks = subst (λ xs. new ≤ old + all_coins_of xs) (take-all k left all e few large) asks
+pub take-all : (from most : ℕ) (all : List Step) → length all < 2 ^ 63 → 2 ^ 63 ≤ most → take (from + most) all ≡ all
+take-all from most all few large = take-whole (from + most) all (omega arith)
+
+pub asks-all : (from most old mid new : ℕ) (all : List Step) → length all < 2 ^ 63 → 2 ^ 63 ≤ most → mid ≤ old + all_coins_of (take from all)
+    → new + all_coins_of (take from all) ≤ mid + all_coins_of (take (from + most) all) → new ≤ old + all_coins_of all
+asks-all from most old mid new all few large before behind = omega (arith, before, behind, ap all_coins_of (take-all from most all few large))

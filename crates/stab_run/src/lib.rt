@@ -1,8 +1,11 @@
 //! Runs of circuits.
 //!
-//! In the order in which data flows; each module uses only those before it:
+//! In the order in which data flows; each module uses only those before it, but for `run` and `rounds`, which use
+//! each other:
 //!
 //! - `run`: some steps or all of a circuit, and what they give.
+//! - `rounds`: the blocks of a circuit. The rounds of a block are carried out until a state comes again; from there
+//!   on they give again what they gave.
 //! - `sampler`: one circuit made ready for many runs, and one run of it.
 //! - `laws`: what a run depends on, that what happens in it is sound, and when rounds of steps come again.
 //!

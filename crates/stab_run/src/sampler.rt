@@ -9,7 +9,7 @@ ghost use Rattle.stab_steps.specs.Points.{all_coins_of};
 ghost use Rattle.stab_run.specs.Laws.{DependsOnCoinsAt};
 
 use crate::run::{Shot, run_whole};
-use stab_circuit::{Circuit, Cursor};
+use stab_circuit::{Circuit, Repeat};
 use stab_io::{Fault, Refusal};
 use stab_pauli::Pauli;
 use stab_steps::Coins;
@@ -17,7 +17,7 @@ use stab_tableau::Tableau;
 use std::alloc::Global;
 use std::marker::Model;
 
-/// A circuit that is ready for many shots: checked and unrolled once, on one tableau.
+/// A circuit that is ready for many shots, on one tableau: checked once, and its blocks found once.
 ///
 /// Contracts see how many qubits there are, and the circuit's items. No shot changes either, nor
 /// does it leave anything to the next one.
@@ -26,7 +26,8 @@ pub struct Sampler<'a> {
     tableau: Tableau,
     // A string on the tableau's qubits, for products to be written into: so no step takes memory for one.
     string: Pauli,
-    cursor: Cursor<'a>,
+    // Its blocks, by their steps: the rounds of one may come to a state that they were in before.
+    repeats: Vec<Repeat>,
     // How many of each the circuit has, which the items are walked for once.
     records: usize,
     observables: usize,
@@ -39,7 +40,7 @@ impl Drop for Sampler<'_> {
             circuit: _,
             tableau: _,
             string: _,
-            cursor: _,
+            repeats: _,
             records: _,
             observables: _,
         } = self;
@@ -57,7 +58,7 @@ impl<'a> Model for Sampler<'a> {
 
     ghost view = { λ s. record { qubits = s.tableau.qubits; items = circuit_items s.circuit.now } };
 
-    ghost invariant = { λ s. IsReady s.tableau.qubits (circuit_items s.circuit.now) s.cursor.all s.string s.records s.observables };
+    ghost invariant = { λ s. IsReady s.tableau.qubits (circuit_items s.circuit.now) s.repeats.items s.string s.records s.observables };
 }
 
 impl<'a> Sampler<'a> {
@@ -94,12 +95,14 @@ impl<'a> Sampler<'a> {
     {
         let tableau = Tableau::new(alloc, n)?;
         let string = Pauli::identity(alloc, n)?;
-        let cursor = Cursor::at(alloc, circuit, 0)?;
+        let repeats = circuit.repeats(alloc)?;
+        // This tells a proof that the qubits of each pair differ.
+        let _ = circuit.len();
         Ok(Sampler {
             circuit,
             tableau,
             string,
-            cursor,
+            repeats,
             records: circuit.records(),
             observables: circuit.observables(),
         })
@@ -107,8 +110,10 @@ impl<'a> Sampler<'a> {
 
     /// Runs the circuit once, with all qubits 0 at first, whatever became of earlier shots.
     ///
-    /// Coins are numbered and asked for as by `run_once`. The memory that a shot takes is that of
-    /// its lists. Refusal `OutOfMemory` alone.
+    /// The rounds of a block are carried out until a state comes again; from there on they give
+    /// again what they gave. Coins are numbered and asked for as by `run_once`. Beside its lists, a
+    /// shot takes memory for places within nested blocks, and for copies of the tableau and of what
+    /// rounds gave. Refusal `OutOfMemory` alone.
     pub fn shot<C: Coins>(&mut self, alloc: Global, coins: &mut C) -> Result<Shot, Refusal>
         ensures kept { self.new ≡ self.old }
         ensures records { IfOk result (λ s. s.records.items ≡ (run_of self.old.qubits (C.sequence coins.old) self.old.items).records) }
@@ -123,10 +128,11 @@ impl<'a> Sampler<'a> {
     {
         run_whole(
             alloc,
+            self.circuit,
+            self.repeats.as_slice(),
             &mut self.tableau,
             &mut self.string,
             coins,
-            &mut self.cursor,
             self.records,
             self.observables,
         )

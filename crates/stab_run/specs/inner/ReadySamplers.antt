@@ -4,8 +4,10 @@ use Rattle.std.specs.Prelude.{◌≡◌, ℕ, min, List, All, None, length, refl
 use Rattle.std.specs.Coded.{Coded, code_by, coded×, coded_ℕ}
 use Rattle.stab_pauli.specs.Paulis.{Signed}
 use Rattle.stab_circuit.specs.Items.{Items}
-use Rattle.stab_circuit.specs.Steps.{Step, unroll, records_of, observables_of, steps_cap, check_within}
+use Rattle.stab_circuit.specs.Steps.{unroll, records_of, observables_of, steps_cap, check_within}
 use Rattle.stab_circuit.specs.Cursors.{IsApart}
+use Rattle.stab_circuit.specs.declared.circuit.repeats.Repeat.{Repeat}
+use Rattle.stab_circuit.specs.Repeats.{AreRepeats}
 use Rattle.stab_run.specs.Samplers.{SamplerState}
 use Rattle.stab_circuit.specs.inner.StoredItems.{items_code}
 
@@ -13,12 +15,12 @@ use Rattle.stab_circuit.specs.inner.StoredItems.{items_code}
 abbrev pub sampler_code : Coded SamplerState
 sampler_code = code_by (ℕ × Items) (coded× coded_ℕ items_code) (λ s. (s.qubits, s.items)) (λ p. record { qubits = p.0; items = p.1 }) (λ _. refl)
 
--- nothing refuses the items on the qubits, the steps are all of theirs, the string is on the qubits, and the numbers of records
--- and observables are theirs
-pub record IsReady (n : ℕ) (items : Items) (steps : List Step) (string : Signed) (records observables : ℕ) : Type 0 where
+-- nothing refuses the items on the qubits, the qubits of each pair differ, the repeats are those of their steps, the string is on
+-- the qubits, and the numbers of records and observables are theirs
+pub record IsReady (n : ℕ) (items : Items) (repeats : List Repeat) (string : Signed) (records observables : ℕ) : Type 0 where
   pub checked : check_within n items ≡ None
-  pub unrolled : steps ≡ unroll items
-  pub apart : All IsApart steps
+  pub apart : All IsApart (unroll items)
+  pub repeated : AreRepeats 0 (unroll items) repeats
   pub same_length : length string.letters ≡ n
   pub records_are : records ≡ min (records_of (unroll items)) steps_cap
   pub observables_are : observables ≡ observables_of items

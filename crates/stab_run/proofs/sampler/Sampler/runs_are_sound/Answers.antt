@@ -1,5 +1,4 @@
-use Rattle.std.proofs.Common.{subst, All}
-use Rattle.stab_circuit.specs.Cursors.{IsApart}
+use Rattle.std.proofs.Common.{subst}
 use Rattle.stab_circuit.specs.Views.{circuit_items}
 use Rattle.stab_run.specs.Laws.{IsSoundRun}
 use Rattle.stab_run.specs.Samplers.{SamplerState}
@@ -11,5 +10,5 @@ returns c = (let ready = c.self.invariant in
     record {
       law = λ coins.
           subst (λ (s : SamplerState). IsSoundRun s.qubits coins s.items) c.self.view_is
-          (sound-run c.self.inside.tableau.qubits coins (circuit_items c.self.inside.circuit.now) ready.checked (subst (All IsApart) ready.unrolled ready.apart));
+          (sound-run c.self.inside.tableau.qubits coins (circuit_items c.self.inside.circuit.now) ready.checked ready.apart);
     })

@@ -1,4 +1,4 @@
-use Rattle.std.proofs.Common.{rules, arith, ap, subst, sym, length}
+use Rattle.std.proofs.Common.{rules, subst, sym}
 use Rattle.std.specs.Prelude.{IfOk}
 use Rattle.std.proofs.lemmas.Result.{IfOk-weaker}
 use Rattle.stab_tableau.specs.Tableaus.{stabilises}
@@ -7,21 +7,9 @@ use Rattle.stab_steps.specs.Runs.{run_of}
 use Rattle.stab_run.specs.Laws.{DependsOnCoinsAt}
 use Rattle.stab_run.specs.Samplers.{SamplerState}
 use Rattle.stab_run.specs.inner.Shots.{IsShotOf}
-use Rattle.stab_run.proofs.FitLemmas.{check-fits, check-steps, check-whole}
 use Rattle.stab_run.proofs.ShotLemmas.{shots-of_items}
 use Rattle.stab_run.proofs.StateLemmas.{run_of-same}
 use Rattle.stab_run.proofs.sampler.Sampler.shot.Goals as goal
-
-pub run_whole-requires-clause-fits : goal.run_whole-requires-clause-fits
-run_whole-requires-clause-fits g c =
-    let ready = c.self.invariant in
-    check-fits c.self.inside.tableau.qubits (circuit_items c.self.inside.circuit.now) c.self.inside.cursor.all ready.checked ready.unrolled ready.apart
-
-pub run_whole-requires-clause-few : goal.run_whole-requires-clause-few
-run_whole-requires-clause-few g c =
-    let ready = c.self.invariant in
-    let items = circuit_items c.self.inside.circuit.now in
-    omega (arith, ap length ready.unrolled, check-steps items (check-whole c.self.inside.tableau.qubits items ready.checked))
 
 pub returns : goal.returns
 returns g c =
@@ -32,8 +20,8 @@ returns g c =
     let stabilised = stabilises c.run_whole.new.tableau in
     let is : IfOk shot (IsShotOf now.qubits (run_of now.qubits coins now.items) stabilised) =
     subst (λ (s : SamplerState). IfOk shot (IsShotOf s.qubits (run_of s.qubits coins s.items) stabilised)) c.self.view_is
-    (shots-of_items shot c.self.inside.tableau.qubits coins (circuit_items c.self.inside.circuit.now) c.self.inside.cursor.all c.self.inside.observables stabilised
-    ready.unrolled ready.observables_are c.run_whole.ensures.run) in
+    (shots-of_items shot c.self.inside.tableau.qubits coins (circuit_items c.self.inside.circuit.now) c.self.inside.observables stabilised
+    ready.observables_are c.run_whole.ensures.run) in
     record {
       kept = search rules;
       records = IfOk-weaker shot _ _ (λ s i. i.records) is;
