@@ -1,6 +1,8 @@
-ghost use Rattle.std.specs.Prelude.{◌≡◌, IfSome, Ok};
+ghost use Rattle.std.specs.Prelude.{◌≡◌, false, IfSome, Ok};
+ghost use Rattle.std.specs.List.{list_any};
 ghost use Rattle.stab_lines.specs.Results.{each};
-ghost use Rattle.stab_lines.specs.Words.{words};
+ghost use Rattle.stab_lines.specs.Lines.{is_brace};
+ghost use Rattle.stab_lines.specs.Words.{words, arguments_of};
 ghost use Rattle.stab_lines.specs.Targets.{lookback_of};
 
 use crate::coordinates::Coordinates;
@@ -156,7 +158,15 @@ pub fn short_targets(coordinates: &Coordinates, words_text: &[u8]) -> Option<Det
     ensures in_front { IfSome result (λ d. d.0 ≡ coordinates.now) }
     ensures behind { IfSome result (λ d. each lookback_of (words words_text.now) ≡ Ok d.1) }
 {
-    let written = coordinates.written();
+    short_records(coordinates.written(), words_text)
+}
+
+/// The same behind coordinates that are written so. There is no brace among such words.
+pub fn short_records(written: &[u8], words_text: &[u8]) -> Option<DetectorTargets>
+    ensures in_front { IfSome result (λ d. d.0 ≡ arguments_of written.now) }
+    ensures behind { IfSome result (λ d. each lookback_of (words words_text.now) ≡ Ok d.1) }
+    ensures clear { IfSome result (λ _. list_any is_brace words_text.now ≡ false) }
+{
     if written.len() > SHORT {
         return None;
     }

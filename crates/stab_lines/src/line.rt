@@ -49,7 +49,8 @@ fn spacing_len(bytes: &[u8]) -> usize
     bytes.iter().take_while(|b| is_spacing(**b)).count()
 }
 
-fn is_brace(byte: u8) -> bool
+/// Whether the byte is a curly bracket.
+pub fn is_brace(byte: u8) -> bool
     ensures value { result ≡ brace byte }
 {
     byte == b'{' || byte == b'}'

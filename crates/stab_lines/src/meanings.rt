@@ -10,6 +10,7 @@ ghost use Rattle.stab_lines.specs.Meanings.{without_arguments, targets_alone as 
 use crate::argument::{coordinates, observable, only_number};
 use crate::control::{ControlledPair, controlled_pairs};
 use crate::detector::{DetectorTargets, short_targets};
+use crate::detector_content::plain_detector;
 use crate::factor::ProductTargets;
 use crate::line::{Shape, starts_with};
 use crate::located::Located;
@@ -184,6 +185,12 @@ pub fn meaning(alloc: Global, content: &[u8]) -> Result<Line, Refusal>
     }
     if is_close(content) {
         return Ok(Line::Close);
+    }
+    if let Some(targets) = plain_detector(content) {
+        return Ok(Line::Operation(Operation {
+            kind: Kind::Detector(targets),
+            tag: Sequence::new(alloc),
+        }));
     }
     let shape = Shape::of(content)?;
     let name = Name::of(shape.name)?;
