@@ -1,8 +1,12 @@
 -- The content of a detector: how it is cut, and what it means.
-use Rattle.std.proofs.Common.{◌≡◌, ℕ, ◌+◌, suc, Bool, true, false, not, ◌==◌, nat_eq, List, [], ◌∷◌, ◌++◌, take, drop, codes, Option, None, Some, IfSome, Ok, refl, sym, ap, ◌∙◌, arith, if◌then◌else◌}
+use Rattle.std.proofs.Common.{◌≡◌, ℕ, ◌+◌, suc, Bool, true, false, not, ◌==◌, nat_eq, List, [], ◌∷◌, ◌++◌, take, drop, codes, Option, Some, Result, Ok, Err, ◌⊎◌, inl, inr, refl, sym, ap, ◌∙◌, arith, if◌then◌else◌}
 use Rattle.std.specs.List.{list_all, list_any, prefix_len, starts_with}
 use Rattle.std.proofs.lemmas.List.{take-append-drop}
+use Rattle.stab_io.specs.declared.refusal.Refusal.{Refusal}
+use Rattle.stab_io.specs.declared.refusal.Refusal.TheVariants.{BadArguments, OutOfMemory}
+use Rattle.stab_lines.specs.declared.name.Instruction.TheVariants as instruction
 use Rattle.stab_lines.specs.declared.operation.Kind.TheVariants as kind
+use Rattle.stab_lines.specs.declared.meanings.Line.{Line}
 use Rattle.stab_lines.specs.declared.meanings.Line.TheVariants as line
 use Rattle.stab_lines.specs.Results.{◌>>=◌, each}
 use Rattle.stab_lines.specs.Lines.{Shape, is_byte, is_brace, is_apart, starts_with_byte, ends_with_byte, behind_tag, shaped, shape_of}
@@ -11,11 +15,11 @@ use Rattle.stab_lines.specs.Targets.{lookback_of}
 use Rattle.stab_lines.specs.Meanings.{kind_of, without_open, named_line, shape_meaning, meaning_of}
 use Rattle.stab_lines.specs.inner.Numbers.{is_word_end}
 use Rattle.stab_lines.specs.inner.Parts.{is_coordinate}
-use Rattle.stab_lines.specs.inner.DetectorContents.{is_inner, IsCutDetector}
+use Rattle.stab_lines.specs.inner.DetectorContents.{is_inner, IsCutDetector, behind_coordinates, TellsDetector}
 use Rattle.stab_lines.proofs.BoolLemmas.{both, passed, and_left, and_right}
 use Rattle.stab_lines.proofs.FreeLemmas.{Free, each_weaker, free_any, ends_free}
 use Rattle.stab_lines.proofs.FrontTargetLemmas.{starts_same, closing_is}
-use Rattle.stab_lines.proofs.CoordinateLemmas.{each_coordinate}
+use Rattle.stab_lines.proofs.CoordinateLemmas.{each_coordinate, no_coordinate}
 use Rattle.stab_lines.proofs.ShapeLemmas.{each_all, brackets_again, no_brackets, shaped_again, spaced_apart, brace_free}
 use Rattle.stab_lines.proofs.MeaningLemmas.{kind_name_again, letter_means}
 
@@ -77,26 +81,66 @@ text_shape inside behind h w clear =
     ∙ ap (λ r. r >>= shaped content []) (brackets_again 40 41 all inside behind refl refl (inner_unclosed inside h) refl)
     ∙ shaped_again content (codes "DETECTOR") [] inside behind behind false refl refl (end_apart behind w) (inner_unbraced inside h) free (passed (ends_with_byte behind 123) _ _ closed) closed
 
-text_means : (inside behind ks : List ℕ) → list_all is_inner inside ≡ true → is_word_end behind ≡ true → list_any is_brace behind ≡ false → list_all is_coordinate (arguments_of inside) ≡ true
-    → each lookback_of (words behind) ≡ Ok ks → meaning_of (detector_text inside behind) ≡ Ok (line.Operation (record { kind = kind.Detector (arguments_of inside, ks); tag = [] }))
-unfolding kind_of named_line
-text_means inside behind ks h w clear written read =
+-- what a detector does, where its coordinates are written as coordinates are
+pub detector_kind : (s : Shape) → list_all is_coordinate (arguments_of s.arguments) ≡ true
+    → kind_of instruction.Detector s ≡ (behind_coordinates s.arguments (each lookback_of (words s.targets)) >>= λ d. Ok (kind.Detector d))
+unfolding kind_of
+detector_kind s written =
+    ap (λ r. r >>= λ cs. each lookback_of (words s.targets) >>= λ ks. Ok (kind.Detector (cs, ks))) (each_coordinate (arguments_of s.arguments) written)
+    ∙ joined (arguments_of s.arguments) (each lookback_of (words s.targets))
+  where
+    joined : (cs : List (List ℕ)) (given : Result (List ℕ) Refusal) → (given >>= λ ks. Ok (kind.Detector (cs, ks))) ≡ (given >>= (λ ks. Ok (cs, ks)) >>= λ d. Ok (kind.Detector d))
+    joined cs (Ok ks) = refl
+    joined cs (Err r) = refl
+
+-- where they are not
+pub detector_refused : (s : Shape) → list_all is_coordinate (arguments_of s.arguments) ≡ false → kind_of instruction.Detector s ≡ Err BadArguments
+unfolding kind_of
+detector_refused s h = ap (λ r. r >>= λ cs. each lookback_of (words s.targets) >>= λ ks. Ok (kind.Detector (cs, ks))) (no_coordinate (arguments_of s.arguments) h)
+
+-- the line of a detector
+abbrev detector_line : List (List ℕ) × List ℕ → Result Line Refusal
+detector_line d = Ok (line.Operation (record { kind = kind.Detector d; tag = [] }))
+
+text_means : (inside behind : List ℕ) → list_all is_inner inside ≡ true → is_word_end behind ≡ true → list_any is_brace behind ≡ false → list_all is_coordinate (arguments_of inside) ≡ true
+    → meaning_of (detector_text inside behind) ≡ (behind_coordinates inside (each lookback_of (words behind)) >>= detector_line)
+unfolding named_line
+text_means inside behind h w clear written =
     let s = detector_shape inside behind in
     letter_means 68 (codes "ETECTOR(" ++ (inside ++ 41 ∷ behind)) refl
     ∙ ap (λ r. r >>= shape_meaning) (text_shape inside behind h w clear)
-    ∙ ap (λ r. r >>= named_line s) (kind_name_again (kind.Detector (arguments_of inside, ks)))
-    ∙ ap (λ r. (r >>= λ cs. each lookback_of (words behind) >>= λ ls. Ok (kind.Detector (cs, ls))) >>= λ kind. without_open s (Ok (line.Operation (record { kind = kind; tag = [] })))) (each_coordinate (arguments_of inside) written)
-    ∙ ap (λ r. (r >>= λ ls. Ok (kind.Detector (arguments_of inside, ls))) >>= λ kind. without_open s (Ok (line.Operation (record { kind = kind; tag = [] })))) read
+    ∙ ap (λ r. r >>= named_line s) (kind_name_again (kind.Detector (arguments_of inside, [])))
+    ∙ ap (λ r. r >>= λ kind. without_open s (Ok (line.Operation (record { kind = kind; tag = [] })))) (detector_kind s written)
+    ∙ joined s refl (behind_coordinates inside (each lookback_of (words behind)))
+  where
+    joined : (s : Shape) → s.opens ≡ false → (given : Result (List (List ℕ) × List ℕ) Refusal)
+        → (given >>= (λ d. Ok (kind.Detector d)) >>= λ kind. without_open s (Ok (line.Operation (record { kind = kind; tag = [] })))) ≡ (given >>= detector_line)
+    joined s e (Ok d) = passed s.opens _ _ e
+    joined s e (Err r) = refl
 
 -- what a content means that is cut so
-pub detector_means : (content inside behind ks : List ℕ) (coordinates : List (List ℕ)) → IsCutDetector content inside behind → list_any is_brace behind ≡ false → list_all is_coordinate (arguments_of inside) ≡ true
-    → coordinates ≡ arguments_of inside → each lookback_of (words behind) ≡ Ok ks → meaning_of content ≡ Ok (line.Operation (record { kind = kind.Detector (coordinates, ks); tag = [] }))
-detector_means content inside behind ks coordinates cut clear written same read =
-    ap meaning_of cut.0 ∙ text_means inside behind ks cut.1 cut.2 clear written read ∙ ap (λ cs. Ok (line.Operation (record { kind = kind.Detector (cs, ks); tag = [] }))) (sym same)
+detector_means : (content inside behind : List ℕ) → IsCutDetector content inside behind → list_all is_coordinate (arguments_of inside) ≡ true → list_any is_brace behind ≡ false
+    → meaning_of content ≡ (behind_coordinates inside (each lookback_of (words behind)) >>= detector_line)
+detector_means content inside behind cut written clear = ap meaning_of cut.0 ∙ text_means inside behind cut.1 cut.2 clear written
 
--- what is read of a content that is cut so
-pub detector_read : (content inside behind : List ℕ) (given : Option (List (List ℕ) × List ℕ)) → IsCutDetector content inside behind → list_all is_coordinate (arguments_of inside) ≡ true
-    → IfSome given (λ d. d.0 ≡ arguments_of inside) → IfSome given (λ d. each lookback_of (words behind) ≡ Ok d.1) → IfSome given (λ _. list_any is_brace behind ≡ false)
-    → IfSome given (λ d. meaning_of content ≡ Ok (line.Operation (record { kind = kind.Detector d; tag = [] })))
-detector_read content inside behind None cut written same read clear = tt
-detector_read content inside behind (Some d) cut written same read clear = detector_means content inside behind d.1 d.0 cut clear written same read
+-- it is told by its few records
+pub few_tell : (content inside behind : List ℕ) (d : List (List ℕ) × List ℕ) → IsCutDetector content inside behind → list_all is_coordinate (arguments_of inside) ≡ true
+    → d.0 ≡ arguments_of inside → each lookback_of (words behind) ≡ Ok d.1 → list_any is_brace behind ≡ false → TellsDetector content (Ok (Some d))
+few_tell content inside behind d cut written same read clear =
+    detector_means content inside behind cut written clear
+    ∙ ap (λ given. behind_coordinates inside given >>= detector_line) read
+    ∙ ap (λ cs. detector_line (cs, d.1)) (sym same)
+
+-- by any
+pub many_tell : (content inside behind : List ℕ) (d : List (List ℕ) × List ℕ) → IsCutDetector content inside behind → list_all is_coordinate (arguments_of inside) ≡ true → list_any is_brace behind ≡ false
+    → behind_coordinates inside (each lookback_of (words behind)) ≡ Ok d → TellsDetector content (Ok (Some d))
+many_tell content inside behind d cut written clear given = detector_means content inside behind cut written clear ∙ ap (λ r. r >>= detector_line) given
+
+-- or by what refuses them
+pub refused_tell : (content inside behind : List ℕ) (r : Refusal) → IsCutDetector content inside behind → list_all is_coordinate (arguments_of inside) ≡ true → list_any is_brace behind ≡ false
+    → (r ≡ OutOfMemory) ⊎ (behind_coordinates inside (each lookback_of (words behind)) ≡ Err r) → TellsDetector content (Err r)
+refused_tell content inside behind r cut written clear h =
+    elim h [
+      | inl memory ↦ inl memory
+      | inr given ↦ inr (detector_means content inside behind cut written clear ∙ ap (λ r. r >>= detector_line) given)
+    ]

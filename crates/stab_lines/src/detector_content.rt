@@ -1,14 +1,13 @@
-ghost use Rattle.std.specs.Prelude.{◌≡◌, ◌≤◌, [], length, MatchOption, IfSome, Ok};
+ghost use Rattle.std.specs.Prelude.{◌≡◌, ◌≤◌, length, MatchOption};
 ghost use Rattle.std.specs.List.{prefix_len};
-ghost use Rattle.stab_lines.specs.Meanings.{meaning_of};
-ghost use Rattle.stab_lines.specs.declared.operation.Kind.TheVariants as kind;
-ghost use Rattle.stab_lines.specs.declared.meanings.Line.TheVariants as line;
-ghost use Rattle.stab_lines.specs.inner.DetectorContents.{is_inner as inner, IsCutDetector};
+ghost use Rattle.stab_lines.specs.inner.DetectorContents.{is_inner as inner, IsCutDetector, TellsDetector};
 
 use crate::argument::are_coordinates;
-use crate::detector::{DetectorTargets, short_records};
-use crate::line::{is_brace, starts_with};
+use crate::detector::{DetectorTargets, long_records, short_records};
+use crate::line::{has_brace, is_brace, starts_with};
 use crate::word::ends_word;
+use stab_io::Refusal;
+use std::alloc::Global;
 
 /// Whether the byte is neither a brace nor a closing bracket.
 fn is_inner(byte: u8) -> bool
@@ -46,15 +45,25 @@ fn cut_detector(content: &[u8]) -> Option<(&[u8], &[u8])>
     }
 }
 
-/// The detector that a content means, where it has no tag, its coordinates and records are few, and
-/// one look at its bytes is enough to tell.
+/// The detector that a content means, where a look at its bytes is enough to tell that it is one
+/// without a tag, and whose targets don't stand in question for a brace.
 ///
 /// A circuit that is written out has more lines of this form than of all others.
-pub fn plain_detector(content: &[u8]) -> Option<DetectorTargets>
-    ensures value { IfSome result (λ d. meaning_of content.now ≡ Ok (line.Operation (record { kind = kind.Detector d; tag = [] }))) }
+pub fn plain_detector(alloc: Global, content: &[u8]) -> Result<Option<DetectorTargets>, Refusal>
+    ensures tells { TellsDetector content.now result }
 {
-    match cut_detector(content) {
-        Some((inside, behind)) if are_coordinates(inside) => short_records(inside, behind),
-        _ => None,
+    let Some((inside, behind)) = cut_detector(content) else {
+        return Ok(None);
+    };
+    if !are_coordinates(inside) {
+        return Ok(None);
     }
+    if let Some(targets) = short_records(inside, behind) {
+        return Ok(Some(targets));
+    }
+    if has_brace(behind) {
+        return Ok(None);
+    }
+    let targets = long_records(alloc, inside, behind)?;
+    Ok(Some(targets))
 }

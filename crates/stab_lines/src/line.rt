@@ -67,8 +67,9 @@ fn run_has_brace(run: &[u8]) -> bool
     found
 }
 
+/// Whether a curly bracket stands somewhere.
 #[tactic(auto, using(crate::proofs::SearchLemmas::any_split))]
-fn has_brace(bytes: &[u8]) -> bool
+pub fn has_brace(bytes: &[u8]) -> bool
     ensures value { result ≡ list_any brace bytes.now }
 {
     let mut rest = bytes;
