@@ -1,5 +1,5 @@
 -- The content of a detector: how it is cut, and what it means.
-use Rattle.std.proofs.Common.{◌≡◌, ℕ, ◌+◌, suc, Bool, true, false, not, ◌==◌, nat_eq, List, [], ◌∷◌, ◌++◌, take, drop, codes, Option, Some, Result, Ok, Err, ◌⊎◌, inl, inr, refl, sym, ap, ◌∙◌, arith, if◌then◌else◌}
+use Rattle.std.proofs.Common.{◌≡◌, ℕ, ◌+◌, suc, Bool, true, false, not, ◌==◌, nat_eq, List, [], ◌∷◌, ◌++◌, take, drop, codes, Some, Result, Ok, Err, ◌⊎◌, inl, inr, refl, sym, ap, ◌∙◌, arith, if◌then◌else◌}
 use Rattle.std.specs.List.{list_all, list_any, prefix_len, starts_with}
 use Rattle.std.proofs.lemmas.List.{take-append-drop}
 use Rattle.stab_io.specs.declared.refusal.Refusal.{Refusal}

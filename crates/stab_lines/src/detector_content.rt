@@ -24,8 +24,8 @@ fn inner_len(bytes: &[u8]) -> usize
     bytes.iter().take_while(|b| is_inner(**b)).count()
 }
 
-/// What the brackets behind the name of a detector hold, and what follows them, where both stand as
-/// they are printed without a tag.
+/// What the brackets directly behind the name of a detector hold, and what follows them, where the
+/// name stands in capitals.
 fn cut_detector(content: &[u8]) -> Option<(&[u8], &[u8])>
     ensures value { MatchOption result (Unit {0}) (λ p. IsCutDetector content.now p.0.now p.1.now) }
 {
@@ -45,8 +45,9 @@ fn cut_detector(content: &[u8]) -> Option<(&[u8], &[u8])>
     }
 }
 
-/// The detector that a content means, where a look at its bytes is enough to tell that it is one
-/// without a tag, and whose targets don't stand in question for a brace.
+/// The detector that a content means, where it is written as one is printed without a tag, so that
+/// its parts are told apart at one look. `None` tells nothing: another content may mean a detector,
+/// too, or be refused. Refusals are those of the content, and `OutOfMemory`.
 ///
 /// A circuit that is written out has more lines of this form than of all others.
 pub fn plain_detector(alloc: Global, content: &[u8]) -> Result<Option<DetectorTargets>, Refusal>
