@@ -61,7 +61,8 @@ qubit_measured word n h =
 pub measure_target_begins : (bs rest : List ℕ) (n : ℕ) → BeginsWithTarget qubit_of bs n rest → BeginsWithTarget measure_target_of bs (record { qubit = n; inverted = false }) rest
 measure_target_begins bs rest n h = (h.0, h.1, qubit_measured h.0 n h.2)
 
-starts_same : (needle xs : List ℕ) → pointwise nat_eq needle (take (length needle) xs) ≡ true → xs ≡ needle ++ drop (length needle) xs
+-- what begins with a needle is the needle and more
+pub starts_same : (needle xs : List ℕ) → pointwise nat_eq needle (take (length needle) xs) ≡ true → xs ≡ needle ++ drop (length needle) xs
 starts_same [] xs h = sym (drop_none xs)
 starts_same (n ∷ needle) [] h = cc
 starts_same (n ∷ needle) (x ∷ xs) h =
@@ -95,7 +96,7 @@ word_shorter bs front word rest e same some =
     omega (arith, ap length same, length-append word rest, some_long word some, ap length e, length-drop (prefix_len is_spacing bs) bs)
 
 -- what rec[-k] is, whatever its digits
-abbrev record_word : List ℕ → List ℕ
+abbrev pub record_word : List ℕ → List ℕ
 record_word ds = codes "rec[-" ++ (ds ++ codes "]")
 
 some_more : (b : ℕ) (bs : List ℕ) → is_some_word (b ∷ bs) ≡ true
@@ -136,7 +137,8 @@ some_value : (ds : List ℕ) → 0 < value ds → is_some_word ds ≡ true
 some_value [] h = absurd (omega arith)
 some_value (d ∷ ds) h = grind arith
 
-closing_is : (bs : List ℕ) (b : ℕ) → starts_with_byte bs b ≡ true → bs ≡ b ∷ drop 1 bs
+-- what a byte stands first in
+pub closing_is : (bs : List ℕ) (b : ℕ) → starts_with_byte bs b ≡ true → bs ≡ b ∷ drop 1 bs
 closing_is [] b h = cc
 closing_is (x ∷ xs) b h = ap (λ y. y ∷ xs) (byte_is x b h) ∙ ap (λ l. b ∷ l) (sym (drop_none xs))
   where

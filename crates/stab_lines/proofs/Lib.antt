@@ -13,6 +13,7 @@ mod DetectorLemmas
 mod ProductLemmas
 pub mod FreeLemmas
 mod FrontTargetLemmas
+mod ClearLemmas
 mod ControlLemmas
 pub mod SureLemmas
 mod AgainLemmas
@@ -23,6 +24,7 @@ mod ShapeLemmas
 mod ContentLemmas
 mod PrintedLemmas
 mod MeaningLemmas
+mod DetectorContentLemmas
 mod EmptyLemmas
 mod RefusalLemmas
 pub mod LineLaws

@@ -85,7 +85,7 @@ reset_again axis.Y = refl
 reset_again axis.Z = refl
 
 -- a printed name is the name of its instruction
-kind_name_again : (k : Kind) → name_of (kind_name k) ≡ Ok (name.Instruction (instruction_of k))
+pub kind_name_again : (k : Kind) → name_of (kind_name k) ≡ Ok (name.Instruction (instruction_of k))
 unfolding name_of instruction_named gate_named controlled_named measurement_named other_named
 kind_name_again (kind.Gate g qubits) = gate_again g
 kind_name_again (kind.Controlled axis pairs) = controlled_again axis
@@ -148,7 +148,7 @@ kind_again tag (kind.QubitCoords located) g =
 kind_again tag (kind.ShiftCoords coordinates) g = ap (λ r. r >>= λ cs. Ok (kind.ShiftCoords cs)) (coordinates_again coordinates g)
 
 -- a content that begins with a letter means what its shape means
-letter_means : (c : ℕ) (rest : List ℕ) → is_letter c ≡ true → meaning_of (c ∷ rest) ≡ (shape_of (c ∷ rest) >>= shape_meaning)
+pub letter_means : (c : ℕ) (rest : List ℕ) → is_letter c ≡ true → meaning_of (c ∷ rest) ≡ (shape_of (c ∷ rest) >>= shape_meaning)
 unfolding meaning_of
 letter_means c rest e = passed (length (c ∷ rest) == 0) _ _ (some_bytes c rest) ∙ passed (is_close (c ∷ rest)) _ _ (no_close c rest e)
   where

@@ -21,7 +21,7 @@ pub record IsName (name : List ℕ) : Type 0 where
   pub letter : is_letter first ≡ true
   pub bytes : Each (λ b. is_name_byte b ≡ true) name
 
-each_all : (p : ℕ → Bool) (xs : List ℕ) → list_all p xs ≡ true → Each (λ x. p x ≡ true) xs
+pub each_all : (p : ℕ → Bool) (xs : List ℕ) → list_all p xs ≡ true → Each (λ x. p x ≡ true) xs
 each_all p [] h = tt
 each_all p (x ∷ xs) h = (and_left (p x) (list_all p xs) h, each_all p xs (and_right (p x) (list_all p xs) h))
 
@@ -44,20 +44,23 @@ starts_stops : (b : ℕ) (bs : List ℕ) → Stops (is_byte b) bs → starts_wit
 starts_stops b [] s = refl
 starts_stops b (x ∷ xs) s = s
 
-apart_again : (tail : List ℕ) → IsApart tail → is_apart tail ≡ true
+-- what begins with spacing is apart
+pub spaced_apart : (b : ℕ) (bs : List ℕ) → is_spacing b ≡ true → is_apart (b ∷ bs) ≡ true
 unfolding is_apart
-apart_again [] a = refl
-apart_again (b ∷ bs) a =
-    let spaced : is_spacing b ≡ true = ap is_spacing a in
-    either (length (b ∷ bs) == 0) (is_spacing b) (list_any is_spacing (take 0 bs)) ((length (b ∷ bs) == 1) && ends_with_byte (b ∷ bs) 123) spaced
+spaced_apart b bs spaced = either (length (b ∷ bs) == 0) (is_spacing b) (list_any is_spacing (take 0 bs)) ((length (b ∷ bs) == 1) && ends_with_byte (b ∷ bs) 123) spaced
   where
     either : (p q r s : Bool) → q ≡ true → (p || (q || r) || s) ≡ true
     either true q r s e = refl
     either false true r s e = refl
     either false false r s e = cc
 
+apart_again : (tail : List ℕ) → IsApart tail → is_apart tail ≡ true
+unfolding is_apart
+apart_again [] a = refl
+apart_again (b ∷ bs) a = spaced_apart b bs (ap is_spacing a)
+
 -- what stands in brackets is read again
-brackets_again : (opening closing : ℕ) (all inner rest : List ℕ) → (opening == opening) ≡ true → (closing == closing) ≡ true → Free (is_byte closing) inner → all ≡ inner ++ closing ∷ rest
+pub brackets_again : (opening closing : ℕ) (all inner rest : List ℕ) → (opening == opening) ≡ true → (closing == closing) ≡ true → Free (is_byte closing) inner → all ≡ inner ++ closing ∷ rest
     → bracketed opening closing (opening ∷ all) ≡ Ok (inner, rest)
 unfolding bracketed
 brackets_again opening closing all inner rest e f free same =
@@ -67,7 +70,7 @@ brackets_again opening closing all inner rest e f free same =
     ∙ ap (λ l. Ok (l, after_first (is_byte closing) (inner ++ closing ∷ rest))) (before_front (is_byte closing) inner closing rest free f)
     ∙ ap (λ l. Ok (inner, l)) (after_front (is_byte closing) inner closing rest free f)
 
-no_brackets : (opening closing : ℕ) (rest : List ℕ) → Stops (is_byte opening) rest → bracketed opening closing rest ≡ Ok ([], rest)
+pub no_brackets : (opening closing : ℕ) (rest : List ℕ) → Stops (is_byte opening) rest → bracketed opening closing rest ≡ Ok ([], rest)
 unfolding bracketed
 no_brackets opening closing rest s = passed (starts_with_byte rest opening) _ _ (starts_stops opening rest s)
 
@@ -139,7 +142,7 @@ letter_again name tag arguments tail n =
     ap (λ l. list_any is_letter (take 1 l)) (append_assoc name (tag_text tag) (arguments_text arguments ++ tail)) ∙ letter_first name (tag_text tag ++ (arguments_text arguments ++ tail)) n
 
 -- a shape, where the targets without a brace and whether one opens are known
-shaped_again : (content name tag inner tail targets : List ℕ) (open' : Bool) → list_any is_letter (take 1 content) ≡ true → take_while is_name_byte content ≡ name → is_apart tail ≡ true → Free is_brace inner
+pub shaped_again : (content name tag inner tail targets : List ℕ) (open' : Bool) → list_any is_letter (take 1 content) ≡ true → take_while is_name_byte content ≡ name → is_apart tail ≡ true → Free is_brace inner
     → Free is_brace targets → without_brace tail ≡ targets → ends_with_byte tail 123 ≡ open'
     → shaped content tag (inner, tail) ≡ Ok (record { name = name; tag = tag; arguments = inner; targets = targets; opens = open' })
 shaped_again content name tag inner tail targets open' l n a f g same o =
@@ -154,7 +157,7 @@ shaped_again content name tag inner tail targets open' l n a f g same o =
     ∙ ap (λ s. Ok (record { name = name; tag = tag; arguments = inner; targets = s; opens = ends_with_byte tail 123 })) same
     ∙ ap (λ b. Ok (record { name = name; tag = tag; arguments = inner; targets = targets; opens = b })) o
 
-brace_free : (xs : List ℕ) → Free is_brace xs → Free (is_byte 123) xs
+pub brace_free : (xs : List ℕ) → Free is_brace xs → Free (is_byte 123) xs
 brace_free xs f = each_weaker (λ b. is_brace b ≡ false) (λ b. is_byte 123 b ≡ false) xs (λ b e. no_open b e) f
   where
     no_open : (b : ℕ) → is_brace b ≡ false → (b == 123) ≡ false

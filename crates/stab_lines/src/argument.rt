@@ -35,7 +35,7 @@ fn is_coordinate(argument: &[u8]) -> bool
 }
 
 /// Whether each argument is written as a coordinate is.
-fn are_coordinates(arguments: &[u8]) -> bool
+pub fn are_coordinates(arguments: &[u8]) -> bool
     ensures value { result ≡ list_all is_coordinate_of (arguments_of arguments.now) }
 {
     if is_blank(arguments) {

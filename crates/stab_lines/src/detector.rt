@@ -1,13 +1,17 @@
-ghost use Rattle.std.specs.Prelude.{◌≡◌, IfSome, Ok};
-ghost use Rattle.stab_lines.specs.Results.{each};
-ghost use Rattle.stab_lines.specs.Words.{words};
+ghost use Rattle.std.specs.Prelude.{◌≡◌, false, IfSome, Ok};
+ghost use Rattle.std.specs.List.{list_any};
+ghost use Rattle.stab_lines.specs.Results.{Gives, each};
+ghost use Rattle.stab_lines.specs.Lines.{is_brace};
+ghost use Rattle.stab_lines.specs.Words.{words, arguments_of};
 ghost use Rattle.stab_lines.specs.Targets.{lookback_of};
+ghost use Rattle.stab_lines.specs.inner.DetectorContents.{behind_coordinates};
 
 use crate::coordinates::Coordinates;
 use crate::located::Located;
 use crate::range::Lookbacks;
-use crate::target::record_at_front;
+use crate::target::{lookbacks, record_at_front};
 use crate::word::is_blank;
+use stab_io::Refusal;
 use std::alloc::{AllocError, Global};
 use std::marker::Model;
 
@@ -90,7 +94,7 @@ impl DetectorTargets {
     ghost use Rattle.stab_lines.specs.Words.{arguments_of};
 
     /// Records behind coordinates, in memory of their own.
-    pub(crate) fn long(
+    fn long(
         alloc: Global,
         coordinates: Coordinates,
         records: Lookbacks,
@@ -150,13 +154,40 @@ impl DetectorTargets {
     }
 }
 
-/// The records that the words are, behind the coordinates, where both are few and a look at the
-/// words' bytes is enough to tell.
-pub fn short_targets(coordinates: &Coordinates, words_text: &[u8]) -> Option<DetectorTargets>
-    ensures in_front { IfSome result (λ d. d.0 ≡ coordinates.now) }
-    ensures behind { IfSome result (λ d. each lookback_of (words words_text.now) ≡ Ok d.1) }
+/// The records that the words are, behind coordinates that are written so.
+pub fn detector_targets(
+    alloc: Global,
+    written: &[u8],
+    words_text: &[u8],
+) -> Result<DetectorTargets, Refusal>
+    ensures gives { Gives result (behind_coordinates written.now (each lookback_of (words words_text.now))) }
 {
-    let written = coordinates.written();
+    match short_records(written, words_text) {
+        Some(targets) => Ok(targets),
+        None => long_records(alloc, written, words_text),
+    }
+}
+
+/// The same, in memory of their own.
+pub fn long_records(
+    alloc: Global,
+    written: &[u8],
+    words_text: &[u8],
+) -> Result<DetectorTargets, Refusal>
+    ensures gives { Gives result (behind_coordinates written.now (each lookback_of (words words_text.now))) }
+{
+    let records = lookbacks(alloc, words_text)?;
+    let coordinates = Coordinates::of(alloc, written)?;
+    Ok(DetectorTargets::long(alloc, coordinates, records)?)
+}
+
+/// The same in place, where the coordinates and the records are few and a look at the words' bytes
+/// is enough to tell. There is no brace among such words.
+pub fn short_records(written: &[u8], words_text: &[u8]) -> Option<DetectorTargets>
+    ensures in_front { IfSome result (λ d. d.0 ≡ arguments_of written.now) }
+    ensures behind { IfSome result (λ d. each lookback_of (words words_text.now) ≡ Ok d.1) }
+    ensures clear { IfSome result (λ _. list_any is_brace words_text.now ≡ false) }
+{
     if written.len() > SHORT {
         return None;
     }

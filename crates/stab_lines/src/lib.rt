@@ -14,7 +14,8 @@
 //! - `operation`: instructions.
 //! - `table`: the names of all instructions.
 //! - `name`, `target`, `argument`, `coordinates`: the parts of an instruction.
-//! - `located`: targets behind coordinates; `detector`: the records of a detector behind them.
+//! - `located`: targets behind coordinates; `detector`: the records of a detector behind them;
+//!   `detector_content`: the usual content of one, read at once.
 //! - `factor`, `control`: the targets that are products, and those of controlled gates.
 //! - `meanings`: what a line means, or why it is refused.
 //! - `print`: the one text of an instruction, and of the opening of a block.
@@ -33,6 +34,7 @@ mod axis;
 mod control;
 mod coordinates;
 mod detector;
+mod detector_content;
 mod factor;
 pub mod laws;
 mod line;

@@ -49,7 +49,8 @@ fn spacing_len(bytes: &[u8]) -> usize
     bytes.iter().take_while(|b| is_spacing(**b)).count()
 }
 
-fn is_brace(byte: u8) -> bool
+/// Whether the byte is a curly bracket.
+pub fn is_brace(byte: u8) -> bool
     ensures value { result ≡ brace byte }
 {
     byte == b'{' || byte == b'}'
@@ -66,8 +67,9 @@ fn run_has_brace(run: &[u8]) -> bool
     found
 }
 
+/// Whether a curly bracket stands somewhere.
 #[tactic(auto, using(crate::proofs::SearchLemmas::any_split))]
-fn has_brace(bytes: &[u8]) -> bool
+pub fn has_brace(bytes: &[u8]) -> bool
     ensures value { result ≡ list_any brace bytes.now }
 {
     let mut rest = bytes;

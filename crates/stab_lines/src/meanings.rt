@@ -7,9 +7,10 @@ ghost use Rattle.stab_lines.specs.declared.name.Instruction.TheVariants.{Detecto
 ghost use Rattle.stab_lines.specs.declared.name.Name.{Name};
 ghost use Rattle.stab_lines.specs.Meanings.{without_arguments, targets_alone as alone, observable_include_of, kind_of, only_count as only_count_of, block_of, named_line as named_line_of, shape_meaning, is_close as is_close_of, meaning_of};
 
-use crate::argument::{coordinates, observable, only_number};
+use crate::argument::{are_coordinates, coordinates, observable, only_number};
 use crate::control::{ControlledPair, controlled_pairs};
-use crate::detector::{DetectorTargets, short_targets};
+use crate::detector::detector_targets;
+use crate::detector_content::plain_detector;
 use crate::factor::ProductTargets;
 use crate::line::{Shape, starts_with};
 use crate::located::Located;
@@ -55,16 +56,15 @@ fn pairs_alone(alloc: Global, shape: &Shape) -> Result<Sequence<ControlledPair>,
     }
 }
 
-#[tactic(auto, unfolding(crate::specs::Meanings::kind_of))]
+#[tactic(auto, using(crate::proofs::DetectorContentLemmas::detector_kind, crate::proofs::DetectorContentLemmas::detector_refused))]
 fn detector(alloc: Global, shape: &Shape) -> Result<Kind, Refusal>
     ensures gives { Gives result (kind_of Detector (shape_shown shape.now)) }
 {
-    let coordinates = coordinates(alloc, shape.arguments)?;
-    if let Some(targets) = short_targets(&coordinates, shape.targets) {
-        return Ok(Kind::Detector(targets));
+    if !are_coordinates(shape.arguments) {
+        return Err(Refusal::BadArguments);
     }
-    let records = lookbacks(alloc, shape.targets)?;
-    Ok(Kind::Detector(DetectorTargets::long(alloc, coordinates, records)?))
+    let targets = detector_targets(alloc, shape.arguments, shape.targets)?;
+    Ok(Kind::Detector(targets))
 }
 
 #[tactic(auto, unfolding(crate::specs::Meanings::observable_include_of))]
@@ -184,6 +184,12 @@ pub fn meaning(alloc: Global, content: &[u8]) -> Result<Line, Refusal>
     }
     if is_close(content) {
         return Ok(Line::Close);
+    }
+    if let Some(targets) = plain_detector(alloc, content)? {
+        return Ok(Line::Operation(Operation {
+            kind: Kind::Detector(targets),
+            tag: Sequence::new(alloc),
+        }));
     }
     let shape = Shape::of(content)?;
     let name = Name::of(shape.name)?;

@@ -1,16 +1,19 @@
 use Rattle.std.proofs.Common.{◌≡◌, ◌≤◌, ◌-◌, length, take, All}
+use Rattle.std.specs.List.{list_any}
+use Rattle.stab_lines.specs.Lines.{is_brace}
 use Rattle.stab_lines.specs.Results.{each}
 use Rattle.stab_lines.specs.Words.{words}
 use Rattle.stab_lines.specs.Lookbacks.{IsLookback}
 use Rattle.stab_lines.specs.Targets.{lookback_of}
 use Rattle.stab_lines.proofs.ResultLemmas.{behind}
-use Rattle.stab_lines.proofs.detector.short_targets.Given as goal
+use Rattle.stab_lines.proofs.detector.short_records.Given as goal
 
 abbrev pub invariant-loop-count : goal.invariant-loop-count
 invariant-loop-count l = record {
   long : length l.found ≡ 2;
   room : l.count ≤ 2;
   in_range : All IsLookback (take l.count l.found);
+  clear : list_any is_brace l.rest ≡ list_any is_brace l.words_text;
   kept : behind (take l.count l.found) (each lookback_of (words l.rest)) ≡ each lookback_of (words l.words_text);
 }
 
