@@ -1,5 +1,6 @@
 -- Rounds given again: a run that stands where it stood some rounds ago gives the same again by as many rounds.
-use Rattle.std.proofs.Common.{◌≡◌, ℕ, zero, suc, ◌+◌, ◌-◌, ◌*◌, ◌<◌, ◌≤◌, refl, sym, ◌∙◌, ap, subst, Bool, false, List, ◌++◌, append_assoc, length, take, drop, add-one, arith}
+use Rattle.std.proofs.Common.{◌≡◌, ℕ, zero, suc, ◌+◌, ◌-◌, ◌*◌, ◌<◌, ◌≤◌, refl, sym, ◌∙◌, ap, subst, Bool, List, ◌++◌, append_assoc, length, take, drop, get_or, drop-cons, add-one, arith}
+use Rattle.std.specs.Prelude.{Option, IfSome}
 use Rattle.std.proofs.Math.Seq.{take-add, drop-drop, length-take-le}
 use Rattle.std.proofs.Math.Nat.{add-mul, mul-le-mul_right}
 use Rattle.std.proofs.lemmas.List.{length-drop, take_at, drop_at, take-append-drop}
@@ -8,7 +9,7 @@ use Rattle.stab_tableau.specs.Groups.{SameGroup}
 use Rattle.stab_tableau.specs.Tableaus.{TableauState, stabilises}
 use Rattle.stab_circuit.specs.Steps.{Step, rounds}
 use Rattle.stab_circuit.specs.declared.circuit.repeats.Repeat.{Repeat}
-use Rattle.stab_circuit.specs.Repeats.{round_of, IsRepeat}
+use Rattle.stab_circuit.specs.Repeats.{round_of, IsRepeat, AreRepeats}
 use Rattle.stab_steps.specs.Records.{looked_up, ones}
 use Rattle.stab_steps.specs.Points.{Point, RunOutput, origin, nothing, joined, point_after, outputs}
 use Rattle.stab_steps.specs.declared.records.Lengths.{Lengths}
@@ -38,6 +39,11 @@ copies-more k o = before k ∙ ap (λ n. copies n o) (sym (add-one k))
 pub behind-more : (r : Repeat) (k : ℕ) → behind_rounds r k + r.length ≡ behind_rounds r (k + 1)
 behind-more r k = omega (arith, add-mul k 1 r.length)
 
+-- the end of the rounds that are left
+pub behind-rest : (r : Repeat) (k : ℕ) → k ≤ r.rounds → behind_rounds r k + (r.rounds - k) * r.length ≡ behind_rounds r r.rounds
+behind-rest r k le =
+    omega (arith, add-mul k (r.rounds - k) r.length, ap (λ n. n * r.length) {x = k + (r.rounds - k)} {y = r.rounds} (omega arith))
+
 -- it is no later than that behind more rounds
 pub behind-later : (r : Repeat) (j k : ℕ) → j ≤ k → behind_rounds r j ≤ behind_rounds r k
 behind-later r j k le = let more = mul-le-mul_right r.length le in omega arith
@@ -59,15 +65,21 @@ kept-earlier n coins steps r done e t o led size is = record {
       ∙ ap (λ k. lengths_of (outputs n coins (take (behind_rounds r k) steps) origin)) (sym is.2);
 }
 
+-- the repeat at a place of a list
+pub repeat-here : (from : ℕ) (steps : List Step) (rs : List Repeat) (i : ℕ) (d : Repeat) → i < length rs → AreRepeats from steps (drop i rs)
+    → (from ≤ (get_or rs i d).first) × IsRepeat steps (get_or rs i d)
+    × AreRepeats (behind_rounds (get_or rs i d) (get_or rs i d).rounds) steps (drop (suc i) rs)
+repeat-here from steps rs i d lt are = subst (AreRepeats from steps) (drop-cons rs i d lt) are
+
 -- the same number of qubits and the same coins
 
 pub led-same : (n m : ℕ) (c d : ℕ → Bool) (xs : List Step) (s : ProgramState) → m ≡ n → d ≡ c → IsLed m d xs s → IsLed n c xs s
 led-same n m c d xs s size same is = subst (λ k. IsLed k c xs s) size (subst (λ coins. IsLed m coins xs s) same is)
 
-pub earlier-same : (n m : ℕ) (c d : ℕ → Bool) (steps : List Step) (r : Repeat) (done : ℕ) (e : Earlier) → m ≡ n → d ≡ c
-    → IsEarlier m d steps r done e → IsEarlier n c steps r done e
-earlier-same n m c d steps r done e size same is =
-    subst (λ k. IsEarlier k c steps r done e) size (subst (λ coins. IsEarlier m coins steps r done e) same is)
+pub earlier-same : (n m : ℕ) (c d : ℕ → Bool) (steps : List Step) (r : Repeat) (done : ℕ) (o : Option Earlier) → m ≡ n → d ≡ c
+    → IfSome o (λ e. IsEarlier m d steps r done e) → IfSome o (λ e. IsEarlier n c steps r done e)
+earlier-same n m c d steps r done o size same is =
+    subst (λ k. IfSome o (λ e. IsEarlier k c steps r done e)) size (subst (λ coins. IfSome o (λ e. IsEarlier m coins steps r done e)) same is)
 
 -- the steps behind so many rounds, and those of as many more
 

@@ -1,11 +1,11 @@
 //! Runs of circuits.
 //!
-//! In the order in which data flows; each module uses only those before it, but for `run` and `rounds`, which use
-//! each other:
+//! In the order in which data flows; each module uses only those before it:
 //!
-//! - `run`: some steps or all of a circuit, and what they give.
+//! - `run`: some steps of a circuit, and what a run gives.
 //! - `rounds`: the blocks of a circuit. The rounds of a block are carried out until a state comes again; from there
 //!   on they give again what they gave.
+//! - `whole`: all steps of a circuit.
 //! - `sampler`: one circuit made ready for many runs, and one run of it.
 //! - `laws`: what a run depends on, that what happens in it is sound, and when rounds of steps come again.
 //!
@@ -28,6 +28,7 @@ pub mod laws;
 mod rounds;
 mod run;
 mod sampler;
+mod whole;
 
 pub use run::{Shot, run_steps};
 pub use sampler::{Sampler, run_once};

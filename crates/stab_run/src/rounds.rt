@@ -274,9 +274,7 @@ fn run_repeat<C: Coins>(
     }
     let from = repeat.first + done * repeat.length;
     let rest = (repeat.rounds - done) * repeat.length;
-    run_part(
-        alloc, circuit, tableau, string, coins, outputs, from, rest,
-    )
+    run_part(alloc, circuit, tableau, string, coins, outputs, from, rest)
 }
 
 /// Carries out the steps of a circuit up to the end of the last of its blocks, and tells which step comes next.

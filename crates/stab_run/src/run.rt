@@ -1,22 +1,13 @@
-ghost use Rattle.std.specs.Prelude.{◌≡◌, ◌+◌, ◌<◌, ◌≤◌, ◌^◌, All, length, take, drop, OnOk, IfOk, None, IfErr};
-ghost use Rattle.stab_io.specs.declared.refusal.Refusal.TheVariants.{OutOfMemory};
-ghost use Rattle.stab_tableau.specs.Tableaus.{stabilises};
-ghost use Rattle.stab_circuit.specs.Steps.{unroll, check_within};
-ghost use Rattle.stab_circuit.specs.Views.{circuit_items};
-ghost use Rattle.stab_circuit.specs.Repeats.{AreRepeats};
+ghost use Rattle.std.specs.Prelude.{◌≡◌, ◌+◌, ◌<◌, ◌≤◌, ◌^◌, All, length, take, drop, OnOk};
 ghost use Rattle.stab_steps.specs.Records.{ones};
-ghost use Rattle.stab_steps.specs.Runs.{run, start};
 ghost use Rattle.stab_steps.specs.Points.{all_coins_of};
 ghost use Rattle.stab_steps.specs.ProgramStates.{StepFits, IsRun, program_state, output_of};
-ghost use Rattle.stab_run.specs.inner.Shots.{IsShotOf};
 
-use crate::rounds::{run_part, run_repeats};
-use stab_circuit::{Circuit, Cursor, Repeat};
-use stab_io::Refusal;
+use stab_circuit::Cursor;
 use stab_pauli::Pauli;
-use stab_steps::{Coins, Outputs, apply_steps, observables as summed};
+use stab_steps::{Coins, Outputs, apply_steps};
 use stab_tableau::Tableau;
-use std::alloc::{AllocError, Global};
+use std::alloc::AllocError;
 
 /// What one run of a circuit gives; true stands for 1.
 #[derive(Drop)]
@@ -64,75 +55,4 @@ pub fn run_steps<C: Coins>(
         apply_steps(tableau, string, coins, outputs, steps, applied)?;
     }
     Ok(())
-}
-
-/// More steps than any circuit has.
-pub fn unbounded() -> usize
-    ensures large { 2 ^ 63 ≤ result }
-{
-    usize::MAX
-}
-
-/// Carries out all steps of a circuit on qubits that are 0 at first, whatever the tableau was. The
-/// rounds of a block are carried out until a state comes again; from there on they give again what
-/// they gave. There is room for so many records from the beginning, and there are so many
-/// observables.
-///
-/// Refusal `OutOfMemory` alone.
-pub fn run_whole<C: Coins>(
-    alloc: Global,
-    circuit: &Circuit,
-    repeats: &[Repeat],
-    tableau: &mut Tableau,
-    string: &mut Pauli,
-    coins: &mut C,
-    records: usize,
-    observables: usize,
-) -> Result<Shot, Refusal>
-    requires checked { check_within tableau.old.qubits (circuit_items circuit.now) ≡ None }
-    requires repeats { AreRepeats 0 (unroll (circuit_items circuit.now)) repeats.now }
-    requires same_length { length string.old.letters ≡ tableau.old.qubits }
-    ensures qubits { tableau.new.qubits ≡ tableau.old.qubits }
-    ensures string { length string.new.letters ≡ length string.old.letters }
-    ensures same_coins { C.sequence coins.new ≡ C.sequence coins.old }
-    ensures asks { C.asks coins.new ≤ C.asks coins.old + all_coins_of (unroll (circuit_items circuit.now)) }
-    ensures asks_free { IfOk result (λ s. C.asks coins.new ≤ C.asks coins.old + ones s.free.items) }
-    ensures run { IfOk result (IsShotOf tableau.old.qubits (run tableau.old.qubits (C.sequence coins.old) (unroll (circuit_items circuit.now)) (start observables)) (stabilises tableau.new)) }
-    ensures err { IfErr result (λ r. r ≡ OutOfMemory) }
-{
-    tableau.reset();
-    let mut outputs = Outputs::with_capacity(alloc, records)?;
-    let from = run_repeats(
-        alloc,
-        circuit,
-        tableau,
-        string,
-        coins,
-        &mut outputs,
-        repeats,
-    )?;
-    let most = unbounded();
-    run_part(
-        alloc,
-        circuit,
-        tableau,
-        string,
-        coins,
-        &mut outputs,
-        from,
-        most,
-    )?;
-    let Outputs {
-        records,
-        free,
-        detectors,
-        additions,
-    } = outputs;
-    let observables = summed(alloc, observables, additions.as_slice())?;
-    Ok(Shot {
-        records,
-        free,
-        detectors,
-        observables,
-    })
 }

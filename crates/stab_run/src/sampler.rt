@@ -8,7 +8,8 @@ ghost use Rattle.stab_steps.specs.Runs.{run_of};
 ghost use Rattle.stab_steps.specs.Points.{all_coins_of};
 ghost use Rattle.stab_run.specs.Laws.{DependsOnCoinsAt};
 
-use crate::run::{Shot, run_whole};
+use crate::run::Shot;
+use crate::whole::run_whole;
 use stab_circuit::{Circuit, Repeat};
 use stab_io::{Fault, Refusal};
 use stab_pauli::Pauli;

@@ -1,4 +1,4 @@
-use Rattle.std.proofs.Common.{◌-◌, ◌/◌, ◌*◌, arith, ap}
+use Rattle.std.proofs.Common.{◌-◌, ◌/◌, arith, ap}
 use Rattle.std.proofs.Math.Nat.{div-mul-le_self}
 use Rattle.stab_steps.specs.Points.{RunOutput}
 use Rattle.stab_steps.specs.ProgramStates.{output_of}

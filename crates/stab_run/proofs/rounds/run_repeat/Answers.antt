@@ -1,6 +1,4 @@
-use Rattle.std.proofs.Common.{rules, ◌+◌, ◌-◌, ◌≤◌, ◌∙◌, arith, ap, subst, length}
-use Rattle.std.specs.Prelude.{IfSome}
-use Rattle.std.proofs.lemmas.Option.{IfSome_then}
+use Rattle.std.proofs.Common.{◌+◌, ◌-◌, ◌≤◌, ◌∙◌, arith, ap, take}
 use Rattle.std.proofs.Math.Nat.{mul-le-mul_right}
 use Rattle.stab_circuit.specs.Steps.{unroll}
 use Rattle.stab_circuit.specs.Views.{circuit_items}
@@ -9,7 +7,7 @@ use Rattle.stab_steps.specs.ProgramStates.{program_state, output_of}
 use Rattle.stab_run.specs.inner.Led.{behind_rounds}
 use Rattle.stab_run.proofs.FitLemmas.{check-steps, check-whole}
 use Rattle.stab_run.proofs.LedLemmas.{coins-more}
-use Rattle.stab_run.proofs.AgainLemmas.{behind-later, led-same, earlier-same}
+use Rattle.stab_run.proofs.AgainLemmas.{behind-later, behind-rest, led-same, earlier-same}
 use Rattle.stab_run.proofs.rounds.run_repeat.Goals as goal
 
 pub returns-in_err-done-clause-asks : goal.returns-in_err-done-clause-asks
@@ -38,7 +36,9 @@ loop-done-preserved g c =
       same_coins = ran.same_coins ∙ inv.same_coins;
       asks = omega (arith, inv.asks, ran.asks, coins-more (behind_rounds r (before + 1)) (behind_rounds r now) steps later);
       asks_free = omega (arith, inv.asks_free, done.asks_free);
-      earlier = ?;
+      earlier =
+          earlier-same n c.loop-done.tableau.qubits coins (g.C.Coins.sequence c.loop-done.coins) steps r now c.run_round.new.earlier inv.qubits inv.same_coins
+          done.earlier;
       led =
           led-same n c.loop-done.tableau.qubits coins (g.C.Coins.sequence c.loop-done.coins) _ (program_state c.run_round.new.tableau (output_of c.run_round.new.outputs))
           inv.qubits inv.same_coins done.led;
@@ -47,14 +47,22 @@ loop-done-preserved g c =
 pub overflow_mul-from : goal.overflow_mul-from
 overflow_mul-from g c =
     let items = circuit_items c.args.circuit.now in
-    omega (arith, behind-later c.args.repeat c.loop-done.done c.args.repeat.rounds c.loop-done.invariant.within, c.requires.repeat.inside,
-    check-steps items (check-whole c.args.tableau.now.qubits items c.requires.checked))
+    omega (
+      arith,
+      behind-later c.args.repeat c.loop-done.done c.args.repeat.rounds c.loop-done.invariant.within,
+      c.requires.repeat.inside,
+      check-steps items (check-whole c.args.tableau.now.qubits items c.requires.checked),
+    )
 
 pub overflow_add-from : goal.overflow_add-from
 overflow_add-from g c =
     let items = circuit_items c.args.circuit.now in
-    omega (arith, behind-later c.args.repeat c.loop-done.done c.args.repeat.rounds c.loop-done.invariant.within, c.requires.repeat.inside,
-    check-steps items (check-whole c.args.tableau.now.qubits items c.requires.checked))
+    omega (
+      arith,
+      behind-later c.args.repeat c.loop-done.done c.args.repeat.rounds c.loop-done.invariant.within,
+      c.requires.repeat.inside,
+      check-steps items (check-whole c.args.tableau.now.qubits items c.requires.checked),
+    )
 
 pub overflow_mul-rest : goal.overflow_mul-rest
 overflow_mul-rest g c =
@@ -64,5 +72,6 @@ overflow_mul-rest g c =
     omega (arith, mul-le-mul_right r.length fewer, c.requires.repeat.inside, check-steps items (check-whole c.args.tableau.now.qubits items c.requires.checked))
 
 pub returns-clause-asks : goal.returns-clause-asks
-returns-clause-asks g c = omega (arith, c.loop-done.invariant.asks, c.run_part.ensures.asks, ?)
-
+returns-clause-asks g c =
+    let e = behind-rest c.args.repeat c.loop-done.done c.loop-done.invariant.within in
+    omega (arith, c.loop-done.invariant.asks, c.run_part.ensures.asks, ap (λ k. all_coins_of (take k (unroll (circuit_items c.args.circuit.now)))) e)

@@ -12,14 +12,22 @@ use Rattle.stab_run.proofs.rounds.run_round.Goals as goal
 pub overflow_mul-from : goal.overflow_mul-from
 overflow_mul-from g c =
     let items = circuit_items c.args.circuit.now in
-    omega (arith, behind-later c.args.repeat c.args.done c.args.repeat.rounds (omega (arith, c.requires.within)), c.requires.repeat.inside,
-    check-steps items (check-whole c.args.tableau.now.qubits items c.requires.checked))
+    omega (
+      arith,
+      behind-later c.args.repeat c.args.done c.args.repeat.rounds (omega (arith, c.requires.within)),
+      c.requires.repeat.inside,
+      check-steps items (check-whole c.args.tableau.now.qubits items c.requires.checked),
+    )
 
 pub overflow_add-from : goal.overflow_add-from
 overflow_add-from g c =
     let items = circuit_items c.args.circuit.now in
-    omega (arith, behind-later c.args.repeat c.args.done c.args.repeat.rounds (omega (arith, c.requires.within)), c.requires.repeat.inside,
-    check-steps items (check-whole c.args.tableau.now.qubits items c.requires.checked))
+    omega (
+      arith,
+      behind-later c.args.repeat c.args.done c.args.repeat.rounds (omega (arith, c.requires.within)),
+      c.requires.repeat.inside,
+      check-steps items (check-whole c.args.tableau.now.qubits items c.requires.checked),
+    )
 
 pub give_rounds-requires-clause-inside : goal.give_rounds-requires-clause-inside
 give_rounds-requires-clause-inside g c =

@@ -7,7 +7,7 @@ use Rattle.stab_run.specs.inner.Led.{IsLed}
 use Rattle.stab_run.proofs.FitLemmas.{few-steps}
 use Rattle.stab_run.proofs.ShotLemmas.{led-shot}
 use Rattle.stab_run.proofs.StepsLeftLemmas.{take-all, asks-all}
-use Rattle.stab_run.proofs.run.run_whole.Goals as goal
+use Rattle.stab_run.proofs.whole.run_whole.Goals as goal
 
 pub returns-in_err-run_part-clause-asks : goal.returns-in_err-run_part-clause-asks
 returns-in_err-run_part-clause-asks g c =
