@@ -29,6 +29,8 @@ mod paulis;
 #[cfg(test)]
 mod results;
 #[cfg(test)]
+mod rounds;
+#[cfg(test)]
 mod rows;
 #[cfg(test)]
 mod samplers;

@@ -1,0 +1,237 @@
+//! Blocks whose rounds come again: what a run gives of them, and where they stand in the steps.
+use crate::circuits::read;
+use stab_circuit::{Repeat, read_circuit};
+use stab_pauli::MemoryInput;
+use stab_session::{SeedCoins, Shot, run_once};
+use std::alloc::Global;
+use std::test::Fail;
+
+/// The lines before a block, its first line, how many rounds that says, the lines in it, and those behind it, on twelve qubits.
+type Case = (
+    &'static str,
+    &'static str,
+    usize,
+    &'static str,
+    &'static str,
+);
+
+/// A repetition code, whose rounds come again from the third on.
+const CODE: &str = "CX 0 1 2 1 2 3 4 3
+MR 1 3
+DETECTOR rec[-1] rec[-3]
+DETECTOR rec[-2] rec[-4]
+OBSERVABLE_INCLUDE(0) rec[-1]
+";
+
+/// Five qubits go around, and seven others: after 35 rounds all are where they were.
+const AROUND: &str = "SWAP 0 1 1 2 2 3 3 4 5 6 6 7 7 8 8 9 9 10 10 11
+M 0 5
+DETECTOR rec[-1] rec[-2]
+";
+
+const CASES: [Case; 15] = [
+    // Every other round is the same, or each third, fourth or thirty-fifth.
+    (
+        "M 0\n",
+        "REPEAT 2 {\n",
+        2,
+        "X 0\nM 0\nDETECTOR rec[-1] rec[-2]\n",
+        "M 0\n",
+    ),
+    (
+        "M 0\n",
+        "REPEAT 63 {\n",
+        63,
+        "X 0\nM 0\nDETECTOR rec[-1] rec[-2]\n",
+        "M 0\n",
+    ),
+    (
+        "M 0\n",
+        "REPEAT 64 {\n",
+        64,
+        "X 0\nM 0\nDETECTOR rec[-1] rec[-2]\n",
+        "M 0\n",
+    ),
+    (
+        "M 0\n",
+        "REPEAT 201 {\n",
+        201,
+        "X 0\nM 0\nDETECTOR rec[-1] rec[-2]\n",
+        "MX 0\n",
+    ),
+    (
+        "H 0\nCX 0 1\n",
+        "REPEAT 150 {\n",
+        150,
+        "S 0 1\nMPP X0*X1 !Z0*Z1\n",
+        "M 0 1\n",
+    ),
+    (
+        "X 0\n",
+        "REPEAT 100 {\n",
+        100,
+        "SWAP 0 1 1 2\nM 0 1\n",
+        "M 0 1 2\n",
+    ),
+    (
+        "X 0 5 7\n",
+        "REPEAT 200 {\n",
+        200,
+        AROUND,
+        "M 0 1 2 3 4 5\n",
+    ),
+    // A first round in which a coin decides, and others in which none does.
+    (
+        "R 0 1 2 3 4\nM 1 3\n",
+        "REPEAT 70 {\n",
+        70,
+        CODE,
+        "M 0 2 4\nDETECTOR rec[-1] rec[-2] rec[-4]\n",
+    ),
+    (
+        "H 0 2 4\nM 1 3\n",
+        "REPEAT 300 {\n",
+        300,
+        CODE,
+        "M 0 2 4\nDETECTOR rec[-1] rec[-2] rec[-4]\n",
+    ),
+    (
+        "H 0\n",
+        "REPEAT 101 {\n",
+        101,
+        "M 0\nOBSERVABLE_INCLUDE(1) rec[-1]\n",
+        "MX 0\n",
+    ),
+    // Coins decide in each round, or in each round of a block within.
+    ("", "REPEAT 90 {\n", 90, "H 0\nM 0\n", "M 0\n"),
+    (
+        "",
+        "REPEAT 80 {\n",
+        80,
+        "MX 1\nREPEAT 3 {\nM 0\nX 0\n}\nMZ 1\n",
+        "",
+    ),
+    // A record decides which gate is applied, and one of long before what a detector says.
+    (
+        "X 0\nM 0\n",
+        "REPEAT 99 {\n",
+        99,
+        "CX rec[-1] 0 rec[-1] 1\nM 0\nDETECTOR rec[-2]\n",
+        "M 1\n",
+    ),
+    (
+        "M 0\nX 0\nM 0 0 0 0\n",
+        "REPEAT 70 {\n",
+        70,
+        "M 0\nDETECTOR rec[-5] rec[-1]\n",
+        "M 0\n",
+    ),
+    (
+        "X 0\nM 0\nX 0\nM 0\n",
+        "REPEAT 200 {\n",
+        200,
+        "CX rec[-2] 0\nM 0\n",
+        "M 0\n",
+    ),
+];
+
+/// The lines of a case, with the block as it is.
+fn in_a_block(alloc: Global, case: Case) -> Result<Vec<u8>, Fail> {
+    let (before, first_line, _, body, behind) = case;
+    let mut text = Vec::from_slice(alloc, before.as_bytes())?;
+    text.extend_from_slice(first_line.as_bytes())?;
+    text.extend_from_slice(body.as_bytes())?;
+    text.extend_from_slice(b"}\n")?;
+    text.extend_from_slice(behind.as_bytes())?;
+    Ok(text)
+}
+
+/// The lines of a case, with the block written out.
+fn written_out(alloc: Global, case: Case) -> Result<Vec<u8>, Fail> {
+    let (before, _, rounds, body, behind) = case;
+    let mut text = Vec::from_slice(alloc, before.as_bytes())?;
+    for _ in 0..rounds {
+        text.extend_from_slice(body.as_bytes())?;
+    }
+    text.extend_from_slice(behind.as_bytes())?;
+    Ok(text)
+}
+
+/// What a run of a text gives with some coins.
+fn shot_of(alloc: Global, text: &[u8], number: u64) -> Result<Shot, Fail> {
+    let circuit = read_circuit(alloc, &mut MemoryInput::new(text))?;
+    Ok(run_once(alloc, &circuit, 12, &mut SeedCoins::new(3, number))?)
+}
+
+/// Whether two runs gave the same.
+fn are_same(one: &Shot, other: &Shot) -> bool {
+    one.records.as_slice() == other.records.as_slice()
+        && one.free.as_slice() == other.free.as_slice()
+        && one.detectors.as_slice() == other.detectors.as_slice()
+        && one.observables.as_slice() == other.observables.as_slice()
+}
+
+/// Whether a block gives what it gives written out, where no round comes again, with some coins.
+fn agrees(alloc: Global, case: Case, number: u64) -> Result<bool, Fail> {
+    let block = in_a_block(alloc, case)?;
+    let lines = written_out(alloc, case)?;
+    let one = shot_of(alloc, block.as_slice(), number)?;
+    let other = shot_of(alloc, lines.as_slice(), number)?;
+    Ok(are_same(&one, &other))
+}
+
+#[test]
+fn blocks_give_what_they_give_written_out(rt: HostRuntime) -> Result<(), Fail> {
+    let mut same = true;
+    for case in CASES {
+        for number in 0..3 {
+            same &= agrees(rt.alloc(), case, number)?;
+        }
+    }
+    assert!(rt; same);
+    Ok(())
+}
+
+/// Behind a step, a block of two steps; one without a step, one of one round and a step alone; and at step 9 one of three steps,
+/// of which the last looks back to three records before the round.
+const BLOCKS: &str = "H 0
+REPEAT 3 {
+X 0
+M 0
+}
+REPEAT 2 {
+TICK
+}
+REPEAT 1 {
+X 0
+}
+M 0
+REPEAT 2 {
+REPEAT 2 {
+M 0
+}
+DETECTOR rec[-5]
+}
+";
+
+#[test]
+fn blocks_with_rounds_stand_in_the_steps(rt: HostRuntime) -> Result<(), Fail> {
+    let circuit = read(rt.alloc(), BLOCKS)?;
+    let wanted = [
+        Repeat {
+            first: 1,
+            length: 2,
+            rounds: 3,
+            reach: 0,
+        },
+        Repeat {
+            first: 9,
+            length: 3,
+            rounds: 2,
+            reach: 3,
+        },
+    ];
+    let repeats = circuit.repeats(rt.alloc())?;
+    assert!(rt; repeats.as_slice() == wanted.as_slice());
+    Ok(())
+}
