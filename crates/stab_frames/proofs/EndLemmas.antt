@@ -1,5 +1,5 @@
 -- Where frames end: letters that turn nothing, and flipped records that no step looks back to.
-use Rattle.std.proofs.Common.{◌≡◌, ℕ, ◌≤◌, sym, ◌∙◌, ap, subst, false, replicate}
+use Rattle.std.proofs.Common.{◌≤◌, sym, ◌∙◌, ap, subst, false, replicate}
 use Rattle.std.proofs.lemmas.List.{length-replicate}
 use Rattle.stab_letters.specs.Letters.{◌⊕◌}
 use Rattle.stab_pauli.proofs.StringLemmas.{length-string_product}
