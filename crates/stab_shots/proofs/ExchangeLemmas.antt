@@ -1,4 +1,4 @@
--- Blocks: the bits of 64 words of which halves exchange bits, until rows and columns have changed places.
+-- Exchanges: bits that the halves of 64 words exchange, each word with its partner.
 use Rattle.std.proofs.Common.{◌≡◌, ℕ, refl, ◌+◌, ◌-◌, ◌*◌, ◌/◌, ◌^◌, ◌<◌, ◌≤◌, ◌%◌, ap, sym, ◌∙◌, eqb, Bool, true, false, ◌&&◌, inl, inr, arith, List, get_or}
 use Rattle.std.specs.Prelude.{bit_xor, ◌⊎◌, if◌then◌else◌}
 use Rattle.stab_letters.specs.Letters.{◌⊕◌}

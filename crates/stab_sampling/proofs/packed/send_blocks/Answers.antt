@@ -1,5 +1,4 @@
 use Rattle.std.proofs.Common.{◌∙◌, ap, arith, take}
-use Rattle.std.specs.Int.{div_ceil}
 use Rattle.stab_shots.specs.Blocks.{row_bytes}
 use Rattle.stab_sampling.proofs.SendingLaws.{sends_none}
 use Rattle.stab_sampling.proofs.packed.send_blocks.Goals as goal
@@ -8,7 +7,8 @@ pub returns : goal.returns
 returns g c = record {
   sends = λ first bytes_of are.
       c.send_rows.ensures.sends first bytes_of
-      (λ l less. ap (λ b. take c.div_ceil-count.result (row_bytes l b)) c.as_slice.ensures.value ∙ ? ∙ are l less);
+      (λ l less. ap (λ b. take c.div_ceil-count.result (row_bytes l b)) c.as_slice.ensures.value ∙ ap (λ n. take n (row_bytes l c.write_blocks.new.blocks.items)) c.div_ceil-count.ensures
+      ∙ c.in_ok-write_blocks.ensures.value l (omega (arith, less, c.requires.in_range)) ∙ are l less);
 }
 
 pub returns-in_err-blocks : goal.returns-in_err-blocks
