@@ -3,8 +3,8 @@ use Rattle.std.proofs.Common.{◌≡◌, ◌∙◌, ℕ, ◌+◌, ◌*◌, ◌/�
 use Rattle.std.proofs.Math.Seq.{take-append_seam}
 use Rattle.stab_shots.specs.Words.{word_bit}
 use Rattle.stab_shots.specs.Lanes.{lane_bits}
-use Rattle.stab_shots.specs.Squares.{lane_bytes}
-use Rattle.stab_shots.proofs.SquareLemmas.{column-lane}
+use Rattle.stab_shots.specs.Bytes.{lane_bytes}
+use Rattle.stab_shots.proofs.ColumnLemmas.{column-lane}
 
 -- what is written in place of all items of a vector is what it has then
 pub written : {A : Type 0} (n : ℕ) (new rest : List A) → n ≡ length new → take n (new ++ rest) ≡ new

@@ -60,8 +60,8 @@ fn write_parts<O: Output, W: Word>(
     Ok(())
 }
 
-/// Writes the bits of so many lanes in a format, one lane after another. In `01` and `b8` they are packed for eight lanes at
-/// a time.
+/// Writes the bits of so many lanes in a format, one lane after another. In `01` they are packed for eight lanes
+/// at a time, in `b8` for 64.
 pub fn send_lanes<O: Output, W: Word>(
     alloc: Global,
     out: &mut O,

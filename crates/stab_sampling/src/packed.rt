@@ -1,16 +1,16 @@
-//! The bits of lanes in the formats `01` and `b8`, for eight lanes at a time.
-ghost use Rattle.std.specs.Prelude.{◌≡◌, ℕ, ◌+◌, ◌*◌, ◌<◌, ◌≤◌, List, length};
+//! The bits of lanes in the formats `01` and `b8`, for eight or 64 lanes at a time.
+ghost use Rattle.std.specs.Prelude.{◌≡◌, ℕ, ◌+◌, ◌*◌, ◌<◌, ◌≤◌, List, length, take};
 ghost use Rattle.stab_io.specs.Devices.{WritesAllOrFault};
 ghost use Rattle.stab_results.specs.Formats.{f01_bytes, b8_bytes};
 ghost use Rattle.stab_shots.specs.Words.{word_bit};
 ghost use Rattle.stab_shots.specs.Lanes.{lane_bits};
-ghost use Rattle.stab_shots.specs.Squares.{lane_bytes};
+ghost use Rattle.stab_shots.specs.Blocks.{row_bytes};
 ghost use Rattle.stab_sampling.specs.Outputs.{of_shots};
 ghost use Rattle.stab_sampling.specs.Sendings.{SendsUnflushed};
 ghost use Rattle.stab_sampling.specs.inner.Packings.{packed_bytes};
 
 use stab_io::{Fault, Output, write_all};
-use stab_shots::{Word, write_bytes, write_part, write_squares};
+use stab_shots::{Word, write_blocks, write_bytes, write_part, write_row};
 use std::alloc::Global;
 
 /// What the bits of a lane are packed into.
@@ -62,54 +62,61 @@ fn send_lines<O: Output>(
     Ok(())
 }
 
-/// Writes the bytes of so many of eight lanes, one lane after another.
-fn send_eight<O: Output>(
+/// Writes the lines of so many of 64 lanes, one after another, for eight lanes at a time.
+fn send_columns<O: Output>(
     alloc: Global,
     out: &mut O,
-    squares: &[u64],
+    words: &[u64],
     lanes: usize,
 ) -> Result<(), Fault>
-    requires in_range { lanes ≤ 8 }
-    ensures sends { (first : ℕ) (bytes_of : ℕ → List ℕ) → ((l : ℕ) → l < lanes → lane_bytes l squares.now ≡ bytes_of (first + l)) → SendsUnflushed (of_shots bytes_of first lanes) (O.seen out.old) (O.seen out.new) result }
+    requires in_range { lanes ≤ 64 }
+    ensures sends { (first : ℕ) (bytes_of : ℕ → List ℕ) → ((l : ℕ) → l < lanes → f01_bytes (lane_bits word_bit l words.now) ≡ bytes_of (first + l)) → SendsUnflushed (of_shots bytes_of first lanes) (O.seen out.old) (O.seen out.new) result }
 {
-    let mut bytes = vec![in alloc; 0; squares.len()]?;
-    for lane in 0..lanes {
-        write_bytes(squares, lane, bytes.as_mut_slice());
-        send_bytes(out, bytes.as_slice())?;
+    let mut column = vec![in alloc; 0; words.len()]?;
+    let mut sent = 0;
+    while sent < lanes {
+        let some = (lanes - sent).min(8);
+        write_bytes(words, sent / 8, column.as_mut_slice());
+        send_lines(alloc, out, column.as_slice(), some)?;
+        sent += some;
     }
     Ok(())
 }
 
-/// Writes the bits of so many of eight lanes, eight to a byte, one lane after another.
-fn send_squares<O: Output>(
+/// Writes so many bytes of each of so many lanes of blocks, one lane after another.
+fn send_rows<O: Output>(
     alloc: Global,
     out: &mut O,
-    column: &[u8],
+    blocks: &[[u64; 64]],
+    count: usize,
     lanes: usize,
 ) -> Result<(), Fault>
-    requires in_range { lanes ≤ 8 }
-    ensures sends { (first : ℕ) (bytes_of : ℕ → List ℕ) → ((l : ℕ) → l < lanes → b8_bytes (lane_bits word_bit l column.now) ≡ bytes_of (first + l)) → SendsUnflushed (of_shots bytes_of first lanes) (O.seen out.old) (O.seen out.new) result }
+    requires in_range { lanes ≤ 64 }
+    requires within { count ≤ 8 * length blocks.now }
+    ensures sends { (first : ℕ) (bytes_of : ℕ → List ℕ) → ((l : ℕ) → l < lanes → take count (row_bytes l blocks.now) ≡ bytes_of (first + l)) → SendsUnflushed (of_shots bytes_of first lanes) (O.seen out.old) (O.seen out.new) result }
 {
-    let mut squares = Vec::with_capacity(alloc, column.len().div_ceil(8))?;
-    write_squares(column, &mut squares)?;
-    send_eight(alloc, out, squares.as_slice(), lanes)
+    let mut bytes = vec![in alloc; 0; 8 * blocks.len()]?;
+    for lane in 0..lanes {
+        write_row(blocks, lane, bytes.as_mut_slice());
+        send_bytes(out, &bytes.as_slice()[..count])?;
+    }
+    Ok(())
 }
 
-/// Writes the bits of so many of eight lanes, one lane after another.
-fn send_column<O: Output>(
+/// Writes the bits of so many of 64 lanes, eight to a byte, one lane after another.
+fn send_blocks<O: Output>(
     alloc: Global,
     out: &mut O,
-    packing: Packing,
-    column: &[u8],
+    words: &[u64],
     lanes: usize,
 ) -> Result<(), Fault>
-    requires in_range { lanes ≤ 8 }
-    ensures sends { (first : ℕ) (bytes_of : ℕ → List ℕ) → ((l : ℕ) → l < lanes → packed_bytes packing (lane_bits word_bit l column.now) ≡ bytes_of (first + l)) → SendsUnflushed (of_shots bytes_of first lanes) (O.seen out.old) (O.seen out.new) result }
+    requires in_range { lanes ≤ 64 }
+    ensures sends { (first : ℕ) (bytes_of : ℕ → List ℕ) → ((l : ℕ) → l < lanes → b8_bytes (lane_bits word_bit l words.now) ≡ bytes_of (first + l)) → SendsUnflushed (of_shots bytes_of first lanes) (O.seen out.old) (O.seen out.new) result }
 {
-    match packing {
-        Packing::Line => send_lines(alloc, out, column, lanes),
-        Packing::Bytes => send_squares(alloc, out, column, lanes),
-    }
+    let mut blocks = Vec::with_capacity(alloc, words.len().div_ceil(64))?;
+    write_blocks(words, &mut blocks)?;
+    let count = words.len().div_ceil(8);
+    send_rows(alloc, out, blocks.as_slice(), count, lanes)
 }
 
 /// Writes the bits of so many of 64 lanes, one lane after another.
@@ -123,15 +130,10 @@ fn send_part<O: Output>(
     requires in_range { lanes ≤ 64 }
     ensures sends { (first : ℕ) (bytes_of : ℕ → List ℕ) → ((l : ℕ) → l < lanes → packed_bytes packing (lane_bits word_bit l words.now) ≡ bytes_of (first + l)) → SendsUnflushed (of_shots bytes_of first lanes) (O.seen out.old) (O.seen out.new) result }
 {
-    let mut column = vec![in alloc; 0; words.len()]?;
-    let mut sent = 0;
-    while sent < lanes {
-        let some = (lanes - sent).min(8);
-        write_bytes(words, sent / 8, column.as_mut_slice());
-        send_column(alloc, out, packing, column.as_slice(), some)?;
-        sent += some;
+    match packing {
+        Packing::Line => send_columns(alloc, out, words, lanes),
+        Packing::Bytes => send_blocks(alloc, out, words, lanes),
     }
-    Ok(())
 }
 
 /// Writes the bits of so many of the first 64 lanes, one lane after another.

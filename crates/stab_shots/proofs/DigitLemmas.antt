@@ -5,7 +5,7 @@ use Rattle.std.proofs.lemmas.Nat.{mod-pow-add}
 use Rattle.std.proofs.lemmas.Nat.Bits.{bit_at-suc, bit_at_lowest}
 use Rattle.stab_results.specs.Formats.{number}
 use Rattle.stab_shots.specs.Words.{word_bit}
-use Rattle.stab_shots.specs.Squares.{byte_at}
+use Rattle.stab_shots.specs.Bytes.{byte_at}
 use Rattle.stab_shots.proofs.MovedBitLemmas.{word_bit-down}
 
 -- the lowest bit of a number

@@ -3,7 +3,9 @@ pub mod WideLemmas
 pub mod MovedBitLemmas
 pub mod ExchangeLemmas
 pub mod DigitLemmas
-pub mod SquareLemmas
+pub mod ColumnLemmas
+pub mod TransposeLemmas
+pub mod RowLemmas
 pub mod FrameLemmas
 pub mod LaneLemmas
 pub mod StepLemmas

@@ -6,7 +6,7 @@ use Rattle.std.proofs.lemmas.Nat.Bits.{bit_at_and, bit_at_or, bit_at-lt, bit_at_
 use Rattle.std.proofs.Math.Nat.{div-div-eq-div-mul}
 use Rattle.std.proofs.lemmas.Nat.{pow-add, pow_pos}
 use Rattle.stab_shots.specs.Words.{word_bit}
-use Rattle.stab_shots.specs.Squares.{byte_at}
+use Rattle.stab_shots.specs.Bytes.{byte_at}
 use Rattle.stab_pauli.proofs.BitLemmas.{two_cases}
 use Rattle.stab_shots.proofs.WordLemmas.{word_bit-zero}
 

@@ -3,6 +3,7 @@ pub mod Lanes
 pub mod LaneRules
 pub mod Shots
 pub mod Seeds
-pub mod Squares
+pub mod Bytes
+pub mod Blocks
 pub mod References
 pub mod Differences

@@ -19,7 +19,8 @@
 //! - `run`: all steps of a circuit.
 //! - `streams`: the words of a shot's stream, whose lowest bits are its coins.
 //! - `coins`, `seeds`, `wide_seeds`: the coins of all lanes, and those of 64 or 64 N shots of a seed.
-//! - `squares`: the bits of lanes as bytes, for eight lanes at a time.
+//! - `columns`: the words of 64 lanes, and the bytes of eight, out of wider ones.
+//! - `blocks`: the bits of 64 lanes as bytes, one lane after another.
 //! - `shots`: so many shots of a circuit, at once, beside a tableau.
 //! - `reference`: a run whose free outcomes are noted, each with a string that exchanges it.
 //! - `noted_step`, `noted_steps`: one step of a reference, and those of one instruction, on all lanes.
@@ -34,7 +35,9 @@
 #![tactic(auto)]
 
 mod batches;
+mod blocks;
 mod coins;
+mod columns;
 mod frames;
 mod gates;
 mod lanes;
@@ -47,7 +50,6 @@ mod repeated;
 mod run;
 mod seeds;
 mod shots;
-mod squares;
 mod step;
 mod steps;
 mod streams;
@@ -56,13 +58,14 @@ mod wide_seeds;
 mod word;
 
 pub use batches::run_shots;
+pub use blocks::{write_blocks, write_row};
 pub use coins::LaneCoins;
+pub use columns::{write_bytes, write_part};
 pub use lanes::write_lane;
 pub use noted::run_lanes;
 pub use reference::Reference;
 pub use seeds::SeedLanes;
 pub use shots::Shots;
-pub use squares::{write_bytes, write_part, write_squares};
 pub use wide::Wide;
 pub use wide_seeds::WideSeedLanes;
 pub use word::Word;

@@ -1,7 +1,7 @@
 ghost use Rattle.std.specs.Prelude.{◌≡◌, refl, ℕ, ◌+◌, ◌*◌, ◌/◌, ◌%◌, ◌<◌, ◌≤◌, Bool};
 ghost use Rattle.stab_letters.specs.Letters.{◌⊕◌};
 ghost use Rattle.stab_shots.specs.Words.{word_bit};
-ghost use Rattle.stab_shots.specs.Squares.{byte_at};
+ghost use Rattle.stab_shots.specs.Bytes.{byte_at};
 
 /// So many bits, one for each lane.
 pub trait Word: Copy {

@@ -1,55 +1,15 @@
-use Rattle.std.proofs.Common.{◌≡◌, ◌+◌, ◌≤◌, ◌/◌, length, ap, sym, ◌∙◌, arith, subst}
-use Rattle.stab_io.specs.Devices.{Took}
-use Rattle.stab_sampling.specs.Outputs.{of_shots}
+use Rattle.std.proofs.Common.{◌∙◌, ap, sym}
+use Rattle.stab_shots.specs.Words.{word_bit}
+use Rattle.stab_shots.specs.Lanes.{lane_bits}
 use Rattle.stab_sampling.specs.inner.Packings.{packed_bytes}
-use Rattle.std.proofs.lemmas.List.{length-map}
-use Rattle.stab_shots.specs.Squares.{byte_at}
-use Rattle.stab_sampling.proofs.SendingLaws.{sends_none}
-use Rattle.stab_sampling.proofs.ShotLaws.{sent_batch, batches_break_off}
-use Rattle.stab_sampling.proofs.PackingLaws.{written, packed_of_eight}
 use Rattle.stab_sampling.proofs.packed.send_part.Goals as goal
 
-pub loop-sent-preserved : goal.loop-sent-preserved
-loop-sent-preserved g c =
-    let long : length c.write_bytes.new.bytes ≡ length c.args.words.now = ap length c.write_bytes.ensures.value ∙ length-map c.args.words.now (λ s. byte_at s (c.loop-sent.sent / 8)) in
-    let has = written c.loop-sent.column.len c.write_bytes.new.bytes _ (c.loop-sent.column.ok.0 ∙ c.loop-sent.invariant.size ∙ sym long) in
-    let at_once = c.loop-sent.invariant.whole c.loop-sent-test.true in record {
-      within = omega (arith, c.min-some.ensures, c.loop-sent-test.true);
-      whole = λ less. omega (arith, c.min-some.ensures, c.loop-sent-test.true, at_once, less);
-      size = ap length has ∙ long;
-      took = λ first bytes_of are.
-          sent_batch bytes_of first c.loop-sent.sent c.min-some.result (c.loop-sent.invariant.took first bytes_of are)
-          (c.in_ok-send_column.ensures.sends (first + c.loop-sent.sent) bytes_of
-          (λ k less.
-          packed_of_eight (packed_bytes c.args.packing) c.loop-sent.sent c.args.lanes first k bytes_of (omega (arith, less, c.min-some.ensures, c.loop-sent-test.true)) c.args.words.now c.as_slice.result.now
-          at_once (omega (arith, less, c.min-some.ensures)) are (c.as_slice.ensures.value ∙ has ∙ c.write_bytes.ensures.value)));
-    }
+pub returns-in-Line : goal.returns-in-Line
+returns-in-Line g c = record {
+  sends = λ first bytes_of are. c.send_columns.ensures.sends first bytes_of (λ l less. sym (ap (λ p. packed_bytes p (lane_bits word_bit l c.args.words.now)) c.in-Line.is) ∙ are l less);
+}
 
-pub returns-in_err-send_column : goal.returns-in_err-send_column
-returns-in_err-send_column g c =
-    let long : length c.write_bytes.new.bytes ≡ length c.args.words.now = ap length c.write_bytes.ensures.value ∙ length-map c.args.words.now (λ s. byte_at s (c.loop-sent.sent / 8)) in
-    let has = written c.loop-sent.column.len c.write_bytes.new.bytes _ (c.loop-sent.column.ok.0 ∙ c.loop-sent.invariant.size ∙ sym long) in
-    let at_once = c.loop-sent.invariant.whole c.loop-sent-test.true in
-    let within : c.loop-sent.sent + c.min-some.result ≤ c.args.lanes = omega (arith, c.min-some.ensures, c.loop-sent-test.true) in record {
-      sends = λ first bytes_of are.
-          batches_break_off bytes_of first c.loop-sent.sent c.min-some.result c.args.lanes c.in_err-send_column.field-0.0 c.from_residual-in_err-send_column.result within
-          (c.loop-sent.invariant.took first bytes_of are)
-          (c.in_err-send_column.ensures.sends (first + c.loop-sent.sent) bytes_of
-          (λ k less.
-          packed_of_eight (packed_bytes c.args.packing) c.loop-sent.sent c.args.lanes first k bytes_of (omega (arith, less, c.min-some.ensures, c.loop-sent-test.true)) c.args.words.now c.as_slice.result.now
-          at_once (omega (arith, less, c.min-some.ensures)) are (c.as_slice.ensures.value ∙ has ∙ c.write_bytes.ensures.value)))
-          c.from_residual-in_err-send_column.ensures.1;
-    }
-
-pub loop-sent-smaller : goal.loop-sent-smaller
-loop-sent-smaller g c = omega (arith, c.min-some.ensures, c.loop-sent-test.true)
-
-pub returns-in_err-column : goal.returns-in_err-column
-returns-in_err-column g c = record { sends = λ first bytes_of are. sends_none (g.O.Output.seen c.args.out.now) _ c.from_residual.result c.from_residual.ensures.1 }
-
-pub returns : goal.returns
-returns g c = record {
-  sends = λ first bytes_of are.
-      let end : c.loop-sent.sent ≡ c.args.lanes = omega (arith, c.loop-sent-test.false, c.loop-sent.invariant.within) in
-      subst (λ n. Took (g.O.Output.seen c.args.out.now) (g.O.Output.seen c.loop-sent.out) (of_shots bytes_of first n)) end (c.loop-sent.invariant.took first bytes_of are);
+pub returns-in-Bytes : goal.returns-in-Bytes
+returns-in-Bytes g c = record {
+  sends = λ first bytes_of are. c.send_blocks.ensures.sends first bytes_of (λ l less. sym (ap (λ p. packed_bytes p (lane_bits word_bit l c.args.words.now)) c.in-Bytes.is) ∙ are l less);
 }

@@ -1,30 +1,29 @@
-use Rattle.std.proofs.Common.{◌≡◌, ◌∙◌, ap, sym, length, arith, subst}
-use Rattle.std.proofs.lemmas.List.{length-map}
-use Rattle.stab_shots.specs.Squares.{byte_at}
+use Rattle.std.proofs.Common.{◌≡◌, ◌∙◌, ◌*◌, ap, sym, length, take, arith, subst}
+use Rattle.stab_shots.proofs.RowLemmas.{length-row}
 use Rattle.stab_sampling.proofs.PackingLaws.{written}
 use Rattle.stab_io.specs.Devices.{Took}
 use Rattle.stab_sampling.specs.Outputs.{of_shots}
 use Rattle.stab_sampling.proofs.SendingLaws.{sends_none, sent_shot, shots_break_off}
 use Rattle.stab_sampling.proofs.ShotLaws.{cut_off_as}
-use Rattle.stab_sampling.proofs.packed.send_eight.Goals as goal
+use Rattle.stab_sampling.proofs.packed.send_rows.Goals as goal
 
 pub loop-lane-preserved : goal.loop-lane-preserved
 loop-lane-preserved g c =
-    let long : length c.write_bytes.new.bytes ≡ length c.args.squares.now = ap length c.write_bytes.ensures.value ∙ length-map c.args.squares.now (λ s. byte_at s c.loop-lane.lane) in
-    let has = written c.loop-lane.bytes.len c.write_bytes.new.bytes _ (c.loop-lane.bytes.ok.0 ∙ c.loop-lane.invariant.0 ∙ sym long) in (
+    let long : length c.write_row.new.bytes ≡ 8 * length c.args.blocks.now = ap length c.write_row.ensures.value ∙ length-row c.loop-lane.lane c.args.blocks.now in
+    let has = written c.loop-lane.bytes.len c.write_row.new.bytes _ (c.loop-lane.bytes.ok.0 ∙ c.loop-lane.invariant.0 ∙ sym long) in (
       ap length has ∙ long,
       λ first bytes_of are.
-          let same = c.as_slice.ensures.value ∙ has ∙ c.write_bytes.ensures.value ∙ are c.loop-lane.lane c.loop-lane-test.true in
+          let same = ap (take c.args.count) (c.as_slice.ensures.value ∙ has ∙ c.write_row.ensures.value) ∙ are c.loop-lane.lane c.loop-lane-test.true in
           sent_shot bytes_of first c.loop-lane.lane (c.loop-lane.invariant.1 first bytes_of are)
           (subst (λ l. Took (g.O.Output.seen c.loop-lane.out) (g.O.Output.seen c.send_bytes.new.out) l) same c.in_ok-send_bytes.ensures.writes),
     )
 
 pub returns-in_err-send_bytes : goal.returns-in_err-send_bytes
 returns-in_err-send_bytes g c =
-    let long : length c.write_bytes.new.bytes ≡ length c.args.squares.now = ap length c.write_bytes.ensures.value ∙ length-map c.args.squares.now (λ s. byte_at s c.loop-lane.lane) in
-    let has = written c.loop-lane.bytes.len c.write_bytes.new.bytes _ (c.loop-lane.bytes.ok.0 ∙ c.loop-lane.invariant.0 ∙ sym long) in record {
+    let long : length c.write_row.new.bytes ≡ 8 * length c.args.blocks.now = ap length c.write_row.ensures.value ∙ length-row c.loop-lane.lane c.args.blocks.now in
+    let has = written c.loop-lane.bytes.len c.write_row.new.bytes _ (c.loop-lane.bytes.ok.0 ∙ c.loop-lane.invariant.0 ∙ sym long) in record {
       sends = λ first bytes_of are.
-          let same = c.as_slice.ensures.value ∙ has ∙ c.write_bytes.ensures.value ∙ are c.loop-lane.lane c.loop-lane-test.true in
+          let same = ap (take c.args.count) (c.as_slice.ensures.value ∙ has ∙ c.write_row.ensures.value) ∙ are c.loop-lane.lane c.loop-lane-test.true in
           shots_break_off bytes_of first c.loop-lane.lane c.args.lanes c.in_err-send_bytes.field-0.0 c.from_residual-in_err-send_bytes.result
           c.loop-lane-test.true (c.loop-lane.invariant.1 first bytes_of are) (cut_off_as _ _ c.in_err-send_bytes.field-0.0 same c.in_err-send_bytes.ensures.writes) c.from_residual-in_err-send_bytes.ensures.1;
     }

@@ -3,15 +3,15 @@ use Rattle.stab_io.specs.Devices.{Took}
 use Rattle.stab_shots.specs.Words.{word_bit}
 use Rattle.stab_shots.specs.Lanes.{lane_bits}
 use Rattle.stab_sampling.specs.Outputs.{of_shots}
-use Rattle.stab_sampling.specs.inner.Packings.{packed_bytes}
-use Rattle.stab_sampling.proofs.packed.send_part.Given as goal
+use Rattle.stab_results.specs.Formats.{f01_bytes}
+use Rattle.stab_sampling.proofs.packed.send_columns.Given as goal
 
 abbrev pub invariant-loop-sent : goal.invariant-loop-sent
 invariant-loop-sent g l = record {
   within : l.sent ≤ l.lanes;
   whole : l.sent < l.lanes → l.sent % 8 ≡ 0;
   size : length l.column.items ≡ length l.words;
-  took : (first : ℕ) (bytes_of : ℕ → List ℕ) → ((k : ℕ) → k < l.lanes → packed_bytes l.packing (lane_bits word_bit k l.words) ≡ bytes_of (first + k))
+  took : (first : ℕ) (bytes_of : ℕ → List ℕ) → ((k : ℕ) → k < l.lanes → f01_bytes (lane_bits word_bit k l.words) ≡ bytes_of (first + k))
       → Took (g.O.Output.seen l.initial.out) (g.O.Output.seen l.out) (of_shots bytes_of first l.sent);
 }
 

@@ -1,6 +1,6 @@
 use Rattle.std.proofs.Common.{◌≡◌, take, length}
-use Rattle.stab_shots.specs.Squares.{lane_bytes}
-use Rattle.stab_shots.proofs.squares.write_bytes.Given as goal
+use Rattle.stab_shots.specs.Bytes.{lane_bytes}
+use Rattle.stab_shots.proofs.columns.write_bytes.Given as goal
 
 abbrev pub invariant-loop-i : goal.invariant-loop-i
 invariant-loop-i l = record {

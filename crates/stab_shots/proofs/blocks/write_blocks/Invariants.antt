@@ -1,0 +1,14 @@
+use Rattle.std.proofs.Common.{◌≡◌, ◌++◌, ℕ, ◌+◌, ◌*◌, ◌<◌, ◌≤◌, List, length}
+use Rattle.std.specs.Slice.Iter.{chunks_rest, chunks_size}
+use Rattle.stab_shots.specs.Words.{word_bit}
+use Rattle.stab_shots.specs.Lanes.{lane_bits}
+use Rattle.stab_shots.specs.Blocks.{row_bytes}
+use Rattle.stab_shots.proofs.RowLemmas.{BeginWith}
+use Rattle.stab_shots.proofs.blocks.write_blocks.Given as goal
+
+abbrev pub invariant-loop-group : goal.invariant-loop-group
+invariant-loop-group l = record {
+  whole : chunks_size l.group-iterator ≡ 64;
+  room : length l.words ≤ 64 * length l.blocks.items + length (chunks_rest l.group-iterator);
+  made : (j : ℕ) → j < 64 → (bytes : List ℕ) → BeginWith bytes (lane_bits word_bit j (chunks_rest l.group-iterator)) → BeginWith (row_bytes j l.blocks.items ++ bytes) (lane_bits word_bit j l.words);
+}
