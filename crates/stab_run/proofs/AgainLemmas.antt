@@ -1,5 +1,5 @@
 -- Rounds given again: a run that stands where it stood some rounds ago gives the same again by as many rounds.
-use Rattle.std.proofs.Common.{◌≡◌, ℕ, zero, suc, ◌+◌, ◌-◌, ◌*◌, ◌<◌, ◌≤◌, refl, sym, ◌∙◌, ap, subst, Bool, List, ◌++◌, append_assoc, length, take, drop, get_or, drop-cons, add-one, arith}
+use Rattle.std.proofs.Common.{◌≡◌, ℕ, zero, suc, ◌+◌, ◌-◌, ◌*◌, ◌<◌, ◌≤◌, refl, sym, ◌∙◌, ap, subst, Bool, List, [], ◌∷◌, ◌++◌, append_assoc, length, take, drop, get_or, drop-cons, add-one, arith}
 use Rattle.std.specs.Prelude.{Option, IfSome}
 use Rattle.std.proofs.Math.Seq.{take-add, drop-drop, length-take-le}
 use Rattle.std.proofs.Math.Nat.{add-mul, mul-le-mul_right}
@@ -70,6 +70,18 @@ pub repeat-here : (from : ℕ) (steps : List Step) (rs : List Repeat) (i : ℕ) 
     → (from ≤ (get_or rs i d).first) × IsRepeat steps (get_or rs i d)
     × AreRepeats (behind_rounds (get_or rs i d) (get_or rs i d).rounds) steps (drop (suc i) rs)
 repeat-here from steps rs i d lt are = subst (AreRepeats from steps) (drop-cons rs i d lt) are
+
+-- those that begin no earlier than at a step begin no earlier than at one before it
+pub repeats-from : (a b : ℕ) (steps : List Step) (rs : List Repeat) → a ≤ b → AreRepeats b steps rs → AreRepeats a steps rs
+repeats-from a b steps [] le are = tt
+repeats-from a b steps (r ∷ rs) le are = (let later = are.0 in omega arith, are.1, are.2)
+
+-- the repeats behind one up to the end of which steps were carried out at most
+pub repeats-behind : (from next : ℕ) (steps : List Step) (rs : List Repeat) (i : ℕ) (d : Repeat) → i < length rs → AreRepeats from steps (drop i rs)
+    → next ≤ behind_rounds (get_or rs i d) (get_or rs i d).rounds → AreRepeats next steps (drop (i + 1) rs)
+repeats-behind from next steps rs i d lt are le =
+    subst (λ k. AreRepeats next steps (drop k rs)) (sym (add-one i))
+    (repeats-from next (behind_rounds (get_or rs i d) (get_or rs i d).rounds) steps (drop (suc i) rs) le (repeat-here from steps rs i d lt are).2)
 
 -- the same number of qubits and the same coins
 

@@ -24,6 +24,9 @@ use std::alloc::{AllocError, Global};
 /// out in one go.
 const MOST_SINGLE: usize = 64;
 
+/// How many steps a block has at least of which the rounds are looked at.
+const LEAST_STEPS: usize = 2048;
+
 /// What is kept of a run behind a round, for later ones to be compared with.
 #[derive(Drop)]
 pub struct Earlier {
@@ -277,7 +280,50 @@ fn run_repeat<C: Coins>(
     run_part(alloc, circuit, tableau, string, coins, outputs, from, rest)
 }
 
-/// Carries out the steps of a circuit up to the end of the last of its blocks, and tells which step comes next.
+/// Whether a block has so many steps that it is worth a look whether its rounds come again: each look finds its place in
+/// the steps anew.
+fn is_long(repeat: Repeat) -> bool {
+    repeat.rounds.saturating_mul(repeat.length) >= LEAST_STEPS
+}
+
+/// Carries out the steps from one on up to the end of a block, where it is long. Tells which step comes next.
+fn run_block<C: Coins>(
+    alloc: Global,
+    circuit: &Circuit,
+    tableau: &mut Tableau,
+    string: &mut Pauli,
+    coins: &mut C,
+    outputs: &mut Outputs,
+    from: usize,
+    repeat: Repeat,
+) -> Result<usize, Refusal>
+    requires checked { check_within tableau.old.qubits (circuit_items circuit.now) ≡ None }
+    requires same_length { length string.old.letters ≡ tableau.old.qubits }
+    requires before { from ≤ repeat.first }
+    requires repeat { IsRepeat (unroll (circuit_items circuit.now)) repeat }
+    requires led { IsLed tableau.old.qubits (C.sequence coins.old) (take from (unroll (circuit_items circuit.now))) (program_state tableau.old (output_of outputs.old)) }
+    ensures qubits { tableau.new.qubits ≡ tableau.old.qubits }
+    ensures string { length string.new.letters ≡ length string.old.letters }
+    ensures same_coins { C.sequence coins.new ≡ C.sequence coins.old }
+    ensures asks { C.asks coins.new + all_coins_of (take from (unroll (circuit_items circuit.now))) ≤ C.asks coins.old + all_coins_of (unroll (circuit_items circuit.now)) }
+    ensures asks_part { IfOk result (λ next. C.asks coins.new + all_coins_of (take from (unroll (circuit_items circuit.now))) ≤ C.asks coins.old + all_coins_of (take next (unroll (circuit_items circuit.now)))) }
+    ensures asks_free { IfOk result (λ next. C.asks coins.new + ones outputs.old.free.items ≤ C.asks coins.old + ones outputs.new.free.items) }
+    ensures next { IfOk result (λ next. next ≤ behind_rounds repeat repeat.rounds) }
+    ensures led { IfOk result (λ next. IsLed tableau.old.qubits (C.sequence coins.old) (take next (unroll (circuit_items circuit.now))) (program_state tableau.new (output_of outputs.new))) }
+    ensures err { IfErr result (λ r. r ≡ OutOfMemory) }
+{
+    if !is_long(repeat) {
+        return Ok(from);
+    }
+    let before = repeat.first - from;
+    run_part(
+        alloc, circuit, tableau, string, coins, outputs, from, before,
+    )?;
+    run_repeat(alloc, circuit, tableau, string, coins, outputs, repeat)?;
+    Ok(repeat.first + repeat.rounds * repeat.length)
+}
+
+/// Carries out the steps of a circuit up to the end of the last of its long blocks, and tells which step comes next.
 pub fn run_repeats<C: Coins>(
     alloc: Global,
     circuit: &Circuit,
@@ -303,18 +349,9 @@ pub fn run_repeats<C: Coins>(
 {
     let mut from = 0;
     for repeat in repeats {
-        run_part(
-            alloc,
-            circuit,
-            tableau,
-            string,
-            coins,
-            outputs,
-            from,
-            repeat.first - from,
+        from = run_block(
+            alloc, circuit, tableau, string, coins, outputs, from, *repeat,
         )?;
-        run_repeat(alloc, circuit, tableau, string, coins, outputs, *repeat)?;
-        from = repeat.first + repeat.rounds * repeat.length;
     }
     Ok(from)
 }

@@ -7,6 +7,7 @@ use std::alloc::Global;
 use std::test::Fail;
 
 /// The lines before a block, its first line, how many rounds that says, the lines in it, and those behind it, on twelve qubits.
+/// All blocks but one are long enough to be looked at.
 type Case = (
     &'static str,
     &'static str,
@@ -40,36 +41,36 @@ const CASES: [Case; 15] = [
     ),
     (
         "M 0\n",
-        "REPEAT 63 {\n",
-        63,
+        "REPEAT 700 {\n",
+        700,
         "X 0\nM 0\nDETECTOR rec[-1] rec[-2]\n",
         "M 0\n",
     ),
     (
         "M 0\n",
-        "REPEAT 64 {\n",
-        64,
+        "REPEAT 683 {\n",
+        683,
         "X 0\nM 0\nDETECTOR rec[-1] rec[-2]\n",
         "M 0\n",
     ),
     (
         "M 0\n",
-        "REPEAT 201 {\n",
-        201,
+        "REPEAT 1001 {\n",
+        1001,
         "X 0\nM 0\nDETECTOR rec[-1] rec[-2]\n",
         "MX 0\n",
     ),
     (
         "H 0\nCX 0 1\n",
-        "REPEAT 150 {\n",
-        150,
+        "REPEAT 515 {\n",
+        515,
         "S 0 1\nMPP X0*X1 !Z0*Z1\n",
         "M 0 1\n",
     ),
     (
         "X 0\n",
-        "REPEAT 100 {\n",
-        100,
+        "REPEAT 601 {\n",
+        601,
         "SWAP 0 1 1 2\nM 0 1\n",
         "M 0 1 2\n",
     ),
@@ -83,8 +84,8 @@ const CASES: [Case; 15] = [
     // A first round in which a coin decides, and others in which none does.
     (
         "R 0 1 2 3 4\nM 1 3\n",
-        "REPEAT 70 {\n",
-        70,
+        "REPEAT 230 {\n",
+        230,
         CODE,
         "M 0 2 4\nDETECTOR rec[-1] rec[-2] rec[-4]\n",
     ),
@@ -97,39 +98,39 @@ const CASES: [Case; 15] = [
     ),
     (
         "H 0\n",
-        "REPEAT 101 {\n",
-        101,
+        "REPEAT 1101 {\n",
+        1101,
         "M 0\nOBSERVABLE_INCLUDE(1) rec[-1]\n",
         "MX 0\n",
     ),
     // Coins decide in each round, or in each round of a block within.
-    ("", "REPEAT 90 {\n", 90, "H 0\nM 0\n", "M 0\n"),
+    ("", "REPEAT 1100 {\n", 1100, "H 0\nM 0\n", "M 0\n"),
     (
         "",
-        "REPEAT 80 {\n",
-        80,
-        "MX 1\nREPEAT 3 {\nM 0\nX 0\n}\nMZ 1\n",
+        "REPEAT 300 {\n",
+        300,
+        "MX 1\nREPEAT 3 {\nM 0\nX 0\n}\nM 1\n",
         "",
     ),
     // A record decides which gate is applied, and one of long before what a detector says.
     (
         "X 0\nM 0\n",
-        "REPEAT 99 {\n",
-        99,
+        "REPEAT 599 {\n",
+        599,
         "CX rec[-1] 0 rec[-1] 1\nM 0\nDETECTOR rec[-2]\n",
         "M 1\n",
     ),
     (
         "M 0\nX 0\nM 0 0 0 0\n",
-        "REPEAT 70 {\n",
-        70,
+        "REPEAT 1100 {\n",
+        1100,
         "M 0\nDETECTOR rec[-5] rec[-1]\n",
         "M 0\n",
     ),
     (
         "X 0\nM 0\nX 0\nM 0\n",
-        "REPEAT 200 {\n",
-        200,
+        "REPEAT 1100 {\n",
+        1100,
         "CX rec[-2] 0\nM 0\n",
         "M 0\n",
     ),
