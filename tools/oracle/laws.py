@@ -12,6 +12,8 @@ from .reading import items_of
 from .script_making import edits
 from .scripts import Session, printing
 
+# What leaves each qubit 0 or 1, so that hardly a coin decides and most rounds come again.
+STILL = ["X", "Z", "CX", "CZ", "SWAP", "M", "MR", "R"]
 SHOWS = b"show measurements\nshow free\nshow detectors\nshow observables\nshow stabilisers\nshow circuit\n"
 
 
@@ -111,7 +113,29 @@ def shots_by_themselves(random, run):
     return None
 
 
+def blocks_as_written_out(random, run):
+    """What a long block gives, whose rounds may come again, against its lines as often as it counts."""
+    maker = Maker(random, random.randint(1, 6))
+    before = maker.lines(random.randint(0, 5))
+    if random.random() < 0.7:
+        maker.names = STILL
+    first = maker.records
+    body = maker.lines(random.randint(1, 6), 1)
+    rounds = random.randint(300, 1500)
+    maker.records += (rounds - 1) * (maker.records - first)
+    behind = maker.lines(random.randint(0, 3))
+    block = "\n".join([*before, f"REPEAT {rounds} {{", *body, "}", *behind]).encode()
+    check(items_of(block))
+    lines = "\n".join([*before, *body * rounds, *behind]).encode()
+    seed = str(random.randrange(2**32))
+    for command in (["sample"], ["detect", "--append_observables"]):
+        answer, right = (run([*command, "--seed", seed], text) for text in (block, lines))
+        if answer != right or answer[0] != 0:
+            return f"{command[0]} of a block and of its lines differ\n{block!r}\n{seed}\n{answer}\n{right}"
+    return None
+
+
 LAWS = {
     "edited as anew": edited_as_anew, "formats of one another": bits_in_each_format, "checked as run": checked_as_run,
-    "faults as edits": faults_as_edits, "shots by themselves": shots_by_themselves,
+    "faults as edits": faults_as_edits, "shots by themselves": shots_by_themselves, "blocks as written out": blocks_as_written_out,
 }

@@ -20,6 +20,7 @@ class Maker:
         self.random = random
         self.n = n
         self.records = 0
+        self.names = list(SPELLINGS)
 
     def qubit(self):
         return self.random.randrange(self.n)
@@ -68,7 +69,7 @@ class Maker:
     def line(self):
         if self.random.random() < 0.2:
             return self.annotation()
-        name = self.random.choice(list(SPELLINGS))
+        name = self.random.choice(self.names)
         tag = "[a b]" if self.random.random() < 0.05 else ""
         note = " # why" if self.random.random() < 0.05 else ""
         return f"{spelled(self.random, name)}{tag} {self.targets(name)}{note}"
