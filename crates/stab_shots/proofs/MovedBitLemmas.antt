@@ -1,8 +1,8 @@
 -- Moved bits: the bits of words that are shifted, cut off and masked.
 use Rattle.std.proofs.Common.{◌≡◌, ℕ, ◌+◌, ◌-◌, ◌*◌, ◌/◌, ◌^◌, ◌<◌, ◌≤◌, ◌%◌, ap, sym, ◌∙◌, eqb, false, ◌&&◌, inl, inr, arith}
-use Rattle.std.specs.Prelude.{bit_and, bit_or, ◌⊎◌, min, max, ◌||◌}
+use Rattle.std.specs.Prelude.{bit_and, ◌⊎◌, min}
 use Rattle.std.specs.Int.{bit_at}
-use Rattle.std.proofs.lemmas.Nat.Bits.{bit_at_and, bit_at_or, bit_at-lt, bit_at_cat_low, bit_at_cat_high, bit_at_above}
+use Rattle.std.proofs.lemmas.Nat.Bits.{bit_at_and, bit_at-lt, bit_at_cat_low, bit_at_cat_high, bit_at_above}
 use Rattle.std.proofs.Math.Nat.{div-div-eq-div-mul}
 use Rattle.std.proofs.lemmas.Nat.{pow-add, pow_pos}
 use Rattle.stab_shots.specs.Words.{word_bit}
@@ -21,18 +21,6 @@ both a b x e ha hb = by_cases (two_cases a ha) (two_cases b hb)
 
 pub word_bit-and : (a b l : ℕ) → word_bit (bit_and a b) l ≡ word_bit a l && word_bit b l
 word_bit-and a b l = both (bit_at a l) (bit_at b l) (bit_at (bit_and a b) l) (bit_at_and a b l) (bit_at-lt a l) (bit_at-lt b l)
-
-either : (a b x : ℕ) → x ≡ max a b → a < 2 → b < 2 → eqb x 1 ≡ eqb a 1 || eqb b 1
-either a b x e ha hb = by_cases (two_cases a ha) (two_cases b hb)
-  where
-    by_cases : (a ≡ 0) ⊎ (a ≡ 1) → (b ≡ 0) ⊎ (b ≡ 1) → eqb x 1 ≡ eqb a 1 || eqb b 1
-    by_cases (inl p) (inl q) = rw (e, p, q)
-    by_cases (inl p) (inr q) = rw (e, p, q)
-    by_cases (inr p) (inl q) = rw (e, p, q)
-    by_cases (inr p) (inr q) = rw (e, p, q)
-
-pub word_bit-or : (a b l : ℕ) → word_bit (bit_or a b) l ≡ word_bit a l || word_bit b l
-word_bit-or a b l = either (bit_at a l) (bit_at b l) (bit_at (bit_or a b) l) (bit_at_or a b l) (bit_at-lt a l) (bit_at-lt b l)
 
 -- moved down by so many places
 pub word_bit-down : (a s l : ℕ) → word_bit (a / 2 ^ s) l ≡ word_bit a (l + s)
