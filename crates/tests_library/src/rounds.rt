@@ -1,5 +1,4 @@
 //! Blocks whose rounds come again: what a run gives of them, and where they stand in the steps.
-use crate::circuits::read;
 use stab_circuit::{Repeat, read_circuit};
 use stab_pauli::MemoryInput;
 use stab_session::{SeedCoins, Shot, run_once};
@@ -217,7 +216,7 @@ DETECTOR rec[-5]
 
 #[test]
 fn blocks_with_rounds_stand_in_the_steps(rt: HostRuntime) -> Result<(), Fail> {
-    let circuit = read(rt.alloc(), BLOCKS)?;
+    let circuit = read_circuit(rt.alloc(), &mut MemoryInput::new(BLOCKS.as_bytes()))?;
     let wanted = [
         Repeat {
             first: 1,
