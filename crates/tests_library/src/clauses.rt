@@ -14,6 +14,7 @@ ghost use Rattle.stab_tableau.specs.Traces.{member};
 ghost use Rattle.stab_circuit.specs.Paths.{numbers};
 ghost use Rattle.stab_circuit.specs.Edits.{edited, steps_before};
 ghost use Rattle.stab_circuit.specs.declared.edit.Edit.TheVariants.{Insert as inserting};
+ghost use Rattle.stab_circuit.specs.Repeats.{repeated_blocks};
 ghost use Rattle.stab_circuit.specs.Steps.{unroll, records_of, steps_cap, check_of, check_within};
 ghost use Rattle.stab_circuit.specs.StepPaths.{item_steps_left};
 ghost use Rattle.stab_circuit.specs.Views.{circuit_items};
@@ -152,6 +153,15 @@ fn steps_left_of_item(circuit: &Circuit, step: usize) -> usize
     ensures steps { result ≡ item_steps_left (circuit_items circuit.now) step }
 {
     circuit.item_of_step(step).steps
+}
+
+/// There is a repeat for each outermost block that has a step and more than one round.
+fn counted_blocks(alloc: Global, circuit: &Circuit) -> Result<usize, Refusal>
+    requires checked { check_of (circuit_items circuit.now) ≡ None }
+    ensures count { IfOk result (λ blocks. blocks ≡ repeated_blocks (circuit_items circuit.now)) }
+{
+    let repeats = circuit.repeats(alloc)?;
+    Ok(repeats.len())
 }
 
 /// The first number of a path is that of its outermost place.
