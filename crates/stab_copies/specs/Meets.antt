@@ -13,3 +13,10 @@ pub record Meets (n reach : ℕ) (t : TableauState) (o : RunOutput) (old free : 
   pub group : SameGroup n (stabilises t) (stabilises c.tableau)
   pub coin : (length o.free ≡ c.lengths.free) ⊎ (ones (drop c.lengths.free free) ≡ 0)
   pub records : drop (length o.records - reach) o.records ≡ drop (length (take c.lengths.records old) - reach) (take c.lengths.records old)
+
+-- a run that came to this state, and gave this, stands where it stood at a copy of its own: the state is that of the copy, no coin decided
+-- since, and the newest records are the same
+pub record ComesAgain (reach : ℕ) (t : TableauState) (o : RunOutput) (c : Checkpoint) : Type 0 where
+  pub same : c.tableau ≡ t
+  pub fixed : ones (drop c.lengths.free o.free) ≡ 0
+  pub records : drop (length o.records - reach) o.records ≡ drop (length (take c.lengths.records o.records) - reach) (take c.lengths.records o.records)

@@ -2,7 +2,7 @@
 //!
 //! - `bits`: whether there is a 1 among bits.
 //! - `checkpoint`: copies of the state before a step, where they are kept, and how they move.
-//! - `meeting`: whether another run meets a copy.
+//! - `meeting`: whether another run meets a copy, or a run one of its own again.
 //!
 //! Runs themselves, with their coins and laws, are `stab_run`'s.
 //!
@@ -11,7 +11,7 @@
 //! Proved: what a copy is of (`specs/Checkpoints.antt`), how copies are laid and move
 //! (`specs/LaidCopies.antt`), and that `meets` answers yes exactly where the other run comes to the state of
 //! the copy, with the same records as far back as is looked, and with the same coin to come unless none decides
-//! any more (`specs/Meets.antt`).
+//! any more, and `comes_again` where a run stands as it stood at a copy of its own (`specs/Meets.antt`).
 #![tactic(auto)]
 
 mod bits;
@@ -20,4 +20,4 @@ mod meeting;
 
 pub use bits::has_one;
 pub use checkpoint::{Checkpoint, Meeting, count_before, lay_all, shifted, take_moved};
-pub use meeting::{may_have_coin, meets};
+pub use meeting::{comes_again, may_have_coin, meets};

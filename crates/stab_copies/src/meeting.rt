@@ -6,7 +6,7 @@ ghost use Rattle.stab_tableau.specs.Groups.{SameGroup};
 ghost use Rattle.stab_tableau.specs.Tableaus.{stabilises};
 ghost use Rattle.stab_run.specs.Records.{ones};
 ghost use Rattle.stab_run.specs.ProgramStates.{output_of};
-ghost use Rattle.stab_copies.specs.Meets.{Meets};
+ghost use Rattle.stab_copies.specs.Meets.{Meets, ComesAgain};
 
 use crate::bits::has_one;
 use crate::checkpoint::Checkpoint;
@@ -47,6 +47,28 @@ pub fn meets(
         return Ok(false);
     }
     has_group_of(tableau, alloc, &copy.tableau, spare, telling)
+}
+
+/// Whether a run that came to this state, and gave this, stands where it stood at a copy of its own, as far back as its steps look. What
+/// is cheap to compare comes first. It takes no memory.
+pub fn comes_again(tableau: &Tableau, outputs: &Outputs, copy: &Checkpoint, reach: u32) -> bool
+    ensures value { IsTrue result ↔ ComesAgain reach tableau.now (output_of outputs.now) copy.now }
+{
+    let records = outputs.records.as_slice();
+    end_alike(
+        records,
+        first(records, copy.lengths.records),
+        reach as usize,
+    ) && are_fixed(outputs.free.as_slice(), copy.lengths.free)
+        && copy.tableau.is_of(tableau)
+}
+
+/// Whether no coin decided, by the flags behind so many.
+fn are_fixed(flags: &[bool], count: usize) -> bool
+    ensures value { IsTrue result ↔ (ones (drop count flags.now) ≡ 0) }
+{
+    let (_, behind) = flags.split_at(count.min(flags.len()));
+    !has_one(behind)
 }
 
 /// Whether the same strings stabilise a state and a copy, which is expanded into the spare tableau where its rows have other
@@ -189,11 +211,7 @@ fn is_shared(
 pub fn may_have_coin(copy: &Checkpoint, free: &[bool], coin: usize) -> bool
     ensures value { IsTrue result ↔ ((coin ≡ copy.now.lengths.free) ⊎ (ones (drop copy.now.lengths.free free.now) ≡ 0)) }
 {
-    if coin == copy.lengths.free {
-        return true;
-    }
-    let (_, behind) = free.split_at(copy.lengths.free.min(free.len()));
-    !has_one(behind)
+    coin == copy.lengths.free || are_fixed(free, copy.lengths.free)
 }
 
 /// The first bits of a list, so many.

@@ -39,7 +39,7 @@ at-laid n coins ys r s at = record {
   noted = at.noted;
 }
 
-cursor-there : (n : ℕ) (coins : ℕ → Bool) (ys : List Step) (r : Replay) → IsAtStep n coins ys r → with_cursor ys r ≡ r
+pub cursor-there : (n : ℕ) (coins : ℕ → Bool) (ys : List Step) (r : Replay) → IsAtStep n coins ys r → with_cursor ys r ≡ r
 cursor-there n coins ys r at = λ i. record r { cursor = record { all = sym at.all i; left = sym at.left i } }
 
 pub cursor-set : (ys : List Step) (r : Replay) (cursor : CursorState) → cursor.all ≡ ys → cursor.left ≡ drop r.step ys → with_cursor ys r ≡ record r { cursor = cursor }

@@ -13,4 +13,6 @@ mod OverCopyLemmas
 mod LedLemmas
 mod LedWayLemmas
 pub mod CutLemmas
+mod AgainLemmas
+mod AgainReplayLemmas
 pub mod NotedLemmas

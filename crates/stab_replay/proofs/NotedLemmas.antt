@@ -282,6 +282,34 @@ true-none n coins strings (x ∷ xs) a none = (
     IfSome_then-none None = tt
     IfSome_then-none (Some m) = subst (λ o. IfSome o (λ s. Exchanges n (member a.trace) m s)) (sym (none a.coin (omega arith))) tt
 
+-- a run that goes on by steps which no coin decides notes no more
+pub noted-fixed : (n : ℕ) (coins : ℕ → Bool) (xs zs : List Step) (s : StringsState) (flags more : List Bool) (reach : ℕ) → IsNoted n coins xs s flags reach
+    → flags ≡ (outputs n coins xs origin).free → ones more ≡ 0 → All (LooksWithin reach) zs → IsNoted n coins (xs ++ zs) s (flags ++ more) reach
+noted-fixed n coins xs zs s flags more reach noted is none near = record {
+  size = noted.size;
+  within = noted.within;
+  numbered = omega (arith, noted.numbered, ones-append flags more, none);
+  are_true =
+      true-append n coins (note_at s.strings (flags ++ more)) xs zs origin
+      (true-changed n coins (note_at s.strings flags) (note_at s.strings (flags ++ more)) xs origin
+      (λ t le lt. inr (left t (omega (arith, lt, count, coins-are n coins xs origin)))) noted.are_true)
+      (true-none n coins (note_at s.strings (flags ++ more)) zs (point_after n coins xs origin)
+      (λ t le. unnoted s.strings (flags ++ more) t (off t (omega (arith, le, count)))));
+  near = All-append (LooksWithin reach) xs zs noted.near near;
+}
+  where
+    count : length flags ≡ (point_after n coins xs origin).coin
+    count = ap length is ∙ flags-are-coins n coins xs
+
+    left : (t : ℕ) → t < length flags → note_at s.strings (flags ++ more) t ≡ note_at s.strings flags t
+    left t lt = λ i. if bit-left flags more t lt i then slice_get s.strings (ones (take-left flags more t lt i)) else None
+
+    off : (t : ℕ) → length flags ≤ t → get_or (flags ++ more) t false ≡ false
+    off t le =
+        ap (λ k. get_or (flags ++ more) k false) {x = t} {y = length flags + (t - length flags)} (omega (arith, le))
+        ∙ bit-right flags more (t - length flags)
+        ∙ none-one more (t - length flags) none
+
 -- a run with the rest of another behind it, from points on that differ by letters alone, and in the number of the next coin where none
 -- decides behind
 pub noted-spliced : (n : ℕ) (coins : ℕ → Bool) (xs ys : List Step) (i k : ℕ) → drop i xs ≡ drop k ys

@@ -90,7 +90,7 @@ begun-from-start n coins xs ys c t o h same tableau front = record {
     lengths = h.lengths ∙ ap (λ zs. lengths_of (outputs n coins zs origin)) (sym same)
 
 -- records that end with the same ones are the same as far back as these
-looked-last : (m k : ℕ) (xs ys : List Bool) → drop (length xs - m) xs ≡ drop (length ys - m) ys → k ≤ m → looked_up xs k ≡ looked_up ys k
+pub looked-last : (m k : ℕ) (xs ys : List Bool) → drop (length xs - m) xs ≡ drop (length ys - m) ys → k ≤ m → looked_up xs k ≡ looked_up ys k
 looked-last m k xs ys last le =
     elim (cases_lt (length (drop (length xs - m) xs)) k) [
       | inl lt ↦

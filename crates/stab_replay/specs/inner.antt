@@ -1,2 +1,3 @@
 pub mod Arrivals
 pub mod LedReplays
+pub mod AgainReplays

@@ -109,7 +109,7 @@ impl<'a> Replay<'a> {
     /// Writes the state of the last copy laid into the tableau, where a copy was passed.
     ///
     /// Refusal `OutOfMemory` alone.
-    fn catch_up(&mut self, alloc: Global, passed: bool) -> Result<(), Refusal>
+    pub(crate) fn catch_up(&mut self, alloc: Global, passed: bool) -> Result<(), Refusal>
         ensures state { OnOk result (self.new ≡ with_state passed self.old) }
         ensures unchanged { OnErr result (self.new ≡ self.old) }
         ensures err { IfErr result (λ r. r ≡ OutOfMemory) }

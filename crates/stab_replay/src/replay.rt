@@ -9,7 +9,7 @@ ghost use Rattle.stab_replay.specs.Replays.{IsAtStep, IsReplay, Ascending, spaci
 ghost use Rattle.stab_replay.specs.inner.Arrivals.{IsArrival};
 ghost use Rattle.stab_replay.specs.FramedReplays.{IsOldRun};
 
-use stab_circuit::{Circuit, Cursor};
+use stab_circuit::{Circuit, Cursor, Repeat};
 use stab_copies::{Checkpoint, meets, shifted};
 use stab_frames::{KeptStrings, RunNotes, run_noting};
 use stab_io::Refusal;
@@ -79,7 +79,7 @@ impl Plan {
     ghost use Rattle.stab_replay.specs.Replays.{step_among_new, spacing_of, next_stop};
 
     /// Where the old copy with a number stands among the new steps, if there is one.
-    fn place(self, copies: &[Checkpoint], number: usize) -> Option<usize>
+    pub(crate) fn place(self, copies: &[Checkpoint], number: usize) -> Option<usize>
         ensures value { result ≡ option_map (step_among_new self) (slice_get copies.now number) }
     {
         match copies.get(number) {
@@ -89,7 +89,7 @@ impl Plan {
     }
 
     /// How far apart a replay lays copies at least.
-    fn spacing(self) -> usize
+    pub(crate) fn spacing(self) -> usize
         requires stride { 1 ≤ self.stride }
         ensures value { result ≡ spacing_of self.stride }
         ensures above { 1 ≤ result }
@@ -99,7 +99,7 @@ impl Plan {
     }
 
     /// Where a replay that is at a step stops next, before the place of an old copy or at it.
-    fn stop(self, step: usize, place: Option<usize>) -> usize
+    pub(crate) fn stop(self, step: usize, place: Option<usize>) -> usize
         requires stride { 1 ≤ self.stride }
         requires within { step ≤ self.total }
         requires behind { IfSome place (λ p. step ≤ p) }
@@ -218,6 +218,7 @@ impl<'a> Replay<'a> {
         &mut self,
         alloc: Global,
         circuit: &'a Circuit,
+        repeats: &[Repeat],
         copies: &[Checkpoint],
         old: &Outputs,
         strings: &KeptStrings,
@@ -257,9 +258,8 @@ impl<'a> Replay<'a> {
         let led = self.frame_on(alloc, circuit, copies, old, strings, plan, next)?;
         if !led.there {
             let place = plan.place(copies, led.next);
-            let stop = plan.stop(self.step, place);
-            let limit = plan.limit(self.step, stop, place);
-            self.run_past(alloc, coins, stop, limit)?;
+            let stops = self.stops(repeats, plan, place);
+            self.run_past(alloc, coins, stops.least, stops.most)?;
         }
         Ok(led.next)
     }
@@ -312,14 +312,19 @@ impl<'a> Replay<'a> {
         let mut telling = 0;
         // What copies are expanded into, so that memory for it is asked for once at most.
         let mut spare: Option<Tableau> = None;
+        let repeats = circuit.repeats(alloc)?;
         loop {
-            let reached = self.advance(alloc, circuit, copies, old, strings, plan, next, coins)?;
+            let repeats = repeats.as_slice();
+            let reached = self.advance(
+                alloc, circuit, repeats, copies, old, strings, plan, next, coins,
+            )?;
             match self.arrive(alloc, copies, old, plan, reached, &mut spare, &mut telling)? {
                 Arrival::Met => return Ok(End::Joined(reached)),
                 Arrival::Behind => return Ok(End::Last),
                 Arrival::Between(later) => next = later,
             }
             self.lay(alloc)?;
+            self.come_again(alloc, circuit, repeats, plan, plan.place(copies, next))?;
         }
     }
 }

@@ -15,8 +15,8 @@ pub returns-in_err-led-clause-asked : goal.returns-in_err-led-clause-asked
 returns-in_err-led-clause-asked g c =
     omega (arith, coins-cut c.args.self.now.step c.frame_on.new.self.step c.args.self.now.cursor.all (drop c.args.self.now.step c.args.self.now.cursor.all) c.frame_on.ensures.further refl)
 
-pub stop-stop-requires-clause-behind : goal.stop-stop-requires-clause-behind
-stop-stop-requires-clause-behind g c =
+pub stops-stops-requires-clause-behind : goal.stops-stops-requires-clause-behind
+stops-stops-requires-clause-behind g c =
     let on = c.in_ok-led.ensures.on in
     place-behind c.args.plan c.frame_on.new.self.step c.in_ok-led.led.next c.args.copies.now c.place-place.result c.place-place.ensures.value on.ascending
 
@@ -43,7 +43,7 @@ returns-in_ok-run_past-clause-asked g c =
 pub returns-in_ok-run_past-clause-way : goal.returns-in_ok-run_past-clause-way
 returns-in_ok-run_past-clause-way g c = λ begin way.
     let done = c.in_ok-run_past.ensures in
-    let limit = c.limit-limit.ensures in
+    let stops = c.stops-stops.ensures in
     let most = c.run_past.ensures.most in
     let there : c.in_ok-led.led.there ≡ false = grind (arith, c.if-not-led.true) in
     on-stop c.args.self.now.tableau.qubits (g.C.Coins.sequence c.args.coins.now) begin c.args.plan c.args.self.now.cursor.all c.args.copies.now c.args.old.now.records.items (g.C.Coins.sequence c.args.coins.now)
@@ -51,8 +51,8 @@ returns-in_ok-run_past-clause-way g c = λ begin way.
     (subst (IsLedTo c.args.self.now.tableau.qubits (g.C.Coins.sequence c.args.coins.now) begin c.args.plan c.args.self.now.cursor.all c.args.copies.now c.args.old.now.records.items c.in_ok-led.led.next c.frame_on.new.self) there
     (c.in_ok-led.ensures.way (g.C.Coins.sequence c.args.coins.now) begin (record { old = c.requires.old; at_step = c.requires.at_step }) way))
     refl done.at_step done.laid done.records (let counted = done.counted in let framed = done.framed in omega (arith, counted, framed)) refl c.run_past.ensures.order
-    (let within = limit.within in omega (arith, within, most)) (let near = limit.near in omega (arith, near, most)) c.place-place.ensures.value
-    (no-further c.place-place.result c.run_past.new.self.step c.limit-limit.result most limit.before)
+    (let within = stops.within in omega (arith, within, most)) (let near = stops.near in omega (arith, near, most)) c.place-place.ensures.value
+    (no-further c.place-place.result c.run_past.new.self.step c.stops-stops.result.most most stops.before)
 
 pub returns-in_ok-run_past-clause-few_laid : goal.returns-in_ok-run_past-clause-few_laid
 returns-in_ok-run_past-clause-few_laid g c =

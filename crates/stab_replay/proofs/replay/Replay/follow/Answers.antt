@@ -1,23 +1,25 @@
-use Rattle.std.proofs.Common.{◌≡◌, ◌+◌, ◌-◌, ◌*◌, ◌≤◌, min, [], ◌∷◌, ◌++◌, slice_get, sym, ◌∙◌, ap, subst, length, length-append, drop, arith}
+use Rattle.std.proofs.Common.{◌≡◌, ◌+◌, ◌-◌, ◌*◌, ◌≤◌, min, [], ◌∷◌, ◌++◌, slice_get, refl, sym, ◌∙◌, ap, subst, length, length-append, drop, arith}
+use Rattle.stab_frames.specs.declared.noting.RunNotes.{RunNotes}
 use Rattle.stab_replay.specs.declared.replay.Replay.{Replay}
 use Rattle.stab_replay.specs.declared.replay.End.TheVariants.{Last, Joined}
 use Rattle.stab_replay.specs.declared.replay.Arrival.{Arrival}
 use Rattle.stab_replay.specs.declared.replay.Arrival.TheVariants.{Met, Behind, Between}
 use Rattle.stab_run.specs.Records.{ones}
 use Rattle.stab_run.specs.Points.{all_coins_of}
-use Rattle.stab_replay.specs.Replays.{IsReplay, IsEnd, EndsSoon, IsAtStop, spacing_of, copy_of}
+use Rattle.stab_replay.specs.Replays.{IsReplay, IsEnd, EndsSoon, IsAtStop, IsOnWay, spacing_of, copy_of}
 use Rattle.stab_replay.specs.inner.Arrivals.{IsArrival}
-use Rattle.stab_replay.proofs.ReplayLemmas.{went-so, met-behind, ends-soon, on-further, fewer-left}
+use Rattle.stab_replay.proofs.ReplayLemmas.{went-so, met-behind, ends-soon, on-further, fewer-left, coins-cut}
+use Rattle.stab_replay.proofs.AgainReplayLemmas.{way-own, way-named}
 use Rattle.stab_replay.proofs.LaidLemmas.{laid-on, laid-more, laid-end}
 use Rattle.stab_replay.proofs.replay.Replay.follow.Given.{Over}
 use Rattle.stab_replay.proofs.replay.Replay.follow.Goals as goal
-use Rattle.stab_replay.proofs.replay.Replay.follow.Goals.{In_ok-reached}
+use Rattle.stab_replay.proofs.replay.Replay.follow.Goals.{In_ok-reached, In_ok-lay}
 
 stopped : (g : Over) (c : In_ok-reached g) → IsAtStop c.args.self.now.tableau.qubits (g.C.Coins.sequence c.args.coins.now) c.args.self.now.step c.args.plan
     c.args.self.now.cursor.all c.args.copies.now c.args.old.now.records.items c.in_ok-reached.reached c.advance.new.self
 stopped g c =
-    let inv = c.loop-spare.invariant in
-    went-so c.args.self.now.step c.args.plan c.args.copies.now c.args.old.now.records.items c.loop-spare.next c.in_ok-reached.reached c.loop-spare.self c.advance.new.self
+    let inv = c.loop-repeats.invariant in
+    went-so c.args.self.now.step c.args.plan c.args.copies.now c.args.old.now.records.items c.loop-repeats.next c.in_ok-reached.reached c.loop-repeats.self c.advance.new.self
     inv.qubits inv.same_coins inv.all (c.in_ok-reached.ensures.way c.args.self.now.step) inv.way
 
 arrived : (g : Over) (c : In_ok-reached g) (a b : Arrival) → a ≡ b
@@ -29,16 +31,16 @@ arrived g c a b same h =
 
 -- no more were laid than copies were passed
 few : (g : Over) (c : In_ok-reached g)
-    → spacing_of c.args.plan.stride * length c.advance.new.self.laid.items + c.args.self.now.step ≤ c.loop-spare.self.step + spacing_of c.args.plan.stride * (c.in_ok-reached.reached - c.args.plan.next)
+    → spacing_of c.args.plan.stride * length c.advance.new.self.laid.items + c.args.self.now.step ≤ c.loop-repeats.self.step + spacing_of c.args.plan.stride * (c.in_ok-reached.reached - c.args.plan.next)
 few g c =
-    let inv = c.loop-spare.invariant in
-    laid-on (spacing_of c.args.plan.stride) (length c.loop-spare.self.laid.items) (length c.advance.new.self.laid.items) c.args.plan.next c.loop-spare.next c.in_ok-reached.reached
-    c.args.self.now.step c.loop-spare.self.step inv.few_laid c.in_ok-reached.ensures.few_laid inv.way.stop.order c.in_ok-reached.ensures.order
+    let inv = c.loop-repeats.invariant in
+    laid-on (spacing_of c.args.plan.stride) (length c.loop-repeats.self.laid.items) (length c.advance.new.self.laid.items) c.args.plan.next c.loop-repeats.next c.in_ok-reached.reached
+    c.args.self.now.step c.loop-repeats.self.step inv.few_laid c.in_ok-reached.ensures.few_laid inv.way.stop.order c.in_ok-reached.ensures.order
 
 -- what was changed was carried out
 changed : (g : Over) (c : In_ok-reached g) → min c.advance.new.self.step c.args.plan.new_end ≤ c.args.self.now.step + c.advance.new.self.applied
 changed g c =
-    let inv = c.loop-spare.invariant in
+    let inv = c.loop-repeats.invariant in
     let done = c.in_ok-reached.ensures in
     omega (arith, inv.changed, done.changed)
 
@@ -112,7 +114,7 @@ pub returns-in-Met-clause-few_laid : goal.returns-in-Met-clause-few_laid
 returns-in-Met-clause-few_laid g c =
     let at = (goal.at.returns-in-Met-clause-few_laid g c).In_ok-reached in
     laid-end (spacing_of c.args.plan.stride) (length c.advance.new.self.laid.items) (length c.arrive.new.self.laid.items) (c.in_ok-reached.reached - c.args.plan.next)
-    (c.in_ok-reached.reached - c.args.plan.next) c.args.self.now.step c.loop-spare.self.step c.arrive.new.self.step (few g at)
+    (c.in_ok-reached.reached - c.args.plan.next) c.args.self.now.step c.loop-repeats.self.step c.arrive.new.self.step (few g at)
     (ap (λ (r : Replay). length r.laid.items) c.arrive.ensures.unchanged)
     (let further = c.advance.ensures.further in omega (arith, further, ap (λ (r : Replay). r.step) c.arrive.ensures.unchanged)) (omega arith)
 
@@ -120,64 +122,98 @@ pub returns-in-Behind-clause-few_laid : goal.returns-in-Behind-clause-few_laid
 returns-in-Behind-clause-few_laid g c =
     let at = (goal.at.returns-in-Behind-clause-few_laid g c).In_ok-reached in
     laid-end (spacing_of c.args.plan.stride) (length c.advance.new.self.laid.items) (length c.arrive.new.self.laid.items) (c.in_ok-reached.reached - c.args.plan.next)
-    (length c.args.copies.now - c.args.plan.next) c.args.self.now.step c.loop-spare.self.step c.arrive.new.self.step (few g at)
+    (length c.args.copies.now - c.args.plan.next) c.args.self.now.step c.loop-repeats.self.step c.arrive.new.self.step (few g at)
     (ap (λ (r : Replay). length r.laid.items) c.arrive.ensures.unchanged)
     (let further = c.advance.ensures.further in omega (arith, further, ap (λ (r : Replay). r.step) c.arrive.ensures.unchanged))
     (let within = (stopped g at).within in omega (arith, within))
 
-pub loop-spare-smaller : goal.loop-spare-smaller
-loop-spare-smaller g c =
-    let at = (goal.at.loop-spare-smaller g c).In_ok-reached in
-    let stop = stopped g at in
-    let within = stop.replay.at_step.within in
-    let fewer = fewer-left c.args.self.now.tableau.qubits c.args.plan c.args.copies.now c.args.old.now.records.items c.args.old.now.free.items c.loop-spare.next c.in_ok-reached.reached c.in-Between.later
-    c.loop-spare.self.step c.advance.new.self c.requires.stride c.advance.ensures.further (omega (arith, within, c.requires.total)) c.in_ok-reached.ensures.order stop.within
-    c.in_ok-reached.ensures.stops
-    (arrived g at _ (Between c.in-Between.later) c.in-Between.is c.in_ok-arrive.ensures.value) in
-    omega (
-      arith,
-      fewer,
-      ap (λ (r : Replay). r.step) {y = record c.arrive.new.self { laid = c.lay.new.self.laid }} c.lay.ensures.unchanged,
-      ap (λ (r : Replay). r.step) c.arrive.ensures.unchanged,
-    )
+-- with a copy laid it is on its way
 
-pub loop-spare-preserved : goal.loop-spare-preserved
-loop-spare-preserved g c =
-    let inv = c.loop-spare.invariant in
+laid : (g : Over) (c : In_ok-lay g) → c.lay.new.self ≡ record c.advance.new.self { laid = c.lay.new.self.laid }
+laid g c = c.lay.ensures.unchanged ∙ ap (λ (r : Replay). record r { laid = c.lay.new.self.laid }) c.arrive.ensures.unchanged
+
+between : (g : Over) (c : In_ok-lay g)
+    → IsArrival c.args.self.now.tableau.qubits c.args.plan c.advance.new.self c.args.copies.now c.args.old.now.records.items c.args.old.now.free.items c.in_ok-reached.reached (Between c.in-Between.later)
+between g c = arrived g ((goal.at.In_ok-lay g c).In_ok-reached) _ (Between c.in-Between.later) c.in-Between.is c.in_ok-arrive.ensures.value
+
+on_way : (g : Over) (c : In_ok-lay g) → IsOnWay c.args.self.now.tableau.qubits (g.C.Coins.sequence c.args.coins.now) c.args.self.now.step c.args.plan c.args.self.now.cursor.all
+    c.args.copies.now c.args.old.now.records.items c.in-Between.later c.lay.new.self
+on_way g c =
+    on-further c.args.self.now.tableau.qubits (g.C.Coins.sequence c.args.coins.now) c.args.self.now.step c.args.plan c.args.self.now.cursor.all
+    c.args.copies.now c.args.old.now.records.items c.args.old.now.free.items c.in_ok-reached.reached c.in-Between.later c.advance.new.self c.lay.new.self
+    (stopped g ((goal.at.In_ok-lay g c).In_ok-reached)) (between g c) (laid g c)
+    ((c.in_ok-lay.ensures {u = tt}).laid ∙ ap (λ (r : Replay). r.laid.items ++ copy_of r ∷ []) c.arrive.ensures.unchanged)
+
+pub come_again-requires-clause-on_way : goal.come_again-requires-clause-on_way
+come_again-requires-clause-on_way g c = (
+  g.C.Coins.sequence c.args.coins.now,
+  c.args.self.now.step,
+  c.args.copies.now,
+  c.args.old.now.records.items,
+  c.in-Between.later,
+  way-own c.args.self.now.tableau.qubits (g.C.Coins.sequence c.args.coins.now) c.args.self.now.step c.args.plan c.args.self.now.cursor.all c.args.copies.now c.args.old.now.records.items
+      c.in-Between.later c.lay.new.self (on_way g ((goal.at.come_again-requires-clause-on_way g c).In_ok-lay)),
+  c.place.ensures.value,
+)
+
+pub loop-repeats-smaller : goal.loop-repeats-smaller
+loop-repeats-smaller g c =
+    let at = goal.at.loop-repeats-smaller g c in
+    let stop = stopped g at.In_ok-reached in
+    let within = stop.replay.at_step.within in
+    let fewer = fewer-left c.args.self.now.tableau.qubits c.args.plan c.args.copies.now c.args.old.now.records.items c.args.old.now.free.items c.loop-repeats.next c.in_ok-reached.reached c.in-Between.later
+    c.loop-repeats.self.step c.advance.new.self c.requires.stride c.advance.ensures.further (omega (arith, within, c.requires.total)) c.in_ok-reached.ensures.order stop.within
+    c.in_ok-reached.ensures.stops (between g at.In_ok-lay) in
+    omega (arith, fewer, ap (λ (r : Replay). r.step) (laid g at.In_ok-lay), (c.in_ok-come_again.ensures {u = tt}).further)
+
+pub loop-repeats-preserved : goal.loop-repeats-preserved
+loop-repeats-preserved g c =
+    let inv = c.loop-repeats.invariant in
     let done = c.in_ok-reached.ensures {u = tt} in
-    let at = (goal.at.loop-spare-preserved g c).In_ok-reached in
-    let arrival = arrived g at _ (Between c.in-Between.later) c.in-Between.is c.in_ok-arrive.ensures.value in
-    let same : c.lay.new.self ≡ record c.advance.new.self { laid = c.lay.new.self.laid } =
-    c.lay.ensures.unchanged ∙ ap (λ (r : Replay). record r { laid = c.lay.new.self.laid }) c.arrive.ensures.unchanged in
-    let step : c.lay.new.self.step ≡ c.advance.new.self.step = ap (λ (r : Replay). r.step) same in
-    let applied : c.lay.new.self.applied ≡ c.advance.new.self.applied = ap (λ (r : Replay). r.applied) same in
+    let kept = c.come_again.ensures in
+    let again = c.in_ok-come_again.ensures {u = tt} in
+    let at = goal.at.loop-repeats-preserved g c in
+    let reached = at.In_ok-reached in
+    let way = on_way g at.In_ok-lay in
+    let same = laid g at.In_ok-lay in
+    let step = ap (λ (r : Replay). r.step) same in
+    let applied = ap (λ (r : Replay). r.applied) same in
+    let steps = c.args.self.now.cursor.all in
     record {
-      all = ap (λ (r : Replay). r.cursor.all) same ∙ done.all ∙ inv.all;
-      qubits = ap (λ (r : Replay). r.tableau.qubits) same ∙ done.qubits ∙ inv.qubits;
-      raised = omega (arith, done.raised, inv.raised, ap (λ (r : Replay). r.notes.reach) same);
+      all = kept.all ∙ ap (λ (r : Replay). r.cursor.all) same ∙ done.all ∙ inv.all;
+      qubits = kept.qubits ∙ ap (λ (r : Replay). r.tableau.qubits) same ∙ done.qubits ∙ inv.qubits;
+      raised = omega (arith, done.raised, inv.raised, ap (λ (r : Replay). r.notes.reach) same, ap (λ (m : RunNotes). m.reach) kept.notes);
       same_coins = done.same_coins ∙ inv.same_coins;
-      asks = omega (arith, done.asks, inv.asks, applied);
-      asks_free = omega (arith, done.asks_free, inv.asks_free, ap (λ (r : Replay). ones r.outputs.free.items) same);
+      asks = omega (arith, done.asks, inv.asks, applied, again.counted, again.further);
+      asks_free = omega (arith, done.asks_free, inv.asks_free, ap (λ (r : Replay). ones r.outputs.free.items) same, again.free);
       asked =
           omega (
             arith,
             done.asked,
             inv.asked,
-            ap (λ k. all_coins_of (drop k c.args.self.now.cursor.all)) step,
+            ap (λ k. all_coins_of (drop k steps)) step,
             ap (λ xs. all_coins_of (drop c.advance.new.self.step xs)) inv.all,
-            ap (λ xs. all_coins_of (drop c.loop-spare.self.step xs)) inv.all,
+            ap (λ xs. all_coins_of (drop c.loop-repeats.self.step xs)) inv.all,
+            coins-cut c.lay.new.self.step c.come_again.new.self.step steps (drop c.lay.new.self.step steps) again.further refl,
           );
-      changed = omega (arith, changed g at, step, applied);
+      changed = omega (arith, changed g reached, step, applied, again.counted, again.further);
       few_laid =
-          subst (λ k. spacing_of c.args.plan.stride * length c.lay.new.self.laid.items + c.args.self.now.step ≤ k + spacing_of c.args.plan.stride * (c.in-Between.later - c.args.plan.next)) (sym step)
-          (laid-more c.args.self.now.tableau.qubits c.args.plan c.args.copies.now c.args.old.now.records.items c.args.old.now.free.items c.in_ok-reached.reached c.in-Between.later c.loop-spare.self.step
-          c.args.self.now.step (length c.advance.new.self.laid.items) (length c.lay.new.self.laid.items) c.advance.new.self (few g at)
-          (ap length (c.in_ok-lay.ensures {u = tt}).laid
-          ∙ length-append c.arrive.new.self.laid.items (copy_of c.arrive.new.self ∷ [])
-          ∙ ap (λ k. k + 1) (ap (λ (r : Replay). length r.laid.items) c.arrive.ensures.unchanged))
-          (stopped g at).order c.advance.ensures.further done.stops arrival);
+          omega (
+            arith,
+            again.few_laid,
+            step,
+            laid-more c.args.self.now.tableau.qubits c.args.plan c.args.copies.now c.args.old.now.records.items c.args.old.now.free.items c.in_ok-reached.reached c.in-Between.later
+                c.loop-repeats.self.step c.args.self.now.step (length c.advance.new.self.laid.items) (length c.lay.new.self.laid.items) c.advance.new.self (few g reached)
+                (ap length (c.in_ok-lay.ensures {u = tt}).laid
+                ∙ length-append c.arrive.new.self.laid.items (copy_of c.arrive.new.self ∷ [])
+                ∙ ap (λ k. k + 1) (ap (λ (r : Replay). length r.laid.items) c.arrive.ensures.unchanged))
+                (stopped g reached).order c.advance.ensures.further done.stops (between g at.In_ok-lay),
+          );
       way =
-          on-further c.args.self.now.tableau.qubits (g.C.Coins.sequence c.args.coins.now) c.args.self.now.step c.args.plan c.args.self.now.cursor.all
-          c.args.copies.now c.args.old.now.records.items c.args.old.now.free.items c.in_ok-reached.reached c.in-Between.later c.advance.new.self c.lay.new.self (stopped g at) arrival same
-          ((c.in_ok-lay.ensures {u = tt}).laid ∙ ap (λ (r : Replay). r.laid.items ++ copy_of r ∷ []) c.arrive.ensures.unchanged);
+          way-named c.lay.new.self.tableau.qubits c.args.self.now.tableau.qubits (g.C.Coins.sequence c.args.coins.now) c.args.self.now.step c.args.plan c.lay.new.self.cursor.all steps
+          c.args.copies.now c.args.old.now.records.items c.in-Between.later c.come_again.new.self way.stop.replay.at_step.qubits way.stop.replay.at_step.all
+          (again.way (g.C.Coins.sequence c.args.coins.now) c.args.self.now.step c.args.copies.now c.args.old.now.records.items c.in-Between.later
+          (way-own c.args.self.now.tableau.qubits (g.C.Coins.sequence c.args.coins.now) c.args.self.now.step c.args.plan steps c.args.copies.now c.args.old.now.records.items
+          c.in-Between.later c.lay.new.self way)
+          c.place.ensures.value);
     }

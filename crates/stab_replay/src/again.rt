@@ -1,0 +1,224 @@
+ghost use Rattle.std.specs.Prelude.{◌≡◌, ℕ, ◌+◌, ◌*◌, ◌<◌, ◌≤◌, ◌++◌, Bool, List, true, false, None, IsTrue, IsSomeAnd, IfSome, length, take, drop, slice_get, OnOk, IfOk, IfErr};
+ghost use Rattle.std.specs.Option.{option_map};
+ghost use Rattle.stab_io.specs.declared.refusal.Refusal.TheVariants.{OutOfMemory};
+ghost use Rattle.stab_circuit.specs.Steps.{Step, most_steps, unroll, check_of};
+ghost use Rattle.stab_circuit.specs.Views.{circuit_items};
+ghost use Rattle.stab_circuit.specs.Repeats.{AreRepeats, IsRepeat};
+ghost use Rattle.stab_circuit.specs.declared.circuit.repeats.Repeat.{Repeat};
+ghost use Rattle.stab_copies.specs.declared.checkpoint.Checkpoint.{Checkpoint};
+ghost use Rattle.stab_run.specs.Records.{ones};
+ghost use Rattle.stab_run.specs.Points.{joined};
+ghost use Rattle.stab_run.specs.ProgramStates.{output_of};
+ghost use Rattle.stab_replay.specs.declared.replay.Plan.{Plan};
+ghost use Rattle.stab_replay.specs.FramedReplays.{between as between_of};
+ghost use Rattle.stab_replay.specs.Replays.{IsOnWay, step_among_new, spacing_of};
+ghost use Rattle.stab_replay.specs.inner.AgainReplays.{StandsAgain, HasGivenAgain, IsEndIn};
+ghost use Rattle.stab_replay.specs.inner.LedReplays.{with_state, with_cursor};
+
+use crate::bits::between;
+use crate::replay::{Plan, Replay};
+use crate::rhythm::{block_at, end_of};
+use stab_circuit::{Circuit, Cursor, Repeat};
+use stab_copies::{Checkpoint, comes_again};
+use stab_io::Refusal;
+use stab_run::{Lengths, Outputs};
+use std::alloc::{AllocError, Global};
+
+/// A replay looks for a copy where it stood as it stands now among so many that it laid before.
+const LOOKED_BACK: usize = 64;
+
+/// Puts behind a list again what stands in it from one place to another.
+fn append_again<T: Copy>(
+    alloc: Global,
+    list: &mut Vec<T>,
+    from: usize,
+    to: usize,
+) -> Result<(), AllocError>
+    ensures value { OnOk result (list.new.items ≡ list.old.items ++ drop from (take to list.old.items)) }
+{
+    let part = Vec::from_slice(alloc, between(list.as_slice(), from, to))?;
+    list.extend_from_slice(part.as_slice())
+}
+
+/// Gives again what was given from some lengths of the lists to others.
+fn give_again(
+    alloc: Global,
+    outputs: &mut Outputs,
+    from: Lengths,
+    to: Lengths,
+) -> Result<(), AllocError>
+    ensures value { OnOk result (output_of outputs.new ≡ joined (output_of outputs.old) (between_of from to (output_of outputs.old))) }
+{
+    append_again(alloc, &mut outputs.records, from.records, to.records)?;
+    append_again(alloc, &mut outputs.free, from.free, to.free)?;
+    append_again(alloc, &mut outputs.detectors, from.detectors, to.detectors)?;
+    append_again(alloc, &mut outputs.additions, from.additions, to.additions)
+}
+
+impl Plan {
+    ghost use Rattle.std.specs.Prelude.{◌+◌, ◌*◌, ◌≤◌, IfSome};
+
+    /// How far a replay may go by what it gave before: to the end of a block, and not up to the place of an old copy, which it
+    /// might meet.
+    fn end_in(self, block: Repeat, place: Option<usize>) -> usize
+        ensures in_block { result ≤ block.first + block.rounds * block.length }
+        ensures before { IfSome place (λ p. result ≤ p) }
+    {
+        let end = end_of(block);
+        match place {
+            Some(place) => end.min(place.saturating_sub(1)),
+            None => end,
+        }
+    }
+}
+
+impl<'a> Replay<'a> {
+    /// Whether the replay stands as it stood at a copy in a block, some whole rounds before.
+    fn stands_as_at(&self, block: Repeat, copy: &Checkpoint) -> bool
+        requires some { 0 < block.length }
+        ensures value { IsTrue result → StandsAgain block self.now copy.now }
+    {
+        if copy.step < block.first || copy.step >= self.step {
+            return false;
+        }
+        let steps = self.step - copy.step;
+        let rounds = steps / block.length;
+        rounds * block.length == steps
+            && comes_again(&self.tableau, &self.outputs, copy, self.notes.reach)
+    }
+
+    /// The newest laid copy in a block, with another one behind it, at which the replay stood as it stands now.
+    fn find_again(&self, block: Repeat) -> Option<usize>
+        requires some { 0 < block.length }
+        ensures found { IfSome result (λ number. (number + 1 < length self.now.laid.items) × IsSomeAnd (slice_get self.now.laid.items number) (StandsAgain block self.now)) }
+    {
+        let last = self.laid.len().saturating_sub(1);
+        for number in (last.saturating_sub(LOOKED_BACK)..last).rev() {
+            if self.stands_as_at(block, &self.laid[number]) {
+                return Some(number);
+            }
+        }
+        None
+    }
+
+    /// Gives again what was given from the laid copy with a number to the next one, if these are a spacing apart and that is not
+    /// behind an end, and lays a copy of the same state. Tells whether it did. The tableau stays as it is.
+    ///
+    /// Refusal `OutOfMemory` alone.
+    fn give_once(
+        &mut self,
+        alloc: Global,
+        number: usize,
+        spacing: usize,
+        end: usize,
+    ) -> Result<bool, Refusal>
+        requires in_range { number + 1 < length self.old.laid.items }
+        requires some { 1 ≤ spacing }
+        requires few { end ≤ most_steps }
+        requires few_applied { self.old.applied ≤ self.old.step }
+        ensures rest { self.new ≡ record self.old { outputs = self.new.outputs; step = self.new.step; applied = self.new.applied; laid = self.new.laid } }
+        ensures given { IfOk result (λ given. given ≡ true → IsSomeAnd (slice_get self.old.laid.items number) (λ c. IsSomeAnd (slice_get self.old.laid.items (number + 1)) (λ d. HasGivenAgain spacing end c d self.old self.new))) }
+        ensures not_given { IfOk result (λ given. given ≡ false → self.new ≡ self.old) }
+        ensures err { IfErr result (λ r. r ≡ OutOfMemory) }
+    {
+        let from = &self.laid[number];
+        let to = &self.laid[number + 1];
+        let steps = to.step.saturating_sub(from.step);
+        if steps < spacing || end.saturating_sub(self.step) < steps {
+            return Ok(false);
+        }
+        let (behind, before) = (from.lengths, to.lengths);
+        let tableau = to.tableau.copy(alloc)?;
+        give_again(alloc, &mut self.outputs, behind, before)?;
+        self.step += steps;
+        self.applied += steps as u64;
+        self.laid.push(Checkpoint {
+            step: self.step,
+            lengths: self.outputs.lengths(),
+            tableau,
+        })?;
+        Ok(true)
+    }
+
+    /// Gives again, from the laid copy with a number on, what was given since, as often as there is room before an end, and lays
+    /// copies. Tells whether it did. The tableau stays as it is.
+    ///
+    /// Refusal `OutOfMemory` alone.
+    fn give_on(
+        &mut self,
+        alloc: Global,
+        mut number: usize,
+        spacing: usize,
+        end: usize,
+    ) -> Result<bool, Refusal>
+        requires in_range { number + 1 < length self.old.laid.items }
+        requires some { 1 ≤ spacing }
+        requires few { end ≤ most_steps }
+        requires few_applied { self.old.applied ≤ self.old.step }
+        ensures rest { self.new ≡ record self.old { outputs = self.new.outputs; step = self.new.step; applied = self.new.applied; laid = self.new.laid } }
+        ensures counted { OnOk result (self.new.applied + self.old.step ≡ self.old.applied + self.new.step) }
+        ensures further { OnOk result (self.old.step ≤ self.new.step) }
+        ensures free { OnOk result (ones self.old.outputs.free.items ≤ ones self.new.outputs.free.items) }
+        ensures few_laid { OnOk result (spacing * length self.new.laid.items + self.old.step ≤ spacing * length self.old.laid.items + self.new.step) }
+        ensures way { IfOk result (λ passed. (coins : ℕ → Bool) (begin : ℕ) (p : Plan) (ys : List Step) (copies : List Checkpoint) (old : List Bool) (next : ℕ) (block : Repeat) → IsOnWay self.old.tableau.qubits coins begin p ys copies old next self.old → IsRepeat ys block → IsEndIn p copies next block end → p.total ≡ length ys → IsSomeAnd (slice_get self.old.laid.items number) (StandsAgain block self.old) → IsOnWay self.old.tableau.qubits coins begin p ys copies old next (with_cursor ys (with_state passed self.new))) }
+        ensures err { IfErr result (λ r. r ≡ OutOfMemory) }
+    {
+        let mut passed = false;
+        loop {
+            let given = self.give_once(alloc, number, spacing, end)?;
+            if !given {
+                return Ok(passed);
+            }
+            passed = true;
+            number += 1;
+        }
+    }
+
+    /// Goes on in a block by what the replay gave before, where it stands as it stood at a copy that it laid there: the same comes
+    /// again, as often as there is room before the end of the block, and before the old copy that may be met next.
+    ///
+    /// Refusal `OutOfMemory` alone.
+    pub(crate) fn come_again(
+        &mut self,
+        alloc: Global,
+        circuit: &'a Circuit,
+        repeats: &[Repeat],
+        plan: Plan,
+        place: Option<usize>,
+    ) -> Result<(), Refusal>
+        requires same_circuit { unroll (circuit_items circuit.now) ≡ self.old.cursor.all }
+        requires checked { check_of (circuit_items circuit.now) ≡ None }
+        requires repeats { AreRepeats 0 self.old.cursor.all repeats.now }
+        requires stride { 1 ≤ plan.stride }
+        requires total { plan.total ≡ length self.old.cursor.all }
+        requires few { plan.total ≤ most_steps }
+        requires within { self.old.step ≤ plan.total }
+        requires few_applied { self.old.applied ≤ self.old.step }
+        requires on_way { (coins : ℕ → Bool) × (begin : ℕ) × (copies : List Checkpoint) × (old : List Bool) × (next : ℕ) × IsOnWay self.old.tableau.qubits coins begin plan self.old.cursor.all copies old next self.old × (place ≡ option_map (step_among_new plan) (slice_get copies next)) }
+        ensures all { self.new.cursor.all ≡ self.old.cursor.all }
+        ensures qubits { self.new.tableau.qubits ≡ self.old.tableau.qubits }
+        ensures notes { self.new.notes ≡ self.old.notes }
+        ensures framed { self.new.framed ≡ self.old.framed }
+        ensures counted { OnOk result (self.new.applied + self.old.step ≡ self.old.applied + self.new.step) }
+        ensures further { OnOk result (self.old.step ≤ self.new.step) }
+        ensures free { OnOk result (ones self.old.outputs.free.items ≤ ones self.new.outputs.free.items) }
+        ensures few_laid { OnOk result (spacing_of plan.stride * length self.new.laid.items + self.old.step ≤ spacing_of plan.stride * length self.old.laid.items + self.new.step) }
+        ensures way { OnOk result ((coins : ℕ → Bool) (begin : ℕ) (copies : List Checkpoint) (old : List Bool) (next : ℕ) → IsOnWay self.old.tableau.qubits coins begin plan self.old.cursor.all copies old next self.old → place ≡ option_map (step_among_new plan) (slice_get copies next) → IsOnWay self.old.tableau.qubits coins begin plan self.old.cursor.all copies old next self.new) }
+        ensures err { IfErr result (λ r. r ≡ OutOfMemory) }
+    {
+        let Some(block) = block_at(repeats, self.step) else {
+            return Ok(());
+        };
+        let end = plan.end_in(block, place);
+        if end.saturating_sub(self.step) < plan.spacing() {
+            return Ok(());
+        }
+        let Some(number) = self.find_again(block) else {
+            return Ok(());
+        };
+        let passed = self.give_on(alloc, number, plan.spacing(), end)?;
+        self.catch_up(alloc, passed)?;
+        self.cursor = Cursor::at(alloc, circuit, self.step)?;
+        Ok(())
+    }
+}
