@@ -8,13 +8,14 @@ from . import formats
 from .fault_laws import faults_as_edits
 from .making import Maker, damaged, small_circuit
 from .numbers import check
-from .reading import items_of
+from .reading import Block, items_of
 from .script_making import edits
 from .scripts import Session, printing
 
 # What leaves each qubit 0 or 1, so that hardly a coin decides and most rounds come again.
 STILL = ["X", "Z", "CX", "CZ", "SWAP", "M", "MR", "R"]
-SHOWS = b"show measurements\nshow free\nshow detectors\nshow observables\nshow stabilisers\nshow circuit\n"
+LISTS = b"show measurements\nshow free\nshow detectors\nshow observables\nshow stabilisers\n"
+SHOWS = LISTS + b"show circuit\n"
 
 
 def large_circuit(random):
@@ -113,8 +114,8 @@ def shots_by_themselves(random, run):
     return None
 
 
-def blocks_as_written_out(random, run):
-    """What a long block gives, whose rounds may come again, against its lines as often as it counts."""
+def long_block(random):
+    """Qubits, a block whose rounds may come again, with lines before and behind it, and the same with the block written out."""
     maker = Maker(random, random.randint(1, 6))
     before = maker.lines(random.randint(0, 5))
     if random.random() < 0.7:
@@ -126,7 +127,12 @@ def blocks_as_written_out(random, run):
     behind = maker.lines(random.randint(0, 3))
     block = "\n".join([*before, f"REPEAT {rounds} {{", *body, "}", *behind]).encode()
     check(items_of(block))
-    lines = "\n".join([*before, *body * rounds, *behind]).encode()
+    return maker.n, block, "\n".join([*before, *body * rounds, *behind]).encode()
+
+
+def blocks_as_written_out(random, run):
+    """What a long block gives, whose rounds may come again, against its lines as often as it counts."""
+    _, block, lines = long_block(random)
     seed = str(random.randrange(2**32))
     for command in (["sample"], ["detect", "--append_observables"]):
         answer, right = (run([*command, "--seed", seed], text) for text in (block, lines))
@@ -135,7 +141,28 @@ def blocks_as_written_out(random, run):
     return None
 
 
+def written_out(items):
+    """The text of items, the blocks of the outermost list written out."""
+    return b"".join(printing.printed(item.body) * item.count if isinstance(item, Block) else printing.printed([item]) for item in items)
+
+
+def sessions_as_written_out(random, run):
+    """A session on a long block, and some edits of it, at any stride, against one opened anew on what they leave, written out."""
+    n, block, _ = long_block(random)
+    session = Session(items_of(block), n, None)
+    script = edits(random, session, random.randint(0, 4))
+    words = ["edit", "--qubits", str(n), "--seed", str(random.randrange(2**32))]
+    stride = str(random.choice([1, 2, 7, 8, 30, 100, 300, 1000, 3000, 8192]))
+    answer = run([*words, "--stride", stride], block, script + LISTS)
+    status, shown, told = run(words, written_out(session.items), LISTS)
+    right = 3 if session.refused else 0, b"".join(session.replies) + shown, b""
+    if (status, told) != (0, b"") or answer != right:
+        return f"a session on a block and on its lines differ\n{block!r}\n{script!r}\n{words} {stride}\n{answer}\n{status} {told!r}\n{right}"
+    return None
+
+
 LAWS = {
     "edited as anew": edited_as_anew, "formats of one another": bits_in_each_format, "checked as run": checked_as_run,
     "faults as edits": faults_as_edits, "shots by themselves": shots_by_themselves, "blocks as written out": blocks_as_written_out,
+    "sessions as written out": sessions_as_written_out,
 }

@@ -1,7 +1,7 @@
-//! Blocks whose rounds come again: what a run gives of them, and where they stand in the steps.
+//! Blocks whose rounds come again: what runs and sessions give of them, and where they stand in the steps.
 use stab_circuit::{Repeat, read_circuit};
 use stab_pauli::MemoryInput;
-use stab_session::{SeedCoins, Shot, run_once};
+use stab_session::{SeedCoins, Session, Shot, run_once};
 use std::alloc::Global;
 use std::test::Fail;
 
@@ -186,6 +186,33 @@ fn blocks_give_what_they_give_written_out(rt: HostRuntime) -> Result<(), Fail> {
     for case in CASES {
         for number in 0..3 {
             same &= agrees(rt.alloc(), case, number)?;
+        }
+    }
+    assert!(rt; same);
+    Ok(())
+}
+
+/// Whether a session on a block, with copies a stride apart, gives what a run gives of the block written out.
+fn session_agrees(alloc: Global, case: Case, stride: usize) -> Result<bool, Fail> {
+    let block = in_a_block(alloc, case)?;
+    let lines = written_out(alloc, case)?;
+    let shot = shot_of(alloc, lines.as_slice(), 1)?;
+    let circuit = read_circuit(alloc, &mut MemoryInput::new(block.as_slice()))?;
+    let Ok(session) = Session::open(alloc, circuit, 12, stride, SeedCoins::new(3, 1)) else {
+        return Ok(false);
+    };
+    Ok(session.records() == shot.records.as_slice()
+        && session.free() == shot.free.as_slice()
+        && session.detectors() == shot.detectors.as_slice()
+        && session.observables() == shot.observables.as_slice())
+}
+
+#[test]
+fn sessions_on_blocks_give_what_runs_give_written_out(rt: HostRuntime) -> Result<(), Fail> {
+    let mut same = true;
+    for case in CASES {
+        for stride in [7, 100, 2048] {
+            same &= session_agrees(rt.alloc(), case, stride)?;
         }
     }
     assert!(rt; same);
