@@ -102,7 +102,7 @@ record_word ds = codes "rec[-" ++ (ds ++ codes "]")
 some_more : (b : ℕ) (bs : List ℕ) → is_some_word (b ∷ bs) ≡ true
 some_more b bs = grind arith
 
-record_some : (ds : List ℕ) → is_some_word (record_word ds) ≡ true
+pub record_some : (ds : List ℕ) → is_some_word (record_word ds) ≡ true
 record_some ds = some_more 114 (codes "ec[-" ++ (ds ++ codes "]"))
 
 record_digits : (ds : List ℕ) → lookback_digits (record_word ds) ≡ ds
@@ -116,7 +116,7 @@ record_written ds h =
     let ends : ends_with_byte w 93 ≡ true = ends_with_last 93 (codes "rec[-" ++ ds) refl in
     both (starts_with nat_eq w (codes "rec[-") && ends_with_byte w 93) (is_number (lookback_digits w)) (both (starts_with nat_eq w (codes "rec[-")) (ends_with_byte w 93) refl ends) (ap is_number (record_digits ds) ∙ h)
 
-record_read : (ds : List ℕ) (k : ℕ) → is_number ds ≡ true → value ds ≡ k → 0 < k → k ≤ most_lookback → lookback_of (record_word ds) ≡ Ok k
+pub record_read : (ds : List ℕ) (k : ℕ) → is_number ds ≡ true → value ds ≡ k → 0 < k → k ≤ most_lookback → lookback_of (record_word ds) ≡ Ok k
 unfolding lookback_of
 record_read ds k h v low high =
     let w : List ℕ = record_word ds in
@@ -128,12 +128,12 @@ record_read ds k h v low high =
 digits_solid : (ds : List ℕ) → list_all is_digit ds ≡ true → Free is_spacing ds
 digits_solid ds h = digits_free is_spacing ds digit_solid h
 
-record_solid : (ds : List ℕ) → list_all is_digit ds ≡ true → Free is_spacing (record_word ds)
+pub record_solid : (ds : List ℕ) → list_all is_digit ds ≡ true → Free is_spacing (record_word ds)
 record_solid ds h =
     free-append is_spacing (codes "rec[-") (ds ++ codes "]") (refl, (refl, (refl, (refl, (refl, tt)))))
     (free-append is_spacing ds (codes "]") (digits_solid ds h) (refl, tt))
 
-some_value : (ds : List ℕ) → 0 < value ds → is_some_word ds ≡ true
+pub some_value : (ds : List ℕ) → 0 < value ds → is_some_word ds ≡ true
 some_value [] h = absurd (omega arith)
 some_value (d ∷ ds) h = grind arith
 

@@ -18,7 +18,7 @@ use std::alloc::Global;
 const MOST_QUBITS: u64 = 1024;
 
 /// The greatest k of `rec[-k]`.
-const MOST_LOOKBACK: u64 = 16_777_215;
+pub const MOST_LOOKBACK: u64 = 16_777_215;
 
 /// A kind of target, which a word may mean.
 pub trait Target {
