@@ -155,9 +155,9 @@ record_parts front behind closing rest n s b c e r =
 
 -- a record in front
 pub record_begins : (bs front behind rest : List ℕ) (n k : ℕ) → front ≡ trimmed_front bs → front ≡ record_word (take n behind) ++ rest → list_all is_digit (take n behind) ≡ true
-    → k ≡ min (value (take n behind)) (most_lookback + 1) → 0 < k → k ≤ most_lookback → is_word_end rest ≡ true → BeginsWithTarget lookback_of bs k rest
+    → k ≡ value (take n behind) → 0 < k → k ≤ most_lookback → is_word_end rest ≡ true → BeginsWithTarget lookback_of bs k rest
 record_begins bs front behind rest n k e parts digits same low high end =
-    let v : value (take n behind) ≡ k = omega (arith, same, high) in (
+    let v : value (take n behind) ≡ k = sym same in (
       record_word (take n behind),
       word_begins bs front (record_word (take n behind)) rest e parts (record_solid (take n behind) digits) (record_some (take n behind)) end,
       record_read (take n behind) k (both (is_some_word (take n behind)) _ (some_value (take n behind) (omega (arith, v, low))) digits) v low high,

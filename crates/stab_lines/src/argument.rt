@@ -15,8 +15,7 @@ use std::alloc::Global;
 /// The greatest number of observables.
 const MOST_OBSERVABLES: u64 = 4096;
 
-/// Whether the byte may stand in a coordinate.
-pub fn is_coordinate_byte(byte: u8) -> bool
+fn is_coordinate_byte(byte: u8) -> bool
     ensures value { result ≡ coordinate_byte byte }
 {
     is_digit(byte) || byte == b'+' || byte == b'-' || byte == b'.' || byte == b'e' || byte == b'E'

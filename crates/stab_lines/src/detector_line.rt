@@ -1,18 +1,26 @@
 ghost use Rattle.std.specs.Prelude.{◌≡◌, ◌≤◌, ◌<◌, length, take, false, true, MatchOption};
 ghost use Rattle.std.specs.Option.{option_copied};
+ghost use Rattle.stab_lines.specs.Targets.{is_coordinate_byte as coordinate_byte};
 ghost use Rattle.stab_lines.specs.inner.DetectorLines.{may_follow, are_listed, IsSpacedRecord, AreSpacedRecords, EndsLine, BeginsWithDetector};
 
-use crate::argument::is_coordinate_byte;
 use crate::detector::{DetectorTargets, FEW, SHORT};
-use crate::line::starts_with;
+use crate::line::{is_digit, starts_with};
 use crate::target::MOST_LOOKBACK;
 use crate::word::digits_in_front;
 
-/// Whether the byte may follow within a coordinate, or before one.
-fn follows(within: bool, byte: u8) -> bool
-    ensures value { result ≡ may_follow within byte }
+/// Whether it stands within a coordinate, where the byte may follow within one, or before one.
+fn after_byte(within: bool, byte: u8) -> Option<bool>
+    ensures value { MatchOption result (Unit {0}) (λ now. (may_follow within byte ≡ true) × (now ≡ coordinate_byte byte)) }
 {
-    is_coordinate_byte(byte) || byte == if within { b',' } else { b' ' }
+    if is_digit(byte) {
+        return Some(true);
+    }
+    match byte {
+        b',' if within => Some(false),
+        b' ' if !within => Some(false),
+        b'+' | b'-' | b'.' | b'e' | b'E' => Some(true),
+        _ => None,
+    }
 }
 
 /// How many bytes in front are coordinates between commas, where none is broken off.
@@ -22,8 +30,10 @@ fn listed_len(bytes: &[u8]) -> Option<usize>
 {
     let mut length = 0;
     let mut within = false;
-    while length < bytes.len() && follows(within, bytes[length]) {
-        within = is_coordinate_byte(bytes[length]);
+    while length < bytes.len()
+        && let Some(now) = after_byte(within, bytes[length])
+    {
+        within = now;
         length += 1;
     }
     if within { Some(length) } else { None }
@@ -37,7 +47,7 @@ fn spaced_record(bytes: &[u8]) -> Option<(u32, &[u8])>
         return None;
     }
     let behind = bytes.split_at(6).1;
-    let (length, number) = digits_in_front(behind, MOST_LOOKBACK + 1);
+    let (length, number) = digits_in_front(behind);
     let closing = behind.split_at(length).1;
     if 0 < number && number <= MOST_LOOKBACK && starts_with(closing, b']') {
         Some((number as u32, closing.split_at(1).1))

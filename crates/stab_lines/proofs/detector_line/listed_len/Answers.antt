@@ -12,8 +12,8 @@ loop-length-preserved c =
       some = omega arith;
       kept = λ k. ap (λ m. are_listed false (take m bytes)) (moved k)
           ∙ c.loop-length.invariant.kept (suc k)
-          ∙ listed_more bytes n k c.loop-length.within c.loop-length-test.true (sym c.follows.ensures.value ∙ c.if-follows.true)
-          ∙ ap (λ w. are_listed w (take k (drop (n + 1) bytes))) (sym c.is_coordinate_byte-within.ensures.value);
+          ∙ listed_more bytes n k c.loop-length.within c.loop-length-test.true c.in-Some.ensures.value.0
+          ∙ ap (λ w. are_listed w (take k (drop (n + 1) bytes))) (sym c.in-Some.ensures.value.1);
     }
 
 pub returns-then-within-clause-value : goal.returns-then-within-clause-value
