@@ -1,5 +1,5 @@
 -- Numbers that are the first of several words.
-use Rattle.std.proofs.Common.{◌≡◌, ◌<◌, ◌≤◌, ℕ, Bool, true, false, List, [], ◌∷◌, length, take, drop, get_or, min, refl, sym, ap, subst, ◌∙◌, arith, drop-cons, length-take}
+use Rattle.std.proofs.Common.{◌≡◌, ◌<◌, ◌≤◌, ℕ, zero, suc, Bool, true, false, List, [], ◌∷◌, length, take, drop, get_or, min, refl, sym, ap, subst, ◌∙◌, arith, drop-cons, length-take}
 use Rattle.std.specs.List.{position_or_len, list_all}
 use Rattle.std.proofs.lemmas.Bool.Decides.{nat_tests}
 use Rattle.std.proofs.lemmas.List.{get_or-take}
@@ -8,7 +8,8 @@ use Rattle.std.proofs.lemmas.List.Folds.{list_all_at}
 use Rattle.stab_lines.specs.Lines.{is_spacing, is_digit, trimmed_front}
 use Rattle.stab_lines.specs.Words.{words, is_some_word, value}
 use Rattle.stab_lines.specs.inner.Numbers.{is_word_end, BeginsWithNumber, IsBehindWord}
-use Rattle.stab_lines.proofs.BoolLemmas.{both}
+use Rattle.stab_lines.proofs.BoolLemmas.{both, and_left}
+use Rattle.stab_lines.proofs.FreeLemmas.{prefix_no}
 use Rattle.stab_lines.proofs.PieceLemmas.{one_word, rest_shorter, words_spacing}
 
 -- a digit is no spacing
@@ -54,3 +55,9 @@ number_ends bs front rest n e some within digits behind =
 -- spacing that ends a word makes none
 pub spacing_behind : (b : ℕ) (bs : List ℕ) → is_spacing b ≡ true → words bs ≡ words (b ∷ bs)
 spacing_behind b bs e = sym (words_spacing b bs e)
+
+-- there is no spacing before digits
+pub digits_front : (bs : List ℕ) (n : ℕ) → 0 < n → n ≤ length bs → list_all is_digit (take n bs) ≡ true → bs ≡ trimmed_front bs
+digits_front [] n some within digits = absurd (omega (arith, some, within))
+digits_front (b ∷ bs) zero some within digits = absurd (omega arith)
+digits_front (b ∷ bs) (suc n) some within digits = sym (ap (λ k. drop k (b ∷ bs)) (prefix_no is_spacing b bs (digit_solid b (and_left (is_digit b) (list_all is_digit (take n bs)) digits))))

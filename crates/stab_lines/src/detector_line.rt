@@ -6,7 +6,7 @@ ghost use Rattle.stab_lines.specs.inner.DetectorLines.{may_follow, are_listed, I
 use crate::detector::{DetectorTargets, FEW, SHORT};
 use crate::line::{is_digit, starts_with};
 use crate::target::MOST_LOOKBACK;
-use crate::word::digits_in_front;
+use crate::word::few_digits_in_front;
 
 /// Whether it stands within a coordinate, where the byte may follow within one, or before one.
 fn after_byte(within: bool, byte: u8) -> Option<bool>
@@ -39,15 +39,20 @@ fn listed_len(bytes: &[u8]) -> Option<usize>
     if within { Some(length) } else { None }
 }
 
-/// The number k of the `rec[-k]` that stands in front behind a space, and what follows it.
+/// The number k of the `rec[-k]` that stands in front behind a space, and what follows it, where k has
+/// few digits.
 fn spaced_record(bytes: &[u8]) -> Option<(u32, &[u8])>
     ensures value { MatchOption result (Unit {0}) (λ p. IsSpacedRecord bytes.now p.0 p.1.now) }
 {
-    if !bytes.starts_with(b" rec[-") {
+    if !starts_with(bytes, b' ') {
         return None;
     }
-    let behind = bytes.split_at(6).1;
-    let (length, number) = digits_in_front(behind);
+    let word = bytes.split_at(1).1;
+    if !word.starts_with(b"rec[-") {
+        return None;
+    }
+    let behind = word.split_at(5).1;
+    let (length, number) = few_digits_in_front(behind);
     let closing = behind.split_at(length).1;
     if 0 < number && number <= MOST_LOOKBACK && starts_with(closing, b']') {
         Some((number as u32, closing.split_at(1).1))

@@ -1,4 +1,4 @@
-ghost use Rattle.std.specs.Prelude.{◌≡◌, ◌≤◌, ◌<◌, ◌^◌, min, true, ◌∷◌, [], length, take, MatchOption};
+ghost use Rattle.std.specs.Prelude.{◌≡◌, ◌≤◌, ◌<◌, ◌+◌, ◌*◌, ◌^◌, min, true, ◌∷◌, [], length, take, MatchOption};
 ghost use Rattle.std.specs.Option.{option_copied};
 ghost use Rattle.std.specs.List.{position_or_len, list_all, slice_split};
 ghost use Rattle.stab_lines.specs.Lines.{is_byte, is_digit as digit, is_spacing as spacing};
@@ -80,10 +80,78 @@ pub fn digits_in_front(bytes: &[u8]) -> (usize, u64)
     (length, number)
 }
 
+/// The number with one digit more, where one stands behind its digits, which are so many.
+#[tactic(auto, using(crate::proofs::WordLemmas::digits_more, crate::proofs::WordLemmas::value_more))]
+fn with_next_digit(bytes: &[u8], count: usize, number: u64) -> Option<u64>
+    requires digits { list_all digit (take count bytes.now) ≡ true }
+    requires value { number ≡ value (take count bytes.now) }
+    requires small { number < 1000 }
+    ensures here { MatchOption result (Unit {0}) (λ _. count < length bytes.now) }
+    ensures digits { MatchOption result (Unit {0}) (λ _. list_all digit (take (count + 1) bytes.now) ≡ true) }
+    ensures value { MatchOption result (Unit {0}) (λ n. n ≡ value (take (count + 1) bytes.now)) }
+    ensures small { MatchOption result (Unit {0}) (λ n. n < number * 10 + 10) }
+{
+    if count < bytes.len() && is_digit(bytes[count]) {
+        Some(number * 10 + u64::from(bytes[count]).saturating_sub(48))
+    } else {
+        None
+    }
+}
+
+/// The same of up to four digits: most numbers have no more, and take no loop.
+pub fn few_digits_in_front(bytes: &[u8]) -> (usize, u64)
+    ensures within { result.0 ≤ length bytes.now }
+    ensures digits { list_all digit (take result.0 bytes.now) ≡ true }
+    ensures value { result.1 ≡ value (take result.0 bytes.now) }
+{
+    let Some(one) = with_next_digit(bytes, 0, 0) else {
+        return (0, 0);
+    };
+    let Some(two) = with_next_digit(bytes, 1, one) else {
+        return (1, one);
+    };
+    let Some(three) = with_next_digit(bytes, 2, two) else {
+        return (2, two);
+    };
+    match with_next_digit(bytes, 3, three) {
+        Some(four) => (4, four),
+        None => (3, three),
+    }
+}
+
 /// The number below the cap that the first word is, and what follows it, where it is one of at most
 /// 18 digits.
-#[tactic(auto, using(crate::proofs::NumberLemmas::number_begins, crate::proofs::NumberLemmas::number_ends))]
 pub fn first_number(bytes: &[u8], cap: u64) -> Option<(u64, &[u8])>
+    ensures value { MatchOption result (Unit {0}) (λ p. BeginsWithNumber bytes.now p.0 p.1.now) }
+    ensures below { MatchOption result (Unit {0}) (λ p. p.0 < cap) }
+    ensures shorter { MatchOption result (Unit {0}) (λ p. length p.1.now < length bytes.now) }
+{
+    match number_in_front(bytes, cap) {
+        Some(found) => Some(found),
+        None => spaced_number(bytes, cap),
+    }
+}
+
+/// The same of a number of few digits with no spacing before it.
+#[tactic(auto, using(crate::proofs::NumberLemmas::digits_front, crate::proofs::NumberLemmas::number_ends))]
+fn number_in_front(bytes: &[u8], cap: u64) -> Option<(u64, &[u8])>
+    ensures value { MatchOption result (Unit {0}) (λ p. BeginsWithNumber bytes.now p.0 p.1.now) }
+    ensures below { MatchOption result (Unit {0}) (λ p. p.0 < cap) }
+    ensures shorter { MatchOption result (Unit {0}) (λ p. length p.1.now < length bytes.now) }
+{
+    let (length, number) = few_digits_in_front(bytes);
+    if length == 0 || number >= cap {
+        return None;
+    }
+    match behind_word(bytes.split_at(length).1) {
+        Some(rest) => Some((number, rest)),
+        None => None,
+    }
+}
+
+/// The same of any number, perhaps behind spacing.
+#[tactic(auto, using(crate::proofs::NumberLemmas::number_ends))]
+fn spaced_number(bytes: &[u8], cap: u64) -> Option<(u64, &[u8])>
     ensures value { MatchOption result (Unit {0}) (λ p. BeginsWithNumber bytes.now p.0 p.1.now) }
     ensures below { MatchOption result (Unit {0}) (λ p. p.0 < cap) }
     ensures shorter { MatchOption result (Unit {0}) (λ p. length p.1.now < length bytes.now) }

@@ -1,7 +1,7 @@
 use Rattle.std.proofs.Common.{arith, subst}
 use Rattle.stab_lines.specs.inner.Numbers.{IsBehindWord}
 use Rattle.stab_lines.proofs.NumberLemmas.{number_begins}
-use Rattle.stab_lines.proofs.word.first_number.Goals as goal
+use Rattle.stab_lines.proofs.word.spaced_number.Goals as goal
 
 pub returns-in-Some-clause-value : goal.returns-in-Some-clause-value
 returns-in-Some-clause-value c =
