@@ -41,6 +41,8 @@ fn listed_len(bytes: &[u8]) -> Option<usize>
 
 /// The number k of the `rec[-k]` that stands in front behind a space, and what follows it, where k has
 /// few digits.
+// Inlined, since each record of a long text is read by it.
+#[inline(always)]
 fn spaced_record(bytes: &[u8]) -> Option<(u32, &[u8])>
     ensures value { MatchOption result (Unit {0}) (λ p. IsSpacedRecord bytes.now p.0 p.1.now) }
 {

@@ -81,6 +81,8 @@ pub fn digits_in_front(bytes: &[u8]) -> (usize, u64)
 }
 
 /// The number with one digit more, where one stands behind its digits, which are so many.
+// Inlined, as are the others on the way of a short number, since long lists have nothing else.
+#[inline(always)]
 #[tactic(auto, using(crate::proofs::WordLemmas::digits_more, crate::proofs::WordLemmas::value_more))]
 fn with_next_digit(bytes: &[u8], count: usize, number: u64) -> Option<u64>
     requires digits { list_all digit (take count bytes.now) ≡ true }
@@ -99,6 +101,7 @@ fn with_next_digit(bytes: &[u8], count: usize, number: u64) -> Option<u64>
 }
 
 /// The same of up to four digits: most numbers have no more, and take no loop.
+#[inline(always)]
 pub fn few_digits_in_front(bytes: &[u8]) -> (usize, u64)
     ensures within { result.0 ≤ length bytes.now }
     ensures digits { list_all digit (take result.0 bytes.now) ≡ true }
@@ -121,6 +124,7 @@ pub fn few_digits_in_front(bytes: &[u8]) -> (usize, u64)
 
 /// The number below the cap that the first word is, and what follows it, where it is one of at most
 /// 18 digits.
+#[inline(always)]
 pub fn first_number(bytes: &[u8], cap: u64) -> Option<(u64, &[u8])>
     ensures value { MatchOption result (Unit {0}) (λ p. BeginsWithNumber bytes.now p.0 p.1.now) }
     ensures below { MatchOption result (Unit {0}) (λ p. p.0 < cap) }
@@ -133,6 +137,7 @@ pub fn first_number(bytes: &[u8], cap: u64) -> Option<(u64, &[u8])>
 }
 
 /// The same of a number of few digits with no spacing before it.
+#[inline(always)]
 #[tactic(auto, using(crate::proofs::NumberLemmas::digits_front, crate::proofs::NumberLemmas::number_ends))]
 fn number_in_front(bytes: &[u8], cap: u64) -> Option<(u64, &[u8])>
     ensures value { MatchOption result (Unit {0}) (λ p. BeginsWithNumber bytes.now p.0 p.1.now) }
@@ -150,6 +155,8 @@ fn number_in_front(bytes: &[u8], cap: u64) -> Option<(u64, &[u8])>
 }
 
 /// The same of any number, perhaps behind spacing.
+// Not inlined, so that the loop over a list stays small.
+#[inline(never)]
 #[tactic(auto, using(crate::proofs::NumberLemmas::number_ends))]
 fn spaced_number(bytes: &[u8], cap: u64) -> Option<(u64, &[u8])>
     ensures value { MatchOption result (Unit {0}) (λ p. BeginsWithNumber bytes.now p.0 p.1.now) }
@@ -168,6 +175,7 @@ fn spaced_number(bytes: &[u8], cap: u64) -> Option<(u64, &[u8])>
 }
 
 /// What follows a word that ends where the bytes begin, without the spacing that ends it.
+#[inline(always)]
 fn behind_word(bytes: &[u8]) -> Option<&[u8]>
     ensures value { MatchOption result (Unit {0}) (λ rest. IsBehindWord bytes.now rest.now) }
 {
