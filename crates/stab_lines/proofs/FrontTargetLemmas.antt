@@ -1,5 +1,5 @@
 -- Targets that are read off the front of several words.
-use Rattle.std.proofs.Common.{◌≡◌, ◌<◌, ◌≤◌, ℕ, ◌-◌, ◌+◌, Bool, true, false, ◌&&◌, not, ◌==◌, nat_le, nat_lt, nat_eq, List, [], ◌∷◌, length, take, drop, ◌++◌, append_assoc, append-nil, length-drop, min, refl, sym, ap, ◌∙◌, arith, Ok, Err, if◌then◌else◌, codes}
+use Rattle.std.proofs.Common.{◌≡◌, ◌<◌, ◌≤◌, ℕ, ◌-◌, Bool, true, false, ◌&&◌, not, ◌==◌, nat_le, nat_lt, nat_eq, List, [], ◌∷◌, length, take, drop, ◌++◌, append_assoc, append-nil, length-drop, refl, sym, ap, ◌∙◌, arith, Ok, Err, if◌then◌else◌, codes}
 use Rattle.std.specs.List.{list_all, starts_with, position_or_len, prefix_len}
 use Rattle.std.specs.Cmp.Lexicographic.{pointwise}
 use Rattle.std.proofs.lemmas.List.{length-append, take-append-drop}
