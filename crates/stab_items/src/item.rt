@@ -107,6 +107,15 @@ impl Item {
         Ok(Item { node })
     }
 
+    /// The item that is one instruction without a tag. It takes no memory.
+    pub(crate) fn plain(kind: Kind) -> Item
+        ensures value { result ≡ single (record { kind = kind; tag = [] }) }
+    {
+        Item {
+            node: Node::Plain(kind),
+        }
+    }
+
     /// `TICK` without a tag, which stands for nothing: it has no step, and names no qubit and no
     /// observable. It takes no memory.
     #[tactic(auto, using(crate::proofs::NothingLemmas::tick_nothing))]

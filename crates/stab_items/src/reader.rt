@@ -1,13 +1,18 @@
-ghost use Rattle.std.specs.Prelude.{◌≡◌, ◌≤◌, ◌++◌, length, IfOk};
+ghost use Rattle.std.specs.Prelude.{◌≡◌, ◌≤◌, ◌<◌, ◌++◌, false, length, IfOk, MatchOption};
+ghost use Rattle.std.specs.Option.{option_copied};
 ghost use Rattle.stab_items.specs.Circuits.{most_bytes, meaning_after as meaning_after_of};
 ghost use Rattle.stab_items.specs.Items.{listed, depth};
 ghost use Rattle.stab_items.specs.inner.Readers.{ReadsItems, reading, line_fault};
 ghost use Rattle.stab_items.specs.inner.Chunks.{flattened};
+ghost use Rattle.stab_lines.specs.inner.DetectorLines.{BeginsWithDetector};
 
 use crate::chunk::{Chunk, are_empty};
 use crate::item::Item;
 use stab_io::{Fault, Refusal};
-use stab_lines::{Count, Line, Sequence, content, first_piece, is_close, meaning};
+use stab_lines::{
+    Count, DetectorTargets, Kind, Line, Sequence, content, detector_in_front, first_piece,
+    is_close, meaning,
+};
 use std::alloc::{AllocError, Global};
 use std::mem;
 
@@ -34,10 +39,11 @@ pub struct CircuitReader {
 }
 
 impl CircuitReader {
-    ghost use Rattle.std.specs.Prelude.{◌≡◌, [], List, ◌∷◌, OnOk, IfErr};
+    ghost use Rattle.std.specs.Prelude.{◌≡◌, ◌<◌, [], List, ◌∷◌, length, OnOk, IfOk, IfErr, MatchOption};
+    ghost use Rattle.std.specs.Option.{option_copied};
     ghost use Rattle.stab_io.specs.declared.refusal.Refusal.TheVariants.{OutOfMemory};
     ghost use Rattle.stab_lines.specs.Results.{Gives};
-    ghost use Rattle.stab_items.specs.inner.Readers.{progress_of, before_reading, stepped, opening, closing, finished, is_whole as whole_of, meaning_at, TakesLine, ReadsItems, IsShallowProgress};
+    ghost use Rattle.stab_items.specs.inner.Readers.{progress_of, before_reading, stepped, opening, closing, finished, is_whole as whole_of, meaning_at, TakesLine, TakesFirst, with_instruction, ReadsItems, IsShallowProgress};
 
     fn new(alloc: Global) -> CircuitReader
         ensures value { progress_of result ≡ before_reading }
@@ -90,6 +96,36 @@ impl CircuitReader {
         } else {
             meaning(self.alloc, content)
         }
+    }
+
+    /// Takes the first line of a text, and gives the lines behind it, if there are any.
+    fn take_first<'a>(
+        &mut self,
+        single: bool,
+        line: u64,
+        text: &'a [u8],
+    ) -> Result<Option<&'a [u8]>, Refusal>
+        requires shallow { IsShallowProgress (progress_of self.old) }
+        ensures gives { TakesFirst single line text.entry.now (progress_of self.old) (progress_of self.new) result }
+        ensures shorter { IfOk result (λ after. MatchOption (option_copied after) (Unit {0}) (λ rest. length rest < length text.entry.now)) }
+    {
+        if let Some((targets, after)) = first_detector(single, text) {
+            self.take_plain(Kind::Detector(targets))?;
+            return Ok(after);
+        }
+        let (bytes, after) = first_piece(text, b'\n');
+        self.take_content(single, line, content(bytes))?;
+        Ok(after)
+    }
+
+    /// Takes an instruction without a tag.
+    #[tactic(auto, using(crate::proofs::ReadChunkLemmas::kept_pushed))]
+    fn take_plain(&mut self, kind: Kind) -> Result<(), Refusal>
+        ensures same { OnOk result (progress_of self.new ≡ with_instruction (progress_of self.old) (record { kind = kind; tag = [] })) }
+        ensures fault { IfErr result (λ r. r ≡ OutOfMemory) }
+    {
+        self.items.push(Item::plain(kind))?;
+        self.settle()
     }
 
     fn take_content(&mut self, single: bool, line: u64, content: &[u8]) -> Result<(), Refusal>
@@ -181,6 +217,20 @@ fn with_last(mut chunks: Vec<Chunk>, items: Vec<Item>) -> Result<Vec<Chunk>, All
     Ok(chunks)
 }
 
+/// The detector that the first line means, where a look at its bytes is enough to tell, and the lines
+/// behind it. Where one item alone is read, a line behind it means no more.
+fn first_detector(single: bool, text: &[u8]) -> Option<(DetectorTargets, Option<&[u8]>)>
+    ensures value { MatchOption result (Unit {0}) (λ p. BeginsWithDetector text.now p.0 (option_copied p.1)) }
+    ensures shorter { MatchOption result (Unit {0}) (λ p. MatchOption (option_copied p.1) (Unit {0}) (λ after. length after < length text.now)) }
+    ensures several { MatchOption result (Unit {0}) (λ _. single ≡ false) }
+{
+    if single {
+        None
+    } else {
+        detector_in_front(text)
+    }
+}
+
 /// What a content means after a whole item.
 fn meaning_after(content: &[u8]) -> Result<Line, Refusal>
     ensures value { result ≡ meaning_after_of content.now }
@@ -215,13 +265,10 @@ pub fn read_lines(alloc: Global, single: bool, text: &[u8]) -> Result<Vec<Chunk>
     let mut rest = text;
     let mut line = 1;
     'lines: loop {
-        let (bytes, after) = first_piece(rest, b'\n');
-        if let Err(refusal) = reader.take_content(single, line, content(bytes)) {
-            return Err(fault_at(refusal, line));
-        }
-        match after {
-            None => return reader.finish(),
-            Some(next) => rest = next,
+        match reader.take_first(single, line, rest) {
+            Err(refusal) => return Err(fault_at(refusal, line)),
+            Ok(None) => return reader.finish(),
+            Ok(Some(next)) => rest = next,
         }
         line += 1;
     }

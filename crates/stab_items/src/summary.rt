@@ -197,19 +197,6 @@ fn past_pair(pair: &ControlledPair) -> u32
     }
 }
 
-#[tactic(auto, using(crate::proofs::SummaryLemmas::past_controlled_dropped, crate::proofs::StepApartLemmas::All_taken, crate::proofs::StepApartLemmas::All_whole))]
-fn past_controlled(pairs: &[ControlledPair]) -> u32
-    ensures value { result ≡ past_of (controlled_qubits pairs.now) }
-    ensures small { result ≤ most_qubits }
-    ensures apart { All IsPairApart pairs.now }
-{
-    let mut past = 0;
-    for pair in pairs {
-        past = past.max(past_pair(pair));
-    }
-    past
-}
-
 /// How far back a pair of a controlled gate looks, or 0.
 fn reach_of_pair(pair: &ControlledPair) -> u32
     ensures value { result ≡ looks_back pair.now }
@@ -221,16 +208,22 @@ fn reach_of_pair(pair: &ControlledPair) -> u32
     }
 }
 
-#[tactic(auto, using(crate::proofs::SummaryLemmas::furthest_dropped))]
-fn furthest(pairs: &[ControlledPair]) -> u32
-    ensures value { result ≡ furthest_of pairs.now }
-    ensures small { result ≤ most_lookback }
+/// How many qubits the pairs of a controlled gate name, up to the greatest, and how far back they look.
+#[tactic(auto, using(crate::proofs::SummaryLemmas::past_controlled_dropped, crate::proofs::SummaryLemmas::furthest_dropped, crate::proofs::StepApartLemmas::All_taken, crate::proofs::StepApartLemmas::All_whole))]
+fn past_and_reach(pairs: &[ControlledPair]) -> (u32, u32)
+    ensures past { result.0 ≡ past_of (controlled_qubits pairs.now) }
+    ensures few { result.0 ≤ most_qubits }
+    ensures reach { result.1 ≡ furthest_of pairs.now }
+    ensures near { result.1 ≤ most_lookback }
+    ensures apart { All IsPairApart pairs.now }
 {
+    let mut past = 0;
     let mut furthest = 0;
     for pair in pairs {
+        past = past.max(past_pair(pair));
         furthest = furthest.max(reach_of_pair(pair));
     }
-    furthest
+    (past, furthest)
 }
 
 /// The summary of so many steps on so many qubits that make no records.
@@ -267,9 +260,10 @@ fn controlled(pairs: &[ControlledPair]) -> Summary
     ensures apart { All IsPairApart pairs.now }
     ensures small { IsSummary result }
 {
+    let (past, reach) = past_and_reach(pairs);
     Summary {
-        reach: furthest(pairs),
-        ..plain(pairs.len(), past_controlled(pairs))
+        reach,
+        ..plain(pairs.len(), past)
     }
 }
 

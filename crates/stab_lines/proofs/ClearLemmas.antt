@@ -12,7 +12,7 @@ use Rattle.stab_lines.proofs.FrontTargetLemmas.{record_word}
 spacing_clear : (b : ℕ) → is_spacing b ≡ true → is_brace b ≡ false
 spacing_clear b e = grind (arith, nat_tests)
 
-digit_clear : (b : ℕ) → is_digit b ≡ true → is_brace b ≡ false
+pub digit_clear : (b : ℕ) → is_digit b ≡ true → is_brace b ≡ false
 digit_clear b e = grind (arith, nat_tests)
 
 -- spacing alone has no brace

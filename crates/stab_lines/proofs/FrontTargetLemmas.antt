@@ -1,5 +1,5 @@
 -- Targets that are read off the front of several words.
-use Rattle.std.proofs.Common.{◌≡◌, ◌<◌, ◌≤◌, ℕ, ◌-◌, ◌+◌, Bool, true, false, ◌&&◌, not, ◌==◌, nat_le, nat_lt, nat_eq, List, [], ◌∷◌, length, take, drop, ◌++◌, append_assoc, append-nil, length-drop, min, refl, sym, ap, ◌∙◌, arith, Ok, Err, if◌then◌else◌, codes}
+use Rattle.std.proofs.Common.{◌≡◌, ◌<◌, ◌≤◌, ℕ, ◌-◌, Bool, true, false, ◌&&◌, not, ◌==◌, nat_le, nat_lt, nat_eq, List, [], ◌∷◌, length, take, drop, ◌++◌, append_assoc, append-nil, length-drop, refl, sym, ap, ◌∙◌, arith, Ok, Err, if◌then◌else◌, codes}
 use Rattle.std.specs.List.{list_all, starts_with, position_or_len, prefix_len}
 use Rattle.std.specs.Cmp.Lexicographic.{pointwise}
 use Rattle.std.proofs.lemmas.List.{length-append, take-append-drop}
@@ -102,7 +102,7 @@ record_word ds = codes "rec[-" ++ (ds ++ codes "]")
 some_more : (b : ℕ) (bs : List ℕ) → is_some_word (b ∷ bs) ≡ true
 some_more b bs = grind arith
 
-record_some : (ds : List ℕ) → is_some_word (record_word ds) ≡ true
+pub record_some : (ds : List ℕ) → is_some_word (record_word ds) ≡ true
 record_some ds = some_more 114 (codes "ec[-" ++ (ds ++ codes "]"))
 
 record_digits : (ds : List ℕ) → lookback_digits (record_word ds) ≡ ds
@@ -116,7 +116,7 @@ record_written ds h =
     let ends : ends_with_byte w 93 ≡ true = ends_with_last 93 (codes "rec[-" ++ ds) refl in
     both (starts_with nat_eq w (codes "rec[-") && ends_with_byte w 93) (is_number (lookback_digits w)) (both (starts_with nat_eq w (codes "rec[-")) (ends_with_byte w 93) refl ends) (ap is_number (record_digits ds) ∙ h)
 
-record_read : (ds : List ℕ) (k : ℕ) → is_number ds ≡ true → value ds ≡ k → 0 < k → k ≤ most_lookback → lookback_of (record_word ds) ≡ Ok k
+pub record_read : (ds : List ℕ) (k : ℕ) → is_number ds ≡ true → value ds ≡ k → 0 < k → k ≤ most_lookback → lookback_of (record_word ds) ≡ Ok k
 unfolding lookback_of
 record_read ds k h v low high =
     let w : List ℕ = record_word ds in
@@ -128,12 +128,12 @@ record_read ds k h v low high =
 digits_solid : (ds : List ℕ) → list_all is_digit ds ≡ true → Free is_spacing ds
 digits_solid ds h = digits_free is_spacing ds digit_solid h
 
-record_solid : (ds : List ℕ) → list_all is_digit ds ≡ true → Free is_spacing (record_word ds)
+pub record_solid : (ds : List ℕ) → list_all is_digit ds ≡ true → Free is_spacing (record_word ds)
 record_solid ds h =
     free-append is_spacing (codes "rec[-") (ds ++ codes "]") (refl, (refl, (refl, (refl, (refl, tt)))))
     (free-append is_spacing ds (codes "]") (digits_solid ds h) (refl, tt))
 
-some_value : (ds : List ℕ) → 0 < value ds → is_some_word ds ≡ true
+pub some_value : (ds : List ℕ) → 0 < value ds → is_some_word ds ≡ true
 some_value [] h = absurd (omega arith)
 some_value (d ∷ ds) h = grind arith
 
@@ -155,9 +155,9 @@ record_parts front behind closing rest n s b c e r =
 
 -- a record in front
 pub record_begins : (bs front behind rest : List ℕ) (n k : ℕ) → front ≡ trimmed_front bs → front ≡ record_word (take n behind) ++ rest → list_all is_digit (take n behind) ≡ true
-    → k ≡ min (value (take n behind)) (most_lookback + 1) → 0 < k → k ≤ most_lookback → is_word_end rest ≡ true → BeginsWithTarget lookback_of bs k rest
+    → k ≡ value (take n behind) → 0 < k → k ≤ most_lookback → is_word_end rest ≡ true → BeginsWithTarget lookback_of bs k rest
 record_begins bs front behind rest n k e parts digits same low high end =
-    let v : value (take n behind) ≡ k = omega (arith, same, high) in (
+    let v : value (take n behind) ≡ k = sym same in (
       record_word (take n behind),
       word_begins bs front (record_word (take n behind)) rest e parts (record_solid (take n behind) digits) (record_some (take n behind)) end,
       record_read (take n behind) k (both (is_some_word (take n behind)) _ (some_value (take n behind) (omega (arith, v, low))) digits) v low high,

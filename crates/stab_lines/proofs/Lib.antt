@@ -25,6 +25,7 @@ mod ContentLemmas
 mod PrintedLemmas
 mod MeaningLemmas
 mod DetectorContentLemmas
+mod DetectorLineLemmas
 mod EmptyLemmas
 mod RefusalLemmas
 pub mod LineLaws

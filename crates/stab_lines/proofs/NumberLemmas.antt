@@ -1,5 +1,5 @@
 -- Numbers that are the first of several words.
-use Rattle.std.proofs.Common.{◌≡◌, ◌<◌, ◌≤◌, ℕ, Bool, true, false, List, [], ◌∷◌, length, take, drop, get_or, min, refl, sym, ap, subst, ◌∙◌, arith, drop-cons, length-take}
+use Rattle.std.proofs.Common.{◌≡◌, ◌<◌, ◌≤◌, ℕ, zero, suc, Bool, true, false, List, [], ◌∷◌, length, take, drop, get_or, refl, sym, ap, subst, ◌∙◌, arith, drop-cons, length-take}
 use Rattle.std.specs.List.{position_or_len, list_all}
 use Rattle.std.proofs.lemmas.Bool.Decides.{nat_tests}
 use Rattle.std.proofs.lemmas.List.{get_or-take}
@@ -7,9 +7,10 @@ use Rattle.std.proofs.lemmas.List.Sums.{position_or_len_is}
 use Rattle.std.proofs.lemmas.List.Folds.{list_all_at}
 use Rattle.stab_lines.specs.Lines.{is_spacing, is_digit, trimmed_front}
 use Rattle.stab_lines.specs.Words.{words, is_some_word, value}
-use Rattle.stab_lines.specs.inner.Numbers.{is_word_end, BeginsWithNumber}
-use Rattle.stab_lines.proofs.BoolLemmas.{both}
-use Rattle.stab_lines.proofs.PieceLemmas.{one_word, rest_shorter}
+use Rattle.stab_lines.specs.inner.Numbers.{is_word_end, BeginsWithNumber, IsBehindWord}
+use Rattle.stab_lines.proofs.BoolLemmas.{both, and_left}
+use Rattle.stab_lines.proofs.FreeLemmas.{prefix_no}
+use Rattle.stab_lines.proofs.PieceLemmas.{one_word, rest_shorter, words_spacing}
 
 -- a digit is no spacing
 pub digit_solid : (b : ℕ) → is_digit b ≡ true → is_spacing b ≡ false
@@ -35,17 +36,28 @@ some_taken [] n h within = absurd (omega (arith, h, within))
 some_taken (b ∷ bs) n h within = let one = length-take n (b ∷ bs) in grind (arith, nat_tests)
 
 -- a number in front is the first word
-pub number_begins : (bs front rest : List ℕ) (n number cap : ℕ) → front ≡ trimmed_front bs → rest ≡ drop n front → 0 < n → n ≤ length front → list_all is_digit (take n front) ≡ true
-    → number ≡ min (value (take n front)) cap → number < cap → is_word_end rest ≡ true → BeginsWithNumber bs number rest
-number_begins bs front rest n number cap e after some within digits same below end =
-    let place = number_place front n within digits (subst (λ l. is_word_end l ≡ true) after end) in (
+pub number_begins : (bs front rest : List ℕ) (n number : ℕ) → front ≡ trimmed_front bs → 0 < n → n ≤ length front → list_all is_digit (take n front) ≡ true
+    → number ≡ value (take n front) → IsBehindWord (drop n front) rest → BeginsWithNumber bs number rest
+number_begins bs front rest n number e some within digits same behind =
+    let place = number_place front n within digits behind.0 in (
       take n front,
-      subst (λ l. words bs ≡ take n front ∷ words l) (sym after) (one_word bs front n e (omega (arith, some, within)) place),
+      one_word bs front n e (omega (arith, some, within)) place ∙ ap (λ ws. take n front ∷ ws) (sym behind.1),
       both (is_some_word (take n front)) _ (some_taken front n some within) digits,
-      omega (arith, same, below),
+      sym same,
     )
 
 -- what follows a number in front is shorter
-pub number_ends : (bs front : List ℕ) (n : ℕ) → front ≡ trimmed_front bs → 0 < n → n ≤ length front → list_all is_digit (take n front) ≡ true → is_word_end (drop n front) ≡ true
-    → length (drop n front) < length bs
-number_ends bs front n e some within digits end = rest_shorter bs front n e (omega (arith, some, within)) (number_place front n within digits end)
+pub number_ends : (bs front rest : List ℕ) (n : ℕ) → front ≡ trimmed_front bs → 0 < n → n ≤ length front → list_all is_digit (take n front) ≡ true → IsBehindWord (drop n front) rest → length rest < length bs
+number_ends bs front rest n e some within digits behind =
+    let shorter = rest_shorter bs front n e (omega (arith, some, within)) (number_place front n within digits behind.0) in
+    omega (arith, shorter, behind.2)
+
+-- spacing that ends a word makes none
+pub spacing_behind : (b : ℕ) (bs : List ℕ) → is_spacing b ≡ true → words bs ≡ words (b ∷ bs)
+spacing_behind b bs e = sym (words_spacing b bs e)
+
+-- there is no spacing before digits
+pub digits_front : (bs : List ℕ) (n : ℕ) → 0 < n → n ≤ length bs → list_all is_digit (take n bs) ≡ true → bs ≡ trimmed_front bs
+digits_front [] n some within digits = absurd (omega (arith, some, within))
+digits_front (b ∷ bs) zero some within digits = absurd (omega arith)
+digits_front (b ∷ bs) (suc n) some within digits = sym (ap (λ k. drop k (b ∷ bs)) (prefix_no is_spacing b bs (digit_solid b (and_left (is_digit b) (list_all is_digit (take n bs)) digits))))

@@ -9,7 +9,7 @@ use Rattle.stab_lines.specs.Words.{words, is_some_word, is_blank}
 use Rattle.stab_lines.proofs.BoolLemmas.{and_left, and_right}
 
 -- spacing in front makes no word
-words_spacing : (x : ℕ) (xs : List ℕ) → is_spacing x ≡ true → words (x ∷ xs) ≡ words xs
+pub words_spacing : (x : ℕ) (xs : List ℕ) → is_spacing x ≡ true → words (x ∷ xs) ≡ words xs
 words_spacing x xs e = ap (filter is_some_word) (slice_split-cons_yes is_spacing x xs e)
 
 -- spacing alone makes no words

@@ -1,5 +1,5 @@
 -- Laws of words and numbers.
-use Rattle.std.proofs.Common.{◌≡◌, ◌≤◌, ◌<◌, ◌^◌, ℕ, ◌+◌, ◌*◌, ◌-◌, true, List, [], ◌∷◌, ◌++◌, length, take, arith, refl, ap, ◌∙◌, get_or, add-one, rules}
+use Rattle.std.proofs.Common.{◌≡◌, ◌≤◌, ◌<◌, ◌^◌, ℕ, ◌+◌, ◌*◌, ◌-◌, true, List, [], ◌∷◌, ◌++◌, length, take, arith, refl, ap, ◌∙◌, get_or, add-one, length-take, rules}
 use Rattle.std.proofs.lemmas.List.{take_more}
 use Rattle.std.specs.List.{list_all}
 use Rattle.std.proofs.lemmas.Str.Parse.{IsNumeralModel, numerals_by_fold, IsDigitsTest, digits_value_short}
@@ -48,3 +48,7 @@ digits_more bs n lt h k = ap (list_all is_digit) (take_more bs n 0 lt) ∙ all-s
 -- one digit more in a number
 pub value_more : (bs : List ℕ) (n : ℕ) → n < length bs → value (take (n + 1) bs) ≡ value (take n bs) * 10 + (get_or bs n 0 - 48)
 value_more bs n lt = ap value (take_more bs n 0 lt) ∙ value-snoc 0 (take n bs) (get_or bs n 0)
+
+-- a number of few digits in front
+pub few_digits : (bs : List ℕ) (n : ℕ) → list_all is_digit (take n bs) ≡ true → n ≤ 18 → value (take n bs) < 1000000000000000000
+few_digits bs n h few = digits_value_short decimal_model (take n bs) 18 h (omega (arith, length-take n bs, few))

@@ -16,10 +16,10 @@ use std::alloc::{AllocError, Global};
 use std::marker::Model;
 
 /// How many bytes of coordinates stand in place.
-const SHORT: usize = 13;
+pub const SHORT: usize = 13;
 
 /// How many records stand in place.
-const FEW: usize = 2;
+pub const FEW: usize = 2;
 
 /// The records of a detector, and the coordinates before them.
 ///
@@ -89,9 +89,35 @@ impl Form {
 }
 
 impl DetectorTargets {
-    ghost use Rattle.std.specs.Prelude.{◌≡◌, All, IfOk};
+    ghost use Rattle.std.specs.Prelude.{◌≡◌, ◌≤◌, length, take, All, IfOk};
     ghost use Rattle.stab_lines.specs.Lookbacks.{IsLookback};
     ghost use Rattle.stab_lines.specs.Words.{arguments_of};
+
+    /// The first so many of the numbers behind coordinates, which are the first so many of the bytes.
+    /// More bytes than these are copied, since a copy of a fixed number takes no call.
+    pub(crate) fn in_place(
+        bytes: &[u8],
+        len: usize,
+        count: usize,
+        records: [u32; FEW],
+    ) -> DetectorTargets
+        requires long { 13 ≤ length bytes.now }
+        requires short { len ≤ 13 }
+        requires few { count ≤ 2 }
+        requires each { All IsLookback (take count records) }
+        ensures value { result ≡ (arguments_of (take len bytes.now), take count records) }
+    {
+        let mut text = [0; SHORT];
+        text.copy_from_slice(bytes.split_at(SHORT).0);
+        DetectorTargets {
+            form: Form::Short {
+                bytes: len as u8,
+                numbers: count as u8,
+                text,
+                records,
+            },
+        }
+    }
 
     /// Records behind coordinates, in memory of their own.
     fn long(

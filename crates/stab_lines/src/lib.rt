@@ -15,7 +15,7 @@
 //! - `table`: the names of all instructions.
 //! - `name`, `target`, `argument`, `coordinates`: the parts of an instruction.
 //! - `located`: targets behind coordinates; `detector`: the records of a detector behind them;
-//!   `detector_content`: the usual content of one, read at once.
+//!   `detector_content`, `detector_line`: the usual content of one and its usual line, read at once.
 //! - `factor`, `control`: the targets that are products, and those of controlled gates.
 //! - `meanings`: what a line means, or why it is refused.
 //! - `print`: the one text of an instruction, and of the opening of a block.
@@ -35,6 +35,7 @@ mod control;
 mod coordinates;
 mod detector;
 mod detector_content;
+mod detector_line;
 mod factor;
 pub mod laws;
 mod line;
@@ -54,6 +55,7 @@ pub use axis::Axis;
 pub use control::ControlledPair;
 pub use coordinates::Coordinates;
 pub use detector::DetectorTargets;
+pub use detector_line::detector_in_front;
 pub use factor::read_product;
 pub use line::{content, ends_with, is_spacing, starts_with, without_spacing_in_front};
 pub use located::Located;

@@ -18,7 +18,7 @@ use std::alloc::Global;
 const MOST_QUBITS: u64 = 1024;
 
 /// The greatest k of `rec[-k]`.
-const MOST_LOOKBACK: u64 = 16_777_215;
+pub const MOST_LOOKBACK: u64 = 16_777_215;
 
 /// A kind of target, which a word may mean.
 pub trait Target {
@@ -73,6 +73,8 @@ impl Target for QubitTargets {
 }
 
 /// The qubit that the first word is, and what follows it, where the word is a number in range.
+// Inlined, since each qubit of a long list is read by it.
+#[inline(always)]
 #[tactic(auto, using(crate::proofs::FrontTargetLemmas::qubit_begins))]
 pub fn qubit_at_front(bytes: &[u8]) -> Option<(Qubit, &[u8])>
     ensures value { MatchOption result (Unit {0}) (λ p. BeginsWithTarget qubit_of bytes.now p.0 p.1.now) }
@@ -171,7 +173,7 @@ pub fn record_at_front(bytes: &[u8]) -> Option<(u32, &[u8])>
         return None;
     }
     let behind = bytes.split_at(5).1;
-    let (length, number) = digits_in_front(behind, MOST_LOOKBACK + 1);
+    let (length, number) = digits_in_front(behind);
     let closing = behind.split_at(length).1;
     if !starts_with(closing, b']') {
         return None;

@@ -1,6 +1,9 @@
 -- Readers: the way over the lines of a text, with a stack of open blocks.
 -- Source: this project's own.
-use Rattle.std.specs.Prelude.{◌≡◌, ◌≤◌, ℕ, ◌+◌, Bool, true, false, List, [], ◌∷◌, ◌++◌, nat_lt, length, map, reverse, if◌then◌else◌, Result, Ok, Err, ◌⊎◌}
+use Rattle.std.specs.Prelude.{◌≡◌, ◌≤◌, ℕ, ◌+◌, Bool, true, false, List, [], ◌∷◌, ◌++◌, nat_lt, length, map, reverse, if◌then◌else◌, Option, Result, Ok, Err, ◌⊎◌}
+use Rattle.std.specs.List.{slice_split}
+use Rattle.std.specs.Option.{option_copied}
+use Rattle.std.specs.Borrow.{Bor}
 use Rattle.std.specs.Global.{Vec}
 use Rattle.stab_io.specs.declared.refusal.Refusal.{Refusal}
 use Rattle.stab_io.specs.declared.refusal.Refusal.TheVariants.{BadBlock, TooDeep, OutOfMemory}
@@ -11,6 +14,9 @@ use Rattle.stab_lines.specs.declared.meanings.Line.TheVariants as line
 use Rattle.stab_items.specs.declared.reader.OpenBlock.{OpenBlock as StoredBlock}
 use Rattle.stab_items.specs.declared.reader.CircuitReader.{CircuitReader}
 use Rattle.stab_items.specs.Items.{Items, OneItem, done, next, block, join, listed, depth}
+use Rattle.stab_lines.specs.declared.operation.Operation.{Operation}
+use Rattle.stab_lines.specs.Lines.{is_byte, content_of}
+use Rattle.stab_lines.specs.Words.{pieces_after}
 use Rattle.stab_lines.specs.Meanings.{meaning_of}
 use Rattle.stab_items.specs.Circuits.{Meaning, at_line, meaning_after, one_item, contents}
 use Rattle.stab_items.specs.inner.Chunks.{flattened}
@@ -77,6 +83,10 @@ opening n count tag s =
     if nat_lt (length s.open_blocks) 16 then Ok (record { open_blocks = record { line = n; count = count; tag = tag; before = s.now } ∷ s.open_blocks; now = done })
     else Err TooDeep
 
+-- an instruction is read
+abbrev pub with_instruction : Progress → Operation → Progress
+with_instruction s op = record { open_blocks = s.open_blocks; now = join s.now (next op done) }
+
 -- what a line n makes of what was read
 abbrev pub stepped : ℕ → Meaning → Progress → Result Progress Refusal
 stepped n (Err r) s = Err r
@@ -126,6 +136,17 @@ reading single text = read_on 1 before_reading (pending single before_reading (c
 abbrev pub TakesLine : {T : Type 0} → Progress → Result T Refusal → Result Progress Refusal → Type 0
 TakesLine new (Ok x) given = given ≡ Ok new
 TakesLine new (Err r) given = (r ≡ OutOfMemory) ⊎ (given ≡ Err r)
+
+-- these are the lines behind the first, where the call did not fail
+abbrev pub AreBehind : List (List ℕ) → Result (Option (Bor (List ℕ))) Refusal → Type 0
+AreBehind more (Ok after) = more ≡ pieces_after 10 (option_copied after)
+AreBehind more (Err r) = Unit {0}
+
+-- the call took the first line of a text, whose number is n, and gave those behind it
+abbrev pub TakesFirst : Bool → ℕ → List ℕ → Progress → Progress → Result (Option (Bor (List ℕ))) Refusal → Type 0
+TakesFirst single n text old new result =
+    (first : List ℕ) × (more : List (List ℕ)) × (slice_split (is_byte 10) text ≡ first ∷ more) × AreBehind more result
+    × TakesLine new result (stepped n (meaning_at single old (content_of first)) old)
 
 -- the call read the items, or failed as the definition does, or for want of memory, which has no line
 abbrev pub ReadsItems : Result (Vec (List OneItem)) Fault → Result Items Fault → Type 0

@@ -1,6 +1,6 @@
 -- Numbers: numbers that are the first of several words.
 -- Source: this project's own.
-use Rattle.std.specs.Prelude.{◌≡◌, ℕ, Bool, true, List, [], ◌∷◌}
+use Rattle.std.specs.Prelude.{◌≡◌, ◌≤◌, ℕ, Bool, true, List, [], ◌∷◌, length}
 use Rattle.stab_lines.specs.Lines.{is_spacing}
 use Rattle.stab_lines.specs.Words.{words, is_number, value}
 
@@ -12,3 +12,7 @@ is_word_end (b ∷ bs) = is_spacing b
 -- the first word is this number, and these bytes follow it
 abbrev pub BeginsWithNumber : List ℕ → ℕ → List ℕ → Type 0
 BeginsWithNumber bs n rest = (word : List ℕ) × (words bs ≡ word ∷ words rest) × (is_number word ≡ true) × (value word ≡ n)
+
+-- a word ends where the bytes begin, and the rest is what follows it, perhaps without spacing in front
+abbrev pub IsBehindWord : List ℕ → List ℕ → Type 0
+IsBehindWord bs rest = (is_word_end bs ≡ true) × (words rest ≡ words bs) × (length rest ≤ length bs)

@@ -7,10 +7,10 @@ use Rattle.stab_lines.proofs.word.digits_in_front.Given as goal
 abbrev pub invariant-loop-length : goal.invariant-loop-length
 invariant-loop-length l = record {
   within : l.length ≤ length l.bytes;
+  few : l.length ≤ 18;
   digits : list_all is_digit (take l.length l.bytes) ≡ true;
-  small : l.number < l.cap → value (take l.length l.bytes) ≡ l.number;
-  large : l.cap ≤ l.number → l.cap ≤ value (take l.length l.bytes);
-  bound : l.number < 11000000000000000000;
+  same : l.number ≡ value (take l.length l.bytes);
+  small : l.number < 1000000000000000000;
 }
 
 abbrev pub decreases-loop-length : goal.decreases-loop-length

@@ -1,9 +1,9 @@
 use Rattle.std.proofs.Common.{◌≡◌, ap, ◌∙◌, ◌∷◌, [], get_or, take, All, subst, arith}
 use Rattle.stab_items.specs.Steps.{past, controlled_qubits}
-use Rattle.stab_items.specs.inner.Summaries.{IsPairApart}
-use Rattle.stab_items.proofs.SummaryLemmas.{past_controlled_dropped}
+use Rattle.stab_items.specs.inner.Summaries.{IsPairApart, looks_back}
+use Rattle.stab_items.proofs.SummaryLemmas.{past_controlled_dropped, furthest_dropped}
 use Rattle.stab_items.proofs.StepApartLemmas.{All_taken, All_whole}
-use Rattle.stab_items.proofs.summary.past_controlled.Goals as goal
+use Rattle.stab_items.proofs.summary.past_and_reach.Goals as goal
 
 pub loop-pair-preserved : goal.loop-pair-preserved
 loop-pair-preserved c =
@@ -11,11 +11,15 @@ loop-pair-preserved c =
     let i = c.loop-pair.pair-index in
     let here : c.past_pair.result ≡ past (controlled_qubits (get_or ps i c.pair-item.result ∷ [])) =
     c.past_pair.ensures.value ∙ ap (λ p. past (controlled_qubits (p ∷ []))) c.pair-item.is in
+    let back : c.reach_of_pair.result ≡ looks_back (get_or ps i c.pair-item.result) = c.reach_of_pair.ensures.value ∙ ap looks_back c.pair-item.is in
     let dropped = past_controlled_dropped ps i c.pair-item.result c.loop-pair-test.true in
+    let further = furthest_dropped ps i c.pair-item.result c.loop-pair-test.true in
     record {
-      small = grind (arith, c.max-past.ensures, c.loop-pair.invariant.small, c.past_pair.ensures.small);
+      few = grind (arith, c.max-past.ensures, c.loop-pair.invariant.few, c.past_pair.ensures.small);
+      near = grind (arith, c.max-furthest.ensures, c.loop-pair.invariant.near, c.reach_of_pair.ensures.small);
       apart = All_taken IsPairApart ps i c.pair-item.result c.loop-pair-test.true c.loop-pair.invariant.apart (subst IsPairApart c.pair-item.is c.past_pair.ensures.apart);
-      same = grind (arith, c.max-past.ensures, c.loop-pair.invariant.same, here, dropped);
+      past_same = grind (arith, c.max-past.ensures, c.loop-pair.invariant.past_same, here, dropped);
+      reach_same = grind (arith, c.max-furthest.ensures, c.loop-pair.invariant.reach_same, back, further);
     }
 
 pub returns-clause-apart : goal.returns-clause-apart
