@@ -4,7 +4,7 @@ ghost use Rattle.stab_items.specs.Circuits.{most_bytes, meaning_after as meaning
 ghost use Rattle.stab_items.specs.Items.{listed, depth};
 ghost use Rattle.stab_items.specs.inner.Readers.{ReadsItems, reading, line_fault};
 ghost use Rattle.stab_items.specs.inner.Chunks.{flattened};
-ghost use Rattle.stab_lines.specs.inner.DetectorLines.{BeginsWithDetector};
+ghost use Rattle.stab_lines.specs.FirstLines.{BeginsWithDetector};
 
 use crate::chunk::{Chunk, are_empty};
 use crate::item::Item;

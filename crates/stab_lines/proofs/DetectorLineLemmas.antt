@@ -16,7 +16,8 @@ use Rattle.stab_lines.specs.Meanings.{meaning_of}
 use Rattle.stab_lines.specs.inner.Numbers.{is_word_end}
 use Rattle.stab_lines.specs.inner.Parts.{is_coordinate}
 use Rattle.stab_lines.specs.inner.DetectorContents.{is_inner, IsCutDetector}
-use Rattle.stab_lines.specs.inner.DetectorLines.{may_follow, are_listed, AreSpacedRecords, EndsLine, BeginsWithDetector}
+use Rattle.stab_lines.specs.FirstLines.{BeginsWithDetector}
+use Rattle.stab_lines.specs.inner.DetectorLines.{may_follow, are_listed, AreSpacedRecords, EndsLine}
 use Rattle.stab_lines.proofs.BoolLemmas.{and_left, and_right, both}
 use Rattle.stab_lines.proofs.FreeLemmas.{Each, Free, free-append, split_free, split_last, digits_free, any_free}
 use Rattle.stab_lines.proofs.NeatLemmas.{Ends, ends_one, ends-append, solid_word, IsNeat, content_again, trimmed_again}

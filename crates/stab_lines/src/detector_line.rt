@@ -1,7 +1,8 @@
 ghost use Rattle.std.specs.Prelude.{◌≡◌, ◌≤◌, ◌<◌, length, take, false, true, MatchOption};
 ghost use Rattle.std.specs.Option.{option_copied};
 ghost use Rattle.stab_lines.specs.Targets.{is_coordinate_byte as coordinate_byte};
-ghost use Rattle.stab_lines.specs.inner.DetectorLines.{may_follow, are_listed, IsSpacedRecord, AreSpacedRecords, EndsLine, BeginsWithDetector};
+ghost use Rattle.stab_lines.specs.FirstLines.{BeginsWithDetector};
+ghost use Rattle.stab_lines.specs.inner.DetectorLines.{may_follow, are_listed, IsSpacedRecord, AreSpacedRecords, EndsLine};
 
 use crate::detector::{DetectorTargets, FEW, SHORT};
 use crate::line::{is_digit, starts_with};

@@ -201,10 +201,12 @@ fn session_agrees(alloc: Global, case: Case, stride: usize) -> Result<bool, Fail
     let Ok(session) = Session::open(alloc, circuit, 12, stride, SeedCoins::new(3, 1)) else {
         return Ok(false);
     };
-    Ok(session.records() == shot.records.as_slice()
-        && session.free() == shot.free.as_slice()
-        && session.detectors() == shot.detectors.as_slice()
-        && session.observables() == shot.observables.as_slice())
+    Ok(
+        session.records() == shot.records.as_slice()
+            && session.free() == shot.free.as_slice()
+            && session.detectors() == shot.detectors.as_slice()
+            && session.observables() == shot.observables.as_slice(),
+    )
 }
 
 #[test]

@@ -1,14 +1,11 @@
 -- Detector lines: how the code reads a detector off the front of a text, up to the end of its line.
 -- Source: this project's own.
-use Rattle.std.specs.Prelude.{◌≡◌, ℕ, Bool, true, ◌||◌, ◌&&◌, ◌==◌, List, [], ◌∷◌, ◌++◌, codes, if◌then◌else◌, Option, None, Some, Ok}
-use Rattle.std.specs.List.{list_all, slice_split}
-use Rattle.stab_lines.specs.declared.operation.Kind.TheVariants as kind
-use Rattle.stab_lines.specs.declared.meanings.Line.TheVariants as line
-use Rattle.stab_lines.specs.Lines.{is_byte, is_digit, content_of}
-use Rattle.stab_lines.specs.Words.{value, pieces_after}
+use Rattle.std.specs.Prelude.{◌≡◌, ℕ, Bool, true, ◌||◌, ◌&&◌, ◌==◌, List, [], ◌∷◌, ◌++◌, codes, if◌then◌else◌, Option, None, Some}
+use Rattle.std.specs.List.{list_all}
+use Rattle.stab_lines.specs.Lines.{is_digit}
+use Rattle.stab_lines.specs.Words.{value}
 use Rattle.stab_lines.specs.Lookbacks.{IsLookback}
 use Rattle.stab_lines.specs.Targets.{is_coordinate_byte}
-use Rattle.stab_lines.specs.Meanings.{meaning_of}
 
 -- whether the byte may follow within a coordinate, or before one
 abbrev pub may_follow : Bool → ℕ → Bool
@@ -32,9 +29,3 @@ AreSpacedRecords bs (k ∷ ks) rest = (more : List ℕ) × IsSpacedRecord bs k m
 abbrev pub EndsLine : List ℕ → Option (List ℕ) → Type 0
 EndsLine bs None = bs ≡ []
 EndsLine bs (Some after) = bs ≡ 10 ∷ after
-
--- the first line means this detector, and these lines follow it
-abbrev pub BeginsWithDetector : List ℕ → List (List ℕ) × List ℕ → Option (List ℕ) → Type 0
-BeginsWithDetector text d after =
-    (first : List ℕ) × (slice_split (is_byte 10) text ≡ first ∷ pieces_after 10 after)
-    × (meaning_of (content_of first) ≡ Ok (line.Operation (record { kind = kind.Detector d; tag = [] })))
