@@ -128,10 +128,11 @@ def blocks_as_written_out(random, run):
     check(items_of(block))
     lines = "\n".join([*before, *body * rounds, *behind]).encode()
     seed = str(random.randrange(2**32))
+    shots = str(random.randint(1, 4))
     for command in (["sample"], ["detect", "--append_observables"]):
-        answer, right = (run([*command, "--seed", seed], text) for text in (block, lines))
+        answer, right = (run([*command, "--seed", seed, "--shots", shots], text) for text in (block, lines))
         if answer != right or answer[0] != 0:
-            return f"{command[0]} of a block and of its lines differ\n{block!r}\n{seed}\n{answer}\n{right}"
+            return f"{command[0]} of a block and of its lines differ\n{block!r}\n{seed} {shots}\n{answer}\n{right}"
     return None
 
 
