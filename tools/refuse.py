@@ -183,12 +183,15 @@ def try_calls(library, folder, is_written):
 
 
 def runs_with_files(folder: pathlib.Path) -> Iterator[Run]:
-    """Runs of files that are made for them: coins, and circuits that `check` explains the fault of, by its line and by its item."""
-    coins, far, line = folder / "some.coins", folder / "far.stim", folder / "line.stim"
+    """Runs of files that are made for them: coins, rounds that come again, of which few shots go one after another, and circuits
+    that `check` explains the fault of, by its line and by its item."""
+    coins, far, line, again = folder / "some.coins", folder / "far.stim", folder / "line.stim", folder / "again.stim"
     coins.write_text("0110\n")
     far.write_text("M 0\nREPEAT 3 {\n    M 1\n    DETECTOR rec[-3]\n}\n")
     line.write_text("H 0\nMPP X0*Z1 X0*Y0\n")
+    again.write_text("H 0\nM 0\nREPEAT 700 {\nX 1\nM 0 1\nDETECTOR rec[-1]\n}\n")
     yield Run(["sample", "--coins_in", str(coins), "--in", str(TOP / "examples" / "five_qubit_code.stim")])
+    yield Run(["sample", "--shots", "3", "--seed", "7", "--in", str(again)])
     yield Run(["check", "--in", str(far)], status=1)
     yield Run(["check", "--in", str(line)], status=1)
 

@@ -134,10 +134,11 @@ def blocks_as_written_out(random, run):
     """What a long block gives, whose rounds may come again, against its lines as often as it counts."""
     _, block, lines = long_block(random)
     seed = str(random.randrange(2**32))
+    shots = str(random.randint(1, 4))
     for command in (["sample"], ["detect", "--append_observables"]):
-        answer, right = (run([*command, "--seed", seed], text) for text in (block, lines))
+        answer, right = (run([*command, "--seed", seed, "--shots", shots], text) for text in (block, lines))
         if answer != right or answer[0] != 0:
-            return f"{command[0]} of a block and of its lines differ\n{block!r}\n{seed}\n{answer}\n{right}"
+            return f"{command[0]} of a block and of its lines differ\n{block!r}\n{seed} {shots}\n{answer}\n{right}"
     return None
 
 

@@ -1,5 +1,5 @@
 -- Rounds given again: a run that stands where it stood some rounds ago gives the same again by as many rounds.
-use Rattle.std.proofs.Common.{◌≡◌, ℕ, zero, suc, ◌+◌, ◌-◌, ◌*◌, ◌<◌, ◌≤◌, refl, sym, ◌∙◌, ap, subst, Bool, List, [], ◌∷◌, ◌++◌, append_assoc, length, take, drop, get_or, drop-cons, add-one, arith}
+use Rattle.std.proofs.Common.{◌≡◌, ℕ, suc, ◌+◌, ◌-◌, ◌*◌, ◌<◌, ◌≤◌, refl, sym, ◌∙◌, ap, subst, Bool, List, [], ◌∷◌, ◌++◌, append_assoc, length, take, drop, get_or, drop-cons, add-one, arith}
 use Rattle.std.specs.Prelude.{Option, IfSome}
 use Rattle.std.proofs.Math.Seq.{take-add, drop-drop, length-take-le}
 use Rattle.std.proofs.Math.Nat.{add-mul, mul-le-mul_right}
@@ -11,29 +11,17 @@ use Rattle.stab_circuit.specs.Steps.{Step, rounds}
 use Rattle.stab_circuit.specs.declared.circuit.repeats.Repeat.{Repeat}
 use Rattle.stab_circuit.specs.Repeats.{round_of, IsRepeat, AreRepeats}
 use Rattle.stab_steps.specs.Records.{looked_up, ones}
-use Rattle.stab_steps.specs.Points.{Point, RunOutput, origin, nothing, joined, point_after, outputs}
+use Rattle.stab_steps.specs.Points.{Point, RunOutput, origin, joined, point_after, outputs}
 use Rattle.stab_steps.specs.declared.records.Lengths.{Lengths}
 use Rattle.stab_steps.specs.Cuts.{lengths_of, rest_of}
 use Rattle.stab_steps.specs.ProgramStates.{ProgramState, program_state, IsAt}
-use Rattle.stab_steps.proofs.RunLemmas.{joined-nothing, joined-assoc, after-append, outputs-append}
+use Rattle.stab_steps.proofs.RunLemmas.{after-append, outputs-append}
 use Rattle.stab_run.specs.Ends.{AgreeBack, with_coin}
 use Rattle.stab_run.specs.RoundLaws.{copies}
 use Rattle.stab_run.specs.declared.rounds.Earlier.{Earlier}
 use Rattle.stab_run.specs.inner.Led.{IsLed, behind_rounds, IsEarlier, IsUndecided}
 use Rattle.stab_run.proofs.PointLemmas.{flags-are-coins, records-are-records, rest-joined}
 use Rattle.stab_run.proofs.RoundLemmas.{rounds-append, rounds-rounds, rounds-within, length-rounds, rounds-again}
-
--- one copy more
-
-nothing-joined : (a : RunOutput) → joined nothing a ≡ a
-nothing-joined a = refl
-
-pub copies-more : (k : ℕ) (o : RunOutput) → joined (copies k o) o ≡ copies (k + 1) o
-copies-more k o = before k ∙ ap (λ n. copies n o) (sym (add-one k))
-  where
-    before : (j : ℕ) → joined (copies j o) o ≡ copies (suc j) o
-    before zero = sym (joined-nothing o)
-    before (suc j) = joined-assoc o (copies j o) o ∙ ap (joined o) (before j)
 
 -- the step behind one more round
 pub behind-more : (r : Repeat) (k : ℕ) → behind_rounds r k + r.length ≡ behind_rounds r (k + 1)

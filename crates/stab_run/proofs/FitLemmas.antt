@@ -1,5 +1,5 @@
 -- StepFits: the steps of a circuit that is not refused on n qubits are on these qubits.
-use Rattle.std.proofs.Common.{◌≡◌, ℕ, zero, suc, ◌<◌, ◌≤◌, ◌^◌, max, refl, sym, subst, Bool, true, false, nat_lt, List, [], ◌∷◌, ◌++◌, length, map, All, get_or, arith}
+use Rattle.std.proofs.Common.{◌≡◌, ℕ, zero, suc, ◌<◌, ◌≤◌, min, max, refl, sym, subst, Bool, true, false, nat_lt, List, [], ◌∷◌, ◌++◌, length, map, All, get_or, arith}
 use Rattle.std.specs.Prelude.{Option, Some, None, if◌then◌else◌}
 use Rattle.std.proofs.lemmas.List.Elements.{All-nil, All-cons, All-append}
 use Rattle.stab_io.specs.declared.refusal.Refusal.{Refusal}
@@ -16,7 +16,7 @@ use Rattle.stab_lines.specs.declared.operation.Kind.TheVariants as kind
 use Rattle.stab_circuit.specs.Items.{Items, done, next, block}
 use Rattle.stab_lines.specs.Axes.{letter_of}
 use Rattle.stab_lines.specs.Targets.{pair_qubits}
-use Rattle.stab_circuit.specs.Steps.{Step, one, two, controlled, collapse, product, detector, observable, measured, measured_product, controlled_gate, controlled_step, steps_of, rounds, unroll, past, target_qubits, controlled_qubits, factor_qubits, product_qubits, named_qubits, qubits_of, most_steps, check_of, check_within}
+use Rattle.stab_circuit.specs.Steps.{Step, one, two, controlled, collapse, product, detector, observable, measured, measured_product, controlled_gate, controlled_step, steps_of, rounds, unroll, past, target_qubits, controlled_qubits, factor_qubits, product_qubits, named_qubits, qubits_of, most_steps, steps_cap, check_of, check_within}
 use Rattle.stab_circuit.specs.Cursors.{IsApart}
 use Rattle.stab_steps.specs.ProgramStates.{StepFits}
 
@@ -153,8 +153,9 @@ pub check-steps : (items : Items) → check_of items ≡ None → length (unroll
 unfolding check_of
 check-steps items e = not_less most_steps (length (unroll items)) (chosen _ _ _ (chosen _ _ _ e).1).0
 
-pub few-steps : (n : ℕ) (items : Items) → check_within n items ≡ None → length (unroll items) < 2 ^ 63
-few-steps n items e = omega (arith, check-steps items (check-whole n items e))
+-- where nothing refuses the items, they have as many steps as are counted
+pub counted-steps : (n : ℕ) (items : Items) → check_within n items ≡ None → min (length (unroll items)) steps_cap ≡ length (unroll items)
+counted-steps n items e = let few = check-steps items (check-whole n items e) in omega arith
 
 pub check-fits : (n : ℕ) (items : Items) (xs : List Step) → check_within n items ≡ None → xs ≡ unroll items → All IsApart xs → All (StepFits n) xs
 check-fits n items xs e is apart = λ k d lt.

@@ -11,3 +11,4 @@ mod ShotLemmas
 pub mod StepsLeftLemmas
 pub mod LedLemmas
 pub mod AgainLemmas
+mod CopyLemmas

@@ -1,5 +1,5 @@
 -- Steps left: the first so many of them, as they are carried out one after another.
-use Rattle.std.proofs.Common.{◌≡◌, ℕ, zero, suc, ◌+◌, ◌-◌, ◌^◌, ◌<◌, ◌≤◌, refl, ◌∙◌, ap, arith, List, [], ◌∷◌, ◌++◌, length, take, drop}
+use Rattle.std.proofs.Common.{◌≡◌, ℕ, zero, suc, ◌+◌, ◌-◌, ◌≤◌, refl, ◌∙◌, ap, arith, List, [], ◌∷◌, ◌++◌, length, take, drop}
 use Rattle.std.proofs.Math.Seq.{take-append-add, drop-append-add}
 use Rattle.stab_circuit.specs.Steps.{Step}
 use Rattle.stab_steps.specs.Points.{all_coins_of}
@@ -47,11 +47,11 @@ take-whole (suc k) [] l = refl
 take-whole zero (x ∷ xs) l = absurd (omega arith)
 take-whole (suc k) (x ∷ xs) l = ap (λ t. x ∷ t) (take-whole k xs (omega arith))
 
--- all steps, where no bound is as low as their number
+-- all steps, where as many are to be carried out as are left
 
-pub take-all : (from most : ℕ) (all : List Step) → length all < 2 ^ 63 → 2 ^ 63 ≤ most → take (from + most) all ≡ all
-take-all from most all few large = take-whole (from + most) all (omega arith)
+pub take-all : (from count : ℕ) (all : List Step) → length all ≤ from + count → take (from + count) all ≡ all
+take-all from count all enough = take-whole (from + count) all enough
 
-pub asks-all : (from most old mid new : ℕ) (all : List Step) → length all < 2 ^ 63 → 2 ^ 63 ≤ most → mid ≤ old + all_coins_of (take from all)
-    → new + all_coins_of (take from all) ≤ mid + all_coins_of (take (from + most) all) → new ≤ old + all_coins_of all
-asks-all from most old mid new all few large before behind = omega (arith, before, behind, ap all_coins_of (take-all from most all few large))
+pub asks-all : (from count old mid new : ℕ) (all : List Step) → length all ≤ from + count → mid ≤ old + all_coins_of (take from all)
+    → new + all_coins_of (take from all) ≤ mid + all_coins_of (take (from + count) all) → new ≤ old + all_coins_of all
+asks-all from count old mid new all enough before behind = omega (arith, before, behind, ap all_coins_of (take-all from count all enough))

@@ -3,6 +3,7 @@
 //! In the order in which data flows; each module uses only those before it:
 //!
 //! - `run`: some steps of a circuit, and what a run gives.
+//! - `again`: what rounds gave, given again.
 //! - `rounds`: the blocks of a circuit. The rounds of a block are carried out until a state comes again; from there
 //!   on they give again what they gave.
 //! - `whole`: all steps of a circuit.
@@ -24,6 +25,7 @@
 //! (`specs/ProgramStates.antt` of `stab_steps`). `specs/inner/` has what only private contracts cite.
 #![tactic(auto)]
 
+mod again;
 pub mod laws;
 mod rounds;
 mod run;

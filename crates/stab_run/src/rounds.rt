@@ -6,19 +6,19 @@ ghost use Rattle.stab_circuit.specs.Steps.{unroll, check_within};
 ghost use Rattle.stab_circuit.specs.Views.{circuit_items};
 ghost use Rattle.stab_circuit.specs.Repeats.{IsRepeat, AreRepeats};
 ghost use Rattle.stab_steps.specs.Records.{ones, looked_up as looked_up_of};
-ghost use Rattle.stab_steps.specs.Points.{joined, all_coins_of};
+ghost use Rattle.stab_steps.specs.Points.{all_coins_of};
 ghost use Rattle.stab_steps.specs.ProgramStates.{program_state, output_of};
-ghost use Rattle.stab_steps.specs.Cuts.{rest_of, lengths_of};
-ghost use Rattle.stab_run.specs.RoundLaws.{copies};
+ghost use Rattle.stab_steps.specs.Cuts.{lengths_of};
 ghost use Rattle.stab_run.specs.inner.Led.{IsLed, behind_rounds, IsEarlier, IsUndecided, GivesAgain};
 
+use crate::again::give_again;
 use crate::run::run_steps;
 use stab_circuit::{Circuit, Cursor, Repeat};
 use stab_io::Refusal;
 use stab_pauli::Pauli;
 use stab_steps::{Coins, Lengths, Outputs, looked_up};
 use stab_tableau::Tableau;
-use std::alloc::{AllocError, Global};
+use std::alloc::Global;
 
 /// How many rounds of a block are carried out one by one, to see whether a state comes again. All others are carried
 /// out in one go.
@@ -115,24 +115,6 @@ fn comes_again(earlier: &Earlier, tableau: &Tableau, outputs: &Outputs, reach: u
     are_fixed(outputs.free.as_slice(), lengths.free)
         && same_records(outputs.records.as_slice(), lengths.records, reach)
         && earlier.tableau.same(tableau)
-}
-
-/// Gives again, so many times, what was given behind some lengths.
-fn give_again(
-    alloc: Global,
-    outputs: &mut Outputs,
-    lengths: Lengths,
-    times: usize,
-) -> Result<(), AllocError>
-    ensures value { OnOk result (output_of outputs.new ≡ joined (output_of outputs.old) (copies times (rest_of lengths (output_of outputs.old)))) }
-{
-    let mut rest = Outputs::new(alloc);
-    let none = rest.lengths();
-    rest.append_rest(outputs, lengths)?;
-    for _ in 0..times {
-        outputs.append_rest(&rest, none)?;
-    }
-    Ok(())
 }
 
 /// Gives again what the rounds since an earlier one gave, as often as they fit into the rounds that are left, where a run
@@ -237,7 +219,17 @@ fn run_round<C: Coins>(
     Ok(done)
 }
 
-/// Carries out the rounds of a block.
+/// How many rounds of a block are carried out one by one at most, where so many steps are left to be carried out.
+fn most_single(repeat: Repeat, left: usize) -> usize
+    requires some { 0 < repeat.length }
+    ensures within { result ≤ repeat.rounds }
+{
+    repeat.rounds.min(MOST_SINGLE).min(left / repeat.length)
+}
+
+/// Carries out rounds of a block until a state comes again, and all those behind that give again what earlier ones gave. Tells
+/// how many are done then: fewer than all where `MOST_SINGLE` were carried out, or as many as the steps that are left to be
+/// carried out allow. These grow fewer.
 fn run_repeat<C: Coins>(
     alloc: Global,
     circuit: &Circuit,
@@ -246,7 +238,8 @@ fn run_repeat<C: Coins>(
     coins: &mut C,
     outputs: &mut Outputs,
     repeat: Repeat,
-) -> Result<(), Refusal>
+    left: &mut usize,
+) -> Result<usize, Refusal>
     requires checked { check_within tableau.old.qubits (circuit_items circuit.now) ≡ None }
     requires same_length { length string.old.letters ≡ tableau.old.qubits }
     requires repeat { IsRepeat (unroll (circuit_items circuit.now)) repeat }
@@ -255,11 +248,14 @@ fn run_repeat<C: Coins>(
     ensures string { length string.new.letters ≡ length string.old.letters }
     ensures same_coins { C.sequence coins.new ≡ C.sequence coins.old }
     ensures asks { C.asks coins.new + all_coins_of (take repeat.first (unroll (circuit_items circuit.now))) ≤ C.asks coins.old + all_coins_of (take (behind_rounds repeat repeat.rounds) (unroll (circuit_items circuit.now))) }
-    ensures asks_free { OnOk result (C.asks coins.new + ones outputs.old.free.items ≤ C.asks coins.old + ones outputs.new.free.items) }
-    ensures led { OnOk result (IsLed tableau.old.qubits (C.sequence coins.old) (take (behind_rounds repeat repeat.rounds) (unroll (circuit_items circuit.now))) (program_state tableau.new (output_of outputs.new))) }
+    ensures asks_part { IfOk result (λ done. C.asks coins.new + all_coins_of (take repeat.first (unroll (circuit_items circuit.now))) ≤ C.asks coins.old + all_coins_of (take (behind_rounds repeat done) (unroll (circuit_items circuit.now)))) }
+    ensures asks_free { IfOk result (λ done. C.asks coins.new + ones outputs.old.free.items ≤ C.asks coins.old + ones outputs.new.free.items) }
+    ensures within { IfOk result (λ done. done ≤ repeat.rounds) }
+    ensures led { IfOk result (λ done. IsLed tableau.old.qubits (C.sequence coins.old) (take (behind_rounds repeat done) (unroll (circuit_items circuit.now))) (program_state tableau.new (output_of outputs.new))) }
+    ensures left { IfOk result (λ done. left.old ≤ left.new + done * repeat.length) }
     ensures err { IfErr result (λ r. r ≡ OutOfMemory) }
 {
-    let most = repeat.rounds.min(MOST_SINGLE);
+    let most = most_single(repeat, *left);
     let mut earlier = None;
     let mut done = 0;
     while done < most {
@@ -274,10 +270,9 @@ fn run_repeat<C: Coins>(
             &mut earlier,
             done,
         )?;
+        *left = left.saturating_sub(repeat.length);
     }
-    let from = repeat.first + done * repeat.length;
-    let rest = (repeat.rounds - done) * repeat.length;
-    run_part(alloc, circuit, tableau, string, coins, outputs, from, rest)
+    Ok(done)
 }
 
 /// Whether a block has so many steps that it is worth a look whether its rounds come again: each look finds its place in
@@ -286,7 +281,8 @@ fn is_long(repeat: Repeat) -> bool {
     repeat.rounds.saturating_mul(repeat.length) >= LEAST_STEPS
 }
 
-/// Carries out the steps from one on up to the end of a block, where it is long. Tells which step comes next.
+/// Carries out the steps from one on up to the last round of a long block that is done one by one or gives again what earlier
+/// ones gave, as far as the steps that are left to be carried out allow. Tells which step comes next.
 fn run_block<C: Coins>(
     alloc: Global,
     circuit: &Circuit,
@@ -296,6 +292,7 @@ fn run_block<C: Coins>(
     outputs: &mut Outputs,
     from: usize,
     repeat: Repeat,
+    left: &mut usize,
 ) -> Result<usize, Refusal>
     requires checked { check_within tableau.old.qubits (circuit_items circuit.now) ≡ None }
     requires same_length { length string.old.letters ≡ tableau.old.qubits }
@@ -309,21 +306,26 @@ fn run_block<C: Coins>(
     ensures asks_part { IfOk result (λ next. C.asks coins.new + all_coins_of (take from (unroll (circuit_items circuit.now))) ≤ C.asks coins.old + all_coins_of (take next (unroll (circuit_items circuit.now)))) }
     ensures asks_free { IfOk result (λ next. C.asks coins.new + ones outputs.old.free.items ≤ C.asks coins.old + ones outputs.new.free.items) }
     ensures next { IfOk result (λ next. next ≤ behind_rounds repeat repeat.rounds) }
+    ensures left { IfOk result (λ next. left.old + from ≤ left.new + next) }
     ensures led { IfOk result (λ next. IsLed tableau.old.qubits (C.sequence coins.old) (take next (unroll (circuit_items circuit.now))) (program_state tableau.new (output_of outputs.new))) }
     ensures err { IfErr result (λ r. r ≡ OutOfMemory) }
 {
-    if !is_long(repeat) {
+    let before = repeat.first - from;
+    if !is_long(repeat) || before > *left {
         return Ok(from);
     }
-    let before = repeat.first - from;
     run_part(
         alloc, circuit, tableau, string, coins, outputs, from, before,
     )?;
-    run_repeat(alloc, circuit, tableau, string, coins, outputs, repeat)?;
-    Ok(repeat.first + repeat.rounds * repeat.length)
+    *left -= before;
+    let done = run_repeat(
+        alloc, circuit, tableau, string, coins, outputs, repeat, left,
+    )?;
+    Ok(repeat.first + done * repeat.length)
 }
 
-/// Carries out the steps of a circuit up to the end of the last of its long blocks, and tells which step comes next.
+/// Carries out the steps of a circuit up to the last round of its long blocks that is done one by one or gives again what earlier
+/// ones gave, as far as the steps that are left to be carried out allow. Tells which step comes next.
 pub fn run_repeats<C: Coins>(
     alloc: Global,
     circuit: &Circuit,
@@ -332,6 +334,7 @@ pub fn run_repeats<C: Coins>(
     coins: &mut C,
     outputs: &mut Outputs,
     repeats: &[Repeat],
+    left: &mut usize,
 ) -> Result<usize, Refusal>
     requires checked { check_within tableau.old.qubits (circuit_items circuit.now) ≡ None }
     requires same_length { length string.old.letters ≡ tableau.old.qubits }
@@ -344,13 +347,14 @@ pub fn run_repeats<C: Coins>(
     ensures asks_part { IfOk result (λ from. C.asks coins.new ≤ C.asks coins.old + all_coins_of (take from (unroll (circuit_items circuit.now)))) }
     ensures asks_free { IfOk result (λ from. C.asks coins.new + ones outputs.old.free.items ≤ C.asks coins.old + ones outputs.new.free.items) }
     ensures in_range { IfOk result (λ from. from ≤ length (unroll (circuit_items circuit.now))) }
+    ensures left { IfOk result (λ from. left.old ≤ left.new + from) }
     ensures led { IfOk result (λ from. IsLed tableau.old.qubits (C.sequence coins.old) (take from (unroll (circuit_items circuit.now))) (program_state tableau.new (output_of outputs.new))) }
     ensures err { IfErr result (λ r. r ≡ OutOfMemory) }
 {
     let mut from = 0;
     for repeat in repeats {
         from = run_block(
-            alloc, circuit, tableau, string, coins, outputs, from, *repeat,
+            alloc, circuit, tableau, string, coins, outputs, from, *repeat, left,
         )?;
     }
     Ok(from)

@@ -1,6 +1,6 @@
 //! A whole run of a circuit.
 
-ghost use Rattle.std.specs.Prelude.{◌≡◌, ◌+◌, ◌≤◌, ◌^◌, length, None, IfOk, IfErr};
+ghost use Rattle.std.specs.Prelude.{◌≡◌, ◌+◌, ◌≤◌, length, None, IfOk, IfSome, IsSome, IfErr};
 ghost use Rattle.stab_io.specs.declared.refusal.Refusal.TheVariants.{OutOfMemory};
 ghost use Rattle.stab_tableau.specs.Tableaus.{stabilises};
 ghost use Rattle.stab_circuit.specs.Steps.{unroll, check_within};
@@ -20,17 +20,10 @@ use stab_steps::{Coins, Outputs, observables as summed};
 use stab_tableau::Tableau;
 use std::alloc::Global;
 
-/// More steps than any circuit has.
-fn unbounded() -> usize
-    ensures large { 2 ^ 63 ≤ result }
-{
-    usize::MAX
-}
-
 /// Carries out all steps of a circuit on qubits that are 0 at first, whatever the tableau was. The
 /// rounds of a block are carried out until a state comes again; from there on they give again what
-/// they gave. There is room for so many records from the beginning, and there are so many
-/// observables.
+/// they gave. Where more than so many steps would be carried out all the same, there is no shot.
+/// There is room for so many records from the beginning, and there are so many observables.
 ///
 /// Refusal `OutOfMemory` alone.
 pub fn run_whole<C: Coins>(
@@ -42,7 +35,8 @@ pub fn run_whole<C: Coins>(
     coins: &mut C,
     records: usize,
     observables: usize,
-) -> Result<Shot, Refusal>
+    most: usize,
+) -> Result<Option<Shot>, Refusal>
     requires checked { check_within tableau.old.qubits (circuit_items circuit.now) ≡ None }
     requires repeats { AreRepeats 0 (unroll (circuit_items circuit.now)) repeats.now }
     requires same_length { length string.old.letters ≡ tableau.old.qubits }
@@ -50,12 +44,14 @@ pub fn run_whole<C: Coins>(
     ensures string { length string.new.letters ≡ length string.old.letters }
     ensures same_coins { C.sequence coins.new ≡ C.sequence coins.old }
     ensures asks { C.asks coins.new ≤ C.asks coins.old + all_coins_of (unroll (circuit_items circuit.now)) }
-    ensures asks_free { IfOk result (λ s. C.asks coins.new ≤ C.asks coins.old + ones s.free.items) }
-    ensures run { IfOk result (IsShotOf tableau.old.qubits (run tableau.old.qubits (C.sequence coins.old) (unroll (circuit_items circuit.now)) (start observables)) (stabilises tableau.new)) }
+    ensures asks_free { IfOk result (λ found. IfSome found (λ s. C.asks coins.new ≤ C.asks coins.old + ones s.free.items)) }
+    ensures run { IfOk result (λ found. IfSome found (IsShotOf tableau.old.qubits (run tableau.old.qubits (C.sequence coins.old) (unroll (circuit_items circuit.now)) (start observables)) (stabilises tableau.new))) }
+    ensures enough { IfOk result (λ found. length (unroll (circuit_items circuit.now)) ≤ most → IsSome found) }
     ensures err { IfErr result (λ r. r ≡ OutOfMemory) }
 {
     tableau.reset();
     let mut outputs = Outputs::with_capacity(alloc, records)?;
+    let mut left = most;
     let from = run_repeats(
         alloc,
         circuit,
@@ -64,8 +60,12 @@ pub fn run_whole<C: Coins>(
         coins,
         &mut outputs,
         repeats,
+        &mut left,
     )?;
-    let most = unbounded();
+    let rest = circuit.steps() - from;
+    if rest > left {
+        return Ok(None);
+    }
     run_part(
         alloc,
         circuit,
@@ -74,7 +74,7 @@ pub fn run_whole<C: Coins>(
         coins,
         &mut outputs,
         from,
-        most,
+        rest,
     )?;
     let Outputs {
         records,
@@ -83,10 +83,10 @@ pub fn run_whole<C: Coins>(
         additions,
     } = outputs;
     let observables = summed(alloc, observables, additions.as_slice())?;
-    Ok(Shot {
+    Ok(Some(Shot {
         records,
         free,
         detectors,
         observables,
-    })
+    }))
 }

@@ -3,3 +3,4 @@ pub mod MemoryLaws
 pub mod ShotLaws
 pub mod PackingLaws
 pub mod LineLaws
+pub mod SinglyLaws

@@ -79,12 +79,18 @@ cut_off_behind xs ys rest f before (inr some) =
     let part = some.1 in
     inr (some.0, record { front = xs ++ part.front; rest = part.rest ++ rest; split = cut_place xs ys rest part.front part.rest part.split; took = took_more xs part.front before part.took })
 
+-- a shot that is cut off cuts off the shots
+pub shots_cut_off : {old mid new : OutputView} (bytes_of : ℕ → List ℕ) (first shot shots : ℕ) (f : Fault) → shot < shots
+    → Took old mid (of_shots bytes_of first shot) → CutOff mid new (bytes_of (first + shot)) f → CutOff old new (of_shots bytes_of first shots) f
+shots_cut_off {old} {mid} {new} bytes_of first shot shots f less before call =
+    let more = more_shots bytes_of first shot shots less in
+    let sent = of_shots bytes_of first shot in
+    let cut : CutOff old new ((sent ++ bytes_of (first + shot)) ++ more.0) f = cut_off_behind sent (bytes_of (first + shot)) more.0 f before call in
+    subst (λ l. CutOff old new l f) (sym more.1) cut
+
 -- a shot that fails ends the shots
 pub shots_break_off : {old mid new : OutputView} (bytes_of : ℕ → List ℕ) (first shot shots : ℕ) (f : Fault) (r : Result (Unit {0}) Fault) → shot < shots
     → Took old mid (of_shots bytes_of first shot) → CutOff mid new (bytes_of (first + shot)) f → IsErrAnd r (λ y. y ≡ f) → SendsUnflushed (of_shots bytes_of first shots) old new r
 shots_break_off bytes_of first shot shots f (Ok u) less before call is = absurd is
 shots_break_off {old} {mid} {new} bytes_of first shot shots f (Err y) less before call is =
-    let more = more_shots bytes_of first shot shots less in
-    let sent = of_shots bytes_of first shot in
-    let cut : CutOff old new ((sent ++ bytes_of (first + shot)) ++ more.0) f = cut_off_behind sent (bytes_of (first + shot)) more.0 f before call in
-    subst (λ g. CutOff old new (of_shots bytes_of first shots) g) (sym is) (subst (λ l. CutOff old new l f) (sym more.1) cut)
+    subst (λ g. CutOff old new (of_shots bytes_of first shots) g) (sym is) (shots_cut_off bytes_of first shot shots f less before call)

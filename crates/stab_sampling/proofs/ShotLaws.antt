@@ -16,8 +16,8 @@ use Rattle.stab_run.specs.Coins.{seed_coin}
 use Rattle.stab_run.specs.Runs.{State, run_of}
 use Rattle.stab_shots.specs.Words.{word_bit}
 use Rattle.stab_shots.specs.Lanes.{lane_bits}
-use Rattle.stab_sampling.specs.declared.shots.Shown.{Shown}
-use Rattle.stab_sampling.specs.declared.shots.Shown.TheVariants.{Records, Detectors, DetectorsAndObservables}
+use Rattle.stab_sampling.specs.declared.bits.Shown.{Shown}
+use Rattle.stab_sampling.specs.declared.bits.Shown.TheVariants.{Records, Detectors, DetectorsAndObservables}
 use Rattle.stab_sampling.specs.Outputs.{of_shots}
 use Rattle.stab_sampling.specs.Sendings.{IsShown, SendsUnflushed, shown_bytes, shown_kinds, shown_items}
 use Rattle.stab_sampling.proofs.SendingLaws.{parts_join, cut_off_behind}

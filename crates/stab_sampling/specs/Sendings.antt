@@ -10,8 +10,8 @@ use Rattle.stab_results.specs.declared.format.Kinds.{Kinds}
 use Rattle.stab_results.specs.declared.format.Kinds.TheVariants.{Measurements, Detectors as Detected}
 use Rattle.stab_results.specs.Formats.{shot_bytes}
 use Rattle.stab_jobs.specs.declared.source.Source.{Source}
-use Rattle.stab_sampling.specs.declared.shots.Shown.{Shown}
-use Rattle.stab_sampling.specs.declared.shots.Shown.TheVariants.{Records, Detectors, DetectorsAndObservables}
+use Rattle.stab_sampling.specs.declared.bits.Shown.{Shown}
+use Rattle.stab_sampling.specs.declared.bits.Shown.TheVariants.{Records, Detectors, DetectorsAndObservables}
 use Rattle.stab_jobs.specs.Limits.{ShotRange}
 use Rattle.stab_sampling.specs.Outputs.{detected, of_shots}
 use Rattle.stab_tables.specs.Sources.{run_of_shot}

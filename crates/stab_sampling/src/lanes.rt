@@ -4,7 +4,7 @@ ghost use Rattle.stab_results.specs.Formats.{detectors_of};
 ghost use Rattle.stab_run.specs.Runs.{State};
 ghost use Rattle.stab_shots.specs.Words.{word_bit};
 ghost use Rattle.stab_shots.specs.Lanes.{lane_bits};
-ghost use Rattle.stab_sampling.specs.declared.shots.Shown.{Shown};
+ghost use Rattle.stab_sampling.specs.declared.bits.Shown.{Shown};
 ghost use Rattle.stab_sampling.specs.Outputs.{of_shots};
 ghost use Rattle.stab_sampling.specs.Sendings.{IsShown, SendsUnflushed, shown_bytes};
 

@@ -5,6 +5,8 @@
 //! - `widths`: how many shots go through a circuit at once.
 //! - `packed`: the bits of lanes in `01` and `b8`.
 //! - `lanes`: the bits of lanes in any format.
+//! - `bits`: what is shown of a shot.
+//! - `singly`: shots that go one after another, as long as each is short.
 //! - `shots`: the shots of a circuit, written one after another.
 //! - `laws`: outputs of parts are joined to that of all shots.
 //!
@@ -18,10 +20,13 @@
 //! shots go at once, and in which words, changes nothing of that.
 #![tactic(auto)]
 
+mod bits;
 mod lanes;
 pub mod laws;
 mod packed;
 mod shots;
+mod singly;
 mod widths;
 
-pub use shots::{Shown, send_shots};
+pub use bits::Shown;
+pub use shots::send_shots;

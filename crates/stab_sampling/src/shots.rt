@@ -2,97 +2,34 @@
 //!
 //! All shots of a list of coins are the same run, which is made once. Shots of a seed are run by batches of lanes. Where there
 //! is more than one batch, the tableau goes through the circuit once, and all are led by what was noted of that run, unless
-//! this takes too much memory; else it goes once for each batch. A shot that is alone is run alone.
-ghost use Rattle.std.specs.Prelude.{◌≡◌, ℕ, ◌+◌, ◌<◌, ◌≤◌, None, Bool, length, IfOk, IfSome, IfErr};
+//! this takes too much memory; else it goes once for each batch. A shot that is alone is run alone, and so are few shots, one
+//! after another, where most of each gives again what rounds before gave.
+ghost use Rattle.std.specs.Prelude.{◌≡◌, ℕ, ◌+◌, ◌<◌, ◌≤◌, None, IfOk, IfSome, IfErr};
 ghost use Rattle.stab_io.specs.Refusals.{whole};
 ghost use Rattle.stab_io.specs.declared.refusal.Refusal.TheVariants.{OutOfMemory};
 ghost use Rattle.stab_circuit.specs.Items.{Items};
 ghost use Rattle.stab_circuit.specs.Steps.{check_of, qubits_of};
 ghost use Rattle.stab_circuit.specs.Views.{circuit_items};
-ghost use Rattle.stab_results.specs.Formats.{detectors_of};
 ghost use Rattle.stab_run.specs.Runs.{State, run_of};
 ghost use Rattle.stab_run.specs.Coins.{list_coin, seed_coin};
 ghost use Rattle.stab_shots.specs.References.{IsReference};
 ghost use Rattle.stab_jobs.specs.Limits.{shots_of_seed};
 ghost use Rattle.stab_sampling.specs.Outputs.{of_shots};
-ghost use Rattle.stab_sampling.specs.Sendings.{IsShown, SendsUnflushed, shots_of, shown_bytes, shown_kinds, shown_items};
+ghost use Rattle.stab_sampling.specs.Sendings.{SendsUnflushed, shots_of, shown_bytes};
 
+use crate::bits::{Shown, write_shown};
 use crate::lanes::send_lanes;
-use crate::widths::shots_at_once;
+use crate::singly::send_singly;
+use crate::widths::{most_steps_singly, shots_at_once};
 use stab_circuit::Circuit;
 use stab_io::{Fault, Output};
 use stab_jobs::{Shots, Source};
-use stab_results::{Format, Kinds, write_shot};
-use stab_run::{Coins, ListCoins, SeedCoins, Shot, run_once};
+use stab_results::{Format, Kinds};
+use stab_run::{Coins, ListCoins, SeedCoins, run_once};
 use stab_shots::{
     LaneCoins, Reference, SeedLanes, Shots as LaneShots, Wide, WideSeedLanes, Word, run_lanes,
 };
-use std::alloc::{AllocError, Global};
-
-/// Which bits of a shot are shown.
-#[derive(Clone, Copy, Debug, PartialEq, Eq)]
-pub enum Shown {
-    /// The records.
-    Records,
-    /// The detectors.
-    Detectors,
-    /// The detectors, and behind them the observables.
-    DetectorsAndObservables,
-}
-
-/// What is shown of a shot, and what kinds of bits it is.
-#[derive(Drop)]
-pub(crate) struct Bits {
-    pub kinds: Kinds,
-    pub items: Vec<bool>,
-}
-
-/// What is shown of a shot, by its records, detectors and observables.
-fn shown_of(
-    records: Vec<bool>,
-    mut detectors: Vec<bool>,
-    observables: Vec<bool>,
-    shown: Shown,
-) -> Result<Bits, AllocError>
-    ensures within { IfOk result (λ b. detectors_of b.kinds ≤ length b.items.items) }
-    ensures kinds { IfOk result (λ b. b.kinds ≡ shown_kinds shown (length detectors.items)) }
-    ensures items { IfOk result (λ b. b.items.items ≡ shown_items shown records.items detectors.items observables.items) }
-{
-    let kinds = Kinds::Detectors(detectors.len());
-    match shown {
-        Shown::Records => Ok(Bits {
-            kinds: Kinds::Measurements,
-            items: records,
-        }),
-        Shown::Detectors => Ok(Bits {
-            kinds,
-            items: detectors,
-        }),
-        Shown::DetectorsAndObservables => {
-            detectors.extend_from_slice(observables.as_slice())?;
-            Ok(Bits {
-                kinds,
-                items: detectors,
-            })
-        }
-    }
-}
-
-/// Writes bits so many times.
-fn write_copies<O: Output>(
-    out: &mut O,
-    format: Format,
-    bits: &Bits,
-    copies: usize,
-) -> Result<(), Fault>
-    requires within { detectors_of bits.now.kinds ≤ length bits.now.items.items }
-    ensures sends { (first : ℕ) (shown : Shown) (run : State) → IsShown shown run bits.now.kinds bits.now.items.items → SendsUnflushed (of_shots (λ shot. shown_bytes format shown run) first copies) (O.seen out.old) (O.seen out.new) result }
-{
-    for written in 0..copies {
-        write_shot(out, format, bits.kinds, bits.items.as_slice())?;
-    }
-    Ok(())
-}
+use std::alloc::Global;
 
 /// Runs a circuit once, and writes what is shown of it so many times.
 fn send_copies<O: Output, C: Coins>(
@@ -108,14 +45,7 @@ fn send_copies<O: Output, C: Coins>(
     ensures sends { (first : ℕ) → SendsUnflushed (of_shots (λ shot. shown_bytes format shown (run_of (qubits_of (circuit_items circuit.now)) (C.sequence coins.old) (circuit_items circuit.now))) first copies) (O.seen out.old) (O.seen out.new) result }
 {
     let shot = run_once(alloc, circuit, circuit.qubits(), coins)?;
-    let Shot {
-        records,
-        detectors,
-        observables,
-        ..
-    } = shot;
-    let bits = shown_of(records, detectors, observables, shown)?;
-    write_copies(out, format, &bits, copies)
+    write_shown(out, format, shown, shot, copies)
 }
 
 /// Runs so many shots, at most as many as there are lanes, with the coins of the lanes, and writes what is shown of each. What
@@ -262,6 +192,36 @@ fn send_rest<O: Output>(
     }
 }
 
+/// Runs so many shots of a seed, at most 1,024, from a first one on, and writes what is shown of each: one after another where
+/// that is less work, and else in one batch.
+fn send_few<O: Output>(
+    alloc: Global,
+    circuit: &Circuit,
+    out: &mut O,
+    format: Format,
+    shown: Shown,
+    seed: u64,
+    first: u64,
+    shots: usize,
+) -> Result<(), Fault>
+    requires checked { check_of (circuit_items circuit.now) ≡ None }
+    requires few { shots ≤ 1024 }
+    requires in_range { first + shots ≤ shots_of_seed }
+    ensures sends { SendsUnflushed (of_shots (λ shot. shown_bytes format shown (run_of (qubits_of (circuit_items circuit.now)) (seed_coin seed shot) (circuit_items circuit.now))) first shots) (O.seen out.old) (O.seen out.new) result }
+{
+    let most = most_steps_singly(alloc, circuit, shots)?;
+    if most == 0 {
+        return send_rest(alloc, circuit, None, out, format, shown, seed, first, shots);
+    }
+    let sent = send_singly(alloc, circuit, out, format, shown, seed, first, shots, most)?;
+    if sent == shots {
+        return Ok(());
+    }
+    let next = first + sent as u64;
+    let rest = shots - sent;
+    send_rest(alloc, circuit, None, out, format, shown, seed, next, rest)
+}
+
 /// The reference of a circuit, where it has one and there is more than one batch to be led by it.
 fn reference_of(alloc: Global, circuit: &Circuit, many: bool) -> Result<Option<Reference>, Fault>
     requires checked { check_of (circuit_items circuit.now) ≡ None }
@@ -293,7 +253,7 @@ fn send_seeded<O: Output>(
     let most = shots_at_once(alloc, circuit, shots)?;
     let full = shots - shots % most;
     if full == 0 {
-        return send_rest(alloc, circuit, None, out, format, shown, seed, first, shots);
+        return send_few(alloc, circuit, out, format, shown, seed, first, shots);
     }
     let found = reference_of(alloc, circuit, most < shots)?;
     let reference = found.as_ref();

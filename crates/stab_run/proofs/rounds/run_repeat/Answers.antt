@@ -1,20 +1,18 @@
-use Rattle.std.proofs.Common.{◌+◌, ◌-◌, ◌≤◌, ◌∙◌, arith, ap, take}
-use Rattle.std.proofs.Math.Nat.{mul-le-mul_right}
+use Rattle.std.proofs.Common.{◌+◌, ◌≤◌, ◌∙◌, arith}
+use Rattle.std.proofs.Math.Nat.{add-mul, mul-le-mul_right}
 use Rattle.stab_circuit.specs.Steps.{unroll}
 use Rattle.stab_circuit.specs.Views.{circuit_items}
-use Rattle.stab_steps.specs.Points.{all_coins_of}
 use Rattle.stab_steps.specs.ProgramStates.{program_state, output_of}
 use Rattle.stab_run.specs.inner.Led.{behind_rounds}
-use Rattle.stab_run.proofs.FitLemmas.{check-steps, check-whole}
 use Rattle.stab_run.proofs.LedLemmas.{coins-more}
-use Rattle.stab_run.proofs.AgainLemmas.{behind-later, behind-rest, led-same, earlier-same}
+use Rattle.stab_run.proofs.AgainLemmas.{behind-later, led-same, earlier-same}
 use Rattle.stab_run.proofs.rounds.run_repeat.Goals as goal
 
 pub returns-in_err-done-clause-asks : goal.returns-in_err-done-clause-asks
 returns-in_err-done-clause-asks g c =
     let r = c.args.repeat in
     let done = c.loop-done.done in
-    let later = behind-later r (done + 1) r.rounds (omega (arith, c.loop-done-test.true, c.min-most.ensures)) in
+    let later = behind-later r (done + 1) r.rounds (omega (arith, c.loop-done-test.true, c.most_single-most.ensures.within)) in
     omega (arith, c.loop-done.invariant.asks, c.run_round.ensures.asks, coins-more (behind_rounds r (done + 1)) (behind_rounds r r.rounds) (unroll (circuit_items c.args.circuit.now)) later)
 
 pub loop-done-preserved : goal.loop-done-preserved
@@ -28,9 +26,11 @@ loop-done-preserved g c =
     let steps = unroll (circuit_items c.args.circuit.now) in
     let n = c.args.tableau.now.qubits in
     let coins = g.C.Coins.sequence c.args.coins.now in
-    let later = behind-later r (before + 1) now (omega (arith, done.more)) in
+    let one_more : before + 1 ≤ now = omega (arith, done.more) in
+    let later = behind-later r (before + 1) now one_more in
     record {
       within = done.more.1;
+      left = omega (arith, inv.left, add-mul before 1 r.length, mul-le-mul_right r.length one_more, c.saturating_sub.ensures);
       qubits = ran.qubits ∙ inv.qubits;
       string = ran.string ∙ inv.string;
       same_coins = ran.same_coins ∙ inv.same_coins;
@@ -44,34 +44,9 @@ loop-done-preserved g c =
           inv.qubits inv.same_coins done.led;
     }
 
-pub overflow_mul-from : goal.overflow_mul-from
-overflow_mul-from g c =
-    let items = circuit_items c.args.circuit.now in
-    omega (
-      arith,
-      behind-later c.args.repeat c.loop-done.done c.args.repeat.rounds c.loop-done.invariant.within,
-      c.requires.repeat.inside,
-      check-steps items (check-whole c.args.tableau.now.qubits items c.requires.checked),
-    )
-
-pub overflow_add-from : goal.overflow_add-from
-overflow_add-from g c =
-    let items = circuit_items c.args.circuit.now in
-    omega (
-      arith,
-      behind-later c.args.repeat c.loop-done.done c.args.repeat.rounds c.loop-done.invariant.within,
-      c.requires.repeat.inside,
-      check-steps items (check-whole c.args.tableau.now.qubits items c.requires.checked),
-    )
-
-pub overflow_mul-rest : goal.overflow_mul-rest
-overflow_mul-rest g c =
-    let items = circuit_items c.args.circuit.now in
-    let r = c.args.repeat in
-    let fewer : r.rounds - c.loop-done.done ≤ r.rounds = omega arith in
-    omega (arith, mul-le-mul_right r.length fewer, c.requires.repeat.inside, check-steps items (check-whole c.args.tableau.now.qubits items c.requires.checked))
-
 pub returns-clause-asks : goal.returns-clause-asks
 returns-clause-asks g c =
-    let e = behind-rest c.args.repeat c.loop-done.done c.loop-done.invariant.within in
-    omega (arith, c.loop-done.invariant.asks, c.run_part.ensures.asks, ap (λ k. all_coins_of (take k (unroll (circuit_items c.args.circuit.now)))) e)
+    let r = c.args.repeat in
+    let done = c.loop-done.done in
+    let later = behind-later r done r.rounds c.loop-done.invariant.within in
+    omega (arith, c.loop-done.invariant.asks, coins-more (behind_rounds r done) (behind_rounds r r.rounds) (unroll (circuit_items c.args.circuit.now)) later)

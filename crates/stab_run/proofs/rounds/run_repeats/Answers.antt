@@ -22,6 +22,7 @@ loop-repeat-preserved g c =
     let here = repeat-here from steps all i none c.loop-repeat-test.true inv.repeats in
     record {
       within = omega (arith, done.next, here.1.inside);
+      left = omega (arith, inv.left, done.left);
       repeats = repeats-behind from c.in_ok-from.from steps all i none c.loop-repeat-test.true inv.repeats done.next;
       qubits = ran.qubits ∙ inv.qubits;
       string = ran.string ∙ inv.string;

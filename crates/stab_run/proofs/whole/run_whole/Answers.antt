@@ -1,31 +1,45 @@
-use Rattle.std.proofs.Common.{◌+◌, ◌∙◌, ap, subst, take, replicate, refl, false}
+use Rattle.std.proofs.Common.{◌≡◌, ◌+◌, ◌-◌, ◌∙◌, ap, subst, take, length, replicate, refl, false, arith}
 use Rattle.stab_circuit.specs.Steps.{unroll}
 use Rattle.stab_circuit.specs.Views.{circuit_items}
 use Rattle.stab_steps.specs.Points.{with_additions}
 use Rattle.stab_steps.specs.ProgramStates.{program_state, output_of}
 use Rattle.stab_run.specs.inner.Led.{IsLed}
-use Rattle.stab_run.proofs.FitLemmas.{few-steps}
+use Rattle.stab_run.proofs.FitLemmas.{counted-steps}
 use Rattle.stab_run.proofs.ShotLemmas.{led-shot}
 use Rattle.stab_run.proofs.StepsLeftLemmas.{take-all, asks-all}
 use Rattle.stab_run.proofs.whole.run_whole.Goals as goal
 
+pub overflow_sub-rest : goal.overflow_sub-rest
+overflow_sub-rest g c =
+    omega (arith, c.in_ok-from.ensures.in_range, c.steps.ensures.value ∙ counted-steps c.args.tableau.now.qubits (circuit_items c.args.circuit.now) c.requires.checked)
+
+pub returns-then-rest-left-clause-enough : goal.returns-then-rest-left-clause-enough
+returns-then-rest-left-clause-enough g c = λ enough.
+    absurd (omega (arith, enough, c.in_ok-from.ensures.left, c.steps.ensures.value ∙ counted-steps c.args.tableau.now.qubits (circuit_items c.args.circuit.now) c.requires.checked))
+
 pub returns-in_err-run_part-clause-asks : goal.returns-in_err-run_part-clause-asks
 returns-in_err-run_part-clause-asks g c =
-    asks-all c.in_ok-from.from c.unbounded-most.result (g.C.Coins.asks c.args.coins.now) (g.C.Coins.asks c.run_repeats.new.coins) (g.C.Coins.asks c.run_part.new.coins)
-    (unroll (circuit_items c.args.circuit.now)) (few-steps c.args.tableau.now.qubits (circuit_items c.args.circuit.now) c.requires.checked) c.unbounded-most.ensures.large
-    c.in_ok-from.ensures.asks_part c.run_part.ensures.asks
+    let items = circuit_items c.args.circuit.now in
+    let from = c.in_ok-from.from in
+    let counted = c.steps.ensures.value ∙ counted-steps c.args.tableau.now.qubits items c.requires.checked in
+    asks-all from (c.steps.result - from) (g.C.Coins.asks c.args.coins.now) (g.C.Coins.asks c.run_repeats.new.coins) (g.C.Coins.asks c.run_part.new.coins)
+    (unroll items) (omega (arith, counted)) c.in_ok-from.ensures.asks_part c.run_part.ensures.asks
 
 pub returns-in_err-observables-clause-asks : goal.returns-in_err-observables-clause-asks
 returns-in_err-observables-clause-asks g c =
-    asks-all c.in_ok-from.from c.unbounded-most.result (g.C.Coins.asks c.args.coins.now) (g.C.Coins.asks c.run_repeats.new.coins) (g.C.Coins.asks c.run_part.new.coins)
-    (unroll (circuit_items c.args.circuit.now)) (few-steps c.args.tableau.now.qubits (circuit_items c.args.circuit.now) c.requires.checked) c.unbounded-most.ensures.large
-    c.in_ok-from.ensures.asks_part c.run_part.ensures.asks
+    let items = circuit_items c.args.circuit.now in
+    let from = c.in_ok-from.from in
+    let counted = c.steps.ensures.value ∙ counted-steps c.args.tableau.now.qubits items c.requires.checked in
+    asks-all from (c.steps.result - from) (g.C.Coins.asks c.args.coins.now) (g.C.Coins.asks c.run_repeats.new.coins) (g.C.Coins.asks c.run_part.new.coins)
+    (unroll items) (omega (arith, counted)) c.in_ok-from.ensures.asks_part c.run_part.ensures.asks
 
 pub returns-clause-asks : goal.returns-clause-asks
 returns-clause-asks g c =
-    asks-all c.in_ok-from.from c.unbounded-most.result (g.C.Coins.asks c.args.coins.now) (g.C.Coins.asks c.run_repeats.new.coins) (g.C.Coins.asks c.run_part.new.coins)
-    (unroll (circuit_items c.args.circuit.now)) (few-steps c.args.tableau.now.qubits (circuit_items c.args.circuit.now) c.requires.checked) c.unbounded-most.ensures.large
-    c.in_ok-from.ensures.asks_part c.run_part.ensures.asks
+    let items = circuit_items c.args.circuit.now in
+    let from = c.in_ok-from.from in
+    let counted = c.steps.ensures.value ∙ counted-steps c.args.tableau.now.qubits items c.requires.checked in
+    asks-all from (c.steps.result - from) (g.C.Coins.asks c.args.coins.now) (g.C.Coins.asks c.run_repeats.new.coins) (g.C.Coins.asks c.run_part.new.coins)
+    (unroll items) (omega (arith, counted)) c.in_ok-from.ensures.asks_part c.run_part.ensures.asks
 
 pub returns-clause-run : goal.returns-clause-run
 returns-clause-run g c =
@@ -34,12 +48,13 @@ returns-clause-run g c =
     let items = circuit_items c.args.circuit.now in
     let steps = unroll items in
     let from = c.in_ok-from.from in
-    let most = c.unbounded-most.result in
+    let rest = c.steps.result - from in
+    let counted : c.steps.result ≡ length steps = c.steps.ensures.value ∙ counted-steps n items c.requires.checked in
     let behind = program_state c.run_part.new.tableau (output_of c.run_part.new.outputs) in
-    let part : IsLed n coins (take (from + most) steps) behind =
-    subst (λ m. IsLed m coins (take (from + most) steps) behind) (c.run_repeats.ensures.qubits ∙ c.reset.ensures.qubits)
-    (subst (λ s. IsLed c.run_repeats.new.tableau.qubits s (take (from + most) steps) behind) c.run_repeats.ensures.same_coins c.in_ok-run_part.ensures.led) in
+    let part : IsLed n coins (take (from + rest) steps) behind =
+    subst (λ m. IsLed m coins (take (from + rest) steps) behind) (c.run_repeats.ensures.qubits ∙ c.reset.ensures.qubits)
+    (subst (λ s. IsLed c.run_repeats.new.tableau.qubits s (take (from + rest) steps) behind) c.run_repeats.ensures.same_coins c.in_ok-run_part.ensures.led) in
     let whole : IsLed n coins steps behind =
-    subst (λ xs. IsLed n coins xs behind) (take-all from most steps (few-steps n items c.requires.checked) c.unbounded-most.ensures.large) part in
+    subst (λ xs. IsLed n coins xs behind) (take-all from rest steps (omega (arith, counted))) part in
     led-shot n coins steps c.args.observables behind whole _ refl refl refl
     (c.in_ok-observables.ensures.value ∙ ap (λ a. with_additions a (replicate c.args.observables false)) c.as_slice.ensures.value)

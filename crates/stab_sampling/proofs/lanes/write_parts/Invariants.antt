@@ -2,7 +2,7 @@ use Rattle.std.proofs.Common.{◌≡◌, ℕ, ◌+◌, ◌-◌, ◌%◌, ◌<◌
 use Rattle.stab_io.specs.Devices.{Took}
 use Rattle.stab_run.specs.Runs.{State}
 use Rattle.stab_shots.specs.Lanes.{lane_bits}
-use Rattle.stab_sampling.specs.declared.shots.Shown.{Shown}
+use Rattle.stab_sampling.specs.declared.bits.Shown.{Shown}
 use Rattle.stab_sampling.specs.Outputs.{of_shots}
 use Rattle.stab_sampling.specs.Sendings.{IsShown, shown_bytes}
 use Rattle.stab_sampling.proofs.lanes.write_parts.Given as goal

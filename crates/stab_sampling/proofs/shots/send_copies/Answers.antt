@@ -6,7 +6,6 @@ use Rattle.stab_run.specs.declared.run.Shot.{Shot}
 use Rattle.stab_run.specs.Runs.{run_of}
 use Rattle.stab_sampling.proofs.MemoryLaws.{memory_alone}
 use Rattle.stab_sampling.proofs.SendingLaws.{sends_none}
-use Rattle.stab_sampling.proofs.ShotLaws.{is_shown}
 use Rattle.stab_sampling.proofs.shots.send_copies.Goals as goal
 
 pub returns-in_err-shot : goal.returns-in_err-shot
@@ -14,17 +13,10 @@ returns-in_err-shot g c =
     let memory = memory_alone Shot c.in_err-shot.field-0.0 c.qubits.result (circuit_items c.args.circuit.now) c.requires.checked c.qubits.ensures.value c.in_err-shot.ensures.refused in
     record { sends = λ first. sends_none (g.O.Output.seen c.args.out.now) _ c.from_residual.result (subst (λ f. IsErrAnd c.from_residual.result (λ y. y ≡ f)) memory c.from_residual.ensures.1) }
 
-pub returns-in_err-bits : goal.returns-in_err-bits
-returns-in_err-bits g c = record { sends = λ first. sends_none (g.O.Output.seen c.args.out.now) _ c.from_residual-in_err-bits.result c.from_residual-in_err-bits.ensures.1 }
-
 pub returns : goal.returns
 returns g c = record {
   sends = λ first.
       let items = circuit_items c.args.circuit.now in
-      let run = run_of (qubits_of items) (g.C.Coins.sequence c.args.coins.now) items in
-      let shot = c.in_ok-shot.shot in
-      c.write_copies.ensures.sends first c.args.shown run
-      (is_shown c.args.shown run c.in_ok-bits.bits.kinds c.in_ok-bits.bits.items.items shot.records.items shot.detectors.items shot.observables.items
-      c.in_ok-bits.ensures.kinds c.in_ok-bits.ensures.items
-      (rw c.qubits.ensures.value at c.in_ok-shot.ensures.records) (rw c.qubits.ensures.value at c.in_ok-shot.ensures.detectors) (rw c.qubits.ensures.value at c.in_ok-shot.ensures.observables));
+      c.write_shown.ensures.sends first (run_of (qubits_of items) (g.C.Coins.sequence c.args.coins.now) items)
+      (rw c.qubits.ensures.value at c.in_ok-shot.ensures.records) (rw c.qubits.ensures.value at c.in_ok-shot.ensures.detectors) (rw c.qubits.ensures.value at c.in_ok-shot.ensures.observables);
 }

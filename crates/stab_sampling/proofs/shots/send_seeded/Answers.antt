@@ -44,6 +44,6 @@ returns g c =
     let bytes : ℕ → List ℕ = λ shot. shown_bytes c.args.format c.args.shown (run_of (qubits_of items) (seed_coin c.args.seed shot) items) in
     let full = c.args.shots - c.args.shots % c.in_ok-most.most in
     record {
-      sends = rest_sent _ _ _ bytes c.args.first full (c.args.shots - full) c.args.shots c.send_rest-2.result (omega arith)
-          c.in_ok-send_wide.ensures.sends c.send_rest-2.ensures.sends;
+      sends = rest_sent _ _ _ bytes c.args.first full (c.args.shots - full) c.args.shots c.send_rest.result (omega arith)
+          c.in_ok-send_wide.ensures.sends c.send_rest.ensures.sends;
     }

@@ -1,10 +1,10 @@
 use Rattle.std.proofs.Common.{ℕ}
 use Rattle.stab_io.specs.Devices.{Took}
 use Rattle.stab_run.specs.Runs.{State}
-use Rattle.stab_sampling.specs.declared.shots.Shown.{Shown}
+use Rattle.stab_sampling.specs.declared.bits.Shown.{Shown}
 use Rattle.stab_sampling.specs.Outputs.{of_shots}
 use Rattle.stab_sampling.specs.Sendings.{IsShown, shown_bytes}
-use Rattle.stab_sampling.proofs.shots.write_copies.Given as goal
+use Rattle.stab_sampling.proofs.bits.write_copies.Given as goal
 
 abbrev pub invariant-loop-written : goal.invariant-loop-written
 invariant-loop-written g l =

@@ -1,7 +1,7 @@
 use Rattle.std.proofs.Common.{◌∙◌, ◌++◌, sym, ap, length}
 use Rattle.stab_results.specs.declared.format.Kinds.TheVariants.{Detectors}
 use Rattle.stab_sampling.specs.Sendings.{shown_kinds, shown_items}
-use Rattle.stab_sampling.proofs.shots.shown_of.Goals as goal
+use Rattle.stab_sampling.proofs.bits.shown_of.Goals as goal
 
 pub returns-in-Records-clause-kinds : goal.returns-in-Records-clause-kinds
 returns-in-Records-clause-kinds c = sym (ap (λ s. shown_kinds s (length c.args.detectors.items)) c.in-Records.is)

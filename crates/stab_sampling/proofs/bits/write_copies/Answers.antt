@@ -5,7 +5,7 @@ use Rattle.stab_sampling.specs.Outputs.{of_shots}
 use Rattle.stab_sampling.specs.Sendings.{shown_bytes}
 use Rattle.stab_sampling.proofs.SendingLaws.{sent_shot, shots_break_off}
 use Rattle.stab_sampling.proofs.ShotLaws.{bytes_shown, cut_off_as}
-use Rattle.stab_sampling.proofs.shots.write_copies.Goals as goal
+use Rattle.stab_sampling.proofs.bits.write_copies.Goals as goal
 
 pub loop-written-preserved : goal.loop-written-preserved
 loop-written-preserved g c = λ first shown run is.

@@ -4,20 +4,19 @@ use Rattle.stab_steps.specs.ProgramStates.{output_of}
 use Rattle.stab_steps.specs.Cuts.{rest_of}
 use Rattle.stab_steps.proofs.RunLemmas.{joined-assoc}
 use Rattle.stab_run.specs.RoundLaws.{copies}
-use Rattle.stab_run.proofs.AgainLemmas.{copies-more}
-use Rattle.stab_run.proofs.rounds.give_again.Goals as goal
+use Rattle.stab_run.proofs.CopyLemmas.{copies-more}
+use Rattle.stab_run.proofs.again.append_times.Goals as goal
 
 pub loop-preserved : goal.loop-preserved
 loop-preserved c =
     let inv = c.loop.invariant in
     let old = output_of c.args.outputs.now in
-    let more = rest_of c.args.lengths old in
+    let more = output_of c.args.more.now in
     record {
-      gives = inv.gives;
       whole = inv.whole;
       given =
-          (c.in_ok-append_rest-2.ensures {u = tt}).value
-          ∙ (λ i. joined (inv.given i) (rest_of (inv.whole i) (inv.gives i)))
+          (c.in_ok-append_rest.ensures {u = tt}).value
+          ∙ (λ i. joined (inv.given i) (rest_of (inv.whole i) more))
           ∙ joined-assoc old (copies c.loop.counter more) more
           ∙ ap (joined old) (copies-more c.loop.counter more);
     }
