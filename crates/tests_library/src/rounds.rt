@@ -1,4 +1,7 @@
 //! Blocks whose rounds come again: what runs and sessions give of them, and where they stand in the steps.
+ghost use Rattle.std.specs.Prelude.{◌≤◌};
+ghost use Rattle.stab_run.specs.Limits.{most_stride};
+
 use stab_circuit::{Repeat, read_circuit};
 use stab_pauli::MemoryInput;
 use stab_session::{SeedCoins, Session, Shot, run_once};
@@ -193,7 +196,10 @@ fn blocks_give_what_they_give_written_out(rt: HostRuntime) -> Result<(), Fail> {
 }
 
 /// Whether a session on a block, with copies a stride apart, gives what a run gives of the block written out.
-fn session_agrees(alloc: Global, case: Case, stride: usize) -> Result<bool, Fail> {
+fn session_agrees(alloc: Global, case: Case, stride: usize) -> Result<bool, Fail>
+    requires above { 1 ≤ stride }
+    requires within { stride ≤ most_stride }
+{
     let block = in_a_block(alloc, case)?;
     let lines = written_out(alloc, case)?;
     let shot = shot_of(alloc, lines.as_slice(), 1)?;
@@ -213,9 +219,9 @@ fn session_agrees(alloc: Global, case: Case, stride: usize) -> Result<bool, Fail
 fn sessions_on_blocks_give_what_runs_give_written_out(rt: HostRuntime) -> Result<(), Fail> {
     let mut same = true;
     for case in CASES {
-        for stride in [7, 100, 2048] {
-            same &= session_agrees(rt.alloc(), case, stride)?;
-        }
+        same &= session_agrees(rt.alloc(), case, 7)?;
+        same &= session_agrees(rt.alloc(), case, 100)?;
+        same &= session_agrees(rt.alloc(), case, 2048)?;
     }
     assert!(rt; same);
     Ok(())
