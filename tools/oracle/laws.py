@@ -130,15 +130,21 @@ def long_block(random):
     return maker.n, block, "\n".join([*before, *body * rounds, *behind]).encode()
 
 
+# A block that changes nothing: where a circuit has one, no rounds are looked for that are written out.
+STILL_BLOCK = b"\nREPEAT 2 {\nI 0\n}\n"
+
+
 def blocks_as_written_out(random, run):
-    """What a long block gives, whose rounds may come again, against its lines as often as it counts."""
+    """What a long block gives, whose rounds may come again, and its lines as often as it counts, against these lines carried out one by one."""
     _, block, lines = long_block(random)
     seed = str(random.randrange(2**32))
     shots = str(random.randint(1, 4))
     for command in (["sample"], ["detect", "--append_observables"]):
-        answer, right = (run([*command, "--seed", seed, "--shots", shots], text) for text in (block, lines))
-        if answer != right or answer[0] != 0:
-            return f"{command[0]} of a block and of its lines differ\n{block!r}\n{seed} {shots}\n{answer}\n{right}"
+        right = run([*command, "--seed", seed, "--shots", shots], lines + STILL_BLOCK)
+        for text in (block, lines):
+            answer = run([*command, "--seed", seed, "--shots", shots], text)
+            if answer != right or answer[0] != 0:
+                return f"{command[0]} of a block or of its lines differs\n{block!r}\n{seed} {shots}\n{answer}\n{right}"
     return None
 
 
@@ -148,16 +154,18 @@ def written_out(items):
 
 
 def sessions_as_written_out(random, run):
-    """A session on a long block, and some edits of it, at any stride, against one opened anew on what they leave, written out."""
+    """A session on a long block, and some edits of it, at any stride, against one opened anew on what they leave, written out and carried out line by line; and one opened on these lines."""
     n, block, _ = long_block(random)
     session = Session(items_of(block), n, None)
     script = edits(random, session, random.randint(0, 4))
     words = ["edit", "--qubits", str(n), "--seed", str(random.randrange(2**32))]
     stride = str(random.choice([1, 2, 7, 8, 30, 100, 300, 1000, 3000, 8192]))
     answer = run([*words, "--stride", stride], block, script + LISTS)
-    status, shown, told = run(words, written_out(session.items), LISTS)
+    lines = written_out(session.items)
+    status, shown, told = run(words, lines + STILL_BLOCK, LISTS)
     right = 3 if session.refused else 0, b"".join(session.replies) + shown, b""
-    if (status, told) != (0, b"") or answer != right:
+    anew = run([*words, "--stride", stride], lines, LISTS)
+    if (status, told) != (0, b"") or answer != right or anew != (0, shown, b""):
         return f"a session on a block and on its lines differ\n{block!r}\n{script!r}\n{words} {stride}\n{answer}\n{status} {told!r}\n{right}"
     return None
 

@@ -18,14 +18,8 @@ use Rattle.stab_steps.proofs.RunLemmas.{IsRun-none, IsRun-append}
 use Rattle.stab_frames.specs.KeptStrings.{StringsState, kept_with}
 use Rattle.stab_frames.specs.Lookbacks.{LooksWithin}
 use Rattle.stab_frames.specs.inner.Noted.{IsNotedOf, IsNoted, NotesSteps}
-use Rattle.stab_frames.proofs.WalkLemmas.{near-more}
+use Rattle.stab_rounds.proofs.LookLemmas.{within-more, one-more}
 use Rattle.stab_frames.proofs.NotedLemmas.{keeps-unmeasured, keeps-step, keeps-none, keeps-append}
-
--- how far back steps look, where they may look further
-within-more : (m k : ℕ) (xs : List Step) → m ≤ k → All (LooksWithin m) xs → All (LooksWithin k) xs
-within-more m k [] le all = All-nil (LooksWithin k)
-within-more m k (x ∷ xs) le all =
-    All-cons (LooksWithin k) x xs (near-more m k le (lookbacks x) (All-head (LooksWithin m) x xs all)) (within-more m k xs le (All-tail (LooksWithin m) x xs all))
 
 -- no step, one step, and steps one after another
 
@@ -89,10 +83,6 @@ notes-all {n} {coins} {all} {xs} {reach} {first} {kept} {old} {now} e led = led 
 
 -- the steps of targets, one more of them, and all
 
-one-more : {X : Type 0} (step : X → Step) (xs : List X) (i : ℕ) (x : X) → i < length xs → x ≡ get_or xs i x
-    → map step (take (i + 1) xs) ≡ map step (take i xs) ++ step x ∷ []
-one-more step xs i x lt is = map_more step xs i x lt ∙ ap (λ y. map step (take i xs) ++ step y ∷ []) (sym is)
-
 pub notes-target : {X : Type 0} (n m : ℕ) (c d : ℕ → Bool) (step : X → Step) (xs : List X) (i : ℕ) (x : X) (near far : ℕ) (kept mid behind : StringsState)
     (a b new : ProgramState) → i < length xs → x ≡ get_or xs i x → m ≡ n → d ≡ c → near ≤ far → NotesSteps n c (map step (take i xs)) near kept mid a b
     → NotesSteps m d (step x ∷ []) far mid behind b new → NotesSteps n c (map step (take (i + 1) xs)) far kept behind a new
@@ -119,10 +109,6 @@ pub coins-gates : (g : Gate) (qubits : List ℕ) → all_coins_of (map (one g) q
 coins-gates g [] = refl
 coins-gates g (q ∷ qubits) = let e = coins-gates g qubits in omega (arith, e)
 
-pub near-gates : (reach : ℕ) (g : Gate) (qubits : List ℕ) → All (LooksWithin reach) (map (one g) qubits)
-near-gates reach g [] = All-nil (LooksWithin reach)
-near-gates reach g (q ∷ qubits) = All-cons (LooksWithin reach) (one g q) (map (one g) qubits) refl (near-gates reach g qubits)
-
 pub coins-pairs : (axis : Axis) (pairs : List ControlledPair) → all_coins_of (map (controlled_step axis) pairs) ≡ 0
 coins-pairs axis [] = refl
 coins-pairs axis (pair.Qubits p ∷ pairs) = let e = coins-pairs axis pairs in omega (arith, e)
@@ -131,11 +117,3 @@ coins-pairs axis (pair.Record q k ∷ pairs) = let e = coins-pairs axis pairs in
 pub coins-detectors : (kss : List (List ℕ)) → all_coins_of (map detector kss) ≡ 0
 coins-detectors [] = refl
 coins-detectors (ks ∷ kss) = let e = coins-detectors kss in omega (arith, e)
-
--- how far back the steps of targets look, one more of them
-pub within-target : {X : Type 0} (near far : ℕ) (step : X → Step) (xs : List X) (i : ℕ) (x : X) → i < length xs → x ≡ get_or xs i x → near ≤ far
-    → All (LooksWithin near) (map step (take i xs)) → LooksWithin far (step x) → All (LooksWithin far) (map step (take (i + 1) xs))
-within-target near far step xs i x lt is le front here =
-    subst (All (LooksWithin far)) (sym (one-more step xs i x lt is))
-    (All-append (LooksWithin far) (map step (take i xs)) (step x ∷ []) (within-more near far (map step (take i xs)) le front)
-    (All-cons (LooksWithin far) (step x) [] here (All-nil (LooksWithin far))))

@@ -19,7 +19,7 @@ use Rattle.stab_frames.specs.Walks.{WalkState}
 use Rattle.stab_frames.specs.inner.Passes.{GoesOver, GoesFreely}
 use Rattle.stab_frames.specs.inner.Touches.{acts, touches_qubit, touches_pair, Covers}
 use Rattle.stab_frames.proofs.ImageLemmas.{gate-image}
-use Rattle.stab_frames.proofs.WalkLemmas.{both}
+use Rattle.stab_rounds.proofs.LookLemmas.{both}
 use Rattle.stab_frames.proofs.GoesOverLemmas.{goes-append, freely-none, freely-gate}
 use Rattle.stab_frames.proofs.TouchLemmas.{no-letter, set-same, freely-part}
 

@@ -185,23 +185,3 @@ pub factors-next : (f : List Letter) (i : ℕ) (factors : List Factor) (d : Fact
     → factors_anticommute f (drop i factors)
     ≡ letters_anticommute (letter_at f (get_or factors i d).qubit) (letter_of (get_or factors i d).letter) ⊕ factors_anticommute f (drop (suc i) factors)
 factors-next f i factors d lt = ap (factors_anticommute f) (drop-cons factors i d lt)
-
--- the greatest of numbers one after another
-
-pub both : (a b : Bool) → a ≡ false → b ≡ false → (a || b) ≡ false
-both false b ea eb = eb
-both true b ea eb = cc
-
-pub near-more : (m k : ℕ) → m ≤ k → (ks : List ℕ) → list_any (nat_lt m) ks ≡ false → list_any (nat_lt k) ks ≡ false
-near-more m k le [] e = refl
-near-more m k le (x ∷ ks) e =
-    both (nat_lt k x) (list_any (nat_lt k) ks) (grind (arith, or-left (nat_lt m x) (list_any (nat_lt m) ks) e, le))
-    (near-more m k le ks (or-right (nat_lt m x) (list_any (nat_lt m) ks) e))
-
-pub near-next : (i m k : ℕ) (ks : List ℕ) → i < length ks → list_any (nat_lt m) (take i ks) ≡ false → m ≤ k → get_or ks i 0 ≤ k
-    → list_any (nat_lt k) (take (suc i) ks) ≡ false
-near-next i m k [] lt e le lx = absurd (omega arith)
-near-next zero m k (y ∷ ks) lt e le lx = both (nat_lt k y) false (grind (arith, lx)) refl
-near-next (suc i) m k (y ∷ ks) lt e le lx =
-    both (nat_lt k y) (list_any (nat_lt k) (take (suc i) ks)) (grind (arith, or-left (nat_lt m y) (list_any (nat_lt m) (take i ks)) e, le))
-    (near-next i m k ks (omega arith) (or-right (nat_lt m y) (list_any (nat_lt m) (take i ks)) e) le lx)

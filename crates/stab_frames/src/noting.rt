@@ -1,8 +1,5 @@
-ghost use Rattle.std.specs.Prelude.{◌≡◌, ◌+◌, ◌<◌, ◌≤◌, ◌^◌, false, nat_lt, All, length, map, take, drop, OnOk, IfErr};
-ghost use Rattle.std.specs.List.{list_any};
+ghost use Rattle.std.specs.Prelude.{◌≡◌, ◌+◌, ◌<◌, ◌≤◌, ◌^◌, All, length, take, drop, OnOk, IfErr};
 ghost use Rattle.stab_io.specs.declared.refusal.Refusal.TheVariants.{OutOfMemory};
-ghost use Rattle.stab_circuit.specs.Steps.{controlled_step, detector};
-ghost use Rattle.stab_circuit.specs.Cursors.{lookbacks_of, step_shown};
 ghost use Rattle.stab_run.specs.Records.{ones};
 ghost use Rattle.stab_run.specs.Points.{all_coins_of};
 ghost use Rattle.stab_run.specs.ProgramStates.{StepFits, IsRun, program_state, output_of};
@@ -10,11 +7,10 @@ ghost use Rattle.stab_frames.specs.KeptStrings.{KeepsTrue};
 ghost use Rattle.stab_frames.specs.Lookbacks.{LooksWithin};
 
 use crate::strings::KeptStrings;
-use stab_circuit::{
-    Axis, ControlledPair, Cursor, Detectors, MeasureTarget, Measurement, Step, Steps, measured_step,
-};
+use stab_circuit::{Cursor, MeasureTarget, Measurement, Step, Steps, measured_step};
 use stab_io::Refusal;
 use stab_pauli::Pauli;
+use stab_rounds::{furthest, furthest_detector, furthest_of};
 use stab_run::{Coins, Outputs, apply_step_with_exchange, apply_steps};
 use stab_tableau::Tableau;
 use std::alloc::Global;
@@ -76,64 +72,6 @@ pub fn run_noting<C: Coins>(
         notes.run_steps(alloc, tableau, string, coins, outputs, steps, applied)?;
     }
     Ok(())
-}
-
-/// The greatest of numbers and another.
-fn greatest(least: u32, numbers: &[u32]) -> u32
-    ensures more { least ≤ result }
-    ensures within { list_any (nat_lt result) numbers.now ≡ false }
-{
-    let mut greatest = least;
-    for number in numbers {
-        greatest = greatest.max(*number);
-    }
-    greatest
-}
-
-/// How far back a pair looks, if a record controls it, or else 0.
-fn lookback_of(pair: ControlledPair) -> u32
-    ensures within { (axis : Axis) → LooksWithin result (controlled_step axis pair) }
-{
-    match pair {
-        ControlledPair::Qubits(_) => 0,
-        ControlledPair::Record(_, lookback) => lookback.number(),
-    }
-}
-
-/// The greatest of a number and the lookbacks of records that control.
-fn furthest(least: u32, pairs: &[ControlledPair]) -> u32
-    ensures more { least ≤ result }
-    ensures within { (axis : Axis) → All (LooksWithin result) (map (controlled_step axis) pairs.now) }
-{
-    let mut greatest = least;
-    for pair in pairs {
-        greatest = greatest.max(lookback_of(*pair));
-    }
-    greatest
-}
-
-/// The greatest of a number and the lookbacks of detectors.
-fn furthest_detector(least: u32, detectors: Detectors) -> u32
-    ensures more { least ≤ result }
-    ensures within { All (LooksWithin result) (map detector (lookbacks_of detectors.entry)) }
-{
-    let mut reach = least;
-    for place in 0..detectors.len() {
-        reach = greatest(reach, detectors.get(place));
-    }
-    reach
-}
-
-/// The greatest of a number and the lookbacks of a step.
-fn furthest_of(least: u32, step: Step) -> u32
-    ensures more { least ≤ result }
-    ensures within { LooksWithin result (step_shown step.entry) }
-{
-    match step {
-        Step::One(..) | Step::Two(..) | Step::Collapse { .. } | Step::Product { .. } => least,
-        Step::Controlled(_, k, _) => least.max(k),
-        Step::Detector(lookbacks) | Step::Observable(_, lookbacks) => greatest(least, lookbacks),
-    }
 }
 
 impl RunNotes {

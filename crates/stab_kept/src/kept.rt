@@ -3,6 +3,7 @@ ghost use Rattle.stab_io.specs.declared.refusal.Refusal.TheVariants.{OutOfMemory
 ghost use Rattle.stab_letters.specs.Limits.{most_qubits};
 ghost use Rattle.stab_circuit.specs.Steps.{Step, unroll, observables_of, check_of, check_within};
 ghost use Rattle.stab_circuit.specs.Views.{circuit_items};
+ghost use Rattle.stab_circuit.specs.Repeats.{AreRepeats};
 ghost use Rattle.stab_circuit.specs.Cursors.{IsApart};
 ghost use Rattle.stab_run.specs.Records.{ones};
 ghost use Rattle.stab_run.specs.Points.{all_coins_of};
@@ -15,7 +16,7 @@ ghost use Rattle.stab_kept.specs.KeptRuns.{IsKeptRun, IsSameKept, IsSpan, Follow
 ghost use Rattle.stab_kept.specs.inner.Prepared.{Begins, HasCopy, IsRest, HasRoom, IsPrepared, copies_behind, IsInPlace};
 ghost use Rattle.stab_replay.specs.NotedStrings.{IsSpliced};
 
-use stab_circuit::{Circuit, Cursor, Span};
+use stab_circuit::{Circuit, Cursor, Repeat, Span};
 use stab_copies::{Checkpoint, Meeting, count_before, lay_all, take_moved};
 use stab_frames::{KeptStrings, RunNotes};
 use stab_io::Refusal;
@@ -147,8 +148,8 @@ impl KeptRun {
     }
 
     /// Makes this the run of an edited circuit, whose steps differ within the span, by carrying out
-    /// steps anew, and tells how many were, and how many a frame went over. The run is as before where
-    /// memory is refused.
+    /// steps anew, and tells how many were, and how many a frame went over. In repeats of the circuit's steps
+    /// what rounds gave is given again, where they come again. The run is as before where memory is refused.
     ///
     /// The replay goes on in the memory of a spare tableau if there is one, and one of the two
     /// that are then at hand is the next spare.
@@ -156,12 +157,14 @@ impl KeptRun {
         &mut self,
         alloc: Global,
         circuit: &Circuit,
+        repeats: &[Repeat],
         span: Span,
         stride: usize,
         coins: &mut C,
         spare: &mut Option<Tableau>,
     ) -> Result<Followed, Refusal>
         requires checked { check_within self.old.tableau.qubits (circuit_items circuit.now) ≡ None }
+        requires repeats { AreRepeats 0 (unroll (circuit_items circuit.now)) repeats.now }
         requires stride { 1 ≤ stride }
         requires follows { Follows self.old.tableau.qubits (C.sequence coins.old) stride (unroll (circuit_items circuit.now)) span None self.old }
         ensures kept { OnOk result (IsKeptRun self.old.tableau.qubits (C.sequence coins.old) stride (unroll (circuit_items circuit.now)) (observables_of (circuit_items circuit.now)) self.new) }
@@ -193,6 +196,7 @@ impl KeptRun {
         let end = replay.follow(
             alloc,
             circuit,
+            repeats,
             self.checkpoints.as_slice(),
             &self.outputs,
             &self.strings,

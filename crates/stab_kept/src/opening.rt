@@ -12,6 +12,7 @@ ghost use Rattle.stab_kept.specs.KeptRuns.{IsKeptRun};
 use crate::kept::KeptRun;
 use stab_circuit::{Circuit, Span};
 use stab_io::{Fault, Refusal};
+use stab_rounds::find_rounds;
 use stab_run::Coins;
 use stab_turns::outline_between;
 use std::alloc::Global;
@@ -63,7 +64,8 @@ fn run_checked<C: Coins>(
         new_end: circuit.steps(),
     };
     let mut kept = KeptRun::new(alloc, n)?;
-    kept.replay(alloc, circuit, span, stride, coins, &mut None)?;
+    let rounds = find_rounds(alloc, circuit)?;
+    kept.replay(alloc, circuit, rounds.as_slice(), span, stride, coins, &mut None)?;
     kept.sections = outline_between(alloc, circuit, kept.checkpoints.as_slice())?;
     Ok(kept)
 }

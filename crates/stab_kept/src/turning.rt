@@ -383,6 +383,7 @@ impl KeptRun {
                 return Ok(followed);
             }
         }
-        self.replay(alloc, circuit, span, stride, coins, spare)
+        let repeats = circuit.repeats(alloc)?;
+        self.replay(alloc, circuit, repeats.as_slice(), span, stride, coins, spare)
     }
 }

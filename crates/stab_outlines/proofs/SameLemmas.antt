@@ -1,56 +1,12 @@
--- Lists that are compared element by element.
-use Rattle.std.proofs.Common.{◌≡◌, ◌==◌, ◌&&◌, refl, sym, ap, ◌∙◌, ℕ, Bool, true, false, List, [], ◌∷◌, map}
-use Rattle.std.proofs.lemmas.Bool.Decides.{Decides-eqb}
-use Rattle.std.specs.Bool.{beq, OnTrue}
+-- Stretches that are compared with steps.
+use Rattle.std.proofs.Common.{◌≡◌, sym, ap, ◌∙◌, Bool, true, List, map}
+use Rattle.std.specs.Bool.{OnTrue}
 use Rattle.std.specs.Cmp.Lexicographic.{pointwise}
 use Rattle.std.proofs.lemmas.Bool.{OnTrue_from}
-use Rattle.stab_lines.specs.declared.control.ControlledPair.{ControlledPair}
-use Rattle.stab_lines.specs.declared.control.ControlledPair.TheVariants.{Qubits, Record}
-use Rattle.stab_lines.specs.declared.range.MeasureTarget.{MeasureTarget}
 use Rattle.stab_circuit.specs.Steps.{Step}
+use Rattle.stab_rounds.proofs.SameLemmas.{same_list}
 use Rattle.stab_outlines.specs.declared.stretch.Stretch.{Stretch}
 use Rattle.stab_outlines.specs.Outlines.{stretch_steps}
-
-pub both_true : (a b : Bool) → (a && b) ≡ true → (a ≡ true) × (b ≡ true)
-both_true true b e = (refl, e)
-both_true false b e = absurd (cc)
-
-pub same_bool : (a b : Bool) → beq a b ≡ true → a ≡ b
-same_bool true true e = refl
-same_bool true false e = absurd (cc)
-same_bool false true e = absurd (cc)
-same_bool false false e = refl
-
-pub same_list : {A : Type 0} (E : A → A → Bool) (xs ys : List A) → ((a b : A) → E a b ≡ true → a ≡ b) → pointwise E xs ys ≡ true → xs ≡ ys
-same_list E [] [] tells e = refl
-same_list E [] (y ∷ ys) tells e = absurd (cc)
-same_list E (x ∷ xs) [] tells e = absurd (cc)
-same_list E (x ∷ xs) (y ∷ ys) tells e =
-    let both = both_true (E x y) (pointwise E xs ys) e in
-    ap (λ z. z ∷ xs) (tells x y both.0) ∙ ap (λ zs. y ∷ zs) (same_list E xs ys tells both.1)
-
-pub tells_qubits : (a b : ℕ) → (a == b) ≡ true → a ≡ b
-tells_qubits a b e = (Decides-eqb a b).0 e
-
-pub tells_pairs : (E : ControlledPair → ControlledPair → Bool) → ((p q : ℕ × ℕ) → E (Qubits p) (Qubits q) ≡ ((p.0 == q.0) && (p.1 == q.1)))
-    → ((p : ℕ × ℕ) (r k : ℕ) → E (Qubits p) (Record r k) ≡ false) → ((q k : ℕ) (p : ℕ × ℕ) → E (Record q k) (Qubits p) ≡ false)
-    → ((q k r l : ℕ) → E (Record q k) (Record r l) ≡ ((q == r) && (k == l))) → (a b : ControlledPair) → E a b ≡ true → a ≡ b
-tells_pairs E two left right lone (Qubits p) (Qubits q) e =
-    let both = both_true (p.0 == q.0) (p.1 == q.1) (sym (two p q) ∙ e) in
-    ap (λ n. Qubits (n, p.1)) (tells_qubits p.0 q.0 both.0) ∙ ap (λ n. Qubits (q.0, n)) (tells_qubits p.1 q.1 both.1)
-tells_pairs E two left right lone (Qubits p) (Record r k) e = let none : true ≡ false = sym e ∙ left p r k in absurd (cc)
-tells_pairs E two left right lone (Record q k) (Qubits p) e = let none : true ≡ false = sym e ∙ right q k p in absurd (cc)
-tells_pairs E two left right lone (Record q k) (Record r l) e =
-    let both = both_true (q == r) (k == l) (sym (lone q k r l) ∙ e) in
-    ap (λ n. Record n k) (tells_qubits q r both.0) ∙ ap (λ n. Record r n) (tells_qubits k l both.1)
-
-abbrev target : ℕ → Bool → MeasureTarget
-target q i = record { qubit = q; inverted = i }
-
-pub tells_targets : (E : MeasureTarget → MeasureTarget → Bool) → ((a b : MeasureTarget) → E a b ≡ ((a.qubit == b.qubit) && beq a.inverted b.inverted)) → (a b : MeasureTarget) → E a b ≡ true → a ≡ b
-tells_targets E is a b e =
-    let both = both_true (a.qubit == b.qubit) (beq a.inverted b.inverted) (sym (is a b) ∙ e) in
-    ap (λ n. target n a.inverted) (tells_qubits a.qubit b.qubit both.0) ∙ ap (λ i. target b.qubit i) (same_bool a.inverted b.inverted both.1)
 
 -- a stretch of the same kind with the same list
 pub same_steps : {A K : Type 0} (E : A → A → Bool) (tells : (a b : A) → E a b ≡ true → a ≡ b) (f : K → A → Step) (s : Stretch) (own k : K) (xs seen ys : List A) (r : Bool)

@@ -2,6 +2,7 @@ ghost use Rattle.std.specs.Prelude.{◌≡◌, ℕ, ◌+◌, ◌-◌, ◌*◌, �
 ghost use Rattle.stab_io.specs.declared.refusal.Refusal.TheVariants.{OutOfMemory};
 ghost use Rattle.stab_circuit.specs.Steps.{most_steps, unroll, check_of};
 ghost use Rattle.stab_circuit.specs.Views.{circuit_items};
+ghost use Rattle.stab_circuit.specs.Repeats.{AreRepeats};
 ghost use Rattle.stab_run.specs.Records.{ones};
 ghost use Rattle.stab_run.specs.Points.{all_coins_of};
 ghost use Rattle.stab_run.specs.ProgramStates.{StepFits, output_of};
@@ -265,11 +266,13 @@ impl<'a> Replay<'a> {
     }
 
     /// Carries out steps until the replay meets an old copy or is behind the last step, and lays
-    /// copies on the way: one for each spacing, and one for each old copy that it passes, at most.
+    /// copies on the way: one for each spacing, and one for each old copy that it passes, at most. In repeats of the
+    /// circuit's steps it gives again what it gave where it stands as it stood rounds before.
     pub fn follow<C: Coins>(
         &mut self,
         alloc: Global,
         circuit: &'a Circuit,
+        repeats: &[Repeat],
         copies: &[Checkpoint],
         old: &Outputs,
         strings: &KeptStrings,
@@ -286,6 +289,7 @@ impl<'a> Replay<'a> {
         requires nothing_framed { self.old.framed ≡ 0 }
         requires old { IsOldRun self.old.tableau.qubits (C.sequence coins.old) plan self.old.cursor.all copies.now (output_of old.now) strings.now }
         requires same_circuit { unroll (circuit_items circuit.now) ≡ self.old.cursor.all }
+        requires repeats { AreRepeats 0 self.old.cursor.all repeats.now }
         requires checked { check_of (circuit_items circuit.now) ≡ None }
         requires next { plan.next ≤ length copies.now }
         requires ascending { Ascending plan self.old.step (drop plan.next copies.now) }
@@ -312,9 +316,7 @@ impl<'a> Replay<'a> {
         let mut telling = 0;
         // What copies are expanded into, so that memory for it is asked for once at most.
         let mut spare: Option<Tableau> = None;
-        let repeats = circuit.repeats(alloc)?;
-        loop {
-            let repeats = repeats.as_slice();
+        'following: loop {
             let reached = self.advance(
                 alloc, circuit, repeats, copies, old, strings, plan, next, coins,
             )?;

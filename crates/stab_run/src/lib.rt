@@ -4,7 +4,7 @@
 //!
 //! - `run`: some steps of a circuit, and what a run gives.
 //! - `again`: what rounds gave, given again.
-//! - `rounds`: the blocks of a circuit. The rounds of a block are carried out until a state comes again; from there
+//! - `rounds`: rounds, of blocks or written out. They are carried out until a state comes again; from there
 //!   on they give again what they gave.
 //! - `whole`: all steps of a circuit.
 //! - `sampler`: one circuit made ready for many runs, and one run of it.

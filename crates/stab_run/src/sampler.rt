@@ -13,12 +13,13 @@ use crate::whole::run_whole;
 use stab_circuit::{Circuit, Repeat};
 use stab_io::{Fault, Refusal};
 use stab_pauli::Pauli;
+use stab_rounds::find_rounds;
 use stab_steps::Coins;
 use stab_tableau::Tableau;
 use std::alloc::Global;
 use std::marker::Model;
 
-/// A circuit that is ready for many shots, on one tableau: checked once, and its blocks found once.
+/// A circuit that is ready for many shots, on one tableau: checked once, and its rounds found once.
 ///
 /// Contracts see how many qubits there are, and the circuit's items. No shot changes either, nor
 /// does it leave anything to the next one.
@@ -27,7 +28,7 @@ pub struct Sampler<'a> {
     tableau: Tableau,
     // A string on the tableau's qubits, for products to be written into: so no step takes memory for one.
     string: Pauli,
-    // Its blocks, by their steps: the rounds of one may come to a state that they were in before.
+    // Its rounds, by their steps: they may come to a state that they were in before.
     repeats: Vec<Repeat>,
     // How many of each the circuit has, which the items are walked for once.
     records: usize,
@@ -96,7 +97,7 @@ impl<'a> Sampler<'a> {
     {
         let tableau = Tableau::new(alloc, n)?;
         let string = Pauli::identity(alloc, n)?;
-        let repeats = circuit.repeats(alloc)?;
+        let repeats = find_rounds(alloc, circuit)?;
         // This tells a proof that the qubits of each pair differ.
         let _ = circuit.len();
         Ok(Sampler {
@@ -111,8 +112,8 @@ impl<'a> Sampler<'a> {
 
     /// Runs the circuit once, with all qubits 0 at first, whatever became of earlier shots.
     ///
-    /// The rounds of a block are carried out until a state comes again; from there on they give
-    /// again what they gave. Coins are numbered and asked for as by `run_once`. Beside its lists, a
+    /// Rounds, of a block or written out, are carried out until a state comes again; from there on
+    /// they give again what they gave. Coins are numbered and asked for as by `run_once`. Beside its lists, a
     /// shot takes memory for places within nested blocks, and for copies of the tableau and of what
     /// rounds gave. Refusal `OutOfMemory` alone.
     pub fn shot<C: Coins>(&mut self, alloc: Global, coins: &mut C) -> Result<Shot, Refusal>

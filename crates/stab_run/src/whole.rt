@@ -1,6 +1,6 @@
 //! A whole run of a circuit.
 
-ghost use Rattle.std.specs.Prelude.{◌≡◌, ◌+◌, ◌≤◌, length, None, IfOk, IfSome, IsSome, IfErr};
+ghost use Rattle.std.specs.Prelude.{◌≡◌, ◌+◌, ◌≤◌, false, length, replicate, None, IfOk, IfSome, IsSome, IfErr};
 ghost use Rattle.stab_io.specs.declared.refusal.Refusal.TheVariants.{OutOfMemory};
 ghost use Rattle.stab_tableau.specs.Tableaus.{stabilises};
 ghost use Rattle.stab_circuit.specs.Steps.{unroll, check_within};
@@ -8,7 +8,7 @@ ghost use Rattle.stab_circuit.specs.Views.{circuit_items};
 ghost use Rattle.stab_circuit.specs.Repeats.{AreRepeats};
 ghost use Rattle.stab_steps.specs.Records.{ones};
 ghost use Rattle.stab_steps.specs.Runs.{run, start};
-ghost use Rattle.stab_steps.specs.Points.{all_coins_of};
+ghost use Rattle.stab_steps.specs.Points.{all_coins_of, with_additions};
 ghost use Rattle.stab_run.specs.inner.Shots.{IsShotOf};
 
 use crate::rounds::{run_part, run_repeats};
@@ -18,11 +18,11 @@ use stab_io::Refusal;
 use stab_pauli::Pauli;
 use stab_steps::{Coins, Outputs, observables as summed};
 use stab_tableau::Tableau;
-use std::alloc::Global;
+use std::alloc::{AllocError, Global};
 
-/// Carries out all steps of a circuit on qubits that are 0 at first, whatever the tableau was. The
-/// rounds of a block are carried out until a state comes again; from there on they give again what
-/// they gave. Where more than so many steps would be carried out all the same, there is no shot.
+/// Carries out all steps of a circuit on qubits that are 0 at first, whatever the tableau was. Rounds,
+/// of a block or written out, are carried out until a state comes again; from there on they give again
+/// what they gave. Where more than so many steps would be carried out all the same, there is no shot.
 /// There is room for so many records from the beginning, and there are so many observables.
 ///
 /// Refusal `OutOfMemory` alone.
@@ -76,6 +76,17 @@ pub fn run_whole<C: Coins>(
         from,
         rest,
     )?;
+    let shot = shot_of(alloc, outputs, observables)?;
+    Ok(Some(shot))
+}
+
+/// What a run gives that has so many observables, by what its steps gave.
+fn shot_of(alloc: Global, outputs: Outputs, observables: usize) -> Result<Shot, AllocError>
+    ensures records { IfOk result (λ s. s.records.items ≡ outputs.records.items) }
+    ensures free { IfOk result (λ s. s.free.items ≡ outputs.free.items) }
+    ensures detectors { IfOk result (λ s. s.detectors.items ≡ outputs.detectors.items) }
+    ensures observables { IfOk result (λ s. s.observables.items ≡ with_additions outputs.additions.items (replicate observables false)) }
+{
     let Outputs {
         records,
         free,
@@ -83,10 +94,10 @@ pub fn run_whole<C: Coins>(
         additions,
     } = outputs;
     let observables = summed(alloc, observables, additions.as_slice())?;
-    Ok(Some(Shot {
+    Ok(Shot {
         records,
         free,
         detectors,
         observables,
-    }))
+    })
 }

@@ -209,7 +209,7 @@ fn send_few<O: Output>(
     requires in_range { first + shots ≤ shots_of_seed }
     ensures sends { SendsUnflushed (of_shots (λ shot. shown_bytes format shown (run_of (qubits_of (circuit_items circuit.now)) (seed_coin seed shot) (circuit_items circuit.now))) first shots) (O.seen out.old) (O.seen out.new) result }
 {
-    let most = most_steps_singly(alloc, circuit, shots)?;
+    let most = most_steps_singly(circuit, shots);
     if most == 0 {
         return send_rest(alloc, circuit, None, out, format, shown, seed, first, shots);
     }

@@ -65,24 +65,13 @@ const MOST_SINGLY: usize = 16;
 /// Which part of a circuit's steps such shots carry out together at most: lanes carry out all, but once.
 const SINGLY: usize = 4;
 
-/// How many steps a shot carries out at most that is one of so many which go one after another. It is 0 where a shot is alone,
-/// there are too many, or no block could give its rounds again.
-pub(crate) fn most_steps_singly(
-    alloc: Global,
-    circuit: &Circuit,
-    shots: usize,
-) -> Result<usize, Fault>
-    requires checked { check_of (circuit_items circuit.now) ≡ None }
-    ensures err { IfErr result (λ f. f ≡ whole OutOfMemory) }
-{
+/// How many steps a shot carries out at most that is one of so many which go one after another. It is 0 where a shot is alone or
+/// there are too many.
+pub(crate) fn most_steps_singly(circuit: &Circuit, shots: usize) -> usize {
     if shots < 2 || shots > MOST_SINGLY {
-        return Ok(0);
+        return 0;
     }
-    let repeats = circuit.repeats(alloc).map_err(Fault::whole)?;
-    if repeats.is_empty() {
-        return Ok(0);
-    }
-    Ok(circuit.steps() / SINGLY / shots)
+    circuit.steps() / SINGLY / shots
 }
 
 /// How many shots go through a circuit at once, where so many are asked for.

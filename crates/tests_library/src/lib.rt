@@ -44,3 +44,5 @@ mod states;
 mod step_items;
 #[cfg(test)]
 mod texts;
+#[cfg(test)]
+mod written;

@@ -161,13 +161,13 @@ fn written_out(alloc: Global, case: Case) -> Result<Vec<u8>, Fail> {
 }
 
 /// What a run of a text gives with some coins.
-fn shot_of(alloc: Global, text: &[u8], number: u64) -> Result<Shot, Fail> {
+pub(crate) fn shot_of(alloc: Global, text: &[u8], number: u64) -> Result<Shot, Fail> {
     let circuit = read_circuit(alloc, &mut MemoryInput::new(text))?;
     Ok(run_once(alloc, &circuit, 12, &mut SeedCoins::new(3, number))?)
 }
 
 /// Whether two runs gave the same.
-fn are_same(one: &Shot, other: &Shot) -> bool {
+pub(crate) fn are_same(one: &Shot, other: &Shot) -> bool {
     one.records.as_slice() == other.records.as_slice()
         && one.free.as_slice() == other.free.as_slice()
         && one.detectors.as_slice() == other.detectors.as_slice()

@@ -25,8 +25,8 @@ const CASES: [Case; 4] = [
     // A repetition code, behind a first round in which coins decide.
     (
         "H 0 2 4\nM 1 3\n",
-        "REPEAT 1100 {\n",
-        1100,
+        "REPEAT 1000 {\n",
+        1000,
         "CX 0 1 2 1 2 3 4 3\nMR 1 3\nDETECTOR rec[-1] rec[-3]\nOBSERVABLE_INCLUDE(1) rec[-2]\n",
         "M 0 2 4\nDETECTOR rec[-1] rec[-2] rec[-4]\n",
     ),

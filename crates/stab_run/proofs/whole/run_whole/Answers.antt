@@ -25,8 +25,8 @@ returns-in_err-run_part-clause-asks g c =
     asks-all from (c.steps.result - from) (g.C.Coins.asks c.args.coins.now) (g.C.Coins.asks c.run_repeats.new.coins) (g.C.Coins.asks c.run_part.new.coins)
     (unroll items) (omega (arith, counted)) c.in_ok-from.ensures.asks_part c.run_part.ensures.asks
 
-pub returns-in_err-observables-clause-asks : goal.returns-in_err-observables-clause-asks
-returns-in_err-observables-clause-asks g c =
+pub returns-in_err-shot_of-clause-asks : goal.returns-in_err-shot_of-clause-asks
+returns-in_err-shot_of-clause-asks g c =
     let items = circuit_items c.args.circuit.now in
     let from = c.in_ok-from.from in
     let counted = c.steps.ensures.value ∙ counted-steps c.args.tableau.now.qubits items c.requires.checked in
@@ -56,5 +56,5 @@ returns-clause-run g c =
     (subst (λ s. IsLed c.run_repeats.new.tableau.qubits s (take (from + rest) steps) behind) c.run_repeats.ensures.same_coins c.in_ok-run_part.ensures.led) in
     let whole : IsLed n coins steps behind =
     subst (λ xs. IsLed n coins xs behind) (take-all from rest steps (omega (arith, counted))) part in
-    led-shot n coins steps c.args.observables behind whole _ refl refl refl
-    (c.in_ok-observables.ensures.value ∙ ap (λ a. with_additions a (replicate c.args.observables false)) c.as_slice.ensures.value)
+    let gave = c.in_ok-shot.ensures in
+    led-shot n coins steps c.args.observables behind whole c.in_ok-shot.shot gave.records gave.free gave.detectors gave.observables

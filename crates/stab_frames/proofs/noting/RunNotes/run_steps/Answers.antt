@@ -4,7 +4,8 @@ use Rattle.stab_run.specs.Points.{all_coins_of}
 use Rattle.stab_run.specs.ProgramStates.{program_state, output_of}
 use Rattle.stab_steps.proofs.TargetLemmas.{coins-measured}
 use Rattle.stab_frames.specs.Lookbacks.{LooksWithin}
-use Rattle.stab_frames.proofs.NotesStepsLemmas.{notes-unmeasured, coins-gates, near-gates, coins-pairs, coins-detectors}
+use Rattle.stab_rounds.proofs.LookLemmas.{near-gates}
+use Rattle.stab_frames.proofs.NotesStepsLemmas.{notes-unmeasured, coins-gates, coins-pairs, coins-detectors}
 use Rattle.stab_frames.proofs.noting.RunNotes.run_steps.Goals as goal
 
 pub returns-in_ok-apply_steps-in-Gates-clause-noted : goal.returns-in_ok-apply_steps-in-Gates-clause-noted

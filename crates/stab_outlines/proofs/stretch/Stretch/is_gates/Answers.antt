@@ -3,7 +3,8 @@ use denote.Enum.Bare.{same_true}
 use Rattle.stab_letters.specs.contracts.gate.Gate.{the_type}
 use Rattle.stab_circuit.specs.Steps.{one}
 use Rattle.stab_outlines.specs.Outlines.{stretch_steps}
-use Rattle.stab_outlines.proofs.SameLemmas.{same_steps, tells_qubits}
+use Rattle.stab_rounds.proofs.SameLemmas.{tells_qubits}
+use Rattle.stab_outlines.proofs.SameLemmas.{same_steps}
 use Rattle.stab_outlines.proofs.stretch.Stretch.is_gates.Goals as goal
 
 pub returns-then-same_gate : goal.returns-then-same_gate

@@ -3,7 +3,8 @@ use denote.Enum.Bare.{same_true}
 use Rattle.stab_lines.specs.contracts.axis.Axis.{the_type}
 use Rattle.stab_circuit.specs.Steps.{controlled_step}
 use Rattle.stab_outlines.specs.Outlines.{stretch_steps}
-use Rattle.stab_outlines.proofs.SameLemmas.{same_steps, tells_pairs}
+use Rattle.stab_rounds.proofs.SameLemmas.{tells_pairs}
+use Rattle.stab_outlines.proofs.SameLemmas.{same_steps}
 use Rattle.stab_outlines.proofs.stretch.Stretch.is_pairs.Goals as goal
 
 pub returns-then-same_axis : goal.returns-then-same_axis

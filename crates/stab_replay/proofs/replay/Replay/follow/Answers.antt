@@ -18,8 +18,8 @@ use Rattle.stab_replay.proofs.replay.Replay.follow.Goals.{In_ok-reached, In_ok-l
 stopped : (g : Over) (c : In_ok-reached g) → IsAtStop c.args.self.now.tableau.qubits (g.C.Coins.sequence c.args.coins.now) c.args.self.now.step c.args.plan
     c.args.self.now.cursor.all c.args.copies.now c.args.old.now.records.items c.in_ok-reached.reached c.advance.new.self
 stopped g c =
-    let inv = c.loop-repeats.invariant in
-    went-so c.args.self.now.step c.args.plan c.args.copies.now c.args.old.now.records.items c.loop-repeats.next c.in_ok-reached.reached c.loop-repeats.self c.advance.new.self
+    let inv = c.following.invariant in
+    went-so c.args.self.now.step c.args.plan c.args.copies.now c.args.old.now.records.items c.following.next c.in_ok-reached.reached c.following.self c.advance.new.self
     inv.qubits inv.same_coins inv.all (c.in_ok-reached.ensures.way c.args.self.now.step) inv.way
 
 arrived : (g : Over) (c : In_ok-reached g) (a b : Arrival) → a ≡ b
@@ -31,16 +31,16 @@ arrived g c a b same h =
 
 -- no more were laid than copies were passed
 few : (g : Over) (c : In_ok-reached g)
-    → spacing_of c.args.plan.stride * length c.advance.new.self.laid.items + c.args.self.now.step ≤ c.loop-repeats.self.step + spacing_of c.args.plan.stride * (c.in_ok-reached.reached - c.args.plan.next)
+    → spacing_of c.args.plan.stride * length c.advance.new.self.laid.items + c.args.self.now.step ≤ c.following.self.step + spacing_of c.args.plan.stride * (c.in_ok-reached.reached - c.args.plan.next)
 few g c =
-    let inv = c.loop-repeats.invariant in
-    laid-on (spacing_of c.args.plan.stride) (length c.loop-repeats.self.laid.items) (length c.advance.new.self.laid.items) c.args.plan.next c.loop-repeats.next c.in_ok-reached.reached
-    c.args.self.now.step c.loop-repeats.self.step inv.few_laid c.in_ok-reached.ensures.few_laid inv.way.stop.order c.in_ok-reached.ensures.order
+    let inv = c.following.invariant in
+    laid-on (spacing_of c.args.plan.stride) (length c.following.self.laid.items) (length c.advance.new.self.laid.items) c.args.plan.next c.following.next c.in_ok-reached.reached
+    c.args.self.now.step c.following.self.step inv.few_laid c.in_ok-reached.ensures.few_laid inv.way.stop.order c.in_ok-reached.ensures.order
 
 -- what was changed was carried out
 changed : (g : Over) (c : In_ok-reached g) → min c.advance.new.self.step c.args.plan.new_end ≤ c.args.self.now.step + c.advance.new.self.applied
 changed g c =
-    let inv = c.loop-repeats.invariant in
+    let inv = c.following.invariant in
     let done = c.in_ok-reached.ensures in
     omega (arith, inv.changed, done.changed)
 
@@ -114,7 +114,7 @@ pub returns-in-Met-clause-few_laid : goal.returns-in-Met-clause-few_laid
 returns-in-Met-clause-few_laid g c =
     let at = (goal.at.returns-in-Met-clause-few_laid g c).In_ok-reached in
     laid-end (spacing_of c.args.plan.stride) (length c.advance.new.self.laid.items) (length c.arrive.new.self.laid.items) (c.in_ok-reached.reached - c.args.plan.next)
-    (c.in_ok-reached.reached - c.args.plan.next) c.args.self.now.step c.loop-repeats.self.step c.arrive.new.self.step (few g at)
+    (c.in_ok-reached.reached - c.args.plan.next) c.args.self.now.step c.following.self.step c.arrive.new.self.step (few g at)
     (ap (λ (r : Replay). length r.laid.items) c.arrive.ensures.unchanged)
     (let further = c.advance.ensures.further in omega (arith, further, ap (λ (r : Replay). r.step) c.arrive.ensures.unchanged)) (omega arith)
 
@@ -122,7 +122,7 @@ pub returns-in-Behind-clause-few_laid : goal.returns-in-Behind-clause-few_laid
 returns-in-Behind-clause-few_laid g c =
     let at = (goal.at.returns-in-Behind-clause-few_laid g c).In_ok-reached in
     laid-end (spacing_of c.args.plan.stride) (length c.advance.new.self.laid.items) (length c.arrive.new.self.laid.items) (c.in_ok-reached.reached - c.args.plan.next)
-    (length c.args.copies.now - c.args.plan.next) c.args.self.now.step c.loop-repeats.self.step c.arrive.new.self.step (few g at)
+    (length c.args.copies.now - c.args.plan.next) c.args.self.now.step c.following.self.step c.arrive.new.self.step (few g at)
     (ap (λ (r : Replay). length r.laid.items) c.arrive.ensures.unchanged)
     (let further = c.advance.ensures.further in omega (arith, further, ap (λ (r : Replay). r.step) c.arrive.ensures.unchanged))
     (let within = (stopped g at).within in omega (arith, within))
@@ -156,23 +156,23 @@ come_again-requires-clause-on_way g c = (
   c.place.ensures.value,
 )
 
-pub loop-repeats-smaller : goal.loop-repeats-smaller
-loop-repeats-smaller g c =
-    let at = goal.at.loop-repeats-smaller g c in
+pub following-smaller : goal.following-smaller
+following-smaller g c =
+    let at = goal.at.following-smaller g c in
     let stop = stopped g at.In_ok-reached in
     let within = stop.replay.at_step.within in
-    let fewer = fewer-left c.args.self.now.tableau.qubits c.args.plan c.args.copies.now c.args.old.now.records.items c.args.old.now.free.items c.loop-repeats.next c.in_ok-reached.reached c.in-Between.later
-    c.loop-repeats.self.step c.advance.new.self c.requires.stride c.advance.ensures.further (omega (arith, within, c.requires.total)) c.in_ok-reached.ensures.order stop.within
+    let fewer = fewer-left c.args.self.now.tableau.qubits c.args.plan c.args.copies.now c.args.old.now.records.items c.args.old.now.free.items c.following.next c.in_ok-reached.reached c.in-Between.later
+    c.following.self.step c.advance.new.self c.requires.stride c.advance.ensures.further (omega (arith, within, c.requires.total)) c.in_ok-reached.ensures.order stop.within
     c.in_ok-reached.ensures.stops (between g at.In_ok-lay) in
     omega (arith, fewer, ap (λ (r : Replay). r.step) (laid g at.In_ok-lay), (c.in_ok-come_again.ensures {u = tt}).further)
 
-pub loop-repeats-preserved : goal.loop-repeats-preserved
-loop-repeats-preserved g c =
-    let inv = c.loop-repeats.invariant in
+pub following-preserved : goal.following-preserved
+following-preserved g c =
+    let inv = c.following.invariant in
     let done = c.in_ok-reached.ensures {u = tt} in
     let kept = c.come_again.ensures in
     let again = c.in_ok-come_again.ensures {u = tt} in
-    let at = goal.at.loop-repeats-preserved g c in
+    let at = goal.at.following-preserved g c in
     let reached = at.In_ok-reached in
     let way = on_way g at.In_ok-lay in
     let same = laid g at.In_ok-lay in
@@ -193,7 +193,7 @@ loop-repeats-preserved g c =
             inv.asked,
             ap (λ k. all_coins_of (drop k steps)) step,
             ap (λ xs. all_coins_of (drop c.advance.new.self.step xs)) inv.all,
-            ap (λ xs. all_coins_of (drop c.loop-repeats.self.step xs)) inv.all,
+            ap (λ xs. all_coins_of (drop c.following.self.step xs)) inv.all,
             coins-cut c.lay.new.self.step c.come_again.new.self.step steps (drop c.lay.new.self.step steps) again.further refl,
           );
       changed = omega (arith, changed g reached, step, applied, again.counted, again.further);
@@ -203,7 +203,7 @@ loop-repeats-preserved g c =
             again.few_laid,
             step,
             laid-more c.args.self.now.tableau.qubits c.args.plan c.args.copies.now c.args.old.now.records.items c.args.old.now.free.items c.in_ok-reached.reached c.in-Between.later
-                c.loop-repeats.self.step c.args.self.now.step (length c.advance.new.self.laid.items) (length c.lay.new.self.laid.items) c.advance.new.self (few g reached)
+                c.following.self.step c.args.self.now.step (length c.advance.new.self.laid.items) (length c.lay.new.self.laid.items) c.advance.new.self (few g reached)
                 (ap length (c.in_ok-lay.ensures {u = tt}).laid
                 ∙ length-append c.arrive.new.self.laid.items (copy_of c.arrive.new.self ∷ [])
                 ∙ ap (λ k. k + 1) (ap (λ (r : Replay). length r.laid.items) c.arrive.ensures.unchanged))

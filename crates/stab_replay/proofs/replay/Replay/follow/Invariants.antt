@@ -4,8 +4,8 @@ use Rattle.stab_run.specs.Points.{all_coins_of}
 use Rattle.stab_replay.specs.Replays.{spacing_of, IsOnWay}
 use Rattle.stab_replay.proofs.replay.Replay.follow.Given as goal
 
-abbrev pub invariant-loop-repeats : goal.invariant-loop-repeats
-invariant-loop-repeats g l = record {
+abbrev pub invariant-following : goal.invariant-following
+invariant-following g l = record {
   all : l.self.cursor.all ≡ l.initial.self.cursor.all;
   qubits : l.self.tableau.qubits ≡ l.initial.self.tableau.qubits;
   raised : l.initial.self.notes.reach ≤ l.self.notes.reach;
@@ -19,5 +19,5 @@ invariant-loop-repeats g l = record {
   way : IsOnWay l.initial.self.tableau.qubits (g.C.Coins.sequence l.initial.coins) l.initial.self.step l.plan l.initial.self.cursor.all l.copies l.old.records.items l.next l.self;
 }
 
-abbrev pub decreases-loop-repeats : goal.decreases-loop-repeats
-decreases-loop-repeats g l = (l.plan.total - l.self.step) + (length l.copies - l.next)
+abbrev pub decreases-following : goal.decreases-following
+decreases-following g l = (l.plan.total - l.self.step) + (length l.copies - l.next)

@@ -2,9 +2,9 @@ use Rattle.std.proofs.Common.{◌<◌, [], ◌∙◌, subst, All, map, length, a
 use Rattle.std.proofs.lemmas.List.{take_all, get_or_default}
 use Rattle.stab_circuit.specs.Steps.{detector}
 use Rattle.stab_circuit.specs.Cursors.{lookbacks_of}
-use Rattle.stab_frames.specs.Lookbacks.{LooksWithin}
-use Rattle.stab_frames.proofs.NotesStepsLemmas.{within-target}
-use Rattle.stab_frames.proofs.noting.furthest_detector.Goals as goal
+use Rattle.stab_rounds.specs.Lookbacks.{LooksWithin}
+use Rattle.stab_rounds.proofs.LookLemmas.{within-target}
+use Rattle.stab_rounds.proofs.reach.furthest_detector.Goals as goal
 
 pub loop-place-preserved : goal.loop-place-preserved
 loop-place-preserved c =

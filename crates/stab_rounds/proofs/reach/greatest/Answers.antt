@@ -1,7 +1,7 @@
 use Rattle.std.proofs.Common.{◌≡◌, suc, ◌+◌, false, nat_lt, take, subst, arith}
 use Rattle.std.specs.List.{list_any}
-use Rattle.stab_frames.proofs.WalkLemmas.{near-next}
-use Rattle.stab_frames.proofs.noting.greatest.Goals as goal
+use Rattle.stab_rounds.proofs.LookLemmas.{near-next}
+use Rattle.stab_rounds.proofs.reach.greatest.Goals as goal
 
 pub loop-number-preserved : goal.loop-number-preserved
 loop-number-preserved c =

@@ -1,6 +1,6 @@
 use Rattle.std.proofs.Common.{◌≡◌, ◌≤◌, false, nat_lt, take}
 use Rattle.std.specs.List.{list_any}
-use Rattle.stab_frames.proofs.noting.greatest.Given as goal
+use Rattle.stab_rounds.proofs.reach.greatest.Given as goal
 
 abbrev pub invariant-loop-number : goal.invariant-loop-number
 invariant-loop-number l = record {

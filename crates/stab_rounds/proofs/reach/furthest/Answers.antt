@@ -1,10 +1,10 @@
 use Rattle.std.proofs.Common.{subst, All, map, arith}
 use Rattle.std.proofs.lemmas.List.{take_all}
 use Rattle.stab_circuit.specs.Steps.{controlled_step, lookbacks}
-use Rattle.stab_frames.specs.Lookbacks.{LooksWithin}
-use Rattle.stab_frames.proofs.WalkLemmas.{near-more}
-use Rattle.stab_frames.proofs.NotesStepsLemmas.{within-target}
-use Rattle.stab_frames.proofs.noting.furthest.Goals as goal
+use Rattle.stab_rounds.specs.Lookbacks.{LooksWithin}
+use Rattle.stab_rounds.proofs.LookLemmas.{near-more}
+use Rattle.stab_rounds.proofs.LookLemmas.{within-target}
+use Rattle.stab_rounds.proofs.reach.furthest.Goals as goal
 
 pub loop-pair-preserved : goal.loop-pair-preserved
 loop-pair-preserved c = record {

@@ -1,0 +1,4 @@
+pub mod LookLemmas
+pub mod SameLemmas
+mod StretchLemmas
+mod SearchLemmas

@@ -1,0 +1,15 @@
+use Rattle.std.proofs.Common.{◌<◌, ◌∙◌, [], sym, length, drop, arith}
+use Rattle.std.proofs.lemmas.List.{take_more_same, get_or-drop, length-drop}
+use Rattle.stab_circuit.specs.Cursors.{lookbacks_of}
+use Rattle.stab_rounds.proofs.SameLemmas.{same_list, tells_qubits}
+use Rattle.stab_rounds.proofs.same.detectors_begin_with.Goals as goal
+
+pub loop-number-preserved : goal.loop-number-preserved
+loop-number-preserved c =
+    let own = lookbacks_of c.args.detectors in
+    let others = lookbacks_of c.args.others in
+    let i = c.loop-number.number in
+    let place = c.args.place in
+    let lt : i < length others = omega (arith, c.loop-number-test.true, c.len-number-end.ensures.value) in
+    take_more_same (drop place own) others i [] (omega (arith, lt, length-drop place own, c.requires.within)) lt c.loop-number.invariant
+    (get_or-drop place own i [] ∙ sym c.get.ensures.value ∙ same_list _ c.get.result.now c.get-in-loop-number.result.now tells_qubits (sym c.eq-same.ensures ∙ c.if-not-same.false) ∙ c.get-in-loop-number.ensures.value)

@@ -1,0 +1,14 @@
+use Rattle.std.proofs.Common.{◌-◌, ◌≤◌, length}
+use Rattle.stab_circuit.specs.Steps.{unroll}
+use Rattle.stab_circuit.specs.Views.{circuit_items}
+use Rattle.stab_rounds.proofs.SearchLemmas.{AreRepeatsTo}
+use Rattle.stab_rounds.proofs.search.find_written.Given as goal
+
+abbrev pub invariant-finding : goal.invariant-finding
+invariant-finding l = record {
+  within : l.first ≤ length (unroll (circuit_items l.circuit));
+  are : AreRepeatsTo 0 l.first (unroll (circuit_items l.circuit)) l.repeats.items;
+}
+
+abbrev pub decreases-finding : goal.decreases-finding
+decreases-finding l = length (unroll (circuit_items l.circuit)) - l.first

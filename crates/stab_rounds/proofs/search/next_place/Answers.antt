@@ -1,0 +1,34 @@
+use Rattle.std.proofs.Common.{◌≡◌, ◌+◌, ◌++◌, ◌∙◌, sym, ap, length, drop, arith}
+use Rattle.std.proofs.lemmas.List.{length-drop, length-append}
+use Rattle.stab_items.proofs.SummaryLemmas.{few_steps}
+use Rattle.stab_circuit.specs.Steps.{unroll}
+use Rattle.stab_circuit.specs.Views.{circuit_items}
+use Rattle.stab_circuit.specs.Cursors.{steps_shown}
+use Rattle.stab_rounds.proofs.StretchLemmas.{goes-behind}
+use Rattle.stab_rounds.proofs.search.next_place.Goals as goal
+
+pub overflow_add-place : goal.overflow_add-place
+overflow_add-place c =
+    let ys = unroll (circuit_items c.args.circuit.now) in
+    let e = sym c.going.invariant.left ∙ c.in-Some.ensures.some in
+    omega (
+      arith,
+      c.going.invariant.within,
+      c.len-place.ensures.value,
+      ap length e,
+      length-drop c.going.place ys,
+      length-append (steps_shown c.in-Some.steps) c.next_steps.new.self.left,
+      few_steps (circuit_items c.args.circuit.now) c.requires.checked,
+    )
+
+pub going-preserved : goal.going-preserved
+going-preserved c =
+    let ys = unroll (circuit_items c.args.circuit.now) in
+    let part = steps_shown c.in-Some.steps in
+    let i = c.going.place in
+    let e : drop i ys ≡ part ++ c.next_steps.new.self.left = sym c.going.invariant.left ∙ c.in-Some.ensures.some in
+    record {
+      order = omega (arith, c.going.invariant.order);
+      within = omega (arith, c.going.invariant.within, c.len-place.ensures.value, ap length e, length-drop i ys, length-append part c.next_steps.new.self.left);
+      left = goes-behind i ys part c.next_steps.new.self.left e ∙ ap (λ n. drop (i + n) ys) (sym c.len-place.ensures.value);
+    }

@@ -1,0 +1,14 @@
+use Rattle.std.proofs.Common.{◌≡◌, ◌≤◌, length, drop}
+use Rattle.stab_circuit.specs.Steps.{unroll}
+use Rattle.stab_circuit.specs.Views.{circuit_items}
+use Rattle.stab_rounds.proofs.search.next_place.Given as goal
+
+abbrev pub invariant-going : goal.invariant-going
+invariant-going l = record {
+  order : l.first ≤ l.place;
+  within : l.place ≤ length (unroll (circuit_items l.circuit));
+  left : l.cursor.left ≡ drop l.place (unroll (circuit_items l.circuit));
+}
+
+abbrev pub decreases-going : goal.decreases-going
+decreases-going l = length l.cursor.left

@@ -1,0 +1,26 @@
+use Rattle.std.proofs.Common.{◌≡◌, ◌+◌, ◌*◌, refl, sym, subst, All, take, drop, arith}
+use Rattle.stab_items.proofs.SummaryLemmas.{few_steps}
+use Rattle.stab_circuit.specs.Steps.{unroll}
+use Rattle.stab_circuit.specs.Views.{circuit_items}
+use Rattle.stab_rounds.specs.Lookbacks.{LooksWithin}
+use Rattle.stab_rounds.proofs.LookLemmas.{looks-within}
+use Rattle.stab_rounds.proofs.search.rounds_at.Goals as goal
+
+pub overflow_mul-rounds : goal.overflow_mul-rounds
+overflow_mul-rounds c = omega (arith, c.in_ok-rounds.ensures.inside, few_steps (circuit_items c.args.circuit.now) c.requires.checked)
+
+pub returns-clause-found : goal.returns-clause-found
+returns-clause-found c =
+    let ys = unroll (circuit_items c.args.circuit.now) in
+    let round = take c.args.round (drop c.args.first ys) in
+    let look = c.reach_of.result in (
+      refl,
+      record {
+        some = c.requires.some;
+        many = omega (arith, c.if-rounds-lt-LEAST_ROUNDS.false);
+        inside = c.in_ok-rounds.ensures.inside;
+        again = c.in_ok-rounds.ensures.again;
+        within = looks-within look round
+            (subst (λ left. All (LooksWithin look) (take c.args.round left)) c.in_ok-cursor.ensures.steps c.reach_of.ensures.within);
+      },
+    )

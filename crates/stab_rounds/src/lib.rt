@@ -1,0 +1,24 @@
+//! Rounds: where in a circuit the same steps come again, be it in a block or written out line by line.
+//!
+//! - `same`: whether steps that stand together are others.
+//! - `stretch`: how many steps behind two places are the same.
+//! - `reach`: how far back steps look.
+//! - `search`: where rounds that are written out stand.
+//!
+//! Blocks are told by `stab_circuit`. Rounds that are written out are looked for in circuits without
+//! blocks alone, and only as far as that costs little: a search may find none where there are some,
+//! or begin a round or two behind the first.
+//!
+//! Source: this project's own.
+//!
+//! Proved: what is found are rounds of the same steps, one behind the other (`specs/Repeats.antt` of
+//! `stab_circuit`); no step looks further back than is told (`specs/Lookbacks.antt`).
+#![tactic(auto)]
+
+mod reach;
+mod same;
+mod search;
+mod stretch;
+
+pub use reach::{furthest, furthest_detector, furthest_of};
+pub use search::find_rounds;

@@ -1,0 +1,188 @@
+//! Where rounds that are written out stand.
+ghost use Rattle.std.specs.Prelude.{◌≡◌, ◌+◌, ◌*◌, ◌<◌, ◌≤◌, ◌++◌, None, length, take, drop, IfOk, IfErr, IfSome, OnOk};
+ghost use Rattle.stab_io.specs.declared.refusal.Refusal.TheVariants.{OutOfMemory};
+ghost use Rattle.stab_circuit.specs.Steps.{unroll, check_of};
+ghost use Rattle.stab_circuit.specs.Views.{circuit_items};
+ghost use Rattle.stab_circuit.specs.Repeats.{AreRepeats, IsRepeat};
+
+use crate::reach::reach_of;
+use crate::same::are_same;
+use crate::stretch::count_rounds;
+use stab_circuit::{Circuit, Cursor, Repeat, Step, Steps};
+use stab_io::Refusal;
+use std::alloc::Global;
+
+/// How many steps rounds have at least in all, and how many rounds there are at least: fewer are no
+/// faster as rounds than as steps.
+const LEAST_STEPS: usize = 8192;
+
+const LEAST_ROUNDS: usize = 8;
+
+/// How many instructions are passed at most to find one of them again, and how many of those that are
+/// the same are tried: the same instruction may stand more than once in a round.
+const MOST_PASSED: usize = 4096;
+
+const MOST_TRIED: usize = 4;
+
+/// At how many places in a row rounds are looked for in vain at most. Each is four times further from
+/// the one before than that was.
+const MOST_PLACES: usize = 9;
+
+const FURTHER: usize = 4;
+
+/// The rounds of so many steps that stand from one on, where they are worth it.
+///
+/// Refusal `OutOfMemory` alone.
+fn rounds_at(
+    alloc: Global,
+    circuit: &Circuit,
+    first: usize,
+    round: usize,
+) -> Result<Option<Repeat>, Refusal>
+    requires checked { check_of (circuit_items circuit.now) ≡ None }
+    requires some { 0 < round }
+    requires within { first + round ≤ length (unroll (circuit_items circuit.now)) }
+    ensures found { IfOk result (λ found. IfSome found (λ r. (r.first ≡ first) × IsRepeat (unroll (circuit_items circuit.now)) r)) }
+    ensures err { IfErr result (λ r. r ≡ OutOfMemory) }
+{
+    let rounds = count_rounds(alloc, circuit, first, round)?;
+    if rounds < LEAST_ROUNDS || rounds * round < LEAST_STEPS {
+        return Ok(None);
+    }
+    let mut cursor = Cursor::at(alloc, circuit, first)?;
+    Ok(Some(Repeat {
+        first,
+        length: round,
+        rounds,
+        reach: reach_of(&mut cursor, round),
+    }))
+}
+
+/// The rounds that begin with the instruction at a step, where they are found.
+///
+/// Refusal `OutOfMemory` alone.
+fn find_at(alloc: Global, circuit: &Circuit, first: usize) -> Result<Option<Repeat>, Refusal>
+    requires checked { check_of (circuit_items circuit.now) ≡ None }
+    requires within { first ≤ length (unroll (circuit_items circuit.now)) }
+    ensures found { IfOk result (λ found. IfSome found (λ r. (r.first ≡ first) × IsRepeat (unroll (circuit_items circuit.now)) r)) }
+    ensures err { IfErr result (λ r. r ≡ OutOfMemory) }
+{
+    let longest = (circuit.steps() - first) / LEAST_ROUNDS;
+    let mut cursor = Cursor::at(alloc, circuit, first)?;
+    let Some(begin) = cursor.next_steps(usize::MAX) else {
+        return Ok(None);
+    };
+    let mut round = begin.len();
+    let mut tried = 0;
+    let mut passed = 0;
+    'seeking: while tried < MOST_TRIED && passed < MOST_PASSED && round <= longest {
+        let Some(next) = cursor.next_steps(usize::MAX) else {
+            return Ok(None);
+        };
+        if are_same(begin, next) {
+            let found = rounds_at(alloc, circuit, first, round)?;
+            if found.is_some() {
+                return Ok(found);
+            }
+            tried += 1;
+        }
+        round += next.len();
+        passed += 1;
+    }
+    Ok(None)
+}
+
+/// Whether rounds are looked for that begin with these steps: not with detectors, which come in parts, nor
+/// with resets, which stand at the front of a circuit one by one.
+fn may_begin(steps: Steps) -> bool {
+    match steps {
+        Steps::Gates(..) | Steps::Pairs(..) | Steps::Measurements(..) => true,
+        Steps::Detectors(_) => false,
+        Steps::Single(step) => !matches!(step, Step::Collapse { .. }),
+    }
+}
+
+/// The first step, so many steps behind one or further, at which rounds may begin.
+///
+/// Refusal `OutOfMemory` alone.
+fn next_place(
+    alloc: Global,
+    circuit: &Circuit,
+    first: usize,
+    further: usize,
+) -> Result<Option<usize>, Refusal>
+    requires checked { check_of (circuit_items circuit.now) ≡ None }
+    requires within { first ≤ length (unroll (circuit_items circuit.now)) }
+    ensures order { IfOk result (λ found. IfSome found (λ place. first ≤ place)) }
+    ensures within { IfOk result (λ found. IfSome found (λ place. place ≤ length (unroll (circuit_items circuit.now)))) }
+    ensures err { IfErr result (λ r. r ≡ OutOfMemory) }
+{
+    let mut cursor = Cursor::at(alloc, circuit, first)?;
+    let mut place = first;
+    'going: while let Some(steps) = cursor.next_steps(usize::MAX) {
+        if place - first >= further && may_begin(steps) {
+            return Ok(Some(place));
+        }
+        place += steps.len();
+    }
+    Ok(None)
+}
+
+/// The first rounds that are found from a step on.
+///
+/// Refusal `OutOfMemory` alone.
+fn find_from(alloc: Global, circuit: &Circuit, first: usize) -> Result<Option<Repeat>, Refusal>
+    requires checked { check_of (circuit_items circuit.now) ≡ None }
+    requires within { first ≤ length (unroll (circuit_items circuit.now)) }
+    ensures found { IfOk result (λ found. IfSome found (λ r. (first ≤ r.first) × IsRepeat (unroll (circuit_items circuit.now)) r)) }
+    ensures err { IfErr result (λ r. r ≡ OutOfMemory) }
+{
+    let mut place = first;
+    let mut further = 0;
+    'places: for _ in 0..MOST_PLACES {
+        let Some(begin) = next_place(alloc, circuit, place, further)? else {
+            return Ok(None);
+        };
+        let found = find_at(alloc, circuit, begin)?;
+        if found.is_some() {
+            return Ok(found);
+        }
+        place = begin;
+        further = further.saturating_mul(FURTHER).max(1);
+    }
+    Ok(None)
+}
+
+/// Where rounds stand that are written out, in order.
+///
+/// Refusal `OutOfMemory` alone.
+fn find_written(alloc: Global, circuit: &Circuit) -> Result<Vec<Repeat>, Refusal>
+    requires checked { check_of (circuit_items circuit.now) ≡ None }
+    ensures are { IfOk result (λ rs. AreRepeats 0 (unroll (circuit_items circuit.now)) rs.items) }
+    ensures err { IfErr result (λ r. r ≡ OutOfMemory) }
+{
+    let mut repeats: Vec<Repeat> = Vec::new(alloc);
+    let mut first = 0;
+    'finding: while let Some(repeat) = find_from(alloc, circuit, first)? {
+        first = repeat.first + repeat.rounds * repeat.length;
+        repeats.push(repeat)?;
+    }
+    Ok(repeats)
+}
+
+/// Where in a circuit the same steps come again, by its steps, in order: the blocks of its outermost
+/// list that `Circuit::repeats` tells, or, where it has none, rounds that are written out, as far as
+/// they are found. Of these there are 8 or more, with 8,192 steps or more in all.
+///
+/// Refusal `OutOfMemory` alone.
+pub fn find_rounds(alloc: Global, circuit: &Circuit) -> Result<Vec<Repeat>, Refusal>
+    requires checked { check_of (circuit_items circuit.now) ≡ None }
+    ensures are { IfOk result (λ rs. AreRepeats 0 (unroll (circuit_items circuit.now)) rs.items) }
+    ensures err { IfErr result (λ r. r ≡ OutOfMemory) }
+{
+    let blocks = circuit.repeats(alloc)?;
+    if !blocks.is_empty() || circuit.steps() < LEAST_STEPS {
+        return Ok(blocks);
+    }
+    find_written(alloc, circuit)
+}
