@@ -198,6 +198,20 @@ impl Outline {
         }
     }
 
+    /// The same outline, which shares the stretches.
+    pub fn copy(&self, alloc: Global) -> Result<Outline, AllocError>
+        ensures value { IfOk result (λ o. o ≡ self.now) }
+    {
+        let mut stretches = Vec::with_capacity(alloc, self.stretches.len())?;
+        'copying: for stretch in self.stretches.as_slice() {
+            stretches.push(stretch.clone()?)?;
+        }
+        Ok(Outline {
+            stretches,
+            len: self.len,
+        })
+    }
+
     /// How many steps there are.
     pub fn len(&self) -> usize
         ensures value { result ≡ length self.now }

@@ -13,6 +13,6 @@ mod OverCopyLemmas
 mod LedLemmas
 mod LedWayLemmas
 pub mod CutLemmas
-mod AgainLemmas
+pub mod AgainLemmas
 mod AgainReplayLemmas
 pub mod NotedLemmas

@@ -34,3 +34,4 @@ mod rhythm;
 pub use bits::count_ones;
 pub use framed::turned_copy;
 pub use replay::{End, Plan, Replay};
+pub use rhythm::{block_at, end_of};

@@ -25,7 +25,7 @@ pub(crate) struct Stops {
 }
 
 /// The block in which a step lies, if there is one among these, which stand one behind the other.
-pub(crate) fn block_at(repeats: &[Repeat], step: usize) -> Option<Repeat>
+pub fn block_at(repeats: &[Repeat], step: usize) -> Option<Repeat>
     ensures found { (from : ℕ) (steps : List Step) → AreRepeats from steps repeats.now → IfSome result (IsRepeat steps) }
 {
     for repeat in repeats {
@@ -42,7 +42,7 @@ pub(crate) fn block_at(repeats: &[Repeat], step: usize) -> Option<Repeat>
 }
 
 /// The step behind the last round of a block.
-pub(crate) fn end_of(block: Repeat) -> usize
+pub fn end_of(block: Repeat) -> usize
     ensures within { result ≤ block.first + block.rounds * block.length }
 {
     block
