@@ -25,8 +25,8 @@ returns-in_err-run_part-clause-asks g c =
     asks-all from (c.steps.result - from) (g.C.Coins.asks c.args.coins.now) (g.C.Coins.asks c.run_repeats.new.coins) (g.C.Coins.asks c.run_part.new.coins)
     (unroll items) (omega (arith, counted)) c.in_ok-from.ensures.asks_part c.run_part.ensures.asks
 
-pub returns-in_err-shot_of-clause-asks : goal.returns-in_err-shot_of-clause-asks
-returns-in_err-shot_of-clause-asks g c =
+pub returns-in_err-shot-clause-asks : goal.returns-in_err-shot-clause-asks
+returns-in_err-shot-clause-asks g c =
     let items = circuit_items c.args.circuit.now in
     let from = c.in_ok-from.from in
     let counted = c.steps.ensures.value ∙ counted-steps c.args.tableau.now.qubits items c.requires.checked in
