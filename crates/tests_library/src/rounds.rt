@@ -195,15 +195,17 @@ fn blocks_give_what_they_give_written_out(rt: HostRuntime) -> Result<(), Fail> {
     Ok(())
 }
 
-/// Whether a session on a block, with copies a stride apart, gives what a run gives of the block written out.
-fn session_agrees(alloc: Global, case: Case, stride: usize) -> Result<bool, Fail>
+/// Whether a session on a text, with copies a stride apart, gives what a run gave with the same coins.
+pub(crate) fn session_gives(
+    alloc: Global,
+    text: &[u8],
+    stride: usize,
+    shot: &Shot,
+) -> Result<bool, Fail>
     requires above { 1 ≤ stride }
     requires within { stride ≤ most_stride }
 {
-    let block = in_a_block(alloc, case)?;
-    let lines = written_out(alloc, case)?;
-    let shot = shot_of(alloc, lines.as_slice(), 1)?;
-    let circuit = read_circuit(alloc, &mut MemoryInput::new(block.as_slice()))?;
+    let circuit = read_circuit(alloc, &mut MemoryInput::new(text))?;
     let Ok(session) = Session::open(alloc, circuit, 12, stride, SeedCoins::new(3, 1)) else {
         return Ok(false);
     };
@@ -213,6 +215,17 @@ fn session_agrees(alloc: Global, case: Case, stride: usize) -> Result<bool, Fail
             && session.detectors() == shot.detectors.as_slice()
             && session.observables() == shot.observables.as_slice(),
     )
+}
+
+/// Whether a session on a block, with copies a stride apart, gives what a run gives of the block written out.
+fn session_agrees(alloc: Global, case: Case, stride: usize) -> Result<bool, Fail>
+    requires above { 1 ≤ stride }
+    requires within { stride ≤ most_stride }
+{
+    let block = in_a_block(alloc, case)?;
+    let lines = written_out(alloc, case)?;
+    let shot = shot_of(alloc, lines.as_slice(), 1)?;
+    session_gives(alloc, block.as_slice(), stride, &shot)
 }
 
 #[test]

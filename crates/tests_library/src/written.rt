@@ -3,11 +3,10 @@
 ghost use Rattle.std.specs.Prelude.{◌≤◌};
 ghost use Rattle.stab_run.specs.Limits.{most_stride};
 
-use crate::rounds::{are_same, shot_of};
+use crate::rounds::{are_same, session_gives, shot_of};
 use stab_circuit::{Repeat, read_circuit};
 use stab_pauli::MemoryInput;
 use stab_rounds::find_rounds;
-use stab_session::{SeedCoins, Session};
 use std::alloc::Global;
 use std::test::Fail;
 
@@ -102,16 +101,7 @@ fn session_agrees(alloc: Global, case: Case, stride: usize) -> Result<bool, Fail
     let lines = text_of(alloc, case, "")?;
     let others = text_of(alloc, case, BLOCK)?;
     let shot = shot_of(alloc, others.as_slice(), 1)?;
-    let circuit = read_circuit(alloc, &mut MemoryInput::new(lines.as_slice()))?;
-    let Ok(session) = Session::open(alloc, circuit, 12, stride, SeedCoins::new(3, 1)) else {
-        return Ok(false);
-    };
-    Ok(
-        session.records() == shot.records.as_slice()
-            && session.free() == shot.free.as_slice()
-            && session.detectors() == shot.detectors.as_slice()
-            && session.observables() == shot.observables.as_slice(),
-    )
+    session_gives(alloc, lines.as_slice(), stride, &shot)
 }
 
 #[test]
