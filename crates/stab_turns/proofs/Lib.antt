@@ -3,6 +3,7 @@ mod FlippedLemmas
 mod TurnSomeLemmas
 mod QuietLemmas
 pub mod SectionLemmas
+mod AgainLemmas
 mod LeadingLemmas
 pub mod SameNotesLemmas
 pub mod PauliSpanLemmas

@@ -5,7 +5,7 @@
 //!
 //! - `counting`: how long a run's lists are behind some steps.
 //! - `sections`: outlines of parts of a run's steps, and where they stand once some steps are others.
-//! - `outlining`: outlines of all steps of a circuit, from copy to copy.
+//! - `outlining`: outlines of all steps of a circuit, from copy to copy, shared by the rounds of a block.
 //! - `trail`: the steps of a circuit from a place on, by outlines where there are some, and else by a cursor.
 //! - `passing`: a frame led past the places at which Pauli gates stand in the old circuit or the new one, and
 //!   over what stands between them.

@@ -1,31 +1,38 @@
-ghost use Rattle.std.specs.Prelude.{◌≡◌, ◌+◌, ◌≤◌, None, All, length, drop, IfOk, IfErr, IfSome, OnOk};
+ghost use Rattle.std.specs.Prelude.{◌≡◌, ◌+◌, ◌<◌, ◌≤◌, List, true, None, All, IsSomeAnd, length, slice_get, IfOk, IfErr, IfSome, OnOk};
 ghost use Rattle.stab_io.specs.declared.refusal.Refusal.TheVariants.{OutOfMemory};
-ghost use Rattle.stab_circuit.specs.Steps.{check_of, unroll};
+ghost use Rattle.stab_circuit.specs.Steps.{Step, check_of, unroll};
 ghost use Rattle.stab_circuit.specs.Views.{circuit_items};
+ghost use Rattle.stab_circuit.specs.Repeats.{AreRepeats, IsRepeat};
 ghost use Rattle.stab_turns.specs.Sections.{IsSection};
 
 use crate::sections::Section;
-use stab_circuit::{Circuit, Cursor};
+use stab_circuit::{Circuit, Cursor, Repeat};
 use stab_copies::Checkpoint;
 use stab_io::Refusal;
 use stab_outlines::{Known, Outline};
-use std::alloc::{AllocError, Global};
+use stab_replay::{block_at, end_of};
+use std::alloc::Global;
 
-/// Outlines of the steps of a circuit between the places of copies, and behind the last, as far as these steps have outlines.
+/// A section of the same steps in an earlier round is looked for among so many that were made before.
+const LOOKED_BACK: usize = 64;
+
+/// Outlines of the steps of a circuit between the places of copies, and behind the last, as far as these steps have outlines. Where
+/// steps of a repeat come again, as they stood between two copies some whole rounds before, they take the outline that these have.
 ///
 /// Refusal `OutOfMemory` alone.
 pub fn outline_between(
     alloc: Global,
     circuit: &Circuit,
     copies: &[Checkpoint],
+    repeats: &[Repeat],
 ) -> Result<Vec<Section>, Refusal>
     requires checked { check_of (circuit_items circuit.now) ≡ None }
+    requires repeats { AreRepeats 0 (unroll (circuit_items circuit.now)) repeats.now }
     ensures sections { IfOk result (λ s. All (IsSection (unroll (circuit_items circuit.now))) s.items) }
     ensures err { IfErr result (λ r. r ≡ OutOfMemory) }
 {
     let mut sections = Vec::new(alloc);
     let mut known = Known::new(alloc);
-    let mut cursor = Cursor::at(alloc, circuit, 0)?;
     let total = circuit.steps();
     let mut first = 0;
     for copy in copies {
@@ -33,7 +40,7 @@ pub fn outline_between(
         push_outline(
             alloc,
             circuit,
-            &mut cursor,
+            repeats,
             first,
             end,
             &mut known,
@@ -44,7 +51,7 @@ pub fn outline_between(
     push_outline(
         alloc,
         circuit,
-        &mut cursor,
+        repeats,
         first,
         total,
         &mut known,
@@ -53,54 +60,121 @@ pub fn outline_between(
     Ok(sections)
 }
 
-/// The outline of the steps from one number up to another, if they have one, where a cursor is at the first. It is at the end then.
-fn section_between(
+/// Whether the steps from one number up to another are those of a section that lies some whole rounds before them in the same block.
+fn comes_again(block: Repeat, section: &Section, first: usize, end: usize) -> bool
+    requires some { 0 < block.length }
+    requires order { first ≤ end }
+    ensures again { result ≡ true → (steps : List Step) → IsRepeat steps block → IsSection steps section.now → IsSection steps (record { first = first; outline = section.now.outline }) }
+{
+    if section.first < block.first || section.first >= first {
+        return false;
+    }
+    if section.outline.len() != end - first || end > end_of(block) {
+        return false;
+    }
+    (first - section.first) % block.length == 0
+}
+
+/// The newest section of which the steps from one number up to another come again in a block, among some that were made last.
+fn find_again(block: Repeat, sections: &[Section], first: usize, end: usize) -> Option<usize>
+    requires some { 0 < block.length }
+    requires order { first ≤ end }
+    ensures within { IfSome result (λ number. number < length sections.now) }
+    ensures again { IfSome result (λ number. (steps : List Step) → IsRepeat steps block → All (IsSection steps) sections.now → IsSomeAnd (slice_get sections.now number) (λ s. IsSection steps (record { first = first; outline = s.outline }))) }
+{
+    let count = sections.len();
+    'finding: for number in (count.saturating_sub(LOOKED_BACK)..count).rev() {
+        if comes_again(block, &sections[number], first, end) {
+            return Some(number);
+        }
+    }
+    None
+}
+
+/// The outline of the steps from one number up to another, made anew, if they have one.
+///
+/// Refusal `OutOfMemory` alone.
+fn new_section(
     alloc: Global,
-    cursor: &mut Cursor,
+    circuit: &Circuit,
     first: usize,
     end: usize,
     known: &mut Known,
-) -> Result<Option<Section>, AllocError>
-    requires left { cursor.old.left ≡ drop first cursor.old.all }
+) -> Result<Option<Section>, Refusal>
+    requires checked { check_of (circuit_items circuit.now) ≡ None }
     requires order { first ≤ end }
-    requires within { end ≤ length cursor.old.all }
-    ensures all { cursor.new.all ≡ cursor.old.all }
-    ensures left { IfOk result (λ found. IfSome found (λ s. cursor.new.left ≡ drop end cursor.old.all)) }
-    ensures section { IfOk result (λ found. IfSome found (IsSection cursor.old.all)) }
+    requires within { end ≤ length (unroll (circuit_items circuit.now)) }
+    ensures section { IfOk result (λ found. IfSome found (IsSection (unroll (circuit_items circuit.now)))) }
+    ensures err { IfErr result (λ r. r ≡ OutOfMemory) }
 {
-    match Outline::of(alloc, cursor, end - first, known)? {
+    let mut cursor = Cursor::at(alloc, circuit, first)?;
+    match Outline::of(alloc, &mut cursor, end - first, known)? {
         Some(outline) => Ok(Some(Section { first, outline })),
         None => Ok(None),
     }
 }
 
-/// Puts the outline of the steps from one number up to another behind others, if they have one, where a cursor is at the first. It is
-/// at the end then; where they have none it begins anew there.
+/// The outline of the steps from one number up to another, if they have one: that of an earlier section of which they come again, or
+/// else a new one.
 ///
 /// Refusal `OutOfMemory` alone.
-fn push_outline<'a>(
+fn section_between(
     alloc: Global,
-    circuit: &'a Circuit,
-    cursor: &mut Cursor<'a>,
+    circuit: &Circuit,
+    repeats: &[Repeat],
+    first: usize,
+    end: usize,
+    known: &mut Known,
+    sections: &[Section],
+) -> Result<Option<Section>, Refusal>
+    requires checked { check_of (circuit_items circuit.now) ≡ None }
+    requires repeats { AreRepeats 0 (unroll (circuit_items circuit.now)) repeats.now }
+    requires order { first ≤ end }
+    requires within { end ≤ length (unroll (circuit_items circuit.now)) }
+    requires sections { All (IsSection (unroll (circuit_items circuit.now))) sections.now }
+    ensures section { IfOk result (λ found. IfSome found (IsSection (unroll (circuit_items circuit.now)))) }
+    ensures err { IfErr result (λ r. r ≡ OutOfMemory) }
+{
+    if let Some(block) = block_at(repeats, first) {
+        if let Some(number) = find_again(block, sections, first, end) {
+            let outline = sections[number].outline.copy(alloc)?;
+            return Ok(Some(Section { first, outline }));
+        }
+    }
+    new_section(alloc, circuit, first, end, known)
+}
+
+/// Puts the outline of the steps from one number up to another behind others, if they have one.
+///
+/// Refusal `OutOfMemory` alone.
+fn push_outline(
+    alloc: Global,
+    circuit: &Circuit,
+    repeats: &[Repeat],
     first: usize,
     end: usize,
     known: &mut Known,
     sections: &mut Vec<Section>,
 ) -> Result<(), Refusal>
     requires checked { check_of (circuit_items circuit.now) ≡ None }
-    requires all { cursor.old.all ≡ unroll (circuit_items circuit.now) }
-    requires left { cursor.old.left ≡ drop first cursor.old.all }
+    requires repeats { AreRepeats 0 (unroll (circuit_items circuit.now)) repeats.now }
     requires order { first ≤ end }
-    requires within { end ≤ length cursor.old.all }
-    requires sections { All (IsSection cursor.old.all) sections.old.items }
-    ensures all { cursor.new.all ≡ cursor.old.all }
-    ensures left { OnOk result (cursor.new.left ≡ drop end cursor.old.all) }
-    ensures sections { OnOk result (All (IsSection cursor.old.all) sections.new.items) }
+    requires within { end ≤ length (unroll (circuit_items circuit.now)) }
+    requires sections { All (IsSection (unroll (circuit_items circuit.now))) sections.old.items }
+    ensures sections { OnOk result (All (IsSection (unroll (circuit_items circuit.now))) sections.new.items) }
     ensures err { IfErr result (λ r. r ≡ OutOfMemory) }
 {
-    match section_between(alloc, cursor, first, end, known)? {
-        Some(section) => sections.push(section)?,
-        None => *cursor = Cursor::at(alloc, circuit, end)?,
+    let found = section_between(
+        alloc,
+        circuit,
+        repeats,
+        first,
+        end,
+        known,
+        sections.as_slice(),
+    )?;
+    if let Some(section) = found {
+        sections.push(section)?;
     }
     Ok(())
 }

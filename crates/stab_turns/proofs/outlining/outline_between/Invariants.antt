@@ -1,4 +1,4 @@
-use Rattle.std.proofs.Common.{◌≡◌, ◌≤◌, length, drop, All}
+use Rattle.std.proofs.Common.{◌≤◌, length, All}
 use Rattle.stab_circuit.specs.Steps.{unroll}
 use Rattle.stab_circuit.specs.Views.{circuit_items}
 use Rattle.stab_turns.specs.Sections.{IsSection}
@@ -7,8 +7,6 @@ use Rattle.stab_turns.proofs.outlining.outline_between.Given as goal
 abbrev pub invariant-loop-copy : goal.invariant-loop-copy
 invariant-loop-copy l = record {
   within : l.first ≤ l.total;
-  most : l.total ≤ length l.cursor.all;
-  all : l.cursor.all ≡ unroll (circuit_items l.circuit);
-  left : l.cursor.left ≡ drop l.first l.cursor.all;
-  sections : All (IsSection l.cursor.all) l.sections.items;
+  most : l.total ≤ length (unroll (circuit_items l.circuit));
+  sections : All (IsSection (unroll (circuit_items l.circuit))) l.sections.items;
 }
