@@ -66,6 +66,7 @@ fn run_checked<C: Coins>(
     let mut kept = KeptRun::new(alloc, n)?;
     let rounds = find_rounds(alloc, circuit)?;
     kept.replay(alloc, circuit, rounds.as_slice(), span, stride, coins, &mut None)?;
-    kept.sections = outline_between(alloc, circuit, kept.checkpoints.as_slice())?;
+    let copies = kept.checkpoints.as_slice();
+    kept.sections = outline_between(alloc, circuit, copies, rounds.as_slice())?;
     Ok(kept)
 }
