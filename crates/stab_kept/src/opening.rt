@@ -64,6 +64,12 @@ fn run_checked<C: Coins>(
     };
     let mut kept = KeptRun::new(alloc, n)?;
     kept.replay(alloc, circuit, span, stride, coins, &mut None)?;
-    kept.sections = outline_between(alloc, circuit, kept.checkpoints.as_slice())?;
+    let repeats = circuit.repeats(alloc)?;
+    kept.sections = outline_between(
+        alloc,
+        circuit,
+        kept.checkpoints.as_slice(),
+        repeats.as_slice(),
+    )?;
     Ok(kept)
 }
