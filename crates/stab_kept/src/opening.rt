@@ -65,7 +65,15 @@ fn run_checked<C: Coins>(
     };
     let mut kept = KeptRun::new(alloc, n)?;
     let rounds = find_rounds(alloc, circuit)?;
-    kept.replay(alloc, circuit, rounds.as_slice(), span, stride, coins, &mut None)?;
+    kept.replay(
+        alloc,
+        circuit,
+        rounds.as_slice(),
+        span,
+        stride,
+        coins,
+        &mut None,
+    )?;
     let copies = kept.checkpoints.as_slice();
     kept.sections = outline_between(alloc, circuit, copies, rounds.as_slice())?;
     Ok(kept)

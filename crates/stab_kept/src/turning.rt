@@ -384,6 +384,14 @@ impl KeptRun {
             }
         }
         let repeats = circuit.repeats(alloc)?;
-        self.replay(alloc, circuit, repeats.as_slice(), span, stride, coins, spare)
+        self.replay(
+            alloc,
+            circuit,
+            repeats.as_slice(),
+            span,
+            stride,
+            coins,
+            spare,
+        )
     }
 }
