@@ -1,23 +1,16 @@
-use Rattle.std.proofs.Common.{arith, ◌≡◌, ◌-◌, ℕ, List, subst}
-use Rattle.std.specs.Result.{IsErrAnd}
+use Rattle.std.proofs.Common.{arith, ◌-◌, ℕ, List}
 use Rattle.stab_circuit.specs.Steps.{qubits_of}
 use Rattle.stab_circuit.specs.Views.{circuit_items}
 use Rattle.stab_run.specs.Coins.{seed_coin}
 use Rattle.stab_run.specs.Runs.{run_of}
 use Rattle.stab_sampling.specs.Sendings.{shown_bytes}
-use Rattle.stab_sampling.proofs.SendingLaws.{sends_none}
 use Rattle.stab_sampling.proofs.ShotLaws.{rest_sent}
 use Rattle.stab_sampling.proofs.SinglyLaws.{rest_refused}
 use Rattle.stab_sampling.proofs.shots.send_few.Goals as goal
 
-pub returns-in_err-most : goal.returns-in_err-most
-returns-in_err-most g c = record {
-  sends = sends_none (g.O.Output.seen c.args.out.now) _ c.from_residual.result (subst (λ f. IsErrAnd c.from_residual.result (λ y. y ≡ f)) c.in_err-most.ensures.err c.from_residual.ensures.1);
-}
-
 pub returns-in_err-sent : goal.returns-in_err-sent
 returns-in_err-sent g c = record {
-  sends = rest_refused (g.O.Output.seen c.args.out.now) (g.O.Output.seen c.send_singly.new.out) _ c.in_err-sent.field-0.0 c.from_residual-in_err-sent.result c.from_residual-in_err-sent.ensures.1
+  sends = rest_refused (g.O.Output.seen c.args.out.now) (g.O.Output.seen c.send_singly.new.out) _ c.in_err-sent.field-0.0 c.from_residual.result c.from_residual.ensures.1
       c.in_err-sent.ensures.sends;
 }
 
