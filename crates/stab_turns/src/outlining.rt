@@ -1,4 +1,4 @@
-ghost use Rattle.std.specs.Prelude.{◌≡◌, ◌+◌, ◌<◌, ◌≤◌, List, true, None, All, IsSomeAnd, length, slice_get, IfOk, IfErr, IfSome, OnOk};
+ghost use Rattle.std.specs.Prelude.{◌≡◌, ◌<◌, ◌≤◌, List, true, None, All, IsSomeAnd, length, slice_get, IfOk, IfErr, IfSome, OnOk};
 ghost use Rattle.stab_io.specs.declared.refusal.Refusal.TheVariants.{OutOfMemory};
 ghost use Rattle.stab_circuit.specs.Steps.{Step, check_of, unroll};
 ghost use Rattle.stab_circuit.specs.Views.{circuit_items};

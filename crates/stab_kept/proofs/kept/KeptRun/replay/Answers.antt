@@ -3,6 +3,7 @@ use Rattle.std.specs.Prelude.{Result, Ok, Err, OnErr}
 use Rattle.stab_circuit.specs.Steps.{unroll}
 use Rattle.stab_circuit.specs.Views.{circuit_items}
 use Rattle.stab_circuit.specs.Cursors.{IsApart}
+use Rattle.stab_circuit.specs.Repeats.{AreRepeats}
 use Rattle.stab_replay.specs.declared.replay.Plan.{Plan}
 use Rattle.stab_circuit.specs.declared.edit.Span.{Span}
 use Rattle.stab_run.specs.Points.{all_coins_of}
@@ -162,6 +163,12 @@ follow-requires-clause-same_circuit g c =
 
 pub follow-requires-clause-checked : goal.follow-requires-clause-checked
 follow-requires-clause-checked g c = check-whole c.args.self.now.tableau.qubits (circuit_items c.args.circuit.now) c.requires.checked
+
+pub follow-requires-clause-repeats : goal.follow-requires-clause-repeats
+follow-requires-clause-repeats g c =
+    let at = goal.at.follow-requires-clause-repeats g c in
+    let begins = begun g at.In_ok-replay (few g at.After-as_slice) (first g at.After-count_before-before) in
+    subst (λ ys. AreRepeats 0 ys c.args.repeats.now) (sym begins.all) c.requires.repeats
 
 pub follow-requires-clause-ascending : goal.follow-requires-clause-ascending
 follow-requires-clause-ascending g c =

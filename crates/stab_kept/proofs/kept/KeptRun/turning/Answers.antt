@@ -1,4 +1,4 @@
-use Rattle.std.proofs.Common.{◌+◌, ◌-◌, refl, sym, ◌∙◌, ap, subst, arith, length, drop, All}
+use Rattle.std.proofs.Common.{◌+◌, refl, sym, ◌∙◌, ap, subst, arith, length, drop, All}
 use Rattle.std.proofs.lemmas.List.Elements.{All-drop}
 use Rattle.stab_circuit.specs.Steps.{unroll}
 use Rattle.stab_circuit.specs.Views.{circuit_items}
