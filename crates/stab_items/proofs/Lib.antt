@@ -1,5 +1,6 @@
 pub mod ItemLemmas
 pub mod ChunkLemmas
+pub mod FrontLemmas
 pub mod ReaderLemmas
 mod ReadChunkLemmas
 mod PrintLemmas
