@@ -1,5 +1,8 @@
-ghost use Rattle.std.specs.Prelude.{◌≡◌, ◌<◌, false, length, MatchOption};
+ghost use Rattle.std.specs.Prelude.{◌≡◌, ◌<◌, ◌∷◌, ℕ, List, false, length, MatchOption};
 ghost use Rattle.std.specs.Option.{option_copied};
+ghost use Rattle.std.specs.List.{slice_split};
+ghost use Rattle.stab_lines.specs.Lines.{is_byte};
+ghost use Rattle.stab_lines.specs.Words.{pieces_after};
 ghost use Rattle.stab_items.specs.Circuits.{meaning_after as meaning_after_of};
 ghost use Rattle.stab_items.specs.inner.KnownLines.{IsCut};
 ghost use Rattle.stab_lines.specs.FirstLines.{BeginsWithDetector};
@@ -50,7 +53,10 @@ pub(crate) fn behind_front<'a>(text: &'a [u8], line: &[u8]) -> Option<Option<&'a
 }
 
 /// The first line of a text, where these are the lines behind it.
-pub(crate) fn before_lines<'a>(text: &'a [u8], after: Option<&[u8]>) -> &'a [u8] {
+#[tactic(auto, using(crate::proofs::FrontLemmas::before_none, crate::proofs::FrontLemmas::before_some))]
+pub(crate) fn before_lines<'a>(text: &'a [u8], after: Option<&[u8]>) -> &'a [u8]
+    ensures value { (first : List ℕ) → slice_split (is_byte 10) text.now ≡ first ∷ pieces_after 10 (option_copied after.entry) → result.now ≡ first }
+{
     match after {
         None => text,
         Some(rest) => text.split_at(text.len().saturating_sub(rest.len() + 1)).0,

@@ -47,7 +47,7 @@ pub(crate) struct KnownLines<'a> {
 impl<'a> KnownLines<'a> {
     ghost use Rattle.std.specs.Prelude.{◌≡◌, ◌<◌, [], length, vec_len, OnOk, MatchOption};
     ghost use Rattle.std.specs.Option.{option_copied};
-    ghost use Rattle.std.specs.List.{IsAmong};
+    ghost use Rattle.std.specs.List.{Contains};
     ghost use Rattle.stab_items.specs.inner.KnownLines.{IsCut, Remembers};
 
     /// No lines. None will be remembered where a text has no line twice, as that of one item.
@@ -68,7 +68,7 @@ impl<'a> KnownLines<'a> {
     /// The known line that a text begins with, and the lines behind it, if there are any.
     pub(crate) fn find(&mut self, text: &'a [u8]) -> Option<(KnownLine<'a>, Option<&'a [u8]>)>
         ensures lines { self.new.lines.items ≡ self.old.lines.items }
-        ensures known { MatchOption result (Unit {0}) (λ p. IsAmong self.old.lines.items p.0) }
+        ensures known { MatchOption result (Unit {0}) (λ p. Contains self.old.lines.items p.0) }
         ensures front { MatchOption result (Unit {0}) (λ p. IsCut text.now p.0.bytes.now (option_copied p.1)) }
     {
         let next = self.next;
@@ -91,7 +91,7 @@ impl<'a> KnownLines<'a> {
     /// The line of this number, if the text begins with it, and the lines behind it.
     fn at_front(&self, number: usize, text: &'a [u8]) -> Option<(KnownLine<'a>, Option<&'a [u8]>)>
         ensures here { MatchOption result (Unit {0}) (λ _. number < vec_len self.now.lines) }
-        ensures known { MatchOption result (Unit {0}) (λ p. IsAmong self.now.lines.items p.0) }
+        ensures known { MatchOption result (Unit {0}) (λ p. Contains self.now.lines.items p.0) }
         ensures front { MatchOption result (Unit {0}) (λ p. IsCut text.now p.0.bytes.now (option_copied p.1)) }
     {
         if number >= self.lines.len() {

@@ -1,6 +1,6 @@
 -- Known lines: lines that were read, and where the instructions lie that they made.
 -- Source: this project's own.
-use Rattle.std.specs.Prelude.{◌≡◌, ℕ, ◌==◌, false, List, [], ◌∷◌, ◌++◌, All, Option, Some, None, Ok, ◌⊎◌}
+use Rattle.std.specs.Prelude.{◌≡◌, ℕ, false, List, [], ◌∷◌, ◌++◌, All, Option, Some, None, Ok, ◌⊎◌}
 use Rattle.std.specs.List.{slice_get, slice_split, slice_index_or}
 use Rattle.stab_lines.specs.declared.operation.Operation.{Operation}
 use Rattle.stab_lines.specs.declared.operation.Kind.{Kind}
