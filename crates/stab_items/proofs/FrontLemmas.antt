@@ -1,5 +1,5 @@
 -- The first line of a text.
-use Rattle.std.proofs.Common.{subst, ◌≡◌, sym, ap, ◌∙◌, ℕ, ◌+◌, ◌-◌, List, [], ◌∷◌, ◌++◌, Bool, true, false, length, take, drop, Option, Some, None, arith, append-nil, length-append, refl}
+use Rattle.std.proofs.Common.{◌<◌, MatchOption, subst, ◌≡◌, sym, ap, ◌∙◌, ℕ, ◌+◌, ◌-◌, List, [], ◌∷◌, ◌++◌, Bool, true, false, length, take, drop, Option, Some, None, arith, append-nil, length-append, refl}
 use Rattle.std.specs.List.{slice_get, slice_split, onto_first, AllByRecursion, join_with_byte}
 use Rattle.std.proofs.lemmas.List.Elements.{All-from_recursion}
 use Rattle.std.proofs.Math.Seq.{take-append_seam}
@@ -37,6 +37,7 @@ one_line_first text first more e = All-from_recursion (λ b. is_byte 10 b ≡ fa
         → onto_first x ps ≡ first ∷ more → AllByRecursion (λ b. is_byte 10 b ≡ false) first
     pushed x [] first more other hyp e = let same : x ∷ [] ≡ first = cc in subst (AllByRecursion (λ b. is_byte 10 b ≡ false)) same (other, tt)
     pushed x (p ∷ ps) first more other hyp e = let same : x ∷ p ≡ first = cc in subst (AllByRecursion (λ b. is_byte 10 b ≡ false)) same (other, hyp p ps refl)
+
     begun : (x : ℕ) (xs first : List ℕ) (more : List (List ℕ)) → ((f : List ℕ) (m : List (List ℕ)) → slice_split (is_byte 10) xs ≡ f ∷ m → AllByRecursion (λ b. is_byte 10 b ≡ false) f)
         → (b : Bool) → is_byte 10 x ≡ b → slice_split (is_byte 10) (x ∷ xs) ≡ first ∷ more → AllByRecursion (λ b. is_byte 10 b ≡ false) first
     begun x xs first more hyp true b e =
@@ -44,6 +45,7 @@ one_line_first text first more e = All-from_recursion (λ b. is_byte 10 b ≡ fa
         let same : [] ≡ first = cc in
         subst (AllByRecursion (λ b. is_byte 10 b ≡ false)) same tt
     begun x xs first more hyp false b e = pushed x (slice_split (is_byte 10) xs) first more b hyp (sym (slice_split-cons_no (is_byte 10) x xs b) ∙ e)
+
     parts : (text first : List ℕ) (more : List (List ℕ)) → slice_split (is_byte 10) text ≡ first ∷ more → AllByRecursion (λ b. is_byte 10 b ≡ false) first
     parts [] first more e = let same : [] ≡ first = cc in subst (AllByRecursion (λ b. is_byte 10 b ≡ false)) same tt
     parts (x ∷ xs) first more e = begun x xs first more (λ f m. parts xs f m) (is_byte 10 x) refl e
@@ -68,3 +70,16 @@ before_some text first after e =
     let cut : text ≡ first ++ 10 ∷ after = split_cut text first (Some after) e in
     let long : length text - (length after + 1) ≡ length first = omega (arith, ap length cut, length-append first (10 ∷ after)) in
     (λ i. take (long i) (cut i)) ∙ take-append_seam first (10 ∷ after)
+
+-- the lines behind the first are shorter than the text
+pub cut_shorter : (text first : List ℕ) (after : Option (List ℕ)) → IsCut text first after → MatchOption after (Unit {0}) (λ rest. length rest < length text)
+cut_shorter text first None cut = tt
+cut_shorter text first (Some after) cut = omega (arith, ap length cut, length-append first (10 ∷ after))
+
+-- a text has a first part
+pub some_first : (text : List ℕ) → (first : List ℕ) × (more : List (List ℕ)) × (slice_split (is_byte 10) text ≡ first ∷ more)
+some_first text = begun (slice_split (is_byte 10) text) refl
+  where
+    begun : (parts : List (List ℕ)) → slice_split (is_byte 10) text ≡ parts → (first : List ℕ) × (more : List (List ℕ)) × (slice_split (is_byte 10) text ≡ first ∷ more)
+    begun [] e = absurd (omega (arith, ap length e, length-slice_split (is_byte 10) text))
+    begun (p ∷ ps) e = (p, ps, e)

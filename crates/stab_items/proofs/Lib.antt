@@ -3,6 +3,7 @@ pub mod ChunkLemmas
 pub mod FrontLemmas
 pub mod ReaderLemmas
 mod ReadChunkLemmas
+pub mod KnownLineLemmas
 mod PrintLemmas
 pub mod StepLemmas
 pub mod StepApartLemmas

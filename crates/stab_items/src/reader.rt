@@ -7,13 +7,11 @@ ghost use Rattle.stab_items.specs.inner.Chunks.{flattened};
 ghost use Rattle.stab_lines.specs.FirstLines.{BeginsWithDetector};
 
 use crate::chunk::{Chunk, are_empty};
-use crate::item::Item;
 use crate::front::{before_lines, first_detector, meaning_after};
+use crate::item::Item;
 use crate::known_lines::KnownLines;
 use stab_io::{Fault, Refusal};
-use stab_lines::{
-    Count, Kind, Line, Operation, Sequence, content, first_piece, meaning,
-};
+use stab_lines::{Count, Kind, Line, Operation, Sequence, content, first_piece, meaning};
 use std::alloc::{AllocError, Global};
 use std::mem;
 
@@ -210,8 +208,8 @@ impl CircuitReader {
         known: &mut KnownLines<'a>,
     ) -> Result<(), Refusal>
         requires known { AreKnown (chunks_of self.old) known.old }
-        requires whole { IsOneLine bytes.entry.now }
-        requires means { meaning_of (content_of bytes.entry.now) ≡ Ok (line.Operation (record { kind = kind; tag = [] })) }
+        requires whole { IsOneLine bytes.now }
+        requires means { meaning_of (content_of bytes.now) ≡ Ok (line.Operation (record { kind = kind; tag = [] })) }
         ensures same { OnOk result (progress_of self.new ≡ with_instruction (progress_of self.old) (record { kind = kind; tag = [] })) }
         ensures fault { IfErr result (λ r. r ≡ OutOfMemory) }
         ensures known { OnOk result (AreKnown (chunks_of self.new) known.new) }
@@ -232,8 +230,8 @@ impl CircuitReader {
     ) -> Result<(), Refusal>
         requires shallow { IsShallowProgress (progress_of self.old) }
         requires known { AreKnown (chunks_of self.old) known.old }
-        requires whole { IsOneLine bytes.entry.now }
-        requires content { content.now ≡ content_of bytes.entry.now }
+        requires whole { IsOneLine bytes.now }
+        requires content { content.now ≡ content_of bytes.now }
         ensures gives { TakesLine (progress_of self.new) result (stepped line (meaning_at single (progress_of self.old) content.now) (progress_of self.old)) }
         ensures known { OnOk result (AreKnown (chunks_of self.new) known.new) }
     {
@@ -250,8 +248,8 @@ impl CircuitReader {
     ) -> Result<(), Refusal>
         requires shallow { IsShallowProgress (progress_of self.old) }
         requires known { AreKnown (chunks_of self.old) known.old }
-        requires whole { IsOneLine bytes.entry.now }
-        requires means { IsMeant found bytes.entry.now }
+        requires whole { IsOneLine bytes.now }
+        requires means { IsMeant found bytes.now }
         ensures gives { TakesLine (progress_of self.new) result (stepped line (Ok found) (progress_of self.old)) }
         ensures known { OnOk result (AreKnown (chunks_of self.new) known.new) }
     {
@@ -278,8 +276,8 @@ impl CircuitReader {
         known: &mut KnownLines<'a>,
     ) -> Result<(), Refusal>
         requires known { AreKnown (chunks_of self.old) known.old }
-        requires whole { IsOneLine bytes.entry.now }
-        requires means { meaning_of (content_of bytes.entry.now) ≡ Ok (line.Operation operation) }
+        requires whole { IsOneLine bytes.now }
+        requires means { meaning_of (content_of bytes.now) ≡ Ok (line.Operation operation) }
         ensures same { OnOk result (progress_of self.new ≡ with_instruction (progress_of self.old) operation) }
         ensures fault { IfErr result (λ r. r ≡ OutOfMemory) }
         ensures known { OnOk result (AreKnown (chunks_of self.new) known.new) }
@@ -292,7 +290,7 @@ impl CircuitReader {
     }
 
     /// Puts an item behind the others.
-    #[tactic(auto, using(crate::proofs::ReadChunkLemmas::kept_pushed))]
+    #[tactic(auto, using(crate::proofs::ReadChunkLemmas::kept_pushed, crate::proofs::KnownLineLemmas::last_stored))]
     fn put(&mut self, item: Item) -> Result<(), Refusal>
         ensures same { OnOk result (progress_of self.new ≡ with_item (progress_of self.old) item) }
         ensures fault { IfErr result (λ r. r ≡ OutOfMemory) }
