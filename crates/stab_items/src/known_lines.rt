@@ -1,3 +1,5 @@
+ghost use Rattle.std.specs.Prelude.{◌+◌, ◌≤◌, length};
+
 use crate::front::behind_front;
 use std::alloc::{AllocError, Global};
 
@@ -10,11 +12,17 @@ const FEW: usize = 64;
 /// How many slots the table has.
 const SLOTS: usize = 4096;
 
-/// After so many lines in a row that were not known, none is looked for any more.
+/// After so many lines that were not known, none is looked for any more.
 const PATIENCE: u32 = 8192;
+
+/// A line that was known makes up for so many that were not.
+const WORTH: u32 = 64;
 
 /// By so many bytes in front of it a line has its slot.
 const FRONT: usize = 16;
+
+/// An odd number by which sums of bytes are spread over the slots.
+const SPREAD: u64 = 0x9E37_79B9_7F4A_7C15;
 
 /// A line that was read, and where the instruction lies that it made: in which chunk, and where there.
 #[derive(Clone, Copy)]
@@ -37,9 +45,9 @@ pub(crate) struct KnownLines<'a> {
     // By a sum of a line's first bytes, the number of the newest line that has it. What it says is
     // tried, and nothing rests on it.
     table: Vec<u16>,
-    // The slot of the line that was looked for last.
+    // The slot of the line that was looked for last, or past the table where it has none.
     slot: usize,
-    // How many lines in a row were not known.
+    // How many lines were not known, less what those that were known make up for.
     misses: u32,
     gave_up: bool,
 }
@@ -74,7 +82,7 @@ impl<'a> KnownLines<'a> {
         let next = self.next;
         if let Some(found) = self.at_front(next, text) {
             self.next = next + 1;
-            self.misses = 0;
+            self.misses = self.misses.saturating_sub(WORTH);
             return Some(found);
         }
         let number = self.number_by_front(text);
@@ -82,7 +90,7 @@ impl<'a> KnownLines<'a> {
             None => None,
             Some(found) => {
                 self.next = number + 1;
-                self.misses = 0;
+                self.misses = self.misses.saturating_sub(WORTH);
                 Some(found)
             }
         }
@@ -169,15 +177,40 @@ impl<'a> KnownLines<'a> {
     }
 }
 
-/// The slot of the line that a text begins with.
+/// The slot of the line that a text begins with, by its first 16 bytes. A shorter line has none: to read
+/// it is as cheap as to look for it.
 fn slot_of(text: &[u8]) -> usize {
-    let front = text.split_at(text.len().min(FRONT)).0;
-    let mut sum: u32 = 0;
-    for byte in front {
-        if *byte == b'\n' {
-            break;
-        }
-        sum = sum.wrapping_mul(31).wrapping_add(u32::from(*byte));
+    if text.len() < FRONT {
+        return SLOTS;
     }
-    (sum ^ (sum >> 12)) as usize % SLOTS
+    let (first, second) = (word_at(text, 0), word_at(text, 8));
+    if has_line_end(first) || has_line_end(second) {
+        return SLOTS;
+    }
+    let sum = (first ^ second.rotate_left(29)).wrapping_mul(SPREAD);
+    (sum >> 52) as usize
+}
+
+/// The eight bytes from a place on, as one number.
+#[inline(always)]
+fn word_at(bytes: &[u8], place: usize) -> u64
+    requires inside { place + 8 ≤ length bytes.now }
+{
+    u64::from_le_bytes([
+        bytes[place],
+        bytes[place + 1],
+        bytes[place + 2],
+        bytes[place + 3],
+        bytes[place + 4],
+        bytes[place + 5],
+        bytes[place + 6],
+        bytes[place + 7],
+    ])
+}
+
+/// Whether one of eight bytes ends a line: whether one is 0 once each is told apart from a line end.
+#[inline(always)]
+fn has_line_end(word: u64) -> bool {
+    let apart = word ^ 0x0A0A_0A0A_0A0A_0A0A;
+    apart.wrapping_sub(0x0101_0101_0101_0101) & !apart & 0x8080_8080_8080_8080 != 0
 }
