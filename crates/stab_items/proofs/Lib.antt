@@ -1,7 +1,9 @@
 pub mod ItemLemmas
 pub mod ChunkLemmas
+pub mod FrontLemmas
 pub mod ReaderLemmas
 mod ReadChunkLemmas
+pub mod KnownLineLemmas
 mod PrintLemmas
 pub mod StepLemmas
 pub mod StepApartLemmas

@@ -7,3 +7,4 @@ pub mod Blocks
 pub mod Chunks
 pub mod Readers
 pub mod Margins
+pub mod KnownLines

@@ -127,6 +127,16 @@ impl Item {
         }
     }
 
+    /// What the item does, where it is an instruction without a tag.
+    pub(crate) fn plain_kind(&self) -> Option<&Kind>
+        ensures some { IfSome result (λ k. self.now ≡ single (record { kind = k.now; tag = [] })) }
+    {
+        match &self.node {
+            Node::Plain(kind) => Some(kind),
+            Node::Tagged(_) | Node::Repeat { .. } => None,
+        }
+    }
+
     /// The item that is a block: its count of rounds, its tag, the items of one round.
     pub(crate) fn repeat(
         alloc: Global,

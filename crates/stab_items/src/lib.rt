@@ -7,6 +7,8 @@
 //! - `item`: instructions and blocks, which keep the numbers of one round.
 //! - `chunk`: some items of a list and their summary, so that a long list is kept in parts.
 //! - `reader`: the items of a text's lines, with the blocks that are open.
+//! - `front`: the first line of a text: where it ends, and what a look at its bytes tells.
+//! - `known_lines`: lines that were read, so that one that comes again is not read again.
 //! - `summary`: the numbers that are kept.
 //! - `copy`: copies of items.
 //! - `print`: the one text of items.
@@ -27,7 +29,9 @@
 
 mod chunk;
 mod copy;
+mod front;
 mod item;
+mod known_lines;
 mod print;
 mod reader;
 mod summary;

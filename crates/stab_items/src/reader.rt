@@ -7,12 +7,11 @@ ghost use Rattle.stab_items.specs.inner.Chunks.{flattened};
 ghost use Rattle.stab_lines.specs.FirstLines.{BeginsWithDetector};
 
 use crate::chunk::{Chunk, are_empty};
+use crate::front::{before_lines, first_detector, meaning_after};
 use crate::item::Item;
+use crate::known_lines::KnownLines;
 use stab_io::{Fault, Refusal};
-use stab_lines::{
-    Count, DetectorTargets, Kind, Line, Sequence, content, detector_in_front, first_piece,
-    is_close, meaning,
-};
+use stab_lines::{Count, Kind, Line, Operation, Sequence, content, first_piece, meaning};
 use std::alloc::{AllocError, Global};
 use std::mem;
 
@@ -39,11 +38,17 @@ pub struct CircuitReader {
 }
 
 impl CircuitReader {
-    ghost use Rattle.std.specs.Prelude.{◌≡◌, ◌<◌, [], List, ◌∷◌, length, OnOk, IfOk, IfErr, MatchOption};
+    ghost use Rattle.std.specs.Prelude.{◌≡◌, ◌<◌, [], List, ◌∷◌, false, length, vec_len, Some, Ok, OnOk, IfOk, IfErr, IfSome, MatchOption};
     ghost use Rattle.std.specs.Option.{option_copied};
+    ghost use Rattle.std.specs.List.{slice_index_or};
     ghost use Rattle.stab_io.specs.declared.refusal.Refusal.TheVariants.{OutOfMemory};
+    ghost use Rattle.stab_lines.specs.declared.meanings.Line.TheVariants as line;
+    ghost use Rattle.stab_lines.specs.Lines.{content_of};
+    ghost use Rattle.stab_lines.specs.Meanings.{meaning_of};
     ghost use Rattle.stab_lines.specs.Results.{Gives};
-    ghost use Rattle.stab_items.specs.inner.Readers.{progress_of, before_reading, stepped, opening, closing, finished, is_whole as whole_of, meaning_at, TakesLine, TakesFirst, with_instruction, ReadsItems, IsShallowProgress};
+    ghost use Rattle.stab_items.specs.Items.{operation};
+    ghost use Rattle.stab_items.specs.inner.Readers.{progress_of, before_reading, stepped, opening, closing, finished, is_whole as whole_of, meaning_at, TakesLine, TakesFirst, with_instruction, with_item, ReadsItems, IsShallowProgress};
+    ghost use Rattle.stab_items.specs.inner.KnownLines.{chunks_of, stored, KeepsStored, IsOneLine, IsMeant, BeginsWithPlain, AreKnown};
 
     fn new(alloc: Global) -> CircuitReader
         ensures value { progress_of result ≡ before_reading }
@@ -104,59 +109,203 @@ impl CircuitReader {
         single: bool,
         line: u64,
         text: &'a [u8],
+        known: &mut KnownLines<'a>,
     ) -> Result<Option<&'a [u8]>, Refusal>
         requires shallow { IsShallowProgress (progress_of self.old) }
+        requires known { AreKnown (chunks_of self.old) known.old }
         ensures gives { TakesFirst single line text.entry.now (progress_of self.old) (progress_of self.new) result }
         ensures shorter { IfOk result (λ after. MatchOption (option_copied after) (Unit {0}) (λ rest. length rest < length text.entry.now)) }
+        ensures known { OnOk result (AreKnown (chunks_of self.new) known.new) }
+    {
+        match self.known_front(single, text, known) {
+            Err(_) => Err(Refusal::OutOfMemory),
+            Ok(Some((kind, after))) => {
+                self.put(Item::plain(kind))?;
+                Ok(after)
+            }
+            Ok(None) => self.take_new(single, line, text, known),
+        }
+    }
+
+    /// What the first line means, where it is known, and the lines behind it. Where one item alone is
+    /// read, a line behind it means no more.
+    fn known_front<'a>(
+        &self,
+        single: bool,
+        text: &'a [u8],
+        known: &mut KnownLines<'a>,
+    ) -> Result<Option<(Kind, Option<&'a [u8]>)>, AllocError>
+        requires known { AreKnown (chunks_of self.now) known.old }
+        ensures value { IfOk result (λ found. MatchOption found (Unit {0}) (λ p. BeginsWithPlain text.entry.now p.0 (option_copied p.1))) }
+        ensures shorter { IfOk result (λ found. MatchOption found (Unit {0}) (λ p. MatchOption (option_copied p.1) (Unit {0}) (λ after. length after < length text.entry.now))) }
+        ensures several { IfOk result (λ found. MatchOption found (Unit {0}) (λ _. single ≡ false)) }
+        ensures known { OnOk result (AreKnown (chunks_of self.now) known.new) }
+    {
+        if single {
+            return Ok(None);
+        }
+        let Some((line, after)) = known.find(text) else {
+            return Ok(None);
+        };
+        match self.plain_at(line.chunk, line.place) {
+            Some(kind) => Ok(Some((kind.copy(self.alloc)?, after))),
+            None => Ok(None),
+        }
+    }
+
+    /// What the instruction without a tag does that lies at a place in a chunk, if one lies there.
+    fn plain_at(&self, chunk: usize, place: usize) -> Option<&Kind>
+        ensures some { IfSome result (λ k. stored (chunks_of self.now) chunk place ≡ Some (operation (record { kind = k.now; tag = [] }))) }
+    {
+        match self.chunk_items(chunk).get(place) {
+            Some(item) => item.plain_kind(),
+            None => None,
+        }
+    }
+
+    /// The items of a chunk, where those behind the chunks are one more.
+    fn chunk_items(&self, chunk: usize) -> &[Item]
+        ensures value { result.now ≡ slice_index_or (chunks_of self.now) chunk [] }
+    {
+        if chunk < self.full.len() {
+            self.full[chunk].items()
+        } else if chunk == self.full.len() {
+            self.items.as_slice()
+        } else {
+            &[]
+        }
+    }
+
+    /// Takes the first line of a text, which is not known, and gives the lines behind it.
+    fn take_new<'a>(
+        &mut self,
+        single: bool,
+        line: u64,
+        text: &'a [u8],
+        known: &mut KnownLines<'a>,
+    ) -> Result<Option<&'a [u8]>, Refusal>
+        requires shallow { IsShallowProgress (progress_of self.old) }
+        requires known { AreKnown (chunks_of self.old) known.old }
+        ensures gives { TakesFirst single line text.entry.now (progress_of self.old) (progress_of self.new) result }
+        ensures shorter { IfOk result (λ after. MatchOption (option_copied after) (Unit {0}) (λ rest. length rest < length text.entry.now)) }
+        ensures known { OnOk result (AreKnown (chunks_of self.new) known.new) }
     {
         if let Some((targets, after)) = first_detector(single, text) {
-            self.take_plain(Kind::Detector(targets))?;
+            let bytes = before_lines(text, after);
+            self.take_plain(Kind::Detector(targets), bytes, known)?;
             return Ok(after);
         }
         let (bytes, after) = first_piece(text, b'\n');
-        self.take_content(single, line, content(bytes))?;
+        self.take_content(single, line, content(bytes), bytes, known)?;
         Ok(after)
     }
 
-    /// Takes an instruction without a tag.
-    #[tactic(auto, using(crate::proofs::ReadChunkLemmas::kept_pushed))]
-    fn take_plain(&mut self, kind: Kind) -> Result<(), Refusal>
+    /// Takes an instruction without a tag, which a line means.
+    fn take_plain<'a>(
+        &mut self,
+        kind: Kind,
+        bytes: &'a [u8],
+        known: &mut KnownLines<'a>,
+    ) -> Result<(), Refusal>
+        requires known { AreKnown (chunks_of self.old) known.old }
+        requires whole { IsOneLine bytes.now }
+        requires means { meaning_of (content_of bytes.now) ≡ Ok (line.Operation (record { kind = kind; tag = [] })) }
         ensures same { OnOk result (progress_of self.new ≡ with_instruction (progress_of self.old) (record { kind = kind; tag = [] })) }
         ensures fault { IfErr result (λ r. r ≡ OutOfMemory) }
+        ensures known { OnOk result (AreKnown (chunks_of self.new) known.new) }
     {
-        self.items.push(Item::plain(kind))?;
-        self.settle()
+        let (chunk, place) = (self.full.len(), self.items.len());
+        self.put(Item::plain(kind))?;
+        known.remember(bytes, chunk, place)?;
+        Ok(())
     }
 
-    fn take_content(&mut self, single: bool, line: u64, content: &[u8]) -> Result<(), Refusal>
+    fn take_content<'a>(
+        &mut self,
+        single: bool,
+        line: u64,
+        content: &[u8],
+        bytes: &'a [u8],
+        known: &mut KnownLines<'a>,
+    ) -> Result<(), Refusal>
         requires shallow { IsShallowProgress (progress_of self.old) }
+        requires known { AreKnown (chunks_of self.old) known.old }
+        requires whole { IsOneLine bytes.now }
+        requires content { content.now ≡ content_of bytes.now }
         ensures gives { TakesLine (progress_of self.new) result (stepped line (meaning_at single (progress_of self.old) content.now) (progress_of self.old)) }
+        ensures known { OnOk result (AreKnown (chunks_of self.new) known.new) }
     {
         let found = self.found(single, content)?;
-        self.take(line, found)
+        self.take(line, found, bytes, known)
     }
 
-    #[tactic(auto, using(crate::proofs::ReadChunkLemmas::kept_pushed))]
-    fn take(&mut self, line: u64, found: Line) -> Result<(), Refusal>
+    fn take<'a>(
+        &mut self,
+        line: u64,
+        found: Line,
+        bytes: &'a [u8],
+        known: &mut KnownLines<'a>,
+    ) -> Result<(), Refusal>
         requires shallow { IsShallowProgress (progress_of self.old) }
+        requires known { AreKnown (chunks_of self.old) known.old }
+        requires whole { IsOneLine bytes.now }
+        requires means { IsMeant found bytes.now }
         ensures gives { TakesLine (progress_of self.new) result (stepped line (Ok found) (progress_of self.old)) }
+        ensures known { OnOk result (AreKnown (chunks_of self.new) known.new) }
     {
         match found {
             Line::Blank => Ok(()),
-            Line::Operation(operation) => {
-                self.items.push(Item::operation(self.alloc, operation)?)?;
-                self.settle()?;
-                Ok(())
+            Line::Operation(operation) => self.take_instruction(operation, bytes, known),
+            Line::Open { count, tag } => {
+                known.give_up();
+                self.open(line, count, tag)
             }
-            Line::Open { count, tag } => self.open(line, count, tag),
-            Line::Close => self.close(),
+            Line::Close => {
+                known.give_up();
+                self.close()
+            }
         }
+    }
+
+    /// Takes an instruction, which a line means.
+    #[tactic(auto, using(crate::proofs::ItemLemmas::untagged))]
+    fn take_instruction<'a>(
+        &mut self,
+        operation: Operation,
+        bytes: &'a [u8],
+        known: &mut KnownLines<'a>,
+    ) -> Result<(), Refusal>
+        requires known { AreKnown (chunks_of self.old) known.old }
+        requires whole { IsOneLine bytes.now }
+        requires means { meaning_of (content_of bytes.now) ≡ Ok (line.Operation operation) }
+        ensures same { OnOk result (progress_of self.new ≡ with_instruction (progress_of self.old) operation) }
+        ensures fault { IfErr result (λ r. r ≡ OutOfMemory) }
+        ensures known { OnOk result (AreKnown (chunks_of self.new) known.new) }
+    {
+        if operation.tag.as_slice().is_empty() {
+            self.take_plain(operation.kind, bytes, known)
+        } else {
+            self.put(Item::operation(self.alloc, operation)?)
+        }
+    }
+
+    /// Puts an item behind the others.
+    #[tactic(auto, using(crate::proofs::ReadChunkLemmas::kept_pushed, crate::proofs::KnownLineLemmas::last_stored))]
+    fn put(&mut self, item: Item) -> Result<(), Refusal>
+        ensures same { OnOk result (progress_of self.new ≡ with_item (progress_of self.old) item) }
+        ensures fault { IfErr result (λ r. r ≡ OutOfMemory) }
+        ensures kept { OnOk result (KeepsStored (chunks_of self.old) (chunks_of self.new)) }
+        ensures stored { OnOk result (stored (chunks_of self.new) (vec_len self.old.full) (vec_len self.old.items) ≡ Some item) }
+    {
+        self.items.push(item)?;
+        self.settle()
     }
 
     /// Puts the items behind the chunks into a chunk, where there are enough.
     fn settle(&mut self) -> Result<(), Refusal>
         ensures same { OnOk result (progress_of self.new ≡ progress_of self.old) }
         ensures fault { IfErr result (λ r. r ≡ OutOfMemory) }
+        ensures kept { OnOk result (KeepsStored (chunks_of self.old) (chunks_of self.new)) }
     {
         if self.items.len() < FULL || !self.open_blocks.is_empty() {
             return Ok(());
@@ -217,33 +366,6 @@ fn with_last(mut chunks: Vec<Chunk>, items: Vec<Item>) -> Result<Vec<Chunk>, All
     Ok(chunks)
 }
 
-/// The detector that the first line means, where a look at its bytes is enough to tell, and the lines
-/// behind it. Where one item alone is read, a line behind it means no more.
-fn first_detector(single: bool, text: &[u8]) -> Option<(DetectorTargets, Option<&[u8]>)>
-    ensures value { MatchOption result (Unit {0}) (λ p. BeginsWithDetector text.now p.0 (option_copied p.1)) }
-    ensures shorter { MatchOption result (Unit {0}) (λ p. MatchOption (option_copied p.1) (Unit {0}) (λ after. length after < length text.now)) }
-    ensures several { MatchOption result (Unit {0}) (λ _. single ≡ false) }
-{
-    if single {
-        None
-    } else {
-        detector_in_front(text)
-    }
-}
-
-/// What a content means after a whole item.
-fn meaning_after(content: &[u8]) -> Result<Line, Refusal>
-    ensures value { result ≡ meaning_after_of content.now }
-{
-    if content.is_empty() {
-        Ok(Line::Blank)
-    } else if is_close(content) {
-        Ok(Line::Close)
-    } else {
-        Err(Refusal::BadLine)
-    }
-}
-
 /// The fault of a refusal at a line; want of memory has no line.
 fn fault_at(refusal: Refusal, line: u64) -> Fault
     ensures value { result ≡ line_fault line refusal }
@@ -262,10 +384,11 @@ pub fn read_lines(alloc: Global, single: bool, text: &[u8]) -> Result<Vec<Chunk>
     ensures shallow { IfOk result (λ v. depth (listed (flattened v.items)) ≤ 16) }
 {
     let mut reader = CircuitReader::new(alloc);
+    let mut known = KnownLines::new(alloc, single);
     let mut rest = text;
     let mut line = 1;
     'lines: loop {
-        match reader.take_first(single, line, rest) {
+        match reader.take_first(single, line, rest, &mut known) {
             Err(refusal) => return Err(fault_at(refusal, line)),
             Ok(None) => return reader.finish(),
             Ok(Some(next)) => rest = next,

@@ -13,7 +13,7 @@ use Rattle.stab_lines.specs.declared.meanings.Line.TheVariants.{Blank, Close, Op
 use Rattle.stab_lines.specs.declared.meanings.Line.TheVariants as line
 use Rattle.stab_items.specs.declared.reader.OpenBlock.{OpenBlock as StoredBlock}
 use Rattle.stab_items.specs.declared.reader.CircuitReader.{CircuitReader}
-use Rattle.stab_items.specs.Items.{Items, OneItem, done, next, block, join, listed, depth}
+use Rattle.stab_items.specs.Items.{Items, OneItem, done, next, block, before, join, listed, depth}
 use Rattle.stab_lines.specs.declared.operation.Operation.{Operation}
 use Rattle.stab_lines.specs.Lines.{is_byte, content_of}
 use Rattle.stab_lines.specs.Words.{pieces_after}
@@ -86,6 +86,10 @@ opening n count tag s =
 -- an instruction is read
 abbrev pub with_instruction : Progress → Operation → Progress
 with_instruction s op = record { open_blocks = s.open_blocks; now = join s.now (next op done) }
+
+-- an item is read
+abbrev pub with_item : Progress → OneItem → Progress
+with_item s x = record { open_blocks = s.open_blocks; now = join s.now (before x done) }
 
 -- what a line n makes of what was read
 abbrev pub stepped : ℕ → Meaning → Progress → Result Progress Refusal

@@ -19,6 +19,7 @@ lines-preserved c =
     record {
       few = omega (arith, c.lines.invariant.few, (rw c.in-Ok-Some.field-0-is at c.in-Ok-Some.ensures.shorter));
       shallow = stepped_shallow _ _ (progress_of c.lines.reader) _ c.lines.invariant.shallow g.4;
+      known = c.in-Ok-Some.ensures.known;
       same =
           sym (lines_taken c.args.single c.lines.line (progress_of c.lines.reader) (progress_of c.take_first.new.self) c.lines.rest.now g.0 c.in-Ok-Some.next.now
           (g.2 ∙ ap (λ ps. g.0 ∷ ps) (rw c.in-Ok-Some.field-0-is at g.3)) g.4)

@@ -1,0 +1,12 @@
+use Rattle.std.proofs.Common.{subst, sym}
+use Rattle.stab_items.specs.inner.KnownLines.{IsOneLine}
+use Rattle.stab_items.proofs.FrontLemmas.{one_line_first}
+use Rattle.stab_items.proofs.reader.CircuitReader.take_new.Goals as goal
+
+pub take_plain-requires-clause-whole : goal.take_plain-requires-clause-whole
+take_plain-requires-clause-whole c =
+    let d = c.in-Some.ensures.value in
+    subst IsOneLine (sym (c.before_lines-bytes.ensures.value d.0 d.1)) (one_line_first c.args.text.now d.0 _ d.1)
+
+pub take_content-requires-clause-whole : goal.take_content-requires-clause-whole
+take_content-requires-clause-whole c = one_line_first c.args.text.now _ _ c.first_piece.ensures.value

@@ -1,0 +1,64 @@
+ghost use Rattle.std.specs.Prelude.{◌≡◌, ◌<◌, ◌∷◌, ℕ, List, false, length, MatchOption};
+ghost use Rattle.std.specs.Option.{option_copied};
+ghost use Rattle.std.specs.List.{slice_split};
+ghost use Rattle.stab_lines.specs.Lines.{is_byte};
+ghost use Rattle.stab_lines.specs.Words.{pieces_after};
+ghost use Rattle.stab_items.specs.Circuits.{meaning_after as meaning_after_of};
+ghost use Rattle.stab_items.specs.inner.KnownLines.{IsCut};
+ghost use Rattle.stab_lines.specs.FirstLines.{BeginsWithDetector};
+
+use stab_io::Refusal;
+use stab_lines::{DetectorTargets, Line, detector_in_front, is_close};
+
+/// The detector that the first line means, where a look at its bytes is enough to tell, and the lines
+/// behind it. Where one item alone is read, a line behind it means no more.
+pub(crate) fn first_detector(single: bool, text: &[u8]) -> Option<(DetectorTargets, Option<&[u8]>)>
+    ensures value { MatchOption result (Unit {0}) (λ p. BeginsWithDetector text.now p.0 (option_copied p.1)) }
+    ensures shorter { MatchOption result (Unit {0}) (λ p. MatchOption (option_copied p.1) (Unit {0}) (λ after. length after < length text.now)) }
+    ensures several { MatchOption result (Unit {0}) (λ _. single ≡ false) }
+{
+    if single {
+        None
+    } else {
+        detector_in_front(text)
+    }
+}
+
+/// What a content means after a whole item.
+pub(crate) fn meaning_after(content: &[u8]) -> Result<Line, Refusal>
+    ensures value { result ≡ meaning_after_of content.now }
+{
+    if content.is_empty() {
+        Ok(Line::Blank)
+    } else if is_close(content) {
+        Ok(Line::Close)
+    } else {
+        Err(Refusal::BadLine)
+    }
+}
+
+/// The lines behind a line, if there are any, where the text begins with that.
+pub(crate) fn behind_front<'a>(text: &'a [u8], line: &[u8]) -> Option<Option<&'a [u8]>>
+    ensures front { MatchOption result (Unit {0}) (λ after. IsCut text.now line.now (option_copied after)) }
+{
+    if !text.starts_with(line) {
+        return None;
+    }
+    let rest = text.split_at(line.len()).1;
+    match rest.first() {
+        None => Some(None),
+        Some(first) if *first == b'\n' => Some(Some(rest.split_at(1).1)),
+        Some(_) => None,
+    }
+}
+
+/// The first line of a text, where these are the lines behind it.
+#[tactic(auto, using(crate::proofs::FrontLemmas::before_none, crate::proofs::FrontLemmas::before_some))]
+pub(crate) fn before_lines<'a>(text: &'a [u8], after: Option<&[u8]>) -> &'a [u8]
+    ensures value { (first : List ℕ) → slice_split (is_byte 10) text.now ≡ first ∷ pieces_after 10 (option_copied after.entry) → result.now ≡ first }
+{
+    match after {
+        None => text,
+        Some(rest) => text.split_at(text.len().saturating_sub(rest.len() + 1)).0,
+    }
+}
