@@ -13,7 +13,7 @@ const FEW: usize = 64;
 const SLOTS: usize = 4096;
 
 /// After so many lines that were not known, none is looked for any more.
-const PATIENCE: u32 = 4096;
+const PATIENCE: u32 = 8192;
 
 /// A line that was known makes up for so many that were not.
 const WORTH: u32 = 64;
