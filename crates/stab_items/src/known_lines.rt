@@ -32,6 +32,27 @@ pub(crate) struct KnownLine<'a> {
     pub(crate) place: usize,
 }
 
+/// What a line has by its first bytes: a slot in the table, and a mark, by which most lines of one slot are
+/// told apart without a look at them.
+#[derive(Clone, Copy)]
+struct Front {
+    slot: usize,
+    mark: u16,
+}
+
+/// The newest line of a slot: its mark and its number.
+#[derive(Clone, Copy)]
+struct Newest {
+    mark: u16,
+    number: u16,
+}
+
+/// Past the table.
+const NO_FRONT: Front = Front {
+    slot: SLOTS,
+    mark: 0,
+};
+
 /// Lines that were read, so that a line that comes again is not read again.
 ///
 /// Circuits that are written out have the same lines in one order over and over. So a line is looked
@@ -42,11 +63,10 @@ pub(crate) struct KnownLines<'a> {
     lines: Vec<KnownLine<'a>>,
     // The number of the line behind the one that was found last.
     next: usize,
-    // By a sum of a line's first bytes, the number of the newest line that has it. What it says is
-    // tried, and nothing rests on it.
-    table: Vec<u16>,
-    // The slot of the line that was looked for last, or past the table where it has none.
-    slot: usize,
+    // The newest line by each slot. What it says is tried, and nothing rests on it.
+    table: Vec<Newest>,
+    // What the line that was looked for last had.
+    front: Front,
     // How many lines were not known, less what those that were known make up for.
     misses: u32,
     gave_up: bool,
@@ -67,7 +87,7 @@ impl<'a> KnownLines<'a> {
             lines: Vec::new(alloc),
             next: 0,
             table: Vec::new(alloc),
-            slot: 0,
+            front: NO_FRONT,
             misses: 0,
             gave_up,
         }
@@ -119,10 +139,10 @@ impl<'a> KnownLines<'a> {
         if self.table.is_empty() {
             return self.lines.len();
         }
-        self.slot = slot_of(text);
-        match self.table.get(self.slot) {
-            Some(number) => usize::from(*number),
-            None => self.lines.len(),
+        self.front = front_of(text);
+        match self.table.get(self.front.slot) {
+            Some(newest) if newest.mark == self.front.mark => usize::from(newest.number),
+            _ => self.lines.len(),
         }
     }
 
@@ -159,10 +179,15 @@ impl<'a> KnownLines<'a> {
         ensures lines { self.new.lines.items ≡ self.old.lines.items }
     {
         if number == FEW {
-            self.table = vec![in self.alloc; 0; SLOTS]?;
+            let none = Newest { mark: 0, number: 0 };
+            self.table = vec![in self.alloc; none; SLOTS]?;
         }
-        if self.slot < self.table.len() {
-            self.table[self.slot] = number as u16;
+        let Front { slot, mark } = self.front;
+        if slot < self.table.len() {
+            self.table[slot] = Newest {
+                mark,
+                number: number as u16,
+            };
         }
         Ok(())
     }
@@ -177,18 +202,24 @@ impl<'a> KnownLines<'a> {
     }
 }
 
-/// The slot of the line that a text begins with, by its first 16 bytes. A shorter line has none: to read
-/// it is as cheap as to look for it.
-fn slot_of(text: &[u8]) -> usize {
+/// The slot and the mark of the line that a text begins with, by its first 16 bytes.
+fn front_of(text: &[u8]) -> Front {
     if text.len() < FRONT {
-        return SLOTS;
+        return NO_FRONT;
     }
     let (first, second) = (word_at(text, 0), word_at(text, 8));
-    if has_line_end(first) || has_line_end(second) {
-        return SLOTS;
+    let ends = line_ends(first);
+    let behind = if ends == 0 {
+        before_end(second, line_ends(second))
+    } else {
+        0
+    };
+    let both = before_end(first, ends) ^ behind.rotate_left(29);
+    let sum = (both ^ (both >> 32)).wrapping_mul(SPREAD);
+    Front {
+        slot: (sum >> 52) as usize,
+        mark: (sum >> 36 & 0xFFFF) as u16,
     }
-    let sum = (first ^ second.rotate_left(29)).wrapping_mul(SPREAD);
-    (sum >> 52) as usize
 }
 
 /// The eight bytes from a place on, as one number.
@@ -208,9 +239,17 @@ fn word_at(bytes: &[u8], place: usize) -> u64
     ])
 }
 
-/// Whether one of eight bytes ends a line: whether one is 0 once each is told apart from a line end.
+/// The highest bit of the first of eight bytes that ends a line, and perhaps of others behind it: a byte
+/// becomes 0 where it does.
 #[inline(always)]
-fn has_line_end(word: u64) -> bool {
+fn line_ends(word: u64) -> u64 {
     let apart = word ^ 0x0A0A_0A0A_0A0A_0A0A;
-    apart.wrapping_sub(0x0101_0101_0101_0101) & !apart & 0x8080_8080_8080_8080 != 0
+    apart.wrapping_sub(0x0101_0101_0101_0101) & !apart & 0x8080_8080_8080_8080
+}
+
+/// The bytes before the first that ends a line, and 0 for the others; all, where none does.
+#[inline(always)]
+fn before_end(word: u64, ends: u64) -> u64 {
+    let end = (ends & 0_u64.wrapping_sub(ends)) >> 7;
+    word & end.wrapping_sub(1)
 }
