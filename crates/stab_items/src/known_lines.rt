@@ -7,7 +7,7 @@ use std::alloc::{AllocError, Global};
 const MOST: usize = 65_535;
 
 /// So many lines are remembered before the table is made: a short text pays nothing for it.
-const FEW: usize = 64;
+const FEW: usize = 256;
 
 /// How many slots the table has.
 const SLOTS: usize = 4096;
