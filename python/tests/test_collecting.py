@@ -6,6 +6,7 @@ import os
 import signal
 import subprocess
 import sys
+import time
 from concurrent.futures import ProcessPoolExecutor, ThreadPoolExecutor
 
 import pytest
@@ -65,12 +66,19 @@ def test_workers_of_dask_give_the_same_sums_though_one_is_killed(tmp_path):
         for sums in stabsim.collect(MODELS, deciding.slowly_nothing, executor=client.get_executor(), save=tmp_path / "counts.csv", **words):
             found[sums.name] = (sums.shots, sums.errors)
             if processes and sums.shots >= 5 * 1024:
-                os.kill(processes.pop(), signal.SIGKILL)
+                kill(processes.pop())
                 processes.clear()
         after = set(client.run(os.getpid).values())
     assert not processes and len(after) == 2
     assert found == alone
     assert each_shot_once(tmp_path / "counts.csv") == alone
+
+
+def kill(process):
+    """Kills a worker once no result of it is on its way: dask takes a result for an error if it hears of the worker's end before it looks."""
+    os.kill(process, signal.SIGSTOP)
+    time.sleep(0.3)
+    os.kill(process, signal.SIGKILL)
 
 
 def each_shot_once(path):
