@@ -1,11 +1,9 @@
 -- The steps of stretches, one behind the other.
-use Rattle.std.proofs.Common.{◌≡◌, sym, ap, ◌∙◌, ℕ, ◌+◌, ◌<◌, List, [], ◌∷◌, ◌++◌, length, take, drop, map, get_or, append_assoc, append-nil}
-use Rattle.std.proofs.lemmas.List.{drop-drop, map-append, map_more}
-use Rattle.std.proofs.Math.Seq.{take-add}
+use Rattle.std.proofs.Common.{◌≡◌, sym, ap, ◌∙◌, ℕ, ◌+◌, ◌<◌, List, [], ◌∷◌, ◌++◌, length, take, map, get_or, append_assoc, append-nil}
+use Rattle.std.proofs.lemmas.List.{map-append, map_more}
 use Rattle.stab_circuit.specs.Steps.{Step}
 use Rattle.stab_outlines.specs.declared.stretch.Stretch.{Stretch}
 use Rattle.stab_outlines.specs.Outlines.{stretch_steps, stretches_steps}
-use Rattle.stab_outlines.proofs.PartLemmas.{taken_front, dropped_front}
 
 -- one more stretch
 pub steps_push : {Y : Type 0} (f : Y → Stretch) (ys : List Y) (y : Y) (steps : List Step) → stretch_steps (f y) ≡ steps → stretches_steps (map f (ys ++ y ∷ [])) ≡ stretches_steps (map f ys) ++ steps
@@ -18,10 +16,3 @@ pub values_push : {X Y : Type 0} (f : X → Y) (xs all : List X) (i : ℕ) (x d 
     → map f (xs ++ x ∷ []) ≡ map f (take (i + 1) all)
 values_push f xs all i x d lt same e =
     map-append f xs (x ∷ []) ∙ ap (λ l. l ++ f x ∷ []) e ∙ ap (λ y. map f (take i all) ++ y ∷ []) same ∙ sym (map_more f all i d lt)
-
-pub goes_behind : {X : Type 0} (n : ℕ) (xs part rest : List X) → drop n xs ≡ part ++ rest → rest ≡ drop (n + length part) xs
-goes_behind n xs part rest e = sym (sym (drop-drop (length part) n xs) ∙ ap (drop (length part)) e ∙ dropped_front part rest)
-
-pub goes_before : {X : Type 0} (n : ℕ) (xs part rest : List X) → drop n xs ≡ part ++ rest → take n xs ++ part ≡ take (n + length part) xs
-goes_before n xs part rest e =
-    sym (take-add n (length part) xs ∙ ap (λ l. take n xs ++ l) (ap (take (length part)) e ∙ taken_front part rest))

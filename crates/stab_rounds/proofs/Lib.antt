@@ -1,4 +1,4 @@
 pub mod LookLemmas
 pub mod SameLemmas
-mod StretchLemmas
+pub mod StretchLemmas
 mod SearchLemmas

@@ -6,8 +6,8 @@
 //! - `search`: where rounds that are written out stand.
 //!
 //! Blocks are told by `stab_circuit`. Rounds that are written out are looked for in circuits without
-//! blocks alone, and only as far as that costs little: a search may find none where there are some,
-//! or begin a round or two behind the first.
+//! blocks alone, and only as far as looking for them costs little: a search may find none where there
+//! are some, or begin a round or two behind the first. What it finds it compares, step by step.
 //!
 //! Source: this project's own.
 //!

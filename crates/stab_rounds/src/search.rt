@@ -18,10 +18,13 @@ const LEAST_STEPS: usize = 8192;
 
 const LEAST_ROUNDS: usize = 8;
 
-/// How many instructions are passed at most to find one of them again, and how many of those that are
-/// the same are tried: the same instruction may stand more than once in a round.
+/// How many instructions are passed at most to find one of them again, and no more than one for so many
+/// steps of the circuit: so a search in vain costs next to nothing beside a run.
 const MOST_PASSED: usize = 4096;
 
+const STEPS_FOR_ONE: usize = 128;
+
+/// How many of those that are the same are tried: the same instruction may stand more than once in a round.
 const MOST_TRIED: usize = 4;
 
 /// At how many places in a row rounds are looked for in vain at most. Each is four times further from
@@ -68,6 +71,7 @@ fn find_at(alloc: Global, circuit: &Circuit, first: usize) -> Result<Option<Repe
     ensures err { IfErr result (λ r. r ≡ OutOfMemory) }
 {
     let longest = (circuit.steps() - first) / LEAST_ROUNDS;
+    let most = MOST_PASSED.min(circuit.steps() / STEPS_FOR_ONE);
     let mut cursor = Cursor::at(alloc, circuit, first)?;
     let Some(begin) = cursor.next_steps(usize::MAX) else {
         return Ok(None);
@@ -75,7 +79,7 @@ fn find_at(alloc: Global, circuit: &Circuit, first: usize) -> Result<Option<Repe
     let mut round = begin.len();
     let mut tried = 0;
     let mut passed = 0;
-    'seeking: while tried < MOST_TRIED && passed < MOST_PASSED && round <= longest {
+    'seeking: while tried < MOST_TRIED && passed < most && round <= longest {
         let Some(next) = cursor.next_steps(usize::MAX) else {
             return Ok(None);
         };

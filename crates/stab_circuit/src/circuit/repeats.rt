@@ -10,7 +10,8 @@ use stab_io::Refusal;
 use stab_items::{Chunk, Item, Part};
 use std::alloc::Global;
 
-/// A block of the outermost list, by the steps of the unrolled circuit.
+/// Rounds of the same steps, one behind the other, by the steps of the unrolled circuit: a block of the
+/// outermost list, or rounds that are written out (`stab_rounds`).
 #[derive(Clone, Copy, Debug, PartialEq, Eq)]
 pub struct Repeat {
     /// The number of its first step, counted from 0.

@@ -1,7 +1,7 @@
 use Rattle.std.proofs.Common.{◌≡◌, ◌+◌, ◌++◌, take, drop, sym, ap, ◌∙◌, subst, IfSome, arith}
 use Rattle.stab_circuit.specs.Cursors.{steps_shown}
 use Rattle.stab_outlines.specs.inner.Gatherings.{gathered_steps}
-use Rattle.stab_outlines.proofs.OutlineLemmas.{goes_behind, goes_before}
+use Rattle.stab_rounds.proofs.StretchLemmas.{goes-behind, goes-before}
 use Rattle.stab_outlines.proofs.outline.gather.Goals as goal
 
 pub gathering-preserved : goal.gathering-preserved
@@ -15,9 +15,9 @@ gathering-preserved c =
     record {
       within = omega (arith, c.in-Some.ensures.within.1, c.len-done.ensures.value, c.gathering.invariant.within);
       all = c.in-Some.ensures.all ∙ c.gathering.invariant.all;
-      left = goes_behind c.gathering.done all part rest e ∙ ap (λ n. drop (c.gathering.done + n) all) (sym c.len-done.ensures.value);
+      left = goes-behind c.gathering.done all part rest e ∙ ap (λ n. drop (c.gathering.done + n) all) (sym c.len-done.ensures.value);
       steps = goes
           ∙ ap (λ l. l ++ part) c.gathering.invariant.steps
-          ∙ goes_before c.gathering.done all part rest e
+          ∙ sym (goes-before c.gathering.done all part rest e)
           ∙ ap (λ n. take (c.gathering.done + n) all) (sym c.len-done.ensures.value);
     }
