@@ -6,9 +6,9 @@ use Rattle.std.proofs.lemmas.List.Elements.{All-take, All-drop}
 use Rattle.stab_circuit.specs.Steps.{detector}
 use Rattle.stab_steps.proofs.RunLemmas.{joined-nothing, joined-assoc}
 use Rattle.stab_outlines.specs.Names.{names_lookback, PassesBy}
-use Rattle.stab_run.specs.Records.{parity}
-use Rattle.stab_run.specs.Points.{nothing, joined}
-use Rattle.stab_run.proofs.LookbackLemmas.{or-left, or-right}
+use Rattle.stab_steps.specs.Records.{parity}
+use Rattle.stab_steps.specs.Points.{nothing, joined}
+use Rattle.stab_laws.proofs.LookbackLemmas.{or-left, or-right}
 use Rattle.stab_frames.specs.Walks.{WalkState}
 use Rattle.stab_frames.specs.inner.Passes.{GoesOver, GoesFreely, no_detectors}
 use Rattle.stab_frames.specs.inner.Touches.{FindsDetectors}

@@ -4,10 +4,10 @@ use Rattle.std.specs.Prelude.{All}
 use Rattle.std.proofs.lemmas.List.Elements.{All-nil, All-cons, All-head, All-tail, All-append}
 use Rattle.stab_letters.specs.declared.letter.Letter.{Letter}
 use Rattle.stab_circuit.specs.Steps.{Step, one}
-use Rattle.stab_run.specs.Runs.{gate_of}
-use Rattle.stab_run.specs.Points.{RunOutput, origin, nothing, joined, point_after, outputs}
-use Rattle.stab_run.specs.ProgramStates.{StepFits}
-use Rattle.stab_run.specs.Cuts.{lengths_of}
+use Rattle.stab_steps.specs.Runs.{gate_of}
+use Rattle.stab_steps.specs.Points.{RunOutput, origin, nothing, joined, point_after, outputs}
+use Rattle.stab_steps.specs.ProgramStates.{StepFits}
+use Rattle.stab_steps.specs.Cuts.{lengths_of}
 use Rattle.stab_frames.specs.Flips.{Matches, flipped_output, unflipped}
 use Rattle.stab_frames.specs.Frames.{identity_frame}
 use Rattle.stab_frames.specs.Notes.{same_coins, changed}

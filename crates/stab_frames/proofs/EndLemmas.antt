@@ -4,8 +4,8 @@ use Rattle.std.proofs.lemmas.List.{length-replicate}
 use Rattle.stab_letters.specs.Letters.{◌⊕◌}
 use Rattle.stab_pauli.proofs.StringLemmas.{length-string_product}
 use Rattle.stab_tableau.specs.Traces.{member}
-use Rattle.stab_run.specs.Records.{looked_up}
-use Rattle.stab_run.proofs.LookbackLemmas.{looked_up-near, looked_up-zeros}
+use Rattle.stab_steps.specs.Records.{looked_up}
+use Rattle.stab_laws.proofs.LookbackLemmas.{looked_up-near, looked_up-zeros}
 use Rattle.stab_frames.specs.EndLaws.{StabilisersTurnNothing, FramesUpToStabilisers, FramesEnd}
 use Rattle.stab_frames.proofs.TurnedLemmas.{turned-blank, turned-over, turned-stabiliser}
 use Rattle.stab_frames.proofs.FlipLemmas.{looked_up-flipped}

@@ -15,8 +15,8 @@ use Rattle.stab_tableau.proofs.PlaceLemmas.{get_or-blank}
 use Rattle.stab_lines.specs.declared.product.Factor.{Factor}
 use Rattle.stab_lines.specs.Axes.{letter_of}
 use Rattle.stab_lines.specs.Products.{is_on, names_twice}
-use Rattle.stab_run.specs.Runs.{with_factors, string_of}
-use Rattle.stab_run.proofs.LookbackLemmas.{or-left, or-right}
+use Rattle.stab_steps.specs.Runs.{with_factors, string_of}
+use Rattle.stab_laws.proofs.LookbackLemmas.{or-left, or-right}
 use Rattle.stab_frames.specs.inner.Passes.{factors_anticommute}
 
 -- with one letter

@@ -5,9 +5,9 @@ use Rattle.std.proofs.lemmas.List.{length-append, length-replicate, length-set, 
 use Rattle.stab_letters.specs.Letters.{◌⊕◌}
 use Rattle.stab_letters.proofs.ParityLemmas.{parity-assoc, parity-mid, parity-twice}
 use Rattle.stab_steps.specs.declared.records.Addition.{Addition}
-use Rattle.stab_run.specs.Records.{looked_up, parity}
-use Rattle.stab_run.specs.Runs.{when, added}
-use Rattle.stab_run.specs.Points.{RunOutput, joined, with_additions}
+use Rattle.stab_steps.specs.Records.{looked_up, parity}
+use Rattle.stab_steps.specs.Runs.{when, added}
+use Rattle.stab_steps.specs.Points.{RunOutput, joined, with_additions}
 use Rattle.stab_frames.specs.Flips.{flipped, flipped_additions, flipped_output, unflipped, Matches}
 
 pub length-flipped : (bits flips : List Bool) → length (flipped bits flips) ≡ length bits

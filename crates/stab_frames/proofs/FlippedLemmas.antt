@@ -4,8 +4,8 @@ use Rattle.std.specs.List.{list_any}
 use Rattle.std.proofs.lemmas.List.Elements.{All-tail, All-head}
 use Rattle.stab_letters.specs.Letters.{◌⊕◌}
 use Rattle.stab_outlines.specs.Names.{is_key, names_lookback}
-use Rattle.stab_run.specs.Records.{looked_up, parity}
-use Rattle.stab_run.proofs.LookbackLemmas.{or-left, or-right}
+use Rattle.stab_steps.specs.Records.{looked_up, parity}
+use Rattle.stab_laws.proofs.LookbackLemmas.{or-left, or-right}
 use Rattle.stab_frames.specs.inner.Touches.{FindsBack, FindsDetectors}
 
 -- tests that are not met

@@ -9,9 +9,9 @@ use Rattle.stab_tableau.specs.Traces.{member}
 use Rattle.stab_tableau.specs.Groups.{IsStabiliserGroup}
 use Rattle.stab_tableau.proofs.GroupLemmas.{group-zeros}
 use Rattle.stab_circuit.specs.Steps.{Step, one}
-use Rattle.stab_run.specs.Runs.{State, start, gate_of, run}
-use Rattle.stab_run.specs.Points.{Point, RunOutput, origin, nothing, joined, next_point, point_after, outputs, with_additions}
-use Rattle.stab_run.specs.ProgramStates.{StepFits}
+use Rattle.stab_steps.specs.Runs.{State, start, gate_of, run}
+use Rattle.stab_steps.specs.Points.{Point, RunOutput, origin, nothing, joined, next_point, point_after, outputs, with_additions}
+use Rattle.stab_steps.specs.ProgramStates.{StepFits}
 use Rattle.stab_frames.specs.Flips.{Matches, flipped, flipped_output, unflipped}
 use Rattle.stab_frames.specs.Frames.{Frame, PointsDifferBy, frame_of}
 use Rattle.stab_frames.specs.Notes.{Notes, changed}
@@ -23,8 +23,8 @@ use Rattle.stab_frames.proofs.FlipLemmas.{flipped-joined, joined-matches, flippe
 use Rattle.stab_frames.proofs.StepLemmas.{group-next, outputs-matches, over-framed}
 use Rattle.stab_frames.proofs.StartLemmas.{framed-exchanged, framed-gates}
 use Rattle.stab_steps.proofs.RunLemmas.{joined-nothing, after-append, outputs-append}
-use Rattle.stab_run.proofs.StateLemmas.{run-state}
-use Rattle.stab_run.proofs.PointLemmas.{records-are-records}
+use Rattle.stab_laws.proofs.StateLemmas.{run-state}
+use Rattle.stab_laws.proofs.PointLemmas.{records-are-records}
 
 -- the strings at a point of a run are a group
 

@@ -15,8 +15,8 @@ use Rattle.stab_tableau.specs.Traces.{member}
 use Rattle.stab_tableau.specs.Turns.{IsTurned}
 use Rattle.stab_tableau.proofs.OneLetterLemmas.{one_letter-anticommute, length-one_letter}
 use Rattle.stab_circuit.specs.Steps.{one}
-use Rattle.stab_run.specs.Runs.{gate_of}
-use Rattle.stab_run.specs.Points.{Point, next_point}
+use Rattle.stab_steps.specs.Runs.{gate_of}
+use Rattle.stab_steps.specs.Points.{Point, next_point}
 use Rattle.stab_frames.specs.Frames.{PointsDifferBy, frame_of}
 use Rattle.stab_frames.specs.Starts.{GatesDifferBy}
 use Rattle.stab_frames.specs.GateLaws.{PauliPairs}

@@ -12,10 +12,10 @@ use Rattle.stab_lines.specs.declared.control.ControlledPair.TheVariants as pair
 use Rattle.stab_lines.specs.declared.range.MeasureTarget.{MeasureTarget}
 use Rattle.stab_lines.specs.declared.operation.Measurement.{Measurement}
 use Rattle.stab_lines.specs.Axes.{letter_of}
-use Rattle.stab_circuit.specs.Steps.{Step, one, controlled, collapse, detector, controlled_step, measured}
-use Rattle.stab_run.specs.Records.{looked_up, parity}
-use Rattle.stab_run.specs.Points.{coins_of, nothing, joined}
-use Rattle.stab_run.specs.ProgramStates.{StepFits}
+use Rattle.stab_circuit.specs.Steps.{Step, one, controlled, collapse, detector, controlled_step, measured, observable}
+use Rattle.stab_steps.specs.Records.{looked_up, parity}
+use Rattle.stab_steps.specs.Points.{coins_of, nothing, joined}
+use Rattle.stab_steps.specs.ProgramStates.{StepFits}
 use Rattle.stab_frames.specs.Frames.{Frame, plus, times_where}
 use Rattle.stab_frames.specs.Notes.{Notes, same_coins}
 use Rattle.stab_frames.specs.FrameSteps.{frame_over, letters_after, flips_given}
@@ -29,12 +29,12 @@ use Rattle.stab_frames.proofs.OverLemmas.{coins-few}
 -- over none, one step, and steps one after another
 
 pub goes-none : (n : ℕ) (strings : List (List Letter)) (free : List Bool) (w : WalkState) → IsPlaced free w → length w.letters ≡ n → GoesOver n strings free [] w w
-goes-none n strings free w placed size = record { over = over-none n (note_at strings free) w; told = λ base. tt; placed = placed; size = size }
+goes-none n strings free w placed size = record { over = over-none n (same_coins (note_at strings free)) w; told = λ base. tt; placed = placed; size = size }
 
 pub goes-step : (n : ℕ) (strings : List (List Letter)) (free : List Bool) (x : Step) (old new : WalkState) → Passes n (note_at strings free) x old new
     → IsTold n strings free x old.coin old.letters → IsPlaced free new → length new.letters ≡ n → GoesOver n strings free (x ∷ []) old new
 goes-step n strings free x old new passes told placed size = record {
-  over = over-step n (note_at strings free) x old new passes;
+  over = over-step n (same_coins (note_at strings free)) x old new passes;
   told = λ base. (told, tt);
   placed = placed;
   size = size;
@@ -43,7 +43,7 @@ goes-step n strings free x old new passes told placed size = record {
 pub goes-append : (n : ℕ) (strings : List (List Letter)) (free : List Bool) (xs ys : List Step) (a b c : WalkState) → GoesOver n strings free xs a b
     → GoesOver n strings free ys b c → GoesOver n strings free (xs ++ ys) a c
 goes-append n strings free xs ys a b c first then = record {
-  over = over-append n (note_at strings free) xs ys a b c first.over then.over;
+  over = over-append n (same_coins (note_at strings free)) xs ys a b c first.over then.over;
   told = λ base. told-append n strings free xs ys a.coin (frame_at base a) (first.told base)
       (subst (λ k. AreTold n strings free ys k (frame_over n (same_coins (note_at strings free)) xs a.coin (frame_at base a))) first.over.coin
       (subst (λ (f : Frame). AreTold n strings free ys b.coin f) (first.over.frame base) (then.told base)));
@@ -121,6 +121,17 @@ freely-detector n ks old new e size = λ strings free placed.
     goes-step n strings free (detector ks) old new
     (passes-flips n (note_at strings free) (detector ks) old new (record nothing { detectors = parity old.flips.records ks ∷ [] }) e refl refl refl)
     (told-unmeasured n strings free (detector ks) old.coin old.letters refl)
+    (subst (IsPlaced free) (sym e) placed)
+    size
+
+-- an addition to an observable, which measures nothing either
+pub freely-observable : (n j : ℕ) (ks : List ℕ) (old new : WalkState)
+    → new ≡ record old { flips = joined old.flips (record nothing { additions = record { observable = j; bit = parity old.flips.records ks } ∷ [] }) }
+    → length new.letters ≡ n → GoesFreely n (observable j ks ∷ []) old new
+freely-observable n j ks old new e size = λ strings free placed.
+    goes-step n strings free (observable j ks) old new
+    (passes-flips n (note_at strings free) (observable j ks) old new (record nothing { additions = record { observable = j; bit = parity old.flips.records ks } ∷ [] }) e refl refl refl)
+    (told-unmeasured n strings free (observable j ks) old.coin old.letters refl)
     (subst (IsPlaced free) (sym e) placed)
     size
 

@@ -3,9 +3,9 @@ use Rattle.std.proofs.Common.{ℕ, sym, ◌∙◌, ap, subst}
 use Rattle.stab_letters.specs.Letters.{◌⊕◌}
 use Rattle.stab_tableau.specs.Traces.{member}
 use Rattle.stab_tableau.specs.Turns.{IsTurned}
-use Rattle.stab_run.specs.Records.{looked_up}
-use Rattle.stab_run.specs.Points.{Point}
-use Rattle.stab_run.specs.Ends.{AgreeBack}
+use Rattle.stab_steps.specs.Records.{looked_up}
+use Rattle.stab_steps.specs.Points.{Point}
+use Rattle.stab_laws.specs.Ends.{AgreeBack}
 use Rattle.stab_frames.specs.Frames.{Frame, PointsDifferBy}
 use Rattle.stab_frames.specs.Walks.{IsGone}
 use Rattle.stab_frames.proofs.TurnedLemmas.{turned-blank}

@@ -37,3 +37,8 @@ pub mod TargetListLemmas
 pub mod PassedLemmas
 pub mod OutlineLemmas
 pub mod KeyLemmas
+pub mod AgainLemmas
+pub mod OtherCoinLemmas
+pub mod OtherRunLemmas
+pub mod FlippedListLemmas
+pub mod TurnedCopyLemmas

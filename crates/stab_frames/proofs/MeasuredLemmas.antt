@@ -10,7 +10,7 @@ use Rattle.stab_tableau.specs.Groups.{IsStabiliserGroup}
 use Rattle.stab_tableau.specs.Turns.{IsTurned}
 use Rattle.stab_tableau.specs.Exchanges.{Exchanges}
 use Rattle.stab_tableau.proofs.TestLemmas.{not-true, not_both}
-use Rattle.stab_run.proofs.StateLemmas.{both_false, both_true}
+use Rattle.stab_laws.proofs.StateLemmas.{both_false, both_true}
 use Rattle.stab_frames.specs.Frames.{times_where}
 use Rattle.stab_frames.specs.Notes.{IsNoteOf, IsEnough}
 use Rattle.stab_frames.specs.FrameSteps.{flipped_by, letters_by}

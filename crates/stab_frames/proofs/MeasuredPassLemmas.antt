@@ -6,16 +6,16 @@ use Rattle.stab_letters.specs.declared.letter.Letter.{Letter}
 use Rattle.stab_pauli.specs.Paulis.{Signed, single, string_product, strings_anticommute}
 use Rattle.stab_lines.specs.declared.product.Factor.{Factor}
 use Rattle.stab_circuit.specs.Steps.{Step, collapse, product}
-use Rattle.stab_run.specs.Records.{ones}
-use Rattle.stab_run.specs.Runs.{when, string_of, flip_of, measured_by}
-use Rattle.stab_run.specs.Points.{RunOutput, nothing, joined, coins_of}
+use Rattle.stab_steps.specs.Records.{ones}
+use Rattle.stab_steps.specs.Runs.{when, string_of, flip_of, measured_by}
+use Rattle.stab_steps.specs.Points.{RunOutput, nothing, joined, coins_of}
 use Rattle.stab_steps.proofs.RunLemmas.{joined-nothing, joined-assoc}
 use Rattle.stab_frames.specs.Frames.{times_where}
-use Rattle.stab_frames.specs.Notes.{same_coins}
+use Rattle.stab_frames.specs.Notes.{Notes, same_coins}
 use Rattle.stab_frames.specs.FrameSteps.{flipped_by, letters_by, letters_after, flips_given}
 use Rattle.stab_frames.specs.KeptStrings.{note_at}
 use Rattle.stab_frames.specs.Walks.{WalkState, frame_at, IsPlaced}
-use Rattle.stab_frames.specs.inner.Passes.{Passes, IsPassed, IsTold, IsToldBy, flip_by, letters_for, one_coin}
+use Rattle.stab_frames.specs.inner.Passes.{Passes, PassesWith, IsPassed, IsPassedWith, IsTold, IsToldBy, flip_by, letters_for, one_coin}
 use Rattle.stab_frames.proofs.RunNoteLemmas.{unmeasured}
 
 -- steps that measure nothing and flip nothing that they give
@@ -58,13 +58,15 @@ told-unmeasured n strings free x coin f e = unmeasured n (λ m. IsToldBy strings
 
 -- measurements
 
-flip-same : (note : Option (List Letter)) (m : Signed) (f : List Letter) → flipped_by note false m f ≡ flip_by note (strings_anticommute f m.letters)
-flip-same None m f = refl
-flip-same (Some s) m f = refl
+flip-same : (note : Option (List Letter)) (change : Bool) (m : Signed) (f : List Letter)
+    → flipped_by note change m f ≡ flip_by note change (strings_anticommute f m.letters)
+flip-same None change m f = refl
+flip-same (Some s) change m f = refl
 
-letters-same : (note : Option (List Letter)) (m : Signed) (f : List Letter) → letters_by note false m f ≡ letters_for note (strings_anticommute f m.letters) f
-letters-same None m f = refl
-letters-same (Some s) m f = refl
+letters-same : (note : Option (List Letter)) (change : Bool) (m : Signed) (f : List Letter)
+    → letters_by note change m f ≡ letters_for note change (strings_anticommute f m.letters) f
+letters-same None change m f = refl
+letters-same (Some s) change m f = refl
 
 -- the flags and kept strings tell of the next outcome
 
@@ -78,7 +80,7 @@ note-some strings free coin number e placed lt =
     ∙ ap (slice_get strings) (sym placed)
     ∙ slice_get-get_or strings number [] lt
 
-taken-next : (free : List Bool) (coin : ℕ) (flag : Bool) → get_or free coin false ≡ flag → ones (take coin free) + ones (flag ∷ []) ≡ ones (take (suc coin) free)
+pub taken-next : (free : List Bool) (coin : ℕ) (flag : Bool) → get_or free coin false ≡ flag → ones (take coin free) + ones (flag ∷ []) ≡ ones (take (suc coin) free)
 taken-next [] zero true e = cc
 taken-next [] zero false e = refl
 taken-next [] (suc coin) true e = cc
@@ -108,17 +110,17 @@ behind_coin flag w = record w { flips = joined w.flips one_coin; coin = w.coin +
 pub passed-fixed : (strings : List (List Letter)) (free : List Bool) (apart : Bool) (old new : WalkState) → get_or free old.coin false ≡ false
     → new ≡ behind_coin false old → IsPassed (note_at strings free) apart apart old new
 passed-fixed strings free apart old new e is = record {
-  outcome = ap (λ note. flip_by note apart) (sym (note-none strings free old.coin e));
-  letters = ap (λ (w : WalkState). w.letters) is ∙ ap (λ note. letters_for note apart old.letters) (sym (note-none strings free old.coin e));
+  outcome = ap (λ note. flip_by note false apart) (sym (note-none strings free old.coin e));
+  letters = ap (λ (w : WalkState). w.letters) is ∙ ap (λ note. letters_for note false apart old.letters) (sym (note-none strings free old.coin e));
   flips = ap (λ (w : WalkState). w.flips) is;
   coin = ap (λ (w : WalkState). w.coin) is;
 }
 
-flip-alike : (note : Option (List Letter)) → false ≡ flip_by note false
+flip-alike : (note : Option (List Letter)) → false ≡ flip_by note false false
 flip-alike None = refl
 flip-alike (Some s) = refl
 
-letters-alike : (note : Option (List Letter)) (f : List Letter) → f ≡ letters_for note false f
+letters-alike : (note : Option (List Letter)) (f : List Letter) → f ≡ letters_for note false false f
 letters-alike None f = refl
 letters-alike (Some s) f = refl
 
@@ -141,11 +143,11 @@ pub passed-apart : (strings : List (List Letter)) (free : List Bool) (string : L
     → mid ≡ behind_coin true old → new ≡ record mid { letters = string_product mid.letters string }
     → IsPassed (note_at strings free) true false old new
 passed-apart strings free string old mid new e placed lt is_string first last = record {
-  outcome = ap (λ o. flip_by o true) (sym note);
+  outcome = ap (λ o. flip_by o false true) (sym note);
   letters =
       ap (λ (w : WalkState). w.letters) last
       ∙ (λ i. string_product (first i).letters (is_string i))
-      ∙ ap (λ o. letters_for o true old.letters) (sym note);
+      ∙ ap (λ o. letters_for o false true old.letters) (sym note);
   flips = ap (λ (w : WalkState). w.flips) last ∙ ap (λ (w : WalkState). w.flips) first;
   coin = ap (λ (w : WalkState). w.coin) last ∙ ap (λ (w : WalkState). w.coin) first;
 }
@@ -173,14 +175,14 @@ told-measured n strings free x m coin apart f measured e told =
 
 -- over a measured letter and a measured product
 
-pub passes-collapse : (n : ℕ) (strings : ℕ → Option (List Letter)) (l : Letter) (q : ℕ) (recorded inverted resets apart flip : Bool) (old mid reset new : WalkState)
+pub passes-collapse : (n : ℕ) (notes : Notes) (l : Letter) (q : ℕ) (recorded inverted resets apart flip : Bool) (old mid reset new : WalkState)
     → strings_anticommute old.letters (single n q l).letters ≡ apart
-    → IsPassed strings apart flip old mid
+    → IsPassedWith notes apart flip old mid
     → length mid.letters ≡ n
     → reset ≡ record mid { letters = times_where (resets && flip) (single (length mid.letters) q (flip_of l)).letters mid.letters }
     → new ≡ record reset { flips = joined reset.flips (record nothing { records = when recorded flip }) }
-    → Passes n strings (collapse l q recorded inverted resets) old new
-passes-collapse n strings l q recorded inverted resets apart flip old mid reset new ea p size er en = record {
+    → PassesWith n notes (collapse l q recorded inverted resets) old new
+passes-collapse n notes l q recorded inverted resets apart flip old mid reset new ea p size er en = record {
   letters =
       ap (λ (w : WalkState). w.letters) en
       ∙ ap (λ (w : WalkState). w.letters) er
@@ -195,33 +197,33 @@ passes-collapse n strings l q recorded inverted resets apart flip old mid reset 
   coin = ap (λ (w : WalkState). w.coin) en ∙ ap (λ (w : WalkState). w.coin) er ∙ p.coin;
 }
   where
-    flips : flip ≡ flipped_by (strings old.coin) false (single n q l) old.letters
-    flips = p.outcome ∙ ap (flip_by (strings old.coin)) (sym ea) ∙ sym (flip-same (strings old.coin) (single n q l) old.letters)
+    flips : flip ≡ flipped_by (notes.strings old.coin) (notes.changes old.coin) (single n q l) old.letters
+    flips = p.outcome ∙ ap (flip_by (notes.strings old.coin) (notes.changes old.coin)) (sym ea) ∙ sym (flip-same (notes.strings old.coin) (notes.changes old.coin) (single n q l) old.letters)
 
-    letters : mid.letters ≡ letters_by (strings old.coin) false (single n q l) old.letters
+    letters : mid.letters ≡ letters_by (notes.strings old.coin) (notes.changes old.coin) (single n q l) old.letters
     letters =
         p.letters
-        ∙ ap (λ b. letters_for (strings old.coin) b old.letters) (sym ea)
-        ∙ sym (letters-same (strings old.coin) (single n q l) old.letters)
+        ∙ ap (λ b. letters_for (notes.strings old.coin) (notes.changes old.coin) b old.letters) (sym ea)
+        ∙ sym (letters-same (notes.strings old.coin) (notes.changes old.coin) (single n q l) old.letters)
 
-pub passes-product : (n : ℕ) (strings : ℕ → Option (List Letter)) (factors : List Factor) (inverted apart flip : Bool) (old mid new : WalkState)
+pub passes-product : (n : ℕ) (notes : Notes) (factors : List Factor) (inverted apart flip : Bool) (old mid new : WalkState)
     → strings_anticommute old.letters (string_of n factors).letters ≡ apart
-    → IsPassed strings apart flip old mid
+    → IsPassedWith notes apart flip old mid
     → new ≡ record mid { flips = record mid.flips { records = mid.flips.records ++ flip ∷ [] } }
-    → Passes n strings (product factors inverted) old new
-passes-product n strings factors inverted apart flip old mid new ea p en = record {
+    → PassesWith n notes (product factors inverted) old new
+passes-product n notes factors inverted apart flip old mid new ea p en = record {
   letters =
       ap (λ (w : WalkState). w.letters) en
       ∙ p.letters
-      ∙ ap (λ b. letters_for (strings old.coin) b old.letters) (sym ea)
-      ∙ sym (letters-same (strings old.coin) (string_of n factors) old.letters);
+      ∙ ap (λ b. letters_for (notes.strings old.coin) (notes.changes old.coin) b old.letters) (sym ea)
+      ∙ sym (letters-same (notes.strings old.coin) (notes.changes old.coin) (string_of n factors) old.letters);
   flips =
       ap (λ (w : WalkState). w.flips) en
       ∙ as_joined mid.flips
       ∙ ap (λ o. joined o (record nothing { records = flip ∷ [] })) p.flips
       ∙ joined-assoc old.flips one_coin (record nothing { records = flip ∷ [] })
       ∙ ap (λ b. joined old.flips (record nothing { records = b ∷ []; free = false ∷ [] }))
-      (p.outcome ∙ ap (flip_by (strings old.coin)) (sym ea) ∙ sym (flip-same (strings old.coin) (string_of n factors) old.letters));
+      (p.outcome ∙ ap (flip_by (notes.strings old.coin) (notes.changes old.coin)) (sym ea) ∙ sym (flip-same (notes.strings old.coin) (notes.changes old.coin) (string_of n factors) old.letters));
   coin = ap (λ (w : WalkState). w.coin) en ∙ p.coin;
 }
   where

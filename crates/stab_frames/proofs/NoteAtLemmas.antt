@@ -6,7 +6,7 @@ use Rattle.std.proofs.lemmas.List.{length-append, length-take, take-append-le, g
 use Rattle.std.proofs.lemmas.Option.{slice_get_past}
 use Rattle.std.proofs.Math.Seq.{take-append-add}
 use Rattle.stab_letters.specs.declared.letter.Letter.{Letter}
-use Rattle.stab_run.specs.Records.{ones}
+use Rattle.stab_steps.specs.Records.{ones}
 use Rattle.stab_steps.proofs.RecordLemmas.{ones-append}
 use Rattle.stab_frames.specs.Limits.{most_strings}
 use Rattle.stab_frames.specs.KeptStrings.{StringsState, note_at, IsNumbered, front_kept}

@@ -24,9 +24,9 @@ use Rattle.stab_tableau.proofs.ColumnLemmas.{column-preimage}
 use Rattle.stab_tableau.proofs.GeneratedLemmas.{stabiliser-length, stabiliser-member}
 use Rattle.stab_tableau.proofs.FreeLemmas.{anticommuting-member_of_free}
 use Rattle.stab_circuit.specs.Steps.{Step, one, two, controlled, collapse, product, detector, observable}
-use Rattle.stab_run.specs.Runs.{string_of, measured_by}
-use Rattle.stab_run.specs.Points.{Point, given, coins_of, all_coins_of, next_point, outputs}
-use Rattle.stab_run.specs.ProgramStates.{StepFits}
+use Rattle.stab_steps.specs.Runs.{string_of, measured_by}
+use Rattle.stab_steps.specs.Points.{Point, given, coins_of, all_coins_of, next_point, outputs}
+use Rattle.stab_steps.specs.ProgramStates.{StepFits}
 use Rattle.stab_steps.proofs.ProductLemmas.{length-string_of}
 use Rattle.stab_frames.specs.Notes.{no_strings, IsNoteOf}
 use Rattle.stab_frames.specs.FrameSteps.{frame_after}

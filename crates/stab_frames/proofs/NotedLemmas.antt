@@ -10,10 +10,10 @@ use Rattle.stab_tableau.specs.Exchanges.{Exchanges}
 use Rattle.stab_tableau.proofs.OneLetterLemmas.{length-one_letter}
 use Rattle.stab_tableau.proofs.MemberLemmas.{same-free}
 use Rattle.stab_circuit.specs.Steps.{Step, one, two, controlled, collapse, product, detector, observable}
-use Rattle.stab_run.specs.Records.{ones}
-use Rattle.stab_run.specs.Runs.{string_of, measured_by}
-use Rattle.stab_run.specs.Points.{Point, origin, given, next_point, point_after, outputs, all_coins_of}
-use Rattle.stab_run.specs.ProgramStates.{ProgramState, IsAt, IsRun}
+use Rattle.stab_steps.specs.Records.{ones}
+use Rattle.stab_steps.specs.Runs.{string_of, measured_by}
+use Rattle.stab_steps.specs.Points.{Point, origin, given, next_point, point_after, outputs, all_coins_of}
+use Rattle.stab_steps.specs.ProgramStates.{ProgramState, IsAt, IsRun}
 use Rattle.stab_steps.proofs.RunLemmas.{after-append}
 use Rattle.stab_steps.proofs.ProductLemmas.{length-string_of}
 use Rattle.stab_frames.specs.KeptStrings.{StringsState, note_at, IsNumbered, IsTrueAt, AreTrue, KeepsTrue}

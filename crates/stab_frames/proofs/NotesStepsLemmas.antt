@@ -10,10 +10,10 @@ use Rattle.stab_lines.specs.declared.axis.Axis.{Axis}
 use Rattle.stab_lines.specs.declared.control.ControlledPair.{ControlledPair}
 use Rattle.stab_lines.specs.declared.control.ControlledPair.TheVariants as pair
 use Rattle.stab_circuit.specs.Steps.{Step, one, controlled_step, detector, lookbacks}
-use Rattle.stab_run.specs.Runs.{measured_by}
-use Rattle.stab_run.specs.Exchanged.{IsExchanged}
-use Rattle.stab_run.specs.Points.{all_coins_of}
-use Rattle.stab_run.specs.ProgramStates.{ProgramState, IsRun}
+use Rattle.stab_steps.specs.Runs.{measured_by}
+use Rattle.stab_steps.specs.Exchanged.{IsExchanged}
+use Rattle.stab_steps.specs.Points.{all_coins_of}
+use Rattle.stab_steps.specs.ProgramStates.{ProgramState, IsRun}
 use Rattle.stab_steps.proofs.RunLemmas.{IsRun-none, IsRun-append}
 use Rattle.stab_frames.specs.KeptStrings.{StringsState, kept_with}
 use Rattle.stab_frames.specs.Lookbacks.{LooksWithin}

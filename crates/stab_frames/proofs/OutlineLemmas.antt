@@ -3,7 +3,7 @@ use Rattle.std.proofs.Common.{◌≡◌, ℕ, ◌+◌, ◌<◌, ◌≤◌, sym, 
 use Rattle.std.proofs.lemmas.List.{take-append-le, length-drop, length-append, drop_more, drop_all}
 use Rattle.stab_letters.specs.declared.letter.Letter.{Letter}
 use Rattle.stab_circuit.specs.Steps.{Step}
-use Rattle.stab_run.specs.Points.{Point, outputs}
+use Rattle.stab_steps.specs.Points.{Point, outputs}
 use Rattle.stab_outlines.specs.declared.stretch.Stretch.{Stretch}
 use Rattle.stab_outlines.specs.Outlines.{stretch_steps, stretches_steps}
 use Rattle.stab_frames.specs.Frames.{Frame}

@@ -1,7 +1,7 @@
 -- Over: frames, what they flip and their notes, over steps one after another.
 use Rattle.std.proofs.Common.{◌≡◌, ℕ, ◌+◌, sym, ◌∙◌, ap, Bool, List, [], ◌∷◌, ◌++◌, ◌≤◌, length, arith}
 use Rattle.stab_circuit.specs.Steps.{Step}
-use Rattle.stab_run.specs.Points.{Point, joined, coins_of, all_coins_of, next_point, point_after}
+use Rattle.stab_steps.specs.Points.{Point, joined, coins_of, all_coins_of, next_point, point_after}
 use Rattle.stab_steps.proofs.RunLemmas.{joined-assoc}
 use Rattle.stab_frames.specs.Frames.{Frame}
 use Rattle.stab_frames.specs.Notes.{Notes}

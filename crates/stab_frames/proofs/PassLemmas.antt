@@ -6,65 +6,65 @@ use Rattle.stab_pauli.specs.Paulis.{Signed, single}
 use Rattle.stab_tableau.specs.Traces.{Event, member, is_free}
 use Rattle.stab_tableau.specs.Exchanges.{Exchanges}
 use Rattle.stab_circuit.specs.Steps.{Step, one, two, controlled, collapse, product, detector, observable}
-use Rattle.stab_run.specs.Runs.{string_of}
-use Rattle.stab_run.specs.Points.{Point, RunOutput, nothing, joined, coins_of, all_coins_of, given, next_point, outputs}
+use Rattle.stab_steps.specs.Runs.{string_of}
+use Rattle.stab_steps.specs.Points.{Point, RunOutput, nothing, joined, coins_of, all_coins_of, given, next_point, outputs}
 use Rattle.stab_steps.proofs.RunLemmas.{joined-nothing, joined-assoc}
 use Rattle.stab_frames.specs.Frames.{Frame, times_where}
 use Rattle.stab_frames.specs.Notes.{Notes, same_coins, IsNoteOf}
 use Rattle.stab_frames.specs.FrameSteps.{letters_after, flips_given, frame_after, frame_over, flips_over}
 use Rattle.stab_frames.specs.StepNotes.{IsEnoughAt, AreEnough}
 use Rattle.stab_frames.specs.KeptStrings.{note_at, IsTrueAt, AreTrue}
-use Rattle.stab_frames.specs.Walks.{WalkState, frame_at, WalksOver}
-use Rattle.stab_frames.specs.inner.Passes.{Passes, IsTold, AreTold}
+use Rattle.stab_frames.specs.Walks.{WalkState, frame_at, WalksWith}
+use Rattle.stab_frames.specs.inner.Passes.{PassesWith, IsTold, AreTold}
 use Rattle.stab_frames.proofs.StillLemmas.{looked_up-base, parity-base}
 use Rattle.stab_frames.proofs.OverLemmas.{coins-append, frame-append, flips-append}
 
 -- where a frame began is of no account to a step
 
-letters-base : (n : ℕ) (strings : ℕ → Option (List Letter)) (x : Step) (coin base : ℕ) (w : WalkState)
-    → letters_after n (same_coins strings) x coin (frame_at base w) ≡ letters_after n (same_coins strings) x coin (frame_at 0 w)
-letters-base n strings (one g q) coin base w = refl
-letters-base n strings (two g a b) coin base w = refl
-letters-base n strings (controlled l k q) coin base w = ap (λ b. times_where b (single n q l).letters w.letters) (looked_up-base base w.flips.records k)
-letters-base n strings (collapse l q recorded inverted resets) coin base w = refl
-letters-base n strings (product factors inverted) coin base w = refl
-letters-base n strings (detector ks) coin base w = refl
-letters-base n strings (observable j ks) coin base w = refl
+letters-base : (n : ℕ) (notes : Notes) (x : Step) (coin base : ℕ) (w : WalkState)
+    → letters_after n notes x coin (frame_at base w) ≡ letters_after n notes x coin (frame_at 0 w)
+letters-base n notes (one g q) coin base w = refl
+letters-base n notes (two g a b) coin base w = refl
+letters-base n notes (controlled l k q) coin base w = ap (λ b. times_where b (single n q l).letters w.letters) (looked_up-base base w.flips.records k)
+letters-base n notes (collapse l q recorded inverted resets) coin base w = refl
+letters-base n notes (product factors inverted) coin base w = refl
+letters-base n notes (detector ks) coin base w = refl
+letters-base n notes (observable j ks) coin base w = refl
 
-flips-base : (n : ℕ) (strings : ℕ → Option (List Letter)) (x : Step) (coin base : ℕ) (w : WalkState)
-    → flips_given n (same_coins strings) x coin (frame_at base w) ≡ flips_given n (same_coins strings) x coin (frame_at 0 w)
-flips-base n strings (one g q) coin base w = refl
-flips-base n strings (two g a b) coin base w = refl
-flips-base n strings (controlled l k q) coin base w = refl
-flips-base n strings (collapse l q recorded inverted resets) coin base w = refl
-flips-base n strings (product factors inverted) coin base w = refl
-flips-base n strings (detector ks) coin base w =
+flips-base : (n : ℕ) (notes : Notes) (x : Step) (coin base : ℕ) (w : WalkState)
+    → flips_given n notes x coin (frame_at base w) ≡ flips_given n notes x coin (frame_at 0 w)
+flips-base n notes (one g q) coin base w = refl
+flips-base n notes (two g a b) coin base w = refl
+flips-base n notes (controlled l k q) coin base w = refl
+flips-base n notes (collapse l q recorded inverted resets) coin base w = refl
+flips-base n notes (product factors inverted) coin base w = refl
+flips-base n notes (detector ks) coin base w =
     ap (λ b. record nothing { detectors = b ∷ [] }) (parity-base base w.flips.records ks)
-flips-base n strings (observable j ks) coin base w =
+flips-base n notes (observable j ks) coin base w =
     ap (λ b. record nothing { additions = record { observable = j; bit = b } ∷ [] }) (parity-base base w.flips.records ks)
 
 -- over one step, none, and steps one after another
 
-pub over-step : (n : ℕ) (strings : ℕ → Option (List Letter)) (x : Step) (old new : WalkState) → Passes n strings x old new → WalksOver n strings (x ∷ []) old new
-over-step n strings x old new p = record {
+pub over-step : (n : ℕ) (notes : Notes) (x : Step) (old new : WalkState) → PassesWith n notes x old new → WalksWith n notes (x ∷ []) old new
+over-step n notes x old new p = record {
   frame = λ base i. record {
-    letters = (p.letters ∙ sym (letters-base n strings x old.coin base old)) i;
+    letters = (p.letters ∙ sym (letters-base n notes x old.coin base old)) i;
     flips =
         (ap (λ (o : RunOutput). replicate base false ++ o.records) p.flips
-        ∙ sym (append_assoc (replicate base false) old.flips.records (flips_given n (same_coins strings) x old.coin (frame_at 0 old)).records)
-        ∙ ap (λ (o : RunOutput). (replicate base false ++ old.flips.records) ++ o.records) (sym (flips-base n strings x old.coin base old))) i;
+        ∙ sym (append_assoc (replicate base false) old.flips.records (flips_given n notes x old.coin (frame_at 0 old)).records)
+        ∙ ap (λ (o : RunOutput). (replicate base false ++ old.flips.records) ++ o.records) (sym (flips-base n notes x old.coin base old))) i;
   };
   flips = λ base.
       p.flips
-      ∙ ap (joined old.flips) (sym (flips-base n strings x old.coin base old) ∙ sym (joined-nothing (flips_given n (same_coins strings) x old.coin (frame_at base old))));
+      ∙ ap (joined old.flips) (sym (flips-base n notes x old.coin base old) ∙ sym (joined-nothing (flips_given n notes x old.coin (frame_at base old))));
   coin = p.coin ∙ one_more old.coin (coins_of x);
 }
   where
     one_more : (a b : ℕ) → a + b ≡ a + (b + 0)
     one_more a b = omega arith
 
-pub over-none : (n : ℕ) (strings : ℕ → Option (List Letter)) (w : WalkState) → WalksOver n strings [] w w
-over-none n strings w = record {
+pub over-none : (n : ℕ) (notes : Notes) (w : WalkState) → WalksWith n notes [] w w
+over-none n notes w = record {
   frame = λ base. refl;
   flips = λ base. sym (joined-nothing w.flips);
   coin = none w.coin;
@@ -73,9 +73,9 @@ over-none n strings w = record {
     none : (a : ℕ) → a ≡ a + 0
     none a = omega arith
 
-pub over-append : (n : ℕ) (strings : ℕ → Option (List Letter)) (xs ys : List Step) (a b c : WalkState) → WalksOver n strings xs a b
-    → WalksOver n strings ys b c → WalksOver n strings (xs ++ ys) a c
-over-append n strings xs ys a b c first then = record {
+pub over-append : (n : ℕ) (notes : Notes) (xs ys : List Step) (a b c : WalkState) → WalksWith n notes xs a b
+    → WalksWith n notes ys b c → WalksWith n notes (xs ++ ys) a c
+over-append n notes xs ys a b c first then = record {
   frame = λ base.
       then.frame base
       ∙ (λ i. frame_over n notes ys (first.coin i) (first.frame base i))
@@ -88,9 +88,6 @@ over-append n strings xs ys a b c first then = record {
   coin = then.coin ∙ ap (λ k. k + all_coins_of ys) first.coin ∙ more a.coin (all_coins_of xs) (all_coins_of ys) ∙ ap (λ k. a.coin + k) (sym (coins-append xs ys));
 }
   where
-    notes : Notes
-    notes = same_coins strings
-
     more : (a b c : ℕ) → (a + b) + c ≡ a + (b + c)
     more a b c = omega arith
 
@@ -119,12 +116,12 @@ none k = omega arith
 
 -- what is told, strings that are true and the run's flags are enough
 
-note-enough : (n : ℕ) (trace : List Event) (m : Signed) (note : Option (List Letter)) (flag : Bool) → (note ≡ None → flag ≡ false)
+pub note-enough : (n : ℕ) (trace : List Event) (m : Signed) (note : Option (List Letter)) (flag : Bool) → (note ≡ None → flag ≡ false)
     → flag ≡ is_free trace m → IfSome note (λ s. Exchanges n (member trace) m s) → IsNoteOf n (member trace) m note
 note-enough n trace m None flag told e is = sym e ∙ told refl
 note-enough n trace m (Some s) flag told e is = is
 
-first-flag : (free : List Bool) (coin : ℕ) (b : Bool) (bits : List Bool) → drop coin free ≡ b ∷ bits → (get_or free coin false ≡ b) × (drop (coin + 1) free ≡ bits)
+pub first-flag : (free : List Bool) (coin : ℕ) (b : Bool) (bits : List Bool) → drop coin free ≡ b ∷ bits → (get_or free coin false ≡ b) × (drop (coin + 1) free ≡ bits)
 first-flag [] zero b bits e = cc
 first-flag [] (suc coin) b bits e = cc
 first-flag (x ∷ free) zero b bits e = (cc, cc)

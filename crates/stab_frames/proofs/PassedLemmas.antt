@@ -11,8 +11,8 @@ use Rattle.stab_tableau.specs.Gates.{letter_at, letter_image, image}
 use Rattle.stab_lines.specs.declared.control.ControlledPair.{ControlledPair}
 use Rattle.stab_lines.specs.declared.control.ControlledPair.TheVariants as pair
 use Rattle.stab_circuit.specs.Steps.{Step, one}
-use Rattle.stab_run.specs.ProgramStates.{StepFits}
-use Rattle.stab_run.proofs.LookbackLemmas.{or-left, or-right}
+use Rattle.stab_steps.specs.ProgramStates.{StepFits}
+use Rattle.stab_laws.proofs.LookbackLemmas.{or-left, or-right}
 use Rattle.stab_outlines.specs.Names.{is_key, names_pair, between}
 use Rattle.stab_frames.specs.Frames.{plus}
 use Rattle.stab_frames.specs.Walks.{WalkState}

@@ -8,11 +8,11 @@ use Rattle.stab_pauli.specs.Paulis.{Signed, single}
 use Rattle.stab_tableau.specs.Traces.{member}
 use Rattle.stab_tableau.proofs.OneLetterLemmas.{length-one_letter}
 use Rattle.stab_circuit.specs.Steps.{Step, one, two, controlled, collapse, product, detector, observable}
-use Rattle.stab_run.specs.Runs.{string_of, measured_by}
-use Rattle.stab_run.specs.Points.{Point, origin, coins_of, next_point}
-use Rattle.stab_run.specs.ProgramStates.{StepFits}
+use Rattle.stab_steps.specs.Runs.{string_of, measured_by}
+use Rattle.stab_steps.specs.Points.{Point, origin, coins_of, next_point}
+use Rattle.stab_steps.specs.ProgramStates.{StepFits}
 use Rattle.stab_steps.proofs.ProductLemmas.{length-string_of}
-use Rattle.stab_run.proofs.SoundLemmas.{IsGood, good-next}
+use Rattle.stab_laws.proofs.SoundLemmas.{IsGood, good-next}
 use Rattle.stab_frames.specs.Notes.{IsNoteOf}
 use Rattle.stab_frames.specs.StepNotes.{AreRight}
 use Rattle.stab_frames.specs.NoteLaws.{RunsHaveNotes}

@@ -9,7 +9,7 @@ use Rattle.stab_letters.proofs.ParityLemmas.{parity-assoc, parity-self}
 use Rattle.stab_pauli.proofs.SignedLemmas.{signed_path, product-comm, product-minus_right, anticommute-comm}
 use Rattle.stab_tableau.specs.Gates.{letter_image, put_letter, inverse, back}
 use Rattle.stab_tableau.proofs.OneLetterLemmas.{one_letter-anticommute}
-use Rattle.stab_run.specs.Runs.{gate_of}
+use Rattle.stab_steps.specs.Runs.{gate_of}
 
 pub sign-sign : (a b : Bool) (p : Signed) → with_sign a (with_sign b p) ≡ with_sign (a ⊕ b) p
 sign-sign a b p = signed_path _ _ (sym (parity-assoc a b p.negative)) refl

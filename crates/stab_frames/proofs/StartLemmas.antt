@@ -14,14 +14,14 @@ use Rattle.stab_tableau.specs.Traces.{applied, member}
 use Rattle.stab_tableau.specs.Turns.{IsTurned}
 use Rattle.stab_tableau.proofs.OneLetterLemmas.{length-one_letter}
 use Rattle.stab_circuit.specs.Steps.{one, controlled, collapse}
-use Rattle.stab_run.specs.Records.{looked_up}
+use Rattle.stab_steps.specs.Records.{looked_up}
 use Rattle.stab_frames.specs.Flips.{flipped}
 use Rattle.stab_frames.specs.Frames.{Frame, PointsDifferBy, identity_frame, frame_of, frame_product, times_where}
 use Rattle.stab_frames.specs.Starts.{letters_on}
 use Rattle.stab_frames.proofs.TurnedLemmas.{turned-blank, turned-over, turned-back, turned-right, turned-pauli}
 use Rattle.stab_frames.proofs.FlipLemmas.{length-flipped, flipped-none, flipped-append, flipped-twice, flipped-back, same-when}
-use Rattle.stab_run.specs.Runs.{when, gate_of, applied_where, outcome_at}
-use Rattle.stab_run.specs.Points.{Point, trace_after, next_point, point_after}
+use Rattle.stab_steps.specs.Runs.{when, gate_of, applied_where, outcome_at}
+use Rattle.stab_steps.specs.Points.{Point, trace_after, next_point, point_after}
 
 -- frames one after another
 

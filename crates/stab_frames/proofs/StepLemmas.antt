@@ -14,10 +14,10 @@ use Rattle.stab_tableau.proofs.SymmetryLemmas.{IsSymmetry-image, IsSymmetry-pair
 use Rattle.stab_tableau.proofs.GroupLemmas.{group-back, group-projected}
 use Rattle.stab_tableau.proofs.TraceLemmas.{outcome-only}
 use Rattle.stab_circuit.specs.Steps.{Step, one, two, controlled, collapse, product, detector, observable}
-use Rattle.stab_run.specs.Records.{looked_up, parity}
-use Rattle.stab_run.specs.Runs.{when, string_of, gate_of, flip_of, applied_where, outcome_at}
-use Rattle.stab_run.specs.Points.{Point, nothing, joined, given, trace_after, coins_of, next_point, outputs}
-use Rattle.stab_run.specs.ProgramStates.{StepFits}
+use Rattle.stab_steps.specs.Records.{looked_up, parity}
+use Rattle.stab_steps.specs.Runs.{when, string_of, gate_of, flip_of, applied_where, outcome_at}
+use Rattle.stab_steps.specs.Points.{Point, nothing, joined, given, trace_after, coins_of, next_point, outputs}
+use Rattle.stab_steps.specs.ProgramStates.{StepFits}
 use Rattle.stab_frames.specs.Flips.{flipped_output, Matches}
 use Rattle.stab_frames.specs.Frames.{plus, Frame, PointsDifferBy, times_where}
 use Rattle.stab_frames.specs.Notes.{Notes, changed, IsEnough}

@@ -5,8 +5,8 @@ use Rattle.std.proofs.lemmas.List.{take-append-drop, take-append-le, length-take
 use Rattle.std.proofs.lemmas.List.Elements.{All-drop, All-take}
 use Rattle.stab_letters.specs.declared.letter.Letter.{Letter}
 use Rattle.stab_circuit.specs.Steps.{Step}
-use Rattle.stab_run.specs.Points.{Point, all_coins_of, point_after, outputs}
-use Rattle.stab_run.specs.ProgramStates.{StepFits}
+use Rattle.stab_steps.specs.Points.{Point, all_coins_of, point_after, outputs}
+use Rattle.stab_steps.specs.ProgramStates.{StepFits}
 use Rattle.stab_steps.proofs.RunLemmas.{outputs-append}
 use Rattle.stab_frames.specs.Frames.{Frame}
 use Rattle.stab_frames.specs.Notes.{same_coins}

@@ -3,8 +3,8 @@ use Rattle.std.proofs.Common.{◌≡◌, ℕ, zero, suc, ◌+◌, ◌-◌, ◌<�
 use Rattle.std.proofs.lemmas.Bool.{cases_lt}
 use Rattle.std.proofs.lemmas.List.{length-replicate}
 use Rattle.stab_letters.specs.Letters.{◌⊕◌}
-use Rattle.stab_run.specs.Records.{looked_up, parity}
-use Rattle.stab_run.proofs.LookbackLemmas.{looked_up-near, looked_up-far, looked_up-more, looked_up-zeros}
+use Rattle.stab_steps.specs.Records.{looked_up, parity}
+use Rattle.stab_laws.proofs.LookbackLemmas.{looked_up-near, looked_up-far, looked_up-more, looked_up-zeros}
 use Rattle.stab_frames.specs.Walks.{WalkState, frame_at, IsGone}
 use Rattle.stab_frames.specs.inner.Weights.{string_weight}
 use Rattle.stab_frames.proofs.WeightLemmas.{weight-none}

@@ -12,12 +12,13 @@ use Rattle.stab_circuit.specs.Steps.{measured}
 use Rattle.stab_steps.specs.declared.records.Addition.{Addition}
 use Rattle.stab_steps.proofs.RecordLemmas.{ones-append}
 use Rattle.stab_steps.proofs.RunLemmas.{joined-nothing, joined-assoc}
-use Rattle.stab_run.specs.Records.{ones}
-use Rattle.stab_run.specs.Runs.{when, flip_of}
-use Rattle.stab_run.specs.Points.{nothing, joined}
-use Rattle.stab_run.specs.ProgramStates.{StepFits}
-use Rattle.stab_run.proofs.LookbackLemmas.{or-left, or-right}
+use Rattle.stab_steps.specs.Records.{ones}
+use Rattle.stab_steps.specs.Runs.{when, flip_of}
+use Rattle.stab_steps.specs.Points.{nothing, joined}
+use Rattle.stab_steps.specs.ProgramStates.{StepFits}
+use Rattle.stab_laws.proofs.LookbackLemmas.{or-left, or-right}
 use Rattle.stab_frames.specs.Frames.{times_where}
+use Rattle.stab_frames.specs.Notes.{same_coins}
 use Rattle.stab_frames.specs.KeptStrings.{note_at}
 use Rattle.stab_frames.specs.Walks.{WalkState, IsPlaced}
 use Rattle.stab_frames.specs.inner.Passes.{GoesOver, one_coin, none_flipped}
@@ -77,7 +78,7 @@ step-still : (n : ℕ) (strings : List (List Letter)) (free : List Bool) (how : 
     → GoesOver n strings free (measured how t ∷ []) old (still_behind 1 (ones (take (old.coin + 1) free)) old)
 step-still n strings free how t old lt e size =
     goes-step n strings free (measured how t) old (still_behind 1 (ones (take (old.coin + 1) free)) old)
-    (passes-collapse n (note_at strings free) (letter_of how.axis) t.qubit true t.inverted how.resets false false old mid mid
+    (passes-collapse n (same_coins (note_at strings free)) (letter_of how.axis) t.qubit true t.inverted how.resets false false old mid mid
     (still_behind 1 (ones (take (old.coin + 1) free)) old) commutes (passed-still (note_at strings free) old mid refl refl refl) size
     (ap (λ letters. record mid { letters = letters }) (not-reset how.resets (single (length mid.letters) t.qubit (flip_of (letter_of how.axis))).letters mid.letters))
     (ap (λ o. record mid { flips = o }) (sym (joined-assoc old.flips one_coin (record nothing { records = when true false })))))

@@ -11,10 +11,10 @@ use Rattle.stab_pauli.proofs.StringLemmas.{string_product-assoc, string_product-
 use Rattle.stab_tableau.proofs.OneLetterLemmas.{length-one_letter}
 use Rattle.stab_tableau.proofs.SymmetryLemmas.{IsSymmetry-image, IsSymmetry-pair, image-length, pair-length}
 use Rattle.stab_circuit.specs.Steps.{Step, one, two, controlled, collapse, product, detector, observable}
-use Rattle.stab_run.specs.Records.{looked_up}
-use Rattle.stab_run.specs.Runs.{when, string_of, flip_of}
-use Rattle.stab_run.specs.Points.{RunOutput, nothing, joined, coins_of, origin, given}
-use Rattle.stab_run.specs.ProgramStates.{StepFits}
+use Rattle.stab_steps.specs.Records.{looked_up}
+use Rattle.stab_steps.specs.Runs.{when, string_of, flip_of}
+use Rattle.stab_steps.specs.Points.{RunOutput, nothing, joined, coins_of, origin, given}
+use Rattle.stab_steps.specs.ProgramStates.{StepFits}
 use Rattle.stab_frames.specs.Flips.{flipped, flipped_output, Matches}
 use Rattle.stab_frames.specs.Frames.{plus, Frame, frame_product, times_where}
 use Rattle.stab_frames.specs.Notes.{Notes, notes_of}

@@ -10,9 +10,9 @@ use Rattle.stab_lines.specs.declared.operation.Measurement.{Measurement}
 use Rattle.stab_lines.specs.Axes.{letter_of}
 use Rattle.stab_circuit.specs.Steps.{measured}
 use Rattle.stab_outlines.specs.Names.{is_key, names_target}
-use Rattle.stab_run.specs.Records.{ones}
-use Rattle.stab_run.specs.ProgramStates.{StepFits}
-use Rattle.stab_run.proofs.LookbackLemmas.{or-left, or-right}
+use Rattle.stab_steps.specs.Records.{ones}
+use Rattle.stab_steps.specs.ProgramStates.{StepFits}
+use Rattle.stab_laws.proofs.LookbackLemmas.{or-left, or-right}
 use Rattle.stab_frames.specs.Walks.{WalkState, IsPlaced}
 use Rattle.stab_frames.specs.inner.Passes.{GoesOver}
 use Rattle.stab_frames.specs.inner.Touches.{acts, touches_target, Covers}

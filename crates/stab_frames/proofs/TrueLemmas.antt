@@ -12,12 +12,12 @@ use Rattle.stab_tableau.specs.Groups.{SameGroup, IsStabiliserGroup}
 use Rattle.stab_tableau.specs.Turns.{IsTurned}
 use Rattle.stab_tableau.specs.Exchanges.{Exchanges}
 use Rattle.stab_circuit.specs.Steps.{Step, one, two, controlled, collapse, product, detector, observable, lookbacks, makes, looks_too_far}
-use Rattle.stab_run.specs.Runs.{string_of, measured_by}
-use Rattle.stab_run.specs.Points.{Point, coins_of, all_coins_of, next_point, point_after}
-use Rattle.stab_run.specs.ProgramStates.{StepFits}
-use Rattle.stab_run.specs.Ends.{AgreeBack}
-use Rattle.stab_run.proofs.LookbackLemmas.{or-left, or-right}
-use Rattle.stab_run.proofs.FutureBackLemmas.{next-back}
+use Rattle.stab_steps.specs.Runs.{string_of, measured_by}
+use Rattle.stab_steps.specs.Points.{Point, coins_of, all_coins_of, next_point, point_after}
+use Rattle.stab_steps.specs.ProgramStates.{StepFits}
+use Rattle.stab_laws.specs.Ends.{AgreeBack}
+use Rattle.stab_laws.proofs.LookbackLemmas.{or-left, or-right}
+use Rattle.stab_laws.proofs.FutureBackLemmas.{next-back}
 use Rattle.stab_frames.specs.Frames.{Frame, PointsDifferBy}
 use Rattle.stab_frames.specs.Notes.{same_coins}
 use Rattle.stab_frames.specs.FrameSteps.{frame_after}

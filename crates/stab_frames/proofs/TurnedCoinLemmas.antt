@@ -4,8 +4,8 @@ use Rattle.std.specs.Prelude.{IfSome}
 use Rattle.std.proofs.lemmas.Option.{IfSome_then}
 use Rattle.stab_pauli.specs.Paulis.{single, strings_anticommute}
 use Rattle.stab_circuit.specs.Steps.{Step, one, two, controlled, collapse, product, detector, observable}
-use Rattle.stab_run.specs.Runs.{string_of, measured_by}
-use Rattle.stab_run.specs.Points.{coins_of}
+use Rattle.stab_steps.specs.Runs.{string_of, measured_by}
+use Rattle.stab_steps.specs.Points.{coins_of}
 use Rattle.stab_frames.specs.Frames.{Frame}
 use Rattle.stab_frames.specs.Notes.{no_strings}
 use Rattle.stab_frames.specs.FrameSteps.{frame_after}

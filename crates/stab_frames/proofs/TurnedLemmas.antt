@@ -13,7 +13,7 @@ use Rattle.stab_tableau.specs.Groups.{IsStabiliserGroup}
 use Rattle.stab_tableau.specs.Turns.{IsTurned}
 use Rattle.stab_tableau.proofs.SymmetryLemmas.{IsSymmetry, IsSymmetry-image, IsSymmetry-pair, image-length, pair-length, back-image, pair-undone}
 use Rattle.stab_tableau.proofs.TestLemmas.{not-true, not_both}
-use Rattle.stab_run.specs.Runs.{gate_of, applied_where}
+use Rattle.stab_steps.specs.Runs.{gate_of, applied_where}
 use Rattle.stab_frames.specs.Frames.{plus, times_where}
 use Rattle.stab_frames.proofs.SignLemmas.{sign-sign, sign-twice, back-letter}
 

@@ -12,8 +12,8 @@ use Rattle.stab_tableau.proofs.PlaceLemmas.{string_product-set}
 use Rattle.stab_lines.specs.declared.product.Factor.{Factor}
 use Rattle.stab_lines.specs.Axes.{letter_of}
 use Rattle.stab_tableau.specs.Gates.{letter_at}
-use Rattle.stab_run.specs.Records.{ones}
-use Rattle.stab_run.proofs.LookbackLemmas.{or-left, or-right}
+use Rattle.stab_steps.specs.Records.{ones}
+use Rattle.stab_laws.proofs.LookbackLemmas.{or-left, or-right}
 use Rattle.stab_frames.specs.Flips.{flipped}
 use Rattle.stab_frames.specs.Walks.{WalkState}
 use Rattle.stab_frames.specs.inner.Passes.{factors_anticommute}

@@ -7,8 +7,8 @@ use Rattle.stab_pauli.specs.Paulis.{Signed, string_product}
 use Rattle.stab_tableau.specs.Traces.{member}
 use Rattle.stab_tableau.specs.Groups.{IsStabiliserGroup}
 use Rattle.stab_tableau.specs.Turns.{IsTurned}
-use Rattle.stab_run.specs.Points.{Point}
-use Rattle.stab_run.specs.Ends.{AgreeBack}
+use Rattle.stab_steps.specs.Points.{Point}
+use Rattle.stab_laws.specs.Ends.{AgreeBack}
 use Rattle.stab_frames.specs.Frames.{Frame, PointsDifferBy}
 
 -- letters I turn no sign of a stabiliser, nor does a string of which one sign stabilises

@@ -3,7 +3,7 @@
 use Rattle.std.specs.Prelude.{◌≡◌, Bool, false, List, [], ◌∷◌, length, map, replicate}
 use Rattle.stab_letters.specs.Letters.{◌⊕◌}
 use Rattle.stab_steps.specs.declared.records.Addition.{Addition}
-use Rattle.stab_run.specs.Points.{RunOutput}
+use Rattle.stab_steps.specs.Points.{RunOutput}
 
 -- bits, inverted where the flips are 1
 abbrev pub flipped : List Bool → List Bool → List Bool

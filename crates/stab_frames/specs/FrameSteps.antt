@@ -7,9 +7,9 @@ use Rattle.stab_letters.specs.Letters.{◌⊕◌}
 use Rattle.stab_pauli.specs.Paulis.{Signed, single, strings_anticommute}
 use Rattle.stab_tableau.specs.Gates.{image, image_pair}
 use Rattle.stab_circuit.specs.Steps.{Step, one, two, controlled, collapse, product, detector, observable}
-use Rattle.stab_run.specs.Records.{looked_up, parity}
-use Rattle.stab_run.specs.Runs.{when, string_of, flip_of}
-use Rattle.stab_run.specs.Points.{RunOutput, nothing, joined, coins_of}
+use Rattle.stab_steps.specs.Records.{looked_up, parity}
+use Rattle.stab_steps.specs.Runs.{when, string_of, flip_of}
+use Rattle.stab_steps.specs.Points.{RunOutput, nothing, joined, coins_of}
 use Rattle.stab_frames.specs.Frames.{plus, Frame, times_where}
 use Rattle.stab_frames.specs.Notes.{Notes}
 

@@ -7,7 +7,7 @@ use Rattle.stab_letters.specs.declared.letter.Letter.TheVariants.{I}
 use Rattle.stab_pauli.specs.Paulis.{Signed, string_product}
 use Rattle.stab_tableau.specs.Traces.{member}
 use Rattle.stab_tableau.specs.Turns.{IsTurned}
-use Rattle.stab_run.specs.Points.{Point}
+use Rattle.stab_steps.specs.Points.{Point}
 use Rattle.stab_frames.specs.Flips.{flipped}
 
 -- letters with the sign +

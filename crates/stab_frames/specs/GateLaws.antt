@@ -5,7 +5,7 @@ use Rattle.stab_letters.specs.declared.letter.Letter.TheVariants.{I, X, Y, Z}
 use Rattle.stab_letters.specs.Letters.{letter_product}
 use Rattle.stab_letters.specs.declared.gate.Gate.{Gate}
 use Rattle.stab_letters.specs.declared.gate.Gate.TheVariants as on
-use Rattle.stab_run.specs.Runs.{gate_of}
+use Rattle.stab_steps.specs.Runs.{gate_of}
 use Rattle.stab_frames.specs.Starts.{GatesDifferBy}
 
 -- each gate of a quarter turn from its inverse, and a Pauli gate from the identity; and so from one gate to another, and back

@@ -5,10 +5,10 @@ use Rattle.stab_letters.specs.declared.letter.Letter.{Letter}
 use Rattle.stab_tableau.specs.Traces.{member}
 use Rattle.stab_tableau.specs.Exchanges.{Exchanges}
 use Rattle.stab_circuit.specs.Steps.{Step}
-use Rattle.stab_run.specs.Records.{ones}
-use Rattle.stab_run.specs.Runs.{measured_by}
-use Rattle.stab_run.specs.Points.{Point, origin, next_point, point_after}
-use Rattle.stab_run.specs.ProgramStates.{ProgramState, IsAt}
+use Rattle.stab_steps.specs.Records.{ones}
+use Rattle.stab_steps.specs.Runs.{measured_by}
+use Rattle.stab_steps.specs.Points.{Point, origin, next_point, point_after}
+use Rattle.stab_steps.specs.ProgramStates.{ProgramState, IsAt}
 use Rattle.stab_frames.specs.Limits.{most_strings}
 
 -- strings of so many letters each, and how many may be kept

@@ -8,11 +8,13 @@ pub mod KeptStrings
 pub mod Lookbacks
 pub mod Walks
 pub mod Stops
+pub mod OtherCoins
 pub mod Starts
 pub mod Ends
 pub mod Fronts
 pub mod TurnedTableaus
 pub mod StepLaws
+pub mod AgainLaws
 pub mod NoteLaws
 pub mod StartLaws
 pub mod GateLaws

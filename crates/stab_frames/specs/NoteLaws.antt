@@ -13,8 +13,8 @@ use Rattle.stab_tableau.specs.inner.InverseRows.{string_preimage, IsTable, IsOnt
 use Rattle.stab_tableau.specs.inner.ColumnLetters.{column}
 use Rattle.stab_tableau.specs.Exchanges.{Exchanges}
 use Rattle.stab_circuit.specs.Steps.{Step}
-use Rattle.stab_run.specs.Points.{Point, origin, all_coins_of, outputs}
-use Rattle.stab_run.specs.ProgramStates.{StepFits}
+use Rattle.stab_steps.specs.Points.{Point, origin, all_coins_of, outputs}
+use Rattle.stab_steps.specs.ProgramStates.{StepFits}
 use Rattle.stab_frames.specs.Frames.{Frame}
 use Rattle.stab_frames.specs.Notes.{Notes, no_strings, IsNoteOf}
 use Rattle.stab_frames.specs.StepNotes.{AreRight, AreEnough, AreTurned}

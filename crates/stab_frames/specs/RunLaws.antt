@@ -4,8 +4,8 @@ use Rattle.std.specs.Prelude.{ℕ, ◌<◌, Bool, List, ◌++◌, All, Option}
 use Rattle.stab_letters.specs.declared.letter.Letter.{Letter}
 use Rattle.stab_pauli.specs.Paulis.{string_product}
 use Rattle.stab_circuit.specs.Steps.{Step}
-use Rattle.stab_run.specs.Points.{RunOutput, origin, joined, point_after, outputs}
-use Rattle.stab_run.specs.ProgramStates.{StepFits}
+use Rattle.stab_steps.specs.Points.{RunOutput, origin, joined, point_after, outputs}
+use Rattle.stab_steps.specs.ProgramStates.{StepFits}
 use Rattle.stab_frames.specs.Flips.{unflipped}
 use Rattle.stab_frames.specs.Frames.{Frame, PointsDifferBy, identity_frame}
 use Rattle.stab_frames.specs.Notes.{Notes, same_coins, changed}

@@ -6,9 +6,9 @@ use Rattle.stab_letters.specs.declared.letter.Letter.TheVariants.{I}
 use Rattle.stab_pauli.specs.Paulis.{single, string_product}
 use Rattle.stab_letters.specs.declared.gate.Gate.{Gate}
 use Rattle.stab_circuit.specs.Steps.{one, controlled, collapse}
-use Rattle.stab_run.specs.Records.{looked_up}
-use Rattle.stab_run.specs.Runs.{when, gate_of}
-use Rattle.stab_run.specs.Points.{Point, next_point, point_after}
+use Rattle.stab_steps.specs.Records.{looked_up}
+use Rattle.stab_steps.specs.Runs.{when, gate_of}
+use Rattle.stab_steps.specs.Points.{Point, next_point, point_after}
 use Rattle.stab_frames.specs.Frames.{PointsDifferBy, frame_of, times_where}
 use Rattle.stab_frames.specs.Starts.{letters_on, GatesDifferBy}
 

@@ -6,8 +6,8 @@ use Rattle.stab_letters.specs.Letters.{◌⊕◌}
 use Rattle.stab_tableau.specs.Traces.{member}
 use Rattle.stab_tableau.specs.Groups.{IsStabiliserGroup}
 use Rattle.stab_circuit.specs.Steps.{Step}
-use Rattle.stab_run.specs.Points.{Point, origin, given, next_point, point_after, outputs}
-use Rattle.stab_run.specs.ProgramStates.{StepFits}
+use Rattle.stab_steps.specs.Points.{Point, origin, given, next_point, point_after, outputs}
+use Rattle.stab_steps.specs.ProgramStates.{StepFits}
 use Rattle.stab_frames.specs.Flips.{flipped_output}
 use Rattle.stab_frames.specs.Frames.{Frame, PointsDifferBy, identity_frame, frame_product}
 use Rattle.stab_frames.specs.Notes.{Notes, notes_of, changed}

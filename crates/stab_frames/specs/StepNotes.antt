@@ -5,8 +5,8 @@ use Rattle.stab_letters.specs.declared.letter.Letter.{Letter}
 use Rattle.stab_pauli.specs.Paulis.{strings_anticommute}
 use Rattle.stab_tableau.specs.Traces.{member}
 use Rattle.stab_circuit.specs.Steps.{Step}
-use Rattle.stab_run.specs.Runs.{measured_by}
-use Rattle.stab_run.specs.Points.{Point, coins_of, next_point}
+use Rattle.stab_steps.specs.Runs.{measured_by}
+use Rattle.stab_steps.specs.Points.{Point, coins_of, next_point}
 use Rattle.stab_frames.specs.Frames.{Frame}
 use Rattle.stab_frames.specs.Notes.{Notes, no_strings, IsNoteOf, IsEnough}
 use Rattle.stab_frames.specs.FrameSteps.{frame_after}

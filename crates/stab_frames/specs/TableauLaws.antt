@@ -11,9 +11,9 @@ use Rattle.stab_tableau.specs.inner.Frames.{SameLetters, sign_frame}
 use Rattle.stab_tableau.specs.inner.Tables.{IsTableau}
 use Rattle.stab_tableau.specs.Turns.{IsTurned}
 use Rattle.stab_circuit.specs.Steps.{Step}
-use Rattle.stab_run.specs.Points.{Point, RunOutput, origin, point_after, outputs}
-use Rattle.stab_run.specs.ProgramStates.{StepFits}
-use Rattle.stab_run.specs.Cuts.{lengths_of}
+use Rattle.stab_steps.specs.Points.{Point, RunOutput, origin, point_after, outputs}
+use Rattle.stab_steps.specs.ProgramStates.{StepFits}
+use Rattle.stab_steps.specs.Cuts.{lengths_of}
 use Rattle.stab_frames.specs.Flips.{flipped}
 use Rattle.stab_frames.specs.Frames.{Frame, PointsDifferBy}
 use Rattle.stab_frames.specs.Notes.{Notes, changed}

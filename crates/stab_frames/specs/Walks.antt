@@ -4,10 +4,10 @@ use Rattle.std.specs.Prelude.{◌≡◌, ℕ, ◌+◌, ◌≤◌, Bool, false, L
 use Rattle.stab_letters.specs.declared.letter.Letter.{Letter}
 use Rattle.stab_letters.specs.declared.letter.Letter.TheVariants.{I}
 use Rattle.stab_circuit.specs.Steps.{Step}
-use Rattle.stab_run.specs.Records.{looked_up, ones}
-use Rattle.stab_run.specs.Points.{RunOutput, joined, all_coins_of}
+use Rattle.stab_steps.specs.Records.{looked_up, ones}
+use Rattle.stab_steps.specs.Points.{RunOutput, joined, all_coins_of}
 use Rattle.stab_frames.specs.Frames.{Frame}
-use Rattle.stab_frames.specs.Notes.{same_coins}
+use Rattle.stab_frames.specs.Notes.{Notes, same_coins}
 use Rattle.stab_frames.specs.FrameSteps.{frame_over, flips_over}
 
 -- a frame on its way: its letters, what it has flipped since it began, the number of the next coin, and how many outcomes before that were free
@@ -25,11 +25,15 @@ frame_at base w = record { letters = w.letters; flips = replicate base false ++ 
 abbrev pub IsPlaced : List Bool → WalkState → Type 0
 IsPlaced free w = w.number ≡ ones (take w.coin free)
 
--- with these strings noted a frame went over the steps, wherever it began
-pub record WalksOver (n : ℕ) (strings : ℕ → Option (List Letter)) (xs : List Step) (old new : WalkState) : Type 0 where
-  pub frame : (base : ℕ) → frame_at base new ≡ frame_over n (same_coins strings) xs old.coin (frame_at base old)
-  pub flips : (base : ℕ) → new.flips ≡ joined old.flips (flips_over n (same_coins strings) xs old.coin (frame_at base old))
+-- with these notes a frame went over the steps, wherever it began
+pub record WalksWith (n : ℕ) (notes : Notes) (xs : List Step) (old new : WalkState) : Type 0 where
+  pub frame : (base : ℕ) → frame_at base new ≡ frame_over n notes xs old.coin (frame_at base old)
+  pub flips : (base : ℕ) → new.flips ≡ joined old.flips (flips_over n notes xs old.coin (frame_at base old))
   pub coin : new.coin ≡ old.coin + all_coins_of xs
+
+-- so it did with these strings noted, where the coins are the same
+abbrev pub WalksOver : ℕ → (ℕ → Option (List Letter)) → List Step → WalkState → WalkState → Type 0
+WalksOver n strings xs old new = WalksWith n (same_coins strings) xs old new
 
 -- a frame is gone for all that looks no further back than rec[-m]: its letters are I, and it flips none of these records
 pub record IsGone (n m : ℕ) (f : Frame) : Type 0 where

@@ -1,5 +1,6 @@
 -- Definitions that only private contracts cite.
 pub mod Weights
 pub mod Passes
+pub mod OtherPasses
 pub mod Touches
 pub mod Noted

@@ -21,6 +21,8 @@
 //! - `noting`: a run that keeps them on its way, and how far back its steps look.
 //! - `letters`: what gates make of the letters of a frame.
 //! - `keys`: a few qubits, among which are those at which a frame has letters.
+//! - `bits`: lists of bits, counted, and put behind others as a frame flips them.
+//! - `turned_states`: kept states that the letters of a frame turn.
 //! - `walk`: a frame on its way, with what it has flipped.
 //! - `pass`, `pass_steps`: one step on its way, and those of one instruction.
 //! - `flipped`: how far back the records are that it flipped.
@@ -28,10 +30,11 @@
 //! - `pass_lists`: those of a list that tells where its qubits are named.
 //! - `steps`: steps, until all are behind, the frame is gone, or a string is missing.
 //! - `outlines`: the same with steps that stand in an outline.
+//! - `other_coins`: steps, from a run to one that has other coins there.
 //!
 //! In `specs/`, `Frames`, `Notes` and `FrameSteps` say what a frame is and what a step makes of it, `Flips`
-//! and `StepNotes` what it flips and which notes it needs; `KeptStrings`, `Lookbacks`, `Walks` and `Stops` say
-//! what the calls keep and where they end; the laws stand in files named after these modules.
+//! and `StepNotes` what it flips and which notes it needs; `KeptStrings`, `Lookbacks`, `Walks`, `OtherCoins` and
+//! `Stops` say what the calls keep and where they end; the laws stand in files named after these modules.
 //!
 //! Sources: C. Gidney, Stim: a fast stabilizer circuit simulator (2021), for Pauli frames; S. Aaronson and
 //! D. Gottesman, Improved simulation of stabilizer circuits (2004), for measurements. It differs in that
@@ -44,12 +47,14 @@
 //! private contracts cite.
 #![tactic(auto)]
 
+mod bits;
 pub mod end_laws;
 mod flipped;
 mod keys;
 mod letters;
 pub mod note_laws;
 mod noting;
+mod other_coins;
 mod outlines;
 mod pass;
 mod pass_lists;
@@ -61,10 +66,14 @@ pub mod step_laws;
 mod steps;
 mod strings;
 pub mod tableau_laws;
+mod turned_states;
 mod walk;
 
+pub use bits::{append_flipped, append_flipped_additions, between, count_ones};
 pub use noting::{RunNotes, run_noting};
+pub use other_coins::walk_with_coins;
 pub use outlines::walk_outline;
 pub use steps::{Stop, Walked, walk_steps};
 pub use strings::KeptStrings;
+pub use turned_states::turn_state;
 pub use walk::FrameWalk;

@@ -1,8 +1,8 @@
 ghost use Rattle.std.specs.Prelude.{◌≡◌, ◌+◌, ◌<◌, ◌≤◌, ◌^◌, All, length, take, drop, OnOk, IfErr};
 ghost use Rattle.stab_io.specs.declared.refusal.Refusal.TheVariants.{OutOfMemory};
-ghost use Rattle.stab_run.specs.Records.{ones};
-ghost use Rattle.stab_run.specs.Points.{all_coins_of};
-ghost use Rattle.stab_run.specs.ProgramStates.{StepFits, IsRun, program_state, output_of};
+ghost use Rattle.stab_steps.specs.Records.{ones};
+ghost use Rattle.stab_steps.specs.Points.{all_coins_of};
+ghost use Rattle.stab_steps.specs.ProgramStates.{StepFits, IsRun, program_state, output_of};
 ghost use Rattle.stab_frames.specs.KeptStrings.{KeepsTrue};
 ghost use Rattle.stab_frames.specs.Lookbacks.{LooksWithin};
 
@@ -11,7 +11,7 @@ use stab_circuit::{Cursor, MeasureTarget, Measurement, Step, Steps, measured_ste
 use stab_io::Refusal;
 use stab_pauli::Pauli;
 use stab_rounds::{furthest, furthest_detector, furthest_of};
-use stab_run::{Coins, Outputs, apply_step_with_exchange, apply_steps};
+use stab_steps::{Coins, Outputs, apply_step_with_exchange, apply_steps};
 use stab_tableau::Tableau;
 use std::alloc::Global;
 
@@ -79,9 +79,9 @@ impl RunNotes {
     ghost use Rattle.stab_io.specs.declared.refusal.Refusal.TheVariants.{OutOfMemory};
     ghost use Rattle.stab_circuit.specs.Steps.{measured};
     ghost use Rattle.stab_circuit.specs.Cursors.{step_shown, steps_shown};
-    ghost use Rattle.stab_run.specs.Records.{ones};
-    ghost use Rattle.stab_run.specs.Points.{coins_of, all_coins_of};
-    ghost use Rattle.stab_run.specs.ProgramStates.{StepFits, program_state, output_of};
+    ghost use Rattle.stab_steps.specs.Records.{ones};
+    ghost use Rattle.stab_steps.specs.Points.{coins_of, all_coins_of};
+    ghost use Rattle.stab_steps.specs.ProgramStates.{StepFits, program_state, output_of};
     ghost use Rattle.stab_frames.specs.inner.Noted.{NotesSteps};
 
     /// Carries out steps, and notes them. The other string is for products to be written into.

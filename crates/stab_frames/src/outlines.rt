@@ -1,8 +1,8 @@
 ghost use Rattle.std.specs.Prelude.{◌≡◌, ℕ, ◌+◌, ◌^◌, ◌<◌, ◌≤◌, Bool, List, ◌++◌, All, length, take, drop, OnOk, IfOk};
 ghost use Rattle.stab_circuit.specs.Steps.{Step};
 ghost use Rattle.stab_outlines.specs.Outlines.{stretch_steps};
-ghost use Rattle.stab_run.specs.Points.{Point, outputs};
-ghost use Rattle.stab_run.specs.ProgramStates.{StepFits};
+ghost use Rattle.stab_steps.specs.Points.{Point, outputs};
+ghost use Rattle.stab_steps.specs.ProgramStates.{StepFits};
 ghost use Rattle.stab_frames.specs.Notes.{same_coins};
 ghost use Rattle.stab_frames.specs.StepNotes.{AreEnough};
 ghost use Rattle.stab_frames.specs.KeptStrings.{note_at, AreTrue};

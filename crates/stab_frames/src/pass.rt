@@ -3,14 +3,14 @@
 ghost use Rattle.std.specs.Prelude.{◌≡◌, ◌+◌, ◌^◌, ◌<◌, Bool, true, false, ◌&&◌, [], ◌∷◌, All, length, slice_index_or, IfSome, IfNone, IfOk, OnOk};
 ghost use Rattle.stab_pauli.specs.Paulis.{single};
 ghost use Rattle.stab_tableau.specs.Gates.{image as image_of, image_pair};
-ghost use Rattle.stab_run.specs.Records.{looked_up as looked_up_of, parity as parity_of};
-ghost use Rattle.stab_run.specs.Runs.{when, flip_of};
-ghost use Rattle.stab_run.specs.Points.{nothing, joined};
+ghost use Rattle.stab_steps.specs.Records.{looked_up as looked_up_of, parity as parity_of};
+ghost use Rattle.stab_steps.specs.Runs.{when, flip_of};
+ghost use Rattle.stab_steps.specs.Points.{nothing, joined};
 ghost use Rattle.stab_frames.specs.Frames.{plus, times_where};
 ghost use Rattle.stab_lines.specs.Products.{names_twice};
 ghost use Rattle.stab_circuit.specs.Steps.{Step, one, two, controlled, collapse, product, detector, observable};
 ghost use Rattle.stab_circuit.specs.Cursors.{step_shown, IsApart};
-ghost use Rattle.stab_run.specs.ProgramStates.{StepFits};
+ghost use Rattle.stab_steps.specs.ProgramStates.{StepFits};
 ghost use Rattle.stab_frames.specs.KeptStrings.{note_at};
 ghost use Rattle.stab_frames.specs.Walks.{IsPlaced};
 ghost use Rattle.stab_frames.specs.inner.Passes.{Passes, IsToldBy, IsTold, IsPassed, factors_anticommute};
@@ -20,7 +20,7 @@ use crate::strings::KeptStrings;
 use crate::walk::FrameWalk;
 use stab_circuit::{Factor, Step};
 use stab_pauli::Letter;
-use stab_run::{Addition, flip, looked_up, parity};
+use stab_steps::{Addition, flip, looked_up, parity};
 use stab_tableau::{Gate, PairGate};
 use std::alloc::AllocError;
 
@@ -105,7 +105,7 @@ pub fn pass_controlled(walk: &mut FrameWalk, letter: Letter, k: u32, qubit: usiz
 }
 
 /// Multiplies a letter on at a qubit, where the bit is 1.
-fn multiply_if(walk: &mut FrameWalk, bit: bool, letter: Letter, qubit: usize)
+pub fn multiply_if(walk: &mut FrameWalk, bit: bool, letter: Letter, qubit: usize)
     requires in_range { qubit < length walk.old.letters }
     ensures value { walk.new ≡ record walk.old { letters = times_where bit (single (length walk.old.letters) qubit letter).letters walk.old.letters } }
     ensures length { length walk.new.letters ≡ length walk.old.letters }
@@ -115,11 +115,11 @@ fn multiply_if(walk: &mut FrameWalk, bit: bool, letter: Letter, qubit: usize)
     }
 }
 
-/// Whether the outcome of a coin number was free, by the flags of a run.
-fn flag_at(free: &[bool], coin: usize) -> bool
-    ensures value { result ≡ slice_index_or free.now coin false }
+/// A bit of a list, and 0 past its end.
+pub fn bit_at(bits: &[bool], place: usize) -> bool
+    ensures value { result ≡ slice_index_or bits.now place false }
 {
-    free.get(coin).copied().unwrap_or(false)
+    bits.get(place).copied().unwrap_or(false)
 }
 
 /// Leads a frame over the measurement of the next coin, of something with which it anticommutes or
@@ -139,7 +139,7 @@ fn pass_outcome(
     ensures placed { IsPlaced free.now walk.new }
     ensures unchanged { IfNone result (walk.new ≡ walk.old) }
 {
-    if !flag_at(free, walk.coin()) {
+    if !bit_at(free, walk.coin()) {
         walk.pass_coin(false);
         return Some(apart);
     }
@@ -157,7 +157,11 @@ fn pass_outcome(
 }
 
 /// Flips the next record, or not, where there is one.
-fn flip_record_when(walk: &mut FrameWalk, recorded: bool, flipped: bool) -> Result<(), AllocError>
+pub fn flip_record_when(
+    walk: &mut FrameWalk,
+    recorded: bool,
+    flipped: bool,
+) -> Result<(), AllocError>
     ensures value { OnOk result (walk.new ≡ record walk.old { flips = joined walk.old.flips (record nothing { records = when recorded flipped }) }) }
     ensures letters { walk.new.letters ≡ walk.old.letters }
 {
@@ -199,7 +203,7 @@ pub fn pass_collapse(
 }
 
 /// Whether letters anticommute with a product.
-fn anticommutes(letters: &[Letter], factors: &[Factor]) -> bool
+pub fn anticommutes(letters: &[Letter], factors: &[Factor]) -> bool
     requires in_range { All (λ f. f.qubit < length letters.now) factors.now }
     ensures value { result ≡ factors_anticommute letters.now factors.now }
 {
@@ -248,7 +252,7 @@ pub fn pass_detector(walk: &mut FrameWalk, lookbacks: &[u32]) -> Result<(), Allo
 }
 
 /// Leads a frame over an addition to an observable.
-fn pass_observable(
+pub fn pass_observable(
     walk: &mut FrameWalk,
     observable: u32,
     lookbacks: &[u32],

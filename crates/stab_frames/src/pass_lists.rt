@@ -2,7 +2,7 @@
 
 ghost use Rattle.std.specs.Prelude.{◌≡◌, ◌≤◌, All, length, map, IfSome};
 ghost use Rattle.stab_circuit.specs.Steps.{one, controlled_step};
-ghost use Rattle.stab_run.specs.ProgramStates.{StepFits};
+ghost use Rattle.stab_steps.specs.ProgramStates.{StepFits};
 ghost use Rattle.stab_outlines.specs.Names.{PassesBy};
 ghost use Rattle.stab_frames.specs.inner.Passes.{GoesFreely};
 ghost use Rattle.stab_frames.specs.inner.Touches.{touches_qubit, touches_pair};

@@ -4,7 +4,7 @@ ghost use Rattle.std.specs.Prelude.{◌≡◌, ◌+◌, ◌^◌, ◌<◌, ◌≤
 ghost use Rattle.std.specs.List.{list_any};
 ghost use Rattle.stab_circuit.specs.Steps.{one, controlled_step, measured, detector};
 ghost use Rattle.stab_circuit.specs.Cursors.{lookbacks_of, steps_shown, IsApartAlone};
-ghost use Rattle.stab_run.specs.ProgramStates.{StepFits};
+ghost use Rattle.stab_steps.specs.ProgramStates.{StepFits};
 ghost use Rattle.stab_frames.specs.Walks.{IsPlaced};
 ghost use Rattle.stab_frames.specs.inner.Passes.{GoesOver, GoesFreely};
 ghost use Rattle.stab_frames.specs.inner.Touches.{PairFits, touches_pair, touches_target};
@@ -251,7 +251,7 @@ pub fn pass_measurements(
 }
 
 /// Leads a frame over detectors.
-fn pass_detectors(walk: &mut FrameWalk, detectors: Detectors) -> Result<(), AllocError>
+pub fn pass_detectors(walk: &mut FrameWalk, detectors: Detectors) -> Result<(), AllocError>
     ensures length { length walk.new.letters ≡ length walk.old.letters }
     ensures goes { OnOk result (GoesFreely (length walk.old.letters) (map detector (lookbacks_of detectors.entry)) walk.old walk.new) }
 {

@@ -4,7 +4,7 @@ ghost use Rattle.std.specs.Prelude.{◌≡◌, ◌+◌, ◌^◌, ◌<◌, ◌≤
 ghost use Rattle.std.specs.List.{list_any};
 ghost use Rattle.stab_lines.specs.Axes.{letter_of};
 ghost use Rattle.stab_circuit.specs.Steps.{measured, detector};
-ghost use Rattle.stab_run.specs.ProgramStates.{StepFits};
+ghost use Rattle.stab_steps.specs.ProgramStates.{StepFits};
 ghost use Rattle.stab_frames.specs.Walks.{IsPlaced};
 ghost use Rattle.stab_frames.specs.inner.Passes.{GoesOver, GoesFreely};
 ghost use Rattle.stab_frames.specs.inner.Touches.{touches_target, FindsDetectors};

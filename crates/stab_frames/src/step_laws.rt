@@ -1,6 +1,7 @@
 //! Laws of steps: what becomes of a frame on the way.
 
 ghost use Rattle.stab_frames.specs.StepLaws.{FramesAdd, FramesCompose, PointsHaveGroups, RunsKeepFrames, StepsKeepFrames};
+ghost use Rattle.stab_frames.specs.AgainLaws.{StepsComeTurned};
 
 /// From two points that differ by a frame a step leads to two that differ by the frame behind it, and
 /// what it gives at the one is what it gives at the other, flipped.
@@ -27,4 +28,10 @@ pub fn frames_compose()
 /// What the product of two frames flips is what each flips, added.
 pub fn frames_add()
     ensures law { FramesAdd }
+{}
+
+/// Where a run comes to a point that is as an earlier one but for a frame, as far back as its steps look, steps give there what
+/// they gave, flipped, whatever the coins, and lead to such a point again.
+pub fn steps_come_turned()
+    ensures law { StepsComeTurned }
 {}

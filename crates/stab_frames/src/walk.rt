@@ -1,10 +1,11 @@
 ghost use Rattle.std.specs.Prelude.{◌≡◌, ◌≤◌, take, drop};
-ghost use Rattle.stab_run.specs.Records.{ones};
+ghost use Rattle.stab_steps.specs.Records.{ones};
 
+use crate::bits::count_ones;
 use crate::keys::Keys;
 use crate::letters::weight_of;
 use stab_pauli::{Letter, Pauli};
-use stab_run::Addition;
+use stab_steps::Addition;
 use std::alloc::{AllocError, Global};
 use std::marker::Model;
 
@@ -33,7 +34,7 @@ pub struct FrameWalk {
 
 impl Model for FrameWalk {
     ghost use Rattle.std.specs.Prelude.{◌≡◌, ℕ, ◌+◌, ◌≤◌, true, false, replicate};
-    ghost use Rattle.stab_run.specs.Records.{looked_up};
+    ghost use Rattle.stab_steps.specs.Records.{looked_up};
     ghost use Rattle.stab_frames.specs.Walks.{WalkState};
     ghost use Rattle.stab_frames.specs.inner.Weights.{string_weight};
     ghost use Rattle.stab_frames.specs.inner.Touches.{Covers};
@@ -54,8 +55,8 @@ impl FrameWalk {
     ghost use Rattle.std.specs.Prelude.{◌≡◌, ℕ, ◌+◌, ◌^◌, ◌≤◌, ◌<◌, ◌∷◌, [], ◌++◌, true, length, replicate, take, drop, slice_index_or, slice_set, OnOk, IfOk, IfSome};
     ghost use Rattle.stab_letters.specs.declared.letter.Letter.TheVariants.{I};
     ghost use Rattle.stab_pauli.specs.Paulis.{single, string_product};
-    ghost use Rattle.stab_run.specs.Records.{ones};
-    ghost use Rattle.stab_run.specs.Points.{nothing, joined};
+    ghost use Rattle.stab_steps.specs.Records.{ones};
+    ghost use Rattle.stab_steps.specs.Points.{nothing, joined};
     ghost use Rattle.stab_frames.specs.Walks.{frame_at, IsGone};
     ghost use Rattle.stab_frames.specs.inner.Passes.{one_coin, none_flipped, no_detectors};
     ghost use Rattle.stab_frames.specs.inner.Touches.{Covers};
@@ -105,6 +106,19 @@ impl FrameWalk {
             self.set(qubit, product);
             qubit = string.next_letter(qubit + 1);
         }
+    }
+
+    /// Goes back to the coin with this number, behind so many free outcomes, with its letters and the
+    /// records that it has flipped.
+    pub fn begin_again(&mut self, coin: usize, number: usize)
+        requires within { number ≤ coin }
+        ensures value { self.new ≡ record self.old { flips = record nothing { records = self.old.flips.records }; coin = coin; number = number } }
+    {
+        self.detectors.clear();
+        self.additions.clear();
+        self.passed = 0;
+        self.coin = coin;
+        self.number = number;
     }
 
     /// Flips further records, behind those that it has gone over: where one list differs from
@@ -267,17 +281,6 @@ impl FrameWalk {
         self.passed += count;
         Ok(())
     }
-}
-
-/// How many bits are 1.
-fn count_ones(bits: &[bool]) -> usize
-    ensures value { result ≡ ones bits.now }
-{
-    let mut count = 0;
-    for bit in bits {
-        count += usize::from(*bit);
-    }
-    count
 }
 
 /// How many of so many bits from a place on are 1, as far as there are any.

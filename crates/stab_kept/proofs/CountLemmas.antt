@@ -28,7 +28,7 @@ use Rattle.stab_copies.specs.LaidCopies.{moved}
 use Rattle.stab_kept.specs.KeptRuns.{IsKeptRun, IsSpan, AgreeBehindSpan, AgreeBackBehindSpan}
 use Rattle.stab_replay.specs.Replays.{IsEnd, Misses, EndsSoon, step_among_new}
 use Rattle.stab_copies.specs.Meets.{Meets}
-use Rattle.stab_run.proofs.PointLemmas.{front-output}
+use Rattle.stab_laws.proofs.PointLemmas.{front-output}
 use Rattle.stab_replay.proofs.PointLemmas.{meets-agree, agree-later}
 use Rattle.stab_kept.proofs.SpacingLemmas.{IsBefore, IsNearCopy, near-copy, behind-near, all-behind, moved-within}
 use Rattle.stab_kept.proofs.FollowLemmas.{at-get, some-at, if-some, some-and, from-drop, same-rest, all-next, front-spaced}

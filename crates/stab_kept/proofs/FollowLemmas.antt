@@ -37,7 +37,7 @@ use Rattle.stab_copies.specs.Meets.{Meets}
 use Rattle.stab_kept.specs.inner.Prepared.{Begins, IsRest, IsOldRest, IsPrepared, IsInPlace, IsCommitted, copies_behind, tableau_behind, meeting_of}
 use Rattle.stab_steps.specs.declared.records.Lengths.{Lengths}
 use Rattle.stab_steps.proofs.RecordLemmas.{ones-append}
-use Rattle.stab_run.proofs.PointLemmas.{flags-are-coins, front-output}
+use Rattle.stab_laws.proofs.PointLemmas.{flags-are-coins, front-output}
 use Rattle.stab_replay.proofs.NotedLemmas.{near-enough, noted-front, noted-spliced}
 use Rattle.stab_replay.proofs.FramedLemmas.{future-moved, future-turned}
 use Rattle.stab_replay.specs.FramedReplays.{HaveSameFuture}

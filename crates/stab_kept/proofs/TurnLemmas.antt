@@ -18,7 +18,7 @@ use Rattle.stab_run.specs.Laws.{AgreeAt}
 use Rattle.stab_run.specs.ProgramStates.{StepFits, output_of}
 use Rattle.stab_run.specs.Cuts.{front_of, rest_of}
 use Rattle.stab_run.specs.Ends.{AgreeBack, with_coin}
-use Rattle.stab_run.proofs.PointLemmas.{flags-are-coins, front-output, records-are-records}
+use Rattle.stab_laws.proofs.PointLemmas.{flags-are-coins, front-output, records-are-records}
 use Rattle.stab_frames.specs.Flips.{flipped_output}
 use Rattle.stab_frames.specs.KeptStrings.{StringsState}
 use Rattle.stab_frames.specs.Lookbacks.{LooksWithin}

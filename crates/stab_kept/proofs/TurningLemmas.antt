@@ -11,7 +11,7 @@ use Rattle.stab_circuit.specs.declared.edit.Span.{Span}
 use Rattle.stab_steps.specs.declared.records.Lengths.{Lengths}
 use Rattle.stab_run.specs.Points.{Point, RunOutput, origin, point_after, outputs}
 use Rattle.stab_run.specs.Cuts.{lengths_of}
-use Rattle.stab_run.proofs.PointLemmas.{HasAtMost, outputs-short, cut}
+use Rattle.stab_laws.proofs.PointLemmas.{HasAtMost, outputs-short, cut}
 use Rattle.stab_copies.specs.declared.checkpoint.Checkpoint.{Checkpoint}
 use Rattle.stab_copies.specs.Checkpoints.{IsCheckpoint}
 use Rattle.stab_copies.proofs.TakeLemmas.{take-more}

@@ -18,10 +18,10 @@ ghost use Rattle.stab_replay.specs.NotedStrings.{IsSpliced};
 
 use stab_circuit::{Circuit, Cursor, Repeat, Span};
 use stab_copies::{Checkpoint, Meeting, count_before, lay_all, take_moved};
-use stab_frames::{KeptStrings, RunNotes};
+use stab_frames::{KeptStrings, RunNotes, count_ones};
 use stab_io::Refusal;
 use stab_pauli::Pauli;
-use stab_replay::{End, Plan, Replay, count_ones};
+use stab_replay::{End, Plan, Replay};
 use stab_run::{Coins, Outputs, observables};
 use stab_tableau::Tableau;
 use stab_turns::{Section, move_sections};

@@ -8,7 +8,7 @@ use Rattle.stab_circuit.specs.Items.{Items}
 use Rattle.stab_circuit.specs.Steps.{Step, unroll, check_of, is_detector, detectors_of}
 use Rattle.stab_circuit.specs.Cursors.{IsApart}
 use Rattle.stab_run.specs.ProgramStates.{StepFits}
-use Rattle.stab_run.proofs.FitLemmas.{check-steps}
+use Rattle.stab_laws.proofs.FitLemmas.{check-steps}
 use Rattle.stab_regions.specs.declared.sites.Asked.{Asked}
 use Rattle.stab_regions.specs.declared.sweep.Sweep.{Sweep}
 use Rattle.stab_regions.specs.inner.Sites.{sites_asked, sides_asked, step_qubits}

@@ -12,10 +12,10 @@ use Rattle.stab_run.specs.Points.{Point, origin, joined, point_after, outputs}
 use Rattle.stab_run.specs.Cuts.{lengths_of, front_of, rest_of}
 use Rattle.stab_run.specs.Ends.{AgreeBack, with_coin}
 use Rattle.stab_steps.proofs.RunLemmas.{after-append, outputs-append}
-use Rattle.stab_run.proofs.FixedLemmas.{fixed-future}
-use Rattle.stab_run.proofs.FutureBackLemmas.{same-future-back}
-use Rattle.stab_run.proofs.PointLemmas.{front-output, rest-joined}
-use Rattle.stab_run.proofs.RoundLemmas.{rounds-append, length-rounds}
+use Rattle.stab_laws.proofs.FixedLemmas.{fixed-future}
+use Rattle.stab_laws.proofs.FutureBackLemmas.{same-future-back}
+use Rattle.stab_laws.proofs.PointLemmas.{front-output, rest-joined}
+use Rattle.stab_laws.proofs.RoundLemmas.{rounds-append, length-rounds}
 use Rattle.stab_copies.proofs.TakeLemmas.{take-more}
 use Rattle.stab_replay.specs.FramedReplays.{between}
 use Rattle.stab_replay.proofs.CutLemmas.{ones-take}
@@ -109,25 +109,25 @@ ones-part (suc a) (suc b) (bit ∷ bits) = ones-part a b bits
 
 module _ (n : ℕ) (coins : ℕ → Bool) (ys : List Step) (i j k reach : ℕ) (order : i ≤ j) (before : j ≤ k)
     (same : take (j - i) (drop i ys) ≡ take (j - i) (drop k ys)) where
-  abbrev part : List Step
+  abbrev pub part : List Step
   part = take (j - i) (drop i ys)
 
-  abbrev then : Point
+  abbrev pub then : Point
   then = point_after n coins (take i ys) origin
 
-  abbrev now : Point
+  abbrev pub now : Point
   now = point_after n coins (take k ys) origin
 
-  first-steps : take j ys ≡ take i ys ++ part
+  pub first-steps : take j ys ≡ take i ys ++ part
   first-steps = ap (λ l. take l ys) {x = j} {y = i + (j - i)} (omega (arith, order)) ∙ take-more i (j - i) ys
 
-  later-steps : take (k + (j - i)) ys ≡ take k ys ++ part
+  pub later-steps : take (k + (j - i)) ys ≡ take k ys ++ part
   later-steps = take-more k (j - i) ys ∙ ap (λ l. take k ys ++ l) (sym same)
 
-  first-point : point_after n coins (take j ys) origin ≡ point_after n coins part then
+  pub first-point : point_after n coins (take j ys) origin ≡ point_after n coins part then
   first-point = ap (λ xs. point_after n coins xs origin) first-steps ∙ after-append n coins (take i ys) part origin
 
-  later-point : point_after n coins (take (k + (j - i)) ys) origin ≡ point_after n coins part now
+  pub later-point : point_after n coins (take (k + (j - i)) ys) origin ≡ point_after n coins part now
   later-point = ap (λ xs. point_after n coins xs origin) later-steps ∙ after-append n coins (take k ys) part origin
 
   pub part-is : between (lengths_of (outputs n coins (take i ys) origin)) (lengths_of (outputs n coins (take j ys) origin)) (outputs n coins (take k ys) origin) ≡ outputs n coins part then

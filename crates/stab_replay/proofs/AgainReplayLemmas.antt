@@ -17,7 +17,7 @@ use Rattle.stab_run.specs.Points.{RunOutput, origin, joined, point_after, output
 use Rattle.stab_run.specs.ProgramStates.{output_of, program_state}
 use Rattle.stab_run.specs.Cuts.{lengths_of}
 use Rattle.stab_run.specs.Ends.{AgreeBack, with_coin}
-use Rattle.stab_run.proofs.PointLemmas.{records-are-records}
+use Rattle.stab_laws.proofs.PointLemmas.{records-are-records}
 use Rattle.stab_steps.proofs.RecordLemmas.{ones-append}
 use Rattle.stab_frames.specs.Lookbacks.{LooksWithin}
 use Rattle.stab_copies.specs.declared.checkpoint.Checkpoint.{Checkpoint}
@@ -38,7 +38,7 @@ use Rattle.stab_replay.proofs.ReplayLemmas.{on-stop, with-laid}
 
 -- neighbours among the places of copies
 
-near-neighbours : (K a e i : ℕ) (cs : List Checkpoint) (c d : Checkpoint) → Near K (a ∷ checkpoint_steps cs ++ e ∷ []) → slice_get cs i ≡ Some c
+pub near-neighbours : (K a e i : ℕ) (cs : List Checkpoint) (c d : Checkpoint) → Near K (a ∷ checkpoint_steps cs ++ e ∷ []) → slice_get cs i ≡ Some c
     → slice_get cs (suc i) ≡ Some d → (d.step ≤ c.step + K) × (d.step ≤ e)
 near-neighbours K a e zero [] c d near here there = absurd (none-some c here)
 near-neighbours K a e (suc i) [] c d near here there = absurd (none-some c here)
@@ -53,7 +53,7 @@ near-neighbours K a e zero (b ∷ f ∷ cs) c d near here there =
     no-later x (y ∷ xs) h = let first = h.0 in let rest = no-later y xs h.2 in omega (arith, first, rest)
 
 -- the state of the last copy
-last-pushed : (t : TableauState) (cs : List Checkpoint) (c : Checkpoint) → last_state t (cs ++ c ∷ []) ≡ c.tableau
+pub last-pushed : (t : TableauState) (cs : List Checkpoint) (c : Checkpoint) → last_state t (cs ++ c ∷ []) ≡ c.tableau
 last-pushed t [] c = refl
 last-pushed t (b ∷ cs) c = last-pushed b.tableau cs c
 
@@ -61,7 +61,7 @@ pub place-known : (P : ℕ → Type 0) (o : Option Checkpoint) (place : Checkpoi
 place-known P None place q is h = tt
 place-known P (Some c) place q is h = subst (λ r. IfSome r P) is h
 
-place-before : (P : ℕ → Type 0) (o : Option Checkpoint) (place : Checkpoint → ℕ) → IfSome o (λ c. P (place c)) → IfSome (option_map place o) P
+pub place-before : (P : ℕ → Type 0) (o : Option Checkpoint) (place : Checkpoint → ℕ) → IfSome o (λ c. P (place c)) → IfSome (option_map place o) P
 place-before P None place h = tt
 place-before P (Some c) place h = h
 

@@ -13,8 +13,8 @@ use Rattle.stab_steps.specs.declared.records.Lengths.{Lengths}
 use Rattle.stab_run.specs.Records.{looked_up, ones}
 use Rattle.stab_run.specs.Points.{Point, RunOutput, nothing, origin, point_after, outputs}
 use Rattle.stab_run.specs.ProgramStates.{StepFits, program_state}
-use Rattle.stab_run.proofs.PointLemmas.{flags-are-coins, records-are-records, front-output}
-use Rattle.stab_run.proofs.LookbackLemmas.{looked_up-near}
+use Rattle.stab_laws.proofs.PointLemmas.{flags-are-coins, records-are-records, front-output}
+use Rattle.stab_laws.proofs.LookbackLemmas.{looked_up-near}
 use Rattle.stab_frames.specs.Flips.{flipped}
 use Rattle.stab_frames.specs.Frames.{PointsDifferBy}
 use Rattle.stab_frames.specs.Walks.{WalkState, frame_at}

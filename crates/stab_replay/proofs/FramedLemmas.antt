@@ -22,9 +22,9 @@ use Rattle.stab_run.specs.Runs.{measured_by}
 use Rattle.stab_run.specs.Points.{Point, RunOutput, nothing, joined, coins_of, next_point, point_after, outputs}
 use Rattle.stab_run.specs.ProgramStates.{StepFits}
 use Rattle.stab_run.specs.Ends.{AgreeBack, with_coin}
-use Rattle.stab_run.proofs.LookbackLemmas.{or-left, or-right}
-use Rattle.stab_run.proofs.FutureBackLemmas.{same-future-back}
-use Rattle.stab_run.proofs.FixedLemmas.{fixed-future, fixed-front}
+use Rattle.stab_laws.proofs.LookbackLemmas.{or-left, or-right}
+use Rattle.stab_laws.proofs.FutureBackLemmas.{same-future-back}
+use Rattle.stab_laws.proofs.FixedLemmas.{fixed-future, fixed-front}
 use Rattle.stab_steps.proofs.RunLemmas.{after-append, outputs-append, joined-nothing}
 use Rattle.stab_frames.specs.Flips.{flipped, flipped_additions, flipped_output}
 use Rattle.stab_frames.specs.Frames.{Frame, PointsDifferBy}
@@ -40,39 +40,9 @@ use Rattle.stab_frames.proofs.SignLemmas.{sign-twice}
 use Rattle.stab_frames.proofs.TurnedLemmas.{turned-blank}
 use Rattle.stab_frames.proofs.FlipLemmas.{looked_up-flipped, flipped-joined}
 use Rattle.stab_frames.proofs.StepLemmas.{over-framed, outputs-matches}
+use Rattle.stab_frames.specs.AgainLaws.{AreTurnedOver}
 use Rattle.stab_frames.proofs.NoteLemmas.{enough-before}
-
--- strings that exchange outcomes in the one state do so in the other
-
-exchanges-turned : (n : ℕ) (g : List Letter) (u v : Signed → Bool) → IsTurned n g u v → (m : Signed) (s : List Letter) → Exchanges n u m s → Exchanges n v m s
-exchanges-turned n g u v turned m s e =
-    let p : Signed = record { negative = e.negative; letters = s } in
-    record {
-      size = e.size;
-      negative = strings_anticommute g s ⊕ e.negative;
-      stabilises = turned (with_sign (strings_anticommute g s) p) e.size ∙ ap u (sign-twice (strings_anticommute g s) p) ∙ e.stabilises;
-      apart = e.apart;
-    }
-
-true-turned-at : (n : ℕ) (strings : ℕ → Option (List Letter)) (x : Step) (a b : Point) (g : List Letter) → IsTurned n g (member a.trace) (member b.trace)
-    → b.coin ≡ a.coin → IsTrueAt n strings x a → IsTrueAt n strings x b
-true-turned-at n strings x a b g turned coin is =
-    IfSome_then (measured_by n x) is (λ m held.
-    subst (λ t. IfSome (strings t) (λ s. Exchanges n (member b.trace) m s)) (sym coin)
-    (IfSome_then (strings a.coin) held (λ s e. exchanges-turned n g (member a.trace) (member b.trace) turned m s e)))
-
--- two points so many steps on differ by letters alone
-abbrev pub AreTurnedBehind : ℕ → (ℕ → Bool) → List Step → Point → Point → Type 0
-AreTurnedBehind n coins xs a b =
-    (m : ℕ) → (g : List Letter) × IsTurned n g (member (point_after n coins (take m xs) a).trace) (member (point_after n coins (take m xs) b).trace)
-
-pub true-turned : (n : ℕ) (coins : ℕ → Bool) (strings : ℕ → Option (List Letter)) (xs : List Step) (a b : Point) → b.coin ≡ a.coin → AreTurnedBehind n coins xs a b
-    → AreTrue n coins strings xs a → AreTrue n coins strings xs b
-true-turned n coins strings [] a b coin turned is = tt
-true-turned n coins strings (x ∷ xs) a b coin turned is = (
-  true-turned-at n strings x a b (turned 0).0 (turned 0).1 coin is.0,
-  true-turned n coins strings xs (next_point n coins x a) (next_point n coins x b) (ap (λ t. t + coins_of x) coin) (λ m. turned (suc m)) is.1,
-)
+use Rattle.stab_frames.proofs.AgainLemmas.{looks-front}
 
 -- no output is flipped by nothing
 
@@ -91,19 +61,6 @@ flipped-nothing o = λ i. record {
   detectors = flipped-empty o.detectors i;
   additions = additions-empty o.additions i;
 }
-
--- the first of steps that look back so far look back so far
-
-looks-front : (m k : ℕ) (xs : List Step) → looks_too_far m xs ≡ false → looks_too_far m (take k xs) ≡ false
-looks-front m zero xs near = refl
-looks-front m (suc k) [] near = refl
-looks-front m (suc k) (x ∷ xs) near =
-    both-false (list_any (nat_lt m) (lookbacks x)) (looks_too_far (m + makes x) (take k xs))
-    (or-left (list_any (nat_lt m) (lookbacks x)) (looks_too_far (m + makes x) xs) near)
-    (looks-front (m + makes x) k xs (or-right (list_any (nat_lt m) (lookbacks x)) (looks_too_far (m + makes x) xs) near))
-  where
-    both-false : (a b : Bool) → a ≡ false → b ≡ false → (a || b) ≡ false
-    both-false a b e f = grind arith
 
 -- points that agree as far back as steps look have the same future by these
 pub future-back : (n reach : ℕ) (coins : ℕ → Bool) (back : List Step) (a b : Point) → looks_too_far reach back ≡ false → AgreeBack n reach a b → HaveSameFuture n coins back a b
@@ -125,7 +82,7 @@ future-moved n reach coins back a b near (inr none) agree m =
     )
 
 -- and differ by no letter
-pub future-turned : (n : ℕ) (coins : ℕ → Bool) (back : List Step) (a b : Point) → HaveSameFuture n coins back a b → AreTurnedBehind n coins back a b
+pub future-turned : (n : ℕ) (coins : ℕ → Bool) (back : List Step) (a b : Point) → HaveSameFuture n coins back a b → AreTurnedOver n coins back a b
 future-turned n coins back a b future m = (
   replicate n I,
   (λ p size. sym ((future m).1 p size) ∙ turned-blank n (member (point_after n coins (take m back) a).trace) p size),

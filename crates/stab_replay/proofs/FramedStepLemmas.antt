@@ -9,7 +9,7 @@ use Rattle.stab_circuit.specs.Steps.{Step}
 use Rattle.stab_run.specs.Points.{RunOutput, origin, joined, point_after, outputs}
 use Rattle.stab_run.specs.ProgramStates.{program_state}
 use Rattle.stab_run.specs.Cuts.{lengths_of, front_of, rest_of}
-use Rattle.stab_run.proofs.PointLemmas.{front-output, rest-output}
+use Rattle.stab_laws.proofs.PointLemmas.{front-output, rest-output}
 use Rattle.stab_frames.specs.declared.steps.Stop.{Stop}
 use Rattle.stab_frames.specs.Flips.{flipped_output}
 use Rattle.stab_frames.specs.Walks.{WalkState}

@@ -4,8 +4,6 @@ mod LaidLemmas
 pub mod FramedLemmas
 mod SeenLemmas
 pub mod SegmentLemmas
-pub mod TurnedCopyLemmas
-mod FlippedLemmas
 pub mod FrameStartLemmas
 mod FramedStepLemmas
 mod NotedSegmentLemmas
@@ -15,4 +13,7 @@ mod LedWayLemmas
 pub mod CutLemmas
 pub mod AgainLemmas
 mod AgainReplayLemmas
+mod TurnedNoteLemmas
+mod TurnedOverLemmas
+mod TurnedReplayLemmas
 pub mod NotedLemmas

@@ -16,8 +16,8 @@ use Rattle.stab_run.specs.Runs.{measured_by}
 use Rattle.stab_run.specs.Points.{Point, RunOutput, origin, coins_of, all_coins_of, next_point, point_after, outputs}
 use Rattle.stab_run.specs.ProgramStates.{ProgramState, IsAt}
 use Rattle.stab_steps.proofs.RecordLemmas.{ones-append}
-use Rattle.stab_run.proofs.PointLemmas.{flags-are-coins, front-output, rest-output}
-use Rattle.stab_run.proofs.LookbackLemmas.{or-left, or-right}
+use Rattle.stab_laws.proofs.PointLemmas.{flags-are-coins, front-output, rest-output}
+use Rattle.stab_laws.proofs.LookbackLemmas.{or-left, or-right}
 use Rattle.stab_frames.specs.Limits.{most_strings}
 use Rattle.stab_frames.specs.KeptStrings.{StringsState, IsNumbered, IsTrueAt, AreTrue, KeepsTrue, note_at, front_kept}
 use Rattle.stab_frames.specs.Lookbacks.{LooksWithin}
@@ -25,7 +25,8 @@ use Rattle.stab_frames.specs.Ends.{MayHaveCoin}
 use Rattle.stab_copies.proofs.BitLemmas.{counted}
 use Rattle.stab_replay.specs.NotedStrings.{IsNoted, IsSpliced}
 use Rattle.stab_replay.proofs.CutLemmas.{get-take, get-beyond, get-left, get-right, get-drop, bit-take, bit-left, bit-right, bit-drop, take-left, take-right, take-again, take-on, ones-take}
-use Rattle.stab_replay.proofs.FramedLemmas.{AreTurnedBehind, true-turned}
+use Rattle.stab_frames.specs.AgainLaws.{AreTurnedOver}
+use Rattle.stab_frames.proofs.AgainLemmas.{true-turned}
 
 -- how far back steps look
 
@@ -53,14 +54,14 @@ near-enough m r (x ∷ xs) le all =
 
 -- notes that are none, or the same
 
-abbrev IsNoneOr : Option (List Letter) → Option (List Letter) → Type 0
+abbrev pub IsNoneOr : Option (List Letter) → Option (List Letter) → Type 0
 IsNoneOr o p = (o ≡ None) ⊎ (o ≡ p)
 
 none-or : (P : List Letter → Type 0) (o p : Option (List Letter)) → IsNoneOr o p → IfSome p P → IfSome o P
 none-or P o p (inl e) h = subst (λ q. IfSome q P) (sym e) tt
 none-or P o p (inr e) h = subst (λ q. IfSome q P) (sym e) h
 
-at-changed : (n : ℕ) (strings others : ℕ → Option (List Letter)) (x : Step) (a : Point) → (coins_of x ≡ 1 → IsNoneOr (others a.coin) (strings a.coin))
+pub at-changed : (n : ℕ) (strings others : ℕ → Option (List Letter)) (x : Step) (a : Point) → (coins_of x ≡ 1 → IsNoneOr (others a.coin) (strings a.coin))
     → IsTrueAt n strings x a → IsTrueAt n others x a
 at-changed n strings others (one g q) a h is = tt
 at-changed n strings others (two g q r) a h is = tt
@@ -70,7 +71,7 @@ at-changed n strings others (product factors inverted) a h is = none-or _ (other
 at-changed n strings others (detector ks) a h is = tt
 at-changed n strings others (observable j ks) a h is = tt
 
-true-changed : (n : ℕ) (coins : ℕ → Bool) (strings others : ℕ → Option (List Letter)) (xs : List Step) (a : Point)
+pub true-changed : (n : ℕ) (coins : ℕ → Bool) (strings others : ℕ → Option (List Letter)) (xs : List Step) (a : Point)
     → ((t : ℕ) → a.coin ≤ t → t < a.coin + all_coins_of xs → IsNoneOr (others t) (strings t)) → AreTrue n coins strings xs a → AreTrue n coins others xs a
 true-changed n coins strings others [] a h is = tt
 true-changed n coins strings others (x ∷ xs) a h is = (
@@ -105,7 +106,7 @@ choose : (b c : Bool) (o p : Option (List Letter)) → b ≡ c → (c ≡ true �
 choose b true o p e h = subst (λ d. IsNoneOr (if d then o else None) p) (sym e) (h refl)
 choose b false o p e h = inl (ap (λ d. if d then o else None) e)
 
-note-front : (strings : List (List Letter)) (free : List Bool) (k m t : ℕ) → t < m → IsNoneOr (note_at (take k strings) (take m free) t) (note_at strings free t)
+pub note-front : (strings : List (List Letter)) (free : List Bool) (k m t : ℕ) → t < m → IsNoneOr (note_at (take k strings) (take m free) t) (note_at strings free t)
 note-front strings free k m t lt =
     choose (get_or (take m free) t false) (get_or free t false) (slice_get (take k strings) (ones (take t (take m free)))) (slice_get strings (ones (take t free)))
     (bit-take m t free lt)
@@ -115,7 +116,7 @@ note-front strings free k m t lt =
 -- and where others are put behind them
 
 module _ (s : StringsState) (flags : List Bool) (numbered : IsNumbered s flags) (others : List (List Letter)) (more : List Bool) where
-  note-left : (t : ℕ) → t < length flags → IsNoneOr (note_at (take s.most (s.strings ++ others)) (flags ++ more) t) (note_at s.strings flags t)
+  pub note-left : (t : ℕ) → t < length flags → IsNoneOr (note_at (take s.most (s.strings ++ others)) (flags ++ more) t) (note_at s.strings flags t)
   note-left t lt =
       choose (get_or (flags ++ more) t false) (get_or flags t false) (slice_get (take s.most (s.strings ++ others)) (ones (take t (flags ++ more))))
       (slice_get s.strings (ones (take t flags))) (bit-left flags more t lt)
@@ -131,44 +132,50 @@ module _ (s : StringsState) (flags : List Bool) (numbered : IsNumbered s flags) 
           ]
       by_place counted (inr beyond) = inl (get-beyond s.most (ones (take t flags)) (s.strings ++ others) (omega (arith, numbered, counted, beyond)))
 
-module _ (s : StringsState) (flags : List Bool) (numbered : IsNumbered s flags) (strings : List (List Letter)) (free : List Bool) (c : ℕ) (same : length flags ≡ c) where
-  note-right : (t : ℕ) → c ≤ t
-      → IsNoneOr (note_at (take s.most (s.strings ++ drop (ones (take c free)) strings)) (flags ++ drop c free) t) (note_at strings free t)
-  note-right t le =
-      subst (λ k. IsNoneOr (note_at (take s.most (s.strings ++ drop (ones (take c free)) strings)) (flags ++ drop c free) k) (note_at strings free k))
-      (omega arith) (behind (t - c))
+module _ (s : StringsState) (flags : List Bool) (numbered : IsNumbered s flags) (strings : List (List Letter)) (free : List Bool) (c : ℕ) where
+  pub note-beyond : (u : ℕ)
+      → IsNoneOr (note_at (take s.most (s.strings ++ drop (ones (take c free)) strings)) (flags ++ drop c free) (length flags + u)) (note_at strings free (c + u))
+  note-beyond u =
+      choose (get_or (flags ++ drop c free) (length flags + u) false) (get_or free (c + u) false)
+      (slice_get (take s.most (s.strings ++ drop (ones (take c free)) strings)) (ones (take (length flags + u) (flags ++ drop c free))))
+      (slice_get strings (ones (take (c + u) free)))
+      (bit-right flags (drop c free) u ∙ bit-drop c u free)
+      (λ is. subst (λ k. IsNoneOr (slice_get (take s.most (s.strings ++ drop (ones (take c free)) strings)) k) (slice_get strings (ones (take (c + u) free)))) (sym place)
+      (subst (λ k. IsNoneOr (slice_get (take s.most (s.strings ++ drop (ones (take c free)) strings)) (ones flags + ones (take u (drop c free)))) (slice_get strings k))
+      (sym (take-on c u free))
+      (by_place (cases_lt (length s.strings) (ones flags)))))
     where
-      behind : (u : ℕ) → IsNoneOr (note_at (take s.most (s.strings ++ drop (ones (take c free)) strings)) (flags ++ drop c free) (c + u)) (note_at strings free (c + u))
-      behind u =
-          choose (get_or (flags ++ drop c free) (c + u) false) (get_or free (c + u) false)
-          (slice_get (take s.most (s.strings ++ drop (ones (take c free)) strings)) (ones (take (c + u) (flags ++ drop c free))))
-          (slice_get strings (ones (take (c + u) free)))
-          (ap (λ k. get_or (flags ++ drop c free) (k + u) false) (sym same) ∙ bit-right flags (drop c free) u ∙ bit-drop c u free)
-          (λ is. subst (λ k. IsNoneOr (slice_get (take s.most (s.strings ++ drop (ones (take c free)) strings)) k) (slice_get strings (ones (take (c + u) free)))) (sym place)
-          (subst (λ k. IsNoneOr (slice_get (take s.most (s.strings ++ drop (ones (take c free)) strings)) (ones flags + ones (take u (drop c free)))) (slice_get strings k))
-          (sym (take-on c u free))
-          (by_place (cases_lt (length s.strings) (ones flags)))))
-        where
-          place : ones (take (c + u) (flags ++ drop c free)) ≡ ones flags + ones (take u (drop c free))
-          place =
-              ap (λ k. ones (take (k + u) (flags ++ drop c free))) (sym same)
-              ∙ ap ones (take-right flags (drop c free) u)
-              ∙ ones-append flags (take u (drop c free))
+      place : ones (take (length flags + u) (flags ++ drop c free)) ≡ ones flags + ones (take u (drop c free))
+      place =
+          ap ones (take-right flags (drop c free) u)
+          ∙ ones-append flags (take u (drop c free))
 
-          by_place : (length s.strings < ones flags) ⊎ (ones flags ≤ length s.strings)
-              → IsNoneOr (slice_get (take s.most (s.strings ++ drop (ones (take c free)) strings)) (ones flags + ones (take u (drop c free))))
-              (slice_get strings (ones (take c free) + ones (take u (drop c free))))
-          by_place (inl short) = inl (get-beyond s.most (ones flags + ones (take u (drop c free))) (s.strings ++ drop (ones (take c free)) strings) (omega (arith, numbered, short)))
-          by_place (inr all) =
-              elim (get-take s.most (ones flags + ones (take u (drop c free))) (s.strings ++ drop (ones (take c free)) strings)) [
-                | inl e ↦ inl e
-                | inr e ↦ inr (
-                    e
-                    ∙ ap (λ k. slice_get (s.strings ++ drop (ones (take c free)) strings) (k + ones (take u (drop c free)))) (omega (arith, numbered, all))
-                    ∙ get-right s.strings (drop (ones (take c free)) strings) (ones (take u (drop c free)))
-                    ∙ get-drop (ones (take c free)) (ones (take u (drop c free))) strings
-                    )
-              ]
+      by_place : (length s.strings < ones flags) ⊎ (ones flags ≤ length s.strings)
+          → IsNoneOr (slice_get (take s.most (s.strings ++ drop (ones (take c free)) strings)) (ones flags + ones (take u (drop c free))))
+          (slice_get strings (ones (take c free) + ones (take u (drop c free))))
+      by_place (inl short) = inl (get-beyond s.most (ones flags + ones (take u (drop c free))) (s.strings ++ drop (ones (take c free)) strings) (omega (arith, numbered, short)))
+      by_place (inr all) =
+          elim (get-take s.most (ones flags + ones (take u (drop c free))) (s.strings ++ drop (ones (take c free)) strings)) [
+            | inl e ↦ inl e
+            | inr e ↦ inr (
+                e
+                ∙ ap (λ k. slice_get (s.strings ++ drop (ones (take c free)) strings) (k + ones (take u (drop c free)))) (omega (arith, numbered, all))
+                ∙ get-right s.strings (drop (ones (take c free)) strings) (ones (take u (drop c free)))
+                ∙ get-drop (ones (take c free)) (ones (take u (drop c free))) strings
+                )
+          ]
+
+  note-right : length flags ≡ c → (t : ℕ) → c ≤ t
+      → IsNoneOr (note_at (take s.most (s.strings ++ drop (ones (take c free)) strings)) (flags ++ drop c free) t) (note_at strings free t)
+  note-right same t le =
+      subst (λ x. x) (λ i. IsNoneOr (note_at (take s.most (s.strings ++ drop (ones (take c free)) strings)) (flags ++ drop c free) (from i)) (note_at strings free (on i)))
+      (note-beyond (t - c))
+    where
+      from : length flags + (t - c) ≡ t
+      from = omega (arith, same, le)
+
+      on : c + (t - c) ≡ t
+      on = omega (arith, le)
 
 -- what a run of no steps notes
 pub noted-nothing : (n : ℕ) (coins : ℕ → Bool) (s : StringsState) (free : List Bool) (reach : ℕ) → s ≡ record { qubits = n; most = most_strings n; strings = [] } → free ≡ []
@@ -314,7 +321,7 @@ noted-fixed n coins xs zs s flags more reach noted is none near = record {
 -- decides behind
 pub noted-spliced : (n : ℕ) (coins : ℕ → Bool) (xs ys : List Step) (i k : ℕ) → drop i xs ≡ drop k ys
     → MayHaveCoin n coins (drop i xs) (point_after n coins (take i xs) origin) (point_after n coins (take k ys) origin).coin
-    → AreTurnedBehind n coins (drop i xs) (point_after n coins (take i xs) origin) (point_after n coins (take k ys) origin)
+    → AreTurnedOver n coins (drop i xs) (point_after n coins (take i xs) origin) (point_after n coins (take k ys) origin)
     → (s t u : StringsState) (free flags all : List Bool) (c old_reach reach : ℕ)
     → IsNoted n coins xs s free old_reach → free ≡ (outputs n coins xs origin).free
     → IsNoted n coins (take k ys) t flags reach → flags ≡ (outputs n coins (take k ys) origin).free → old_reach ≤ reach

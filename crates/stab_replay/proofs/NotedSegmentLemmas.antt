@@ -9,13 +9,13 @@ use Rattle.stab_circuit.specs.Steps.{Step}
 use Rattle.stab_run.specs.Records.{ones}
 use Rattle.stab_run.specs.Points.{RunOutput, origin, point_after, outputs}
 use Rattle.stab_steps.proofs.RecordLemmas.{ones-append}
-use Rattle.stab_run.proofs.PointLemmas.{flags-are-coins, front-output}
+use Rattle.stab_laws.proofs.PointLemmas.{flags-are-coins, front-output}
 use Rattle.stab_frames.specs.KeptStrings.{StringsState, kept_with, front_kept}
 use Rattle.stab_frames.specs.Ends.{MayHaveCoin}
 use Rattle.stab_frames.proofs.WalkLemmas.{ones-few}
 use Rattle.stab_replay.specs.NotedStrings.{IsNoted}
 use Rattle.stab_replay.specs.FramedReplays.{IsContinued}
-use Rattle.stab_replay.proofs.FramedLemmas.{AreTurnedBehind}
+use Rattle.stab_frames.specs.AgainLaws.{AreTurnedOver}
 use Rattle.stab_replay.proofs.CutLemmas.{ones-take}
 use Rattle.stab_replay.proofs.NotedLemmas.{noted-front, noted-spliced}
 
@@ -84,9 +84,9 @@ module _ (n : ℕ) (coins : ℕ → Bool) (xs ys : List Step) (i k len : ℕ) (s
       (drop-take i len xs ∙ ap (take len) same ∙ sym (drop-take k len ys))
       (subst (λ x. x)
       (λ j. MayHaveCoin n coins (sym (drop-take i len xs) j) (point_after n coins (sym old_front j) origin) (point_after n coins (sym new_front j) origin).coin) coin)
-      (subst (λ zs. AreTurnedBehind n coins zs (point_after n coins (take i (take (i + len) xs)) origin) (point_after n coins (take k (take (k + len) ys)) origin)) (sym (drop-take i len xs))
-      (subst (λ zs. AreTurnedBehind n coins (take len (drop i xs)) (point_after n coins zs origin) (point_after n coins (take k (take (k + len) ys)) origin)) (sym old_front)
-      (subst (λ zs. AreTurnedBehind n coins (take len (drop i xs)) (point_after n coins (take i xs) origin) (point_after n coins zs origin)) (sym new_front) turned)))
+      (subst (λ zs. AreTurnedOver n coins zs (point_after n coins (take i (take (i + len) xs)) origin) (point_after n coins (take k (take (k + len) ys)) origin)) (sym (drop-take i len xs))
+      (subst (λ zs. AreTurnedOver n coins (take len (drop i xs)) (point_after n coins zs origin) (point_after n coins (take k (take (k + len) ys)) origin)) (sym old_front)
+      (subst (λ zs. AreTurnedOver n coins (take len (drop i xs)) (point_after n coins (take i xs) origin) (point_after n coins zs origin)) (sym new_front) turned)))
       (front_kept (ones (take d free)) s) t u (take d free) flags all c old_reach reach
       (noted-front n coins xs s free old_reach old old_flags (i + len) (front_kept (ones (take d free)) s) (take d free) cut_flags refl)
       cut_flags

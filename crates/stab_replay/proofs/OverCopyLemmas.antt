@@ -9,7 +9,7 @@ use Rattle.stab_run.specs.Records.{ones}
 use Rattle.stab_run.specs.Points.{Point, RunOutput, origin, all_coins_of, point_after}
 use Rattle.stab_run.specs.ProgramStates.{program_state, output_of}
 use Rattle.stab_steps.proofs.RunLemmas.{after-append}
-use Rattle.stab_run.proofs.PointLemmas.{flags-are-coins}
+use Rattle.stab_laws.proofs.PointLemmas.{flags-are-coins}
 use Rattle.stab_frames.specs.declared.steps.Stop.{Stop}
 use Rattle.stab_frames.specs.declared.steps.Stop.TheVariants.{NoString}
 use Rattle.stab_frames.specs.KeptStrings.{StringsState, note_at}

@@ -22,9 +22,9 @@ use Rattle.stab_copies.specs.Meets.{Meets}
 use Rattle.stab_replay.specs.FramedReplays.{HaveSameFuture}
 use Rattle.stab_copies.proofs.TakeLemmas.{take-more}
 use Rattle.stab_steps.proofs.RunLemmas.{after-append, outputs-append}
-use Rattle.stab_run.proofs.FutureLemmas.{same-future}
-use Rattle.stab_run.proofs.PointLemmas.{flags-are-coins, records-are-records, cut, front-output, rest-output, HasAtMost, outputs-short}
-use Rattle.stab_run.proofs.LookbackLemmas.{looked_up-near}
+use Rattle.stab_laws.proofs.FutureLemmas.{same-future}
+use Rattle.stab_laws.proofs.PointLemmas.{flags-are-coins, records-are-records, cut, front-output, rest-output, HasAtMost, outputs-short}
+use Rattle.stab_laws.proofs.LookbackLemmas.{looked_up-near}
 
 -- a run that goes on from a state of a run from the start
 

@@ -24,7 +24,7 @@ use Rattle.stab_replay.specs.NotedStrings.{IsNoted}
 use Rattle.stab_replay.specs.Replays.{IsAtStep, Ascending, MeetsAt, IsPlacedAt, Misses, EndsSoon, step_among_new, spacing_of, copy_of, IsAtStop, IsOnWay, StopsAt}
 use Rattle.stab_replay.specs.inner.Arrivals.{IsArrival}
 use Rattle.stab_copies.specs.Meets.{Meets}
-use Rattle.stab_run.proofs.PointLemmas.{flags-are-coins, records-are-records}
+use Rattle.stab_laws.proofs.PointLemmas.{flags-are-coins, records-are-records}
 use Rattle.stab_replay.proofs.NotedLemmas.{noted-on}
 use Rattle.stab_replay.proofs.PointLemmas.{resumed, shows-from-start}
 use Rattle.stab_copies.proofs.TakeLemmas.{take-more}

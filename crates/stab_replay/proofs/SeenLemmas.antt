@@ -8,8 +8,8 @@ use Rattle.stab_run.specs.Records.{looked_up, ones}
 use Rattle.stab_run.specs.Runs.{when, string_of, flip_of}
 use Rattle.stab_run.specs.Points.{Point, nothing, joined, given, coins_of, all_coins_of, next_point, point_after, outputs}
 use Rattle.stab_run.specs.Ends.{AgreeBack, with_coin}
-use Rattle.stab_run.proofs.FutureBackLemmas.{same-future-back}
-use Rattle.stab_run.proofs.FixedLemmas.{fixed-future}
+use Rattle.stab_laws.proofs.FutureBackLemmas.{same-future-back}
+use Rattle.stab_laws.proofs.FixedLemmas.{fixed-future}
 use Rattle.stab_steps.proofs.RecordLemmas.{ones-append}
 use Rattle.stab_frames.specs.Frames.{Frame, times_where}
 use Rattle.stab_frames.specs.Notes.{same_coins}

@@ -14,9 +14,9 @@ use Rattle.stab_run.specs.Points.{Point, RunOutput, origin, joined, point_after,
 use Rattle.stab_run.specs.ProgramStates.{StepFits}
 use Rattle.stab_run.specs.Ends.{AgreeBack, with_coin}
 use Rattle.stab_steps.proofs.RunLemmas.{after-append, outputs-append}
-use Rattle.stab_run.proofs.PointLemmas.{flags-are-coins, flags-counted, records-gathered, rest-output}
-use Rattle.stab_run.proofs.FutureBackLemmas.{records-made}
-use Rattle.stab_run.proofs.FixedLemmas.{fixed-front}
+use Rattle.stab_laws.proofs.PointLemmas.{flags-are-coins, flags-counted, records-gathered, rest-output}
+use Rattle.stab_laws.proofs.FutureBackLemmas.{records-made}
+use Rattle.stab_laws.proofs.FixedLemmas.{fixed-front}
 use Rattle.stab_frames.specs.declared.steps.Stop.{Stop}
 use Rattle.stab_frames.specs.declared.steps.Stop.TheVariants.{Behind, Gone, NoString}
 use Rattle.stab_frames.specs.Flips.{flipped, flipped_additions, flipped_output}
@@ -35,7 +35,8 @@ use Rattle.stab_replay.specs.FramedReplays.{HaveSameFuture, HaveMoved, IsFramedA
 use Rattle.stab_copies.proofs.TakeLemmas.{take-more}
 use Rattle.stab_replay.proofs.CutLemmas.{bit-drop, bit-left}
 use Rattle.stab_replay.proofs.NotedLemmas.{true-back, near-enough, coins-are, none-one}
-use Rattle.stab_replay.proofs.FramedLemmas.{IsFramedBehind, flipped-empty, future-moved, true-turned, future-turned, framed-gone, framed-all}
+use Rattle.stab_frames.proofs.AgainLemmas.{true-turned}
+use Rattle.stab_replay.proofs.FramedLemmas.{IsFramedBehind, flipped-empty, future-moved, future-turned, framed-gone, framed-all}
 use Rattle.stab_replay.proofs.SeenLemmas.{AreSameFor, same-fewer, over-same, flips-same, coins-first, enough-fixed, seen-later}
 
 -- no flag is flipped
@@ -59,7 +60,7 @@ flipped-zeros (bit ∷ bits) zero = refl
 flipped-zeros (bit ∷ bits) (suc m) = ap (λ more. bit ∷ more) (flipped-zeros bits m ∙ flipped-empty bits)
 
 -- what was flipped since is what the steps between flipped
-since-joined : (o more : RunOutput) (old new : WalkState) (m : ℕ) → more.free ≡ replicate m false → new.flips ≡ joined old.flips more
+pub since-joined : (o more : RunOutput) (old new : WalkState) (m : ℕ) → more.free ≡ replicate m false → new.flips ≡ joined old.flips more
     → flipped_output o more ≡ flipped_output o (flips_since old new)
 since-joined o more old new m zeros is = λ i. record {
   records = flipped o.records (sym (ap (λ (f : RunOutput). drop (length old.flips.records) f.records) is ∙ drop_at old.flips.records more.records (length old.flips.records) refl) i);
@@ -97,7 +98,7 @@ all-else Gone told still = absurd (still refl)
 all-else NoString told still = absurd (told refl)
 
 -- letters that turn the one of two groups that are the same turn the other
-turned-from : (n : ℕ) (g : List Letter) (u v w : Signed → Bool) → SameGroup n u v → IsTurned n g v w → IsTurned n g u w
+pub turned-from : (n : ℕ) (g : List Letter) (u v w : Signed → Bool) → SameGroup n u v → IsTurned n g v w → IsTurned n g u w
 turned-from n g u v w same turned p size = turned p size ∙ sym (same (with_sign (strings_anticommute g p.letters) p) size)
 
 module _ (n : ℕ) (coins : ℕ → Bool) (xs ys : List Step) (i k len : ℕ) (same : drop i xs ≡ drop k ys) (within : i + len ≤ length xs)

@@ -1,3 +1,4 @@
 pub mod Arrivals
 pub mod LedReplays
 pub mod AgainReplays
+pub mod TurnedReplays

@@ -1,4 +1,4 @@
-ghost use Rattle.std.specs.Prelude.{◌≡◌, ℕ, ◌+◌, ◌*◌, ◌<◌, ◌≤◌, ◌++◌, Bool, List, true, false, None, IsTrue, IsSomeAnd, IfSome, length, take, drop, slice_get, OnOk, IfOk, IfErr};
+ghost use Rattle.std.specs.Prelude.{◌≡◌, ℕ, ◌+◌, ◌*◌, ◌<◌, ◌≤◌, ◌++◌, Bool, List, true, false, None, IsTrue, IsSomeAnd, IfSome, All, length, take, drop, slice_get, OnOk, IfOk, IfErr};
 ghost use Rattle.std.specs.Option.{option_map};
 ghost use Rattle.stab_io.specs.declared.refusal.Refusal.TheVariants.{OutOfMemory};
 ghost use Rattle.stab_circuit.specs.Steps.{Step, most_steps, unroll, check_of};
@@ -7,28 +7,28 @@ ghost use Rattle.stab_circuit.specs.Repeats.{AreRepeats, IsRepeat};
 ghost use Rattle.stab_circuit.specs.declared.circuit.repeats.Repeat.{Repeat};
 ghost use Rattle.stab_copies.specs.declared.checkpoint.Checkpoint.{Checkpoint};
 ghost use Rattle.stab_run.specs.Records.{ones};
-ghost use Rattle.stab_run.specs.Points.{joined};
-ghost use Rattle.stab_run.specs.ProgramStates.{output_of};
+ghost use Rattle.stab_run.specs.Points.{joined, all_coins_of};
+ghost use Rattle.stab_run.specs.ProgramStates.{StepFits, output_of};
 ghost use Rattle.stab_replay.specs.declared.replay.Plan.{Plan};
 ghost use Rattle.stab_replay.specs.FramedReplays.{between as between_of};
 ghost use Rattle.stab_replay.specs.Replays.{IsOnWay, step_among_new, spacing_of};
 ghost use Rattle.stab_replay.specs.inner.AgainReplays.{StandsAgain, HasGivenAgain, IsEndIn};
 ghost use Rattle.stab_replay.specs.inner.LedReplays.{with_state, with_cursor};
 
-use crate::bits::between;
 use crate::replay::{Plan, Replay};
 use crate::rhythm::{block_at, end_of};
 use stab_circuit::{Circuit, Cursor, Repeat};
 use stab_copies::{Checkpoint, comes_again};
+use stab_frames::between;
 use stab_io::Refusal;
-use stab_run::{Lengths, Outputs};
+use stab_run::{Coins, Lengths, Outputs};
 use std::alloc::{AllocError, Global};
 
 /// A replay looks for a copy where it stood as it stands now among so many that it laid before.
-const LOOKED_BACK: usize = 64;
+pub(crate) const LOOKED_BACK: usize = 64;
 
 /// Puts behind a list again what stands in it from one place to another.
-fn append_again<T: Copy>(
+pub(crate) fn append_again<T: Copy>(
     alloc: Global,
     list: &mut Vec<T>,
     from: usize,
@@ -119,6 +119,7 @@ impl<'a> Replay<'a> {
         ensures rest { self.new ≡ record self.old { outputs = self.new.outputs; step = self.new.step; applied = self.new.applied; laid = self.new.laid } }
         ensures given { IfOk result (λ given. given ≡ true → IsSomeAnd (slice_get self.old.laid.items number) (λ c. IsSomeAnd (slice_get self.old.laid.items (number + 1)) (λ d. HasGivenAgain spacing end c d self.old self.new))) }
         ensures not_given { IfOk result (λ given. given ≡ false → self.new ≡ self.old) }
+        ensures further { self.old.step ≤ self.new.step }
         ensures err { IfErr result (λ r. r ≡ OutOfMemory) }
     {
         let from = &self.laid[number];
@@ -157,7 +158,7 @@ impl<'a> Replay<'a> {
         requires few_applied { self.old.applied ≤ self.old.step }
         ensures rest { self.new ≡ record self.old { outputs = self.new.outputs; step = self.new.step; applied = self.new.applied; laid = self.new.laid } }
         ensures counted { OnOk result (self.new.applied + self.old.step ≡ self.old.applied + self.new.step) }
-        ensures further { OnOk result (self.old.step ≤ self.new.step) }
+        ensures further { self.old.step ≤ self.new.step }
         ensures free { OnOk result (ones self.old.outputs.free.items ≤ ones self.new.outputs.free.items) }
         ensures few_laid { OnOk result (spacing * length self.new.laid.items + self.old.step ≤ spacing * length self.old.laid.items + self.new.step) }
         ensures way { IfOk result (λ passed. (coins : ℕ → Bool) (begin : ℕ) (p : Plan) (ys : List Step) (copies : List Checkpoint) (old : List Bool) (next : ℕ) (block : Repeat) → IsOnWay self.old.tableau.qubits coins begin p ys copies old next self.old → IsRepeat ys block → IsEndIn p copies next block end → p.total ≡ length ys → IsSomeAnd (slice_get self.old.laid.items number) (StandsAgain block self.old) → IsOnWay self.old.tableau.qubits coins begin p ys copies old next (with_cursor ys (with_state passed self.new))) }
@@ -175,35 +176,40 @@ impl<'a> Replay<'a> {
     }
 
     /// Goes on in a block by what the replay gave before, where it stands as it stood at a copy that it laid there: the same comes
-    /// again, as often as there is room before the end of the block, and before the old copy that may be met next.
+    /// again, as often as there is room before the end of the block, and before the old copy that may be met next. Where it stands so
+    /// but for a frame, the same comes again flipped.
     ///
     /// Refusal `OutOfMemory` alone.
-    pub(crate) fn come_again(
+    pub(crate) fn come_again<C: Coins>(
         &mut self,
         alloc: Global,
         circuit: &'a Circuit,
         repeats: &[Repeat],
         plan: Plan,
         place: Option<usize>,
+        coins: &mut C,
     ) -> Result<(), Refusal>
         requires same_circuit { unroll (circuit_items circuit.now) ≡ self.old.cursor.all }
         requires checked { check_of (circuit_items circuit.now) ≡ None }
         requires repeats { AreRepeats 0 self.old.cursor.all repeats.now }
+        requires fits { All (StepFits self.old.tableau.qubits) self.old.cursor.all }
         requires stride { 1 ≤ plan.stride }
         requires total { plan.total ≡ length self.old.cursor.all }
         requires few { plan.total ≤ most_steps }
         requires within { self.old.step ≤ plan.total }
         requires few_applied { self.old.applied ≤ self.old.step }
-        requires on_way { (coins : ℕ → Bool) × (begin : ℕ) × (copies : List Checkpoint) × (old : List Bool) × (next : ℕ) × IsOnWay self.old.tableau.qubits coins begin plan self.old.cursor.all copies old next self.old × (place ≡ option_map (step_among_new plan) (slice_get copies next)) }
+        requires on_way { (begin : ℕ) × (copies : List Checkpoint) × (old : List Bool) × (next : ℕ) × IsOnWay self.old.tableau.qubits (C.sequence coins.old) begin plan self.old.cursor.all copies old next self.old × (place ≡ option_map (step_among_new plan) (slice_get copies next)) }
         ensures all { self.new.cursor.all ≡ self.old.cursor.all }
         ensures qubits { self.new.tableau.qubits ≡ self.old.tableau.qubits }
-        ensures notes { self.new.notes ≡ self.old.notes }
-        ensures framed { self.new.framed ≡ self.old.framed }
+        ensures same_coins { C.sequence coins.new ≡ C.sequence coins.old }
+        ensures rest { OnOk result ((self.new.framed ≡ self.old.framed) × (self.new.notes.reach ≡ self.old.notes.reach)) }
         ensures counted { OnOk result (self.new.applied + self.old.step ≡ self.old.applied + self.new.step) }
         ensures further { OnOk result (self.old.step ≤ self.new.step) }
-        ensures free { OnOk result (ones self.old.outputs.free.items ≤ ones self.new.outputs.free.items) }
+        ensures asks { OnOk result (C.asks coins.new + self.old.applied ≤ C.asks coins.old + self.new.applied) }
+        ensures asks_free { OnOk result (C.asks coins.new + ones self.old.outputs.free.items ≤ C.asks coins.old + ones self.new.outputs.free.items) }
+        ensures asked { C.asks coins.new + all_coins_of (drop self.new.step self.old.cursor.all) ≤ C.asks coins.old + all_coins_of (drop self.old.step self.old.cursor.all) }
         ensures few_laid { OnOk result (spacing_of plan.stride * length self.new.laid.items + self.old.step ≤ spacing_of plan.stride * length self.old.laid.items + self.new.step) }
-        ensures way { OnOk result ((coins : ℕ → Bool) (begin : ℕ) (copies : List Checkpoint) (old : List Bool) (next : ℕ) → IsOnWay self.old.tableau.qubits coins begin plan self.old.cursor.all copies old next self.old → place ≡ option_map (step_among_new plan) (slice_get copies next) → IsOnWay self.old.tableau.qubits coins begin plan self.old.cursor.all copies old next self.new) }
+        ensures way { OnOk result ((begin : ℕ) (copies : List Checkpoint) (old : List Bool) (next : ℕ) → IsOnWay self.old.tableau.qubits (C.sequence coins.old) begin plan self.old.cursor.all copies old next self.old → place ≡ option_map (step_among_new plan) (slice_get copies next) → IsOnWay self.old.tableau.qubits (C.sequence coins.old) begin plan self.old.cursor.all copies old next self.new) }
         ensures err { IfErr result (λ r. r ≡ OutOfMemory) }
     {
         let Some(block) = block_at(repeats, self.step) else {
@@ -214,6 +220,7 @@ impl<'a> Replay<'a> {
             return Ok(());
         }
         let Some(number) = self.find_again(block) else {
+            self.come_turned(alloc, block, plan.spacing(), end, coins)?;
             return Ok(());
         };
         let passed = self.give_on(alloc, number, plan.spacing(), end)?;

@@ -1,6 +1,5 @@
 ghost use Rattle.std.specs.Prelude.{◌≡◌, ◌≢◌, ◌⊎◌, true, ◌+◌, ◌-◌, ◌^◌, ◌<◌, ◌≤◌, All, length, take, drop, OnOk, OnErr, IfOk, IfErr, IfSome};
 ghost use Rattle.stab_io.specs.declared.refusal.Refusal.TheVariants.{OutOfMemory};
-ghost use Rattle.stab_pauli.specs.Paulis.{single};
 ghost use Rattle.stab_tableau.specs.Tableaus.{stabilises};
 ghost use Rattle.stab_tableau.specs.Turns.{IsTurned};
 ghost use Rattle.stab_run.specs.Records.{ones};
@@ -12,18 +11,20 @@ ghost use Rattle.stab_frames.specs.Walks.{IsPlaced};
 ghost use Rattle.stab_frames.specs.declared.steps.Stop.TheVariants.{Behind, NoString};
 ghost use Rattle.stab_replay.specs.FramedReplays.{between as between_lengths, flips_behind, AreCompared, IsFrameFrom, WentOver};
 
-use crate::bits::{append_flipped, append_flipped_additions, between, count_ones};
 use crate::replay::{Plan, Replay};
 use stab_copies::{Checkpoint, has_one, shifted};
-use stab_frames::{FrameWalk, KeptStrings, Stop, walk_steps};
+use stab_frames::{
+    FrameWalk, KeptStrings, Stop, append_flipped, append_flipped_additions, between, count_ones,
+    turn_state, walk_steps,
+};
 use stab_io::Refusal;
-use stab_pauli::Letter;
+use stab_pauli::{Letter, Pauli};
 use stab_run::{Lengths, Outputs};
-use stab_tableau::CompactTableau;
+use stab_tableau::{CompactTableau, Tableau};
 use std::alloc::{AllocError, Global};
 
 /// How many records, detectors and additions a frame has gone over.
-fn lengths_walked(walk: &FrameWalk) -> Lengths
+pub(crate) fn lengths_walked(walk: &FrameWalk) -> Lengths
     ensures records { result.records ≡ length walk.now.flips.records }
     ensures detectors { result.detectors ≡ length walk.now.flips.detectors }
     ensures additions { result.additions ≡ length walk.now.flips.additions }
@@ -69,18 +70,6 @@ fn append_framed(
     Ok(())
 }
 
-/// Applies a letter to a qubit of a kept state. Most letters of a frame are I, which turns nothing.
-fn turn_at(state: &mut CompactTableau, letter: Letter, qubit: usize)
-    requires in_range { qubit < state.old.qubits }
-    ensures qubits { state.new.qubits ≡ state.old.qubits }
-    ensures turned { IsTurned state.old.qubits (single state.old.qubits qubit letter).letters (stabilises state.old) (stabilises state.new) }
-{
-    match letter {
-        Letter::I => {}
-        Letter::X | Letter::Y | Letter::Z => state.turn_letter(letter, qubit),
-    }
-}
-
 /// A copy of a kept state, turned by letters, one a qubit.
 ///
 /// Refusal `OutOfMemory` alone.
@@ -95,9 +84,7 @@ pub fn turned_copy(
     ensures err { IfErr result (λ r. r ≡ OutOfMemory) }
 {
     let mut turned = copy.copy(alloc)?;
-    for qubit in 0..letters.len() {
-        turn_at(&mut turned, letters[qubit], qubit);
-    }
+    turn_state(&mut turned, letters);
     Ok(turned)
 }
 
@@ -177,6 +164,45 @@ fn last_of_first(bits: &[bool], first: usize, last: usize) -> &[bool]
     between(bits, first.saturating_sub(last), first)
 }
 
+/// The frame by which a state, whose run gave so much, differs from an old copy of a run, where the rows of both have the same letters.
+/// So many records are those of the old run, whose steps look back no further than the reach.
+///
+/// Refusal `OutOfMemory` alone.
+pub(crate) fn frame_between(
+    alloc: Global,
+    tableau: &Tableau,
+    string: &mut Pauli,
+    outputs: &Outputs,
+    copy: &Checkpoint,
+    old: &Outputs,
+    base: usize,
+    reach: u32,
+) -> Result<Option<FrameWalk>, Refusal>
+    requires same_qubits { copy.now.tableau.qubits ≡ tableau.now.qubits }
+    requires within { base ≤ length outputs.now.records.items }
+    requires string { length string.old.letters ≡ tableau.now.qubits }
+    requires flags { copy.now.lengths.free ≤ length old.now.free.items }
+    requires records { copy.now.lengths.records ≤ length old.now.records.items }
+    ensures string { length string.new.letters ≡ length string.old.letters }
+    ensures walk { IfOk result (λ found. IfSome found (IsFrameFrom tableau.now (output_of outputs.now) (output_of old.now) base reach copy.now)) }
+    ensures err { IfErr result (λ r. r ≡ OutOfMemory) }
+{
+    let compared = match records_compared(outputs, copy, base, reach) {
+        Some(compared) => compared,
+        None => return Ok(None),
+    };
+    if !copy.tableau.frame_to(tableau, string) {
+        return Ok(None);
+    }
+    let mut walk = FrameWalk::new(alloc, tableau.len(), old.free.as_slice(), copy.lengths.free)?;
+    walk.multiply(string);
+    walk.flip_records(
+        last_of_first(old.records.as_slice(), copy.lengths.records, compared),
+        last_of_first(outputs.records.as_slice(), outputs.records.len(), compared),
+    )?;
+    Ok(Some(walk))
+}
+
 impl<'a> Replay<'a> {
     /// The frame by which the replay differs from an old copy of a run, where the rows of both states
     /// have the same letters. So many records are those of the old run, whose steps look back no further than the reach.
@@ -200,26 +226,16 @@ impl<'a> Replay<'a> {
         ensures walk { IfOk result (λ found. IfSome found (IsFrameFrom self.old.tableau (output_of self.old.outputs) (output_of old.now) base reach copy.now)) }
         ensures err { IfErr result (λ r. r ≡ OutOfMemory) }
     {
-        let compared = match records_compared(&self.outputs, copy, base, reach) {
-            Some(compared) => compared,
-            None => return Ok(None),
-        };
-        if !copy.tableau.frame_to(&self.tableau, &mut self.string) {
-            return Ok(None);
-        }
-        let mut walk = FrameWalk::new(
+        frame_between(
             alloc,
-            self.tableau.len(),
-            old.free.as_slice(),
-            copy.lengths.free,
-        )?;
-        walk.multiply(&self.string);
-        let records = self.outputs.records.len();
-        walk.flip_records(
-            last_of_first(old.records.as_slice(), copy.lengths.records, compared),
-            last_of_first(self.outputs.records.as_slice(), records, compared),
-        )?;
-        Ok(Some(walk))
+            &self.tableau,
+            &mut self.string,
+            &self.outputs,
+            copy,
+            old,
+            base,
+            reach,
+        )
     }
 
     /// Goes on to the place of the next old copy by a frame, and appends what the steps between give. The frame ends where it is

@@ -1,14 +1,14 @@
 //! Replays: runs that begin at a copy of an older run's state, and may meet the older run again.
 //!
 //! In the order in which data flows; each module uses only those before it, but that `framed`, `led`,
-//! `laying`, `rhythm` and `again` add calls to the replay of `replay`:
+//! `laying`, `rhythm`, `again` and `turned` add calls to the replay of `replay`:
 //!
-//! - `bits`: lists of bits, counted, and put behind others as a frame flips them.
 //! - `framed`: a replay that goes on by a frame, from a copy of an older run to the next one.
 //! - `led`: a replay that a frame leads from copy to copy, as far as it can.
 //! - `laying`: where a replay lays copies of the state, and what these share.
 //! - `rhythm`: where a replay stops next, so that its copies stand alike in each round of a block.
 //! - `again`: a replay that stands in a block where it stood before, and gives the same again.
+//! - `turned`: a replay that stands so but for a frame, and gives the same again, flipped.
 //! - `replay`: a run from a copy on, up to a copy of an older run that it meets.
 //!
 //! Copies are `stab_copies`', runs themselves, with their coins and laws, `stab_run`'s, and frames
@@ -24,14 +24,13 @@
 #![tactic(auto)]
 
 mod again;
-mod bits;
 mod framed;
 mod laying;
 mod led;
 mod replay;
 mod rhythm;
+mod turned;
 
-pub use bits::count_ones;
 pub use framed::turned_copy;
 pub use replay::{End, Plan, Replay};
 pub use rhythm::{block_at, end_of};

@@ -326,7 +326,14 @@ impl<'a> Replay<'a> {
                 Arrival::Between(later) => next = later,
             }
             self.lay(alloc)?;
-            self.come_again(alloc, circuit, repeats, plan, plan.place(copies, next))?;
+            self.come_again(
+                alloc,
+                circuit,
+                repeats,
+                plan,
+                plan.place(copies, next),
+                coins,
+            )?;
         }
     }
 }

@@ -11,7 +11,7 @@ use Rattle.stab_circuit.specs.Paths.{Path}
 use Rattle.stab_circuit.specs.Places.{item_at}
 use Rattle.stab_circuit.specs.Edits.{steps_before}
 use Rattle.stab_circuit.proofs.EditLemmas.{entries-listed}
-use Rattle.stab_run.proofs.FitLemmas.{check-whole}
+use Rattle.stab_laws.proofs.FitLemmas.{check-whole}
 use Rattle.stab_tables.proofs.CheckLaws.{detectors_more, few_steps}
 use Rattle.stab_replies.specs.declared.reply.StepCounts.{StepCounts}
 use Rattle.stab_replies.specs.inner.StepCounts.{counted_with, added}

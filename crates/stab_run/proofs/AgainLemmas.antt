@@ -16,12 +16,12 @@ use Rattle.stab_steps.specs.declared.records.Lengths.{Lengths}
 use Rattle.stab_steps.specs.Cuts.{lengths_of, rest_of}
 use Rattle.stab_steps.specs.ProgramStates.{ProgramState, program_state, IsAt}
 use Rattle.stab_steps.proofs.RunLemmas.{after-append, outputs-append}
-use Rattle.stab_run.specs.Ends.{AgreeBack, with_coin}
-use Rattle.stab_run.specs.RoundLaws.{copies}
-use Rattle.stab_run.specs.declared.rounds.Earlier.{Earlier}
+use Rattle.stab_laws.specs.Ends.{AgreeBack, with_coin}
+use Rattle.stab_laws.specs.RoundLaws.{copies}
+use Rattle.stab_run.specs.declared.earlier.Earlier.{Earlier}
 use Rattle.stab_run.specs.inner.Led.{IsLed, behind_rounds, IsEarlier, IsUndecided}
-use Rattle.stab_run.proofs.PointLemmas.{flags-are-coins, records-are-records, rest-joined}
-use Rattle.stab_run.proofs.RoundLemmas.{rounds-append, rounds-rounds, rounds-within, length-rounds, rounds-again}
+use Rattle.stab_laws.proofs.PointLemmas.{flags-are-coins, records-are-records, rest-joined}
+use Rattle.stab_laws.proofs.RoundLemmas.{rounds-append, rounds-rounds, rounds-within, length-rounds, rounds-again}
 
 -- the step behind one more round
 pub behind-more : (r : Repeat) (k : ℕ) → behind_rounds r k + r.length ≡ behind_rounds r (k + 1)

@@ -1,8 +1,10 @@
 -- Copies: outputs that are given so often, one behind the other.
 use Rattle.std.proofs.Common.{◌≡◌, ℕ, zero, suc, ◌+◌, ◌*◌, ◌/◌, ◌%◌, sym, ◌∙◌, ap, add-one, arith}
 use Rattle.stab_steps.specs.Points.{RunOutput, joined}
+use Rattle.stab_steps.specs.Records.{ones}
+use Rattle.stab_steps.proofs.RecordLemmas.{ones-append}
 use Rattle.stab_steps.proofs.RunLemmas.{joined-nothing, joined-assoc}
-use Rattle.stab_run.specs.RoundLaws.{copies}
+use Rattle.stab_laws.specs.RoundLaws.{copies}
 
 -- one copy more
 pub copies-more : (k : ℕ) (o : RunOutput) → joined (copies k o) o ≡ copies (k + 1) o
@@ -35,3 +37,8 @@ copies-halved k old mid more twice odd two =
     (λ i. joined (odd i) (copies (k / 2) (two i)))
     ∙ joined-assoc old (copies (k % 2) more) (copies (k / 2) (copies 2 more))
     ∙ ap (joined old) (ap (joined (copies (k % 2) more)) (copies-twice (k / 2) more) ∙ copies-append (k % 2) (k / 2 * 2) more ∙ ap (λ n. copies n more) {x = k % 2 + k / 2 * 2} {y = k} (omega arith))
+
+-- no flag is 1 where none was
+pub copies-fixed : (k : ℕ) (o : RunOutput) → ones o.free ≡ 0 → ones (copies k o).free ≡ 0
+copies-fixed zero o none = omega arith
+copies-fixed (suc k) o none = omega (arith, none, ones-append o.free (copies k o).free, copies-fixed k o none)

@@ -14,7 +14,7 @@ use Rattle.stab_steps.specs.Points.{RunOutput, origin, point_after, outputs, wit
 use Rattle.stab_steps.specs.ProgramStates.{ProgramState}
 use Rattle.stab_run.specs.inner.Led.{IsLed}
 use Rattle.stab_run.specs.inner.Shots.{IsShotOf}
-use Rattle.stab_run.proofs.StateLemmas.{run-state}
+use Rattle.stab_laws.proofs.StateLemmas.{run-state}
 
 module _ (n : ℕ) (coins : ℕ → Bool) (xs : List Step) (count : ℕ) (s : ProgramState) (led : IsLed n coins xs s) where
   same_state : run n coins xs (start count) ≡ state_at (point_after n coins xs origin) (outputs n coins xs origin) (start count)

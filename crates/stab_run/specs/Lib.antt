@@ -5,9 +5,9 @@ pub use Rattle.stab_steps.specs.Exchanged
 pub use Rattle.stab_steps.specs.Points
 pub use Rattle.stab_steps.specs.ProgramStates
 pub use Rattle.stab_steps.specs.Cuts
-pub mod Ends
-pub mod Laws
-pub mod RoundLaws
+pub use Rattle.stab_laws.specs.Ends
+pub use Rattle.stab_laws.specs.Laws
+pub use Rattle.stab_laws.specs.RoundLaws
 pub mod Samplers
 pub mod Limits
 pub mod inner

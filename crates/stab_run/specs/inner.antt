@@ -1,3 +1,5 @@
 pub mod ReadySamplers
 pub mod Shots
 pub mod Led
+pub mod Noted
+pub mod Turned

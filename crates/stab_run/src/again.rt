@@ -4,7 +4,7 @@ ghost use Rattle.std.specs.Prelude.{◌≡◌, OnOk, IfOk};
 ghost use Rattle.stab_steps.specs.Points.{joined};
 ghost use Rattle.stab_steps.specs.ProgramStates.{output_of};
 ghost use Rattle.stab_steps.specs.Cuts.{rest_of};
-ghost use Rattle.stab_run.specs.RoundLaws.{copies};
+ghost use Rattle.stab_laws.specs.RoundLaws.{copies};
 
 use stab_steps::{Lengths, Outputs};
 use std::alloc::{AllocError, Global};

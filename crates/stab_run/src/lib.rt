@@ -4,14 +4,17 @@
 //!
 //! - `run`: some steps of a circuit, and what a run gives.
 //! - `again`: what rounds gave, given again.
+//! - `turns`: what a period of rounds gives, flipped by a frame.
+//! - `part`: steps from one on, whose strings of free outcomes are noted or not.
+//! - `earlier`: what is kept of a run behind a round, and rounds that are given again since it stands there again.
+//! - `turned`: rounds that come again up to the signs of the state's rows, which a frame goes over.
 //! - `rounds`: rounds, of blocks or written out. They are carried out until a state comes again; from there
-//!   on they give again what they gave.
+//!   on they give again what they gave, or a frame goes over them.
 //! - `whole`: all steps of a circuit.
 //! - `sampler`: one circuit made ready for many runs, and one run of it.
-//! - `laws`: what a run depends on, that what happens in it is sound, and when rounds of steps come again.
 //!
-//! Coins, what steps give, and one step or those of one instruction are `stab_steps`', whose names and
-//! definitions stand here too.
+//! Coins, what steps give, and one step or those of one instruction are `stab_steps`', and the laws of runs
+//! are `stab_laws`', whose names and definitions stand here too.
 //!
 //! Sources: Stim's circuit file format, for what the steps of a circuit do to records, detectors and observables;
 //! D. Gottesman, Stabilizer codes and quantum error correction (1997), and S. Aaronson and D. Gottesman, Improved
@@ -26,14 +29,18 @@
 #![tactic(auto)]
 
 mod again;
-pub mod laws;
+mod earlier;
+mod part;
 mod rounds;
 mod run;
 mod sampler;
+mod turned;
+mod turns;
 mod whole;
 
 pub use run::{Shot, run_steps};
 pub use sampler::{Sampler, run_once};
+pub use stab_laws::laws;
 pub use stab_steps::{
     Addition, Coins, Lengths, ListCoins, Outputs, SeedCoins, apply_step, apply_step_with_exchange,
     apply_steps, flip, looked_up, observables, parity, seed_coins, write_product,

@@ -1,22 +1,25 @@
-//! The rounds of a block. They are carried out until a state comes again; from there on they give again what they gave.
+//! The rounds of a block. They are carried out until a state comes again; from there on they give again what they gave. Where a state
+//! comes again up to the signs of its rows, as where coins decide in each round, a frame goes over them.
 
-ghost use Rattle.std.specs.Prelude.{◌≡◌, ℕ, ◌+◌, ◌*◌, ◌^◌, ◌<◌, ◌≤◌, false, [], None, IsTrue, length, take, drop, OnOk, IfOk, IfErr, IfSome};
+ghost use Rattle.std.specs.Prelude.{◌≡◌, ◌+◌, ◌*◌, ◌<◌, ◌≤◌, [], None, length, take, IfOk, IfErr, IfSome};
 ghost use Rattle.stab_io.specs.declared.refusal.Refusal.TheVariants.{OutOfMemory};
 ghost use Rattle.stab_circuit.specs.Steps.{unroll, check_within};
 ghost use Rattle.stab_circuit.specs.Views.{circuit_items};
 ghost use Rattle.stab_circuit.specs.Repeats.{IsRepeat, AreRepeats};
-ghost use Rattle.stab_steps.specs.Records.{ones, looked_up as looked_up_of};
+ghost use Rattle.stab_steps.specs.Records.{ones};
 ghost use Rattle.stab_steps.specs.Points.{all_coins_of};
 ghost use Rattle.stab_steps.specs.ProgramStates.{program_state, output_of};
-ghost use Rattle.stab_steps.specs.Cuts.{lengths_of};
-ghost use Rattle.stab_run.specs.inner.Led.{IsLed, behind_rounds, IsEarlier, IsUndecided, GivesAgain};
+ghost use Rattle.stab_run.specs.inner.Led.{IsLed, behind_rounds, IsEarlier};
+ghost use Rattle.stab_run.specs.inner.Noted.{IsNoted};
 
-use crate::again::give_again;
-use crate::run::run_steps;
-use stab_circuit::{Circuit, Cursor, Repeat};
+use crate::earlier::{Earlier, comes_again, give_rounds, kept_behind};
+use crate::part::run_noted_part;
+use crate::turned::{go_over_rounds, period_since};
+use stab_circuit::{Circuit, Repeat};
+use stab_frames::{KeptStrings, RunNotes};
 use stab_io::Refusal;
 use stab_pauli::Pauli;
-use stab_steps::{Coins, Lengths, Outputs, looked_up};
+use stab_steps::{Coins, Outputs};
 use stab_tableau::Tableau;
 use std::alloc::Global;
 
@@ -27,147 +30,62 @@ const MOST_SINGLE: usize = 64;
 /// How many steps a block has at least of which the rounds are looked at.
 const LEAST_STEPS: usize = 2048;
 
-/// What is kept of a run behind a round, for later ones to be compared with.
-#[derive(Drop)]
-pub struct Earlier {
-    pub tableau: Tableau,
-    pub lengths: Lengths,
-    /// How many rounds were done.
-    pub done: usize,
-}
-
-/// Carries out so many steps of a circuit from one on, or all where there are fewer.
-pub fn run_part<C: Coins>(
+/// Gives what all rounds behind so many give that give again what earlier ones gave, or that a frame can go over. Tells how many
+/// are done then. No more strings are kept behind rounds that a frame went over.
+fn pass_rounds<C: Coins>(
     alloc: Global,
     circuit: &Circuit,
     tableau: &mut Tableau,
     string: &mut Pauli,
     coins: &mut C,
     outputs: &mut Outputs,
-    from: usize,
-    count: usize,
-) -> Result<(), Refusal>
+    repeat: Repeat,
+    earlier: &Option<Earlier>,
+    done: usize,
+    notes: &mut RunNotes,
+) -> Result<usize, Refusal>
     requires checked { check_within tableau.old.qubits (circuit_items circuit.now) ≡ None }
     requires same_length { length string.old.letters ≡ tableau.old.qubits }
-    requires in_range { from ≤ length (unroll (circuit_items circuit.now)) }
-    requires led { IsLed tableau.old.qubits (C.sequence coins.old) (take from (unroll (circuit_items circuit.now))) (program_state tableau.old (output_of outputs.old)) }
+    requires repeat { IsRepeat (unroll (circuit_items circuit.now)) repeat }
+    requires within { done ≤ repeat.rounds }
+    requires later { IfSome earlier.now (λ e. e.done < done) }
+    requires earlier { IfSome earlier.now (λ e. IsEarlier tableau.old.qubits (C.sequence coins.old) (unroll (circuit_items circuit.now)) repeat done e) }
+    requires led { IsLed tableau.old.qubits (C.sequence coins.old) (take (behind_rounds repeat done) (unroll (circuit_items circuit.now))) (program_state tableau.old (output_of outputs.old)) }
+    requires noted { IsNoted tableau.old.qubits (C.sequence coins.old) (take (behind_rounds repeat done) (unroll (circuit_items circuit.now))) notes.old outputs.old.free.items }
     ensures qubits { tableau.new.qubits ≡ tableau.old.qubits }
     ensures string { length string.new.letters ≡ length string.old.letters }
     ensures same_coins { C.sequence coins.new ≡ C.sequence coins.old }
-    ensures asks { C.asks coins.new + all_coins_of (take from (unroll (circuit_items circuit.now))) ≤ C.asks coins.old + all_coins_of (take (from + count) (unroll (circuit_items circuit.now))) }
-    ensures asks_free { OnOk result (C.asks coins.new + ones outputs.old.free.items ≤ C.asks coins.old + ones outputs.new.free.items) }
-    ensures led { OnOk result (IsLed tableau.old.qubits (C.sequence coins.old) (take (from + count) (unroll (circuit_items circuit.now))) (program_state tableau.new (output_of outputs.new))) }
-    ensures err { IfErr result (λ r. r ≡ OutOfMemory) }
-{
-    let mut cursor = Cursor::at(alloc, circuit, from)?;
-    let mut applied = 0;
-    run_steps(
-        tableau,
-        string,
-        coins,
-        outputs,
-        &mut cursor,
-        count,
-        &mut applied,
-    )?;
-    Ok(())
-}
-
-/// Whether the newest records are the same as they were when there were so many.
-fn same_records(records: &[bool], behind: usize, reach: u32) -> bool
-    ensures value { IsTrue result → (k : ℕ) → k ≤ reach → looked_up_of (take behind records.now) k ≡ looked_up_of records.now k }
-{
-    if behind > records.len() {
-        return false;
-    }
-    let (earlier, _) = records.split_at(behind);
-    for k in 0..=reach {
-        if looked_up(earlier, k) != looked_up(records, k) {
-            return false;
-        }
-    }
-    true
-}
-
-/// Whether no coin decided, by the flags behind so many.
-fn are_fixed(flags: &[bool], behind: usize) -> bool
-    ensures value { IsTrue result → ones (drop behind flags.now) ≡ 0 }
-{
-    if behind > flags.len() {
-        return false;
-    }
-    let (_, since) = flags.split_at(behind);
-    for flag in since {
-        if *flag {
-            return false;
-        }
-    }
-    true
-}
-
-/// Whether a run stands where it stood earlier: the tableau is the same, since then no coin decided, and what the steps of a
-/// round may look back to is the same.
-fn comes_again(earlier: &Earlier, tableau: &Tableau, outputs: &Outputs, reach: u32) -> bool
-    ensures tableau { IsTrue result → earlier.now.tableau ≡ tableau.now }
-    ensures undecided { IsTrue result → IsUndecided reach earlier.now.lengths.free earlier.now.lengths.records (output_of outputs.now) }
-{
-    let lengths = earlier.lengths;
-    are_fixed(outputs.free.as_slice(), lengths.free)
-        && same_records(outputs.records.as_slice(), lengths.records, reach)
-        && earlier.tableau.same(tableau)
-}
-
-/// Gives again what the rounds since an earlier one gave, as often as they fit into the rounds that are left, where a run
-/// stands where it stood then. Tells how many rounds are done so.
-fn give_rounds(
-    alloc: Global,
-    tableau: &Tableau,
-    outputs: &mut Outputs,
-    repeat: Repeat,
-    earlier: &Earlier,
-    done: usize,
-) -> Result<usize, Refusal>
-    requires later { earlier.now.done < done }
-    requires within { done ≤ repeat.rounds }
-    requires inside { repeat.first + repeat.rounds * repeat.length < 2 ^ 63 }
-    requires some { 0 < repeat.length }
-    requires same { earlier.now.tableau ≡ tableau.now }
-    requires undecided { IsUndecided repeat.reach earlier.now.lengths.free earlier.now.lengths.records (output_of outputs.old) }
+    ensures asks { C.asks coins.new + all_coins_of (take (behind_rounds repeat done) (unroll (circuit_items circuit.now))) ≤ C.asks coins.old + all_coins_of (take (behind_rounds repeat repeat.rounds) (unroll (circuit_items circuit.now))) }
+    ensures asks_part { IfOk result (λ now. C.asks coins.new + all_coins_of (take (behind_rounds repeat done) (unroll (circuit_items circuit.now))) ≤ C.asks coins.old + all_coins_of (take (behind_rounds repeat now) (unroll (circuit_items circuit.now)))) }
+    ensures asks_free { IfOk result (λ now. C.asks coins.new + ones outputs.old.free.items ≤ C.asks coins.old + ones outputs.new.free.items) }
     ensures more { IfOk result (λ now. (done ≤ now) × (now ≤ repeat.rounds)) }
-    ensures led { IfOk result (λ now. GivesAgain tableau.now (output_of outputs.old) (output_of outputs.new) repeat earlier.now done now) }
-    ensures asks_free { IfOk result (λ now. ones outputs.old.free.items ≤ ones outputs.new.free.items) }
+    ensures led { IfOk result (λ now. IsLed tableau.old.qubits (C.sequence coins.old) (take (behind_rounds repeat now) (unroll (circuit_items circuit.now))) (program_state tableau.new (output_of outputs.new))) }
+    ensures noted { IfOk result (λ now. IsNoted tableau.old.qubits (C.sequence coins.old) (take (behind_rounds repeat now) (unroll (circuit_items circuit.now))) notes.new outputs.new.free.items) }
     ensures err { IfErr result (λ r. r ≡ OutOfMemory) }
 {
-    let period = done - earlier.done;
-    let times = (repeat.rounds - done) / period;
-    give_again(alloc, outputs, earlier.lengths, times)?;
-    Ok(done + times * period)
-}
-
-/// What is to be kept behind a round for later ones to be compared with, if that is a first, second, fourth, eighth one and
-/// so on in which no coin decided.
-fn kept_behind(
-    alloc: Global,
-    tableau: &Tableau,
-    outputs: &Outputs,
-    flags_before: usize,
-    done: usize,
-) -> Result<Option<Earlier>, Refusal>
-    ensures kept { IfOk result (λ kept. IfSome kept (λ e. (e.tableau ≡ tableau.now) × (e.lengths ≡ lengths_of (output_of outputs.now)) × (e.done ≡ done))) }
-    ensures err { IfErr result (λ r. r ≡ OutOfMemory) }
-{
-    if !done.is_power_of_two() || !are_fixed(outputs.free.as_slice(), flags_before) {
-        return Ok(None);
+    let Some(kept) = earlier else {
+        return Ok(done);
+    };
+    if comes_again(kept, tableau, outputs, repeat.reach) {
+        let again = give_rounds(alloc, tableau, outputs, repeat, kept, done)?;
+        return Ok(again);
     }
-    Ok(Some(Earlier {
-        tableau: tableau.copy(alloc)?,
-        lengths: outputs.lengths(),
-        done,
-    }))
+    // This tells a proof that the qubits of each pair differ.
+    let _ = circuit.len();
+    let strings = &notes.strings;
+    let found = period_since(alloc, kept, tableau, string, outputs, repeat, done, strings)?;
+    let Some(period) = found else {
+        return Ok(done);
+    };
+    let now = go_over_rounds(
+        alloc, circuit, tableau, coins, outputs, repeat, strings, period, done,
+    )?;
+    notes.strings.close();
+    Ok(now)
 }
 
-/// Carries out a round of a block behind so many, and all those behind it that give again what earlier ones gave. Tells how
-/// many are done then.
+/// Carries out a round of a block behind so many, and gives what all those behind it give that come again. Tells how many are
+/// done then.
 fn run_round<C: Coins>(
     alloc: Global,
     circuit: &Circuit,
@@ -178,6 +96,7 @@ fn run_round<C: Coins>(
     repeat: Repeat,
     earlier: &mut Option<Earlier>,
     done: usize,
+    notes: &mut RunNotes,
 ) -> Result<usize, Refusal>
     requires checked { check_within tableau.old.qubits (circuit_items circuit.now) ≡ None }
     requires same_length { length string.old.letters ≡ tableau.old.qubits }
@@ -185,19 +104,21 @@ fn run_round<C: Coins>(
     requires within { done < repeat.rounds }
     requires earlier { IfSome earlier.old (λ e. IsEarlier tableau.old.qubits (C.sequence coins.old) (unroll (circuit_items circuit.now)) repeat done e) }
     requires led { IsLed tableau.old.qubits (C.sequence coins.old) (take (behind_rounds repeat done) (unroll (circuit_items circuit.now))) (program_state tableau.old (output_of outputs.old)) }
+    requires noted { IsNoted tableau.old.qubits (C.sequence coins.old) (take (behind_rounds repeat done) (unroll (circuit_items circuit.now))) notes.old outputs.old.free.items }
     ensures qubits { tableau.new.qubits ≡ tableau.old.qubits }
     ensures string { length string.new.letters ≡ length string.old.letters }
     ensures same_coins { C.sequence coins.new ≡ C.sequence coins.old }
-    ensures asks { C.asks coins.new + all_coins_of (take (behind_rounds repeat done) (unroll (circuit_items circuit.now))) ≤ C.asks coins.old + all_coins_of (take (behind_rounds repeat (done + 1)) (unroll (circuit_items circuit.now))) }
+    ensures asks { C.asks coins.new + all_coins_of (take (behind_rounds repeat done) (unroll (circuit_items circuit.now))) ≤ C.asks coins.old + all_coins_of (take (behind_rounds repeat repeat.rounds) (unroll (circuit_items circuit.now))) }
+    ensures asks_part { IfOk result (λ now. C.asks coins.new + all_coins_of (take (behind_rounds repeat done) (unroll (circuit_items circuit.now))) ≤ C.asks coins.old + all_coins_of (take (behind_rounds repeat now) (unroll (circuit_items circuit.now)))) }
     ensures asks_free { IfOk result (λ now. C.asks coins.new + ones outputs.old.free.items ≤ C.asks coins.old + ones outputs.new.free.items) }
     ensures more { IfOk result (λ now. (done < now) × (now ≤ repeat.rounds)) }
     ensures led { IfOk result (λ now. IsLed tableau.old.qubits (C.sequence coins.old) (take (behind_rounds repeat now) (unroll (circuit_items circuit.now))) (program_state tableau.new (output_of outputs.new))) }
     ensures earlier { IfOk result (λ now. IfSome earlier.new (λ e. IsEarlier tableau.old.qubits (C.sequence coins.old) (unroll (circuit_items circuit.now)) repeat now e)) }
+    ensures noted { IfOk result (λ now. IsNoted tableau.old.qubits (C.sequence coins.old) (take (behind_rounds repeat now) (unroll (circuit_items circuit.now))) notes.new outputs.new.free.items) }
     ensures err { IfErr result (λ r. r ≡ OutOfMemory) }
 {
-    let flags = outputs.free.len();
     let from = repeat.first + done * repeat.length;
-    run_part(
+    run_noted_part(
         alloc,
         circuit,
         tableau,
@@ -206,17 +127,24 @@ fn run_round<C: Coins>(
         outputs,
         from,
         repeat.length,
+        notes,
     )?;
-    let done = done + 1;
-    if let Some(kept) = earlier {
-        if comes_again(kept, tableau, outputs, repeat.reach) {
-            return give_rounds(alloc, tableau, outputs, repeat, kept, done);
-        }
-    }
-    if let Some(kept) = kept_behind(alloc, tableau, outputs, flags, done)? {
+    let now = pass_rounds(
+        alloc,
+        circuit,
+        tableau,
+        string,
+        coins,
+        outputs,
+        repeat,
+        earlier,
+        done + 1,
+        notes,
+    )?;
+    if let Some(kept) = kept_behind(alloc, tableau, outputs, now)? {
         *earlier = Some(kept);
     }
-    Ok(done)
+    Ok(now)
 }
 
 /// How many rounds of a block are carried out one by one at most, where so many steps are left to be carried out.
@@ -239,11 +167,13 @@ fn run_repeat<C: Coins>(
     outputs: &mut Outputs,
     repeat: Repeat,
     left: &mut usize,
+    notes: &mut RunNotes,
 ) -> Result<usize, Refusal>
     requires checked { check_within tableau.old.qubits (circuit_items circuit.now) ≡ None }
     requires same_length { length string.old.letters ≡ tableau.old.qubits }
     requires repeat { IsRepeat (unroll (circuit_items circuit.now)) repeat }
     requires led { IsLed tableau.old.qubits (C.sequence coins.old) (take repeat.first (unroll (circuit_items circuit.now))) (program_state tableau.old (output_of outputs.old)) }
+    requires noted { IsNoted tableau.old.qubits (C.sequence coins.old) (take repeat.first (unroll (circuit_items circuit.now))) notes.old outputs.old.free.items }
     ensures qubits { tableau.new.qubits ≡ tableau.old.qubits }
     ensures string { length string.new.letters ≡ length string.old.letters }
     ensures same_coins { C.sequence coins.new ≡ C.sequence coins.old }
@@ -253,6 +183,7 @@ fn run_repeat<C: Coins>(
     ensures within { IfOk result (λ done. done ≤ repeat.rounds) }
     ensures led { IfOk result (λ done. IsLed tableau.old.qubits (C.sequence coins.old) (take (behind_rounds repeat done) (unroll (circuit_items circuit.now))) (program_state tableau.new (output_of outputs.new))) }
     ensures left { IfOk result (λ done. left.old ≤ left.new + done * repeat.length) }
+    ensures noted { IfOk result (λ done. IsNoted tableau.old.qubits (C.sequence coins.old) (take (behind_rounds repeat done) (unroll (circuit_items circuit.now))) notes.new outputs.new.free.items) }
     ensures err { IfErr result (λ r. r ≡ OutOfMemory) }
 {
     let most = most_single(repeat, *left);
@@ -269,6 +200,7 @@ fn run_repeat<C: Coins>(
             repeat,
             &mut earlier,
             done,
+            notes,
         )?;
         *left = left.saturating_sub(repeat.length);
     }
@@ -293,12 +225,14 @@ fn run_block<C: Coins>(
     from: usize,
     repeat: Repeat,
     left: &mut usize,
+    notes: &mut RunNotes,
 ) -> Result<usize, Refusal>
     requires checked { check_within tableau.old.qubits (circuit_items circuit.now) ≡ None }
     requires same_length { length string.old.letters ≡ tableau.old.qubits }
     requires before { from ≤ repeat.first }
     requires repeat { IsRepeat (unroll (circuit_items circuit.now)) repeat }
     requires led { IsLed tableau.old.qubits (C.sequence coins.old) (take from (unroll (circuit_items circuit.now))) (program_state tableau.old (output_of outputs.old)) }
+    requires noted { IsNoted tableau.old.qubits (C.sequence coins.old) (take from (unroll (circuit_items circuit.now))) notes.old outputs.old.free.items }
     ensures qubits { tableau.new.qubits ≡ tableau.old.qubits }
     ensures string { length string.new.letters ≡ length string.old.letters }
     ensures same_coins { C.sequence coins.new ≡ C.sequence coins.old }
@@ -308,18 +242,19 @@ fn run_block<C: Coins>(
     ensures next { IfOk result (λ next. next ≤ behind_rounds repeat repeat.rounds) }
     ensures left { IfOk result (λ next. left.old + from ≤ left.new + next) }
     ensures led { IfOk result (λ next. IsLed tableau.old.qubits (C.sequence coins.old) (take next (unroll (circuit_items circuit.now))) (program_state tableau.new (output_of outputs.new))) }
+    ensures noted { IfOk result (λ next. IsNoted tableau.old.qubits (C.sequence coins.old) (take next (unroll (circuit_items circuit.now))) notes.new outputs.new.free.items) }
     ensures err { IfErr result (λ r. r ≡ OutOfMemory) }
 {
     let before = repeat.first - from;
     if !is_long(repeat) || before > *left {
         return Ok(from);
     }
-    run_part(
-        alloc, circuit, tableau, string, coins, outputs, from, before,
+    run_noted_part(
+        alloc, circuit, tableau, string, coins, outputs, from, before, notes,
     )?;
     *left -= before;
     let done = run_repeat(
-        alloc, circuit, tableau, string, coins, outputs, repeat, left,
+        alloc, circuit, tableau, string, coins, outputs, repeat, left, notes,
     )?;
     Ok(repeat.first + done * repeat.length)
 }
@@ -351,10 +286,16 @@ pub fn run_repeats<C: Coins>(
     ensures led { IfOk result (λ from. IsLed tableau.old.qubits (C.sequence coins.old) (take from (unroll (circuit_items circuit.now))) (program_state tableau.new (output_of outputs.new))) }
     ensures err { IfErr result (λ r. r ≡ OutOfMemory) }
 {
+    let n = tableau.len();
+    let mut notes = RunNotes {
+        strings: KeptStrings::new(alloc, n),
+        reach: 0,
+        string: Pauli::identity(alloc, n)?,
+    };
     let mut from = 0;
     for repeat in repeats {
         from = run_block(
-            alloc, circuit, tableau, string, coins, outputs, from, *repeat, left,
+            alloc, circuit, tableau, string, coins, outputs, from, *repeat, left, &mut notes,
         )?;
     }
     Ok(from)

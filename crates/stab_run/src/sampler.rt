@@ -6,7 +6,7 @@ ghost use Rattle.stab_steps.specs.Records.{ones};
 ghost use Rattle.stab_io.specs.Refusals.{Refuses};
 ghost use Rattle.stab_steps.specs.Runs.{run_of};
 ghost use Rattle.stab_steps.specs.Points.{all_coins_of};
-ghost use Rattle.stab_run.specs.Laws.{DependsOnCoinsAt};
+ghost use Rattle.stab_laws.specs.Laws.{DependsOnCoinsAt};
 
 use crate::run::Shot;
 use crate::whole::run_whole;
@@ -73,7 +73,7 @@ impl<'a> Sampler<'a> {
     ghost use Rattle.stab_io.specs.Refusals.{Refuses};
     ghost use Rattle.stab_steps.specs.Runs.{run_of};
     ghost use Rattle.stab_steps.specs.Points.{all_coins_of};
-    ghost use Rattle.stab_run.specs.Laws.{DependsOnCoinsAt, IsSoundRun};
+    ghost use Rattle.stab_laws.specs.Laws.{DependsOnCoinsAt, IsSoundRun};
 
     /// Makes a circuit ready for shots on n qubits, at most 1,024.
     ///
@@ -113,9 +113,11 @@ impl<'a> Sampler<'a> {
     /// Runs the circuit once, with all qubits 0 at first, whatever became of earlier shots.
     ///
     /// Rounds, of a block or written out, are carried out until a state comes again; from there on
-    /// they give again what they gave. Coins are numbered and asked for as by `run_once`. Beside its lists, a
-    /// shot takes memory for places within nested blocks, and for copies of the tableau and of what
-    /// rounds gave. Refusal `OutOfMemory` alone.
+    /// they give again what they gave. Where it comes again up to signs, as where coins decide in each
+    /// round, a Pauli frame tells what the others give. Coins are numbered and asked for as by
+    /// `run_once`. Beside its lists, a shot takes memory for places within nested blocks, for copies of
+    /// the tableau and of what rounds gave, and for strings that exchange free outcomes, at most 16 MiB
+    /// of them. Refusal `OutOfMemory` alone.
     pub fn shot<C: Coins>(&mut self, alloc: Global, coins: &mut C) -> Result<Shot, Refusal>
         ensures kept { self.new ≡ self.old }
         ensures records { IfOk result (λ s. s.records.items ≡ (run_of self.old.qubits (C.sequence coins.old) self.old.items).records) }
@@ -137,8 +139,8 @@ impl<'a> Sampler<'a> {
     }
 
     /// Runs the circuit once, as `shot` does, unless that would carry out more than so many steps:
-    /// those of rounds that give again what earlier ones gave are not carried out. It is seen on the
-    /// way whether it would, so some were carried out then.
+    /// those of rounds that give again what earlier ones gave, or that a frame goes over, are not
+    /// carried out. It is seen on the way whether it would, so some were carried out then.
     ///
     /// Refusal `OutOfMemory` alone.
     pub fn short_shot<C: Coins>(

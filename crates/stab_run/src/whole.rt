@@ -11,7 +11,8 @@ ghost use Rattle.stab_steps.specs.Runs.{run, start};
 ghost use Rattle.stab_steps.specs.Points.{all_coins_of, with_additions};
 ghost use Rattle.stab_run.specs.inner.Shots.{IsShotOf};
 
-use crate::rounds::{run_part, run_repeats};
+use crate::part::run_part;
+use crate::rounds::run_repeats;
 use crate::run::Shot;
 use stab_circuit::{Circuit, Repeat};
 use stab_io::Refusal;
@@ -22,7 +23,7 @@ use std::alloc::{AllocError, Global};
 
 /// Carries out all steps of a circuit on qubits that are 0 at first, whatever the tableau was. Rounds,
 /// of a block or written out, are carried out until a state comes again; from there on they give again
-/// what they gave. Where more than so many steps would be carried out all the same, there is no shot.
+/// what they gave, or a frame goes over them. Where more than so many steps would be carried out all the same, there is no shot.
 /// There is room for so many records from the beginning, and there are so many observables.
 ///
 /// Refusal `OutOfMemory` alone.

@@ -20,7 +20,7 @@ use Rattle.stab_circuit.specs.Readings.{ReadsItem}
 use Rattle.stab_run.specs.Runs.{State, run_of}
 use Rattle.stab_replies.specs.declared.reply.SessionNumbers.{SessionNumbers}
 use Rattle.stab_replies.specs.FramedRequests.{FramedRequest}
-use Rattle.stab_run.proofs.FitLemmas.{check-whole}
+use Rattle.stab_laws.proofs.FitLemmas.{check-whole}
 use Rattle.stab_tables.proofs.CheckLaws.{steps_counted}
 use Rattle.stab_tables.specs.FaultLines.{refused_text}
 use Rattle.stab_pauli.specs.Paulis.{Signed}

@@ -10,7 +10,7 @@ use Rattle.stab_circuit.specs.Items.{Items}
 use Rattle.stab_circuit.specs.Steps.{unroll, detectors_of, qubits_of, check_of, check_within}
 use Rattle.stab_circuit.specs.Laws.{AreOfLines, LinesKeepQubitsApart}
 use Rattle.stab_run.specs.ProgramStates.{StepFits}
-use Rattle.stab_run.proofs.FitLemmas.{check-fits, check-whole}
+use Rattle.stab_laws.proofs.FitLemmas.{check-fits, check-whole}
 use Rattle.stab_regions.specs.Parities.{parity_sure}
 use Rattle.stab_regions.specs.Faults.{bits_in, IsSure, AreSure}
 use Rattle.stab_regions.specs.FaultLaws.{SureParities}

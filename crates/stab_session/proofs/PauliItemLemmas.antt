@@ -4,7 +4,7 @@ use Rattle.std.proofs.lemmas.List.Elements.{All-nil, All-cons}
 use Rattle.stab_letters.specs.declared.letter.Letter.{Letter}
 use Rattle.stab_circuit.specs.Items.{OneItem, listed}
 use Rattle.stab_circuit.specs.Steps.{past, qubits_of, check_within}
-use Rattle.stab_run.proofs.FitLemmas.{check-qubits}
+use Rattle.stab_laws.proofs.FitLemmas.{check-qubits}
 use Rattle.stab_session.specs.inner.PauliItems.{ArePauliItems}
 
 below-past : (n : ℕ) (qs : List ℕ) → past qs ≤ n → All (λ q. q < n) qs

@@ -15,7 +15,7 @@ use Rattle.stab_circuit.proofs.UndoLemmas.{insert-undone, insert-retaken, replac
 use Rattle.stab_circuit.proofs.ClearLemmas.{steps-cleared, observables-cleared, delete-instead, deleted-ok, verdict-instead}
 use Rattle.stab_session.specs.declared.pending.Pending.TheVariants.{Inserted, Replaced, Deleted}
 use Rattle.stab_session.specs.inner.Pendings.{IsSpanNow, IsBegun}
-use Rattle.stab_run.proofs.FitLemmas.{check-whole, check-steps}
+use Rattle.stab_laws.proofs.FitLemmas.{check-whole, check-steps}
 use Rattle.stab_session.proofs.SpanLemmas.{span-told, span-deleted}
 
 -- what a verdict of none says

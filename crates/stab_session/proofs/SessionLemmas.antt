@@ -18,8 +18,8 @@ use Rattle.stab_session.specs.Bounds.{most_checkpoints}
 use Rattle.stab_copies.specs.Checkpoints.{checkpoint_steps}
 use Rattle.stab_kept.specs.KeptRuns.{IsKeptRun}
 use Rattle.stab_session.specs.inner.KeptSessions.{session_of, IsKept}
-use Rattle.stab_run.proofs.StateLemmas.{run-state, run_of-same}
-use Rattle.stab_run.proofs.PointLemmas.{records-are-records}
+use Rattle.stab_laws.proofs.StateLemmas.{run-state, run_of-same}
+use Rattle.stab_laws.proofs.PointLemmas.{records-are-records}
 use Rattle.stab_kept.proofs.SpacingLemmas.{count-spaced}
 
 -- in the same group a string has the same sign

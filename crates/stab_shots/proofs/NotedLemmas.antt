@@ -18,8 +18,8 @@ use Rattle.stab_run.specs.Records.{ones}
 use Rattle.stab_run.specs.Runs.{State, start, run, run_of}
 use Rattle.stab_run.specs.Points.{RunOutput, nothing, origin, joined, point_after, outputs, with_additions, state_at}
 use Rattle.stab_run.specs.ProgramStates.{StepFits, ProgramState, IsRun}
-use Rattle.stab_run.proofs.StateLemmas.{run-state}
-use Rattle.stab_run.proofs.PointLemmas.{records-are-records}
+use Rattle.stab_laws.proofs.StateLemmas.{run-state}
+use Rattle.stab_laws.proofs.PointLemmas.{records-are-records}
 use Rattle.stab_frames.specs.Limits.{bytes_of, most_strings}
 use Rattle.stab_frames.specs.Flips.{flipped, Matches}
 use Rattle.stab_frames.specs.Frames.{Frame, identity_frame}

@@ -11,7 +11,7 @@ use Rattle.stab_run.specs.declared.run.Shot.{Shot}
 use Rattle.stab_run.specs.Runs.{State, start, run, run_of}
 use Rattle.stab_run.specs.Points.{RunOutput, nothing, joined, origin, point_after, outputs, with_additions, state_at}
 use Rattle.stab_run.specs.ProgramStates.{ProgramState, IsAt, Leads, IsRun}
-use Rattle.stab_run.proofs.StateLemmas.{run-state}
+use Rattle.stab_laws.proofs.StateLemmas.{run-state}
 use Rattle.stab_shots.specs.LaneRules.{turned}
 use Rattle.stab_shots.specs.declared.shots.Shots.{Shots}
 use Rattle.stab_shots.specs.Lanes.{lane_bits}

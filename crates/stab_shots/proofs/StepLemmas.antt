@@ -20,7 +20,7 @@ use Rattle.stab_run.specs.Runs.{gate_of, flip_of, string_of, when, applied_where
 use Rattle.stab_run.specs.Points.{Point, RunOutput, joined, given, trace_after, coins_of}
 use Rattle.stab_run.specs.ProgramStates.{ProgramState, IsAt, Leads, IsRun, applied_by}
 use Rattle.stab_steps.proofs.RunLemmas.{joined-nothing, run-collapse, run-product}
-use Rattle.stab_run.proofs.StateLemmas.{both_true}
+use Rattle.stab_laws.proofs.StateLemmas.{both_true}
 use Rattle.stab_tableau.specs.Turns.{IsTurned}
 use Rattle.stab_frames.specs.Frames.{plus, times_where}
 use Rattle.stab_tableau.specs.Exchanges.{Exchanges}

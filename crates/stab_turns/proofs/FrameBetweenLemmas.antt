@@ -15,7 +15,7 @@ use Rattle.stab_run.specs.Points.{Point, RunOutput, nothing, origin, joined, poi
 use Rattle.stab_run.specs.ProgramStates.{StepFits}
 use Rattle.stab_run.specs.Cuts.{lengths_of}
 use Rattle.stab_steps.proofs.RunLemmas.{after-append, outputs-append, joined-assoc, joined-nothing}
-use Rattle.stab_run.proofs.PointLemmas.{flags-are-coins}
+use Rattle.stab_laws.proofs.PointLemmas.{flags-are-coins}
 use Rattle.stab_frames.specs.Flips.{flipped_output, unflipped, Matches}
 use Rattle.stab_frames.specs.Frames.{PointsDifferBy, frame_of, identity_frame}
 use Rattle.stab_frames.specs.Fronts.{AreFronts}

@@ -257,7 +257,7 @@ module _ {n : ℕ} {strings : List (List Letter)} {free : List Bool} {back : Lis
       placed = placed;
       walked =
           subst (λ xs. WalksOver n (note_at strings free) xs old new) (sym (take-add k m back))
-          (over-append n (note_at strings free) (take k back) (take m (drop k back)) old now new past.walked walked_rest);
+          (over-append n (same_coins (note_at strings free)) (take k back) (take m (drop k back)) old now new past.walked walked_rest);
       enough = enough-more n (note_at strings free) free back k m old now past.walked past.enough enough_rest;
       count = past.count;
       copies = turned-further n strings free back from old k (k + m) cs ts (omega arith) past.count past.copies;

@@ -19,7 +19,7 @@ use Rattle.stab_run.specs.Cuts.{lengths_of}
 use Rattle.stab_run.specs.Laws.{AgreeAt}
 use Rattle.stab_run.specs.Ends.{AgreeBack}
 use Rattle.stab_steps.proofs.RunLemmas.{outputs-append}
-use Rattle.stab_run.proofs.PointLemmas.{HasAtMost, outputs-short}
+use Rattle.stab_laws.proofs.PointLemmas.{HasAtMost, outputs-short}
 use Rattle.stab_frames.specs.Flips.{unflipped}
 use Rattle.stab_frames.specs.KeptStrings.{StringsState, note_at}
 use Rattle.stab_frames.specs.Walks.{WalkState}

@@ -15,8 +15,8 @@ use Rattle.stab_run.specs.ProgramStates.{StepFits}
 use Rattle.stab_run.specs.Cuts.{lengths_of}
 use Rattle.stab_run.specs.Laws.{AgreeAt}
 use Rattle.stab_run.specs.Ends.{AgreeBack}
-use Rattle.stab_run.proofs.FutureLemmas.{same-future}
-use Rattle.stab_run.proofs.FutureBackLemmas.{same-future-back}
+use Rattle.stab_laws.proofs.FutureLemmas.{same-future}
+use Rattle.stab_laws.proofs.FutureBackLemmas.{same-future-back}
 use Rattle.stab_steps.proofs.RunLemmas.{after-append, outputs-append}
 use Rattle.stab_frames.specs.Flips.{flipped_output}
 use Rattle.stab_frames.specs.Frames.{Frame, PointsDifferBy}
@@ -30,7 +30,7 @@ use Rattle.stab_frames.proofs.NoteLemmas.{enough-before}
 use Rattle.stab_frames.proofs.StepLemmas.{over-framed, outputs-matches}
 use Rattle.stab_frames.proofs.TurnedLemmas.{turned-blank}
 use Rattle.stab_copies.proofs.TakeLemmas.{take-more}
-use Rattle.stab_replay.proofs.FramedLemmas.{AreTurnedBehind}
+use Rattle.stab_frames.specs.AgainLaws.{AreTurnedOver}
 use Rattle.stab_replay.proofs.SegmentLemmas.{flips-free}
 use Rattle.stab_replay.proofs.FrameStartLemmas.{flips-differ}
 use Rattle.stab_replay.proofs.NotedLemmas.{near-enough}
@@ -202,7 +202,7 @@ module _ {n : ℕ} {coins : ℕ → Bool} {strings : ℕ → Option (List Letter
 
   -- so many steps on, wherever that is
 
-  pub led-turned : AreTurnedBehind n coins back a b
+  pub led-turned : AreTurnedOver n coins back a b
   led-turned m =
       elim (cases_lt steps m) [
         | inl lt ↦ (new.letters, led-further m (omega arith))

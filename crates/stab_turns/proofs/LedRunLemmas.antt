@@ -11,7 +11,7 @@ use Rattle.stab_run.specs.Points.{Point, RunOutput, origin, joined, point_after,
 use Rattle.stab_run.specs.ProgramStates.{StepFits}
 use Rattle.stab_run.specs.Cuts.{lengths_of, front_of, rest_of}
 use Rattle.stab_steps.proofs.RunLemmas.{after-append, joined-assoc}
-use Rattle.stab_run.proofs.PointLemmas.{cut, front-output, rest-output}
+use Rattle.stab_laws.proofs.PointLemmas.{cut, front-output, rest-output}
 use Rattle.stab_frames.specs.Flips.{flipped, flipped_additions, flipped_output, unflipped}
 use Rattle.stab_frames.specs.FrameSteps.{flips_over}
 use Rattle.stab_frames.specs.KeptStrings.{StringsState, AreTrue, note_at}

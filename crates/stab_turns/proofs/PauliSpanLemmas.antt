@@ -8,7 +8,7 @@ use Rattle.stab_circuit.specs.declared.edit.Span.{Span}
 use Rattle.stab_run.specs.Runs.{gate_of}
 use Rattle.stab_run.specs.Points.{Point, RunOutput, origin, point_after, outputs}
 use Rattle.stab_run.specs.ProgramStates.{StepFits}
-use Rattle.stab_run.proofs.PointLemmas.{rest-output}
+use Rattle.stab_laws.proofs.PointLemmas.{rest-output}
 use Rattle.stab_frames.specs.KeptStrings.{AreTrue}
 use Rattle.stab_frames.specs.Lookbacks.{LooksWithin}
 use Rattle.stab_frames.proofs.TrueLemmas.{true-append, true-front, true-rest}

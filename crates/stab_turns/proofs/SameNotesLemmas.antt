@@ -21,7 +21,8 @@ use Rattle.stab_frames.proofs.RunNoteLemmas.{run-notes}
 use Rattle.stab_frames.proofs.StartLemmas.{framed-exchanged}
 use Rattle.stab_frames.proofs.StepLemmas.{over-framed}
 use Rattle.stab_frames.proofs.TrueLemmas.{true-append, true-front, true-rest}
-use Rattle.stab_replay.proofs.FramedLemmas.{true-turned, flipped-empty}
+use Rattle.stab_frames.proofs.AgainLemmas.{true-turned}
+use Rattle.stab_replay.proofs.FramedLemmas.{flipped-empty}
 use Rattle.stab_replay.proofs.SegmentLemmas.{flips-free, flipped-zeros}
 use Rattle.stab_circuit.specs.Rounds.{interleaved}
 

@@ -6,8 +6,8 @@ use Rattle.stab_pauli.specs.Paulis.{Signed}
 use Rattle.stab_tableau.specs.Rules.{is_free_by}
 use Rattle.stab_tableau.specs.Exchanges.{Exchanges}
 use Rattle.stab_circuit.specs.Steps.{Step}
-use Rattle.stab_run.specs.Runs.{measured_by}
-use Rattle.stab_run.specs.ProgramStates.{ProgramState, IsRun}
+use Rattle.stab_steps.specs.Runs.{measured_by}
+use Rattle.stab_steps.specs.ProgramStates.{ProgramState, IsRun}
 use Rattle.stab_frames.specs.Lookbacks.{LooksWithin}
 use Rattle.stab_frames.specs.KeptStrings.{StringsState, kept_with, KeepsTrue}
 

@@ -9,10 +9,10 @@ use Rattle.stab_tableau.specs.Gates.{letter_at}
 use Rattle.stab_lines.specs.declared.product.Factor.{Factor}
 use Rattle.stab_lines.specs.Axes.{letter_of}
 use Rattle.stab_circuit.specs.Steps.{Step}
-use Rattle.stab_run.specs.Runs.{measured_by}
-use Rattle.stab_run.specs.Points.{RunOutput, nothing, joined, coins_of}
+use Rattle.stab_steps.specs.Runs.{measured_by}
+use Rattle.stab_steps.specs.Points.{RunOutput, nothing, joined, coins_of}
 use Rattle.stab_frames.specs.Frames.{Frame, times_where}
-use Rattle.stab_frames.specs.Notes.{same_coins}
+use Rattle.stab_frames.specs.Notes.{Notes, same_coins}
 use Rattle.stab_frames.specs.FrameSteps.{letters_after, flips_given, frame_after}
 use Rattle.stab_frames.specs.KeptStrings.{note_at}
 use Rattle.stab_frames.specs.Walks.{WalkState, frame_at, IsPlaced, WalksOver}
@@ -27,15 +27,15 @@ abbrev pub factors_anticommute : List Letter → List Factor → Bool
 factors_anticommute f [] = false
 factors_anticommute f (x ∷ xs) = letters_anticommute (letter_at f x.qubit) (letter_of x.letter) ⊕ factors_anticommute f xs
 
--- whether an outcome is flipped, by the note of it and whether the frame anticommutes with what is measured, where the coins are the same
-abbrev pub flip_by : Option (List Letter) → Bool → Bool
-flip_by None apart = apart
-flip_by (Some s) apart = false
+-- whether an outcome is flipped, by the note of it, whether the coins differ, and whether the frame anticommutes with what is measured
+abbrev pub flip_by : Option (List Letter) → Bool → Bool → Bool
+flip_by None change apart = apart
+flip_by (Some s) change apart = change
 
 -- and the frame's letters behind it
-abbrev pub letters_for : Option (List Letter) → Bool → List Letter → List Letter
-letters_for None apart f = f
-letters_for (Some s) apart f = times_where apart s f
+abbrev pub letters_for : Option (List Letter) → Bool → Bool → List Letter → List Letter
+letters_for None change apart f = f
+letters_for (Some s) change apart f = times_where (change ⊕ apart) s f
 
 -- what is flipped by one that gives no record
 abbrev pub one_coin : RunOutput
@@ -50,17 +50,23 @@ abbrev pub no_detectors : ℕ → RunOutput
 no_detectors k = record nothing { detectors = replicate k false }
 
 -- over the outcome of something with which the frame anticommutes or not, which is flipped or not
-pub record IsPassed (strings : ℕ → Option (List Letter)) (apart flip : Bool) (old new : WalkState) : Type 0 where
-  pub outcome : flip ≡ flip_by (strings old.coin) apart
-  pub letters : new.letters ≡ letters_for (strings old.coin) apart old.letters
+pub record IsPassedWith (notes : Notes) (apart flip : Bool) (old new : WalkState) : Type 0 where
+  pub outcome : flip ≡ flip_by (notes.strings old.coin) (notes.changes old.coin) apart
+  pub letters : new.letters ≡ letters_for (notes.strings old.coin) (notes.changes old.coin) apart old.letters
   pub flips : new.flips ≡ joined old.flips one_coin
   pub coin : new.coin ≡ old.coin + 1
 
+abbrev pub IsPassed : (ℕ → Option (List Letter)) → (apart flip : Bool) → WalkState → WalkState → Type 0
+IsPassed strings apart flip old new = IsPassedWith (same_coins strings) apart flip old new
+
 -- over one step
-pub record Passes (n : ℕ) (strings : ℕ → Option (List Letter)) (x : Step) (old new : WalkState) : Type 0 where
-  pub letters : new.letters ≡ letters_after n (same_coins strings) x old.coin (frame_at 0 old)
-  pub flips : new.flips ≡ joined old.flips (flips_given n (same_coins strings) x old.coin (frame_at 0 old))
+pub record PassesWith (n : ℕ) (notes : Notes) (x : Step) (old new : WalkState) : Type 0 where
+  pub letters : new.letters ≡ letters_after n notes x old.coin (frame_at 0 old)
+  pub flips : new.flips ≡ joined old.flips (flips_given n notes x old.coin (frame_at 0 old))
   pub coin : new.coin ≡ old.coin + coins_of x
+
+abbrev pub Passes : ℕ → (ℕ → Option (List Letter)) → Step → WalkState → WalkState → Type 0
+Passes n strings x old new = PassesWith n (same_coins strings) x old new
 
 -- where the frame anticommutes with what is measured, its string was kept, or its outcome was fixed
 abbrev pub IsToldBy : List (List Letter) → List Bool → ℕ → Bool → Type 0

@@ -8,7 +8,7 @@ use Rattle.stab_tableau.specs.Gates.{letter_at}
 use Rattle.stab_lines.specs.declared.control.ControlledPair.{ControlledPair}
 use Rattle.stab_lines.specs.declared.control.ControlledPair.TheVariants as pair
 use Rattle.stab_lines.specs.declared.range.MeasureTarget.{MeasureTarget}
-use Rattle.stab_run.specs.Records.{looked_up, parity}
+use Rattle.stab_steps.specs.Records.{looked_up, parity}
 use Rattle.stab_outlines.specs.Names.{is_key, names_lookback}
 
 -- whether a letter is another than I

@@ -11,7 +11,7 @@ use Rattle.stab_steps.specs.Records.{looked_up, ones}
 use Rattle.stab_steps.specs.Points.{RunOutput, origin, point_after, outputs}
 use Rattle.stab_steps.specs.Cuts.{lengths_of}
 use Rattle.stab_steps.specs.ProgramStates.{ProgramState, program_state, IsAt}
-use Rattle.stab_run.specs.declared.rounds.Earlier.{Earlier}
+use Rattle.stab_run.specs.declared.earlier.Earlier.{Earlier}
 
 -- a program is at the point behind some steps, and has gathered what they give
 pub record IsLed (n : ℕ) (coins : ℕ → Bool) (xs : List Step) (s : ProgramState) : Type 0 where

@@ -1,7 +1,7 @@
 use Rattle.std.proofs.Common.{◌≡◌, ℕ, ◌+◌, ◌≤◌, All, length, take, drop}
-use Rattle.stab_run.specs.Records.{ones}
-use Rattle.stab_run.specs.Points.{all_coins_of}
-use Rattle.stab_run.specs.ProgramStates.{ProgramState, StepFits, program_state, output_of}
+use Rattle.stab_steps.specs.Records.{ones}
+use Rattle.stab_steps.specs.Points.{all_coins_of}
+use Rattle.stab_steps.specs.ProgramStates.{ProgramState, StepFits, program_state, output_of}
 use Rattle.stab_frames.specs.KeptStrings.{StringsState}
 use Rattle.stab_frames.specs.inner.Noted.{NotesSteps}
 use Rattle.stab_frames.proofs.noting.run_noting.Given as goal

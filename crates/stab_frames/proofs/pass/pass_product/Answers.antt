@@ -1,6 +1,7 @@
 use Rattle.std.proofs.Common.{refl, sym, ◌∙◌, ap, length}
 use Rattle.stab_circuit.specs.Steps.{product}
-use Rattle.stab_run.specs.Runs.{string_of}
+use Rattle.stab_steps.specs.Runs.{string_of}
+use Rattle.stab_frames.specs.Notes.{same_coins}
 use Rattle.stab_frames.specs.KeptStrings.{note_at}
 use Rattle.stab_frames.specs.inner.Passes.{factors_anticommute}
 use Rattle.stab_frames.proofs.FactorLemmas.{factors-apart}
@@ -14,7 +15,7 @@ returns-in_ok-flip_record-in-Some-clause-passes c = λ is inverted.
     factors-apart n c.args.walk.now.letters c.args.factors.now refl c.requires.in_range c.requires.apart
     ∙ ap (λ l. factors_anticommute l c.args.factors.now) (sym c.letters.ensures.value)
     ∙ sym c.anticommutes-apart.ensures.value in
-    passes-product n (note_at c.args.strings.now.strings c.args.free.now) c.args.factors.now inverted c.anticommutes-apart.result c.in-Some.flipped
+    passes-product n (same_coins (note_at c.args.strings.now.strings c.args.free.now)) c.args.factors.now inverted c.anticommutes-apart.result c.in-Some.flipped
     c.args.walk.now c.pass_outcome.new.walk c.flip_record.new.self apart c.in-Some.ensures.passed c.in_ok-flip_record-in-Some.ensures.value
 
 pub returns-in_ok-flip_record-in-Some-clause-told : goal.returns-in_ok-flip_record-in-Some-clause-told

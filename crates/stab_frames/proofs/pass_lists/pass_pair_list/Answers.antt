@@ -1,7 +1,7 @@
 use Rattle.std.proofs.Common.{◌≡◌, ◌<◌, ◌∷◌, [], refl, sym, ◌∙◌, ap, subst, length, drop, get_or, arith}
 use Rattle.stab_circuit.specs.Steps.{controlled_step}
 use Rattle.stab_outlines.specs.Names.{between}
-use Rattle.stab_run.specs.ProgramStates.{StepFits}
+use Rattle.stab_steps.specs.ProgramStates.{StepFits}
 use Rattle.stab_frames.specs.inner.Passes.{GoesFreely}
 use Rattle.stab_frames.proofs.GoesOverLemmas.{freely-further, freely-all, fits-mapped}
 use Rattle.stab_frames.proofs.TouchLemmas.{pairs-untouched}

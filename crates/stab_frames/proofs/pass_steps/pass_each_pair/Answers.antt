@@ -1,6 +1,6 @@
 use Rattle.std.proofs.Common.{◌∷◌, [], sym, ◌∙◌, subst, length, arith}
 use Rattle.stab_circuit.specs.Steps.{controlled_step}
-use Rattle.stab_run.specs.ProgramStates.{StepFits}
+use Rattle.stab_steps.specs.ProgramStates.{StepFits}
 use Rattle.stab_frames.specs.inner.Passes.{GoesFreely}
 use Rattle.stab_frames.proofs.GoesOverLemmas.{freely-further, freely-all, fits-mapped}
 use Rattle.stab_frames.proofs.pass_steps.pass_each_pair.Goals as goal

@@ -3,7 +3,7 @@ use Rattle.std.specs.Prelude.{None}
 use Rattle.stab_circuit.specs.Steps.{unroll, observables_of, check_within}
 use Rattle.stab_circuit.specs.Views.{circuit_items}
 use Rattle.stab_kept.specs.KeptRuns.{IsKeptRun}
-use Rattle.stab_run.proofs.FitLemmas.{check-whole, check-steps}
+use Rattle.stab_laws.proofs.FitLemmas.{check-whole, check-steps}
 use Rattle.stab_kept.proofs.KeptLemmas.{nothing-follows, with-sections}
 use Rattle.stab_kept.proofs.opening.run_checked.Goals as goal
 

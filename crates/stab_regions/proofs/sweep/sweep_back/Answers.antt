@@ -5,7 +5,7 @@ use Rattle.stab_circuit.specs.Steps.{Step, unroll, observables_of, detectors_of}
 use Rattle.stab_circuit.specs.Views.{circuit_items}
 use Rattle.stab_circuit.specs.Cursors.{step_shown}
 use Rattle.stab_run.specs.ProgramStates.{StepFits}
-use Rattle.stab_run.proofs.FitLemmas.{check-fits, check-whole, check-steps}
+use Rattle.stab_laws.proofs.FitLemmas.{check-fits, check-whole, check-steps}
 use Rattle.stab_regions.specs.inner.Sweeps.{IsSwept, MayPass}
 use Rattle.stab_regions.proofs.SweepLemmas.{piece, passes-piece}
 use Rattle.stab_regions.proofs.BelowLemmas.{names-below}

@@ -3,7 +3,7 @@ use Rattle.stab_steps.specs.Points.{joined}
 use Rattle.stab_steps.specs.ProgramStates.{output_of}
 use Rattle.stab_steps.specs.Cuts.{rest_of}
 use Rattle.stab_steps.proofs.RunLemmas.{joined-assoc}
-use Rattle.stab_run.specs.RoundLaws.{copies}
+use Rattle.stab_laws.specs.RoundLaws.{copies}
 use Rattle.stab_run.proofs.CopyLemmas.{copies-more}
 use Rattle.stab_run.proofs.again.append_times.Goals as goal
 

@@ -2,7 +2,7 @@ use Rattle.std.proofs.Common.{◌≡◌}
 use Rattle.stab_steps.specs.Points.{joined}
 use Rattle.stab_steps.specs.ProgramStates.{output_of}
 use Rattle.stab_steps.specs.Cuts.{rest_of}
-use Rattle.stab_run.specs.RoundLaws.{copies}
+use Rattle.stab_laws.specs.RoundLaws.{copies}
 use Rattle.stab_run.proofs.again.give_again.Given as goal
 
 abbrev pub invariant-loop-left : goal.invariant-loop-left

@@ -1,4 +1,4 @@
-use Rattle.std.proofs.Common.{◌+◌, ◌≤◌, ◌∙◌, arith}
+use Rattle.std.proofs.Common.{◌+◌, ◌≤◌, sym, ◌∙◌, arith}
 use Rattle.std.proofs.Math.Nat.{add-mul, mul-le-mul_right}
 use Rattle.stab_circuit.specs.Steps.{unroll}
 use Rattle.stab_circuit.specs.Views.{circuit_items}
@@ -6,14 +6,16 @@ use Rattle.stab_steps.specs.ProgramStates.{program_state, output_of}
 use Rattle.stab_run.specs.inner.Led.{behind_rounds}
 use Rattle.stab_run.proofs.LedLemmas.{coins-more}
 use Rattle.stab_run.proofs.AgainLemmas.{behind-later, led-same, earlier-same}
+use Rattle.stab_run.proofs.NotedLemmas.{noted-same}
 use Rattle.stab_run.proofs.rounds.run_repeat.Goals as goal
 
+pub run_round-requires-clause-noted : goal.run_round-requires-clause-noted
+run_round-requires-clause-noted g c =
+    noted-same c.loop-done.tableau.qubits c.args.tableau.now.qubits (g.C.Coins.sequence c.loop-done.coins) (g.C.Coins.sequence c.args.coins.now) _ c.loop-done.notes
+    c.loop-done.outputs.free.items (sym c.loop-done.invariant.qubits) (sym c.loop-done.invariant.same_coins) c.loop-done.invariant.noted
+
 pub returns-in_err-done-clause-asks : goal.returns-in_err-done-clause-asks
-returns-in_err-done-clause-asks g c =
-    let r = c.args.repeat in
-    let done = c.loop-done.done in
-    let later = behind-later r (done + 1) r.rounds (omega (arith, c.loop-done-test.true, c.most_single-most.ensures.within)) in
-    omega (arith, c.loop-done.invariant.asks, c.run_round.ensures.asks, coins-more (behind_rounds r (done + 1)) (behind_rounds r r.rounds) (unroll (circuit_items c.args.circuit.now)) later)
+returns-in_err-done-clause-asks g c = omega (arith, c.loop-done.invariant.asks, c.run_round.ensures.asks)
 
 pub loop-done-preserved : goal.loop-done-preserved
 loop-done-preserved g c =
@@ -27,18 +29,20 @@ loop-done-preserved g c =
     let n = c.args.tableau.now.qubits in
     let coins = g.C.Coins.sequence c.args.coins.now in
     let one_more : before + 1 ≤ now = omega (arith, done.more) in
-    let later = behind-later r (before + 1) now one_more in
     record {
       within = done.more.1;
       left = omega (arith, inv.left, add-mul before 1 r.length, mul-le-mul_right r.length one_more, c.saturating_sub.ensures);
       qubits = ran.qubits ∙ inv.qubits;
       string = ran.string ∙ inv.string;
       same_coins = ran.same_coins ∙ inv.same_coins;
-      asks = omega (arith, inv.asks, ran.asks, coins-more (behind_rounds r (before + 1)) (behind_rounds r now) steps later);
+      asks = omega (arith, inv.asks, done.asks_part);
       asks_free = omega (arith, inv.asks_free, done.asks_free);
       earlier =
           earlier-same n c.loop-done.tableau.qubits coins (g.C.Coins.sequence c.loop-done.coins) steps r now c.run_round.new.earlier inv.qubits inv.same_coins
           done.earlier;
+      noted =
+          noted-same n c.loop-done.tableau.qubits coins (g.C.Coins.sequence c.loop-done.coins) _ c.run_round.new.notes c.run_round.new.outputs.free.items inv.qubits inv.same_coins
+          done.noted;
       led =
           led-same n c.loop-done.tableau.qubits coins (g.C.Coins.sequence c.loop-done.coins) _ (program_state c.run_round.new.tableau (output_of c.run_round.new.outputs))
           inv.qubits inv.same_coins done.led;

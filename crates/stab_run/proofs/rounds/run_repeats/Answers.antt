@@ -1,14 +1,20 @@
-use Rattle.std.proofs.Common.{◌∙◌, arith}
+use Rattle.std.proofs.Common.{sym, ◌∙◌, arith}
 use Rattle.stab_circuit.specs.declared.circuit.repeats.Repeat.{Repeat}
 use Rattle.stab_circuit.specs.Steps.{unroll}
 use Rattle.stab_circuit.specs.Views.{circuit_items}
 use Rattle.stab_steps.specs.ProgramStates.{program_state, output_of}
 use Rattle.stab_run.proofs.LedLemmas.{coins-all}
 use Rattle.stab_run.proofs.AgainLemmas.{repeat-here, repeats-behind, led-same}
+use Rattle.stab_run.proofs.NotedLemmas.{noted-same}
 use Rattle.stab_run.proofs.rounds.run_repeats.Goals as goal
 
 abbrev none : Repeat
 none = record { first = 0; length = 0; rounds = 0; reach = 0 }
+
+pub run_block-requires-clause-noted : goal.run_block-requires-clause-noted
+run_block-requires-clause-noted g c =
+    noted-same c.loop-repeat.tableau.qubits c.args.tableau.now.qubits (g.C.Coins.sequence c.loop-repeat.coins) (g.C.Coins.sequence c.args.coins.now) _ c.loop-repeat.notes
+    c.loop-repeat.outputs.free.items (sym c.loop-repeat.invariant.qubits) (sym c.loop-repeat.invariant.same_coins) c.loop-repeat.invariant.noted
 
 pub loop-repeat-preserved : goal.loop-repeat-preserved
 loop-repeat-preserved g c =
@@ -29,6 +35,9 @@ loop-repeat-preserved g c =
       same_coins = ran.same_coins ∙ inv.same_coins;
       asks = omega (arith, inv.asks, done.asks_part);
       asks_free = omega (arith, inv.asks_free, done.asks_free);
+      noted =
+          noted-same c.args.tableau.now.qubits c.loop-repeat.tableau.qubits (g.C.Coins.sequence c.args.coins.now) (g.C.Coins.sequence c.loop-repeat.coins) _ c.run_block.new.notes
+          c.run_block.new.outputs.free.items inv.qubits inv.same_coins done.noted;
       led =
           led-same c.args.tableau.now.qubits c.loop-repeat.tableau.qubits (g.C.Coins.sequence c.args.coins.now) (g.C.Coins.sequence c.loop-repeat.coins) _
           (program_state c.run_block.new.tableau (output_of c.run_block.new.outputs)) inv.qubits inv.same_coins done.led;

@@ -6,6 +6,7 @@ use Rattle.stab_steps.specs.Records.{ones}
 use Rattle.stab_steps.specs.Points.{all_coins_of}
 use Rattle.stab_steps.specs.ProgramStates.{program_state, output_of}
 use Rattle.stab_run.specs.inner.Led.{IsLed}
+use Rattle.stab_run.specs.inner.Noted.{IsNoted}
 use Rattle.stab_run.proofs.rounds.run_repeats.Given as goal
 
 abbrev pub invariant-loop-repeat : goal.invariant-loop-repeat
@@ -18,5 +19,6 @@ invariant-loop-repeat g l = record {
   same_coins : g.C.Coins.sequence l.coins ≡ g.C.Coins.sequence l.fn.coins;
   asks : g.C.Coins.asks l.coins ≤ g.C.Coins.asks l.fn.coins + all_coins_of (take l.from (unroll (circuit_items l.circuit)));
   asks_free : g.C.Coins.asks l.coins + ones l.fn.outputs.free.items ≤ g.C.Coins.asks l.fn.coins + ones l.outputs.free.items;
+  noted : IsNoted l.fn.tableau.qubits (g.C.Coins.sequence l.fn.coins) (take l.from (unroll (circuit_items l.circuit))) l.notes l.outputs.free.items;
   led : IsLed l.fn.tableau.qubits (g.C.Coins.sequence l.fn.coins) (take l.from (unroll (circuit_items l.circuit))) (program_state l.tableau (output_of l.outputs));
 }

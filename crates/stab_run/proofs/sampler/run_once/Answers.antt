@@ -1,5 +1,5 @@
 use Rattle.std.proofs.Common.{subst}
-use Rattle.stab_run.specs.Laws.{DependsOnCoinsAt}
+use Rattle.stab_laws.specs.Laws.{DependsOnCoinsAt}
 use Rattle.stab_run.specs.Samplers.{SamplerState}
 use Rattle.stab_run.proofs.sampler.run_once.Goals as goal
 

@@ -4,9 +4,9 @@ use Rattle.stab_circuit.specs.Views.{circuit_items}
 use Rattle.stab_steps.specs.Points.{with_additions}
 use Rattle.stab_steps.specs.ProgramStates.{program_state, output_of}
 use Rattle.stab_run.specs.inner.Led.{IsLed}
-use Rattle.stab_run.proofs.FitLemmas.{counted-steps}
+use Rattle.stab_laws.proofs.FitLemmas.{counted-steps}
 use Rattle.stab_run.proofs.ShotLemmas.{led-shot}
-use Rattle.stab_run.proofs.StepsLeftLemmas.{take-all, asks-all}
+use Rattle.stab_laws.proofs.StepsLeftLemmas.{take-all, asks-all}
 use Rattle.stab_run.proofs.whole.run_whole.Goals as goal
 
 pub overflow_sub-rest : goal.overflow_sub-rest

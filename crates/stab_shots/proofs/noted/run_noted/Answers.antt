@@ -2,7 +2,7 @@ use Rattle.std.proofs.Common.{sym, ◌∙◌, ap, subst, All, length}
 use Rattle.stab_circuit.specs.Cursors.{IsApart}
 use Rattle.stab_circuit.specs.Views.{circuit_items}
 use Rattle.stab_run.specs.ProgramStates.{StepFits}
-use Rattle.stab_run.proofs.FitLemmas.{check-fits}
+use Rattle.stab_laws.proofs.FitLemmas.{check-fits}
 use Rattle.stab_shots.specs.References.{lane_notes}
 use Rattle.stab_shots.specs.Differences.{lane_difference, Follows}
 use Rattle.stab_shots.proofs.NotedLemmas.{as-long, lane-runs}

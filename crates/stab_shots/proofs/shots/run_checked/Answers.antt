@@ -4,7 +4,7 @@ use Rattle.stab_circuit.specs.Cursors.{IsApart}
 use Rattle.stab_circuit.specs.Views.{circuit_items}
 use Rattle.stab_run.specs.Points.{with_additions}
 use Rattle.stab_run.specs.ProgramStates.{StepFits, IsRun}
-use Rattle.stab_run.proofs.FitLemmas.{check-fits}
+use Rattle.stab_laws.proofs.FitLemmas.{check-fits}
 use Rattle.stab_shots.specs.Lanes.{lane_additions}
 use Rattle.stab_shots.specs.LaneRules.{lane_state}
 use Rattle.stab_shots.proofs.ShotLemmas.{turned-none, lane-run}

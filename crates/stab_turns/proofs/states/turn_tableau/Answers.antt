@@ -3,7 +3,7 @@ use Rattle.stab_letters.specs.declared.letter.Letter.TheVariants.{I}
 use Rattle.stab_pauli.specs.Paulis.{single}
 use Rattle.stab_tableau.specs.Tableaus.{stabilises}
 use Rattle.stab_tableau.specs.Turns.{IsTurned}
-use Rattle.stab_replay.proofs.TurnedCopyLemmas.{turned-next, turned-none, turned-all}
+use Rattle.stab_frames.proofs.TurnedCopyLemmas.{turned-next, turned-none, turned-all}
 use Rattle.stab_turns.proofs.states.turn_tableau.Goals as goal
 
 pub loop-qubit-init : goal.loop-qubit-init

@@ -1,6 +1,6 @@
 use Rattle.std.proofs.Common.{◌≡◌, true, false, refl, sym, ◌∙◌}
 use Rattle.stab_circuit.specs.Cursors.{step_shown}
-use Rattle.stab_run.specs.ProgramStates.{program_state, output_of}
+use Rattle.stab_steps.specs.ProgramStates.{program_state, output_of}
 use Rattle.stab_frames.proofs.NotesStepsLemmas.{notes-exchanged}
 use Rattle.stab_frames.proofs.noting.RunNotes.run_step.Goals as goal
 

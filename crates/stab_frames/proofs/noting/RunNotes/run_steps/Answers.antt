@@ -1,7 +1,7 @@
 use Rattle.std.proofs.Common.{◌≡◌, arith, ap, sym, ◌∙◌, subst, All}
 use Rattle.stab_circuit.specs.Cursors.{lookbacks_of, steps_shown}
-use Rattle.stab_run.specs.Points.{all_coins_of}
-use Rattle.stab_run.specs.ProgramStates.{program_state, output_of}
+use Rattle.stab_steps.specs.Points.{all_coins_of}
+use Rattle.stab_steps.specs.ProgramStates.{program_state, output_of}
 use Rattle.stab_steps.proofs.TargetLemmas.{coins-measured}
 use Rattle.stab_frames.specs.Lookbacks.{LooksWithin}
 use Rattle.stab_rounds.proofs.LookLemmas.{near-gates}

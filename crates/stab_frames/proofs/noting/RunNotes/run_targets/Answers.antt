@@ -1,7 +1,7 @@
 use Rattle.std.proofs.Common.{arith, ap, sym, subst, ◌∙◌, ◌∷◌, []}
 use Rattle.stab_circuit.specs.Steps.{measured}
-use Rattle.stab_run.specs.Points.{coins_of}
-use Rattle.stab_run.specs.ProgramStates.{StepFits, program_state, output_of}
+use Rattle.stab_steps.specs.Points.{coins_of}
+use Rattle.stab_steps.specs.ProgramStates.{StepFits, program_state, output_of}
 use Rattle.stab_steps.proofs.TargetLemmas.{fits-target}
 use Rattle.stab_frames.specs.inner.Noted.{NotesSteps}
 use Rattle.stab_frames.proofs.NotesStepsLemmas.{notes-target, notes-targets}

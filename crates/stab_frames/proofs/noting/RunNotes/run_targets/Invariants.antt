@@ -1,7 +1,7 @@
 use Rattle.std.proofs.Common.{◌≡◌, ◌+◌, ◌≤◌, length, map, take}
 use Rattle.stab_circuit.specs.Steps.{measured}
-use Rattle.stab_run.specs.Records.{ones}
-use Rattle.stab_run.specs.ProgramStates.{program_state, output_of}
+use Rattle.stab_steps.specs.Records.{ones}
+use Rattle.stab_steps.specs.ProgramStates.{program_state, output_of}
 use Rattle.stab_frames.specs.inner.Noted.{NotesSteps}
 use Rattle.stab_frames.proofs.noting.RunNotes.run_targets.Given as goal
 

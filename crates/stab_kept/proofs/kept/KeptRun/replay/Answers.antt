@@ -11,7 +11,7 @@ use Rattle.stab_run.specs.ProgramStates.{StepFits, output_of}
 use Rattle.stab_replay.specs.FramedReplays.{IsOldRun}
 use Rattle.stab_kept.specs.KeptRuns.{IsKeptRun, Follows}
 use Rattle.stab_replay.specs.Replays.{Ascending}
-use Rattle.stab_run.proofs.FitLemmas.{check-fits, check-whole, check-steps}
+use Rattle.stab_laws.proofs.FitLemmas.{check-fits, check-whole, check-steps}
 use Rattle.stab_kept.proofs.CountLemmas.{coins-behind}
 use Rattle.stab_kept.specs.inner.Prepared.{IsCount, IsCommitted}
 use Rattle.stab_kept.proofs.FollowLemmas.{committed-of}

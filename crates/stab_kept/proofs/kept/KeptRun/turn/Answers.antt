@@ -7,7 +7,7 @@ use Rattle.stab_copies.specs.Checkpoints.{checkpoint_steps}
 use Rattle.stab_copies.specs.Spacing.{Near, last_of}
 use Rattle.stab_run.specs.Points.{Point, outputs}
 use Rattle.stab_run.specs.Cuts.{lengths_of}
-use Rattle.stab_run.proofs.FitLemmas.{check-fits, check-whole, check-steps}
+use Rattle.stab_laws.proofs.FitLemmas.{check-fits, check-whole, check-steps}
 use Rattle.stab_turns.specs.LongerLists.{longer}
 use Rattle.stab_kept.specs.inner.Prepared.{IsCount}
 use Rattle.stab_kept.specs.inner.Turned.{StaysNear, HasPassed, IsTurning, HasTurned, turned_end}

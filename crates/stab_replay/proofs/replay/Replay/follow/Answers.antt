@@ -1,5 +1,4 @@
-use Rattle.std.proofs.Common.{◌≡◌, ◌+◌, ◌-◌, ◌*◌, ◌≤◌, min, [], ◌∷◌, ◌++◌, slice_get, refl, sym, ◌∙◌, ap, subst, length, length-append, drop, arith}
-use Rattle.stab_frames.specs.declared.noting.RunNotes.{RunNotes}
+use Rattle.std.proofs.Common.{◌≡◌, ◌+◌, ◌-◌, ◌*◌, ◌≤◌, min, [], ◌∷◌, ◌++◌, slice_get, sym, ◌∙◌, ap, subst, length, length-append, drop, arith}
 use Rattle.stab_replay.specs.declared.replay.Replay.{Replay}
 use Rattle.stab_replay.specs.declared.replay.End.TheVariants.{Last, Joined}
 use Rattle.stab_replay.specs.declared.replay.Arrival.{Arrival}
@@ -8,7 +7,7 @@ use Rattle.stab_run.specs.Records.{ones}
 use Rattle.stab_run.specs.Points.{all_coins_of}
 use Rattle.stab_replay.specs.Replays.{IsReplay, IsEnd, EndsSoon, IsAtStop, IsOnWay, spacing_of, copy_of}
 use Rattle.stab_replay.specs.inner.Arrivals.{IsArrival}
-use Rattle.stab_replay.proofs.ReplayLemmas.{went-so, met-behind, ends-soon, on-further, fewer-left, coins-cut}
+use Rattle.stab_replay.proofs.ReplayLemmas.{went-so, met-behind, ends-soon, on-further, fewer-left}
 use Rattle.stab_replay.proofs.AgainReplayLemmas.{way-own, way-named}
 use Rattle.stab_replay.proofs.LaidLemmas.{laid-on, laid-more, laid-end}
 use Rattle.stab_replay.proofs.replay.Replay.follow.Given.{Over}
@@ -144,15 +143,22 @@ on_way g c =
     (stopped g ((goal.at.In_ok-lay g c).In_ok-reached)) (between g c) (laid g c)
     ((c.in_ok-lay.ensures {u = tt}).laid ∙ ap (λ (r : Replay). r.laid.items ++ copy_of r ∷ []) c.arrive.ensures.unchanged)
 
+-- by its own names
+own_way : (g : Over) (c : In_ok-lay g) → IsOnWay c.lay.new.self.tableau.qubits (g.C.Coins.sequence c.advance.new.coins) c.args.self.now.step c.args.plan c.lay.new.self.cursor.all
+    c.args.copies.now c.args.old.now.records.items c.in-Between.later c.lay.new.self
+own_way g c =
+    subst (λ s. IsOnWay c.lay.new.self.tableau.qubits s c.args.self.now.step c.args.plan c.lay.new.self.cursor.all c.args.copies.now c.args.old.now.records.items c.in-Between.later c.lay.new.self)
+    (sym ((c.advance.ensures).same_coins ∙ c.following.invariant.same_coins))
+    (way-own c.args.self.now.tableau.qubits (g.C.Coins.sequence c.args.coins.now) c.args.self.now.step c.args.plan c.args.self.now.cursor.all c.args.copies.now c.args.old.now.records.items
+    c.in-Between.later c.lay.new.self (on_way g c))
+
 pub come_again-requires-clause-on_way : goal.come_again-requires-clause-on_way
 come_again-requires-clause-on_way g c = (
-  g.C.Coins.sequence c.args.coins.now,
   c.args.self.now.step,
   c.args.copies.now,
   c.args.old.now.records.items,
   c.in-Between.later,
-  way-own c.args.self.now.tableau.qubits (g.C.Coins.sequence c.args.coins.now) c.args.self.now.step c.args.plan c.args.self.now.cursor.all c.args.copies.now c.args.old.now.records.items
-      c.in-Between.later c.lay.new.self (on_way g ((goal.at.come_again-requires-clause-on_way g c).In_ok-lay)),
+  own_way g ((goal.at.come_again-requires-clause-on_way g c).In_ok-lay),
   c.place.ensures.value,
 )
 
@@ -179,13 +185,14 @@ following-preserved g c =
     let step = ap (λ (r : Replay). r.step) same in
     let applied = ap (λ (r : Replay). r.applied) same in
     let steps = c.args.self.now.cursor.all in
+    let laid_all = ap (λ (r : Replay). r.cursor.all) same ∙ done.all ∙ inv.all in
     record {
-      all = kept.all ∙ ap (λ (r : Replay). r.cursor.all) same ∙ done.all ∙ inv.all;
+      all = kept.all ∙ laid_all;
       qubits = kept.qubits ∙ ap (λ (r : Replay). r.tableau.qubits) same ∙ done.qubits ∙ inv.qubits;
-      raised = omega (arith, done.raised, inv.raised, ap (λ (r : Replay). r.notes.reach) same, ap (λ (m : RunNotes). m.reach) kept.notes);
-      same_coins = done.same_coins ∙ inv.same_coins;
-      asks = omega (arith, done.asks, inv.asks, applied, again.counted, again.further);
-      asks_free = omega (arith, done.asks_free, inv.asks_free, ap (λ (r : Replay). ones r.outputs.free.items) same, again.free);
+      raised = omega (arith, done.raised, inv.raised, ap (λ (r : Replay). r.notes.reach) same, again.rest.1);
+      same_coins = kept.same_coins ∙ done.same_coins ∙ inv.same_coins;
+      asks = omega (arith, done.asks, inv.asks, applied, again.asks);
+      asks_free = omega (arith, done.asks_free, inv.asks_free, ap (λ (r : Replay). ones r.outputs.free.items) same, again.asks_free);
       asked =
           omega (
             arith,
@@ -194,7 +201,9 @@ following-preserved g c =
             ap (λ k. all_coins_of (drop k steps)) step,
             ap (λ xs. all_coins_of (drop c.advance.new.self.step xs)) inv.all,
             ap (λ xs. all_coins_of (drop c.following.self.step xs)) inv.all,
-            coins-cut c.lay.new.self.step c.come_again.new.self.step steps (drop c.lay.new.self.step steps) again.further refl,
+            kept.asked,
+            ap (λ xs. all_coins_of (drop c.lay.new.self.step xs)) laid_all,
+            ap (λ xs. all_coins_of (drop c.come_again.new.self.step xs)) laid_all,
           );
       changed = omega (arith, changed g reached, step, applied, again.counted, again.further);
       few_laid =
@@ -212,8 +221,7 @@ following-preserved g c =
       way =
           way-named c.lay.new.self.tableau.qubits c.args.self.now.tableau.qubits (g.C.Coins.sequence c.args.coins.now) c.args.self.now.step c.args.plan c.lay.new.self.cursor.all steps
           c.args.copies.now c.args.old.now.records.items c.in-Between.later c.come_again.new.self way.stop.replay.at_step.qubits way.stop.replay.at_step.all
-          (again.way (g.C.Coins.sequence c.args.coins.now) c.args.self.now.step c.args.copies.now c.args.old.now.records.items c.in-Between.later
-          (way-own c.args.self.now.tableau.qubits (g.C.Coins.sequence c.args.coins.now) c.args.self.now.step c.args.plan steps c.args.copies.now c.args.old.now.records.items
-          c.in-Between.later c.lay.new.self way)
-          c.place.ensures.value);
+          (subst (λ s. IsOnWay c.lay.new.self.tableau.qubits s c.args.self.now.step c.args.plan c.lay.new.self.cursor.all c.args.copies.now c.args.old.now.records.items c.in-Between.later
+          c.come_again.new.self) (done.same_coins ∙ inv.same_coins)
+          (again.way c.args.self.now.step c.args.copies.now c.args.old.now.records.items c.in-Between.later (own_way g at.In_ok-lay) c.place.ensures.value));
     }

@@ -37,7 +37,7 @@ loop-given-preserved c =
       in_range = omega (arith, inv.in_range, one_more);
       rest = c.give_once.ensures.rest ∙ ap (λ (r : Replay). record r { outputs = new.outputs; step = new.step; applied = new.applied; laid = new.laid }) inv.rest;
       counted = omega (arith, inv.counted, step, applied);
-      further = omega (arith, inv.further, step);
+      further = omega (arith, inv.further, c.give_once.ensures.further);
       free =
           omega (
             arith,

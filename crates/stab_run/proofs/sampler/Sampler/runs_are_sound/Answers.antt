@@ -1,8 +1,8 @@
 use Rattle.std.proofs.Common.{subst}
 use Rattle.stab_circuit.specs.Views.{circuit_items}
-use Rattle.stab_run.specs.Laws.{IsSoundRun}
+use Rattle.stab_laws.specs.Laws.{IsSoundRun}
 use Rattle.stab_run.specs.Samplers.{SamplerState}
-use Rattle.stab_run.proofs.SoundLemmas.{sound-run}
+use Rattle.stab_laws.proofs.SoundLemmas.{sound-run}
 use Rattle.stab_run.proofs.sampler.Sampler.runs_are_sound.Goals as goal
 
 pub returns : goal.returns

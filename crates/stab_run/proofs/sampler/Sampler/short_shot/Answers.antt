@@ -6,11 +6,11 @@ use Rattle.stab_tableau.specs.Tableaus.{stabilises}
 use Rattle.stab_circuit.specs.Steps.{unroll}
 use Rattle.stab_circuit.specs.Views.{circuit_items}
 use Rattle.stab_steps.specs.Runs.{run_of}
-use Rattle.stab_run.specs.Laws.{DependsOnCoinsAt}
+use Rattle.stab_laws.specs.Laws.{DependsOnCoinsAt}
 use Rattle.stab_run.specs.Samplers.{SamplerState}
 use Rattle.stab_run.specs.inner.Shots.{IsShotOf}
 use Rattle.stab_run.proofs.ShotLemmas.{shots-of_items}
-use Rattle.stab_run.proofs.StateLemmas.{run_of-same}
+use Rattle.stab_laws.proofs.StateLemmas.{run_of-same}
 use Rattle.stab_run.proofs.sampler.Sampler.short_shot.Goals as goal
 
 pub returns : goal.returns

@@ -3,7 +3,7 @@ use Rattle.std.specs.Prelude.{IsSome}
 use Rattle.stab_circuit.specs.Steps.{unroll}
 use Rattle.stab_circuit.specs.Views.{circuit_items}
 use Rattle.stab_run.specs.Samplers.{SamplerState}
-use Rattle.stab_run.proofs.FitLemmas.{counted-steps}
+use Rattle.stab_laws.proofs.FitLemmas.{counted-steps}
 use Rattle.stab_run.proofs.sampler.Sampler.shot.Goals as goal
 
 pub unreachable-requires : goal.unreachable-requires

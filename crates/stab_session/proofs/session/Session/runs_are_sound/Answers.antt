@@ -2,7 +2,7 @@ use Rattle.std.proofs.Common.{subst}
 use Rattle.stab_circuit.specs.Views.{circuit_items}
 use Rattle.stab_run.specs.Laws.{IsSoundRun}
 use Rattle.stab_session.specs.Sessions.{SessionState}
-use Rattle.stab_run.proofs.SoundLemmas.{sound-run}
+use Rattle.stab_laws.proofs.SoundLemmas.{sound-run}
 use Rattle.stab_session.proofs.session.Session.runs_are_sound.Goals as goal
 
 pub returns : goal.returns

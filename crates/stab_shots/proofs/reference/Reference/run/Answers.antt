@@ -6,7 +6,7 @@ use Rattle.stab_circuit.specs.Views.{circuit_items}
 use Rattle.stab_steps.specs.Coins.{Listed, list_coin}
 use Rattle.stab_run.specs.Records.{ones}
 use Rattle.stab_run.specs.ProgramStates.{StepFits, program_state, output_of}
-use Rattle.stab_run.proofs.FitLemmas.{check-fits, check-steps, check-whole}
+use Rattle.stab_laws.proofs.FitLemmas.{check-fits, check-steps, check-whole}
 use Rattle.stab_frames.specs.KeptStrings.{StringsState}
 use Rattle.stab_frames.specs.Limits.{most_strings}
 use Rattle.stab_shots.specs.References.{zero_coins}

@@ -3,7 +3,7 @@ use Rattle.std.proofs.lemmas.List.{length-drop}
 use Rattle.stab_circuit.specs.Steps.{unroll}
 use Rattle.stab_circuit.specs.Views.{circuit_items}
 use Rattle.stab_circuit.specs.Cursors.{CursorState}
-use Rattle.stab_run.proofs.FitLemmas.{check-steps}
+use Rattle.stab_laws.proofs.FitLemmas.{check-steps}
 use Rattle.stab_turns.proofs.trail.Trail.go_on.Goals as goal
 
 pub overflow_add-self : goal.overflow_add-self

@@ -4,7 +4,7 @@ use Rattle.stab_circuit.specs.Steps.{unroll}
 use Rattle.stab_circuit.specs.Views.{circuit_items}
 use Rattle.stab_circuit.specs.Cursors.{CursorState}
 use Rattle.stab_run.specs.Points.{outputs}
-use Rattle.stab_run.proofs.FitLemmas.{check-steps}
+use Rattle.stab_laws.proofs.FitLemmas.{check-steps}
 use Rattle.stab_frames.specs.Notes.{same_coins}
 use Rattle.stab_frames.specs.StepNotes.{AreEnough}
 use Rattle.stab_frames.specs.KeptStrings.{note_at, AreTrue}

@@ -1,0 +1,59 @@
+ghost use Rattle.std.specs.Prelude.{◌≡◌, ◌++◌, take, drop, OnOk};
+ghost use Rattle.stab_steps.specs.Records.{ones};
+ghost use Rattle.stab_frames.specs.Flips.{flipped, flipped_additions};
+
+use stab_steps::Addition;
+use std::alloc::AllocError;
+
+/// How many bits are 1.
+pub fn count_ones(bits: &[bool]) -> usize
+    ensures value { result ≡ ones bits.now }
+{
+    let mut count = 0;
+    for bit in bits {
+        count += usize::from(*bit);
+    }
+    count
+}
+
+/// Appends bits, inverted where the flips are 1. Where there are no more flips they are as they are.
+pub fn append_flipped(to: &mut Vec<bool>, bits: &[bool], flips: &[bool]) -> Result<(), AllocError>
+    ensures value { OnOk result (to.new.items ≡ to.old.items ++ flipped bits.now flips.now) }
+{
+    let count = flips.len().min(bits.len());
+    for place in 0..count {
+        to.push(flips[place] ^ bits[place])?;
+    }
+    let (_, rest) = bits.split_at(count);
+    to.extend_from_slice(rest)?;
+    Ok(())
+}
+
+/// Appends additions, whose bits are inverted where those of the flips are 1.
+pub fn append_flipped_additions(
+    to: &mut Vec<Addition>,
+    additions: &[Addition],
+    flips: &[Addition],
+) -> Result<(), AllocError>
+    ensures value { OnOk result (to.new.items ≡ to.old.items ++ flipped_additions additions.now flips.now) }
+{
+    let count = flips.len().min(additions.len());
+    for place in 0..count {
+        to.push(Addition {
+            observable: additions[place].observable,
+            bit: flips[place].bit ^ additions[place].bit,
+        })?;
+    }
+    let (_, rest) = additions.split_at(count);
+    to.extend_from_slice(rest)?;
+    Ok(())
+}
+
+/// The elements of a list from one place to another.
+pub fn between<T>(items: &[T], from: usize, to: usize) -> &[T]
+    ensures value { result.now ≡ drop from (take to items.now) }
+{
+    let (front, _) = items.split_at(to.min(items.len()));
+    let (_, between) = front.split_at(from.min(front.len()));
+    between
+}

@@ -1,0 +1,10 @@
+pub mod StateLemmas
+pub mod FutureLemmas
+pub mod LookbackLemmas
+pub mod FutureBackLemmas
+pub mod FixedLemmas
+pub mod RoundLemmas
+pub mod PointLemmas
+pub mod FitLemmas
+pub mod SoundLemmas
+pub mod StepsLeftLemmas

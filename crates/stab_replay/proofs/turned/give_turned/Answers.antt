@@ -1,0 +1,27 @@
+use Rattle.std.proofs.Common.{◌∙◌, ◌++◌, sym, ap, length, take, drop}
+use Rattle.std.proofs.Math.Seq.{take-length}
+use Rattle.stab_frames.specs.Flips.{flipped, flipped_additions}
+use Rattle.stab_replay.proofs.FramedLemmas.{flipped-empty}
+use Rattle.stab_replay.proofs.turned.give_turned.Goals as goal
+
+pub returns : goal.returns
+returns c =
+    let records = c.between.ensures.value ∙ (λ i. drop c.args.before.records (take (length (c.records-2.ensures.value i)) (c.records.ensures.value i)))
+    ∙ ap (drop c.args.before.records) (take-length c.args.walk.now.flips.records) in
+    let detectors = c.between-2.ensures.value ∙ (λ i. drop c.args.before.detectors (take (length (c.detectors-2.ensures.value i)) (c.detectors.ensures.value i)))
+    ∙ ap (drop c.args.before.detectors) (take-length c.args.walk.now.flips.detectors) in
+    let additions = c.between-3.ensures.value ∙ (λ i. drop c.args.before.additions (take (length (c.additions-2.ensures.value i)) (c.additions.ensures.value i)))
+    ∙ ap (drop c.args.before.additions) (take-length c.args.walk.now.flips.additions) in
+    let old = c.args.outputs.now in
+    record {
+      value = λ i. record {
+        records = (c.in_ok-append_turned.ensures.value ∙ (λ j. old.records.items ++ flipped (drop c.args.from.records (take c.args.to.records old.records.items)) (records j))) i;
+        free =
+            (c.in_ok-append_again.ensures.value
+            ∙ ap (λ bits. old.free.items ++ bits) (sym (flipped-empty (drop c.args.from.free (take c.args.to.free old.free.items))))) i;
+        detectors = (c.in_ok-append_turned-2.ensures.value ∙ (λ j. old.detectors.items ++ flipped (drop c.args.from.detectors (take c.args.to.detectors old.detectors.items)) (detectors j))) i;
+        additions =
+            (c.in_ok-append_turned_additions.ensures.value
+            ∙ (λ j. old.additions.items ++ flipped_additions (drop c.args.from.additions (take c.args.to.additions old.additions.items)) (additions j))) i;
+      };
+    }

@@ -1,0 +1,143 @@
+-- Noted runs: strings that are kept of free outcomes, where a run goes on.
+use Rattle.std.proofs.Common.{◌≡◌, ℕ, ◌+◌, ◌-◌, ◌<◌, ◌≤◌, min, refl, sym, ◌∙◌, ap, subst, Bool, true, false, ◌⊎◌, inl, inr, List, [], ◌∷◌, ◌++◌, length, take, drop, get_or, arith}
+use Rattle.std.specs.Prelude.{Option, None, Some, IfSome, slice_get, if◌then◌else◌}
+use Rattle.std.proofs.Math.Seq.{take-add, take-append-add}
+use Rattle.std.proofs.lemmas.List.{length-append, take-append-le, get_or_append_left}
+use Rattle.std.proofs.lemmas.Option.{slice_get_past}
+use Rattle.stab_letters.specs.declared.letter.Letter.{Letter}
+use Rattle.stab_pauli.specs.Paulis.{Signed}
+use Rattle.stab_tableau.specs.Traces.{member}
+use Rattle.stab_tableau.specs.Exchanges.{Exchanges}
+use Rattle.stab_circuit.specs.Steps.{Step}
+use Rattle.stab_steps.specs.Records.{ones}
+use Rattle.stab_steps.specs.Runs.{measured_by}
+use Rattle.stab_steps.specs.Points.{Point, RunOutput, origin, coins_of, all_coins_of, next_point, point_after, outputs}
+use Rattle.stab_steps.specs.ProgramStates.{ProgramState}
+use Rattle.stab_steps.proofs.RecordLemmas.{ones-append}
+use Rattle.stab_steps.proofs.RunLemmas.{outputs-append}
+use Rattle.stab_laws.proofs.PointLemmas.{flags-are-coins}
+use Rattle.stab_frames.specs.KeptStrings.{StringsState, IsNumbered, AreTrue, KeepsTrue, note_at}
+use Rattle.stab_frames.proofs.NoteAtLemmas.{note-equal}
+use Rattle.stab_frames.proofs.TrueLemmas.{true-append, true-same}
+use Rattle.stab_frames.specs.declared.noting.RunNotes.{RunNotes}
+use Rattle.stab_run.specs.inner.Led.{IsLed}
+use Rattle.stab_run.specs.inner.Noted.{IsNoted}
+use Rattle.stab_run.proofs.OverLemmas.{coins-are}
+
+-- the same number of qubits and the same coins
+pub noted-same : (n m : ℕ) (c d : ℕ → Bool) (xs : List Step) (notes : RunNotes) (free : List Bool) → m ≡ n → d ≡ c → IsNoted m d xs notes free → IsNoted n c xs notes free
+noted-same n m c d xs notes free size same is = subst (λ k. IsNoted k c xs notes free) size (subst (λ coins. IsNoted m coins xs notes free) same is)
+
+-- before the first step
+pub noted-nothing : (n : ℕ) (coins : ℕ → Bool) (notes : RunNotes) (free : List Bool) → length notes.string.letters ≡ n → notes.strings.qubits ≡ n → notes.strings.strings ≡ [] → free ≡ []
+    → IsNoted n coins [] notes free
+noted-nothing n coins notes free scratch size none empty = record {
+  scratch = scratch;
+  qubits = size;
+  numbered = omega (arith, ap length none, ap ones empty);
+  are_true = tt;
+}
+
+-- a run that goes on, and notes its strings
+pub noted-on : (n : ℕ) (coins : ℕ → Bool) (steps : List Step) (from count : ℕ) (old_notes new_notes : RunNotes) (old new : ProgramState) → IsLed n coins (take from steps) old
+    → IsNoted n coins (take from steps) old_notes old.output.free → length new_notes.string.letters ≡ n → new_notes.strings.qubits ≡ n
+    → KeepsTrue n coins (take count (drop from steps)) old_notes.strings new_notes.strings old new → IsNoted n coins (take (from + count) steps) new_notes new.output.free
+noted-on n coins steps from count old_notes new_notes old new led noted scratch size keeps =
+    let kept = keeps (take from steps) led.at noted.numbered noted.are_true in
+    record {
+      scratch = scratch;
+      qubits = size;
+      numbered = kept.0;
+      are_true = subst (λ xs. AreTrue n coins (note_at new_notes.strings.strings new.output.free) xs origin) (sym (take-add from count steps)) kept.1;
+    }
+
+-- a run that goes on, and notes no more
+
+if-none : (b : Bool) (o : Option (List Letter)) → o ≡ None → (if b then o else None) ≡ None
+if-none true o e = e
+if-none false o e = refl
+
+note-left : (strings : List (List Letter)) (free more : List Bool) (t : ℕ) → t < length free → note_at strings free t ≡ note_at strings (free ++ more) t
+note-left strings free more t lt =
+    sym (note-equal strings strings (free ++ more) free t t (get_or_append_left free more false t lt)
+    (λ is. ap (λ bits. slice_get strings (ones bits)) (take-append-le t free more (omega (arith, lt)))))
+
+note-none : (strings : List (List Letter)) (free more : List Bool) (t : ℕ) → length free ≤ t → length strings ≤ ones free → note_at strings (free ++ more) t ≡ None
+note-none strings free more t le few =
+    if-none (get_or (free ++ more) t false) (slice_get strings (ones (take t (free ++ more))))
+    (slice_get_past strings (ones (take t (free ++ more))) (omega (arith, few, count)))
+  where
+    count : ones (take t (free ++ more)) ≡ ones free + ones (take (t - length free) more)
+    count =
+        ap (λ k. ones (take k (free ++ more))) {x = t} {y = length free + (t - length free)} (omega (arith, le))
+        ∙ ap ones (take-append-add free more (t - length free))
+        ∙ ones-append free (take (t - length free) more)
+
+true-none : (n : ℕ) (coins : ℕ → Bool) (strings : ℕ → Option (List Letter)) (xs : List Step) (a : Point) → ((t : ℕ) → a.coin ≤ t → strings t ≡ None) → AreTrue n coins strings xs a
+true-none n coins strings [] a none = tt
+true-none n coins strings (x ∷ xs) a none = (
+  some-none (measured_by n x),
+  true-none n coins strings xs (next_point n coins x a) (λ t le. none t (omega (arith, le))),
+)
+  where
+    some-none : (m : Option Signed) → IfSome m (λ m. IfSome (strings a.coin) (λ s. Exchanges n (member a.trace) m s))
+    some-none None = tt
+    some-none (Some m) = subst (λ o. IfSome o (λ s. Exchanges n (member a.trace) m s)) (sym (none a.coin (omega arith))) tt
+
+pub noted-closed : (n : ℕ) (coins : ℕ → Bool) (steps : List Step) (from to : ℕ) (old_notes new_notes : RunNotes) (old new : ProgramState) → from ≤ to
+    → IsLed n coins (take from steps) old → IsLed n coins (take to steps) new → IsNoted n coins (take from steps) old_notes old.output.free
+    → new_notes.string ≡ old_notes.string → new_notes.strings ≡ record old_notes.strings { most = length old_notes.strings.strings }
+    → IsNoted n coins (take to steps) new_notes new.output.free
+noted-closed n coins steps from to old_notes new_notes old new le led later noted same closed = record {
+  scratch = ap (λ (s : Signed). length s.letters) same ∙ noted.scratch;
+  qubits = ap (λ (s : StringsState). s.qubits) closed ∙ noted.qubits;
+  numbered = subst (λ s. IsNumbered s new.output.free) (sym closed) (omega (arith, few, ap ones new_free ∙ ones-append old.output.free more));
+  are_true =
+      subst (λ (s : StringsState). AreTrue n coins (note_at s.strings new.output.free) (take to steps) origin) (sym closed)
+      (subst (λ xs. AreTrue n coins (note_at strings new.output.free) xs origin) (sym parts)
+      (subst (λ bits. AreTrue n coins (note_at strings bits) (whole ++ rest) origin) (sym new_free)
+      (true-append n coins (note_at strings (old.output.free ++ more)) whole rest origin
+      (true-same n coins (note_at strings old.output.free) (note_at strings (old.output.free ++ more)) whole origin
+      (λ t lt. note-left strings old.output.free more (0 + t) (omega (arith, lt, count, coins-are n coins whole origin))) noted.are_true)
+      (true-none n coins (note_at strings (old.output.free ++ more)) rest (point_after n coins whole origin)
+      (λ t le. note-none strings old.output.free more t (omega (arith, le, count)) few)))));
+}
+  where
+    strings : List (List Letter)
+    strings = old_notes.strings.strings
+
+    whole : List Step
+    whole = take from steps
+
+    rest : List Step
+    rest = take (to - from) (drop from steps)
+
+    more : List Bool
+    more = (outputs n coins (take (to - from) (drop from steps)) (point_after n coins (take from steps) origin)).free
+
+    parts : take to steps ≡ whole ++ rest
+    parts = ap (λ k. take k steps) {x = to} {y = from + (to - from)} (omega (arith, le)) ∙ take-add from (to - from) steps
+
+    new_free : new.output.free ≡ old.output.free ++ more
+    new_free =
+        ap (λ (o : RunOutput). o.free) (later.output ∙ ap (λ xs. outputs n coins xs origin) parts ∙ outputs-append n coins whole rest origin)
+        ∙ ap (λ (o : RunOutput). o.free ++ more) (sym led.output)
+
+    few : length strings ≤ ones old.output.free
+    few = omega (arith, noted.numbered)
+
+    count : length old.output.free ≡ (point_after n coins whole origin).coin
+    count = ap (λ (o : RunOutput). length o.free) led.output ∙ flags-are-coins n coins whole
+
+-- a run that goes on by steps which no coin decides
+pub noted-fixed : (n : ℕ) (coins : ℕ → Bool) (steps : List Step) (from to : ℕ) (notes : RunNotes) (old new : ProgramState) → from ≤ to
+    → IsLed n coins (take from steps) old → IsLed n coins (take to steps) new → ones new.output.free ≡ ones old.output.free
+    → IsNoted n coins (take from steps) notes old.output.free → IsNoted n coins (take to steps) notes new.output.free
+noted-fixed n coins steps from to notes old new le led later same noted = record {
+  scratch = noted.scratch;
+  qubits = noted.qubits;
+  numbered = omega (arith, noted.numbered, same);
+  are_true =
+      (noted-closed n coins steps from to notes (record notes { strings = record notes.strings { most = length notes.strings.strings } }) old new le led later noted refl
+      refl).are_true;
+}

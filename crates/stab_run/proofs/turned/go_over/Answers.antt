@@ -1,0 +1,191 @@
+use Rattle.std.proofs.Common.{◌≡◌, ◌+◌, ◌-◌, ◌*◌, refl, sym, ◌∙◌, ap, subst, All, [], length, take, drop, arith}
+use Rattle.std.proofs.Math.Seq.{take-length}
+use Rattle.std.proofs.Math.Nat.{mul-le-mul_right}
+use Rattle.std.proofs.lemmas.List.{length-drop}
+use Rattle.std.proofs.lemmas.List.Elements.{All-drop}
+use Rattle.stab_tableau.specs.Tableaus.{stabilises}
+use Rattle.stab_tableau.specs.Turns.{IsTurned}
+use Rattle.stab_circuit.specs.Steps.{rounds, unroll}
+use Rattle.stab_circuit.specs.Repeats.{round_of}
+use Rattle.stab_circuit.specs.Views.{circuit_items}
+use Rattle.stab_steps.specs.Records.{ones}
+use Rattle.stab_steps.specs.Points.{RunOutput, nothing, origin, all_coins_of, point_after}
+use Rattle.stab_steps.specs.ProgramStates.{StepFits, output_of}
+use Rattle.stab_steps.proofs.RecordLemmas.{ones-append}
+use Rattle.stab_frames.specs.Flips.{flipped_output}
+use Rattle.stab_laws.proofs.FitLemmas.{check-steps, check-whole}
+use Rattle.stab_run.specs.inner.Led.{behind_rounds}
+use Rattle.stab_run.specs.inner.Turned.{point_behind}
+use Rattle.stab_run.proofs.LedLemmas.{coins-more}
+use Rattle.stab_run.proofs.AgainLemmas.{behind-later}
+use Rattle.stab_run.proofs.FramedLemmas.{flipped-empty, ones-first, ones-few, coins-steps}
+use Rattle.stab_run.proofs.OverLemmas.{coins-are}
+use Rattle.stab_run.proofs.PeriodLemmas.{steps-fit, steps-next, asks-period, walked-same, later, next-period}
+use Rattle.stab_run.proofs.turned.go_over.Goals as goal
+
+pub overflow_mul-done : goal.overflow_mul-done
+overflow_mul-done g c =
+    let items = circuit_items c.args.circuit.now in
+    omega (
+      arith,
+      behind-later c.args.repeat c.args.done c.args.repeat.rounds (omega (arith, c.requires.within)),
+      c.requires.repeat.inside,
+      check-steps items (check-whole c.args.period.now.state.qubits items c.requires.checked),
+    )
+
+pub overflow_add-repeat : goal.overflow_add-repeat
+overflow_add-repeat g c =
+    let items = circuit_items c.args.circuit.now in
+    omega (
+      arith,
+      behind-later c.args.repeat c.args.done c.args.repeat.rounds (omega (arith, c.requires.within)),
+      c.requires.repeat.inside,
+      check-steps items (check-whole c.args.period.now.state.qubits items c.requires.checked),
+    )
+
+pub returns-in_err-cursor-clause-asks : goal.returns-in_err-cursor-clause-asks
+returns-in_err-cursor-clause-asks g c =
+    let r = c.args.repeat in
+    let done = c.args.done in
+    let next = c.args.done + c.args.period.now.rounds in
+    omega (arith, coins-more (behind_rounds r done) (behind_rounds r next) (unroll (circuit_items c.args.circuit.now)) (behind-later r done next (omega arith)))
+
+pub overflow_sub-len : goal.overflow_sub-len
+overflow_sub-len g c =
+    let items = circuit_items c.args.circuit.now in
+    let n = c.args.period.now.state.qubits in
+    let fits = steps-fit n items c.in_ok-cursor.cursor.all c.requires.checked c.in_ok-cursor.ensures.all c.in_ok-cursor.ensures.apart in
+    omega (
+      arith,
+      c.coin-coin.ensures.value,
+      c.requires.period.coin,
+      later n (g.C.Coins.sequence c.args.coins.now) (unroll items) c.args.repeat c.args.strings.now.strings c.args.done (output_of c.args.outputs.now) c.args.period.now
+          c.requires.repeat c.requires.period c.requires.within fits,
+      c.requires.period.led.at.coin,
+      c.len.ensures,
+    )
+
+pub overflow_mul-period : goal.overflow_mul-period
+overflow_mul-period g c =
+    let items = circuit_items c.args.circuit.now in
+    let fewer = mul-le-mul_right {m = c.args.period.now.rounds} {n = c.args.repeat.rounds} c.args.repeat.length (omega (arith, c.requires.within)) in
+    omega (
+      arith,
+      fewer,
+      c.requires.repeat.inside,
+      check-steps items (check-whole c.args.period.now.state.qubits items c.requires.checked),
+    )
+
+pub walk_with_coins-requires-clause-fits : goal.walk_with_coins-requires-clause-fits
+walk_with_coins-requires-clause-fits g c =
+    let items = circuit_items c.args.circuit.now in
+    let n = c.args.period.now.state.qubits in
+    let fits = steps-fit n items c.in_ok-cursor.cursor.all c.requires.checked c.in_ok-cursor.ensures.all c.in_ok-cursor.ensures.apart in
+    subst (λ k. All (StepFits k) c.in_ok-cursor.cursor.left) (sym c.requires.period.letters)
+    (subst (All (StepFits n)) (sym c.in_ok-cursor.ensures.steps) (All-drop (StepFits n) (behind_rounds c.args.repeat c.args.done) (unroll items) fits))
+
+pub walk_with_coins-requires-clause-few : goal.walk_with_coins-requires-clause-few
+walk_with_coins-requires-clause-few g c =
+    let items = circuit_items c.args.circuit.now in
+    let n = c.args.period.now.state.qubits in
+    let fits = steps-fit n items c.in_ok-cursor.cursor.all c.requires.checked c.in_ok-cursor.ensures.all c.in_ok-cursor.ensures.apart in
+    let coins = g.C.Coins.sequence c.args.coins.now in
+    let place = behind_rounds c.args.repeat c.args.done in
+    let more = behind-later c.args.repeat c.args.done c.args.repeat.rounds (omega (arith, c.requires.within)) in
+    omega (
+      arith,
+      c.coin-coin.ensures.value,
+      c.requires.period.coin,
+      later n coins (unroll items) c.args.repeat c.args.strings.now.strings c.args.done (output_of c.args.outputs.now) c.args.period.now
+          c.requires.repeat c.requires.period c.requires.within fits,
+      c.requires.period.led.at.coin,
+      c.len.ensures,
+      coins-are n coins (take place (unroll items)) origin,
+      coins-more place (length (unroll items)) (unroll items) (omega (arith, more, c.requires.repeat.inside)),
+      coins-steps (take (length (unroll items)) (unroll items)),
+      ap length (take-length (unroll items)),
+      ap length c.in_ok-cursor.ensures.steps,
+      length-drop place (unroll items),
+      check-steps items (check-whole n items c.requires.checked),
+    )
+
+pub walk_with_coins-requires-clause-kept : goal.walk_with_coins-requires-clause-kept
+walk_with_coins-requires-clause-kept g c =
+    let count = c.args.period.now.walk.coin + all_coins_of (take (c.args.period.now.rounds * c.args.repeat.length) c.in_ok-cursor.cursor.left) in
+    omega (arith, ones-first count c.as_slice.result.now, ap ones c.as_slice.ensures.value, c.requires.period.kept)
+
+pub returns-in_err-walk_with_coins-clause-asks : goal.returns-in_err-walk_with_coins-clause-asks
+returns-in_err-walk_with_coins-clause-asks g c =
+    asks-period c.args.repeat c.args.done c.args.period.now.rounds (g.C.Coins.asks c.args.coins.now) (g.C.Coins.asks c.walk_with_coins.new.coins)
+    (unroll (circuit_items c.args.circuit.now)) c.in_ok-cursor.cursor.left c.in_ok-cursor.ensures.steps c.walk_with_coins.ensures.asks
+
+pub returns-in_err-last-clause-asks : goal.returns-in_err-last-clause-asks
+returns-in_err-last-clause-asks g c =
+    asks-period c.args.repeat c.args.done c.args.period.now.rounds (g.C.Coins.asks c.args.coins.now) (g.C.Coins.asks c.walk_with_coins.new.coins)
+    (unroll (circuit_items c.args.circuit.now)) c.in_ok-cursor.cursor.left c.in_ok-cursor.ensures.steps c.walk_with_coins.ensures.asks
+
+pub returns-in_err-append_rest-clause-asks : goal.returns-in_err-append_rest-clause-asks
+returns-in_err-append_rest-clause-asks g c =
+    asks-period c.args.repeat c.args.done c.args.period.now.rounds (g.C.Coins.asks c.args.coins.now) (g.C.Coins.asks c.walk_with_coins.new.coins)
+    (unroll (circuit_items c.args.circuit.now)) c.in_ok-cursor.cursor.left c.in_ok-cursor.ensures.steps c.walk_with_coins.ensures.asks
+
+pub begin_again-requires : goal.begin_again-requires
+begin_again-requires g c = record {
+  within =
+      omega (
+        arith,
+        c.coin-coin.ensures.value,
+        c.number-number.ensures.value,
+        c.requires.period.placed,
+        ones-few c.args.period.now.walk.coin c.args.period.now.flags.items,
+      );
+}
+
+pub returns-clause-asks : goal.returns-clause-asks
+returns-clause-asks g c =
+    asks-period c.args.repeat c.args.done c.args.period.now.rounds (g.C.Coins.asks c.args.coins.now) (g.C.Coins.asks c.walk_with_coins.new.coins)
+    (unroll (circuit_items c.args.circuit.now)) c.in_ok-cursor.cursor.left c.in_ok-cursor.ensures.steps c.walk_with_coins.ensures.asks
+
+pub returns-clause-asks_free : goal.returns-clause-asks_free
+returns-clause-asks_free g c =
+    let steps = unroll (circuit_items c.args.circuit.now) in
+    let p = c.args.period.now in
+    let next = ap (take (p.rounds * c.args.repeat.length)) c.in_ok-cursor.ensures.steps ∙ steps-next steps c.args.repeat c.requires.repeat c.args.done p.rounds c.requires.within in
+    let free : ones (take (all_coins_of (take (p.rounds * c.args.repeat.length) c.in_ok-cursor.cursor.left)) (drop p.walk.coin c.as_slice.result.now))
+    ≡ ones (take (all_coins_of (rounds p.rounds (round_of c.args.repeat steps))) (drop p.walk.coin p.flags.items)) =
+    λ i. ones (take (all_coins_of (next i)) (drop p.walk.coin (c.as_slice.ensures.value i))) in
+    omega (
+      arith,
+      c.in_ok-walk_with_coins.ensures.asks_free,
+      free,
+      ap ones (ap (λ (o : RunOutput). o.free) c.in_ok-last.ensures.value ∙ flipped-empty p.last.free.items ∙ c.requires.period.flags),
+      ap (λ (o : RunOutput). ones o.free) c.in_ok-append_rest.ensures.value,
+      ones-append c.args.outputs.now.free.items c.in_ok-last.last.free.items,
+    )
+
+pub returns-clause-period : goal.returns-clause-period
+returns-clause-period g c =
+    let items = circuit_items c.args.circuit.now in
+    let steps = unroll items in
+    let n = c.args.period.now.state.qubits in
+    let coins = g.C.Coins.sequence c.args.coins.now in
+    let p = c.args.period.now in
+    let r = c.args.repeat in
+    let w = c.walk_with_coins.new.walk in
+    let strings = c.args.strings.now.strings in
+    let fits = steps-fit n items c.in_ok-cursor.cursor.all c.requires.checked c.in_ok-cursor.ensures.all c.in_ok-cursor.ensures.apart in
+    let next = ap (take (p.rounds * r.length)) c.in_ok-cursor.ensures.steps ∙ steps-next steps r c.requires.repeat c.args.done p.rounds c.requires.within in
+    let here = point_behind n coins steps r c.args.done in
+    let ahead : c.len.result - c.coin-coin.result ≡ here.coin - p.walk.coin = omega (arith, c.len.ensures, c.requires.period.led.at.coin, c.coin-coin.ensures.value) in
+    let before = c.records-before.ensures.value in
+    next-period n coins steps r strings c.args.done (output_of c.args.outputs.now) p c.requires.repeat c.requires.period c.requires.within fits w
+    (walked-same n (length p.walk.letters) strings p.flags.items c.as_slice.result.now p.last.records.items c.as_slice-2.result.now (here.coin - p.walk.coin)
+    (c.len.result - c.coin-coin.result) coins _ (take (p.rounds * r.length) c.in_ok-cursor.cursor.left) p.walk w c.requires.period.letters c.as_slice.ensures.value
+    c.as_slice-2.ensures.value ahead next c.in_ok-walk_with_coins.ensures.walked)
+    c.in_ok-last.last
+    (c.in_ok-last.ensures.value ∙ ap (λ bits. flipped_output (output_of p.last) (record w.flips { records = drop (length bits) w.flips.records; free = [] })) before)
+    c.turn_state.new.state c.begin_again.new.self (output_of c.append_rest.new.self) c.turn_state.ensures.qubits c.walk_with_coins.ensures.length
+    (subst (λ l. IsTurned n l (stabilises p.state) (stabilises c.turn_state.new.state)) c.letters.ensures.value c.turn_state.ensures.turned)
+    (c.begin_again.ensures.value
+    ∙ (λ i. record w { flips = record nothing { records = w.flips.records }; coin = c.coin-coin.ensures.value i; number = c.number-number.ensures.value i }))
+    c.in_ok-append_rest.ensures.value

@@ -1,0 +1,230 @@
+//! Rounds that come again up to the signs of the state's rows. A frame goes over a period of them, again and again.
+
+ghost use Rattle.std.specs.Prelude.{◌≡◌, ◌+◌, ◌-◌, ◌*◌, ◌<◌, ◌≤◌, None, IsTrue, length, take, drop, OnOk, IfOk, IfErr, IfSome};
+ghost use Rattle.stab_io.specs.declared.refusal.Refusal.TheVariants.{OutOfMemory};
+ghost use Rattle.stab_circuit.specs.Steps.{unroll, check_within};
+ghost use Rattle.stab_circuit.specs.Views.{circuit_items};
+ghost use Rattle.stab_circuit.specs.Repeats.{IsRepeat};
+ghost use Rattle.stab_steps.specs.Records.{ones};
+ghost use Rattle.stab_steps.specs.Points.{all_coins_of};
+ghost use Rattle.stab_steps.specs.ProgramStates.{program_state, output_of};
+ghost use Rattle.stab_run.specs.inner.Led.{IsLed, behind_rounds};
+ghost use Rattle.stab_run.specs.inner.Turned.{IsPeriod, BeginsFrame, BeginsPeriod};
+
+use crate::earlier::Earlier;
+use crate::turns::flipped_by;
+use stab_circuit::{Circuit, Cursor, Repeat};
+use stab_frames::{FrameWalk, KeptStrings, between, count_ones, turn_state, walk_with_coins};
+use stab_io::Refusal;
+use stab_pauli::Pauli;
+use stab_steps::{Coins, Lengths, Outputs};
+use stab_tableau::{CompactTableau, Tableau};
+use std::alloc::{AllocError, Global};
+
+/// As many rounds as a frame goes over at once.
+#[derive(Drop)]
+pub struct Period {
+    /// How many they are.
+    pub rounds: usize,
+    /// The state behind the last of them.
+    pub state: CompactTableau,
+    /// What they gave.
+    pub last: Outputs,
+    /// The flags of the run up to where the frame began, for which strings are kept.
+    pub flags: Vec<bool>,
+    /// The frame by which the point behind them differs from the one before them.
+    pub walk: FrameWalk,
+}
+
+/// Whether a frame may go over the rounds since an earlier one: two periods more are left at least, each measurement since made a
+/// record, the steps look back to no record that was not there, and all strings are kept.
+fn may_turn(
+    earlier: &Earlier,
+    outputs: &Outputs,
+    repeat: Repeat,
+    done: usize,
+    strings: &KeptStrings,
+) -> bool
+    requires later { earlier.now.done < done }
+    requires within { done ≤ repeat.rounds }
+    ensures recorded { IsTrue result → length outputs.now.records.items + earlier.now.lengths.free ≡ length outputs.now.free.items + earlier.now.lengths.records }
+    ensures newest { IsTrue result → (repeat.reach ≤ earlier.now.lengths.records) × (earlier.now.lengths.records ≤ length outputs.now.records.items) }
+    ensures flags { IsTrue result → earlier.now.lengths.free ≤ length outputs.now.free.items }
+    ensures kept { IsTrue result → ones outputs.now.free.items ≤ length strings.now.strings }
+{
+    let lengths = earlier.lengths;
+    let records = outputs.records.len();
+    let flags = outputs.free.len();
+    (repeat.rounds - done) / (done - earlier.done) >= 2
+        && repeat.reach as usize <= lengths.records
+        && lengths.records <= records
+        && lengths.free <= flags
+        && records - lengths.records == flags - lengths.free
+        && count_ones(outputs.free.as_slice()) <= strings.len()
+}
+
+/// The frame with these letters by which a run differs from where it was earlier.
+fn frame_of(
+    alloc: Global,
+    letters: &Pauli,
+    outputs: &Outputs,
+    lengths: Lengths,
+    reach: usize,
+) -> Result<FrameWalk, AllocError>
+    requires flags { lengths.free ≤ length outputs.now.free.items }
+    requires newest { reach ≤ lengths.records }
+    requires records { lengths.records ≤ length outputs.now.records.items }
+    ensures walk { IfOk result (λ w. BeginsFrame letters.now.letters (output_of outputs.now) lengths reach w) }
+{
+    let mut walk = FrameWalk::new(alloc, letters.len(), outputs.free.as_slice(), lengths.free)?;
+    walk.multiply(letters);
+    let records = outputs.records.as_slice();
+    let now = records.len();
+    walk.flip_records(
+        between(records, lengths.records - reach, lengths.records),
+        between(records, now - reach, now),
+    )?;
+    Ok(walk)
+}
+
+/// The rounds since an earlier one as a period for a frame to go over, where the state now and then differ in the signs of their
+/// rows alone, if it may. Strings are kept of the free outcomes.
+pub fn period_since(
+    alloc: Global,
+    earlier: &Earlier,
+    tableau: &Tableau,
+    string: &mut Pauli,
+    outputs: &Outputs,
+    repeat: Repeat,
+    done: usize,
+    strings: &KeptStrings,
+) -> Result<Option<Period>, Refusal>
+    requires later { earlier.now.done < done }
+    requires within { done ≤ repeat.rounds }
+    requires same_length { length string.old.letters ≡ tableau.now.qubits }
+    requires same_qubits { earlier.now.tableau.qubits ≡ tableau.now.qubits }
+    ensures string { length string.new.letters ≡ length string.old.letters }
+    ensures period { IfOk result (λ found. IfSome found (BeginsPeriod tableau.now (output_of outputs.now) repeat earlier.now done strings.now.strings)) }
+    ensures err { IfErr result (λ r. r ≡ OutOfMemory) }
+{
+    if !may_turn(earlier, outputs, repeat, done, strings)
+        || !earlier.tableau.frame_to(tableau, string)
+    {
+        return Ok(None);
+    }
+    let walk = frame_of(
+        alloc,
+        string,
+        outputs,
+        earlier.lengths,
+        repeat.reach as usize,
+    )?;
+    let mut last = Outputs::new(alloc);
+    last.append_rest(outputs, earlier.lengths)?;
+    let mut flags = Vec::new(alloc);
+    flags.extend_from_slice(outputs.free.as_slice())?;
+    Ok(Some(Period {
+        rounds: done - earlier.done,
+        state: tableau.compact(alloc)?,
+        last,
+        flags,
+        walk,
+    }))
+}
+
+/// Goes over the rounds of one more period.
+fn go_over<C: Coins>(
+    alloc: Global,
+    circuit: &Circuit,
+    coins: &mut C,
+    outputs: &mut Outputs,
+    repeat: Repeat,
+    strings: &KeptStrings,
+    period: &mut Period,
+    done: usize,
+) -> Result<(), Refusal>
+    requires checked { check_within period.old.state.qubits (circuit_items circuit.now) ≡ None }
+    requires repeat { IsRepeat (unroll (circuit_items circuit.now)) repeat }
+    requires within { done + period.old.rounds ≤ repeat.rounds }
+    requires strings { strings.now.qubits ≡ period.old.state.qubits }
+    requires period { IsPeriod period.old.state.qubits (C.sequence coins.old) (unroll (circuit_items circuit.now)) repeat strings.now.strings done (output_of outputs.old) period.old }
+    ensures qubits { OnOk result (period.new.state.qubits ≡ period.old.state.qubits) }
+    ensures rounds { period.new.rounds ≡ period.old.rounds }
+    ensures same_coins { C.sequence coins.new ≡ C.sequence coins.old }
+    ensures asks { C.asks coins.new + all_coins_of (take (behind_rounds repeat done) (unroll (circuit_items circuit.now))) ≤ C.asks coins.old + all_coins_of (take (behind_rounds repeat (done + period.old.rounds)) (unroll (circuit_items circuit.now))) }
+    ensures asks_free { OnOk result (C.asks coins.new + ones outputs.old.free.items ≤ C.asks coins.old + ones outputs.new.free.items) }
+    ensures period { OnOk result (IsPeriod period.old.state.qubits (C.sequence coins.old) (unroll (circuit_items circuit.now)) repeat strings.now.strings (done + period.old.rounds) (output_of outputs.new) period.new) }
+    ensures err { IfErr result (λ r. r ≡ OutOfMemory) }
+{
+    let coin = period.walk.coin();
+    let number = period.walk.number();
+    let before = period.walk.records().len();
+    let mut cursor = Cursor::at(alloc, circuit, repeat.first + done * repeat.length)?;
+    walk_with_coins(
+        &mut period.walk,
+        strings,
+        period.flags.as_slice(),
+        period.last.records.as_slice(),
+        coins,
+        outputs.free.len() - coin,
+        &mut cursor,
+        period.rounds * repeat.length,
+    )?;
+    let last = flipped_by(alloc, &period.last, &period.walk, before)?;
+    let none = Lengths {
+        records: 0,
+        free: 0,
+        detectors: 0,
+        additions: 0,
+    };
+    outputs.append_rest(&last, none)?;
+    period.last = last;
+    turn_state(&mut period.state, period.walk.letters());
+    period.walk.begin_again(coin, number);
+    Ok(())
+}
+
+/// Goes over the rounds of a period as often as they fit into those that are left. Tells how many rounds are done so.
+pub fn go_over_rounds<C: Coins>(
+    alloc: Global,
+    circuit: &Circuit,
+    tableau: &mut Tableau,
+    coins: &mut C,
+    outputs: &mut Outputs,
+    repeat: Repeat,
+    strings: &KeptStrings,
+    period: Period,
+    done: usize,
+) -> Result<usize, Refusal>
+    requires checked { check_within tableau.old.qubits (circuit_items circuit.now) ≡ None }
+    requires repeat { IsRepeat (unroll (circuit_items circuit.now)) repeat }
+    requires within { done ≤ repeat.rounds }
+    requires strings { strings.now.qubits ≡ tableau.old.qubits }
+    requires period { IsPeriod tableau.old.qubits (C.sequence coins.old) (unroll (circuit_items circuit.now)) repeat strings.now.strings done (output_of outputs.old) period }
+    ensures qubits { tableau.new.qubits ≡ tableau.old.qubits }
+    ensures same_coins { C.sequence coins.new ≡ C.sequence coins.old }
+    ensures asks { C.asks coins.new + all_coins_of (take (behind_rounds repeat done) (unroll (circuit_items circuit.now))) ≤ C.asks coins.old + all_coins_of (take (behind_rounds repeat repeat.rounds) (unroll (circuit_items circuit.now))) }
+    ensures asks_part { IfOk result (λ now. C.asks coins.new + all_coins_of (take (behind_rounds repeat done) (unroll (circuit_items circuit.now))) ≤ C.asks coins.old + all_coins_of (take (behind_rounds repeat now) (unroll (circuit_items circuit.now)))) }
+    ensures asks_free { OnOk result (C.asks coins.new + ones outputs.old.free.items ≤ C.asks coins.old + ones outputs.new.free.items) }
+    ensures more { IfOk result (λ now. (done ≤ now) × (now ≤ repeat.rounds)) }
+    ensures led { IfOk result (λ now. IsLed tableau.old.qubits (C.sequence coins.old) (take (behind_rounds repeat now) (unroll (circuit_items circuit.now))) (program_state tableau.new (output_of outputs.new))) }
+    ensures err { IfErr result (λ r. r ≡ OutOfMemory) }
+{
+    let mut period = period;
+    let mut now = done;
+    'periods: while repeat.rounds - now >= period.rounds {
+        go_over(
+            alloc,
+            circuit,
+            coins,
+            outputs,
+            repeat,
+            strings,
+            &mut period,
+            now,
+        )?;
+        now += period.rounds;
+    }
+    period.state.write_into(tableau);
+    Ok(now)
+}
