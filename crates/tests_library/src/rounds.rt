@@ -32,7 +32,28 @@ M 0 5
 DETECTOR rec[-1] rec[-2]
 ";
 
-const CASES: [Case; 15] = [
+/// A Bacon-Shor code of distance 3: eight or nine of the twelve outcomes are free in each round.
+const GAUGE: &str = "MPP X0*X1 X1*X2 X3*X4 X4*X5 X6*X7 X7*X8
+MPP Z0*Z3 Z3*Z6 Z1*Z4 Z4*Z7 Z2*Z5 Z5*Z8
+DETECTOR rec[-12] rec[-10] rec[-8] rec[-24] rec[-22] rec[-20]
+DETECTOR rec[-6] rec[-4] rec[-2] rec[-18] rec[-16] rec[-14]
+OBSERVABLE_INCLUDE(0) rec[-1]
+";
+
+/// Free outcomes of all axes, inverted ones, pairs that a reset parts, and gates under a record.
+const MIXED: &str = "H 0 2
+CX 0 1 2 3
+MR !1 3
+MRX !0
+S 4
+MX 4
+MY !4
+CX rec[-2] 5 rec[-4] 6
+M 2 !5 6
+DETECTOR rec[-1] rec[-7]
+";
+
+const CASES: [Case; 22] = [
     // Every other round is the same, or each third, fourth or thirty-fifth.
     (
         "M 0\n",
@@ -114,6 +135,57 @@ const CASES: [Case; 15] = [
         "MX 1\nREPEAT 3 {\nM 0\nX 0\n}\nM 1\n",
         "",
     ),
+    // So they do, and leave a state that is as it was but for signs; a frame tells all further rounds.
+    (
+        "R 0\nMPP X0*X1 X1*X2 X3*X4 X4*X5 X6*X7 X7*X8\nMPP Z0*Z3 Z3*Z6 Z1*Z4 Z4*Z7 Z2*Z5 Z5*Z8\n",
+        "REPEAT 190 {\n",
+        190,
+        GAUGE,
+        "M 0 1 2 3 4 5 6 7 8\n",
+    ),
+    (
+        "H 5 6\nCX 5 7\n",
+        "REPEAT 230 {\n",
+        230,
+        MIXED,
+        "M 0 1 2 3 4 5 6 7\nDETECTOR rec[-1] rec[-30]\n",
+    ),
+    (
+        "",
+        "REPEAT 700 {\n",
+        700,
+        "H 0\nM 0\nCX rec[-1] 1\nM 1\nDETECTOR rec[-1] rec[-2]\n",
+        "MX 0\n",
+    ),
+    (
+        "M 0 0 0 0 0 0 0 0\n",
+        "REPEAT 800 {\n",
+        800,
+        "MX 0\nM !0\nDETECTOR rec[-1] rec[-9]\n",
+        "M 0\n",
+    ),
+    (
+        "M 0 1 2 3\n",
+        "REPEAT 701 {\n",
+        701,
+        "SWAP 0 1 1 2\nMX 0\nM 1\nCZ rec[-2] 2\nMY 3\nM 3\nDETECTOR rec[-1] rec[-4]\nOBSERVABLE_INCLUDE(2) rec[-3] rec[-7]\n",
+        "M 0 1 2 3\nMX 4\n",
+    ),
+    // A reset hides an outcome that a coin decides, and gates bring a state back after four rounds.
+    (
+        "",
+        "REPEAT 600 {\n",
+        600,
+        "H 0\nCX 0 1\nR 0\nM 1\n",
+        "M 0 1\n",
+    ),
+    (
+        "H 1 3\n",
+        "REPEAT 601 {\n",
+        601,
+        "SWAP 1 2 2 3\nCX 3 4\nMX 4\nM 4\n",
+        "M 1 2 3 4\n",
+    ),
     // A record decides which gate is applied, and one of long before what a detector says.
     (
         "X 0\nM 0\n",
@@ -149,10 +221,15 @@ fn in_a_block(alloc: Global, case: Case) -> Result<Vec<u8>, Fail> {
     Ok(text)
 }
 
-/// The lines of a case, with the block written out.
+/// A block that does nothing. In a circuit with a block no written rounds are looked for, so each
+/// step of the lines behind is carried out.
+const STILL_BLOCK: &str = "REPEAT 2 {\nI 0\n}\n";
+
+/// The lines of a case, with the block written out, where each step is carried out.
 fn written_out(alloc: Global, case: Case) -> Result<Vec<u8>, Fail> {
     let (before, _, rounds, body, behind) = case;
-    let mut text = Vec::from_slice(alloc, before.as_bytes())?;
+    let mut text = Vec::from_slice(alloc, STILL_BLOCK.as_bytes())?;
+    text.extend_from_slice(before.as_bytes())?;
     for _ in 0..rounds {
         text.extend_from_slice(body.as_bytes())?;
     }
