@@ -23,7 +23,7 @@ two_cases zero h = inl refl
 two_cases (suc zero) h = inr refl
 two_cases (suc (suc x)) h = absurd (omega arith)
 
-low_xor : (a b x : ℕ) → x ≡ (a + b) % 2 → a < 2 → b < 2 → eqb x 1 ≡ eqb a 1 ⊕ eqb b 1
+pub low_xor : (a b x : ℕ) → x ≡ (a + b) % 2 → a < 2 → b < 2 → eqb x 1 ≡ eqb a 1 ⊕ eqb b 1
 low_xor a b x e ha hb = by_cases (two_cases a ha) (two_cases b hb)
   where
     by_cases : (a ≡ 0) ⊎ (a ≡ 1) → (b ≡ 0) ⊎ (b ≡ 1) → eqb x 1 ≡ eqb a 1 ⊕ eqb b 1

@@ -54,7 +54,7 @@ no_bits true true e = cc
 clash : (b : Bool) → b ≡ true → b ≡ false → ⊥
 clash b e f = cc
 
-blank_letter : (x z bit : ℕ) → bit_at (bit_or x z) bit ≡ 0 → bits_letter x z bit ≡ I
+pub blank_letter : (x z bit : ℕ) → bit_at (bit_or x z) bit ≡ 0 → bits_letter x z bit ≡ I
 blank_letter x z bit none = λ i. letter_of_bits (eqb (x0 i) 1) (eqb (z0 i) 1)
   where
     x0 : bit_at x bit ≡ 0
@@ -63,7 +63,7 @@ blank_letter x z bit none = λ i. letter_of_bits (eqb (x0 i) 1) (eqb (z0 i) 1)
     z0 : bit_at z bit ≡ 0
     z0 = let both = bit_at_or x z bit in omega (arith, both, none)
 
-letter_there : (x z bit : ℕ) → bit_at (bit_or x z) bit ≡ 1 → bits_letter x z bit ≢ I
+pub letter_there : (x z bit : ℕ) → bit_at (bit_or x z) bit ≡ 1 → bits_letter x z bit ≢ I
 letter_there x z bit one e = by_bits (two_cases (bit_at x bit) (bit_at-lt x bit)) (two_cases (bit_at z bit) (bit_at-lt z bit))
   where
     no : (eqb (bit_at x bit) 1 ≡ false) × (eqb (bit_at z bit) 1 ≡ false)

@@ -1,5 +1,6 @@
 -- Products with a row of a table, read and written through slices of its words, as contracts see them.
-use Rattle.std.proofs.Common.{◌≡◌, ℕ, ◌*◌, ◌<◌, Bool, true, false, refl, ◌∙◌, List, ◌++◌, length, get_or, set, take, drop}
+use Rattle.std.proofs.Common.{◌≡◌, ℕ, ◌*◌, ◌<◌, Bool, true, false, refl, sym, ◌∙◌, ap, subst, List, ◌++◌, length, get_or, set, take, drop, arith, length-drop}
+use Rattle.std.proofs.lemmas.List.{take_all, take-append-drop}
 use Rattle.std.specs.Simd.Lanes.{chunk, put_chunk}
 use Rattle.stab_letters.specs.declared.phase.Phase.{Phase}
 use Rattle.stab_letters.specs.declared.phase.Phase.TheVariants.{Quarter}
@@ -9,8 +10,8 @@ use Rattle.stab_pauli.specs.Rows.{Rows, row_at, with_row, product_times_i}
 use Rattle.stab_pauli.specs.inner.Words.{xor_words}
 use Rattle.stab_pauli.specs.inner.Powers.{strings_meet}
 use Rattle.stab_pauli.specs.inner.Blocks.{row_letters}
-use Rattle.stab_pauli.proofs.PaddedLemmas.{IsView, same_numbers, alike, written_view}
-use Rattle.stab_pauli.proofs.SeenLemmas.{IsSeen, row_seen, put_seen, written_seen, read_power, product_view, times_i_view, fitting}
+use Rattle.stab_pauli.proofs.PaddedLemmas.{IsView, IsFitting, same_numbers, alike, written_view}
+use Rattle.stab_pauli.proofs.SeenLemmas.{IsSeen, qubits_seen, row_seen, put_seen, written_seen, read_power, product_view, times_i_view, fitting}
 
 -- a slice of words that was multiplied at row a by others, and whether bits met
 pub record IsTimes (m a : ℕ) (slice other words : List ℕ) (b : Bool) : Type 0 where
@@ -47,6 +48,20 @@ times_i_seen {n} {m} {ws} {ps} {v} {ws'} mine theirs a la apart words len x y t 
   where
     read : IsTimes m a ws ws' words b
     read = read_times ws ws' es eo times
+
+-- a string of one block beside a table of its length, by its words with X bits and those with Z bits
+pub block_viewed : {n m : ℕ} {ws : List ℕ} {ps : List Phase} {v : Rows} {n' m' : ℕ} {ws' : List ℕ} {k' : Phase} {v' : Signed} → IsSeen n m ws ps v → IsView n' m' ws' k' v'
+    → length v'.letters ≡ v.qubits → m ≡ 1 → (words : List ℕ) → words ≡ ws' → IsView v.qubits 1 (take 4 words ++ take 4 (drop 4 words)) k' v'
+block_viewed {n} {m} {ws} {ps} {v} {n'} {m'} {ws'} {k'} {v'} mine theirs l one words e =
+    subst (λ w. IsView v.qubits 1 w k' v') (sym whole) (same_numbers v.qubits 1 (qubits_seen mine) one fit.view)
+  where
+    fit : IsFitting n m n' m' ws' k' v'
+    fit = fitting mine theirs l
+
+    whole : take 4 words ++ take 4 (drop 4 words) ≡ ws'
+    whole =
+        ap (λ w. take 4 words ++ w) (take_all 4 (drop 4 words) (let size = fit.view.row.size in let same = ap length e in omega (arith, length-drop 4 words)))
+        ∙ take-append-drop 4 words ∙ e
 
 -- a string that was multiplied by a row that was read, and whether bits met
 pub record IsTimesRow (m : ℕ) (slice read words : List ℕ) (b : Bool) : Type 0 where

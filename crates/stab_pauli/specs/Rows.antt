@@ -1,6 +1,6 @@
 -- Several signed Pauli strings of one length, side by side.
 -- Source: the rows of a tableau in Aaronson and Gottesman 2004, section III, of any number and in any relation.
-use Rattle.std.specs.Prelude.{ℕ, ◌≡◌, ◌<◌, List, length, map, slice_index_or, slice_set}
+use Rattle.std.specs.Prelude.{ℕ, ◌≡◌, ◌<◌, Bool, true, false, List, length, map, slice_index_or, slice_set}
 use Rattle.stab_letters.specs.declared.letter.Letter.{Letter}
 use Rattle.stab_letters.specs.declared.phase.Phase.TheVariants.{Quarter}
 use Rattle.stab_letters.specs.Phases.{phase_add, sign_of_phase}
@@ -38,3 +38,8 @@ unsigned_rows r = map (λ p. p.letters) r.rows
 -- i times the product of two strings that anticommute
 abbrev pub product_times_i : Signed → Signed → Signed
 product_times_i p q = record { negative = sign_of_phase (phase_add Quarter (product_phase p q)); letters = string_product p.letters q.letters }
+
+-- the same where the bit says so, and else the first string
+abbrev pub product_times_i_if : Bool → Signed → Signed → Signed
+product_times_i_if false p q = p
+product_times_i_if true p q = product_times_i p q

@@ -3,9 +3,11 @@
 //! - `ones`: how many bits are set, and whether their number is odd.
 //! - `row`: the words of one string: their product with others, their power of i, their letters.
 //! - `flat`: rows that lie side by side in one slice.
+//! - `part`: eight of these, and which of them have X or Y at a place.
 //! - `sparse`: words of which most are 0, kept without these.
 
 pub(crate) mod flat;
 pub(crate) mod ones;
+pub(crate) mod part;
 pub(crate) mod row;
 pub(crate) mod sparse;

@@ -1,3 +1,4 @@
+mod chosen;
 mod compact;
 
 use super::packed::{flat, row};

@@ -48,4 +48,7 @@ pub mod FrameLemmas
 pub mod SameStateLemmas
 pub mod TurnedRowLemmas
 pub mod ExchangedOutcomeLemmas
-pub mod CollapsedWalkLemmas
+pub mod PairsChosenLemmas
+pub mod RowsApartLemmas
+pub mod CollapsedGroupLemmas
+pub mod PutLettersLemmas

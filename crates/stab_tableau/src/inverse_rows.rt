@@ -1,13 +1,11 @@
-ghost use Rattle.std.specs.Prelude.{◌≡◌, ◌≢◌, ℕ, ◌<◌, false, length, slice_set};
-ghost use Rattle.stab_letters.specs.Letters.{◌⊕◌, letters_anticommute};
+ghost use Rattle.std.specs.Prelude.{◌≡◌, ◌≢◌, ◌<◌, false, length};
+ghost use Rattle.stab_letters.specs.Letters.{letters_anticommute};
 ghost use Rattle.stab_pauli.specs.Paulis.{anticommute};
 ghost use Rattle.stab_pauli.specs.Phaseds.{phased, phased_product};
-ghost use Rattle.stab_letters.specs.declared.letter.Letter.TheVariants.{Z};
 ghost use Rattle.stab_tableau.specs.Gates.{letter_at};
-ghost use Rattle.stab_tableau.specs.inner.InverseRows.{rows_at, letter_preimage, IsOver, IsRow, AreRows};
-ghost use Rattle.stab_tableau.specs.inner.Collapses.{collapsed_row, CollapsedRow, IsTold};
+ghost use Rattle.stab_tableau.specs.inner.InverseRows.{rows_at, letter_preimage, IsRow, AreRows};
 ghost use Rattle.stab_tableau.specs.inner.ColumnLetters.{letter_anticommuting};
-ghost use Rattle.stab_tableau.specs.inner.Pairs.{row_string, put, product_times_i_if, IsGated, IsPairGated};
+ghost use Rattle.stab_tableau.specs.inner.Pairs.{IsGated, IsPairGated};
 
 use super::table::{InverseRow, Table};
 use stab_letters::{Gate, PairGate};
@@ -147,67 +145,4 @@ pub fn column_letter(table: &Table, qubit: usize, letter: Letter, place: usize) 
     let with_x = letter.anticommutes(table.letter(InverseRow::OfX, qubit, place));
     let with_z = letter.anticommutes(table.letter(InverseRow::OfZ, qubit, place));
     letter_where(with_x, with_z)
-}
-
-/// The rows of the inverse after a measurement, by the measured letter on a qubit; see `collapse_string`.
-#[inline(always)]
-pub fn collapse(table: &mut Table, qubit: usize, letter: Letter, place: usize, multiplier: &Pauli)
-    requires in_range { qubit < length table.old }
-    requires place_in_range { place < length table.old }
-    requires same_length { length multiplier.now.letters ≡ length table.old }
-    requires told { IsTold place multiplier.now letter (rows_at table.old qubit) }
-    ensures row { CollapsedRow place multiplier.now (rows_at table.old qubit) (rows_at table.new qubit) }
-    ensures rest { table.new ≡ slice_set table.old qubit (rows_at table.new qubit) }
-{
-    let with_x = Letter::X.anticommutes(letter);
-    let with_z = Letter::Z.anticommutes(letter);
-    collapse_string(table, InverseRow::OfX, qubit, with_x, place, multiplier);
-    collapse_string(table, InverseRow::OfZ, qubit, with_z, place, multiplier);
-}
-
-// A preimage after a measurement of a string whose preimage r, with the sign of the outcome, has X or Y at the place.
-// The letter Z there is w, and `multiplier` is i times w times r. What the measurement makes of preimages exchanges w and
-// r: a string that commutes with both stays, and one that anticommutes with both is negated; one that anticommutes with
-// r alone is multiplied by w and then r, and one with w alone by r and then w. Both products are i times that with
-// `multiplier`, up to sign. So one product does in place of two. No test reads the whole string: with w it is one bit, and
-// a preimage commutes with r where what it is the preimage of commutes with the measured string.
-#[inline(always)]
-fn collapse_string(
-    table: &mut Table,
-    row: InverseRow,
-    qubit: usize,
-    with_r: bool,
-    place: usize,
-    multiplier: &Pauli,
-)
-    requires in_range { qubit < length table.old }
-    requires place_in_range { place < length table.old }
-    requires same_length { length multiplier.now.letters ≡ length table.old }
-    requires told { anticommute (row_string row (rows_at table.old qubit)) multiplier.now ≡ letters_anticommute Z (letter_at (row_string row (rows_at table.old qubit)).letters place) ⊕ with_r }
-    ensures string { phased (row_string row (rows_at table.new qubit)) ≡ collapsed_row (letters_anticommute Z (letter_at (row_string row (rows_at table.old qubit)).letters place)) (anticommute (row_string row (rows_at table.old qubit)) multiplier.now) (phased multiplier.now) (phased (row_string row (rows_at table.old qubit))) }
-    ensures rest { table.new ≡ put row qubit (row_string row (rows_at table.new qubit)) table.old }
-{
-    let with_w = table.has_x(row, qubit, place);
-    multiply_times_i_if(table, row, qubit, with_w != with_r, multiplier);
-    table.negate_if(row, qubit, with_r);
-}
-
-// Makes a row i times the product of itself and a string, where the bit says that it anticommutes with it.
-#[inline(always)]
-fn multiply_times_i_if(
-    table: &mut Table,
-    row: InverseRow,
-    qubit: usize,
-    with_other: bool,
-    other: &Pauli,
-)
-    requires in_range { qubit < length table.old }
-    requires same_length { length other.now.letters ≡ length table.old }
-    requires told { anticommute (row_string row (rows_at table.old qubit)) other.now ≡ with_other }
-    ensures value { table.new ≡ put row qubit (product_times_i_if (anticommute (row_string row (rows_at table.old qubit)) other.now) (row_string row (rows_at table.old qubit)) other.now) table.old }
-{
-    if !with_other {
-        return;
-    }
-    table.multiply_by_times_i(row, qubit, other);
 }

@@ -4,8 +4,8 @@
 //!   that are kept in little memory.
 //! - `collapse`: what a measurement answers, and what it does to the rows of a state.
 //! - `table`: the two rows that a state keeps for each qubit, all in one allocation.
-//! - `inverse_rows`: how gates and measurements change the rows of a qubit.
-//! - `rows`: the rows of all qubits: preimages of strings, columns, and a pass over all of them.
+//! - `inverse_rows`: how gates change the rows of a qubit.
+//! - `rows`: the rows of all qubits: preimages of strings, columns, and how measurements change them, 32 qubits at a time.
 //! - `group`: whether two states have one group, and reading stabilisers.
 //! - `elimination`: rows that generate a group are made its reduced rows.
 //! - `gate_laws`: a gate is undone by its way back, and keeps products and commuting.

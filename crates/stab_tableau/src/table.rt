@@ -1,3 +1,4 @@
+mod chosen;
 mod compact;
 
 pub use compact::CompactTable;
@@ -180,17 +181,6 @@ impl Table {
     {
         self.rows
             .multiply_times_i(row.place(qubit), other.place(other_qubit));
-    }
-
-    /// Makes a row i times the product of itself and a string, with which it anticommutes.
-    #[inline(always)]
-    pub fn multiply_by_times_i(&mut self, row: InverseRow, qubit: usize, other: &Pauli)
-        requires in_range { qubit < length self.old }
-        requires same_length { length other.now.letters ≡ length self.old }
-        requires anticommuting { anticommute (row_string row (rows_at self.old qubit)) other.now ≡ true }
-        ensures value { self.new ≡ put row qubit (product_times_i (row_string row (rows_at self.old qubit)) other.now) self.old }
-    {
-        self.rows.multiply_by_times_i(row.place(qubit), other);
     }
 
     /// Makes a string the product of itself and a row, with which it commutes.

@@ -1,6 +1,6 @@
 //! Rows that lie side by side in one slice of words.
 
-ghost use Rattle.std.specs.Prelude.{◌≡◌, ◌≢◌, ◌+◌, ◌*◌, ◌<◌, ◌≤◌, ◌⊎◌, ◌↔◌, IsTrue, length, replicate, slice_set};
+ghost use Rattle.std.specs.Prelude.{◌≡◌, ◌≢◌, ◌+◌, ◌*◌, ◌<◌, ◌≤◌, ◌⊎◌, ◌++◌, ◌↔◌, IsTrue, length, replicate, slice_set};
 ghost use Rattle.std.specs.Simd.Lanes.{chunk, put_chunk};
 ghost use Rattle.stab_pauli.specs.inner.Words.{xor_words, swapped_words, AreShort};
 ghost use Rattle.stab_pauli.specs.inner.Powers.{strings_meet};
@@ -31,6 +31,29 @@ pub(crate) fn row_of(words: &[u64], count: usize, blocks: usize, a: usize) -> &[
 {
     let at = place_of(words.len(), count, blocks, a);
     &words[at..at + 8 * blocks]
+}
+
+/// Where the words of the eight rows from row a on begin.
+#[inline(always)]
+fn place_of_part(size: usize, count: usize, blocks: usize, a: usize) -> usize
+    requires in_range { a + 8 ≤ count }
+    requires all { size ≡ 8 * blocks * count }
+    ensures value { result ≡ 8 * blocks * a }
+    ensures inside { result + 8 * blocks * 8 ≤ size }
+{
+    8 * blocks * a
+}
+
+/// The words of the eight rows from row a on.
+#[inline(always)]
+pub(crate) fn part_of(words: &[u64], count: usize, blocks: usize, a: usize) -> &[u64]
+    requires all { length words.now ≡ 8 * blocks * count }
+    requires in_range { a + 8 ≤ count }
+    ensures value { result.now ≡ chunk (8 * blocks * a) (8 * blocks * 8) words.now }
+    ensures size { length result.now ≡ 8 * blocks * 8 }
+{
+    let at = place_of_part(words.len(), count, blocks, a);
+    &words[at..at + 8 * blocks * 8]
 }
 
 /// Multiplies row a of so many rows by row b, and tells whether its Z bits meet X bits of row b at an odd number of
@@ -108,6 +131,23 @@ pub(crate) fn multiply_by(
 {
     let at = place_of(words.len(), count, blocks, a);
     row::multiply(blocks, &mut words[at..at + 8 * blocks], other)
+}
+
+/// Multiplies the block at word a by another, as `multiply_block` does, of which the words with X bits and those with Z bits
+/// are at hand.
+#[inline(always)]
+pub(crate) fn multiply_block_by(words: &mut [u64], a: usize, other_x: u64x4, other_z: u64x4) -> bool
+    requires fits { a + 8 ≤ length words.old }
+    requires x_size { length other_x ≡ 4 }
+    requires z_size { length other_z ≡ 4 }
+    ensures words { words.new ≡ put_chunk a words.old (xor_words (chunk a 8 words.old) (other_x ++ other_z)) }
+    ensures meet { result ≡ strings_meet (row_letters 1 (chunk a 8 words.old)) (row_letters 1 (other_x ++ other_z)) }
+{
+    let x = u64x4::from_slice(&words[a..]);
+    let z = u64x4::from_slice(&words[a + 4..]);
+    (x ^ other_x).copy_to_slice(&mut words[a..]);
+    (z ^ other_z).copy_to_slice(&mut words[a + 4..]);
+    ones::are_odd(z & other_x)
 }
 
 /// Makes row a another row.

@@ -1,11 +1,12 @@
 //! The words of one string, in blocks.
 
-ghost use Rattle.std.specs.Prelude.{◌≡◌, ◌≢◌, ℕ, ◌+◌, ◌*◌, ◌/◌, ◌%◌, ◌^◌, ◌<◌, ◌≤◌, length, slice_index_or, slice_set, eqb, IfSome, IfNone};
+ghost use Rattle.std.specs.Prelude.{◌≡◌, ◌≢◌, ℕ, ◌+◌, ◌*◌, ◌/◌, ◌%◌, ◌^◌, ◌<◌, ◌≤◌, length, slice_index_or, slice_set, eqb, IfSome, IfNone, true, false};
 ghost use Rattle.std.specs.Int.{bit_at};
 ghost use Rattle.stab_letters.specs.declared.letter.Letter.TheVariants.{I};
 ghost use Rattle.stab_letters.specs.Phases.{phase_add, phase_of_sign, sign_of_phase, phase_inverse};
 ghost use Rattle.stab_letters.specs.XParts.{has_x};
 ghost use Rattle.stab_pauli.specs.Paulis.{strings_anticommute};
+ghost use Rattle.stab_pauli.specs.Masks.{chooses};
 ghost use Rattle.stab_pauli.specs.inner.Words.{xor_words, letter_of_bits};
 ghost use Rattle.stab_pauli.specs.inner.Powers.{string_power, strings_meet, sign_power};
 ghost use Rattle.stab_letters.specs.Letters.{letter_power};
@@ -141,7 +142,17 @@ pub(crate) fn has_x_at(blocks: usize, row: &[u64], qubit: usize) -> bool
     requires in_range { qubit < 256 * blocks }
     ensures value { result ≡ has_x (slice_index_or (row_letters blocks row.now) qubit I) }
 {
-    bit_of(row[x_word(qubit)], qubit % 64)
+    bit_of(word_with_x(blocks, row, qubit), qubit % 64)
+}
+
+/// The word of a row of so many blocks with the X bit of a place.
+#[inline(always)]
+pub(crate) fn word_with_x(blocks: usize, row: &[u64], qubit: usize) -> u64
+    requires length { length row.now ≡ 8 * blocks }
+    requires in_range { qubit < 256 * blocks }
+    ensures value { eqb (bit_at result (qubit % 64)) 1 ≡ has_x (slice_index_or (row_letters blocks row.now) qubit I) }
+{
+    row[x_word(qubit)]
 }
 
 /// The first place in a row of so many blocks where the letter is X or Y.
@@ -208,6 +219,18 @@ fn next_bit(word: u64, from: usize) -> Option<usize>
     Some(from + rest.trailing_zeros() as usize)
 }
 
+/// Which of the 64 letters of a word of a row of so many blocks are not I, by a mask.
+#[inline(always)]
+pub(crate) fn letters_mask(blocks: usize, row: &[u64], word: usize) -> u64
+    requires length { length row.now ≡ 8 * blocks }
+    requires in_range { word < 4 * blocks }
+    ensures chosen { (k : ℕ) → k < 64 → chooses result k ≡ true → slice_index_or (row_letters blocks row.now) (64 * word + k) I ≢ I }
+    ensures spared { (k : ℕ) → k < 64 → chooses result k ≡ false → slice_index_or (row_letters blocks row.now) (64 * word + k) I ≡ I }
+{
+    let at = 8 * (word / 4) + word % 4;
+    row[at] | row[at + 4]
+}
+
 /// The place of the word with the X bit of a qubit.
 #[inline(always)]
 pub(crate) fn x_word(qubit: usize) -> usize
@@ -218,7 +241,7 @@ pub(crate) fn x_word(qubit: usize) -> usize
 
 /// A bit of a word.
 #[inline(always)]
-fn bit_of(word: u64, bit: usize) -> bool
+pub(crate) fn bit_of(word: u64, bit: usize) -> bool
     requires in_range { bit < 64 }
     ensures value { result ≡ eqb (bit_at word bit) 1 }
 {

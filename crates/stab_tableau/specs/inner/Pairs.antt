@@ -1,8 +1,11 @@
 -- Pairs: strings that lie two by two, the preimages of X and Z on one qubit after another.
 -- Source: this project's own.
-use Rattle.std.specs.Prelude.{◌≡◌, ℕ, Bool, true, false, ◌*◌, ◌+◌, ◌≤◌, List, [], ◌∷◌, length, slice_set}
+use Rattle.std.specs.Prelude.{◌≡◌, ℕ, Bool, ◌*◌, ◌+◌, ◌<◌, ◌≤◌, ◌⊎◌, List, [], ◌∷◌, length, slice_set}
 use Rattle.stab_pauli.specs.Paulis.{Signed}
-use Rattle.stab_pauli.specs.Rows.{Rows, product_times_i}
+use Rattle.stab_letters.specs.declared.letter.Letter.{Letter}
+use Rattle.stab_letters.specs.declared.letter.Letter.TheVariants.{X, Z}
+use Rattle.stab_pauli.specs.Rows.{Rows}
+use Rattle.stab_pauli.specs.Masks.{chooses}
 use Rattle.stab_tableau.specs.declared.table.InverseRow.{InverseRow}
 use Rattle.stab_tableau.specs.declared.table.InverseRow.TheVariants.{OfX, OfZ}
 use Rattle.stab_letters.specs.declared.gate.Gate.{Gate}
@@ -20,6 +23,11 @@ paired (x ∷ z ∷ rows) = record { x = x; z = z } ∷ paired rows
 abbrev pub row_place : InverseRow → ℕ → ℕ
 row_place OfX q = 2 * q
 row_place OfZ q = 2 * q + 1
+
+-- the letter of which it is the preimage
+abbrev pub row_letter : InverseRow → Letter
+row_letter OfX = X
+row_letter OfZ = Z
 
 -- one of the two
 abbrev pub row_string : InverseRow → InverseRows → Signed
@@ -39,15 +47,16 @@ put w q p rows = slice_set rows q (with_string w p (rows_at rows q))
 abbrev pub rows_exchanged : InverseRow → ℕ → InverseRow → ℕ → List InverseRows → List InverseRows
 rows_exchanged v a w b rows = put w b (row_string v (rows_at rows a)) (put v a (row_string w (rows_at rows b)) rows)
 
--- i times the product of a string and another, where the bit says so
-abbrev pub product_times_i_if : Bool → Signed → Signed → Signed
-product_times_i_if false p j = p
-product_times_i_if true p j = product_times_i p j
-
 -- two strings for each of at most 1,024 qubits
 pub record IsPaired (r : Rows) : Type 0 where
   pub few : r.qubits ≤ most_qubits
   pub size : length r.rows ≡ 2 * r.qubits
+
+-- the rows of the 32 qubits from one on are each made what their bit of a mask says, and all others stay
+pub record ArePairsChosen (first mask : ℕ) (change : Bool → Signed → Signed) (old new : List InverseRows) : Type 0 where
+  pub size : length new ≡ length old
+  pub within : (w : InverseRow) (k : ℕ) → k < 32 → row_string w (rows_at new (first + k)) ≡ change (chooses mask (row_place w k)) (row_string w (rows_at old (first + k)))
+  pub others : (q : ℕ) → (q < first) ⊎ (first + 32 ≤ q) → rows_at new q ≡ rows_at old q
 
 -- rows after a gate on a qubit
 pub record IsGated (g : Gate) (q : ℕ) (old new : List InverseRows) : Type 0 where

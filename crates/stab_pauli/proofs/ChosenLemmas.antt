@@ -1,0 +1,124 @@
+-- Rows that a mask chooses: what a walk from one to the next has done.
+use Rattle.std.proofs.Common.{◌≡◌, ◌≢◌, ℕ, ◌+◌, ◌-◌, ◌^◌, ◌<◌, ◌≤◌, Bool, true, false, refl, sym, ◌∙◌, ap, subst, length, get_or, arith, inl, inr}
+use Rattle.std.specs.Prelude.{◌⊎◌}
+use Rattle.std.proofs.lemmas.Bool.{cases_order, cases_lt}
+use Rattle.std.proofs.lemmas.List.{length-set, get_or-set_same, get_or-set_other, get_or_past, get_or-replicate, length-replicate}
+use Rattle.stab_letters.specs.declared.letter.Letter.TheVariants.{I}
+use Rattle.stab_letters.specs.XParts.{has_x}
+use Rattle.stab_pauli.specs.Paulis.{Signed, identity}
+use Rattle.stab_pauli.specs.Rows.{Rows, row_at, with_row}
+use Rattle.stab_pauli.specs.Masks.{chooses, AreChosen}
+use Rattle.stab_pauli.proofs.MaskLemmas.{clash, none-chosen, spared-above}
+
+-- the chosen rows are changed but for those that are left in the rest of the mask
+pub record IsWalked (first mask rest : ℕ) (change : Bool → Signed → Signed) (old now : Rows) : Type 0 where
+  pub qubits : now.qubits ≡ old.qubits
+  pub size : length now.rows ≡ length old.rows
+  pub among : (k : ℕ) → k < 64 → chooses rest k ≡ true → chooses mask k ≡ true
+  pub done : (k : ℕ) → k < 64 → chooses rest k ≡ false → row_at now (first + k) ≡ change (chooses mask k) (row_at old (first + k))
+  pub left : (k : ℕ) → k < 64 → chooses rest k ≡ true → row_at now (first + k) ≡ row_at old (first + k)
+  pub others : (a : ℕ) → (a < first) ⊎ (first + 64 ≤ a) → row_at now a ≡ row_at old a
+
+module _ (first mask : ℕ) (change : Bool → Signed → Signed) (old : Rows) where
+  pub walk-start : ((p : Signed) → change false p ≡ p) → IsWalked first mask mask change old old
+  walk-start stays = record {
+    qubits = refl;
+    size = refl;
+    among = λ k lt one. one;
+    done = λ k lt none. sym (ap (λ b. change b (row_at old (first + k))) none ∙ stays (row_at old (first + k)));
+    left = λ k lt one. refl;
+    others = λ a apart. refl;
+  }
+
+  pub walk-end : (now : Rows) (rest : ℕ) → rest ≡ 0 → IsWalked first mask rest change old now → AreChosen first mask change old now
+  walk-end now rest e walked = record {
+    qubits = walked.qubits;
+    size = walked.size;
+    within = λ k lt. walked.done k lt (ap (λ n. chooses n k) e ∙ none-chosen k);
+    others = walked.others;
+  }
+
+  -- one row further
+  module _ (now : Rows) (rest k : ℕ) (walked : IsWalked first mask rest change old now) (lk : k < 64) (one : chooses rest k ≡ true) (within : first + k < length old.rows)
+      (new : Rows) (made : new ≡ with_row now (first + k) (change true (row_at now (first + k)))) (next : ℕ) (gone : chooses next k ≡ false)
+      (kept : (j : ℕ) → j ≢ k → j < 64 → chooses next j ≡ chooses rest j) where
+    other : (a : ℕ) → a ≢ first + k → row_at new a ≡ row_at now a
+    other a apart = ap (λ (r : Rows). row_at r a) made ∙ get_or-set_other now.rows (first + k) a (change true (row_at now (first + k))) (identity now.qubits) apart
+
+    here : row_at new (first + k) ≡ change (chooses mask k) (row_at old (first + k))
+    here =
+        ap (λ (r : Rows). row_at r (first + k)) made
+        ∙ get_or-set_same now.rows (first + k) (change true (row_at now (first + k))) (identity now.qubits) (let e = walked.size in omega arith)
+        ∙ (λ i. change (sym (walked.among k lk one) i) (walked.left k lk one i))
+
+    among-next : (j : ℕ) → j < 64 → chooses next j ≡ true → chooses mask j ≡ true
+    among-next j lj chosen = by_place (cases_order j k)
+      where
+        apart : j ≢ k → chooses mask j ≡ true
+        apart ne = walked.among j lj (sym (kept j ne lj) ∙ chosen)
+
+        by_place : (j ≡ k) ⊎ ((j < k) ⊎ (k < j)) → chooses mask j ≡ true
+        by_place (inl e) = ap (chooses mask) e ∙ walked.among k lk one
+        by_place (inr (inl lt)) = apart (omega arith)
+        by_place (inr (inr gt)) = apart (omega arith)
+
+    done-next : (j : ℕ) → j < 64 → chooses next j ≡ false → row_at new (first + j) ≡ change (chooses mask j) (row_at old (first + j))
+    done-next j lj none = by_place (cases_order j k)
+      where
+        apart : j ≢ k → row_at new (first + j) ≡ change (chooses mask j) (row_at old (first + j))
+        apart ne = other (first + j) (omega arith) ∙ walked.done j lj (sym (kept j ne lj) ∙ none)
+
+        by_place : (j ≡ k) ⊎ ((j < k) ⊎ (k < j)) → row_at new (first + j) ≡ change (chooses mask j) (row_at old (first + j))
+        by_place (inl e) = subst (λ i. row_at new (first + i) ≡ change (chooses mask i) (row_at old (first + i))) (sym e) here
+        by_place (inr (inl lt)) = apart (omega arith)
+        by_place (inr (inr gt)) = apart (omega arith)
+
+    left-next : (j : ℕ) → j < 64 → chooses next j ≡ true → row_at new (first + j) ≡ row_at old (first + j)
+    left-next j lj chosen = by_place (cases_order j k)
+      where
+        apart : j ≢ k → row_at new (first + j) ≡ row_at old (first + j)
+        apart ne = other (first + j) (omega arith) ∙ walked.left j lj (sym (kept j ne lj) ∙ chosen)
+
+        by_place : (j ≡ k) ⊎ ((j < k) ⊎ (k < j)) → row_at new (first + j) ≡ row_at old (first + j)
+        by_place (inl e) = clash (chooses next k) (ap (chooses next) (sym e) ∙ chosen) gone
+        by_place (inr (inl lt)) = apart (omega arith)
+        by_place (inr (inr gt)) = apart (omega arith)
+
+    others-next : (a : ℕ) → (a < first) ⊎ (first + 64 ≤ a) → row_at new a ≡ row_at old a
+    others-next a (inl lt) = other a (omega arith) ∙ walked.others a (inl lt)
+    others-next a (inr le) = other a (omega arith) ∙ walked.others a (inr le)
+
+    pub walk-step : IsWalked first mask next change old new
+    walk-step = record {
+      qubits = ap (λ (r : Rows). r.qubits) made ∙ walked.qubits;
+      size = ap (λ (r : Rows). length r.rows) made ∙ length-set now.rows (first + k) (change true (row_at now (first + k))) ∙ walked.size;
+      among = among-next;
+      done = done-next;
+      left = left-next;
+      others = others-next;
+    }
+
+-- no letter of a row that is not there has an X part
+pub past-rows : (v : Rows) (a q : ℕ) → length v.rows ≤ a → has_x (get_or (row_at v a).letters q I) ≡ false
+past-rows v a q le = ap (λ (p : Signed). has_x (get_or p.letters q I)) (get_or_past v.rows a (identity v.qubits) le) ∙ ap has_x (by_place (cases_order q v.qubits))
+  where
+    blank : q < v.qubits → get_or (identity v.qubits).letters q I ≡ I
+    blank lt = get_or-replicate v.qubits q I I lt
+
+    past : v.qubits ≤ q → get_or (identity v.qubits).letters q I ≡ I
+    past beyond = get_or_past (identity v.qubits).letters q I (let l = length-replicate v.qubits I in omega arith)
+
+    by_place : (q ≡ v.qubits) ⊎ ((q < v.qubits) ⊎ (v.qubits < q)) → get_or (identity v.qubits).letters q I ≡ I
+    by_place (inl e) = past (omega arith)
+    by_place (inr (inl lt)) = blank lt
+    by_place (inr (inr gt)) = past (omega arith)
+
+-- which of 64 rows have X or Y at a qubit, where only those before an end are looked at: there are no others
+module _ (v : Rows) (first end q : ℕ) (last : (k : ℕ) → k < 64 → end ≤ first + k → length v.rows ≤ first + k) where
+  pub mask-with_x : (mask : ℕ) → mask < 2 ^ (end - first) → ((k : ℕ) → first + k < end → chooses mask k ≡ has_x (get_or (row_at v (first + k)).letters q I))
+      → (k : ℕ) → k < 64 → chooses mask k ≡ has_x (get_or (row_at v (first + k)).letters q I)
+  mask-with_x mask short value k lk = by_place (cases_lt (first + k) end)
+    where
+      by_place : (first + k < end) ⊎ (end ≤ first + k) → chooses mask k ≡ has_x (get_or (row_at v (first + k)).letters q I)
+      by_place (inl lt) = value k lt
+      by_place (inr le) = spared-above mask (end - first) k short (omega arith) ∙ sym (past-rows v (first + k) q (last k lk le))

@@ -1,0 +1,34 @@
+use Rattle.std.proofs.Common.{arith, ◌≡◌, ◌≤◌, ◌+◌, ◌-◌, ◌^◌, ◌<◌, get_or, subst}
+use Rattle.stab_letters.specs.declared.letter.Letter.TheVariants.{I}
+use Rattle.stab_letters.specs.XParts.{has_x}
+use Rattle.stab_pauli.specs.Rows.{row_at}
+use Rattle.stab_pauli.proofs.MaskLemmas.{grown-eight}
+use Rattle.stab_pauli.proofs.rows.PauliRows.mask_of_x.Goals as goal
+
+pub overflow_sub-a-in-loop-a : goal.overflow_sub-a-in-loop-a
+overflow_sub-a-in-loop-a c = omega (arith, c.loop-a.invariant.from, c.loop-a.invariant.parts, c.loop-a-test.true)
+
+pub eight_with_x-requires-clause-in_range : goal.eight_with_x-requires-clause-in_range
+eight_with_x-requires-clause-in_range c =
+    omega (arith, c.loop-a.invariant.from, c.loop-a.invariant.parts, c.loop-a.invariant.in_range, c.loop-a-test.true, c.requires.in_range)
+
+pub behind_eight-mask-requires-clause-room : goal.behind_eight-mask-requires-clause-room
+behind_eight-mask-requires-clause-room c =
+    omega (arith, c.loop-a.invariant.from, c.loop-a.invariant.parts, c.loop-a.invariant.in_range, c.loop-a-test.true, c.requires.few)
+
+pub overflow_sub-a-in-loop-a-2 : goal.overflow_sub-a-in-loop-a-2
+overflow_sub-a-in-loop-a-2 c = omega (arith, c.loop-a.invariant.from, c.loop-a.invariant.parts, c.loop-a-test.true)
+
+pub loop-a-preserved : goal.loop-a-preserved
+loop-a-preserved c =
+    let inv = c.loop-a.invariant in
+    let part : c.args.first + 8 ≤ c.loop-a.a = omega (arith, inv.from, inv.parts, c.loop-a-test.true) in
+    let longer : c.args.end - c.loop-a.a + 8 ≡ c.args.end - (c.loop-a.a - 8) = omega (arith, inv.in_range, part) in
+    record {
+      from = omega (arith, part);
+      in_range = omega (arith, inv.in_range);
+      parts = omega (arith, part, inv.parts);
+      value = grown-eight (λ j. has_x (get_or (row_at c.args.self.now j).letters c.args.qubit I)) c.loop-a.a c.args.end c.loop-a.mask c.behind_eight-mask.result c.eight_with_x.result
+          (omega (arith, part)) c.eight_with_x.ensures.value c.behind_eight-mask.ensures.first c.behind_eight-mask.ensures.others inv.value;
+      short = subst (λ n. c.behind_eight-mask.result < 2 ^ n) longer c.behind_eight-mask.ensures.short;
+    }

@@ -1,0 +1,18 @@
+use Rattle.std.proofs.Common.{arith, ◌≡◌, ◌+◌, ◌-◌, ◌^◌, ◌<◌, get_or, subst}
+use Rattle.stab_letters.specs.declared.letter.Letter.TheVariants.{I}
+use Rattle.stab_letters.specs.XParts.{has_x}
+use Rattle.stab_pauli.specs.Rows.{row_at}
+use Rattle.stab_pauli.proofs.MaskLemmas.{grown}
+use Rattle.stab_pauli.proofs.rows.PauliRows.mask_row_by_row.Goals as goal
+
+pub loop-a-preserved : goal.loop-a-preserved
+loop-a-preserved c =
+    let inv = c.loop-a.invariant in
+    let longer : c.args.end - c.loop-a.a + 1 ≡ c.args.end - (c.loop-a.a - 1) = omega (arith, inv.in_range, c.loop-a-test.true) in
+    record {
+      from = omega (arith, c.loop-a-test.true);
+      in_range = omega (arith, inv.in_range);
+      value = grown (λ j. has_x (get_or (row_at c.args.self.now j).letters c.args.qubit I)) c.loop-a.a c.args.end c.loop-a.mask c.behind-mask.result c.has_x.result
+          (omega (arith, c.loop-a-test.true)) c.has_x.ensures.value c.behind-mask.ensures.first c.behind-mask.ensures.others inv.value;
+      short = subst (λ n. c.behind-mask.result < 2 ^ n) longer c.behind-mask.ensures.short;
+    }

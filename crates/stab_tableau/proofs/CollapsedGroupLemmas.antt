@@ -1,0 +1,121 @@
+-- Collapsed groups: the rows of 32 qubits after a measurement, by the masks that tell which are multiplied and which turned.
+use Rattle.std.proofs.Common.{◌≡◌, ℕ, ◌+◌, ◌-◌, ◌<◌, ◌≤◌, true, false, inl, inr, refl, sym, ◌∙◌, ap, subst, List, length, arith}
+use Rattle.std.specs.Prelude.{◌⊎◌, bit_xor}
+use Rattle.std.proofs.lemmas.Bool.{cases_lt}
+use Rattle.std.proofs.lemmas.List.{get_or_past}
+use Rattle.stab_letters.specs.declared.letter.Letter.{Letter}
+use Rattle.stab_letters.specs.declared.letter.Letter.TheVariants.{I, Z}
+use Rattle.stab_letters.specs.Letters.{◌⊕◌, letters_anticommute}
+use Rattle.stab_letters.specs.XParts.{has_x}
+use Rattle.stab_pauli.specs.Masks.{chooses}
+use Rattle.stab_pauli.specs.Paulis.{Signed, anticommute, with_sign}
+use Rattle.stab_pauli.specs.Phaseds.{phased}
+use Rattle.stab_pauli.specs.Rows.{product_times_i_if}
+use Rattle.stab_pauli.proofs.MaskLemmas.{clash, chooses-xor}
+use Rattle.stab_pauli.proofs.SignedLemmas.{phased-with_sign}
+use Rattle.stab_tableau.specs.declared.table.InverseRow.{InverseRow}
+use Rattle.stab_tableau.specs.declared.table.InverseRow.TheVariants.{OfX, OfZ}
+use Rattle.stab_tableau.specs.Gates.{letter_at}
+use Rattle.stab_tableau.specs.inner.InverseRows.{InverseRows, rows_at}
+use Rattle.stab_tableau.specs.inner.Pairs.{row_place, row_letter, row_string, ArePairsChosen}
+use Rattle.stab_tableau.specs.inner.Collapses.{collapsed_row, CollapsedRow, IsTold}
+use Rattle.stab_tableau.proofs.CollapsedStringLemmas.{collapsed-bit}
+use Rattle.stab_tableau.proofs.RowsApartLemmas.{apart-I}
+use Rattle.stab_tableau.proofs.TableauColumnLemmas.{x-with_Z}
+
+-- either row of a qubit
+told-string : (w : InverseRow) (k : ℕ) (j : Signed) (l : Letter) (row : InverseRows) → IsTold k j l row
+    → anticommute (row_string w row) j ≡ letters_anticommute Z (letter_at (row_string w row).letters k) ⊕ letters_anticommute (row_letter w) l
+told-string OfX k j l row told = told.x
+told-string OfZ k j l row told = told.z
+
+-- the bit of a row that is not there
+no-row : (w : InverseRow) (rows : List InverseRows) (q place : ℕ) → length rows ≤ q → has_x (letter_at (row_string w (rows_at rows q)).letters place) ≡ false
+no-row OfX rows q place le = ap (λ (r : InverseRows). has_x (letter_at r.x.letters place)) (get_or_past rows q _ le)
+no-row OfZ rows q place le = ap (λ (r : InverseRows). has_x (letter_at r.z.letters place)) (get_or_past rows q _ le)
+
+module _ (place : ℕ) (j : Signed) (letters : List Letter) (first with_w with_r : ℕ) (old : List InverseRows)
+    (size : length letters ≡ length old)
+    (told : (q : ℕ) → first ≤ q → q < length old → IsTold place j (letter_at letters q) (rows_at old q))
+    (with_w_is : (w : InverseRow) (k : ℕ) → k < 32 → chooses with_w (row_place w k) ≡ has_x (letter_at (row_string w (rows_at old (first + k))).letters place))
+    (with_r_is : (w : InverseRow) (k : ℕ) → k < 32 → chooses with_r (row_place w k) ≡ letters_anticommute (row_letter w) (letter_at letters (first + k))) where
+  -- the masks tell which rows anticommute with the multiplier
+  told-row : (w : InverseRow) (k : ℕ) → k < 32 → first + k < length old
+      → anticommute (row_string w (rows_at old (first + k))) j ≡ chooses with_w (row_place w k) ⊕ chooses with_r (row_place w k)
+  told-row w k lk lt =
+      told-string w place j (letter_at letters (first + k)) (rows_at old (first + k)) (told (first + k) (omega arith) lt)
+      ∙ (λ i. (x-with_Z (letter_at (row_string w (rows_at old (first + k))).letters place) ∙ sym (with_w_is w k lk)) i ⊕ sym (with_r_is w k lk) i)
+
+  told-both : (w : InverseRow) (k : ℕ) → k < 32 → first + k < length old
+      → anticommute (row_string w (rows_at old (first + k))) j ≡ chooses (bit_xor with_w with_r) (row_place w k)
+  told-both w k lk lt = told-row w k lk lt ∙ sym (chooses-xor with_w with_r (row_place w k))
+
+  -- they choose no row that is not there
+  none-there : (w : InverseRow) (k : ℕ) → k < 32 → length old ≤ first + k → (chooses with_w (row_place w k) ≡ false) × (chooses with_r (row_place w k) ≡ false)
+  none-there w k lk le = (
+    with_w_is w k lk ∙ no-row w old (first + k) place le,
+    with_r_is w k lk ∙ apart-I w letters (first + k) (get_or_past letters (first + k) I (omega arith)),
+  )
+
+  pub turned-in : (w : InverseRow) (k : ℕ) → k < 32 → chooses with_r (row_place w k) ≡ true → first + k < length old
+  turned-in w k lk one = by_place (cases_lt (first + k) (length old))
+    where
+      by_place : (first + k < length old) ⊎ (length old ≤ first + k) → first + k < length old
+      by_place (inl lt) = lt
+      by_place (inr le) = clash (chooses with_r (row_place w k)) one (none-there w k lk le).1
+
+  pub multiplied-in : (w : InverseRow) (k : ℕ) → k < 32 → chooses (bit_xor with_w with_r) (row_place w k) ≡ true → first + k < length old
+  multiplied-in w k lk one = by_place (cases_lt (first + k) (length old))
+    where
+      by_place : (first + k < length old) ⊎ (length old ≤ first + k) → first + k < length old
+      by_place (inl lt) = lt
+      by_place (inr le) =
+          let none = none-there w k lk le in
+          clash (chooses (bit_xor with_w with_r) (row_place w k)) one (chooses-xor with_w with_r (row_place w k) ∙ (λ i. none.0 i ⊕ none.1 i))
+
+  pub multiplied-apart : (w : InverseRow) (k : ℕ) → k < 32 → chooses (bit_xor with_w with_r) (row_place w k) ≡ true
+      → anticommute (row_string w (rows_at old (first + k))) j ≡ true
+  multiplied-apart w k lk one = told-both w k lk (multiplied-in w k lk one) ∙ one
+
+  module _ (mid new : List InverseRows) (multiplied : ArePairsChosen first (bit_xor with_w with_r) (λ b p. product_times_i_if b p j) old mid)
+      (turned : ArePairsChosen first with_r with_sign mid new) where
+    string-collapsed : (w : InverseRow) (k : ℕ) → k < 32 → first + k < length old
+        → phased (row_string w (rows_at new (first + k)))
+        ≡ collapsed_row (letters_anticommute Z (letter_at (row_string w (rows_at old (first + k))).letters place)) (anticommute (row_string w (rows_at old (first + k))) j) (phased j) (phased (row_string w (rows_at old (first + k))))
+    string-collapsed w k lk lt =
+        let s = row_string w (rows_at old (first + k)) in
+        let r = chooses with_r (row_place w k) in
+        ap phased (turned.within w k lk ∙ ap (with_sign r) (multiplied.within w k lk ∙ ap (λ b. product_times_i_if b s j) (sym (told-both w k lk lt))))
+        ∙ phased-with_sign r (product_times_i_if (anticommute s j) s j)
+        ∙ collapsed-bit s j (anticommute s j) (chooses with_w (row_place w k)) r refl (told-row w k lk lt)
+        ∙ ap (λ b. collapsed_row b (anticommute s j) (phased j) (phased s)) (with_w_is w k lk ∙ sym (x-with_Z (letter_at s.letters place)))
+
+    collapsed-at : (k : ℕ) → k < 32 → first + k < length old → CollapsedRow place j (rows_at old (first + k)) (rows_at new (first + k))
+    collapsed-at k lk lt = record { x = string-collapsed OfX k lk lt; z = string-collapsed OfZ k lk lt }
+
+    pub group-collapsed : (q : ℕ) → first ≤ q → q < first + 32 → q < length old → CollapsedRow place j (rows_at old q) (rows_at new q)
+    group-collapsed q le near lt =
+        let e : first + (q - first) ≡ q = omega arith in
+        subst (λ a. CollapsedRow place j (rows_at old a) (rows_at new a)) e (collapsed-at (q - first) (omega arith) (omega arith))
+
+    pub group-others : (q : ℕ) → (q < first) ⊎ (first + 32 ≤ q) → rows_at new q ≡ rows_at old q
+    group-others q apart = turned.others q apart ∙ multiplied.others q apart
+
+    pub group-size : length new ≡ length old
+    group-size = turned.size ∙ multiplied.size
+
+-- a walk from group to group
+module _ (place first : ℕ) (j : Signed) (rows now new : List InverseRows)
+    (rest : (q : ℕ) → first ≤ q → rows_at now q ≡ rows_at rows q)
+    (others : (q : ℕ) → (q < first) ⊎ (first + 32 ≤ q) → rows_at new q ≡ rows_at now q) where
+  pub groups-rest : (q : ℕ) → first + 32 ≤ q → rows_at new q ≡ rows_at rows q
+  groups-rest q le = others q (inr le) ∙ rest q (omega arith)
+
+  pub groups-done : ((q : ℕ) → q < first → q < length rows → CollapsedRow place j (rows_at rows q) (rows_at now q))
+      → ((q : ℕ) → first ≤ q → q < first + 32 → q < length rows → CollapsedRow place j (rows_at now q) (rows_at new q))
+      → (q : ℕ) → q < first + 32 → q < length rows → CollapsedRow place j (rows_at rows q) (rows_at new q)
+  groups-done done group q near lt = by_place (cases_lt q first)
+    where
+      by_place : (q < first) ⊎ (first ≤ q) → CollapsedRow place j (rows_at rows q) (rows_at new q)
+      by_place (inl before) = subst (CollapsedRow place j (rows_at rows q)) (sym (others q (inl before))) (done q before lt)
+      by_place (inr le) = subst (λ old. CollapsedRow place j old (rows_at new q)) (rest q le) (group q le near lt)

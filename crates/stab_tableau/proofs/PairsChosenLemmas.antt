@@ -1,0 +1,167 @@
+-- Pairs that a mask chooses: each bit stands for one row of one of 32 qubits.
+use Rattle.std.proofs.Common.{◌≡◌, ℕ, ◌*◌, ◌+◌, ◌/◌, ◌%◌, ◌<◌, ◌≤◌, Bool, true, false, inl, inr, refl, sym, ◌∙◌, ap, subst, List, length, get_or, arith}
+use Rattle.std.specs.Prelude.{◌⊎◌}
+use Rattle.std.proofs.lemmas.Bool.{cases_lt}
+use Rattle.std.proofs.lemmas.List.{get_or_past}
+use Rattle.stab_letters.specs.declared.letter.Letter.TheVariants.{I}
+use Rattle.stab_letters.specs.XParts.{has_x}
+use Rattle.stab_pauli.specs.Paulis.{Signed, identity}
+use Rattle.stab_pauli.specs.Rows.{Rows, row_at as string_at}
+use Rattle.stab_pauli.specs.Masks.{chooses, AreChosen}
+use Rattle.stab_pauli.proofs.BitLemmas.{two_cases, below_two}
+use Rattle.stab_pauli.proofs.ChosenLemmas.{past-rows}
+use Rattle.stab_tableau.specs.declared.table.InverseRow.{InverseRow}
+use Rattle.stab_tableau.specs.declared.table.InverseRow.TheVariants.{OfX, OfZ}
+use Rattle.stab_tableau.specs.Gates.{letter_at}
+use Rattle.stab_tableau.specs.inner.InverseRows.{InverseRows, rows_at}
+use Rattle.stab_tableau.specs.inner.Pairs.{paired, row_place, row_string, IsPaired, ArePairsChosen}
+use Rattle.stab_tableau.proofs.TestLemmas.{not-true}
+use Rattle.stab_tableau.proofs.PairedRowsLemmas.{pairs-are, pair-in, pair-read}
+
+-- places
+
+pub place-below : (w : InverseRow) (k : ℕ) → k < 32 → row_place w k < 64
+place-below OfX k lt = omega arith
+place-below OfZ k lt = omega arith
+
+pub place-behind : (w : InverseRow) (first k : ℕ) → 2 * first + row_place w k ≡ row_place w (first + k)
+place-behind OfX first k = omega arith
+place-behind OfZ first k = omega arith
+
+-- a place among 64 is that of one of 32 qubits
+pub record IsPlace (i : ℕ) : Type 0 where
+  pub row : InverseRow
+  pub qubit : ℕ
+  pub below : qubit < 32
+  pub place : i ≡ row_place row qubit
+
+pub place-of : (i : ℕ) → i < 64 → IsPlace i
+place-of i lt = by_half (two_cases (i % 2) (below_two i))
+  where
+    by_half : (i % 2 ≡ 0) ⊎ (i % 2 ≡ 1) → IsPlace i
+    by_half (inl e) = record { row = OfX; qubit = i / 2; below = omega arith; place = (let p : i ≡ 2 * (i / 2) = omega arith in p) }
+    by_half (inr e) = record { row = OfZ; qubit = i / 2; below = omega arith; place = (let p : i ≡ 2 * (i / 2) + 1 = omega arith in p) }
+
+-- both strings of a qubit tell its rows
+both : (r s : InverseRows) → ((w : InverseRow) → row_string w r ≡ row_string w s) → r ≡ s
+both r s same = λ i. record { x = same OfX i; z = same OfZ i }
+
+-- the rows past the last qubit
+abbrev none : InverseRows
+none = record { x = identity 0; z = identity 0 }
+
+-- what is asked of chosen strings, by the rows of qubits
+
+module _ (r : Rows) (is : IsPaired r) (first mask : ℕ)
+    (within : (w : InverseRow) (k : ℕ) → k < 32 → chooses mask (row_place w k) ≡ true → first + k < length (paired r.rows)) where
+  pub chosen-in : (i : ℕ) → i < 64 → chooses mask i ≡ true → 2 * first + i < length r.rows
+  chosen-in i lt one =
+      let at = place-of i lt in
+      let e = at.place in
+      let f = place-behind at.row first at.qubit in
+      let there = pair-in r is at.row (first + at.qubit) (within at.row at.qubit at.below (ap (chooses mask) (sym e) ∙ one)) in
+      omega arith
+
+  pub chosen-is : (P : Signed → Bool)
+      → ((w : InverseRow) (k : ℕ) → k < 32 → chooses mask (row_place w k) ≡ true → P (row_string w (rows_at (paired r.rows) (first + k))) ≡ true)
+      → (i : ℕ) → i < 64 → chooses mask i ≡ true → P (string_at r (2 * first + i)) ≡ true
+  chosen-is P holds i lt one =
+      let at = place-of i lt in
+      let chosen : chooses mask (row_place at.row at.qubit) ≡ true = ap (chooses mask) (sym at.place) ∙ one in
+      ap (λ j. P (string_at r j)) (ap (λ k. 2 * first + k) at.place ∙ place-behind at.row first at.qubit)
+      ∙ ap P (pair-read r is at.row (first + at.qubit) (within at.row at.qubit at.below chosen))
+      ∙ holds at.row at.qubit at.below chosen
+
+  module _ (change : Bool → Signed → Signed) (stays : (p : Signed) → change false p ≡ p) (new : Rows) (chosen : AreChosen (2 * first) mask change r new) where
+    pub chosen-paired : IsPaired new
+    chosen-paired = record {
+      few = (let e = chosen.qubits in let f = is.few in omega arith);
+      size = chosen.size ∙ is.size ∙ ap (λ n. 2 * n) (sym chosen.qubits);
+    }
+
+    same-length : length (paired new.rows) ≡ length (paired r.rows)
+    same-length = pairs-are new chosen-paired ∙ chosen.qubits ∙ sym (pairs-are r is)
+
+    past : (q : ℕ) → length (paired r.rows) ≤ q → rows_at (paired new.rows) q ≡ rows_at (paired r.rows) q
+    past q le = get_or_past (paired new.rows) q _ (let l = same-length in omega arith) ∙ sym (get_or_past (paired r.rows) q _ le)
+
+    string-within : (w : InverseRow) (k : ℕ) → k < 32
+        → row_string w (rows_at (paired new.rows) (first + k)) ≡ change (chooses mask (row_place w k)) (row_string w (rows_at (paired r.rows) (first + k)))
+    string-within w k lk = by_place (cases_lt (first + k) (length (paired r.rows)))
+      where
+        by_place : (first + k < length (paired r.rows)) ⊎ (length (paired r.rows) ≤ first + k)
+            → row_string w (rows_at (paired new.rows) (first + k)) ≡ change (chooses mask (row_place w k)) (row_string w (rows_at (paired r.rows) (first + k)))
+        by_place (inl lt) =
+            sym (pair-read new chosen-paired w (first + k) (let l = same-length in omega arith))
+            ∙ ap (string_at new) (sym (place-behind w first k))
+            ∙ chosen.within (row_place w k) (place-below w k lk)
+            ∙ ap (change (chooses mask (row_place w k))) (ap (string_at r) (place-behind w first k) ∙ pair-read r is w (first + k) lt)
+        by_place (inr le) =
+            ap (row_string w) (past (first + k) le)
+            ∙ sym (stays (row_string w (rows_at (paired r.rows) (first + k))))
+            ∙ ap (λ b. change b (row_string w (rows_at (paired r.rows) (first + k))))
+            (sym (not-true (chooses mask (row_place w k)) (λ one. let lt = within w k lk one in omega arith)))
+
+    apart : (w : InverseRow) (q : ℕ) → (q < first) ⊎ (first + 32 ≤ q) → (row_place w q < 2 * first) ⊎ (2 * first + 64 ≤ row_place w q)
+    apart OfX q (inl lt) = inl (omega arith)
+    apart OfX q (inr le) = inr (omega arith)
+    apart OfZ q (inl lt) = inl (omega arith)
+    apart OfZ q (inr le) = inr (omega arith)
+
+    others : (q : ℕ) → (q < first) ⊎ (first + 32 ≤ q) → rows_at (paired new.rows) q ≡ rows_at (paired r.rows) q
+    others q away = by_place (cases_lt q (length (paired r.rows)))
+      where
+        by_place : (q < length (paired r.rows)) ⊎ (length (paired r.rows) ≤ q) → rows_at (paired new.rows) q ≡ rows_at (paired r.rows) q
+        by_place (inl lt) = both (rows_at (paired new.rows) q) (rows_at (paired r.rows) q) (λ w.
+            sym (pair-read new chosen-paired w q (let l = same-length in omega arith))
+            ∙ chosen.others (row_place w q) (apart w q away)
+            ∙ pair-read r is w q lt)
+        by_place (inr le) = past q le
+
+    pub chosen-written : ArePairsChosen first mask change (paired r.rows) (paired new.rows)
+    chosen-written = record { size = same-length; within = string-within; others = others }
+
+-- the same by the pairs that contracts see
+
+module _ (r : Rows) (is : IsPaired r) (t : List InverseRows) (view : paired r.rows ≡ t) (first mask : ℕ)
+    (within : (w : InverseRow) (k : ℕ) → k < 32 → chooses mask (row_place w k) ≡ true → first + k < length t) where
+  inside : (w : InverseRow) (k : ℕ) → k < 32 → chooses mask (row_place w k) ≡ true → first + k < length (paired r.rows)
+  inside w k lk one = let lt = within w k lk one in let e = ap length view in omega arith
+
+  pub seen-chosen-in : (i : ℕ) → i < 64 → chooses mask i ≡ true → 2 * first + i < length r.rows
+  seen-chosen-in = chosen-in r is first mask inside
+
+  pub seen-chosen-is : (P : Signed → Bool)
+      → ((w : InverseRow) (k : ℕ) → k < 32 → chooses mask (row_place w k) ≡ true → P (row_string w (rows_at t (first + k))) ≡ true)
+      → (i : ℕ) → i < 64 → chooses mask i ≡ true → P (string_at r (2 * first + i)) ≡ true
+  seen-chosen-is P holds =
+      chosen-is r is first mask inside P (λ w k lk one. ap (λ rows. P (row_string w (rows_at rows (first + k)))) view ∙ holds w k lk one)
+
+  pub seen-chosen-written : (change : Bool → Signed → Signed) → ((p : Signed) → change false p ≡ p) → (new : Rows) → AreChosen (2 * first) mask change r new
+      → ArePairsChosen first mask change t (paired new.rows)
+  seen-chosen-written change stays new chosen =
+      subst (λ rows. ArePairsChosen first mask change rows (paired new.rows)) view (chosen-written r is first mask inside change stays new chosen)
+
+-- which rows of qubits have X or Y at a place
+module _ (r : Rows) (is : IsPaired r) (first place mask : ℕ)
+    (tells : (i : ℕ) → i < 64 → chooses mask i ≡ has_x (get_or (string_at r (2 * first + i)).letters place I)) where
+  pub pairs-with_x : (w : InverseRow) (k : ℕ) → k < 32 → chooses mask (row_place w k) ≡ has_x (letter_at (row_string w (rows_at (paired r.rows) (first + k))).letters place)
+  pairs-with_x w k lk =
+      tells (row_place w k) (place-below w k lk)
+      ∙ ap (λ j. has_x (get_or (string_at r j).letters place I)) (place-behind w first k)
+      ∙ by_place (cases_lt (first + k) (length (paired r.rows)))
+    where
+      behind : (v : InverseRow) (q : ℕ) → length r.rows ≡ 2 * r.qubits → r.qubits ≤ q → length r.rows ≤ row_place v q
+      behind OfX q e le = omega arith
+      behind OfZ q e le = omega arith
+
+      empty : (v : InverseRow) → has_x (letter_at (row_string v none).letters place) ≡ false
+      empty OfX = refl
+      empty OfZ = refl
+
+      by_place : (first + k < length (paired r.rows)) ⊎ (length (paired r.rows) ≤ first + k)
+          → has_x (get_or (string_at r (row_place w (first + k))).letters place I) ≡ has_x (letter_at (row_string w (rows_at (paired r.rows) (first + k))).letters place)
+      by_place (inl lt) = ap (λ (p : Signed). has_x (letter_at p.letters place)) (pair-read r is w (first + k) lt)
+      by_place (inr le) =
+          past-rows r (row_place w (first + k)) place (behind w (first + k) is.size (let e = pairs-are r is in omega arith))
+          ∙ sym (ap (λ p. has_x (letter_at (row_string w p).letters place)) (get_or_past (paired r.rows) (first + k) _ le) ∙ empty w)

@@ -1,0 +1,32 @@
+use Rattle.std.proofs.Common.{arith, subst, ℕ, ◌≡◌, ◌+◌, ◌<◌, List}
+use Rattle.stab_letters.specs.XParts.{has_x}
+use Rattle.stab_pauli.specs.Masks.{chooses}
+use Rattle.stab_tableau.specs.Gates.{letter_at}
+use Rattle.stab_tableau.specs.declared.table.InverseRow.{InverseRow}
+use Rattle.stab_tableau.specs.inner.InverseRows.{InverseRows, rows_at}
+use Rattle.stab_tableau.specs.inner.Pairs.{row_place, row_string}
+use Rattle.stab_tableau.proofs.PairedRowsLemmas.{seen-length}
+use Rattle.stab_tableau.proofs.PairsChosenLemmas.{pairs-with_x}
+use Rattle.stab_tableau.proofs.table.Table.rows_with_x.Goals as goal
+
+pub overflow_mul-first : goal.overflow_mul-first
+overflow_mul-first c =
+    let e = seen-length c.self.inside.rows c.self.invariant c.args.self.now c.self.view_is in
+    omega (arith, e, c.requires.first_in_range, c.self.invariant.few)
+
+pub rows_with_x-requires-clause-first_in_range : goal.rows_with_x-requires-clause-first_in_range
+rows_with_x-requires-clause-first_in_range c =
+    let e = seen-length c.self.inside.rows c.self.invariant c.args.self.now c.self.view_is in
+    omega (arith, e, c.requires.first_in_range, c.self.invariant.size)
+
+pub rows_with_x-requires-clause-qubit_in_range : goal.rows_with_x-requires-clause-qubit_in_range
+rows_with_x-requires-clause-qubit_in_range c =
+    let e = seen-length c.self.inside.rows c.self.invariant c.args.self.now c.self.view_is in
+    omega (arith, e, c.requires.place_in_range)
+
+pub returns : goal.returns
+returns c = record {
+  value = subst (λ (t : List InverseRows). (w : InverseRow) (k : ℕ) → k < 32 → chooses c.rows_with_x.result (row_place w k) ≡ has_x (letter_at (row_string w (rows_at t (c.args.first + k))).letters c.args.place))
+      c.self.view_is
+      (pairs-with_x c.self.inside.rows c.self.invariant c.args.first c.args.place c.rows_with_x.result c.rows_with_x.ensures.value);
+}
