@@ -55,19 +55,15 @@ joined_more : (first after : List ℕ) (parts : List (List ℕ)) → slice_split
 joined_more first after [] e = absurd (omega (arith, ap length e, length-slice_split (is_byte 10) after))
 joined_more first after (p ∷ ps) e = refl
 
-split_cut : (text first : List ℕ) (after : Option (List ℕ)) → slice_split (is_byte 10) text ≡ first ∷ pieces_after 10 after → IsCut text first after
+pub split_cut : (text first : List ℕ) (after : Option (List ℕ)) → slice_split (is_byte 10) text ≡ first ∷ pieces_after 10 after → IsCut text first after
 split_cut text first None e = sym (join_with_byte-slice_split 10 text) ∙ ap (join_with_byte 10) e
 split_cut text first (Some after) e =
     sym (join_with_byte-slice_split 10 text) ∙ ap (join_with_byte 10) e ∙ joined_more first after (slice_split (is_byte 10) after) refl
     ∙ ap (λ l. first ++ 10 ∷ l) (join_with_byte-slice_split 10 after)
 
--- the first part is what stands before the others
-pub before_none : (text first : List ℕ) → slice_split (is_byte 10) text ≡ first ∷ [] → text ≡ first
-before_none text first e = split_cut text first None e
-
-pub before_some : (text first after : List ℕ) → slice_split (is_byte 10) text ≡ first ∷ slice_split (is_byte 10) after → take (length text - (length after + 1)) text ≡ first
-before_some text first after e =
-    let cut : text ≡ first ++ 10 ∷ after = split_cut text first (Some after) e in
+-- what stands before lines
+pub before_cut : (text first after : List ℕ) → text ≡ first ++ 10 ∷ after → take (length text - (length after + 1)) text ≡ first
+before_cut text first after cut =
     let long : length text - (length after + 1) ≡ length first = omega (arith, ap length cut, length-append first (10 ∷ after)) in
     (λ i. take (long i) (cut i)) ∙ take-append_seam first (10 ∷ after)
 

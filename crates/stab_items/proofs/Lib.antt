@@ -4,6 +4,8 @@ pub mod FrontLemmas
 pub mod ReaderLemmas
 mod ReadChunkLemmas
 pub mod KnownLineLemmas
+mod PieceLemmas
+pub mod StretchLemmas
 mod PrintLemmas
 pub mod StepLemmas
 pub mod StepApartLemmas

@@ -41,7 +41,7 @@ settled cs ds [] gs ys zs none same empty e =
 settled cs ds (f ∷ fs) gs ys zs none same empty e = absurd (omega (arith, none))
 
 -- a block is opened
-pub opened_kept : (xs : List OneItem) (fs gs : List StoredBlock) (ys zs : List OneItem) (f : StoredBlock) → length fs < 16 → gs ≡ fs ++ f ∷ [] → zs ≡ [] → f.before.items ≡ ys
+pub opened_kept : (xs : List OneItem) (fs gs : List StoredBlock) (ys zs : List OneItem) (f : StoredBlock) → length fs < 16 → gs ≡ fs ++ f ∷ [] → zs ≡ [] → f.before ≡ ys
     → opening f.line f.count f.tag (kept_progress xs fs ys) ≡ Ok (kept_progress xs gs zs)
 opened_kept xs fs gs ys zs f few e empty same =
     let opened : OpenBlock = record { line = f.line; count = f.count; tag = f.tag; before = listed (outermost xs fs ++ ys) } in
@@ -54,12 +54,12 @@ opened_kept xs fs gs ys zs f few e empty same =
     ∙ (λ i. Ok (record { open_blocks = list i; now = listed (none i) }))
 
 -- a block is closed
-pub closed_kept : (xs : List OneItem) (fs gs : List StoredBlock) (ys zs : List OneItem) (f : StoredBlock) → fs ≡ gs ++ f ∷ [] → zs ≡ f.before.items ++ repeat f.count f.tag (listed ys) ∷ []
+pub closed_kept : (xs : List OneItem) (fs gs : List StoredBlock) (ys zs : List OneItem) (f : StoredBlock) → fs ≡ gs ++ f ∷ [] → zs ≡ f.before ++ repeat f.count f.tag (listed ys) ∷ []
     → closing (kept_progress xs fs ys) ≡ Ok (kept_progress xs gs zs)
 closed_kept xs fs gs ys zs f e put =
     let x = repeat f.count f.tag (listed ys) in
-    let now : join (listed (outermost xs gs ++ f.before.items)) (before x done) ≡ listed (outermost xs gs ++ zs) =
-    sym (kept_pushed xs gs f.before.items x) ∙ ap (λ l. listed (outermost xs gs ++ l)) (sym put) in
+    let now : join (listed (outermost xs gs ++ f.before)) (before x done) ≡ listed (outermost xs gs ++ zs) =
+    sym (kept_pushed xs gs f.before x) ∙ ap (λ l. listed (outermost xs gs ++ l)) (sym put) in
     (λ i. closing (kept_progress xs (e i) ys))
     ∙ (λ i. closing (record { open_blocks = blocks_pushed xs gs f i; now = listed (outermost_pushed xs gs f i ++ ys) }))
     ∙ (λ i. Ok (record { open_blocks = reverse (open_blocks_of xs gs); now = now i }))

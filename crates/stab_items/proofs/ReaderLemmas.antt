@@ -1,5 +1,5 @@
 -- The reader's way over the lines.
-use Rattle.std.proofs.Common.{◌≡◌, ◌≤◌, ◌<◌, refl, ap, sym, ◌∙◌, subst, ℕ, ◌+◌, suc, List, [], ◌∷◌, Bool, true, false, nat_lt, ◌==◌, length, map, not, ◌⊎◌, inl, inr, Result, Ok, Err, if◌then◌else◌, arith}
+use Rattle.std.proofs.Common.{◌≡◌, ◌≤◌, ◌<◌, refl, ap, sym, ◌∙◌, subst, ℕ, ◌+◌, suc, List, [], ◌∷◌, Bool, true, false, nat_lt, ◌==◌, length, map, not, ◌⊎◌, inl, inr, Result, Ok, Err, Option, Some, if◌then◌else◌, arith}
 use Rattle.std.specs.List.{slice_split}
 use Rattle.std.specs.Result.{IfOk}
 use Rattle.std.specs.Global.{Vec}
@@ -13,8 +13,10 @@ use Rattle.stab_lines.specs.declared.meanings.Line.TheVariants as line
 use Rattle.stab_lines.specs.Lines.{is_byte, content_of}
 use Rattle.stab_items.specs.Items.{Items, OneItem, operation, repeat, before, done, next, block, join, listed, depth}
 use Rattle.stab_lines.specs.Meanings.{meaning_of, is_close}
-use Rattle.stab_items.specs.Circuits.{Meaning, at_line, meaning_after, one_item, contents, depth_after, ends_item}
+use Rattle.stab_items.specs.Circuits.{Meaning, at_line, meaning_after, one_item, depth_after, ends_item}
 use Rattle.stab_items.specs.inner.Readers.{OpenBlock, Progress, closed, stepped, finished, read_on, is_some_items, is_whole, meaning_at, pending, line_fault, ReadsItems, IsShallowProgress}
+use Rattle.stab_items.specs.inner.Stretches.{reading_on}
+use Rattle.stab_lines.specs.Words.{pieces_after}
 use Rattle.stab_items.specs.inner.Chunks.{flattened}
 use Rattle.stab_items.proofs.ItemLemmas.{depth-join}
 use Rattle.stab_lines.proofs.BoolLemmas.{chosen}
@@ -102,12 +104,6 @@ pub pending_refused : (single : Bool) (n : ℕ) (s : Progress) (c : List ℕ) (c
 pending_refused true n s c cs r e = one_refused n s c cs r (is_whole s) e
 pending_refused false n s c cs r e = ap (after_step n (map meaning_of cs)) e
 
-pub lines_taken : (single : Bool) (n : ℕ) (s t : Progress) (rest bytes after : List ℕ) → slice_split (is_byte 10) rest ≡ bytes ∷ slice_split (is_byte 10) after
-    → stepped n (meaning_at single s (content_of bytes)) s ≡ Ok t
-    → read_on n s (pending single s (contents rest)) ≡ read_on (n + 1) t (pending single t (contents after))
-lines_taken single n s t rest bytes after p e =
-    ap (λ l. read_on n s (pending single s (map content_of l))) p ∙ pending_taken single n s t (content_of bytes) (contents after) e
-
 pub nothing_pending : (single : Bool) (n : ℕ) (t : Progress) → read_on n t (pending single t []) ≡ finished t
 nothing_pending false n t = refl
 nothing_pending true n t = nothing_one (is_whole t)
@@ -116,17 +112,17 @@ nothing_pending true n t = nothing_one (is_whole t)
     nothing_one true = refl
     nothing_one false = refl
 
-pub lines_ended : (single : Bool) (n : ℕ) (s t : Progress) (rest bytes : List ℕ) → slice_split (is_byte 10) rest ≡ bytes ∷ []
-    → stepped n (meaning_at single s (content_of bytes)) s ≡ Ok t
-    → read_on n s (pending single s (contents rest)) ≡ finished t
-lines_ended single n s t rest bytes p e =
-    ap (λ l. read_on n s (pending single s (map content_of l))) p ∙ pending_taken single n s t (content_of bytes) [] e ∙ nothing_pending single (n + 1) t
+-- one line of a text is taken, or refused
+pub one_taken_of : (single : Bool) (n : ℕ) (s t : Progress) (text first : List ℕ) (after : Option (List ℕ)) → slice_split (is_byte 10) text ≡ first ∷ pieces_after 10 after
+    → stepped n (meaning_at single s (content_of first)) s ≡ Ok t → reading_on single n s (Some text) ≡ reading_on single (n + 1) t after
+one_taken_of single n s t text first after p e =
+    ap (λ l. read_on n s (pending single s (map content_of l))) p ∙ pending_taken single n s t (content_of first) (map content_of (pieces_after 10 after)) e
 
-pub lines_refused : (single : Bool) (n : ℕ) (s : Progress) (rest bytes : List ℕ) (more : List (List ℕ)) (r : Refusal) → slice_split (is_byte 10) rest ≡ bytes ∷ more
-    → stepped n (meaning_at single s (content_of bytes)) s ≡ Err r
-    → read_on n s (pending single s (contents rest)) ≡ Err (at_line n r)
-lines_refused single n s rest bytes more r p e =
-    ap (λ l. read_on n s (pending single s (map content_of l))) p ∙ pending_refused single n s (content_of bytes) (map content_of more) r e
+pub one_refused_of : (single : Bool) (n : ℕ) (s : Progress) (text first : List ℕ) (more : List (List ℕ)) (r : Refusal) → slice_split (is_byte 10) text ≡ first ∷ more
+    → (r ≡ OutOfMemory) ⊎ (stepped n (meaning_at single s (content_of first)) s ≡ Err r) → (r ≡ OutOfMemory) ⊎ (reading_on single n s (Some text) ≡ Err (at_line n r))
+one_refused_of single n s text first more r p (inl o) = inl o
+one_refused_of single n s text first more r p (inr e) =
+    inr (ap (λ l. read_on n s (pending single s (map content_of l))) p ∙ pending_refused single n s (content_of first) (map content_of more) r e)
 
 -- blocks stay nested at most 16 deep
 opened_shallow : (n : ℕ) (fs : List OpenBlock) (now : Items) (c : ℕ) (tag : List ℕ) (t : Progress) (b : Bool) → b ≡ nat_lt (length fs) 16 → IsShallowProgress (record { open_blocks = fs; now = now })
@@ -176,16 +172,3 @@ some_before (repeat c t body) xs = refl
 
 pub not_empty : (n : ℕ) → true ≡ not (suc n == 0)
 not_empty n = ap not (not_none n)
-
--- a line that is refused ends the reading, with its fault or for want of memory
-pub reading_refused : (single : Bool) (n : ℕ) (s : Progress) (rest line bytes : List ℕ) (more : List (List ℕ)) (r : Refusal) (all : Result Items Fault) (fault : Fault)
-    → slice_split (is_byte 10) rest ≡ bytes ∷ more → line ≡ content_of bytes
-    → (r ≡ OutOfMemory) ⊎ (stepped n (meaning_at single s line) s ≡ Err r)
-    → read_on n s (pending single s (contents rest)) ≡ all → fault ≡ line_fault n r
-    → (fault ≡ whole OutOfMemory) ⊎ (all ≡ Err fault)
-reading_refused single n s rest line bytes more r all fault p c h same e =
-    subst (λ f. (f ≡ whole OutOfMemory) ⊎ (all ≡ Err f)) (sym e) (told n r all (refused h))
-  where
-    refused : (r ≡ OutOfMemory) ⊎ (stepped n (meaning_at single s line) s ≡ Err r) → (r ≡ OutOfMemory) ⊎ (all ≡ Err (at_line n r))
-    refused (inl o) = inl o
-    refused (inr g) = inr (sym same ∙ lines_refused single n s rest bytes more r p (ap (λ l. stepped n (meaning_at single s l) s) (sym c) ∙ g))

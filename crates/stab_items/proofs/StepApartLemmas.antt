@@ -74,7 +74,10 @@ pub block_apart : (x : OneItem) (count : ℕ) (tag : List ℕ) (body : Items) �
 block_apart x count tag body is a =
     subst (λ y. All IsApart (unroll (before y done))) is (subst (All IsApart) (sym (append-nil (rounds count (unroll body)))) (rounds_apart count (unroll body) a))
 
+pub pushed_apart : (xs : List OneItem) (x : OneItem) → All IsApart (unroll (listed xs)) → All IsApart (unroll (before x done)) → All IsApart (unroll (listed (xs ++ x ∷ [])))
+pushed_apart xs x a b =
+    subst (All IsApart) (sym (ap unroll (listed_pushed xs x) ∙ unroll-join (listed xs) (before x done))) (All-append IsApart (unroll (listed xs)) (unroll (before x done)) a b)
+
 pub items_apart : (xs : List OneItem) (i : ℕ) (x : OneItem) → i < length xs → x ≡ get_or xs i x → All IsApart (unroll (listed (take i xs))) → All IsApart (unroll (before x done)) → All IsApart (unroll (listed (take (i + 1) xs)))
 items_apart xs i x h e a b =
-    subst (All IsApart) (sym (ap (λ l. unroll (listed l)) (take_more xs i x h ∙ ap (λ y. take i xs ++ y ∷ []) (sym e)) ∙ ap unroll (listed_pushed (take i xs) x) ∙ unroll-join (listed (take i xs)) (before x done)))
-    (All-append IsApart (unroll (listed (take i xs))) (unroll (before x done)) a b)
+    subst (λ l. All IsApart (unroll (listed l))) (sym (take_more xs i x h ∙ ap (λ y. take i xs ++ y ∷ []) (sym e))) (pushed_apart (take i xs) x a b)

@@ -202,13 +202,14 @@ kept_summary x n count tag body held kept all e h m k r is =
     ∙ ap (λ l. summary_of (block l tag body done)) m
     ∙ ap (λ y. summary_of (before y done)) is
 
+pub summary_pushed : (xs : List OneItem) (x : OneItem) → reach (unroll (before x done)) ≤ 16777215
+    → summary_of (listed (xs ++ x ∷ [])) ≡ followed_by (summary_of (listed xs)) (summary_of (before x done))
+summary_pushed xs x small = ap summary_of (listed-append xs (x ∷ [])) ∙ summary-join (listed xs) (before x done) small
+
 pub summary_taken : (xs : List OneItem) (n : ℕ) (d : OneItem) → n < length xs → reach (unroll (before (get_or xs n d) done)) ≤ 16777215
     → summary_of (listed (take (n + 1) xs)) ≡ followed_by (summary_of (listed (take n xs))) (summary_of (before (get_or xs n d) done))
 summary_taken xs n d h small =
-    let x = get_or xs n d in
-    ap (λ l. summary_of (listed l)) (take_more xs n d h)
-    ∙ ap summary_of (listed-append (take n xs) (x ∷ []))
-    ∙ summary-join (listed (take n xs)) (before x done) small
+    ap (λ l. summary_of (listed l)) (take_more xs n d h) ∙ summary_pushed (take n xs) (get_or xs n d) small
 
 still_more : (n : ℕ) → nat_lt 1048576 n ≡ nat_lt 1048576 (min n 1048577)
 still_more n = grind arith

@@ -8,3 +8,4 @@ pub mod Chunks
 pub mod Readers
 pub mod Margins
 pub mod KnownLines
+pub mod Stretches

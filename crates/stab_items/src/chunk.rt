@@ -1,9 +1,10 @@
 ghost use Rattle.std.specs.Prelude.{◌≡◌, ◌==◌, length};
 ghost use Rattle.stab_items.specs.inner.Chunks.{flattened};
 
+use crate::copy::copied_items;
 use crate::item::{Item, items_summary};
 use crate::summary::Summary;
-use std::alloc::AllocError;
+use std::alloc::{AllocError, Global};
 use std::marker::Model;
 
 /// Items that stand one behind the other in a list. Contracts see them one by one.
@@ -39,10 +40,10 @@ impl Model for Chunk {
 }
 
 impl Chunk {
-    ghost use Rattle.std.specs.Prelude.{◌≡◌, ◌≤◌, All, length, take, drop, IfOk, OnOk, OnErr};
-    ghost use Rattle.stab_items.specs.Items.{listed};
+    ghost use Rattle.std.specs.Prelude.{◌≡◌, ◌≤◌, ◌∷◌, [], ◌++◌, All, length, take, drop, IfOk, OnOk, OnErr};
+    ghost use Rattle.stab_items.specs.Items.{listed, before, done};
     ghost use Rattle.stab_items.specs.Steps.{unroll, IsApart};
-    ghost use Rattle.stab_items.specs.inner.Summaries.{summary_of, IsSummary};
+    ghost use Rattle.stab_items.specs.inner.Summaries.{summary_of, IsSummary, IsSumOf};
 
     /// The chunk of these items. It takes no memory.
     pub fn new(items: Vec<Item>) -> Chunk
@@ -57,6 +58,17 @@ impl Chunk {
         ensures value { result.now ≡ self.now }
     {
         self.items.as_slice()
+    }
+
+    /// A copy. It shares the instructions that the items share, and nothing is summed up anew.
+    pub(crate) fn copy(&self, alloc: Global) -> Result<Chunk, AllocError>
+        ensures ok { IfOk result (λ c. c ≡ self.now) }
+    {
+        let items = copied_items(alloc, self.items.as_slice())?;
+        Ok(Chunk {
+            items,
+            sum: self.sum,
+        })
     }
 
     /// The items, as the list that they are kept in.
@@ -74,6 +86,19 @@ impl Chunk {
         ensures apart { All IsApart (unroll (listed self.now)) }
     {
         self.sum
+    }
+
+    /// Puts an item of this summary behind the others. The chunk is as before where memory is refused.
+    #[inline]
+    #[tactic(auto, using(crate::proofs::SummaryLemmas::summary_pushed, crate::proofs::StepApartLemmas::pushed_apart))]
+    pub(crate) fn push(&mut self, item: Item, sum: Summary) -> Result<(), AllocError>
+        requires sum { IsSumOf (before item done) sum }
+        ensures pushed { OnOk result (self.new ≡ self.old ++ item ∷ []) }
+        ensures unchanged { OnErr result (self.new ≡ self.old) }
+    {
+        self.items.push(item)?;
+        self.sum = self.sum.then(sum);
+        Ok(())
     }
 
     /// Takes the items from a place on out, as a chunk by itself. The chunk is as before where memory

@@ -3,7 +3,7 @@ ghost use Rattle.std.specs.Prelude.{◌≡◌, IfOk};
 use crate::item::{Head, Item, Node};
 use std::alloc::{AllocError, Global};
 
-/// A copy of an item.
+/// A copy of an item. It shares an instruction that the item shares.
 #[cycle(copying)]
 pub fn copied_item(alloc: Global, item: &Item) -> Result<Item, AllocError>
     ensures ok { IfOk result (λ i. i ≡ item.now) }
@@ -13,6 +13,12 @@ pub fn copied_item(alloc: Global, item: &Item) -> Result<Item, AllocError>
             let kind = kind.copy(alloc)?;
             Ok(Item {
                 node: Node::Plain(kind),
+            })
+        }
+        Node::Shared(kind) => {
+            let kind = kind.clone()?;
+            Ok(Item {
+                node: Node::Shared(kind),
             })
         }
         Node::Tagged(operation) => {
@@ -36,7 +42,7 @@ pub fn copied_item(alloc: Global, item: &Item) -> Result<Item, AllocError>
 pub(crate) fn copied_items(alloc: Global, items: &[Item]) -> Result<Vec<Item>, AllocError>
     ensures ok { IfOk result (λ v. v.items ≡ items.now) }
 {
-    let mut all = Vec::new(alloc);
+    let mut all = Vec::with_capacity(alloc, items.len())?;
     for item in items {
         all.push(copied_item(alloc, item)?)?;
     }

@@ -1,8 +1,5 @@
-ghost use Rattle.std.specs.Prelude.{◌≡◌, ◌<◌, ◌∷◌, ℕ, List, false, length, MatchOption};
+ghost use Rattle.std.specs.Prelude.{◌≡◌, ◌<◌, ℕ, List, false, length, MatchOption};
 ghost use Rattle.std.specs.Option.{option_copied};
-ghost use Rattle.std.specs.List.{slice_split};
-ghost use Rattle.stab_lines.specs.Lines.{is_byte};
-ghost use Rattle.stab_lines.specs.Words.{pieces_after};
 ghost use Rattle.stab_items.specs.Circuits.{meaning_after as meaning_after_of};
 ghost use Rattle.stab_items.specs.inner.KnownLines.{IsCut};
 ghost use Rattle.stab_lines.specs.FirstLines.{BeginsWithDetector};
@@ -52,10 +49,10 @@ pub(crate) fn behind_front<'a>(text: &'a [u8], line: &[u8]) -> Option<Option<&'a
     }
 }
 
-/// The first line of a text, where these are the lines behind it.
-#[tactic(auto, using(crate::proofs::FrontLemmas::before_none, crate::proofs::FrontLemmas::before_some))]
+/// What stands in a text before these lines.
+#[tactic(auto, using(crate::proofs::FrontLemmas::before_cut))]
 pub(crate) fn before_lines<'a>(text: &'a [u8], after: Option<&[u8]>) -> &'a [u8]
-    ensures value { (first : List ℕ) → slice_split (is_byte 10) text.now ≡ first ∷ pieces_after 10 (option_copied after.entry) → result.now ≡ first }
+    ensures value { (front : List ℕ) → IsCut text.now front (option_copied after.entry) → result.now ≡ front }
 {
     match after {
         None => text,

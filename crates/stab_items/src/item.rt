@@ -3,6 +3,7 @@ use stab_lines::{Count, Kind, Operation, Sequence};
 use std::alloc::{AllocError, Global};
 use std::marker::Model;
 use std::mem;
+use std::rc::Rc;
 
 /// An item of a circuit: an instruction or a block. Contracts see it without pointers.
 ///
@@ -19,6 +20,8 @@ pub struct Item {
 pub(crate) enum Node {
     // An instruction without a tag.
     Plain(Kind),
+    // An instruction without a tag that the same lines of a text share.
+    Shared(Rc<Kind>),
     // One with a tag, which few have, has a box of its own.
     Tagged(Box<Operation>),
     // What is known of a block has a box of its own, so that instructions stay small.
@@ -90,7 +93,7 @@ impl Item {
     ghost use Rattle.stab_items.specs.Steps.{unroll, IsApart, detector_of};
     ghost use Rattle.stab_items.specs.Nothings.{IsNothing};
     ghost use Rattle.stab_items.specs.Items.{operation as single, repeat as repeated, listed, before, done, depth};
-    ghost use Rattle.stab_items.specs.inner.Summaries.{summary_of, IsSummary};
+    ghost use Rattle.stab_items.specs.inner.Summaries.{summary_of, IsSummary, IsSumOf};
     ghost use Rattle.stab_items.specs.inner.Parts.{part_of, IsPart};
     ghost use Rattle.stab_items.specs.inner.Blocks.{with_rounds, with_body, IsInstruction};
 
@@ -108,11 +111,22 @@ impl Item {
     }
 
     /// The item that is one instruction without a tag. It takes no memory.
+    #[inline]
     pub(crate) fn plain(kind: Kind) -> Item
         ensures value { result ≡ single (record { kind = kind; tag = [] }) }
     {
         Item {
             node: Node::Plain(kind),
+        }
+    }
+
+    /// The item that is one instruction without a tag, which others share. It takes no memory.
+    #[inline]
+    pub(crate) fn shared(kind: Rc<Kind>) -> Item
+        ensures value { result ≡ single (record { kind = kind.value; tag = [] }) }
+    {
+        Item {
+            node: Node::Shared(kind),
         }
     }
 
@@ -127,27 +141,19 @@ impl Item {
         }
     }
 
-    /// What the item does, where it is an instruction without a tag.
-    pub(crate) fn plain_kind(&self) -> Option<&Kind>
-        ensures some { IfSome result (λ k. self.now ≡ single (record { kind = k.now; tag = [] })) }
-    {
-        match &self.node {
-            Node::Plain(kind) => Some(kind),
-            Node::Tagged(_) | Node::Repeat { .. } => None,
-        }
-    }
-
-    /// The item that is a block: its count of rounds, its tag, the items of one round.
+    /// The item that is a block: its count of rounds, its tag, the items of one round and their
+    /// summary.
     pub(crate) fn repeat(
         alloc: Global,
         count: Count,
         tag: Sequence<u8>,
         body: Vec<Item>,
+        kept: Summary,
     ) -> Result<Item, AllocError>
         requires shallow { depth (listed body.items) ≤ 15 }
+        requires sum { IsSumOf (listed body.items) kept }
         ensures ok { IfOk result (λ i. i ≡ repeated count tag (listed body.items)) }
     {
-        let kept = items_summary(body.as_slice());
         let head = Box::new(alloc, Head { count, tag, kept })?;
         Ok(Item {
             node: Node::Repeat { head, body },
@@ -161,6 +167,7 @@ impl Item {
     {
         match &self.node {
             Node::Plain(kind) => Part::Operation { kind, tag: &[] },
+            Node::Shared(kind) => Part::Operation { kind, tag: &[] },
             Node::Tagged(operation) => Part::Operation {
                 kind: &operation.kind,
                 tag: operation.tag.as_slice(),
@@ -193,7 +200,7 @@ impl Item {
         ensures value { self.new ≡ with_rounds count self.old }
     {
         match &mut self.node {
-            Node::Plain(_) | Node::Tagged(_) => {}
+            Node::Plain(_) | Node::Shared(_) | Node::Tagged(_) => {}
             Node::Repeat { head, .. } => head.count = count,
         }
     }
@@ -208,7 +215,7 @@ impl Item {
         ensures none { IfNone result (IsInstruction self.old) }
     {
         match &mut self.node {
-            Node::Plain(_) | Node::Tagged(_) => None,
+            Node::Plain(_) | Node::Shared(_) | Node::Tagged(_) => None,
             Node::Repeat { head, body } => {
                 let empty = Vec::new(*body.allocator());
                 head.kept = Summary::NONE;
@@ -224,7 +231,7 @@ impl Item {
         ensures value { self.new ≡ with_body items.items self.old }
     {
         match &mut self.node {
-            Node::Plain(_) | Node::Tagged(_) => {}
+            Node::Plain(_) | Node::Shared(_) | Node::Tagged(_) => {}
             Node::Repeat { head, body } => {
                 head.kept = items_summary(items.as_slice());
                 *body = items;
@@ -241,6 +248,7 @@ impl Item {
     {
         match &self.node {
             Node::Plain(kind) => kind_summary(kind),
+            Node::Shared(kind) => kind_summary(kind),
             Node::Tagged(operation) => kind_summary(&operation.kind),
             Node::Repeat { head, .. } => head.kept.repeated(head.count.number()),
         }

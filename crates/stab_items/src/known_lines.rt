@@ -1,7 +1,11 @@
-ghost use Rattle.std.specs.Prelude.{◌+◌, ◌≤◌, length};
-
 use crate::front::behind_front;
+use crate::item::Item;
+use crate::marks::{LINE_SLOTS, Mark, NO_MARK, line_mark};
+use crate::summary::Summary;
+use stab_lines::Kind;
 use std::alloc::{AllocError, Global};
+use std::marker::Model;
+use std::rc::Rc;
 
 /// So many lines are remembered at most.
 const MOST: usize = 65_535;
@@ -9,35 +13,50 @@ const MOST: usize = 65_535;
 /// So many lines are remembered before the table is made: a short text pays nothing for it.
 const FEW: usize = 256;
 
-/// How many slots the table has.
-const SLOTS: usize = 4096;
-
 /// After so many lines that were not known, none is looked for any more.
 const PATIENCE: u32 = 8192;
 
 /// A line that was known makes up for so many that were not.
 const WORTH: u32 = 64;
 
-/// By so many bytes in front of it a line has its slot.
-const FRONT: usize = 16;
-
-/// An odd number by which sums of bytes are spread over the slots.
-const SPREAD: u64 = 0x9E37_79B9_7F4A_7C15;
-
-/// A line that was read, and where the instruction lies that it made: in which chunk, and where there.
-#[derive(Clone, Copy)]
-pub(crate) struct KnownLine<'a> {
-    pub(crate) bytes: &'a [u8],
-    pub(crate) chunk: usize,
-    pub(crate) place: usize,
+/// A line that was read, the instruction without a tag that it means, and that one's summary. Contracts
+/// see the line and the instruction.
+struct KnownLine<'a> {
+    bytes: &'a [u8],
+    kind: Rc<Kind>,
+    sum: Summary,
 }
 
-/// What a line has by its first bytes: a slot in the table, and a mark, by which most lines of one slot are
-/// told apart without a look at them.
-#[derive(Clone, Copy)]
-struct Front {
-    slot: usize,
-    mark: u16,
+// Written out, so that to a proof a value that is let go is one call, and not one for each of its parts.
+impl<'a> Drop for KnownLine<'a> {
+    fn drop(self) {
+        let KnownLine {
+            bytes: _,
+            kind: _,
+            sum: _,
+        } = self;
+    }
+}
+
+impl<'a> Model for KnownLine<'a> {
+    ghost use Rattle.std.specs.Prelude.{ℕ, List};
+    ghost use Rattle.stab_lines.specs.declared.operation.Kind.{Kind};
+    ghost use Rattle.stab_items.specs.inner.KnownLines.{IsKnownLine};
+
+    ghost Value = { List ℕ × Kind };
+
+    ghost view = { λ l. (l.bytes.now, l.kind.value) };
+
+    ghost invariant = { λ l. IsKnownLine l.bytes.now l.kind.value l.sum };
+}
+
+/// The instruction of a known line that a text begins with, its summary, and the lines behind it, if
+/// there are any.
+#[derive(Drop)]
+pub(crate) struct FoundLine<'a> {
+    pub(crate) item: Item,
+    pub(crate) sum: Summary,
+    pub(crate) after: Option<&'a [u8]>,
 }
 
 /// The newest line of a slot: its mark and its number.
@@ -47,12 +66,6 @@ struct Newest {
     number: u16,
 }
 
-/// Past the table.
-const NO_FRONT: Front = Front {
-    slot: SLOTS,
-    mark: 0,
-};
-
 /// Lines that were read, so that a line that comes again is not read again.
 ///
 /// Circuits that are written out have the same lines in one order over and over. So a line is looked
@@ -61,128 +74,127 @@ const NO_FRONT: Front = Front {
 pub(crate) struct KnownLines<'a> {
     alloc: Global,
     lines: Vec<KnownLine<'a>>,
-    // The number of the line behind the one that was found last.
+    // The number of the line that is looked for first, behind the one that was found last.
     next: usize,
     // The newest line by each slot. What it says is tried, and nothing rests on it.
     table: Vec<Newest>,
     // What the line that was looked for last had.
-    front: Front,
+    front: Mark,
     // How many lines were not known, less what those that were known make up for.
     misses: u32,
     gave_up: bool,
 }
 
 impl<'a> KnownLines<'a> {
-    ghost use Rattle.std.specs.Prelude.{◌≡◌, ◌<◌, [], length, vec_len, OnOk, MatchOption};
+    ghost use Rattle.std.specs.Prelude.{◌≡◌, ◌<◌, IfOk, MatchOption};
     ghost use Rattle.std.specs.Option.{option_copied};
-    ghost use Rattle.std.specs.List.{Contains};
-    ghost use Rattle.stab_items.specs.inner.KnownLines.{IsCut, Remembers};
+    ghost use Rattle.stab_items.specs.Items.{operation, next, before, done};
+    ghost use Rattle.stab_items.specs.inner.Summaries.{IsSumOf};
+    ghost use Rattle.stab_items.specs.inner.KnownLines.{IsOneLine, BeginsWithItem, Means, without_tag};
 
     /// No lines. None will be remembered where a text has no line twice, as that of one item.
-    pub(crate) fn new(alloc: Global, gave_up: bool) -> KnownLines<'a>
-        ensures none { result.lines.items ≡ [] }
-    {
+    pub(crate) fn new(alloc: Global, gave_up: bool) -> KnownLines<'a> {
         KnownLines {
             alloc,
             lines: Vec::new(alloc),
             next: 0,
             table: Vec::new(alloc),
-            front: NO_FRONT,
+            front: NO_MARK,
             misses: 0,
             gave_up,
         }
     }
 
-    /// The known line that a text begins with, and the lines behind it, if there are any.
-    pub(crate) fn find(&mut self, text: &'a [u8]) -> Option<(KnownLine<'a>, Option<&'a [u8]>)>
-        ensures lines { self.new.lines.items ≡ self.old.lines.items }
-        ensures known { MatchOption result (Unit {0}) (λ p. Contains self.old.lines.items p.0) }
-        ensures front { MatchOption result (Unit {0}) (λ p. IsCut text.now p.0.bytes.now (option_copied p.1)) }
+    /// What is known of the line that a text begins with.
+    pub(crate) fn find(&mut self, text: &'a [u8]) -> Result<Option<FoundLine<'a>>, AllocError>
+        ensures front { IfOk result (λ found. MatchOption found (Unit {0}) (λ f. BeginsWithItem text.entry.now f.item (option_copied f.after))) }
+        ensures sum { IfOk result (λ found. MatchOption found (Unit {0}) (λ f. IsSumOf (before f.item done) f.sum)) }
     {
-        let next = self.next;
-        if let Some(found) = self.at_front(next, text) {
-            self.next = next + 1;
+        let mut number = self.next;
+        let mut found = self.at_front(number, text)?;
+        if found.is_none() {
+            number = self.number_by_front(text);
+            found = self.at_front(number, text)?;
+        }
+        if found.is_some() {
+            self.next = number.saturating_add(1);
             self.misses = self.misses.saturating_sub(WORTH);
-            return Some(found);
         }
-        let number = self.number_by_front(text);
-        match self.at_front(number, text) {
-            None => None,
-            Some(found) => {
-                self.next = number + 1;
-                self.misses = self.misses.saturating_sub(WORTH);
-                Some(found)
-            }
-        }
+        Ok(found)
     }
 
-    /// The line of this number, if the text begins with it, and the lines behind it.
-    fn at_front(&self, number: usize, text: &'a [u8]) -> Option<(KnownLine<'a>, Option<&'a [u8]>)>
-        ensures here { MatchOption result (Unit {0}) (λ _. number < vec_len self.now.lines) }
-        ensures known { MatchOption result (Unit {0}) (λ p. Contains self.now.lines.items p.0) }
-        ensures front { MatchOption result (Unit {0}) (λ p. IsCut text.now p.0.bytes.now (option_copied p.1)) }
+    /// What is known of the line of this number, if the text begins with it.
+    #[inline]
+    fn at_front(&self, number: usize, text: &'a [u8]) -> Result<Option<FoundLine<'a>>, AllocError>
+        ensures front { IfOk result (λ found. MatchOption found (Unit {0}) (λ f. BeginsWithItem text.entry.now f.item (option_copied f.after))) }
+        ensures sum { IfOk result (λ found. MatchOption found (Unit {0}) (λ f. IsSumOf (before f.item done) f.sum)) }
     {
         if number >= self.lines.len() {
-            return None;
+            return Ok(None);
         }
-        let known = self.lines[number];
+        let known = &self.lines[number];
         match behind_front(text, known.bytes) {
-            Some(after) => Some((known, after)),
-            None => None,
+            None => Ok(None),
+            Some(after) => Ok(Some(FoundLine {
+                item: Item::shared(known.kind.clone()?),
+                sum: known.sum,
+                after,
+            })),
         }
     }
 
     /// The number of the newest line that may begin as the text does, and keeps its slot.
-    fn number_by_front(&mut self, text: &[u8]) -> usize
-        ensures lines { self.new.lines.items ≡ self.old.lines.items }
-    {
+    fn number_by_front(&mut self, text: &[u8]) -> usize {
         if self.table.is_empty() {
             return self.lines.len();
         }
-        self.front = front_of(text);
+        self.front = line_mark(text);
         match self.table.get(self.front.slot) {
             Some(newest) if newest.mark == self.front.mark => usize::from(newest.number),
             _ => self.lines.len(),
         }
     }
 
-    /// Remembers the line that was looked for last and not found, unless that seems to be no use.
+    /// The item that is the instruction without a tag of the line that was looked for last and not
+    /// found. The line is remembered with it, unless that seems to be no use; then it takes no memory.
     pub(crate) fn remember(
         &mut self,
         bytes: &'a [u8],
-        chunk: usize,
-        place: usize,
-    ) -> Result<(), AllocError>
-        ensures lines { OnOk result (Remembers self.old.lines.items (record { bytes = bytes.entry; chunk = chunk; place = place }) self.new.lines.items) }
+        kind: Kind,
+        sum: Summary,
+    ) -> Result<Item, AllocError>
+        requires whole { IsOneLine bytes.now }
+        requires means { Means bytes.now (without_tag kind) }
+        requires sum { IsSumOf (next (without_tag kind) done) sum }
+        ensures item { IfOk result (λ i. i ≡ operation (without_tag kind)) }
     {
         if self.misses >= PATIENCE {
             self.give_up();
-            return Ok(());
+            return Ok(Item::plain(kind));
         }
         self.misses += 1;
+        // Often one line alone is another, and those behind it come again.
+        self.next = self.next.saturating_add(1);
         let number = self.lines.len();
         if self.gave_up || number >= MOST {
-            return Ok(());
+            return Ok(Item::plain(kind));
         }
         self.take_slot(number)?;
-        self.lines.push(KnownLine {
-            bytes,
-            chunk,
-            place,
-        })?;
-        Ok(())
+        let kind = Rc::new(self.alloc, kind)?;
+        let item = Item::shared(kind.clone()?);
+        self.lines.push(KnownLine { bytes, kind, sum })?;
+        Ok(item)
     }
 
     /// Puts the number of a line into the slot of the line that was looked for last.
     fn take_slot(&mut self, number: usize) -> Result<(), AllocError>
         requires few { number < MOST }
-        ensures lines { self.new.lines.items ≡ self.old.lines.items }
     {
         if number == FEW {
             let none = Newest { mark: 0, number: 0 };
-            self.table = vec![in self.alloc; none; SLOTS]?;
+            self.table = vec![in self.alloc; none; LINE_SLOTS]?;
         }
-        let Front { slot, mark } = self.front;
+        let Mark { slot, mark } = self.front;
         if slot < self.table.len() {
             self.table[slot] = Newest {
                 mark,
@@ -193,63 +205,9 @@ impl<'a> KnownLines<'a> {
     }
 
     /// Forgets all lines, and remembers none from now on.
-    pub(crate) fn give_up(&mut self)
-        ensures none { self.new.lines.items ≡ [] }
-    {
+    fn give_up(&mut self) {
         self.lines.clear();
         self.table.clear();
         self.gave_up = true;
     }
-}
-
-/// The slot and the mark of the line that a text begins with, by its first 16 bytes.
-fn front_of(text: &[u8]) -> Front {
-    if text.len() < FRONT {
-        return NO_FRONT;
-    }
-    let (first, second) = (word_at(text, 0), word_at(text, 8));
-    let ends = line_ends(first);
-    let behind = if ends == 0 {
-        before_end(second, line_ends(second))
-    } else {
-        0
-    };
-    let both = before_end(first, ends) ^ behind.rotate_left(29);
-    let sum = (both ^ (both >> 32)).wrapping_mul(SPREAD);
-    Front {
-        slot: (sum >> 52) as usize,
-        mark: (sum >> 36 & 0xFFFF) as u16,
-    }
-}
-
-/// The eight bytes from a place on, as one number.
-#[inline(always)]
-fn word_at(bytes: &[u8], place: usize) -> u64
-    requires inside { place + 8 ≤ length bytes.now }
-{
-    u64::from_le_bytes([
-        bytes[place],
-        bytes[place + 1],
-        bytes[place + 2],
-        bytes[place + 3],
-        bytes[place + 4],
-        bytes[place + 5],
-        bytes[place + 6],
-        bytes[place + 7],
-    ])
-}
-
-/// The highest bit of the first of eight bytes that ends a line, and perhaps of others behind it: a byte
-/// becomes 0 where it does.
-#[inline(always)]
-fn line_ends(word: u64) -> u64 {
-    let apart = word ^ 0x0A0A_0A0A_0A0A_0A0A;
-    apart.wrapping_sub(0x0101_0101_0101_0101) & !apart & 0x8080_8080_8080_8080
-}
-
-/// The bytes before the first that ends a line, and 0 for the others; all, where none does.
-#[inline(always)]
-fn before_end(word: u64, ends: u64) -> u64 {
-    let end = (ends & 0_u64.wrapping_sub(ends)) >> 7;
-    word & end.wrapping_sub(1)
 }

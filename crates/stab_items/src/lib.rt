@@ -9,6 +9,9 @@
 //! - `reader`: the items of a text's lines, with the blocks that are open.
 //! - `front`: the first line of a text: where it ends, and what a look at its bytes tells.
 //! - `known_lines`: lines that were read, so that one that comes again is not read again.
+//! - `stretches`: the same of many lines at once, one behind the other.
+//! - `marks`: by which first bytes a line or a stretch is looked for.
+//! - `whole_text`: the items of a text, by its stretches and lines.
 //! - `summary`: the numbers that are kept.
 //! - `copy`: copies of items.
 //! - `print`: the one text of items.
@@ -32,13 +35,16 @@ mod copy;
 mod front;
 mod item;
 mod known_lines;
+mod marks;
 mod print;
 mod reader;
+mod stretches;
 mod summary;
+mod whole_text;
 
 pub use chunk::Chunk;
 pub use copy::copied_item;
 pub use item::{Item, Part, items_summary};
 pub use print::{write_all_chunks, write_one_item};
-pub use reader::read_lines;
 pub use summary::{STEPS_CAP, Summary};
+pub use whole_text::read_lines;

@@ -35,7 +35,7 @@ pub record Progress : Type 0 where
 
 -- an open block without pointers, where these items stand before those that it keeps
 abbrev pub open_block_of : List OneItem → StoredBlock → OpenBlock
-open_block_of xs f = record { line = f.line; count = f.count; tag = f.tag; before = listed (xs ++ f.before.items) }
+open_block_of xs f = record { line = f.line; count = f.count; tag = f.tag; before = listed (xs ++ f.before) }
 
 -- the same of open blocks, the outermost first: these items stand before those that the outermost keeps
 abbrev pub open_blocks_of : List OneItem → List StoredBlock → List OpenBlock
@@ -53,7 +53,7 @@ kept_progress xs fs ys = record { open_blocks = reverse (open_blocks_of xs fs); 
 
 -- what a reader keeps, without pointers
 abbrev pub progress_of : CircuitReader → Progress
-progress_of r = kept_progress (flattened r.full.items) r.open_blocks.items r.items.items
+progress_of r = kept_progress (flattened r.full.items) r.open_blocks.items r.items
 
 -- blocks are nested at most 16 deep in what stands before open blocks, the innermost of them first, with those around it
 abbrev pub AreShallow : List OpenBlock → Type 0

@@ -1,6 +1,6 @@
 -- Summaries: what checks need to know of items, in numbers that stop growing.
 -- Source: this project's own.
-use Rattle.std.specs.Prelude.{◌≡◌, ◌≢◌, false, ℕ, ◌+◌, ◌*◌, ◌-◌, ◌≤◌, max, min, nat_lt, List, [], ◌∷◌, length, if◌then◌else◌, Option, Some, None}
+use Rattle.std.specs.Prelude.{◌≡◌, ◌≢◌, false, ℕ, ◌+◌, ◌*◌, ◌-◌, ◌≤◌, max, min, nat_lt, List, [], ◌∷◌, All, length, if◌then◌else◌, Option, Some, None}
 use Rattle.stab_io.specs.declared.refusal.Refusal.{Refusal}
 use Rattle.stab_io.specs.declared.refusal.Refusal.TheVariants.{LookbackTooFar, TooManySteps}
 use Rattle.stab_letters.specs.Limits.{most_qubits}
@@ -12,7 +12,7 @@ use Rattle.stab_lines.specs.Limits.{most_lookback}
 use Rattle.stab_lines.specs.Products.{names_twice}
 use Rattle.stab_lines.specs.declared.operation.Kind.{Kind}
 use Rattle.stab_items.specs.Items.{Items, depth}
-use Rattle.stab_items.specs.Steps.{Step, makes, records_of, lookbacks, steps_of, unroll, past, named_qubits, named_observables, qubits_of, observables_of, most_steps, steps_cap}
+use Rattle.stab_items.specs.Steps.{Step, IsApart, makes, records_of, lookbacks, steps_of, unroll, past, named_qubits, named_observables, qubits_of, observables_of, most_steps, steps_cap}
 
 -- the greatest number, or 0
 abbrev pub greatest : List ℕ → ℕ
@@ -73,6 +73,12 @@ pub record IsSummary (s : Summary) : Type 0 where
   pub reach : s.reach ≤ most_lookback
   pub qubits : s.qubits ≤ most_qubits
   pub depth : s.depth ≤ 17
+
+-- the summary of these items, whose steps are on different qubits
+pub record IsSumOf (items : Items) (s : Summary) : Type 0 where
+  pub value : s ≡ summary_of items
+  pub small : IsSummary s
+  pub apart : All IsApart (unroll items)
 
 -- the summary of items with others after them
 abbrev pub followed_by : Summary → Summary → Summary

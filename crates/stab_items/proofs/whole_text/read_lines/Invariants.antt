@@ -1,0 +1,16 @@
+use Rattle.std.proofs.Common.{◌≡◌, ◌≤◌, ◌+◌, length, Some}
+use Rattle.stab_items.specs.inner.Readers.{progress_of, reading, IsShallowProgress}
+use Rattle.stab_items.specs.inner.Stretches.{reading_on, AreStretches, IsRun}
+use Rattle.stab_items.proofs.whole_text.read_lines.Given as goal
+
+abbrev pub invariant-lines : goal.invariant-lines
+invariant-lines l = record {
+  few : l.line + length l.rest ≤ 16777217;
+  shallow : IsShallowProgress (progress_of l.reader);
+  stretches : AreStretches l.reader.full.items l.stretches;
+  run : IsRun l.reader.full.items (progress_of l.reader) l.line l.rest l.stretches.run;
+  same : reading_on l.single l.line (progress_of l.reader) (Some l.rest) ≡ reading l.single l.text;
+}
+
+abbrev pub decreases-lines : goal.decreases-lines
+decreases-lines l = length l.rest

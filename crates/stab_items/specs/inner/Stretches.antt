@@ -1,0 +1,84 @@
+-- Stretches: lines, one behind the other, whose items are those of a chunk.
+-- Source: this project's own.
+use Rattle.std.specs.Prelude.{◌≡◌, ◌<◌, ◌≤◌, ℕ, ◌+◌, ◌-◌, Bool, List, [], ◌∷◌, ◌++◌, All, length, map, Option, Some, Result, Ok, Err, MatchOption, ◌⊎◌}
+use Rattle.std.specs.List.{slice_split, slice_index_or}
+use Rattle.std.specs.Option.{option_copied}
+use Rattle.stab_io.specs.declared.refusal.Refusal.{Refusal}
+use Rattle.stab_io.specs.declared.refusal.Refusal.TheVariants.{OutOfMemory}
+use Rattle.stab_io.specs.declared.refusal.Fault.{Fault}
+use Rattle.stab_lines.specs.Lines.{is_byte, content_of}
+use Rattle.stab_lines.specs.Words.{pieces_after}
+use Rattle.stab_items.specs.declared.stretches.Stretch.{Stretch}
+use Rattle.stab_items.specs.declared.stretches.Run.{Run}
+use Rattle.stab_items.specs.declared.stretches.Stretches.{Stretches}
+use Rattle.stab_items.specs.declared.stretches.Taken.{Taken}
+use Rattle.stab_items.specs.Items.{Items, OneItem, join, listed, depth}
+use Rattle.stab_items.specs.Circuits.{Meaning, line_meanings, at_line}
+use Rattle.stab_items.specs.inner.Chunks.{flattened}
+use Rattle.stab_items.specs.inner.Readers.{Progress, read_on, pending}
+
+-- what is read where no block is open
+abbrev pub outside : Items → Progress
+outside now = record { open_blocks = []; now = now }
+
+-- read where no block is open, the lines put these items behind the others, of which none is a block
+pub record Reads (lines : List (List ℕ)) (items : Items) : Type 0 where
+  pub on : (n : ℕ) (now : Items) (ms : List Meaning) → read_on n (outside now) (line_meanings lines ++ ms) ≡ read_on (n + length lines) (outside (join now items)) ms
+  pub flat : depth items ≡ 0
+
+-- what is known of a stretch: it is so many lines, which put the items of its chunk behind the others
+pub record IsStretch (chunks : List (List OneItem)) (s : Stretch) : Type 0 where
+  pub within : s.chunk < length chunks
+  pub count : length (slice_split (is_byte 10) s.bytes.now) ≡ s.lines
+  pub reads : Reads (slice_split (is_byte 10) s.bytes.now) (listed (slice_index_or chunks s.chunk []))
+
+-- this is known of each of the stretches
+abbrev pub AreStretches : List (List OneItem) → Stretches → Type 0
+AreStretches chunks known = All (IsStretch chunks) known.all.items
+
+-- what is known of a stretch stays so
+abbrev pub KeepsStretches : List (List OneItem) → List (List OneItem) → Type 0
+KeepsStretches old new = (s : Stretch) → IsStretch old s → IsStretch new s
+
+-- a text is these lines, each with its end, and then the rest
+abbrev pub Ran : List ℕ → List (List ℕ) → List ℕ → Type 0
+Ran front [] rest = front ≡ rest
+Ran front (l ∷ ls) rest = (bytes : List ℕ) × (front ≡ bytes ++ 10 ∷ rest) × (slice_split (is_byte 10) bytes ≡ l ∷ ls)
+
+-- a run: its lines, which end before line n with which the rest begins, put the items behind those of the chunks
+pub record IsRunOf (chunks : List (List OneItem)) (s : Progress) (n : ℕ) (rest : List ℕ) (run : Run) : Type 0 where
+  pub lines : List (List ℕ)
+  pub items : Items
+  pub ran : Ran run.front.now lines rest
+  pub count : run.from + length lines ≡ n
+  pub reads : Reads lines items
+  pub read : s ≡ outside (join (listed (flattened chunks)) items)
+
+-- the same where there is a run
+abbrev pub IsRun : List (List OneItem) → Progress → ℕ → List ℕ → Option Run → Type 0
+IsRun chunks s n rest run = MatchOption run (Unit {0}) (IsRunOf chunks s n rest)
+
+-- a run whose items are now those of the last chunk
+pub record IsEnded (chunks : List (List OneItem)) (n : ℕ) (rest : List ℕ) (run : Run) : Type 0 where
+  pub some : 0 < length chunks
+  pub lines : List (List ℕ)
+  pub ran : Ran run.front.now lines rest
+  pub count : run.from + length lines ≡ n
+  pub reads : Reads lines (listed (slice_index_or chunks (length chunks - 1) []))
+
+-- what is read from line n on, where these lines are still to be read
+abbrev pub reading_on : Bool → ℕ → Progress → Option (List ℕ) → Result Items Fault
+reading_on single n s rest = read_on n s (pending single s (map content_of (pieces_after 10 rest)))
+
+-- the call took lines of a text, of which the first has number n, and gave those behind them
+abbrev pub TakesLines : Bool → ℕ → List ℕ → Progress → Progress → Result Taken Refusal → Type 0
+TakesLines single n text old new (Ok taken) = reading_on single n old (Some text) ≡ reading_on single (n + taken.lines) new (option_copied taken.after)
+TakesLines single n text old new (Err r) = (r ≡ OutOfMemory) ⊎ (reading_on single n old (Some text) ≡ Err (at_line n r))
+
+-- the lines behind those that were taken are so many less
+abbrev pub IsShorter : List ℕ → Taken → Type 0
+IsShorter text taken = MatchOption (option_copied taken.after) (Unit {0}) (λ rest. (length rest < length text) × (length rest + taken.lines ≤ length text))
+
+-- the run goes on at the lines behind those that were taken, if there are any
+abbrev pub RunsOn : List (List OneItem) → Progress → ℕ → Option (List ℕ) → Option Run → Type 0
+RunsOn chunks s n after run = MatchOption after (Unit {0}) (λ rest. IsRun chunks s n rest run)
