@@ -1,18 +1,19 @@
 -- Detectors that stand next on a walk are taken together.
-use Rattle.std.proofs.Common.{◌≡◌, refl, sym, ◌∙◌, ap, ℕ, ◌+◌, zero, suc, true, List, [], ◌∷◌, ◌++◌, length, take, drop, map, Option, Some, None, arith, append_assoc}
+use Rattle.std.proofs.Common.{◌≡◌, refl, sym, ◌∙◌, ap, ℕ, ◌+◌, zero, suc, true, List, [], ◌∷◌, ◌++◌, length, take, drop, map, Option, Some, None, arith}
 use Rattle.std.proofs.lemmas.List.{drop-drop, length-map}
 use Rattle.std.specs.List.{list_all}
 use Rattle.std.specs.Option.{is_some, unwrap_or}
 use Rattle.stab_circuit.specs.declared.detectors.Detectors.{Detectors}
 use Rattle.stab_circuit.specs.declared.walk.Walk.{Walk}
 use Rattle.stab_items.specs.Items.{OneItem, listed}
-use Rattle.stab_items.specs.Steps.{detector, detector_of, rounds, unroll}
+use Rattle.stab_items.specs.Steps.{detector, detector_of, unroll}
 use Rattle.stab_circuit.specs.Detectors.{detects, lookbacks_at}
 use Rattle.stab_circuit.specs.Cursors.{lookbacks_of}
-use Rattle.stab_circuit.specs.inner.Walks.{kind_steps, levels_left, chunks_left, ahead, walk_left}
+use Rattle.stab_circuit.specs.inner.Walks.{kind_steps, walk_left}
 use Rattle.stab_items.proofs.StepLemmas.{detector_step}
 use Rattle.stab_circuit.proofs.EditLemmas.{steps-append}
 use Rattle.stab_circuit.proofs.WalkLemmas.{unroll_before}
+use Rattle.stab_circuit.proofs.PastItemLemmas.{past_items, items_taken}
 
 found : (o : Option (List ℕ)) → is_some o ≡ true → o ≡ Some (unwrap_or o [])
 found None e = absurd (cc)
@@ -47,9 +48,6 @@ front_from xs seen ds place most n part e =
     ∙ ap (λ l. l ++ drop (length l) (drop place xs)) is
     ∙ ap (λ l. ds ++ l) (drop-drop (length ds) place xs)
 
-abbrev pub past_items : Walk → ℕ → Walk
-past_items w n = record { kind = w.kind; within = w.within; top = record { items = w.top.items; place = w.top.place + n; rounds = w.top.rounds }; around = w.around; rest = w.rest }
-
 -- past them in the innermost block
 pub detectors_taken : (w : Walk) (seen : List OneItem) (ds : Detectors) (most : ℕ) → drop w.within (kind_steps w.kind) ≡ []
     → seen ≡ take most (drop w.top.place w.top.items.now) → ds.items.now ≡ take (length (lookbacks_of ds)) seen
@@ -57,16 +55,10 @@ pub detectors_taken : (w : Walk) (seen : List OneItem) (ds : Detectors) (most : 
 detectors_taken w seen ds most given part e =
     let xs = w.top.items.now in
     let n = length (lookbacks_of ds) in
-    let more = rounds w.top.rounds (unroll (listed xs)) in
-    let others = levels_left (chunks_left w.rest.now) w.around.items in
     let behind = unroll (listed (drop (w.top.place + n) xs)) in
     let cut : drop w.top.place xs ≡ ds.items.now ++ drop (w.top.place + n) xs =
     front_from xs seen ds.items.now w.top.place most n part e
     ∙ ap (λ k. ds.items.now ++ drop (w.top.place + k) xs) (sym (length-map ds.items.now lookbacks_at)) in
     let here : unroll (listed (drop w.top.place xs)) ≡ map detector (lookbacks_of ds) ++ behind =
     ap (λ l. unroll (listed l)) cut ∙ steps-append ds.items.now (drop (w.top.place + n) xs) ∙ ap (λ l. l ++ behind) (detector_steps ds.items.now ds.all) in
-    ap (λ l. l ++ ahead w) given
-    ∙ ap (λ l. (l ++ more) ++ others) here
-    ∙ ap (λ l. l ++ others) (append_assoc (map detector (lookbacks_of ds)) behind more)
-    ∙ append_assoc (map detector (lookbacks_of ds)) (behind ++ more) others
-    ∙ ap (λ l. map detector (lookbacks_of ds) ++ (l ++ ahead (past_items w n))) (sym given)
+    items_taken w n (map detector (lookbacks_of ds)) given here

@@ -2,6 +2,7 @@ mod InputLemmas
 mod StepPartLemmas
 mod WalkLemmas
 mod SkipLemmas
+mod PastItemLemmas
 mod DetectorLemmas
 mod FaultLemmas
 mod ReadingLemmas
@@ -39,3 +40,4 @@ pub mod PieceLemmas
 mod GapPartLemmas
 mod RepeatLemmas
 pub mod EachRoundLemmas
+pub mod SameLemmas

@@ -35,7 +35,7 @@ impl<'a> Model for Cursor<'a> {
 }
 
 impl<'a> Cursor<'a> {
-    ghost use Rattle.std.specs.Prelude.{◌≡◌, ◌≤◌, ◌<◌, None, [], ◌∷◌, ◌++◌, length, drop, All, IfOk, IfErr, IfSome, IfNone};
+    ghost use Rattle.std.specs.Prelude.{◌≡◌, ◌≤◌, ◌<◌, None, [], ◌∷◌, ◌++◌, length, take, drop, All, IfOk, IfErr, IfSome, IfNone};
     ghost use Rattle.stab_io.specs.declared.refusal.Refusal.TheVariants.{OutOfMemory};
     ghost use Rattle.stab_items.specs.Steps.{check_of, unroll};
     ghost use Rattle.stab_circuit.specs.Views.{circuit_items};
@@ -83,6 +83,20 @@ impl<'a> Cursor<'a> {
         ensures none { IfNone result ((self.old.left ≡ []) × (self.new.left ≡ [])) }
     {
         self.walk.next_steps(most)
+    }
+
+    /// Goes past steps that are left of this cursor and of another, in the same order, and says how many.
+    /// It may stop before others that are the same, as at the end of a list. It takes no memory.
+    pub fn pass_same(&mut self, other: &mut Cursor) -> usize
+        ensures all { self.new.all ≡ self.old.all }
+        ensures other_all { other.new.all ≡ other.old.all }
+        ensures within { result ≤ length self.old.left }
+        ensures other_within { result ≤ length other.old.left }
+        ensures same { take result self.old.left ≡ take result other.old.left }
+        ensures left { self.new.left ≡ drop result self.old.left }
+        ensures other_left { other.new.left ≡ drop result other.old.left }
+    {
+        self.walk.pass_same(&mut other.walk)
     }
 
     /// Back to the circuit's first step. It takes no memory.

@@ -14,6 +14,7 @@
 //! - `print`: the one text of a circuit.
 //! - `step`, `instruction`, `steps`: the steps of an instruction, one at a time and together.
 //! - `detectors`: detectors that stand one behind the other.
+//! - `same`: instructions and items that stand for the same steps.
 //! - `walk`, `cursor`: the unrolled steps of a circuit, from any place on.
 //! - `laws`: what holds between all texts and all items.
 //!
@@ -53,6 +54,7 @@ mod judge;
 pub mod laws;
 mod path;
 mod print;
+mod same;
 mod step;
 mod steps;
 mod walk;

@@ -1,9 +1,12 @@
-ghost use Rattle.std.specs.Prelude.{◌≡◌, ◌≤◌, ◌<◌, ◌+◌, ◌*◌, ◌^◌, slice_get, IfSome};
+ghost use Rattle.std.specs.Prelude.{◌≡◌, ◌<◌, ◌+◌, ◌^◌, slice_get, IfSome};
 ghost use Rattle.stab_circuit.specs.Cursors.{step_shown, IsApart};
 ghost use Rattle.stab_circuit.specs.inner.Walks.{shown_step, kind_steps};
 
+mod same;
+mod skip;
+
 use crate::detectors::Detectors;
-use crate::instruction::{step_at, step_count};
+use crate::instruction::step_at;
 use crate::step::Step;
 use crate::steps::{Steps, part, steps_from};
 use stab_items::{Chunk, Item, Part};
@@ -44,12 +47,12 @@ pub struct Walk<'a> {
 }
 
 impl<'a> Walk<'a> {
-    ghost use Rattle.std.specs.Prelude.{◌≡◌, ◌≤◌, ◌<◌, ◌+◌, ◌-◌, ◌*◌, ◌∷◌, ◌++◌, [], None, min, length, drop, map, IfOk, IfSome, IfNone};
+    ghost use Rattle.std.specs.Prelude.{◌≡◌, ◌≤◌, ◌<◌, ◌+◌, ◌∷◌, ◌++◌, [], None, length, drop, map, IfOk, IfSome, IfNone};
     ghost use Rattle.stab_items.specs.Items.{depth, listed};
-    ghost use Rattle.stab_items.specs.Steps.{unroll, steps_of, detector, rounds as rounds_of, most_steps, steps_cap};
+    ghost use Rattle.stab_items.specs.Steps.{unroll, detector, rounds as rounds_of};
     ghost use Rattle.stab_circuit.specs.Cursors.{step_shown, lookbacks_of, steps_shown, IsApart, IsApartAlone};
     ghost use Rattle.stab_items.specs.inner.Chunks.{flattened};
-    ghost use Rattle.stab_circuit.specs.inner.Walks.{kind_steps, ahead, walk_left, walk_weight, weight, weight_at, IsWalk, SameKind, Takes, GoesOn, Passes};
+    ghost use Rattle.stab_circuit.specs.inner.Walks.{kind_steps, ahead, walk_left, walk_weight, weight_at, IsWalk, SameKind, Takes, GoesOn};
 
     /// A walk over the items of chunks, with room for every level.
     pub fn new(alloc: Global, chunks: &'a [Chunk]) -> Result<Walk<'a>, AllocError>
@@ -286,88 +289,6 @@ impl<'a> Walk<'a> {
             }
         }
     }
-
-    /// Leaves out steps of an instruction, and says how many are still to be left out.
-    fn pass_steps(&mut self, kind: &'a Kind, count: u32) -> u32
-        requires walks { IsWalk self.old }
-        requires free { self.old.kind ≡ None }
-        ensures walks { IsWalk self.new }
-        ensures left { drop result (walk_left self.new) ≡ drop count (steps_of kind.now ++ ahead self.old) }
-        ensures fewer { result ≤ count }
-        ensures free { 0 < result → self.new.kind ≡ None }
-        ensures weight { walk_weight self.new ≡ walk_weight self.old }
-    {
-        let steps = step_count(kind);
-        if (count as usize) < steps {
-            self.kind = Some(kind);
-            self.within = count as usize;
-            return 0;
-        }
-        count - steps as u32
-    }
-
-    /// Leaves out steps of a block, whole rounds at once, and says how many are still to be left
-    /// out.
-    fn pass_rounds(&mut self, rounds: u64, steps: u32, body: &'a [Item], count: u32) -> u32
-        requires walks { IsWalk self.old }
-        requires free { self.old.kind ≡ None }
-        requires room { depth (listed body.now) + 1 + length self.old.around.items ≤ 16 }
-        requires kept { steps ≡ min (length (unroll (listed body.now))) steps_cap }
-        requires few { count ≤ most_steps }
-        ensures walks { IsWalk self.new }
-        ensures left { drop result (walk_left self.new) ≡ drop count (rounds_of rounds (unroll (listed body.now)) ++ ahead self.old) }
-        ensures fewer { result ≤ count }
-        ensures free { self.new.kind ≡ None }
-        ensures weight { walk_weight self.new ≤ rounds * (1 + weight (listed body.now)) + walk_weight self.old }
-    {
-        let (skipped, rest) = jump(count, steps, rounds);
-        if skipped < rounds {
-            self.enter(body, rounds - skipped - 1);
-        }
-        rest
-    }
-
-    /// Leaves out steps of what comes next, of which so many are to be left out; and says how many
-    /// still are, or that the walk stands at the end.
-    fn pass(&mut self, count: u32) -> Option<u32>
-        requires walks { IsWalk self.old }
-        requires free { self.old.kind ≡ None }
-        requires few { count ≤ most_steps }
-        ensures walks { IsWalk self.new }
-        ensures passes { Passes count self.old self.new result }
-    {
-        let Some(item) = self.take() else {
-            return if self.leave() { Some(count) } else { None };
-        };
-        let rest = match item.part() {
-            Part::Operation { kind, .. } => self.pass_steps(kind, count),
-            Part::Block {
-                count: rounds,
-                kept,
-                body,
-                ..
-            } => self.pass_rounds(rounds.number(), kept.steps, body, count),
-        };
-        Some(rest)
-    }
-
-    /// Leaves out so many steps from the first item on.
-    #[tactic(auto, using(crate::proofs::SkipLemmas::skipped, crate::proofs::SkipLemmas::skipped_all))]
-    pub fn skip(&mut self, count: u32)
-        requires walks { IsWalk self.old }
-        requires free { self.old.kind ≡ None }
-        requires few { count ≤ most_steps }
-        ensures walks { IsWalk self.new }
-        ensures left { walk_left self.new ≡ drop count (walk_left self.old) }
-    {
-        let mut left = count;
-        'walk: while left > 0 {
-            match self.pass(left) {
-                Some(rest) => left = rest,
-                None => return,
-            }
-        }
-    }
 }
 
 /// The next step of an instruction of which so many were given.
@@ -380,20 +301,4 @@ fn current(kind: Option<&Kind>, within: usize) -> Option<Step<'_>>
         Some(kind) => step_at(kind, within),
         None => None,
     }
-}
-
-/// How many of so many rounds are within a number of steps, and how many steps are left then.
-fn jump(count: u32, steps: u32, rounds: u64) -> (u64, u32)
-    ensures within { result.0 ≤ rounds }
-    ensures rest { count ≡ result.0 * steps + result.1 }
-{
-    if steps == 0 {
-        return (rounds, count);
-    }
-    let whole = count / steps;
-    if u64::from(whole) < rounds {
-        return (u64::from(whole), count % steps);
-    }
-    let all = rounds as u32;
-    (rounds, count - all * steps)
 }

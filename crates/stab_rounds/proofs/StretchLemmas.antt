@@ -1,6 +1,6 @@
 -- Steps that come again: lists that go on as they went on before.
-use Rattle.std.proofs.Common.{◌≡◌, ℕ, ◌+◌, ◌*◌, ◌≤◌, suc, zero, refl, sym, ◌∙◌, ap, List, [], ◌∷◌, ◌++◌, length, take, drop, append_assoc, append-nil, arith}
-use Rattle.std.proofs.lemmas.List.{drop-drop, take-take, take_all, length-drop}
+use Rattle.std.proofs.Common.{◌≡◌, ℕ, ◌+◌, ◌*◌, ◌≤◌, suc, zero, sym, ◌∙◌, ap, List, [], ◌++◌, length, take, drop, append_assoc, append-nil, arith}
+use Rattle.std.proofs.lemmas.List.{drop-drop, take-take, take_all, length-drop, length-append}
 use Rattle.std.proofs.Math.Seq.{take-add, take-append_seam, drop-append_seam}
 use Rattle.stab_circuit.specs.Steps.{Step, rounds}
 
@@ -11,6 +11,20 @@ goes-behind n xs part rest e = sym (sym (drop-drop (length part) n xs) ∙ ap (d
 -- and what is before that
 pub goes-before : {X : Type 0} (n : ℕ) (xs part rest : List X) → drop n xs ≡ part ++ rest → take (n + length part) xs ≡ take n xs ++ part
 goes-before n xs part rest e = take-add n (length part) xs ∙ ap (λ l. take n xs ++ l) (ap (take (length part)) e ∙ take-append_seam part rest)
+
+-- a part and more behind it are within the list
+pub goes-within : {X : Type 0} (n m : ℕ) (xs part rest : List X) → drop n xs ≡ part ++ rest → n ≤ length xs → m ≤ length rest → n + (length part + m) ≤ length xs
+goes-within n m xs part rest e within more = omega (arith, ap length e, length-drop n xs, length-append part rest, within, more)
+
+-- the same steps, and more of them behind these
+pub same-more : {X : Type 0} (n m : ℕ) (xs ys near far : List X) → near ≡ drop n xs → far ≡ drop n ys → take n xs ≡ take n ys → take m near ≡ take m far → take (n + m) xs ≡ take (n + m) ys
+same-more n m xs ys near far e f same more =
+    take-add n m xs
+    ∙ ap (λ l. take n xs ++ take m l) (sym e)
+    ∙ ap (λ l. take n xs ++ l) more
+    ∙ ap (λ l. take n xs ++ take m l) f
+    ∙ ap (λ l. l ++ take m (drop n ys)) same
+    ∙ sym (take-add n m ys)
 
 -- where nothing is left, no more can be taken
 pub nothing-left : {X : Type 0} (n count : ℕ) (xs : List X) → drop n xs ≡ [] → n ≤ count → take n xs ≡ take count xs

@@ -37,12 +37,12 @@ fn count_same(near: &mut Cursor, far: &mut Cursor) -> usize
     ensures within { result ≤ length far.old.left }
     ensures same { take result near.old.left ≡ take result far.old.left }
 {
-    let mut count = 0;
+    let mut count = near.pass_same(far);
     'comparing: while let Some(steps) = near.next_steps(usize::MAX) {
         if !goes_over(far, steps) {
             return count;
         }
-        count += steps.len();
+        count += steps.len() + near.pass_same(far);
     }
     count
 }

@@ -1,4 +1,4 @@
-use Rattle.std.proofs.Common.{◌≡◌, ℕ, sym, ap, subst, List, length, map, take, drop}
+use Rattle.std.proofs.Common.{◌≡◌, ℕ, sym, subst, List, length, map, take, drop}
 use Rattle.std.proofs.lemmas.Bool.{OnTrue_at, OnTrue_from}
 use Rattle.stab_circuit.specs.Steps.{Step, detector}
 use Rattle.stab_circuit.specs.Cursors.{steps_shown, lookbacks_of}

@@ -1,4 +1,4 @@
-use Rattle.std.proofs.Common.{◌≡◌, ◌+◌, ◌*◌, ◌/◌, ◌≤◌, suc, sym, ◌∙◌, ap, length, take, drop, arith}
+use Rattle.std.proofs.Common.{◌≡◌, ◌+◌, ◌*◌, ◌/◌, suc, sym, ◌∙◌, ap, length, take, drop, arith}
 use Rattle.std.proofs.lemmas.List.{drop-drop, length-drop}
 use Rattle.stab_items.proofs.SummaryLemmas.{few_steps}
 use Rattle.stab_circuit.specs.Steps.{unroll, rounds}

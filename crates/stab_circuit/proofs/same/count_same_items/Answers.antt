@@ -1,0 +1,24 @@
+use Rattle.std.proofs.Common.{◌<◌, ◌++◌, ◌∙◌, sym, ap, length, take, arith}
+use Rattle.std.proofs.lemmas.List.{length-append}
+use Rattle.stab_items.specs.Items.{listed, before, done}
+use Rattle.stab_items.specs.Steps.{unroll}
+use Rattle.stab_circuit.proofs.PastItemLemmas.{steps_more}
+use Rattle.stab_circuit.proofs.same.count_same_items.Goals as goal
+
+pub loop-place-preserved : goal.loop-place-preserved
+loop-place-preserved c =
+    let xs = c.args.items.now in
+    let ys = c.args.others.now in
+    let i = c.loop-place.place in
+    let x = c.index-items-place.result in
+    let y = c.index-others-place.result in
+    let lt : i < length xs = omega (arith, c.loop-place-test.true, c.min-most.ensures) in
+    let left : i < length ys = omega (arith, c.loop-place-test.true, c.min-most.ensures) in
+    let more = steps_more xs i x lt c.index-items-place.is in
+    record {
+      same = more
+          ∙ ap (λ l. l ++ unroll (before x done)) c.loop-place.invariant.same
+          ∙ ap (λ l. unroll (listed (take i ys)) ++ l) c.in-Some.ensures.same
+          ∙ sym (steps_more ys i y left c.index-others-place.is);
+      steps = omega (arith, c.in-Some.ensures.count, c.loop-place.invariant.steps, ap length more, length-append (unroll (listed (take i xs))) (unroll (before x done)));
+    }

@@ -1,0 +1,13 @@
+use Rattle.std.proofs.Common.{sym, ◌∙◌, ap, map}
+use Rattle.std.proofs.lemmas.Bool.{OnTrue_from}
+use Rattle.stab_letters.specs.declared.gate.PairGate.TheVariants as gate
+use Rattle.stab_items.specs.Steps.{two, steps_of}
+use Rattle.stab_circuit.proofs.SameLemmas.{same_list, tells_both}
+use Rattle.stab_circuit.proofs.same.is_swap.Goals as goal
+
+pub returns-in-Swap : goal.returns-in-Swap
+returns-in-Swap c = record {
+  same = OnTrue_from c.eq.result _
+      (λ t. ap (map (λ pair. two gate.Swap pair.0 pair.1)) (same_list _ c.args.pairs.now c.as_slice.result.now tells_both (sym c.eq.ensures ∙ t) ∙ c.as_slice.ensures.value)
+      ∙ sym (ap steps_of c.in-Swap.is));
+}
