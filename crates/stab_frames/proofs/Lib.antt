@@ -20,6 +20,7 @@ pub mod TrueLemmas
 pub mod NoteAtLemmas
 pub mod PassLemmas
 pub mod WalkLemmas
+pub mod ProductLemmas
 pub mod FactorLemmas
 pub mod MeasuredPassLemmas
 pub mod NotedLemmas

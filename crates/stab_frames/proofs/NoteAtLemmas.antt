@@ -1,6 +1,6 @@
 -- Notes of coin numbers, by kept strings and flags: in parts, and with more behind them.
-use Rattle.std.proofs.Common.{◌≡◌, ℕ, zero, suc, ◌+◌, ◌<◌, ◌≤◌, min, refl, sym, ◌∙◌, ap, subst, Bool, true, false, List, [], ◌∷◌, ◌++◌, length, take, get_or, arith, ◌⊎◌, inl, inr}
-use Rattle.std.specs.Prelude.{None, IfSome, slice_get, nat_le, if◌then◌else◌}
+use Rattle.std.proofs.Common.{◌≡◌, ℕ, zero, suc, ◌+◌, ◌-◌, ◌<◌, ◌≤◌, min, refl, sym, ◌∙◌, ap, subst, Bool, true, false, List, [], ◌∷◌, ◌++◌, length, take, get_or, arith, ◌⊎◌, inl, inr}
+use Rattle.std.specs.Prelude.{Option, None, IfSome, slice_get, nat_le, if◌then◌else◌}
 use Rattle.std.proofs.lemmas.Bool.{cases_lt}
 use Rattle.std.proofs.lemmas.List.{length-append, length-take, take-append-le, get_or_append_left, get_or-append-add}
 use Rattle.std.proofs.lemmas.Option.{slice_get_past}
@@ -121,7 +121,28 @@ note-free P most strings s free e is =
         subst (λ o. IfSome o P)
         (sym (slice_get_past (take most (strings ++ s ∷ [])) (ones free) (omega (arith, length-take most (strings ++ s ∷ []), e, full)))) tt
 
+-- outcomes behind as many free ones as strings are kept have no notes
+
+if-none : (b : Bool) (o : Option (List Letter)) → o ≡ None → (if b then o else None) ≡ None
+if-none true o e = e
+if-none false o e = refl
+
+pub note-past : (strings : List (List Letter)) (free more : List Bool) (t : ℕ) → length free ≤ t → length strings ≤ ones free → note_at strings (free ++ more) t ≡ None
+note-past strings free more t le few =
+    if-none (get_or (free ++ more) t false) (slice_get strings (ones (take t (free ++ more))))
+    (slice_get_past strings (ones (take t (free ++ more))) (omega (arith, few, count)))
+  where
+    count : ones (take t (free ++ more)) ≡ ones free + ones (take (t - length free) more)
+    count =
+        ap (λ k. ones (take k (free ++ more))) {x = t} {y = length free + (t - length free)} (omega (arith, le))
+        ∙ ap ones (take-append-add free more (t - length free))
+        ∙ ones-append free (take (t - length free) more)
+
 -- strings stay numbered
+
+-- where no further ones are kept, with any flags behind
+pub numbered-full : (kept : StringsState) (free more : List Bool) → length kept.strings ≡ kept.most → IsNumbered kept free → IsNumbered kept (free ++ more)
+numbered-full kept free more full e = omega (arith, full, e, ones-append free more)
 
 pub numbered-fixed : (most : ℕ) (strings : List (List Letter)) (free : List Bool) → length strings ≡ min (ones free) most
     → length strings ≡ min (ones (free ++ false ∷ [])) most

@@ -20,8 +20,8 @@ use Rattle.stab_frames.specs.KeptStrings.{StringsState, note_at, IsNumbered, IsT
 use Rattle.stab_frames.specs.inner.Noted.{IsAdded, IsNotedOf, IsNoted}
 use Rattle.stab_frames.proofs.RunNoteLemmas.{unmeasured}
 use Rattle.stab_frames.proofs.OverLemmas.{coin-after}
-use Rattle.stab_frames.proofs.TrueLemmas.{true-append, true-same, exchanges-same}
-use Rattle.stab_frames.proofs.NoteAtLemmas.{note-before, note-fixed, note-free, numbered-fixed, numbered-free}
+use Rattle.stab_frames.proofs.TrueLemmas.{true-append, true-same, true-none, exchanges-same}
+use Rattle.stab_frames.proofs.NoteAtLemmas.{note-before, note-fixed, note-free, note-past, numbered-fixed, numbered-free, numbered-full}
 
 -- the strings of earlier steps stay true with more behind them and behind the flags
 module _ (n : ℕ) (coins : ℕ → Bool) (xs : List Step) (kept : StringsState) (free flags : List Bool) (more : List (List Letter)) (numbered : IsNumbered kept free)
@@ -64,6 +64,23 @@ keeps-unmeasured n coins xs kept behind old new none same most run ys at numbere
       subst (λ s. AreTrue n coins (note_at s new.output.free) (ys ++ xs) origin) (sym same)
           (subst (λ bits. AreTrue n coins (note_at kept.strings bits) (ys ++ xs) origin) (sym flags)
           (true-append n coins (note_at kept.strings old.output.free) ys xs origin is (true-unmeasured n coins (note_at kept.strings old.output.free) xs p none))),
+    )
+
+-- steps at which no further string is kept
+
+pub keeps-full : (n : ℕ) (coins : ℕ → Bool) (xs : List Step) (kept : StringsState) (old new : ProgramState) → length kept.strings ≡ kept.most
+    → IsRun n coins xs old new → KeepsTrue n coins xs kept kept old new
+keeps-full n coins xs kept old new full run ys at numbered is =
+    let p = point_after n coins ys origin in
+    let free = old.output.free in
+    let more = (outputs n coins xs p).free in
+    let flags : new.output.free ≡ free ++ more = ap (λ o. o.free) (run p at).output in (
+      subst (λ bits. IsNumbered kept bits) (sym flags) (numbered-full kept free more full numbered),
+      subst (λ bits. AreTrue n coins (note_at kept.strings bits) (ys ++ xs) origin) (sym flags)
+          (true-append n coins (note_at kept.strings (free ++ more)) ys xs origin
+          (subst (λ s. AreTrue n coins (note_at s (free ++ more)) ys origin) (as_many kept free numbered) (front-true n coins ys kept free more [] numbered at.coin is))
+          (true-none n coins (note_at kept.strings (free ++ more)) xs p
+          (λ t le. note-past kept.strings free more t (omega (arith, at.coin, le)) (omega (arith, numbered))))),
     )
 
 -- one step

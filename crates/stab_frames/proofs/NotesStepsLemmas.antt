@@ -19,7 +19,7 @@ use Rattle.stab_frames.specs.KeptStrings.{StringsState, kept_with}
 use Rattle.stab_frames.specs.Lookbacks.{LooksWithin}
 use Rattle.stab_frames.specs.inner.Noted.{IsNotedOf, IsNoted, NotesSteps}
 use Rattle.stab_rounds.proofs.LookLemmas.{within-more, one-more}
-use Rattle.stab_frames.proofs.NotedLemmas.{keeps-unmeasured, keeps-step, keeps-none, keeps-append}
+use Rattle.stab_frames.proofs.NotedLemmas.{keeps-unmeasured, keeps-full, keeps-step, keeps-none, keeps-append}
 
 -- no step, one step, and steps one after another
 
@@ -94,6 +94,15 @@ notes-target n m c d step xs i x near far kept mid behind a b new lt is same_siz
 pub notes-targets : {X : Type 0} (n : ℕ) (c : ℕ → Bool) (step : X → Step) (xs : List X) (i : ℕ) (reach : ℕ) (kept behind : StringsState) (a b : ProgramState)
     → length xs ≤ i → NotesSteps n c (map step (take i xs)) reach kept behind a b → NotesSteps n c (map step xs) reach kept behind a b
 notes-targets n c step xs i reach kept behind a b all notes = subst (λ ys. NotesSteps n c (map step ys) reach kept behind a b) (take_all i xs all) notes
+
+-- steps at which no further string is kept
+pub notes-full : (n : ℕ) (coins : ℕ → Bool) (xs : List Step) (reach : ℕ) (kept : StringsState) (a b : ProgramState) → length kept.strings ≡ kept.most
+    → All (LooksWithin reach) xs → IsRun n coins xs a b → NotesSteps n coins xs reach kept kept a b
+notes-full n coins xs reach kept a b full near run = record {
+  run = run;
+  noted = keeps-full n coins xs kept a b full run;
+  within = near;
+}
 
 -- steps that measure nothing
 

@@ -1,5 +1,5 @@
 -- True strings: in parts, by the notes of their coins, and from one run to another.
-use Rattle.std.proofs.Common.{◌≡◌, ℕ, ◌+◌, ◌<◌, refl, sym, ◌∙◌, ap, subst, Bool, true, false, List, [], ◌∷◌, ◌++◌, All, arith}
+use Rattle.std.proofs.Common.{◌≡◌, ℕ, ◌+◌, ◌<◌, ◌≤◌, refl, sym, ◌∙◌, ap, subst, Bool, true, false, List, [], ◌∷◌, ◌++◌, All, arith}
 use Rattle.std.specs.Prelude.{Option, Some, None, IfSome}
 use Rattle.std.proofs.lemmas.List.Elements.{All-head, All-tail}
 use Rattle.std.specs.List.{list_any}
@@ -74,6 +74,19 @@ true-same n coins strings others (x ∷ xs) a same is = (
     later t lt =
         let e : (a.coin + coins_of x) + t ≡ a.coin + (coins_of x + t) = omega arith in
         ap strings e ∙ same (coins_of x + t) (omega arith) ∙ ap others (sym e)
+
+-- where there are no notes, nothing is asked of them
+pub true-none : (n : ℕ) (coins : ℕ → Bool) (strings : ℕ → Option (List Letter)) (xs : List Step) (a : Point) → ((t : ℕ) → a.coin ≤ t → strings t ≡ None)
+    → AreTrue n coins strings xs a
+true-none n coins strings [] a none = tt
+true-none n coins strings (x ∷ xs) a none = (
+  some-none (measured_by n x),
+  true-none n coins strings xs (next_point n coins x a) (λ t le. none t (omega (arith, le))),
+)
+  where
+    some-none : (m : Option Signed) → IfSome m (λ m. IfSome (strings a.coin) (λ s. Exchanges n (member a.trace) m s))
+    some-none None = tt
+    some-none (Some m) = subst (λ o. IfSome o (λ s. Exchanges n (member a.trace) m s)) (sym (none a.coin (omega arith))) tt
 
 -- from one run to another whose groups are turned, or the same
 

@@ -3,4 +3,5 @@ pub mod Weights
 pub mod Passes
 pub mod OtherPasses
 pub mod Touches
+pub mod Products
 pub mod Noted

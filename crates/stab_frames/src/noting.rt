@@ -11,7 +11,7 @@ use stab_circuit::{Cursor, MeasureTarget, Measurement, Step, Steps, measured_ste
 use stab_io::Refusal;
 use stab_pauli::Pauli;
 use stab_rounds::{furthest, furthest_detector, furthest_of};
-use stab_steps::{Coins, Outputs, apply_step_with_exchange, apply_steps};
+use stab_steps::{Coins, Outputs, apply_step, apply_step_with_exchange, apply_steps};
 use stab_tableau::Tableau;
 use std::alloc::Global;
 
@@ -142,7 +142,7 @@ impl RunNotes {
         Ok(())
     }
 
-    /// Carries out the measurements of targets, and notes them.
+    /// Carries out the measurements of targets, and notes them: all at once where no further string is kept.
     fn run_targets<C: Coins>(
         &mut self,
         alloc: Global,
@@ -172,6 +172,11 @@ impl RunNotes {
         ensures noted { OnOk result (NotesSteps tableau.old.qubits (C.sequence coins.old) (map (measured measurement) targets.now) self.new.reach self.old.strings self.new.strings (program_state tableau.old (output_of outputs.old)) (program_state tableau.new (output_of outputs.new))) }
         ensures err { IfErr result (λ r. r ≡ OutOfMemory) }
     {
+        if self.strings.is_full() {
+            let steps = Steps::Measurements(measurement, targets);
+            apply_steps(tableau, string, coins, outputs, steps, applied)?;
+            return Ok(());
+        }
         for target in targets {
             let step = measured_step(measurement, *target);
             self.run_step(alloc, tableau, string, coins, outputs, step, applied)?;
@@ -179,7 +184,7 @@ impl RunNotes {
         Ok(())
     }
 
-    /// Carries out a step, and notes it.
+    /// Carries out a step, and notes it. Where no further string is kept, none is looked for.
     fn run_step<C: Coins>(
         &mut self,
         alloc: Global,
@@ -209,6 +214,10 @@ impl RunNotes {
         ensures err { IfErr result (λ r. r ≡ OutOfMemory) }
     {
         self.reach = furthest_of(self.reach, step);
+        if self.strings.is_full() {
+            apply_step(tableau, string, coins, outputs, step, applied)?;
+            return Ok(());
+        }
         let free = apply_step_with_exchange(
             tableau,
             string,

@@ -31,7 +31,7 @@ impl Model for KeptStrings {
 }
 
 impl KeptStrings {
-    ghost use Rattle.std.specs.Prelude.{◌≡◌, ◌≤◌, ◌<◌, [], ◌∷◌, All, length, map, take, drop, slice_index_or, OnOk, OnErr, IfOk, IfErr};
+    ghost use Rattle.std.specs.Prelude.{◌≡◌, ◌≤◌, ◌<◌, ◌↔◌, [], ◌∷◌, All, IsTrue, length, map, take, drop, slice_index_or, OnOk, OnErr, IfOk, IfErr};
     ghost use Rattle.stab_io.specs.declared.refusal.Refusal.TheVariants.{OutOfMemory};
     ghost use Rattle.stab_frames.specs.KeptStrings.{kept_with, front_kept};
     ghost use Rattle.stab_frames.specs.Limits.{most_strings as most_of};
@@ -52,6 +52,13 @@ impl KeptStrings {
         ensures value { result ≡ length self.now.strings }
     {
         self.strings.len()
+    }
+
+    /// Whether no further ones are kept.
+    pub fn is_full(&self) -> bool
+        ensures value { IsTrue result ↔ length self.now.strings ≡ self.now.most }
+    {
+        self.strings.len() == self.most
     }
 
     /// Puts the letters of a string behind the others, unless as many are kept as may be.

@@ -4,7 +4,7 @@ ghost use Rattle.stab_steps.specs.Records.{ones};
 use crate::bits::count_ones;
 use crate::keys::Keys;
 use crate::letters::weight_of;
-use stab_pauli::{Letter, Pauli};
+use stab_pauli::{Letter, Pauli, masks};
 use stab_steps::Addition;
 use std::alloc::{AllocError, Global};
 use std::marker::Model;
@@ -52,7 +52,7 @@ impl Model for FrameWalk {
 }
 
 impl FrameWalk {
-    ghost use Rattle.std.specs.Prelude.{◌≡◌, ℕ, ◌+◌, ◌^◌, ◌≤◌, ◌<◌, ◌∷◌, [], ◌++◌, true, length, replicate, take, drop, slice_index_or, slice_set, OnOk, IfOk, IfSome};
+    ghost use Rattle.std.specs.Prelude.{◌≡◌, ℕ, ◌+◌, ◌*◌, ◌^◌, ◌≤◌, ◌<◌, ◌∷◌, [], ◌++◌, true, length, replicate, take, drop, slice_index_or, slice_set, OnOk, IfOk, IfSome};
     ghost use Rattle.stab_letters.specs.declared.letter.Letter.TheVariants.{I};
     ghost use Rattle.stab_pauli.specs.Paulis.{single, string_product};
     ghost use Rattle.stab_steps.specs.Records.{ones};
@@ -60,6 +60,7 @@ impl FrameWalk {
     ghost use Rattle.stab_frames.specs.Walks.{frame_at, IsGone};
     ghost use Rattle.stab_frames.specs.inner.Passes.{one_coin, none_flipped, no_detectors};
     ghost use Rattle.stab_frames.specs.inner.Touches.{Covers};
+    ghost use Rattle.stab_frames.specs.inner.Products.{AreMultiplied};
     ghost use Rattle.stab_frames.specs.Flips.{flipped};
 
     /// The identity on n qubits, which has flipped nothing, before the coin with this number of a
@@ -100,11 +101,28 @@ impl FrameWalk {
         ensures value { self.new ≡ record self.old { letters = string_product self.old.letters string.now.letters } }
         ensures length { length self.new.letters ≡ length self.old.letters }
     {
-        let mut qubit = string.next_letter(0);
-        while qubit < self.letters.len() {
+        for word in 0..string.len().div_ceil(64) {
+            self.multiply_word(string, word);
+        }
+    }
+
+    // A string has few letters that are not I, so this goes from one to the next, by a mask of them.
+    /// Multiplies 64 letters of a string on, from 64 * word on.
+    #[inline(always)]
+    fn multiply_word(&mut self, string: &Pauli, word: usize)
+        requires some { 64 * word < length string.now.letters }
+        requires same_length { length string.now.letters ≡ length self.old.letters }
+        ensures alone { self.new ≡ record self.old { letters = self.new.letters } }
+        ensures letters { AreMultiplied (64 * word) string.now.letters self.old.letters self.new.letters }
+    {
+        let _count = string.len();
+        let mut rest = string.letters_mask(word);
+        while rest != 0 {
+            let bit = masks::first(rest);
+            let qubit = 64 * word + bit;
             let product = self.letter(qubit).times(string.letter(qubit));
             self.set(qubit, product);
-            qubit = string.next_letter(qubit + 1);
+            rest = masks::without(rest, bit);
         }
     }
 

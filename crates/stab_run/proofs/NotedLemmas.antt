@@ -1,24 +1,20 @@
 -- Noted runs: strings that are kept of free outcomes, where a run goes on.
-use Rattle.std.proofs.Common.{◌≡◌, ℕ, ◌+◌, ◌-◌, ◌<◌, ◌≤◌, min, refl, sym, ◌∙◌, ap, subst, Bool, true, false, ◌⊎◌, inl, inr, List, [], ◌∷◌, ◌++◌, length, take, drop, get_or, arith}
-use Rattle.std.specs.Prelude.{Option, None, Some, IfSome, slice_get, if◌then◌else◌}
-use Rattle.std.proofs.Math.Seq.{take-add, take-append-add}
-use Rattle.std.proofs.lemmas.List.{length-append, take-append-le, get_or_append_left}
-use Rattle.std.proofs.lemmas.Option.{slice_get_past}
+use Rattle.std.proofs.Common.{◌≡◌, ℕ, ◌+◌, ◌-◌, ◌<◌, ◌≤◌, refl, sym, ◌∙◌, ap, subst, Bool, false, List, [], ◌++◌, length, take, drop, arith}
+use Rattle.std.specs.Prelude.{slice_get}
+use Rattle.std.proofs.Math.Seq.{take-add}
+use Rattle.std.proofs.lemmas.List.{take-append-le, get_or_append_left}
 use Rattle.stab_letters.specs.declared.letter.Letter.{Letter}
 use Rattle.stab_pauli.specs.Paulis.{Signed}
-use Rattle.stab_tableau.specs.Traces.{member}
-use Rattle.stab_tableau.specs.Exchanges.{Exchanges}
 use Rattle.stab_circuit.specs.Steps.{Step}
 use Rattle.stab_steps.specs.Records.{ones}
-use Rattle.stab_steps.specs.Runs.{measured_by}
-use Rattle.stab_steps.specs.Points.{Point, RunOutput, origin, coins_of, all_coins_of, next_point, point_after, outputs}
+use Rattle.stab_steps.specs.Points.{RunOutput, origin, point_after, outputs}
 use Rattle.stab_steps.specs.ProgramStates.{ProgramState}
 use Rattle.stab_steps.proofs.RecordLemmas.{ones-append}
 use Rattle.stab_steps.proofs.RunLemmas.{outputs-append}
 use Rattle.stab_laws.proofs.PointLemmas.{flags-are-coins}
 use Rattle.stab_frames.specs.KeptStrings.{StringsState, IsNumbered, AreTrue, KeepsTrue, note_at}
-use Rattle.stab_frames.proofs.NoteAtLemmas.{note-equal}
-use Rattle.stab_frames.proofs.TrueLemmas.{true-append, true-same}
+use Rattle.stab_frames.proofs.NoteAtLemmas.{note-equal, note-past}
+use Rattle.stab_frames.proofs.TrueLemmas.{true-append, true-same, true-none}
 use Rattle.stab_frames.specs.declared.noting.RunNotes.{RunNotes}
 use Rattle.stab_run.specs.inner.Led.{IsLed}
 use Rattle.stab_run.specs.inner.Noted.{IsNoted}
@@ -53,36 +49,10 @@ noted-on n coins steps from count old_notes new_notes old new led noted scratch 
 
 -- a run that goes on, and notes no more
 
-if-none : (b : Bool) (o : Option (List Letter)) → o ≡ None → (if b then o else None) ≡ None
-if-none true o e = e
-if-none false o e = refl
-
 note-left : (strings : List (List Letter)) (free more : List Bool) (t : ℕ) → t < length free → note_at strings free t ≡ note_at strings (free ++ more) t
 note-left strings free more t lt =
     sym (note-equal strings strings (free ++ more) free t t (get_or_append_left free more false t lt)
     (λ is. ap (λ bits. slice_get strings (ones bits)) (take-append-le t free more (omega (arith, lt)))))
-
-note-none : (strings : List (List Letter)) (free more : List Bool) (t : ℕ) → length free ≤ t → length strings ≤ ones free → note_at strings (free ++ more) t ≡ None
-note-none strings free more t le few =
-    if-none (get_or (free ++ more) t false) (slice_get strings (ones (take t (free ++ more))))
-    (slice_get_past strings (ones (take t (free ++ more))) (omega (arith, few, count)))
-  where
-    count : ones (take t (free ++ more)) ≡ ones free + ones (take (t - length free) more)
-    count =
-        ap (λ k. ones (take k (free ++ more))) {x = t} {y = length free + (t - length free)} (omega (arith, le))
-        ∙ ap ones (take-append-add free more (t - length free))
-        ∙ ones-append free (take (t - length free) more)
-
-true-none : (n : ℕ) (coins : ℕ → Bool) (strings : ℕ → Option (List Letter)) (xs : List Step) (a : Point) → ((t : ℕ) → a.coin ≤ t → strings t ≡ None) → AreTrue n coins strings xs a
-true-none n coins strings [] a none = tt
-true-none n coins strings (x ∷ xs) a none = (
-  some-none (measured_by n x),
-  true-none n coins strings xs (next_point n coins x a) (λ t le. none t (omega (arith, le))),
-)
-  where
-    some-none : (m : Option Signed) → IfSome m (λ m. IfSome (strings a.coin) (λ s. Exchanges n (member a.trace) m s))
-    some-none None = tt
-    some-none (Some m) = subst (λ o. IfSome o (λ s. Exchanges n (member a.trace) m s)) (sym (none a.coin (omega arith))) tt
 
 pub noted-closed : (n : ℕ) (coins : ℕ → Bool) (steps : List Step) (from to : ℕ) (old_notes new_notes : RunNotes) (old new : ProgramState) → from ≤ to
     → IsLed n coins (take from steps) old → IsLed n coins (take to steps) new → IsNoted n coins (take from steps) old_notes old.output.free
@@ -100,7 +70,7 @@ noted-closed n coins steps from to old_notes new_notes old new le led later note
       (true-same n coins (note_at strings old.output.free) (note_at strings (old.output.free ++ more)) whole origin
       (λ t lt. note-left strings old.output.free more (0 + t) (omega (arith, lt, count, coins-are n coins whole origin))) noted.are_true)
       (true-none n coins (note_at strings (old.output.free ++ more)) rest (point_after n coins whole origin)
-      (λ t le. note-none strings old.output.free more t (omega (arith, le, count)) few)))));
+      (λ t le. note-past strings old.output.free more t (omega (arith, le, count)) few)))));
 }
   where
     strings : List (List Letter)

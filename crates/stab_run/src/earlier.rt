@@ -40,7 +40,7 @@ fn same_records(records: &[bool], behind: usize, reach: u32) -> bool
 }
 
 /// Whether no coin decided, by the flags behind so many.
-fn are_fixed(flags: &[bool], behind: usize) -> bool
+pub fn are_fixed(flags: &[bool], behind: usize) -> bool
     ensures value { IsTrue result → ones (drop behind flags.now) ≡ 0 }
 {
     if behind > flags.len() {

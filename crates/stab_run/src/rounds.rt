@@ -30,6 +30,10 @@ const MOST_SINGLE: usize = 64;
 /// How many steps a block has at least of which the rounds are looked at.
 const LEAST_STEPS: usize = 2048;
 
+/// How many rounds a block has at least of which a frame can go over some: the state behind the first round comes again, up to
+/// signs, behind the second at the earliest, and as many as two periods more are to be left then.
+const LEAST_FRAMED: usize = 4;
+
 /// Gives what all rounds behind so many give that give again what earlier ones gave, or that a frame can go over. Tells how many
 /// are done then. No more strings are kept behind rounds that a frame went over.
 fn pass_rounds<C: Coins>(
@@ -141,6 +145,10 @@ fn run_round<C: Coins>(
         done + 1,
         notes,
     )?;
+    // A state that is kept here comes again behind one more round at the earliest, and then a round has to be left.
+    if repeat.rounds - now < 2 {
+        return Ok(now);
+    }
     if let Some(kept) = kept_behind(alloc, tableau, outputs, now)? {
         *earlier = Some(kept);
     }
@@ -259,6 +267,35 @@ fn run_block<C: Coins>(
     Ok(repeat.first + done * repeat.length)
 }
 
+/// Whether a frame can come to go over rounds of a block.
+fn can_have_frame(repeats: &[Repeat]) -> bool {
+    for repeat in repeats {
+        if is_long(*repeat) && repeat.rounds >= LEAST_FRAMED {
+            return true;
+        }
+    }
+    false
+}
+
+/// What a run on n qubits notes before its first step. Where no frame can come to go over rounds of a block, no strings will be
+/// kept, since to find them costs up to a seventh of a run.
+fn first_notes(alloc: Global, n: usize, repeats: &[Repeat]) -> Result<RunNotes, Refusal>
+    ensures string { IfOk result (λ notes. length notes.string.letters ≡ n) }
+    ensures qubits { IfOk result (λ notes. notes.strings.qubits ≡ n) }
+    ensures strings { IfOk result (λ notes. notes.strings.strings ≡ []) }
+    ensures err { IfErr result (λ r. r ≡ OutOfMemory) }
+{
+    let mut notes = RunNotes {
+        strings: KeptStrings::new(alloc, n),
+        reach: 0,
+        string: Pauli::identity(alloc, n)?,
+    };
+    if !can_have_frame(repeats) {
+        notes.strings.close();
+    }
+    Ok(notes)
+}
+
 /// Carries out the steps of a circuit up to the last round of its long blocks that is done one by one or gives again what earlier
 /// ones gave, as far as the steps that are left to be carried out allow. Tells which step comes next.
 pub fn run_repeats<C: Coins>(
@@ -286,12 +323,7 @@ pub fn run_repeats<C: Coins>(
     ensures led { IfOk result (λ from. IsLed tableau.old.qubits (C.sequence coins.old) (take from (unroll (circuit_items circuit.now))) (program_state tableau.new (output_of outputs.new))) }
     ensures err { IfErr result (λ r. r ≡ OutOfMemory) }
 {
-    let n = tableau.len();
-    let mut notes = RunNotes {
-        strings: KeptStrings::new(alloc, n),
-        reach: 0,
-        string: Pauli::identity(alloc, n)?,
-    };
+    let mut notes = first_notes(alloc, tableau.len(), repeats)?;
     let mut from = 0;
     for repeat in repeats {
         from = run_block(

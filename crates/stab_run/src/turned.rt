@@ -11,7 +11,7 @@ ghost use Rattle.stab_steps.specs.ProgramStates.{program_state, output_of};
 ghost use Rattle.stab_run.specs.inner.Led.{IsLed, behind_rounds};
 ghost use Rattle.stab_run.specs.inner.Turned.{IsPeriod, BeginsFrame, BeginsPeriod};
 
-use crate::earlier::Earlier;
+use crate::earlier::{Earlier, are_fixed};
 use crate::turns::flipped_by;
 use stab_circuit::{Circuit, Cursor, Repeat};
 use stab_frames::{FrameWalk, KeptStrings, between, count_ones, turn_state, walk_with_coins};
@@ -37,7 +37,8 @@ pub struct Period {
 }
 
 /// Whether a frame may go over the rounds since an earlier one: two periods more are left at least, each measurement since made a
-/// record, the steps look back to no record that was not there, and all strings are kept.
+/// record, the steps look back to no record that was not there, and all strings are kept. Where no further string is kept and an
+/// outcome since was free, it says no without counting: its string is missing, or was the last that there was room for.
 fn may_turn(
     earlier: &Earlier,
     outputs: &Outputs,
@@ -60,6 +61,7 @@ fn may_turn(
         && lengths.records <= records
         && lengths.free <= flags
         && records - lengths.records == flags - lengths.free
+        && (!strings.is_full() || are_fixed(outputs.free.as_slice(), lengths.free))
         && count_ones(outputs.free.as_slice()) <= strings.len()
 }
 

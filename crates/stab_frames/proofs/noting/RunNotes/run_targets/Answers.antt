@@ -1,11 +1,26 @@
-use Rattle.std.proofs.Common.{arith, ap, sym, subst, ◌∙◌, ◌∷◌, []}
+use Rattle.std.proofs.Common.{arith, ap, sym, subst, ◌∙◌, ◌∷◌, [], map}
 use Rattle.stab_circuit.specs.Steps.{measured}
 use Rattle.stab_steps.specs.Points.{coins_of}
 use Rattle.stab_steps.specs.ProgramStates.{StepFits, program_state, output_of}
-use Rattle.stab_steps.proofs.TargetLemmas.{fits-target}
+use Rattle.stab_steps.proofs.TargetLemmas.{fits-target, coins-measured}
+use Rattle.stab_rounds.proofs.LookLemmas.{near-targets}
 use Rattle.stab_frames.specs.inner.Noted.{NotesSteps}
-use Rattle.stab_frames.proofs.NotesStepsLemmas.{notes-target, notes-targets}
+use Rattle.stab_frames.proofs.NotesStepsLemmas.{notes-full, notes-target, notes-targets}
 use Rattle.stab_frames.proofs.noting.RunNotes.run_targets.Goals as goal
+
+pub returns-in_err-apply_steps-clause-asks : goal.returns-in_err-apply_steps-clause-asks
+returns-in_err-apply_steps-clause-asks g c = omega (arith, c.apply_steps.ensures.asks, coins-measured c.args.measurement c.args.targets.now)
+
+pub returns-then-is_full-clause-asks : goal.returns-then-is_full-clause-asks
+returns-then-is_full-clause-asks g c = omega (arith, c.apply_steps.ensures.asks, coins-measured c.args.measurement c.args.targets.now)
+
+pub returns-then-is_full-clause-noted : goal.returns-then-is_full-clause-noted
+returns-then-is_full-clause-noted g c =
+    let behind = c.apply_steps.new in
+    notes-full c.args.tableau.now.qubits (g.C.Coins.sequence c.args.coins.now) (map (measured c.args.measurement) c.args.targets.now) c.args.self.now.reach
+    c.args.self.now.strings (program_state c.args.tableau.now (output_of c.args.outputs.now)) (program_state behind.tableau (output_of behind.outputs))
+    (c.is_full.ensures.value.0 c.if-is_full.true) (near-targets c.args.self.now.reach c.args.measurement c.args.targets.now)
+    (c.in_ok-apply_steps.ensures {u = tt}).run
 
 pub run_step-requires-clause-same_length : goal.run_step-requires-clause-same_length
 run_step-requires-clause-same_length g c = c.loop-target.invariant.string ∙ c.requires.same_length ∙ sym c.loop-target.invariant.qubits

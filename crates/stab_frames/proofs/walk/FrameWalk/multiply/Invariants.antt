@@ -1,14 +1,9 @@
-use Rattle.std.proofs.Common.{◌≡◌, ◌-◌, ◌≤◌, ◌++◌, take, drop, length}
-use Rattle.stab_pauli.specs.Paulis.{string_product}
+use Rattle.std.proofs.Common.{◌≡◌, ◌*◌}
+use Rattle.stab_frames.proofs.ProductLemmas.{IsMultipliedTo}
 use Rattle.stab_frames.proofs.walk.FrameWalk.multiply.Given as goal
 
-abbrev pub invariant-loop-qubit : goal.invariant-loop-qubit
-invariant-loop-qubit l = record {
-  within : l.qubit ≤ length l.initial.self.letters;
-  self : l.self ≡ record l.initial.self {
-    letters = take l.qubit (string_product l.initial.self.letters l.string.letters) ++ drop l.qubit l.initial.self.letters;
-  };
+abbrev pub invariant-loop-word : goal.invariant-loop-word
+invariant-loop-word l = record {
+  alone : l.self ≡ record l.initial.self { letters = l.self.letters };
+  so : IsMultipliedTo (64 * l.word) l.string.letters l.initial.self.letters l.self.letters;
 }
-
-abbrev pub decreases-loop-qubit : goal.decreases-loop-qubit
-decreases-loop-qubit l = length l.initial.self.letters - l.qubit

@@ -1,0 +1,148 @@
+-- Letters that are multiplied by those of a string: from one that is not I to the next, and then 64 at a time.
+use Rattle.std.proofs.Common.{◌≡◌, ◌≢◌, ℕ, ◌+◌, ◌-◌, ◌*◌, ◌<◌, ◌≤◌, true, false, refl, sym, ◌∙◌, ap, subst, List, length, get_or, set, arith, inl, inr}
+use Rattle.std.specs.Prelude.{◌⊎◌}
+use Rattle.std.proofs.lemmas.Bool.{cases_order, cases_lt}
+use Rattle.std.proofs.lemmas.List.{length-set, get_or-set_same, get_or-set_other, ext_get_or}
+use Rattle.stab_letters.specs.declared.letter.Letter.{Letter}
+use Rattle.stab_letters.specs.declared.letter.Letter.TheVariants.{I, X, Y, Z}
+use Rattle.stab_letters.specs.Letters.{letter_product}
+use Rattle.stab_pauli.specs.Paulis.{string_product}
+use Rattle.stab_pauli.specs.Masks.{chooses}
+use Rattle.stab_pauli.proofs.MaskLemmas.{clash, none-chosen}
+use Rattle.stab_pauli.proofs.StringLemmas.{length-string_product, get_or-string_product}
+use Rattle.stab_frames.specs.Walks.{WalkState}
+use Rattle.stab_frames.specs.inner.Products.{AreMultiplied}
+
+-- a letter times I
+times-I : (x : Letter) → letter_product x I ≡ x
+times-I I = refl
+times-I X = refl
+times-I Y = refl
+times-I Z = refl
+
+-- letters multiplied by those of a string, but for those that are left in the rest of a mask
+pub record IsWalked (first rest : ℕ) (string old now : List Letter) : Type 0 where
+  pub size : length now ≡ length old
+  pub inside : (k : ℕ) → k < 64 → chooses rest k ≡ true → first + k < length old
+  pub done : (k : ℕ) → k < 64 → chooses rest k ≡ false → get_or now (first + k) I ≡ letter_product (get_or old (first + k) I) (get_or string (first + k) I)
+  pub left : (k : ℕ) → k < 64 → chooses rest k ≡ true → get_or now (first + k) I ≡ get_or old (first + k) I
+  pub others : (q : ℕ) → (q < first) ⊎ (first + 64 ≤ q) → get_or now q I ≡ get_or old q I
+
+module _ (first : ℕ) (string old : List Letter) where
+  pub walk-start : (mask : ℕ) → ((k : ℕ) → k < 64 → chooses mask k ≡ true → first + k < length old)
+      → ((k : ℕ) → k < 64 → chooses mask k ≡ false → get_or string (first + k) I ≡ I) → IsWalked first mask string old old
+  walk-start mask inside blank = record {
+    size = refl;
+    inside = inside;
+    done = λ k lk none. sym (ap (letter_product (get_or old (first + k) I)) (blank k lk none) ∙ times-I (get_or old (first + k) I));
+    left = λ k lk one. refl;
+    others = λ q apart. refl;
+  }
+
+  pub walk-end : (now : List Letter) (rest : ℕ) → rest ≡ 0 → IsWalked first rest string old now → AreMultiplied first string old now
+  walk-end now rest e walked = record {
+    size = walked.size;
+    within = λ k lk. walked.done k lk (ap (λ n. chooses n k) e ∙ none-chosen k);
+    others = walked.others;
+  }
+
+  -- one letter further
+  module _ (now : List Letter) (rest b : ℕ) (walked : IsWalked first rest string old now) (lb : b < 64) (one : chooses rest b ≡ true) (l r : Letter)
+      (el : l ≡ get_or now (first + b) I) (er : r ≡ letter_product l (get_or string (first + b) I)) (new : List Letter) (put : new ≡ set now (first + b) r)
+      (next : ℕ) (gone : chooses next b ≡ false) (kept : (j : ℕ) → j ≢ b → j < 64 → chooses next j ≡ chooses rest j) where
+    other : (q : ℕ) → q ≢ first + b → get_or new q I ≡ get_or now q I
+    other q apart = ap (λ p. get_or p q I) put ∙ get_or-set_other now (first + b) q r I apart
+
+    here : get_or new (first + b) I ≡ letter_product (get_or old (first + b) I) (get_or string (first + b) I)
+    here =
+        ap (λ p. get_or p (first + b) I) put ∙ get_or-set_same now (first + b) r I (omega (arith, walked.size, walked.inside b lb one))
+        ∙ er ∙ ap (λ x. letter_product x (get_or string (first + b) I)) (el ∙ walked.left b lb one)
+
+    inside-next : (j : ℕ) → j < 64 → chooses next j ≡ true → first + j < length old
+    inside-next j lj chosen = by_place (cases_order j b)
+      where
+        apart : j ≢ b → first + j < length old
+        apart ne = walked.inside j lj (sym (kept j ne lj) ∙ chosen)
+
+        by_place : (j ≡ b) ⊎ ((j < b) ⊎ (b < j)) → first + j < length old
+        by_place (inl e) = clash (chooses next b) (ap (chooses next) (sym e) ∙ chosen) gone
+        by_place (inr (inl lt)) = apart (omega arith)
+        by_place (inr (inr gt)) = apart (omega arith)
+
+    done-next : (j : ℕ) → j < 64 → chooses next j ≡ false → get_or new (first + j) I ≡ letter_product (get_or old (first + j) I) (get_or string (first + j) I)
+    done-next j lj none = by_place (cases_order j b)
+      where
+        apart : j ≢ b → get_or new (first + j) I ≡ letter_product (get_or old (first + j) I) (get_or string (first + j) I)
+        apart ne = other (first + j) (omega arith) ∙ walked.done j lj (sym (kept j ne lj) ∙ none)
+
+        by_place : (j ≡ b) ⊎ ((j < b) ⊎ (b < j)) → get_or new (first + j) I ≡ letter_product (get_or old (first + j) I) (get_or string (first + j) I)
+        by_place (inl e) = subst (λ i. get_or new (first + i) I ≡ letter_product (get_or old (first + i) I) (get_or string (first + i) I)) (sym e) here
+        by_place (inr (inl lt)) = apart (omega arith)
+        by_place (inr (inr gt)) = apart (omega arith)
+
+    left-next : (j : ℕ) → j < 64 → chooses next j ≡ true → get_or new (first + j) I ≡ get_or old (first + j) I
+    left-next j lj chosen = by_place (cases_order j b)
+      where
+        apart : j ≢ b → get_or new (first + j) I ≡ get_or old (first + j) I
+        apart ne = other (first + j) (omega arith) ∙ walked.left j lj (sym (kept j ne lj) ∙ chosen)
+
+        by_place : (j ≡ b) ⊎ ((j < b) ⊎ (b < j)) → get_or new (first + j) I ≡ get_or old (first + j) I
+        by_place (inl e) = clash (chooses next b) (ap (chooses next) (sym e) ∙ chosen) gone
+        by_place (inr (inl lt)) = apart (omega arith)
+        by_place (inr (inr gt)) = apart (omega arith)
+
+    others-next : (q : ℕ) → (q < first) ⊎ (first + 64 ≤ q) → get_or new q I ≡ get_or old q I
+    others-next q (inl lt) = other q (omega arith) ∙ walked.others q (inl lt)
+    others-next q (inr le) = other q (omega arith) ∙ walked.others q (inr le)
+
+    pub walk-step : IsWalked first next string old new
+    walk-step = record {
+      size = ap length put ∙ length-set now (first + b) r ∙ walked.size;
+      inside = inside-next;
+      done = done-next;
+      left = left-next;
+      others = others-next;
+    }
+
+-- all letters before a place are multiplied, and none from there on
+pub record IsMultipliedTo (k : ℕ) (string old now : List Letter) : Type 0 where
+  pub size : length now ≡ length old
+  pub done : (q : ℕ) → q < k → get_or now q I ≡ letter_product (get_or old q I) (get_or string q I)
+  pub left : (q : ℕ) → k ≤ q → get_or now q I ≡ get_or old q I
+
+pub none-multiplied : (string old : List Letter) → IsMultipliedTo (64 * 0) string old old
+none-multiplied string old = record { size = refl; done = λ q lt. absurd (omega arith); left = λ q le. refl }
+
+-- 64 letters further
+pub multiplied-word : (w : ℕ) (string old now new : List Letter) → IsMultipliedTo (64 * w) string old now → AreMultiplied (64 * w) string now new
+    → IsMultipliedTo (64 * (w + 1)) string old new
+multiplied-word w string old now new so then = record {
+  size = then.size ∙ so.size;
+  done = λ q lt. by_place q lt (cases_lt q (64 * w));
+  left = λ q le. then.others q (inr (omega arith)) ∙ so.left q (omega arith);
+}
+  where
+    by_place : (q : ℕ) → q < 64 * (w + 1) → (q < 64 * w) ⊎ (64 * w ≤ q) → get_or new q I ≡ letter_product (get_or old q I) (get_or string q I)
+    by_place q lt (inl early) = then.others q (inl early) ∙ so.done q early
+    by_place q lt (inr late) =
+        subst (λ i. get_or new i I ≡ letter_product (get_or old i I) (get_or string i I)) (let e : 64 * w + (q - 64 * w) ≡ q = omega arith in e)
+        (then.within (q - 64 * w) (omega arith)
+        ∙ ap (λ x. letter_product x (get_or string (64 * w + (q - 64 * w)) I)) (so.left (64 * w + (q - 64 * w)) (omega arith)))
+
+pub all-multiplied : (k : ℕ) (string old now : List Letter) → length string ≡ length old → length old ≤ k → IsMultipliedTo k string old now
+    → now ≡ string_product old string
+all-multiplied k string old now e le so =
+    ext_get_or I now (string_product old string) (so.size ∙ sym (length-string_product (length old) old string refl e))
+    (λ q lt. so.done q (let s = so.size in omega arith) ∙ sym (get_or-string_product old string q))
+
+-- a frame of which the letters alone have changed
+
+pub put-letters : (now new : WalkState) (letters : List Letter) → new ≡ record now { letters = letters } → new.letters ≡ letters
+put-letters now new letters is = ap (λ (w : WalkState). w.letters) is
+
+pub letters-alone : (now new : WalkState) (letters : List Letter) → new ≡ record now { letters = letters } → new ≡ record now { letters = new.letters }
+letters-alone now new letters is = is ∙ (λ i. record now { letters = sym (put-letters now new letters is) i })
+
+pub still-alone : (w now new : WalkState) → now ≡ record w { letters = now.letters } → new ≡ record now { letters = new.letters }
+    → new ≡ record w { letters = new.letters }
+still-alone w now new is then = then ∙ (λ i. record (is i) { letters = new.letters })
