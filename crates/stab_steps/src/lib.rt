@@ -10,8 +10,8 @@
 //!
 //! `specs/` says which bit each coin is, what the steps of a circuit make of its qubits and records, and
 //! how a program that carries them out follows them. Which steps a circuit has is said by
-//! `stab_circuit`; runs of some or all of them, and what a run depends on, are `stab_run`'s, where the
-//! names and definitions of this crate stand too.
+//! `stab_circuit`; what a run of them depends on, by `stab_laws`; and runs of some or all of them are `stab_run`'s,
+//! where the names and definitions of this crate stand too.
 //!
 //! Sources: Stim's circuit file format, for what the steps of a circuit do to records, detectors and observables;
 //! D. Gottesman, Stabilizer codes and quantum error correction (1997), and S. Aaronson and D. Gottesman, Improved
@@ -23,7 +23,7 @@
 //! the bits of ChaCha8 that `specs/Coins.antt` names. A step, and the steps of one instruction, lead a
 //! tableau and what was gathered from one point to the next (`specs/Points.antt`,
 //! `specs/ProgramStates.antt`), and ask for at most as many coins as decide. That where steps lead and
-//! what they give is the run by the group rules of `specs/Runs.antt` is a law of `stab_run`.
+//! what they give is the run by the group rules of `specs/Runs.antt` is a law of `stab_laws`.
 #![tactic(auto)]
 
 mod coins;
