@@ -29,7 +29,7 @@ import time
 from oracle import fault_making, faults, formats, making, numbers, scripts, script_making, states
 from oracle.coins import seed_coins
 from oracle.laws import LAWS
-from oracle.reading import REFUSALS, Refused, items_of
+from oracle.reading import Refused, items_of
 
 TOP = pathlib.Path(__file__).resolve().parent.parent
 PROGRAM = TOP / "crates" / "stabsim" / "out" / "stabsim"
@@ -83,8 +83,7 @@ class Program:
 
 
 def refusal(refused):
-    where = f"line {refused.line}: " if refused.line else ""
-    return 1, b"", f"stabsim: {where}refused {refused.number} {REFUSALS[refused.number]}\n".encode()
+    return 1, b"", refused.told()
 
 
 def coins_of(settings, shot, count):

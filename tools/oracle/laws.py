@@ -8,7 +8,7 @@ from . import formats
 from .fault_laws import faults_as_edits
 from .making import Maker, damaged, small_circuit
 from .numbers import check
-from .reading import Block, items_of
+from .reading import Block, Refused, items_of
 from .script_making import edits
 from .scripts import Session, printing
 
@@ -170,8 +170,51 @@ def sessions_as_written_out(random, run):
     return None
 
 
+# Lines that are refused wherever they stand, or where no block is open, or that leave one open.
+WRONG_LINES = ["M 5000", "H rec[-1]", "CX 1 1", "FOO 1", "DETECTOR rec[-0]", "}", "REPEAT 3 {", "MPP X1*X1", "REPEAT 0 {"]
+
+
+def changed(random, maker, lines):
+    """Lines, mostly as they are, else with some others among them."""
+    out = list(lines)
+    for _ in range(random.choice((0, 0, 0, 1, 3))):
+        place = random.randint(0, len(out))
+        out[place:place] = [random.choice(("", "  # a note", "TICK", maker.line(), random.choice(lines)))]
+    return out
+
+
+def text_that_comes_again(random):
+    """A text of the same lines over and over, with others here and there, at times one that is refused."""
+    maker = Maker(random, random.randint(2, 8))
+    lines = maker.lines(random.randint(0, 300))
+    # At the greatest depth no block is made, so that a line by itself may stand anywhere.
+    body = maker.lines(random.choice((3, 40, 100, 300, 700)), 3)
+    for _ in range(max(2, 3000 // len(body))):
+        lines += changed(random, maker, body)
+        if random.random() < 0.03:
+            lines += maker.block(0)
+    if random.random() < 0.3:
+        place = random.randint(0, len(lines))
+        lines[place:place] = [random.choice(WRONG_LINES)]
+    end = random.choice(("\n", "\n", "\r\n"))
+    return (end.join(lines) + random.choice(("", end))).encode()
+
+
+def lines_that_come_again(random, run):
+    """The circuit that a text of the same lines over and over is read as, or which line of it is refused, by the definitions."""
+    text = text_that_comes_again(random)
+    try:
+        items = items_of(text)
+        check(items)
+        right = 0, printing.printed(items), b""
+    except Refused as refused:
+        right = 1, b"", refused.told()
+    answer = run(["edit"], text, b"show circuit\n")
+    return None if answer == right else f"a text of lines that come again is read otherwise\n{text!r}\n{answer}\n{right}"
+
+
 LAWS = {
     "edited as anew": edited_as_anew, "formats of one another": bits_in_each_format, "checked as run": checked_as_run,
     "faults as edits": faults_as_edits, "shots by themselves": shots_by_themselves, "blocks as written out": blocks_as_written_out,
-    "sessions as written out": sessions_as_written_out,
+    "sessions as written out": sessions_as_written_out, "lines that come again": lines_that_come_again,
 }

@@ -48,6 +48,11 @@ class Refused(Exception):
         self.number = number
         self.line = line
 
+    def told(self):
+        """What the program tells of it."""
+        where = f"line {self.line}: " if self.line else ""
+        return f"stabsim: {where}refused {self.number} {REFUSALS[self.number]}\n".encode()
+
 
 @dataclass
 class Operation:
