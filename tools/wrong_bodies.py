@@ -98,13 +98,15 @@ def refused_in(crate: str, told: str) -> tuple[str, str, list[str], str] | None:
     files = ["/".join(modules[:end]) for end in range(len(modules), 0, -1)] + ["lib"]
     file = next(it for it in files if (source / f"{it}.rt").is_file())
     owner = "".join(modules[file.count("/") + 1 :])
-    lines = (source / f"{file}.rt").read_text(encoding="utf-8").split("\n")
-    for number, line in enumerate(lines):
-        if re.match(rf" *(pub(\([^)]*\))? )?fn {function}\b", line):
-            found = function_at(lines, number)
-            # The proofs of a trait's impl stand under the names of type and trait in one.
-            if owner.startswith(found[0]):
-                return *found[:2], labels(lines, number), in_proofs[2]
+    # A type's calls may stand in files of its module's folder too.
+    for path in [source / f"{file}.rt", *sorted((source / file).glob("*.rt"))]:
+        lines = path.read_text(encoding="utf-8").split("\n")
+        for number, line in enumerate(lines):
+            if re.match(rf" *(pub(\([^)]*\))? )?fn {function}\b", line):
+                found = function_at(lines, number)
+                # The proofs of a trait's impl stand under the names of type and trait in one.
+                if owner.startswith(found[0]):
+                    return *found[:2], labels(lines, number), in_proofs[2]
     return owner, function, [], in_proofs[2]
 
 
