@@ -1,5 +1,5 @@
 -- Rows that a mask chooses: what a walk from one to the next has done.
-use Rattle.std.proofs.Common.{◌≡◌, ◌≢◌, ℕ, ◌+◌, ◌-◌, ◌^◌, ◌<◌, ◌≤◌, Bool, true, false, refl, sym, ◌∙◌, ap, subst, length, get_or, arith, inl, inr}
+use Rattle.std.proofs.Common.{◌≡◌, ◌≢◌, ℕ, ◌+◌, ◌-◌, ◌*◌, ◌/◌, ◌^◌, ◌<◌, ◌≤◌, Bool, true, false, refl, sym, ◌∙◌, ap, subst, length, get_or, arith, inl, inr}
 use Rattle.std.specs.Prelude.{◌⊎◌}
 use Rattle.std.proofs.lemmas.Bool.{cases_order, cases_lt}
 use Rattle.std.proofs.lemmas.List.{length-set, get_or-set_same, get_or-set_other, get_or_past, get_or-replicate, length-replicate}
@@ -113,7 +113,7 @@ past-rows v a q le = ap (λ (p : Signed). has_x (get_or p.letters q I)) (get_or_
     by_place (inr (inl lt)) = blank lt
     by_place (inr (inr gt)) = past (omega arith)
 
--- which of 64 rows have X or Y at a qubit, where only those before an end are looked at: there are no others
+-- which of 64 rows have X or Y at a qubit, and where any has, where only those before an end are looked at: there are no others
 module _ (v : Rows) (first end q : ℕ) (last : (k : ℕ) → k < 64 → end ≤ first + k → length v.rows ≤ first + k) where
   pub mask-with_x : (mask : ℕ) → mask < 2 ^ (end - first) → ((k : ℕ) → first + k < end → chooses mask k ≡ has_x (get_or (row_at v (first + k)).letters q I))
       → (k : ℕ) → k < 64 → chooses mask k ≡ has_x (get_or (row_at v (first + k)).letters q I)
@@ -122,3 +122,11 @@ module _ (v : Rows) (first end q : ℕ) (last : (k : ℕ) → k < 64 → end ≤
       by_place : (first + k < end) ⊎ (end ≤ first + k) → chooses mask k ≡ has_x (get_or (row_at v (first + k)).letters q I)
       by_place (inl lt) = value k lt
       by_place (inr le) = spared-above mask (end - first) k short (omega arith) ∙ sym (past-rows v (first + k) q (last k lk le))
+
+  pub places-with_x : (places : ℕ) → ((k j : ℕ) → first + k < end → j < 64 → has_x (get_or (row_at v (first + k)).letters (64 * (q / 64) + j) I) ≡ true → chooses places j ≡ true)
+      → (k j : ℕ) → k < 64 → j < 64 → has_x (get_or (row_at v (first + k)).letters (64 * (q / 64) + j) I) ≡ true → chooses places j ≡ true
+  places-with_x places among k j lk lj one = by_place (cases_lt (first + k) end)
+    where
+      by_place : (first + k < end) ⊎ (end ≤ first + k) → chooses places j ≡ true
+      by_place (inl lt) = among k j lt lj one
+      by_place (inr le) = clash (has_x (get_or (row_at v (first + k)).letters (64 * (q / 64) + j) I)) one (past-rows v (first + k) (64 * (q / 64) + j) (last k lk le))

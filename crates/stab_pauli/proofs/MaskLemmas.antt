@@ -1,6 +1,6 @@
 -- Masks: what they choose when a bit is set, cleared, or put before the others.
 use Rattle.std.proofs.Common.{◌≡◌, ◌≢◌, ℕ, zero, suc, ◌+◌, ◌-◌, ◌*◌, ◌/◌, ◌%◌, ◌^◌, ◌<◌, ◌≤◌, Bool, true, false, sym, ◌∙◌, ap, arith, eqb, inl, inr}
-use Rattle.std.specs.Prelude.{◌⊎◌, bit_and, bit_or, bit_xor, max}
+use Rattle.std.specs.Prelude.{◌⊎◌, bit_and, bit_or, bit_xor}
 use Rattle.std.specs.Int.{bit_at, bit_not, trailing_zeros}
 use mir.Syntax.{w64}
 use mir.Val.{bool_byte}
@@ -183,16 +183,19 @@ eight-fits mask size eight short room few =
 
 -- the rows of either mask, and those of one alone
 
-pub spared-both : (a b k : ℕ) → chooses (bit_or a b) k ≡ false → (chooses a k ≡ false) × (chooses b k ≡ false)
-spared-both a b k none = by_bits (two_cases (bit_at a k) (bit_at-lt a k)) (two_cases (bit_at b k) (bit_at-lt b k))
-  where
-    set : (max (bit_at a k) (bit_at b k) ≡ 1) → ⊥
-    set one = clash (chooses (bit_or a b) k) (chosen (bit_or a b) k (bit_at_or a b k ∙ one)) none
+pub chosen-first : (a b k : ℕ) → chooses a k ≡ true → chooses (bit_or a b) k ≡ true
+chosen-first a b k one =
+    let mine = bit-chosen a k one in
+    let both = bit_at_or a b k in
+    let other = bit_at-lt b k in
+    chosen (bit_or a b) k (omega (arith, mine, both, other))
 
-    by_bits : (bit_at a k ≡ 0) ⊎ (bit_at a k ≡ 1) → (bit_at b k ≡ 0) ⊎ (bit_at b k ≡ 1) → (chooses a k ≡ false) × (chooses b k ≡ false)
-    by_bits (inl x) (inl y) = (spared a k x, spared b k y)
-    by_bits (inl x) (inr y) = absurd (set (omega arith))
-    by_bits (inr x) y = absurd (set (let lt = bit_at-lt b k in omega arith))
+pub chosen-second : (a b k : ℕ) → chooses b k ≡ true → chooses (bit_or a b) k ≡ true
+chosen-second a b k one =
+    let mine = bit-chosen b k one in
+    let both = bit_at_or a b k in
+    let other = bit_at-lt a k in
+    chosen (bit_or a b) k (omega (arith, mine, both, other))
 
 pub chooses-xor : (a b k : ℕ) → chooses (bit_xor a b) k ≡ chooses a k ⊕ chooses b k
 chooses-xor a b k = low_xor (bit_at a k) (bit_at b k) (bit_at (bit_xor a b) k) (bit_at_xor a b k) (bit_at-lt a k) (bit_at-lt b k)

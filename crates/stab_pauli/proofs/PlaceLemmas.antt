@@ -165,7 +165,7 @@ z_kept row q j x z fits ne others (inr d) =
     (get_or-set_other (set row (x_place q) x) (x_place q + 4) (x_place j + 4) z 0 (λ e. d (omega arith))
     ∙ get_or-set_other row (x_place q) (x_place j + 4) x 0 (λ e. x_not_z q j (sym e)))
 
-same_or_not : (a b : ℕ) → (a ≡ b) ⊎ (a ≢ b)
+pub same_or_not : (a b : ℕ) → (a ≡ b) ⊎ (a ≢ b)
 same_or_not a b = by_order (cases_order a b)
   where
     by_order : (a ≡ b) ⊎ ((a < b) ⊎ (b < a)) → (a ≡ b) ⊎ (a ≢ b)

@@ -9,7 +9,7 @@ use Rattle.stab_pauli.specs.Paulis.{Signed, anticommute, product}
 use Rattle.stab_pauli.specs.Rows.{Rows, row_at, with_row, product_times_i}
 use Rattle.stab_pauli.specs.inner.Words.{xor_words}
 use Rattle.stab_pauli.specs.inner.Powers.{strings_meet}
-use Rattle.stab_pauli.specs.inner.Blocks.{row_letters}
+use Rattle.stab_pauli.specs.inner.Blocks.{blocks_of, row_letters}
 use Rattle.stab_pauli.proofs.PaddedLemmas.{IsView, IsFitting, same_numbers, alike, written_view}
 use Rattle.stab_pauli.proofs.SeenLemmas.{IsSeen, qubits_seen, row_seen, put_seen, written_seen, read_power, product_view, times_i_view, fitting}
 
@@ -48,6 +48,14 @@ times_i_seen {n} {m} {ws} {ps} {v} {ws'} mine theirs a la apart words len x y t 
   where
     read : IsTimes m a ws ws' words b
     read = read_times ws ws' es eo times
+
+-- a string beside a table of its length, by the table's numbers as contracts see them
+pub string_viewed : {n m : ℕ} {ws : List ℕ} {ps : List Phase} {v : Rows} {n' m' : ℕ} {ws' : List ℕ} {k' : Phase} {v' : Signed} → IsSeen n m ws ps v → IsView n' m' ws' k' v'
+    → length v'.letters ≡ v.qubits → (words : List ℕ) → words ≡ ws' → IsView v.qubits (blocks_of v.qubits) words k' v'
+string_viewed {n} {m} {ws} {ps} {v} {n'} {m'} {ws'} {k'} {v'} mine theirs l words e =
+    let fit = fitting mine theirs l in
+    subst (λ w. IsView v.qubits (blocks_of v.qubits) w k' v') (sym e)
+    (same_numbers v.qubits (blocks_of v.qubits) (qubits_seen mine) (mine.lies.blocks.count ∙ ap blocks_of (qubits_seen mine)) fit.view)
 
 -- a string of one block beside a table of its length, by its words with X bits and those with Z bits
 pub block_viewed : {n m : ℕ} {ws : List ℕ} {ps : List Phase} {v : Rows} {n' m' : ℕ} {ws' : List ℕ} {k' : Phase} {v' : Signed} → IsSeen n m ws ps v → IsView n' m' ws' k' v'

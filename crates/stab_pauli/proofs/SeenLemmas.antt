@@ -1,7 +1,7 @@
 -- What contracts see of a table: its rows one by one, and a row that was replaced.
 use Rattle.std.proofs.Common.{◌≡◌, ℕ, ◌+◌, ◌*◌, ◌<◌, ◌≤◌, Bool, true, false, refl, sym, ◌∙◌, ap, List, ◌++◌, length, get_or, set, take, drop, replicate, arith, subst}
 use Rattle.std.specs.Simd.Lanes.{chunk, put_chunk}
-use Rattle.std.proofs.lemmas.List.{length-set, get_or-set_same, get_or-take}
+use Rattle.std.proofs.lemmas.List.{length-set, get_or-set_same}
 use Rattle.stab_letters.specs.declared.letter.Letter.{Letter}
 use Rattle.stab_letters.specs.declared.letter.Letter.TheVariants.{I}
 use Rattle.stab_letters.specs.declared.phase.Phase.{Phase}
@@ -20,6 +20,7 @@ use Rattle.stab_pauli.proofs.BlankLemmas.{fits, IsSigned-none, signed_row-none}
 use Rattle.stab_pauli.proofs.RowLemmas.{put_same}
 use Rattle.stab_pauli.proofs.SwapLemmas.{length-swapped}
 use Rattle.stab_pauli.proofs.PaddedLemmas.{IsView, view_of, lies_of, is_of, length-view, IsRow-none, letters-none, IsRow-read, letters-read, meet-product, IsRow-set, letters-set, IsRow-written, letters-written, IsFitting, fitting_numbers, written_all}
+use Rattle.stab_pauli.proofs.LetterMaskLemmas.{string-letter}
 use Rattle.stab_pauli.proofs.TableLemmas.{padded-power, length-table, row_at-table, table-put, IsTable-put, padded-row, sign-row, length-row_at, row_fits, written, get_or-any}
 
 -- words and powers of a table that contracts see as v
@@ -60,13 +61,14 @@ row_seen {n} {m} {ws} {ps} seen a lt =
     })
     (sym (row_at-table n m ws ps a lt) ∙ ap (λ r. row_at r a) seen.is)
 
--- one letter of it, by the row's words
-pub letter_seen : {n m : ℕ} {ws : List ℕ} {ps : List Phase} {v : Rows} → IsSeen n m ws ps v → (a q : ℕ) → a < length v.rows → q < v.qubits
+-- one letter of it, by the row's words, or I where there is none
+pub letter_seen : {n m : ℕ} {ws : List ℕ} {ps : List Phase} {v : Rows} → IsSeen n m ws ps v → (a q : ℕ) → a < length v.rows
     → {slice words : List ℕ} → words ≡ chunk (8 * m * a) (8 * m) slice → slice ≡ ws → get_or (row_letters m words) q I ≡ get_or (row_at v a).letters q I
-letter_seen {n} {m} {ws} seen a q lt within e es =
+letter_seen {n} {m} {ws} seen a q lt e es =
+    let mine = row_seen seen a (in_seen seen a lt) in
     ap (λ (w : List ℕ). get_or (row_letters m w) q I) (e ∙ ap (λ (w : List ℕ). chunk (8 * m * a) (8 * m) w) es)
-    ∙ sym (get_or-take n (row_letters m (chunk (8 * m * a) (8 * m) ws)) q I (subst (λ k. q < k) (sym (qubits_seen seen)) within))
-    ∙ ap (λ p. get_or p q I) (row_seen seen a (in_seen seen a lt)).letters
+    ∙ sym (string-letter n m (chunk (8 * m * a) (8 * m) ws) mine.row q)
+    ∙ ap (λ p. get_or p q I) mine.letters
 
 -- another row in the place of one
 pub put_seen : {n m : ℕ} {ws : List ℕ} {ps : List Phase} {v : Rows} {new : List ℕ} {k : Phase} {p : Signed} → IsSeen n m ws ps v → (a : ℕ) → a < length ps

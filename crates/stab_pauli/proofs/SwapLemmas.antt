@@ -25,7 +25,7 @@ place a s i = by_front (cases_order i a)
     by_front (inr (inr gt)) = inside (omega arith) (cases_order i (a + s))
 
 -- a word outside a part that was written
-get_or-outside : (a s : ℕ) (ws new : List ℕ) (i : ℕ) → length new ≡ s → (i < a) ⊎ (a + s ≤ i) → get_or (put_chunk a ws new) i 0 ≡ get_or ws i 0
+pub get_or-outside : (a s : ℕ) (ws new : List ℕ) (i : ℕ) → length new ≡ s → (i < a) ⊎ (a + s ≤ i) → get_or (put_chunk a ws new) i 0 ≡ get_or ws i 0
 get_or-outside a s ws new i l (inl lt) = get_or-put_chunk_below a ws new i 0 lt
 get_or-outside a s ws new i l (inr le) = get_or-put_chunk_above a ws new i 0 (omega arith)
 

@@ -89,7 +89,7 @@ short_head k w ws s = s.below 0
 pub short_tail : (k w : ℕ) (ws : List ℕ) → AreShort k (w ∷ ws) → AreShort k ws
 short_tail k w ws s = record { below = λ i. s.below (suc i) }
 
-short_drop : (k n : ℕ) (ws : List ℕ) → AreShort k ws → AreShort k (drop n ws)
+pub short_drop : (k n : ℕ) (ws : List ℕ) → AreShort k ws → AreShort k (drop n ws)
 short_drop k n ws s = record { below = λ i. rw (get_or-drop n ws i 0) (s.below (n + i)) }
 
 pub short_more : (k w : ℕ) (ws : List ℕ) → w < 2 ^ k → AreShort k ws → AreShort k (w ∷ ws)
@@ -99,7 +99,7 @@ short_more k w ws h s = record { below = at }
     at zero = h
     at (suc i) = s.below i
 
-short_take : (k n : ℕ) (ws : List ℕ) → AreShort k ws → AreShort k (take n ws)
+pub short_take : (k n : ℕ) (ws : List ℕ) → AreShort k ws → AreShort k (take n ws)
 short_take k zero ws s = record { below = λ i. let h = s.below 0 in omega arith }
 short_take k (suc n) [] s = s
 short_take k (suc n) (w ∷ ws) s = short_more k w (take n ws) (s.below 0) (short_take k n ws (short_tail k w ws s))
@@ -127,7 +127,7 @@ none_told [] [] a b = refl
 none_told [] (y ∷ q) a b = absurd (omega arith)
 none_told (x ∷ p) q a b = absurd (omega arith)
 
-row_told : (m : ℕ) (p q : List ℕ) → length p ≡ 8 * m → length q ≡ 8 * m → AreShort 64 p → AreShort 64 q → row_letters m p ≡ row_letters m q → p ≡ q
+pub row_told : (m : ℕ) (p q : List ℕ) → length p ≡ 8 * m → length q ≡ 8 * m → AreShort 64 p → AreShort 64 q → row_letters m p ≡ row_letters m q → p ≡ q
 row_told zero p q lp lq sp sq e = none_told p q lp lq
 row_told (suc m) p q lp lq sp sq e =
     let rest = row_told m (drop 8 p) (drop 8 q) (length-rest m p lp) (length-rest m q lq) (short_drop 64 8 p sp) (short_drop 64 8 q sq)

@@ -57,13 +57,6 @@ module _ (place : ℕ) (j : Signed) (letters : List Letter) (first with_w with_r
     with_r_is w k lk ∙ apart-I w letters (first + k) (get_or_past letters (first + k) I (omega arith)),
   )
 
-  pub turned-in : (w : InverseRow) (k : ℕ) → k < 32 → chooses with_r (row_place w k) ≡ true → first + k < length old
-  turned-in w k lk one = by_place (cases_lt (first + k) (length old))
-    where
-      by_place : (first + k < length old) ⊎ (length old ≤ first + k) → first + k < length old
-      by_place (inl lt) = lt
-      by_place (inr le) = clash (chooses with_r (row_place w k)) one (none-there w k lk le).1
-
   pub multiplied-in : (w : InverseRow) (k : ℕ) → k < 32 → chooses (bit_xor with_w with_r) (row_place w k) ≡ true → first + k < length old
   multiplied-in w k lk one = by_place (cases_lt (first + k) (length old))
     where
@@ -97,12 +90,6 @@ module _ (place : ℕ) (j : Signed) (letters : List Letter) (first with_w with_r
     group-collapsed q le near lt =
         let e : first + (q - first) ≡ q = omega arith in
         subst (λ a. CollapsedRow place j (rows_at old a) (rows_at new a)) e (collapsed-at (q - first) (omega arith) (omega arith))
-
-    pub group-others : (q : ℕ) → (q < first) ⊎ (first + 32 ≤ q) → rows_at new q ≡ rows_at old q
-    group-others q apart = turned.others q apart ∙ multiplied.others q apart
-
-    pub group-size : length new ≡ length old
-    group-size = turned.size ∙ multiplied.size
 
 -- a walk from group to group
 module _ (place first : ℕ) (j : Signed) (rows now new : List InverseRows)

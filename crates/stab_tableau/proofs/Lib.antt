@@ -27,7 +27,6 @@ pub mod TableauStartLemmas
 pub mod WalkLemmas
 pub mod ColumnLemmas
 pub mod GeneratedLemmas
-pub mod ObservableLemmas
 pub mod MeasureLemmas
 pub mod TableauMeasureLemmas
 pub mod FixedLemmas
@@ -50,5 +49,7 @@ pub mod TurnedRowLemmas
 pub mod ExchangedOutcomeLemmas
 pub mod PairsChosenLemmas
 pub mod RowsApartLemmas
+pub mod MaskHalfLemmas
 pub mod CollapsedGroupLemmas
 pub mod PutLettersLemmas
+pub mod SupportLemmas

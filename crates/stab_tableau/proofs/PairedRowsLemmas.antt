@@ -113,10 +113,6 @@ module _ (r : Rows) (is : IsPaired r) (v : InverseRow) (a : ℕ) (w : InverseRow
   unfolding mid
   mid-is = pair-written r is v a mid (string_at r (row_place w b)) _ la refl (pair-read r is w b lb)
 
-  pub swapped-paired : (new : Rows) → new ≡ swapped_rows r (row_place v a) (row_place w b) → IsPaired new
-  unfolding mid
-  swapped-paired new e = kept-paired mid new (row_place w b) (string_at r (row_place v a)) mid-paired e
-
   pub swapped-written : (new : Rows) → new ≡ swapped_rows r (row_place v a) (row_place w b) → paired new.rows ≡ rows_exchanged v a w b (paired r.rows)
   unfolding mid
   swapped-written new e =
@@ -157,10 +153,10 @@ module _ (r : Rows) (is : IsPaired r) (t : List InverseRows) (view : paired r.ro
       swapped-written r is v a w b (seen-in a la) (seen-in b lb) new (e ∙ (λ i. swapped_rows r (ej i) (ek i))) ∙ ap (rows_exchanged v a w b) view
 
   -- a row made one letter anew
-  pub seen-reset : (w : InverseRow) (q k : ℕ) (l : Letter) → q < length t → k ≡ row_place w q → (mid new : Rows)
-      → mid ≡ with_row r k (identity r.qubits) → new ≡ with_row mid k (with_letter q l (string_at mid k))
+  pub seen-reset : (w : InverseRow) (q k : ℕ) (l : Letter) → q < length t → k ≡ row_place w q → (blank new : Rows)
+      → blank ≡ with_row r k (identity r.qubits) → new ≡ with_row blank k (with_letter q l (string_at blank k))
       → paired new.rows ≡ put w q (single (length t) q l) t
-  seen-reset w q k l lt e mid new made again =
+  seen-reset w q k l lt e blank new made again =
       seen-written w q k lt e new (with_letter q l (identity r.qubits)) (single (length t) q l)
       (again
       ∙ (λ i. with_row (made i) k (with_letter q l (string_at (made i) k)))

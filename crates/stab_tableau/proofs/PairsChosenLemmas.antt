@@ -137,6 +137,9 @@ module _ (r : Rows) (is : IsPaired r) (t : List InverseRows) (view : paired r.ro
   seen-chosen-is P holds =
       chosen-is r is first mask inside P (λ w k lk one. ap (λ rows. P (row_string w (rows_at rows (first + k)))) view ∙ holds w k lk one)
 
+  pub seen-chosen-paired : (change : Bool → Signed → Signed) → ((p : Signed) → change false p ≡ p) → (new : Rows) → AreChosen (2 * first) mask change r new → IsPaired new
+  seen-chosen-paired = chosen-paired r is first mask inside
+
   pub seen-chosen-written : (change : Bool → Signed → Signed) → ((p : Signed) → change false p ≡ p) → (new : Rows) → AreChosen (2 * first) mask change r new
       → ArePairsChosen first mask change t (paired new.rows)
   seen-chosen-written change stays new chosen =

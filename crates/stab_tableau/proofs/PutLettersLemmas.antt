@@ -1,5 +1,5 @@
 -- Letters that are put where a mask chooses rows: what a walk from qubit to qubit has done.
-use Rattle.std.proofs.Common.{◌≡◌, ◌≢◌, ℕ, ◌+◌, ◌*◌, ◌/◌, ◌<◌, ◌≤◌, true, false, inl, inr, refl, sym, ◌∙◌, ap, subst, List, length, set, arith}
+use Rattle.std.proofs.Common.{◌≡◌, ◌≢◌, ℕ, ◌+◌, ◌*◌, ◌/◌, ◌<◌, ◌≤◌, true, false, inl, inr, sym, ◌∙◌, ap, subst, List, length, set, arith}
 use Rattle.std.specs.Prelude.{◌⊎◌}
 use Rattle.std.proofs.lemmas.Bool.{cases_order}
 use Rattle.std.proofs.lemmas.List.{length-set, get_or-set_same, get_or-set_other}
@@ -31,14 +31,6 @@ pub record ArePut (first mask rest : ℕ) (old now : Signed) : Type 0 where
   pub each : (k : ℕ) → k < 32 → IsLeft first mask rest k now.letters ⊎ IsPut first mask rest k now.letters
   pub others : (q : ℕ) → (q < first) ⊎ (first + 32 ≤ q) → letter_at now.letters q ≡ letter_at old.letters q
 
-pub put-start : (first mask : ℕ) (old now : Signed) → now ≡ old → ((k : ℕ) → k < 32 → letter_at old.letters (first + k) ≡ I) → ArePut first mask mask old now
-put-start first mask old now e blank = record {
-  sign = ap (λ (p : Signed). p.negative) e;
-  size = ap (λ (p : Signed). length p.letters) e;
-  each = λ k lk. inl (record { same = λ w. refl; blank = ap (λ (p : Signed). letter_at p.letters (first + k)) e ∙ blank k lk });
-  others = λ q apart. ap (λ (p : Signed). letter_at p.letters q) e;
-}
-
 pub put-end : (first mask rest : ℕ) (old now : Signed) → rest ≡ 0 → ArePut first mask rest old now
     → (k : ℕ) → k < 32 → letter_at now.letters (first + k) ≡ letter_anticommuting (chooses mask (2 * k)) (chooses mask (2 * k + 1))
 put-end first mask rest old now e put k lk = by_state (put.each k lk)
@@ -59,9 +51,6 @@ half-place OfZ k = omega arith
 
 -- the qubit of a row in the rest of the mask
 module _ (first mask rest : ℕ) (old now : Signed) (put : ArePut first mask rest old now) (i : ℕ) (lt : i < 64) (one : chooses rest i ≡ true) where
-  pub qubit-below : i / 2 < 32
-  qubit-below = omega arith
-
   pub put-in : ((w : InverseRow) (k : ℕ) → k < 32 → chooses mask (row_place w k) ≡ true → first + k < length old.letters) → first + i / 2 < length old.letters
   put-in within = by_state (put.each at.qubit at.below)
     where
@@ -88,18 +77,6 @@ module _ (rest mid next k : ℕ) (lk : k < 32) (x_gone : chooses mid (2 * k) ≡
   pair-others : (w : InverseRow) (j : ℕ) → j < 32 → j ≢ k → chooses next (row_place w j) ≡ chooses rest (row_place w j)
   pair-others OfX j lj ne = z_others (2 * j) (omega arith) (omega arith) ∙ x_others (2 * j) (omega arith) (omega arith)
   pair-others OfZ j lj ne = z_others (2 * j + 1) (omega arith) (omega arith) ∙ x_others (2 * j + 1) (omega arith) (omega arith)
-
-  pub pair-fewer : (i : ℕ) → i / 2 ≡ k → chooses rest i ≡ true → mid ≤ rest → (chooses rest (2 * k) ≡ true → mid < rest) → next ≤ mid → (chooses mid (2 * k + 1) ≡ true → next < mid)
-      → next < rest
-  pair-fewer i e one le lt le_next lt_next = by_place (cases_order i (2 * k))
-    where
-      by_place : (i ≡ 2 * k) ⊎ ((i < 2 * k) ⊎ (2 * k < i)) → next < rest
-      by_place (inl x) = let less = lt (ap (chooses rest) (sym x) ∙ one) in omega arith
-      by_place (inr (inl before)) = absurd (omega arith)
-      by_place (inr (inr after)) =
-          let z : i ≡ 2 * k + 1 = omega arith in
-          let less = lt_next (x_others (2 * k + 1) (omega arith) (omega arith) ∙ ap (chooses rest) (sym z) ∙ one) in
-          omega arith
 
   module _ (first mask : ℕ) (old now new : Signed) (put : ArePut first mask rest old now) (within : first + k < length old.letters)
       (made : new ≡ record now { letters = set now.letters (first + k) (letter_anticommuting (chooses mask (2 * k)) (chooses mask (2 * k + 1))) }) where

@@ -6,3 +6,4 @@ pub mod Observables
 pub mod ColumnLetters
 pub mod Eliminations
 pub mod Frames
+pub mod Supports

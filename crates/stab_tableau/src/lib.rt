@@ -4,6 +4,7 @@
 //!   that are kept in little memory.
 //! - `collapse`: what a measurement answers, and what it does to the rows of a state.
 //! - `table`: the two rows that a state keeps for each qubit, all in one allocation.
+//! - `supports`: at which places the rows of 32 qubits may have X or Y, so that a measurement looks at no rows in vain.
 //! - `inverse_rows`: how gates change the rows of a qubit.
 //! - `rows`: the rows of all qubits: preimages of strings, columns, and how measurements change them, 32 qubits at a time.
 //! - `group`: whether two states have one group, and reading stabilisers.
@@ -35,6 +36,7 @@ mod inverse_rows;
 pub mod laws;
 mod observable;
 mod rows;
+mod supports;
 mod table;
 mod tableau;
 

@@ -1,6 +1,7 @@
 mod chosen;
 mod compact;
 
+use crate::supports::XSupports;
 pub use compact::CompactTable;
 use stab_io::Refusal;
 use stab_pauli::{Letter, Pauli, PauliRows};
@@ -40,18 +41,21 @@ impl InverseRow {
 #[derive(Drop)]
 pub struct Table {
     rows: PauliRows,
+    // At which places the rows of 32 qubits may have X or Y: it saves looks, and contracts don't see it.
+    supports: XSupports,
 }
 
 impl Model for Table {
     ghost use Rattle.std.specs.Prelude.{List};
     ghost use Rattle.stab_tableau.specs.inner.InverseRows.{InverseRows};
     ghost use Rattle.stab_tableau.specs.inner.Pairs.{paired, IsPaired};
+    ghost use Rattle.stab_tableau.specs.inner.Supports.{Covers};
 
     ghost Value = { List InverseRows };
 
     ghost view = { λ t. paired t.rows.rows };
 
-    ghost invariant = { λ t. IsPaired t.rows };
+    ghost invariant = { λ t. IsPaired t.rows × Covers t.supports t.rows };
 }
 
 impl Table {
@@ -76,7 +80,8 @@ impl Table {
         ensures err { IfErr result (λ r. r ≡ OutOfMemory) }
     {
         let rows = PauliRows::new(alloc, 2 * n, n)?;
-        Ok(Table { rows })
+        let supports = XSupports::new(alloc, 2 * n)?;
+        Ok(Table { rows, supports })
     }
 
     /// The same rows in memory of their own.
@@ -85,7 +90,8 @@ impl Table {
         ensures err { IfErr result (λ r. r ≡ OutOfMemory) }
     {
         let rows = self.rows.copy(alloc)?;
-        Ok(Table { rows })
+        let supports = self.supports.copy(alloc)?;
+        Ok(Table { rows, supports })
     }
 
     /// Whether both have the same rows.
@@ -129,6 +135,7 @@ impl Table {
     {
         self.rows.clear(row.place(qubit));
         self.rows.set(row.place(qubit), qubit, letter);
+        self.supports.forget(row.place(qubit));
     }
 
     /// Turns the sign of a row where the bit is 1.
@@ -149,6 +156,8 @@ impl Table {
         ensures value { self.new ≡ rows_exchanged row qubit other other_qubit self.old }
     {
         self.rows.swap(row.place(qubit), other.place(other_qubit));
+        self.supports
+            .swap(row.place(qubit), other.place(other_qubit));
     }
 
     /// Makes a row the product of itself and another, with which it commutes.
@@ -162,6 +171,7 @@ impl Table {
     {
         self.rows
             .multiply(row.place(qubit), other.place(other_qubit));
+        self.supports.forget(row.place(qubit));
     }
 
     /// Makes a row i times the product of itself and another, with which it anticommutes.
@@ -181,6 +191,7 @@ impl Table {
     {
         self.rows
             .multiply_times_i(row.place(qubit), other.place(other_qubit));
+        self.supports.forget(row.place(qubit));
     }
 
     /// Makes a string the product of itself and a row, with which it commutes.

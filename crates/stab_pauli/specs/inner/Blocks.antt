@@ -11,6 +11,7 @@ use Rattle.stab_letters.specs.Phases.{sign_of_phase}
 use Rattle.stab_letters.specs.XParts.{has_x}
 use Rattle.stab_pauli.specs.Paulis.{Signed}
 use Rattle.stab_pauli.specs.Rows.{Rows}
+use Rattle.stab_pauli.specs.Masks.{chooses}
 use Rattle.stab_pauli.specs.inner.Words.{packed_letters}
 use Rattle.stab_pauli.specs.inner.Powers.{sign_power, IsSign}
 
@@ -31,6 +32,11 @@ row_letters (suc m) row = packed_letters 64 (take 4 row) (take 4 (drop 4 row)) +
 -- the letters after the first n are I
 abbrev pub IsPadded : ℕ → ℕ → List Letter → Type 0
 IsPadded n m letters = drop n letters ≡ replicate (256 * m - n) I
+
+-- a mask chooses some of m blocks, and all other blocks of the row are letters I
+pub record CoversLetters (m mask : ℕ) (row : List ℕ) : Type 0 where
+  pub within : (b : ℕ) → b < 64 → chooses mask b ≡ true → b < m
+  pub blank : (b : ℕ) → b < m → chooses mask b ≡ false → chunk (8 * b) 8 row ≡ replicate 8 0
 
 -- no letter before the place is X or Y
 abbrev pub HasNoXBefore : ℕ → List Letter → Type 0

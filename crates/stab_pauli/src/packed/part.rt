@@ -1,7 +1,7 @@
-//! Parts: the words of eight rows that lie side by side, and which of these rows have X or Y at a place.
+//! Parts: the words of eight rows that lie side by side, which of these rows have X or Y at a place, and where any has in the
+//! words with it.
 
-ghost use Rattle.std.specs.Prelude.{◌≡◌, ℕ, ◌*◌, ◌%◌, ◌^◌, ◌<◌, false, length, eqb, slice_index_or};
-ghost use Rattle.std.specs.Int.{bit_at};
+ghost use Rattle.std.specs.Prelude.{◌≡◌, ℕ, ◌+◌, ◌*◌, ◌/◌, ◌^◌, ◌<◌, true, length, slice_index_or};
 ghost use Rattle.std.specs.Simd.Lanes.{chunk};
 ghost use Rattle.stab_letters.specs.declared.letter.Letter.TheVariants.{I};
 ghost use Rattle.stab_letters.specs.XParts.{has_x};
@@ -11,37 +11,40 @@ ghost use Rattle.stab_pauli.specs.inner.Blocks.{row_letters};
 use crate::masks;
 use crate::packed::{flat, row};
 
-/// Which of the eight rows have X or Y at a place, by a mask. Where few rows of a table have, most parts have none: that is
-/// asked first, of all their words at once. Where half of the rows have, nearly no part has none, so the answer is guessed
-/// right.
+/// Which of the eight rows have X or Y at a place, and at which of the 64 places of its word any of them has, each by a
+/// mask. Where few rows of a table have, most parts have none: that is asked first, of all their words at once. Where half
+/// of the rows have, nearly no part has none, so the answer is guessed right.
 #[inline(always)]
-pub(crate) fn rows_with_x(blocks: usize, part: &[u64], qubit: usize) -> u64
+pub(crate) fn rows_with_x(blocks: usize, part: &[u64], qubit: usize) -> (u64, u64)
     requires length { length part.now ≡ 8 * blocks * 8 }
     requires in_range { qubit < 256 * blocks }
-    ensures value { (k : ℕ) → k < 8 → chooses result k ≡ has_x (slice_index_or (row_letters blocks (chunk (8 * blocks * k) (8 * blocks) part.now)) qubit I) }
-    ensures short { result < 2 ^ 8 }
+    ensures value { (k : ℕ) → k < 8 → chooses result.0 k ≡ has_x (slice_index_or (row_letters blocks (chunk (8 * blocks * k) (8 * blocks) part.now)) qubit I) }
+    ensures short { result.0 < 2 ^ 8 }
+    ensures places { (k j : ℕ) → k < 8 → j < 64 → has_x (slice_index_or (row_letters blocks (chunk (8 * blocks * k) (8 * blocks) part.now)) (64 * (qubit / 64) + j) I) ≡ true → chooses result.1 j ≡ true }
 {
-    if !some_has_x(blocks, part, qubit) {
-        return 0;
+    let places = places_with_x(blocks, part, qubit / 64);
+    if !row::bit_of(places, qubit % 64) {
+        return (0, places);
     }
-    mask_of_x(blocks, part, qubit)
+    (mask_of_x(blocks, part, qubit), places)
 }
 
-/// Whether any of the eight rows has X or Y at a place.
+/// At which of the 64 places of a word any of the eight rows has X or Y, by a mask.
 #[inline(always)]
-fn some_has_x(blocks: usize, part: &[u64], qubit: usize) -> bool
+fn places_with_x(blocks: usize, part: &[u64], word: usize) -> u64
     requires length { length part.now ≡ 8 * blocks * 8 }
-    requires in_range { qubit < 256 * blocks }
-    ensures none { result ≡ false → (k : ℕ) → k < 8 → has_x (slice_index_or (row_letters blocks (chunk (8 * blocks * k) (8 * blocks) part.now)) qubit I) ≡ false }
+    requires in_range { word < 4 * blocks }
+    ensures value { (k j : ℕ) → k < 8 → j < 64 → has_x (slice_index_or (row_letters blocks (chunk (8 * blocks * k) (8 * blocks) part.now)) (64 * word + j) I) ≡ true → chooses result j ≡ true }
 {
-    let mut words = 0;
+    let mut places = 0;
     for k in 0..8 {
-        words = words | word_with_x(blocks, part, k, qubit);
+        places = places | x_mask(blocks, part, k, word);
     }
-    row::bit_of(words, qubit % 64)
+    places
 }
 
-/// The same mask, with a look at each row. It grows from the last row to the first, so that each of its bits takes one sum.
+/// Which of the eight rows have X or Y at a place, with a look at each. The mask grows from the last row to the first, so
+/// that each of its bits takes one sum.
 #[inline(always)]
 fn mask_of_x(blocks: usize, part: &[u64], qubit: usize) -> u64
     requires length { length part.now ≡ 8 * blocks * 8 }
@@ -52,20 +55,20 @@ fn mask_of_x(blocks: usize, part: &[u64], qubit: usize) -> u64
     let mut mask = 0;
     let mut a: usize = 8;
     while a > 0 {
-        let word = word_with_x(blocks, part, a - 1, qubit);
+        let word = x_mask(blocks, part, a - 1, qubit / 64);
         mask = masks::behind(mask, 8 - a, row::bit_of(word, qubit % 64));
         a -= 1;
     }
     mask
 }
 
-/// The word of row k of the eight that has the X bit of a place.
+/// At which of the 64 places of a word row k of the eight has X or Y, by a mask.
 #[inline(always)]
-fn word_with_x(blocks: usize, part: &[u64], k: usize, qubit: usize) -> u64
+fn x_mask(blocks: usize, part: &[u64], k: usize, word: usize) -> u64
     requires length { length part.now ≡ 8 * blocks * 8 }
     requires row_in_range { k < 8 }
-    requires in_range { qubit < 256 * blocks }
-    ensures value { eqb (bit_at result (qubit % 64)) 1 ≡ has_x (slice_index_or (row_letters blocks (chunk (8 * blocks * k) (8 * blocks) part.now)) qubit I) }
+    requires in_range { word < 4 * blocks }
+    ensures value { (j : ℕ) → j < 64 → chooses result j ≡ has_x (slice_index_or (row_letters blocks (chunk (8 * blocks * k) (8 * blocks) part.now)) (64 * word + j) I) }
 {
-    row::word_with_x(blocks, flat::row_of(part, 8, blocks, k), qubit)
+    row::x_mask(blocks, flat::row_of(part, 8, blocks, k), word)
 }

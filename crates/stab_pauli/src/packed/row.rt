@@ -142,17 +142,17 @@ pub(crate) fn has_x_at(blocks: usize, row: &[u64], qubit: usize) -> bool
     requires in_range { qubit < 256 * blocks }
     ensures value { result ≡ has_x (slice_index_or (row_letters blocks row.now) qubit I) }
 {
-    bit_of(word_with_x(blocks, row, qubit), qubit % 64)
+    bit_of(x_mask(blocks, row, qubit / 64), qubit % 64)
 }
 
-/// The word of a row of so many blocks with the X bit of a place.
+/// Which of the 64 letters of a word of a row of so many blocks are X or Y, by a mask: the word of their X bits.
 #[inline(always)]
-pub(crate) fn word_with_x(blocks: usize, row: &[u64], qubit: usize) -> u64
+pub(crate) fn x_mask(blocks: usize, row: &[u64], word: usize) -> u64
     requires length { length row.now ≡ 8 * blocks }
-    requires in_range { qubit < 256 * blocks }
-    ensures value { eqb (bit_at result (qubit % 64)) 1 ≡ has_x (slice_index_or (row_letters blocks row.now) qubit I) }
+    requires in_range { word < 4 * blocks }
+    ensures value { (k : ℕ) → k < 64 → chooses result k ≡ has_x (slice_index_or (row_letters blocks row.now) (64 * word + k) I) }
 {
-    row[x_word(qubit)]
+    row[8 * (word / 4) + word % 4]
 }
 
 /// The first place in a row of so many blocks where the letter is X or Y.

@@ -45,7 +45,7 @@ fn begin_with(words: &[u64], gap: usize, word: u64) -> bool
 
 /// Whether all eight words of a block are 0, as most are: one question.
 #[inline(always)]
-fn is_blank(block: &[u64]) -> bool
+pub(crate) fn is_blank(block: &[u64]) -> bool
     requires size { length block.now ≡ 8 }
     ensures value { IsTrue result → block.now ≡ replicate 8 0 }
 {

@@ -4,9 +4,9 @@ use super::Table;
 use stab_pauli::Pauli;
 
 impl Table {
-    ghost use Rattle.std.specs.Prelude.{◌≡◌, ℕ, ◌+◌, ◌<◌, ◌≤◌, true, length};
+    ghost use Rattle.std.specs.Prelude.{◌≡◌, ℕ, ◌+◌, ◌*◌, ◌/◌, ◌<◌, ◌≤◌, true, length};
     ghost use Rattle.stab_letters.specs.XParts.{has_x};
-    ghost use Rattle.stab_pauli.specs.Masks.{chooses};
+    ghost use Rattle.stab_pauli.specs.Masks.{chooses, CoversSupport};
     ghost use Rattle.stab_pauli.specs.Paulis.{anticommute, with_sign};
     ghost use Rattle.stab_pauli.specs.Rows.{product_times_i_if};
     ghost use Rattle.stab_tableau.specs.declared.table.InverseRow.{InverseRow};
@@ -14,27 +14,34 @@ impl Table {
     ghost use Rattle.stab_tableau.specs.inner.InverseRows.{rows_at};
     ghost use Rattle.stab_tableau.specs.inner.Pairs.{row_place, row_string, ArePairsChosen};
 
-    /// Which rows of the 32 qubits from one on have X or Y at a place.
+    /// Which rows of the 32 qubits from one on, which is a multiple of 32, have X or Y at a place. They are looked at only where
+    /// one of them may.
     #[inline(always)]
-    pub fn rows_with_x(&self, first: usize, place: usize) -> u64
-        requires first_in_range { first ≤ length self.now }
-        requires place_in_range { place < length self.now }
-        ensures value { (w : InverseRow) (k : ℕ) → k < 32 → chooses result (row_place w k) ≡ has_x (letter_at (row_string w (rows_at self.now (first + k))).letters place) }
+    pub fn rows_with_x(&mut self, first: usize, place: usize) -> u64
+        requires first_in_range { first < length self.old }
+        requires group { 32 * (first / 32) ≡ first }
+        requires place_in_range { place < length self.old }
+        ensures value { (w : InverseRow) (k : ℕ) → k < 32 → chooses result (row_place w k) ≡ has_x (letter_at (row_string w (rows_at self.old (first + k))).letters place) }
+        ensures unchanged { self.new ≡ self.old }
     {
-        self.rows.rows_with_x(2 * first, place)
+        self.supports.rows_with_x(&self.rows, first / 32, place)
     }
 
     /// Makes each chosen row of the 32 qubits from one on i times the product of itself and a string, with which it
-    /// anticommutes.
+    /// anticommutes, and whose `support_mask` is at hand.
     #[inline(always)]
-    pub fn multiply_rows_by_times_i(&mut self, first: usize, mask: u64, other: &Pauli)
-        requires first_in_range { first ≤ length self.old }
+    pub fn multiply_rows_by_times_i(&mut self, first: usize, mask: u64, other: &Pauli, support: u64)
+        requires first_in_range { first < length self.old }
+        requires group { 32 * (first / 32) ≡ first }
         requires in_range { (w : InverseRow) (k : ℕ) → k < 32 → chooses mask (row_place w k) ≡ true → first + k < length self.old }
         requires same_length { length other.now.letters ≡ length self.old }
+        requires support { CoversSupport support other.now.letters }
         requires anticommuting { (w : InverseRow) (k : ℕ) → k < 32 → chooses mask (row_place w k) ≡ true → anticommute (row_string w (rows_at self.old (first + k))) other.now ≡ true }
         ensures value { ArePairsChosen first mask (λ b p. product_times_i_if b p other.now) self.old self.new }
     {
-        self.rows.multiply_rows_by_times_i(2 * first, mask, other);
+        self.rows
+            .multiply_rows_by_times_i(2 * first, mask, other, support);
+        self.supports.widen(first / 32, mask, other);
     }
 
     /// Turns the signs of the chosen rows of the 32 qubits from one on.

@@ -1,4 +1,5 @@
 use super::{InverseRow, Table};
+use crate::supports::XSupports;
 use stab_io::Refusal;
 use stab_pauli::{CompactRows, Letter};
 use std::alloc::Global;
@@ -76,7 +77,8 @@ impl CompactTable {
         ensures err { IfErr result (λ r. r ≡ OutOfMemory) }
     {
         let rows = self.rows.rows(alloc)?;
-        Ok(Table { rows })
+        let supports = XSupports::new(alloc, rows.len())?;
+        Ok(Table { rows, supports })
     }
 
     /// Makes a table these rows, in the memory that it has.
@@ -85,6 +87,7 @@ impl CompactTable {
         ensures value { table.new ≡ self.now }
     {
         self.rows.write_into(&mut table.rows);
+        table.supports.forget_all();
     }
 
     /// Whether both are the same rows.

@@ -6,7 +6,6 @@ use Rattle.stab_tableau.specs.Tableaus.{stabilises}
 use Rattle.stab_tableau.specs.inner.Observables.{observed}
 use Rattle.stab_tableau.proofs.ColumnLemmas.{length-column}
 use Rattle.stab_tableau.proofs.ExchangedOutcomeLemmas.{place-exchanges}
-use Rattle.stab_tableau.proofs.ObservableLemmas.{observed-letters}
 use Rattle.stab_tableau.proofs.MeasureLemmas.{place-in, multiplier-length, told-multiplier, measured-fixed, measured-free}
 use Rattle.stab_tableau.proofs.collapse.measure_with_exchange.Goals as goal
 
@@ -21,9 +20,6 @@ pub collapse_rows_with_exchange-requires-clause-same_length : goal.collapse_rows
 collapse_rows_with_exchange-requires-clause-same_length c =
     multiplier-length (length c.args.table.now) c.args.preimage.now c.requires.tableau.size.x c.in-Some.place c.in-Some.ensures.in_range c.in-Some.ensures.has_x
     c.args.coin _ c.write_multiplier.new.multiplier (length c.args.multiplier.now.letters) c.requires.tableau.size.z refl c.write_multiplier.ensures.multiplier
-
-pub collapse_rows_with_exchange-requires-clause-has_letters : goal.collapse_rows_with_exchange-requires-clause-has_letters
-collapse_rows_with_exchange-requires-clause-has_letters c = observed-letters (length c.args.table.now) c.args.observable.now c.requires.same_length
 
 pub collapse_rows_with_exchange-requires-clause-told : goal.collapse_rows_with_exchange-requires-clause-told
 collapse_rows_with_exchange-requires-clause-told c =

@@ -1,8 +1,6 @@
-use Rattle.std.proofs.Common.{◌≡◌, ℕ, ◌*◌, ◌∙◌, inr, subst, length, arith}
-use Rattle.stab_letters.specs.declared.letter.Letter.TheVariants.{I, Z}
+use Rattle.std.proofs.Common.{ℕ, ◌*◌, ◌∙◌, inr, length, arith}
+use Rattle.stab_letters.specs.declared.letter.Letter.TheVariants.{Z}
 use Rattle.stab_pauli.proofs.SignedLemmas.{signed_path}
-use Rattle.stab_tableau.specs.Gates.{letter_at}
-use Rattle.stab_tableau.specs.inner.Observables.{observed}
 use Rattle.stab_tableau.proofs.CollapsedGroupLemmas.{groups-rest, groups-done}
 use Rattle.stab_tableau.proofs.TableauColumnLemmas.{column-all, column-group}
 use Rattle.stab_tableau.proofs.rows.collapse_rows_with_exchange.Goals as goal
@@ -15,9 +13,6 @@ loop-group-preserved c =
     let first : ℕ = 32 * c.loop-group.group in
     record {
       size = made.size ∙ inv.size;
-      from = omega (arith, made.from, inv.size);
-      in_range = omega (arith, made.next_in_range, inv.size);
-      blank = λ q le lt. subst (λ n. letter_at (observed n c.args.observable.now).letters q ≡ I) inv.size (made.next_blank q (omega arith) lt);
       done = λ q near lt.
           groups-done c.args.place first c.args.multiplier.now c.args.table.now c.loop-group.table c.collapse_group-mask.new.table inv.rest made.others inv.done
           (λ j le lj lt. made.rows j le lj (omega (arith, inv.size))) q (omega arith) lt;
@@ -25,7 +20,7 @@ loop-group-preserved c =
       exchange_size = put.size ∙ inv.exchange_size;
       sign = put.sign ∙ inv.sign;
       written = λ q near lt.
-          column-group c.args.place first c.collapse_group-mask.result.0 c.args.table.now c.loop-group.table c.loop-group.exchange.letters c.put_letters.new.out.letters
+          column-group c.args.place first c.collapse_group-mask.result c.args.table.now c.loop-group.table c.loop-group.exchange.letters c.put_letters.new.out.letters
           inv.rest made.changed put.within put.others inv.written q (omega arith) lt;
       unwritten = λ q le. put.others q (inr (omega arith)) ∙ inv.unwritten q (omega arith);
     }
@@ -35,4 +30,4 @@ returns-clause-exchange c =
     let inv = c.loop-group.invariant in
     signed_path _ _ inv.sign
     (column-all Z c.args.place (length c.args.table.now) c.args.table.now c.loop-group.exchange.letters inv.exchange_size (omega arith)
-    (λ j lj. inv.written j (omega (arith, c.loop-group-test.false, c.groups_of-group-end.ensures.all, c.len-2.ensures.value)) lj))
+    (λ j lj. inv.written j (omega (arith, c.loop-group-test.false, c.groups_of-groups.ensures.all, c.len.ensures.value)) lj))

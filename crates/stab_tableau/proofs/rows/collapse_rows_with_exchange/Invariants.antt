@@ -1,19 +1,13 @@
 use Rattle.std.proofs.Common.{◌≡◌, ℕ, ◌*◌, ◌<◌, ◌≤◌, false, length, get_or}
-use Rattle.std.specs.Prelude.{min}
 use Rattle.stab_letters.specs.declared.letter.Letter.TheVariants.{I, Z}
-use Rattle.stab_tableau.specs.Gates.{letter_at}
 use Rattle.stab_tableau.specs.inner.InverseRows.{rows_at}
 use Rattle.stab_tableau.specs.inner.Collapses.{CollapsedRow}
 use Rattle.stab_tableau.specs.inner.ColumnLetters.{column}
-use Rattle.stab_tableau.specs.inner.Observables.{observed}
 use Rattle.stab_tableau.proofs.rows.collapse_rows_with_exchange.Given as goal
 
 abbrev pub invariant-loop-group : goal.invariant-loop-group
 invariant-loop-group l = record {
   size : length l.table ≡ length l.fn.table;
-  from : min (32 * l.group) (length l.fn.table) ≤ l.letter;
-  in_range : l.letter ≤ length l.fn.table;
-  blank : (q : ℕ) → 32 * l.group ≤ q → q < l.letter → letter_at (observed (length l.fn.table) l.observable).letters q ≡ I;
   done : (q : ℕ) → q < 32 * l.group → q < length l.fn.table → CollapsedRow l.place l.multiplier (rows_at l.fn.table q) (rows_at l.table q);
   rest : (q : ℕ) → 32 * l.group ≤ q → rows_at l.table q ≡ rows_at l.fn.table q;
   exchange_size : length l.exchange.letters ≡ length l.fn.table;

@@ -4,6 +4,7 @@ use Rattle.stab_letters.specs.declared.letter.Letter.TheVariants.{I}
 use Rattle.stab_letters.specs.XParts.{has_x}
 use Rattle.stab_pauli.specs.inner.Blocks.{row_letters}
 use Rattle.stab_pauli.proofs.MaskLemmas.{grown}
+use Rattle.stab_pauli.proofs.XMaskLemmas.{x-at}
 use Rattle.stab_pauli.proofs.packed.part.mask_of_x.Goals as goal
 
 pub loop-a-preserved : goal.loop-a-preserved
@@ -14,6 +15,7 @@ loop-a-preserved c =
       in_range = omega (arith, inv.in_range);
       value = grown (λ j. has_x (get_or (row_letters c.args.blocks (chunk (8 * c.args.blocks * j) (8 * c.args.blocks) c.args.part.now)) c.args.qubit I))
           c.loop-a.a 8 c.loop-a.mask c.behind-mask.result c.bit_of.result (omega (arith, c.loop-a-test.true))
-          (c.bit_of.ensures.value ∙ c.word_with_x-word.ensures.value) c.behind-mask.ensures.first c.behind-mask.ensures.others inv.value;
+          (c.bit_of.ensures.value ∙ x-at (λ j. has_x (get_or (row_letters c.args.blocks (chunk (8 * c.args.blocks * (c.loop-a.a - 1)) (8 * c.args.blocks) c.args.part.now)) j I)) c.x_mask-word.result c.args.qubit c.x_mask-word.ensures.value)
+          c.behind-mask.ensures.first c.behind-mask.ensures.others inv.value;
       short = subst (λ n. c.behind-mask.result < 2 ^ n) longer c.behind-mask.ensures.short;
     }

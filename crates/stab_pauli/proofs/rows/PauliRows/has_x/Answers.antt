@@ -14,4 +14,4 @@ has_x_at-requires-clause-in_range c =
 pub returns : goal.returns
 returns c =
     let mine = seen_of c.self.invariant c.self.view_is in
-    record { value = c.has_x_at.ensures.value ∙ ap has_x (letter_seen mine c.args.a c.args.qubit c.requires.in_range c.requires.qubit_in_range c.row_of-words.ensures.value c.as_slice.ensures.value) }
+    record { value = c.has_x_at.ensures.value ∙ ap has_x (letter_seen mine c.args.a c.args.qubit c.requires.in_range c.row_of-words.ensures.value c.as_slice.ensures.value) }

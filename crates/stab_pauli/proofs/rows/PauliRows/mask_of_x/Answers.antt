@@ -1,15 +1,16 @@
-use Rattle.std.proofs.Common.{arith, ◌≡◌, ◌≤◌, ◌+◌, ◌-◌, ◌^◌, ◌<◌, get_or, subst}
+use Rattle.std.proofs.Common.{arith, ◌≡◌, ◌≤◌, ◌+◌, ◌-◌, ◌*◌, ◌/◌, ◌^◌, ◌<◌, ◌∙◌, ap, get_or, subst}
 use Rattle.stab_letters.specs.declared.letter.Letter.TheVariants.{I}
 use Rattle.stab_letters.specs.XParts.{has_x}
 use Rattle.stab_pauli.specs.Rows.{row_at}
 use Rattle.stab_pauli.proofs.MaskLemmas.{grown-eight}
+use Rattle.stab_pauli.proofs.XMaskLemmas.{gathered}
 use Rattle.stab_pauli.proofs.rows.PauliRows.mask_of_x.Goals as goal
 
 pub overflow_sub-a-in-loop-a : goal.overflow_sub-a-in-loop-a
 overflow_sub-a-in-loop-a c = omega (arith, c.loop-a.invariant.from, c.loop-a.invariant.parts, c.loop-a-test.true)
 
-pub eight_with_x-requires-clause-in_range : goal.eight_with_x-requires-clause-in_range
-eight_with_x-requires-clause-in_range c =
+pub eight_with_x-eight-requires-clause-in_range : goal.eight_with_x-eight-requires-clause-in_range
+eight_with_x-eight-requires-clause-in_range c =
     omega (arith, c.loop-a.invariant.from, c.loop-a.invariant.parts, c.loop-a.invariant.in_range, c.loop-a-test.true, c.requires.in_range)
 
 pub behind_eight-mask-requires-clause-room : goal.behind_eight-mask-requires-clause-room
@@ -28,7 +29,15 @@ loop-a-preserved c =
       from = omega (arith, part);
       in_range = omega (arith, inv.in_range);
       parts = omega (arith, part, inv.parts);
-      value = grown-eight (λ j. has_x (get_or (row_at c.args.self.now j).letters c.args.qubit I)) c.loop-a.a c.args.end c.loop-a.mask c.behind_eight-mask.result c.eight_with_x.result
-          (omega (arith, part)) c.eight_with_x.ensures.value c.behind_eight-mask.ensures.first c.behind_eight-mask.ensures.others inv.value;
+      value = grown-eight (λ j. has_x (get_or (row_at c.args.self.now j).letters c.args.qubit I)) c.loop-a.a c.args.end c.loop-a.mask c.behind_eight-mask.result c.eight_with_x-eight.result.0
+          (omega (arith, part)) c.eight_with_x-eight.ensures.value c.behind_eight-mask.ensures.first c.behind_eight-mask.ensures.others inv.value;
       short = subst (λ n. c.behind_eight-mask.result < 2 ^ n) longer c.behind_eight-mask.ensures.short;
+      places = gathered (λ k j. has_x (get_or (row_at c.args.self.now k).letters (64 * (c.args.qubit / 64) + j) I)) 8 c.loop-a.a c.args.end c.loop-a.places c.eight_with_x-eight.result.1
+          (omega (arith, part)) c.eight_with_x-eight.ensures.places inv.places;
     }
+
+pub returns-clause-places : goal.returns-clause-places
+returns-clause-places c =
+    let inv = c.loop-a.invariant in
+    let all : c.loop-a.a ≡ c.args.first = omega (arith, inv.from, c.loop-a-test.false) in
+    λ k j lt lj one. inv.places k j (omega (arith, all, lt)) lj (ap (λ a. has_x (get_or (row_at c.args.self.now (a + k)).letters (64 * (c.args.qubit / 64) + j) I)) all ∙ one)

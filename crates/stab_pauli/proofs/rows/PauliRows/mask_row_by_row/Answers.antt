@@ -1,8 +1,9 @@
-use Rattle.std.proofs.Common.{arith, ◌≡◌, ◌+◌, ◌-◌, ◌^◌, ◌<◌, get_or, subst}
+use Rattle.std.proofs.Common.{arith, ◌≡◌, ◌+◌, ◌-◌, ◌*◌, ◌/◌, ◌^◌, ◌<◌, ◌∙◌, get_or, subst}
 use Rattle.stab_letters.specs.declared.letter.Letter.TheVariants.{I}
 use Rattle.stab_letters.specs.XParts.{has_x}
 use Rattle.stab_pauli.specs.Rows.{row_at}
 use Rattle.stab_pauli.proofs.MaskLemmas.{grown}
+use Rattle.stab_pauli.proofs.XMaskLemmas.{x-at, gathered-one}
 use Rattle.stab_pauli.proofs.rows.PauliRows.mask_row_by_row.Goals as goal
 
 pub loop-a-preserved : goal.loop-a-preserved
@@ -12,7 +13,11 @@ loop-a-preserved c =
     record {
       from = omega (arith, c.loop-a-test.true);
       in_range = omega (arith, inv.in_range);
-      value = grown (λ j. has_x (get_or (row_at c.args.self.now j).letters c.args.qubit I)) c.loop-a.a c.args.end c.loop-a.mask c.behind-mask.result c.has_x.result
-          (omega (arith, c.loop-a-test.true)) c.has_x.ensures.value c.behind-mask.ensures.first c.behind-mask.ensures.others inv.value;
+      value = grown (λ k. has_x (get_or (row_at c.args.self.now k).letters c.args.qubit I)) c.loop-a.a c.args.end c.loop-a.mask c.behind-mask.result c.bit_of.result
+          (omega (arith, c.loop-a-test.true))
+          (c.bit_of.ensures.value ∙ x-at (λ j. has_x (get_or (row_at c.args.self.now (c.loop-a.a - 1)).letters j I)) c.x_mask-word.result c.args.qubit c.x_mask-word.ensures.value)
+          c.behind-mask.ensures.first c.behind-mask.ensures.others inv.value;
       short = subst (λ n. c.behind-mask.result < 2 ^ n) longer c.behind-mask.ensures.short;
+      places = gathered-one (λ k j. has_x (get_or (row_at c.args.self.now k).letters (64 * (c.args.qubit / 64) + j) I)) c.loop-a.a c.args.end c.loop-a.places c.x_mask-word.result
+          (omega (arith, c.loop-a-test.true)) c.x_mask-word.ensures.value inv.places;
     }

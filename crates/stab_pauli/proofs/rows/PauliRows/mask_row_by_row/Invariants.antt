@@ -1,4 +1,4 @@
-use Rattle.std.proofs.Common.{◌≡◌, ℕ, ◌+◌, ◌-◌, ◌^◌, ◌<◌, ◌≤◌, get_or}
+use Rattle.std.proofs.Common.{◌≡◌, ℕ, ◌+◌, ◌-◌, ◌*◌, ◌/◌, ◌^◌, ◌<◌, ◌≤◌, true, get_or}
 use Rattle.stab_letters.specs.declared.letter.Letter.TheVariants.{I}
 use Rattle.stab_letters.specs.XParts.{has_x}
 use Rattle.stab_pauli.specs.Rows.{row_at}
@@ -11,6 +11,7 @@ invariant-loop-a l = record {
   in_range : l.a ≤ l.end;
   value : (k : ℕ) → l.a + k < l.end → chooses l.mask k ≡ has_x (get_or (row_at l.self (l.a + k)).letters l.qubit I);
   short : l.mask < 2 ^ (l.end - l.a);
+  places : (k j : ℕ) → l.a + k < l.end → j < 64 → has_x (get_or (row_at l.self (l.a + k)).letters (64 * (l.qubit / 64) + j) I) ≡ true → chooses l.places j ≡ true;
 }
 
 abbrev pub decreases-loop-a : goal.decreases-loop-a

@@ -1,6 +1,7 @@
-use Rattle.std.proofs.Common.{arith, subst, ℕ, ◌≡◌, ◌+◌, ◌<◌, List}
+use Rattle.std.proofs.Common.{arith, ap, subst, ◌∙◌, ℕ, ◌≡◌, ◌*◌, ◌/◌, ◌+◌, ◌<◌, List}
 use Rattle.stab_letters.specs.XParts.{has_x}
 use Rattle.stab_pauli.specs.Masks.{chooses}
+use Rattle.stab_pauli.specs.Rows.{row_at}
 use Rattle.stab_tableau.specs.Gates.{letter_at}
 use Rattle.stab_tableau.specs.declared.table.InverseRow.{InverseRow}
 use Rattle.stab_tableau.specs.inner.InverseRows.{InverseRows, rows_at}
@@ -9,24 +10,20 @@ use Rattle.stab_tableau.proofs.PairedRowsLemmas.{seen-length}
 use Rattle.stab_tableau.proofs.PairsChosenLemmas.{pairs-with_x}
 use Rattle.stab_tableau.proofs.table.Table.rows_with_x.Goals as goal
 
-pub overflow_mul-first : goal.overflow_mul-first
-overflow_mul-first c =
-    let e = seen-length c.self.inside.rows c.self.invariant c.args.self.now c.self.view_is in
-    omega (arith, e, c.requires.first_in_range, c.self.invariant.few)
-
 pub rows_with_x-requires-clause-first_in_range : goal.rows_with_x-requires-clause-first_in_range
 rows_with_x-requires-clause-first_in_range c =
-    let e = seen-length c.self.inside.rows c.self.invariant c.args.self.now c.self.view_is in
-    omega (arith, e, c.requires.first_in_range, c.self.invariant.size)
+    let e = seen-length c.self.inside.rows c.self.invariant.0 c.args.self.now c.self.view_is in
+    omega (arith, e, c.requires.first_in_range, c.requires.group, c.self.invariant.0.size)
 
-pub rows_with_x-requires-clause-qubit_in_range : goal.rows_with_x-requires-clause-qubit_in_range
-rows_with_x-requires-clause-qubit_in_range c =
-    let e = seen-length c.self.inside.rows c.self.invariant c.args.self.now c.self.view_is in
+pub rows_with_x-requires-clause-place_in_range : goal.rows_with_x-requires-clause-place_in_range
+rows_with_x-requires-clause-place_in_range c =
+    let e = seen-length c.self.inside.rows c.self.invariant.0 c.args.self.now c.self.view_is in
     omega (arith, e, c.requires.place_in_range)
 
-pub returns : goal.returns
-returns c = record {
-  value = subst (λ (t : List InverseRows). (w : InverseRow) (k : ℕ) → k < 32 → chooses c.rows_with_x.result (row_place w k) ≡ has_x (letter_at (row_string w (rows_at t (c.args.first + k))).letters c.args.place))
-      c.self.view_is
-      (pairs-with_x c.self.inside.rows c.self.invariant c.args.first c.args.place c.rows_with_x.result c.rows_with_x.ensures.value);
-}
+pub returns-clause-value : goal.returns-clause-value
+returns-clause-value c =
+    let start : 64 * (c.args.first / 32) ≡ 2 * c.args.first = let e = c.requires.group in omega arith in
+    subst (λ (t : List InverseRows). (w : InverseRow) (k : ℕ) → k < 32 → chooses c.rows_with_x.result (row_place w k) ≡ has_x (letter_at (row_string w (rows_at t (c.args.first + k))).letters c.args.place))
+    c.self.view_is
+    (pairs-with_x c.self.inside.rows c.self.invariant.0 c.args.first c.args.place c.rows_with_x.result
+    (λ k lt. c.rows_with_x.ensures.value k lt ∙ ap (λ n. has_x (letter_at (row_at c.self.inside.rows (n + k)).letters c.args.place)) start))

@@ -6,7 +6,7 @@ pub returns : goal.returns
 returns c = rw (sym c.self.view_is, sym c.table.view_is)
     (record {
       value = (
-        λ yes. pairs-letters c.self.inside.rows c.table.inside.rows c.self.invariant c.table.invariant (c.same_letters.ensures.value.0 yes).1,
-        λ e. c.same_letters.ensures.value.1 (letters-pairs c.self.inside.rows c.table.inside.rows c.self.invariant c.table.invariant e),
+        λ yes. pairs-letters c.self.inside.rows c.table.inside.rows c.self.invariant c.table.invariant.0 (c.same_letters.ensures.value.0 yes).1,
+        λ e. c.same_letters.ensures.value.1 (letters-pairs c.self.inside.rows c.table.inside.rows c.self.invariant c.table.invariant.0 e),
       );
     })

@@ -14,17 +14,17 @@ signs_differ-requires c =
     let there = subst (λ n. c.args.qubit < n) (length-same c.args.self.now c.args.table.now c.requires.same_letters) c.requires.in_range in
     record {
       in_range = seen-place c.self.inside.rows c.self.invariant c.args.self.now c.self.view_is c.args.row c.args.qubit c.place.result c.requires.in_range c.place.ensures.value;
-      other_in_range = seen-place c.table.inside.rows c.table.invariant c.args.table.now c.table.view_is c.args.row c.args.qubit c.place.result there c.place.ensures.value;
+      other_in_range = seen-place c.table.inside.rows c.table.invariant.0 c.args.table.now c.table.view_is c.args.row c.args.qubit c.place.result there c.place.ensures.value;
       same_letters =
           ap (λ (p : Signed). p.letters) (seen-read c.self.inside.rows c.self.invariant c.args.self.now c.self.view_is c.args.row c.args.qubit c.place.result c.requires.in_range c.place.ensures.value)
           ∙ same-letters_at c.args.row c.args.self.now c.args.table.now c.args.qubit c.requires.in_range c.requires.same_letters
-          ∙ sym (ap (λ (p : Signed). p.letters) (seen-read c.table.inside.rows c.table.invariant c.args.table.now c.table.view_is c.args.row c.args.qubit c.place.result there c.place.ensures.value));
+          ∙ sym (ap (λ (p : Signed). p.letters) (seen-read c.table.inside.rows c.table.invariant.0 c.args.table.now c.table.view_is c.args.row c.args.qubit c.place.result there c.place.ensures.value));
     }
 
 pub returns : goal.returns
 returns c =
     let there = subst (λ n. c.args.qubit < n) (length-same c.args.self.now c.args.table.now c.requires.same_letters) c.requires.in_range in
     let mine = seen-read c.self.inside.rows c.self.invariant c.args.self.now c.self.view_is c.args.row c.args.qubit c.place.result c.requires.in_range c.place.ensures.value in
-    let theirs = seen-read c.table.inside.rows c.table.invariant c.args.table.now c.table.view_is c.args.row c.args.qubit c.place.result there c.place.ensures.value in
+    let theirs = seen-read c.table.inside.rows c.table.invariant.0 c.args.table.now c.table.view_is c.args.row c.args.qubit c.place.result there c.place.ensures.value in
     let negative : Signed → Bool = λ p. p.negative in
     record { value = c.signs_differ.ensures.value ∙ (λ i. negative (mine i) ⊕ negative (theirs i)) }

@@ -1,0 +1,12 @@
+use Rattle.std.proofs.Common.{◌+◌, ◌*◌, get_or}
+use Rattle.std.specs.Simd.Lanes.{chunk}
+use Rattle.stab_letters.specs.declared.letter.Letter.TheVariants.{I}
+use Rattle.stab_letters.specs.XParts.{has_x}
+use Rattle.stab_pauli.specs.inner.Blocks.{row_letters}
+use Rattle.stab_pauli.proofs.XMaskLemmas.{gathered-next}
+use Rattle.stab_pauli.proofs.packed.part.places_with_x.Goals as goal
+
+pub loop-k-preserved : goal.loop-k-preserved
+loop-k-preserved c =
+    gathered-next (λ k j. has_x (get_or (row_letters c.args.blocks (chunk (8 * c.args.blocks * k) (8 * c.args.blocks) c.args.part.now)) (64 * c.args.word + j) I))
+    c.loop-k.k c.loop-k.places c.x_mask-places.result c.x_mask-places.ensures.value c.loop-k.invariant

@@ -1,0 +1,57 @@
+-- Halves of masks: what one half of the mask of 64 letters chooses among the 32 letters of a group.
+use Rattle.std.proofs.Common.{◌≡◌, ℕ, ◌+◌, ◌-◌, ◌*◌, ◌/◌, ◌%◌, ◌^◌, ◌<◌, ◌≤◌, true, false, inl, inr, sym, ◌∙◌, ap, List, length, arith, eqb}
+use Rattle.std.specs.Prelude.{◌⊎◌, bit_and}
+use Rattle.std.specs.Int.{bit_at}
+use Rattle.std.proofs.lemmas.Bool.{cases_lt}
+use Rattle.std.proofs.lemmas.Nat.{shr-shr}
+use Rattle.std.proofs.lemmas.Nat.Bits.{bit_at_and, bit_at_ones, bit_at_ones_above, bit_at-lt}
+use Rattle.stab_letters.specs.declared.letter.Letter.{Letter}
+use Rattle.stab_letters.specs.declared.letter.Letter.TheVariants.{I}
+use Rattle.stab_pauli.specs.Masks.{chooses}
+use Rattle.stab_pauli.proofs.MaskLemmas.{spared, clash}
+use Rattle.stab_tableau.specs.Gates.{letter_at}
+
+-- the 32 bits of a mask behind the first s
+abbrev pub half : ℕ → ℕ → ℕ
+half mask s = bit_and (mask / 2 ^ s) (2 ^ 32 - 1)
+
+bit_behind : (mask s k : ℕ) → bit_at (mask / 2 ^ s) k ≡ bit_at mask (s + k)
+bit_behind mask s k = ap (λ n. n % 2) (shr-shr mask s k)
+
+half-within : (mask s k : ℕ) → k < 32 → chooses (half mask s) k ≡ chooses mask (s + k)
+half-within mask s k lt =
+    let both = bit_at_and (mask / 2 ^ s) (2 ^ 32 - 1) k in
+    let one = bit_at_ones 32 k lt in
+    let below = bit_at-lt (mask / 2 ^ s) k in
+    let e : bit_at (half mask s) k ≡ bit_at (mask / 2 ^ s) k = omega (arith, both, one, below) in
+    ap (λ n. eqb n 1) (e ∙ bit_behind mask s k)
+
+half-past : (mask s k : ℕ) → 32 ≤ k → chooses (half mask s) k ≡ false
+half-past mask s k le =
+    let both = bit_at_and (mask / 2 ^ s) (2 ^ 32 - 1) k in
+    let none = bit_at_ones_above 32 k le in
+    spared (half mask s) k (omega (arith, both, none))
+
+pub half-few : (mask s k : ℕ) → chooses (half mask s) k ≡ true → k < 32
+half-few mask s k one = by_place (cases_lt k 32)
+  where
+    by_place : (k < 32) ⊎ (32 ≤ k) → k < 32
+    by_place (inl lt) = lt
+    by_place (inr le) = clash (chooses (half mask s) k) one (half-past mask s k le)
+
+-- the letters of a group, by the mask of the 64 letters that hold it
+module _ (letters : List Letter) (mask group : ℕ) where
+  at : (k : ℕ) → 64 * (group / 2) + (32 * (group % 2) + k) ≡ 32 * group + k
+  at k = omega arith
+
+  pub group-inside : ((j : ℕ) → j < 64 → chooses mask j ≡ true → 64 * (group / 2) + j < length letters)
+      → (k : ℕ) → chooses (half mask (32 * (group % 2))) k ≡ true → 32 * group + k < length letters
+  group-inside inside k one =
+      let lt = half-few mask (32 * (group % 2)) k one in
+      let there = inside (32 * (group % 2) + k) (omega arith) (sym (half-within mask (32 * (group % 2)) k lt) ∙ one) in
+      omega (arith, at k, there)
+
+  pub group-spared : ((j : ℕ) → j < 64 → chooses mask j ≡ false → letter_at letters (64 * (group / 2) + j) ≡ I)
+      → (k : ℕ) → k < 32 → chooses (half mask (32 * (group % 2))) k ≡ false → letter_at letters (32 * group + k) ≡ I
+  group-spared spared k lt none =
+      ap (letter_at letters) (sym (at k)) ∙ spared (32 * (group % 2) + k) (omega arith) (sym (half-within mask (32 * (group % 2)) k lt) ∙ none)

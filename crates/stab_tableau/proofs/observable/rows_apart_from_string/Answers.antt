@@ -1,0 +1,12 @@
+use Rattle.std.proofs.Common.{◌*◌, ◌∙◌, ap}
+use Rattle.stab_letters.specs.Letters.{letters_anticommute}
+use Rattle.stab_tableau.specs.inner.Pairs.{row_letter}
+use Rattle.stab_tableau.proofs.RowsApartLemmas.{apart-next}
+use Rattle.stab_tableau.proofs.observable.rows_apart_from_string.Goals as goal
+
+pub loop-rest-preserved : goal.loop-rest-preserved
+loop-rest-preserved c =
+    apart-next (32 * c.args.group) c.loop-rest.rest c.loop-rest.mask c.args.pauli.now.letters c.loop-rest.invariant c.first-k.result
+    c.with_rows_apart-mask.result c.without-rest.result
+    (λ w. c.with_rows_apart-mask.ensures.here w ∙ ap (letters_anticommute (row_letter w)) c.letter.ensures.value) c.with_rows_apart-mask.ensures.others
+    c.without-rest.ensures.gone c.without-rest.ensures.others
