@@ -1,5 +1,6 @@
 -- The first line of a text.
-use Rattle.std.proofs.Common.{◌<◌, MatchOption, subst, ◌≡◌, sym, ap, ◌∙◌, ℕ, ◌+◌, ◌-◌, List, [], ◌∷◌, ◌++◌, Bool, true, false, length, take, drop, Option, Some, None, arith, append-nil, length-append, refl}
+use Rattle.std.proofs.Common.{Bor, Ok, ◌<◌, MatchOption, subst, ◌≡◌, sym, ap, ◌∙◌, ℕ, ◌+◌, ◌-◌, List, [], ◌∷◌, ◌++◌, Bool, true, false, length, take, drop, Option, Some, None, arith, append-nil, length-append, refl}
+use Rattle.std.specs.Option.{option_copied}
 use Rattle.std.specs.List.{slice_get, slice_split, onto_first, AllByRecursion, join_with_byte}
 use Rattle.std.proofs.lemmas.List.Elements.{All-from_recursion}
 use Rattle.std.proofs.Math.Seq.{take-append_seam}
@@ -8,8 +9,10 @@ use Rattle.std.specs.Cmp.Lexicographic.{pointwise}
 use Rattle.std.proofs.lemmas.Bool.Decides.{Decides-eqb}
 use Rattle.std.proofs.lemmas.Slice.Eq.{starts_is}
 use Rattle.std.proofs.lemmas.List.Splits.{slice_split_none, slice_split_at, slice_split-cons_yes, slice_split-cons_no, length-slice_split, join_with_byte-slice_split}
+use Rattle.stab_lines.specs.declared.operation.Kind.{Kind}
 use Rattle.stab_lines.specs.Lines.{is_byte}
 use Rattle.stab_lines.specs.Words.{pieces_after}
+use Rattle.stab_lines.specs.FirstLines.{BeginsWithInstruction, TellsInstruction}
 use Rattle.stab_items.specs.inner.KnownLines.{IsOneLine, IsCut}
 use lib.Dec.{eqb}
 
@@ -79,3 +82,8 @@ some_first text = begun (slice_split (is_byte 10) text) refl
     begun : (parts : List (List ℕ)) → slice_split (is_byte 10) text ≡ parts → (first : List ℕ) × (more : List (List ℕ)) × (slice_split (is_byte 10) text ≡ first ∷ more)
     begun [] e = absurd (omega (arith, ap length e, length-slice_split (is_byte 10) text))
     begun (p ∷ ps) e = (p, ps, e)
+
+-- what a look at the first line told
+pub some_told : (text : List ℕ) (given : Option (Kind × Option (Bor (List ℕ)))) (found : Kind × Option (Bor (List ℕ))) → given ≡ Some found → TellsInstruction text (Ok given)
+    → BeginsWithInstruction text found.0 (option_copied found.1)
+some_told text given found e h = subst (λ x. TellsInstruction text (Ok x)) e h

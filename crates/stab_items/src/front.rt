@@ -1,24 +1,31 @@
-ghost use Rattle.std.specs.Prelude.{◌≡◌, ◌<◌, ℕ, List, false, length, MatchOption};
+ghost use Rattle.std.specs.Prelude.{◌≡◌, ◌<◌, ℕ, List, false, length, IfOk, MatchOption};
 ghost use Rattle.std.specs.Option.{option_copied};
 ghost use Rattle.stab_items.specs.Circuits.{meaning_after as meaning_after_of};
 ghost use Rattle.stab_items.specs.inner.KnownLines.{IsCut};
-ghost use Rattle.stab_lines.specs.FirstLines.{BeginsWithDetector};
+ghost use Rattle.stab_lines.specs.FirstLines.{TellsInstruction};
 
 use stab_io::Refusal;
-use stab_lines::{DetectorTargets, Line, detector_in_front, is_close};
+use stab_lines::{Kind, Line, detector_in_front, instruction_in_front, is_close};
+use std::alloc::Global;
 
-/// The detector that the first line means, where a look at its bytes is enough to tell, and the lines
+/// The instruction that the first line means, where a look at its bytes is enough to tell, and the lines
 /// behind it. Where one item alone is read, a line behind it means no more.
-pub(crate) fn first_detector(single: bool, text: &[u8]) -> Option<(DetectorTargets, Option<&[u8]>)>
-    ensures value { MatchOption result (Unit {0}) (λ p. BeginsWithDetector text.now p.0 (option_copied p.1)) }
-    ensures shorter { MatchOption result (Unit {0}) (λ p. MatchOption (option_copied p.1) (Unit {0}) (λ after. length after < length text.now)) }
-    ensures several { MatchOption result (Unit {0}) (λ _. single ≡ false) }
+pub(crate) fn first_instruction(
+    alloc: Global,
+    single: bool,
+    text: &[u8],
+) -> Result<Option<(Kind, Option<&[u8]>)>, Refusal>
+    ensures tells { TellsInstruction text.now result }
+    ensures shorter { IfOk result (λ found. MatchOption found (Unit {0}) (λ p. MatchOption (option_copied p.1) (Unit {0}) (λ after. length after < length text.now))) }
+    ensures several { IfOk result (λ found. MatchOption found (Unit {0}) (λ _. single ≡ false)) }
 {
     if single {
-        None
-    } else {
-        detector_in_front(text)
+        return Ok(None);
     }
+    if let Some((targets, after)) = detector_in_front(text) {
+        return Ok(Some((Kind::Detector(targets), after)));
+    }
+    instruction_in_front(alloc, text)
 }
 
 /// What a content means after a whole item.

@@ -5,7 +5,7 @@ ghost use Rattle.stab_items.specs.inner.Readers.{ReadsItems, reading, line_fault
 ghost use Rattle.stab_items.specs.inner.Chunks.{flattened};
 
 use crate::chunk::{Chunk, are_empty};
-use crate::front::{before_lines, first_detector, meaning_after};
+use crate::front::{before_lines, first_instruction, meaning_after};
 use crate::item::Item;
 use crate::known_lines::KnownLines;
 use crate::summary::{Summary, kind_summary};
@@ -137,9 +137,9 @@ impl CircuitReader {
         ensures shorter { IfOk result (λ after. MatchOption (option_copied after) (Unit {0}) (λ rest. length rest < length text.entry.now)) }
         ensures full { OnOk result (self.new.full.items ≡ self.old.full.items) }
     {
-        if let Some((targets, after)) = first_detector(single, text) {
+        if let Some((kind, after)) = first_instruction(self.alloc, single, text)? {
             let bytes = before_lines(text, after);
-            self.take_plain(Kind::Detector(targets), bytes, known)?;
+            self.take_plain(kind, bytes, known)?;
             return Ok(after);
         }
         let (bytes, after) = first_piece(text, b'\n');

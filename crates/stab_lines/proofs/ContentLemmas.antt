@@ -118,7 +118,7 @@ spaced_free : {X : Type 0} (text : X → List ℕ) (xs : List X) (p : ℕ → Bo
 spaced_free text [] p c f = tt
 spaced_free text (x ∷ xs) p c f = (c.space, free-append p (text x) (spaced text xs) (f.0 p c) (spaced_free text xs p c f.1))
 
-spaced_targets : {X : Type 0} (text : X → List ℕ) (xs : List X) → AreWords text xs → AreClear text xs → AreTargets (spaced text xs)
+pub spaced_targets : {X : Type 0} (text : X → List ℕ) (xs : List X) → AreWords text xs → AreClear text xs → AreTargets (spaced text xs)
 spaced_targets text xs w f = record { apart = spaced_apart text xs; ends = spaced_ends text xs w; free = λ p c. spaced_free text xs p c f }
 
 no_targets : AreTargets []

@@ -40,7 +40,7 @@ no_record (d ∷ ds) h = ap (λ b. b && starts_with nat_eq ds (codes "ec[-") && 
     other : (x : ℕ) → is_digit x ≡ true → nat_eq 114 x ≡ false
     other x e = grind (arith, nat_tests)
 
-control_qubit : (word : List ℕ) (q : ℕ) → qubit_of word ≡ Ok q → control_of word ≡ Ok (control.Qubit q)
+pub control_qubit : (word : List ℕ) (q : ℕ) → qubit_of word ≡ Ok q → control_of word ≡ Ok (control.Qubit q)
 unfolding control_of
 control_qubit word q h =
     passed (is_lookback word) _ _ (no_record word (and_right (is_some_word word) _ (qubit_is_number word q h)))
@@ -55,7 +55,7 @@ pair_more p (Err r) t e = refl
 pub second_begins : (x : ℕ) (bs rest : List ℕ) (y : ℕ) (p : ControlledPair) → BeginsWithTarget qubit_of bs y rest → Ok p ≡ pair_of (control.Qubit x) y → BeginsWithTarget (second_of x) bs p rest
 second_begins x bs rest y p g e = (g.0, g.1, ap (λ r. r >>= pair_of (control.Qubit x)) g.2 ∙ sym e)
 
-second_is : (x : ℕ) (word : List ℕ) (given : Result (List ControlTarget) Refusal) (p : ControlledPair) (q : Result ℕ Refusal) → (q >>= pair_of (control.Qubit x)) ≡ Ok p
+pub second_is : (x : ℕ) (word : List ℕ) (given : Result (List ControlTarget) Refusal) (p : ControlledPair) (q : Result ℕ Refusal) → (q >>= pair_of (control.Qubit x)) ≡ Ok p
     → ((q >>= λ y. given >>= λ more. Ok (record { control = control.Qubit x; qubit = y } ∷ more)) >>= each paired) ≡ begun_with p (given >>= each paired)
 second_is x word given p (Ok y) e = pair_more p given (record { control = control.Qubit x; qubit = y }) e
 second_is x word given p (Err r) e = cc

@@ -30,7 +30,7 @@ all_cut p x xs true e h =
     ap (λ n. list_all p (take n (x ∷ xs))) one ∙ both (p x) (list_all p (take (prefix_len p xs) xs)) e h
 all_cut p x xs false e h = refl
 
-all_front : (p : ℕ → Bool) (xs : List ℕ) → list_all p (take (prefix_len p xs) xs) ≡ true
+pub all_front : (p : ℕ → Bool) (xs : List ℕ) → list_all p (take (prefix_len p xs) xs) ≡ true
 all_front p [] = refl
 all_front p (x ∷ xs) = all_cut p x xs (p x) refl (all_front p xs)
 

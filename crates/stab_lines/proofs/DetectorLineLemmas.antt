@@ -36,7 +36,7 @@ listed_more bs n k within lt h =
     ∙ ap (λ b. b && are_listed (is_coordinate_byte (get_or bs n 0)) (take k (drop (suc n) bs))) h
     ∙ ap (λ m. are_listed (is_coordinate_byte (get_or bs n 0)) (take k (drop m bs))) one
 
-take_none : (xs : List ℕ) → take 0 xs ≡ []
+pub take_none : (xs : List ℕ) → take 0 xs ≡ []
 take_none [] = refl
 take_none (x ∷ xs) = refl
 
@@ -244,7 +244,7 @@ line_means inside ks records d h r e =
     ap meaning_of (content_again 0 (detector_line inside records) (line_neat inside ks records h r))
     ∙ few_tell (detector_line inside records) inside records d cut (listed_coordinates inside h) (ap (λ x. x.0) e) (r.read ∙ ap (λ x. Ok (x.1)) (sym e)) clear
 
-line_split : (first rest : List ℕ) (after : Option (List ℕ)) → Free (is_byte 10) first → EndsLine rest after → slice_split (is_byte 10) (first ++ rest) ≡ first ∷ pieces_after 10 after
+pub line_split : (first rest : List ℕ) (after : Option (List ℕ)) → Free (is_byte 10) first → EndsLine rest after → slice_split (is_byte 10) (first ++ rest) ≡ first ∷ pieces_after 10 after
 line_split first rest None f e = ap (λ l. slice_split (is_byte 10) (first ++ l)) e ∙ ap (slice_split (is_byte 10)) (append-nil first) ∙ split_last (is_byte 10) first f
 line_split first rest (Some after) f e = ap (λ l. slice_split (is_byte 10) (first ++ l)) e ∙ split_free (is_byte 10) first 10 after f refl
 

@@ -25,7 +25,7 @@ within_is : (n m : ℕ) → n ≤ m → nat_le n m ≡ true
 within_is n m h = grind (arith, nat_tests)
 
 -- a number below 1,024 is a qubit
-number_qubit : (word : List ℕ) (n : ℕ) → is_number word ≡ true → value word ≡ n → n < most_qubits → qubit_of word ≡ Ok n
+pub number_qubit : (word : List ℕ) (n : ℕ) → is_number word ≡ true → value word ≡ n → n < most_qubits → qubit_of word ≡ Ok n
 unfolding qubit_of
 number_qubit word n number same small =
     passed (not (is_number word)) _ _ (ap not number)
@@ -51,7 +51,7 @@ pub qubit_is_number : (word : List ℕ) (n : ℕ) → qubit_of word ≡ Ok n →
 unfolding qubit_of
 qubit_is_number word n h = qubit_number word n (is_number word) refl h
 
-qubit_measured : (word : List ℕ) (n : ℕ) → qubit_of word ≡ Ok n → measure_target_of word ≡ Ok (record { qubit = n; inverted = false })
+pub qubit_measured : (word : List ℕ) (n : ℕ) → qubit_of word ≡ Ok n → measure_target_of word ≡ Ok (record { qubit = n; inverted = false })
 unfolding measure_target_of
 qubit_measured word n h =
     passed (starts_with_byte word 33) _ _ (number_unmarked word (qubit_is_number word n h))

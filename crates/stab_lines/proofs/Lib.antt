@@ -26,6 +26,8 @@ mod PrintedLemmas
 mod MeaningLemmas
 mod DetectorContentLemmas
 mod DetectorLineLemmas
+mod SpacedTargetLemmas
+mod PlainLineLemmas
 mod EmptyLemmas
 mod RefusalLemmas
 pub mod LineLaws

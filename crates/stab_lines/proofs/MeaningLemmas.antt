@@ -164,12 +164,12 @@ letter_means c rest e = passed (length (c ∷ rest) == 0) _ _ (some_bytes c rest
         never true = refl
         never false = refl
 
-headed_means : (name tag rest : List ℕ) → IsName name → meaning_of (head_text name tag ++ rest) ≡ (shape_of (head_text name tag ++ rest) >>= shape_meaning)
+pub headed_means : (name tag rest : List ℕ) → IsName name → meaning_of (head_text name tag ++ rest) ≡ (shape_of (head_text name tag ++ rest) >>= shape_meaning)
 headed_means name tag rest n =
     let front : head_text name tag ++ rest ≡ n.first ∷ ((n.rest ++ tag_text tag) ++ rest) = ap (λ l. (l ++ tag_text tag) ++ rest) n.front in
     ap meaning_of front ∙ letter_means n.first ((n.rest ++ tag_text tag) ++ rest) n.letter ∙ ap (λ l. shape_of l >>= shape_meaning) (sym front)
 
-no_braces : IsClear is_brace
+pub no_braces : IsClear is_brace
 no_braces = record { digits = digit_no; marks = (refl, (refl, (refl, (refl, (refl, (refl, (refl, (refl, (refl, (refl, (refl, tt))))))))))); space = refl }
   where
     digit_no : (b : ℕ) → is_digit b ≡ true → is_brace b ≡ false

@@ -31,7 +31,7 @@ number_place bs n within digits end =
     at : (k : ℕ) → k < n → is_digit (get_or bs k 0) ≡ true
     at k lt = ap is_digit (sym (get_or-take n bs k 0 lt)) ∙ passes_at is_digit (take n bs) k (is_digit (get_or (take n bs) k 0)) (omega (arith, length-take n bs, within, lt)) refl digits
 
-some_taken : (bs : List ℕ) (n : ℕ) → 0 < n → n ≤ length bs → is_some_word (take n bs) ≡ true
+pub some_taken : (bs : List ℕ) (n : ℕ) → 0 < n → n ≤ length bs → is_some_word (take n bs) ≡ true
 some_taken [] n h within = absurd (omega (arith, h, within))
 some_taken (b ∷ bs) n h within = let one = length-take n (b ∷ bs) in grind (arith, nat_tests)
 

@@ -15,10 +15,10 @@ use Rattle.stab_lines.proofs.ShapeLemmas.{IsName, free_further}
 use Rattle.stab_lines.proofs.ContentLemmas.{IsClear, EndsWell, ends_well, well_well, kind_is, repeat_is, kind_targets, kind_coordinates}
 
 -- a test that fails on all bytes that are printed, but perhaps on those of tags
-record IsOuter (p : ℕ → Bool) : Type 0 where
+pub record IsOuter (p : ℕ → Bool) : Type 0 where
   names : (b : ℕ) → is_name_byte b ≡ true → p b ≡ false
   coordinates : (b : ℕ) → is_coordinate_byte b ≡ true → p b ≡ false
-  targets : IsClear p
+  pub targets : IsClear p
   open_tag : p 91 ≡ false
   close_tag : p 93 ≡ false
   open_arguments : p 40 ≡ false
@@ -52,10 +52,10 @@ outer m small marks space = record {
     digit_no : (b : ℕ) → is_digit b ≡ true → (b == m) ≡ false
     digit_no b e = grind (arith, nat_tests)
 
-line_ends_outer : IsOuter (is_byte 10)
+pub line_ends_outer : IsOuter (is_byte 10)
 line_ends_outer = outer 10 (omega arith) (refl, (refl, (refl, (refl, (refl, (refl, (refl, (refl, (refl, (refl, (refl, tt))))))))))) refl
 
-comments_outer : IsOuter (is_byte 35)
+pub comments_outer : IsOuter (is_byte 35)
 comments_outer = outer 35 (omega arith) (refl, (refl, (refl, (refl, (refl, (refl, (refl, (refl, (refl, (refl, (refl, tt))))))))))) refl
 
 tag_free : (p : ℕ → Bool) → IsOuter p → (tag : List ℕ) → Free p tag → Free p (tag_text tag)
@@ -70,7 +70,7 @@ arguments_free p o (a ∷ more) c = (
       (free-append p (further more) (codes ")") (free_further p o.coordinates o.comma o.targets.space more c.1) (o.close_arguments, tt)),
 )
 
-head_free : (p : ℕ → Bool) → IsOuter p → (name tag : List ℕ) → IsName name → Free p tag → Free p (head_text name tag)
+pub head_free : (p : ℕ → Bool) → IsOuter p → (name tag : List ℕ) → IsName name → Free p tag → Free p (head_text name tag)
 head_free p o name tag n f = free-append p name (tag_text tag) (each_weaker (λ b. is_name_byte b ≡ true) (λ b. p b ≡ false) name o.names n.bytes) (tag_free p o tag f)
 
 operation_free : (p : ℕ → Bool) → IsOuter p → (op : Operation) → IsGoodKind op.kind → Free p op.tag → Free p (operation_text op)
@@ -102,10 +102,10 @@ arguments_ends : (arguments : List (List ℕ)) → EndsWell (arguments_text argu
 arguments_ends [] = inl refl
 arguments_ends (a ∷ more) = inr (ends-append (40 ∷ a) (further more ++ codes ")") (ends_one (further more) 41 refl))
 
-head_ends : (name tag : List ℕ) → IsName name → Ends (head_text name tag)
+pub head_ends : (name tag : List ℕ) → IsName name → Ends (head_text name tag)
 head_ends name tag n = ends_well name (tag_text tag) (name_solid name n).ends (tag_ends tag)
 
-headed_solid : (name tag rest : List ℕ) → IsName name → Ends (head_text name tag ++ rest) → IsSolid (head_text name tag ++ rest)
+pub headed_solid : (name tag rest : List ℕ) → IsName name → Ends (head_text name tag ++ rest) → IsSolid (head_text name tag ++ rest)
 headed_solid name tag rest n e =
     record { first = n.first; rest = (n.rest ++ tag_text tag) ++ rest; front = ap (λ l. (l ++ tag_text tag) ++ rest) n.front; solid = no_spacing n.first n.letter; ends = e }
   where

@@ -79,7 +79,7 @@ fn few_records(bytes: &[u8]) -> (usize, [u32; FEW], &[u8])
 }
 
 /// The lines behind the end of a line, if there are any, where it ends here.
-fn behind_line_end(bytes: &[u8]) -> Option<Option<&[u8]>>
+pub fn behind_line_end(bytes: &[u8]) -> Option<Option<&[u8]>>
     ensures value { MatchOption result (Unit {0}) (λ after. EndsLine bytes.now (option_copied after)) }
 {
     match bytes.first() {

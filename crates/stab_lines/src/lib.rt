@@ -16,6 +16,8 @@
 //! - `name`, `target`, `argument`, `coordinates`: the parts of an instruction.
 //! - `located`: targets behind coordinates; `detector`: the records of a detector behind them;
 //!   `detector_content`, `detector_line`: the usual content of one and its usual line, read at once.
+//! - `spaced_target`, `plain_line`: targets that are numbers alone, and the line of an instruction on
+//!   such targets, read at once.
 //! - `factor`, `control`: the targets that are products, and those of controlled gates.
 //! - `meanings`: what a line means, or why it is refused.
 //! - `print`: the one text of an instruction, and of the opening of a block.
@@ -43,10 +45,12 @@ mod located;
 mod meanings;
 mod name;
 mod operation;
+mod plain_line;
 mod print;
 mod product;
 mod range;
 mod sequence;
+mod spaced_target;
 mod table;
 mod target;
 mod word;
@@ -61,6 +65,7 @@ pub use line::{content, ends_with, is_spacing, starts_with, without_spacing_in_f
 pub use located::Located;
 pub use meanings::{Line, is_close, meaning};
 pub use operation::{Kind, Measurement, Operation};
+pub use plain_line::instruction_in_front;
 pub use print::{write_opening, write_operation};
 pub use product::{Factor, Product};
 pub use range::{Count, Lookback, Lookbacks, MeasureTarget, ObservableNumber, Pair, Qubit};

@@ -35,7 +35,8 @@ fn is_name_byte(byte: u8) -> bool
     is_letter(byte) || is_digit(byte) || byte == b'_'
 }
 
-fn name_len(bytes: &[u8]) -> usize
+/// How many bytes in front may stand in a name.
+pub fn name_len(bytes: &[u8]) -> usize
     ensures value { result ≡ prefix_len name_byte bytes.now }
     ensures within { result ≤ length bytes.now }
 {
@@ -266,7 +267,8 @@ impl<'a> Shape<'a> {
     }
 }
 
-fn starts_with_letter(bytes: &[u8]) -> bool
+/// Whether a letter stands first.
+pub fn starts_with_letter(bytes: &[u8]) -> bool
     ensures value { result ≡ list_any letter (take 1 bytes.now) }
 {
     match bytes.first() {

@@ -15,7 +15,7 @@ use stab_io::Refusal;
 use std::alloc::Global;
 
 /// The greatest number of qubits.
-const MOST_QUBITS: u64 = 1024;
+pub const MOST_QUBITS: u64 = 1024;
 
 /// The greatest k of `rec[-k]`.
 pub const MOST_LOOKBACK: u64 = 16_777_215;

@@ -1,20 +1,27 @@
-use Rattle.std.proofs.Common.{subst, sym, ap, ◌∙◌}
+use Rattle.std.proofs.Common.{inl, subst, sym, ap, ◌∙◌}
 use Rattle.std.specs.Option.{option_copied}
+use Rattle.std.proofs.lemmas.Result.{err_from_is_err_and}
 use Rattle.stab_lines.specs.Lines.{content_of}
 use Rattle.stab_lines.specs.Meanings.{meaning_of}
 use Rattle.stab_items.specs.inner.KnownLines.{IsOneLine}
-use Rattle.stab_items.proofs.FrontLemmas.{one_line_first, split_cut}
+use Rattle.stab_items.proofs.FrontLemmas.{one_line_first, split_cut, some_first, some_told}
 use Rattle.stab_items.proofs.reader.CircuitReader.take_new.Goals as goal
 
 pub take_plain-requires-clause-whole : goal.take_plain-requires-clause-whole
 take_plain-requires-clause-whole c =
-    let d = c.in-Some.ensures.value in
+    let d = some_told c.args.text.now c.in_ok-kind.field-0 (c.in-Some.kind, c.in-Some.after) c.in-Some.is c.in_ok-kind.ensures.tells in
     subst IsOneLine (sym (c.before_lines-bytes.ensures.value d.0 (split_cut c.args.text.now d.0 (option_copied c.in-Some.after) d.1))) (one_line_first c.args.text.now d.0 _ d.1)
 
 pub take_plain-requires-clause-means : goal.take_plain-requires-clause-means
 take_plain-requires-clause-means c =
-    let d = c.in-Some.ensures.value in
+    let d = some_told c.args.text.now c.in_ok-kind.field-0 (c.in-Some.kind, c.in-Some.after) c.in-Some.is c.in_ok-kind.ensures.tells in
     ap (λ b. meaning_of (content_of b)) (c.before_lines-bytes.ensures.value d.0 (split_cut c.args.text.now d.0 (option_copied c.in-Some.after) d.1)) ∙ d.2
+
+pub returns-in_err-kind-clause-gives : goal.returns-in_err-kind-clause-gives
+returns-in_err-kind-clause-gives c =
+    let p = err_from_is_err_and c.from_residual.result c.from_residual.ensures.1 in
+    let f = some_first c.args.text.now in
+    rw (p.1, p.2) (f.0, f.1, f.2, tt, inl c.in_err-kind.ensures.tells)
 
 pub take_content-requires-clause-whole : goal.take_content-requires-clause-whole
 take_content-requires-clause-whole c = one_line_first c.args.text.now _ _ c.first_piece.ensures.value

@@ -1,0 +1,8 @@
+use Rattle.std.proofs.Common.{[], ◌∷◌}
+use Rattle.stab_lines.proofs.SpacedTargetLemmas.{target_more}
+use Rattle.stab_lines.proofs.spaced_target.targets_in_front.Goals as goal
+
+pub loop-target-preserved : goal.loop-target-preserved
+loop-target-preserved g c =
+    target_more g.T.SpacedTarget.meaning c.args.bytes.now c.loop-target.rest.now c.in-Some.after.now c.loop-target.found (c.in-Some.target ∷ []) c.push.new.self
+    c.loop-target.invariant c.in-Some.ensures.value c.in_ok-push.ensures.ok
