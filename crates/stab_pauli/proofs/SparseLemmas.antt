@@ -1,6 +1,6 @@
 -- Words of which most are 0: what a word behind them makes, how they are written over words 0, and how they are compared.
-use Rattle.std.proofs.Common.{◌≡◌, ℕ, zero, suc, ◌+◌, ◌-◌, ◌<◌, ◌≤◌, refl, sym, ◌∙◌, ap, arith, append_assoc, length-append, length-drop, List, [], ◌∷◌, ◌++◌, length, get_or, set, take, drop, replicate, ◌↔◌}
-use Rattle.std.proofs.lemmas.List.{length-replicate, replicate-append-replicate, set-append_right, set_at, drop_more, length-set, get_or_at, take_at, drop_at, drop_all, take_all, drop-drop, take-append-drop}
+use Rattle.std.proofs.Common.{◌≡◌, ℕ, zero, suc, ◌+◌, ◌<◌, ◌≤◌, refl, sym, ◌∙◌, ap, arith, append_assoc, length-append, List, [], ◌∷◌, ◌++◌, length, get_or, set, drop, replicate}
+use Rattle.std.proofs.lemmas.List.{length-replicate, replicate-append-replicate, set-append_right, set_at, drop_more, length-set, drop_all}
 use Rattle.stab_pauli.specs.inner.Words.{AreShort}
 use Rattle.stab_pauli.specs.declared.packed.sparse.SparseWords.{SparseWords}
 use Rattle.stab_pauli.specs.inner.Sparse.{spread}
@@ -103,84 +103,6 @@ pub writing-end : (gs ks : List ℕ) (b k at : ℕ) (initial words : List ℕ) �
     → length initial ≡ length (spread gs ks b) → IsWriting gs ks b k at initial words → words ≡ spread gs ks b
 writing-end gs ks b k at initial words e le zeros size is =
     sym (λ i. written (drop_all k gs (omega (arith, e, le)) i) (drop k ks) at words) ∙ is.writes ∙ written-all gs ks initial b e zeros size
-
--- compared with words, so many are the same, up to a place
-pub record IsMatching (gs ks : List ℕ) (b : ℕ) (k at : ℕ) (words : List ℕ) : Type 0 where
-  pub told : (spread gs ks b ≡ words) ↔ (spread (drop k gs) (drop k ks) b ≡ drop at words)
-  pub room : at + length (spread (drop k gs) (drop k ks) b) ≡ length words
-
-pub matching-none : (gs ks words : List ℕ) (b : ℕ) → length words ≡ length (spread gs ks b) → IsMatching gs ks b 0 0 words
-matching-none gs ks words b size = record { told = ((λ e. e), (λ e. e)); room = omega (arith, size) }
-
--- words that begin with so many words 0 and go on with another
-split-told : (g w : ℕ) (rest xs : List ℕ) → length xs ≡ g + 1 + length rest → take g xs ≡ replicate g 0 → get_or xs g w ≡ w
-    → xs ≡ replicate g 0 ++ w ∷ drop (g + 1) xs
-split-told g w rest xs l front here =
-    sym (take-append-drop g xs) ∙ (λ i. front i ++ (drop_more xs g w (omega (arith, l)) ∙ ap (λ y. y ∷ drop (g + 1) xs) here) i)
-
-pub matching-on : (gs ks : List ℕ) (b k at g w : ℕ) (words : List ℕ) → length gs ≡ length ks → k < length ks → g ≡ get_or gs k g → w ≡ get_or ks k w
-    → take g (drop at words) ≡ replicate g 0 → get_or (drop at words) g w ≡ w → IsMatching gs ks b k at words → IsMatching gs ks b (k + 1) (at + g + 1) words
-matching-on gs ks b k at g w words e lt eg ew front here is = record {
-  told = (
-    (λ h. same (sym from ∙ is.told.0 h ∙ split)),
-    (λ h. is.told.1 (from ∙ ap (λ t. replicate g 0 ++ w ∷ t) (h ∙ behind) ∙ sym split)),
-  );
-  room = room-from gs ks b k at g w (length words) e lt eg ew is.room;
-}
-  where
-    rest : List ℕ
-    rest = spread (drop (k + 1) gs) (drop (k + 1) ks) b
-
-    from : spread (drop k gs) (drop k ks) b ≡ replicate g 0 ++ w ∷ rest
-    from = spread-from gs ks b k g w e lt eg ew
-
-    long : length (drop at words) ≡ g + 1 + length rest
-    long =
-        let r = room-from gs ks b k at g w (length words) e lt eg ew is.room in
-        omega (arith, r, length-drop at words)
-
-    split : drop at words ≡ replicate g 0 ++ w ∷ drop (g + 1) (drop at words)
-    split = split-told g w rest (drop at words) long front here
-
-    behind : drop (at + g + 1) words ≡ drop (g + 1) (drop at words)
-    behind = sym (drop-drop (g + 1) at words ∙ ap (λ n. drop n words) (omega arith))
-
-    same : replicate g 0 ++ w ∷ rest ≡ replicate g 0 ++ w ∷ drop (g + 1) (drop at words) → rest ≡ drop (at + g + 1) words
-    same h = ap (λ t. drop 1 t) (sym (drop_at (replicate g 0) (w ∷ rest) g (length-replicate g 0)) ∙ ap (drop g) h ∙ drop_at (replicate g 0) (w ∷ drop (g + 1) (drop at words)) g (length-replicate g 0)) ∙ sym behind
-
--- all from a place on
-pub all-behind : (at : ℕ) (words : List ℕ) → take (length words - at) (drop at words) ≡ drop at words
-all-behind at words = take_all (length words - at) (drop at words) (omega (arith, length-drop at words))
-
--- a difference
-pub matching-not : (gs ks : List ℕ) (b k at g w : ℕ) (words : List ℕ) → length gs ≡ length ks → k < length ks → g ≡ get_or gs k g → w ≡ get_or ks k w
-    → IsMatching gs ks b k at words → spread gs ks b ≡ words → (take g (drop at words) ≡ replicate g 0) × (get_or (drop at words) g w ≡ w)
-matching-not gs ks b k at g w words e lt eg ew is h = (
-  ap (take g) whole ∙ take_at (replicate g 0) (w ∷ rest) g (length-replicate g 0),
-  ap (λ t. get_or t g w) whole ∙ get_or_at (replicate g 0) w rest w g (length-replicate g 0),
-)
-  where
-    rest : List ℕ
-    rest = spread (drop (k + 1) gs) (drop (k + 1) ks) b
-
-    whole : drop at words ≡ replicate g 0 ++ w ∷ rest
-    whole = sym (is.told.0 h) ∙ spread-from gs ks b k g w e lt eg ew
-
--- what is kept behind the last
-pub matching-end : (gs ks : List ℕ) (b k at : ℕ) (words : List ℕ) → length gs ≡ length ks → length ks ≤ k → IsMatching gs ks b k at words
-    → (spread gs ks b ≡ words) ↔ (drop at words ≡ replicate (length (drop at words)) 0)
-matching-end gs ks b k at words e le is = (
-  (λ h. sym (is.told.0 h) ∙ none ∙ ap (λ n. replicate n 0) (sym number)),
-  (λ h. is.told.1 (none ∙ ap (λ n. replicate n 0) (sym number) ∙ sym h)),
-)
-  where
-    none : spread (drop k gs) (drop k ks) b ≡ replicate b 0
-    none = ap (λ t. spread t (drop k ks) b) (drop_all k gs (omega (arith, e, le)))
-
-    number : length (drop at words) ≡ b
-    number =
-        let l : length (spread (drop k gs) (drop k ks) b) ≡ b = ap length none ∙ length-replicate b 0 in
-        omega (arith, l, is.room, length-drop at words)
 
 -- words of so many bits stay such
 short-blank : (n : ℕ) → AreShort 64 (replicate n 0)

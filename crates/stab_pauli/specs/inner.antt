@@ -2,3 +2,4 @@ pub mod Words
 pub mod Powers
 pub mod Blocks
 pub mod Sparse
+pub mod Placed

@@ -1,6 +1,6 @@
 -- Words of which most are 0.
 -- Source: this project's own.
-use Rattle.std.specs.Prelude.{ℕ, ◌≡◌, List, [], ◌∷◌, ◌++◌, length, replicate}
+use Rattle.std.specs.Prelude.{ℕ, ◌≡◌, ◌+◌, ◌^◌, ◌<◌, ◌≤◌, List, [], ◌∷◌, ◌++◌, length, drop, replicate}
 use Rattle.stab_letters.specs.declared.phase.Phase.{Phase}
 use Rattle.stab_pauli.specs.inner.Blocks.{IsTable}
 
@@ -10,13 +10,23 @@ spread [] kept behind = replicate behind 0
 spread (gap ∷ gaps) [] behind = replicate behind 0
 spread (gap ∷ gaps) (word ∷ kept) behind = replicate gap 0 ++ word ∷ spread gaps kept behind
 
+-- words from the first of those that are kept on, without the gap before it: none, where none is kept
+abbrev pub spread_next : List ℕ → List ℕ → ℕ → List ℕ
+spread_next gaps [] behind = []
+spread_next gaps (word ∷ kept) behind = word ∷ spread gaps kept behind
+
+-- the words from a place on: so many that are 0, and then those from the next on that is kept, if any is
+abbrev pub words_from : (gaps kept : List ℕ) (behind next gap : ℕ) → List ℕ
+words_from gaps kept behind next gap = replicate gap 0 ++ spread_next (drop (next + 1) gaps) (drop next kept) behind
+
 -- what is kept of words: as many gaps as words, from which they can be told
 pub record IsSparse (gaps kept : List ℕ) (behind : ℕ) (words : List ℕ) : Type 0 where
   pub even : length gaps ≡ length kept
   pub words_are : spread gaps kept behind ≡ words
 
--- what is kept of so many words, with powers of i, that lie as rows of m blocks, for n letters each
-pub record IsCompact (n m : ℕ) (gaps kept : List ℕ) (behind size : ℕ) (powers : List Phase) : Type 0 where
+-- what is kept of words, with powers of i, that lie as rows of m blocks, for n letters each
+pub record IsCompact (n m : ℕ) (gaps kept : List ℕ) (behind : ℕ) (powers : List Phase) : Type 0 where
   pub even : length gaps ≡ length kept
-  pub size_is : size ≡ length (spread gaps kept behind)
+  pub few : length powers ≤ 2 ^ 32
+  pub fits : length (spread gaps kept behind) < 2 ^ 64
   pub lies : IsTable n m (spread gaps kept behind) powers

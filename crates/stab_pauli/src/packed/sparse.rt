@@ -1,8 +1,8 @@
 //! Words of which most are 0.
 
-ghost use Rattle.std.specs.Prelude.{◌≡◌, ◌+◌, ◌++◌, [], ◌∷◌, ◌*◌, ◌↔◌, IsTrue, IfOk, OnOk, length, take, replicate, slice_index_or, ◌<◌, ◌≤◌, ◌^◌};
+ghost use Rattle.std.specs.Prelude.{◌≡◌, ◌+◌, ◌++◌, [], ◌∷◌, ◌*◌, ◌↔◌, IsTrue, IfOk, OnOk, length, take, drop, replicate, slice_index_or, ◌<◌, ◌≤◌, ◌^◌};
 ghost use Rattle.stab_pauli.specs.inner.Words.{AreShort};
-ghost use Rattle.stab_pauli.specs.inner.Sparse.{spread, IsSparse};
+ghost use Rattle.stab_pauli.specs.inner.Sparse.{spread, words_from, IsSparse};
 
 use std::alloc::{AllocError, Global};
 
@@ -16,6 +16,15 @@ pub(crate) struct SparseWords {
     pub(crate) behind: usize,
 }
 
+/// A place among such words.
+#[derive(Clone, Copy)]
+pub(crate) struct SparsePlace {
+    /// How many of the words that are kept are passed.
+    next: usize,
+    /// How many words 0 stand before the next of these, or, behind the last, how many are left.
+    gap: usize,
+}
+
 /// A law, and no work: words have 64 bits.
 pub(crate) fn are_short(words: &[u64])
     ensures law { AreShort 64 words.now }
@@ -23,31 +32,11 @@ pub(crate) fn are_short(words: &[u64])
     let _ = words;
 }
 
-/// Whether all of these words are 0.
-fn are_zeros(words: &[u64]) -> bool
-    ensures value { IsTrue result ↔ (words.now ≡ replicate (length words.now) 0) }
-{
-    for word in words {
-        if *word != 0 {
-            return false;
-        }
-    }
-    true
-}
-
-/// Whether these words are so many words 0, then this one, and then others.
-fn begin_with(words: &[u64], gap: usize, word: u64) -> bool
-    requires in_range { gap < length words.now }
-    ensures value { IsTrue result ↔ (take gap words.now ≡ replicate gap 0) × (slice_index_or words.now gap word ≡ word) }
-{
-    words[gap] == word && are_zeros(&words[..gap])
-}
-
 /// Whether all eight words of a block are 0, as most are: one question.
 #[inline(always)]
 pub(crate) fn is_blank(block: &[u64]) -> bool
     requires size { length block.now ≡ 8 }
-    ensures value { IsTrue result → block.now ≡ replicate 8 0 }
+    ensures value { IsTrue result ↔ (block.now ≡ replicate 8 0) }
 {
     let x = (block[0] | block[1]) | (block[2] | block[3]);
     let z = (block[4] | block[5]) | (block[6] | block[7]);
@@ -56,7 +45,7 @@ pub(crate) fn is_blank(block: &[u64]) -> bool
 
 impl SparseWords {
     /// No words, with room for so many that are kept.
-    fn with_room(alloc: Global, size: usize) -> Result<SparseWords, AllocError>
+    pub(crate) fn with_room(alloc: Global, size: usize) -> Result<SparseWords, AllocError>
         ensures value { IfOk result (λ s. IsSparse s.gaps.items s.kept.items s.behind []) }
     {
         Ok(SparseWords {
@@ -152,20 +141,28 @@ impl SparseWords {
         self.push_words(block)
     }
 
-    /// What these words are, of which there are eight times so many.
-    pub(crate) fn of(alloc: Global, words: &[u64], blocks: usize) -> Result<SparseWords, AllocError>
-        requires all { length words.now ≡ 8 * blocks }
-        ensures value { IfOk result (λ s. IsSparse s.gaps.items s.kept.items s.behind words.now) }
+    /// Puts the words of a row behind these, eight for each of so many blocks.
+    pub(crate) fn push_row(&mut self, row: &[u64], blocks: usize) -> Result<(), AllocError>
+        requires even { length self.old.gaps.items ≡ length self.old.kept.items }
+        requires size { length row.now ≡ 8 * blocks }
+        requires fits { length (spread self.old.gaps.items self.old.kept.items self.old.behind) + 8 * blocks < 2 ^ 64 }
+        ensures value { OnOk result (IsSparse self.new.gaps.items self.new.kept.items self.new.behind (spread self.old.gaps.items self.old.kept.items self.old.behind ++ row.now)) }
     {
-        // Room for two words of each block, about as many as a code's states keep. What is not used is given back untouched.
-        let mut sparse = SparseWords::with_room(alloc, 2 * blocks)?;
         for block in 0..blocks {
             let at = 8 * block;
-            sparse.push_block(&words[at..at + 8])?;
+            self.push_block(&row[at..at + 8])?;
         }
-        sparse.gaps.shrink_to_fit();
-        sparse.kept.shrink_to_fit();
-        Ok(sparse)
+        Ok(())
+    }
+
+    /// Gives back what room is not used, untouched.
+    pub(crate) fn shrink(&mut self)
+        ensures gaps { self.new.gaps.items ≡ self.old.gaps.items }
+        ensures kept { self.new.kept.items ≡ self.old.kept.items }
+        ensures behind { self.new.behind ≡ self.old.behind }
+    {
+        self.gaps.shrink_to_fit();
+        self.kept.shrink_to_fit();
     }
 
     /// Writes the words over as many words 0.
@@ -194,20 +191,97 @@ impl SparseWords {
             && self.gaps.as_slice() == other.gaps.as_slice()
     }
 
-    /// Whether these are the words, of which there are as many.
-    pub(crate) fn are(&self, words: &[u64]) -> bool
+    /// How many words 0 stand behind so many of the words that are kept.
+    #[inline(always)]
+    fn gap_behind(&self, passed: usize) -> usize
         requires even { length self.now.gaps.items ≡ length self.now.kept.items }
-        requires size { length words.now ≡ length (spread self.now.gaps.items self.now.kept.items self.now.behind) }
-        ensures value { IsTrue result ↔ (spread self.now.gaps.items self.now.kept.items self.now.behind ≡ words.now) }
+        ensures value { words_from self.now.gaps.items self.now.kept.items self.now.behind passed result ≡ spread (drop passed self.now.gaps.items) (drop passed self.now.kept.items) self.now.behind }
     {
-        let mut at = 0;
-        for k in 0..self.kept.len() {
-            let gap = usize::from(self.gaps[k]);
-            if !begin_with(&words[at..], gap, self.kept[k]) {
+        if passed < self.gaps.len() {
+            return usize::from(self.gaps[passed]);
+        }
+        self.behind
+    }
+
+    /// The place before all of them.
+    #[inline(always)]
+    pub(crate) fn first_place(&self) -> SparsePlace
+        requires even { length self.now.gaps.items ≡ length self.now.kept.items }
+        ensures value { words_from self.now.gaps.items self.now.kept.items self.now.behind result.next result.gap ≡ spread self.now.gaps.items self.now.kept.items self.now.behind }
+    {
+        SparsePlace {
+            next: 0,
+            gap: self.gap_behind(0),
+        }
+    }
+
+    /// The next word, which the place then has passed.
+    #[inline(always)]
+    fn take_word(&self, place: &mut SparsePlace) -> u64
+        requires even { length self.now.gaps.items ≡ length self.now.kept.items }
+        requires some { 0 < length (words_from self.now.gaps.items self.now.kept.items self.now.behind place.old.next place.old.gap) }
+        ensures value { words_from self.now.gaps.items self.now.kept.items self.now.behind place.old.next place.old.gap ≡ result ∷ words_from self.now.gaps.items self.now.kept.items self.now.behind place.new.next place.new.gap }
+    {
+        if place.gap > 0 {
+            place.gap -= 1;
+            return 0;
+        }
+        let word = self.kept[place.next];
+        place.next += 1;
+        place.gap = self.gap_behind(place.next);
+        word
+    }
+
+    /// Whether the next eight words are those of a block, which the place then has passed: one question a word.
+    #[inline(always)]
+    fn has_words(&self, place: &mut SparsePlace, block: &[u64]) -> bool
+        requires even { length self.now.gaps.items ≡ length self.now.kept.items }
+        requires size { length block.now ≡ 8 }
+        requires fits { 8 ≤ length (words_from self.now.gaps.items self.now.kept.items self.now.behind place.old.next place.old.gap) }
+        ensures value { IsTrue result ↔ (take 8 (words_from self.now.gaps.items self.now.kept.items self.now.behind place.old.next place.old.gap) ≡ block.now) }
+        ensures behind { IsTrue result → words_from self.now.gaps.items self.now.kept.items self.now.behind place.new.next place.new.gap ≡ drop 8 (words_from self.now.gaps.items self.now.kept.items self.now.behind place.old.next place.old.gap) }
+    {
+        for k in 0..8 {
+            if self.take_word(place) != block[k] {
                 return false;
             }
-            at += gap + 1;
         }
-        are_zeros(&words[at..])
+        true
+    }
+
+    /// Whether the next eight words are those of a block, which the place then has passed: where as many words 0 stand next, one
+    /// question.
+    #[inline(always)]
+    fn has_block(&self, place: &mut SparsePlace, block: &[u64]) -> bool
+        requires even { length self.now.gaps.items ≡ length self.now.kept.items }
+        requires size { length block.now ≡ 8 }
+        requires fits { 8 ≤ length (words_from self.now.gaps.items self.now.kept.items self.now.behind place.old.next place.old.gap) }
+        ensures value { IsTrue result ↔ (take 8 (words_from self.now.gaps.items self.now.kept.items self.now.behind place.old.next place.old.gap) ≡ block.now) }
+        ensures behind { IsTrue result → words_from self.now.gaps.items self.now.kept.items self.now.behind place.new.next place.new.gap ≡ drop 8 (words_from self.now.gaps.items self.now.kept.items self.now.behind place.old.next place.old.gap) }
+    {
+        if place.gap >= 8 {
+            place.gap -= 8;
+            return is_blank(block);
+        }
+        self.has_words(place, block)
+    }
+
+    /// Whether the next words are those of a row, eight for each of so many blocks: the place then has passed them, and else tells
+    /// nothing more.
+    #[inline(always)]
+    pub(crate) fn has_row(&self, place: &mut SparsePlace, row: &[u64], blocks: usize) -> bool
+        requires even { length self.now.gaps.items ≡ length self.now.kept.items }
+        requires size { length row.now ≡ 8 * blocks }
+        requires fits { 8 * blocks ≤ length (words_from self.now.gaps.items self.now.kept.items self.now.behind place.old.next place.old.gap) }
+        ensures value { IsTrue result ↔ (take (8 * blocks) (words_from self.now.gaps.items self.now.kept.items self.now.behind place.old.next place.old.gap) ≡ row.now) }
+        ensures behind { IsTrue result → words_from self.now.gaps.items self.now.kept.items self.now.behind place.new.next place.new.gap ≡ drop (8 * blocks) (words_from self.now.gaps.items self.now.kept.items self.now.behind place.old.next place.old.gap) }
+    {
+        for block in 0..blocks {
+            let at = 8 * block;
+            if !self.has_block(place, &row[at..at + 8]) {
+                return false;
+            }
+        }
+        true
     }
 }

@@ -1,7 +1,8 @@
-ghost use Rattle.std.specs.Prelude.{◌≡◌, ◌*◌, ◌/◌, length, IfOk};
+ghost use Rattle.std.specs.Prelude.{IfOk};
 ghost use Rattle.stab_pauli.specs.inner.Sparse.{IsSparse};
 
 use super::PauliRows;
+use crate::packed::placed::PlacedRows;
 use crate::packed::sparse::{SparseWords, are_short};
 use stab_io::Refusal;
 use stab_letters::Phase;
@@ -15,8 +16,6 @@ use std::rc::Rc;
 pub struct CompactRows {
     qubits: usize,
     blocks: usize,
-    // How many words the rows have.
-    size: usize,
     // Copies share them: what a copy may change is its signs.
     words: Rc<SparseWords>,
     powers: Vec<Phase>,
@@ -28,7 +27,6 @@ impl Drop for CompactRows {
         let CompactRows {
             qubits: _,
             blocks: _,
-            size: _,
             words: _,
             powers: _,
         } = self;
@@ -44,15 +42,14 @@ impl Model for CompactRows {
 
     ghost view = { λ p. table p.qubits p.blocks (spread p.words.value.gaps.items p.words.value.kept.items p.words.value.behind) p.powers.items };
 
-    ghost invariant = { λ p. IsCompact p.qubits p.blocks p.words.value.gaps.items p.words.value.kept.items p.words.value.behind p.size p.powers.items };
+    ghost invariant = { λ p. IsCompact p.qubits p.blocks p.words.value.gaps.items p.words.value.kept.items p.words.value.behind p.powers.items };
 }
 
-/// Words, without those that are 0, to be shared. There are eight times as many as blocks.
-fn shared(alloc: Global, words: &[u64]) -> Result<Rc<SparseWords>, AllocError>
-    requires all { length words.now ≡ 8 * (length words.now / 8) }
-    ensures value { IfOk result (λ s. IsSparse s.value.gaps.items s.value.kept.items s.value.behind words.now) }
+/// The words of rows, without those that are 0, to be shared.
+fn shared(alloc: Global, rows: &PlacedRows) -> Result<Rc<SparseWords>, AllocError>
+    ensures value { IfOk result (λ s. IsSparse s.value.gaps.items s.value.kept.items s.value.behind rows.now.words) }
 {
-    let sparse = SparseWords::of(alloc, words, words.len() / 8)?;
+    let sparse = rows.keep(alloc)?;
     Ok(Rc::new(alloc, sparse)?)
 }
 
@@ -67,12 +64,11 @@ impl PauliRows {
         ensures ok { IfOk result (λ r. r ≡ self.now) }
         ensures err { IfErr result (λ r. r ≡ OutOfMemory) }
     {
-        let words = self.words.as_slice();
+        self.rows.are_in_memory();
         Ok(CompactRows {
             qubits: self.qubits,
-            blocks: self.blocks,
-            size: words.len(),
-            words: shared(alloc, words)?,
+            blocks: self.rows.blocks(),
+            words: shared(alloc, &self.rows)?,
             powers: Vec::from_slice(alloc, self.powers.as_slice())?,
         })
     }
@@ -102,7 +98,6 @@ impl CompactRows {
         Ok(CompactRows {
             qubits: self.qubits,
             blocks: self.blocks,
-            size: self.size,
             words: self.words.clone()?,
             powers: Vec::from_slice(alloc, self.powers.as_slice())?,
         })
@@ -130,12 +125,11 @@ impl CompactRows {
         ensures ok { IfOk result (λ r. r ≡ self.now) }
         ensures err { IfErr result (λ r. r ≡ OutOfMemory) }
     {
-        let mut words = vec![in alloc; 0; self.size]?;
-        self.words.as_ref().write_into(words.as_mut_slice());
+        let mut rows = PlacedRows::new(alloc, self.blocks, self.powers.len())?;
+        rows.write(self.words.as_ref());
         Ok(PauliRows {
             qubits: self.qubits,
-            blocks: self.blocks,
-            words,
+            rows,
             powers: Vec::from_slice(alloc, self.powers.as_slice())?,
         })
     }
@@ -146,9 +140,7 @@ impl CompactRows {
         requires same_number { length rows.old.rows ≡ length self.now.rows }
         ensures value { rows.new ≡ self.now }
     {
-        let words = rows.words.as_mut_slice();
-        words.fill(0);
-        self.words.as_ref().write_into(words);
+        rows.rows.write(self.words.as_ref());
         rows.powers
             .as_mut_slice()
             .copy_from_slice(self.powers.as_slice());
@@ -165,11 +157,10 @@ impl CompactRows {
         if self.qubits != rows.qubits {
             return false;
         }
-        let words = rows.words.as_slice();
         let sparse = self.words.as_ref();
-        are_short(words);
+        rows.rows.are_short();
         are_short(sparse.kept.as_slice());
-        sparse.are(words)
+        rows.rows.are(sparse)
     }
 
     /// Whether both have as many strings over as many qubits, with the same letters, whatever their signs.
@@ -182,11 +173,10 @@ impl CompactRows {
         if self.powers.len() != rows.powers.len() {
             return false;
         }
-        let words = rows.words.as_slice();
         let sparse = self.words.as_ref();
-        are_short(words);
+        rows.rows.are_short();
         are_short(sparse.kept.as_slice());
-        sparse.are(words)
+        rows.rows.are(sparse)
     }
 
     /// Whether the signs of row a differ in both, where its letters are the same: then none has to be looked at.

@@ -1,6 +1,7 @@
 use Rattle.std.proofs.Common.{rules}
 use Rattle.stab_pauli.proofs.PackingLemmas.{blank_block}
+use Rattle.stab_pauli.proofs.SparsePlaceLemmas.{blank_told}
 use Rattle.stab_pauli.proofs.packed.sparse.is_blank.Goals as goal
 
 pub returns : goal.returns
-returns c = record { value = λ h. blank_block c.args.block.now c.requires.size (search rules) }
+returns c = record { value = ((λ h. blank_block c.args.block.now c.requires.size (search rules)), (λ e. search (rules, blank_told c.args.block.now e))) }

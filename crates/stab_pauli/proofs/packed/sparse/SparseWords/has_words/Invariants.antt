@@ -1,0 +1,8 @@
+use Rattle.std.proofs.Common.{◌≡◌, ◌++◌, take}
+use Rattle.stab_pauli.specs.inner.Sparse.{words_from}
+use Rattle.stab_pauli.proofs.packed.sparse.SparseWords.has_words.Given as goal
+
+abbrev pub invariant-loop-k : goal.invariant-loop-k
+invariant-loop-k l =
+    words_from l.self.gaps.items l.self.kept.items l.self.behind l.initial.place.next l.initial.place.gap
+    ≡ take l.k l.block ++ words_from l.self.gaps.items l.self.kept.items l.self.behind l.place.next l.place.gap
