@@ -72,8 +72,8 @@ impl Target for QubitTargets {
     }
 }
 
-/// The qubit that the first word is, and what follows it, where the word is a number in range.
-// Inlined, since each qubit of a long list is read by it.
+/// The qubit that the first word is, and what follows it, where the word is a number in range. It is inlined, since each qubit
+/// of a long list is read by it.
 #[inline(always)]
 #[tactic(auto, using(crate::proofs::FrontTargetLemmas::qubit_begins))]
 pub fn qubit_at_front(bytes: &[u8]) -> Option<(Qubit, &[u8])>
