@@ -52,6 +52,10 @@ at-get P xs k x all e = subst P (get_or_from_slice_get xs k x x e) (all k x (sli
 pub some-at : {X : Type 0} (P : X → Type 0) (xs : List X) (k : ℕ) (x : X) → slice_get xs k ≡ Some x → IfSome (slice_get xs k) P → P x
 some-at P xs k x e h = subst (λ o. IfSome o P) e h
 
+-- and the other way round
+pub at-some : {X : Type 0} (P : X → Type 0) (xs : List X) (k : ℕ) (x : X) → slice_get xs k ≡ Some x → P x → IfSome (slice_get xs k) P
+at-some P xs k x e p = subst (λ o. IfSome o P) (sym e) p
+
 pub if-some : {X : Type 0} (P : X → Type 0) (o : Option X) → ((x : X) → o ≡ Some x → P x) → IfSome o P
 if-some P None each = tt
 if-some P (Some x) each = each x refl
