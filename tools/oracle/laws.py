@@ -4,6 +4,8 @@ A law is given random numbers and a way to run the program, which answers with s
 answers with what is wrong, or None; where its circuit is refused, it raises `Refused`, and nothing was compared.
 """
 
+import re
+
 from . import formats
 from .fault_laws import faults_as_edits
 from .making import Maker, damaged, small_circuit
@@ -19,8 +21,8 @@ SHOWS = LISTS + b"show circuit\n"
 
 
 def large_circuit(random):
-    """Qubits, the text of a circuit that nothing refuses, and its items."""
-    n = random.randint(5, 60)
+    """Qubits, the text of a circuit that nothing refuses, and its items. Rows of more than 256 qubits are kept in another form."""
+    n = random.randint(257, 400) if random.random() < 0.1 else random.randint(5, 60)
     maker = Maker(random, n)
     text = "\n".join(maker.lines(random.randint(5, 120))).encode()
     items = items_of(text)
@@ -213,8 +215,56 @@ def lines_that_come_again(random, run):
     return None if answer == right else f"a text of lines that come again is read otherwise\n{text!r}\n{answer}\n{right}"
 
 
+# The front of a printed line, up to its targets; and what among targets is a record, or the number of a qubit.
+FRONT = re.compile(r"\s*[A-Z_0-9]+(\[[^]]*\])?(\([^)]*\))?")
+NUMBER = re.compile(r"rec\[-\d+\]|\d+")
+
+
+def spread(text, places):
+    """A printed circuit, with the qubit q in the place that stands as number q."""
+
+    def moved(line):
+        front = FRONT.match(line)
+        if front is None or "REPEAT" in line:
+            return line
+        return front[0] + NUMBER.sub(lambda found: found[0] if found[0][0] == "r" else str(places[int(found[0])]), line[front.end() :])
+
+    return "\n".join(moved(line) for line in text.decode().split("\n")).encode()
+
+
+def spread_row(row, places, length):
+    """A stabiliser with the letter of the qubit q in the place that stands as number q, of so many letters."""
+    letters = ["_"] * length
+    for letter, place in zip(row[1:], places):
+        letters[place] = letter
+    return row[0] + "".join(letters)
+
+
+def far_apart_as_side_by_side(random, run):
+    """A circuit on a few qubits, against the same on qubits with others between them, which stay 0: its bits, and its stabilisers with a Z for each of these."""
+    n = random.randint(2, 12)
+    items = items_of("\n".join(Maker(random, n).lines(random.randint(5, 120))).encode())
+    check(items)
+    near = printing.printed(items)
+    places = sorted(random.sample(range(random.choice((64, 65, 256, 257, 300, 512, 513, 1024))), n))
+    far = spread(near, places)
+    seed = ["--seed", str(random.randrange(2**32))]
+    for command in (["sample"], ["detect", "--append_observables"]):
+        bits, others = (run([*command, *seed, "--shots", "2"], text) for text in (near, far))
+        if bits != others or bits[0] != 0:
+            return f"{command[0]} differs on qubits far apart\n{near!r}\n{places} {seed}\n{bits}\n{others}"
+    rows, others = (run(["stabilisers", *seed], text) for text in (near, far))
+    length = 0 if rows[1] == b"" else places[len(rows[1].split(b"\n")[0]) - 2] + 1
+    right = {spread_row(row, places, length) for row in rows[1].decode().splitlines()}
+    right |= {spread_row("+Z", [place], length) for place in range(length) if place not in places}
+    if rows[0] != 0 or others[0] != 0 or sorted(others[1].decode().splitlines()) != sorted(right):
+        return f"stabilisers differ on qubits far apart\n{near!r}\n{places} {seed}\n{rows}\n{others}"
+    return None
+
+
 LAWS = {
     "edited as anew": edited_as_anew, "formats of one another": bits_in_each_format, "checked as run": checked_as_run,
     "faults as edits": faults_as_edits, "shots by themselves": shots_by_themselves, "blocks as written out": blocks_as_written_out,
     "sessions as written out": sessions_as_written_out, "lines that come again": lines_that_come_again,
+    "far apart as side by side": far_apart_as_side_by_side,
 }

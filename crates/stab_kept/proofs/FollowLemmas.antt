@@ -29,7 +29,7 @@ use Rattle.stab_run.specs.Ends.{AgreeBack, with_coin}
 use Rattle.stab_copies.specs.Checkpoints.{IsRunFromStart, IsCheckpoint, checkpoint_steps}
 use Rattle.stab_copies.specs.LaidCopies.{all_laid, moved, moved_copy}
 use Rattle.stab_frames.specs.KeptStrings.{StringsState}
-use Rattle.stab_turns.specs.Sections.{IsSection, IsMoved}
+use Rattle.stab_replay.specs.Sections.{IsSection, IsMoved}
 use Rattle.stab_kept.specs.KeptRuns.{IsKeptRun, IsSameKept, IsSpan}
 use Rattle.stab_replay.specs.NotedStrings.{IsNoted, IsSpliced}
 use Rattle.stab_replay.specs.Replays.{IsReplay, Ascending, IsEnd, step_among_new}

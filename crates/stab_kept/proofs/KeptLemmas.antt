@@ -15,7 +15,7 @@ use Rattle.stab_copies.specs.Spacing.{IsSpaced}
 use Rattle.stab_run.specs.Cuts.{lengths_of}
 use Rattle.stab_copies.specs.Checkpoints.{IsRunFromStart, IsCheckpoint, checkpoint_steps}
 use Rattle.stab_replay.specs.NotedStrings.{IsNoted}
-use Rattle.stab_turns.specs.Sections.{IsSection}
+use Rattle.stab_replay.specs.Sections.{IsSection}
 use Rattle.stab_kept.specs.KeptRuns.{IsKeptRun, Follows}
 use Rattle.stab_frames.specs.Limits.{most_strings}
 use Rattle.stab_replay.proofs.NotedLemmas.{noted-nothing}

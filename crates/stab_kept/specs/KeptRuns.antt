@@ -13,7 +13,7 @@ use Rattle.stab_copies.specs.Checkpoints.{IsRunFromStart, IsCheckpoint, checkpoi
 use Rattle.stab_replay.specs.NotedStrings.{IsNoted}
 use Rattle.stab_turns.specs.PauliSpans.{DifferByPaulis}
 use Rattle.stab_turns.specs.declared.passing.PauliChange.{PauliChange}
-use Rattle.stab_turns.specs.Sections.{IsSection}
+use Rattle.stab_replay.specs.Sections.{IsSection}
 
 -- what is kept is the run of these steps, which fit on the qubits, with so many observables, copies at most K steps apart, and outlines of
 -- parts of the steps

@@ -21,10 +21,9 @@ use stab_copies::{Checkpoint, Meeting, count_before, lay_all, take_moved};
 use stab_frames::{KeptStrings, RunNotes, count_ones};
 use stab_io::Refusal;
 use stab_pauli::Pauli;
-use stab_replay::{End, Plan, Replay};
+use stab_replay::{End, Plan, Replay, Section, move_sections};
 use stab_run::{Coins, Outputs, observables};
 use stab_tableau::Tableau;
-use stab_turns::{Section, move_sections};
 use std::alloc::{AllocError, Global};
 
 /// A run that is kept: the state behind the last step, what the steps gave, copies of the state on
@@ -200,6 +199,7 @@ impl KeptRun {
             self.checkpoints.as_slice(),
             &self.outputs,
             &self.strings,
+            self.sections.as_slice(),
             plan,
             coins,
         )?;

@@ -20,11 +20,12 @@ use stab_circuit::{Circuit, Cursor, Span};
 use stab_copies::{Checkpoint, Meeting, count_before, lay_all, shifted, take_moved};
 use stab_frames::FrameWalk;
 use stab_io::Refusal;
+use stab_replay::move_sections;
 use stab_run::{Coins, Lengths};
 use stab_tableau::{CompactTableau, Tableau};
 use stab_turns::{
-    PauliChange, Trail, flip_outputs, lead_frame, lengths_behind, move_sections, pass_places,
-    sum_additions, turn_tableau,
+    PauliChange, Trail, flip_outputs, lead_frame, lengths_behind, pass_places, sum_additions,
+    turn_tableau,
 };
 use std::alloc::Global;
 

@@ -8,6 +8,8 @@ pub mod FrameStartLemmas
 mod FramedStepLemmas
 mod NotedSegmentLemmas
 mod OverCopyLemmas
+pub mod SectionLemmas
+pub mod OutlinedLemmas
 mod LedLemmas
 mod LedWayLemmas
 pub mod CutLemmas

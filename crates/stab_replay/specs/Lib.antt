@@ -1,4 +1,5 @@
 pub mod NotedStrings
 pub mod Replays
 pub mod FramedReplays
+pub mod Sections
 pub mod inner

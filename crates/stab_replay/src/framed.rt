@@ -2,20 +2,23 @@ ghost use Rattle.std.specs.Prelude.{◌≡◌, ◌≢◌, ◌⊎◌, true, ◌+�
 ghost use Rattle.stab_io.specs.declared.refusal.Refusal.TheVariants.{OutOfMemory};
 ghost use Rattle.stab_tableau.specs.Tableaus.{stabilises};
 ghost use Rattle.stab_tableau.specs.Turns.{IsTurned};
+ghost use Rattle.stab_circuit.specs.Steps.{most_steps};
 ghost use Rattle.stab_run.specs.Records.{ones};
 ghost use Rattle.stab_run.specs.Points.{joined};
 ghost use Rattle.stab_run.specs.ProgramStates.{StepFits, output_of};
 ghost use Rattle.stab_frames.specs.Flips.{flipped_output};
-ghost use Rattle.stab_frames.specs.KeptStrings.{kept_with};
-ghost use Rattle.stab_frames.specs.Walks.{IsPlaced};
+ghost use Rattle.stab_frames.specs.KeptStrings.{kept_with, note_at};
+ghost use Rattle.stab_frames.specs.Stops.{IsStop};
+ghost use Rattle.stab_frames.specs.Walks.{IsPlaced, WalksOver};
 ghost use Rattle.stab_frames.specs.declared.steps.Stop.TheVariants.{Behind, NoString};
-ghost use Rattle.stab_replay.specs.FramedReplays.{between as between_lengths, flips_behind, AreCompared, IsFrameFrom, WentOver};
+ghost use Rattle.stab_replay.specs.FramedReplays.{between as between_lengths, flips_behind, AreCompared, IsFrameFrom, AreEnoughBy, WentOver};
 
+use crate::outlined::OutlinedSteps;
 use crate::replay::{Plan, Replay};
 use stab_copies::{Checkpoint, has_one, shifted};
 use stab_frames::{
-    FrameWalk, KeptStrings, Stop, append_flipped, append_flipped_additions, between, count_ones,
-    turn_state, walk_steps,
+    FrameWalk, KeptStrings, Stop, Walked, append_flipped, append_flipped_additions, between,
+    count_ones, turn_state, walk_outline, walk_steps,
 };
 use stab_io::Refusal;
 use stab_pauli::{Letter, Pauli};
@@ -238,6 +241,59 @@ impl<'a> Replay<'a> {
         )
     }
 
+    /// Leads a frame over the next so many steps, or those that are left, of a run with these kept strings and flags, none of which looks
+    /// back further than `reach` records: by their outline where they have one, and else by the cursor. It ends where the frame is gone,
+    /// if it may.
+    ///
+    /// Refusal `OutOfMemory` alone.
+    fn walk_on(
+        &mut self,
+        alloc: Global,
+        outlined: &OutlinedSteps<'a, '_>,
+        walk: &mut FrameWalk,
+        strings: &KeptStrings,
+        free: &[bool],
+        count: usize,
+        reach: u32,
+        may_end: bool,
+    ) -> Result<Walked, Refusal>
+        requires same_steps { outlined.now ≡ self.old.cursor.all }
+        requires there { self.old.cursor.left ≡ drop self.old.step self.old.cursor.all }
+        requires in_range { self.old.step ≤ length self.old.cursor.all }
+        requires few_steps { length self.old.cursor.all ≤ most_steps }
+        requires same_length { strings.now.qubits ≡ length walk.old.letters }
+        requires fits { All (StepFits (length walk.old.letters)) self.old.cursor.left }
+        requires placed { IsPlaced free.now walk.old }
+        requires few { walk.old.coin + length self.old.cursor.left < 2 ^ 63 }
+        ensures rest { self.new ≡ record self.old { cursor = self.new.cursor } }
+        ensures all { self.new.cursor.all ≡ self.old.cursor.all }
+        ensures length { length walk.new.letters ≡ length walk.old.letters }
+        ensures placed { OnOk result (IsPlaced free.now walk.new) }
+        ensures within { IfOk result (λ w. w.steps ≤ length (take count self.old.cursor.left)) }
+        ensures left { IfOk result (λ w. w.stop ≢ NoString → self.new.cursor.left ≡ drop w.steps self.old.cursor.left) }
+        ensures walked { IfOk result (λ w. WalksOver (length walk.old.letters) (note_at strings.now.strings free.now) (take w.steps self.old.cursor.left) walk.old walk.new) }
+        ensures stop { IfOk result (λ w. IsStop (length walk.old.letters) reach w.steps (length (take count self.old.cursor.left)) walk.new w.stop) }
+        ensures enough { IfOk result (λ w. AreEnoughBy (length walk.old.letters) (note_at strings.now.strings free.now) free.now self.old.cursor.left w.steps walk.old) }
+        ensures err { IfErr result (λ r. r ≡ OutOfMemory) }
+    {
+        let Some(outline) = outlined.outline(self.step, count) else {
+            return Ok(walk_steps(
+                walk,
+                strings,
+                free,
+                &mut self.cursor,
+                count,
+                reach,
+                may_end,
+            )?);
+        };
+        let walked = walk_outline(walk, strings, free, outline, reach, may_end)?;
+        if walked.stop != Stop::NoString {
+            self.cursor = outlined.cursor(alloc, self.step + walked.steps)?;
+        }
+        Ok(walked)
+    }
+
     /// Goes on to the place of the next old copy by a frame, and appends what the steps between give. The frame ends where it is
     /// gone, if it may. `NoString` where it can't go there, since a string is missing, the copy is too far, or coins decide that have
     /// other numbers in the old run.
@@ -245,6 +301,8 @@ impl<'a> Replay<'a> {
     /// Refusal `OutOfMemory` alone.
     pub(crate) fn frame_to(
         &mut self,
+        alloc: Global,
+        outlined: &OutlinedSteps<'a, '_>,
         old: &Outputs,
         strings: &KeptStrings,
         plan: Plan,
@@ -253,6 +311,10 @@ impl<'a> Replay<'a> {
         walk: &mut FrameWalk,
         may_end: bool,
     ) -> Result<Stop, Refusal>
+        requires same_steps { outlined.now ≡ self.old.cursor.all }
+        requires there { self.old.cursor.left ≡ drop self.old.step self.old.cursor.all }
+        requires in_range { self.old.step ≤ length self.old.cursor.all }
+        requires few_steps { length self.old.cursor.all ≤ most_steps }
         requires same_length { strings.now.qubits ≡ length walk.old.letters }
         requires same_strings { self.old.notes.strings.qubits ≡ strings.now.qubits }
         requires fits { All (StepFits (length walk.old.letters)) self.old.cursor.left }
@@ -281,11 +343,12 @@ impl<'a> Replay<'a> {
         let free = flags_between(old, from, to);
         let before = lengths_walked(walk);
         let number = walk.number();
-        let walked = walk_steps(
+        let walked = self.walk_on(
+            alloc,
+            outlined,
             walk,
             strings,
             old.free.as_slice(),
-            &mut self.cursor,
             steps,
             plan.reach,
             may_end,

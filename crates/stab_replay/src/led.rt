@@ -7,10 +7,13 @@ ghost use Rattle.stab_run.specs.Records.{ones};
 ghost use Rattle.stab_frames.specs.KeptStrings.{StringsState};
 ghost use Rattle.stab_frames.specs.declared.steps.Stop.TheVariants.{Gone};
 ghost use Rattle.stab_replay.specs.Replays.{IsAtStep, Ascending, IsOnWay, IsPlacedAt};
+ghost use Rattle.stab_replay.specs.Sections.{IsSectionBehind};
 ghost use Rattle.stab_replay.specs.inner.LedReplays.{IsBeside, IsLed, IsPassed, LedOn, IsLedTo, later_of, with_state, with_cursor};
 
 use crate::framed::{coins_serve, flags_between, turned_copy};
+use crate::outlined::OutlinedSteps;
 use crate::replay::{Plan, Replay};
+use crate::sections::Section;
 use stab_circuit::{Circuit, Cursor};
 use stab_copies::{Checkpoint, has_one, may_have_coin, shifted};
 use stab_frames::{FrameWalk, KeptStrings, Stop};
@@ -63,6 +66,7 @@ impl<'a> Replay<'a> {
     fn pass_copy(
         &mut self,
         alloc: Global,
+        outlined: &OutlinedSteps<'a, '_>,
         copies: &[Checkpoint],
         old: &Outputs,
         strings: &KeptStrings,
@@ -71,6 +75,7 @@ impl<'a> Replay<'a> {
         walk: &mut FrameWalk,
         joins: bool,
     ) -> Result<Passage, Refusal>
+        requires same_steps { outlined.now ≡ self.old.cursor.all }
         requires number { 1 ≤ number }
         requires within { number < length copies.now }
         requires fits { All (StepFits self.old.tableau.qubits) self.old.cursor.all }
@@ -89,7 +94,7 @@ impl<'a> Replay<'a> {
         let to = &copies[number];
         let from = &copies[number - 1];
         let may_end = can_end(joins, self.outputs.free.len(), from);
-        let stop = self.frame_to(old, strings, plan, from, to, walk, may_end)?;
+        let stop = self.frame_to(alloc, outlined, old, strings, plan, from, to, walk, may_end)?;
         if stop == Stop::NoString {
             return Ok(Passage::Stopped);
         }
@@ -131,6 +136,7 @@ impl<'a> Replay<'a> {
     fn lead(
         &mut self,
         alloc: Global,
+        outlined: &OutlinedSteps<'a, '_>,
         copies: &[Checkpoint],
         old: &Outputs,
         strings: &KeptStrings,
@@ -138,6 +144,7 @@ impl<'a> Replay<'a> {
         next: usize,
         walk: FrameWalk,
     ) -> Result<Led, Refusal>
+        requires same_steps { outlined.now ≡ self.old.cursor.all }
         requires number { 1 ≤ next }
         requires within { next ≤ length copies.now }
         requires fits { All (StepFits self.old.tableau.qubits) self.old.cursor.all }
@@ -160,7 +167,7 @@ impl<'a> Replay<'a> {
         let coin = self.outputs.free.len();
         let joins = may_have_coin(&copies[next - 1], old.free.as_slice(), coin);
         for number in next..copies.len() {
-            match self.pass_copy(alloc, copies, old, strings, plan, number, &mut walk, joins)? {
+            match self.pass_copy(alloc, outlined, copies, old, strings, plan, number, &mut walk, joins)? {
                 Passage::Passed => passed = true,
                 Passage::Arrived => return Ok(Led {
                     next: number,
@@ -223,7 +230,7 @@ impl<'a> Replay<'a> {
     }
 
     /// Goes on by a frame from the place of the old copy before this one, where a copy was laid last, as
-    /// far as it leads.
+    /// far as it leads. Sections are of the old run's steps.
     ///
     /// Refusal `OutOfMemory` alone.
     pub(crate) fn frame_on(
@@ -233,11 +240,13 @@ impl<'a> Replay<'a> {
         copies: &[Checkpoint],
         old: &Outputs,
         strings: &KeptStrings,
+        sections: &[Section],
         plan: Plan,
         next: usize,
     ) -> Result<Led, Refusal>
         requires same_circuit { unroll (circuit_items circuit.now) ≡ self.old.cursor.all }
         requires checked { check_of (circuit_items circuit.now) ≡ None }
+        requires sections { All (IsSectionBehind plan.old_end plan.new_end self.old.cursor.all) sections.now }
         requires next { next ≤ length copies.now }
         requires fits { All (StepFits self.old.tableau.qubits) self.old.cursor.all }
         requires few { length self.old.cursor.all ≤ most_steps }
@@ -259,7 +268,8 @@ impl<'a> Replay<'a> {
     {
         match self.frame_at(alloc, copies, old, plan, next)? {
             Some(walk) => {
-                let led = self.lead(alloc, copies, old, strings, plan, next, walk)?;
+                let outlined = OutlinedSteps::new(circuit, sections, plan.old_end, plan.new_end);
+                let led = self.lead(alloc, &outlined, copies, old, strings, plan, next, walk)?;
                 self.cursor = Cursor::at(alloc, circuit, self.step)?;
                 Ok(led)
             }

@@ -3,6 +3,8 @@
 //! In the order in which data flows; each module uses only those before it, but that `framed`, `led`,
 //! `laying`, `rhythm`, `again` and `turned` add calls to the replay of `replay`:
 //!
+//! - `sections`: outlines of parts of a run's steps, and where they stand once some steps are others.
+//! - `outlined`: the steps of a circuit, some of which have outlines.
 //! - `framed`: a replay that goes on by a frame, from a copy of an older run to the next one.
 //! - `led`: a replay that a frame leads from copy to copy, as far as it can.
 //! - `laying`: where a replay lays copies of the state, and what these share.
@@ -27,10 +29,14 @@ mod again;
 mod framed;
 mod laying;
 mod led;
+mod outlined;
 mod replay;
 mod rhythm;
+mod sections;
 mod turned;
 
 pub use framed::turned_copy;
+pub use outlined::OutlinedSteps;
 pub use replay::{End, Plan, Replay};
 pub use rhythm::{block_at, end_of};
+pub use sections::{Section, move_sections};

@@ -7,9 +7,11 @@ ghost use Rattle.stab_run.specs.Records.{ones};
 ghost use Rattle.stab_run.specs.Points.{all_coins_of};
 ghost use Rattle.stab_run.specs.ProgramStates.{StepFits, output_of};
 ghost use Rattle.stab_replay.specs.Replays.{IsAtStep, IsReplay, Ascending, spacing_of, IsEnd, EndsSoon, IsAtStop, IsOnWay, StopsAt, copies_passed};
+ghost use Rattle.stab_replay.specs.Sections.{IsSectionBehind};
 ghost use Rattle.stab_replay.specs.inner.Arrivals.{IsArrival};
 ghost use Rattle.stab_replay.specs.FramedReplays.{IsOldRun};
 
+use crate::sections::Section;
 use stab_circuit::{Circuit, Cursor, Repeat};
 use stab_copies::{Checkpoint, meets, shifted};
 use stab_frames::{KeptStrings, RunNotes, run_noting};
@@ -223,6 +225,7 @@ impl<'a> Replay<'a> {
         copies: &[Checkpoint],
         old: &Outputs,
         strings: &KeptStrings,
+        sections: &[Section],
         plan: Plan,
         next: usize,
         coins: &mut C,
@@ -230,6 +233,7 @@ impl<'a> Replay<'a> {
         requires old { IsOldRun self.old.tableau.qubits (C.sequence coins.old) plan self.old.cursor.all copies.now (output_of old.now) strings.now }
         requires same_circuit { unroll (circuit_items circuit.now) ≡ self.old.cursor.all }
         requires checked { check_of (circuit_items circuit.now) ≡ None }
+        requires sections { All (IsSectionBehind plan.old_end plan.new_end self.old.cursor.all) sections.now }
         requires fits { All (StepFits self.old.tableau.qubits) self.old.cursor.all }
         requires total { plan.total ≡ length self.old.cursor.all }
         requires few { plan.total ≤ most_steps }
@@ -256,7 +260,7 @@ impl<'a> Replay<'a> {
         ensures changed { OnOk result (min self.new.step plan.new_end + self.old.applied ≤ min self.old.step plan.new_end + self.new.applied) }
         ensures err { IfErr result (λ r. r ≡ OutOfMemory) }
     {
-        let led = self.frame_on(alloc, circuit, copies, old, strings, plan, next)?;
+        let led = self.frame_on(alloc, circuit, copies, old, strings, sections, plan, next)?;
         if !led.there {
             let place = plan.place(copies, led.next);
             let stops = self.stops(repeats, plan, place);
@@ -267,7 +271,7 @@ impl<'a> Replay<'a> {
 
     /// Carries out steps until the replay meets an old copy or is behind the last step, and lays
     /// copies on the way: one for each spacing, and one for each old copy that it passes, at most. In repeats of the
-    /// circuit's steps it gives again what it gave where it stands as it stood rounds before.
+    /// circuit's steps it gives again what it gave where it stands as it stood rounds before. Sections are of the old run's steps.
     pub fn follow<C: Coins>(
         &mut self,
         alloc: Global,
@@ -276,11 +280,13 @@ impl<'a> Replay<'a> {
         copies: &[Checkpoint],
         old: &Outputs,
         strings: &KeptStrings,
+        sections: &[Section],
         plan: Plan,
         coins: &mut C,
     ) -> Result<End, Refusal>
         requires begun { IsReplay self.old.tableau.qubits (C.sequence coins.old) plan.stride self.old.step self.old.cursor.all self.old }
         requires nothing_laid { self.old.laid.items ≡ [] }
+        requires sections { All (IsSectionBehind plan.old_end plan.new_end self.old.cursor.all) sections.now }
         requires fits { All (StepFits self.old.tableau.qubits) self.old.cursor.all }
         requires total { plan.total ≡ length self.old.cursor.all }
         requires few { plan.total ≤ most_steps }
@@ -318,7 +324,7 @@ impl<'a> Replay<'a> {
         let mut spare: Option<Tableau> = None;
         'following: loop {
             let reached = self.advance(
-                alloc, circuit, repeats, copies, old, strings, plan, next, coins,
+                alloc, circuit, repeats, copies, old, strings, sections, plan, next, coins,
             )?;
             match self.arrive(alloc, copies, old, plan, reached, &mut spare, &mut telling)? {
                 Arrival::Met => return Ok(End::Joined(reached)),

@@ -4,8 +4,8 @@ use Rattle.stab_circuit.specs.Steps.{Step}
 use Rattle.stab_circuit.specs.declared.circuit.repeats.Repeat.{Repeat}
 use Rattle.stab_circuit.specs.Repeats.{IsRepeat}
 use Rattle.stab_replay.proofs.AgainLemmas.{same-later}
-use Rattle.stab_turns.specs.declared.sections.Section.{Section}
-use Rattle.stab_turns.specs.Sections.{IsSection}
+use Rattle.stab_replay.specs.declared.sections.Section.{Section}
+use Rattle.stab_replay.specs.Sections.{IsSection}
 
 -- the outline of a section in a block, some whole rounds later
 pub section-later : (ys : List Step) (block : Repeat) → IsRepeat ys block → (s : Section) → IsSection ys s → (first q : ℕ) → block.first ≤ s.first

@@ -4,7 +4,6 @@
 //! signs turned and bits flipped. So what was kept of it is turned where it lies, and no state is run.
 //!
 //! - `counting`: how long a run's lists are behind some steps.
-//! - `sections`: outlines of parts of a run's steps, and where they stand once some steps are others.
 //! - `outlining`: outlines of all steps of a circuit, from copy to copy, shared by the rounds of a block.
 //! - `trail`: the steps of a circuit from a place on, by outlines where there are some, and else by a cursor.
 //! - `passing`: a frame led past the places at which Pauli gates stand in the old circuit or the new one, and
@@ -32,7 +31,6 @@ mod flips;
 mod leading;
 mod outlining;
 mod passing;
-mod sections;
 mod states;
 mod trail;
 
@@ -41,6 +39,5 @@ pub use flips::{flip_outputs, sum_additions};
 pub use leading::lead_frame;
 pub use outlining::outline_between;
 pub use passing::{PauliChange, pass_places};
-pub use sections::{Section, move_sections};
 pub use states::turn_tableau;
 pub use trail::Trail;

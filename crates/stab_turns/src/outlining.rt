@@ -3,14 +3,13 @@ ghost use Rattle.stab_io.specs.declared.refusal.Refusal.TheVariants.{OutOfMemory
 ghost use Rattle.stab_circuit.specs.Steps.{Step, check_of, unroll};
 ghost use Rattle.stab_circuit.specs.Views.{circuit_items};
 ghost use Rattle.stab_circuit.specs.Repeats.{AreRepeats, IsRepeat};
-ghost use Rattle.stab_turns.specs.Sections.{IsSection};
+ghost use Rattle.stab_replay.specs.Sections.{IsSection};
 
-use crate::sections::Section;
 use stab_circuit::{Circuit, Cursor, Repeat};
 use stab_copies::Checkpoint;
 use stab_io::Refusal;
 use stab_outlines::{Known, Outline};
-use stab_replay::{block_at, end_of};
+use stab_replay::{Section, block_at, end_of};
 use std::alloc::Global;
 
 /// A section of the same steps in an earlier round is looked for among so many that were made before.

@@ -11,23 +11,16 @@ ghost use Rattle.stab_frames.specs.Walks.{frame_at, IsPlaced, WalksOver};
 ghost use Rattle.stab_frames.specs.Stops.{IsStop};
 ghost use Rattle.stab_frames.specs.declared.steps.Stop.TheVariants.{NoString};
 
-use crate::sections::Section;
 use stab_circuit::{Circuit, Cursor};
 use stab_frames::{FrameWalk, KeptStrings, Stop, Walked, walk_outline, walk_steps};
 use stab_io::Refusal;
-use stab_outlines::Outline;
+use stab_replay::{OutlinedSteps, Section};
 use std::alloc::Global;
 use std::marker::Model;
 
 /// The steps of a circuit from a place on, of which some have outlines. Contracts see what they see of a cursor.
 pub struct Trail<'a> {
-    circuit: &'a Circuit,
-    sections: &'a [Section],
-    // Sections are of other steps, which are the circuit's from the one of these places, or the other, on.
-    old_end: usize,
-    new_end: usize,
-    // The sections before this one begin before the place.
-    number: usize,
+    outlined: OutlinedSteps<'a, 'a>,
     // The place.
     step: usize,
     cursor: Option<Cursor<'a>>,
@@ -36,11 +29,7 @@ pub struct Trail<'a> {
 impl Drop for Trail<'_> {
     fn drop(self) {
         let Trail {
-            circuit: _,
-            sections: _,
-            old_end: _,
-            new_end: _,
-            number: _,
+            outlined: _,
             step: _,
             cursor: _,
         } = self;
@@ -48,32 +37,17 @@ impl Drop for Trail<'_> {
 }
 
 impl<'a> Model for Trail<'a> {
-    ghost use Rattle.std.specs.Prelude.{◌≡◌, ◌≤◌, None, All, length, drop};
+    ghost use Rattle.std.specs.Prelude.{◌≡◌, ◌≤◌, length, drop};
     ghost use Rattle.std.specs.Option.{ForSome};
-    ghost use Rattle.stab_circuit.specs.Steps.{check_of, unroll};
-    ghost use Rattle.stab_circuit.specs.Views.{circuit_items};
     ghost use Rattle.stab_circuit.specs.Cursors.{CursorState};
-    ghost use Rattle.stab_turns.specs.Sections.{IsSectionBehind};
 
     ghost Value = { CursorState };
 
-    ghost view = { λ t. record { all = unroll (circuit_items t.circuit.now); left = drop t.step (unroll (circuit_items t.circuit.now)) } };
+    ghost view = { λ t. record { all = t.outlined; left = drop t.step t.outlined } };
 
     ghost invariant = { λ t.
-        (check_of (circuit_items t.circuit.now) ≡ None)
-        × (t.new_end ≤ t.step)
-        × (t.step ≤ length (unroll (circuit_items t.circuit.now)))
-        × All (IsSectionBehind t.old_end t.new_end (unroll (circuit_items t.circuit.now))) t.sections.now
-        × ForSome t.cursor (λ c. c.left ≡ drop t.step (unroll (circuit_items t.circuit.now))) };
-}
-
-/// The first section from a number on that begins at a step or behind it, or the number behind the last.
-fn first_from(sections: &[Section], number: usize, step: usize) -> usize {
-    let mut found = number;
-    while found < sections.len() && sections[found].first < step {
-        found += 1;
-    }
-    found
+        (t.step ≤ length t.outlined)
+        × ForSome t.cursor (λ c. c.left ≡ drop t.step t.outlined) };
 }
 
 impl<'a> Trail<'a> {
@@ -81,7 +55,7 @@ impl<'a> Trail<'a> {
     ghost use Rattle.stab_io.specs.declared.refusal.Refusal.TheVariants.{OutOfMemory};
     ghost use Rattle.stab_circuit.specs.Steps.{check_of, unroll};
     ghost use Rattle.stab_circuit.specs.Views.{circuit_items};
-    ghost use Rattle.stab_turns.specs.Sections.{IsSectionBehind};
+    ghost use Rattle.stab_replay.specs.Sections.{IsSectionBehind};
 
     /// The steps of a circuit from one on, where sections have outlines of steps that are the circuit's from one place on, and there
     /// that one.
@@ -98,35 +72,9 @@ impl<'a> Trail<'a> {
         ensures left { result.left ≡ drop new_end (unroll (circuit_items circuit.now)) }
     {
         Trail {
-            circuit,
-            sections,
-            old_end,
-            new_end,
-            number: 0,
+            outlined: OutlinedSteps::new(circuit, sections, old_end, new_end),
             step: new_end,
             cursor: None,
-        }
-    }
-
-    /// The outline of exactly the next so many steps, if there is one.
-    fn outline(&mut self, count: usize) -> Option<&'a Outline>
-        ensures unchanged { self.new ≡ self.old }
-        ensures value { IfSome result (λ o. o.now ≡ take count self.old.left) }
-    {
-        let gone = self.step - self.new_end;
-        self.number = first_from(
-            self.sections,
-            self.number,
-            self.old_end.saturating_add(gone),
-        );
-        let section = self.sections.get(self.number)?;
-        if section.first < self.old_end || section.first - self.old_end != gone {
-            return None;
-        }
-        if section.outline.len() == count {
-            Some(&section.outline)
-        } else {
-            None
         }
     }
 
@@ -140,7 +88,7 @@ impl<'a> Trail<'a> {
     {
         match self.cursor.take() {
             Some(cursor) => Ok(cursor),
-            None => Cursor::at(alloc, self.circuit, self.step),
+            None => self.outlined.cursor(alloc, self.step),
         }
     }
 
@@ -182,8 +130,8 @@ impl<'a> Trail<'a> {
         ensures enough { IfOk result (λ w. (coins : ℕ → Bool) (a : Point) (base : ℕ) → a.coin ≡ walk.old.coin → AreTrue (length walk.old.letters) coins (note_at strings.now.strings free.now) self.old.left a → (outputs (length walk.old.letters) coins self.old.left a).free ≡ drop walk.old.coin free.now → AreEnough (length walk.old.letters) coins (same_coins (note_at strings.now.strings free.now)) (take w.steps self.old.left) (frame_at base walk.old) a) }
         ensures err { IfErr result (λ r. r ≡ OutOfMemory) }
     {
-        let count = most.min(self.circuit.steps() - self.step);
-        if let Some(outline) = self.outline(count) {
+        let count = most.min(self.outlined.len() - self.step);
+        if let Some(outline) = self.outlined.outline(self.step, count) {
             let walked = walk_outline(walk, strings, free, outline, reach, true)?;
             self.go_on(walked.steps, None);
             return Ok(walked);

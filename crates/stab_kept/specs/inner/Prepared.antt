@@ -21,7 +21,7 @@ use Rattle.stab_run.specs.Cuts.{lengths_of, front_of, rest_of}
 use Rattle.stab_frames.specs.KeptStrings.{StringsState, front_kept}
 use Rattle.stab_replay.specs.NotedStrings.{IsSpliced}
 use Rattle.stab_copies.specs.LaidCopies.{moved_copy, all_laid}
-use Rattle.stab_turns.specs.Sections.{IsSection, IsMoved}
+use Rattle.stab_replay.specs.Sections.{IsSection, IsMoved}
 
 -- so many of the first copies are before a step
 pub record IsCount (step : ℕ) (copies : List Checkpoint) (m : ℕ) : Type 0 where

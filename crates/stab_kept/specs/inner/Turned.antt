@@ -22,7 +22,7 @@ use Rattle.stab_turns.specs.LongerLists.{longer}
 use Rattle.stab_turns.specs.LedFrames.{IsLedFrame, with_states}
 use Rattle.stab_turns.specs.PassedPlaces.{IsFrameBetween, IsBeforePlaces}
 use Rattle.stab_turns.specs.declared.passing.PauliChange.{PauliChange}
-use Rattle.stab_turns.specs.Sections.{IsSection, IsMoved}
+use Rattle.stab_replay.specs.Sections.{IsSection, IsMoved}
 use Rattle.stab_kept.specs.declared.kept.KeptRun.{KeptRun}
 use Rattle.stab_kept.specs.declared.kept.Followed.{Followed}
 use Rattle.stab_kept.specs.declared.turning.Passed.{Passed}

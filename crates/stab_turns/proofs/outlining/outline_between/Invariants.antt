@@ -1,7 +1,7 @@
 use Rattle.std.proofs.Common.{◌≤◌, length, All}
 use Rattle.stab_circuit.specs.Steps.{unroll}
 use Rattle.stab_circuit.specs.Views.{circuit_items}
-use Rattle.stab_turns.specs.Sections.{IsSection}
+use Rattle.stab_replay.specs.Sections.{IsSection}
 use Rattle.stab_turns.proofs.outlining.outline_between.Given as goal
 
 abbrev pub invariant-loop-copy : goal.invariant-loop-copy

@@ -2,8 +2,8 @@ use Rattle.std.proofs.Common.{sym, subst, List, IsSomeAnd, get_or}
 use Rattle.std.proofs.lemmas.Option.{slice_get-get_or}
 use Rattle.stab_circuit.specs.Steps.{Step, unroll}
 use Rattle.stab_circuit.specs.Views.{circuit_items}
-use Rattle.stab_turns.specs.declared.sections.Section.{Section}
-use Rattle.stab_turns.specs.Sections.{IsSection}
+use Rattle.stab_replay.specs.declared.sections.Section.{Section}
+use Rattle.stab_replay.specs.Sections.{IsSection}
 use Rattle.stab_turns.proofs.outlining.section_between.Goals as goal
 
 pub returns-in-Some-find_again-clause-section : goal.returns-in-Some-find_again-clause-section

@@ -2,7 +2,7 @@ use Rattle.std.proofs.Common.{sym, ◌∙◌, ap, subst, arith, All, length, rep
 use Rattle.stab_run.specs.Points.{RunOutput, with_additions}
 use Rattle.stab_tableau.specs.Tableaus.{TableauState, stabilises}
 use Rattle.stab_tableau.specs.Turns.{IsTurned}
-use Rattle.stab_turns.specs.Sections.{IsSection}
+use Rattle.stab_replay.specs.Sections.{IsSection}
 use Rattle.stab_kept.specs.inner.Turned.{span_meeting}
 use Rattle.stab_kept.proofs.StateLemmas.{put-length, put-laid}
 use Rattle.stab_kept.proofs.kept.KeptRun.put.Goals as goal

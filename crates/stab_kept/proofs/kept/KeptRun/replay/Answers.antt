@@ -11,6 +11,8 @@ use Rattle.stab_run.specs.ProgramStates.{StepFits, output_of}
 use Rattle.stab_replay.specs.FramedReplays.{IsOldRun}
 use Rattle.stab_kept.specs.KeptRuns.{IsKeptRun, Follows}
 use Rattle.stab_replay.specs.Replays.{Ascending}
+use Rattle.stab_replay.specs.Sections.{IsSectionBehind}
+use Rattle.stab_replay.proofs.SectionLemmas.{behind-sections}
 use Rattle.stab_laws.proofs.FitLemmas.{check-fits, check-whole, check-steps}
 use Rattle.stab_kept.proofs.CountLemmas.{coins-behind}
 use Rattle.stab_kept.specs.inner.Prepared.{IsCount, IsCommitted}
@@ -176,6 +178,16 @@ follow-requires-clause-ascending g c =
     let begins = begun g at.In_ok-replay (few g at.After-as_slice) (first g at.After-count_before-before) in
     subst (λ cs. Ascending (planned c.steps.result c.args.stride c.args.span c.max.result c.len.result c.args.self.now.reach) c.in_ok-replay.replay.step (drop c.max.result cs)) (sym c.as_slice-3.ensures.value)
     (ascending-here c.requires.follows (few g at.After-as_slice) (first g at.After-count_before-before) begins (behind g at.After-as_slice-3) (planned c.steps.result c.args.stride c.args.span c.max.result c.len.result c.args.self.now.reach) refl refl (omega (arith, c.steps.ensures.value, few g at.After-as_slice)) c.max.ensures refl)
+
+pub follow-requires-clause-sections : goal.follow-requires-clause-sections
+follow-requires-clause-sections g c =
+    let at = goal.at.follow-requires-clause-sections g c in
+    let begins = begun g at.In_ok-replay (few g at.After-as_slice) (first g at.After-count_before-before) in
+    let f = c.requires.follows in
+    let ys = unroll (circuit_items c.args.circuit.now) in
+    subst (λ zs. All (IsSectionBehind c.args.span.old_end c.args.span.new_end zs) c.as_slice-4.result.now) (sym begins.all)
+    (subst (All (IsSectionBehind c.args.span.old_end c.args.span.new_end ys)) (sym c.as_slice-4.ensures.value)
+    (behind-sections f.old ys c.args.span.old_end c.args.span.new_end f.span.behind c.args.self.now.sections.items f.kept.sections))
 
 pub follow-requires-clause-same_qubits : goal.follow-requires-clause-same_qubits
 follow-requires-clause-same_qubits g c =

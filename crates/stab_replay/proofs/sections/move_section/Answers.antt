@@ -1,6 +1,6 @@
 use Rattle.std.proofs.Common.{refl, arith}
-use Rattle.stab_turns.proofs.SectionLemmas.{moved-before, moved-behind}
-use Rattle.stab_turns.proofs.sections.move_section.Goals as goal
+use Rattle.stab_replay.proofs.SectionLemmas.{moved-before, moved-behind}
+use Rattle.stab_replay.proofs.sections.move_section.Goals as goal
 
 pub returns-then-len-span : goal.returns-then-len-span
 returns-then-len-span c = record {

@@ -1,8 +1,8 @@
 use Rattle.std.proofs.Common.{◌≡◌, ℕ, ◌<◌, ◌≤◌, List, length, get_or, All}
 use Rattle.stab_circuit.specs.Steps.{Step}
-use Rattle.stab_turns.specs.declared.sections.Section.{Section}
-use Rattle.stab_turns.specs.Sections.{IsSection, IsMoved}
-use Rattle.stab_turns.proofs.sections.move_sections.Given as goal
+use Rattle.stab_replay.specs.declared.sections.Section.{Section}
+use Rattle.stab_replay.specs.Sections.{IsSection, IsMoved}
+use Rattle.stab_replay.proofs.sections.move_sections.Given as goal
 
 abbrev pub invariant-loop-place : goal.invariant-loop-place
 invariant-loop-place l = record {

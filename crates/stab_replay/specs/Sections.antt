@@ -3,7 +3,7 @@
 use Rattle.std.specs.Prelude.{◌≡◌, ℕ, ◌+◌, ◌-◌, ◌≤◌, List, length, take, drop}
 use Rattle.stab_circuit.specs.Steps.{Step}
 use Rattle.stab_circuit.specs.declared.edit.Span.{Span}
-use Rattle.stab_turns.specs.declared.sections.Section.{Section}
+use Rattle.stab_replay.specs.declared.sections.Section.{Section}
 
 -- the outline of a section is that of the steps from its first on
 pub record IsSection (xs : List Step) (s : Section) : Type 0 where

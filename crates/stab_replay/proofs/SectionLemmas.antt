@@ -5,8 +5,8 @@ use Rattle.std.proofs.lemmas.Grind.{get_or-set_at}
 use Rattle.std.proofs.lemmas.List.{get_or-set_other, take-take, drop-take, drop-drop, length-take, length-drop}
 use Rattle.stab_circuit.specs.Steps.{Step}
 use Rattle.stab_circuit.specs.declared.edit.Span.{Span}
-use Rattle.stab_turns.specs.declared.sections.Section.{Section}
-use Rattle.stab_turns.specs.Sections.{IsSection, IsSectionBehind, IsMoved}
+use Rattle.stab_replay.specs.declared.sections.Section.{Section}
+use Rattle.stab_replay.specs.Sections.{IsSection, IsSectionBehind, IsMoved}
 
 -- some of the first steps, by those of a longer front
 
@@ -65,7 +65,7 @@ behind-sections xs ys old_end new_end same sections are = λ i d lt le.
     is.steps ∙ ap (take (length (get_or sections i d).outline)) (steps-behind xs ys old_end new_end same (get_or sections i d).first le)
 
 -- a section of no steps
-pub no-section : (ys : List Step) (a : Section) → a.outline ≡ [] → a.first ≡ 0 → IsSection ys a
+pub no-section : (ys : List Step) (a : Section) → a.outline ≡ [] → a.first ≤ length ys → IsSection ys a
 no-section ys a none first = record {
   within = omega (arith, first, ap length none);
   steps = none ∙ ap (λ k. take k (drop a.first ys)) (sym (ap length none));

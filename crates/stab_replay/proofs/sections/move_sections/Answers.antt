@@ -1,8 +1,8 @@
 use Rattle.std.proofs.Common.{◌<◌, ◌∙◌, sym, subst, length, arith}
 use Rattle.std.proofs.lemmas.List.{length-set, get_or-set_other}
-use Rattle.stab_turns.specs.Sections.{IsSection}
-use Rattle.stab_turns.proofs.SectionLemmas.{one-more}
-use Rattle.stab_turns.proofs.sections.move_sections.Goals as goal
+use Rattle.stab_replay.specs.Sections.{IsSection}
+use Rattle.stab_replay.proofs.SectionLemmas.{one-more}
+use Rattle.stab_replay.proofs.sections.move_sections.Goals as goal
 
 pub loop-place-preserved : goal.loop-place-preserved
 loop-place-preserved c =

@@ -1,6 +1,6 @@
 ghost use Rattle.std.specs.Prelude.{◌≡◌, ◌≤◌, List, All, length};
 ghost use Rattle.stab_circuit.specs.Steps.{Step, most_steps};
-ghost use Rattle.stab_turns.specs.Sections.{IsSection, IsMoved};
+ghost use Rattle.stab_replay.specs.Sections.{IsSection, IsMoved};
 
 use stab_circuit::Span;
 use stab_outlines::Outline;
@@ -13,7 +13,8 @@ pub struct Section {
     pub outline: Outline,
 }
 
-/// Makes a section that of steps that are others within a span: where it stands before the span or behind it, and else it is of no steps.
+/// Makes a section that of steps that are others within a span: where it stands before the span or behind it, and else it is of no steps
+/// at the end of that. So sections that stand in order still do.
 fn move_section(alloc: Global, section: &mut Section, span: Span)
     ensures moved { (xs ys : List Step) → length ys ≤ most_steps → IsMoved xs ys span → IsSection xs section.old → IsSection ys section.new }
 {
@@ -24,7 +25,7 @@ fn move_section(alloc: Global, section: &mut Section, span: Span)
         section.first = span.new_end.saturating_add(section.first - span.old_end);
         return;
     }
-    section.first = 0;
+    section.first = span.new_end;
     section.outline = Outline::none(alloc);
 }
 
