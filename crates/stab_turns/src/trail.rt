@@ -39,6 +39,7 @@ impl Drop for Trail<'_> {
 impl<'a> Model for Trail<'a> {
     ghost use Rattle.std.specs.Prelude.{◌≡◌, ◌≤◌, length, drop};
     ghost use Rattle.std.specs.Option.{ForSome};
+    ghost use Rattle.stab_circuit.specs.Steps.{most_steps};
     ghost use Rattle.stab_circuit.specs.Cursors.{CursorState};
 
     ghost Value = { CursorState };
@@ -47,6 +48,7 @@ impl<'a> Model for Trail<'a> {
 
     ghost invariant = { λ t.
         (t.step ≤ length t.outlined)
+        × (length t.outlined ≤ most_steps)
         × ForSome t.cursor (λ c. c.left ≡ drop t.step t.outlined) };
 }
 
