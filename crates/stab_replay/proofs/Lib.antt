@@ -11,6 +11,7 @@ mod OverCopyLemmas
 pub mod SectionLemmas
 pub mod OutlinedLemmas
 mod LedLemmas
+mod MovedLemmas
 mod LedWayLemmas
 pub mod CutLemmas
 pub mod AgainLemmas

@@ -149,10 +149,10 @@ meets-agree n reach coins xs zs c t o records free h kept flags run meets = (
 -- two runs that come to points of one future before step i of one and step k of the other, and have the same steps from there on
 
 module _ (n : ℕ) (coins : ℕ → Bool) (xs ys : List Step) (i k : ℕ) (same : drop i xs ≡ drop k ys) where
-  old_later : (m : ℕ) → point_after n coins (take (i + m) xs) origin ≡ point_after n coins (take m (drop i xs)) (point_after n coins (take i xs) origin)
+  pub old_later : (m : ℕ) → point_after n coins (take (i + m) xs) origin ≡ point_after n coins (take m (drop i xs)) (point_after n coins (take i xs) origin)
   old_later m = ap (λ zs. point_after n coins zs origin) (take-more i m xs) ∙ after-append n coins (take i xs) (take m (drop i xs)) origin
 
-  new_later : (m : ℕ) → point_after n coins (take (k + m) ys) origin ≡ point_after n coins (take m (drop i xs)) (point_after n coins (take k ys) origin)
+  pub new_later : (m : ℕ) → point_after n coins (take (k + m) ys) origin ≡ point_after n coins (take m (drop i xs)) (point_after n coins (take k ys) origin)
   new_later m =
       ap (λ zs. point_after n coins zs origin) (take-more k m ys ∙ ap (λ zs. take k ys ++ take m zs) (sym same))
       ∙ after-append n coins (take k ys) (take m (drop i xs)) origin

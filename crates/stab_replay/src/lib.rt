@@ -1,12 +1,13 @@
 //! Replays: runs that begin at a copy of an older run's state, and may meet the older run again.
 //!
 //! In the order in which data flows; each module uses only those before it, but that `framed`, `led`,
-//! `laying`, `rhythm`, `again` and `turned` add calls to the replay of `replay`:
+//! `moved`, `laying`, `rhythm`, `again` and `turned` add calls to the replay of `replay`:
 //!
 //! - `sections`: outlines of parts of a run's steps, and where they stand once some steps are others.
 //! - `outlined`: the steps of a circuit, some of which have outlines.
 //! - `framed`: a replay that goes on by a frame, from a copy of an older run to the next one.
 //! - `led`: a replay that a frame leads from copy to copy, as far as it can.
+//! - `moved`: old copies that a replay can't meet, since its coins have other numbers.
 //! - `laying`: where a replay lays copies of the state, and what these share.
 //! - `rhythm`: where a replay stops next, so that its copies stand alike in each round of a block.
 //! - `again`: a replay that stands in a block where it stood before, and gives the same again.
@@ -29,6 +30,7 @@ mod again;
 mod framed;
 mod laying;
 mod led;
+mod moved;
 mod outlined;
 mod replay;
 mod rhythm;

@@ -260,6 +260,7 @@ impl<'a> Replay<'a> {
         ensures changed { OnOk result (min self.new.step plan.new_end + self.old.applied ≤ min self.old.step plan.new_end + self.new.applied) }
         ensures err { IfErr result (λ r. r ≡ OutOfMemory) }
     {
+        let next = self.pass_moved(repeats, plan, copies, old, next);
         let led = self.frame_on(alloc, circuit, copies, old, strings, sections, plan, next)?;
         if !led.there {
             let place = plan.place(copies, led.next);

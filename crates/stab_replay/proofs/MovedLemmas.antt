@@ -1,0 +1,123 @@
+-- Moved coins: where a replay's next coin has another number than the old run's, the two agree at no later old copy.
+use Rattle.std.proofs.Common.{◌≡◌, ◌≢◌, ℕ, suc, zero, ◌+◌, ◌-◌, ◌<◌, ◌≤◌, refl, sym, ◌∙◌, ap, subst, Bool, inl, inr, List, [], ◌∷◌, All, Option, Some, None, length, take, drop, slice_get, arith}
+use Rattle.std.specs.Prelude.{IfSome, IsSomeAnd}
+use Rattle.std.proofs.lemmas.Bool.{cases_lt}
+use Rattle.std.proofs.lemmas.List.{length-drop}
+use Rattle.stab_circuit.specs.Steps.{Step}
+use Rattle.stab_steps.specs.declared.records.Lengths.{Lengths}
+use Rattle.stab_copies.specs.declared.checkpoint.Checkpoint.{Checkpoint}
+use Rattle.stab_copies.specs.Checkpoints.{IsCheckpoint}
+use Rattle.stab_run.specs.Points.{Point, RunOutput, origin, point_after, all_coins_of}
+use Rattle.stab_frames.specs.KeptStrings.{StringsState}
+use Rattle.stab_frames.proofs.OverLemmas.{coin-after}
+use Rattle.stab_laws.proofs.PointLemmas.{flags-are-coins}
+use Rattle.stab_replay.specs.declared.replay.Plan.{Plan}
+use Rattle.stab_replay.specs.declared.replay.Replay.{Replay}
+use Rattle.stab_replay.specs.Replays.{IsAtStep, Ascending, Misses, IsOnWay, step_among_new}
+use Rattle.stab_replay.specs.FramedReplays.{IsOldRun}
+use Rattle.stab_replay.specs.inner.LedReplays.{IsBeside}
+use Rattle.stab_replay.proofs.LedLemmas.{at-number}
+use Rattle.stab_replay.proofs.PointLemmas.{old_later, new_later}
+use Rattle.stab_replay.proofs.SectionLemmas.{steps-behind}
+
+-- the number of the next coin where a copy stands
+copy-coin : (n : ℕ) (coins : ℕ → Bool) (xs : List Step) (c : Checkpoint) → IsCheckpoint n coins xs c → c.lengths.free ≡ (point_after n coins (take c.step xs) origin).coin
+copy-coin n coins xs c is = ap (λ (l : Lengths). l.free) is.lengths ∙ flags-are-coins n coins (take c.step xs)
+
+-- so many steps on it is greater by as much in both runs, whose steps are the same there
+
+more-coins : (n : ℕ) (coins : ℕ → Bool) (xs : List Step) (a b : Point) → a ≡ point_after n coins xs b → a.coin ≡ b.coin + all_coins_of xs
+more-coins n coins xs a b same = ap (λ (q : Point). q.coin) same ∙ coin-after n coins xs b
+
+module _ (n : ℕ) (coins : ℕ → Bool) (p : Plan) (ys : List Step) (copies : List Checkpoint) (o : RunOutput) (s : StringsState) (old : IsOldRun n coins p ys copies o s)
+    (few : length ys ≤ 1048576) (b c : Checkpoint) (from : IsCheckpoint n coins old.steps b) (to : IsCheckpoint n coins old.steps c) (behind : p.old_end ≤ b.step)
+    (order : b.step ≤ c.step) (r : Replay) (at : IsAtStep n coins ys r) (place : step_among_new p b ≡ r.step) where
+  -- where the replay stands, and where it comes to the later copy
+  here : p.new_end + (b.step - p.old_end) ≡ r.step
+  here =
+      let within = at.within in
+      omega (arith, place, within, few)
+
+  there : step_among_new p c ≡ r.step + (c.step - b.step)
+  there =
+      let end = old.new_within in
+      let old_end = old.old_within in
+      let within = to.within in
+      omega (arith, here, few, end, old_end, within, behind, order, length-drop p.old_end old.steps, length-drop p.new_end ys, ap length old.behind)
+
+  same-steps : drop b.step old.steps ≡ drop r.step ys
+  same-steps = steps-behind old.steps ys p.old_end p.new_end old.behind b.step behind ∙ ap (λ k. drop k ys) here
+
+  old-coin : c.lengths.free ≡ b.lengths.free + all_coins_of (take (c.step - b.step) (drop b.step old.steps))
+  old-coin =
+      copy-coin n coins old.steps c to
+      ∙ ap (λ k. (point_after n coins (take k old.steps) origin).coin) (omega (arith, order))
+      ∙ more-coins n coins (take (c.step - b.step) (drop b.step old.steps)) _ (point_after n coins (take b.step old.steps) origin)
+      (old_later n coins old.steps ys b.step r.step same-steps (c.step - b.step))
+      ∙ ap (λ k. k + all_coins_of (take (c.step - b.step) (drop b.step old.steps))) (sym (copy-coin n coins old.steps b from))
+
+  new-coin : (point_after n coins (take (step_among_new p c) ys) origin).coin ≡ length r.outputs.free.items + all_coins_of (take (c.step - b.step) (drop b.step old.steps))
+  new-coin =
+      ap (λ k. (point_after n coins (take k ys) origin).coin) there
+      ∙ more-coins n coins (take (c.step - b.step) (drop b.step old.steps)) _ (point_after n coins (take r.step ys) origin)
+      (new_later n coins old.steps ys b.step r.step same-steps (c.step - b.step))
+      ∙ ap (λ k. k + all_coins_of (take (c.step - b.step) (drop b.step old.steps)))
+      (sym (ap (λ (x : RunOutput). length x.free) at.run.output ∙ flags-are-coins n coins (take r.step ys)))
+
+  pub misses-moved : b.lengths.free ≢ length r.outputs.free.items → (records : List Bool) → Misses n coins p ys records c
+  misses-moved apart records xs is kept agree =
+      apart (omega (arith, old-coin, new-coin, copy-coin n coins xs c is, agree.coin))
+
+-- copies behind the next one stand no earlier
+pub ascending-from : (p : Plan) (step next later : ℕ) (cs : List Checkpoint) → Ascending p step (drop next cs) → next ≤ later → Ascending p step (drop later cs)
+ascending-from p step zero zero cs h le = h
+ascending-from p step zero (suc later) [] h le = h
+ascending-from p step zero (suc later) (c ∷ cs) h le = ascending-from p step zero later cs (ascending-less p step (step_among_new p c) cs h.0 h.1) (omega arith)
+  where
+    ascending-less : (p : Plan) (step more : ℕ) (cs : List Checkpoint) → step ≤ more → Ascending p more cs → Ascending p step cs
+    ascending-less p step more [] le h = omega (arith, le, h)
+    ascending-less p step more (c ∷ cs) le h = let first = h.0 in (omega (arith, le, first), h.1)
+ascending-from p step (suc next) zero cs h le = absurd (omega (arith, le))
+ascending-from p step (suc next) (suc later) [] h le = h
+ascending-from p step (suc next) (suc later) (c ∷ cs) h le = ascending-from p step next later cs h (omega (arith, le))
+
+-- a replay on its way may pass copies that it misses
+pub way-past : (n : ℕ) (coins : ℕ → Bool) (begin : ℕ) (p : Plan) (ys : List Step) (copies : List Checkpoint) (old : List Bool) (next later : ℕ) (r : Replay)
+    → IsOnWay n coins begin p ys copies old next r → next ≤ later → later ≤ length copies
+    → ((number : ℕ) → next ≤ number → number < later → IfSome (slice_get copies number) (Misses n coins p ys old)) → IsOnWay n coins begin p ys copies old later r
+way-past n coins begin p ys copies old next later r way le within missed =
+    let stop = way.stop in
+    record {
+      stop = record {
+        replay = stop.replay;
+        counted = stop.counted;
+        order = let first = stop.order in omega (arith, first, le);
+        within = within;
+        ascending = ascending-from p r.step next later copies stop.ascending le;
+        base = stop.base;
+        same = stop.same;
+        missed = λ number from before.
+            elim (cases_lt number next) [
+              | inl lt ↦ stop.missed number from lt
+              | inr ge ↦ missed number ge before
+            ];
+      };
+      last = way.last;
+    }
+
+-- where it stands at the place of an old copy with another number of the next coin, later old copies of the list are missed
+pub all-moved : (n : ℕ) (coins : ℕ → Bool) (p : Plan) (ys : List Step) (copies : List Checkpoint) (o : RunOutput) (s : StringsState) (r : Replay) → IsBeside n coins p ys copies o s r
+    → length ys ≤ 1048576 → (last : ℕ) (b : Checkpoint) → slice_get copies last ≡ Some b
+    → IsSomeAnd (slice_get copies last) (λ c. (p.old_end ≤ c.step) × (step_among_new p c ≡ r.step) × (c.lengths.free ≢ length r.outputs.free.items)) → (number : ℕ)
+    → IfSome (slice_get copies number) (λ c. b.step ≤ c.step) → IfSome (slice_get copies number) (Misses n coins p ys o.records)
+all-moved n coins p ys copies o s r beside few last b from moved number behind =
+    later (slice_get copies number) refl behind
+  where
+    held : (p.old_end ≤ b.step) × (step_among_new p b ≡ r.step) × (b.lengths.free ≢ length r.outputs.free.items)
+    held = subst (λ m. IsSomeAnd m (λ c. (p.old_end ≤ c.step) × (step_among_new p c ≡ r.step) × (c.lengths.free ≢ length r.outputs.free.items))) from moved
+
+    later : (found : Option Checkpoint) → slice_get copies number ≡ found → IfSome found (λ c. b.step ≤ c.step) → IfSome found (Misses n coins p ys o.records)
+    later None to behind = tt
+    later (Some c) to behind =
+        misses-moved n coins p ys copies o s beside.old few b c (at-number (IsCheckpoint n coins beside.old.steps) copies last b from beside.old.are_copies)
+        (at-number (IsCheckpoint n coins beside.old.steps) copies number c to beside.old.are_copies) held.0 behind r beside.at_step held.1 held.2 o.records

@@ -1,0 +1,87 @@
+ghost use Rattle.std.specs.Prelude.{◌≡◌, ◌≢◌, ℕ, ◌-◌, ◌<◌, ◌≤◌, Bool, true, IfSome, IsSomeAnd, length, slice_get};
+ghost use Rattle.stab_circuit.specs.Steps.{most_steps};
+ghost use Rattle.stab_run.specs.ProgramStates.{output_of};
+ghost use Rattle.stab_frames.specs.KeptStrings.{StringsState};
+ghost use Rattle.stab_replay.specs.Replays.{Misses, step_among_new};
+ghost use Rattle.stab_replay.specs.inner.LedReplays.{IsBeside};
+
+use crate::replay::{Plan, Replay};
+use crate::rhythm::{block_at, end_of};
+use stab_circuit::Repeat;
+use stab_copies::{Checkpoint, has_one, shifted};
+use stab_frames::between;
+use stab_run::Outputs;
+
+/// Where a block has so many strides left, its rounds come again in less time than a frame of many letters takes from copy to copy.
+const MANY_STRIDES: usize = 16;
+
+impl Plan {
+    ghost use Rattle.std.specs.Prelude.{◌≡◌, ℕ, ◌<◌, ◌≤◌, IfSome, length, slice_get};
+
+    /// The number of the first old copy, from one on, that stands before some old step, or not before some new one.
+    fn first_from(self, copies: &[Checkpoint], next: usize, begin: usize, end: usize) -> usize
+        requires next { next ≤ length copies.now }
+        ensures order { next ≤ result }
+        ensures within { result ≤ length copies.now }
+        ensures among { (number : ℕ) → next ≤ number → number < result → IfSome (slice_get copies.now number) (λ c. begin ≤ c.step) }
+    {
+        for number in next..copies.len() {
+            let copy = &copies[number];
+            if copy.step < begin || shifted(self.old_end, self.new_end, copy.step) >= end {
+                return number;
+            }
+        }
+        copies.len()
+    }
+}
+
+impl<'a> Replay<'a> {
+    /// Whether the replay stands at the place of the old copy before the one that may be met next, and its next coin has another number
+    /// there.
+    fn has_moved_coins(&self, plan: Plan, copies: &[Checkpoint], next: usize) -> bool
+        ensures behind { result ≡ true → 1 ≤ next }
+        ensures moved { result ≡ true → IsSomeAnd (slice_get copies.now (next - 1)) (λ c. (plan.old_end ≤ c.step) × (step_among_new plan c ≡ self.now.step) × (c.lengths.free ≢ length self.now.outputs.free.items)) }
+    {
+        if next == 0 || next > copies.len() {
+            return false;
+        }
+        let copy = &copies[next - 1];
+        plan.old_end <= copy.step
+            && shifted(plan.old_end, plan.new_end, copy.step) == self.step
+            && copy.lengths.free != self.outputs.free.len()
+    }
+
+    /// Passes old copies in the block of the replay's step that can't be met: where its next coin has another number than the old run's,
+    /// and coins decide behind these copies, no more of the old run can be kept there. So the block's rounds may come again, as those of
+    /// a run that is opened do. Tells which old copy may be met next.
+    pub(crate) fn pass_moved(
+        &self,
+        repeats: &[Repeat],
+        plan: Plan,
+        copies: &[Checkpoint],
+        old: &Outputs,
+        next: usize,
+    ) -> usize
+        requires next { next ≤ length copies.now }
+        requires stride { 1 ≤ plan.stride }
+        ensures order { next ≤ result }
+        ensures within { result ≤ length copies.now }
+        ensures missed { (coins : ℕ → Bool) (s : StringsState) → IsBeside self.now.tableau.qubits coins plan self.now.cursor.all copies.now (output_of old.now) s self.now → length self.now.cursor.all ≤ most_steps → (number : ℕ) → next ≤ number → number < result → IfSome (slice_get copies.now number) (Misses self.now.tableau.qubits coins plan self.now.cursor.all old.now.records.items) }
+    {
+        let Some(block) = block_at(repeats, self.step) else {
+            return next;
+        };
+        let end = end_of(block);
+        let strides = end.saturating_sub(self.step) / plan.stride;
+        if strides < MANY_STRIDES || !self.has_moved_coins(plan, copies, next) {
+            return next;
+        }
+        let number = plan.first_from(copies, next, copies[next - 1].step, end);
+        let last = copies[number - 1].lengths.free;
+        if has_one(between(old.free.as_slice(), last, old.free.len())) {
+            number
+        } else {
+            next
+        }
+    }
+}
