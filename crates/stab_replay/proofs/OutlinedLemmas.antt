@@ -18,7 +18,7 @@ next-steps all left outline step count value there = value ∙ ap (take count) (
 pub enough-front : (n : ℕ) (notes : ℕ → Option (List Letter)) (free : List Bool) (left front : List Step) (count steps : ℕ) (w : WalkState) → front ≡ take count left
     → steps ≤ length front
     → ((coins : ℕ → Bool) (a : Point) (base : ℕ) (behind : List Step) → a.coin ≡ w.coin → AreTrue n coins notes (front ++ behind) a
-        → (outputs n coins (front ++ behind) a).free ≡ drop w.coin free → AreEnough n coins (same_coins notes) (take steps front) (frame_at base w) a)
+    → (outputs n coins (front ++ behind) a).free ≡ drop w.coin free → AreEnough n coins (same_coins notes) (take steps front) (frame_at base w) a)
     → AreEnoughBy n notes free left steps w
 enough-front n notes free left front count steps w value few enough = λ coins a base same is flags.
     let whole : front ++ drop count left ≡ left = ap (λ xs. xs ++ drop count left) value ∙ take-append-drop count left in

@@ -277,15 +277,7 @@ impl<'a> Replay<'a> {
         ensures err { IfErr result (λ r. r ≡ OutOfMemory) }
     {
         let Some(outline) = outlined.outline(self.step, count) else {
-            return Ok(walk_steps(
-                walk,
-                strings,
-                free,
-                &mut self.cursor,
-                count,
-                reach,
-                may_end,
-            )?);
+            return Ok(walk_steps(walk, strings, free, &mut self.cursor, count, reach, may_end)?);
         };
         let walked = walk_outline(walk, strings, free, outline, reach, may_end)?;
         if walked.stop != Stop::NoString {

@@ -167,7 +167,9 @@ impl<'a> Replay<'a> {
         let coin = self.outputs.free.len();
         let joins = may_have_coin(&copies[next - 1], old.free.as_slice(), coin);
         for number in next..copies.len() {
-            match self.pass_copy(alloc, outlined, copies, old, strings, plan, number, &mut walk, joins)? {
+            match self.pass_copy(
+                alloc, outlined, copies, old, strings, plan, number, &mut walk, joins,
+            )? {
                 Passage::Passed => passed = true,
                 Passage::Arrived => return Ok(Led {
                     next: number,
