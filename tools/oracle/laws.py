@@ -12,7 +12,7 @@ from .making import Maker, damaged, small_circuit
 from .numbers import check
 from .reading import Block, Refused, items_of
 from .script_making import edits
-from .scripts import Session, printing
+from .scripts import Session, play, printing
 
 # What leaves each qubit 0 or 1, so that hardly a coin decides and most rounds come again.
 STILL = ["X", "Z", "CX", "CZ", "SWAP", "M", "MR", "R"]
@@ -132,6 +132,9 @@ def long_block(random):
     return maker.n, block, "\n".join([*before, *body * rounds, *behind]).encode()
 
 
+# What uses up a coin on one qubit.
+MEASURED = ["M", "MX", "MRY", "R"]
+
 # A block that changes nothing: where a circuit has one, no rounds are looked for that are written out.
 STILL_BLOCK = b"\nREPEAT 2 {\nI 0\n}\n"
 
@@ -159,7 +162,12 @@ def sessions_as_written_out(random, run):
     """A session on a long block, and some edits of it, at any stride, against one opened anew on what they leave, written out and carried out line by line; and one opened on these lines."""
     n, block, _ = long_block(random)
     session = Session(items_of(block), n, None)
-    script = edits(random, session, random.randint(0, 4))
+    script = b""
+    if random.random() < 0.5:
+        # Behind it all coins, and records but for a reset, have other numbers.
+        script = f"insert {random.randint(0, len(session.items))} {random.choice(MEASURED)} {random.randrange(n)}\n".encode()
+        play(session, script)
+    script += edits(random, session, random.randint(0, 4))
     words = ["edit", "--qubits", str(n), "--seed", str(random.randrange(2**32))]
     stride = str(random.choice([1, 2, 7, 8, 30, 100, 300, 1000, 3000, 8192]))
     answer = run([*words, "--stride", stride], block, script + LISTS)
