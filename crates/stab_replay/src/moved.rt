@@ -12,8 +12,9 @@ use stab_copies::{Checkpoint, has_one, shifted};
 use stab_frames::between;
 use stab_run::Outputs;
 
-/// Where a block has so many strides left, its rounds come again in less time than a frame of many letters takes from copy to copy.
-const MANY_STRIDES: usize = 16;
+/// Where a block has so many periods left, in which copies may stand alike, its rounds come again in less time than a frame of many
+/// letters takes from copy to copy.
+const MANY_PERIODS: usize = 16;
 
 impl Plan {
     ghost use Rattle.std.specs.Prelude.{◌≡◌, ℕ, ◌<◌, ◌≤◌, IfSome, length, slice_get};
@@ -51,6 +52,19 @@ impl<'a> Replay<'a> {
             && copy.lengths.free != self.outputs.free.len()
     }
 
+    /// The end of the block of the replay's step, if its rounds may come again many times before that.
+    fn end_of_many(&self, repeats: &[Repeat], plan: Plan) -> Option<usize>
+        requires stride { 1 ≤ plan.stride }
+    {
+        let block = block_at(repeats, self.step)?;
+        let rhythm = plan.rhythm(block)?;
+        let end = end_of(block);
+        if end.saturating_sub(self.step) / MANY_PERIODS < rhythm.period {
+            return None;
+        }
+        Some(end)
+    }
+
     /// Passes old copies in the block of the replay's step that can't be met: where its next coin has another number than the old run's,
     /// and coins decide behind these copies, no more of the old run can be kept there. So the block's rounds may come again, as those of
     /// a run that is opened do. Tells which old copy may be met next.
@@ -68,12 +82,10 @@ impl<'a> Replay<'a> {
         ensures within { result ≤ length copies.now }
         ensures missed { (coins : ℕ → Bool) (s : StringsState) → IsBeside self.now.tableau.qubits coins plan self.now.cursor.all copies.now (output_of old.now) s self.now → length self.now.cursor.all ≤ most_steps → (number : ℕ) → next ≤ number → number < result → IfSome (slice_get copies.now number) (Misses self.now.tableau.qubits coins plan self.now.cursor.all old.now.records.items) }
     {
-        let Some(block) = block_at(repeats, self.step) else {
+        let Some(end) = self.end_of_many(repeats, plan) else {
             return next;
         };
-        let end = end_of(block);
-        let strides = end.saturating_sub(self.step) / plan.stride;
-        if strides < MANY_STRIDES || !self.has_moved_coins(plan, copies, next) {
+        if !self.has_moved_coins(plan, copies, next) {
             return next;
         }
         let number = plan.first_from(copies, next, copies[next - 1].step, end);

@@ -10,9 +10,9 @@ const MOST_COPIES: usize = 32;
 
 /// At which places a replay lays copies in a block: so that they stand alike in later rounds.
 #[derive(Clone, Copy)]
-struct Rhythm {
+pub(crate) struct Rhythm {
     /// How many steps some whole rounds have.
-    period: usize,
+    pub(crate) period: usize,
     /// How many copies are laid on the way through them, at least 1.
     copies: usize,
 }
@@ -69,6 +69,22 @@ fn rhythm_of(length: usize, least: usize, most: usize) -> Option<Rhythm>
     None
 }
 
+impl Plan {
+    ghost use Rattle.std.specs.Prelude.{◌<◌, ◌≤◌, IfSome};
+
+    /// At which places copies are laid in a block so that they stand alike in later rounds, if these are not too long for that.
+    pub(crate) fn rhythm(self, block: Repeat) -> Option<Rhythm>
+        requires stride { 1 ≤ self.stride }
+        ensures some { IfSome result (λ r. 0 < r.copies) }
+    {
+        if block.length == 0 {
+            return None;
+        }
+        let most = self.stride - self.stride / 16;
+        rhythm_of(block.length, self.spacing(), most)
+    }
+}
+
 impl<'a> Replay<'a> {
     ghost use Rattle.std.specs.Prelude.{◌≡◌, ◌⊎◌, ◌+◌, ◌<◌, ◌≤◌, Some, IfSome};
     ghost use Rattle.stab_replay.specs.Replays.{spacing_of};
@@ -101,11 +117,7 @@ impl<'a> Replay<'a> {
         ensures within { IfSome result (λ aim. (stop ≤ aim) × (aim ≤ limit)) }
     {
         let block = block_at(repeats, self.step)?;
-        if block.length == 0 {
-            return None;
-        }
-        let most = plan.stride - plan.stride / 16;
-        let rhythm = rhythm_of(block.length, plan.spacing(), most)?;
+        let rhythm = plan.rhythm(block)?;
         let aim = self.aim(block, rhythm);
         if aim < stop || aim > limit {
             return None;
