@@ -38,6 +38,7 @@ mod SplitLineLemmas
 mod GapLemmas
 pub mod PieceLemmas
 mod GapPartLemmas
+mod FinerLemmas
 mod RepeatLemmas
 pub mod EachRoundLemmas
 pub mod SameLemmas

@@ -8,15 +8,12 @@ use Rattle.stab_items.specs.Steps.{Step, rounds, unroll, looks_too_far}
 use Rattle.stab_items.specs.inner.Summaries.{reach}
 use Rattle.stab_items.specs.inner.Chunks.{flattened}
 use Rattle.stab_circuit.specs.Repeats.{IsRepeat, AreRepeats, repeated_blocks}
-use Rattle.stab_circuit.specs.inner.Repeats.{repeat_in, repeats_in}
+use Rattle.stab_circuit.specs.inner.Repeats.{finer, repeat_as, repeat_in, repeats_in}
 use Rattle.stab_items.proofs.StepLemmas.{length-rounds, looks_too_far_reach}
+use Rattle.stab_circuit.proofs.FinerLemmas.{IsFiner, is-finer}
 use Rattle.stab_circuit.proofs.EditLemmas.{steps-append}
 use Rattle.stab_circuit.proofs.ChunkLemmas.{flattened_from}
 use Rattle.stab_circuit.proofs.WalkLemmas.{unroll_before}
-
--- a block before which so many steps stand, by its rounds
-abbrev repeat_as : ℕ → ℕ → List Step → Repeat
-repeat_as first n ss = record { first = first; length = length ss; rounds = n; reach = reach ss }
 
 -- one list behind another
 repeats-append : (first : ℕ) (xs ys : List OneItem) → repeats_in first (xs ++ ys) ≡ repeats_in first xs ++ repeats_in (first + length (unroll (listed xs))) ys
@@ -89,7 +86,7 @@ pub length-repeats : (first : ℕ) (xs : List OneItem) → length (repeats_in fi
 length-repeats first [] = refl
 length-repeats first (operation op ∷ xs) = length-repeats (first + length (unroll (before (operation op) done))) xs
 length-repeats first (repeat count tag body ∷ xs) =
-    one_or_none (nat_lt 0 (length (unroll body)) && nat_lt 1 count) (repeat_as first count (unroll body)) _ _ (length-repeats (first + length (unroll (before (repeat count tag body) done))) xs)
+    one_or_none (nat_lt 0 (length (unroll body)) && nat_lt 1 count) (repeat_as first (finer count body)) _ _ (length-repeats (first + length (unroll (before (repeat count tag body) done))) xs)
 
 -- a block among the steps
 
@@ -101,7 +98,7 @@ first_round zero ss rest h = absurd (omega (arith, h))
 first_round (suc n) ss rest h = ap (take (length ss)) (append_assoc ss (rounds n ss) rest) ∙ take_at ss (rounds n ss ++ rest) (length ss) refl
 
 repeated : (front ss rest : List Step) (n : ℕ) → 0 < length ss → 1 < n
-    → IsRepeat (front ++ (rounds n ss ++ rest)) (repeat_as (length front) n ss)
+    → IsRepeat (front ++ (rounds n ss ++ rest)) (repeat_as (length front) (n, ss))
 repeated front ss rest n some many =
     let all = front ++ (rounds n ss ++ rest) in
     let behind : drop (length front) all ≡ rounds n ss ++ rest = drop_at front (rounds n ss ++ rest) (length front) refl in
@@ -120,12 +117,18 @@ later : (from n : ℕ) (all : List Step) (rs : List Repeat) → from ≤ n → A
 later from n all [] h a = tt
 later from n all (r ∷ rs) h a = (omega (arith, h, a.0), a.1, a.2)
 
-block_chosen : (a b : Bool) (front ss rest : List Step) (n from behind : ℕ) (rs : List Repeat) → nat_lt 0 (length ss) ≡ a → nat_lt 1 n ≡ b → from ≤ length front → behind ≡ length front + n * length ss
-    → AreRepeats behind (front ++ (rounds n ss ++ rest)) rs → AreRepeats from (front ++ (rounds n ss ++ rest)) ((if a && b then repeat_as (length front) n ss ∷ [] else []) ++ rs)
-block_chosen true true front ss rest n from behind rs e f h at more =
-    (h, repeated front ss rest n (ltb-true 0 (length ss) e) (ltb-true 1 n f), subst (λ k. AreRepeats k (front ++ (rounds n ss ++ rest)) rs) at more)
-block_chosen true false front ss rest n from behind rs e f h at more = later from behind (front ++ (rounds n ss ++ rest)) rs (omega (arith, h, at)) more
-block_chosen false b front ss rest n from behind rs e f h at more = later from behind (front ++ (rounds n ss ++ rest)) rs (omega (arith, h, at)) more
+block_chosen : (a b : Bool) (front ss rest : List Step) (n from behind : ℕ) (f : ℕ × List Step) (rs : List Repeat) → nat_lt 0 (length ss) ≡ a → nat_lt 1 n ≡ b
+    → (0 < length ss → 1 < n → IsFiner n ss f) → from ≤ length front → behind ≡ length front + n * length ss
+    → AreRepeats behind (front ++ (rounds n ss ++ rest)) rs → AreRepeats from (front ++ (rounds n ss ++ rest)) ((if a && b then repeat_as (length front) f ∷ [] else []) ++ rs)
+block_chosen true true front ss rest n from behind f rs some many is h at more =
+    let fine = is (ltb-true 0 (length ss) some) (ltb-true 1 n many) in
+    let same : n * length ss ≡ f.0 * length f.1 = sym (length-rounds n ss) ∙ ap length (sym fine.same) ∙ length-rounds f.0 f.1 in (
+      h,
+      subst (λ zs. IsRepeat (front ++ (zs ++ rest)) (repeat_as (length front) f)) fine.same (repeated front f.1 rest f.0 fine.some fine.many),
+      subst (λ k. AreRepeats k (front ++ (rounds n ss ++ rest)) rs) (at ∙ ap (λ k. length front + k) same) more,
+    )
+block_chosen true false front ss rest n from behind f rs some many is h at more = later from behind (front ++ (rounds n ss ++ rest)) rs (omega (arith, h, at)) more
+block_chosen false b front ss rest n from behind f rs some many is h at more = later from behind (front ++ (rounds n ss ++ rest)) rs (omega (arith, h, at)) more
 
 are_repeats : (front : List Step) (xs : List OneItem) (from : ℕ) → from ≤ length front → AreRepeats from (front ++ unroll (listed xs)) (repeats_in (length front) xs)
 are_repeats front [] from h = tt
@@ -145,7 +148,8 @@ are_repeats front (repeat count tag body ∷ xs) from h =
     let some : length own ≡ count * length ss = ap length (append-nil (rounds count ss)) ∙ length-rounds count ss in
     let all : (front ++ own) ++ rest ≡ front ++ (rounds count ss ++ rest) =
     append_assoc front own rest ∙ ap (λ l. front ++ (l ++ rest)) (append-nil (rounds count ss)) in
-    block_chosen (nat_lt 0 (length ss)) (nat_lt 1 count) front ss rest count from (length (front ++ own)) (repeats_in (length front + length own) xs) refl refl h (omega (arith, len, some))
+    block_chosen (nat_lt 0 (length ss)) (nat_lt 1 count) front ss rest count from (length (front ++ own)) (finer count body) (repeats_in (length front + length own) xs) refl refl (is-finer count body) h
+    (omega (arith, len, some))
     (subst (λ n. AreRepeats (length (front ++ own)) (front ++ (rounds count ss ++ rest)) (repeats_in n xs)) len
     (subst (λ l. AreRepeats (length (front ++ own)) l (repeats_in (length (front ++ own)) xs)) all
     (are_repeats (front ++ own) xs (length (front ++ own)) (omega arith))))

@@ -1,17 +1,19 @@
-ghost use Rattle.std.specs.Prelude.{◌≡◌, ◌≤◌, ◌+◌, ◌++◌, length, OnOk, IfErr};
+ghost use Rattle.std.specs.Prelude.{◌≡◌, ◌<◌, ◌≤◌, ◌+◌, ◌*◌, ◌++◌, length, OnOk, IfErr};
+ghost use Rattle.std.specs.Option.{option_map};
 ghost use Rattle.stab_io.specs.declared.refusal.Refusal.TheVariants.{OutOfMemory};
 ghost use Rattle.stab_items.specs.Items.{before, done, listed};
 ghost use Rattle.stab_items.specs.Steps.{unroll, most_steps};
-ghost use Rattle.stab_circuit.specs.inner.Repeats.{repeat_in, repeats_in};
+ghost use Rattle.stab_items.specs.inner.Summaries.{summary_of};
+ghost use Rattle.stab_circuit.specs.inner.Repeats.{first_with_steps, finer, repeat_as, repeat_in, repeats_in};
 
 use super::Circuit;
 use super::step_items::item_steps;
 use stab_io::Refusal;
-use stab_items::{Chunk, Item, Part};
+use stab_items::{Chunk, Item, Part, Summary};
 use std::alloc::Global;
 
 /// Rounds of the same steps, one behind the other, by the steps of the unrolled circuit: a block of the
-/// outermost list, or rounds that are written out (`stab_rounds`).
+/// outermost list, a block in it that has all of its steps, or rounds that are written out (`stab_rounds`).
 #[derive(Clone, Copy, Debug, PartialEq, Eq)]
 pub struct Repeat {
     /// The number of its first step, counted from 0.
@@ -24,6 +26,49 @@ pub struct Repeat {
     pub reach: u32,
 }
 
+/// How many rounds the first block of a list has that has a step, and the summary of one of them, if there is such a block.
+fn first_block(items: &[Item]) -> Option<(u64, Summary)>
+    ensures found { result ≡ option_map (λ b. (b.0, summary_of b.1)) (first_with_steps (listed items.now)) }
+{
+    for item in items {
+        if let Part::Block { count, kept, .. } = item.part() {
+            if kept.steps > 0 {
+                return Some((count.number(), kept));
+            }
+        }
+    }
+    None
+}
+
+/// So many rounds of these items, which have this summary and before which so many steps stand; or where all their steps are those of
+/// one block among them, as many of its rounds.
+fn repeat_of(first: usize, rounds: usize, kept: Summary, items: &[Item]) -> Repeat
+    requires kept { kept ≡ summary_of (listed items.now) }
+    requires some { 0 < length (unroll (listed items.now)) }
+    requires few { rounds * length (unroll (listed items.now)) ≤ most_steps }
+    requires many { 1 < rounds }
+    ensures value { result ≡ repeat_as first (finer rounds (listed items.now)) }
+{
+    let whole = Repeat {
+        first,
+        length: kept.steps as usize,
+        rounds,
+        reach: kept.reach,
+    };
+    let Some((count, inner)) = first_block(items) else {
+        return whole;
+    };
+    if count.saturating_mul(u64::from(inner.steps)) != u64::from(kept.steps) {
+        return whole;
+    }
+    Repeat {
+        first,
+        length: inner.steps as usize,
+        rounds: rounds.saturating_mul(count as usize),
+        reach: inner.reach,
+    }
+}
+
 /// Adds the repeat that an item is, before which so many steps stand: if it is a block with a step
 /// and more than one round.
 fn add_repeat(repeats: &mut Vec<Repeat>, first: usize, item: &Item) -> Result<(), Refusal>
@@ -31,19 +76,20 @@ fn add_repeat(repeats: &mut Vec<Repeat>, first: usize, item: &Item) -> Result<()
     ensures ok { OnOk result (repeats.new.items ≡ repeats.old.items ++ repeat_in first item.now) }
     ensures err { IfErr result (λ r. r ≡ OutOfMemory) }
 {
-    let Part::Block { count, kept, .. } = item.part() else {
+    let Part::Block {
+        count,
+        kept,
+        body,
+        ..
+    } = item.part()
+    else {
         return Ok(());
     };
     let rounds = count.number();
     if kept.steps == 0 || rounds < 2 {
         return Ok(());
     }
-    repeats.push(Repeat {
-        first,
-        length: kept.steps as usize,
-        rounds: rounds as usize,
-        reach: kept.reach,
-    })?;
+    repeats.push(repeat_of(first, rounds as usize, kept, body))?;
     Ok(())
 }
 
@@ -81,7 +127,8 @@ impl Circuit {
     ghost use Rattle.stab_circuit.specs.Repeats.{AreRepeats, repeated_blocks};
 
     /// The blocks of the outermost list that have a step and more than one round, by their steps, in
-    /// order. It looks at no step, and passes chunks of items without a block whole.
+    /// order: by the rounds of a block in such a block, where that has all of its steps. It looks at no step, and passes chunks
+    /// of items without a block whole.
     ///
     /// Refusal `OutOfMemory` alone.
     ///
