@@ -124,12 +124,18 @@ def long_block(random):
         maker.names = STILL
     first = maker.records
     body = maker.lines(random.randint(1, 6), 1)
-    rounds = random.randint(300, 1500)
+    # Now and then the block stands in another one, which has nothing else that makes a step.
+    outer = random.choice([1, 1, 1, random.randint(2, 20)])
+    inner = random.randint(300, 1500) // outer
+    rounds = outer * inner
     maker.records += (rounds - 1) * (maker.records - first)
     behind = maker.lines(random.randint(0, 3))
-    block = "\n".join([*before, f"REPEAT {rounds} {{", *body, "}", *behind]).encode()
-    check(items_of(block))
-    return maker.n, block, "\n".join([*before, *body * rounds, *behind]).encode()
+    block = [f"REPEAT {inner} {{", *body, "}"]
+    if outer > 1:
+        block = [f"REPEAT {outer} {{", *block, random.choice(["", "TICK", "REPEAT 3 {\nTICK\n}"]), "}"]
+    text = "\n".join([*before, *block, *behind]).encode()
+    check(items_of(text))
+    return maker.n, text, "\n".join([*before, *body * rounds, *behind]).encode()
 
 
 # What uses up a coin on one qubit.
@@ -154,8 +160,8 @@ def blocks_as_written_out(random, run):
 
 
 def written_out(items):
-    """The text of items, the blocks of the outermost list written out."""
-    return b"".join(printing.printed(item.body) * item.count if isinstance(item, Block) else printing.printed([item]) for item in items)
+    """The text of items, all blocks written out, up to 2,000 rounds of each: more has here only one that makes no step."""
+    return b"".join(written_out(item.body) * min(item.count, 2000) if isinstance(item, Block) else printing.printed([item]) for item in items)
 
 
 def sessions_as_written_out(random, run):
