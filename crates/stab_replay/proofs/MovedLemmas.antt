@@ -1,21 +1,24 @@
--- Moved coins: where a replay's next coin has another number than the old run's, the two agree at no later old copy.
-use Rattle.std.proofs.Common.{◌≡◌, ◌≢◌, ℕ, suc, zero, ◌+◌, ◌-◌, ◌<◌, ◌≤◌, refl, sym, ◌∙◌, ap, subst, Bool, inl, inr, List, [], ◌∷◌, All, Option, Some, None, length, take, drop, slice_get, arith}
+-- Replays apart: where a replay's next coin has another number than the old run's, or its records are others, the two agree at no later
+-- old copy.
+use Rattle.std.proofs.Common.{◌≡◌, ◌≢◌, ℕ, suc, zero, ◌+◌, ◌-◌, ◌<◌, ◌≤◌, refl, sym, ◌∙◌, ap, subst, Bool, ◌⊎◌, inl, inr, List, [], ◌∷◌, ◌++◌, All, Option, Some, None, length, take, drop, slice_get, arith}
 use Rattle.std.specs.Prelude.{IfSome, IsSomeAnd}
 use Rattle.std.proofs.lemmas.Bool.{cases_lt}
-use Rattle.std.proofs.lemmas.List.{length-drop}
+use Rattle.std.proofs.lemmas.List.{length-append, length-drop, take_at}
 use Rattle.stab_circuit.specs.Steps.{Step}
 use Rattle.stab_steps.specs.declared.records.Lengths.{Lengths}
 use Rattle.stab_copies.specs.declared.checkpoint.Checkpoint.{Checkpoint}
 use Rattle.stab_copies.specs.Checkpoints.{IsCheckpoint}
-use Rattle.stab_run.specs.Points.{Point, RunOutput, origin, point_after, all_coins_of}
+use Rattle.stab_run.specs.Records.{ones}
+use Rattle.stab_run.specs.Points.{Point, RunOutput, origin, point_after, outputs, all_coins_of}
 use Rattle.stab_frames.specs.KeptStrings.{StringsState}
 use Rattle.stab_frames.proofs.OverLemmas.{coin-after}
-use Rattle.stab_laws.proofs.PointLemmas.{flags-are-coins}
+use Rattle.stab_laws.proofs.PointLemmas.{flags-are-coins, records-are-records, records-gathered, front-output}
+use Rattle.stab_laws.proofs.FutureBackLemmas.{records-made}
 use Rattle.stab_replay.specs.declared.replay.Plan.{Plan}
 use Rattle.stab_replay.specs.declared.replay.Replay.{Replay}
 use Rattle.stab_replay.specs.Replays.{IsAtStep, Ascending, Misses, IsOnWay, step_among_new}
 use Rattle.stab_replay.specs.FramedReplays.{IsOldRun}
-use Rattle.stab_replay.specs.inner.LedReplays.{IsBeside}
+use Rattle.stab_replay.specs.inner.LedReplays.{IsBeside, IsApartFrom, LedOn}
 use Rattle.stab_replay.proofs.LedLemmas.{at-number}
 use Rattle.stab_replay.proofs.PointLemmas.{old_later, new_later}
 use Rattle.stab_replay.proofs.SectionLemmas.{steps-behind}
@@ -23,6 +26,20 @@ use Rattle.stab_replay.proofs.SectionLemmas.{steps-behind}
 -- the number of the next coin where a copy stands
 copy-coin : (n : ℕ) (coins : ℕ → Bool) (xs : List Step) (c : Checkpoint) → IsCheckpoint n coins xs c → c.lengths.free ≡ (point_after n coins (take c.step xs) origin).coin
 copy-coin n coins xs c is = ap (λ (l : Lengths). l.free) is.lengths ∙ flags-are-coins n coins (take c.step xs)
+
+-- and the records there
+copy-records : (n : ℕ) (coins : ℕ → Bool) (xs : List Step) (o : RunOutput) (c : Checkpoint) → IsCheckpoint n coins xs c → o ≡ outputs n coins xs origin
+    → take c.lengths.records o.records ≡ (point_after n coins (take c.step xs) origin).records
+copy-records n coins xs o c is same =
+    (λ i. take (ap (λ (l : Lengths). l.records) is.lengths i) (same i).records)
+    ∙ ap (λ (x : RunOutput). x.records) (front-output n coins xs c.step)
+    ∙ records-are-records n coins (take c.step xs)
+
+-- lists whose ends are as long have the same fronts
+same-fronts : (a b x y : List Bool) → a ++ x ≡ b ++ y → length x ≡ length y → a ≡ b
+same-fronts a b x y same ends =
+    let size : length b ≡ length a = omega (arith, ap length same, length-append a x, length-append b y, ends) in
+    sym (take_at a x (length a) refl) ∙ ap (take (length a)) same ∙ take_at b y (length a) size
 
 -- so many steps on it is greater by as much in both runs, whose steps are the same there
 
@@ -64,9 +81,45 @@ module _ (n : ℕ) (coins : ℕ → Bool) (p : Plan) (ys : List Step) (copies : 
       ∙ ap (λ k. k + all_coins_of (take (c.step - b.step) (drop b.step old.steps)))
       (sym (ap (λ (x : RunOutput). length x.free) at.run.output ∙ flags-are-coins n coins (take r.step ys)))
 
-  pub misses-moved : b.lengths.free ≢ length r.outputs.free.items → (records : List Bool) → Misses n coins p ys records c
+  misses-moved : b.lengths.free ≢ length r.outputs.free.items → (records : List Bool) → Misses n coins p ys records c
   misses-moved apart records xs is kept agree =
       apart (omega (arith, old-coin, new-coin, copy-coin n coins xs c is, agree.coin))
+
+  -- what both make from the one place to the other
+  abbrev between-them : List Step
+  between-them = take (c.step - b.step) (drop b.step old.steps)
+
+  abbrev old-point : Point
+  old-point = point_after n coins (take b.step old.steps) origin
+
+  abbrev new-point : Point
+  new-point = point_after n coins (take r.step ys) origin
+
+  old-there : take c.lengths.records o.records ≡ old-point.records ++ (outputs n coins between-them old-point).records
+  old-there =
+      copy-records n coins old.steps o c to old.output
+      ∙ ap (λ k. (point_after n coins (take k old.steps) origin).records) (omega (arith, order))
+      ∙ ap (λ (q : Point). q.records) (old_later n coins old.steps ys b.step r.step same-steps (c.step - b.step))
+      ∙ records-gathered n coins between-them old-point
+
+  new-there : (point_after n coins (take (step_among_new p c) ys) origin).records ≡ new-point.records ++ (outputs n coins between-them new-point).records
+  new-there =
+      ap (λ k. (point_after n coins (take k ys) origin).records) there
+      ∙ ap (λ (q : Point). q.records) (new_later n coins old.steps ys b.step r.step same-steps (c.step - b.step))
+      ∙ records-gathered n coins between-them new-point
+
+  misses-others : take b.lengths.records o.records ≢ r.outputs.records.items → Misses n coins p ys o.records c
+  misses-others apart xs is kept agree =
+      apart
+      (copy-records n coins old.steps o b from old.output
+      ∙ same-fronts old-point.records new-point.records (outputs n coins between-them old-point).records (outputs n coins between-them new-point).records
+      (sym old-there ∙ kept ∙ records-are-records n coins (take c.step xs) ∙ agree.records ∙ new-there)
+      (records-made n coins between-them old-point ∙ sym (records-made n coins between-them new-point))
+      ∙ sym (ap (λ (x : RunOutput). x.records) at.run.output ∙ records-are-records n coins (take r.step ys)))
+
+  pub misses-later : (b.lengths.free ≢ length r.outputs.free.items) ⊎ (take b.lengths.records o.records ≢ r.outputs.records.items) → Misses n coins p ys o.records c
+  misses-later (inl apart) = misses-moved apart o.records
+  misses-later (inr apart) = misses-others apart
 
 -- copies behind the next one stand no earlier
 pub ascending-from : (p : Plan) (step next later : ℕ) (cs : List Checkpoint) → Ascending p step (drop next cs) → next ≤ later → Ascending p step (drop later cs)
@@ -105,19 +158,34 @@ way-past n coins begin p ys copies old next later r way le within missed =
       last = way.last;
     }
 
--- where it stands at the place of an old copy with another number of the next coin, later old copies of the list are missed
-pub all-moved : (n : ℕ) (coins : ℕ → Bool) (p : Plan) (ys : List Step) (copies : List Checkpoint) (o : RunOutput) (s : StringsState) (r : Replay) → IsBeside n coins p ys copies o s r
-    → length ys ≤ 1048576 → (last : ℕ) (b : Checkpoint) → slice_get copies last ≡ Some b
-    → IsSomeAnd (slice_get copies last) (λ c. (p.old_end ≤ c.step) × (step_among_new p c ≡ r.step) × (c.lengths.free ≢ length r.outputs.free.items)) → (number : ℕ)
+-- where it stands at the place of an old copy and is told apart from it, later old copies of the list are missed
+pub all-missed : (n : ℕ) (coins : ℕ → Bool) (p : Plan) (ys : List Step) (copies : List Checkpoint) (o : RunOutput) (s : StringsState) (r : Replay) → IsBeside n coins p ys copies o s r
+    → length ys ≤ 1048576 → (last : ℕ) (b : Checkpoint) → slice_get copies last ≡ Some b → IsSomeAnd (slice_get copies last) (IsApartFrom p r o) → (number : ℕ)
     → IfSome (slice_get copies number) (λ c. b.step ≤ c.step) → IfSome (slice_get copies number) (Misses n coins p ys o.records)
-all-moved n coins p ys copies o s r beside few last b from moved number behind =
+all-missed n coins p ys copies o s r beside few last b from apart number behind =
     later (slice_get copies number) refl behind
   where
-    held : (p.old_end ≤ b.step) × (step_among_new p b ≡ r.step) × (b.lengths.free ≢ length r.outputs.free.items)
-    held = subst (λ m. IsSomeAnd m (λ c. (p.old_end ≤ c.step) × (step_among_new p c ≡ r.step) × (c.lengths.free ≢ length r.outputs.free.items))) from moved
+    held : IsApartFrom p r o b
+    held = subst (λ m. IsSomeAnd m (IsApartFrom p r o)) from apart
 
     later : (found : Option Checkpoint) → slice_get copies number ≡ found → IfSome found (λ c. b.step ≤ c.step) → IfSome found (Misses n coins p ys o.records)
     later None to behind = tt
     later (Some c) to behind =
-        misses-moved n coins p ys copies o s beside.old few b c (at-number (IsCheckpoint n coins beside.old.steps) copies last b from beside.old.are_copies)
-        (at-number (IsCheckpoint n coins beside.old.steps) copies number c to beside.old.are_copies) held.0 behind r beside.at_step held.1 held.2 o.records
+        misses-later n coins p ys copies o s beside.old few b c (at-number (IsCheckpoint n coins beside.old.steps) copies last b from beside.old.are_copies)
+        (at-number (IsCheckpoint n coins beside.old.steps) copies number c to beside.old.are_copies) held.behind behind r beside.at_step held.place held.apart
+
+-- no frame leads on, and old copies are passed
+pub led-passed-over : (p : Plan) (copies : List Checkpoint) (next later : ℕ) (r t : Replay) → t.applied ≡ r.applied → t.framed ≡ r.framed → t.step ≡ r.step → t.laid.items ≡ r.laid.items
+    → ones t.outputs.free.items ≡ ones r.outputs.free.items → r.notes.reach ≤ t.notes.reach → next ≤ later → later ≤ length copies → Ascending p r.step (drop next copies)
+    → LedOn p copies next later r t
+led-passed-over p copies next later r t applied framed step laid free raised order within ascending = record {
+  applied = applied;
+  counted = omega (arith, framed, step);
+  further = omega (arith, step);
+  laid = omega (arith, ap length laid, order);
+  free = omega (arith, free);
+  raised = raised;
+  order = order;
+  within = within;
+  ascending = subst (λ k. Ascending p k (drop later copies)) (sym step) (ascending-from p r.step next later copies ascending order);
+}

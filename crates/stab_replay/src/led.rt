@@ -11,10 +11,11 @@ ghost use Rattle.stab_replay.specs.Sections.{IsSectionBehind};
 ghost use Rattle.stab_replay.specs.inner.LedReplays.{IsBeside, IsLed, IsPassed, LedOn, IsLedTo, later_of, with_state, with_cursor};
 
 use crate::framed::{coins_serve, flags_between, turned_copy};
+use crate::moved::Telling;
 use crate::outlined::OutlinedSteps;
 use crate::replay::{Plan, Replay};
 use crate::sections::Section;
-use stab_circuit::{Circuit, Cursor};
+use stab_circuit::{Circuit, Cursor, Repeat};
 use stab_copies::{Checkpoint, has_one, may_have_coin, shifted};
 use stab_frames::{FrameWalk, KeptStrings, Stop};
 use stab_io::Refusal;
@@ -232,13 +233,15 @@ impl<'a> Replay<'a> {
     }
 
     /// Goes on by a frame from the place of the old copy before this one, where a copy was laid last, as
-    /// far as it leads. Sections are of the old run's steps.
+    /// far as it leads. Where there is none, old copies at which no more of the old run can be kept are passed. Sections are of the old
+    /// run's steps.
     ///
     /// Refusal `OutOfMemory` alone.
     pub(crate) fn frame_on(
         &mut self,
         alloc: Global,
         circuit: &'a Circuit,
+        repeats: &[Repeat],
         copies: &[Checkpoint],
         old: &Outputs,
         strings: &KeptStrings,
@@ -250,6 +253,7 @@ impl<'a> Replay<'a> {
         requires checked { check_of (circuit_items circuit.now) ≡ None }
         requires sections { All (IsSectionBehind plan.old_end plan.new_end self.old.cursor.all) sections.now }
         requires next { next ≤ length copies.now }
+        requires stride { 1 ≤ plan.stride }
         requires fits { All (StepFits self.old.tableau.qubits) self.old.cursor.all }
         requires few { length self.old.cursor.all ≤ most_steps }
         requires few_framed { self.old.framed ≤ self.old.step }
@@ -275,7 +279,10 @@ impl<'a> Replay<'a> {
                 self.cursor = Cursor::at(alloc, circuit, self.step)?;
                 Ok(led)
             }
-            None => Ok(Led { next, there: false }),
+            None => Ok(Led {
+                next: self.pass_apart(repeats, plan, copies, old, next, Telling::Records),
+                there: false,
+            }),
         }
     }
 }

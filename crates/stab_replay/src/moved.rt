@@ -1,9 +1,9 @@
-ghost use Rattle.std.specs.Prelude.{◌≡◌, ◌≢◌, ℕ, ◌-◌, ◌<◌, ◌≤◌, Bool, true, IfSome, IsSomeAnd, length, slice_get};
+ghost use Rattle.std.specs.Prelude.{◌≡◌, ◌↔◌, ℕ, ◌-◌, ◌<◌, ◌≤◌, Bool, true, IsTrue, IfSome, IsSomeAnd, length, slice_get};
 ghost use Rattle.stab_circuit.specs.Steps.{most_steps};
 ghost use Rattle.stab_run.specs.ProgramStates.{output_of};
 ghost use Rattle.stab_frames.specs.KeptStrings.{StringsState};
-ghost use Rattle.stab_replay.specs.Replays.{Misses, step_among_new};
-ghost use Rattle.stab_replay.specs.inner.LedReplays.{IsBeside};
+ghost use Rattle.stab_replay.specs.Replays.{Misses};
+ghost use Rattle.stab_replay.specs.inner.LedReplays.{IsBeside, IsApartFrom};
 
 use crate::replay::{Plan, Replay};
 use crate::rhythm::{block_at, end_of};
@@ -36,20 +36,48 @@ impl Plan {
     }
 }
 
+/// By what a replay that stands at the place of an old copy may be told apart from the old run.
+#[derive(Clone, Copy, PartialEq, Eq)]
+pub(crate) enum Telling {
+    /// The number of the next coin.
+    Coins,
+    /// That, or the records so far.
+    Records,
+}
+
+/// Whether two lists of bits are the same.
+fn are_same(bits: &[bool], others: &[bool]) -> bool
+    ensures value { IsTrue result ↔ (bits.now ≡ others.now) }
+{
+    bits == others
+}
+
 impl<'a> Replay<'a> {
-    /// Whether the replay stands at the place of the old copy before the one that may be met next, and its next coin has another number
-    /// there.
-    fn has_moved_coins(&self, plan: Plan, copies: &[Checkpoint], next: usize) -> bool
+    /// Whether the replay stands at the place of the old copy before the one that may be met next, and is told apart there from the old
+    /// run: so it agrees with it at no later copy.
+    fn is_apart(
+        &self,
+        plan: Plan,
+        copies: &[Checkpoint],
+        old: &Outputs,
+        next: usize,
+        telling: Telling,
+    ) -> bool
         ensures behind { result ≡ true → 1 ≤ next }
-        ensures moved { result ≡ true → IsSomeAnd (slice_get copies.now (next - 1)) (λ c. (plan.old_end ≤ c.step) × (step_among_new plan c ≡ self.now.step) × (c.lengths.free ≢ length self.now.outputs.free.items)) }
+        ensures apart { result ≡ true → IsSomeAnd (slice_get copies.now (next - 1)) (IsApartFrom plan self.now (output_of old.now)) }
     {
         if next == 0 || next > copies.len() {
             return false;
         }
         let copy = &copies[next - 1];
-        plan.old_end <= copy.step
-            && shifted(plan.old_end, plan.new_end, copy.step) == self.step
-            && copy.lengths.free != self.outputs.free.len()
+        if copy.step < plan.old_end || shifted(plan.old_end, plan.new_end, copy.step) != self.step {
+            return false;
+        }
+        if copy.lengths.free != self.outputs.free.len() {
+            return true;
+        }
+        let records = between(old.records.as_slice(), 0, copy.lengths.records);
+        telling == Telling::Records && !are_same(records, self.outputs.records.as_slice())
     }
 
     /// The end of the block of the replay's step, if its rounds may come again many times before that.
@@ -65,16 +93,18 @@ impl<'a> Replay<'a> {
         Some(end)
     }
 
-    /// Passes old copies in the block of the replay's step that can't be met: where its next coin has another number than the old run's,
-    /// and coins decide behind these copies, no more of the old run can be kept there. So the block's rounds may come again, as those of
-    /// a run that is opened do. Tells which old copy may be met next.
-    pub(crate) fn pass_moved(
+    /// Passes old copies in the block of the replay's step at which no more of the old run can be kept: where it is told apart from that by
+    /// the number of its next coin, and coins decide behind these copies; or, as it has not met the copy at whose place it stands, by its
+    /// records too, since what differs there most likely differs up to the block's end. So the block's rounds may come again, as
+    /// those of a run that is opened do. Tells which old copy may be met next.
+    pub(crate) fn pass_apart(
         &self,
         repeats: &[Repeat],
         plan: Plan,
         copies: &[Checkpoint],
         old: &Outputs,
         next: usize,
+        telling: Telling,
     ) -> usize
         requires next { next ≤ length copies.now }
         requires stride { 1 ≤ plan.stride }
@@ -85,15 +115,16 @@ impl<'a> Replay<'a> {
         let Some(end) = self.end_of_many(repeats, plan) else {
             return next;
         };
-        if !self.has_moved_coins(plan, copies, next) {
+        if !self.is_apart(plan, copies, old, next, telling) {
             return next;
         }
         let number = plan.first_from(copies, next, copies[next - 1].step, end);
         let last = copies[number - 1].lengths.free;
-        if has_one(between(old.free.as_slice(), last, old.free.len())) {
-            number
-        } else {
-            next
+        if telling == Telling::Coins
+            && !has_one(between(old.free.as_slice(), last, old.free.len()))
+        {
+            return next;
         }
+        number
     }
 }

@@ -11,6 +11,7 @@ ghost use Rattle.stab_replay.specs.Sections.{IsSectionBehind};
 ghost use Rattle.stab_replay.specs.inner.Arrivals.{IsArrival};
 ghost use Rattle.stab_replay.specs.FramedReplays.{IsOldRun};
 
+use crate::moved::Telling;
 use crate::sections::Section;
 use stab_circuit::{Circuit, Cursor, Repeat};
 use stab_copies::{Checkpoint, meets, shifted};
@@ -260,8 +261,10 @@ impl<'a> Replay<'a> {
         ensures changed { OnOk result (min self.new.step plan.new_end + self.old.applied ≤ min self.old.step plan.new_end + self.new.applied) }
         ensures err { IfErr result (λ r. r ≡ OutOfMemory) }
     {
-        let next = self.pass_moved(repeats, plan, copies, old, next);
-        let led = self.frame_on(alloc, circuit, copies, old, strings, sections, plan, next)?;
+        let next = self.pass_apart(repeats, plan, copies, old, next, Telling::Coins);
+        let led = self.frame_on(
+            alloc, circuit, repeats, copies, old, strings, sections, plan, next,
+        )?;
         if !led.there {
             let place = plan.place(copies, led.next);
             let stops = self.stops(repeats, plan, place);

@@ -1,6 +1,6 @@
 -- Led replays: how a frame leads a replay from the place of one old copy to that of the next.
 -- Source: this project's own.
-use Rattle.std.specs.Prelude.{◌≡◌, ℕ, ◌+◌, ◌≤◌, Bool, true, false, List, [], ◌∷◌, ◌++◌, IsSomeAnd, length, take, drop, slice_get}
+use Rattle.std.specs.Prelude.{◌≡◌, ◌≢◌, ◌⊎◌, ℕ, ◌+◌, ◌≤◌, Bool, true, false, List, [], ◌∷◌, ◌++◌, IsSomeAnd, length, take, drop, slice_get}
 use Rattle.stab_circuit.specs.Steps.{Step}
 use Rattle.stab_tableau.specs.Tableaus.{TableauState}
 use Rattle.stab_run.specs.Records.{ones}
@@ -26,6 +26,12 @@ pub record IsAtCopy (n : ℕ) (coins : ℕ → Bool) (p : Plan) (xs ys : List St
   pub place : step_among_new p c ≡ r.step
   pub base : ℕ
   pub framed : IsFramedAt n coins xs ys c.step r.step free base p.reach w
+
+-- a replay stands at the place of an old copy behind what was changed, and has another number of the next coin there, or other records
+pub record IsApartFrom (p : Plan) (r : Replay) (o : RunOutput) (c : Checkpoint) : Type 0 where
+  pub behind : p.old_end ≤ c.step
+  pub place : step_among_new p c ≡ r.step
+  pub apart : (c.lengths.free ≢ length r.outputs.free.items) ⊎ (take c.lengths.records o.records ≢ r.outputs.records.items)
 
 -- so it may be led from there, from the old copy with this number
 pub record IsLed (n : ℕ) (coins : ℕ → Bool) (p : Plan) (ys : List Step) (copies : List Checkpoint) (o : RunOutput) (s : StringsState) (number : ℕ) (r : Replay) (w : WalkState) : Type 0 where

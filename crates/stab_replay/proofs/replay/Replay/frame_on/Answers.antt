@@ -1,8 +1,10 @@
-use Rattle.std.proofs.Common.{◌≡◌, ℕ, ◌-◌, ◌≤◌, sym, ◌∙◌, ap, subst, Bool, IfSome, All, length, drop, arith}
+use Rattle.std.proofs.Common.{◌≡◌, ℕ, ◌-◌, ◌≤◌, sym, ◌∙◌, ap, subst, Bool, IfSome, All, length, drop, slice_get, arith}
+use Rattle.stab_run.specs.Records.{ones}
 use Rattle.stab_run.specs.ProgramStates.{output_of}
 use Rattle.stab_frames.specs.KeptStrings.{StringsState}
 use Rattle.stab_replay.specs.declared.replay.Replay.{Replay}
-use Rattle.stab_replay.specs.Replays.{IsAtStep, IsOnWay}
+use Rattle.stab_replay.specs.Replays.{IsAtStep, IsOnWay, Misses}
+use Rattle.stab_replay.proofs.MovedLemmas.{way-past, led-passed-over}
 use Rattle.stab_replay.specs.Sections.{IsSectionBehind}
 use Rattle.stab_replay.specs.inner.LedReplays.{IsBeside, IsLed, IsLedTo, with_cursor}
 use Rattle.stab_replay.proofs.ReplayLemmas.{ascending-end}
@@ -102,9 +104,33 @@ returns-in-None-clause-at_step c = λ coins beside.
 
 pub returns-in-None-clause-way : goal.returns-in-None-clause-way
 returns-in-None-clause-way c = λ coins begin beside way.
-    subst (IsOnWay c.args.self.now.tableau.qubits coins begin c.args.plan c.args.self.now.cursor.all c.args.copies.now c.args.old.now.records.items c.args.next) (sym c.frame_at.ensures.unchanged)
+    let same = c.frame_at.ensures.unchanged in
+    let qubits : c.frame_at.new.self.tableau.qubits ≡ c.args.self.now.tableau.qubits = ap (λ (x : Replay). x.tableau.qubits) same in
+    let all : c.frame_at.new.self.cursor.all ≡ c.args.self.now.cursor.all = ap (λ (x : Replay). x.cursor.all) same in
+    let at : IsAtStep c.args.self.now.tableau.qubits coins c.args.self.now.cursor.all c.frame_at.new.self =
+    subst (IsAtStep c.args.self.now.tableau.qubits coins c.args.self.now.cursor.all) (sym same)
+    (at-noted c.args.self.now.tableau.qubits coins c.args.self.now.cursor.all c.args.self.now c.frame_at.new.self.string c.frame_at.new.self.notes.reach beside.at_step c.frame_at.ensures.string c.frame_at.ensures.raised) in
+    let on : IsOnWay c.args.self.now.tableau.qubits coins begin c.args.plan c.args.self.now.cursor.all c.args.copies.now c.args.old.now.records.items c.args.next c.frame_at.new.self =
+    subst (IsOnWay c.args.self.now.tableau.qubits coins begin c.args.plan c.args.self.now.cursor.all c.args.copies.now c.args.old.now.records.items c.args.next) (sym same)
     (way-noted c.args.self.now.tableau.qubits coins begin c.args.plan c.args.self.now.cursor.all c.args.copies.now c.args.old.now.records.items c.args.next c.args.self.now c.frame_at.new.self.string c.frame_at.new.self.notes.reach way
-    c.frame_at.ensures.string c.frame_at.ensures.raised)
+    c.frame_at.ensures.string c.frame_at.ensures.raised) in
+    way-past c.args.self.now.tableau.qubits coins begin c.args.plan c.args.self.now.cursor.all c.args.copies.now c.args.old.now.records.items c.args.next c.pass_apart.result c.frame_at.new.self
+    on c.pass_apart.ensures.order c.pass_apart.ensures.within
+    (λ number from before.
+    subst (λ n. IfSome (slice_get c.args.copies.now number) (Misses n coins c.args.plan c.args.self.now.cursor.all c.args.old.now.records.items)) qubits
+    (subst (λ xs. IfSome (slice_get c.args.copies.now number) (Misses c.frame_at.new.self.tableau.qubits coins c.args.plan xs c.args.old.now.records.items)) all
+    (c.pass_apart.ensures.missed coins c.args.strings.now
+    (subst (λ n. IsBeside n coins c.args.plan c.frame_at.new.self.cursor.all c.args.copies.now (output_of c.args.old.now) c.args.strings.now c.frame_at.new.self) (sym qubits)
+    (subst (λ xs. IsBeside c.args.self.now.tableau.qubits coins c.args.plan xs c.args.copies.now (output_of c.args.old.now) c.args.strings.now c.frame_at.new.self) (sym all)
+    (record { old = beside.old; at_step = at })))
+    (omega (arith, ap length all, c.requires.few)) number from before)))
+
+pub returns-in-None-clause-on : goal.returns-in-None-clause-on
+returns-in-None-clause-on c =
+    let same = c.frame_at.ensures.unchanged in
+    led-passed-over c.args.plan c.args.copies.now c.args.next c.pass_apart.result c.args.self.now c.frame_at.new.self (ap (λ (x : Replay). x.applied) same) (ap (λ (x : Replay). x.framed) same)
+    (ap (λ (x : Replay). x.step) same) (ap (λ (x : Replay). x.laid.items) same) (ap (λ (x : Replay). ones x.outputs.free.items) same) c.frame_at.ensures.raised c.pass_apart.ensures.order
+    c.pass_apart.ensures.within c.requires.ascending
 
 pub returns-in_ok-self-in-Some-clause-behind : goal.returns-in_ok-self-in-Some-clause-behind
 returns-in_ok-self-in-Some-clause-behind c =
