@@ -7,7 +7,7 @@
 //! - `outlined`: the steps of a circuit, some of which have outlines.
 //! - `framed`: a replay that goes on by a frame, from a copy of an older run to the next one.
 //! - `led`: a replay that a frame leads from copy to copy, as far as it can.
-//! - `moved`: old copies that a replay can't meet, since its coins have other numbers.
+//! - `moved`: old copies that a replay passes, since it agrees with the old run at none of them.
 //! - `laying`: where a replay lays copies of the state, and what these share.
 //! - `rhythm`: where a replay stops next, so that its copies stand alike in each round of a block.
 //! - `again`: a replay that stands in a block where it stood before, and gives the same again.
