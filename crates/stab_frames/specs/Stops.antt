@@ -5,7 +5,8 @@ use Rattle.stab_frames.specs.declared.steps.Stop.{Stop}
 use Rattle.stab_frames.specs.declared.steps.Stop.TheVariants.{Behind, Gone, NoString}
 use Rattle.stab_frames.specs.Walks.{WalkState, frame_at, IsGone}
 
--- a walk over so many of so many steps went over all of them, or its frame is gone wherever it began, or a string is missing
+-- a walk over so many of so many steps went over all of them, or its frame is gone wherever it began; of one that can't go on no more
+-- is said
 abbrev pub IsStop : ℕ → ℕ → (steps most : ℕ) → WalkState → Stop → Type 0
 IsStop n m steps most w Behind = steps ≡ most
 IsStop n m steps most w Gone = (base : ℕ) → IsGone n m (frame_at base w)

@@ -38,7 +38,7 @@ struct Known<'a> {
 
 /// Leads a frame over the steps that a cursor has left, up to so many, from a run that went over them to one with other coins,
 /// whose next coin has a number so much greater. The one run had these flags, gave these records there, one for each measurement,
-/// and strings of all its free outcomes so far are kept. It asks for the coin of each free outcome once.
+/// and strings of all its free outcomes so far are kept. It asks for the coin of each free outcome at most once, and for no other.
 pub fn walk_with_coins<C: Coins>(
     walk: &mut FrameWalk,
     strings: &KeptStrings,

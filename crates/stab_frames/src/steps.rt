@@ -22,7 +22,8 @@ pub enum Stop {
     Behind,
     /// The frame is gone: what is behind is as it was.
     Gone,
-    /// The string of a free outcome wasn't kept, and the frame anticommutes with what is measured.
+    /// It can't go on: the string of a free outcome wasn't kept, and the frame anticommutes with what is measured. No clause says that
+    /// it stops for that reason alone.
     NoString,
 }
 

@@ -108,7 +108,6 @@ pub record HasEnded (n : ℕ) (coins : ℕ → Bool) (K : ℕ) (ys : List Step) 
   pub applied : (applied : ℕ) → applied + begin ≡ r.step → applied ≤ (length ys - s.first) + K
   pub few : (applied : ℕ) → applied + begin ≡ r.step → EndsSoon n coins p ys old.checkpoints.items old.outputs.records.items r.step → (far : ℕ)
       → AgreeBehindSpan n coins xs ys s far → applied ≤ ((s.new_end - s.first) + 2 * K) + far
-  pub at_least : (applied : ℕ) → s.new_end ≤ begin + applied → s.new_end ≤ s.first + applied
   pub counted : (applied : ℕ) → applied + begin ≡ r.step → EndsSoon n coins p ys old.checkpoints.items old.outputs.records.items r.step
       → IsCounted (AgreeBehindSpan n coins xs ys s) (AgreeBackBehindSpan n coins xs ys s) (checkpoint_steps old.checkpoints.items) s.first s.old_end s.new_end (length ys) applied
   pub ready : (mid : KeptRun) → IsSameKept mid old → (observables : ℕ) (q : Prepared) → IsPrepared mid r observables end q → IsReady n coins K ys s m r mid observables q
@@ -238,7 +237,6 @@ module _ {n : ℕ} {coins : ℕ → Bool} {K : ℕ} {ys : List Step} {s : Span} 
         few = λ applied counted soon far agree.
             few-steps n coins K f.old f.count old f.kept ys s f.span p old_end new_end (omega (arith, few)) m e near behind.within behind.before behind.behind next far agree r0.step
             r.step applied soon done.at_step.within begins.at counted;
-        at_least = λ applied changed. let w = near.within in omega (arith, step_is, w, changed);
         counted = λ applied counted soon.
             is-counted n coins K f.old f.count old f.kept ys s f.span m near r0.step r.step applied begins.at counted ends-here count.within count.before count.behind
             (none-before n coins K f.old f.count old f.kept ys s f.span p old_end new_end (omega (arith, few)) m e count.before behind.before next r.step soon);

@@ -157,10 +157,10 @@ pub has-turned-here : {coins : ℕ → Bool} {K : ℕ} {ys : List Step} {s : Spa
     → length ys ≤ 1048576 → IsCount (s.first + 1) old.checkpoints.items m → AreInside s old.checkpoints.items m j → (c : Checkpoint) → slice_get old.checkpoints.items (m - 1) ≡ Some c
     → (p : Passed) → HasPassed ys s m j change old p.from p.walk p.copies.items → (last : ℕ) → Near K (c.step ∷ checkpoint_steps p.copies.items)
     → last_of c.step (checkpoint_steps p.copies.items) ≡ last → StaysNear K s (length ys) last (slice_get old.checkpoints.items j)
-    → (t : Turning) → IsTurning ys s j p old t → (new : KeptRun) → IsPut old s m j K t new → All (StepFits old.tableau.qubits) ys → (g : Followed) → g.applied + s.first ≡ s.new_end
+    → (t : Turning) → IsTurning ys s j p old t → (new : KeptRun) → IsPut old s m j K t new → All (StepFits old.tableau.qubits) ys → (g : Followed)
     → (g.applied + g.framed) + c.step ≡ turned_end s (length ys) (slice_get old.checkpoints.items (j + length t.turned.items))
     → HasTurned old.tableau.qubits coins K ys (length old.observables.items) s old g new
-has-turned-here {coins} {K} {ys} {s} {change} {old} {m} {j} f few counted inside c here p passed last close last_is stays t turning new put fits g applied took =
+has-turned-here {coins} {K} {ys} {s} {change} {old} {m} {j} f few counted inside c here p passed last close last_is stays t turning new put fits g took =
     let tells = tells-run f.count f.kept f.span few counted f.differ fits (stays-behind K s (length ys) last (slice_get old.checkpoints.items j) stays) p passed t turning in
     let first : Checkpoint = (before f.count f.kept f.span few counted).copy in
     let same : c ≡ first = (let e : Some c ≡ Some first = sym here ∙ (before f.count f.kept f.span few counted).here in cc) in
@@ -168,8 +168,4 @@ has-turned-here {coins} {K} {ys} {s} {change} {old} {m} {j} f few counted inside
     (subst (λ x. x) (λ i. Near K ((same i).step ∷ checkpoint_steps (sym turning.passed i))) close)
     ((λ i. last_of (sym same i).step (checkpoint_steps (turning.passed i))) ∙ last_is)
     fits g
-    (record {
-      applied = applied;
-      counted =
-          subst (λ o. IfSome o (λ (d : Checkpoint). (g.applied + g.framed) + d.step ≡ turned_end s (length ys) (slice_get old.checkpoints.items (j + length t.turned.items)))) (sym here) took;
-    })
+    (subst (λ o. IfSome o (λ (d : Checkpoint). (g.applied + g.framed) + d.step ≡ turned_end s (length ys) (slice_get old.checkpoints.items (j + length t.turned.items)))) (sym here) took)

@@ -38,7 +38,7 @@ use Rattle.stab_kept.specs.declared.turning.Turning.{Turning}
 use Rattle.stab_kept.specs.Counts.{MayBeMet, EndsAt, IsCounted}
 use Rattle.stab_kept.specs.KeptRuns.{IsKeptRun, IsSpan, AgreeBehindSpan, AgreeBackBehindSpan}
 use Rattle.stab_kept.specs.inner.Prepared.{IsCount}
-use Rattle.stab_kept.specs.inner.Turned.{StaysNear, IsPut, IsFollowed, HasTurned, copies_moved, turned_end}
+use Rattle.stab_kept.specs.inner.Turned.{StaysNear, IsPut, HasTurned, copies_moved, turned_end}
 use Rattle.stab_kept.proofs.SpacingLemmas.{IsBefore, all-laid-all, spaced-all, all-behind, near-copy, moved-within}
 use Rattle.stab_kept.proofs.FollowLemmas.{are-moved, at-get, some-at, if-some, from-drop, before-first, front-copies, front-spaced, same-rest}
 use Rattle.stab_kept.proofs.CountLemmas.{applied-within, ends-near, none-before, is-counted}
@@ -346,17 +346,17 @@ module _ {n : ℕ} {coins : ℕ → Bool} {K : ℕ} {xs ys : List Step} {s : Spa
     -- so the run was turned
     pub has-turned : (new : KeptRun) → IsPut old s m j K t new → Near K (near.copy.step ∷ checkpoint_steps t.passed.items)
         → last_of near.copy.step (checkpoint_steps t.passed.items) ≡ last → All (StepFits n) ys → (f : Followed)
-        → IsFollowed s (length ys) m (j + length t.turned.items) old.checkpoints.items f → HasTurned n coins K ys (length old.observables.items) s old f new
-    has-turned new put close last_is fits f followed = record {
+        → IfSome (slice_get old.checkpoints.items (m - 1)) (λ c. (f.applied + f.framed) + c.step ≡ turned_end s (length ys) stop)
+        → HasTurned n coins K ys (length old.observables.items) s old f new
+    has-turned new put close last_is fits f took = record {
       kept = turned-kept new last put close last_is stays fits;
       applied =
           applied-within n coins K xs count old kept ys s span m near near.copy.step (turned_end s (length ys) stop) (f.applied + f.framed)
           (subst (λ o. IfSome o (λ c. near.copy.step ≡ c.step)) (sym near.here) refl)
-          (some-at (λ c. (f.applied + f.framed) + c.step ≡ turned_end s (length ys) stop) old.checkpoints.items (m - 1) near.copy near.here followed.counted) end-within;
-      at_least = let order = span.new_order in omega (arith, followed.applied);
+          (some-at (λ c. (f.applied + f.framed) + c.step ≡ turned_end s (length ys) stop) old.checkpoints.items (m - 1) near.copy near.here took) end-within;
       few = λ zs other far also span_also agree.
           turned-few zs other also span_also far (f.applied + f.framed) agree
           (some-at (λ c. (f.applied + f.framed) + c.step ≡ turned_end s (length ys) stop) old.checkpoints.items (m - 1) (also_near zs other also span_also).copy
-          (also_near zs other also span_also).here followed.counted);
-      counted = λ zs other also span_also. turned-counted zs other also span_also (f.applied + f.framed) followed.counted;
+          (also_near zs other also span_also).here took);
+      counted = λ zs other also span_also. turned-counted zs other also span_also (f.applied + f.framed) took;
     }

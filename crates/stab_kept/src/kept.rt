@@ -177,7 +177,6 @@ impl KeptRun {
         ensures asked_behind { C.asks coins.new ≤ C.asks coins.old + ((length (unroll (circuit_items circuit.now)) - span.first) + stride) }
         ensures applied { IfOk result (λ f. f.applied + f.framed ≤ (length (unroll (circuit_items circuit.now)) - span.first) + stride) }
         ensures few { IfOk result (λ f. (xs : List Step) (count far : ℕ) → IsKeptRun self.old.tableau.qubits (C.sequence coins.old) stride xs count self.old → IsSpan xs (unroll (circuit_items circuit.now)) span → AgreeBehindSpan self.old.tableau.qubits (C.sequence coins.old) xs (unroll (circuit_items circuit.now)) span far → f.applied + f.framed ≤ ((span.new_end - span.first) + 2 * stride) + far) }
-        ensures at_least { IfOk result (λ f. span.new_end ≤ span.first + f.applied) }
         ensures counted { IfOk result (λ f. (xs : List Step) (count : ℕ) → IsKeptRun self.old.tableau.qubits (C.sequence coins.old) stride xs count self.old → IsSpan xs (unroll (circuit_items circuit.now)) span → IsCounted (AgreeBehindSpan self.old.tableau.qubits (C.sequence coins.old) xs (unroll (circuit_items circuit.now)) span) (AgreeBackBehindSpan self.old.tableau.qubits (C.sequence coins.old) xs (unroll (circuit_items circuit.now)) span) (checkpoint_steps self.old.checkpoints.items) span.first span.old_end span.new_end (length (unroll (circuit_items circuit.now))) (f.applied + f.framed)) }
         ensures err { IfErr result (λ r. r ≡ OutOfMemory) }
     {

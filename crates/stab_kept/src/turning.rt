@@ -13,7 +13,7 @@ ghost use Rattle.stab_turns.specs.declared.passing.PauliChange.{PauliChange};
 ghost use Rattle.stab_kept.specs.Counts.{IsCounted};
 ghost use Rattle.stab_kept.specs.KeptRuns.{IsKeptRun, IsSameKept, IsSpan, Follows, AgreeBehindSpan, AgreeBackBehindSpan};
 ghost use Rattle.stab_kept.specs.inner.Prepared.{IsCount};
-ghost use Rattle.stab_kept.specs.inner.Turned.{StaysNear, HasPassed, IsTurning, IsPut, IsFollowed, HasTurned, turned_end};
+ghost use Rattle.stab_kept.specs.inner.Turned.{StaysNear, HasPassed, IsTurning, IsPut, HasTurned, turned_end};
 
 use crate::kept::{Followed, KeptRun};
 use stab_circuit::{Circuit, Cursor, Span};
@@ -117,18 +117,15 @@ fn end_place(copies: &[Checkpoint], number: usize, span: Span, total: usize) -> 
     }
 }
 
-/// How many steps were put in at a span, and how many a frame went over, from one step to another.
-fn followed_between(span: Span, begin: usize, end: usize) -> Followed
-    requires order { span.first ≤ span.new_end }
-    requires before { begin ≤ span.first }
-    requires behind { span.new_end ≤ end }
-    ensures applied { result.applied + span.first ≡ span.new_end }
+/// A frame went over the steps from one to another, and none was carried out.
+fn framed_between(begin: usize, end: usize) -> Followed
+    requires order { begin ≤ end }
+    ensures applied { result.applied ≡ 0 }
     ensures counted { (result.applied + result.framed) + begin ≡ end }
 {
-    let put = span.new_end - span.first;
     Followed {
-        applied: put as u64,
-        framed: (end - begin - put) as u64,
+        applied: 0,
+        framed: (end - begin) as u64,
     }
 }
 
@@ -337,7 +334,7 @@ impl KeptRun {
             return Ok(None);
         };
         let end = end_place(copies, inside + turning.turned.len(), span, total);
-        let followed = followed_between(span, begin, end);
+        let followed = framed_between(begin, end);
         self.put(turning, span, before, inside, stride);
         Ok(Some(followed))
     }
@@ -346,10 +343,9 @@ impl KeptRun {
     /// many steps were carried out for it, and how many a frame went over. The run is as before where
     /// memory is refused.
     ///
-    /// Where old and new steps differ by Pauli gates alone, they do as the change that is given says; the steps
-    /// that are put in then count as carried out, though the run is turned where it lies. Else, and where that
-    /// can't be, steps are carried out anew, in the memory of a spare tableau if there is one, and one of
-    /// the two that are then at hand is the next spare.
+    /// If old and new steps differ by Pauli gates alone, they do as the change that is given says. A frame then turns
+    /// the run where it lies, and no step is carried out. Else, and if that can't be, steps are carried out anew, in
+    /// the memory of a spare tableau if there is one, and one of the two that are then at hand is the next spare.
     pub fn follow<C: Coins>(
         &mut self,
         alloc: Global,
@@ -375,7 +371,6 @@ impl KeptRun {
         ensures asked_behind { C.asks coins.new ≤ C.asks coins.old + ((length (unroll (circuit_items circuit.now)) - span.first) + stride) }
         ensures applied { IfOk result (λ f. f.applied + f.framed ≤ (length (unroll (circuit_items circuit.now)) - span.first) + stride) }
         ensures few { IfOk result (λ f. (xs : List Step) (count far : ℕ) → IsKeptRun self.old.tableau.qubits (C.sequence coins.old) stride xs count self.old → IsSpan xs (unroll (circuit_items circuit.now)) span → AgreeBehindSpan self.old.tableau.qubits (C.sequence coins.old) xs (unroll (circuit_items circuit.now)) span far → f.applied + f.framed ≤ ((span.new_end - span.first) + 2 * stride) + far) }
-        ensures at_least { IfOk result (λ f. span.new_end ≤ span.first + f.applied) }
         ensures counted { IfOk result (λ f. (xs : List Step) (count : ℕ) → IsKeptRun self.old.tableau.qubits (C.sequence coins.old) stride xs count self.old → IsSpan xs (unroll (circuit_items circuit.now)) span → IsCounted (AgreeBehindSpan self.old.tableau.qubits (C.sequence coins.old) xs (unroll (circuit_items circuit.now)) span) (AgreeBackBehindSpan self.old.tableau.qubits (C.sequence coins.old) xs (unroll (circuit_items circuit.now)) span) (checkpoint_steps self.old.checkpoints.items) span.first span.old_end span.new_end (length (unroll (circuit_items circuit.now))) (f.applied + f.framed)) }
         ensures err { IfErr result (λ r. r ≡ OutOfMemory) }
     {

@@ -151,7 +151,7 @@ module _ (n : ℕ) (coins : ℕ → Bool) (begin : ℕ) (p : Plan) (ys : List St
       tableau = d.tableau;
       outputs = new.outputs;
       step = new.step;
-      applied = new.applied;
+      framed = new.framed;
       cursor = record { all = ys; left = drop new.step ys };
     }
 
@@ -196,7 +196,7 @@ module _ (n : ℕ) (coins : ℕ → Bool) (begin : ℕ) (p : Plan) (ys : List St
         (subst (λ m. IsAtStep m coins r.cursor.all arrived) (sym at.qubits) (subst (λ xs. IsAtStep n coins xs arrived) (sym at.all) at_step)) refl
         (sym (ap (λ (o : RunOutput). take (length r.outputs.records.items) o.records) gave.output
         ∙ take_at r.outputs.records.items (between c.lengths d.lengths (output_of r.outputs)).records (length r.outputs.records.items) refl))
-        (let applied = gave.applied in omega (arith, applied, step, order)) refl (omega (arith, step)) within
+        (let framed = gave.framed in omega (arith, framed, step, order)) refl (omega (arith, step)) within
         (let near_by = neighbours.0 in omega (arith, step, near_by)) refl
         (place-before (λ k. new.step ≤ k) (slice_get copies next) (step_among_new p) (earlier (slice_get copies next) is_end.before))
       where
@@ -267,7 +267,7 @@ module _ (n : ℕ) (coins : ℕ → Bool) (begin : ℕ) (p : Plan) (ys : List St
 
   -- so one whose tableau lags behind goes on too
 
-  pub gave-on : (passed : Bool) (r s : Replay) (number : ℕ) → s ≡ record r { outputs = s.outputs; step = s.step; applied = s.applied; laid = s.laid }
+  pub gave-on : (passed : Bool) (r s : Replay) (number : ℕ) → s ≡ record r { outputs = s.outputs; step = s.step; framed = s.framed; laid = s.laid }
       → IsOnWay n coins begin p ys copies old next (with_cursor ys (with_state passed r))
       → IsSomeAnd (slice_get r.laid.items number) (StandsAgain block (with_cursor ys (with_state passed r)))
       → IsSomeAnd (slice_get r.laid.items number) (λ c. IsSomeAnd (slice_get r.laid.items (number + 1)) (λ d. HasGivenAgain spacing end c d r s))
@@ -307,7 +307,7 @@ module _ (n : ℕ) (coins : ℕ → Bool) (begin : ℕ) (p : Plan) (ys : List St
       standing = subst (λ o. IsSomeAnd o (StandsAgain block true_state)) here stands
 
       given : HasGivenAgain spacing end c d true_state s
-      given = record { far = g.far; within = g.within; step = g.step; applied = g.applied; output = g.output; laid = g.laid }
+      given = record { far = g.far; within = g.within; step = g.step; framed = g.framed; output = g.output; laid = g.laid }
 
       state : last_state r.tableau s.laid.items ≡ d.tableau
       state = ap (last_state r.tableau) g.laid ∙ last-pushed r.tableau r.laid.items (record { step = s.step; lengths = lengths_of (output_of s.outputs); tableau = d.tableau })
@@ -319,7 +319,7 @@ module _ (n : ℕ) (coins : ℕ → Bool) (begin : ℕ) (p : Plan) (ys : List St
             tableau = state i;
             outputs = s.outputs;
             step = s.step;
-            applied = s.applied;
+            framed = s.framed;
             laid = s.laid;
             cursor = record { all = ys; left = drop s.step ys };
           })

@@ -99,15 +99,6 @@ led-from n coins p ys copies o s last c r string reach w beside from behind plac
     at : IsAtStep n coins ys r
     at = beside.at_step
 
--- where a frame may lead from is behind what was changed
-pub led-behind : (n : ℕ) (coins : ℕ → Bool) (p : Plan) (ys : List Step) (copies : List Checkpoint) (o : RunOutput) (s : StringsState) (last : ℕ) (r : Replay) (w : WalkState)
-    → length ys ≤ most_steps → IsLed n coins p ys copies o s last r w → p.new_end ≤ r.step
-led-behind n coins p ys copies o s last r w few led = at-place (slice_get copies last) led.at_copy
-  where
-    at-place : (m : Option Checkpoint) → IsSomeAnd m (IsAtCopy n coins p led.old.steps ys o.free r w) → p.new_end ≤ r.step
-    at-place None h = absurd h
-    at-place (Some c) h = omega (arith, h.place, led.old.new_within, few)
-
 -- what went over the steps between two copies may be said of all that gave the same
 pub went-same : (n : ℕ) (p : Plan) (c d : Checkpoint) (o : RunOutput) (s : StringsState) (r q t : Replay) (w v : WalkState) (stop : Stop) → WentOver n p c d o s r q w v stop
     → output_of t.outputs ≡ output_of q.outputs → t.notes.strings ≡ q.notes.strings → t.step ≡ q.step → t.framed ≡ q.framed → WentOver n p c d o s r t w v stop

@@ -383,8 +383,3 @@ pub went-so : {n m : ℕ} {coins others : ℕ → Bool} {ys zs : List Step} (beg
     → IsAtStop n coins begin p ys copies old later s
 went-so begin p copies old next later r s qubits coins all =
     subst (λ t. t) (λ i. IsOnWay (qubits i) (coins i) begin p (all i) copies old next r → IsAtStop (qubits i) (coins i) begin p (all i) copies old later s)
-
--- where it meets a copy it is behind what was changed
-pub met-behind : (n : ℕ) (p : Plan) (r : Replay) (records free : List Bool) (o : Option Checkpoint) → p.new_end ≤ 1048576 → IsSomeAnd o (MeetsAt n p r records free) → p.new_end ≤ r.step
-met-behind n p r records free None few h = absurd h
-met-behind n p r records free (Some c) few h = let place = h.0 in omega (arith, place, few)

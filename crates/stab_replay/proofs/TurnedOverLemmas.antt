@@ -315,6 +315,7 @@ module _ (n : ℕ) (coins : ℕ → Bool) (begin : ℕ) (p : Plan) (ys : List St
       notes = record r.notes { strings = s.notes.strings };
       step = s.step;
       applied = s.applied;
+      framed = s.framed;
       cursor = s.cursor;
     }
 
@@ -342,7 +343,7 @@ module _ (n : ℕ) (coins : ℕ → Bool) (begin : ℕ) (p : Plan) (ys : List St
         on-stop n coins begin p ys copies old coins next s.step (option_map (step_among_new p) (slice_get copies next)) r arrived may.way refl
         (subst (λ m. IsAtStep m coins r.cursor.all arrived) (sym at.qubits) (subst (λ xs. IsAtStep n coins xs arrived) (sym at.all) at_step)) refl
         (sym (ap (λ (o : RunOutput). take (length r.outputs.records.items) o.records) gave.output ∙ take_at r.outputs.records.items _ (length r.outputs.records.items) refl))
-        (let applied = gave.applied in omega (arith, applied, step, order)) refl (omega (arith, step)) inside
+        (let counted = gave.counted in omega (arith, counted, step, order)) refl (omega (arith, step)) inside
         (let near_by = neighbours.0 in omega (arith, step, near_by)) refl
         (place-before (λ k. s.step ≤ k) (slice_get copies next) (step_among_new p) (earlier (slice_get copies next) may.is_end.before))
       where

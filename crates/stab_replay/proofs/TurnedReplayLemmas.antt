@@ -212,6 +212,7 @@ pub turned-on : (n : ℕ) (coins : ℕ → Bool) (begin : ℕ) (p : Plan) (ys : 
       cursor = s.cursor;
       step = s.step;
       applied = s.applied;
+      framed = s.framed;
       laid = s.laid;
     }
     → s.cursor.all ≡ r.cursor.all
@@ -251,6 +252,7 @@ turned-on n coins begin p ys copies old next block spacing end passed r s number
       within = g.within;
       step = g.step;
       applied = g.applied;
+      counted = g.counted;
       order = g.order;
       recorded = g.recorded;
       size = g.size;
@@ -288,6 +290,7 @@ turned-on n coins begin p ys copies old next block spacing end passed r s number
       cursor = s.cursor;
       step = s.step;
       applied = s.applied;
+      framed = s.framed;
       laid = s.laid;
     }
     arrived_there =
@@ -299,6 +302,7 @@ turned-on n coins begin p ys copies old next block spacing end passed r s number
           cursor = s.cursor;
           step = s.step;
           applied = s.applied;
+          framed = s.framed;
           laid = s.laid;
         })
 

@@ -115,8 +115,8 @@ impl<'a> Replay<'a> {
         requires in_range { number + 1 < length self.old.laid.items }
         requires some { 1 ≤ spacing }
         requires few { end ≤ most_steps }
-        requires few_applied { self.old.applied ≤ self.old.step }
-        ensures rest { self.new ≡ record self.old { outputs = self.new.outputs; step = self.new.step; applied = self.new.applied; laid = self.new.laid } }
+        requires few_framed { self.old.framed ≤ self.old.step }
+        ensures rest { self.new ≡ record self.old { outputs = self.new.outputs; step = self.new.step; framed = self.new.framed; laid = self.new.laid } }
         ensures given { IfOk result (λ given. given ≡ true → IsSomeAnd (slice_get self.old.laid.items number) (λ c. IsSomeAnd (slice_get self.old.laid.items (number + 1)) (λ d. HasGivenAgain spacing end c d self.old self.new))) }
         ensures not_given { IfOk result (λ given. given ≡ false → self.new ≡ self.old) }
         ensures further { self.old.step ≤ self.new.step }
@@ -132,7 +132,7 @@ impl<'a> Replay<'a> {
         let tableau = to.tableau.copy(alloc)?;
         give_again(alloc, &mut self.outputs, behind, before)?;
         self.step += steps;
-        self.applied += steps as u64;
+        self.framed += steps as u64;
         self.laid.push(Checkpoint {
             step: self.step,
             lengths: self.outputs.lengths(),
@@ -155,9 +155,9 @@ impl<'a> Replay<'a> {
         requires in_range { number + 1 < length self.old.laid.items }
         requires some { 1 ≤ spacing }
         requires few { end ≤ most_steps }
-        requires few_applied { self.old.applied ≤ self.old.step }
-        ensures rest { self.new ≡ record self.old { outputs = self.new.outputs; step = self.new.step; applied = self.new.applied; laid = self.new.laid } }
-        ensures counted { OnOk result (self.new.applied + self.old.step ≡ self.old.applied + self.new.step) }
+        requires few_framed { self.old.framed ≤ self.old.step }
+        ensures rest { self.new ≡ record self.old { outputs = self.new.outputs; step = self.new.step; framed = self.new.framed; laid = self.new.laid } }
+        ensures counted { OnOk result (self.new.framed + self.old.step ≡ self.old.framed + self.new.step) }
         ensures further { self.old.step ≤ self.new.step }
         ensures free { OnOk result (ones self.old.outputs.free.items ≤ ones self.new.outputs.free.items) }
         ensures few_laid { OnOk result (spacing * length self.new.laid.items + self.old.step ≤ spacing * length self.old.laid.items + self.new.step) }
@@ -197,13 +197,12 @@ impl<'a> Replay<'a> {
         requires total { plan.total ≡ length self.old.cursor.all }
         requires few { plan.total ≤ most_steps }
         requires within { self.old.step ≤ plan.total }
-        requires few_applied { self.old.applied ≤ self.old.step }
+        requires few_counted { self.old.applied + self.old.framed ≤ self.old.step }
         requires on_way { (begin : ℕ) × (copies : List Checkpoint) × (old : List Bool) × (next : ℕ) × IsOnWay self.old.tableau.qubits (C.sequence coins.old) begin plan self.old.cursor.all copies old next self.old × (place ≡ option_map (step_among_new plan) (slice_get copies next)) }
         ensures all { self.new.cursor.all ≡ self.old.cursor.all }
         ensures qubits { self.new.tableau.qubits ≡ self.old.tableau.qubits }
         ensures same_coins { C.sequence coins.new ≡ C.sequence coins.old }
-        ensures rest { OnOk result ((self.new.framed ≡ self.old.framed) × (self.new.notes.reach ≡ self.old.notes.reach)) }
-        ensures counted { OnOk result (self.new.applied + self.old.step ≡ self.old.applied + self.new.step) }
+        ensures reach { OnOk result (self.new.notes.reach ≡ self.old.notes.reach) }
         ensures further { OnOk result (self.old.step ≤ self.new.step) }
         ensures asks { OnOk result (C.asks coins.new + self.old.applied ≤ C.asks coins.old + self.new.applied) }
         ensures asks_free { OnOk result (C.asks coins.new + ones self.old.outputs.free.items ≤ C.asks coins.old + ones self.new.outputs.free.items) }

@@ -1,4 +1,4 @@
-ghost use Rattle.std.specs.Prelude.{◌≡◌, ◌≢◌, ◌⊎◌, ℕ, ◌-◌, ◌<◌, ◌≤◌, min, Bool, true, false, None, All, length, take, drop, OnOk, OnErr, IfOk, IfErr, IfSome};
+ghost use Rattle.std.specs.Prelude.{◌≡◌, ◌≢◌, ◌⊎◌, ℕ, ◌-◌, ◌<◌, ◌≤◌, Bool, true, false, None, All, length, take, drop, OnOk, OnErr, IfOk, IfErr, IfSome};
 ghost use Rattle.stab_io.specs.declared.refusal.Refusal.TheVariants.{OutOfMemory};
 ghost use Rattle.stab_circuit.specs.Steps.{most_steps, unroll, check_of};
 ghost use Rattle.stab_circuit.specs.Views.{circuit_items};
@@ -266,7 +266,6 @@ impl<'a> Replay<'a> {
         ensures qubits { self.new.tableau.qubits ≡ self.old.tableau.qubits }
         ensures further { self.old.step ≤ self.new.step }
         ensures on { IfOk result (λ led. LedOn plan copies.now next led.next self.old self.new) }
-        ensures behind { OnOk result (min self.new.step plan.new_end ≤ min self.old.step plan.new_end) }
         ensures placed { IfOk result (λ led. led.there ≡ true → IsPlacedAt plan copies.now led.next self.new.step) }
         ensures at_step { OnOk result ((coins : ℕ → Bool) → IsBeside self.old.tableau.qubits coins plan self.old.cursor.all copies.now (output_of old.now) strings.now self.old → IsAtStep self.old.tableau.qubits coins self.old.cursor.all self.new) }
         ensures way { IfOk result (λ led. (coins : ℕ → Bool) (begin : ℕ) → IsBeside self.old.tableau.qubits coins plan self.old.cursor.all copies.now (output_of old.now) strings.now self.old → IsOnWay self.old.tableau.qubits coins begin plan self.old.cursor.all copies.now old.now.records.items next self.old → IsLedTo self.old.tableau.qubits coins begin plan self.old.cursor.all copies.now old.now.records.items led.next self.new led.there) }

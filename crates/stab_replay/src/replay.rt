@@ -1,4 +1,4 @@
-ghost use Rattle.std.specs.Prelude.{◌≡◌, ℕ, ◌+◌, ◌-◌, ◌*◌, ◌<◌, ◌≤◌, ◌^◌, min, [], None, All, OnOk, IfOk, IfErr, length, take, drop};
+ghost use Rattle.std.specs.Prelude.{◌≡◌, ℕ, ◌+◌, ◌-◌, ◌*◌, ◌<◌, ◌≤◌, ◌^◌, [], None, All, OnOk, IfOk, IfErr, length, take, drop};
 ghost use Rattle.stab_io.specs.declared.refusal.Refusal.TheVariants.{OutOfMemory};
 ghost use Rattle.stab_circuit.specs.Steps.{most_steps, unroll, check_of};
 ghost use Rattle.stab_circuit.specs.Views.{circuit_items};
@@ -258,7 +258,6 @@ impl<'a> Replay<'a> {
         ensures stops { IfOk result (λ later. StopsAt plan copies.now later self.old.step self.new.step) }
         ensures order { IfOk result (λ later. next ≤ later) }
         ensures further { self.old.step ≤ self.new.step }
-        ensures changed { OnOk result (min self.new.step plan.new_end + self.old.applied ≤ min self.old.step plan.new_end + self.new.applied) }
         ensures err { IfErr result (λ r. r ≡ OutOfMemory) }
     {
         let next = self.pass_apart(repeats, plan, copies, old, next, Telling::Coins);
@@ -312,7 +311,6 @@ impl<'a> Replay<'a> {
         ensures replay { OnOk result (IsReplay self.old.tableau.qubits (C.sequence coins.old) plan.stride self.old.step self.old.cursor.all self.new) }
         ensures raised { OnOk result (self.old.notes.reach ≤ self.new.notes.reach) }
         ensures counted { OnOk result ((self.new.applied + self.new.framed) + self.old.step ≡ self.new.step) }
-        ensures changed { OnOk result (plan.new_end ≤ self.old.step + self.new.applied) }
         ensures asks { OnOk result (C.asks coins.new ≤ C.asks coins.old + self.new.applied) }
         ensures asks_free { OnOk result (C.asks coins.new + ones self.old.outputs.free.items ≤ C.asks coins.old + ones self.new.outputs.free.items) }
         ensures asked { C.asks coins.new ≤ C.asks coins.old + all_coins_of (drop self.old.step self.old.cursor.all) }

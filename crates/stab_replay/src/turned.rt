@@ -126,19 +126,23 @@ fn all_recorded(from: Lengths, to: Lengths) -> bool
 }
 
 impl<'a> Replay<'a> {
-    /// Whether a frame may go on again over what was given from some lengths of the lists to others: each measurement made a record,
-    /// and the strings of all free outcomes are kept, of which so many were before.
-    fn may_turn(&self, from: Lengths, to: Lengths, number: usize) -> bool
-        ensures order { result ≡ true → from.free ≤ to.free }
-        ensures recorded { result ≡ true → to.records ≡ from.records + (to.free - from.free) }
-        ensures kept { result ≡ true → number + ones (drop from.free (take to.free self.now.outputs.free.items)) ≤ length self.now.notes.strings.strings }
+    /// How many coins a frame asks for that goes on again over what was given from some lengths of the lists to others, if it may:
+    /// each measurement made a record, and the strings of all free outcomes are kept, of which this many were before.
+    fn coins_again(&self, from: Lengths, to: Lengths, number: usize) -> Option<usize>
+        ensures order { IfSome result (λ asked. from.free ≤ to.free) }
+        ensures recorded { IfSome result (λ asked. to.records ≡ from.records + (to.free - from.free)) }
+        ensures count { IfSome result (λ asked. asked ≡ ones (drop from.free (take to.free self.now.outputs.free.items))) }
+        ensures kept { IfSome result (λ asked. number + asked ≤ length self.now.notes.strings.strings) }
     {
         if !all_recorded(from, to) {
-            return false;
+            return None;
         }
-        let flags = between(self.outputs.free.as_slice(), from.free, to.free);
+        let asked = count_ones(between(self.outputs.free.as_slice(), from.free, to.free));
         let kept = self.notes.strings.len();
-        number <= kept && count_ones(flags) <= kept - number
+        if number > kept || asked > kept - number {
+            return None;
+        }
+        Some(asked)
     }
 
     /// Whether the replay stands in a block some whole rounds behind a copy.
@@ -223,8 +227,8 @@ impl<'a> Replay<'a> {
         requires turning { (begin : ℕ) × (p : Plan) × (copies : List Checkpoint) × (old : List Bool) × (next : ℕ) × (block : Repeat) × (passed : Bool) × IsTurning self.old.tableau.qubits (C.sequence coins.old) begin p self.old.cursor.all copies old next block end number (with_state passed self.old) walk.old }
         requires some { 1 ≤ spacing }
         requires few { end ≤ most_steps }
-        requires few_applied { self.old.applied ≤ self.old.step }
-        ensures rest { self.new ≡ record self.old { outputs = self.new.outputs; notes = record self.old.notes { strings = self.new.notes.strings }; cursor = self.new.cursor; step = self.new.step; applied = self.new.applied; laid = self.new.laid } }
+        requires few_counted { self.old.applied + self.old.framed ≤ self.old.step }
+        ensures rest { self.new ≡ record self.old { outputs = self.new.outputs; notes = record self.old.notes { strings = self.new.notes.strings }; cursor = self.new.cursor; step = self.new.step; applied = self.new.applied; framed = self.new.framed; laid = self.new.laid } }
         ensures all { self.new.cursor.all ≡ self.old.cursor.all }
         ensures same_coins { C.sequence coins.new ≡ C.sequence coins.old }
         ensures asks { OnOk result (C.asks coins.new + self.old.applied ≤ C.asks coins.old + self.new.applied) }
@@ -238,19 +242,20 @@ impl<'a> Replay<'a> {
         let to = &self.laid[number + 1];
         let steps = to.step.saturating_sub(from.step);
         let (behind, before) = (from.lengths, to.lengths);
-        if steps < spacing
-            || end.saturating_sub(self.step) < steps
-            || !self.may_turn(behind, before, walk.number())
-        {
+        if steps < spacing || end.saturating_sub(self.step) < steps {
             return Ok(false);
         }
+        let Some(asked) = self.coins_again(behind, before, walk.number()) else {
+            return Ok(false);
+        };
         let gone = lengths_walked(walk);
         let noted = walk.number();
         let ahead = self.outputs.free.len() - behind.free;
         let records = self.outputs.records.as_slice();
-        // So many coins may have been asked for where memory runs out on the way.
+        // All these coins may have been asked for if memory runs out on the way.
         self.step += steps;
-        self.applied += steps as u64;
+        self.applied += asked as u64;
+        self.framed += (steps - asked) as u64;
         walk_with_coins(
             walk,
             &self.notes.strings,
@@ -289,14 +294,14 @@ impl<'a> Replay<'a> {
         requires turning { (begin : ℕ) × (p : Plan) × (copies : List Checkpoint) × (old : List Bool) × (next : ℕ) × (block : Repeat) × IsTurning self.old.tableau.qubits (C.sequence coins.old) begin p self.old.cursor.all copies old next block end number self.old walk }
         requires some { 1 ≤ spacing }
         requires few { end ≤ most_steps }
-        requires few_applied { self.old.applied ≤ self.old.step }
-        ensures rest { self.new ≡ record self.old { outputs = self.new.outputs; notes = record self.old.notes { strings = self.new.notes.strings }; cursor = self.new.cursor; step = self.new.step; applied = self.new.applied; laid = self.new.laid } }
+        requires few_counted { self.old.applied + self.old.framed ≤ self.old.step }
+        ensures rest { self.new ≡ record self.old { outputs = self.new.outputs; notes = record self.old.notes { strings = self.new.notes.strings }; cursor = self.new.cursor; step = self.new.step; applied = self.new.applied; framed = self.new.framed; laid = self.new.laid } }
         ensures all { self.new.cursor.all ≡ self.old.cursor.all }
         ensures same_coins { C.sequence coins.new ≡ C.sequence coins.old }
         ensures asks { OnOk result (C.asks coins.new + self.old.applied ≤ C.asks coins.old + self.new.applied) }
         ensures asks_free { OnOk result (C.asks coins.new + ones self.old.outputs.free.items ≤ C.asks coins.old + ones self.new.outputs.free.items) }
         ensures asked { C.asks coins.new + all_coins_of (drop self.new.step self.old.cursor.all) ≤ C.asks coins.old + all_coins_of (drop self.old.step self.old.cursor.all) }
-        ensures counted { OnOk result (self.new.applied + self.old.step ≡ self.old.applied + self.new.step) }
+        ensures counted { OnOk result ((self.new.applied + self.new.framed) + self.old.step ≡ (self.old.applied + self.old.framed) + self.new.step) }
         ensures further { OnOk result (self.old.step ≤ self.new.step) }
         ensures few_laid { OnOk result (spacing * length self.new.laid.items + self.old.step ≤ spacing * length self.old.laid.items + self.new.step) }
         ensures way { IfOk result (λ passed. (begin : ℕ) (p : Plan) (copies : List Checkpoint) (old : List Bool) (next : ℕ) (block : Repeat) → IsTurning self.old.tableau.qubits (C.sequence coins.old) begin p self.old.cursor.all copies old next block end number self.old walk → IsOnWay self.old.tableau.qubits (C.sequence coins.old) begin p self.old.cursor.all copies old next (with_state passed self.new)) }
@@ -328,16 +333,15 @@ impl<'a> Replay<'a> {
         requires some { 0 < block.length }
         requires stride { 1 ≤ spacing }
         requires few { end ≤ most_steps }
-        requires few_applied { self.old.applied ≤ self.old.step }
+        requires few_counted { self.old.applied + self.old.framed ≤ self.old.step }
         requires on_way { (begin : ℕ) × (p : Plan) × (copies : List Checkpoint) × (old : List Bool) × (next : ℕ) × MayComeAgain self.old.tableau.qubits (C.sequence coins.old) begin p self.old.cursor.all copies old next block end self.old }
-        ensures rest { OnOk result ((self.new.framed ≡ self.old.framed) × (self.new.notes.reach ≡ self.old.notes.reach)) }
+        ensures reach { OnOk result (self.new.notes.reach ≡ self.old.notes.reach) }
         ensures all { self.new.cursor.all ≡ self.old.cursor.all }
         ensures qubits { self.new.tableau.qubits ≡ self.old.tableau.qubits }
         ensures same_coins { C.sequence coins.new ≡ C.sequence coins.old }
         ensures asks { OnOk result (C.asks coins.new + self.old.applied ≤ C.asks coins.old + self.new.applied) }
         ensures asks_free { OnOk result (C.asks coins.new + ones self.old.outputs.free.items ≤ C.asks coins.old + ones self.new.outputs.free.items) }
         ensures asked { C.asks coins.new + all_coins_of (drop self.new.step self.old.cursor.all) ≤ C.asks coins.old + all_coins_of (drop self.old.step self.old.cursor.all) }
-        ensures counted { OnOk result (self.new.applied + self.old.step ≡ self.old.applied + self.new.step) }
         ensures further { OnOk result (self.old.step ≤ self.new.step) }
         ensures few_laid { OnOk result (spacing * length self.new.laid.items + self.old.step ≤ spacing * length self.old.laid.items + self.new.step) }
         ensures way { OnOk result ((begin : ℕ) (p : Plan) (copies : List Checkpoint) (old : List Bool) (next : ℕ) → MayComeAgain self.old.tableau.qubits (C.sequence coins.old) begin p self.old.cursor.all copies old next block end self.old → IsOnWay self.old.tableau.qubits (C.sequence coins.old) begin p self.old.cursor.all copies old next self.new) }

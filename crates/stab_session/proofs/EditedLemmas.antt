@@ -18,7 +18,7 @@ use Rattle.stab_run.specs.Points.{origin, point_after}
 use Rattle.stab_run.specs.Laws.{AgreeAt}
 use Rattle.stab_session.specs.Sessions.{SessionState}
 use Rattle.stab_session.specs.SessionEdits.{IsEditedBy}
-use Rattle.stab_session.specs.Bounds.{steps_of_item, steps_from_change, steps_behind, unless_refused, most_refused_asks, steps_put, steps_near_change, steps_changed, IsCountOf, AgreeBehind, AgreeBackBehind}
+use Rattle.stab_session.specs.Bounds.{steps_of_item, steps_from_change, steps_behind, unless_refused, most_refused_asks, steps_put, steps_near_change, IsCountOf, AgreeBehind, AgreeBackBehind}
 use Rattle.stab_kept.specs.Counts.{IsCounted, AgreeAsFarAsLooked}
 use Rattle.stab_session.specs.inner.KeptSessions.{session_of, IsKept}
 use Rattle.stab_session.specs.inner.Pendings.{kept, IsBegun}
@@ -139,10 +139,6 @@ module _ {C : Type 0} (sequence : C → ℕ → Bool) (e : Edit) (s : SessionSta
 
     new_end_is : span.new_end ≡ new_end e (entries (listed new))
     new_end_is = b.span.new_end ∙ ap (new_end e) new_items
-
-    -- it cost those from the first changed step to the end of what was put in at least
-    pub edited-at-least : (applied : ℕ) → span.new_end ≤ span.first + applied → steps_changed e s (session_of (listed new) stride coins run) ≤ applied
-    edited-at-least applied h = omega (arith, h, first_is, new_end_is)
 
     -- it agrees with the old run behind what was changed, whichever way this is said
     agreement : (far : ℕ) → AgreeBehind sequence e s (session_of (listed new) stride coins run) far

@@ -19,7 +19,7 @@ number_of_steps s = length (unroll s.items)
 abbrev pub most_checkpoints : {C : Type 0} → SessionState C → ℕ
 most_checkpoints s = 2 * (number_of_steps s / s.stride) + 2
 
--- the steps behind the changed place, and a stride before it: an edit carries out no more of them
+-- the steps after the changed place, and a stride before it: an edit goes past no more of them
 abbrev pub steps_from_change : {C : Type 0} → Edit → SessionState C → SessionState C → ℕ
 steps_from_change e old new = (number_of_steps new - first_changed e (entries old.items)) + new.stride
 
@@ -50,8 +50,8 @@ steps_of_item (Some x) = length (unroll (listed (x ∷ [])))
 abbrev pub steps_put : {C : Type 0} → Edit → SessionState C → ℕ
 steps_put e new = steps_of_item (elim (edit_path e).blocks [ [] ↦ put_item e | b ∷ bs ↦ slice_get (entries new.items) b ])
 
--- these steps, and two strides: where the runs agree behind what an edit changed, it carries out no more than these and the steps
--- that stand between
+-- these steps, and two strides: if the runs agree some steps after what an edit changed, it goes past no more than these and the steps
+-- between
 abbrev pub steps_near_change : {C : Type 0} → Edit → SessionState C → ℕ
 steps_near_change e new = steps_put e new + 2 * new.stride
 
@@ -73,11 +73,7 @@ AgreeBackBehind sequence e old new far =
     AgreeAsFarAsLooked new.qubits (sequence old.coins) (drop (new_end e (entries new.items) + far) (unroll new.items))
     (point_at sequence old (old_end e (entries old.items) + far)) (point_at sequence new (new_end e (entries new.items) + far))
 
--- from the first changed step to the end of what an edit put in: it carries out at least so many
-abbrev pub steps_changed : {C : Type 0} → Edit → SessionState C → SessionState C → ℕ
-steps_changed e old new = new_end e (entries new.items) - first_changed e (entries old.items)
-
--- an edit of a session carried out, or went over by a frame, so many steps: from the last old copy at or before the first changed step
+-- an edit of a session went past so many steps, carried out or not: from the last old copy at or before the first changed step
 -- to one behind the edit at which the runs agree as far back as the steps behind look, or to the end
 abbrev pub IsCountOf : {C : Type 0} → (C → ℕ → Bool) → Edit → SessionState C → SessionState C → ℕ → Type 0
 IsCountOf sequence e old new applied =

@@ -3,7 +3,7 @@
 //! They are proved, and never run: where a clause came to say less than it does, the proof of its
 //! caller here would fail.
 
-ghost use Rattle.std.specs.Prelude.{◌≡◌, ℕ, ◌+◌, ◌<◌, ◌≤◌, [], length, take, min, slice_get, nat_le, is_some, Some, None, Ok, true, IfOk, IfSome, IfErr, OnOk};
+ghost use Rattle.std.specs.Prelude.{◌≡◌, ℕ, ◌+◌, ◌<◌, ◌≤◌, [], length, take, min, slice_get, nat_le, is_some, Some, None, Ok, true, IfOk, IfSome, IfErr, OnOk, OnErr};
 ghost use Rattle.stab_letters.specs.Letters.{letter_phase};
 ghost use Rattle.stab_pauli.specs.Paulis.{commute};
 ghost use Rattle.stab_io.specs.MemoryDevices.{GivesWhatFits, GivesAPiece, TakesWhatFits, FlushesAsSet};
@@ -26,7 +26,7 @@ ghost use Rattle.stab_shots.specs.Seeds.{shot_coins};
 ghost use Rattle.stab_shots.specs.Shots.{AreShots};
 ghost use Rattle.stab_shots.specs.References.{zero_coins, most_noted, IsReference};
 ghost use Rattle.stab_session.specs.Sessions.{IsSignIn};
-ghost use Rattle.stab_session.specs.Bounds.{steps_from_change, steps_near_change, steps_changed, AgreeBehind, IsCountOf};
+ghost use Rattle.stab_session.specs.Bounds.{steps_from_change, steps_near_change, most_refused_asks, most_checkpoints, AgreeBehind, IsCountOf};
 
 use stab_circuit::{Circuit, Item, Path, Refused};
 use stab_pauli::{
@@ -239,14 +239,16 @@ fn sign_after_run<C: Coins>(session: &mut Session<C>, pauli: &Pauli) -> Option<b
     session.sign_of(pauli)
 }
 
-/// A report bounds and counts the steps that an edit carried out and those that a frame went over, and tells how many copies of the
-/// state are kept.
+/// A report bounds and counts the steps that an edit carried out and those that it went past otherwise. An edit asks for no more coins
+/// than it carried out steps, and a refused one for few. The report says how many copies of the state are kept, and these are few.
 fn edited_with_counts<C: Coins>(session: &mut Session<C>, edit: Edit) -> Result<Report, Refused>
     ensures framed { IfOk result (λ r. r.applied + r.framed ≤ steps_from_change edit session.old session.new) }
-    ensures early { IfOk result (λ r. (far : ℕ) → AgreeBehind C.sequence edit session.old session.new far → r.applied ≤ steps_near_change edit session.new + far) }
-    ensures at_least { IfOk result (λ r. steps_changed edit session.old session.new ≤ r.applied) }
+    ensures early { IfOk result (λ r. (far : ℕ) → AgreeBehind C.sequence edit session.old session.new far → r.applied + r.framed ≤ steps_near_change edit session.new + far) }
     ensures counted { IfOk result (λ r. IsCountOf C.sequence edit session.old session.new (r.applied + r.framed)) }
+    ensures asks { IfOk result (λ r. C.asks session.new.coins ≤ C.asks session.old.coins + r.applied) }
+    ensures refused_asks { OnErr result (C.asks session.new.coins ≤ C.asks session.old.coins + most_refused_asks edit session.old) }
     ensures checkpoints { IfOk result (λ r. r.checkpoints ≡ length session.new.checkpoints) }
+    ensures few_checkpoints { OnOk result (length session.new.checkpoints ≤ most_checkpoints session.new) }
 {
     session.apply(edit)
 }

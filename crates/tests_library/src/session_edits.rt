@@ -128,7 +128,7 @@ type Item = (Option<usize>, usize, &'static str);
 // behind that ends the flip. Then come 38 measurements, and copies before the steps 9, 18, 27 and 36, behind 8,
 // 17, 26 and 35 records. So where nothing looks back both runs agree at the first copy, before step 10 of the new
 // ones; where a detector looks back to 15 records they do at the second one, behind whose first record 16 more
-// stand; and where it looks back to all, at none. A frame tells all of that, and the X counts as carried out.
+// stand; and where it looks back to all, at none. A frame passes all of that, and no step is carried out.
 //
 // Two square roots of X do the same, and are no Pauli gates: steps are carried out up to the first copy, before
 // step 11; from there on a frame leads, up to the last copy, and the five steps behind that are carried out.
@@ -188,24 +188,24 @@ const COSTS: &[(&str, Item, [(usize, usize); 3], (u64, u64))] = &[
         (0, 0),
     ),
     (FREE, (None, 0, "I 0"), [(0, 21), ANY, (0, 402)], (2000, 21)),
-    (DIES, (None, 0, "X 0"), [(1, 1), (9, 9), ANY], (0, 0)),
-    (DIES_NEAR, (None, 0, "X 0"), [(1, 1), (18, 18), ANY], (0, 0)),
-    (DIES_FAR, (None, 0, "X 0"), [(1, 1), (41, 41), ANY], (0, 0)),
-    (SETTLES, (None, 0, "X 0"), [(1, 1), (9, 9), ANY], (1, 0)),
+    (DIES, (None, 0, "X 0"), [(0, 0), (10, 10), ANY], (0, 0)),
+    (DIES_NEAR, (None, 0, "X 0"), [(0, 0), (19, 19), ANY], (0, 0)),
+    (DIES_FAR, (None, 0, "X 0"), [(0, 0), (42, 42), ANY], (0, 0)),
+    (SETTLES, (None, 0, "X 0"), [(0, 0), (10, 10), ANY], (1, 0)),
     (
         SETTLES_NEAR,
         (None, 0, "X 0"),
-        [(1, 1), (18, 18), ANY],
+        [(0, 0), (19, 19), ANY],
         (1, 0),
     ),
     (
         SETTLES_FAR,
         (None, 0, "X 0"),
-        [(1, 1), (41, 41), ANY],
+        [(0, 0), (42, 42), ANY],
         (1, 0),
     ),
-    (STILL, (None, 0, "Z 0"), [(1, 1), (9, 9), ANY], (0, 0)),
-    (STILL, (None, 0, "X 0"), [(1, 1), (100, 100), ANY], (0, 0)),
+    (STILL, (None, 0, "Z 0"), [(0, 0), (10, 10), ANY], (0, 0)),
+    (STILL, (None, 0, "X 0"), [(0, 0), (101, 101), ANY], (0, 0)),
     (DIES, (None, 0, ROOTS), [(11, 11), (0, 0), ANY], (0, 0)),
     (DIES_NEAR, (None, 0, ROOTS), [(11, 11), (9, 9), ANY], (0, 0)),
     (

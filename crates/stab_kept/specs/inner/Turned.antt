@@ -87,16 +87,10 @@ abbrev pub turned_end : Span → (total : ℕ) → Option Checkpoint → ℕ
 turned_end s total None = total
 turned_end s total (Some c) = moved s.old_end s.new_end c.step
 
--- from the copy before a span on, up to that end, its new steps count as carried out, and a frame went over the others
-pub record IsFollowed (s : Span) (total before number : ℕ) (copies : List Checkpoint) (f : Followed) : Type 0 where
-  pub applied : f.applied + s.first ≡ s.new_end
-  pub counted : IfSome (slice_get copies (before - 1)) (λ c. (f.applied + f.framed) + c.step ≡ turned_end s total (slice_get copies number))
-
 -- the run was turned: it is that of the new steps, with so many observables, and so many steps were followed for it
 pub record HasTurned (n : ℕ) (coins : ℕ → Bool) (K : ℕ) (ys : List Step) (observables : ℕ) (s : Span) (old : KeptRun) (f : Followed) (new : KeptRun) : Type 0 where
   pub kept : IsKeptRun n coins K ys observables new
   pub applied : f.applied + f.framed ≤ (length ys - s.first) + K
-  pub at_least : s.new_end ≤ s.first + f.applied
   pub few : (xs : List Step) (count far : ℕ) → IsKeptRun n coins K xs count old → IsSpan xs ys s → AgreeBehindSpan n coins xs ys s far
       → f.applied + f.framed ≤ ((s.new_end - s.first) + 2 * K) + far
   pub counted : (xs : List Step) (count : ℕ) → IsKeptRun n coins K xs count old → IsSpan xs ys s

@@ -28,7 +28,7 @@ pub record HasGivenAgain (spacing end : ℕ) (c d : Checkpoint) (old new : Repla
   pub far : c.step + spacing ≤ d.step
   pub within : new.step ≤ end
   pub step : new.step ≡ old.step + (d.step - c.step)
-  pub applied : new.applied ≡ old.applied + (d.step - c.step)
+  pub framed : new.framed ≡ old.framed + (d.step - c.step)
   pub output : output_of new.outputs ≡ joined (output_of old.outputs) (between c.lengths d.lengths (output_of old.outputs))
   pub laid : new.laid.items ≡ old.laid.items ++ record { step = new.step; lengths = lengths_of (output_of new.outputs); tableau = d.tableau } ∷ []
 

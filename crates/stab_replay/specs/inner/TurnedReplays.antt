@@ -69,12 +69,14 @@ pub record IsTurning (n : ℕ) (coins : ℕ → Bool) (begin : ℕ) (p : Plan) (
   pub may : MayComeAgain n coins begin p ys copies old next block end r
   pub stands : IsSomeAnd (slice_get r.laid.items number) (StandsTurned n coins block ys r w)
 
--- it gave again what it gave from one copy to the next, flipped by a frame, took its own coins, and laid a turned copy
+-- it gave again what it gave from one copy to the next, flipped by a frame, took its own coins, each of which counts as a step carried
+-- out, and laid a turned copy
 pub record HasGivenTurned (coins : ℕ → Bool) (spacing end : ℕ) (c d : Checkpoint) (old new : Replay) (w v : WalkState) : Type 0 where
   pub far : c.step + spacing ≤ d.step
   pub within : new.step ≤ end
   pub step : new.step ≡ old.step + (d.step - c.step)
-  pub applied : new.applied ≡ old.applied + (d.step - c.step)
+  pub applied : new.applied ≡ old.applied + ones (drop c.lengths.free (take d.lengths.free old.outputs.free.items))
+  pub counted : new.applied + new.framed ≡ (old.applied + old.framed) + (d.step - c.step)
   pub order : c.lengths.free ≤ d.lengths.free
   pub recorded : d.lengths.records ≡ c.lengths.records + (d.lengths.free - c.lengths.free)
   pub size : length v.letters ≡ length w.letters

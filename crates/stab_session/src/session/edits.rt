@@ -5,12 +5,15 @@ use stab_circuit::{Edit, Refused};
 use stab_io::Fault;
 use stab_run::Coins;
 
-/// What an edit cost: the steps that were carried out for it, those that a frame went over in their
-/// stead, and the copies of the state that are kept afterwards.
+/// What an edit cost, from the last copy of the state before it to the step at which the old run is the new one again.
 #[derive(Clone, Copy, Debug, PartialEq, Eq)]
 pub struct Report {
+    /// Steps that were carried out on a state. A step that a Pauli frame passes, and for which it asks a coin, is one of them.
     pub applied: usize,
+    /// All other steps: those that a frame passed without a coin, those of rounds that were given again, and those of a run
+    /// that was turned where it lies.
     pub framed: usize,
+    /// Copies of the state that are kept afterwards.
     pub checkpoints: usize,
 }
 
@@ -20,7 +23,7 @@ impl<C: Coins> Session<C> {
     ghost use Rattle.stab_circuit.specs.Edits.{verdict, put_item};
     ghost use Rattle.stab_io.specs.Refusals.{IsCallFault};
     ghost use Rattle.stab_session.specs.SessionEdits.{IsEditedBy, IsAsBefore};
-    ghost use Rattle.stab_session.specs.Bounds.{steps_from_change, steps_near_change, steps_changed, most_refused_asks, most_checkpoints, AgreeBehind, IsCountOf};
+    ghost use Rattle.stab_session.specs.Bounds.{steps_from_change, steps_near_change, most_refused_asks, most_checkpoints, AgreeBehind, IsCountOf};
     ghost use Rattle.stab_session.specs.Headline.{IsRunOfItems};
 
     /// Edits the circuit, and keeps what the edited one's run gives.
@@ -37,8 +40,7 @@ impl<C: Coins> Session<C> {
         ensures item { IfErr result (λ r. r.item ≡ put_item edit) }
         ensures applied { IfOk result (λ r. r.applied ≤ steps_from_change edit self.old self.new) }
         ensures framed { IfOk result (λ r. r.applied + r.framed ≤ steps_from_change edit self.old self.new) }
-        ensures early { IfOk result (λ r. (far : ℕ) → AgreeBehind C.sequence edit self.old self.new far → r.applied ≤ steps_near_change edit self.new + far) }
-        ensures at_least { IfOk result (λ r. steps_changed edit self.old self.new ≤ r.applied) }
+        ensures early { IfOk result (λ r. (far : ℕ) → AgreeBehind C.sequence edit self.old self.new far → r.applied + r.framed ≤ steps_near_change edit self.new + far) }
         ensures counted { IfOk result (λ r. IsCountOf C.sequence edit self.old self.new (r.applied + r.framed)) }
         ensures asks { IfOk result (λ r. C.asks self.new.coins ≤ C.asks self.old.coins + r.applied) }
         ensures refused_asks { OnErr result (C.asks self.new.coins ≤ C.asks self.old.coins + most_refused_asks edit self.old) }

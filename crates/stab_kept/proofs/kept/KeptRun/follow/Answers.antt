@@ -28,9 +28,6 @@ returns-in-Some-2-clause-kept g c = (turned g (goal.at.returns-in-Some-2-clause-
 pub returns-in-Some-2-clause-few : goal.returns-in-Some-2-clause-few
 returns-in-Some-2-clause-few g c = (turned g (goal.at.returns-in-Some-2-clause-few g c).In-Some-2).few
 
-pub returns-in-Some-2-clause-at_least : goal.returns-in-Some-2-clause-at_least
-returns-in-Some-2-clause-at_least g c = (turned g (goal.at.returns-in-Some-2-clause-at_least g c).In-Some-2).at_least
-
 pub returns-in-Some-2-clause-counted : goal.returns-in-Some-2-clause-counted
 returns-in-Some-2-clause-counted g c = (turned g (goal.at.returns-in-Some-2-clause-counted g c).In-Some-2).counted
 

@@ -306,13 +306,6 @@ returns-clause-few g c =
     let ended = end_of g at.In_ok-end (record { old = xs; count = count; kept = kept; span = span; differ = tt }) (few g at.After-as_slice) (first g at.After-count_before-before) begins (behind g at.After-as_slice-3) in
     ended.few (c.follow.new.self.applied + c.follow.new.self.framed) c.in_ok-end.ensures.counted (seen-soon (g.C.Coins.sequence c.args.coins.now) (planned c.steps.result c.args.stride c.args.span c.max.result c.len.result c.args.self.now.reach) c.follow.new.self.step begins.qubits begins.all c.as_slice-3.ensures.value refl c.in_ok-end.ensures.soon) far agree
 
-pub returns-clause-at_least : goal.returns-clause-at_least
-returns-clause-at_least g c =
-    let at = goal.at.returns-clause-at_least g c in
-    let begins = begun g at.In_ok-replay (few g at.After-as_slice) (first g at.After-count_before-before) in
-    let ended = end_of g at.In_ok-end c.requires.follows (few g at.After-as_slice) (first g at.After-count_before-before) begins (behind g at.After-as_slice-3) in
-    ended.at_least c.follow.new.self.applied c.in_ok-end.ensures.changed
-
 pub returns-clause-counted : goal.returns-clause-counted
 returns-clause-counted g c =
     let at = goal.at.returns-clause-counted g c in

@@ -81,23 +81,17 @@ end-is c total =
     c.end_place-end.ensures.value
     ∙ (λ i. turned_end c.args.span (total i) (slice_get (same i) (c.count_within-inside.result + count i)))
 
-pub followed_between-followed-requires-clause-before : goal.followed_between-followed-requires-clause-before
-followed_between-followed-requires-clause-before c =
-    let at = goal.at.followed_between-followed-requires-clause-before c in
+pub framed_between-followed-requires-clause-order : goal.framed_between-followed-requires-clause-order
+framed_between-followed-requires-clause-order c =
+    let at = goal.at.framed_between-followed-requires-clause-order c in
     let f = c.requires.follows.1 in
     let small = few at.After-as_slice-copies in
     let count = counted at.After-count_before-before in
-    subst (λ (d : Checkpoint). d.step ≤ c.args.span.first) c.index-copies-before.is
-    (copy-before f.count f.kept f.span small count c.index-copies-before.result (here at.After-index-copies-before small count))
-
-pub followed_between-followed-requires-clause-behind : goal.followed_between-followed-requires-clause-behind
-followed_between-followed-requires-clause-behind c =
-    let at = goal.at.followed_between-followed-requires-clause-behind c in
-    let f = c.requires.follows.1 in
-    let small = few at.After-as_slice-copies in
-    subst (λ k. c.args.span.new_end ≤ k) (sym (end-is at.After-end_place-end (total-is at.After-as_slice-copies small)))
-    (end-behind c.args.span (length (unroll (circuit_items c.args.circuit.now)))
-    (slice_get c.args.self.now.checkpoints.items (c.count_within-inside.result + length c.in-Some-2.turning.turned.items)) f.span.new_within small)
+    let order = f.span.new_order in
+    let before = copy-before f.count f.kept f.span small count c.index-copies-before.result (here at.After-index-copies-before small count) in
+    let behind = end-behind c.args.span (length (unroll (circuit_items c.args.circuit.now)))
+    (slice_get c.args.self.now.checkpoints.items (c.count_within-inside.result + length c.in-Some-2.turning.turned.items)) f.span.new_within small in
+    omega (arith, order, before, behind, end-is at.After-end_place-end (total-is at.After-as_slice-copies small), ap (λ (d : Checkpoint). d.step) c.index-copies-before.is)
 
 pub returns-clause-turned : goal.returns-clause-turned
 returns-clause-turned c =
@@ -115,7 +109,7 @@ returns-clause-turned c =
     let count : length c.args.self.now.observables.items ≡ observables_of items =
     sym (sym c.observables.ensures.value ∙ c.if-observables-len.false ∙ c.len.ensures ∙ c.args.self.now.observables.ok.0) in
     λ coins f.
-    subst (λ k. HasTurned n coins c.args.stride (unroll items) k c.args.span c.args.self.now c.followed_between-followed.result c.put.new.self) count
+    subst (λ k. HasTurned n coins c.args.stride (unroll items) k c.args.span c.args.self.now c.framed_between-followed.result c.put.new.self) count
     (has-turned-here f small before (inside at.After-count_within-inside) d d_here c.in-Some.passed (passed at.In-Some) c.in-Some-last_near.last
     (subst (λ x. x) (λ i. Near c.args.stride ((sym first i).step ∷ checkpoint_steps (copies i))) c.in-Some-last_near.ensures.near)
     ((λ i. last_of (first i).step (checkpoint_steps (sym copies i))) ∙ c.in-Some-last_near.ensures.value)
@@ -125,5 +119,5 @@ returns-clause-turned c =
     (subst (λ o. IfSome o (IsTurning (unroll items) c.args.span c.count_within-inside.result c.in-Some.passed c.args.self.now)) c.in-Some-2.is c.in_ok-turning.ensures.turning)
     c.put.new.self c.put.ensures.put
     (check-fits n items (unroll items) c.requires.checked refl c.in_ok-passed.ensures.apart)
-    c.followed_between-followed.result c.followed_between-followed.ensures.applied
-    (omega (arith, c.followed_between-followed.ensures.counted, ap (λ (x : Checkpoint). x.step) first, end-is at.After-end_place-end total)))
+    c.framed_between-followed.result
+    (omega (arith, c.framed_between-followed.ensures.counted, ap (λ (x : Checkpoint). x.step) first, end-is at.After-end_place-end total)))

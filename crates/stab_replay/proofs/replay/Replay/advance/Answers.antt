@@ -94,16 +94,6 @@ pub returns-else-not-led-clause-stops : goal.returns-else-not-led-clause-stops
 returns-else-not-led-clause-stops g c =
     inr (inr (c.in_ok-led.ensures.placed (grind (arith, c.if-not-led.false))))
 
-pub returns-in_ok-run_past-clause-changed : goal.returns-in_ok-run_past-clause-changed
-returns-in_ok-run_past-clause-changed g c =
-    let on = c.in_ok-led.ensures.on in
-    omega (arith, c.in_ok-led.ensures.behind, on.applied, c.in_ok-run_past.ensures.counted, c.run_past.ensures.order)
-
-pub returns-else-not-led-clause-changed : goal.returns-else-not-led-clause-changed
-returns-else-not-led-clause-changed g c =
-    let on = c.in_ok-led.ensures.on in
-    omega (arith, c.in_ok-led.ensures.behind, on.applied)
-
 pub returns-else-not-led-clause-way : goal.returns-else-not-led-clause-way
 returns-else-not-led-clause-way g c = λ begin way.
     let there : c.in_ok-led.led.there ≡ true = grind (arith, c.if-not-led.false) in

@@ -7,7 +7,7 @@ use Rattle.stab_run.specs.Records.{ones}
 use Rattle.stab_run.specs.Points.{all_coins_of}
 use Rattle.stab_replay.specs.Replays.{IsReplay, IsEnd, EndsSoon, IsAtStop, IsOnWay, spacing_of, copy_of}
 use Rattle.stab_replay.specs.inner.Arrivals.{IsArrival}
-use Rattle.stab_replay.proofs.ReplayLemmas.{went-so, met-behind, ends-soon, on-further, fewer-left}
+use Rattle.stab_replay.proofs.ReplayLemmas.{went-so, ends-soon, on-further, fewer-left}
 use Rattle.stab_replay.proofs.AgainReplayLemmas.{way-own, way-named}
 use Rattle.stab_replay.proofs.LaidLemmas.{laid-on, laid-more, laid-end}
 use Rattle.stab_replay.proofs.replay.Replay.follow.Given.{Over}
@@ -35,13 +35,6 @@ few g c =
     let inv = c.following.invariant in
     laid-on (spacing_of c.args.plan.stride) (length c.following.self.laid.items) (length c.advance.new.self.laid.items) c.args.plan.next c.following.next c.in_ok-reached.reached
     c.args.self.now.step c.following.self.step inv.few_laid c.in_ok-reached.ensures.few_laid inv.way.stop.order c.in_ok-reached.ensures.order
-
--- what was changed was carried out
-changed : (g : Over) (c : In_ok-reached g) → min c.advance.new.self.step c.args.plan.new_end ≤ c.args.self.now.step + c.advance.new.self.applied
-changed g c =
-    let inv = c.following.invariant in
-    let done = c.in_ok-reached.ensures in
-    omega (arith, inv.changed, done.changed)
 
 replayed : (g : Over) (c : In_ok-reached g) (r : Replay) → r ≡ c.advance.new.self
     → IsReplay c.args.self.now.tableau.qubits (g.C.Coins.sequence c.args.coins.now) c.args.plan.stride c.args.self.now.step c.args.self.now.cursor.all r
@@ -77,23 +70,6 @@ returns-in-Met-clause-soon g c = ended g ((goal.at.returns-in-Met-clause-soon g 
 
 pub returns-in-Behind-clause-soon : goal.returns-in-Behind-clause-soon
 returns-in-Behind-clause-soon g c = ended g ((goal.at.returns-in-Behind-clause-soon g c).In_ok-reached) c.arrive.new.self c.arrive.ensures.unchanged
-
-pub returns-in-Met-clause-changed : goal.returns-in-Met-clause-changed
-returns-in-Met-clause-changed g c =
-    let at = (goal.at.returns-in-Met-clause-changed g c).In_ok-reached in
-    let met = arrived g at _ Met c.in-Met.is c.in_ok-arrive.ensures.value in
-    let within = c.requires.old.new_within in
-    let behind = met-behind c.args.self.now.tableau.qubits c.args.plan c.advance.new.self c.args.old.now.records.items c.args.old.now.free.items (slice_get c.args.copies.now c.in_ok-reached.reached)
-    (omega (arith, within, c.requires.total, c.requires.few)) met in
-    omega (arith, behind, changed g at, ap (λ (r : Replay). r.applied) c.arrive.ensures.unchanged)
-
-pub returns-in-Behind-clause-changed : goal.returns-in-Behind-clause-changed
-returns-in-Behind-clause-changed g c =
-    let at = (goal.at.returns-in-Behind-clause-changed g c).In_ok-reached in
-    let behind = arrived g at _ Behind c.in-Behind.is c.in_ok-arrive.ensures.value in
-    let within = c.requires.old.new_within in
-    let end = behind.0 in
-    omega (arith, within, end, c.requires.total, changed g at, ap (λ (r : Replay). r.applied) c.arrive.ensures.unchanged)
 
 pub returns-in-Met-clause-end : goal.returns-in-Met-clause-end
 returns-in-Met-clause-end g c =
@@ -189,7 +165,7 @@ following-preserved g c =
     record {
       all = kept.all ∙ laid_all;
       qubits = kept.qubits ∙ ap (λ (r : Replay). r.tableau.qubits) same ∙ done.qubits ∙ inv.qubits;
-      raised = omega (arith, done.raised, inv.raised, ap (λ (r : Replay). r.notes.reach) same, again.rest.1);
+      raised = omega (arith, done.raised, inv.raised, ap (λ (r : Replay). r.notes.reach) same, again.reach);
       same_coins = kept.same_coins ∙ done.same_coins ∙ inv.same_coins;
       asks = omega (arith, done.asks, inv.asks, applied, again.asks);
       asks_free = omega (arith, done.asks_free, inv.asks_free, ap (λ (r : Replay). ones r.outputs.free.items) same, again.asks_free);
@@ -205,7 +181,6 @@ following-preserved g c =
             ap (λ xs. all_coins_of (drop c.lay.new.self.step xs)) laid_all,
             ap (λ xs. all_coins_of (drop c.come_again.new.self.step xs)) laid_all,
           );
-      changed = omega (arith, changed g reached, step, applied, again.counted, again.further);
       few_laid =
           omega (
             arith,

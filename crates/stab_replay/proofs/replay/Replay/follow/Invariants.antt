@@ -14,7 +14,6 @@ invariant-following g l = record {
   asks_free : g.C.Coins.asks l.coins + ones l.initial.self.outputs.free.items ≤ g.C.Coins.asks l.initial.coins + ones l.self.outputs.free.items;
   asked : g.C.Coins.asks l.coins + all_coins_of (drop l.self.step l.initial.self.cursor.all)
       ≤ g.C.Coins.asks l.initial.coins + all_coins_of (drop l.initial.self.step l.initial.self.cursor.all);
-  changed : min l.self.step l.plan.new_end ≤ l.initial.self.step + l.self.applied;
   few_laid : spacing_of l.plan.stride * length l.self.laid.items + l.initial.self.step ≤ l.self.step + spacing_of l.plan.stride * (l.next - l.plan.next);
   way : IsOnWay l.initial.self.tableau.qubits (g.C.Coins.sequence l.initial.coins) l.initial.self.step l.plan l.initial.self.cursor.all l.copies l.old.records.items l.next l.self;
 }

@@ -8,7 +8,7 @@ use Rattle.stab_replay.proofs.MovedLemmas.{way-past, led-passed-over}
 use Rattle.stab_replay.specs.Sections.{IsSectionBehind}
 use Rattle.stab_replay.specs.inner.LedReplays.{IsBeside, IsLed, IsLedTo, with_cursor}
 use Rattle.stab_replay.proofs.ReplayLemmas.{ascending-end}
-use Rattle.stab_replay.proofs.LedLemmas.{at-noted, led-behind}
+use Rattle.stab_replay.proofs.LedLemmas.{at-noted}
 use Rattle.stab_replay.proofs.LedWayLemmas.{cursor-set, led-moved, way-noted}
 use Rattle.stab_replay.proofs.replay.Replay.frame_on.Goals as goal
 
@@ -131,19 +131,3 @@ returns-in-None-clause-on c =
     led-passed-over c.args.plan c.args.copies.now c.args.next c.pass_apart.result c.args.self.now c.frame_at.new.self (ap (λ (x : Replay). x.applied) same) (ap (λ (x : Replay). x.framed) same)
     (ap (λ (x : Replay). x.step) same) (ap (λ (x : Replay). x.laid.items) same) (ap (λ (x : Replay). ones x.outputs.free.items) same) c.frame_at.ensures.raised c.pass_apart.ensures.order
     c.pass_apart.ensures.within c.requires.ascending
-
-pub returns-in_ok-self-in-Some-clause-behind : goal.returns-in_ok-self-in-Some-clause-behind
-returns-in_ok-self-in-Some-clause-behind c =
-    let found : (coins : ℕ → Bool) (s : StringsState)
-    → IsBeside c.args.self.now.tableau.qubits coins c.args.plan c.args.self.now.cursor.all c.args.copies.now (output_of c.args.old.now) s c.args.self.now
-    → IsLed c.args.self.now.tableau.qubits coins c.args.plan c.args.self.now.cursor.all c.args.copies.now (output_of c.args.old.now) s (c.args.next - 1) c.frame_at.new.self c.in-Some.walk =
-    (subst (λ m. IfSome m (λ walk. (1 ≤ c.args.next) × ((coins : ℕ → Bool) (s : StringsState)
-    → IsBeside c.args.self.now.tableau.qubits coins c.args.plan c.args.self.now.cursor.all c.args.copies.now (output_of c.args.old.now) s c.args.self.now
-    → IsLed c.args.self.now.tableau.qubits coins c.args.plan c.args.self.now.cursor.all c.args.copies.now (output_of c.args.old.now) s (c.args.next - 1) c.frame_at.new.self walk)))
-    c.in-Some.is c.in_ok-walk.ensures.found).1 in
-    let behind = led-behind c.args.self.now.tableau.qubits c.requires.beside.0 c.args.plan c.args.self.now.cursor.all c.args.copies.now (output_of c.args.old.now) c.args.strings.now
-    (c.args.next - 1) c.frame_at.new.self c.in-Some.walk c.requires.few (found c.requires.beside.0 c.args.strings.now c.requires.beside.1) in
-    omega (arith, behind, ap (λ (x : Replay). x.step) c.frame_at.ensures.unchanged)
-
-pub returns-in-None-clause-behind : goal.returns-in-None-clause-behind
-returns-in-None-clause-behind c = omega (arith, ap (λ (x : Replay). x.step) c.frame_at.ensures.unchanged)

@@ -31,12 +31,12 @@ loop-given-preserved c =
     let second = some-of (slice_get old.laid.items (c.loop-given.number + 1)) (λ e. HasGivenAgain c.args.spacing c.args.end first.0 e old new) first.2 in
     let far = second.2.far in
     let step = second.2.step in
-    let applied = second.2.applied in
+    let framed = second.2.framed in
     let one_more : length new.laid.items ≡ length old.laid.items + 1 = ap length second.2.laid ∙ length-append old.laid.items _ in
     record {
       in_range = omega (arith, inv.in_range, one_more);
-      rest = c.give_once.ensures.rest ∙ ap (λ (r : Replay). record r { outputs = new.outputs; step = new.step; applied = new.applied; laid = new.laid }) inv.rest;
-      counted = omega (arith, inv.counted, step, applied);
+      rest = c.give_once.ensures.rest ∙ ap (λ (r : Replay). record r { outputs = new.outputs; step = new.step; framed = new.framed; laid = new.laid }) inv.rest;
+      counted = omega (arith, inv.counted, step, framed);
       further = omega (arith, inv.further, c.give_once.ensures.further);
       free =
           omega (

@@ -13,8 +13,8 @@ use Rattle.stab_replay.proofs.replay.Replay.give_on.Given as goal
 abbrev pub invariant-loop-given : goal.invariant-loop-given
 invariant-loop-given l = record {
   in_range : l.number + 1 < length l.self.laid.items;
-  rest : l.self ≡ record l.fn.self { outputs = l.self.outputs; step = l.self.step; applied = l.self.applied; laid = l.self.laid };
-  counted : l.self.applied + l.fn.self.step ≡ l.fn.self.applied + l.self.step;
+  rest : l.self ≡ record l.fn.self { outputs = l.self.outputs; step = l.self.step; framed = l.self.framed; laid = l.self.laid };
+  counted : l.self.framed + l.fn.self.step ≡ l.fn.self.framed + l.self.step;
   further : l.fn.self.step ≤ l.self.step;
   free : ones l.fn.self.outputs.free.items ≤ ones l.self.outputs.free.items;
   few_laid : l.spacing * length l.self.laid.items + l.fn.self.step ≤ l.spacing * length l.fn.self.laid.items + l.self.step;

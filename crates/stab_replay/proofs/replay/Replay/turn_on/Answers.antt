@@ -44,7 +44,7 @@ turning-preserved g c =
     (λ e. HasGivenTurned (g.C.Coins.sequence c.turning.coins) c.args.spacing c.args.end first.0 e old new c.turning.walk c.turn_once.new.walk) first.2 in
     let far = second.2.far in
     let step = second.2.step in
-    let applied = second.2.applied in
+    let counted = second.2.counted in
     let one_more : length new.laid.items ≡ length old.laid.items + 1 = ap length second.2.laid ∙ length-append old.laid.items _ in
     record {
       in_range = omega (arith, inv.in_range, one_more);
@@ -56,6 +56,7 @@ turning-preserved g c =
             cursor = new.cursor;
             step = new.step;
             applied = new.applied;
+            framed = new.framed;
             laid = new.laid;
           }) inv.rest;
       all = done.all ∙ inv.all;
@@ -63,7 +64,7 @@ turning-preserved g c =
       asks = omega (arith, inv.asks, done.asks);
       asks_free = omega (arith, inv.asks_free, done.asks_free);
       asked = omega (arith, inv.asked, done.asked, ap (λ xs. all_coins_of (drop new.step xs)) inv.all, ap (λ xs. all_coins_of (drop old.step xs)) inv.all);
-      counted = omega (arith, inv.counted, step, applied);
+      counted = omega (arith, inv.counted, step, counted);
       further = omega (arith, inv.further, step);
       few_laid = omega (arith, inv.few_laid, step, far, ap (λ k. c.args.spacing * k) one_more);
       way = λ begin p copies before next block turning.

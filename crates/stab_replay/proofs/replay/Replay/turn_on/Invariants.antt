@@ -18,6 +18,7 @@ invariant-turning g l = record {
         cursor = l.self.cursor;
         step = l.self.step;
         applied = l.self.applied;
+        framed = l.self.framed;
         laid = l.self.laid;
       };
   all : l.self.cursor.all ≡ l.initial.self.cursor.all;
@@ -26,7 +27,7 @@ invariant-turning g l = record {
   asks_free : g.C.Coins.asks l.coins + ones l.initial.self.outputs.free.items ≤ g.C.Coins.asks l.initial.coins + ones l.self.outputs.free.items;
   asked : g.C.Coins.asks l.coins + all_coins_of (drop l.self.step l.initial.self.cursor.all)
       ≤ g.C.Coins.asks l.initial.coins + all_coins_of (drop l.initial.self.step l.initial.self.cursor.all);
-  counted : l.self.applied + l.initial.self.step ≡ l.initial.self.applied + l.self.step;
+  counted : (l.self.applied + l.self.framed) + l.initial.self.step ≡ (l.initial.self.applied + l.initial.self.framed) + l.self.step;
   further : l.initial.self.step ≤ l.self.step;
   few_laid : l.spacing * length l.self.laid.items + l.initial.self.step ≤ l.spacing * length l.initial.self.laid.items + l.self.step;
   way : (begin : ℕ) (p : Plan) (copies : List Checkpoint) (old : List Bool) (next : ℕ) (block : Repeat)

@@ -9,6 +9,7 @@ use Rattle.stab_frames.specs.KeptStrings.{kept_with, note_at}
 use Rattle.stab_frames.specs.Limits.{most_strings}
 use Rattle.stab_frames.specs.Walks.{IsPlaced}
 use Rattle.stab_frames.specs.OtherCoins.{coins_from, WalksToOthers}
+use Rattle.stab_frames.proofs.StillWalkLemmas.{ones-within}
 use Rattle.stab_copies.specs.declared.checkpoint.Checkpoint.{Checkpoint}
 use Rattle.stab_tableau.specs.Tableaus.{stabilises}
 use Rattle.stab_tableau.specs.Turns.{IsTurned}
@@ -20,52 +21,78 @@ use Rattle.stab_replay.proofs.FramedLemmas.{flipped-empty}
 use Rattle.stab_replay.proofs.TurnedReplayLemmas.{AreKnown, turned-known, kept-before, ones-given}
 use Rattle.stab_replay.proofs.replay.Replay.turn_once.Given.{Over}
 use Rattle.stab_replay.proofs.replay.Replay.turn_once.Goals as goal
-use Rattle.stab_replay.proofs.replay.Replay.turn_once.Goals.{Else-not-may_turn}
+use Rattle.stab_replay.proofs.replay.Replay.turn_once.Goals.{In-Some}
 
-here : (g : Over) (c : Else-not-may_turn g) → slice_get c.args.self.now.laid.items c.args.number ≡ Some c.index-from.result.now
+here : (g : Over) (c : In-Some g) → slice_get c.args.self.now.laid.items c.args.number ≡ Some c.index-from.result.now
 here g c =
     let items = c.args.self.now.laid.items in
     slice_get_read items (length items) c.args.number c.index-from.result.now refl (omega (arith, c.requires.in_range)) c.index-from.ensures
 
-there : (g : Over) (c : Else-not-may_turn g) → slice_get c.args.self.now.laid.items (c.args.number + 1) ≡ Some c.index-to.result.now
+there : (g : Over) (c : In-Some g) → slice_get c.args.self.now.laid.items (c.args.number + 1) ≡ Some c.index-to.result.now
 there g c =
     let items = c.args.self.now.laid.items in
     slice_get_read items (length items) (c.args.number + 1) c.index-to.result.now refl c.requires.in_range c.index-to.ensures
 
-within : (g : Over) (c : Else-not-may_turn g) → c.args.self.now.step + (c.index-to.result.now.step - c.index-from.result.now.step) ≤ c.args.end
+within : (g : Over) (c : In-Some g) → c.args.self.now.step + (c.index-to.result.now.step - c.index-from.result.now.step) ≤ c.args.end
 within g c = grind (arith, c.saturating_sub-steps.ensures, c.saturating_sub.ensures, c.if-saturating_sub-steps.false, c.if-steps-spacing.false, c.requires.some)
 
-known : (g : Over) (c : Else-not-may_turn g) → AreKnown c.args.self.now.tableau.qubits c.args.self.now c.args.walk.now c.index-from.result.now c.index-to.result.now
+known : (g : Over) (c : In-Some g) → AreKnown c.args.self.now.tableau.qubits c.args.self.now c.args.walk.now c.index-from.result.now c.index-to.result.now
 known g c =
     let t = c.requires.turning in
     turned-known c.args.self.now.tableau.qubits (g.C.Coins.sequence c.args.coins.now) t.0 t.1 c.args.self.now.cursor.all t.2 t.3 t.4 t.5 c.args.end c.args.number t.6 c.args.self.now c.args.walk.now
     c.index-from.result.now c.index-to.result.now (here g c) (there g c) (within g c) (grind (arith, c.if-steps-spacing.false, c.saturating_sub-steps.ensures, c.requires.some)) t.7
 
-steps : (g : Over) (c : Else-not-may_turn g) → c.saturating_sub-steps.result ≡ c.index-to.result.now.step - c.index-from.result.now.step
+steps : (g : Over) (c : In-Some g) → c.saturating_sub-steps.result ≡ c.index-to.result.now.step - c.index-from.result.now.step
 steps g c = c.saturating_sub-steps.ensures
 
-kept : (g : Over) (c : Else-not-may_turn g)
+kept : (g : Over) (c : In-Some g)
     → c.args.walk.now.number + ones (drop c.index-from.result.now.lengths.free (take c.index-to.result.now.lengths.free c.args.self.now.outputs.free.items))
     ≤ length c.args.self.now.notes.strings.strings
-kept g c = let le = (c.if-not-may_turn.ensures {u = tt}).kept refl in omega (arith, le, c.number.ensures.value)
+kept g c = let le = c.in-Some.ensures.kept in omega (arith, le, c.number.ensures.value, c.in-Some.ensures.count)
 
-last : (g : Over) (c : Else-not-may_turn g) → c.index-to.result.now.lengths.free ≡ c.args.walk.now.coin + all_coins_of (take c.saturating_sub-steps.result c.args.self.now.cursor.left)
+last : (g : Over) (c : In-Some g) → c.index-to.result.now.lengths.free ≡ c.args.walk.now.coin + all_coins_of (take c.saturating_sub-steps.result c.args.self.now.cursor.left)
 last g c = (known g c).last ∙ ap (λ m. c.args.walk.now.coin + all_coins_of (take m c.args.self.now.cursor.left)) (sym (steps g c))
 
+-- the coins that it asks for, by the flags that it takes
+coins : (g : Over) (c : In-Some g)
+    → ones (take (all_coins_of (take c.saturating_sub-steps.result c.args.self.now.cursor.left)) (drop c.args.walk.now.coin c.args.self.now.outputs.free.items)) ≡ c.in-Some.asked
+coins g c =
+    let free = c.args.self.now.outputs.free.items in
+    let to = c.index-to.result.now.lengths.free in
+    omega (
+      arith,
+      c.in-Some.ensures.count,
+      ones-given c.args.walk.now.coin (all_coins_of (take c.saturating_sub-steps.result c.args.self.now.cursor.left)) to free (last g c),
+      ap (λ i. ones (drop i (take to free))) (known g c).coin,
+    )
+
+few : (g : Over) (c : In-Some g) → c.in-Some.asked ≤ c.saturating_sub-steps.result
+few g c =
+    let count = all_coins_of (take c.saturating_sub-steps.result c.args.self.now.cursor.left) in
+    omega (
+      arith,
+      coins g c,
+      ones-within count (drop c.args.walk.now.coin c.args.self.now.outputs.free.items),
+      coins-few c.saturating_sub-steps.result c.args.self.now.cursor.left,
+    )
+
+pub overflow_sub : goal.overflow_sub
+overflow_sub g c = few g ((goal.at.overflow_sub g c).In-Some)
+
 pub overflow_sub-ahead : goal.overflow_sub-ahead
-overflow_sub-ahead g c = let k = known g ((goal.at.overflow_sub-ahead g c).Else-not-may_turn) in omega (arith, k.free, c.len.ensures)
+overflow_sub-ahead g c = let k = known g ((goal.at.overflow_sub-ahead g c).In-Some) in omega (arith, k.free, c.len.ensures)
 
 pub walk_with_coins-requires-clause-fits : goal.walk_with_coins-requires-clause-fits
 walk_with_coins-requires-clause-fits g c =
-    let k = known g ((goal.at.walk_with_coins-requires-clause-fits g c).Else-not-may_turn) in
+    let k = known g ((goal.at.walk_with_coins-requires-clause-fits g c).In-Some) in
     subst (λ m. All (StepFits m) c.args.self.now.cursor.left) (sym k.size) k.fits
 
 pub walk_with_coins-requires-clause-few : goal.walk_with_coins-requires-clause-few
-walk_with_coins-requires-clause-few g c = let k = known g ((goal.at.walk_with_coins-requires-clause-few g c).Else-not-may_turn) in omega (arith, k.few, c.len.ensures)
+walk_with_coins-requires-clause-few g c = let k = known g ((goal.at.walk_with_coins-requires-clause-few g c).In-Some) in omega (arith, k.few, c.len.ensures)
 
 pub walk_with_coins-requires-clause-kept : goal.walk_with_coins-requires-clause-kept
 walk_with_coins-requires-clause-kept g c =
-    let at = (goal.at.walk_with_coins-requires-clause-kept g c).Else-not-may_turn in
+    let at = (goal.at.walk_with_coins-requires-clause-kept g c).In-Some in
     let k = known g at in
     let free = c.args.self.now.outputs.free.items in
     subst (λ bits. ones (take (c.args.walk.now.coin + all_coins_of (take c.saturating_sub-steps.result c.args.self.now.cursor.left)) bits) ≤ length c.args.self.now.notes.strings.strings)
@@ -75,7 +102,7 @@ walk_with_coins-requires-clause-kept g c =
     (subst (λ i. c.args.walk.now.number + ones (drop i (take c.index-to.result.now.lengths.free free)) ≤ length c.args.self.now.notes.strings.strings) (sym k.coin) (kept g at)))
 
 -- no more coins are asked for than the steps that it went past take
-asked-for : (g : Over) (c : Else-not-may_turn g) (before after : ℕ) → after ≤ before + all_coins_of (take c.saturating_sub-steps.result c.args.self.now.cursor.left)
+asked-for : (g : Over) (c : In-Some g) (before after : ℕ) → after ≤ before + all_coins_of (take c.saturating_sub-steps.result c.args.self.now.cursor.left)
     → after + all_coins_of (drop (c.args.self.now.step + c.saturating_sub-steps.result) c.args.self.now.cursor.all) ≤ before + all_coins_of (drop c.args.self.now.step c.args.self.now.cursor.all)
 asked-for g c before after le =
     let cut = coins-cut c.args.self.now.step (c.args.self.now.step + c.saturating_sub-steps.result) c.args.self.now.cursor.all c.args.self.now.cursor.left (omega arith) (known g c).left in
@@ -88,29 +115,37 @@ asked-for g c before after le =
 
 pub returns-in_err-walk_with_coins-clause-asked : goal.returns-in_err-walk_with_coins-clause-asked
 returns-in_err-walk_with_coins-clause-asked g c =
-    asked-for g ((goal.at.returns-in_err-walk_with_coins-clause-asked g c).Else-not-may_turn) _ _ c.walk_with_coins.ensures.asks
+    asked-for g ((goal.at.returns-in_err-walk_with_coins-clause-asked g c).In-Some) _ _ c.walk_with_coins.ensures.asks
 
 pub returns-in_err-tableau-clause-asked : goal.returns-in_err-tableau-clause-asked
-returns-in_err-tableau-clause-asked g c = asked-for g ((goal.at.returns-in_err-tableau-clause-asked g c).Else-not-may_turn) _ _ c.walk_with_coins.ensures.asks
+returns-in_err-tableau-clause-asked g c = asked-for g ((goal.at.returns-in_err-tableau-clause-asked g c).In-Some) _ _ c.walk_with_coins.ensures.asks
 
 pub returns-in_err-give_turned-clause-asked : goal.returns-in_err-give_turned-clause-asked
-returns-in_err-give_turned-clause-asked g c = asked-for g ((goal.at.returns-in_err-give_turned-clause-asked g c).Else-not-may_turn) _ _ c.walk_with_coins.ensures.asks
+returns-in_err-give_turned-clause-asked g c = asked-for g ((goal.at.returns-in_err-give_turned-clause-asked g c).In-Some) _ _ c.walk_with_coins.ensures.asks
 
 pub returns-in_err-note_again-clause-asked : goal.returns-in_err-note_again-clause-asked
-returns-in_err-note_again-clause-asked g c = asked-for g ((goal.at.returns-in_err-note_again-clause-asked g c).Else-not-may_turn) _ _ c.walk_with_coins.ensures.asks
+returns-in_err-note_again-clause-asked g c = asked-for g ((goal.at.returns-in_err-note_again-clause-asked g c).In-Some) _ _ c.walk_with_coins.ensures.asks
 
 pub returns-in_err-push-clause-asked : goal.returns-in_err-push-clause-asked
-returns-in_err-push-clause-asked g c = asked-for g ((goal.at.returns-in_err-push-clause-asked g c).Else-not-may_turn) _ _ c.walk_with_coins.ensures.asks
+returns-in_err-push-clause-asked g c = asked-for g ((goal.at.returns-in_err-push-clause-asked g c).In-Some) _ _ c.walk_with_coins.ensures.asks
 
 pub returns-clause-asked : goal.returns-clause-asked
-returns-clause-asked g c = asked-for g ((goal.at.returns-clause-asked g c).Else-not-may_turn) _ _ c.walk_with_coins.ensures.asks
+returns-clause-asked g c = asked-for g ((goal.at.returns-clause-asked g c).In-Some) _ _ c.walk_with_coins.ensures.asks
 
 pub returns-clause-asks : goal.returns-clause-asks
-returns-clause-asks g c = let le = c.walk_with_coins.ensures.asks in omega (arith, le, coins-few c.saturating_sub-steps.result c.args.self.now.cursor.left)
+returns-clause-asks g c =
+    let count = all_coins_of (take c.saturating_sub-steps.result c.args.self.now.cursor.left) in
+    let asked = (c.in_ok-walk_with_coins.ensures {u = tt}).asks_free in
+    omega (
+      arith,
+      asked,
+      ap (λ bits. ones (take count (drop c.args.walk.now.coin bits))) c.as_slice.ensures.value,
+      coins g ((goal.at.returns-clause-asks g c).In-Some),
+    )
 
 pub returns-clause-asks_free : goal.returns-clause-asks_free
 returns-clause-asks_free g c =
-    let at = (goal.at.returns-clause-asks_free g c).Else-not-may_turn in
+    let at = (goal.at.returns-clause-asks_free g c).In-Some in
     let free = c.args.self.now.outputs.free.items in
     let from = c.index-from.result.now.lengths.free in
     let to = c.index-to.result.now.lengths.free in
@@ -131,9 +166,9 @@ returns-clause-asks_free g c =
 
 pub returns-clause-given : goal.returns-clause-given
 returns-clause-given g c = λ yes.
-    let at = (goal.at.returns-clause-given g c).Else-not-may_turn in
+    let at = (goal.at.returns-clause-given g c).In-Some in
     let k = known g at in
-    let may = c.if-not-may_turn.ensures {u = tt} in
+    let may = c.in-Some.ensures in
     let walked = c.in_ok-walk_with_coins.ensures {u = tt} in
     let from = c.index-from.result.now in
     let to = c.index-to.result.now in
@@ -145,7 +180,8 @@ returns-clause-given g c = λ yes.
       notes = record old.notes { strings = c.note_again.new.strings };
       cursor = c.walk_with_coins.new.cursor;
       step = old.step + c.saturating_sub-steps.result;
-      applied = old.applied + c.saturating_sub-steps.result;
+      applied = old.applied + c.in-Some.asked;
+      framed = old.framed + (c.saturating_sub-steps.result - c.in-Some.asked);
       laid = c.push.new.self;
     } in
     let copy : c.index.result.now ≡ to =
@@ -157,9 +193,10 @@ returns-clause-given g c = λ yes.
       far = grind (arith, c.if-steps-spacing.false, c.saturating_sub-steps.ensures, c.requires.some);
       within = omega (arith, within g at, steps g at);
       step = ap (λ m. old.step + m) (steps g at);
-      applied = ap (λ m. old.applied + m) (steps g at);
-      order = may.order refl;
-      recorded = may.recorded refl;
+      applied = ap (λ m. old.applied + m) may.count;
+      counted = omega (arith, few g at, steps g at);
+      order = may.order;
+      recorded = may.recorded;
       size = c.walk_with_coins.ensures.length;
       placed = subst (λ bits. IsPlaced bits v) c.as_slice.ensures.value walked.placed;
       walked =

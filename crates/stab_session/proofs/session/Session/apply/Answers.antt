@@ -5,7 +5,7 @@ use Rattle.stab_circuit.specs.Steps.{unroll, observables_of}
 use Rattle.stab_session.specs.Sessions.{SessionState}
 use Rattle.stab_copies.specs.Checkpoints.{checkpoint_steps}
 use Rattle.stab_session.proofs.SessionLemmas.{statement, few-checkpoints}
-use Rattle.stab_session.proofs.EditedLemmas.{session-verdict, run-fault, followed, agreed, counted_same, new-run, edited-kept, session-edited, edited-applied, edited-at-least, edited-counted, edited-early, refused-asks}
+use Rattle.stab_session.proofs.EditedLemmas.{session-verdict, run-fault, followed, agreed, counted_same, new-run, edited-kept, session-edited, edited-applied, edited-counted, edited-early, refused-asks}
 use Rattle.stab_session.proofs.session.Session.apply.Goals as goal
 
 pub returns-in-Err-clause-refused : goal.returns-in-Err-clause-refused
@@ -82,19 +82,6 @@ returns-in-Ok-follow-clause-framed g c =
     (ap (λ (s : SessionState g.row.C.Denot). s.stride) c.self.view_is) (ran.same_coins ∙ coins) run
     (c.in-Ok-follow.followed.applied + c.in-Ok-follow.followed.framed) ran.applied
 
-pub returns-in-Ok-follow-clause-at_least : goal.returns-in-Ok-follow-clause-at_least
-returns-in-Ok-follow-clause-at_least g c =
-    let begun = c.in-Ok.ensures {u = tt} in
-    let ran = c.in-Ok-follow.ensures {u = tt} in
-    let coins = ap (λ (s : SessionState g.row.C.Denot). g.C.Coins.sequence s.coins) c.self.view_is in
-    let run = followed c.len-n.result c.self.inside.kept.tableau.qubits _ _ c.self.inside.stride _ _ c.follow.new.self c.len-n.ensures.value coins ran.kept in
-    edited-at-least g.C.Coins.sequence c.args.edit c.args.self.now c.len-n.result c.self.inside.circuit c.begin.new.circuit c.in-Ok.begun.0 c.in-Ok.begun.1 begun.begun
-    (ap (λ (s : SessionState g.row.C.Denot). s.items) (sym c.self.view_is))
-    (ap (λ (s : SessionState g.row.C.Denot). s.qubits) (sym c.self.view_is) ∙ sym c.len-n.ensures.value)
-    c.finish.new.circuit c.finish.ensures.value c.self.inside.stride c.follow.new.coins c.follow.new.self
-    (ap (λ (s : SessionState g.row.C.Denot). s.stride) c.self.view_is) (ran.same_coins ∙ coins) run
-    c.in-Ok-follow.followed.applied ran.at_least
-
 pub returns-in-Ok-follow-clause-counted : goal.returns-in-Ok-follow-clause-counted
 returns-in-Ok-follow-clause-counted g c =
     let begun = c.in-Ok.ensures {u = tt} in
@@ -122,7 +109,7 @@ returns-in-Ok-follow-clause-early g c =
     (ap (λ (s : SessionState g.row.C.Denot). s.qubits) (sym c.self.view_is) ∙ sym c.len-n.ensures.value)
     c.finish.new.circuit c.finish.ensures.value c.self.inside.stride c.follow.new.coins c.follow.new.self
     (ap (λ (s : SessionState g.row.C.Denot). s.stride) c.self.view_is) (ran.same_coins ∙ coins) run
-    c.in-Ok-follow.followed.applied far
+    (c.in-Ok-follow.followed.applied + c.in-Ok-follow.followed.framed) far
     (λ agree.
     omega (
       arith,
