@@ -167,89 +167,62 @@ const TWO_BLOCKS: &str = "REPEAT 10 {\nX 0\nX 0\n}\nREPEAT 1000 {\nX 0\n}";
 
 const FREE: &str = "REPEAT 1000 {\nMX 0\nM 0\n}";
 
-// Any number.
-const ANY: (usize, usize) = (0, usize::MAX);
-
-// Circuits on one qubit, with copies ten steps apart at most, and where what is put in. Then the fewest and the
-// most steps that this carries out, those that a frame goes over, and the copies that are kept; how many coins
-// the opening asks for, and the most that the edit does.
-const COSTS: &[(&str, Item, [(usize, usize); 3], (u64, u64))] = &[
-    (STILL, (None, 1, "I 0"), [(0, 11), ANY, (0, 22)], (0, 0)),
+// Circuits on one qubit, with copies at most ten steps apart, and where what is put in. Then how many steps the edit carries out, how
+// many others it goes past, and the most copies that are kept, two for each ten steps and two more; how many coins the opening asks
+// for, and how many the edit.
+//
+// An I changes nothing: from the copy before it on its frame, which has no letter, goes past the steps up to the next copy, or to the
+// end. Copies stand nine steps apart. In the first block of two that is not so: with an I in each of its ten rounds its copies would
+// stand too far apart. So the rounds are carried out; after the 18th step the state is that after the 9th, three rounds before, so the
+// next nine steps are given again, and ten more lead to the old copy after step 27, which has become step 37.
+const COSTS: &[(&str, Item, [usize; 2], usize, (u64, u64))] = &[
+    (STILL, (None, 1, "I 0"), [0, 2], 22, (0, 0)),
     (
         "X 0\nREPEAT 1000 {\nX 0\n}",
         (None, 0, "I 0"),
-        [(0, 21), ANY, (0, 202)],
+        [0, 10],
+        202,
         (0, 0),
     ),
-    (
-        TWO_BLOCKS,
-        (Some(0), 1, "I 0"),
-        [(0, 50), ANY, (0, 208)],
-        (0, 0),
-    ),
-    (FREE, (None, 0, "I 0"), [(0, 21), ANY, (0, 402)], (2000, 21)),
-    (DIES, (None, 0, "X 0"), [(0, 0), (10, 10), ANY], (0, 0)),
-    (DIES_NEAR, (None, 0, "X 0"), [(0, 0), (19, 19), ANY], (0, 0)),
-    (DIES_FAR, (None, 0, "X 0"), [(0, 0), (42, 42), ANY], (0, 0)),
-    (SETTLES, (None, 0, "X 0"), [(0, 0), (10, 10), ANY], (1, 0)),
-    (
-        SETTLES_NEAR,
-        (None, 0, "X 0"),
-        [(0, 0), (19, 19), ANY],
-        (1, 0),
-    ),
-    (
-        SETTLES_FAR,
-        (None, 0, "X 0"),
-        [(0, 0), (42, 42), ANY],
-        (1, 0),
-    ),
-    (STILL, (None, 0, "Z 0"), [(0, 0), (10, 10), ANY], (0, 0)),
-    (STILL, (None, 0, "X 0"), [(0, 0), (101, 101), ANY], (0, 0)),
-    (DIES, (None, 0, ROOTS), [(11, 11), (0, 0), ANY], (0, 0)),
-    (DIES_NEAR, (None, 0, ROOTS), [(11, 11), (9, 9), ANY], (0, 0)),
-    (
-        DIES_FAR,
-        (None, 0, ROOTS),
-        [(16, 16), (27, 27), ANY],
-        (0, 0),
-    ),
-    (DIES, (None, 0, "M 0"), [(10, 10), (0, 0), ANY], (0, 0)),
-    (DIES_NEAR, (None, 0, "M 0"), [(19, 19), (0, 0), ANY], (0, 0)),
-    (DIES_FAR, (None, 0, "M 0"), [(42, 42), (0, 0), ANY], (0, 0)),
-    (ONE_COIN, (None, 0, "M 0"), [(10, 10), (0, 0), ANY], (1, 1)),
-    (ONES, (None, 1, "R 0"), [(14, 14), (27, 27), ANY], (0, 0)),
-    (
-        FREE,
-        (None, 0, "M 0"),
-        [(2001, 2001), (0, 0), ANY],
-        (2000, 2001),
-    ),
+    (TWO_BLOCKS, (Some(0), 1, "I 0"), [28, 9], 208, (0, 0)),
+    (FREE, (None, 0, "I 0"), [0, 10], 402, (2000, 0)),
+    (DIES, (None, 0, "X 0"), [0, 10], 10, (0, 0)),
+    (DIES_NEAR, (None, 0, "X 0"), [0, 19], 10, (0, 0)),
+    (DIES_FAR, (None, 0, "X 0"), [0, 42], 10, (0, 0)),
+    (SETTLES, (None, 0, "X 0"), [0, 10], 10, (1, 0)),
+    (SETTLES_NEAR, (None, 0, "X 0"), [0, 19], 10, (1, 0)),
+    (SETTLES_FAR, (None, 0, "X 0"), [0, 42], 10, (1, 0)),
+    (STILL, (None, 0, "Z 0"), [0, 10], 22, (0, 0)),
+    (STILL, (None, 0, "X 0"), [0, 101], 22, (0, 0)),
+    (DIES, (None, 0, ROOTS), [11, 0], 10, (0, 0)),
+    (DIES_NEAR, (None, 0, ROOTS), [11, 9], 10, (0, 0)),
+    (DIES_FAR, (None, 0, ROOTS), [16, 27], 10, (0, 0)),
+    (DIES, (None, 0, "M 0"), [10, 0], 10, (0, 0)),
+    (DIES_NEAR, (None, 0, "M 0"), [19, 0], 10, (0, 0)),
+    (DIES_FAR, (None, 0, "M 0"), [42, 0], 10, (0, 0)),
+    (ONE_COIN, (None, 0, "M 0"), [10, 0], 10, (1, 1)),
+    (ONES, (None, 1, "R 0"), [14, 27], 10, (0, 0)),
+    (FREE, (None, 0, "M 0"), [2001, 0], 402, (2000, 2000)),
 ];
-
-fn is_within(number: usize, (least, most): (usize, usize)) -> bool {
-    least <= number && number <= most
-}
-
-/// Whether steps and copies are within their bounds, and an opening asks for so many coins and the edit for so
-/// many at most.
-fn are_few(
-    (asked, [applied, framed, kept], asks): (u64, [usize; 3], u64),
-    [steps, over, copies]: [(usize, usize); 3],
-    (opening, most): (u64, u64),
-) -> bool {
-    is_within(applied, steps)
-        && is_within(framed, over)
-        && is_within(kept, copies)
-        && asked == opening
-        && asks <= opening.saturating_add(most)
-}
 
 #[test]
 fn an_edit_costs_what_it_changes(rt: HostRuntime) -> Result<(), Fail> {
-    for &(circuit, (block, place, text), bounds, coins) in COSTS {
-        let found = costs(rt.alloc(), circuit, path(block, place), text)?;
-        assert!(rt; are_few(found, bounds, coins), "{circuit}");
+    for &(circuit, (block, place, text), steps, copies, (opening, edit)) in COSTS {
+        let (asked, [applied, framed, kept], asks) = costs(
+            rt.alloc(),
+            circuit,
+            path(block, place),
+            text,
+        )?;
+        assert!(rt;
+            [applied, framed] == steps,
+            "{circuit}: {applied}, {framed}"
+        );
+        assert!(rt; kept <= copies, "{circuit}: {kept} copies");
+        assert!(rt;
+            (asked, asks) == (opening, opening.saturating_add(edit)),
+            "{circuit}: {asked}, {asks}"
+        );
     }
     Ok(())
 }
