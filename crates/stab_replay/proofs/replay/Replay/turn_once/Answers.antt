@@ -76,8 +76,8 @@ few g c =
       coins-few c.saturating_sub-steps.result c.args.self.now.cursor.left,
     )
 
-pub overflow_sub : goal.overflow_sub
-overflow_sub g c = few g ((goal.at.overflow_sub g c).In-Some)
+pub overflow_sub-self : goal.overflow_sub-self
+overflow_sub-self g c = few g ((goal.at.overflow_sub-self g c).In-Some)
 
 pub overflow_sub-ahead : goal.overflow_sub-ahead
 overflow_sub-ahead g c = let k = known g ((goal.at.overflow_sub-ahead g c).In-Some) in omega (arith, k.free, c.len.ensures)
