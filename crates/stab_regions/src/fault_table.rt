@@ -81,6 +81,9 @@ pub fn sure(alloc: Global, circuit: &Circuit, n: usize) -> Result<Vec<bool>, Fau
 /// at each place that the circuit marks by a gate I, or everywhere, on each qubit of a step, in front
 /// of it where it makes a record, and behind it.
 ///
+/// Faults that go wrong in one run, in whatever order they are listed, flip together the sure bits that
+/// an odd number of their rows name.
+///
 /// Refused as `Circuit::check` refuses, else `OutOfMemory`, always with line 0.
 pub fn faults(
     alloc: Global,
