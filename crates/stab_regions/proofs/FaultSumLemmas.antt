@@ -4,7 +4,7 @@ use Rattle.std.specs.Prelude.{All, ◌==◌, ◌&&◌, slice_index_or, if◌then
 use Rattle.std.specs.List.{flat_map}
 use Rattle.std.proofs.lemmas.Bool.{cases_eq, eq-eqb, ne_eqb}
 use Rattle.std.proofs.lemmas.List.{get_or-map, length-map}
-use Rattle.std.proofs.lemmas.List.Elements.{All-nil, All-cons, All-head, All-tail, All-append, All-get_or, All-weaker}
+use Rattle.std.proofs.lemmas.List.Elements.{All-nil, All-cons, All-head, All-tail, All-append, All-get_or, All-map, All-weaker}
 use Rattle.stab_letters.specs.declared.letter.Letter.TheVariants as letter
 use Rattle.stab_letters.specs.Letters.{◌⊕◌}
 use Rattle.stab_letters.proofs.ParityLemmas.{parity-false}
@@ -40,18 +40,21 @@ odd-before f i (suc k) m lt =
     ∙ ap (λ c. c ⊕ odd m (numbers_where f (i + 1) k)) (and-false (f i))
     ∙ odd-before f (i + 1) k m (omega (arith, lt))
 
+-- the first number, or another, where it is so of the others
+odd-next : (f : ℕ → Bool) (i k m : ℕ) → ((i ≡ m → ⊥) → odd m (numbers_where f (i + 1) k) ≡ f m) → (i ≡ m) ⊎ (i ≡ m → ⊥)
+    → (f i && (i == m)) ⊕ odd m (numbers_where f (i + 1) k) ≡ f m
+odd-next f i k m others (inl same) =
+    (λ t. (f i && eq-eqb i m same t) ⊕ odd-before f (i + 1) k m (omega (arith, same)) t) ∙ parity-false (f i && true) ∙ and-true (f i) ∙ ap f same
+odd-next f i k m others (inr other) =
+    ap (λ c. (f i && c) ⊕ odd m (numbers_where f (i + 1) k)) (ne_eqb i m other)
+    ∙ ap (λ c. c ⊕ odd m (numbers_where f (i + 1) k)) (and-false (f i))
+    ∙ others other
+
 odd-where : (f : ℕ → Bool) (i k m : ℕ) → i ≤ m → m < i + k → odd m (numbers_where f i k) ≡ f m
 odd-where f i zero m le lt = absurd (omega (arith, le, lt))
-odd-where f i (suc k) m le lt = odd-step f i k m (f i) refl ∙ by_place (cases_eq i m)
-  where
-    by_place : (i ≡ m) ⊎ (i ≡ m → ⊥) → (f i && (i == m)) ⊕ odd m (numbers_where f (i + 1) k) ≡ f m
-    by_place (inl same) =
-        (λ t. (f i && eq-eqb i m same t) ⊕ odd-before f (i + 1) k m (omega (arith, same)) t)
-        ∙ parity-false (f i && true) ∙ and-true (f i) ∙ ap f same
-    by_place (inr other) =
-        ap (λ c. (f i && c) ⊕ odd m (numbers_where f (i + 1) k)) (ne_eqb i m other)
-        ∙ ap (λ c. c ⊕ odd m (numbers_where f (i + 1) k)) (and-false (f i))
-        ∙ odd-where f (i + 1) k m (omega (arith, le, other)) (omega (arith, lt))
+odd-where f i (suc k) m le lt =
+    odd-step f i k m (f i) refl
+    ∙ odd-next f i k m (λ other. odd-where f (i + 1) k m (omega (arith, le, other)) (omega (arith, lt))) (cases_eq i m)
 
 -- the faults that are asked for stand among the steps, on the qubits
 
