@@ -31,3 +31,4 @@ mod BitLemmas
 mod FaultBitLemmas
 mod TwoFaultLemmas
 mod ManyFaultLemmas
+mod FaultSumLemmas

@@ -1,78 +1,181 @@
 -- Many faults: what they flip together of a sure bit is the exclusive or of what each flips alone.
-use Rattle.std.proofs.Common.{◌≡◌, ℕ, suc, ◌<◌, ◌≤◌, ◌∙◌, ap, arith, refl, Bool, List, [], ◌∷◌, take, drop, length, All, take-append-drop}
+use Rattle.std.proofs.Common.{◌≡◌, ℕ, ◌+◌, ◌-◌, ◌<◌, ◌≤◌, ◌⊎◌, inl, inr, sym, ◌∙◌, ap, subst, arith, refl, Bool, List, [], ◌∷◌, ◌++◌, append_assoc, take, drop, length, All, take-append-drop, length-take-le}
+use Rattle.std.specs.Prelude.{if◌then◌else◌}
+use Rattle.std.proofs.lemmas.Bool.{cases_lt, eq-eqb, ne_eqb}
 use Rattle.std.proofs.lemmas.List.{length-append}
-use Rattle.std.proofs.lemmas.List.Elements.{All-head, All-tail, All-from_get_or}
+use Rattle.std.proofs.lemmas.List.Elements.{All-head, All-tail}
+use Rattle.stab_letters.specs.declared.letter.Letter.{Letter}
 use Rattle.stab_letters.specs.Letters.{◌⊕◌}
 use Rattle.stab_letters.proofs.ParityLemmas.{parity-self}
-use Rattle.stab_circuit.specs.Steps.{Step, one, unroll, observables_of}
+use Rattle.stab_circuit.specs.Steps.{Step, one, unroll, observables_of, detectors_of}
 use Rattle.stab_run.specs.Runs.{gate_of}
 use Rattle.stab_run.specs.Laws.{RunsArePointsWithOutputs}
-use Rattle.stab_regions.specs.Faults.{FaultPlace, with_gate, bit}
-use Rattle.stab_regions.specs.FaultLaws.{with_gates, FaultFits, AreInOrder, flips_together, FaultsAdd, AllFaultsAdd}
-use Rattle.stab_regions.proofs.TwoFaultLemmas.{HasSureBit, gate-sure, gates-alike}
+use Rattle.stab_regions.specs.Parities.{parity_flips}
+use Rattle.stab_regions.specs.Faults.{FaultPlace, with_gate, gates_at, with_gates_from, with_gates, bit}
+use Rattle.stab_regions.specs.FaultLaws.{FaultFits, flips_together, FaultsAdd}
+use Rattle.stab_regions.proofs.TwoFaultLemmas.{HasSureBit, letter-turns, count-flipped, still-sure, flips-alike}
 
--- the first of some in order is in front of each other, and these are in order
-first-in-order : (f : FaultPlace) (fs : List FaultPlace) → AreInOrder (f ∷ fs) → All (λ g. f.before ≤ g.before) fs
-first-in-order f fs order = All-from_get_or (λ g. f.before ≤ g.before) fs f (λ j lt. order 0 (suc j) f (omega arith) (omega (arith, lt)))
+-- where the gates of faults are put in
 
-rest-in-order : (f : FaultPlace) (fs : List FaultPlace) → AreInOrder (f ∷ fs) → AreInOrder fs
-rest-in-order f fs order = λ j k d lt within. order (suc j) (suc k) d (omega (arith, lt)) (omega (arith, within))
+-- of none, the steps are as they were
+none-put : (t : ℕ) (xs : List Step) → with_gates_from t [] xs ≡ xs
+none-put t [] = refl
+none-put t (x ∷ xs) = ap (λ ys. x ∷ ys) (none-put (t + 1) xs)
 
--- steps with faults are no shorter
-longer : (f : FaultPlace) (xs : List Step) → length xs ≤ length (with_gate f xs)
-longer f xs =
-    omega (
-      arith,
-      length-append (take f.before xs) (one (gate_of f.letter) f.qubit ∷ drop f.before xs),
-      length-append (take f.before xs) (drop f.before xs),
-      ap length (take-append-drop f.before xs),
-    )
+-- first steps with the gates that are put in front of each of them
+abbrev front_with : ℕ → List FaultPlace → List Step → List Step
+front_with t fs [] = []
+front_with t fs (x ∷ xs) = gates_at t fs ++ x ∷ front_with (t + 1) fs xs
 
-all-longer : (fs : List FaultPlace) (xs : List Step) → length xs ≤ length (with_gates fs xs)
-all-longer [] xs = omega arith
-all-longer (f ∷ fs) xs = omega (arith, longer f (with_gates fs xs), all-longer fs xs)
+-- steps in two parts
+in-parts : (t : ℕ) (fs : List FaultPlace) (xs ys : List Step) (end : ℕ) → end ≡ t + length xs
+    → with_gates_from t fs (xs ++ ys) ≡ front_with t fs xs ++ with_gates_from end fs ys
+in-parts t fs [] ys end e =
+    let here : t ≡ end = omega (arith, e) in
+    ap (λ k. with_gates_from k fs ys) here
+in-parts t fs (x ∷ xs) ys end e =
+    ap (λ zs. gates_at t fs ++ x ∷ zs) (in-parts (t + 1) fs xs ys end (omega (arith, e)))
+    ∙ sym (append_assoc (gates_at t fs) (x ∷ front_with (t + 1) fs xs) (with_gates_from end fs ys))
 
 -- one fault more
+
+module _ (f : FaultPlace) (fs : List FaultPlace) where
+  abbrev its_gate : Step
+  its_gate = one (gate_of f.letter) f.qubit
+
+  gate-here : (t : ℕ) → f.before ≡ t → gates_at t (f ∷ fs) ≡ its_gate ∷ gates_at t fs
+  gate-here t e = ap (λ b. if b then its_gate ∷ gates_at t fs else gates_at t fs) (eq-eqb f.before t e)
+
+  no-gate : (t : ℕ) → (f.before ≡ t → ⊥) → gates_at t (f ∷ fs) ≡ gates_at t fs
+  no-gate t other = ap (λ b. if b then its_gate ∷ gates_at t fs else gates_at t fs) (ne_eqb f.before t other)
+
+  -- steps behind its place are without its gate
+  gone-behind : (t : ℕ) (xs : List Step) → f.before < t → with_gates_from t (f ∷ fs) xs ≡ with_gates_from t fs xs
+  gone-behind t [] lt = no-gate t (λ e. omega (arith, e, lt))
+  gone-behind t (x ∷ xs) lt = (λ i. no-gate t (λ e. omega (arith, e, lt)) i ++ x ∷ gone-behind (t + 1) xs (omega (arith, lt)) i)
+
+  -- those from its place on have it first
+  first-there : (t : ℕ) (xs : List Step) → f.before ≡ t → with_gates_from t (f ∷ fs) xs ≡ its_gate ∷ with_gates_from t fs xs
+  first-there t [] e = gate-here t e
+  first-there t (x ∷ xs) e = (λ i. gate-here t e i ++ x ∷ gone-behind (t + 1) xs (omega (arith, e)) i)
+
+  -- and those in front of it are without
+  not-yet : (t : ℕ) (xs : List Step) → t + length xs ≤ f.before → front_with t (f ∷ fs) xs ≡ front_with t fs xs
+  not-yet t [] le = refl
+  not-yet t (x ∷ xs) le = (λ i. no-gate t (λ e. omega (arith, e, le)) i ++ x ∷ not-yet (t + 1) xs (omega (arith, le)) i)
+
+  -- so its gate stands between the two parts
+  put-in : (t : ℕ) (xs ys : List Step) → f.before ≡ t + length xs
+      → with_gates_from t (f ∷ fs) (xs ++ ys) ≡ front_with t fs xs ++ its_gate ∷ with_gates_from f.before fs ys
+  put-in t xs ys e =
+      in-parts t (f ∷ fs) xs ys f.before e ∙ (λ i. not-yet t xs (omega (arith, e)) i ++ first-there f.before ys refl i)
+
+-- what a letter flips in front of gates of faults
+
+-- with other steps behind a place, the bit is still sure, and the letter flips it as before
+record Alike (n count i : ℕ) (front : List Step) (l : Letter) (q : ℕ) (back others : List Step) : Type 0 where
+  sure : HasSureBit n count (front ++ others) i
+  detectors : detectors_of (front ++ others) ≡ detectors_of (front ++ back)
+  flips : parity_flips n (detectors_of (front ++ back)) i l q others ≡ parity_flips n (detectors_of (front ++ back)) i l q back
+
+module _ (law : RunsArePointsWithOutputs) (n count i : ℕ) (front : List Step) (l : Letter) (q : ℕ) (lt : q < n) (back : List Step) where
+  -- one gate more
+  one-more : (mid rest : List Step) (m : Letter) (r : ℕ) → r < n → Alike n count i front l q back (mid ++ rest)
+      → Alike n count i front l q back (mid ++ one (gate_of m) r ∷ rest)
+  one-more mid rest m r lt_r a =
+      let before : List Step = front ++ (mid ++ rest) in
+      let parts : before ≡ (front ++ mid) ++ rest = sym (append_assoc front mid rest) in
+      let joined : (front ++ mid) ++ one (gate_of m) r ∷ rest ≡ front ++ (mid ++ one (gate_of m) r ∷ rest) = append_assoc front mid (one (gate_of m) r ∷ rest) in
+      record {
+        sure = subst (λ ys. HasSureBit n count ys i) joined (still-sure law n count (front ++ mid) m r rest i before parts a.sure lt_r);
+        detectors =
+            ap detectors_of (sym joined) ∙ count-flipped law n count (front ++ mid) m r rest i before parts a.sure lt_r ∙ a.detectors;
+        flips =
+            ap (λ d. parity_flips n d i l q (mid ++ one (gate_of m) r ∷ rest)) (sym a.detectors)
+            ∙ flips-alike law n count front l q mid m r rest i before parts a.sure lt lt_r
+            ∙ ap (λ d. parity_flips n d i l q (mid ++ rest)) a.detectors
+            ∙ a.flips;
+      }
+
+  module _ (t : ℕ) (long : length front ≡ t) where
+    -- one fault more, which may stand in front of the place
+    one-fault-more : (f : FaultPlace) (fs : List FaultPlace) → FaultFits n (front ++ back) f → Alike n count i front l q back (with_gates_from t fs back)
+        → Alike n count i front l q back (with_gates_from t (f ∷ fs) back)
+    one-fault-more f fs fit a = by_place (cases_lt f.before t)
+      where
+        k : ℕ
+        k = f.before - t
+
+        by_place : (f.before < t) ⊎ (t ≤ f.before) → Alike n count i front l q back (with_gates_from t (f ∷ fs) back)
+        by_place (inl less) = subst (Alike n count i front l q back) (sym (gone-behind f fs t back less)) a
+        by_place (inr more) =
+            let within : k ≤ length back = omega (arith, more, fit.before, long, length-append front back) in
+            let there : f.before ≡ t + length (take k back) = omega (arith, more, length-take-le k back within) in
+            let mid : List Step = front_with t fs (take k back) in
+            let rest : List Step = with_gates_from f.before fs (drop k back) in
+            let with_it : with_gates_from t (f ∷ fs) back ≡ mid ++ one (gate_of f.letter) f.qubit ∷ rest =
+            ap (with_gates_from t (f ∷ fs)) (sym (take-append-drop k back)) ∙ put-in f fs t (take k back) (drop k back) there in
+            let without : with_gates_from t fs back ≡ mid ++ rest =
+            ap (with_gates_from t fs) (sym (take-append-drop k back)) ∙ in-parts t fs (take k back) (drop k back) f.before there in
+            subst (Alike n count i front l q back) (sym with_it) (one-more mid rest f.letter f.qubit fit.qubit (subst (Alike n count i front l q back) without a))
+
+    -- by induction on the faults
+    faults-alike : HasSureBit n count (front ++ back) i → (fs : List FaultPlace) → All (FaultFits n (front ++ back)) fs
+        → Alike n count i front l q back (with_gates_from t fs back)
+    faults-alike sure [] fit = subst (Alike n count i front l q back) (sym (none-put t back)) (record { sure = sure; detectors = refl; flips = refl })
+    faults-alike sure (f ∷ fs) fit =
+        one-fault-more f fs (All-head (FaultFits n (front ++ back)) f fs fit) (faults-alike sure fs (All-tail (FaultFits n (front ++ back)) f fs fit))
+
+-- what faults flip together
+
+-- one more flips what it flips alone, in front of others or behind them
+flips-still : (law : RunsArePointsWithOutputs) (n count i : ℕ) (f : FaultPlace) (front back : List Step) → length front ≡ f.before → f.qubit < n
+    → HasSureBit n count (front ++ back) i → (fs : List FaultPlace) → All (FaultFits n (front ++ back)) fs → (coins : ℕ → Bool)
+    → bit n count coins (with_gates (f ∷ fs) (front ++ back)) i ⊕ bit n count coins (with_gates fs (front ++ back)) i
+    ≡ bit n count coins (front ++ one (gate_of f.letter) f.qubit ∷ back) i ⊕ bit n count coins (front ++ back) i
+flips-still law n count i f front back long lt sure fs fit coins =
+    let there : f.before ≡ 0 + length front = omega (arith, long) in
+    let mid : List Step = front_with 0 fs front in
+    let rest : List Step = with_gates_from f.before fs back in
+    let all : Alike n count i [] f.letter f.qubit (front ++ back) (with_gates fs (front ++ back)) =
+    faults-alike law n count i [] f.letter f.qubit lt (front ++ back) 0 refl sure fs fit in
+    let behind : Alike n count i front f.letter f.qubit back rest = faults-alike law n count i front f.letter f.qubit lt back f.before long sure fs fit in
+    ap (λ ys. bit n count coins ys i ⊕ bit n count coins (with_gates fs (front ++ back)) i) (put-in f fs 0 front back there)
+    ∙ letter-turns law n count mid f.letter f.qubit rest i (with_gates fs (front ++ back)) (in-parts 0 fs front back f.before there) all.sure lt coins coins
+    ∙ ap (λ d. parity_flips n d i f.letter f.qubit rest) all.detectors
+    ∙ behind.flips
+    ∙ sym (letter-turns law n count front f.letter f.qubit back i (front ++ back) refl sure lt coins coins)
+
+-- one bit more
 add-on : (more some plain here there : Bool) → more ⊕ some ≡ here → some ⊕ plain ≡ there → more ⊕ plain ≡ here ⊕ there
 add-on more some plain here there e f = grind arith
 
-module _ (law : RunsArePointsWithOutputs) (n count : ℕ) (xs : List Step) (i : ℕ) (sure : HasSureBit n count xs i) where
-  -- with faults the bit is still sure
-  all-sure : (fs : List FaultPlace) → All (FaultFits n xs) fs → HasSureBit n count (with_gates fs xs) i
-  all-sure [] fit = sure
-  all-sure (f ∷ fs) fit = gate-sure law n count (with_gates fs xs) i (all-sure fs (All-tail (FaultFits n xs) f fs fit)) f (All-head (FaultFits n xs) f fs fit).qubit
+module _ (law : RunsArePointsWithOutputs) (n count : ℕ) (xs : List Step) (i : ℕ) (sure : HasSureBit n count xs i) (coins : ℕ → Bool) where
+  abbrev flips_alone : FaultPlace → Bool
+  flips_alone f = bit n count coins (with_gate f xs) i ⊕ bit n count coins xs i
 
-  -- one in front of all of them flips it as it does alone
-  all-alike : (coins : ℕ → Bool) (f : FaultPlace) → f.qubit < n → (fs : List FaultPlace) → All (FaultFits n xs) fs → All (λ g. f.before ≤ g.before) fs
-      → bit n count coins (with_gate f (with_gates fs xs)) i ⊕ bit n count coins (with_gates fs xs) i ≡ bit n count coins (with_gate f xs) i ⊕ bit n count coins xs i
-  all-alike coins f lt [] fit behind = refl
-  all-alike coins f lt (g ∷ fs) fit behind =
-      let here : FaultFits n xs g = All-head (FaultFits n xs) g fs fit in
-      let rest : All (FaultFits n xs) fs = All-tail (FaultFits n xs) g fs fit in
-      gates-alike law n count (with_gates fs xs) i (all-sure fs rest) f lt g here.qubit (All-head (λ h. f.before ≤ h.before) g fs behind)
-      (omega (arith, here.before, all-longer fs xs)) coins
-      ∙ all-alike coins f lt fs rest (All-tail (λ h. f.before ≤ h.before) g fs behind)
+  -- so it is of the steps around its place
+  flips-on : (f : FaultPlace) → FaultFits n xs f → (fs : List FaultPlace) → All (FaultFits n xs) fs
+      → bit n count coins (with_gates (f ∷ fs) xs) i ⊕ bit n count coins (with_gates fs xs) i ≡ flips_alone f
+  flips-on f here fs fit =
+      let front : List Step = take f.before xs in
+      let back : List Step = drop f.before xs in
+      let whole : front ++ back ≡ xs = take-append-drop f.before xs in
+      subst (λ ys. bit n count coins (with_gates (f ∷ fs) ys) i ⊕ bit n count coins (with_gates fs ys) i
+      ≡ bit n count coins (with_gate f xs) i ⊕ bit n count coins ys i) whole
+      (flips-still law n count i f front back (length-take-le f.before xs here.before) here.qubit (subst (λ ys. HasSureBit n count ys i) (sym whole) sure) fs
+      (subst (λ ys. All (FaultFits n ys) fs) (sym whole) fit) coins)
 
-  -- so what they flip adds up
-  all-add : (coins : ℕ → Bool) (fs : List FaultPlace) → All (FaultFits n xs) fs → AreInOrder fs
-      → bit n count coins (with_gates fs xs) i ⊕ bit n count coins xs i ≡ flips_together (λ f. bit n count coins (with_gate f xs) i ⊕ bit n count coins xs i) fs
-  all-add coins [] fit order = parity-self (bit n count coins xs i)
-  all-add coins (f ∷ fs) fit order =
+  -- and all of them flip what an odd number of them flips
+  all-add : (fs : List FaultPlace) → All (FaultFits n xs) fs → bit n count coins (with_gates fs xs) i ⊕ bit n count coins xs i ≡ flips_together flips_alone fs
+  all-add [] fit = ap (λ ys. bit n count coins ys i ⊕ bit n count coins xs i) (none-put 0 xs) ∙ parity-self (bit n count coins xs i)
+  all-add (f ∷ fs) fit =
       let rest : All (FaultFits n xs) fs = All-tail (FaultFits n xs) f fs fit in
-      add-on (bit n count coins (with_gate f (with_gates fs xs)) i) (bit n count coins (with_gates fs xs) i) (bit n count coins xs i) _ _
-      (all-alike coins f (All-head (FaultFits n xs) f fs fit).qubit fs rest (first-in-order f fs order))
-      (all-add coins fs rest (rest-in-order f fs order))
+      add-on (bit n count coins (with_gates (f ∷ fs) xs) i) (bit n count coins (with_gates fs xs) i) (bit n count coins xs i) (flips_alone f) (flips_together flips_alone fs)
+      (flips-on f (All-head (FaultFits n xs) f fs fit) fs rest) (all-add fs rest)
 
--- the laws
-
-pub all-faults-add : RunsArePointsWithOutputs → AllFaultsAdd
-all-faults-add law n items i faults fits lt fit order same coins =
-    all-add law n (observables_of items) (unroll items) i (record { fits = fits; within = lt; same = same }) coins faults fit order
+-- the law
 
 pub faults-add : RunsArePointsWithOutputs → FaultsAdd
-faults-add law n items i f g fits lt lt_f lt_g le within same coins =
-    let xs : List Step = unroll items in
-    let count : ℕ = observables_of items in
-    let sure : HasSureBit n count xs i = record { fits = fits; within = lt; same = same } in
-    add-on (bit n count coins (with_gate f (with_gate g xs)) i) (bit n count coins (with_gate g xs) i) (bit n count coins xs i) _ _
-    (gates-alike law n count xs i sure f lt_f g lt_g le within coins) refl
+faults-add law n items i faults fits lt fit same coins =
+    all-add law n (observables_of items) (unroll items) i (record { fits = fits; within = lt; same = same }) coins faults fit

@@ -1,6 +1,5 @@
--- Two faults: a sure bit stays sure where a letter is inserted, so a second letter behind it flips it as it would alone.
-use Rattle.std.proofs.Common.{◌≡◌, ℕ, ◌+◌, ◌<◌, ◌≤◌, sym, ◌∙◌, ap, subst, arith, Bool, List, ◌∷◌, ◌++◌, append_assoc, take, drop, length, All, take-append-drop, length-take-le}
-use Rattle.std.proofs.lemmas.List.{take-take, take-append-le, drop-append-le}
+-- Two faults: a sure bit stays sure where a letter is inserted, so each of two letters flips it as it would alone.
+use Rattle.std.proofs.Common.{◌≡◌, ℕ, ◌+◌, ◌<◌, sym, ◌∙◌, ap, subst, arith, Bool, false, List, ◌∷◌, ◌++◌, append_assoc, All}
 use Rattle.std.proofs.lemmas.List.Elements.{All-append, All-cons}
 use Rattle.stab_letters.specs.declared.letter.Letter.{Letter}
 use Rattle.stab_letters.specs.Letters.{◌⊕◌}
@@ -10,7 +9,7 @@ use Rattle.stab_run.specs.Laws.{RunsArePointsWithOutputs}
 use Rattle.stab_run.specs.ProgramStates.{StepFits}
 use Rattle.stab_regions.specs.Laws.{with_fault}
 use Rattle.stab_regions.specs.Parities.{parity_flips}
-use Rattle.stab_regions.specs.Faults.{FaultPlace, with_gate, bit}
+use Rattle.stab_regions.specs.Faults.{bit}
 use Rattle.stab_regions.proofs.DetectorLemmas.{fits-front, fits-back}
 use Rattle.stab_regions.proofs.FaultLemmas.{count-fault}
 use Rattle.stab_regions.proofs.FaultBitLemmas.{SameForAll, sure-parity, sure-turns}
@@ -86,52 +85,12 @@ module _ (law : RunsArePointsWithOutputs) (n count : ℕ) (front : List Step) (l
       exchange (bit n count coins with_both i) (bit n count coins with_first i) (bit n count coins with_second i) (bit n count coins xs i)
       (second-turns coins ∙ sym (letter-turns law n count (front ++ mid) m r back i xs parts sure lt_r coins coins))
 
--- two places in steps, of which the second is not in front of the first
-
-module _ (xs : List Step) (j k : ℕ) (le : j ≤ k) (within : k ≤ length xs) where
-  -- the steps between them
-  abbrev between : List Step
-  between = drop j (take k xs)
-
-  reaches : j ≤ length (take k xs)
-  reaches = omega (arith, le, length-take-le k xs within)
-
-  take-between : take j xs ++ between ≡ take k xs
-  take-between = ap (λ ys. ys ++ between) (sym (take-take j k xs le)) ∙ take-append-drop j (take k xs)
-
-  drop-between : between ++ drop k xs ≡ drop j xs
-  drop-between = sym (drop-append-le j (take k xs) (drop k xs) reaches) ∙ ap (drop j) (take-append-drop k xs)
-
-  in-three : xs ≡ (take j xs ++ between) ++ drop k xs
-  in-three = sym (take-append-drop k xs) ∙ ap (λ ys. ys ++ drop k xs) (sym take-between)
-
--- faults, by their places
-
-module _ (law : RunsArePointsWithOutputs) (n count : ℕ) (xs : List Step) (i : ℕ) (sure : HasSureBit n count xs i) (f : FaultPlace) (lt : f.qubit < n) where
-  -- with a fault the bit is still sure
-  pub gate-sure : HasSureBit n count (with_gate f xs) i
-  gate-sure = still-sure law n count (take f.before xs) f.letter f.qubit (drop f.before xs) i xs (sym (take-append-drop f.before xs)) sure lt
-
-  -- and one in front of another flips it as it does alone
-  pub gates-alike : (g : FaultPlace) → g.qubit < n → f.before ≤ g.before → g.before ≤ length xs → (coins : ℕ → Bool)
-      → bit n count coins (with_gate f (with_gate g xs)) i ⊕ bit n count coins (with_gate g xs) i ≡ bit n count coins (with_gate f xs) i ⊕ bit n count coins xs i
-  gates-alike g lt_g le within coins =
-      (λ t. bit n count coins (both t) i ⊕ bit n count coins (second t) i)
-      ∙ letters-alike law n count (take f.before xs) f.letter f.qubit mid g.letter g.qubit (drop g.before xs) i xs (in-three xs f.before g.before le within) sure lt lt_g coins
-      ∙ ap (λ ys. bit n count coins ys i ⊕ bit n count coins xs i) (sym first)
-    where
-      mid : List Step
-      mid = between xs f.before g.before le within
-
-      first : with_gate f xs ≡ with_fault (take f.before xs) f.letter f.qubit (mid ++ drop g.before xs)
-      first = ap (λ ys. with_fault (take f.before xs) f.letter f.qubit ys) (sym (drop-between xs f.before g.before le within))
-
-      second : with_gate g xs ≡ with_fault (take f.before xs ++ mid) g.letter g.qubit (drop g.before xs)
-      second = ap (λ ys. with_fault ys g.letter g.qubit (drop g.before xs)) (sym (take-between xs f.before g.before le within))
-
-      both : with_gate f (with_gate g xs) ≡ with_fault (take f.before xs) f.letter f.qubit (mid ++ one (gate_of g.letter) g.qubit ∷ drop g.before xs)
-      both =
-          let letter : Step = one (gate_of g.letter) g.qubit in
-          let far : f.before ≤ length (take g.before xs) = reaches xs f.before g.before le within in
-          (λ t. with_fault ((take-append-le f.before (take g.before xs) (letter ∷ drop g.before xs) far ∙ take-take f.before g.before xs le) t) f.letter f.qubit
-          (drop-append-le f.before (take g.before xs) (letter ∷ drop g.before xs) far t))
+  -- so the pass says of the first the same with the second behind it as without
+  pub flips-alike : parity_flips n (detectors_of xs) i l q (mid ++ one (gate_of m) r ∷ back) ≡ parity_flips n (detectors_of xs) i l q (mid ++ back)
+  flips-alike =
+      let coins : ℕ → Bool = λ t. false in
+      ap (λ D. parity_flips n D i l q (mid ++ one (gate_of m) r ∷ back)) (sym (count-flipped law n count (front ++ mid) m r back i xs parts sure lt_r))
+      ∙ sym (letter-turns law n count front l q (mid ++ one (gate_of m) r ∷ back) i with_second (append_assoc front mid (one (gate_of m) r ∷ back))
+      (still-sure law n count (front ++ mid) m r back i xs parts sure lt_r) lt_q coins coins)
+      ∙ letters-alike coins
+      ∙ letter-turns law n count front l q (mid ++ back) i xs around_first sure lt_q coins coins

@@ -1,6 +1,5 @@
 -- Laws of faults: what the pass backwards finds of detectors and observables is what runs show of their bits.
 use Rattle.std.specs.Prelude.{◌≡◌, ℕ, ◌<◌, ◌≤◌, Bool, true, false, List, [], ◌∷◌, ◌++◌, drop, length, All, ◌↔◌}
-use Rattle.std.specs.List.{AllPairs}
 use Rattle.stab_letters.specs.declared.letter.Letter.{Letter}
 use Rattle.stab_letters.specs.Letters.{◌⊕◌}
 use Rattle.stab_circuit.specs.Items.{Items}
@@ -8,7 +7,7 @@ use Rattle.stab_circuit.specs.Steps.{Step, unroll, observables_of, detectors_of}
 use Rattle.stab_run.specs.ProgramStates.{StepFits}
 use Rattle.stab_regions.specs.Laws.{with_fault, turned_with}
 use Rattle.stab_regions.specs.Parities.{parity_sure, parity_flips}
-use Rattle.stab_regions.specs.Faults.{FaultPlace, with_gate, bit, bits_in, IsSure, flips}
+use Rattle.stab_regions.specs.Faults.{FaultPlace, with_gates, bit, bits_in, IsSure, flips}
 
 -- the pass finds sure exactly the bits that are the same whatever the coins
 abbrev pub SureParities : Type 0
@@ -40,22 +39,6 @@ FaultsFlipParitiesWithTheirCoins =
     bit n (observables_of items) (turned_with n front l q back coins) (with_fault front l q back) i ⊕ bit n (observables_of items) coins (unroll items) i
     ≡ parity_flips n (detectors_of (unroll items)) i l q back
 
--- two faults, of which the second is not in front of the first, flip a sure bit where one of them alone does
-abbrev pub FaultsAdd : Type 0
-FaultsAdd =
-    (n : ℕ) (items : Items) (i : ℕ) (first second : FaultPlace) → All (StepFits n) (unroll items) → i < bits_in items → first.qubit < n → second.qubit < n →
-    first.before ≤ second.before → second.before ≤ length (unroll items) → IsSure n items i → (coins : ℕ → Bool) →
-    bit n (observables_of items) coins (with_gate first (with_gate second (unroll items))) i ⊕ bit n (observables_of items) coins (unroll items) i
-    ≡ flips n items coins first i ⊕ flips n items coins second i
-
--- the steps with the gates of faults put in, none of which is behind a later one
-abbrev pub with_gates : List FaultPlace → List Step → List Step
-with_gates [] xs = xs
-with_gates (f ∷ fs) xs = with_gate f (with_gates fs xs)
-
-abbrev pub AreInOrder : List FaultPlace → Type 0
-AreInOrder faults = AllPairs (λ f g. f.before ≤ g.before) faults
-
 -- a fault is on one of n qubits, with no more steps in front of it than there are
 pub record FaultFits (n : ℕ) (xs : List Step) (f : FaultPlace) : Type 0 where
   pub qubit : f.qubit < n
@@ -66,10 +49,10 @@ abbrev pub flips_together : (FaultPlace → Bool) → List FaultPlace → Bool
 flips_together flips [] = false
 flips_together flips (f ∷ fs) = flips f ⊕ flips_together flips fs
 
--- faults flip a sure bit together where an odd number of them do so alone
-abbrev pub AllFaultsAdd : Type 0
-AllFaultsAdd =
+-- faults, in any order, flip a sure bit together where an odd number of them do so alone
+abbrev pub FaultsAdd : Type 0
+FaultsAdd =
     (n : ℕ) (items : Items) (i : ℕ) (faults : List FaultPlace) → All (StepFits n) (unroll items) → i < bits_in items →
-    All (FaultFits n (unroll items)) faults → AreInOrder faults → IsSure n items i → (coins : ℕ → Bool) →
+    All (FaultFits n (unroll items)) faults → IsSure n items i → (coins : ℕ → Bool) →
     bit n (observables_of items) coins (with_gates faults (unroll items)) i ⊕ bit n (observables_of items) coins (unroll items) i
     ≡ flips_together (λ f. flips n items coins f i) faults

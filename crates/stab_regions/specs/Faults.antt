@@ -1,5 +1,5 @@
 -- Faults: one Pauli X or Z that goes wrong between two steps, where they are asked for, and which bits of a run each flips.
-use Rattle.std.specs.Prelude.{◌≡◌, ℕ, zero, suc, ◌+◌, ◌<◌, Bool, true, false, List, [], ◌∷◌, ◌++◌, map, take, drop, length, ◌↔◌, slice_index_or, if◌then◌else◌, ◌&&◌}
+use Rattle.std.specs.Prelude.{◌≡◌, ℕ, zero, suc, ◌+◌, ◌<◌, ◌==◌, Bool, true, false, List, [], ◌∷◌, ◌++◌, map, take, drop, length, All, ◌↔◌, slice_index_or, if◌then◌else◌, ◌&&◌}
 use Rattle.std.specs.List.{flat_map}
 use Rattle.stab_letters.specs.declared.letter.Letter.{Letter}
 use Rattle.stab_letters.specs.declared.letter.Letter.TheVariants as letter
@@ -8,6 +8,7 @@ use Rattle.stab_letters.specs.declared.gate.Gate.TheVariants as gate
 use Rattle.stab_circuit.specs.Items.{Items}
 use Rattle.stab_circuit.specs.Steps.{Step, one, two, controlled, collapse, product, detector, observable, unroll, observables_of, detectors_of}
 use Rattle.stab_run.specs.Runs.{State, start, run, gate_of}
+use Rattle.stab_regions.specs.Rows.{odd, row}
 
 -- a place for faults: a qubit, in front of a step or behind it
 pub record Site : Type 0 where
@@ -68,6 +69,20 @@ faults_of everywhere xs = faults_from everywhere 0 xs
 abbrev pub with_gate : FaultPlace → List Step → List Step
 with_gate f xs = take f.before xs ++ one (gate_of f.letter) f.qubit ∷ drop f.before xs
 
+-- the gates of the faults that have t steps in front of them, in the list's order
+abbrev pub gates_at : ℕ → List FaultPlace → List Step
+gates_at t [] = []
+gates_at t (f ∷ fs) = if f.before == t then one (gate_of f.letter) f.qubit ∷ gates_at t fs else gates_at t fs
+
+-- the steps with the gates of faults put in, where the first step is number t
+abbrev pub with_gates_from : ℕ → List FaultPlace → List Step → List Step
+with_gates_from t faults [] = gates_at t faults
+with_gates_from t faults (x ∷ xs) = gates_at t faults ++ x ∷ with_gates_from (t + 1) faults xs
+
+-- the steps with each fault's letter put in as a gate at its place, whatever the order of the list
+abbrev pub with_gates : List FaultPlace → List Step → List Step
+with_gates faults xs = with_gates_from 0 faults xs
+
 -- the detectors and then the observables that a run of steps gives, with so many observables
 abbrev pub bits_of : State → List Bool
 bits_of s = s.detectors ++ s.observables
@@ -105,3 +120,15 @@ flipped n items sure coins f = numbers_where (λ i. slice_index_or sure i false 
 pub record IsFaultTable (n : ℕ) (everywhere : Bool) (items : Items) (sure : List Bool) (rows : List (List ℕ)) : Type 0 where
   pub are_sure : AreSure n items sure
   pub are_flipped : (coins : ℕ → Bool) → rows ≡ map (flipped n items sure coins) (faults_of everywhere (unroll items))
+
+-- the fault of a number, of those that are asked for
+abbrev pub fault_at : (everywhere : Bool) → List Step → ℕ → FaultPlace
+fault_at everywhere xs k = slice_index_or (faults_of everywhere xs) k (fault_on 0 (in_front 0) letter.X)
+
+-- the faults of these rows, in any order, flip a sure bit together where an odd number of the rows name it
+abbrev pub RowsAdd : (n : ℕ) (everywhere : Bool) → Items → (rows : List (List ℕ)) → Type 0
+RowsAdd n everywhere items rows =
+    (numbers : List ℕ) (i : ℕ) → All (λ k. k < length rows) numbers → i < bits_in items → IsSure n items i → (coins : ℕ → Bool) →
+    bit n (observables_of items) coins (with_gates (map (fault_at everywhere (unroll items)) numbers) (unroll items)) i
+    ⊕ bit n (observables_of items) coins (unroll items) i
+    ≡ odd i (flat_map (row rows) numbers)

@@ -1,6 +1,6 @@
 //! Laws of faults. Each function does nothing: its contract is the law, and the check proves it.
 
-ghost use Rattle.stab_regions.specs.FaultLaws.{SureParities, FaultsFlipSureParities, PlacesFlipSureParities, FaultsFlipParitiesWithTheirCoins, FaultsAdd, AllFaultsAdd};
+ghost use Rattle.stab_regions.specs.FaultLaws.{SureParities, FaultsFlipSureParities, PlacesFlipSureParities, FaultsFlipParitiesWithTheirCoins, FaultsAdd};
 
 use stab_run::laws::runs_are_points_with_outputs;
 
@@ -29,19 +29,11 @@ pub fn faults_flip_parities_with_their_coins()
     runs_are_points_with_outputs();
 }
 
-/// Where two faults, at one place or one behind the other, go wrong in one run, a sure bit is
-/// flipped exactly where one of them alone flips it and the other does not. So Y, which is X and Z at
-/// one place, and letters on both qubits of a pair, are told by X and Z on each.
+/// However many faults go wrong in one run, in whatever order they are listed, a sure bit is flipped
+/// exactly where an odd number of them flip it alone. So Y, which is X and Z at one place, and letters
+/// on both qubits of a pair, are told by X and Z on each.
 pub fn faults_add()
     ensures law { FaultsAdd }
-{
-    runs_are_points_with_outputs();
-}
-
-/// However many faults there are, they flip a sure bit together exactly where an odd number of them
-/// flip it alone.
-pub fn all_faults_add()
-    ensures law { AllFaultsAdd }
 {
     runs_are_points_with_outputs();
 }

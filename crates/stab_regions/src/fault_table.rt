@@ -4,10 +4,10 @@ ghost use Rattle.stab_io.specs.declared.refusal.Refusal.TheVariants.{OutOfMemory
 ghost use Rattle.stab_letters.specs.Limits.{most_qubits};
 ghost use Rattle.stab_circuit.specs.Steps.{Step, check_within};
 ghost use Rattle.stab_circuit.specs.Views.{circuit_items};
-ghost use Rattle.stab_regions.specs.Faults.{AreSure, IsFaultTable, sites_at};
+ghost use Rattle.stab_regions.specs.Faults.{AreSure, IsFaultTable, RowsAdd, sites_at};
 ghost use Rattle.stab_regions.specs.inner.Sites.{sites_asked};
 
-use crate::fault_laws::{faults_flip_sure_parities, sure_parities};
+use crate::fault_laws::{faults_add, faults_flip_sure_parities, sure_parities};
 use crate::fault_rows::FaultRows;
 use crate::sites::Asked;
 use crate::sweep::{Sweep, sweep_back};
@@ -81,6 +81,9 @@ pub fn sure(alloc: Global, circuit: &Circuit, n: usize) -> Result<Vec<bool>, Fau
 /// at each place that the circuit marks by a gate I, or everywhere, on each qubit of a step, in front
 /// of it where it makes a record, and behind it.
 ///
+/// Faults that go wrong in one run, in whatever order they are listed, flip together the sure bits that
+/// an odd number of their rows name.
+///
 /// Refused as `Circuit::check` refuses, else `OutOfMemory`, always with line 0.
 pub fn faults(
     alloc: Global,
@@ -90,6 +93,7 @@ pub fn faults(
 ) -> Result<FaultTable, Fault>
     requires in_range { n ≤ most_qubits }
     ensures table { IfOk result (λ t. IsFaultTable n everywhere (circuit_items circuit.now) t.sure t.rows) }
+    ensures adds { IfOk result (λ t. RowsAdd n everywhere (circuit_items circuit.now) t.rows) }
     ensures refused { Refuses result (check_within n (circuit_items circuit.now)) }
 {
     circuit.check(n)?;
@@ -127,6 +131,7 @@ fn faults_of_checked(
 ) -> Result<FaultTable, Refusal>
     requires checked { check_within n (circuit_items circuit.now) ≡ None }
     ensures table { IfOk result (λ t. IsFaultTable n everywhere (circuit_items circuit.now) t.sure t.rows) }
+    ensures adds { IfOk result (λ t. RowsAdd n everywhere (circuit_items circuit.now) t.rows) }
     ensures err { IfErr result (λ r. r ≡ OutOfMemory) }
 {
     let Sweep {
@@ -136,6 +141,7 @@ fn faults_of_checked(
     } = sweep_back(alloc, circuit, n, asked_for(everywhere))?;
     sure_parities();
     faults_flip_sure_parities();
+    faults_add();
     let sure = regions.sure();
     rows.keep(sure.as_slice());
     Ok(FaultTable { sure, rows })

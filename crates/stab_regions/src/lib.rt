@@ -16,7 +16,8 @@
 //!
 //! Proved: the laws; that `sure` tells of each detector and observable whether its bit is the same
 //! whatever the coins, and that `faults` gives for each fault exactly the sure bits by which the runs
-//! with it and without it differ, whatever the coins: `specs/Faults.antt`. Within: rows which show the
+//! with it and without it differ, whatever the coins, and that faults which are put in together, in any
+//! order, flip the bits that an odd number of their rows name: `specs/Faults.antt`. Within: rows which show the
 //! regions behind a step are changed to such as show those before it, up to signs (`specs/Rows.antt`);
 //! and the regions of all parities at the end of steps, moved backwards over one after another, are
 //! those at each place before it, with marks at those that a step does not keep

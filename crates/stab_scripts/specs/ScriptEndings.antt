@@ -72,10 +72,15 @@ pub record NotOpened (n : ℕ) (items : Items) (s s' : InputView) (o o' : Output
   pub unread : s' ≡ s
   pub untouched : o' ≡ o
 
+-- nothing refuses the items on so many qubits, and the script ended in this way
+pub record Opened (setting : Setting) (items : Items) (s s' : InputView) (o o' : OutputView) (r : Result Bool Fault) : Type 0 where
+  pub accepted : check_within setting.qubits items ≡ None
+  pub ends : EndsScript setting items s s' o o' r
+
 -- how a call ends that opens a session on these items and answers a script: the items or memory were refused, or the script ended
 abbrev pub EndsOn : Setting → Items → InputView → InputView → OutputView → OutputView → Result Bool Fault → Type 0
-EndsOn setting items s s' o o' (Ok refused) = EndsScript setting items s s' o o' (Ok refused)
-EndsOn setting items s s' o o' (Err f) = NotOpened setting.qubits items s s' o o' f ⊎ EndsScript setting items s s' o o' (Err f)
+EndsOn setting items s s' o o' (Ok refused) = Opened setting items s s' o o' (Ok refused)
+EndsOn setting items s s' o o' (Err f) = NotOpened setting.qubits items s s' o o' f ⊎ Opened setting items s s' o o' (Err f)
 
 -- the text stands for a circuit, which was edited by the script
 pub record EditsCircuit (framed : Bool) (qubits : Option ℕ) (source : Source) (s s' : InputView) (o o' : OutputView) (text : List ℕ) (r : Result Bool Fault) : Type 0 where

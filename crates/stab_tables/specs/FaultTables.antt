@@ -16,7 +16,7 @@ use Rattle.stab_circuit.specs.Readings.{IsCircuit, IsFaultOf}
 use Rattle.stab_results.specs.declared.format.Kinds.{Kinds}
 use Rattle.stab_results.specs.Formats.{entry, shot_bytes}
 use Rattle.stab_regions.specs.Tables.{steps_before_detector}
-use Rattle.stab_regions.specs.Faults.{FaultPlace, faults_of, bits_in, IsSure, IsFaultTable}
+use Rattle.stab_regions.specs.Faults.{FaultPlace, faults_of, bits_in, IsSure, IsFaultTable, RowsAdd}
 use Rattle.stab_tables.specs.declared.unsure.Bit.{Bit}
 use Rattle.stab_tables.specs.declared.unsure.Bit.TheVariants.{Detector, Observable}
 use Rattle.stab_tables.specs.declared.unsure.Unsure.{Unsure}
@@ -58,11 +58,12 @@ abbrev pub table_text : FaultLayout → (everywhere : Bool) → Items → (rows 
 table_text Lines everywhere items rows = table_lines (kinds_of items) (path_at items) (faults_of everywhere (unroll items)) rows
 table_text (Shots format) everywhere items rows = flat_map (λ row. shot_bytes format (kinds_of items) (row_bits items row)) rows
 
--- the bytes are those of the circuit's table of faults, on its own qubits; and each bit is sure, but where those that are not are left out
+-- the bytes are those of the circuit's table of faults, on its own qubits, whose rows add; and each bit is sure, unless those that are not are left out
 pub record IsTableText (layout : FaultLayout) (everywhere sure_only : Bool) (items : Items) (bytes : List ℕ) : Type 0 where
   pub sure : List Bool
   pub rows : List (List ℕ)
   pub table : IsFaultTable (qubits_of items) everywhere items sure rows
+  pub adds : RowsAdd (qubits_of items) everywhere items rows
   pub all_sure : sure_only ≡ false → (i : ℕ) → i < bits_in items → IsSure (qubits_of items) items i
   pub text : bytes ≡ table_text layout everywhere items rows
 

@@ -269,7 +269,8 @@ fn send_faults<O: Output>(
 /// each gate and reset, and in front of each measured qubit and behind it. They come in the order of
 /// the steps, and X before Z. With `FaultLayout::Lines` each has a line, such as `1207 3/0/2 X17 D24 L0`: how
 /// many steps are in front of it, the path of its item, its letter and qubit, and what it flips. With
-/// `FaultLayout::Shots` each has a shot, of all detectors and then all observables.
+/// `FaultLayout::Shots` each has a shot, of all detectors and then all observables. Faults that go wrong
+/// in one run, in whatever order they are listed, flip what an odd number of their lines or shots name.
 ///
 /// Where one of these is not the same for all coins, it has no such bit: refusal `NotDeterministic`,
 /// before anything is written, names the first. Where `sure_only` asks for it, such ones are left

@@ -1,0 +1,127 @@
+-- Sums of rows: faults of a table flip a sure bit together where an odd number of their rows name it.
+use Rattle.std.proofs.Common.{◌≡◌, ℕ, zero, suc, ◌+◌, ◌<◌, ◌≤◌, ◌⊎◌, inl, inr, refl, sym, ap, ◌∙◌, Bool, true, false, List, [], ◌∷◌, map, length, arith}
+use Rattle.std.specs.Prelude.{All, ◌==◌, ◌&&◌, slice_index_or, if◌then◌else◌}
+use Rattle.std.specs.List.{flat_map}
+use Rattle.std.proofs.lemmas.Bool.{cases_eq, eq-eqb, ne_eqb}
+use Rattle.std.proofs.lemmas.List.{get_or-map, length-map}
+use Rattle.std.proofs.lemmas.List.Elements.{All-nil, All-cons, All-head, All-tail, All-append, All-get_or, All-map, All-weaker}
+use Rattle.stab_letters.specs.declared.letter.Letter.TheVariants as letter
+use Rattle.stab_letters.specs.Letters.{◌⊕◌}
+use Rattle.stab_letters.proofs.ParityLemmas.{parity-false}
+use Rattle.stab_circuit.specs.Items.{Items}
+use Rattle.stab_circuit.specs.Steps.{Step, unroll}
+use Rattle.stab_run.specs.ProgramStates.{StepFits}
+use Rattle.stab_regions.specs.Rows.{odd, row}
+use Rattle.stab_regions.specs.Faults.{Site, FaultPlace, in_front, fault_on, faults_on, faults_from, faults_of, sites_at, numbers_where, bits_in, IsSure, IsFaultTable, flips, flipped, fault_at, RowsAdd}
+use Rattle.stab_regions.specs.FaultLaws.{FaultFits, flips_together, FaultsAdd}
+use Rattle.stab_regions.proofs.RowLemmas.{odd-append}
+use Rattle.stab_regions.proofs.InsertedLemmas.{faults-within}
+
+-- a list of the numbers with a property names just those
+
+-- the first number with it, and the others
+odd-step : (f : ℕ → Bool) (i k m : ℕ) (b : Bool) → f i ≡ b → odd m (numbers_where f i (suc k)) ≡ (b && (i == m)) ⊕ odd m (numbers_where f (i + 1) k)
+odd-step f i k m true e = ap (λ c. odd m (if c then i ∷ numbers_where f (i + 1) k else numbers_where f (i + 1) k)) e
+odd-step f i k m false e = ap (λ c. odd m (if c then i ∷ numbers_where f (i + 1) k else numbers_where f (i + 1) k)) e
+
+and-false : (b : Bool) → (b && false) ≡ false
+and-false true = refl
+and-false false = refl
+
+and-true : (b : Bool) → (b && true) ≡ b
+and-true true = refl
+and-true false = refl
+
+odd-before : (f : ℕ → Bool) (i k m : ℕ) → m < i → odd m (numbers_where f i k) ≡ false
+odd-before f i zero m lt = refl
+odd-before f i (suc k) m lt =
+    odd-step f i k m (f i) refl
+    ∙ ap (λ c. (f i && c) ⊕ odd m (numbers_where f (i + 1) k)) (ne_eqb i m (λ e. omega (arith, e, lt)))
+    ∙ ap (λ c. c ⊕ odd m (numbers_where f (i + 1) k)) (and-false (f i))
+    ∙ odd-before f (i + 1) k m (omega (arith, lt))
+
+-- the first number, or another, where it is so of the others
+odd-next : (f : ℕ → Bool) (i k m : ℕ) → ((i ≡ m → ⊥) → odd m (numbers_where f (i + 1) k) ≡ f m) → (i ≡ m) ⊎ (i ≡ m → ⊥)
+    → (f i && (i == m)) ⊕ odd m (numbers_where f (i + 1) k) ≡ f m
+odd-next f i k m others (inl same) =
+    (λ t. (f i && eq-eqb i m same t) ⊕ odd-before f (i + 1) k m (omega (arith, same)) t) ∙ parity-false (f i && true) ∙ and-true (f i) ∙ ap f same
+odd-next f i k m others (inr other) =
+    ap (λ c. (f i && c) ⊕ odd m (numbers_where f (i + 1) k)) (ne_eqb i m other)
+    ∙ ap (λ c. c ⊕ odd m (numbers_where f (i + 1) k)) (and-false (f i))
+    ∙ others other
+
+odd-where : (f : ℕ → Bool) (i k m : ℕ) → i ≤ m → m < i + k → odd m (numbers_where f i k) ≡ f m
+odd-where f i zero m le lt = absurd (omega (arith, le, lt))
+odd-where f i (suc k) m le lt =
+    odd-step f i k m (f i) refl
+    ∙ odd-next f i k m (λ other. odd-where f (i + 1) k m (omega (arith, le, other)) (omega (arith, lt))) (cases_eq i m)
+
+-- the faults that are asked for stand among the steps, on the qubits
+
+before-end : (b : Bool) (t end : ℕ) → t + 1 ≤ end → (if b then t + 1 else t) ≤ end
+before-end true t end le = le
+before-end false t end le = omega (arith, le)
+
+sites-fit : (end t : ℕ) (ss : List Site) → t + 1 ≤ end → All (λ f. f.before ≤ end) (flat_map (faults_on t) ss)
+sites-fit end t [] le = All-nil (λ f. f.before ≤ end)
+sites-fit end t (s ∷ ss) le =
+    let here : (if s.behind then t + 1 else t) ≤ end = before-end s.behind t end le in
+    let rest : List FaultPlace = flat_map (faults_on t) ss in
+    All-cons (λ f. f.before ≤ end) (fault_on t s letter.X) (fault_on t s letter.Z ∷ rest) here
+    (All-cons (λ f. f.before ≤ end) (fault_on t s letter.Z) rest here (sites-fit end t ss le))
+
+places-fit : (everywhere : Bool) (end t : ℕ) (xs : List Step) → t + length xs ≤ end → All (λ f. f.before ≤ end) (faults_from everywhere t xs)
+places-fit everywhere end t [] le = All-nil (λ f. f.before ≤ end)
+places-fit everywhere end t (x ∷ xs) le =
+    All-append (λ f. f.before ≤ end) (flat_map (faults_on t) (sites_at everywhere x)) (faults_from everywhere (t + 1) xs)
+    (sites-fit end t (sites_at everywhere x) (omega (arith, le)))
+    (places-fit everywhere end (t + 1) xs (omega (arith, le)))
+
+-- and so does the fault of a number
+fault-fits : (n : ℕ) (everywhere : Bool) (xs : List Step) (k : ℕ) → All (StepFits n) xs → k < length (faults_of everywhere xs) → FaultFits n xs (fault_at everywhere xs k)
+fault-fits n everywhere xs k fits lt = record {
+  qubit = All-get_or (λ f. f.qubit < n) (faults_of everywhere xs) k (fault_on 0 (in_front 0) letter.X) lt (faults-within n everywhere 0 xs fits);
+  before =
+      All-get_or (λ f. f.before ≤ length xs) (faults_of everywhere xs) k (fault_on 0 (in_front 0) letter.X) lt
+      (places-fit everywhere (length xs) 0 xs (omega arith));
+}
+
+-- rows
+
+module _ (n : ℕ) (everywhere : Bool) (items : Items) (sure : List Bool) (rows : List (List ℕ)) (fits : All (StepFits n) (unroll items))
+    (table : IsFaultTable n everywhere items sure rows) where
+  abbrev faults : List FaultPlace
+  faults = faults_of everywhere (unroll items)
+
+  as-many : length rows ≡ length faults
+  as-many = ap length (table.are_flipped (λ t. false)) ∙ length-map faults (flipped n items sure (λ t. false))
+
+  all-fit : (numbers : List ℕ) → All (λ k. k < length rows) numbers → All (FaultFits n (unroll items)) (map (fault_at everywhere (unroll items)) numbers)
+  all-fit numbers within =
+      All-map (FaultFits n (unroll items)) (fault_at everywhere (unroll items)) numbers
+      (All-weaker (λ k. k < length rows) (λ k. FaultFits n (unroll items) (fault_at everywhere (unroll items) k))
+      (λ k lt. fault-fits n everywhere (unroll items) k fits (omega (arith, lt, as-many))) numbers within)
+
+  module _ (i : ℕ) (lt : i < bits_in items) (same : IsSure n items i) (coins : ℕ → Bool) where
+    -- a row names a sure bit where its fault flips it
+    row-names : (k : ℕ) → k < length rows → flips n items coins (fault_at everywhere (unroll items) k) i ≡ odd i (row rows k)
+    row-names k within =
+        let f : FaultPlace = fault_at everywhere (unroll items) k in
+        let is_row : row rows k ≡ flipped n items sure coins f =
+        ap (λ rs. row rs k) (table.are_flipped coins)
+        ∙ get_or-map (flipped n items sure coins) faults k (fault_on 0 (in_front 0) letter.X) [] (omega (arith, within, as-many)) in
+        let is_sure : slice_index_or sure i false ≡ true = (table.are_sure.exact i lt).1 same in
+        sym (ap (odd i) is_row ∙ odd-where (λ m. slice_index_or sure m false && flips n items coins f m) 0 (bits_in items) i (omega arith) (omega (arith, lt))
+        ∙ ap (λ b. b && flips n items coins f i) is_sure)
+
+    -- so the rows of faults name it as often as these flip it
+    rows-name : (numbers : List ℕ) → All (λ k. k < length rows) numbers
+        → flips_together (λ f. flips n items coins f i) (map (fault_at everywhere (unroll items)) numbers) ≡ odd i (flat_map (row rows) numbers)
+    rows-name [] within = refl
+    rows-name (k ∷ ks) within =
+        (λ t. row-names k (All-head (λ j. j < length rows) k ks within) t ⊕ rows-name ks (All-tail (λ j. j < length rows) k ks within) t)
+        ∙ sym (odd-append i (row rows k) (flat_map (row rows) ks))
+
+  pub rows-add : FaultsAdd → RowsAdd n everywhere items rows
+  rows-add law numbers i within lt same coins =
+      law n items i (map (fault_at everywhere (unroll items)) numbers) fits lt (all-fit numbers within) same coins ∙ rows-name i lt same coins numbers within
