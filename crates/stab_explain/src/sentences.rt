@@ -38,7 +38,7 @@ pub(crate) const NO_NOISY_MEASUREMENT: Sentences = Sentences {
 };
 
 pub(crate) const NO_ROTATION: Sentences = Sentences {
-    wrong: "This is a reset, and takes no angle: a rotation by any angle is no Clifford gate.",
+    wrong: "This is a reset, and takes no angle. Of rotations quarter turns alone are Clifford gates.",
     cure: "Take the brackets out; or write a quarter turn as SQRT_X, SQRT_Y or S, half a turn as X, Y or Z.",
 };
 
