@@ -1,7 +1,14 @@
 # Completes the words of stabsim in bash. The README says where to put it; to try it: . completions/stabsim.bash
 _stabsim() {
     local word=${COMP_WORDS[COMP_CWORD]} before=${COMP_WORDS[COMP_CWORD-1]} command=${COMP_WORDS[1]} choices=
+    local commands="sample detect stabilisers edit check deterministic faults"
     COMPREPLY=()
+    # bash takes the = of --out_format=dets for a word by itself.
+    if [ "$word" = "=" ]; then
+        word=
+    elif [ "$before" = "=" ]; then
+        before=${COMP_WORDS[COMP_CWORD-2]}
+    fi
     case $before in
     --in | --out | --coins_in)
         compopt -o filenames 2>/dev/null
@@ -19,8 +26,9 @@ _stabsim() {
         check) choices="--in --out --help" ;;
         deterministic) choices="--out_format --in --out --help" ;;
         faults) choices="--out_format --everywhere --sure_only --in --out --help" ;;
+        help) [ "$COMP_CWORD" -eq 2 ] && choices=$commands ;;
         esac
-        [ "$COMP_CWORD" -eq 1 ] && choices="sample detect stabilisers edit check deterministic faults help --help --version"
+        [ "$COMP_CWORD" -eq 1 ] && choices="$commands help --help --version"
         ;;
     esac
     mapfile -t COMPREPLY < <(compgen -W "$choices" -- "$word")

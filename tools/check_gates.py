@@ -1,10 +1,11 @@
 #!/usr/bin/env python3
-"""Compares the names of instructions in docs/gates.md with the tables in crates/stab_lines/src/table.rt.
+"""Compares the names of instructions in docs/gates.md and in nearest.rt of stab_explain with the tables of stab_lines.
 
     tools/check_gates.py
 
-Both have a row for each instruction, with the name that is printed first and its other names behind it. It
-ends with 1 where names, their order in a row, or the order of the rows differ.
+The page and the tables (crates/stab_lines/src/table.rt) have a row for each instruction, with the name that is printed first and its
+other names behind it. It ends with 1 where names, their order in a row, or the order of the rows differ; or where a name that is read
+is none of those among which the nearest to a misspelt one is looked for, or the other way round.
 """
 
 import pathlib
@@ -13,6 +14,7 @@ import sys
 
 TOP = pathlib.Path(__file__).resolve().parent.parent
 SOURCE = TOP / "crates" / "stab_lines" / "src" / "table.rt"
+NEAREST = TOP / "crates" / "stab_explain" / "src" / "nearest.rt"
 PAGE = TOP / "docs" / "gates.md"
 HEAD = "| Printed name | Other names |"
 
@@ -31,6 +33,11 @@ def page_rows(text: str) -> list[Row]:
     return [re.findall(r"`(\w+)`", line) for line in lines[1:]]
 
 
+def nearest_names(text: str) -> set[str]:
+    """The names in the list READ."""
+    return set(re.findall(r'"(\w+)"', text.split("const READ", 1)[1].split(";", 1)[0]))
+
+
 def differences(source: list[Row], page: list[Row]) -> list[str]:
     """A line for each row that differs, with its number from 1 on."""
     longest = max(len(source), len(page))
@@ -43,9 +50,13 @@ def main() -> int:
     wrong = differences(source, page_rows(PAGE.read_text(encoding="utf-8")))
     if not source:
         wrong.append(f"{SOURCE}: no rows")
+    # A block's name stands in no table.
+    read = {"REPEAT"}.union(*source)
+    if apart := read ^ nearest_names(NEAREST.read_text(encoding="utf-8")):
+        wrong.append(f"{NEAREST.relative_to(TOP)}: {sorted(apart)} are not in both")
     for line in wrong:
         print(line, file=sys.stderr)
-    print(f"{sum(map(len, source))} names of {len(source)} instructions compared, {len(wrong)} rows wrong")
+    print(f"{sum(map(len, source))} names of {len(source)} instructions compared, {len(wrong)} wrong")
     return 1 if wrong else 0
 
 

@@ -12,6 +12,7 @@ tools/try_python.sh
 tools/try_docs.sh
 tools/try_scaling.sh
 tools/try_states.py
+tools/try_rewritings.py
 tools/try_edits.py
 tools/try_hostile.py
 tools/refuse.sh

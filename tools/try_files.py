@@ -4,8 +4,8 @@
     tools/try_files.py
 
 An older file of --out keeps what it held until there is something to write; a file that is read is never
-written; a closed stream fails by itself and hands its number to no file; coins come from a file; and a
-terminal is told which command says more of a circuit that is refused. It prints the cases that went
+written; a closed stream fails by itself and hands its number to no file; coins come from a file; a table of faults
+that is empty is explained; and a terminal is told which command says more of a circuit that is refused. It prints the cases that went
 wrong, and ends with 1 where there is one. It needs the program: tools/refuse.sh builds it.
 """
 
@@ -27,12 +27,15 @@ SHARED_COINS = "stabsim: --coins_in and --out are one file\n"
 COINS_TWICE = "stabsim: coins are given by --coins or by --coins_in, and not by both\n"
 WRONG_COINS = "stabsim: coins are 0 and 1\n"
 HINT = "stabsim: what is wrong and where: give the same circuit to `stabsim check`\n"
+NO_MARKS = "stabsim: no place is marked by I; --everywhere asks for all places\n"
 TOO_LONG = "stabsim: refused 14 TooLong\n"
 MOST_BYTES = 16_777_216
 LONGEST_WORD = 131_072
 READ_FAULT = "stabsim: refused 15 ReadFault\n"
 WRITE_FAULT = "stabsim: refused 16 WriteFault\n"
 OLD = "what was there before\n"
+# The commands that read no script, with what each tells of a circuit without marks.
+UNREAD = [("sample", ""), ("detect", ""), ("stabilisers", ""), ("check", ""), ("deterministic", ""), ("faults", NO_MARKS)]
 # Texts of files of coins, and what four free outcomes are by them; none where the text is no list of coins.
 COIN_TEXTS = [
     (b"", "0000"),
@@ -128,6 +131,9 @@ def try_paths(folder: pathlib.Path) -> None:
     missing, inside = folder / "none.stim", folder / "none" / "out"
     said = "No such file or directory (os error 2)"
     expect("a missing --in", run(["sample", "--in", str(missing)]), (1, "", f"{READ_FAULT}stabsim: {missing}: {said}\n"))
+    for command in ("sample", "detect", "stabilisers", "edit", "check", "deterministic", "faults"):
+        told = f"{READ_FAULT}stabsim: {folder}: Is a directory (os error 21)\n"
+        expect(f"a folder as --in of {command}", run([command, "--in", str(folder)]), (1, "", told))
     expect("an impossible --out", run(["sample", "--out", str(inside)]), (1, "", f"{WRITE_FAULT}stabsim: {inside}: {said}\n"))
     expect("no room at --out", run(["sample", "--out", "/dev/full"], b"M 0\n"), (1, "", WRITE_FAULT))
     expect("--out that keeps nothing", run(["sample", "--out", "/dev/null"], b"M 0\n"), (0, "", ""))
@@ -155,10 +161,27 @@ def try_unread_scripts(folder: pathlib.Path) -> None:
     """No command but `edit` reads a script: where the circuit comes from a file, a closed input changes nothing."""
     circuit = folder / "unread.stim"
     circuit.write_text(CIRCUIT)
-    for command in ("sample", "detect", "stabilisers", "check", "deterministic", "faults"):
+    for command, told in UNREAD:
         words = [command, "--in", str(circuit)]
-        status, written, told = run(words, closed=(0,))
-        expect(f"{command}, which reads no script", (status, written, told), (0, run(words)[1], ""))
+        found = run(words, closed=(0,))
+        expect(f"{command}, which reads no script", found, (0, run(words)[1], told))
+
+
+def try_marks(folder: pathlib.Path) -> None:
+    """Where `faults` finds no marked place, it says so on standard error; but not where all places are asked for, nor of faults of no byte."""
+    circuit, out = folder / "marks.stim", folder / "marks.out"
+    circuit.write_text("R 0\nM 0\nDETECTOR rec[-1]\n")
+    words = ["faults", "--in", str(circuit)]
+    expect("faults of a circuit without marks", run(words), (0, "", NO_MARKS))
+    expect("faults without marks, as shots", run([*words, "--out_format", "dets"]), (0, "", NO_MARKS))
+    expect("faults without marks, into a file", (run([*words, "--out", str(out)]), out.read_text()), ((0, "", NO_MARKS), ""))
+    everywhere = "1 0 X0 D0\n1 0 Z0\n1 1 X0 D0\n1 1 Z0\n2 1 X0\n2 1 Z0\n"
+    expect("faults everywhere", run([*words, "--everywhere"]), (0, everywhere, ""))
+    circuit.write_text("R 0\nI 0\nM 0\n")
+    expect("faults of a circuit with a mark", run(words), (0, "1 1 X0\n1 1 Z0\n", ""))
+    expect("faults of no byte", run([*words, "--out_format", "b8"]), (0, "", ""))
+    circuit.write_text("CX 0 0\n")
+    expect("faults of a circuit that is refused", run(words), (1, "", "stabsim: line 1: refused 4 BadPairing\n"))
 
 
 def try_coins(folder: pathlib.Path) -> None:
@@ -254,7 +277,7 @@ def try_hint(folder: pathlib.Path) -> None:
 def main() -> int:
     with tempfile.TemporaryDirectory() as name:
         folder = pathlib.Path(name)
-        for case in (try_shared, try_older_file, try_paths, try_closed, try_unread_scripts, try_coins, try_texts_of_coins, try_words_of_coins,
+        for case in (try_shared, try_older_file, try_paths, try_closed, try_unread_scripts, try_marks, try_coins, try_texts_of_coins, try_words_of_coins,
                      try_many_coins, try_hint):
             case(folder)
     print(f"files and streams: {len(wrong)} cases went wrong")

@@ -3,8 +3,8 @@
 
     tools/try_help.py
 
-Help ends with an example of the command and with where to read on, the example can be run at the top of the repository, and no help
-names an option of another command. It prints how many cases it tried and which went wrong, and ends with 1 where there is one. It
+Help ends with an example of the command and with where to read on, the example can be run at the top of the repository, no help
+names an option of another command, and --in and checkpoints are named as they are. It prints how many cases it tried and which went wrong, and ends with 1 where there is one. It
 needs the program: build it by ./stabsim --help.
 """
 
@@ -46,6 +46,10 @@ OF_OTHERS = [
     ("deterministic", "--seed"),
     ("faults", "--coins"),
 ]
+
+# What each command reads where --in is left out.
+READ = {"edit": "the empty circuit"} | dict.fromkeys(
+    ("sample", "detect", "stabilisers", "check", "deterministic", "faults"), "standard input")
 
 tried: list[str] = []
 wrong: list[str] = []
@@ -109,9 +113,27 @@ def try_options() -> None:
         try_option(["help", command], option)
 
 
+def try_input() -> None:
+    """Help says what `--in` stands in place of."""
+    for command, read in READ.items():
+        lines = [line for line in help_of([command, "--help"]).split("\n") if "--in <FILE>" in line]
+        expect(len(lines) == 1 and lines[0].endswith(f"in place of {read}"), f"--in of {command} stands in place of {read}")
+
+
+def try_checkpoints() -> None:
+    """What lies a stride apart has one name, in the help, the manual page and the page on editing."""
+    stride = "How many steps lie between two checkpoints"
+    for where, text in (("the help", help_of(["edit", "--help"])), ("the manual page", (TOP / "man" / "stabsim.1").read_text())):
+        expect(stride in text, f"checkpoints in {where}")
+    page = (TOP / "docs" / "editing.md").read_text()
+    expect("A checkpoint is a copy of the state" in page and "copies of" not in page, "checkpoints in docs/editing.md")
+
+
 def main() -> int:
     try_ends()
     try_options()
+    try_input()
+    try_checkpoints()
     print(f"help: {len(wrong)} of {len(tried)} cases went wrong")
     return 1 if wrong else 0
 

@@ -15,8 +15,10 @@ use std::alloc::{AllocError, Global};
 /// Writes what is wrong with a circuit's text that was refused with this fault, and does not flush.
 ///
 /// The line at fault stands first, with its number, and under it carets under the word at fault. Then
-/// come two sentences: what is wrong with it, and what to do. For lookbacks past the first record and for
-/// too many steps the item is told by its path. Of faults of devices and memory nothing is written.
+/// come two sentences: what is wrong with it, and what to do, if need be with the lines that do the same;
+/// and for a name that no instruction has the nearest one, if one is near. For lookbacks past the first
+/// record and for too many steps the item is told by its path, and for too many steps how many the whole
+/// circuit has. Of faults of devices and memory nothing is written.
 ///
 /// Refusals: `WriteFault` where a write failed, and nothing more is tried; `OutOfMemory`, and then
 /// nothing was written.
@@ -64,7 +66,17 @@ fn push_finding(
     finding: Finding,
 ) -> Result<(), AllocError> {
     push_line(words, number, line, finding.part)?;
-    push_sentences(words, finding.sentences)
+    push_sentences(words, finding.sentences)?;
+    push_nearest(words, finding.nearest_name)
+}
+
+fn push_nearest(words: &mut Vec<u8>, nearest_name: Option<&'static str>) -> Result<(), AllocError> {
+    if let Some(name) = nearest_name {
+        words.extend_from_slice(b"The nearest name is ")?;
+        words.extend_from_slice(name.as_bytes())?;
+        push_sentence(words, ".")?;
+    }
+    Ok(())
 }
 
 fn push_sentences(words: &mut Vec<u8>, sentences: Sentences) -> Result<(), AllocError> {
@@ -124,7 +136,18 @@ fn push_on_steps(alloc: Global, words: &mut Vec<u8>, text: &[u8]) -> Result<(), 
     push_path(words, item.path.as_slice())?;
     push_round(words, &item)?;
     push_sentence(words, ".")?;
+    push_steps(words, item.steps_of_text)?;
     push_sentence(words, sentences::STEPS.cure)
+}
+
+/// Puts how many steps the whole circuit has behind other words.
+fn push_steps(words: &mut Vec<u8>, steps: u64) -> Result<(), AllocError> {
+    words.extend_from_slice(b"The whole circuit has ")?;
+    if steps == u64::MAX {
+        words.extend_from_slice(b"at least ")?;
+    }
+    push_number(words, steps)?;
+    push_sentence(words, " steps.")
 }
 
 fn push_number(words: &mut Vec<u8>, number: u64) -> Result<(), AllocError> {

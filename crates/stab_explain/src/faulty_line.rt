@@ -3,7 +3,7 @@ use crate::finding::Finding;
 use crate::form::{Form, form_of, refusal_of};
 use crate::instruction_parts::{InstructionParts, parts_of};
 use crate::line_part::{LinePart, Separator, pieces, words};
-use crate::names::sentences_on_name;
+use crate::names::{finding_on_name, is_reset};
 use crate::sentences;
 use stab_io::Refusal;
 use stab_lines::is_close;
@@ -29,9 +29,8 @@ pub(crate) fn find(alloc: Global, line: &[u8], refusal: Refusal) -> Result<Findi
         Ok(parts) => parts,
         Err(finding) => return Ok(finding),
     };
-    let name = parts.name.bytes(line);
-    match form_of(alloc, name)? {
-        None => Ok(Finding::new(parts.name, sentences_on_name(name))),
+    match form_of(alloc, parts.name.bytes(line))? {
+        None => finding_on_name(alloc, line, parts.name),
         Some(form) => {
             let faulty_line = FaultyLine {
                 alloc,
@@ -49,8 +48,10 @@ impl<'a> FaultyLine<'a> {
     /// The word for which the line is refused like this.
     fn find(&self, refusal: Refusal) -> Result<Finding, AllocError> {
         match refusal {
-            Refusal::BadArguments => self.find_argument(),
-            Refusal::BadTarget | Refusal::QubitOutOfRange => self.find_target(refusal),
+            Refusal::BadArguments => Ok(self.find_argument()?.or_beyond_ascii(self.line)),
+            Refusal::BadTarget | Refusal::QubitOutOfRange => {
+                Ok(self.find_target(refusal)?.or_beyond_ascii(self.line))
+            }
             Refusal::BadPairing => self.find_pair(),
             Refusal::BadBlock => self.find_in_block(),
             Refusal::ObservableOutOfRange => Ok(Finding::new(
@@ -73,6 +74,9 @@ impl<'a> FaultyLine<'a> {
             Form::MeasuredQubits | Form::Products => {
                 Ok(Finding::new(brackets, sentences::NO_NOISY_MEASUREMENT))
             }
+            Form::Qubits if is_reset(self.parts.name.bytes(self.line)) => {
+                Ok(Finding::new(brackets, sentences::NO_ROTATION))
+            }
             _ => Ok(Finding::new(brackets, sentences::NO_ARGUMENTS)),
         }
     }
@@ -84,7 +88,7 @@ impl<'a> FaultyLine<'a> {
         for piece in pieces(self.alloc, self.line, inside, Separator::Byte(b','))? {
             let argument = piece.trimmed(self.line);
             if !self.is_coordinate(argument)? {
-                return Ok(Finding::new(argument, sentences::NO_COORDINATE));
+                return Ok(finding_on_argument(inside, piece, argument));
             }
         }
         Ok(Finding::new(brackets, sentences::NO_COORDINATE))
@@ -120,4 +124,14 @@ impl<'a> FaultyLine<'a> {
             Ok(Finding::new(count, sentences::NO_BRACE))
         }
     }
+}
+
+/// What is wrong with an argument that is no coordinate, in a piece of what stands inside the brackets.
+fn finding_on_argument(inside: LinePart, piece: LinePart, argument: LinePart) -> Finding {
+    let follows_last_comma = piece.start > inside.start && piece.end == inside.end;
+    if argument.is_empty() && follows_last_comma {
+        let comma = LinePart::of_length(piece.start.saturating_sub(1), 1);
+        return Finding::new(comma, sentences::TRAILING_COMMA);
+    }
+    Finding::new(argument, sentences::NO_COORDINATE)
 }

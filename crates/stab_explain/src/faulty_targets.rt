@@ -57,8 +57,16 @@ impl<'a> FaultyLine<'a> {
         if refusal == Refusal::QubitOutOfRange {
             return Ok(Finding::new(target.word, sentences::QUBIT_RANGE));
         }
+        if self.form == Form::Observable && self.is_product(word)? {
+            return Ok(Finding::new(target.word, sentences::PAULI_TARGET));
+        }
         let sentences = sentences_on_target(self.form, word, target.is_second);
         Ok(Finding::new(target.word, sentences))
+    }
+
+    /// Whether a word is a product, such as X0, as Stim has it among the targets of observables too.
+    fn is_product(&self, word: &[u8]) -> Result<bool, AllocError> {
+        Ok(refusal_of(self.alloc, &[b"MPP ", word])?.is_none())
     }
 
     /// The first factor that is refused like this; where none is, the product has a qubit twice.

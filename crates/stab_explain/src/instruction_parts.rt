@@ -35,7 +35,7 @@ pub(crate) fn parts_of(line: &[u8], content: LinePart) -> Result<InstructionPart
     let bytes = content.bytes(line);
     match bytes.first() {
         Some(first) if is_letter(*first) => {}
-        _ => return Err(no_name(bytes, content)),
+        _ => return Err(no_name(line, content)),
     }
     let length = bytes.iter().take_while(|b| is_name_byte(**b)).count();
     let name = content.front(length);
@@ -58,14 +58,15 @@ pub(crate) fn parts_of(line: &[u8], content: LinePart) -> Result<InstructionPart
 }
 
 /// What stands in the place of a name.
-fn no_name(bytes: &[u8], content: LinePart) -> Finding {
+fn no_name(line: &[u8], content: LinePart) -> Finding {
+    let bytes = content.bytes(line);
     if bytes.starts_with(BYTE_ORDER_MARK) {
         return Finding::new(content.front(3), sentences::BYTE_ORDER_MARK);
     }
     match bytes.first() {
         Some(b'}') => Finding::new(content.front(1), sentences::CLOSE_NOT_ALONE),
         Some(b'{') => Finding::new(content.front(1), sentences::OPEN_NOT_BEHIND_COUNT),
-        _ => Finding::new(content.front(1), sentences::NO_NAME),
+        _ => Finding::on_front(line, content, sentences::NO_NAME),
     }
 }
 
@@ -99,7 +100,7 @@ fn without_brace(line: &[u8], part: LinePart) -> Result<(), Finding> {
 fn is_apart(line: &[u8], targets: LinePart) -> Result<(), Finding> {
     match targets.bytes(line).first() {
         Some(first) if !is_spacing(*first) => {
-            Err(Finding::new(targets.front(1), sentences::NOT_APART))
+            Err(Finding::on_front(line, targets, sentences::NOT_APART))
         }
         _ => Ok(()),
     }

@@ -1,7 +1,7 @@
 //! What is wrong with a circuit's text that was refused, in words.
 //!
 //! A fault tells a refusal and a line. Here the word at fault is found in that line, and for a fault of
-//! the whole text the item: the line is shown with carets under the word, and two sentences say what is
+//! the whole text the item: the line is shown with carets under the word, and sentences say what is
 //! wrong with it and what to do.
 //!
 //! - `line_part`: parts of a line, by their places in it.
@@ -9,7 +9,10 @@
 //! - `finding`: a part of a line with the sentences on it.
 //! - `instruction_parts`: a line cut into its name, arguments and targets, or what has no line's shape in it.
 //! - `form`: what an instruction takes, and what refuses a line, both as `stab_lines` reads them.
-//! - `names`: names that Stim reads and stabsim doesn't.
+//! - `named`: tables of names, each with a sentence.
+//! - `noise`, `rewritings`: names that Stim reads and stabsim doesn't.
+//! - `nearest`: the name that is nearest to a word.
+//! - `names`: what is wrong with a name.
 //! - `faulty_line`, `faulty_targets`: the word at fault in a line.
 //! - `counts`, `refused_item`: the item that looks back too far, or behind which the steps are too many.
 //! - `lookback`: the word of a line that looks back too far.
@@ -33,8 +36,12 @@ mod form;
 mod instruction_parts;
 mod line_part;
 mod lookback;
+mod named;
 mod names;
+mod nearest;
+mod noise;
 mod refused_item;
+mod rewritings;
 mod sentences;
 mod shown;
 

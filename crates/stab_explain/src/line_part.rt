@@ -65,6 +65,18 @@ impl LinePart {
         }
     }
 
+    /// Its first bytes that are no ASCII, up to the next that is.
+    pub(crate) fn beyond_ascii(self, line: &[u8]) -> Option<LinePart> {
+        let place = self.bytes(line).iter().position(|byte| !byte.is_ascii())?;
+        let rest = self.behind(place);
+        let length = rest
+            .bytes(line)
+            .iter()
+            .take_while(|byte| !byte.is_ascii())
+            .count();
+        Some(rest.front(length))
+    }
+
     /// It without a comment and the spacing at both ends.
     pub(crate) fn trimmed(self, line: &[u8]) -> LinePart {
         let bytes = self.bytes(line);

@@ -19,6 +19,8 @@ pub(crate) struct RefusedItem {
     pub(crate) path: Vec<u64>,
     /// How many records stand before it.
     pub(crate) records: u64,
+    /// How many steps the whole text has, or 2^64 - 1 where there are more.
+    pub(crate) steps_of_text: u64,
 }
 
 /// A block around the next item: its line, place and count, and the numbers before it.
@@ -31,7 +33,8 @@ struct EnclosingBlock {
     records: u64,
 }
 
-/// A search through a text: the blocks around the next item, its place in the innermost, and the numbers so far.
+/// A search through a text: the blocks around the next item, its place in the innermost, the numbers so
+/// far, and the first item for which the circuit is refused, if it was met.
 #[derive(Drop)]
 struct ItemSearch {
     alloc: Global,
@@ -40,6 +43,7 @@ struct ItemSearch {
     place: u64,
     steps: u64,
     records: u64,
+    found: Option<RefusedItem>,
 }
 
 /// The first item of a text for which the whole circuit is refused, by 8 or 9.
@@ -55,38 +59,33 @@ pub(crate) fn find_item(
         place: 0,
         steps: 0,
         records: 0,
+        found: None,
     };
     let mut number: u64 = 0;
     for line in text.split(|byte| *byte == b'\n') {
         number = number.saturating_add(1);
-        let found = search.take_line(number, content(line))?;
-        if found.is_some() {
-            return Ok(found);
-        }
+        search.take_line(number, content(line))?;
     }
-    Ok(None)
+    let Some(mut item) = search.found.take() else {
+        return Ok(None);
+    };
+    item.steps_of_text = search.steps;
+    Ok(Some(item))
 }
 
 impl ItemSearch {
-    fn take_line(
-        &mut self,
-        number: u64,
-        content: &[u8],
-    ) -> Result<Option<RefusedItem>, AllocError> {
+    fn take_line(&mut self, number: u64, content: &[u8]) -> Result<(), AllocError> {
         match meaning(self.alloc, content) {
             Ok(line) => self.take(number, &line),
             Err(Refusal::OutOfMemory) => Err(AllocError),
-            Err(_) => Ok(None),
+            Err(_) => Ok(()),
         }
     }
 
-    fn take(&mut self, number: u64, line: &Line) -> Result<Option<RefusedItem>, AllocError> {
+    fn take(&mut self, number: u64, line: &Line) -> Result<(), AllocError> {
         match line {
-            Line::Blank => Ok(None),
-            Line::Open { count, .. } => {
-                self.open(number, *count)?;
-                Ok(None)
-            }
+            Line::Blank => Ok(()),
+            Line::Open { count, .. } => self.open(number, *count),
             Line::Close => self.close(),
             Line::Operation(operation) => self.take_operation(number, &operation.kind),
         }
@@ -105,9 +104,9 @@ impl ItemSearch {
     }
 
     /// Counts all rounds of the innermost block.
-    fn close(&mut self) -> Result<Option<RefusedItem>, AllocError> {
+    fn close(&mut self) -> Result<(), AllocError> {
         let Some(block) = self.enclosing_blocks.pop() else {
-            return Ok(None);
+            return Ok(());
         };
         self.place = block.place;
         let rounds = block.count.number();
@@ -116,41 +115,42 @@ impl ItemSearch {
         self.end_item(block.line)
     }
 
-    fn take_operation(
-        &mut self,
-        line: u64,
-        kind: &Kind,
-    ) -> Result<Option<RefusedItem>, AllocError> {
+    fn take_operation(&mut self, line: u64, kind: &Kind) -> Result<(), AllocError> {
         let counts = Counts::of_kind(kind);
         if self.refusal == Refusal::LookbackTooFar && counts.lookback > self.records {
-            return Ok(Some(self.found(line)?));
+            self.note(line)?;
         }
         self.steps = self.steps.saturating_add(counts.steps);
         self.records = self.records.saturating_add(counts.records);
         self.end_item(line)
     }
 
-    /// Goes on to the next item, unless the steps are too many behind this one.
-    fn end_item(&mut self, line: u64) -> Result<Option<RefusedItem>, AllocError> {
+    /// Goes on to the next item.
+    fn end_item(&mut self, line: u64) -> Result<(), AllocError> {
         if self.refusal == Refusal::TooManySteps && self.steps > MOST_STEPS {
-            return Ok(Some(self.found(line)?));
+            self.note(line)?;
         }
         self.place = self.place.saturating_add(1);
-        Ok(None)
+        Ok(())
     }
 
-    /// The item at the place.
-    fn found(&self, line: u64) -> Result<RefusedItem, AllocError> {
+    /// Notes the item at the place, unless an earlier one was found.
+    fn note(&mut self, line: u64) -> Result<(), AllocError> {
+        if self.found.is_some() {
+            return Ok(());
+        }
         let mut path = Vec::new(self.alloc);
         for block in self.enclosing_blocks.iter() {
             path.push(block.place)?;
         }
         path.push(self.place)?;
-        Ok(RefusedItem {
+        self.found = Some(RefusedItem {
             line,
             path,
             records: self.records,
-        })
+            steps_of_text: 0,
+        });
+        Ok(())
     }
 }
 

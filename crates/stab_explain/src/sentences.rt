@@ -1,6 +1,6 @@
 //! What is wrong with a word, and what to do: two sentences for each kind of word.
 
-/// What is wrong, and what to do, each a line of fewer than 100 characters.
+/// What is wrong, and what to do, each in lines of fewer than 100 characters.
 #[derive(Clone, Copy)]
 pub(crate) struct Sentences {
     pub(crate) wrong: &'static str,
@@ -9,24 +9,14 @@ pub(crate) struct Sentences {
 
 // Names.
 
-pub(crate) const NOISE: Sentences = Sentences {
-    wrong: "This is a noise channel, and noise is left out on purpose.",
-    cure: "Take the line out, or put the error in as a gate.",
-};
-
-pub(crate) const PAIR_MEASUREMENT: Sentences = Sentences {
-    wrong: "Measurements of pairs by this name are not read.",
-    cure: "Write the pair as a product: MXX 0 1 is MPP X0*X1.",
-};
-
-pub(crate) const GATE_LEFT_OUT: Sentences = Sentences {
-    wrong: "This gate is not read.",
-    cure: "Write it as gates that are read: H, S, SQRT_X, CX, CY, CZ, SWAP and their like.",
+pub(crate) const NOT_CLIFFORD: Sentences = Sentences {
+    wrong: "This is no Clifford gate, and stabsim runs Clifford circuits alone.",
+    cure: "Take the line out, or write gates that are read: H, S, SQRT_X, CX, CY, CZ, SWAP and the like.",
 };
 
 pub(crate) const PADDING: Sentences = Sentences {
     wrong: "Padding is not read: each record is that of a measurement.",
-    cure: "Take the line out, and count the records of later lookbacks anew.",
+    cure: "In place of MPAD 0 1 measure a qubit that no other line names, such as qubit 9:\n    M 9 !9",
 };
 
 pub(crate) const UNKNOWN_NAME: Sentences = Sentences {
@@ -42,8 +32,14 @@ pub(crate) const NO_ARGUMENTS: Sentences = Sentences {
 };
 
 pub(crate) const NO_NOISY_MEASUREMENT: Sentences = Sentences {
-    wrong: "A measurement takes no arguments: there is no chance of a wrong record.",
-    cure: "Take the brackets out.",
+    wrong: "In brackets is the chance of a wrong record. This is noise, and a run has none.",
+    cure: "Take the brackets out. In Python stabsim.without_noise(text) does so,\n\
+        and stabsim.error_model(text) says what wrong records flip, with their chances.",
+};
+
+pub(crate) const NO_ROTATION: Sentences = Sentences {
+    wrong: "This is a reset, and takes no angle. Of rotations quarter turns alone are Clifford gates.",
+    cure: "Take the brackets out; or write a quarter turn as SQRT_X, SQRT_Y or S, half a turn as X, Y or Z.",
 };
 
 pub(crate) const ONE_NUMBER: Sentences = Sentences {
@@ -54,6 +50,11 @@ pub(crate) const ONE_NUMBER: Sentences = Sentences {
 pub(crate) const NO_COORDINATE: Sentences = Sentences {
     wrong: "This is no coordinate: one has digits, +, -, ., e and E, at least one of them.",
     cure: "Write numbers with commas between them, as in (1, 2.5).",
+};
+
+pub(crate) const TRAILING_COMMA: Sentences = Sentences {
+    wrong: "A comma follows the last argument.",
+    cure: "Take the comma out.",
 };
 
 // Targets.
@@ -106,6 +107,11 @@ pub(crate) const NO_MEASURED_QUBIT: Sentences = Sentences {
 pub(crate) const NO_RECORD: Sentences = Sentences {
     wrong: "This is no record: that is rec[-k] in lower case, with k from 1 to 16777215.",
     cure: "Write rec[-1] for the last record, rec[-2] for the one before it, and so on.",
+};
+
+pub(crate) const PAULI_TARGET: Sentences = Sentences {
+    wrong: "This is a Pauli target: the observable has an operator here, and an operator is no record.",
+    cure: "Measure it by M, MX, MY or MPP and include the record, or take the target out.",
 };
 
 pub(crate) const NO_FACTOR: Sentences = Sentences {
@@ -232,6 +238,11 @@ pub(crate) const NOT_APART: Sentences = Sentences {
 pub(crate) const BRACE_WITHIN: Sentences = Sentences {
     wrong: "A brace can't stand within a line: { is the last byte of a REPEAT, and } stands alone.",
     cure: "Write each instruction, and each }, on a line of its own.",
+};
+
+pub(crate) const NO_ASCII: Sentences = Sentences {
+    wrong: "This is no ASCII: a letter with an accent, a space or a dash of another kind, or the like.",
+    cure: "Write it in ASCII. Other bytes may stand in tags and comments alone.",
 };
 
 // The whole text.

@@ -60,10 +60,20 @@ impl Write for Replaced {
 /// What a job reads.
 #[derive(Drop)]
 pub(crate) enum Reader {
-    File(File),
+    File(ReadFile),
     Standard(Stdin),
     /// No bytes: at its end from the beginning.
     Nothing,
+}
+
+impl Reader {
+    /// What the system said to the last read of a file that failed.
+    pub(crate) fn error(&self) -> Option<&io::Error> {
+        match self {
+            Reader::File(file) => file.error(),
+            _ => None,
+        }
+    }
 }
 
 impl Read for Reader {
@@ -124,6 +134,39 @@ impl Write for Writer {
             Writer::AtOnce(sink) => sink.flush(),
             Writer::Gathered(writer) => writer.flush(),
         }
+    }
+}
+
+/// A writer that notes whether it was given a byte.
+#[derive(Drop)]
+pub(crate) struct NotedWriter<W> {
+    writer: W,
+    is_empty: bool,
+}
+
+impl<W> NotedWriter<W> {
+    /// A writer to which nothing was written.
+    pub(crate) fn new(writer: W) -> NotedWriter<W> {
+        NotedWriter {
+            writer,
+            is_empty: true,
+        }
+    }
+
+    /// Whether it was given no byte.
+    pub(crate) fn is_empty(&self) -> bool {
+        self.is_empty
+    }
+}
+
+impl<W: Write> Write for NotedWriter<W> {
+    fn write(&mut self, bytes: &[u8]) -> io::Result<usize> {
+        self.is_empty &= bytes.is_empty();
+        self.writer.write(bytes)
+    }
+
+    fn flush(&mut self) -> io::Result<()> {
+        self.writer.flush()
     }
 }
 

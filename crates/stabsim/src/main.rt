@@ -9,9 +9,12 @@
 
 mod files;
 
-use files::{FirstLine, ReadFile, Reader, Replaced, STANDARD_INPUT, Sink, Writer, are_one_file};
-use stab_commands::{Command, Job, NoWatcher, Source, run_job_watched, write_fault};
+use files::{
+    FirstLine, NotedWriter, ReadFile, Reader, Replaced, STANDARD_INPUT, Sink, Writer, are_one_file,
+};
+use stab_commands::{Command, FaultLayout, Job, NoWatcher, Source, run_job_watched, write_fault};
 use stab_pauli::{Device, Fault, Output, Refusal, write_all};
+use stab_results::Format;
 use stab_words::{CoinsFault, NO_COINS, Usage, parse_words, read_coins, write_usage};
 use std::io::{BufWriter, IsTerminal};
 use std::process::ExitCode;
@@ -25,6 +28,8 @@ const ONE_FILE: &str = "stabsim: --in and --out are one file\n";
 const ONE_COIN_FILE: &str = "stabsim: --coins_in and --out are one file\n";
 
 const ONE_INPUT: &str = "stabsim: standard input and --out are one file\n";
+
+const NO_MARKS: &str = "stabsim: no place is marked by I; --everywhere asks for all places\n";
 
 // What a terminal is shown behind the line of a circuit that was refused.
 const HINT: &str = "stabsim: what is wrong and where: give the same circuit to `stabsim check`\n";
@@ -125,7 +130,7 @@ fn shared_file(rt: &HostRuntime, job: &Job) -> Option<&'static str> {
 /// and any other command reads standard input.
 fn run_opened<E: Output>(rt: &HostRuntime, job: &Job, err: &mut E) -> u8 {
     match &job.in_path {
-        Some(path) => match fs::open(rt, path.as_str()) {
+        Some(path) => match ReadFile::open(rt, path.as_str()) {
             Ok(file) => run_created(rt, job, Reader::File(file), err),
             Err(error) => tell_path(rt, Refusal::ReadFault, path.as_str(), Some(&error), err),
         },
@@ -172,23 +177,45 @@ fn run_written<E: Output>(
 }
 
 /// Runs a job on what it reads and writes. All jobs come here, on devices of the same types, so the program
-/// has one copy of what they do.
+/// has one copy of what they do. What they don't know is told behind it: a file that could not be read,
+/// and that no place is marked.
 fn run_on<E: Output>(
     rt: &HostRuntime,
     job: &Job,
-    input: Reader,
+    mut input: Reader,
     script: Reader,
     writer: Writer,
     err: &mut E,
 ) -> u8 {
-    run_job_watched::<_, _, _, _, NoWatcher>(
+    let mut writer = NotedWriter::new(writer);
+    let status = run_job_watched::<_, _, _, _, NoWatcher>(
         rt.alloc(),
         job,
-        &mut Device::new(input),
+        &mut Device::new(&mut input),
         &mut Device::new(script),
-        &mut Device::new(writer),
+        &mut Device::new(&mut writer),
         err,
-    )
+    );
+    if let (Some(path), Some(error)) = (&job.in_path, input.error()) {
+        name_file(rt, path.as_str(), Some(error), err);
+    }
+    if status == 0 && writer.is_empty() && is_on_marks(job.command) {
+        let _ = write_all(err, NO_MARKS.as_bytes());
+    }
+    status
+}
+
+/// Whether a command writes at least one byte for each fault at a marked place, and no others. In the
+/// format b8 a fault may be of no byte.
+fn is_on_marks(command: Command) -> bool {
+    match command {
+        Command::Faults {
+            layout,
+            everywhere,
+            ..
+        } => !everywhere && layout != FaultLayout::Shots(Format::B8),
+        _ => false,
+    }
 }
 
 /// Writes what is wrong with the words, and answers its status.
@@ -203,8 +230,8 @@ fn tell_fault<E: Output>(refusal: Refusal, err: &mut E) -> u8 {
     1
 }
 
-/// Writes the line of a fault of a file that can't be opened or read, and behind it the file's name and
-/// what the system said, if it said anything, where memory suffices; and answers the status.
+/// Writes the line of a fault of a file that can't be opened or read, and behind it the file's name;
+/// and answers the status.
 fn tell_path<E: Output>(
     rt: &HostRuntime,
     refusal: Refusal,
@@ -213,6 +240,12 @@ fn tell_path<E: Output>(
     err: &mut E,
 ) -> u8 {
     let status = tell_fault(refusal, err);
+    name_file(rt, path, error, err);
+    status
+}
+
+/// Writes a file's name and what the system said, if it said anything, where memory suffices.
+fn name_file<E: Output>(rt: &HostRuntime, path: &str, error: Option<&io::Error>, err: &mut E) {
     let line = match error {
         Some(error) => format!(in rt.alloc(); "stabsim: {path}: {error}\n"),
         None => format!(in rt.alloc(); "stabsim: {path}\n"),
@@ -220,5 +253,4 @@ fn tell_path<E: Output>(
     if let Ok(line) = line {
         let _ = write_all(err, line.as_bytes());
     }
-    status
 }

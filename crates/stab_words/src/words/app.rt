@@ -168,6 +168,8 @@ const HELP_COINS_IN: &str = "Reads the coins of each shot from a file of charact
 
 const HELP_IN: &str = "Reads the circuit from a file in place of standard input";
 
+const HELP_IN_OF_EDIT: &str = "Reads the circuit from a file in place of the empty circuit";
+
 const HELP_OUT: &str =
     "Writes to a file in place of standard output, and never to one that is read. \
     An older file is kept until there is output: a run that is refused leaves it, and one that fails \
@@ -244,24 +246,32 @@ fn flag<'a>(alloc: Global, id: &'a str, help: &'a str) -> Arg<'a>
         .help(help)
 }
 
-/// A command with the options of every command behind its own.
-fn with_files<'a>(alloc: Global, command: Command<'a>) -> Result<Command<'a>, AllocError>
+/// A command with the options of every command behind its own; `help_in` is the help of `--in`.
+fn with_files<'a>(
+    alloc: Global,
+    command: Command<'a>,
+    help_in: &'a str,
+) -> Result<Command<'a>, AllocError>
     ensures app { (app : App) → IsApp app command.entry → IfOk result (IsApp (with_files app)) }
 {
     command
-        .arg(valued(alloc, "in", "FILE", HELP_IN))?
+        .arg(valued(alloc, "in", "FILE", help_in))?
         .arg(valued(alloc, "out", "FILE", HELP_OUT))
 }
 
-/// A command with the options of one that runs a circuit behind its own.
-fn with_common<'a>(alloc: Global, command: Command<'a>) -> Result<Command<'a>, AllocError>
+/// A command with the options of one that runs a circuit behind its own; `help_in` is the help of `--in`.
+fn with_common<'a>(
+    alloc: Global,
+    command: Command<'a>,
+    help_in: &'a str,
+) -> Result<Command<'a>, AllocError>
     ensures app { (app : App) → IsApp app command.entry → IfOk result (IsApp (with_common app)) }
 {
     let command = command
         .arg(numbered(alloc, "seed", 0, u64::MAX, "0", HELP_SEED))?
         .arg(valued(alloc, "coins", "TEXT", HELP_COINS))?
         .arg(valued(alloc, "coins_in", "FILE", HELP_COINS_IN))?;
-    with_files(alloc, command)
+    with_files(alloc, command, help_in)
 }
 
 /// A command that takes shots, with the options of all such commands.
@@ -280,7 +290,7 @@ fn shot_command<'a>(
         .arg(numbered(alloc, "shots", 0, Shots::MOST as u64, "1", HELP_SHOTS))?
         .arg(ranged(alloc, "first_shot", 0, u64::MAX, HELP_FIRST_SHOT))?
         .arg(named(alloc, "out_format", formats, "01", HELP_FORMAT))?;
-    with_common(alloc, command)
+    with_common(alloc, command, HELP_IN)
 }
 
 /// The command `stabilisers`, which takes no shots, and which is found by another spelling too.
@@ -291,7 +301,7 @@ fn stabilisers_command<'a>(alloc: Global) -> Result<Command<'a>, AllocError>
         .about(ABOUT_STABILISERS)
         .after_help(AFTER_STABILISERS)
         .alias("stabilizers")?;
-    with_common(alloc, command)
+    with_common(alloc, command, HELP_IN)
 }
 
 /// The command `edit`.
@@ -304,7 +314,7 @@ fn edit_command<'a>(alloc: Global) -> Result<Command<'a>, AllocError>
         .arg(ranged(alloc, "qubits", 0, QubitCount::MOST as u64, HELP_QUBITS))?
         .arg(numbered(alloc, "stride", 1, Stride::MOST as u64, "8192", HELP_STRIDE))?
         .arg(flag(alloc, "framed", HELP_FRAMED))?;
-    with_common(alloc, command)
+    with_common(alloc, command, HELP_IN_OF_EDIT)
 }
 
 /// The command `check`, which takes no coins.
@@ -314,7 +324,7 @@ fn check_command<'a>(alloc: Global) -> Result<Command<'a>, AllocError>
     let command = Command::new(alloc, "check")
         .about(ABOUT_CHECK)
         .after_help(AFTER_CHECK);
-    with_files(alloc, command)
+    with_files(alloc, command, HELP_IN)
 }
 
 /// The command `deterministic`, which takes no coins.
@@ -328,7 +338,7 @@ fn deterministic_command<'a>(
         .about(ABOUT_DETERMINISTIC)
         .after_help(AFTER_DETERMINISTIC)
         .arg(named(alloc, "out_format", formats, "01", HELP_FORMAT))?;
-    with_files(alloc, command)
+    with_files(alloc, command, HELP_IN)
 }
 
 /// The command `faults`, which takes no coins.
@@ -341,7 +351,7 @@ fn faults_command<'a>(alloc: Global, formats: &'a [&'a str]) -> Result<Command<'
         .arg(one_name(alloc, "out_format", formats, HELP_LAYOUT))?
         .arg(flag(alloc, "everywhere", HELP_EVERYWHERE))?
         .arg(flag(alloc, "sure_only", HELP_SURE_ONLY))?;
-    with_files(alloc, command)
+    with_files(alloc, command, HELP_IN)
 }
 
 /// The command `detect`.
