@@ -81,9 +81,9 @@ end-is c total =
     c.end_place-end.ensures.value
     ∙ (λ i. turned_end c.args.span (total i) (slice_get (same i) (c.count_within-inside.result + count i)))
 
-pub framed_between-followed-requires-clause-order : goal.framed_between-followed-requires-clause-order
-framed_between-followed-requires-clause-order c =
-    let at = goal.at.framed_between-followed-requires-clause-order c in
+pub framed_between-followed-requires : goal.framed_between-followed-requires
+framed_between-followed-requires c =
+    let at = goal.at.framed_between-followed-requires c in
     let f = c.requires.follows.1 in
     let small = few at.After-as_slice-copies in
     let count = counted at.After-count_before-before in
@@ -91,7 +91,9 @@ framed_between-followed-requires-clause-order c =
     let before = copy-before f.count f.kept f.span small count c.index-copies-before.result (here at.After-index-copies-before small count) in
     let behind = end-behind c.args.span (length (unroll (circuit_items c.args.circuit.now)))
     (slice_get c.args.self.now.checkpoints.items (c.count_within-inside.result + length c.in-Some-2.turning.turned.items)) f.span.new_within small in
-    omega (arith, order, before, behind, end-is at.After-end_place-end (total-is at.After-as_slice-copies small), ap (λ (d : Checkpoint). d.step) c.index-copies-before.is)
+    record {
+      order = omega (arith, order, before, behind, end-is at.After-end_place-end (total-is at.After-as_slice-copies small), ap (λ (d : Checkpoint). d.step) c.index-copies-before.is);
+    }
 
 pub returns-clause-turned : goal.returns-clause-turned
 returns-clause-turned c =
