@@ -129,7 +129,8 @@ def faults_of(text: str, approximate: bool, sure_only: bool) -> tuple[Marked, Fa
         return circuit, Circuit(circuit.text).faults(sure_only=sure_only)
     except Refused as refused:
         # Its places are those of the text with marks. What a coin decides is refused of the other text too, by the user's items.
-        judged.faults(sure_only=sure_only)
+        if refused.name == "NotDeterministic":
+            judged.faults()
         raise Refused(refused.number, refused.name, None, MARKS_COUNT if refused.name == "TooManySteps" else "") from None
 
 
