@@ -14,9 +14,9 @@ import importlib
 from typing import TYPE_CHECKING
 
 __all__ = [
-    "Changed", "Circuit", "ErrorModel", "FaultTable", "ItemSteps", "MissingProgram", "NotDecomposed", "Numbers", "OtherExperiment",
-    "ProgramFailed", "Refused", "Session", "SessionEnded", "SessionNumbers", "StabsimError", "Sums", "Sure", "UnsupportedNoise",
-    "codes", "collect", "error_model", "find_program", "without_noise",
+    "Changed", "Circuit", "Decoder", "ErrorModel", "FaultTable", "ItemSteps", "MissingProgram", "NotDecomposed", "Numbers",
+    "OtherExperiment", "Path", "Predict", "ProgramFailed", "Refused", "Session", "SessionEnded", "SessionNumbers", "StabsimError",
+    "Sums", "Sure", "UnsupportedNoise", "codes", "collect", "error_model", "find_program", "without_noise",
 ]
 
 # A module is read when one of its names is asked for first, so that `stabsim.codes` needs no numpy.
@@ -24,6 +24,7 @@ if TYPE_CHECKING:
     from stabsim import codes
     from stabsim.circuit import Circuit, Numbers
     from stabsim.collecting import Sums, collect
+    from stabsim.counting import Decoder, Predict
     from stabsim.errors import (
         MissingProgram, NotDecomposed, OtherExperiment, ProgramFailed, Refused, SessionEnded, StabsimError, UnsupportedNoise,
     )
@@ -31,6 +32,7 @@ if TYPE_CHECKING:
     from stabsim.models import ErrorModel, error_model
     from stabsim.program import find_program
     from stabsim.quiet import without_noise
+    from stabsim.script import Path
     from stabsim.session import Changed, ItemSteps, Session, SessionNumbers
     from stabsim.sure import Sure
 else:
@@ -38,12 +40,14 @@ else:
     HOMES = {
         "circuit": ("Circuit", "Numbers"),
         "collecting": ("Sums", "collect"),
+        "counting": ("Decoder", "Predict"),
         "errors": ("MissingProgram", "NotDecomposed", "OtherExperiment", "ProgramFailed", "Refused", "SessionEnded", "StabsimError",
                    "UnsupportedNoise"),
         "faults": ("FaultTable",),
         "models": ("ErrorModel", "error_model"),
         "program": ("find_program",),
         "quiet": ("without_noise",),
+        "script": ("Path",),
         "session": ("Changed", "ItemSteps", "Session", "SessionNumbers"),
         "sure": ("Sure",),
     }

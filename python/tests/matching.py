@@ -29,13 +29,13 @@ def graph_of(model):
     return graph
 
 
-def nearest(graph, source):
-    """For each node how far it is from a source, and what the edges on the way flip."""
-    distances, paths = networkx.single_source_dijkstra(graph, source)
+def nearest(graph, source, most=None):
+    """For each node, up to a most of distance, how far it is from a source, and what the edges on the way flip."""
+    before, distances = networkx.dijkstra_predecessor_and_distance(graph, source, cutoff=most)
     flips = {source: 0}
-    for node in sorted(paths, key=distances.get)[1:]:
-        flips[node] = flips[paths[node][-2]] ^ graph.edges[paths[node][-2:]]["flips"]
-    return {node: (distances[node], flips[node]) for node in paths}
+    for node in list(distances)[1:]:
+        flips[node] = flips[before[node][0]] ^ graph.edges[before[node][0], node]["flips"]
+    return {node: (distances[node], flips[node]) for node in distances}
 
 
 class Matching:
@@ -45,13 +45,16 @@ class Matching:
         self.observables = model.observables
         graph = graph_of(model)
         self.to_boundary = nearest(graph, BOUNDARY)
-        inside = graph.subgraph(node for node in graph if node != BOUNDARY)
-        self.between = {node: nearest(inside, node) for node in inside}
+        graph.remove_node(BOUNDARY)
+        # Two that are further apart than both are from the boundary are not matched to each other.
+        furthest = max(distance for distance, _ in self.to_boundary.values())
+        self.between = {node: nearest(graph, node, self.to_boundary[node][0] + furthest) for node in graph}
 
     def decode_batch(self, detectors):
-        """What is flipped of the observables in each shot, bool (shots, observables)."""
-        masks = [self.decode(np.flatnonzero(shot).tolist()) for shot in detectors]
-        return np.array([[mask >> it & 1 for it in range(self.observables)] for mask in masks], dtype=bool)
+        """What is flipped of the observables in each shot, bool (shots, observables). Shots that see the same are decoded once."""
+        different, of_shot = np.unique(detectors, axis=0, return_inverse=True)
+        masks = [self.decode(np.flatnonzero(shot).tolist()) for shot in different]
+        return np.array([[mask >> it & 1 for it in range(self.observables)] for mask in masks], dtype=bool)[of_shot]
 
     def decode(self, seen):
         """The same of one shot, as a number in base 2. All that are seen are matched to the boundary at first; what matching two to

@@ -79,10 +79,8 @@ OBSERVABLE_INCLUDE(0) rec[-1]
 
 
 def test_the_time_of_a_detector_is_its_third_coordinate():
-    for name, text in TEXTS.items():
-        if name == "repetition":
-            # It lies on a line, so time is the second.
-            continue
+    # But for the repetition code, which lies on a line.
+    for text in (text for name, text in TEXTS.items() if name != "repetition"):
         rounds = int(text.split(" round")[0].rsplit(" ", 1)[1])
         times = stabsim.Circuit(text).detector_coordinates()[:, 2].tolist()
         # A round has as many detectors as another, but for the first and the end, which have the same.
@@ -168,10 +166,9 @@ def test_the_search_finds_what_all_sets_have():
     for make, given in [(codes.repetition_code, (3, 1)), (codes.surface_code, (2, 1)), (codes.steane_code, (1,))]:
         model = stabsim.error_model(make(*given, noise=UNIFORM))
         flips = [frozenset(model.flipped(number).tolist()) for number in range(len(model))]
-        sets = (functools.reduce(frozenset.symmetric_difference, some) == {model.detectors}
-                for size in range(1, 4) for some in itertools.combinations(flips, size))
-        sizes = [size for size in range(1, 4) for some in itertools.combinations(flips, size)]
-        assert next(size for size, is_hidden in zip(sizes, sets, strict=True) if is_hidden) == Search(model).distance()
+        sets = ((size, some) for size in range(1, 4) for some in itertools.combinations(flips, size))
+        least = next(size for size, some in sets if functools.reduce(frozenset.symmetric_difference, some) == {model.detectors})
+        assert least == Search(model).distance()
 
 
 def test_noise_comes_off_again():

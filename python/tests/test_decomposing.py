@@ -121,9 +121,49 @@ def test_an_error_of_very_many_detectors_is_cut_apart():
     assert max(map(len, stabsim.error_model(text, decompose=True).parts)) == 900
 
 
-def rates(distance, shots, seed):
-    """Logical error rates of the surface code, by a matching with parts of errors, and by one that leaves such errors out."""
+@pytest.mark.parametrize("text", [codes.repetition_code(3, 2, noise=NOISE), codes.surface_code(2, 1, noise=NOISE)], ids=["repetition", "surface"])
+def test_the_matching_is_the_likeliest_set_of_errors(text):
+    """Of all sets of edges, which are up to 2**16, the likeliest with just these detectors flips what the matching says."""
+    model = model_of(text, decompose=True)
+    edges = [(ends, data) for *ends, data in matching.graph_of(model).edges(data=True)]
+    sets = np.arange(2 ** len(edges))[:, None] >> np.arange(len(edges)) & 1
+    weights = sets @ [data["weight"] for _, data in edges]
+    flips = np.array([[it in ends for it in range(model.detectors)] + [data["flips"]] for ends, data in edges], dtype=int)
+    found = sets @ flips % 2
+    lightest = {}
+    for row, weight in sorted(zip(map(tuple, found.tolist()), weights.tolist(), strict=True), key=lambda pair: pair[1]):
+        lightest.setdefault(row, weight)
+    decoder = matching.Matching(model)
+    seen = {row[:-1] for row in lightest}
+    assert len(seen) == 2**model.detectors
+    for detectors in seen:
+        ways = [lightest.get((*detectors, flip), math.inf) for flip in (0, 1)]
+        if not math.isclose(*ways):
+            assert decoder.decode(np.flatnonzero(detectors).tolist()) == int(ways[1] < ways[0])
+
+
+@functools.cache
+def errors_of(distance, shots):
+    """In which shots a surface code has a logical error: by matching over the parts of all errors, and by matching that leaves out
+    errors of three detectors and more, each bool (shots,). Both see the same shots."""
     text = codes.surface_code(distance, distance, noise=NOISE)
     models = model_of(text, decompose=True), model_of(text)
-    detectors, observables = models[0].sample(shots, seed=seed)
-    return [(matching.decoder(model)(detectors) != observables).any(axis=1).mean() for model in models]
+    detectors, observables = models[0].sample(shots, seed=distance)
+    return [(matching.decoder(model)(detectors) != observables).any(axis=1) for model in models]
+
+
+def test_matching_by_parts_makes_fewer_logical_errors_at_distance_3():
+    with_parts, without = errors_of(3, 20_000)
+    better, worse = (without & ~with_parts).sum(), (with_parts & ~without).sum()
+    # By more than three standard deviations of what a coin would do in the shots in which they differ.
+    assert better - worse > 3 * math.sqrt(better + worse)
+
+
+def test_matching_by_parts_makes_fewer_logical_errors_with_more_distance():
+    rates = [errors_of(distance, shots)[0].mean() for distance, shots in ((3, 20_000), (5, 4000), (7, 500))]
+    assert rates[0] > rates[1] > rates[2] > 0
+    for distance, shots in ((5, 4000), (7, 500)):
+        with_parts, without = errors_of(distance, shots)
+        differ = with_parts ^ without
+        # So few shots tell no difference here: docs/python.md has the rates of many.
+        assert abs(int(with_parts.sum()) - int(without.sum())) <= 3 * math.sqrt(differ.sum())

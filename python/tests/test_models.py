@@ -2,6 +2,7 @@
 
 import itertools
 import math
+from fractions import Fraction
 
 import numpy as np
 import pytest
@@ -229,6 +230,26 @@ def test_an_error_is_drawn_always_or_never_at_the_ends_of_chance():
     model = stabsim.error_model("R 0 1 2\nX_ERROR(1) 0\nX_ERROR(1e-300) 1\nX_ERROR(1e-17) 2\nM 0 1 2\nDETECTOR rec[-3]\nDETECTOR rec[-2]\nDETECTOR rec[-1]\n")
     detectors, observables = model.sample(3000, seed=3)
     assert detectors[:, 0].all() and not detectors[:, 1:].any() and observables.shape == (3000, 0)
+
+
+def test_a_shot_is_drawn_from_raw_words():
+    """Numpy keeps the words of Philox, and not what it makes of them. Word by word: the next shot in which a mechanism happens is the first
+    up to which it happens with a chance above the word's part of its range, in whole numbers here."""
+    model = stabsim.error_model("R 0 1\nX_ERROR(0.25) 0\nX_ERROR(0.015625) 1\nM 0 1\nDETECTOR rec[-2]\nDETECTOR rec[-1]\n")
+    words = np.random.Philox(key=9, counter=[0, 0, 3, 0])
+    happened = [[], []]
+    places, running = [-1, -1], [0, 1]
+    while running:
+        for mechanism, word in zip(running, words.random_raw(len(running)).tolist(), strict=True):
+            passed, left = 0, Fraction(1)
+            while 1 - left <= Fraction(word, 2**64):
+                passed, left = passed + 1, left * (1 - Fraction(model.chances[mechanism]))
+            places[mechanism] += passed
+            if places[mechanism] < 1024:
+                happened[mechanism].append(places[mechanism])
+        running = [mechanism for mechanism in running if places[mechanism] < 1024]
+    detectors, _ = model.sample(1024, seed=9, first_shot=3 * 1024)
+    assert [np.flatnonzero(column).tolist() for column in detectors.T] == happened
 
 
 def test_models_of_other_chances_have_other_fingerprints():
